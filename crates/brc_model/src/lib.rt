@@ -1,0 +1,11 @@
+//! The yardstick of the heap: which places hold which objects, as sets of holders.
+//!
+//! It has no count, owner, state or order of queues. The rooms above speak of its definitions
+//! (`specs/Holders.antt`) and never run it; `HolderWorld` is the map as a program.
+#![tactic(auto)]
+
+mod holder;
+mod moves;
+
+pub use holder::Holder;
+pub use moves::{Exchange, Handover, Move, Spot};

@@ -1,0 +1,4 @@
+pub mod Faults
+pub mod Shared
+pub mod Owners
+pub mod Kinds

@@ -1,0 +1,20 @@
+//! The words that every room of the heap stands on: faults, limits, states, owners, kinds and keys.
+//!
+//! A word of the heap's table is a number. This crate says which value each number spells, and that reading gives
+//! back what was written; `specs/Shared.antt` and `specs/Owners.antt` are those spellings.
+#![tactic(auto)]
+
+mod fault;
+mod kind;
+mod limits;
+mod owner;
+mod state;
+
+pub use fault::{Fault, Reason};
+pub use kind::{Kind, is_container_kind, is_mortal_kind};
+pub use limits::{
+    COUNTED_FROM, FIRST_MORTAL, GLOBALS, IMMORTAL_LOCAL, MOST_BIRTHS, MOST_CELLS, MOST_ENTRIES,
+    MOST_LOCAL, MOST_PLACES, MOST_THREADS, fewest_cells,
+};
+pub use owner::{Owner, OwnerWord};
+pub use state::{State, count_of, shared_word, state_of};

@@ -1,0 +1,31 @@
+//! The limits of this heap, and the cells that have names.
+
+ghost use Rattle.std.specs.Prelude.{◌≡◌};
+
+/// Cells 0 to 264 are immortal and have a fixed value; this one is the immortal dictionary of globals.
+pub const GLOBALS: u32 = 265;
+/// The first cell that is born and dies.
+pub const FIRST_MORTAL: u32 = 266;
+/// A heap has at most this many cells.
+pub const MOST_CELLS: u32 = 65_536;
+/// A heap registers at most this many threads; the root is thread 0.
+pub const MOST_THREADS: u32 = 64;
+/// A frame has the places below this number.
+pub const MOST_PLACES: u32 = 65_536;
+/// A list, dictionary or mailbox has at most this many entries.
+pub const MOST_ENTRIES: u32 = 1_048_576;
+/// The largest `local_limit`: at it the owner counts up on the shared word.
+pub const MOST_LOCAL: u32 = 4_294_967_294;
+/// The local word of an immortal (PEP 703: `UINT32_MAX`).
+pub const IMMORTAL_LOCAL: u32 = 4_294_967_295;
+/// A thread bears at most this many objects.
+pub const MOST_BIRTHS: u64 = 140_737_488_355_328;
+/// The shared word of count 0 has this number above its state bits, so that a count below 0 has a spelling.
+pub const COUNTED_FROM: i64 = 1_099_511_627_776;
+
+/// A heap has at least this many cells.
+pub const fn fewest_cells() -> u32
+    ensures { result ≡ 512 }
+{
+    512
+}
