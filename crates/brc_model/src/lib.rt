@@ -8,4 +8,4 @@ mod holder;
 mod moves;
 
 pub use holder::Holder;
-pub use moves::{Exchange, Handover, Move, Spot};
+pub use moves::{Exchange, Handover, Handovers, Move, Spot};

@@ -1,8 +1,11 @@
 //! The moves of the holder map: what an event does to the references.
 
+ghost use Rattle.std.specs.Prelude.{◌≡◌};
+
 use crate::holder::Holder;
 use brc_words::Kind;
 use std::alloc::Allocator;
+use std::marker::Model;
 
 /// A place of a thread's frame.
 #[derive(Clone, Copy, Debug, PartialEq, Eq)]
@@ -17,6 +20,37 @@ pub struct Handover {
     pub object: u32,
     pub from: Holder,
     pub to: Holder,
+}
+
+/// References that are handed over one after the other, as a list.
+#[derive(Debug, Drop)]
+pub struct Handovers<A: Allocator> {
+    list: Vec<Handover, A>,
+}
+
+impl<A: Allocator> Model for Handovers<A> {
+    ghost use Rattle.std.specs.Prelude.{List};
+    ghost use Rattle.brc_model.specs.declared.moves.Handover.{Handover};
+
+    ghost Value = { List Handover };
+
+    ghost view = { λ h. h.list.items };
+}
+
+impl<A: Allocator> Handovers<A> {
+    /// The list as a value of its own.
+    pub fn new(list: Vec<Handover, A>) -> Self
+        ensures { result ≡ list.items }
+    {
+        Handovers { list }
+    }
+
+    /// The handovers in their order.
+    pub fn as_slice(&self) -> &[Handover]
+        ensures { result.now ≡ self.now }
+    {
+        self.list.as_slice()
+    }
 }
 
 /// How the entries of a container and the places of a frame change together.
@@ -63,7 +97,7 @@ pub enum Move<A: Allocator> {
     },
     /// References go from holder to holder, one after the other.
     Pass {
-        list: Vec<Handover, A>,
+        list: Handovers<A>,
     },
     /// The thread that holds `cell` in `place` changes its entries.
     Change {
