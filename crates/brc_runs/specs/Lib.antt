@@ -1,0 +1,5 @@
+pub mod Lists
+pub mod Heap
+pub mod Steps
+pub mod Runs
+pub mod Holding

@@ -4,6 +4,10 @@
 //! table speaks of them.
 #![tactic(auto)]
 
+mod cell;
 mod event;
+mod row;
 
+pub use cell::Cell;
 pub use event::{Dropped, Event, Source, Step};
+pub use row::{Hand, Phase, Row, Stage};
