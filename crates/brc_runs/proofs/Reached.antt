@@ -11,8 +11,8 @@ pub reached_headline : (h : Heap) → IsReached h → Headline h
 reached_headline h reached = ?
 
 -- an event makes its moves, each allowed where it is made
-pub reached_moves : {A : Type 0} (h : Heap) (e : Event) → IsReached h → enabled h e ≡ true → MakesMoves {A = A} (map_of h) (moves_by h e) (map_of (after h e))
-reached_moves {A} h e reached may = ?
+pub reached_moves : (A : Type 0) (h : Heap) (e : Event) → IsReached h → enabled h e ≡ true → MakesMoves {A = A} (map_of h) (moves_by h e) (map_of (after h e))
+reached_moves A h e reached may = ?
 
 -- lives and ledgers are what the run says
 pub run_histories : (cells limit : ℕ) (run : List Event) → AreOptions cells limit → IsRun (opening cells limit) run → Histories (opening cells limit) run
