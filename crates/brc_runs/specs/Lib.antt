@@ -3,3 +3,4 @@ pub mod Heap
 pub mod Steps
 pub mod Runs
 pub mod Holding
+pub mod Sound

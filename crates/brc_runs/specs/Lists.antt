@@ -1,5 +1,5 @@
 -- Small words on lists: places of a frame, bits of words, marks.
-use Rattle.std.specs.Prelude.{ℕ, ◌+◌, ◌-◌, ◌*◌, ◌/◌, ◌%◌, ◌==◌, nat_lt, Bool, true, false, if◌then◌else◌, List, [], ◌∷◌, ◌++◌, length, take, replicate, Option, Some, None, slice_index_or, slice_set, count_by, sum_by}
+use Rattle.std.specs.Prelude.{ℕ, ◌+◌, ◌-◌, ◌*◌, ◌/◌, ◌%◌, ◌==◌, nat_lt, Bool, true, false, if◌then◌else◌, List, [], ◌∷◌, ◌++◌, length, take, replicate, Option, Some, None, slice_index_or, slice_get, slice_set, count_by, sum_by}
 use Rattle.std.specs.Int.{bit_at}
 
 -- 1 for yes
@@ -46,9 +46,7 @@ is_marked marks c = slice_index_or marks c false
 
 -- the last entry, if any
 abbrev pub last_of : List ℕ → Option ℕ
-last_of [] = None
-last_of (x ∷ []) = Some x
-last_of (x ∷ y ∷ xs) = last_of (y ∷ xs)
+last_of xs = slice_get xs (length xs - 1)
 
 -- all entries but the last
 abbrev pub front_of : List ℕ → List ℕ

@@ -1,0 +1,360 @@
+-- The owner counts up and down on the local word; of an immortal only the places change.
+use Rattle.std.proofs.Common.{◌≡◌, ◌≢◌, ℕ, ◌+◌, ◌-◌, ◌<◌, ◌≤◌, ◌==◌, ◌&&◌, not, Bool, true, false, if◌then◌else◌, ℤ, pos, ◌+ℤ◌, ◌≤ℤ◌, List, [], ◌∷◌, suc, length, get_or, set, Option, Some, None, sum_by, refl, sym, ◌∙◌, ap, subst, inl, inr, ◌⊎◌, arith}
+use Rattle.std.proofs.lemmas.List.{get_or-set_same, get_or-set_other, length-set}
+use Rattle.std.proofs.lemmas.List.Sums.{sum_by-set, sum_by-cons}
+use Rattle.std.proofs.lemmas.Bool.{cases_eq, cases_lt, cases_Bool, eq-eqb, ne_eqb, eqb-true, and_parts, leb-true, ltb-true, lt-ltb, true≢false}
+use Rattle.std.proofs.lemmas.Int.{ints}
+use Rattle.brc_words.specs.declared.owner.Owner.{Owner}
+use Rattle.brc_words.specs.declared.owner.Owner.TheVariants as owners
+use Rattle.brc_words.specs.declared.state.State.{State}
+use Rattle.brc_words.specs.declared.state.State.TheVariants as states
+use Rattle.brc_runs.specs.declared.cell.Cell.{Cell}
+use Rattle.brc_runs.specs.declared.event.Step.{Step}
+use Rattle.brc_runs.specs.declared.row.Row.{Row}
+use Rattle.brc_runs.specs.declared.row.Hand.{Hand}
+use Rattle.brc_runs.specs.declared.row.Hand.TheVariants as hands
+use Rattle.brc_runs.specs.declared.row.Phase.{Phase}
+use Rattle.brc_runs.specs.declared.row.Phase.TheVariants as phases
+use Rattle.brc_runs.specs.declared.row.Stage.{Stage}
+use Rattle.brc_runs.specs.declared.row.Stage.TheVariants as stages
+use Rattle.brc_runs.specs.Lists.{one, times, entry_times, is_marked, place_at, filled, names}
+use Rattle.brc_runs.specs.Heap.{Heap, cell_at, entries_at, row_at, frame_at, popped_at, work_at, queue_at, is_gathered, words_for, no_row}
+use Rattle.brc_runs.specs.Holding.{lives, carries, total_of, count_of_state}
+use Rattle.brc_runs.specs.Sound.{IsSound, CellFits, ThreadFits, PhaseFits, Births, Untied, HandFits, WorkFits, Locks, counted_in, grips_of, grips_by_owner, grips, is_gripping, gripped, held, is_merged, in_entries}
+use Rattle.brc_runs.proofs.Naming.{Ungripped, ungripped, no_mark, one-false, grips_free, carries_free, live_counts, hand_names, sum_one}
+use Rattle.brc_runs.proofs.Framing.{place_at-filled_else, times-filled, length-filled}
+use Rattle.brc_runs.proofs.Birthing.{active_fits, busy_else, busy_grips}
+use Rattle.brc_runs.proofs.Asking.{Vacant}
+use Rattle.brc_runs.proofs.Changes.{Fits}
+
+-- ---- an owned object that somebody holds is gripped by nobody, so its local count isn't 0
+
+-- what another thread's hand says of a cell that a thread owns is no birth, merge or burial
+others_phase : (s t : ℕ) (row : Row) (popped : List ℕ) (x : Cell) (g : Stage) (c : ℕ) (p : Phase) → PhaseFits s row popped x g c p
+    → x.owner ≡ owners.Thread t → s ≢ t → is_gripping p ≡ false
+others_phase s t row popped x g c phases.Claimed fits owner ne = let e : owners.Thread t ≡ owners.Claimed s = sym owner ∙ fits.claimed in absurd (cc)
+others_phase s t row popped x g c phases.Counted fits owner ne = let e : owners.Thread t ≡ owners.Claimed s = sym owner ∙ fits.0.claimed in absurd (cc)
+others_phase s t row popped x g c phases.Ready fits owner ne = let e : owners.Thread t ≡ owners.Claimed s = sym owner ∙ fits.0.claimed in absurd (cc)
+others_phase s t row popped x g c phases.Zero fits owner ne = let e : owners.Thread t ≡ owners.Thread s = sym owner ∙ fits in absurd (ne (cc))
+others_phase s t row popped x g c phases.Over fits owner ne = let e : owners.Thread t ≡ owners.Thread s = sym owner ∙ fits in absurd (ne (cc))
+others_phase s t row popped x g c phases.Untied fits owner ne = let e : owners.Thread t ≡ owners.Nobody = sym owner ∙ fits.owner in absurd (cc)
+others_phase s t row popped x g c phases.Asked fits owner ne = refl
+others_phase s t row popped x g c phases.Shut fits owner ne = refl
+others_phase s t row popped x g c phases.Taking fits owner ne = let e : owners.Thread t ≡ owners.Nobody = sym owner ∙ fits in absurd (cc)
+others_phase s t row popped x g c phases.Held fits owner ne = refl
+others_phase s t row popped x g c phases.Popping fits owner ne = let e : owners.Thread t ≡ owners.Nobody = sym owner ∙ fits.0 in absurd (cc)
+
+-- it says the same of the cell with another local count
+others_local : (s t n : ℕ) (row : Row) (popped : List ℕ) (x : Cell) (g : Stage) (c : ℕ) (p : Phase) → PhaseFits s row popped x g c p
+    → x.owner ≡ owners.Thread t → s ≢ t → PhaseFits s row popped (record x { local = n }) g c p
+others_local s t n row popped x g c phases.Claimed fits owner ne = let e : owners.Thread t ≡ owners.Claimed s = sym owner ∙ fits.claimed in absurd (cc)
+others_local s t n row popped x g c phases.Counted fits owner ne = let e : owners.Thread t ≡ owners.Claimed s = sym owner ∙ fits.0.claimed in absurd (cc)
+others_local s t n row popped x g c phases.Ready fits owner ne = let e : owners.Thread t ≡ owners.Claimed s = sym owner ∙ fits.0.claimed in absurd (cc)
+others_local s t n row popped x g c phases.Zero fits owner ne = fits
+others_local s t n row popped x g c phases.Over fits owner ne = fits
+others_local s t n row popped x g c phases.Untied fits owner ne = let e : owners.Thread t ≡ owners.Nobody = sym owner ∙ fits.owner in absurd (cc)
+others_local s t n row popped x g c phases.Asked fits owner ne = tt
+others_local s t n row popped x g c phases.Shut fits owner ne = fits
+others_local s t n row popped x g c phases.Taking fits owner ne = fits
+others_local s t n row popped x g c phases.Held fits owner ne = fits
+others_local s t n row popped x g c phases.Popping fits owner ne = fits
+
+-- terms that are all 0 add up to 0
+pub sum_none : {A : Type 0} (f : A → ℕ) (xs : List A) (d : A) → ((i : ℕ) → f (get_or xs i d) ≡ 0) → sum_by f xs ≡ 0
+sum_none {A} f [] d none = refl
+sum_none {A} f (x ∷ xs) d none = omega (arith, sum_by-cons f x xs, none 0, sum_none f xs d (λ i. none (suc i)))
+
+-- what is on a worklist is held by nothing
+pub marked_unheld : (h : Heap) (s c : ℕ) → IsSound h → is_marked (work_at h s) c ≡ true → held h c ≡ 0
+marked_unheld h s c sound on =
+    let fits : WorkFits s c (cell_at h c) = sound.works s c on in
+    omega (arith, ints, sound.counted c fits.mortal, live_counts (cell_at h c) fits.lives, fits.total)
+
+pub held_unmarked : (h : Heap) (s c : ℕ) → IsSound h → 1 ≤ held h c → one (is_marked (work_at h s) c) ≡ 0
+held_unmarked h s c sound some =
+    elim (cases_Bool (is_marked (work_at h s) c)) [
+      inl on ↦ absurd (omega (arith, some, marked_unheld h s c sound on))
+    | inr off ↦ ap one off ]
+
+-- a hand of a thread that doesn't own the cell
+hand_apart : (h : Heap) (t s c : ℕ) (hand : Hand) → IsSound h → (cell_at h c).owner ≡ owners.Thread t → s ≢ t → (row_at h s).hand ≡ hand → one (grips c hand) ≡ 0
+hand_apart h t s c hands.Free sound owner ne e = refl
+hand_apart h t s c (hands.Busy p d) sound owner ne e =
+    elim (cases_eq d c) [
+      inl same ↦
+        let fits : HandFits h s p c = sound.hands s c p (e ∙ ap (hands.Busy p) same) in
+        ap (λ b. one (b && (d == c))) (others_phase s t (row_at h s) (popped_at h s) (cell_at h c) _ c p fits.fits owner ne)
+    | inr other ↦ (busy_else p d c (λ e. other (sym e))).0 ]
+
+-- nobody grips an object that its owner and others hold
+pub owned_ungripped : (h : Heap) (t c : ℕ) → IsSound h → 266 ≤ c → (cell_at h c).owner ≡ owners.Thread t → 1 ≤ held h c
+    → one (grips c (row_at h t).hand) ≡ 0 → gripped h c ≡ 0
+owned_ungripped h t c sound mortal owner some free =
+    let marks : sum_by (λ (marks : List Bool). one (is_marked marks c)) h.works ≡ 0 =
+        sum_none (λ (marks : List Bool). one (is_marked marks c)) h.works [] (λ s. held_unmarked h s c sound some) in
+    let rows : sum_by (λ (row : Row). one (grips c row.hand)) h.rows ≡ 0 =
+        sum_none (λ (row : Row). one (grips c row.hand)) h.rows no_row (λ s.
+            elim (cases_eq s t) [
+              inl same ↦ ap (λ j. one (grips c (row_at h j).hand)) same ∙ free
+            | inr other ↦ hand_apart h t s c (row_at h s).hand sound owner other refl ]) in
+    omega (arith, marks, rows)
+
+pub local_positive : (h : Heap) (t c : ℕ) → IsSound h → 266 ≤ c → (cell_at h c).owner ≡ owners.Thread t → gripped h c ≡ 0 → 1 ≤ (cell_at h c).local
+local_positive h t c sound mortal owner none =
+    let e : one ((cell_at h c).local == 0) ≡ 0 = sym (ap (λ o. grips_by_owner o (cell_at h c).state (cell_at h c).local (cell_at h c).count) owner) ∙ sym (sound.gripped c mortal) ∙ none in
+    elim (cases_eq (cell_at h c).local 0) [
+      inl zero ↦ absurd (omega (arith, e, ap one (eq-eqb (cell_at h c).local 0 zero)))
+    | inr some ↦ omega (arith, some) ]
+
+-- before the merge local and shared count are the total
+pub total_unmerged : (state : State) (local : ℕ) (count : ℤ) → is_merged state ≡ false → count_of_state state local count ≡ pos local +ℤ count
+total_unmerged states.Default local count h = refl
+total_unmerged states.Queued local count h = refl
+total_unmerged states.Merged local count h = absurd (true≢false h)
+
+-- the words of a cell that a thread owns, at another local count
+pub owned_counts : (x : Cell) (t n : ℕ) → x.owner ≡ owners.Thread t → is_merged x.state ≡ false → counted_in (record x { local = n }) ≡ pos n +ℤ x.count
+owned_counts x t n owner unmerged = live_counts (record x { local = n }) (ap lives owner) ∙ total_unmerged x.state n x.count unmerged
+
+-- ---- up
+
+-- a lock's place is filled, so it isn't the vacant one
+pub lock_stays : (h : Heap) (t k c : ℕ) → IsSound h → place_at (frame_at h t) k ≡ None
+    → (j : ℕ) → (row_at h t).locked ≡ Some j → place_at (filled (frame_at h t) k c) j ≡ place_at (frame_at h t) j
+lock_stays h t k c sound none j locked =
+    let lock : (q : ℕ) × Locks h t j q × ((cell_at h q).mutex ≡ t) = sound.locks t j locked in
+    place_at-filled_else (frame_at h t) k c j (λ same.
+        let e : None ≡ Some lock.0 = sym none ∙ ap (place_at (frame_at h t)) (sym same) ∙ lock.1.names in absurd (cc))
+
+-- what is common to counting up: one more place has the cell
+pub record Ups (h : Heap) (t c k : ℕ) : Type 0 where
+  pub thread : 0 < t
+  pub inside : t < length h.rows
+  pub cell_inside : c < length h.cells
+  pub place : Vacant (frame_at h t) k
+  pub active : (row_at h t).stage ≡ stages.Active
+  pub here : is_gathered h t ≡ false
+  pub hand : (row_at h t).hand ≡ hands.Free
+
+pub up_immortal_fits : (h : Heap) (t c k : ℕ) → IsSound h → Ups h t c k → c < 266
+    → Fits h t c (cell_at h c) (row_at h t) (filled (frame_at h t) k c) (work_at h t) h.entries
+up_immortal_fits h t c k sound ups low = record {
+  thread = ups.thread;
+  thread_inside = ups.inside;
+  cell_inside = ups.cell_inside;
+  immortal = λ _. refl;
+  mutex = refl;
+  bore = inl refl;
+  stage = refl;
+  locked = refl;
+  locked_place = lock_stays h t k c sound ups.place.none;
+  marks = refl;
+  lists = refl;
+  counted_here = λ high. absurd (omega (arith, low, high));
+  counted_else = λ q _ ne. omega (arith, times-filled q (frame_at h t) k c ups.place.none, ap one (ne_eqb c q (λ e. ne (sym e))));
+  gripped_here = λ _. refl;
+  gripped_else = λ q _ ne. refl;
+  most_here = λ high. absurd (omega (arith, low, high));
+  least_here = λ high. absurd (omega (arith, low, high));
+  asks_else = λ q _ ne. refl;
+  hand = λ p d busy. let bad : hands.Free ≡ hands.Busy p d = sym ups.hand ∙ busy in absurd (cc);
+  hands_else = λ s p ne busy. (sound.hands s c p busy).fits;
+  cell = λ high. absurd (omega (arith, low, high));
+  empty = λ q _ e. e;
+  works_here = sound.works t c;
+  works_own = λ q _ on. on;
+  works_else = λ s ne on. sound.works s c on;
+  own = active_fits _ (row_at h t) (row_at h t) (frame_at h t) _ _ (work_at h t) _ _ _ ups.active ups.here refl
+      (λ _ _. ups.hand) (sound.threads t).births (length-filled (frame_at h t) k c ups.place.low (sound.threads t).places);
+  ledger = refl }
+
+pub up_mortal_fits : (h : Heap) (t c k : ℕ) → IsSound h → Ups h t c k → 266 ≤ c → (cell_at h c).owner ≡ owners.Thread t
+    → (cell_at h c).local < h.limit → 1 ≤ held h c
+    → Fits h t c (record (cell_at h c) { local = (cell_at h c).local + 1 }) (row_at h t) (filled (frame_at h t) k c) (work_at h t) h.entries
+up_mortal_fits h t c k sound ups mortal owner below some =
+    let x : Cell = cell_at h c in
+    let free : one (grips c (row_at h t).hand) ≡ 0 = grips_free c _ ups.hand in
+    let none : gripped h c ≡ 0 = owned_ungripped h t c sound mortal owner some free in
+    let positive : 1 ≤ x.local = local_positive h t c sound mortal owner none in
+    let fits : CellFits (length h.rows) h.limit x (entries_at h c) = sound.cells c mortal in
+    let old_count = owned_counts x t x.local owner (fits.owned_unmerged t owner) in
+    let new_count = owned_counts x t (x.local + 1) owner (fits.owned_unmerged t owner) in
+    let old_grip : grips_of x ≡ 0 = sym (sound.gripped c mortal) ∙ none in
+    let new_grip : grips_of (record x { local = x.local + 1 }) ≡ 0 =
+        ap (λ o. grips_by_owner o x.state (x.local + 1) x.count) owner ∙ ap one (ne_eqb (x.local + 1) 0 (λ e. omega (arith, e))) in
+    let here : one (c == c) ≡ 1 = ap one (eq-eqb c c refl) in
+    record {
+      thread = ups.thread;
+      thread_inside = ups.inside;
+      cell_inside = ups.cell_inside;
+      immortal = λ low. absurd (omega (arith, low, mortal));
+      mutex = refl;
+      bore = inl refl;
+      stage = refl;
+      locked = refl;
+      locked_place = lock_stays h t k c sound ups.place.none;
+      marks = refl;
+      lists = refl;
+      counted_here = λ _. omega (arith, ints, old_count, new_count, here, times-filled c (frame_at h t) k c ups.place.none);
+      counted_else = λ q _ ne. omega (arith, times-filled q (frame_at h t) k c ups.place.none, ap one (ne_eqb c q (λ e. ne (sym e))));
+      gripped_here = λ _. omega (arith, old_grip, new_grip);
+      gripped_else = λ q _ ne. refl;
+      most_here = λ _. omega (arith, sound.most c mortal);
+      least_here = λ _. omega (arith, sound.least c mortal);
+      asks_else = λ q _ ne. refl;
+      hand = λ p d busy. let bad : hands.Free ≡ hands.Busy p d = sym ups.hand ∙ busy in absurd (cc);
+      hands_else = λ s p ne busy. others_local s t (x.local + 1) (row_at h s) (popped_at h s) x _ c p (sound.hands s c p busy).fits owner ne;
+      cell = λ _. record {
+        default = fits.default;
+        owned_unmerged = fits.owned_unmerged;
+        owned_by_bearer = fits.owned_by_bearer;
+        dead_empty = fits.dead_empty;
+        dead_count = fits.dead_count;
+        born = fits.born;
+        limited = λ _. omega (arith, below);
+        plain = fits.plain };
+      empty = λ q _ e. e;
+      works_here = λ on. absurd (no_mark _ (held_unmarked h t c sound some) on);
+      works_own = λ q _ on. on;
+      works_else = λ s ne on. absurd (no_mark _ (held_unmarked h s c sound some) on);
+      own = active_fits _ (row_at h t) (row_at h t) (frame_at h t) _ _ (work_at h t) _ _ _ ups.active ups.here refl
+          (λ _ _. ups.hand) (sound.threads t).births (length-filled (frame_at h t) k c ups.place.low (sound.threads t).places);
+      ledger = refl }
+
+-- ---- down
+
+-- what is common to counting down: one place, or one entry, lets the cell go
+pub record Downs (h : Heap) (t c : ℕ) (f : List (Option ℕ)) (es : List (List ℕ)) : Type 0 where
+  pub thread : 0 < t
+  pub inside : t < length h.rows
+  pub cell_inside : c < length h.cells
+  pub unlocked : (row_at h t).locked ≡ None
+  pub here : is_gathered h t ≡ false
+  pub hand : (row_at h t).hand ≡ hands.Free
+  pub let_go : (q : ℕ) → times q f + sum_by (entry_times q) es + one (c == q) ≡ times q (frame_at h t) + in_entries h q
+  pub vacant : (j : ℕ) → place_at (frame_at h t) j ≡ None → place_at f j ≡ None
+  pub places : length f ≤ 65536
+  pub lists : length es ≡ length h.entries
+  pub empty : (q : ℕ) → entries_at h q ≡ [] → get_or es q [] ≡ []
+
+pub down_immortal_fits : (h : Heap) (t c : ℕ) (f : List (Option ℕ)) (es : List (List ℕ)) → IsSound h → Downs h t c f es → c < 266
+    → Fits h t c (cell_at h c) (row_at h t) f (work_at h t) es
+down_immortal_fits h t c f es sound downs low =
+    let old : ThreadFits (words_for (length h.cells)) (row_at h t) (frame_at h t) (popped_at h t) (work_at h t) (queue_at h t) (is_gathered h t) = sound.threads t in
+    record {
+      thread = downs.thread;
+      thread_inside = downs.inside;
+      cell_inside = downs.cell_inside;
+      immortal = λ _. refl;
+      mutex = refl;
+      bore = inl refl;
+      stage = refl;
+      locked = refl;
+      locked_place = λ j e. let bad : None ≡ Some j = sym downs.unlocked ∙ e in absurd (cc);
+      marks = refl;
+      lists = downs.lists;
+      counted_here = λ high. absurd (omega (arith, low, high));
+      counted_else = λ q _ ne. omega (arith, downs.let_go q, ap one (ne_eqb c q (λ e. ne (sym e))));
+      gripped_here = λ _. refl;
+      gripped_else = λ q _ ne. refl;
+      most_here = λ high. absurd (omega (arith, low, high));
+      least_here = λ high. absurd (omega (arith, low, high));
+      asks_else = λ q _ ne. refl;
+      hand = λ p d busy. let bad : hands.Free ≡ hands.Busy p d = sym downs.hand ∙ busy in absurd (cc);
+      hands_else = λ s p ne busy. (sound.hands s c p busy).fits;
+      cell = λ high. absurd (omega (arith, low, high));
+      empty = λ q _ e. downs.empty q e;
+      works_here = sound.works t c;
+      works_own = λ q _ on. on;
+      works_else = λ s ne on. sound.works s c on;
+      own = record {
+        inactive_hand = old.inactive_hand;
+        inactive_frame = λ off j. downs.vacant j (old.inactive_frame off j);
+        inactive_lock = old.inactive_lock;
+        closing = old.closing;
+        closing_work = old.closing_work;
+        closed = old.closed;
+        gathered_left = old.gathered_left;
+        gathered_hand = old.gathered_hand;
+        gathered_work = old.gathered_work;
+        locked_hand = old.locked_hand;
+        births = old.births;
+        places = downs.places };
+      ledger = refl }
+
+-- the hand after counting down: at 0 it has the cell
+abbrev pub down_hand : ℕ → ℕ → Hand → Hand
+down_hand c n hand = if n == 1 then hands.Busy phases.Zero c else hand
+
+pub down_mortal_fits : (h : Heap) (t c : ℕ) (f : List (Option ℕ)) (es : List (List ℕ)) → IsSound h → Downs h t c f es → 266 ≤ c
+    → (cell_at h c).owner ≡ owners.Thread t → (row_at h t).stage ≡ stages.Active
+    → Fits h t c (record (cell_at h c) { local = (cell_at h c).local - 1 }) (record (row_at h t) { hand = down_hand c (cell_at h c).local (row_at h t).hand }) f (work_at h t) es
+down_mortal_fits h t c f es sound downs mortal owner active =
+    let x : Cell = cell_at h c in
+    let hand' : Hand = down_hand c x.local (row_at h t).hand in
+    let here : one (c == c) ≡ 1 = ap one (eq-eqb c c refl) in
+    let some : 1 ≤ held h c = omega (arith, downs.let_go c, here, sum_one (times c) h.frames t [] refl) in
+    let free : one (grips c (row_at h t).hand) ≡ 0 = grips_free c _ downs.hand in
+    let none : gripped h c ≡ 0 = owned_ungripped h t c sound mortal owner some free in
+    let positive : 1 ≤ x.local = local_positive h t c sound mortal owner none in
+    let fits : CellFits (length h.rows) h.limit x (entries_at h c) = sound.cells c mortal in
+    let old_count = owned_counts x t x.local owner (fits.owned_unmerged t owner) in
+    let new_count = owned_counts x t (x.local - 1) owner (fits.owned_unmerged t owner) in
+    let old_grip : grips_of x ≡ 0 = sym (sound.gripped c mortal) ∙ none in
+    let new_grip : grips_of (record x { local = x.local - 1 }) ≡ one (x.local - 1 == 0) = ap (λ o. grips_by_owner o x.state (x.local - 1) x.count) owner in
+    -- the hand grips the cell exactly where nothing is left on the local word, and never has a reference
+    let hands_now : (one (grips c hand') ≡ one (x.local - 1 == 0)) × ((q : ℕ) → q ≢ c → one (grips q hand') ≡ 0) × ((q : ℕ) → one (carries q hand') ≡ 0)
+        × ((p : Phase) (d : ℕ) → hand' ≡ hands.Busy p d → (d ≡ c) × (p ≡ phases.Zero)) =
+        elim (cases_eq x.local 1) [
+          inl last ↦
+            let e : hand' ≡ hands.Busy phases.Zero c = ap (λ b. if b then hands.Busy phases.Zero c else (row_at h t).hand) (eq-eqb x.local 1 last) in
+            let zero : one (x.local - 1 == 0) ≡ 1 = ap one (eq-eqb (x.local - 1) 0 (omega (arith, last))) in
+            (ap (λ z. one (grips c z)) e ∙ here ∙ sym zero,
+             λ q ne. ap (λ z. one (grips q z)) e ∙ (busy_else phases.Zero c q ne).0,
+             λ q. ap (λ z. one (carries q z)) e,
+             λ p d busy. let same : hands.Busy phases.Zero c ≡ hands.Busy p d = sym e ∙ busy in (cc, cc))
+        | inr more ↦
+            let e : hand' ≡ hands.Free = ap (λ b. if b then hands.Busy phases.Zero c else (row_at h t).hand) (ne_eqb x.local 1 more) ∙ downs.hand in
+            let left : one (x.local - 1 == 0) ≡ 0 = ap one (ne_eqb (x.local - 1) 0 (λ z. more (omega (arith, z, positive)))) in
+            (grips_free c _ e ∙ sym left,
+             λ q ne. grips_free q _ e,
+             λ q. carries_free q _ e,
+             λ p d busy. let bad : hands.Free ≡ hands.Busy p d = sym e ∙ busy in absurd (cc)) ] in
+    record {
+      thread = downs.thread;
+      thread_inside = downs.inside;
+      cell_inside = downs.cell_inside;
+      immortal = λ low. absurd (omega (arith, low, mortal));
+      mutex = refl;
+      bore = inl refl;
+      stage = refl;
+      locked = refl;
+      locked_place = λ j e. let bad : None ≡ Some j = sym downs.unlocked ∙ e in absurd (cc);
+      marks = refl;
+      lists = downs.lists;
+      counted_here = λ _. omega (arith, ints, old_count, new_count, positive, here, downs.let_go c, hands_now.2 c, carries_free c _ downs.hand);
+      counted_else = λ q _ ne. omega (arith, downs.let_go q, ap one (ne_eqb c q (λ e. ne (sym e))), hands_now.2 q, carries_free q _ downs.hand);
+      gripped_here = λ _. omega (arith, old_grip, new_grip, free, hands_now.0);
+      gripped_else = λ q _ ne. omega (arith, grips_free q _ downs.hand, hands_now.1 q ne);
+      most_here = λ _. omega (arith, sound.most c mortal, hands_now.2 c, carries_free c _ downs.hand);
+      least_here = λ _. omega (arith, sound.least c mortal, hands_now.2 c, carries_free c _ downs.hand);
+      asks_else = λ q _ ne. hands_now.2 q ∙ sym (carries_free q _ downs.hand);
+      hand = λ p d busy. let said = hands_now.3 p d busy in
+          (said.0, mortal, subst (λ z. PhaseFits t (record (row_at h t) { hand = hand' }) (popped_at h t) (record x { local = x.local - 1 }) (row_at h x.bore).stage c z) (sym said.1) owner);
+      hands_else = λ s p ne busy. others_local s t (x.local - 1) (row_at h s) (popped_at h s) x _ c p (sound.hands s c p busy).fits owner ne;
+      cell = λ _. record {
+        default = fits.default;
+        owned_unmerged = fits.owned_unmerged;
+        owned_by_bearer = fits.owned_by_bearer;
+        dead_empty = λ dead. downs.empty c (fits.dead_empty dead);
+        dead_count = fits.dead_count;
+        born = fits.born;
+        limited = λ live. omega (arith, fits.limited live);
+        plain = λ plain. downs.empty c (fits.plain plain) };
+      empty = λ q _ e. downs.empty q e;
+      works_here = λ on. absurd (no_mark _ (held_unmarked h t c sound some) on);
+      works_own = λ q _ on. on;
+      works_else = λ s ne on. absurd (no_mark _ (held_unmarked h s c sound some) on);
+      own = active_fits _ (row_at h t) _ (frame_at h t) f _ (work_at h t) _ _ _ active downs.here refl
+          (λ j e. let bad : None ≡ Some j = sym downs.unlocked ∙ e in absurd (cc)) (sound.threads t).births downs.places;
+      ledger = refl }

@@ -1,0 +1,216 @@
+-- Who names a cell: what the sums say of one place, one hand, one worklist.
+use Rattle.std.proofs.Common.{◌≡◌, ◌≢◌, ℕ, ◌+◌, ◌<◌, ◌≤◌, ◌==◌, ◌%◌, ◌&&◌, Bool, true, false, not, ℤ, pos, negsuc, List, [], length, get_or, set, Option, Some, None, sum_by, refl, sym, ◌∙◌, ap, subst, inl, inr, ◌⊎◌, arith, if◌then◌else◌}
+use Rattle.std.proofs.lemmas.List.{get_or-set_same, get_or-set_other, length-set, get_or_past}
+use Rattle.std.proofs.lemmas.List.Sums.{sum_by-set, get_or-le-sum_by}
+use Rattle.std.proofs.lemmas.Bool.{cases_eq, cases_lt, cases_Bool, eq-eqb, eqb-true, and_parts, and_from, true≢false}
+use Rattle.std.proofs.lemmas.Int.{ints}
+use Rattle.std.proofs.lemmas.Nat.Bits.{bit_at-zero}
+use Rattle.brc_words.specs.declared.owner.Owner.{Owner}
+use Rattle.brc_words.specs.declared.owner.Owner.TheVariants as owners
+use Rattle.brc_words.specs.declared.state.State.{State}
+use Rattle.brc_words.specs.declared.state.State.TheVariants as states
+use Rattle.brc_runs.specs.declared.cell.Cell.{Cell}
+use Rattle.brc_runs.specs.declared.row.Row.{Row}
+use Rattle.brc_runs.specs.declared.row.Hand.{Hand}
+use Rattle.brc_runs.specs.declared.row.Hand.TheVariants as hands
+use Rattle.brc_runs.specs.declared.row.Phase.{Phase}
+use Rattle.brc_runs.specs.declared.row.Phase.TheVariants as phases
+use Rattle.brc_runs.specs.declared.row.Stage.{Stage}
+use Rattle.brc_runs.specs.declared.row.Stage.TheVariants as stages
+use Rattle.brc_runs.specs.Lists.{one, times, entry_times, bit_of, is_marked, place_at, names}
+use Rattle.brc_runs.specs.Heap.{Heap, cell_at, entries_at, row_at, frame_at, popped_at, work_at, queue_at, no_row}
+use Rattle.brc_runs.specs.Steps.{is_free_hand, is_at, phase_number, is_free, is_owned_by, is_active, is_zero, is_default}
+use Rattle.brc_runs.specs.Holding.{lives, total_of, carries, has_reference}
+use Rattle.brc_runs.specs.Sound.{IsSound, IsShaped, PhaseFits, Births, Untied, counted_in, grips_of, grips_by_owner, grips, is_gripping, gripped, held, asks, asks_least, in_frames, in_popped, in_queues, in_hands, in_entries, is_queued, is_threads}
+
+-- ---- sums
+
+-- one term is within the sum, also past the end
+pub sum_one : {A : Type 0} (f : A → ℕ) (xs : List A) (i : ℕ) (d : A) → f d ≡ 0 → f (get_or xs i d) ≤ sum_by f xs
+sum_one {A} f xs i d none =
+    elim (cases_lt i (length xs)) [
+      inl inside ↦ get_or-le-sum_by f xs i d inside
+    | inr past ↦ let e : f (get_or xs i d) ≡ 0 = ap f (get_or_past xs i d past) ∙ none in omega arith ]
+
+-- two terms are within the sum together
+pub sum_two : {A : Type 0} (f : A → ℕ) (xs : List A) (i j : ℕ) (d : A) → f d ≡ 0 → j ≢ i → f (get_or xs i d) + f (get_or xs j d) ≤ sum_by f xs
+sum_two {A} f xs i j d none ne =
+    elim (cases_lt i (length xs)) [
+      inl inside ↦
+        let taken = sum_by-set f xs i d d inside in
+        let other : f (get_or (set xs i d) j d) ≤ sum_by f (set xs i d) = sum_one f (set xs i d) j d none in
+        let e : f (get_or (set xs i d) j d) ≡ f (get_or xs j d) = ap f (get_or-set_other xs i j d d ne) in
+        omega (arith, taken, other, e, none)
+    | inr past ↦
+        let e : f (get_or xs i d) ≡ 0 = ap f (get_or_past xs i d past) ∙ none in
+        let other : f (get_or xs j d) ≤ sum_by f xs = sum_one f xs j d none in
+        omega arith ]
+
+pub one-le : (b : Bool) → one b ≤ 1
+one-le true = omega arith
+one-le false = omega arith
+
+pub one-true : (b : Bool) → b ≡ true → one b ≡ 1
+one-true b h = ap one h
+
+pub one-false : (b : Bool) → one b ≡ 0 → b ≡ false
+one-false true h = absurd (omega arith)
+one-false false h = refl
+
+pub no_mark : (b : Bool) → one b ≡ 0 → b ≡ true → ⊥
+no_mark b none h = omega (arith, ap one h)
+
+-- ---- phases and hands
+
+phase_of : ℕ → Phase
+phase_of n = if n == 0 then phases.Claimed else (if n == 1 then phases.Counted else (if n == 2 then phases.Ready else (if n == 3 then phases.Zero else (if n == 4 then phases.Over else (if n == 5 then phases.Untied else (if n == 6 then phases.Asked else (if n == 7 then phases.Shut else (if n == 8 then phases.Taking else (if n == 9 then phases.Held else phases.Popping)))))))))
+
+phase_of_number : (p : Phase) → phase_of (phase_number p) ≡ p
+unfolding phase_of
+phase_of_number phases.Claimed = refl
+phase_of_number phases.Counted = refl
+phase_of_number phases.Ready = refl
+phase_of_number phases.Zero = refl
+phase_of_number phases.Over = refl
+phase_of_number phases.Untied = refl
+phase_of_number phases.Asked = refl
+phase_of_number phases.Shut = refl
+phase_of_number phases.Taking = refl
+phase_of_number phases.Held = refl
+phase_of_number phases.Popping = refl
+
+pub free_hand : (hand : Hand) → is_free_hand hand ≡ true → hand ≡ hands.Free
+free_hand hands.Free h = refl
+free_hand (hands.Busy p c) h = absurd (true≢false (sym h))
+
+pub busy_hand : (p : Phase) (c : ℕ) (hand : Hand) → is_at p c hand ≡ true → hand ≡ hands.Busy p c
+busy_hand p c hands.Free h = absurd (true≢false (sym h))
+busy_hand p c (hands.Busy q d) h =
+    let parts = and_parts (phase_number q == phase_number p) (d == c) h in
+    let same : q ≡ p = sym (phase_of_number q) ∙ ap phase_of (eqb-true _ _ parts.0) ∙ phase_of_number p in
+    ap (λ (x : Phase). hands.Busy x d) same ∙ ap (hands.Busy p) (eqb-true _ _ parts.1)
+
+-- a hand that names a cell grips it or has a reference to it
+pub hand_names : (p : Phase) (c : ℕ) → 1 ≤ one (grips c (hands.Busy p c)) + one (carries c (hands.Busy p c))
+hand_names phases.Claimed c = omega (arith, ap one (eq-eqb c c refl))
+hand_names phases.Counted c = omega (arith, ap one (eq-eqb c c refl))
+hand_names phases.Ready c = omega (arith, ap one (eq-eqb c c refl))
+hand_names phases.Zero c = omega (arith, ap one (eq-eqb c c refl))
+hand_names phases.Over c = omega (arith, ap one (eq-eqb c c refl))
+hand_names phases.Untied c = omega (arith, ap one (eq-eqb c c refl))
+hand_names phases.Asked c = omega (arith, ap one (eq-eqb c c refl))
+hand_names phases.Shut c = omega (arith, ap one (eq-eqb c c refl))
+hand_names phases.Taking c = omega (arith, ap one (eq-eqb c c refl))
+hand_names phases.Held c = omega (arith, ap one (eq-eqb c c refl))
+hand_names phases.Popping c = omega (arith, ap one (eq-eqb c c refl))
+
+pub grips_free : (c : ℕ) (hand : Hand) → hand ≡ hands.Free → one (grips c hand) ≡ 0
+grips_free c hand e = ap (λ x. one (grips c x)) e
+
+pub carries_free : (c : ℕ) (hand : Hand) → hand ≡ hands.Free → one (carries c hand) ≡ 0
+carries_free c hand e = ap (λ x. one (carries c x)) e
+
+-- a hand that neither grips nor has a reference doesn't name the cell
+pub unnamed : (p : Phase) (c : ℕ) (hand : Hand) → one (grips c hand) ≡ 0 → one (carries c hand) ≡ 0 → hand ≡ hands.Busy p c → ⊥
+unnamed p c hand no_grip no_reference e =
+    omega (arith, hand_names p c, ap (λ x. one (grips c x)) e, ap (λ x. one (carries c x)) e, no_grip, no_reference)
+
+-- ---- cells
+
+pub grips_of-le : (owner : Owner) (state : State) (local : ℕ) (count : ℤ) → grips_by_owner owner state local count ≤ 1
+grips_of-le owners.Nobody states.Default local count = omega arith
+grips_of-le owners.Nobody states.Queued local count = omega arith
+grips_of-le owners.Nobody states.Merged local count = one-le (is_zero count)
+grips_of-le (owners.Thread t) state local count = one-le (local == 0)
+grips_of-le (owners.Claimed t) state local count = omega arith
+grips_of-le owners.Free state local count = omega arith
+
+pub free_owner : (owner : Owner) → is_free owner ≡ true → owner ≡ owners.Free
+free_owner owners.Nobody h = absurd (true≢false (sym h))
+free_owner (owners.Thread t) h = absurd (true≢false (sym h))
+free_owner (owners.Claimed t) h = absurd (true≢false (sym h))
+free_owner owners.Free h = refl
+
+pub thread_owner : (t : ℕ) (owner : Owner) → is_owned_by t owner ≡ true → owner ≡ owners.Thread t
+thread_owner t owners.Nobody h = absurd (true≢false (sym h))
+thread_owner t (owners.Thread s) h = ap owners.Thread (eqb-true s t h)
+thread_owner t (owners.Claimed s) h = absurd (true≢false (sym h))
+thread_owner t owners.Free h = absurd (true≢false (sym h))
+
+pub active_stage : (stage : Stage) → is_active stage ≡ true → stage ≡ stages.Active
+active_stage stages.Active h = refl
+active_stage (stages.Closing n) h = absurd (true≢false (sym h))
+active_stage stages.Left h = absurd (true≢false (sym h))
+
+pub zero_count : (n : ℤ) → is_zero n ≡ true → n ≡ pos 0
+zero_count (pos n) h = ap pos (eqb-true n 0 h)
+zero_count (negsuc n) h = absurd (true≢false (sym h))
+
+pub default_state : (state : State) → is_default state ≡ true → state ≡ states.Default
+default_state states.Default h = refl
+default_state states.Queued h = absurd (true≢false (sym h))
+default_state states.Merged h = absurd (true≢false (sym h))
+
+-- the words of a cell without an object count nothing
+pub dead_counts : (x : Cell) → lives x.owner ≡ false → counted_in x ≡ pos 0
+dead_counts x dead = ap (λ b. if b then total_of x else pos 0) dead
+
+pub live_counts : (x : Cell) → lives x.owner ≡ true → counted_in x ≡ total_of x
+live_counts x live = ap (λ b. if b then total_of x else pos 0) live
+
+-- ---- what a world's sums say of one thread
+
+-- words that aren't there have no bit
+pub no_bit : (c : ℕ) → bit_of [] c ≡ 0
+no_bit c = bit_at-zero (c % 32)
+
+-- nothing holds the cell
+pub record Unheld (h : Heap) (c : ℕ) : Type 0 where
+  pub sum : held h c ≡ 0
+  pub frames : (s : ℕ) → times c (frame_at h s) ≡ 0
+  pub hands : (s : ℕ) → one (carries c (row_at h s).hand) ≡ 0
+  pub bits : (s : ℕ) → bit_of (queue_at h s) c + bit_of (popped_at h s) c ≡ 0
+  pub entries : in_entries h c ≡ 0
+  pub asks : asks h c ≡ 0
+
+pub unheld : (h : Heap) (c : ℕ) → held h c ≡ 0 → Unheld h c
+unheld h c none = record {
+  sum = none;
+  frames = λ s. omega (arith, none, sum_one (times c) h.frames s [] refl);
+  hands = λ s. omega (arith, none, sum_one (λ (row : Row). one (carries c row.hand)) h.rows s no_row refl);
+  bits = λ s. omega (arith, none, sum_one (λ (words : List ℕ). bit_of words c) h.queues s [] (no_bit c), sum_one (λ (words : List ℕ). bit_of words c) h.popped s [] (no_bit c));
+  entries = omega (arith, none);
+  asks = omega (arith, none) }
+
+-- a cell without an object is held nowhere
+pub dead_unheld : (h : Heap) (c : ℕ) → IsSound h → 266 ≤ c → lives (cell_at h c).owner ≡ false → Unheld h c
+dead_unheld h c sound mortal dead =
+    unheld h c (omega (arith, ints, sound.counted c mortal, dead_counts (cell_at h c) dead))
+
+-- nothing grips the cell
+pub record Ungripped (h : Heap) (c s : ℕ) : Type 0 where
+  pub mark : one (is_marked (work_at h s) c) ≡ 0
+  pub hand : one (grips c (row_at h s).hand) ≡ 0
+
+pub ungripped : (h : Heap) (c : ℕ) → gripped h c ≡ 0 → (s : ℕ) → Ungripped h c s
+ungripped h c none s = record {
+  mark = omega (arith, none, sum_one (λ (marks : List Bool). one (is_marked marks c)) h.works s [] refl);
+  hand = omega (arith, none, sum_one (λ (row : Row). one (grips c row.hand)) h.rows s no_row refl) }
+
+-- a thread that grips the cell is the only one, and does so once
+pub sole_grip : (h : Heap) (c t : ℕ) → IsSound h → 266 ≤ c → 1 ≤ one (is_marked (work_at h t) c) + one (grips c (row_at h t).hand)
+    → (s : ℕ) → s ≢ t → Ungripped h c s
+sole_grip h c t sound mortal some s ne =
+    let marks = sum_two (λ (marks : List Bool). one (is_marked marks c)) h.works t s [] refl ne in
+    let rows = sum_two (λ (row : Row). one (grips c row.hand)) h.rows t s no_row refl ne in
+    let most = grips_of-le (cell_at h c).owner (cell_at h c).state (cell_at h c).local (cell_at h c).count in
+    let total = sound.gripped c mortal in
+    record {
+      mark = omega (arith, marks, rows, most, total, some);
+      hand = omega (arith, marks, rows, most, total, some) }
+
+pub grips_once : (h : Heap) (c t : ℕ) → IsSound h → 266 ≤ c → one (is_marked (work_at h t) c) + one (grips c (row_at h t).hand) ≤ 1
+grips_once h c t sound mortal =
+    omega (arith, sum_one (λ (marks : List Bool). one (is_marked marks c)) h.works t [] refl,
+      sum_one (λ (row : Row). one (grips c row.hand)) h.rows t no_row refl,
+      grips_of-le (cell_at h c).owner (cell_at h c).state (cell_at h c).local (cell_at h c).count, sound.gripped c mortal)
