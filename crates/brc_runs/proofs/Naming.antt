@@ -104,6 +104,10 @@ hand_names phases.Taking c = omega (arith, ap one (eq-eqb c c refl))
 hand_names phases.Held c = omega (arith, ap one (eq-eqb c c refl))
 hand_names phases.Popping c = omega (arith, ap one (eq-eqb c c refl))
 
+-- a hand with a reference counts it
+pub busy_carrier : (p : Phase) (c : ℕ) (hand : Hand) → has_reference p ≡ true → hand ≡ hands.Busy p c → one (carries c hand) ≡ 1
+busy_carrier p c hand has e = ap (λ z. one (carries c z)) e ∙ ap (λ b. one (b && (c == c))) has ∙ ap one (eq-eqb c c refl)
+
 pub grips_free : (c : ℕ) (hand : Hand) → hand ≡ hands.Free → one (grips c hand) ≡ 0
 grips_free c hand e = ap (λ x. one (grips c x)) e
 
