@@ -1,7 +1,7 @@
 -- From what reached worlds keep to the theorem on references: counts are holders, nothing is lost, the ledger is exact.
-use Rattle.std.proofs.Common.{◌≡◌, ◌≢◌, ℕ, ◌+◌, ◌-◌, ◌*◌, ◌/◌, ◌%◌, ◌^◌, ◌<◌, ◌≤◌, ◌==◌, ◌&&◌, ◌||◌, not, Bool, true, false, if◌then◌else◌, ℤ, pos, ◌+ℤ◌, ◌≤ℤ◌, List, [], ◌∷◌, ◌++◌, zero, suc, length, get_or, Option, Some, None, sum_by, refl, sym, ◌∙◌, ap, subst, inl, inr, ◌⊎◌, arith, length-append}
+use Rattle.std.proofs.Common.{◌≡◌, ℕ, ◌+◌, ◌*◌, ◌^◌, ◌<◌, ◌≤◌, ◌==◌, ◌&&◌, ◌||◌, Bool, true, false, ℤ, pos, ◌≤ℤ◌, List, [], ◌∷◌, ◌++◌, suc, length, get_or, sum_by, refl, sym, ◌∙◌, ap, inl, inr, arith, length-append}
 use Rattle.std.proofs.lemmas.List.Sums.{sum_by-cons}
-use Rattle.std.proofs.lemmas.Bool.{cases_eq, cases_lt, cases_Bool, eq-eqb, ne_eqb, eqb-true, and_parts, ltb-true, ltb-false, not-true, true≢false}
+use Rattle.std.proofs.lemmas.Bool.{cases_eq, cases_lt, eq-eqb, ne_eqb, eqb-true, and_parts, ltb-false, not-true, true≢false}
 use Rattle.std.proofs.lemmas.Int.{ints}
 use Rattle.brc_model.specs.declared.holder.Holder.{Holder}
 use Rattle.brc_model.specs.declared.holder.Holder.TheVariants as holders
@@ -16,11 +16,11 @@ use Rattle.brc_runs.specs.declared.row.Hand.TheVariants as hands
 use Rattle.brc_runs.specs.declared.row.Phase.{Phase}
 use Rattle.brc_runs.specs.declared.row.Phase.TheVariants as phases
 use Rattle.brc_runs.specs.Lists.{one, times, names, entry_times, bit_of, is_marked}
-use Rattle.brc_runs.specs.Heap.{Heap, cell_at, row_at, popped_at, work_at, no_row, is_immortal}
-use Rattle.brc_runs.specs.Steps.{is_at, phase_number, is_default, is_zero}
-use Rattle.brc_runs.specs.Holding.{Headline, IsInHand, buries, each, if_so, holders_of, lives, lives_at, live_count, carries, total_of, count_of_state}
-use Rattle.brc_runs.specs.Sound.{IsSound, CellFits, HandFits, PhaseFits, WorkFits, counted_in, grips_of, grips_by_owner, grips, is_gripping, gripped, held, asks, asks_least, is_queued, is_threads, is_merged}
-use Rattle.brc_runs.proofs.Naming.{Unheld, unheld, live_counts, one-le, one-true, sum_one, busy_carrier}
+use Rattle.brc_runs.specs.Heap.{Heap, cell_at, row_at, popped_at, work_at, no_row}
+use Rattle.brc_runs.specs.Steps.{is_at, is_zero}
+use Rattle.brc_runs.specs.Holding.{Headline, IsInHand, buries, each, if_so, holders_of, lives, lives_at, carries, count_of_state}
+use Rattle.brc_runs.specs.Sound.{IsSound, PhaseFits, grips_by_owner, grips, is_gripping, gripped, held, is_queued, is_threads, is_merged}
+use Rattle.brc_runs.proofs.Naming.{Unheld, unheld, live_counts, sum_one, busy_carrier}
 
 -- ---- the list of holders is as long as the sums say
 
@@ -34,8 +34,9 @@ length_if_so false holder = refl
 
 bit_once : (n : ℕ) → n < 2 → one (n == 1) ≡ n
 bit_once n low = elim (cases_eq n 1) [
-      inl same ↦ ap one (eq-eqb n 1 same) ∙ sym same
-    | inr other ↦ ap one (ne_eqb n 1 other) ∙ (omega (arith, low, other)) ]
+  | inl same ↦ ap one (eq-eqb n 1 same) ∙ sym same
+  | inr other ↦ ap one (ne_eqb n 1 other) ∙ (omega (arith, low, other))
+]
 
 pub length-holders : (h : Heap) (q : ℕ) → length (holders_of h q) ≡ held h q
 length-holders h q =
@@ -44,8 +45,12 @@ length-holders h q =
     let queues : List Holder = each (λ t words. if_so (bit_of words q == 1) (holders.Queue t q)) 0 h.queues in
     let popped : List Holder = each (λ t words. if_so (bit_of words q == 1) (holders.Popped t q)) 0 h.popped in
     let rows : List Holder = each (λ t row. if_so (carries q row.hand) (holders.Hand t q)) 0 h.rows in
-    omega (arith,
-      length-append (frames ++ entries ++ queues ++ popped) rows, length-append (frames ++ entries ++ queues) popped, length-append (frames ++ entries) queues, length-append frames entries,
+    omega (
+      arith,
+      length-append (frames ++ entries ++ queues ++ popped) rows,
+      length-append (frames ++ entries ++ queues) popped,
+      length-append (frames ++ entries) queues,
+      length-append frames entries,
       length_each (λ t frame. each (λ k x. if_so (names q x) (holders.Frame t k)) 0 frame) (times q)
           (λ t frame. length_each (λ k x. if_so (names q x) (holders.Frame t k)) (λ x. one (names q x)) (λ k x. length_if_so (names q x) (holders.Frame t k)) 0 frame) 0 h.frames,
       length_each (λ c entries. each (λ i x. if_so (x == q) (holders.Entry c i)) 0 entries) (entry_times q)
@@ -55,7 +60,8 @@ length-holders h q =
       length_each (λ t (words : List ℕ). if_so (bit_of words q == 1) (holders.Popped t q)) (λ words. bit_of words q)
           (λ t words. length_if_so (bit_of words q == 1) (holders.Popped t q) ∙ bit_once (bit_of words q) (omega arith)) 0 h.popped,
       length_each (λ t (row : Row). if_so (carries q row.hand) (holders.Hand t q)) (λ row. one (carries q row.hand))
-          (λ t row. length_if_so (carries q row.hand) (holders.Hand t q)) 0 h.rows)
+          (λ t row. length_if_so (carries q row.hand) (holders.Hand t q)) 0 h.rows,
+    )
 
 pub no_holders : (xs : List Holder) → length xs ≡ 0 → xs ≡ []
 no_holders [] h = refl
@@ -77,9 +83,10 @@ live_parts h c live =
 sum_some : {A : Type 0} (f : A → ℕ) (xs : List A) (d : A) → 1 ≤ sum_by f xs → (i : ℕ) × (1 ≤ f (get_or xs i d))
 sum_some {A} f [] d some = absurd (omega (arith, some))
 sum_some {A} f (x ∷ xs) d some = elim (cases_lt 0 (f x)) [
-      inl here ↦ (0, omega (arith, here))
-    | inr none ↦ let rest : (i : ℕ) × (1 ≤ f (get_or xs i d)) = sum_some f xs d (omega (arith, some, sum_by-cons f x xs, none)) in
-        (suc rest.0, rest.1) ]
+  | inl here ↦ (0, omega (arith, here))
+  | inr none ↦ let rest : (i : ℕ) × (1 ≤ f (get_or xs i d)) = sum_some f xs d (omega (arith, some, sum_by-cons f x xs, none)) in
+      (suc rest.0, rest.1)
+]
 
 from_one : (b : Bool) → 1 ≤ one b → b ≡ true
 from_one true h = refl
@@ -140,20 +147,22 @@ found_in_hand h c sound live empty =
     let asked : one (is_queued x.state && is_threads x.owner) ≡ 0 = omega (arith, sound.least c alive.mortal, none.asks) in
     let grip : 1 ≤ gripped h c = omega (arith, sound.gripped c alive.mortal, grip_of_owner x.owner x.state x.local x.count alive.owner asked fits.owned_unmerged fits.default total) in
     elim (cases_lt 0 (sum_by (λ (marks : List Bool). one (is_marked marks c)) h.works)) [
-      inl some ↦
-        let found : (t : ℕ) × (1 ≤ one (is_marked (work_at h t) c)) = sum_some (λ (marks : List Bool). one (is_marked marks c)) h.works [] (omega (arith, some)) in
-        (found.0, or_true _ _ (from_one _ found.1))
-    | inr no_marks ↦
-        let found : (t : ℕ) × (1 ≤ one (grips c (row_at h t).hand)) = sum_some (λ (row : Row). one (grips c row.hand)) h.rows no_row (omega (arith, no_marks, grip)) in
-        let hand : (p : Phase) × ((row_at h found.0).hand ≡ hands.Busy p c) × (is_gripping p ≡ true) = gripping_hand c _ (from_one _ found.1) in
-        (found.0, buried_by_grip h found.0 c hand.0 sound none alive.owner hand.1 hand.2 (sound.hands found.0 c hand.0 hand.1).fits) ]
+      | inl some ↦
+          let found : (t : ℕ) × (1 ≤ one (is_marked (work_at h t) c)) = sum_some (λ (marks : List Bool). one (is_marked marks c)) h.works [] (omega (arith, some)) in
+          (found.0, or_true _ _ (from_one _ found.1))
+      | inr no_marks ↦
+          let found : (t : ℕ) × (1 ≤ one (grips c (row_at h t).hand)) = sum_some (λ (row : Row). one (grips c row.hand)) h.rows no_row (omega (arith, no_marks, grip)) in
+          let hand : (p : Phase) × ((row_at h found.0).hand ≡ hands.Busy p c) × (is_gripping p ≡ true) = gripping_hand c _ (from_one _ found.1) in
+          (found.0, buried_by_grip h found.0 c hand.0 sound none alive.owner hand.1 hand.2 (sound.hands found.0 c hand.0 hand.1).fits)
+    ]
 
 pub sound_headline : (h : Heap) → IsSound h → Headline h
 sound_headline h sound = record {
   counted = λ c live. let alive : Lives h c = live_parts h c live in
       sym (live_counts (cell_at h c) alive.owner) ∙ sound.counted c alive.mortal ∙ ap pos (sym (length-holders h c));
   in_hand = λ c live empty. found_in_hand h c sound live (sym (length-holders h c) ∙ ap (λ (xs : List Holder). length xs) empty);
-  ledger = sound.ledger }
+  ledger = sound.ledger;
+}
 
 -- ---- the ledgers fit their words
 
@@ -166,5 +175,10 @@ allocs_fit h sound t = omega (arith, (sound.threads t).births)
 
 pub frees_fit : (h : Heap) → IsSound h → (t : ℕ) → (row_at h t).frees + 1 < 2 ^ 64
 frees_fit h sound t =
-    omega (arith, sum_one (λ (row : Row). row.frees) h.rows t no_row refl, sound.ledger,
-      sum_bound (λ (row : Row). row.allocs) h.rows no_row (λ s. (sound.threads s).births), sound.shaped.threads)
+    omega (
+      arith,
+      sum_one (λ (row : Row). row.frees) h.rows t no_row refl,
+      sound.ledger,
+      sum_bound (λ (row : Row). row.allocs) h.rows no_row (λ s. (sound.threads s).births),
+      sound.shaped.threads,
+    )

@@ -11,3 +11,5 @@ pub mod Registering
 pub mod Opening
 pub mod Headlines
 pub mod Lifetimes
+pub mod Moving
+pub mod Allowing
