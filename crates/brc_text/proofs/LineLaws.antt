@@ -4,7 +4,7 @@ use Rattle.std.specs.List.{flat_map, AllByRecursion}
 use Rattle.std.specs.Option.{option_map}
 use Rattle.std.specs.Str.Parse.{AllDigits}
 use Rattle.std.proofs.lemmas.Bool.{eqb-true, eq-eqb, ne_eqb, and_parts, and_from, cases_eq}
-use Rattle.std.proofs.lemmas.List.{take_more, take_all}
+use Rattle.std.proofs.lemmas.List.{take_more, length-append}
 use Rattle.std.proofs.lemmas.Str.Parse.{digit_from_value}
 use Rattle.std.proofs.Math.Seq.{split_at}
 use Rattle.std.proofs.lemmas.Fmt.{digits_decimal}
@@ -16,7 +16,7 @@ use Rattle.brc_text.specs.declared.token.Token.{Token}
 use Rattle.brc_text.specs.declared.token.Token.TheVariants as tokens
 use Rattle.brc_text.specs.Keywords.{keyword}
 use Rattle.brc_text.specs.Tokens.{◌>>=◌, token, token_at, letter, IsRead}
-use Rattle.brc_text.specs.Lines.{cut, tokens_at, words_from, spaced, line, pieces}
+use Rattle.brc_text.specs.Lines.{cut, tokens_at, words_from, spaced, line, before_line, pieces}
 use Rattle.brc_text.proofs.NumberLaws.{numerals}
 use Rattle.brc_text.proofs.TokenLaws.{token_again, token_takes, some_bind, same_some}
 
@@ -235,3 +235,42 @@ pieces_last byte [] h =
 pieces_last byte (next ∷ front) h =
     let both = and_parts _ _ h in
     rw (not_true (eqb byte 10) both.0, pieces_last next front both.1) refl
+
+whole_before : (byte : ℕ) (bytes : List ℕ) (ps : List (List ℕ × Bool)) → flat_map whole ps ≡ bytes
+    → flat_map whole (before_line byte ps) ≡ byte ∷ bytes
+whole_before byte bytes [] h = ap (λ (l : List ℕ). byte ∷ l) h
+whole_before byte bytes (piece ∷ others) h = ap (λ (l : List ℕ). byte ∷ l) h
+
+whole_first : (byte : ℕ) (bytes : List ℕ) (ps : List (List ℕ × Bool)) (b : Bool) → eqb byte 10 ≡ b → flat_map whole ps ≡ bytes
+    → flat_map whole (cond b (([], true) ∷ ps) (before_line byte ps)) ≡ byte ∷ bytes
+whole_first byte bytes ps true e h = ap (λ (l : List ℕ). 10 ∷ l) h ∙ ap (λ (b : ℕ). b ∷ bytes) (sym (eqb-true byte 10 e))
+whole_first byte bytes ps false e h = whole_before byte bytes ps h
+
+-- the lines together are the text
+pub pieces_joined : (bytes : List ℕ) → flat_map whole (pieces bytes) ≡ bytes
+unfolding pieces
+pieces_joined [] = refl
+pieces_joined (byte ∷ bytes) = whole_first byte bytes (pieces bytes) (eqb byte 10) refl (pieces_joined bytes)
+
+-- the first line, cut off at its line feed
+pub pieces_ended : (bytes rest : List ℕ) → (cut 10 bytes).1 ≡ Some rest → pieces bytes ≡ ((cut 10 bytes).0, true) ∷ pieces rest
+pieces_ended bytes rest h =
+    let parts = cut_parts 10 bytes in
+    let joined : bytes ≡ (cut 10 bytes).0 ++ (10 ∷ rest) = parts.joined ∙ ap (λ (o : Option (List ℕ)). (cut 10 bytes).0 ++ behind 10 o) h in
+    ap pieces joined ∙ pieces_line (cut 10 bytes).0 rest parts.lack
+
+-- a text without a line feed is one line that none ends
+pub pieces_open : (bytes : List ℕ) → 0 < length bytes → (cut 10 bytes).1 ≡ None → pieces bytes ≡ (bytes, false) ∷ []
+pieces_open [] some h = absurd (omega arith)
+pieces_open (byte ∷ bytes) some h =
+    let parts = cut_parts 10 (byte ∷ bytes) in
+    let joined : byte ∷ bytes ≡ (cut 10 (byte ∷ bytes)).0 =
+      parts.joined ∙ ap (λ (o : Option (List ℕ)). (cut 10 (byte ∷ bytes)).0 ++ behind 10 o) h ∙ append-nil (cut 10 (byte ∷ bytes)).0 in
+    pieces_last byte bytes (ap (lacks 10) joined ∙ parts.lack)
+
+-- what stands behind a mark is shorter than the whole
+pub cut_shorter : (mark : ℕ) (bytes rest : List ℕ) → (cut mark bytes).1 ≡ Some rest → length rest < length bytes
+cut_shorter mark bytes rest h =
+    let joined : bytes ≡ (cut mark bytes).0 ++ (mark ∷ rest) =
+      (cut_parts mark bytes).joined ∙ ap (λ (o : Option (List ℕ)). (cut mark bytes).0 ++ behind mark o) h in
+    omega (arith, ap length joined, length-append (cut mark bytes).0 (mark ∷ rest))

@@ -29,12 +29,12 @@ spaced (first ∷ others) = token first ++ flat_map (λ word. 32 ∷ token word)
 abbrev pub line : List Token → List ℕ
 line words = spaced words ++ (10 ∷ [])
 
+-- a byte before the first line
+abbrev pub before_line : ℕ → List (List ℕ × Bool) → List (List ℕ × Bool)
+before_line byte [] = (byte ∷ [], false) ∷ []
+before_line byte (piece ∷ others) = (byte ∷ piece.0, piece.1) ∷ others
+
 -- the lines of a text, each without its line feed, and whether a line feed ends it
 unfoldable pub pieces : List ℕ → List (List ℕ × Bool)
 pieces [] = []
-pieces (byte ∷ bytes) =
-    if byte == 10 then ([], true) ∷ pieces bytes
-    else elim (pieces bytes) [
-      | [] ↦ (byte ∷ [], false) ∷ []
-      | piece ∷ others ↦ (byte ∷ piece.0, piece.1) ∷ others
-    ]
+pieces (byte ∷ bytes) = if byte == 10 then ([], true) ∷ pieces bytes else before_line byte (pieces bytes)

@@ -1,13 +1,15 @@
-// A library with one function.
+//! The trace: a heap's size and limit and the events of one run, as text.
+//!
+//! `specs/Events.antt` is the grammar of a line and `specs/Traces.antt` that of a whole text. Each trace has one
+//! spelling: `read_trace` takes it and nothing else, and `write_trace` puts it. That the two agree is
+//! `proofs/TextLaws.antt`.
 #![tactic(auto)]
 
-ghost use Rattle.std.specs.Prelude.{◌≡◌};
-ghost use Rattle.brc_trace.specs.Echo.{echo_of};
+mod event_line;
+mod reading;
+mod trace;
+mod writing;
 
-// The `ensures` clause is the contract: what `echo` returns is `echo_of` of its argument, a definition
-// in `specs/Echo.antt`, which a caller's clause can cite too.
-pub fn echo(x: usize) -> usize
-    ensures { result ≡ echo_of x }
-{
-    x
-}
+pub use reading::read_trace;
+pub use trace::Trace;
+pub use writing::write_trace;
