@@ -265,12 +265,12 @@ pieces_open [] some h = absurd (omega arith)
 pieces_open (byte ∷ bytes) some h =
     let parts = cut_parts 10 (byte ∷ bytes) in
     let joined : byte ∷ bytes ≡ (cut 10 (byte ∷ bytes)).0 =
-      parts.joined ∙ ap (λ (o : Option (List ℕ)). (cut 10 (byte ∷ bytes)).0 ++ behind 10 o) h ∙ append-nil (cut 10 (byte ∷ bytes)).0 in
+    parts.joined ∙ ap (λ (o : Option (List ℕ)). (cut 10 (byte ∷ bytes)).0 ++ behind 10 o) h ∙ append-nil (cut 10 (byte ∷ bytes)).0 in
     pieces_last byte bytes (ap (lacks 10) joined ∙ parts.lack)
 
 -- what stands behind a mark is shorter than the whole
 pub cut_shorter : (mark : ℕ) (bytes rest : List ℕ) → (cut mark bytes).1 ≡ Some rest → length rest < length bytes
 cut_shorter mark bytes rest h =
     let joined : bytes ≡ (cut mark bytes).0 ++ (mark ∷ rest) =
-      (cut_parts mark bytes).joined ∙ ap (λ (o : Option (List ℕ)). (cut mark bytes).0 ++ behind mark o) h in
+    (cut_parts mark bytes).joined ∙ ap (λ (o : Option (List ℕ)). (cut mark bytes).0 ++ behind mark o) h in
     omega (arith, ap length joined, length-append (cut mark bytes).0 (mark ∷ rest))

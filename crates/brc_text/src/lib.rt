@@ -16,3 +16,6 @@ pub use line::{cut_at, tokens_of};
 pub use number::number_of;
 pub use putting::{put_bytes, put_line};
 pub use token::{Letter, Token, token_of};
+
+#[cfg(test)]
+mod tests;

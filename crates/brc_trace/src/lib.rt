@@ -13,3 +13,6 @@ mod writing;
 pub use reading::read_trace;
 pub use trace::Trace;
 pub use writing::write_trace;
+
+#[cfg(test)]
+mod tests;
