@@ -1,11 +1,10 @@
 -- A token is read as it was spelled, and only so.
-use Rattle.std.proofs.Common.{◌≡◌, ℕ, ◌^◌, ◌<◌, Bool, true, false, eqb, List, [], ◌∷◌, Option, Some, None, refl, sym, ap, subst, ◌∙◌, decimal, arith, cond}
+use Rattle.std.proofs.Common.{◌≡◌, ℕ, Bool, true, false, eqb, List, [], ◌∷◌, Option, Some, None, refl, sym, ap, subst, ◌∙◌, decimal, arith, cond}
 use Rattle.std.specs.List.{find}
 use Rattle.std.specs.Str.{bytes_eq}
-use Rattle.std.specs.Int.{IsInRange}
 use Rattle.std.specs.Fmt.{digits}
-use Rattle.std.proofs.lemmas.Option.{cond_some, same_Some}
-use Rattle.std.proofs.lemmas.Bool.{eqb-true, cases_Bool}
+use Rattle.std.proofs.lemmas.Option.{same_Some}
+use Rattle.std.proofs.lemmas.Bool.{eqb-true}
 use Rattle.std.proofs.lemmas.Slice.Eq.{bytes_eq-Decides}
 use Rattle.brc_text.specs.declared.keyword.Keyword.{Keyword}
 use Rattle.brc_text.specs.declared.keyword.Keyword.TheVariants as words
@@ -14,7 +13,7 @@ use Rattle.brc_text.specs.declared.token.Letter.TheVariants as letters
 use Rattle.brc_text.specs.declared.token.Token.{Token}
 use Rattle.brc_text.specs.declared.token.Token.TheVariants as tokens
 use Rattle.brc_text.specs.Numbers.{number_at}
-use Rattle.brc_text.specs.Keywords.{keyword, keyword_at, candidates_at}
+use Rattle.brc_text.specs.Keywords.{keyword, keyword_at}
 use Rattle.brc_text.specs.Tokens.{◌>>=◌, or_else, letter, letter_at, token, place_at, token_at, IsRead}
 use Rattle.brc_text.proofs.NumberLaws.{number_again, number_takes, not_a_digit}
 

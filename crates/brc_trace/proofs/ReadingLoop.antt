@@ -1,5 +1,5 @@
 -- One turn of the reading of events, and what the whole text then spells.
-use Rattle.std.proofs.Common.{◌≡◌, ℕ, zero, suc, ◌+◌, ◌<◌, ◌≤◌, Bool, true, false, cond, List, [], ◌∷◌, ◌++◌, length, Option, Some, None, Result, Ok, Err, refl, sym, ap, subst, ◌∙◌, append_assoc, append-nil, arith}
+use Rattle.std.proofs.Common.{◌≡◌, ℕ, ◌+◌, ◌<◌, ◌≤◌, List, [], ◌∷◌, ◌++◌, length, Some, None, Result, Ok, Err, refl, sym, ap, subst, append_assoc, append-nil, arith}
 use Rattle.std.specs.Option.{option_and_then}
 use Rattle.std.proofs.lemmas.Bool.{lt-ltb, le-ltb}
 use Rattle.brc_words.specs.declared.fault.Fault.{Fault}
@@ -9,7 +9,7 @@ use Rattle.brc_runs.specs.declared.event.Event.{Event}
 use Rattle.brc_text.specs.Lines.{cut, tokens_at, pieces}
 use Rattle.brc_text.proofs.LineLaws.{pieces_ended, pieces_open}
 use Rattle.brc_trace.specs.Events.{event_at}
-use Rattle.brc_trace.specs.Traces.{Listing, before_others, by_words, events_at, head_at, below_head, lines_at, trace_at, Refuses}
+use Rattle.brc_trace.specs.Traces.{before_others, events_at, head_at, below_head, lines_at, trace_at, Refuses}
 
 -- the events that were read, before those that are still to be read
 abbrev pub with_front : List Event → Result (List Event) ℕ → Result (List Event) ℕ

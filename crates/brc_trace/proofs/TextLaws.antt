@@ -1,19 +1,18 @@
 -- A trace is read as it was spelled, and only so.
-use Rattle.std.proofs.Common.{◌≡◌, ℕ, zero, suc, ◌+◌, ◌^◌, ◌<◌, ◌≤◌, Bool, true, false, cond, ◌&&◌, List, [], ◌∷◌, ◌++◌, length, Option, Some, None, Result, Ok, Err, refl, sym, ap, subst, ◌∙◌, append_assoc, arith, leb, ltb}
+use Rattle.std.proofs.Common.{◌≡◌, ℕ, ◌+◌, ◌≤◌, Bool, true, false, cond, ◌&&◌, List, [], ◌∷◌, ◌++◌, length, Option, Some, None, Result, Ok, Err, refl, sym, ap, subst, ◌∙◌, append_assoc, arith, leb, ltb}
 use Rattle.std.specs.List.{flat_map}
 use Rattle.std.proofs.lemmas.Option.{cond_some}
-use Rattle.std.proofs.lemmas.Bool.{and_parts, and_from, leb-true, ltb-true, ltb-false, lt-ltb, le-ltb}
+use Rattle.std.proofs.lemmas.Bool.{and_parts, and_from, leb-true, ltb-false, le-ltb}
 use Rattle.brc_runs.specs.declared.event.Event.{Event}
 use Rattle.brc_text.specs.declared.keyword.Keyword.TheVariants as words
 use Rattle.brc_text.specs.declared.token.Token.{Token}
 use Rattle.brc_text.specs.declared.token.Token.TheVariants as tokens
-use Rattle.brc_text.specs.Tokens.{◌>>=◌}
 use Rattle.brc_text.specs.Lines.{tokens_at, spaced, line, pieces}
-use Rattle.brc_text.proofs.TokenLaws.{some_bind, same_some}
+use Rattle.brc_text.proofs.TokenLaws.{some_bind}
 use Rattle.brc_text.proofs.LineLaws.{IsLine, words_again, words_take, spaced_lacks_feed, whole, pieces_line, pieces_joined}
 use Rattle.brc_trace.specs.Events.{event_words, event_at, fits}
 use Rattle.brc_trace.specs.Traces.{Listing, IsTrace, is_size, is_limit, all_fit, head_words, head_at, trace_text, by_words, before_others, events_at, below_head, lines_at, trace_at}
-use Rattle.brc_trace.proofs.EventLaws.{event_again, event_takes, event_line, Spell}
+use Rattle.brc_trace.proofs.EventLaws.{event_again, event_takes, event_line}
 
 pub same_ok : {A E : Type 0} {x y : A} → ◌≡◌ {A = Result A E} (Ok x) (Ok y) → x ≡ y
 same_ok {A = A} {E = E} {x = x} {y = y} e = ap value e

@@ -1,6 +1,5 @@
-use Rattle.std.proofs.Common.{◌≡◌, ◌∙◌, ◌+◌, ℕ, List, Option, Some, length, take, drop, ap, sym, subst, arith}
+use Rattle.std.proofs.Common.{◌≡◌, ◌∙◌, ◌+◌, ℕ, List, Option, Some, take, ap, sym, arith}
 use Rattle.std.proofs.lemmas.List.{take_all, take_rest}
-use Rattle.brc_text.specs.Lines.{cut}
 use Rattle.brc_text.proofs.LineLaws.{lacks, lacks_more, cut_here, cut_whole}
 use Rattle.brc_text.proofs.line.cut_at.Goals as goal
 

@@ -1,8 +1,8 @@
-use Rattle.std.proofs.Common.{◌≡◌, ◌∙◌, ◌+◌, ◌-◌, ◌≤◌, ◌++◌, ◌∷◌, [], suc, ℕ, List, Option, Some, None, ap, sym, subst, arith}
+use Rattle.std.proofs.Common.{◌≡◌, ◌∙◌, ◌+◌, ◌-◌, suc, ℕ, List, Some, ap, sym, arith}
 use Rattle.std.proofs.lemmas.Option.{MatchOption-at_none, MatchOption-at_some}
 use Rattle.brc_text.specs.declared.token.Token.{Token}
 use Rattle.brc_text.specs.Tokens.{token_at}
-use Rattle.brc_text.specs.Lines.{cut, tokens_at}
+use Rattle.brc_text.specs.Lines.{tokens_at}
 use Rattle.brc_text.proofs.LineLaws.{after, no_word, last_word, next_word, no_more}
 use Rattle.brc_text.proofs.line.tokens_of.Goals as goal
 

@@ -1,4 +1,4 @@
-use Rattle.std.proofs.Common.{◌≡◌, ◌∙◌, ◌≤◌, ◌<◌, ◌+◌, ◌*◌, ◌-◌, ◌^◌, ℕ, length, get_or, ap, sym, subst, arith, inl, inr}
+use Rattle.std.proofs.Common.{◌≡◌, ◌∙◌, ◌<◌, ◌+◌, ◌*◌, ◌-◌, ◌^◌, ℕ, length, get_or, ap, sym, subst, arith, inl, inr}
 use Rattle.std.proofs.lemmas.Bool.{MatchBool-at_true, MatchBool-at_false, cases_lt, eqb-true}
 use Rattle.brc_text.proofs.NumberLaws.{HasRead, above_zero, no_bytes, leading_zero, not_a_digit, too_large_here, one_more, all_read}
 use Rattle.brc_text.proofs.number.number_of.Goals as goal

@@ -1,9 +1,9 @@
-use Rattle.std.proofs.Common.{◌≡◌, ◌∙◌, ◌+◌, ◌≤◌, ◌++◌, ◌∷◌, [], suc, ℕ, List, Option, Some, None, length, ap, sym, subst, arith}
+use Rattle.std.proofs.Common.{◌∙◌, ◌+◌, ℕ, List, length, ap, sym, arith}
 use Rattle.std.specs.Option.{option_and_then}
 use Rattle.std.proofs.lemmas.Bool.{eqb-true}
 use Rattle.std.proofs.lemmas.Option.{MatchOption-at_none, MatchOption-at_some}
 use Rattle.brc_runs.specs.declared.event.Event.{Event}
-use Rattle.brc_text.specs.Lines.{cut, tokens_at, pieces}
+use Rattle.brc_text.specs.Lines.{tokens_at, pieces}
 use Rattle.brc_text.proofs.LineLaws.{cut_shorter}
 use Rattle.brc_text.proofs.NumberLaws.{above_zero}
 use Rattle.brc_trace.specs.Events.{event_at}

@@ -1,4 +1,4 @@
-use Rattle.std.proofs.Common.{◌≡◌, ◌∙◌, ◌≤◌, ℕ, List, Result, Ok, Err, length, ap, sym, subst}
+use Rattle.std.proofs.Common.{◌≡◌, ◌∙◌, ◌≤◌, ℕ, List, Result, Ok, Err, length, ap, subst}
 use Rattle.std.specs.Prelude.{IfOk}
 use Rattle.brc_words.specs.declared.fault.Fault.{Fault}
 use Rattle.brc_trace.specs.Traces.{Listing, IsTrace, trace_text, trace_at, Gives}

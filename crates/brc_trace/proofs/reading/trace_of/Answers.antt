@@ -1,11 +1,11 @@
-use Rattle.std.proofs.Common.{◌≡◌, ◌∙◌, ◌+◌, ◌≤◌, ◌<◌, ◌++◌, ◌∷◌, [], suc, ℕ, List, Option, Some, None, length, ap, sym, subst, arith}
+use Rattle.std.proofs.Common.{◌∙◌, ℕ, List, Some, ap, sym, arith}
 use Rattle.std.specs.Option.{option_and_then}
 use Rattle.std.proofs.lemmas.Option.{MatchOption-at_none, MatchOption-at_some}
 use Rattle.std.proofs.lemmas.Result.{err_from_is_err_and}
-use Rattle.brc_text.specs.Lines.{cut, tokens_at, pieces}
-use Rattle.brc_text.proofs.LineLaws.{cut_shorter, words_take}
+use Rattle.brc_text.specs.Lines.{tokens_at, pieces}
+use Rattle.brc_text.proofs.LineLaws.{cut_shorter}
 use Rattle.brc_text.proofs.TokenLaws.{some_bind}
-use Rattle.brc_trace.specs.Traces.{head_at, events_at, below_head, trace_at, Refuses}
+use Rattle.brc_trace.specs.Traces.{head_at, below_head}
 use Rattle.brc_trace.proofs.TextLaws.{events_fit, head_takes}
 use Rattle.brc_trace.proofs.ReadingLoop.{long_text, short_text, open_head, bad_head, good_head, refused_below, refused_same}
 use Rattle.brc_trace.proofs.reading.trace_of.Goals as goal

@@ -1,12 +1,10 @@
-use Rattle.std.proofs.Common.{◌≡◌, ◌∙◌, ◌+◌, ◌<◌, suc, ◌++◌, ◌∷◌, [], ℕ, List, length, get_or, drop, refl, ap, sym, subst, arith}
-use Rattle.std.specs.List.{flat_map}
+use Rattle.std.proofs.Common.{◌≡◌, ◌∙◌, ◌+◌, ◌<◌, suc, ◌++◌, [], ℕ, List, length, get_or, drop, refl, ap, subst, arith}
 use Rattle.std.proofs.lemmas.Result.{err_from_is_err_and}
 use Rattle.std.proofs.Math.Seq.{drop-cons}
 use Rattle.std.proofs.lemmas.List.{drop_all}
 use Rattle.brc_runs.specs.declared.event.Event.{Event}
 use Rattle.brc_runs.specs.declared.event.Step.TheVariants as steps
 use Rattle.brc_text.specs.Lines.{line}
-use Rattle.brc_text.specs.Puts.{PutsUpTo}
 use Rattle.brc_text.proofs.PutLaws.{starts, goes_on, fails, ends}
 use Rattle.brc_trace.specs.Events.{event_words}
 use Rattle.brc_trace.specs.Traces.{Listing, trace_text, head_words}
