@@ -1,0 +1,4 @@
+pub mod NumberLaws
+pub mod TokenLaws
+pub mod LineLaws
+pub mod PutLaws

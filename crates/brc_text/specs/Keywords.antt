@@ -1,0 +1,81 @@
+use Rattle.std.specs.Prelude.{ℕ, List, [], ◌∷◌, Option, ◌==◌, if◌then◌else◌, codes, find, slice_index}
+use Rattle.std.specs.Str.{bytes_eq}
+use Rattle.brc_text.specs.declared.keyword.Keyword.{Keyword}
+use Rattle.brc_text.specs.declared.keyword.Keyword.TheVariants as words
+
+-- each keyword as it stands in a text
+abbrev pub keyword : Keyword → List ℕ
+keyword words.Heap = codes "heap"
+keyword words.Register = codes "register"
+keyword words.Claim = codes "claim"
+keyword words.Local = codes "local"
+keyword words.Shared = codes "shared"
+keyword words.Born = codes "born"
+keyword words.Up = codes "up"
+keyword words.Down = codes "down"
+keyword words.See = codes "see"
+keyword words.Free = codes "free"
+keyword words.Int = codes "int"
+keyword words.Text = codes "text"
+keyword words.List = codes "list"
+keyword words.Dict = codes "dict"
+keyword words.Mailbox = codes "mailbox"
+keyword words.World = codes "world"
+keyword words.Thread = codes "thread"
+keyword words.Hand = codes "hand"
+keyword words.Locked = codes "locked"
+keyword words.Frame = codes "frame"
+keyword words.Queued = codes "queued"
+keyword words.Popped = codes "popped"
+keyword words.Work = codes "work"
+keyword words.Entry = codes "entry"
+keyword words.Object = codes "object"
+keyword words.Ledger = codes "ledger"
+keyword words.Active = codes "active"
+keyword words.Closing = codes "closing"
+keyword words.Left = codes "left"
+keyword words.Gathered = codes "gathered"
+keyword words.Claimed = codes "claimed"
+keyword words.Counted = codes "counted"
+keyword words.Ready = codes "ready"
+keyword words.Zero = codes "zero"
+keyword words.Over = codes "over"
+keyword words.Untied = codes "untied"
+keyword words.Asked = codes "asked"
+keyword words.Shut = codes "shut"
+keyword words.Taking = codes "taking"
+keyword words.Held = codes "held"
+keyword words.Popping = codes "popping"
+keyword words.Default = codes "default"
+keyword words.Merged = codes "merged"
+keyword words.Dash = codes "-"
+
+-- the keywords by their first byte
+abbrev pub candidates_at : ℕ → List Keyword
+candidates_at first =
+    if first == 45 then words.Dash ∷ []
+    else if first == 97 then words.Active ∷ words.Asked ∷ []
+    else if first == 98 then words.Born ∷ []
+    else if first == 99 then words.Claim ∷ words.Closing ∷ words.Claimed ∷ words.Counted ∷ []
+    else if first == 100 then words.Down ∷ words.Dict ∷ words.Default ∷ []
+    else if first == 101 then words.Entry ∷ []
+    else if first == 102 then words.Free ∷ words.Frame ∷ []
+    else if first == 103 then words.Gathered ∷ []
+    else if first == 104 then words.Heap ∷ words.Hand ∷ words.Held ∷ []
+    else if first == 105 then words.Int ∷ []
+    else if first == 108 then words.Local ∷ words.List ∷ words.Locked ∷ words.Ledger ∷ words.Left ∷ []
+    else if first == 109 then words.Mailbox ∷ words.Merged ∷ []
+    else if first == 111 then words.Object ∷ words.Over ∷ []
+    else if first == 112 then words.Popped ∷ words.Popping ∷ []
+    else if first == 113 then words.Queued ∷ []
+    else if first == 114 then words.Register ∷ words.Ready ∷ []
+    else if first == 115 then words.Shared ∷ words.See ∷ words.Shut ∷ []
+    else if first == 116 then words.Text ∷ words.Thread ∷ words.Taking ∷ []
+    else if first == 117 then words.Up ∷ words.Untied ∷ []
+    else if first == 119 then words.World ∷ words.Work ∷ []
+    else if first == 122 then words.Zero ∷ []
+    else []
+
+-- the keyword whose spelling the bytes are, sought among those with their first byte
+unfoldable pub keyword_at : List ℕ → Option Keyword
+keyword_at bytes = find (λ word. bytes_eq (keyword word) bytes) (candidates_at (slice_index bytes 0))

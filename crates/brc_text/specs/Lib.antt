@@ -1,0 +1,5 @@
+pub mod Numbers
+pub mod Keywords
+pub mod Tokens
+pub mod Lines
+pub mod Puts

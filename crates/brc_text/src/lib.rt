@@ -1,0 +1,21 @@
+//! What all texts of the heap share: numbers, words, the tokens of a line, lines, and putting a text to a writer.
+//!
+//! A text has one spelling: what a reader here takes is what the writer here puts, byte for byte. The readers equal
+//! the definitions of `specs/`; that these read again what is spelled, and nothing else, is `proofs/NumberLaws.antt`,
+//! `proofs/TokenLaws.antt` and `proofs/LineLaws.antt`, for the crates above.
+#![tactic(auto)]
+
+mod keyword;
+mod line;
+mod number;
+mod putting;
+mod token;
+
+pub use keyword::{Keyword, keyword_of};
+pub use line::{cut_at, tokens_of};
+pub use number::number_of;
+pub use putting::{put_bytes, put_line};
+pub use token::{Letter, Token, token_of};
+
+#[cfg(test)]
+mod tests;

@@ -1,0 +1,90 @@
+//! Putting a text to a writer: all of it, or Io after a front of it.
+
+ghost use Rattle.std.specs.Prelude.{◌≡◌, ◌≤◌, ◌+◌, ◌++◌, length};
+ghost use Rattle.arrayvec.specs.ArrayVec.{array_vec_len};
+ghost use Rattle.brc_text.specs.Tokens.{token, letter as letter_byte_of};
+ghost use Rattle.brc_text.specs.Lines.{line};
+ghost use Rattle.brc_text.specs.Puts.{Puts};
+
+use crate::token::{Letter, Token};
+use arrayvec::ArrayVec;
+use brc_words::Fault;
+use itoa::Buffer;
+use std::io::Write;
+
+/// Writes the bytes. The first error ends it, as does a write that takes no byte; no memory is taken.
+pub fn put_bytes<W: Write>(writer: &mut W, bytes: &[u8]) -> Result<(), Fault>
+    ensures { Puts (W.contents writer.old) (W.contents writer.new) result bytes.now }
+{
+    let mut rest = bytes;
+    while !rest.is_empty() {
+        match writer.write(rest) {
+            Ok(0) => return Err(Fault::Io),
+            Ok(count) => rest = &rest[count..],
+            Err(_error) => return Err(Fault::Io),
+        }
+    }
+    Ok(())
+}
+
+/// Eight words of at most 21 bytes, and the space or line feed behind each.
+type LineText = ArrayVec<u8, 176>;
+
+fn add_bytes(text: &mut LineText, bytes: &[u8])
+    requires { array_vec_len text.old + length bytes.now ≤ 176 }
+
+    ensures added { text.new.items ≡ text.old.items ++ bytes.now }
+    ensures len { array_vec_len text.new ≡ array_vec_len text.old + length bytes.now }
+{
+    let _fits = text.try_extend_from_slice(bytes);
+}
+
+fn letter_byte(letter: Letter) -> u8
+    ensures { result ≡ letter_byte_of letter }
+{
+    match letter {
+        Letter::Frame => b'f',
+        Letter::Entry => b'e',
+        Letter::Immortal => b'i',
+        Letter::Work => b'w',
+    }
+}
+
+fn add_token(text: &mut LineText, word: Token)
+    requires { array_vec_len text.old + 21 ≤ 176 }
+
+    ensures added { text.new.items ≡ text.old.items ++ token word }
+    ensures len { array_vec_len text.new ≤ array_vec_len text.old + 21 }
+{
+    match word {
+        Token::Number(number) => add_bytes(text, Buffer::new().format(number).as_bytes()),
+        Token::Negative(number) => {
+            text.push(b'-');
+            add_bytes(text, Buffer::new().format(number).as_bytes());
+        }
+        Token::Place(letter, number) => {
+            text.push(letter_byte(letter));
+            add_bytes(text, Buffer::new().format(number).as_bytes());
+        }
+        Token::Word(keyword) => add_bytes(text, keyword.text()),
+    }
+}
+
+/// Writes one line. It is put together on the stack and written at once.
+pub fn put_line<W: Write>(writer: &mut W, words: &[Token]) -> Result<(), Fault>
+    requires { length words.now ≤ 8 }
+
+    ensures { Puts (W.contents writer.old) (W.contents writer.new) result (line words.now) }
+{
+    let [first, others @ ..] = words else {
+        return put_bytes(writer, b"\n");
+    };
+    let mut text = LineText::new();
+    add_token(&mut text, *first);
+    for word in others {
+        text.push(b' ');
+        add_token(&mut text, *word);
+    }
+    text.push(b'\n');
+    put_bytes(writer, text.as_slice())
+}

@@ -1,0 +1,81 @@
+//! Tokens: what one word of a line means.
+
+ghost use Rattle.std.specs.Prelude.{◌≡◌};
+ghost use Rattle.brc_text.specs.Tokens.{letter_at, place_at, token_at};
+
+use crate::keyword::{Keyword, keyword_of};
+use crate::number::number_of;
+
+/// The letter before a number: where a reference is.
+#[derive(Clone, Copy, Debug, PartialEq, Eq)]
+pub enum Letter {
+    /// `f`: a place of the thread's frame.
+    Frame,
+    /// `e`: an entry of the object that the thread has locked.
+    Entry,
+    /// `i`: an immortal cell.
+    Immortal,
+    /// `w`: the last entry of a cell on the thread's worklist.
+    Work,
+}
+
+/// What one word of a line means.
+#[derive(Clone, Copy, Debug, PartialEq, Eq)]
+pub enum Token {
+    Number(u64),
+    /// A number below 0, by its distance from 0. Such words are written and never read.
+    Negative(u64),
+    Place(Letter, u64),
+    Word(Keyword),
+}
+
+/// A word to fill a fixed row of tokens with, before any is read.
+impl Default for Token {
+    fn default() -> Token {
+        Token::Number(0)
+    }
+}
+
+fn letter_of(byte: u8) -> Option<Letter>
+    ensures { result ≡ letter_at byte }
+{
+    match byte {
+        b'f' => Some(Letter::Frame),
+        b'e' => Some(Letter::Entry),
+        b'i' => Some(Letter::Immortal),
+        b'w' => Some(Letter::Work),
+        _ => None,
+    }
+}
+
+/// A letter and a number behind it.
+#[tactic(auto, unfolding(crate::specs::Tokens::place_at))]
+fn place_of(bytes: &[u8]) -> Option<Token>
+    ensures { result ≡ place_at bytes.now }
+{
+    match bytes {
+        [] => None,
+        [first, digits @ ..] => {
+            let letter = letter_of(*first)?;
+            let number = number_of(digits)?;
+            Some(Token::Place(letter, number))
+        }
+    }
+}
+
+/// What the bytes of one word mean; none where they are no word of a text.
+#[tactic(auto, unfolding(crate::specs::Tokens::token_at))]
+pub fn token_of(bytes: &[u8]) -> Option<Token>
+    ensures { result ≡ token_at bytes.now }
+{
+    if let Some(number) = number_of(bytes) {
+        return Some(Token::Number(number));
+    }
+    if let Some(place) = place_of(bytes) {
+        return Some(place);
+    }
+    match keyword_of(bytes) {
+        Some(word) => Some(Token::Word(word)),
+        None => None,
+    }
+}

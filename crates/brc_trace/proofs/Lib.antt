@@ -1,0 +1,3 @@
+pub mod EventLaws
+pub mod TextLaws
+pub mod ReadingLoop

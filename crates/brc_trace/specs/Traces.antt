@@ -1,0 +1,94 @@
+-- What a trace is, its one spelling, and the trace that a text spells or else its first bad line.
+use Rattle.std.specs.Prelude.{◌≡◌, ℕ, ◌+◌, Bool, true, List, [], ◌∷◌, ◌++◌, length, Option, Some, None, Result, Ok, Err, nat_lt, nat_le, ◌&&◌, if◌then◌else◌}
+use Rattle.std.specs.List.{flat_map}
+use Rattle.brc_words.specs.declared.fault.Fault.{Fault}
+use Rattle.brc_words.specs.declared.fault.Fault.TheVariants as faults
+use Rattle.brc_words.specs.declared.fault.Reason.TheVariants as reasons
+use Rattle.brc_runs.specs.declared.event.Event.{Event}
+use Rattle.brc_text.specs.declared.keyword.Keyword.TheVariants as words
+use Rattle.brc_text.specs.declared.token.Token.{Token}
+use Rattle.brc_text.specs.declared.token.Token.TheVariants as tokens
+use Rattle.brc_text.specs.Tokens.{◌>>=◌}
+use Rattle.brc_text.specs.Lines.{tokens_at, line, pieces}
+use Rattle.brc_trace.specs.Events.{event_words, event_at, fits}
+
+-- a trace without where it lies in memory
+pub record Listing : Type 0 where
+  pub cells : ℕ
+  pub local_limit : ℕ
+  pub events : List Event
+
+-- ---- the one spelling of each trace
+
+-- a heap has 512 to 65,536 cells and a local limit of 1 to 4,294,967,294
+abbrev pub is_size : ℕ → Bool
+is_size cells = nat_le 512 cells && nat_le cells 65536
+
+abbrev pub is_limit : ℕ → Bool
+is_limit local_limit = nat_le 1 local_limit && nat_le local_limit 4294967294
+
+abbrev pub all_fit : List Event → Bool
+all_fit [] = true
+all_fit (event ∷ events) = fits event && all_fit events
+
+-- the traces that have a spelling
+pub record IsTrace (trace : Listing) : Type 0 where
+  pub size : is_size trace.cells ≡ true
+  pub limit : is_limit trace.local_limit ≡ true
+  pub events : all_fit trace.events ≡ true
+
+abbrev pub head_words : ℕ → ℕ → List Token
+head_words cells local_limit = tokens.Word words.Heap ∷ tokens.Number cells ∷ tokens.Number local_limit ∷ []
+
+-- the head's line, and a line for each event
+unfoldable pub trace_text : Listing → List ℕ
+trace_text trace = line (head_words trace.cells trace.local_limit) ++ flat_map (λ event. line (event_words event)) trace.events
+
+-- ---- the trace that a text spells
+
+abbrev pub head_at : List Token → Option (ℕ × ℕ)
+head_at (tokens.Word words.Heap ∷ tokens.Number cells ∷ tokens.Number local_limit ∷ []) =
+    if is_size cells && is_limit local_limit then Some (cells, local_limit) else None
+head_at _ = None
+
+-- what a line spells by its words; a line that no line feed ends spells nothing
+abbrev pub by_words : {A : Type 0} → (List Token → Option A) → List ℕ × Bool → Option A
+by_words read piece = if piece.1 then (tokens_at 8 piece.0 >>= read) else None
+
+-- an event before the later ones; a bad line is told by its number, the first one of several
+abbrev pub before_others : ℕ → Option Event → Result (List Event) ℕ → Result (List Event) ℕ
+before_others number None others = Err number
+before_others number (Some event) (Ok events) = Ok (event ∷ events)
+before_others number (Some event) (Err bad) = Err bad
+
+-- the events of these lines, of which the first has this number
+unfoldable pub events_at : ℕ → List (List ℕ × Bool) → Result (List Event) ℕ
+events_at number [] = Ok []
+events_at number (piece ∷ others) = before_others number (by_words event_at piece) (events_at (number + 1) others)
+
+abbrev pub below_head : Option (ℕ × ℕ) → Result (List Event) ℕ → Result Listing ℕ
+below_head None events = Err 1
+below_head (Some head) (Ok events) = Ok (record { cells = head.0; local_limit = head.1; events = events })
+below_head (Some head) (Err bad) = Err bad
+
+-- lines are counted from 1, the head's
+unfoldable pub lines_at : List (List ℕ × Bool) → Result Listing ℕ
+lines_at [] = Err 1
+lines_at (piece ∷ others) = below_head (by_words head_at piece) (events_at 2 others)
+
+-- the trace that the text spells, or the number of its first bad line: 0 where it has more than 16,777,216 bytes
+unfoldable pub trace_at : List ℕ → Result Listing ℕ
+trace_at text = if nat_lt 16777216 (length text) then Err 0 else lines_at (pieces text)
+
+-- ---- what a reader answers
+
+-- a bad line is told, and memory may run out; there is no other fault
+abbrev pub Refuses : {X : Type 0} → Fault → Result X ℕ → Type 0
+Refuses faults.OutOfMemory read = Unit {0}
+Refuses (faults.BadTrace bad reasons.NotALine) read = read ≡ Err bad
+Refuses _ read = ⊥
+
+-- the answer, seen by view, is what the text spells
+abbrev pub Gives : {X Y : Type 0} → (Y → X) → Result Y Fault → Result X ℕ → Type 0
+Gives view (Ok answer) read = read ≡ Ok (view answer)
+Gives view (Err fault) read = Refuses fault read

@@ -1,0 +1,18 @@
+//! The trace: a heap's size and limit and the events of one run, as text.
+//!
+//! `specs/Events.antt` is the grammar of a line and `specs/Traces.antt` that of a whole text. Each trace has one
+//! spelling: `read_trace` takes it and nothing else, and `write_trace` puts it. That the two agree is
+//! `proofs/TextLaws.antt`.
+#![tactic(auto)]
+
+mod event_line;
+mod reading;
+mod trace;
+mod writing;
+
+pub use reading::read_trace;
+pub use trace::Trace;
+pub use writing::write_trace;
+
+#[cfg(test)]
+mod tests;

@@ -1,0 +1,205 @@
+//! Traces as texts: which lines are lines, a whole life there and back, streams and memory that fail.
+
+use super::*;
+use brc_words::{Fault, Reason};
+use linked_list_allocator::LocalHeap;
+use std::io::{self, Error, ErrorKind, Write};
+use std::test::*;
+
+/// One object's life, from registration to the cell given back.
+const LIFE: &str =
+    "heap 512 100\n0 register 1\n1 claim 266\n1 local 266\n1 shared 266\n1 born 266 int 0\n1 up f0 1\n1 down f1\n1 down f0\n1 see 266\n1 free 266\n";
+
+/// The fault, or none where the text is read.
+fn fault_of(rt: &HostRuntime, text: &str) -> Option<Fault> {
+    match read_trace(rt.alloc(), text.as_bytes()) {
+        Ok(_trace) => None,
+        Err(fault) => Some(fault),
+    }
+}
+
+#[test]
+fn lines(rt: HostRuntime) {
+    let cases = [
+        ("no event", "heap 512 1\n", None),
+        ("largest head", "heap 65536 4294967294\n", None),
+        (
+            "largest numbers",
+            "heap 512 1\n64 up e1048575 65535\n",
+            None,
+        ),
+        ("does not fit the world", "heap 512 1\n1 up i266 0\n", None),
+        (
+            "each kind",
+            "heap 512 1\n1 born 0 text 0\n1 born 1 dict 1\n1 born 2 mailbox 2\n1 born 3 list 3\n",
+            None,
+        ),
+        ("a worklist", "heap 512 1\n1 down w266\n", None),
+        ("nothing", "", Some(1)),
+        ("an empty head", "\n", Some(1)),
+        ("no head", "0 register 1\n", Some(1)),
+        ("few cells", "heap 511 1\n", Some(1)),
+        ("many cells", "heap 65537 1\n", Some(1)),
+        ("no limit", "heap 512 0\n", Some(1)),
+        ("large limit", "heap 512 4294967295\n", Some(1)),
+        ("head without its line feed", "heap 512 1", Some(1)),
+        ("second format", "trace 2\nheap 512 1\n", Some(1)),
+        ("an empty line", "heap 512 1\n\n0 register 1\n", Some(2)),
+        (
+            "last line without its line feed",
+            "heap 512 1\n0 register 1\n0 register 2",
+            Some(3),
+        ),
+        (
+            "the first of two",
+            "heap 512 1\n0 register 1\nx\ny\n",
+            Some(3),
+        ),
+        (
+            "leading zero",
+            "heap 512 1\n0 register 1\n1 claim 0266\n",
+            Some(3),
+        ),
+        ("a sign", "heap 512 1\n1 claim +266\n", Some(2)),
+        ("two spaces", "heap 512 1\n1  claim 266\n", Some(2)),
+        ("a space in front", "heap 512 1\n 1 claim 266\n", Some(2)),
+        ("a space behind", "heap 512 1\n1 claim 266 \n", Some(2)),
+        ("a carriage return", "heap 512 1\r\n", Some(1)),
+        ("a capital", "heap 512 1\n1 Claim 266\n", Some(2)),
+        ("one word more", "heap 512 1\n1 claim 266 0\n", Some(2)),
+        ("nine words", "heap 512 1\n1 1 1 1 1 1 1 1 1\n", Some(2)),
+        ("not of this stage", "heap 512 1\n1 shup f0 1\n", Some(2)),
+        ("thread 0", "heap 512 1\n0 claim 266\n", Some(2)),
+        ("thread 65", "heap 512 1\n65 claim 266\n", Some(2)),
+        (
+            "registered by another",
+            "heap 512 1\n1 register 1\n",
+            Some(2),
+        ),
+        ("registered 65", "heap 512 1\n0 register 65\n", Some(2)),
+        ("cell 65536", "heap 512 1\n1 claim 65536\n", Some(2)),
+        ("place 65536", "heap 512 1\n1 up f0 65536\n", Some(2)),
+        ("entry 1048576", "heap 512 1\n1 up e1048576 0\n", Some(2)),
+        ("no such kind", "heap 512 1\n1 born 266 none 0\n", Some(2)),
+        (
+            "kind of a line",
+            "heap 512 1\n1 born 266 claim 0\n",
+            Some(2),
+        ),
+        ("source of a drop", "heap 512 1\n1 up w0 1\n", Some(2)),
+        ("drop of a source", "heap 512 1\n1 down i0\n", Some(2)),
+    ];
+    for (case, text, line) in cases {
+        let reason = Reason::NotALine;
+        let expected = line.map(|line| Fault::BadTrace { line, reason });
+        assert_eq!(rt; fault_of(&rt, text), expected, "{case}");
+    }
+}
+
+/// Takes so many bytes at a call, and so many in all before it fails or takes none.
+#[derive(Drop)]
+struct Narrow {
+    taken: Vec<u8>,
+    at_once: usize,
+    room: usize,
+    fails: bool,
+}
+
+impl Write for Narrow {
+    fn write(&mut self, buf: &[u8]) -> io::Result<usize> {
+        let count = buf.len().min(self.at_once).min(self.room);
+        if count == 0 && self.fails {
+            return Err(Error::from(ErrorKind::Other));
+        }
+        self.taken.extend_from_slice(&buf[..count])?;
+        self.room -= count;
+        Ok(count)
+    }
+
+    fn flush(&mut self) -> io::Result<()> {
+        Ok(())
+    }
+}
+
+#[test]
+fn there_and_back(rt: HostRuntime) -> Result<(), Fail> {
+    let trace = read_trace(rt.alloc(), LIFE.as_bytes())
+        .ok()
+        .ok_or("a life is a trace")?;
+    assert_eq!(rt; trace.cells, 512);
+    assert_eq!(rt; trace.local_limit, 100);
+    assert_eq!(rt; trace.events.len(), 10);
+    let mut out = Narrow {
+        taken: Vec::new(rt.alloc()),
+        at_once: 7,
+        room: 1000,
+        fails: true,
+    };
+    assert!(rt; write_trace(&trace, &mut out).is_ok());
+    assert_eq!(rt; out.taken.as_slice(), LIFE.as_bytes());
+    Ok(())
+}
+
+#[test]
+fn failing_writers(rt: HostRuntime) -> Result<(), Fail> {
+    let trace = read_trace(rt.alloc(), LIFE.as_bytes())
+        .ok()
+        .ok_or("a life is a trace")?;
+    for fails in [true, false] {
+        for room in [0, 5, 13, 40] {
+            let mut out = Narrow {
+                taken: Vec::new(rt.alloc()),
+                at_once: 9,
+                room,
+                fails,
+            };
+            assert_eq!(rt;
+                write_trace(&trace, &mut out),
+                Err(Fault::Io),
+                "after {room}"
+            );
+            assert_eq!(rt;
+                out.taken.as_slice(),
+                &LIFE.as_bytes()[..room],
+                "after {room}"
+            );
+        }
+    }
+    Ok(())
+}
+
+#[test]
+fn refused_memory(rt: HostRuntime) -> Result<(), Fail> {
+    let mut refused = false;
+    let mut read = false;
+    for size in 1..64 {
+        let heap = LocalHeap::new(rt.alloc(), size * 32)?;
+        match read_trace(&heap, LIFE.as_bytes()) {
+            Ok(trace) => {
+                read = true;
+                assert_eq!(rt; trace.events.len(), 10, "at {size}");
+            }
+            Err(fault) => {
+                refused = true;
+                assert_eq!(rt; fault, Fault::OutOfMemory, "at {size}");
+            }
+        }
+        assert_eq!(rt; heap.used(), 0, "at {size}");
+    }
+    assert!(rt; refused);
+    assert!(rt; read);
+    Ok(())
+}
+
+#[test]
+fn long_texts(rt: HostRuntime) -> Result<(), Fail> {
+    let mut text = Vec::with_capacity(rt.alloc(), 16_777_217)?;
+    text.extend_from_slice(b"heap 512 1\n")?;
+    text.resize(16_777_217, b'x')?;
+    let reason = Reason::NotALine;
+    let bad = |line| Some(Fault::BadTrace { line, reason });
+    assert_eq!(rt; read_trace(rt.alloc(), text.as_slice()).err(), bad(0));
+    text.truncate(16_777_216);
+    assert_eq!(rt; read_trace(rt.alloc(), text.as_slice()).err(), bad(2));
+    Ok(())
+}
