@@ -1,0 +1,11 @@
+//! The world of the heap as a program: events one by one, replay, and readers of every part.
+#![tactic(auto)]
+
+mod conditions;
+mod effects;
+mod enabled;
+mod entries;
+mod frame;
+mod marks;
+mod tables;
+mod words;
