@@ -1,11 +1,13 @@
 //! The world of the heap as a program: events one by one, replay, and readers of every part.
 #![tactic(auto)]
 
+mod changes;
 mod conditions;
 mod effects;
 mod enabled;
 mod entries;
 mod frame;
 mod marks;
+mod register;
 mod tables;
 mod words;
