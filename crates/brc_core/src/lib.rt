@@ -1,6 +1,7 @@
 //! The world of the heap as a program: events one by one, replay, and readers of every part.
 #![tactic(auto)]
 
+mod apply;
 mod changes;
 mod conditions;
 mod effects;
