@@ -9,6 +9,7 @@ mod enabled;
 mod entries;
 mod frame;
 mod marks;
+mod opening;
 mod register;
 mod tables;
 mod words;
