@@ -1,3 +1,3 @@
 pub mod Last
-pub mod Reached
+pub mod Reaching
 pub mod Targets

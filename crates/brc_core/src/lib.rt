@@ -13,3 +13,7 @@ mod opening;
 mod register;
 mod tables;
 mod words;
+mod world;
+
+pub use brc_runs::{Cell, Dropped, Event, Hand, Phase, Source, Step};
+pub use world::{StepFault, World};
