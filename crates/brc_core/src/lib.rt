@@ -11,9 +11,11 @@ mod frame;
 mod marks;
 mod opening;
 mod register;
+mod replaying;
 mod tables;
 mod words;
 mod world;
 
 pub use brc_runs::{Cell, Dropped, Event, Hand, Phase, Source, Step};
+pub use replaying::{ReplayFault, replay};
 pub use world::{StepFault, World};

@@ -46,6 +46,7 @@ impl<A: Allocator + Copy> World<A> {
         ensures options { (result ≡ Err Fault.BadOptions) ↔ ¬ (AreOptions cells local_limit) }
         ensures refused { IfErr result (λ fault. (fault ≡ Fault.BadOptions) ⊎ (fault ≡ Fault.OutOfMemory)) }
 
+        ensures sizes { OnOk result (AreOptions cells local_limit) }
         ensures world { IfOk result (λ world. world ≡ opening cells local_limit) }
     {
         if !are_options(cells, local_limit) {
@@ -57,6 +58,7 @@ impl<A: Allocator + Copy> World<A> {
 
     /// Makes the event, if it is enabled.
     pub fn step(&mut self, event: &Event) -> Result<(), StepFault>
+        ensures may { OnOk result (enabled self.old event.now ≡ true) }
         ensures ok { OnOk result (self.new ≡ after self.old event.now) }
         ensures moves { OnOk result (MakesMoves {A = Unit {0}} (map_of self.old) (moves_by self.old event.now) (map_of self.new)) }
 
