@@ -1,3 +1,4 @@
+pub mod Bounds
 pub mod Last
 pub mod Reaching
 pub mod Targets

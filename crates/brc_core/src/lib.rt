@@ -10,6 +10,7 @@ mod entries;
 mod frame;
 mod marks;
 mod opening;
+mod readers;
 mod register;
 mod replaying;
 mod tables;
@@ -17,5 +18,6 @@ mod words;
 mod world;
 
 pub use brc_runs::{Cell, Dropped, Event, Hand, Phase, Source, Step};
+pub use readers::Status;
 pub use replaying::{ReplayFault, replay};
 pub use world::{StepFault, World};

@@ -1,8 +1,8 @@
 //! The tables of a world: one vector for each of its lists, and what is read of them.
 
 ghost use Rattle.std.specs.Prelude.{◌≡◌, ◌==◌, length, slice_get, slice_index_or, Some, None};
-ghost use Rattle.brc_runs.specs.Lists.{place_at, is_marked, last_of};
-ghost use Rattle.brc_runs.specs.Heap.{cell_at, entries_at, row_at, frame_at, work_at, is_gathered, is_registered, no_cell, no_row};
+ghost use Rattle.brc_runs.specs.Lists.{bit_of, place_at, is_marked, last_of};
+ghost use Rattle.brc_runs.specs.Heap.{cell_at, entries_at, row_at, frame_at, popped_at, work_at, queue_at, is_gathered, is_registered, no_cell, no_row};
 ghost use Rattle.brc_runs.specs.Steps.{is_empty};
 
 use crate::entries::Entries;
@@ -85,6 +85,20 @@ impl<A: Allocator + Copy> Tables<A> {
         self.cells.get(cell as usize).copied().unwrap_or(no_cell())
     }
 
+    /// How many cells there are.
+    pub(crate) fn cell_count(&self) -> usize
+        ensures { result ≡ length self.now.cells }
+    {
+        self.cells.len()
+    }
+
+    /// How many rows of threads there are, the root's counted.
+    pub(crate) fn row_count(&self) -> usize
+        ensures { result ≡ length self.now.rows }
+    {
+        self.rows.len()
+    }
+
     /// The row of a thread.
     pub(crate) fn row(&self, thread: u32) -> Row
         ensures { result ≡ row_at self.now thread }
@@ -102,12 +116,42 @@ impl<A: Allocator + Copy> Tables<A> {
         }
     }
 
+    /// How many places a thread's frame has.
+    pub(crate) fn frame_len(&self, thread: u32) -> usize
+        ensures { result ≡ length (frame_at self.now thread) }
+    {
+        match self.frames.get(thread as usize) {
+            Some(frame) => frame.as_slice().len(),
+            None => 0,
+        }
+    }
+
     /// Whether the cell is on the thread's worklist.
     pub(crate) fn is_on_worklist(&self, thread: u32, cell: u32) -> bool
         ensures { result ≡ is_marked (work_at self.now thread) cell }
     {
         match self.works.get(thread as usize) {
             Some(marks) => marks.has(cell),
+            None => false,
+        }
+    }
+
+    /// Whether the cell's bit is set in the thread's merge queue.
+    pub(crate) fn is_queued(&self, thread: u32, cell: u32) -> bool
+        ensures { result ≡ (bit_of (queue_at self.now thread) cell == 1) }
+    {
+        match self.queues.get(thread as usize) {
+            Some(words) => words.has(cell),
+            None => false,
+        }
+    }
+
+    /// Whether the thread has taken the cell's bit from its merge queue and not dealt with it.
+    pub(crate) fn is_popped(&self, thread: u32, cell: u32) -> bool
+        ensures { result ≡ (bit_of (popped_at self.now thread) cell == 1) }
+    {
+        match self.popped.get(thread as usize) {
+            Some(words) => words.has(cell),
             None => false,
         }
     }
