@@ -1,7 +1,9 @@
 -- What the readers of a world say, where the world's lists don't say it at once.
-use Rattle.std.specs.Prelude.{ℕ, ◌&&◌, ◌||◌, not, Bool, true, false, Option, Some, None}
+use Rattle.std.specs.Prelude.{ℕ, ◌&&◌, ◌||◌, not, Bool, true, false, Option, Some, None, sum_by}
 use Rattle.brc_core.specs.declared.readers.Status.{Status}
 use Rattle.brc_core.specs.declared.readers.Status.TheVariants as statuses
+use Rattle.brc_core.specs.declared.totals.Ledger.{Ledger}
+use Rattle.brc_runs.specs.declared.row.Row.{Row}
 use Rattle.brc_runs.specs.declared.row.Stage.{Stage}
 use Rattle.brc_runs.specs.declared.row.Stage.TheVariants as stages
 use Rattle.brc_runs.specs.Heap.{Heap, cell_at, is_immortal}
@@ -29,3 +31,11 @@ has_object h c = is_immortal c || lives_at h c
 -- an object is in the cell whose local count counts
 abbrev pub counts_locally : Heap → ℕ → Bool
 counts_locally h c = has_object h c && not (is_merged (cell_at h c).state)
+
+-- a thread's ledger
+abbrev pub ledger_of : Row → Ledger
+ledger_of row = record { allocs = row.allocs; frees = row.frees }
+
+-- the ledgers of all threads together
+abbrev pub ledgers_of : Heap → Ledger
+ledgers_of h = record { allocs = sum_by (λ row. row.allocs) h.rows; frees = sum_by (λ row. row.frees) h.rows }

@@ -14,10 +14,12 @@ mod readers;
 mod register;
 mod replaying;
 mod tables;
+mod totals;
 mod words;
 mod world;
 
 pub use brc_runs::{Cell, Dropped, Event, Hand, Phase, Source, Step};
 pub use readers::Status;
 pub use replaying::{ReplayFault, replay};
+pub use totals::Ledger;
 pub use world::{StepFault, World};

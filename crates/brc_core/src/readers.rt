@@ -4,7 +4,7 @@ ghost use Rattle.std.specs.Prelude.{◌≡◌, ◌-◌, ◌==◌, nat_lt, length
 ghost use Rattle.brc_core.specs.Readings.{only_if, status_of, has_object, counts_locally};
 ghost use Rattle.brc_runs.specs.Lists.{bit_of, place_at, is_marked};
 ghost use Rattle.brc_runs.specs.Heap.{cell_at, entries_at, row_at, frame_at, popped_at, work_at, queue_at, is_registered, is_gathered};
-ghost use Rattle.brc_runs.specs.Holding.{lives, lives_at};
+ghost use Rattle.brc_runs.specs.Holding.{lives};
 
 use crate::conditions::is_immortal;
 use crate::world::World;
@@ -135,13 +135,6 @@ impl<A: Allocator + Copy> World<A> {
     }
 
     // ---- a cell
-
-    /// Whether a mortal object lives in the cell.
-    pub fn is_live(&self, cell: u32) -> bool
-        ensures { result ≡ lives_at self.now cell }
-    {
-        !is_immortal(cell) && lives(self.tables.cell(cell).owner)
-    }
 
     /// Whether an object is in the cell, an immortal or a mortal one.
     pub(crate) fn has_object(&self, cell: u32) -> bool
