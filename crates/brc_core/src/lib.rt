@@ -8,6 +8,7 @@ mod effects;
 mod enabled;
 mod entries;
 mod frame;
+mod holders;
 mod marks;
 mod opening;
 mod readers;
