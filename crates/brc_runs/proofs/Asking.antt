@@ -1,17 +1,14 @@
 -- What it means that a thread's step is enabled, test by test.
-use Rattle.std.proofs.Common.{◌≡◌, ◌≢◌, ℕ, ◌<◌, ◌≤◌, ◌&&◌, not, Bool, true, false, List, length, Option, Some, None, is_none, refl, sym, ◌∙◌, ap, arith, nat_lt, nat_le}
-use Rattle.std.proofs.lemmas.Bool.{and_parts, not-true, ltb-true, leb-true, eqb-true, true≢false}
+use Rattle.std.proofs.Common.{◌≡◌, ℕ, ◌<◌, true, false, List, length, Option, Some, None, is_none, refl, sym}
+use Rattle.std.proofs.lemmas.Bool.{and_parts, not-true, ltb-true, true≢false}
 use Rattle.brc_words.specs.declared.owner.Owner.TheVariants as owners
 use Rattle.brc_runs.specs.declared.cell.Cell.{Cell}
 use Rattle.brc_runs.specs.declared.event.Step.{Step}
-use Rattle.brc_runs.specs.declared.row.Row.{Row}
 use Rattle.brc_runs.specs.declared.row.Stage.{Stage}
 use Rattle.brc_runs.specs.declared.row.Stage.TheVariants as stages
-use Rattle.brc_runs.specs.declared.row.Hand.{Hand}
-use Rattle.brc_runs.specs.declared.row.Hand.TheVariants as hands
 use Rattle.brc_runs.specs.Lists.{place_at}
-use Rattle.brc_runs.specs.Heap.{Heap, cell_at, entries_at, row_at, frame_at, work_at, is_registered, is_gathered}
-use Rattle.brc_runs.specs.Steps.{thread_may, stage_ok, lock_ok, hand_ok, own_ok, target_ok, cell_ok, target, is_vacant, is_mine, is_owned_by, is_active, is_free}
+use Rattle.brc_runs.specs.Heap.{Heap, cell_at, entries_at, row_at, frame_at, work_at, is_gathered}
+use Rattle.brc_runs.specs.Steps.{thread_may, stage_ok, lock_ok, hand_ok, own_ok, target_ok, cell_ok, target, is_vacant, is_mine}
 use Rattle.brc_runs.proofs.Naming.{thread_owner, active_stage}
 
 -- the tests of a thread's step
@@ -42,7 +39,8 @@ may_parts h t s may =
       lock = d.1;
       hand = c.1;
       own = b.1;
-      on_target = a.1 }
+      on_target = a.1;
+    }
 
 -- the cell that is meant
 pub record OnCell (h : Heap) (t : ℕ) (s : Step) (c : ℕ) : Type 0 where

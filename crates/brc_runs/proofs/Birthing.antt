@@ -1,33 +1,30 @@
 -- A birth: a free cell is claimed, its words are set, and the object is there with one reference.
-use Rattle.std.proofs.Common.{◌≡◌, ◌≢◌, ℕ, ◌+◌, ◌<◌, ◌≤◌, ◌==◌, ◌&&◌, Bool, true, false, ℤ, pos, ◌+ℤ◌, ◌≤ℤ◌, List, [], length, get_or, set, Option, Some, None, sum_by, refl, sym, ◌∙◌, ap, subst, inl, inr, arith}
+use Rattle.std.proofs.Common.{◌≡◌, ◌≢◌, ℕ, ◌<◌, ◌≤◌, ◌==◌, ◌&&◌, Bool, true, false, pos, ◌+ℤ◌, ◌≤ℤ◌, List, [], length, get_or, set, Option, Some, None, sum_by, refl, sym, ◌∙◌, ap, subst, inl, inr, arith}
 use Rattle.std.proofs.lemmas.List.{get_or-set_same, get_or-set_other, length-set}
 use Rattle.std.proofs.lemmas.List.Sums.{sum_by-set}
-use Rattle.std.proofs.lemmas.Bool.{cases_eq, cases_Bool, eq-eqb, ne_eqb, eqb-true, and_parts, leb-true, ltb-true, true≢false}
+use Rattle.std.proofs.lemmas.Bool.{cases_eq, eq-eqb, ne_eqb, and_parts, leb-true, ltb-true, true≢false}
 use Rattle.std.proofs.lemmas.Int.{ints}
 use Rattle.brc_words.specs.declared.kind.Kind.{Kind}
-use Rattle.brc_words.specs.declared.owner.Owner.{Owner}
 use Rattle.brc_words.specs.declared.owner.Owner.TheVariants as owners
-use Rattle.brc_words.specs.declared.state.State.{State}
 use Rattle.brc_words.specs.declared.state.State.TheVariants as states
 use Rattle.brc_runs.specs.declared.cell.Cell.{Cell}
 use Rattle.brc_runs.specs.declared.event.Step.{Step}
 use Rattle.brc_runs.specs.declared.event.Step.TheVariants.{Claim, InitLocal, InitShared, Birth}
 use Rattle.brc_runs.specs.declared.row.Row.{Row}
-use Rattle.brc_runs.specs.declared.row.Hand.{Hand}
 use Rattle.brc_runs.specs.declared.row.Hand.TheVariants as hands
 use Rattle.brc_runs.specs.declared.row.Phase.{Phase}
 use Rattle.brc_runs.specs.declared.row.Phase.TheVariants as phases
 use Rattle.brc_runs.specs.declared.row.Stage.{Stage}
 use Rattle.brc_runs.specs.declared.row.Stage.TheVariants as stages
-use Rattle.brc_runs.specs.Lists.{one, times, entry_times, is_marked, place_at, filled, names}
-use Rattle.brc_runs.specs.Heap.{Heap, cell_at, entries_at, row_at, frame_at, popped_at, work_at, queue_at, is_gathered, words_for}
+use Rattle.brc_runs.specs.Lists.{one, entry_times, is_marked, filled}
+use Rattle.brc_runs.specs.Heap.{Heap, cell_at, entries_at, row_at, frame_at, popped_at, work_at}
 use Rattle.brc_runs.specs.Steps.{thread_may, stepped, cell_after, row_after, stage_ok, lock_ok, may_after_leaving, reads_entries, is_active}
 use Rattle.brc_runs.specs.Holding.{lives, carries, has_reference, count_of_state}
-use Rattle.brc_runs.specs.Sound.{IsSound, CellFits, ThreadFits, PhaseFits, Births, HandFits, WorkFits, counted_in, grips_of, grips_by_owner, grips, is_gripping, is_closed, is_queued, is_threads, is_merged, asks, asks_most, asks_least, in_entries}
-use Rattle.brc_runs.proofs.Naming.{Unheld, Ungripped, unheld, dead_unheld, ungripped, sole_grip, unnamed, no_mark, one-false, grips_free, carries_free, free_hand, busy_hand, free_owner, dead_counts, grips_once}
-use Rattle.brc_runs.proofs.Framing.{place_at-filled_else, times-filled, length-filled}
+use Rattle.brc_runs.specs.Sound.{IsSound, ThreadFits, PhaseFits, Births, HandFits, counted_in, grips_of, grips_by_owner, grips, is_gripping, is_closed, is_queued, is_threads, is_merged, asks_least, in_entries}
+use Rattle.brc_runs.proofs.Naming.{Unheld, Ungripped, dead_unheld, ungripped, sole_grip, unnamed, no_mark, grips_free, carries_free, free_hand, busy_hand, free_owner, dead_counts, grips_once}
+use Rattle.brc_runs.proofs.Framing.{times-filled, length-filled}
 use Rattle.brc_runs.proofs.Asking.{May, OnCell, on_cell, may_parts, Vacant, vacant}
-use Rattle.brc_runs.proofs.Changes.{Fits, changed, changed_sound, read_here, read_there}
+use Rattle.brc_runs.proofs.Changes.{Fits, changed_sound}
 
 -- ---- threads
 
@@ -62,7 +59,8 @@ active_fits words row row' frame frame' popped work work' queue gathered active 
       gathered_work = λ h. absurd (true≢false (sym h ∙ here));
       locked_hand = lock;
       births = births;
-      places = places }
+      places = places;
+    }
 
 -- ---- a hand that goes on with a birth
 
@@ -111,7 +109,7 @@ claim_fits h t c s x r p sound may runs plain inside bears owner mutex bore coun
     let grip : grips_of x ≡ 1 = ap (λ o. grips_by_owner o x.state x.local x.count) owner in
     let asked : asks_least x ≡ 0 = ap (λ o. one (is_queued x.state && is_threads o)) owner ∙ one_and (is_queued x.state) false refl in
     let new_else : (q : ℕ) → q ≢ c → (one (grips q r.hand) ≡ 0) × (one (carries q r.hand) ≡ 0) = λ q ne.
-        subst (λ z. (one (grips q z) ≡ 0) × (one (carries q z) ≡ 0)) (sym hand) (busy_else p c q ne) in
+    subst (λ z. (one (grips q z) ≡ 0) × (one (carries q z) ≡ 0)) (sym hand) (busy_else p c q ne) in
     record {
       thread = may.some_thread;
       thread_inside = may.inside;
@@ -143,14 +141,16 @@ claim_fits h t c s x r p sound may runs plain inside bears owner mutex bore coun
         dead_count = λ _. count;
         born = λ live. absurd (true≢false (sym live ∙ dead));
         limited = λ live. absurd (true≢false (sym live ∙ dead));
-        plain = λ _. (sound.cells c mortal).dead_empty bears.dead };
+        plain = λ _. (sound.cells c mortal).dead_empty bears.dead;
+      };
       empty = λ q _ e. e;
       works_here = λ on. absurd (no_mark _ bears.mark on);
       works_own = λ q _ on. on;
       works_else = λ j ne on. absurd (no_mark _ (bears.others j ne).mark on);
       own = active_fits _ (row_at h t) r (frame_at h t) (frame_at h t) _ (work_at h t) (work_at h t) _ _ active may.not_gathered stage
           (λ k e. let bad : None ≡ Some k = sym unlocked ∙ e in absurd (cc)) (subst (λ n. n ≤ 140737488355328) (sym allocs) (sound.threads t).births) (sound.threads t).places;
-      ledger = omega (arith, allocs, frees, ap one bears.dead, ap one dead) }
+      ledger = omega (arith, allocs, frees, ap one bears.dead, ap one dead);
+    }
 
 -- ---- the four steps
 
@@ -168,15 +168,16 @@ claim_sound h t c sound ok =
     let r : Row = row_after (Claim c) c (cell_at h c) (row_at h t) in
     changed_sound h t c x r (frame_at h t) (work_at h t) h.entries sound
     (claim_fits h t c (Claim c) x r phases.Claimed sound may refl refl at_cell.inside
-        (record {
-          mortal = mortal;
-          dead = ap lives free;
-          hand_else = λ q _. (grips_free q _ hand, carries_free q _ hand);
-          hand_here = grips_free c _ hand ∙ sym grip;
-          mark = (alone t).mark;
-          others = λ s _. alone s })
-        refl refl refl ((sound.cells c mortal).dead_count (ap lives free)) refl refl refl refl refl refl refl
-        (λ g. record { claimed = refl; more = ltb-true _ _ may.own }))
+    (record {
+      mortal = mortal;
+      dead = ap lives free;
+      hand_else = λ q _. (grips_free q _ hand, carries_free q _ hand);
+      hand_here = grips_free c _ hand ∙ sym grip;
+      mark = (alone t).mark;
+      others = λ s _. alone s;
+    })
+    refl refl refl ((sound.cells c mortal).dead_count (ap lives free)) refl refl refl refl refl refl refl
+    (λ g. record { claimed = refl; more = ltb-true _ _ may.own }))
 
 -- what holds while a birth is in the thread's hand
 birth_bears : (h : Heap) (t c : ℕ) (p : Phase) → IsSound h → (row_at h t).hand ≡ hands.Busy p c → is_gripping p ≡ true → 266 ≤ c
@@ -190,7 +191,8 @@ birth_bears h t c p sound busy gripping mortal owner =
       hand_else = λ q ne. subst (λ z. (one (grips q z) ≡ 0) × (one (carries q z) ≡ 0)) (sym busy) (busy_else p c q ne);
       hand_here = here ∙ sym grip;
       mark = omega (arith, grips_once h c t sound mortal, here);
-      others = sole_grip h c t sound mortal (omega (arith, here)) }
+      others = sole_grip h c t sound mortal (omega (arith, here));
+    }
 
 pub local_sound : (h : Heap) (t c : ℕ) → IsSound h → thread_may h t (InitLocal c) ≡ true → IsSound (stepped h t (InitLocal c) c)
 local_sound h t c sound ok =
@@ -204,8 +206,8 @@ local_sound h t c sound ok =
     let r : Row = row_after (InitLocal c) c (cell_at h c) (row_at h t) in
     changed_sound h t c x r (frame_at h t) (work_at h t) h.entries sound
     (claim_fits h t c (InitLocal c) x r phases.Counted sound may refl refl at_cell.inside bears
-        births.claimed refl refl ((sound.cells c said.mortal).dead_count bears.dead) refl refl refl refl refl refl refl
-        (λ g. (record { claimed = births.claimed; more = births.more }, refl)))
+    births.claimed refl refl ((sound.cells c said.mortal).dead_count bears.dead) refl refl refl refl refl refl refl
+    (λ g. (record { claimed = births.claimed; more = births.more }, refl)))
 
 pub shared_sound : (h : Heap) (t c : ℕ) → IsSound h → thread_may h t (InitShared c) ≡ true → IsSound (stepped h t (InitShared c) c)
 shared_sound h t c sound ok =
@@ -220,8 +222,8 @@ shared_sound h t c sound ok =
     let r : Row = row_after (InitShared c) c (cell_at h c) (row_at h t) in
     changed_sound h t c x r (frame_at h t) (work_at h t) h.entries sound
     (claim_fits h t c (InitShared c) x r phases.Ready sound may refl refl at_cell.inside bears
-        births.claimed refl refl refl refl refl refl refl refl refl refl
-        (λ g. (record { claimed = births.claimed; more = births.more }, fits.1, refl)))
+    births.claimed refl refl refl refl refl refl refl refl refl refl
+    (λ g. (record { claimed = births.claimed; more = births.more }, fits.1, refl)))
 
 -- the object is there: its first reference is in the frame, and its local count is 1
 pub birth_sound : (h : Heap) (t c : ℕ) (kind : Kind) (k : ℕ) → IsSound h → thread_may h t (Birth c kind k) ≡ true → IsSound (stepped h t (Birth c kind k) c)
@@ -245,7 +247,7 @@ birth_sound h t c kind k sound ok =
     let empty : entries_at h c ≡ [] = (sound.cells c bears.mortal).dead_empty bears.dead in
     let within : c < length h.entries = omega (arith, sound.shaped.entries, at_cell.inside) in
     let entries : (q : ℕ) → sum_by (entry_times q) es ≡ in_entries h q = λ q.
-        omega (arith, sum_by-set (entry_times q) h.entries c [] [] within, ap (entry_times q) empty) in
+    omega (arith, sum_by-set (entry_times q) h.entries c [] [] within, ap (entry_times q) empty) in
     let here : (c == c) ≡ true = eq-eqb c c refl in
     let old_count : counted_in (cell_at h c) ≡ pos 0 = dead_counts (cell_at h c) bears.dead in
     let new_total : (pos (cell_at h c).local) +ℤ (cell_at h c).count ≡ pos 1 = omega (arith, ints, fits.1, count) in
@@ -282,13 +284,16 @@ birth_sound h t c kind k sound ok =
         dead_count = λ _. count;
         born = λ _. (may.some_thread, may.inside);
         limited = λ _. omega (arith, fits.1, sound.shaped.options.counts);
-        plain = λ _. get_or-set_same h.entries c [] [] within };
+        plain = λ _. get_or-set_same h.entries c [] [] within;
+      };
       empty = λ q other e. elim (cases_eq q c) [
-          inl same ↦ ap (λ i. get_or es i []) same ∙ get_or-set_same h.entries c [] [] within
-        | inr ne ↦ get_or-set_other h.entries c q [] [] ne ∙ e ];
+        | inl same ↦ ap (λ i. get_or es i []) same ∙ get_or-set_same h.entries c [] [] within
+        | inr ne ↦ get_or-set_other h.entries c q [] [] ne ∙ e
+      ];
       works_here = λ on. absurd (no_mark _ bears.mark on);
       works_own = λ q _ on. on;
       works_else = λ j ne on. absurd (no_mark _ (bears.others j ne).mark on);
       own = active_fits _ (row_at h t) r (frame_at h t) f _ (work_at h t) (work_at h t) _ _ active may.not_gathered refl
           (λ j _. refl) (omega (arith, births.more)) (length-filled (frame_at h t) k c place.low (sound.threads t).places);
-      ledger = omega (arith, ap one bears.dead) })
+      ledger = omega (arith, ap one bears.dead);
+    })

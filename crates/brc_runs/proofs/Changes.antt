@@ -1,14 +1,11 @@
 -- One thread's part and one cell change, with entries: what every clause becomes, once for all steps.
-use Rattle.std.proofs.Common.{◌≡◌, ◌≢◌, ℕ, ◌+◌, ◌-◌, ◌*◌, ◌/◌, ◌<◌, ◌≤◌, Bool, true, false, cond, ℤ, pos, ◌+ℤ◌, ◌≤ℤ◌, List, [], ◌∷◌, length, get_or, set, drop, Option, Some, None, sum_by, refl, sym, ◌∙◌, ap, subst, inl, inr, ◌⊎◌, arith}
+use Rattle.std.proofs.Common.{◌≡◌, ◌≢◌, ℕ, ◌+◌, ◌-◌, ◌<◌, ◌≤◌, Bool, true, ℤ, pos, ◌+ℤ◌, List, [], length, get_or, set, drop, Option, Some, sum_by, refl, sym, ◌∙◌, ap, subst, inl, inr, ◌⊎◌, arith}
 use Rattle.std.proofs.lemmas.List.{get_or-set_same, get_or-set_other, length-set, drop-set-lt, drop-set-add, get_or-drop, length-drop}
 use Rattle.std.proofs.lemmas.List.Sums.{sum_by-set}
 use Rattle.std.proofs.lemmas.Bool.{cases_eq, cases_lt}
 use Rattle.std.proofs.lemmas.Int.{ints}
-use Rattle.brc_words.specs.declared.owner.Owner.TheVariants as owners
-use Rattle.brc_words.specs.declared.state.State.TheVariants as states
 use Rattle.brc_runs.specs.declared.cell.Cell.{Cell}
 use Rattle.brc_runs.specs.declared.row.Row.{Row}
-use Rattle.brc_runs.specs.declared.row.Hand.{Hand}
 use Rattle.brc_runs.specs.declared.row.Hand.TheVariants as hands
 use Rattle.brc_runs.specs.declared.row.Phase.{Phase}
 use Rattle.brc_runs.specs.Lists.{one, times, entry_times, bit_of, is_marked, place_at}
@@ -23,7 +20,8 @@ changed h t c x r f w es = record h {
   entries = es;
   rows = set h.rows t r;
   frames = set h.frames t f;
-  works = set h.works t w }
+  works = set h.works t w;
+}
 
 -- ---- reading a list after a write
 
@@ -37,8 +35,9 @@ read_there xs i j v d ne = get_or-set_other xs i j v d ne
 pub read_by : {A : Type 0} (P : ℕ → A → Type 0) (xs : List A) (i : ℕ) (v d : A) → i < length xs → P i v → ((j : ℕ) → j ≢ i → P j (get_or xs j d)) → (j : ℕ) → P j (get_or (set xs i v) j d)
 read_by {A} P xs i v d h here there j =
     elim (cases_eq j i) [
-      inl same ↦ subst (λ k. P k (get_or (set xs i v) k d)) (sym same) (subst (P i) (sym (get_or-set_same xs i v d h)) here)
-    | inr other ↦ subst (P j) (sym (get_or-set_other xs i j v d other)) (there j other) ]
+      | inl same ↦ subst (λ k. P k (get_or (set xs i v) k d)) (sym same) (subst (P i) (sym (get_or-set_same xs i v d h)) here)
+      | inr other ↦ subst (P j) (sym (get_or-set_other xs i j v d other)) (there j other)
+    ]
 
 -- ---- what the law asks: each fact is about the changed cell, the changed thread, or those that name the cell
 
@@ -103,7 +102,8 @@ changed_shape h t c x r f w es shaped fits =
       marks = λ s low high. read_by (λ j marks. 0 < j → j < length h.rows → length marks ≡ length (set h.cells c x)) h.works t w [] inside
           (λ a b. fits.marks ∙ shaped.marks t a b ∙ sym cells) (λ j ne a b. shaped.marks j a b ∙ sym cells) s low (subst (λ n. s < n) rows high);
       popped_words = λ s low high. shaped.popped_words s low (subst (λ n. s < n) rows high) ∙ ap words_for (sym cells);
-      queue_words = λ s low high. shaped.queue_words s low (subst (λ n. s < n) rows high) ∙ ap words_for (sym cells) }
+      queue_words = λ s low high. shaped.queue_words s low (subst (λ n. s < n) rows high) ∙ ap words_for (sym cells);
+    }
 
 -- ---- sums
 
@@ -143,9 +143,9 @@ changed_counted h t c x r f w es sound fits =
     let inside : t < length h.frames = omega (arith, sound.shaped.frames, fits.thread_inside) in
     read_by (λ q y. 266 ≤ q → counted_in y ≡ pos (held h' q)) h.cells c x no_cell fits.cell_inside
     (λ mortal. here_balance _ _ (in_frames h' c) (in_popped h c) (in_hands h' c) (in_queues h c) (in_entries h' c) (in_frames h c) (in_hands h c) (in_entries h c) _ _ _ _
-        (frames_sum h t c f inside) (hands_sum h t c r fits.thread_inside) (sound.counted c mortal) (fits.counted_here mortal))
+    (frames_sum h t c f inside) (hands_sum h t c r fits.thread_inside) (sound.counted c mortal) (fits.counted_here mortal))
     (λ q ne mortal. else_balance _ (in_frames h' q) (in_popped h q) (in_hands h' q) (in_queues h q) (in_entries h' q) (in_frames h q) (in_hands h q) (in_entries h q) _ _ _ _
-        (frames_sum h t q f inside) (hands_sum h t q r fits.thread_inside) (sound.counted q mortal) (fits.counted_else q mortal ne))
+    (frames_sum h t q f inside) (hands_sum h t q r fits.thread_inside) (sound.counted q mortal) (fits.counted_else q mortal ne))
 
 changed_gripped : (h : Heap) (t c : ℕ) (x : Cell) (r : Row) (f : List (Option ℕ)) (w : List Bool) (es : List (List ℕ))
     → IsSound h → Fits h t c x r f w es → (q : ℕ) → 266 ≤ q → gripped (changed h t c x r f w es) q ≡ grips_of (cell_at (changed h t c x r f w es) q)
@@ -190,17 +190,17 @@ changed_hands h t c x r f w es sound fits s d p busy =
     let h' : Heap = changed h t c x r f w es in
     let stages : (j : ℕ) → (row_at h' j).stage ≡ (row_at h j).stage = stage_same h t c x r f w es fits in
     let own : r.hand ≡ hands.Busy p d → PhaseHolds h' t r d p (cell_at h' d) = λ busy.
-        let said : (d ≡ c) × (266 ≤ c) × PhaseFits t r (popped_at h t) x (row_at h x.bore).stage c p = fits.hand p d busy in
-        subst (λ e. PhaseHolds h' t r e p (cell_at h' e)) (sym said.0)
-            (subst (λ y. PhaseHolds h' t r c p y) (sym (read_here h.cells c x no_cell fits.cell_inside))
-                (said.1, subst (λ g. PhaseFits t r (popped_at h t) x g c p) (sym (stages x.bore)) said.2)) in
+    let said : (d ≡ c) × (266 ≤ c) × PhaseFits t r (popped_at h t) x (row_at h x.bore).stage c p = fits.hand p d busy in
+    subst (λ e. PhaseHolds h' t r e p (cell_at h' e)) (sym said.0)
+    (subst (λ y. PhaseHolds h' t r c p y) (sym (read_here h.cells c x no_cell fits.cell_inside))
+    (said.1, subst (λ g. PhaseFits t r (popped_at h t) x g c p) (sym (stages x.bore)) said.2)) in
     let others : (j : ℕ) → j ≢ t → (row_at h j).hand ≡ hands.Busy p d → PhaseHolds h' j (row_at h j) d p (cell_at h' d) = λ j ne busy.
-        read_by (λ e y. (row_at h j).hand ≡ hands.Busy p e → PhaseHolds h' j (row_at h j) e p y) h.cells c x no_cell fits.cell_inside
-            (λ at_c. ((sound.hands j c p at_c).mortal, subst (λ g. PhaseFits j (row_at h j) (popped_at h j) x g c p) (sym (stages x.bore)) (fits.hands_else j p ne at_c)))
-            (λ e _ at_e. ((sound.hands j e p at_e).mortal, subst (λ g. PhaseFits j (row_at h j) (popped_at h j) (cell_at h e) g e p) (sym (stages (cell_at h e).bore)) (sound.hands j e p at_e).fits))
-            d busy in
+    read_by (λ e y. (row_at h j).hand ≡ hands.Busy p e → PhaseHolds h' j (row_at h j) e p y) h.cells c x no_cell fits.cell_inside
+    (λ at_c. ((sound.hands j c p at_c).mortal, subst (λ g. PhaseFits j (row_at h j) (popped_at h j) x g c p) (sym (stages x.bore)) (fits.hands_else j p ne at_c)))
+    (λ e _ at_e. ((sound.hands j e p at_e).mortal, subst (λ g. PhaseFits j (row_at h j) (popped_at h j) (cell_at h e) g e p) (sym (stages (cell_at h e).bore)) (sound.hands j e p at_e).fits))
+    d busy in
     let holds : PhaseHolds h' s (row_at h' s) d p (cell_at h' d) =
-        read_by (λ j row. row.hand ≡ hands.Busy p d → PhaseHolds h' j row d p (cell_at h' d)) h.rows t r no_row fits.thread_inside own others s busy in
+    read_by (λ j row. row.hand ≡ hands.Busy p d → PhaseHolds h' j row d p (cell_at h' d)) h.rows t r no_row fits.thread_inside own others s busy in
     record { mortal = holds.0; fits = holds.1 }
 
 -- fewer entries break nothing that a cell says
@@ -213,7 +213,8 @@ other_entries threads limit y old new empty fits = record {
   dead_count = fits.dead_count;
   born = fits.born;
   limited = fits.limited;
-  plain = λ plain. empty (fits.plain plain) }
+  plain = λ plain. empty (fits.plain plain);
+}
 
 changed_cells : (h : Heap) (t c : ℕ) (x : Cell) (r : Row) (f : List (Option ℕ)) (w : List Bool) (es : List (List ℕ))
     → IsSound h → Fits h t c x r f w es → (q : ℕ) → 266 ≤ q
@@ -221,20 +222,25 @@ changed_cells : (h : Heap) (t c : ℕ) (x : Cell) (r : Row) (f : List (Option �
 changed_cells h t c x r f w es sound fits q mortal =
     subst (λ n. CellFits n h.limit (cell_at (changed h t c x r f w es) q) (get_or es q [])) (sym (length-set h.rows t r))
     (read_by (λ j y. 266 ≤ j → CellFits (length h.rows) h.limit y (get_or es j [])) h.cells c x no_cell fits.cell_inside
-        fits.cell
-        (λ j ne mortal. other_entries (length h.rows) h.limit (cell_at h j) (entries_at h j) (get_or es j []) (fits.empty j (λ _. ne)) (sound.cells j mortal))
-        q mortal)
+    fits.cell
+    (λ j ne mortal. other_entries (length h.rows) h.limit (cell_at h j) (entries_at h j) (get_or es j []) (fits.empty j (λ _. ne)) (sound.cells j mortal))
+    q mortal)
 
 changed_immortals : (h : Heap) (t c : ℕ) (x : Cell) (r : Row) (f : List (Option ℕ)) (w : List Bool) (es : List (List ℕ))
     → IsSound h → Fits h t c x r f w es → (q : ℕ) → q < 266 → ImmortalFits q (cell_at (changed h t c x r f w es) q) (get_or es q [])
 changed_immortals h t c x r f w es sound fits =
     let keeps : (j : ℕ) (y : Cell) → j < 266 → ImmortalFits j y (entries_at h j) → ImmortalFits j y (get_or es j []) = λ j y low old.
-        record {
-          owner = old.owner; local = old.local; count = old.count; state = old.state; kind = old.kind;
-          empty = λ ne. fits.empty j (λ high. absurd (omega arith)) (old.empty ne) } in
+    record {
+      owner = old.owner;
+      local = old.local;
+      count = old.count;
+      state = old.state;
+      kind = old.kind;
+      empty = λ ne. fits.empty j (λ high. absurd (omega arith)) (old.empty ne);
+    } in
     read_by (λ j y. j < 266 → ImmortalFits j y (get_or es j [])) h.cells c x no_cell fits.cell_inside
-        (λ low. keeps c x low (subst (λ y. ImmortalFits c y (entries_at h c)) (sym (fits.immortal low)) (sound.immortals c low)))
-        (λ j _ low. keeps j (cell_at h j) low (sound.immortals j low))
+    (λ low. keeps c x low (subst (λ y. ImmortalFits c y (entries_at h c)) (sym (fits.immortal low)) (sound.immortals c low)))
+    (λ j _ low. keeps j (cell_at h j) low (sound.immortals j low))
 
 changed_works : (h : Heap) (t c : ℕ) (x : Cell) (r : Row) (f : List (Option ℕ)) (w : List Bool) (es : List (List ℕ))
     → IsSound h → Fits h t c x r f w es → (s q : ℕ) → is_marked (work_at (changed h t c x r f w es) s) q ≡ true
@@ -243,11 +249,11 @@ changed_works h t c x r f w es sound fits s q marked =
     let h' : Heap = changed h t c x r f w es in
     let inside : t < length h.works = omega (arith, sound.shaped.works, fits.thread_inside) in
     read_by (λ j marks. is_marked marks q ≡ true → WorkFits j q (cell_at h' q)) h.works t w [] inside
-        (λ on. read_by (λ e y. is_marked w e ≡ true → WorkFits t e y) h.cells c x no_cell fits.cell_inside
-            fits.works_here (λ e ne on. sound.works t e (fits.works_own e ne on)) q on)
-        (λ j ne on. read_by (λ e y. is_marked (work_at h j) e ≡ true → WorkFits j e y) h.cells c x no_cell fits.cell_inside
-            (fits.works_else j ne) (λ e _ on. sound.works j e on) q on)
-        s marked
+    (λ on. read_by (λ e y. is_marked w e ≡ true → WorkFits t e y) h.cells c x no_cell fits.cell_inside
+    fits.works_here (λ e ne on. sound.works t e (fits.works_own e ne on)) q on)
+    (λ j ne on. read_by (λ e y. is_marked (work_at h j) e ≡ true → WorkFits j e y) h.cells c x no_cell fits.cell_inside
+    (fits.works_else j ne) (λ e _ on. sound.works j e on) q on)
+    s marked
 
 -- ---- threads and locks
 
@@ -260,22 +266,23 @@ changed_threads h t c x r f w es sound fits s =
     let at_frames : t < length h.frames = omega (arith, sound.shaped.frames, fits.thread_inside) in
     subst (λ m. ThreadFits (words_for m) (row_at (changed h t c x r f w es) s) (frame_at (changed h t c x r f w es) s) (popped_at h s) (work_at (changed h t c x r f w es) s) (queue_at h s) (is_gathered h s)) (sym (length-set h.cells c x))
     (elim (cases_eq s t) [
-      inl same ↦ subst (λ j. ThreadFits n (row_at (changed h t c x r f w es) j) (frame_at (changed h t c x r f w es) j) (popped_at h j) (work_at (changed h t c x r f w es) j) (queue_at h j) (is_gathered h j)) (sym same)
-        (subst (λ row. ThreadFits n row (get_or (set h.frames t f) t []) (popped_at h t) (get_or (set h.works t w) t []) (queue_at h t) (is_gathered h t)) (sym (read_here h.rows t r no_row fits.thread_inside))
-        (subst (λ frame. ThreadFits n r frame (popped_at h t) (get_or (set h.works t w) t []) (queue_at h t) (is_gathered h t)) (sym (read_here h.frames t f [] at_frames))
-        (subst (λ work. ThreadFits n r f (popped_at h t) work (queue_at h t) (is_gathered h t)) (sym (read_here h.works t w [] at_works)) fits.own)))
-    | inr other ↦ 
-        (subst (λ row. ThreadFits n row (get_or (set h.frames t f) s []) (popped_at h s) (get_or (set h.works t w) s []) (queue_at h s) (is_gathered h s)) (sym (read_there h.rows t s r no_row other))
-        (subst (λ frame. ThreadFits n (row_at h s) frame (popped_at h s) (get_or (set h.works t w) s []) (queue_at h s) (is_gathered h s)) (sym (read_there h.frames t s f [] other))
-        (subst (λ work. ThreadFits n (row_at h s) (frame_at h s) (popped_at h s) work (queue_at h s) (is_gathered h s)) (sym (read_there h.works t s w [] other)) (sound.threads s)))) ])
+      | inl same ↦ subst (λ j. ThreadFits n (row_at (changed h t c x r f w es) j) (frame_at (changed h t c x r f w es) j) (popped_at h j) (work_at (changed h t c x r f w es) j) (queue_at h j) (is_gathered h j)) (sym same)
+          (subst (λ row. ThreadFits n row (get_or (set h.frames t f) t []) (popped_at h t) (get_or (set h.works t w) t []) (queue_at h t) (is_gathered h t)) (sym (read_here h.rows t r no_row fits.thread_inside))
+          (subst (λ frame. ThreadFits n r frame (popped_at h t) (get_or (set h.works t w) t []) (queue_at h t) (is_gathered h t)) (sym (read_here h.frames t f [] at_frames))
+          (subst (λ work. ThreadFits n r f (popped_at h t) work (queue_at h t) (is_gathered h t)) (sym (read_here h.works t w [] at_works)) fits.own)))
+      | inr other ↦
+          (subst (λ row. ThreadFits n row (get_or (set h.frames t f) s []) (popped_at h s) (get_or (set h.works t w) s []) (queue_at h s) (is_gathered h s)) (sym (read_there h.rows t s r no_row other))
+          (subst (λ frame. ThreadFits n (row_at h s) frame (popped_at h s) (get_or (set h.works t w) s []) (queue_at h s) (is_gathered h s)) (sym (read_there h.frames t s f [] other))
+          (subst (λ work. ThreadFits n (row_at h s) (frame_at h s) (popped_at h s) work (queue_at h s) (is_gathered h s)) (sym (read_there h.works t s w [] other)) (sound.threads s))))
+    ])
 
 changed_bits : (h : Heap) (t c : ℕ) (x : Cell) (r : Row) (f : List (Option ℕ)) (w : List Bool) (es : List (List ℕ))
     → IsSound h → Fits h t c x r f w es → (s q : ℕ) → 0 < bit_of (queue_at h s) q + bit_of (popped_at h s) q
     → (cell_at (changed h t c x r f w es) q).bore ≡ s
 changed_bits h t c x r f w es sound fits s =
     read_by (λ j y. 0 < bit_of (queue_at h s) j + bit_of (popped_at h s) j → y.bore ≡ s) h.cells c x no_cell fits.cell_inside
-        (λ some. elim fits.bore [ inl same ↦ same ∙ sound.bits s c some | inr none ↦ absurd (omega (arith, none s)) ])
-        (λ j _ some. sound.bits s j some)
+    (λ some. elim fits.bore [ inl same ↦ same ∙ sound.bits s c some | inr none ↦ absurd (omega (arith, none s)) ])
+    (λ j _ some. sound.bits s j some)
 
 mutex_same : (h : Heap) (t c : ℕ) (x : Cell) (r : Row) (f : List (Option ℕ)) (w : List Bool) (es : List (List ℕ))
     → Fits h t c x r f w es → (q : ℕ) → (cell_at (changed h t c x r f w es) q).mutex ≡ (cell_at h q).mutex
@@ -292,7 +299,7 @@ names_same : (h : Heap) (t c : ℕ) (x : Cell) (r : Row) (f : List (Option ℕ))
 names_same h t c x r f w es sound fits j k =
     let inside : t < length h.frames = omega (arith, sound.shaped.frames, fits.thread_inside) in
     read_by (λ j frame. (row_at h j).locked ≡ Some k → place_at frame k ≡ place_at (frame_at h j) k) h.frames t f [] inside
-        (fits.locked_place k) (λ j _ _. refl) j
+    (fits.locked_place k) (λ j _ _. refl) j
 
 changed_locks : (h : Heap) (t c : ℕ) (x : Cell) (r : Row) (f : List (Option ℕ)) (w : List Bool) (es : List (List ℕ))
     → IsSound h → Fits h t c x r f w es → (s k : ℕ) → (row_at (changed h t c x r f w es) s).locked ≡ Some k
@@ -306,29 +313,32 @@ changed_mutexes : (h : Heap) (t c : ℕ) (x : Cell) (r : Row) (f : List (Option 
     → IsSound h → Fits h t c x r f w es → (s q : ℕ) → 0 < s → (cell_at (changed h t c x r f w es) q).mutex ≡ s
     → (k : ℕ) × Locks (changed h t c x r f w es) s k q
 changed_mutexes h t c x r f w es sound fits s q some locked =
-    let old : (k : ℕ) × Locks h s k q = sound.mutexes s q some (sym (mutex_same h t c x r f w es fits q) ∙ locked) in
-    (old.0, record {
-      place = locked_same h t c x r f w es fits s ∙ old.1.place;
-      names = names_same h t c x r f w es sound fits s old.0 old.1.place ∙ old.1.names })
+    let old : (k : ℕ) × Locks h s k q = sound.mutexes s q some (sym (mutex_same h t c x r f w es fits q) ∙ locked) in (
+      old.0,
+      record {
+        place = locked_same h t c x r f w es fits s ∙ old.1.place;
+        names = names_same h t c x r f w es sound fits s old.0 old.1.place ∙ old.1.names;
+      },
+    )
 
 -- ---- the ledger
-
 
 live_sum : (cells : List Cell) (c : ℕ) (x : Cell) → c < length cells → (c < 266 → x ≡ get_or cells c no_cell)
     → sum_by (λ y. one (lives y.owner)) (drop 266 (set cells c x)) + one (lives (get_or cells c no_cell).owner) ≡ sum_by (λ y. one (lives y.owner)) (drop 266 cells) + one (lives x.owner)
 live_sum cells c x inside same =
     elim (cases_lt c 266) [
-      inl low ↦ subst (λ (l : List Cell). sum_by (λ y. one (lives y.owner)) l + one (lives (get_or cells c no_cell).owner) ≡ sum_by (λ y. one (lives y.owner)) (drop 266 cells) + one (lives x.owner))
-        (sym (drop-set-lt 266 cells c x low)) (ap (λ (y : Cell). sum_by (λ z. one (lives z.owner)) (drop 266 cells) + one (lives y.owner)) (sym (same low)))
-    | inr high ↦
-        let e : 266 + (c - 266) ≡ c = omega arith in
-        let within : c - 266 < length (drop 266 cells) = omega (arith, length-drop 266 cells) in
-        let moved : drop 266 (set cells c x) ≡ set (drop 266 cells) (c - 266) x = subst (λ i. drop 266 (set cells i x) ≡ set (drop 266 cells) (c - 266) x) e (drop-set-add 266 cells (c - 266) x) in
-        let read : get_or (drop 266 cells) (c - 266) no_cell ≡ get_or cells c no_cell = get_or-drop 266 cells (c - 266) no_cell ∙ ap (λ i. get_or cells i no_cell) e in
-        subst (λ (l : List Cell). sum_by (λ y. one (lives y.owner)) l + one (lives (get_or cells c no_cell).owner) ≡ sum_by (λ y. one (lives y.owner)) (drop 266 cells) + one (lives x.owner))
-            (sym moved)
-            (subst (λ (y : Cell). sum_by (λ z. one (lives z.owner)) (set (drop 266 cells) (c - 266) x) + one (lives y.owner) ≡ sum_by (λ z. one (lives z.owner)) (drop 266 cells) + one (lives x.owner))
-                read (sum_by-set (λ z. one (lives z.owner)) (drop 266 cells) (c - 266) x no_cell within)) ]
+      | inl low ↦ subst (λ (l : List Cell). sum_by (λ y. one (lives y.owner)) l + one (lives (get_or cells c no_cell).owner) ≡ sum_by (λ y. one (lives y.owner)) (drop 266 cells) + one (lives x.owner))
+          (sym (drop-set-lt 266 cells c x low)) (ap (λ (y : Cell). sum_by (λ z. one (lives z.owner)) (drop 266 cells) + one (lives y.owner)) (sym (same low)))
+      | inr high ↦
+          let e : 266 + (c - 266) ≡ c = omega arith in
+          let within : c - 266 < length (drop 266 cells) = omega (arith, length-drop 266 cells) in
+          let moved : drop 266 (set cells c x) ≡ set (drop 266 cells) (c - 266) x = subst (λ i. drop 266 (set cells i x) ≡ set (drop 266 cells) (c - 266) x) e (drop-set-add 266 cells (c - 266) x) in
+          let read : get_or (drop 266 cells) (c - 266) no_cell ≡ get_or cells c no_cell = get_or-drop 266 cells (c - 266) no_cell ∙ ap (λ i. get_or cells i no_cell) e in
+          subst (λ (l : List Cell). sum_by (λ y. one (lives y.owner)) l + one (lives (get_or cells c no_cell).owner) ≡ sum_by (λ y. one (lives y.owner)) (drop 266 cells) + one (lives x.owner))
+          (sym moved)
+          (subst (λ (y : Cell). sum_by (λ z. one (lives z.owner)) (set (drop 266 cells) (c - 266) x) + one (lives y.owner) ≡ sum_by (λ z. one (lives z.owner)) (drop 266 cells) + one (lives x.owner))
+          read (sum_by-set (λ z. one (lives z.owner)) (drop 266 cells) (c - 266) x no_cell within))
+    ]
 
 changed_ledger : (h : Heap) (t c : ℕ) (x : Cell) (r : Row) (f : List (Option ℕ)) (w : List Bool) (es : List (List ℕ))
     → IsSound h → Fits h t c x r f w es
@@ -357,4 +367,5 @@ changed_sound h t c x r f w es sound fits = record {
   bits = changed_bits h t c x r f w es sound fits;
   locks = changed_locks h t c x r f w es sound fits;
   mutexes = changed_mutexes h t c x r f w es sound fits;
-  ledger = changed_ledger h t c x r f w es sound fits }
+  ledger = changed_ledger h t c x r f w es sound fits;
+}

@@ -1,15 +1,12 @@
 -- The owner counts up and down on the local word; of an immortal only the places change.
-use Rattle.std.proofs.Common.{◌≡◌, ◌≢◌, ℕ, ◌+◌, ◌-◌, ◌<◌, ◌≤◌, ◌==◌, ◌&&◌, not, Bool, true, false, if◌then◌else◌, ℤ, pos, ◌+ℤ◌, ◌≤ℤ◌, List, [], ◌∷◌, suc, length, get_or, set, Option, Some, None, sum_by, refl, sym, ◌∙◌, ap, subst, inl, inr, ◌⊎◌, arith}
-use Rattle.std.proofs.lemmas.List.{get_or-set_same, get_or-set_other, length-set}
-use Rattle.std.proofs.lemmas.List.Sums.{sum_by-set, sum_by-cons}
-use Rattle.std.proofs.lemmas.Bool.{cases_eq, cases_lt, cases_Bool, eq-eqb, ne_eqb, eqb-true, and_parts, leb-true, ltb-true, lt-ltb, true≢false}
+use Rattle.std.proofs.Common.{◌≡◌, ◌≢◌, ℕ, ◌+◌, ◌-◌, ◌<◌, ◌≤◌, ◌==◌, ◌&&◌, Bool, true, false, if◌then◌else◌, ℤ, pos, ◌+ℤ◌, List, [], ◌∷◌, suc, length, get_or, Option, Some, None, sum_by, refl, sym, ◌∙◌, ap, subst, inl, inr, arith}
+use Rattle.std.proofs.lemmas.List.Sums.{sum_by-cons}
+use Rattle.std.proofs.lemmas.Bool.{cases_eq, cases_Bool, eq-eqb, ne_eqb, true≢false}
 use Rattle.std.proofs.lemmas.Int.{ints}
-use Rattle.brc_words.specs.declared.owner.Owner.{Owner}
 use Rattle.brc_words.specs.declared.owner.Owner.TheVariants as owners
 use Rattle.brc_words.specs.declared.state.State.{State}
 use Rattle.brc_words.specs.declared.state.State.TheVariants as states
 use Rattle.brc_runs.specs.declared.cell.Cell.{Cell}
-use Rattle.brc_runs.specs.declared.event.Step.{Step}
 use Rattle.brc_runs.specs.declared.row.Row.{Row}
 use Rattle.brc_runs.specs.declared.row.Hand.{Hand}
 use Rattle.brc_runs.specs.declared.row.Hand.TheVariants as hands
@@ -17,13 +14,13 @@ use Rattle.brc_runs.specs.declared.row.Phase.{Phase}
 use Rattle.brc_runs.specs.declared.row.Phase.TheVariants as phases
 use Rattle.brc_runs.specs.declared.row.Stage.{Stage}
 use Rattle.brc_runs.specs.declared.row.Stage.TheVariants as stages
-use Rattle.brc_runs.specs.Lists.{one, times, entry_times, is_marked, place_at, filled, names}
+use Rattle.brc_runs.specs.Lists.{one, times, entry_times, is_marked, place_at, filled}
 use Rattle.brc_runs.specs.Heap.{Heap, cell_at, entries_at, row_at, frame_at, popped_at, work_at, queue_at, is_gathered, words_for, no_row}
-use Rattle.brc_runs.specs.Holding.{lives, carries, total_of, count_of_state}
-use Rattle.brc_runs.specs.Sound.{IsSound, CellFits, ThreadFits, PhaseFits, Births, Untied, HandFits, WorkFits, Locks, counted_in, grips_of, grips_by_owner, grips, is_gripping, gripped, held, is_merged, in_entries}
-use Rattle.brc_runs.proofs.Naming.{Ungripped, ungripped, no_mark, one-false, grips_free, carries_free, live_counts, hand_names, sum_one}
+use Rattle.brc_runs.specs.Holding.{lives, carries, count_of_state}
+use Rattle.brc_runs.specs.Sound.{IsSound, CellFits, ThreadFits, PhaseFits, HandFits, WorkFits, Locks, counted_in, grips_of, grips_by_owner, grips, is_gripping, gripped, held, is_merged, in_entries}
+use Rattle.brc_runs.proofs.Naming.{no_mark, grips_free, carries_free, live_counts, sum_one}
 use Rattle.brc_runs.proofs.Framing.{place_at-filled_else, times-filled, length-filled}
-use Rattle.brc_runs.proofs.Birthing.{active_fits, busy_else, busy_grips}
+use Rattle.brc_runs.proofs.Birthing.{active_fits, busy_else}
 use Rattle.brc_runs.proofs.Asking.{Vacant}
 use Rattle.brc_runs.proofs.Changes.{Fits}
 
@@ -73,38 +70,42 @@ marked_unheld h s c sound on =
 pub held_unmarked : (h : Heap) (s c : ℕ) → IsSound h → 1 ≤ held h c → one (is_marked (work_at h s) c) ≡ 0
 held_unmarked h s c sound some =
     elim (cases_Bool (is_marked (work_at h s) c)) [
-      inl on ↦ absurd (omega (arith, some, marked_unheld h s c sound on))
-    | inr off ↦ ap one off ]
+      | inl on ↦ absurd (omega (arith, some, marked_unheld h s c sound on))
+      | inr off ↦ ap one off
+    ]
 
 -- a hand of a thread that doesn't own the cell
 hand_apart : (h : Heap) (t s c : ℕ) (hand : Hand) → IsSound h → (cell_at h c).owner ≡ owners.Thread t → s ≢ t → (row_at h s).hand ≡ hand → one (grips c hand) ≡ 0
 hand_apart h t s c hands.Free sound owner ne e = refl
 hand_apart h t s c (hands.Busy p d) sound owner ne e =
     elim (cases_eq d c) [
-      inl same ↦
-        let fits : HandFits h s p c = sound.hands s c p (e ∙ ap (hands.Busy p) same) in
-        ap (λ b. one (b && (d == c))) (others_phase s t (row_at h s) (popped_at h s) (cell_at h c) _ c p fits.fits owner ne)
-    | inr other ↦ (busy_else p d c (λ e. other (sym e))).0 ]
+      | inl same ↦
+          let fits : HandFits h s p c = sound.hands s c p (e ∙ ap (hands.Busy p) same) in
+          ap (λ b. one (b && (d == c))) (others_phase s t (row_at h s) (popped_at h s) (cell_at h c) _ c p fits.fits owner ne)
+      | inr other ↦ (busy_else p d c (λ e. other (sym e))).0
+    ]
 
 -- nobody grips an object that its owner and others hold
 pub owned_ungripped : (h : Heap) (t c : ℕ) → IsSound h → 266 ≤ c → (cell_at h c).owner ≡ owners.Thread t → 1 ≤ held h c
     → one (grips c (row_at h t).hand) ≡ 0 → gripped h c ≡ 0
 owned_ungripped h t c sound mortal owner some free =
     let marks : sum_by (λ (marks : List Bool). one (is_marked marks c)) h.works ≡ 0 =
-        sum_none (λ (marks : List Bool). one (is_marked marks c)) h.works [] (λ s. held_unmarked h s c sound some) in
+    sum_none (λ (marks : List Bool). one (is_marked marks c)) h.works [] (λ s. held_unmarked h s c sound some) in
     let rows : sum_by (λ (row : Row). one (grips c row.hand)) h.rows ≡ 0 =
-        sum_none (λ (row : Row). one (grips c row.hand)) h.rows no_row (λ s.
-            elim (cases_eq s t) [
-              inl same ↦ ap (λ j. one (grips c (row_at h j).hand)) same ∙ free
-            | inr other ↦ hand_apart h t s c (row_at h s).hand sound owner other refl ]) in
+    sum_none (λ (row : Row). one (grips c row.hand)) h.rows no_row (λ s.
+    elim (cases_eq s t) [
+      | inl same ↦ ap (λ j. one (grips c (row_at h j).hand)) same ∙ free
+      | inr other ↦ hand_apart h t s c (row_at h s).hand sound owner other refl
+    ]) in
     omega (arith, marks, rows)
 
 pub local_positive : (h : Heap) (t c : ℕ) → IsSound h → 266 ≤ c → (cell_at h c).owner ≡ owners.Thread t → gripped h c ≡ 0 → 1 ≤ (cell_at h c).local
 local_positive h t c sound mortal owner none =
     let e : one ((cell_at h c).local == 0) ≡ 0 = sym (ap (λ o. grips_by_owner o (cell_at h c).state (cell_at h c).local (cell_at h c).count) owner) ∙ sym (sound.gripped c mortal) ∙ none in
     elim (cases_eq (cell_at h c).local 0) [
-      inl zero ↦ absurd (omega (arith, e, ap one (eq-eqb (cell_at h c).local 0 zero)))
-    | inr some ↦ omega (arith, some) ]
+      | inl zero ↦ absurd (omega (arith, e, ap one (eq-eqb (cell_at h c).local 0 zero)))
+      | inr some ↦ omega (arith, some)
+    ]
 
 -- before the merge local and shared count are the total
 pub total_unmerged : (state : State) (local : ℕ) (count : ℤ) → is_merged state ≡ false → count_of_state state local count ≡ pos local +ℤ count
@@ -124,7 +125,7 @@ pub lock_stays : (h : Heap) (t k c : ℕ) → IsSound h → place_at (frame_at h
 lock_stays h t k c sound none j locked =
     let lock : (q : ℕ) × Locks h t j q × ((cell_at h q).mutex ≡ t) = sound.locks t j locked in
     place_at-filled_else (frame_at h t) k c j (λ same.
-        let e : None ≡ Some lock.0 = sym none ∙ ap (place_at (frame_at h t)) (sym same) ∙ lock.1.names in absurd (cc))
+    let e : None ≡ Some lock.0 = sym none ∙ ap (place_at (frame_at h t)) (sym same) ∙ lock.1.names in absurd (cc))
 
 -- what is common to counting up: one more place has the cell
 pub record Ups (h : Heap) (t c k : ℕ) : Type 0 where
@@ -166,7 +167,8 @@ up_immortal_fits h t c k sound ups low = record {
   works_else = λ s ne on. sound.works s c on;
   own = active_fits _ (row_at h t) (row_at h t) (frame_at h t) _ _ (work_at h t) _ _ _ ups.active ups.here refl
       (λ _ _. ups.hand) (sound.threads t).births (length-filled (frame_at h t) k c ups.place.low (sound.threads t).places);
-  ledger = refl }
+  ledger = refl;
+}
 
 pub up_mortal_fits : (h : Heap) (t c k : ℕ) → IsSound h → Ups h t c k → 266 ≤ c → (cell_at h c).owner ≡ owners.Thread t
     → (cell_at h c).local < h.limit → 1 ≤ held h c
@@ -181,7 +183,7 @@ up_mortal_fits h t c k sound ups mortal owner below some =
     let new_count = owned_counts x t (x.local + 1) owner (fits.owned_unmerged t owner) in
     let old_grip : grips_of x ≡ 0 = sym (sound.gripped c mortal) ∙ none in
     let new_grip : grips_of (record x { local = x.local + 1 }) ≡ 0 =
-        ap (λ o. grips_by_owner o x.state (x.local + 1) x.count) owner ∙ ap one (ne_eqb (x.local + 1) 0 (λ e. omega (arith, e))) in
+    ap (λ o. grips_by_owner o x.state (x.local + 1) x.count) owner ∙ ap one (ne_eqb (x.local + 1) 0 (λ e. omega (arith, e))) in
     let here : one (c == c) ≡ 1 = ap one (eq-eqb c c refl) in
     record {
       thread = ups.thread;
@@ -212,14 +214,16 @@ up_mortal_fits h t c k sound ups mortal owner below some =
         dead_count = fits.dead_count;
         born = fits.born;
         limited = λ _. omega (arith, below);
-        plain = fits.plain };
+        plain = fits.plain;
+      };
       empty = λ q _ e. e;
       works_here = λ on. absurd (no_mark _ (held_unmarked h t c sound some) on);
       works_own = λ q _ on. on;
       works_else = λ s ne on. absurd (no_mark _ (held_unmarked h s c sound some) on);
       own = active_fits _ (row_at h t) (row_at h t) (frame_at h t) _ _ (work_at h t) _ _ _ ups.active ups.here refl
           (λ _ _. ups.hand) (sound.threads t).births (length-filled (frame_at h t) k c ups.place.low (sound.threads t).places);
-      ledger = refl }
+      ledger = refl;
+    }
 
 -- ---- down
 
@@ -279,8 +283,10 @@ down_immortal_fits h t c f es sound downs low =
         gathered_work = old.gathered_work;
         locked_hand = old.locked_hand;
         births = old.births;
-        places = downs.places };
-      ledger = refl }
+        places = downs.places;
+      };
+      ledger = refl;
+    }
 
 -- the hand after counting down: at 0 it has the cell
 abbrev pub down_hand : ℕ → ℕ → Hand → Hand
@@ -304,22 +310,25 @@ down_mortal_fits h t c f es sound downs mortal owner active =
     let new_grip : grips_of (record x { local = x.local - 1 }) ≡ one (x.local - 1 == 0) = ap (λ o. grips_by_owner o x.state (x.local - 1) x.count) owner in
     -- the hand grips the cell exactly where nothing is left on the local word, and never has a reference
     let hands_now : (one (grips c hand') ≡ one (x.local - 1 == 0)) × ((q : ℕ) → q ≢ c → one (grips q hand') ≡ 0) × ((q : ℕ) → one (carries q hand') ≡ 0)
-        × ((p : Phase) (d : ℕ) → hand' ≡ hands.Busy p d → (d ≡ c) × (p ≡ phases.Zero)) =
-        elim (cases_eq x.local 1) [
-          inl last ↦
-            let e : hand' ≡ hands.Busy phases.Zero c = ap (λ b. if b then hands.Busy phases.Zero c else (row_at h t).hand) (eq-eqb x.local 1 last) in
-            let zero : one (x.local - 1 == 0) ≡ 1 = ap one (eq-eqb (x.local - 1) 0 (omega (arith, last))) in
-            (ap (λ z. one (grips c z)) e ∙ here ∙ sym zero,
-             λ q ne. ap (λ z. one (grips q z)) e ∙ (busy_else phases.Zero c q ne).0,
-             λ q. ap (λ z. one (carries q z)) e,
-             λ p d busy. let same : hands.Busy phases.Zero c ≡ hands.Busy p d = sym e ∙ busy in (cc, cc))
-        | inr more ↦
-            let e : hand' ≡ hands.Free = ap (λ b. if b then hands.Busy phases.Zero c else (row_at h t).hand) (ne_eqb x.local 1 more) ∙ downs.hand in
-            let left : one (x.local - 1 == 0) ≡ 0 = ap one (ne_eqb (x.local - 1) 0 (λ z. more (omega (arith, z, positive)))) in
-            (grips_free c _ e ∙ sym left,
-             λ q ne. grips_free q _ e,
-             λ q. carries_free q _ e,
-             λ p d busy. let bad : hands.Free ≡ hands.Busy p d = sym e ∙ busy in absurd (cc)) ] in
+    × ((p : Phase) (d : ℕ) → hand' ≡ hands.Busy p d → (d ≡ c) × (p ≡ phases.Zero)) =
+    elim (cases_eq x.local 1) [
+      | inl last ↦
+          let e : hand' ≡ hands.Busy phases.Zero c = ap (λ b. if b then hands.Busy phases.Zero c else (row_at h t).hand) (eq-eqb x.local 1 last) in
+          let zero : one (x.local - 1 == 0) ≡ 1 = ap one (eq-eqb (x.local - 1) 0 (omega (arith, last))) in (
+            ap (λ z. one (grips c z)) e ∙ here ∙ sym zero,
+            λ q ne. ap (λ z. one (grips q z)) e ∙ (busy_else phases.Zero c q ne).0,
+            λ q. ap (λ z. one (carries q z)) e,
+            λ p d busy. let same : hands.Busy phases.Zero c ≡ hands.Busy p d = sym e ∙ busy in (cc, cc),
+          )
+      | inr more ↦
+          let e : hand' ≡ hands.Free = ap (λ b. if b then hands.Busy phases.Zero c else (row_at h t).hand) (ne_eqb x.local 1 more) ∙ downs.hand in
+          let left : one (x.local - 1 == 0) ≡ 0 = ap one (ne_eqb (x.local - 1) 0 (λ z. more (omega (arith, z, positive)))) in (
+            grips_free c _ e ∙ sym left,
+            λ q ne. grips_free q _ e,
+            λ q. carries_free q _ e,
+            λ p d busy. let bad : hands.Free ≡ hands.Busy p d = sym e ∙ busy in absurd (cc),
+          )
+    ] in
     record {
       thread = downs.thread;
       thread_inside = downs.inside;
@@ -350,11 +359,13 @@ down_mortal_fits h t c f es sound downs mortal owner active =
         dead_count = fits.dead_count;
         born = fits.born;
         limited = λ live. omega (arith, fits.limited live);
-        plain = λ plain. downs.empty c (fits.plain plain) };
+        plain = λ plain. downs.empty c (fits.plain plain);
+      };
       empty = λ q _ e. downs.empty q e;
       works_here = λ on. absurd (no_mark _ (held_unmarked h t c sound some) on);
       works_own = λ q _ on. on;
       works_else = λ s ne on. absurd (no_mark _ (held_unmarked h s c sound some) on);
       own = active_fits _ (row_at h t) _ (frame_at h t) f _ (work_at h t) _ _ _ active downs.here refl
           (λ j e. let bad : None ≡ Some j = sym downs.unlocked ∙ e in absurd (cc)) (sound.threads t).births downs.places;
-      ledger = refl }
+      ledger = refl;
+    }

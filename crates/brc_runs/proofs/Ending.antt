@@ -1,29 +1,23 @@
 -- The end of an object: its shared word is looked at, its block goes to the worklist, and is given back.
-use Rattle.std.proofs.Common.{◌≡◌, ◌≢◌, ℕ, ◌+◌, ◌-◌, ◌<◌, ◌≤◌, ◌==◌, ◌&&◌, not, Bool, true, false, if◌then◌else◌, ℤ, pos, ◌+ℤ◌, ◌≤ℤ◌, List, [], ◌∷◌, length, get_or, set, Option, Some, None, sum_by, refl, sym, ◌∙◌, ap, subst, inl, inr, ◌⊎◌, arith}
+use Rattle.std.proofs.Common.{◌≡◌, ◌≢◌, ℕ, ◌<◌, ◌≤◌, ◌==◌, ◌&&◌, Bool, true, false, if◌then◌else◌, pos, ◌+ℤ◌, ◌≤ℤ◌, List, [], ◌∷◌, length, set, Some, None, refl, sym, ◌∙◌, ap, subst, inl, inr, arith}
 use Rattle.std.proofs.lemmas.List.{get_or-set_same, get_or-set_other, length-set}
-use Rattle.std.proofs.lemmas.Bool.{cases_eq, cases_lt, cases_Bool, eq-eqb, ne_eqb, eqb-true, and_parts, leb-true, ltb-true, true≢false}
+use Rattle.std.proofs.lemmas.Bool.{cases_eq, cases_Bool, eq-eqb, ne_eqb, eqb-true, and_parts, true≢false}
 use Rattle.std.proofs.lemmas.Int.{ints}
-use Rattle.brc_words.specs.declared.owner.Owner.{Owner}
 use Rattle.brc_words.specs.declared.owner.Owner.TheVariants as owners
-use Rattle.brc_words.specs.declared.state.State.{State}
 use Rattle.brc_words.specs.declared.state.State.TheVariants as states
 use Rattle.brc_runs.specs.declared.cell.Cell.{Cell}
-use Rattle.brc_runs.specs.declared.event.Step.{Step}
 use Rattle.brc_runs.specs.declared.event.Step.TheVariants.{SeeZero, Free}
 use Rattle.brc_runs.specs.declared.row.Row.{Row}
-use Rattle.brc_runs.specs.declared.row.Hand.{Hand}
 use Rattle.brc_runs.specs.declared.row.Hand.TheVariants as hands
-use Rattle.brc_runs.specs.declared.row.Phase.{Phase}
 use Rattle.brc_runs.specs.declared.row.Phase.TheVariants as phases
-use Rattle.brc_runs.specs.declared.row.Stage.{Stage}
 use Rattle.brc_runs.specs.declared.row.Stage.TheVariants as stages
-use Rattle.brc_runs.specs.Lists.{one, times, is_marked}
+use Rattle.brc_runs.specs.Lists.{one, is_marked}
 use Rattle.brc_runs.specs.Heap.{Heap, cell_at, entries_at, row_at, frame_at, popped_at, work_at, queue_at, is_gathered, words_for, no_row}
-use Rattle.brc_runs.specs.Steps.{thread_may, stepped, cell_after, row_after, work_after, is_untouched, stage_ok}
-use Rattle.brc_runs.specs.Holding.{lives, carries, total_of, count_of_state}
-use Rattle.brc_runs.specs.Sound.{IsSound, CellFits, ThreadFits, PhaseFits, HandFits, WorkFits, counted_in, grips_of, grips_by_owner, grips, gripped, held, asks_least, is_queued, is_threads}
-use Rattle.brc_runs.proofs.Naming.{Unheld, Ungripped, unheld, sole_grip, grips_once, unnamed, no_mark, one-false, one-true, grips_free, carries_free, free_hand, busy_hand, live_counts, zero_count, default_state, sum_one, grips_of-le}
-use Rattle.brc_runs.proofs.Birthing.{active_from, active_fits, no_lock, busy_else, busy_grips, busy_carries, one_and}
+use Rattle.brc_runs.specs.Steps.{thread_may, stepped, cell_after, row_after, is_untouched}
+use Rattle.brc_runs.specs.Holding.{lives, carries, count_of_state}
+use Rattle.brc_runs.specs.Sound.{IsSound, ThreadFits, PhaseFits, HandFits, WorkFits, counted_in, grips_of, grips_by_owner, grips, gripped, is_queued}
+use Rattle.brc_runs.proofs.Naming.{Unheld, Ungripped, unheld, sole_grip, grips_once, unnamed, no_mark, one-true, free_hand, busy_hand, live_counts, zero_count, default_state, sum_one, grips_of-le}
+use Rattle.brc_runs.proofs.Birthing.{active_from, active_fits, no_lock, busy_else, busy_grips, one_and}
 use Rattle.brc_runs.proofs.Counting.{marked_unheld, total_unmerged}
 use Rattle.brc_runs.proofs.Asking.{May, OnCell, on_cell, may_parts}
 use Rattle.brc_runs.proofs.Changes.{Fits, changed_sound}
@@ -63,8 +57,10 @@ zero_parts h t c sound ok =
       grip = grip;
       mark = omega (arith, grips_once h c t sound said.mortal, grip);
       local = elim (cases_eq (cell_at h c).local 0) [
-          inl zero ↦ zero
-        | inr more ↦ absurd (omega (arith, all, gone, sound.gripped c said.mortal, ap one (ne_eqb (cell_at h c).local 0 more))) ] }
+        | inl zero ↦ zero
+        | inr more ↦ absurd (omega (arith, all, gone, sound.gripped c said.mortal, ap one (ne_eqb (cell_at h c).local 0 more)))
+      ];
+    }
 
 -- nothing was ever counted on the shared word: the block goes to the worklist
 taken_fits : (h : Heap) (t c : ℕ) → IsSound h → Zero h t c → is_untouched (cell_at h c) ≡ true
@@ -106,12 +102,14 @@ taken_fits h t c sound zero untouched =
         mortal = zero.mortal;
         lives = ap lives zero.owner;
         total = ap (λ s. count_of_state s (cell_at h c).local (cell_at h c).count) state ∙ sum;
-        whose = inr zero.owner };
+        whose = inr zero.owner;
+      };
       works_own = λ q ne on. sym (else_marked q ne) ∙ on;
       works_else = λ s ne on. sound.works s c on;
       own = active_fits _ (row_at h t) _ (frame_at h t) (frame_at h t) _ (work_at h t) _ _ _ zero.active zero.may.not_gathered refl
           (λ _ _. refl) (sound.threads t).births (sound.threads t).places;
-      ledger = refl }
+      ledger = refl;
+    }
 
 -- somebody has counted or asked: the thread goes on to merge
 over_fits : (h : Heap) (t c : ℕ) → IsSound h → Zero h t c
@@ -150,24 +148,28 @@ over_fits h t c sound zero =
       works_else = λ s ne on. sound.works s c on;
       own = active_fits _ (row_at h t) _ (frame_at h t) (frame_at h t) _ (work_at h t) _ _ _ zero.active zero.may.not_gathered refl
           (λ k e. let bad : None ≡ Some k = sym zero.unlocked ∙ e in absurd (cc)) (sound.threads t).births (sound.threads t).places;
-      ledger = refl }
+      ledger = refl;
+    }
 
 pub see_sound : (h : Heap) (t c : ℕ) → IsSound h → thread_may h t (SeeZero c) ≡ true → IsSound (stepped h t (SeeZero c) c)
 see_sound h t c sound ok =
     let zero : Zero h t c = zero_parts h t c sound ok in
     elim (cases_Bool (is_untouched (cell_at h c))) [
-      inl untouched ↦ subst (λ b. IsSound (record h {
-              cells = set h.cells c (cell_at h c);
-              rows = set h.rows t (record (row_at h t) { hand = if b then hands.Free else hands.Busy phases.Over c });
-              frames = set h.frames t (frame_at h t);
-              works = set h.works t (if b then set (work_at h t) c true else work_at h t) })) (sym untouched)
-            (changed_sound h t c _ _ _ _ _ sound (taken_fits h t c sound zero untouched))
-    | inr touched ↦ subst (λ b. IsSound (record h {
-              cells = set h.cells c (cell_at h c);
-              rows = set h.rows t (record (row_at h t) { hand = if b then hands.Free else hands.Busy phases.Over c });
-              frames = set h.frames t (frame_at h t);
-              works = set h.works t (if b then set (work_at h t) c true else work_at h t) })) (sym touched)
-            (changed_sound h t c _ _ _ _ _ sound (over_fits h t c sound zero)) ]
+      | inl untouched ↦ subst (λ b. IsSound (record h {
+        cells = set h.cells c (cell_at h c);
+        rows = set h.rows t (record (row_at h t) { hand = if b then hands.Free else hands.Busy phases.Over c });
+        frames = set h.frames t (frame_at h t);
+        works = set h.works t (if b then set (work_at h t) c true else work_at h t);
+      })) (sym untouched)
+          (changed_sound h t c _ _ _ _ _ sound (taken_fits h t c sound zero untouched))
+      | inr touched ↦ subst (λ b. IsSound (record h {
+        cells = set h.cells c (cell_at h c);
+        rows = set h.rows t (record (row_at h t) { hand = if b then hands.Free else hands.Busy phases.Over c });
+        frames = set h.frames t (frame_at h t);
+        works = set h.works t (if b then set (work_at h t) c true else work_at h t);
+      })) (sym touched)
+          (changed_sound h t c _ _ _ _ _ sound (over_fits h t c sound zero))
+    ]
 
 -- ---- freeing
 
@@ -181,16 +183,18 @@ dead_count h t c sound on =
     let fits : WorkFits t c (cell_at h c) = sound.works t c on in
     let x : Cell = cell_at h c in
     elim fits.whose [
-      inl merged ↦ sym (ap (λ s. count_of_state s x.local x.count) merged) ∙ fits.total
-    | inr owner ↦
-        let unmerged = (sound.cells c fits.mortal).owned_unmerged t owner in
-        let sum : pos x.local +ℤ x.count ≡ pos 0 = sym (total_unmerged x.state x.local x.count unmerged) ∙ fits.total in
-        let gone : one (x.local == 0) ≡ grips_of x = sym (ap (λ o. grips_by_owner o x.state x.local x.count) owner) in
-        let all : 1 ≤ gripped h c = omega (arith, one-true _ on, sum_one (λ (marks : List Bool). one (is_marked marks c)) h.works t [] refl) in
-        let none : x.local ≡ 0 = elim (cases_eq x.local 0) [
-              inl zero ↦ zero
-            | inr more ↦ absurd (omega (arith, all, gone, sound.gripped c fits.mortal, ap one (ne_eqb x.local 0 more))) ] in
-        omega (arith, ints, sum, none) ]
+      | inl merged ↦ sym (ap (λ s. count_of_state s x.local x.count) merged) ∙ fits.total
+      | inr owner ↦
+          let unmerged = (sound.cells c fits.mortal).owned_unmerged t owner in
+          let sum : pos x.local +ℤ x.count ≡ pos 0 = sym (total_unmerged x.state x.local x.count unmerged) ∙ fits.total in
+          let gone : one (x.local == 0) ≡ grips_of x = sym (ap (λ o. grips_by_owner o x.state x.local x.count) owner) in
+          let all : 1 ≤ gripped h c = omega (arith, one-true _ on, sum_one (λ (marks : List Bool). one (is_marked marks c)) h.works t [] refl) in
+          let none : x.local ≡ 0 = elim (cases_eq x.local 0) [
+            | inl zero ↦ zero
+            | inr more ↦ absurd (omega (arith, all, gone, sound.gripped c fits.mortal, ap one (ne_eqb x.local 0 more)))
+          ] in
+          omega (arith, ints, sum, none)
+    ]
 
 pub free_sound : (h : Heap) (t c : ℕ) → IsSound h → thread_may h t (Free c) ≡ true → IsSound (stepped h t (Free c) c)
 free_sound h t c sound ok =
@@ -206,9 +210,9 @@ free_sound h t c sound ok =
     let off : is_marked (set (work_at h t) c false) c ≡ false = get_or-set_same (work_at h t) c false false within in
     let else_marked : (q : ℕ) → q ≢ c → is_marked (set (work_at h t) c false) q ≡ is_marked (work_at h t) q = λ q ne. get_or-set_other (work_at h t) c q false false ne in
     let fewer : (q : ℕ) → is_marked (work_at h t) q ≡ false → is_marked (set (work_at h t) c false) q ≡ false = λ q e.
-        elim (cases_eq q c) [ inl same ↦ ap (is_marked (set (work_at h t) c false)) same ∙ off | inr ne ↦ else_marked q ne ∙ e ] in
+    elim (cases_eq q c) [ inl same ↦ ap (is_marked (set (work_at h t) c false)) same ∙ off | inr ne ↦ else_marked q ne ∙ e ] in
     let old_grip : grips_of (cell_at h c) ≡ 1 =
-        omega (arith, sound.gripped c fits.mortal, one-true _ on, sum_one (λ (marks : List Bool). one (is_marked marks c)) h.works t [] refl, grips_of-le (cell_at h c).owner (cell_at h c).state (cell_at h c).local (cell_at h c).count) in
+    omega (arith, sound.gripped c fits.mortal, one-true _ on, sum_one (λ (marks : List Bool). one (is_marked marks c)) h.works t [] refl, grips_of-le (cell_at h c).owner (cell_at h c).state (cell_at h c).local (cell_at h c).count) in
     let old_count : counted_in (cell_at h c) ≡ pos 0 = live_counts (cell_at h c) fits.lives ∙ fits.total in
     let empty : entries_at h c ≡ [] = no_entries (entries_at h c) parts.1 in
     let count : (cell_at h c).count ≡ pos 0 = dead_count h t c sound on in
@@ -243,7 +247,8 @@ free_sound h t c sound ok =
         dead_count = λ _. count;
         born = λ live. absurd (true≢false (sym live));
         limited = λ live. absurd (true≢false (sym live));
-        plain = λ _. empty };
+        plain = λ _. empty;
+      };
       empty = λ q _ e. e;
       works_here = λ still. absurd (true≢false (sym still ∙ off));
       works_own = λ q ne still. sym (else_marked q ne) ∙ still;
@@ -260,5 +265,7 @@ free_sound h t c sound ok =
         gathered_work = λ g q. (fewer q (old.gathered_work g q).0, (old.gathered_work g q).1);
         locked_hand = old.locked_hand;
         births = old.births;
-        places = old.places };
-      ledger = omega (arith, one-true _ fits.lives) })
+        places = old.places;
+      };
+      ledger = omega (arith, one-true _ fits.lives);
+    })

@@ -1,5 +1,5 @@
 -- Places of a frame and entries of a list, after one is filled or given up.
-use Rattle.std.proofs.Common.{◌≡◌, ◌≢◌, ℕ, ◌+◌, ◌-◌, ◌*◌, ◌<◌, ◌≤◌, ◌==◌, Bool, true, false, List, [], ◌∷◌, ◌++◌, length, get_or, set, take, Option, Some, None, replicate, slice_get, zero, suc, sum_by, refl, sym, ◌∙◌, ap, subst, inl, inr, arith, add-one, length-append}
+use Rattle.std.proofs.Common.{◌≡◌, ◌≢◌, ℕ, ◌+◌, ◌-◌, ◌*◌, ◌<◌, ◌≤◌, ◌==◌, List, [], ◌∷◌, length, get_or, take, Option, Some, None, replicate, slice_get, zero, suc, sum_by, refl, sym, ◌∙◌, ap, subst, inl, inr, arith, length-append}
 use Rattle.std.proofs.lemmas.List.{get_or-set_same, get_or-set_other, length-set, get_or_past, get_or-replicate, get_or_append_left, get_or-append_right, length-replicate, take_all}
 use Rattle.std.proofs.lemmas.List.Sums.{sum_by-set, sum_by-append, sum_by_more, get_or-le-sum_by}
 use Rattle.std.proofs.lemmas.List.Folds.{sum_by-replicate}
@@ -15,13 +15,15 @@ place_at-reaching : (frame : List (Option ℕ)) (k j : ℕ) → place_at (reachi
 place_at-reaching frame k j =
     let more : ℕ = k + 1 - length frame in
     elim (cases_lt j (length frame)) [
-      inl inside ↦ get_or_append_left frame (replicate more None) None j inside
-    | inr past ↦
-        get_or-append_right frame (replicate more None) (length frame) j None refl past
-        ∙ elim (cases_lt (j - length frame) more) [
-            inl within ↦ get_or-replicate more (j - length frame) None None within
-          | inr beyond ↦ get_or_past (replicate more None) (j - length frame) None (subst (λ n. n ≤ j - length frame) (sym (length-replicate more None)) beyond) ]
-        ∙ sym (get_or_past frame j None past) ]
+      | inl inside ↦ get_or_append_left frame (replicate more None) None j inside
+      | inr past ↦
+          get_or-append_right frame (replicate more None) (length frame) j None refl past
+          ∙ elim (cases_lt (j - length frame) more) [
+            | inl within ↦ get_or-replicate more (j - length frame) None None within
+            | inr beyond ↦ get_or_past (replicate more None) (j - length frame) None (subst (λ n. n ≤ j - length frame) (sym (length-replicate more None)) beyond)
+          ]
+          ∙ sym (get_or_past frame j None past)
+    ]
 
 pub place_at-filled_here : (frame : List (Option ℕ)) (k c : ℕ) → place_at (filled frame k c) k ≡ Some c
 place_at-filled_here frame k c = get_or-set_same (reaching frame k) k (Some c) None (omega (arith, length-reaching frame k))
@@ -52,12 +54,13 @@ times-filled q frame k c vacant =
 pub times-vacated : (q : ℕ) (frame : List (Option ℕ)) (k c : ℕ) → place_at frame k ≡ Some c → times q (vacated frame k) + one (c == q) ≡ times q frame
 times-vacated q frame k c held =
     elim (cases_lt k (length frame)) [
-      inl inside ↦
-        let f : Option ℕ → ℕ = λ x. one (names q x) in
-        let put = sum_by-set f frame k None None inside in
-        let was : f (place_at frame k) ≡ one (c == q) = ap f held in
-        omega (arith, put, was)
-    | inr past ↦ absurd (let e : None ≡ Some c = sym (get_or_past frame k None past) ∙ held in cc) ]
+      | inl inside ↦
+          let f : Option ℕ → ℕ = λ x. one (names q x) in
+          let put = sum_by-set f frame k None None inside in
+          let was : f (place_at frame k) ≡ one (c == q) = ap f held in
+          omega (arith, put, was)
+      | inr past ↦ absurd (let e : None ≡ Some c = sym (get_or_past frame k None past) ∙ held in cc)
+    ]
 
 pub place_is_held : (q : ℕ) (frame : List (Option ℕ)) (k c : ℕ) → place_at frame k ≡ Some c → one (c == q) ≤ times q frame
 place_is_held q frame k c held = omega (arith, times-vacated q frame k c held)

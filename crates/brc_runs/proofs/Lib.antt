@@ -6,3 +6,10 @@ pub mod Asking
 pub mod Birthing
 pub mod Counting
 pub mod Ending
+pub mod Preserving
+pub mod Registering
+pub mod Opening
+pub mod Headlines
+pub mod Lifetimes
+pub mod Moving
+pub mod Allowing

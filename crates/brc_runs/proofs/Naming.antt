@@ -1,8 +1,8 @@
 -- Who names a cell: what the sums say of one place, one hand, one worklist.
-use Rattle.std.proofs.Common.{◌≡◌, ◌≢◌, ℕ, ◌+◌, ◌<◌, ◌≤◌, ◌==◌, ◌%◌, ◌&&◌, Bool, true, false, not, ℤ, pos, negsuc, List, [], length, get_or, set, Option, Some, None, sum_by, refl, sym, ◌∙◌, ap, subst, inl, inr, ◌⊎◌, arith, if◌then◌else◌}
-use Rattle.std.proofs.lemmas.List.{get_or-set_same, get_or-set_other, length-set, get_or_past}
+use Rattle.std.proofs.Common.{◌≡◌, ◌≢◌, ℕ, ◌+◌, ◌≤◌, ◌==◌, ◌%◌, ◌&&◌, Bool, true, false, ℤ, pos, negsuc, List, [], length, get_or, set, sum_by, refl, sym, ◌∙◌, ap, inl, inr, arith, if◌then◌else◌}
+use Rattle.std.proofs.lemmas.List.{get_or-set_other, get_or_past}
 use Rattle.std.proofs.lemmas.List.Sums.{sum_by-set, get_or-le-sum_by}
-use Rattle.std.proofs.lemmas.Bool.{cases_eq, cases_lt, cases_Bool, eq-eqb, eqb-true, and_parts, and_from, true≢false}
+use Rattle.std.proofs.lemmas.Bool.{cases_lt, eq-eqb, eqb-true, and_parts, true≢false}
 use Rattle.std.proofs.lemmas.Int.{ints}
 use Rattle.std.proofs.lemmas.Nat.Bits.{bit_at-zero}
 use Rattle.brc_words.specs.declared.owner.Owner.{Owner}
@@ -17,11 +17,11 @@ use Rattle.brc_runs.specs.declared.row.Phase.{Phase}
 use Rattle.brc_runs.specs.declared.row.Phase.TheVariants as phases
 use Rattle.brc_runs.specs.declared.row.Stage.{Stage}
 use Rattle.brc_runs.specs.declared.row.Stage.TheVariants as stages
-use Rattle.brc_runs.specs.Lists.{one, times, entry_times, bit_of, is_marked, place_at, names}
-use Rattle.brc_runs.specs.Heap.{Heap, cell_at, entries_at, row_at, frame_at, popped_at, work_at, queue_at, no_row}
+use Rattle.brc_runs.specs.Lists.{one, times, bit_of, is_marked}
+use Rattle.brc_runs.specs.Heap.{Heap, cell_at, row_at, frame_at, popped_at, work_at, queue_at, no_row}
 use Rattle.brc_runs.specs.Steps.{is_free_hand, is_at, phase_number, is_free, is_owned_by, is_active, is_zero, is_default}
 use Rattle.brc_runs.specs.Holding.{lives, total_of, carries, has_reference}
-use Rattle.brc_runs.specs.Sound.{IsSound, IsShaped, PhaseFits, Births, Untied, counted_in, grips_of, grips_by_owner, grips, is_gripping, gripped, held, asks, asks_least, in_frames, in_popped, in_queues, in_hands, in_entries, is_queued, is_threads}
+use Rattle.brc_runs.specs.Sound.{IsSound, counted_in, grips_by_owner, grips, gripped, held, asks, in_entries}
 
 -- ---- sums
 
@@ -29,22 +29,24 @@ use Rattle.brc_runs.specs.Sound.{IsSound, IsShaped, PhaseFits, Births, Untied, c
 pub sum_one : {A : Type 0} (f : A → ℕ) (xs : List A) (i : ℕ) (d : A) → f d ≡ 0 → f (get_or xs i d) ≤ sum_by f xs
 sum_one {A} f xs i d none =
     elim (cases_lt i (length xs)) [
-      inl inside ↦ get_or-le-sum_by f xs i d inside
-    | inr past ↦ let e : f (get_or xs i d) ≡ 0 = ap f (get_or_past xs i d past) ∙ none in omega arith ]
+      | inl inside ↦ get_or-le-sum_by f xs i d inside
+      | inr past ↦ let e : f (get_or xs i d) ≡ 0 = ap f (get_or_past xs i d past) ∙ none in omega arith
+    ]
 
 -- two terms are within the sum together
 pub sum_two : {A : Type 0} (f : A → ℕ) (xs : List A) (i j : ℕ) (d : A) → f d ≡ 0 → j ≢ i → f (get_or xs i d) + f (get_or xs j d) ≤ sum_by f xs
 sum_two {A} f xs i j d none ne =
     elim (cases_lt i (length xs)) [
-      inl inside ↦
-        let taken = sum_by-set f xs i d d inside in
-        let other : f (get_or (set xs i d) j d) ≤ sum_by f (set xs i d) = sum_one f (set xs i d) j d none in
-        let e : f (get_or (set xs i d) j d) ≡ f (get_or xs j d) = ap f (get_or-set_other xs i j d d ne) in
-        omega (arith, taken, other, e, none)
-    | inr past ↦
-        let e : f (get_or xs i d) ≡ 0 = ap f (get_or_past xs i d past) ∙ none in
-        let other : f (get_or xs j d) ≤ sum_by f xs = sum_one f xs j d none in
-        omega arith ]
+      | inl inside ↦
+          let taken = sum_by-set f xs i d d inside in
+          let other : f (get_or (set xs i d) j d) ≤ sum_by f (set xs i d) = sum_one f (set xs i d) j d none in
+          let e : f (get_or (set xs i d) j d) ≡ f (get_or xs j d) = ap f (get_or-set_other xs i j d d ne) in
+          omega (arith, taken, other, e, none)
+      | inr past ↦
+          let e : f (get_or xs i d) ≡ 0 = ap f (get_or_past xs i d past) ∙ none in
+          let other : f (get_or xs j d) ≤ sum_by f xs = sum_one f xs j d none in
+          omega arith
+    ]
 
 pub one-le : (b : Bool) → one b ≤ 1
 one-le true = omega arith
@@ -103,6 +105,10 @@ hand_names phases.Shut c = omega (arith, ap one (eq-eqb c c refl))
 hand_names phases.Taking c = omega (arith, ap one (eq-eqb c c refl))
 hand_names phases.Held c = omega (arith, ap one (eq-eqb c c refl))
 hand_names phases.Popping c = omega (arith, ap one (eq-eqb c c refl))
+
+-- a hand with a reference counts it
+pub busy_carrier : (p : Phase) (c : ℕ) (hand : Hand) → has_reference p ≡ true → hand ≡ hands.Busy p c → one (carries c hand) ≡ 1
+busy_carrier p c hand has e = ap (λ z. one (carries c z)) e ∙ ap (λ b. one (b && (c == c))) has ∙ ap one (eq-eqb c c refl)
 
 pub grips_free : (c : ℕ) (hand : Hand) → hand ≡ hands.Free → one (grips c hand) ≡ 0
 grips_free c hand e = ap (λ x. one (grips c x)) e
@@ -180,7 +186,8 @@ unheld h c none = record {
   hands = λ s. omega (arith, none, sum_one (λ (row : Row). one (carries c row.hand)) h.rows s no_row refl);
   bits = λ s. omega (arith, none, sum_one (λ (words : List ℕ). bit_of words c) h.queues s [] (no_bit c), sum_one (λ (words : List ℕ). bit_of words c) h.popped s [] (no_bit c));
   entries = omega (arith, none);
-  asks = omega (arith, none) }
+  asks = omega (arith, none);
+}
 
 -- a cell without an object is held nowhere
 pub dead_unheld : (h : Heap) (c : ℕ) → IsSound h → 266 ≤ c → lives (cell_at h c).owner ≡ false → Unheld h c
@@ -195,7 +202,8 @@ pub record Ungripped (h : Heap) (c s : ℕ) : Type 0 where
 pub ungripped : (h : Heap) (c : ℕ) → gripped h c ≡ 0 → (s : ℕ) → Ungripped h c s
 ungripped h c none s = record {
   mark = omega (arith, none, sum_one (λ (marks : List Bool). one (is_marked marks c)) h.works s [] refl);
-  hand = omega (arith, none, sum_one (λ (row : Row). one (grips c row.hand)) h.rows s no_row refl) }
+  hand = omega (arith, none, sum_one (λ (row : Row). one (grips c row.hand)) h.rows s no_row refl);
+}
 
 -- a thread that grips the cell is the only one, and does so once
 pub sole_grip : (h : Heap) (c t : ℕ) → IsSound h → 266 ≤ c → 1 ≤ one (is_marked (work_at h t) c) + one (grips c (row_at h t).hand)
@@ -207,10 +215,15 @@ sole_grip h c t sound mortal some s ne =
     let total = sound.gripped c mortal in
     record {
       mark = omega (arith, marks, rows, most, total, some);
-      hand = omega (arith, marks, rows, most, total, some) }
+      hand = omega (arith, marks, rows, most, total, some);
+    }
 
 pub grips_once : (h : Heap) (c t : ℕ) → IsSound h → 266 ≤ c → one (is_marked (work_at h t) c) + one (grips c (row_at h t).hand) ≤ 1
 grips_once h c t sound mortal =
-    omega (arith, sum_one (λ (marks : List Bool). one (is_marked marks c)) h.works t [] refl,
+    omega (
+      arith,
+      sum_one (λ (marks : List Bool). one (is_marked marks c)) h.works t [] refl,
       sum_one (λ (row : Row). one (grips c row.hand)) h.rows t no_row refl,
-      grips_of-le (cell_at h c).owner (cell_at h c).state (cell_at h c).local (cell_at h c).count, sound.gripped c mortal)
+      grips_of-le (cell_at h c).owner (cell_at h c).state (cell_at h c).local (cell_at h c).count,
+      sound.gripped c mortal,
+    )

@@ -1,26 +1,105 @@
 -- What holds of every world that a run reaches: the laws that the rooms above cite.
-use Rattle.std.proofs.Common.{◌≡◌, ℕ, ◌+◌, ◌<◌, ◌^◌, true, List}
+use Rattle.std.proofs.Common.{◌≡◌, ℕ, ◌+◌, ◌<◌, ◌≤◌, ◌^◌, ◌==◌, ◌&&◌, not, Bool, true, false, if◌then◌else◌, nat_le, List, [], ◌∷◌, zero, suc, length, refl, sym, ◌∙◌, ap, subst, inl, inr, arith}
+use Rattle.std.proofs.lemmas.List.Sums.{sum_by-cons}
+use Rattle.std.proofs.lemmas.Bool.{cases_Bool, cases_lt, and_parts, eqb-true, leb-true, le-ltb, lt-ltb, true≢false}
+use Rattle.brc_runs.specs.declared.cell.Cell.{Cell}
 use Rattle.brc_runs.specs.declared.event.Event.{Event}
-use Rattle.brc_runs.specs.Heap.{Heap, opening, row_at, AreOptions}
-use Rattle.brc_runs.specs.Steps.{enabled, after}
+use Rattle.brc_runs.specs.declared.event.Step.{Step}
+use Rattle.brc_runs.specs.declared.event.Step.TheVariants.{Claim, InitLocal, InitShared, Birth, LocalUp, LocalDown, SeeZero, Free, Register}
+use Rattle.brc_runs.specs.declared.row.Row.{Row}
+use Rattle.brc_runs.specs.Lists.{one}
+use Rattle.brc_runs.specs.Heap.{Heap, opening, cell_at, row_at, frame_at, work_at, entries_at, no_row, AreOptions}
+use Rattle.brc_runs.specs.Steps.{enabled, after, after_target, registered, root_may, thread_may, target}
 use Rattle.brc_runs.specs.Runs.{IsRun, IsReached, world_after}
-use Rattle.brc_runs.specs.Holding.{Headline, Histories, MakesMoves, map_of, moves_by}
+use Rattle.brc_runs.specs.Holding.{Headline, Histories, lives, lives_at, lives_since, is_birth, is_free_step, MakesMoves, map_of, moves_by}
+use Rattle.brc_runs.specs.Sound.{IsSound}
+use Rattle.brc_runs.proofs.Opening.{opening_sound, free_cell}
+use Rattle.brc_runs.proofs.Registering.{registered_sound}
+use Rattle.brc_runs.proofs.Preserving.{step_sound}
+use Rattle.brc_runs.proofs.Headlines.{sound_headline, allocs_fit, frees_fit}
+use Rattle.brc_runs.proofs.Allowing.{event_moves}
+use Rattle.brc_runs.proofs.Lifetimes.{Turns, event_turns, event_dies}
+
+-- ---- every reached world is sound
+
+-- the root's step leaves room for the thread that it makes
+root_room : (h : Heap) (s : Step) → root_may h s ≡ true → length h.rows ≤ 64
+root_room h (Claim c) ok = absurd (true≢false (sym ok))
+root_room h (InitLocal c) ok = absurd (true≢false (sym ok))
+root_room h (InitShared c) ok = absurd (true≢false (sym ok))
+root_room h (Birth c kind k) ok = absurd (true≢false (sym ok))
+root_room h (LocalUp source k) ok = absurd (true≢false (sym ok))
+root_room h (LocalDown drop) ok = absurd (true≢false (sym ok))
+root_room h (SeeZero c) ok = absurd (true≢false (sym ok))
+root_room h (Free c) ok = absurd (true≢false (sym ok))
+root_room h (Register u) ok = let parts = and_parts (u == length h.rows) (nat_le u 64) ok in omega (arith, eqb-true u (length h.rows) parts.0, leb-true u 64 parts.1)
+
+pub event_sound : (h : Heap) (e : Event) → IsSound h → enabled h e ≡ true → IsSound (after h e)
+event_sound h e sound ok =
+    let moved : Heap = after_target h e.thread e.step (target (row_at h e.thread) (frame_at h e.thread) (work_at h e.thread) (entries_at h) e.step) in
+    elim (cases_Bool (e.thread == 0)) [
+      | inl root ↦ subst (λ b. IsSound (if b then registered h else moved)) (sym root)
+          (registered_sound h sound (root_room h e.step (subst (λ b. (if b then root_may h e.step else thread_may h e.thread e.step) ≡ true) root ok)))
+      | inr thread ↦ subst (λ b. IsSound (if b then registered h else moved)) (sym thread)
+          (step_sound h e.thread e.step sound (subst (λ b. (if b then root_may h e.step else thread_may h e.thread e.step) ≡ true) thread ok))
+    ]
+
+pub run_sound : (cells limit : ℕ) (run : List Event) → AreOptions cells limit → IsRun (opening cells limit) run → IsSound (world_after (opening cells limit) run)
+run_sound cells limit [] options is_run = opening_sound cells limit options
+run_sound cells limit (e ∷ run) options is_run =
+    event_sound (world_after (opening cells limit) run) e (run_sound cells limit run options is_run.0) is_run.1
+
+pub reached_sound : (h : Heap) → IsReached h → IsSound h
+reached_sound h reached = subst IsSound reached.leads_here (run_sound reached.cells reached.limit reached.run reached.options reached.is_run)
+
+-- ---- the laws
 
 -- counts are references, nothing is lost, and the ledger is exact
 pub reached_headline : (h : Heap) → IsReached h → Headline h
-reached_headline h reached = ?
+reached_headline h reached = sound_headline h (reached_sound h reached)
 
 -- an event makes its moves, each allowed where it is made
 pub reached_moves : (A : Type 0) (h : Heap) (e : Event) → IsReached h → enabled h e ≡ true → MakesMoves {A = A} (map_of h) (moves_by h e) (map_of (after h e))
-reached_moves A h e reached may = ?
+reached_moves A h e reached may = event_moves A h e (reached_sound h reached) may
+
+-- in the opening world no mortal object lives
+opening_lives : (cells limit q : ℕ) → lives_at (opening cells limit) q ≡ false
+opening_lives cells limit q = elim (cases_lt q 266) [
+  | inl low ↦ ap (λ b. not b && lives (cell_at (opening cells limit) q).owner) (lt-ltb q 266 low)
+  | inr high ↦ ap (λ b. not b && lives (cell_at (opening cells limit) q).owner) (le-ltb q 266 high) ∙ ap (λ (x : Cell). lives x.owner) (free_cell cells q high)
+]
+
+opening_row : (cells limit t : ℕ) → row_at (opening cells limit) t ≡ no_row
+opening_row cells limit zero = refl
+opening_row cells limit (suc t) = refl
 
 -- lives and ledgers are what the run says
 pub run_histories : (cells limit : ℕ) (run : List Event) → AreOptions cells limit → IsRun (opening cells limit) run → Histories (opening cells limit) run
-run_histories cells limit run options is_run = ?
+run_histories cells limit [] options is_run = record {
+  lives = opening_lives cells limit;
+  allocs = λ t. ap (λ (row : Row). row.allocs) (opening_row cells limit t);
+  frees = λ t. ap (λ (row : Row). row.frees) (opening_row cells limit t);
+  deaths = tt;
+}
+run_histories cells limit (e ∷ run) options is_run =
+    let h : Heap = world_after (opening cells limit) run in
+    let before : Histories (opening cells limit) run = run_histories cells limit run options is_run.0 in
+    let sound : IsSound h = run_sound cells limit run options is_run.0 in
+    let turns : Turns h e = event_turns h e sound is_run.1 in
+    record {
+      lives = λ q. turns.lives q ∙ ap (lives_since e.step q) (before.lives q);
+      allocs = λ q. turns.allocs q ∙ omega (arith, before.allocs q, sum_by-cons (λ (x : Event). if (x.thread == q) && is_birth x.step then 1 else 0) e run, one_is ((e.thread == q) && is_birth e.step));
+      frees = λ q. turns.frees q ∙ omega (arith, before.frees q, sum_by-cons (λ (x : Event). if (x.thread == q) && is_free_step x.step then 1 else 0) e run, one_is ((e.thread == q) && is_free_step e.step));
+      deaths = (before.deaths, event_dies h e run sound before.lives is_run.1);
+    }
+  where
+    one_is : (b : Bool) → one b ≡ (if b then 1 else 0)
+    one_is true = refl
+    one_is false = refl
 
 -- one more birth and one more free can be counted
 pub reached_allocs : (h : Heap) → IsReached h → (t : ℕ) → (row_at h t).allocs + 1 < 2 ^ 64
-reached_allocs h reached t = ?
+reached_allocs h reached t = allocs_fit h (reached_sound h reached) t
 
 pub reached_frees : (h : Heap) → IsReached h → (t : ℕ) → (row_at h t).frees + 1 < 2 ^ 64
-reached_frees h reached t = ?
+reached_frees h reached t = frees_fit h (reached_sound h reached) t

@@ -1,5 +1,5 @@
 -- Small words on lists: places of a frame, bits of words, marks.
-use Rattle.std.specs.Prelude.{ℕ, ◌+◌, ◌-◌, ◌*◌, ◌/◌, ◌%◌, ◌==◌, nat_lt, Bool, true, false, if◌then◌else◌, List, [], ◌∷◌, ◌++◌, length, take, replicate, Option, Some, None, slice_index_or, slice_get, slice_set, count_by, sum_by}
+use Rattle.std.specs.Prelude.{ℕ, ◌+◌, ◌-◌, ◌/◌, ◌%◌, ◌==◌, Bool, true, false, List, ◌++◌, length, take, replicate, Option, Some, None, slice_index_or, slice_get, slice_set, sum_by}
 use Rattle.std.specs.Int.{bit_at}
 
 -- 1 for yes

@@ -3,8 +3,7 @@
 -- Both are factored: what the thread's own part must be, which one cell is meant (read off the own part alone), and what
 -- that cell must be; then what becomes of the cell, of the own part and of entries. Counting is that of PEP 703,
 -- "Biased Reference Counting"; claiming, the hand and the worklist are this heap's own.
-use Rattle.std.specs.Prelude.{ℕ, ◌+◌, ◌-◌, ◌^◌, ◌==◌, nat_lt, nat_le, ◌&&◌, ◌||◌, not, Bool, true, false, if◌then◌else◌, ℤ, pos, negsuc, List, [], ◌∷◌, ◌++◌, length, replicate, Option, Some, None, is_none, slice_index_or, slice_get, slice_set}
-use Rattle.brc_words.specs.declared.kind.Kind.{Kind}
+use Rattle.std.specs.Prelude.{ℕ, ◌+◌, ◌-◌, ◌==◌, nat_lt, nat_le, ◌&&◌, ◌||◌, not, Bool, true, false, if◌then◌else◌, ℤ, pos, negsuc, List, [], ◌∷◌, ◌++◌, length, replicate, Option, Some, None, is_none, slice_index_or, slice_get, slice_set}
 use Rattle.brc_words.specs.Kinds.{is_mortal}
 use Rattle.brc_words.specs.declared.owner.Owner.{Owner}
 use Rattle.brc_words.specs.declared.owner.Owner.TheVariants as owners
@@ -26,7 +25,7 @@ use Rattle.brc_runs.specs.declared.row.Phase.TheVariants as phases
 use Rattle.brc_runs.specs.declared.row.Stage.{Stage}
 use Rattle.brc_runs.specs.declared.row.Stage.TheVariants as stages
 use Rattle.brc_runs.specs.Lists.{place_at, filled, vacated, is_marked, last_of, front_of}
-use Rattle.brc_runs.specs.Heap.{Heap, cell_at, entries_at, row_at, frame_at, work_at, new_row, is_registered, is_gathered, is_immortal, first_mortal, words_for}
+use Rattle.brc_runs.specs.Heap.{Heap, cell_at, entries_at, row_at, frame_at, work_at, new_row, is_registered, is_gathered, is_immortal, words_for}
 
 -- ---- which cell a step means
 

@@ -1,0 +1,269 @@
+-- One more thread: empty lists are appended, and nothing else changes.
+use Rattle.std.proofs.Common.{◌≡◌, ◌≢◌, ℕ, ◌+◌, ◌/◌, ◌%◌, ◌<◌, ◌≤◌, Bool, true, false, pos, List, [], ◌∷◌, ◌++◌, length, get_or, replicate, Some, None, refl, sym, ◌∙◌, ap, subst, inl, inr, arith, length-append}
+use Rattle.std.proofs.lemmas.List.{get_or_append_left, get_or_past, get_or_push, get_or-replicate, length-replicate}
+use Rattle.std.proofs.lemmas.List.Sums.{sum_by_push}
+use Rattle.std.proofs.lemmas.Bool.{cases_eq, cases_lt, cases_Bool, true≢false}
+use Rattle.std.proofs.lemmas.Nat.Bits.{bit_at-zero}
+use Rattle.std.specs.Int.{bit_at}
+use Rattle.brc_runs.specs.declared.cell.Cell.{Cell}
+use Rattle.brc_runs.specs.declared.row.Row.{Row}
+use Rattle.brc_runs.specs.declared.row.Hand.TheVariants as hands
+use Rattle.brc_runs.specs.declared.row.Phase.{Phase}
+use Rattle.brc_runs.specs.declared.row.Phase.TheVariants as phases
+use Rattle.brc_runs.specs.declared.row.Stage.{Stage}
+use Rattle.brc_runs.specs.Lists.{one, times, bit_of, is_marked, place_at}
+use Rattle.brc_runs.specs.Heap.{Heap, cell_at, entries_at, row_at, frame_at, popped_at, work_at, queue_at, is_gathered, no_row, new_row, words_for}
+use Rattle.brc_runs.specs.Steps.{registered}
+use Rattle.brc_runs.specs.Holding.{lives, carries}
+use Rattle.brc_runs.specs.Sound.{IsSound, IsShaped, CellFits, ThreadFits, PhaseFits, HandFits, WorkFits, Locks, grips, gripped, held, asks, is_closed}
+use Rattle.brc_runs.proofs.Naming.{dead_unheld, Unheld, busy_carrier}
+use Rattle.brc_runs.proofs.Birthing.{active_fits}
+
+pub push_else : {A : Type 0} (xs : List A) (v d : A) (j : ℕ) → j ≢ length xs → get_or (xs ++ v ∷ []) j d ≡ get_or xs j d
+push_else {A} xs v d j other =
+    elim (cases_lt j (length xs)) [
+      | inl low ↦ get_or_append_left xs (v ∷ []) d j low
+      | inr high ↦
+          get_or_past (xs ++ v ∷ []) j d (omega (arith, length-append xs (v ∷ []), high, other))
+          ∙ sym (get_or_past xs j d high)
+    ]
+
+-- what holds of the new value at the end and of all that was read before holds everywhere
+pub read_push : {A : Type 0} (P : ℕ → A → Type 0) (xs : List A) (v d : A) → P (length xs) v → ((j : ℕ) → j ≢ length xs → P j (get_or xs j d)) → (j : ℕ) → P j (get_or (xs ++ v ∷ []) j d)
+read_push {A} P xs v d here there j =
+    elim (cases_eq j (length xs)) [
+      | inl same ↦ subst (λ k. P k (get_or (xs ++ v ∷ []) k d)) (sym same) (subst (P (length xs)) (sym (get_or_push xs v d (length xs) refl)) here)
+      | inr other ↦ subst (P j) (sym (push_else xs v d j other)) (there j other)
+    ]
+
+pub length-push : {A : Type 0} (xs : List A) (v : A) → length (xs ++ v ∷ []) ≡ length xs + 1
+length-push xs v = length-append xs (v ∷ [])
+
+-- new words and marks have nothing
+pub new_word : (n i : ℕ) → ◌≡◌ {A = ℕ} (get_or (replicate n 0) i 0) 0
+new_word n i = elim (cases_lt i n) [
+  | inl low ↦ get_or-replicate n i 0 0 low
+  | inr high ↦ get_or_past (replicate n 0) i 0 (subst (λ m. m ≤ i) (sym (length-replicate n 0)) high)
+]
+
+pub new_bit : (n q : ℕ) → bit_of (replicate n 0) q ≡ 0
+new_bit n q = ap (λ w. bit_at w (q % 32)) (new_word n (q / 32)) ∙ bit_at-zero (q % 32)
+
+pub new_mark : (n q : ℕ) → is_marked (replicate n false) q ≡ false
+new_mark n q = elim (cases_lt q n) [
+  | inl low ↦ get_or-replicate n q false false low
+  | inr high ↦ get_or_past (replicate n false) q false (subst (λ m. m ≤ q) (sym (length-replicate n false)) high)
+]
+
+-- ---- clause by clause
+
+shape : (h : Heap) → IsShaped h → length h.rows ≤ 64 → IsShaped (registered h)
+shape h shaped room =
+    let n : ℕ = length h.cells in
+    record {
+      options = shaped.options;
+      entries = shaped.entries;
+      root = omega (arith, length-push h.rows new_row);
+      threads = omega (arith, length-push h.rows new_row, room);
+      frames = length-push h.frames [] ∙ ap (λ m. m + 1) shaped.frames ∙ sym (length-push h.rows new_row);
+      popped = length-push h.popped _ ∙ ap (λ m. m + 1) shaped.popped ∙ sym (length-push h.rows new_row);
+      works = length-push h.works _ ∙ ap (λ m. m + 1) shaped.works ∙ sym (length-push h.rows new_row);
+      queues = length-push h.queues _ ∙ ap (λ m. m + 1) shaped.queues ∙ sym (length-push h.rows new_row);
+      notices = length-push h.notices 0 ∙ ap (λ m. m + 1) shaped.notices ∙ sym (length-push h.rows new_row);
+      gathered = length-push h.gathered false ∙ ap (λ m. m + 1) shaped.gathered ∙ sym (length-push h.rows new_row);
+      marks = λ s low high. read_push (λ j (marks : List Bool). 0 < j → j < length h.rows + 1 → length marks ≡ n) h.works (replicate n false) []
+          (λ _ _. length-replicate n false) (λ j other a b. shaped.marks j a (omega (arith, shaped.works, other, b))) s low (subst (λ m. s < m) (length-push h.rows new_row) high);
+      popped_words = λ s low high. read_push (λ j (words : List ℕ). 0 < j → j < length h.rows + 1 → length words ≡ words_for n) h.popped (replicate (words_for n) 0) []
+          (λ _ _. length-replicate (words_for n) 0) (λ j other a b. shaped.popped_words j a (omega (arith, shaped.popped, other, b))) s low (subst (λ m. s < m) (length-push h.rows new_row) high);
+      queue_words = λ s low high. read_push (λ j (words : List ℕ). 0 < j → j < length h.rows + 1 → length words ≡ words_for n) h.queues (replicate (words_for n) 0) []
+          (λ _ _. length-replicate (words_for n) 0) (λ j other a b. shaped.queue_words j a (omega (arith, shaped.queues, other, b))) s low (subst (λ m. s < m) (length-push h.rows new_row) high);
+    }
+
+-- the new thread adds nothing to any sum
+same_held : (h : Heap) (q : ℕ) → held (registered h) q ≡ held h q
+same_held h q =
+    let n : ℕ = words_for (length h.cells) in
+    omega (
+      arith,
+      sum_by_push (times q) h.frames [],
+      sum_by_push (λ (words : List ℕ). bit_of words q) h.popped (replicate n 0),
+      sum_by_push (λ (words : List ℕ). bit_of words q) h.queues (replicate n 0),
+      sum_by_push (λ (row : Row). one (carries q row.hand)) h.rows new_row,
+      new_bit n q,
+    )
+
+same_asks : (h : Heap) (q : ℕ) → asks (registered h) q ≡ asks h q
+same_asks h q =
+    let n : ℕ = words_for (length h.cells) in
+    omega (
+      arith,
+      sum_by_push (λ (words : List ℕ). bit_of words q) h.popped (replicate n 0),
+      sum_by_push (λ (words : List ℕ). bit_of words q) h.queues (replicate n 0),
+      sum_by_push (λ (row : Row). one (carries q row.hand)) h.rows new_row,
+      new_bit n q,
+    )
+
+same_gripped : (h : Heap) (q : ℕ) → gripped (registered h) q ≡ gripped h q
+same_gripped h q =
+    omega (
+      arith,
+      sum_by_push (λ (marks : List Bool). one (is_marked marks q)) h.works (replicate (length h.cells) false),
+      sum_by_push (λ (row : Row). one (grips q row.hand)) h.rows new_row,
+      ap one (new_mark (length h.cells) q),
+    )
+
+-- only a shut hand looks at the bearer's stage
+other_bearer : (t : ℕ) (row : Row) (popped : List ℕ) (x : Cell) (old new : Stage) (d : ℕ) (p : Phase)
+    → (p ≡ phases.Shut → old ≡ new) → PhaseFits t row popped x old d p → PhaseFits t row popped x new d p
+other_bearer t row popped x old new d phases.Claimed same fits = fits
+other_bearer t row popped x old new d phases.Counted same fits = fits
+other_bearer t row popped x old new d phases.Ready same fits = fits
+other_bearer t row popped x old new d phases.Zero same fits = fits
+other_bearer t row popped x old new d phases.Over same fits = fits
+other_bearer t row popped x old new d phases.Untied same fits = fits
+other_bearer t row popped x old new d phases.Asked same fits = fits
+other_bearer t row popped x old new d phases.Shut same fits = subst (λ g. is_closed g (d / 32) ≡ true) (same refl) fits
+other_bearer t row popped x old new d phases.Taking same fits = fits
+other_bearer t row popped x old new d phases.Held same fits = fits
+other_bearer t row popped x old new d phases.Popping same fits = fits
+
+-- the bearer of an object that a hand refers to is registered
+shut_bearer : (h : Heap) (s d : ℕ) → IsSound h → (row_at h s).hand ≡ hands.Busy phases.Shut d → 266 ≤ d → (cell_at h d).bore ≢ length h.rows
+shut_bearer h s d sound busy mortal e =
+    elim (cases_Bool (lives (cell_at h d).owner)) [
+      | inl live ↦ omega (arith, ((sound.cells d mortal).born live).1, e)
+      | inr dead ↦
+          let none : Unheld h d = dead_unheld h d sound mortal dead in
+          omega (arith, none.hands s, busy_carrier phases.Shut d (row_at h s).hand refl busy)
+    ]
+
+hands_fit : (h : Heap) → IsSound h → (s d : ℕ) (p : Phase) → (row_at (registered h) s).hand ≡ hands.Busy p d → HandFits (registered h) s p d
+hands_fit h sound s d p busy =
+    let h' : Heap = registered h in
+    let bearer : (j : ℕ) → (row_at h j).hand ≡ hands.Busy p d → p ≡ phases.Shut → (row_at h (cell_at h d).bore).stage ≡ (row_at h' (cell_at h d).bore).stage =
+    λ j at_d shut. ap (λ (row : Row). row.stage) (sym (push_else h.rows new_row no_row (cell_at h d).bore
+    (shut_bearer h j d sound (at_d ∙ ap (λ z. hands.Busy z d) shut) (sound.hands j d p at_d).mortal))) in
+    let old : (j : ℕ) → j ≢ length h.rows → (row_at h j).hand ≡ hands.Busy p d
+    → (266 ≤ d) × PhaseFits j (row_at h j) (popped_at h' j) (cell_at h d) (row_at h' (cell_at h d).bore).stage d p =
+    λ j other at_d.
+    let fits : HandFits h j p d = sound.hands j d p at_d in (
+      fits.mortal,
+      other_bearer j (row_at h j) (popped_at h' j) (cell_at h d) (row_at h (cell_at h d).bore).stage (row_at h' (cell_at h d).bore).stage d p (bearer j at_d)
+          (subst (λ popped. PhaseFits j (row_at h j) popped (cell_at h d) (row_at h (cell_at h d).bore).stage d p)
+          (sym (push_else h.popped _ [] j (λ e. other (e ∙ sound.shaped.popped)))) fits.fits),
+    ) in
+    let said : (266 ≤ d) × PhaseFits s (row_at h' s) (popped_at h' s) (cell_at h d) (row_at h' (cell_at h d).bore).stage d p =
+    read_push (λ j (row : Row). row.hand ≡ hands.Busy p d → (266 ≤ d) × PhaseFits j row (popped_at h' j) (cell_at h d) (row_at h' (cell_at h d).bore).stage d p) h.rows new_row no_row
+    (λ bad. absurd (let e : hands.Free ≡ hands.Busy p d = bad in cc)) old s busy in
+    record { mortal = said.0; fits = said.1 }
+
+cells_fit : (h : Heap) → IsSound h → (q : ℕ) → 266 ≤ q → CellFits (length (registered h).rows) h.limit (cell_at h q) (entries_at h q)
+cells_fit h sound q mortal =
+    let fits : CellFits (length h.rows) h.limit (cell_at h q) (entries_at h q) = sound.cells q mortal in
+    record {
+      default = fits.default;
+      owned_unmerged = fits.owned_unmerged;
+      owned_by_bearer = fits.owned_by_bearer;
+      dead_empty = fits.dead_empty;
+      dead_count = fits.dead_count;
+      born = λ live. ((fits.born live).0, omega (arith, (fits.born live).1, length-push h.rows new_row));
+      limited = fits.limited;
+      plain = fits.plain;
+    }
+
+threads_fit : (h : Heap) → IsSound h → (s : ℕ)
+    → ThreadFits (words_for (length h.cells)) (row_at (registered h) s) (frame_at (registered h) s) (popped_at (registered h) s) (work_at (registered h) s) (queue_at (registered h) s) (is_gathered (registered h) s)
+threads_fit h sound s =
+    let n : ℕ = words_for (length h.cells) in
+    let m : ℕ = length h.cells in
+    let h' : Heap = registered h in
+    elim (cases_eq s (length h.rows)) [
+      | inl same ↦
+          let at_frames : s ≡ length h.frames = same ∙ sym sound.shaped.frames in
+          let at_popped : s ≡ length h.popped = same ∙ sym sound.shaped.popped in
+          let at_works : s ≡ length h.works = same ∙ sym sound.shaped.works in
+          let at_queues : s ≡ length h.queues = same ∙ sym sound.shaped.queues in
+          let at_gathered : s ≡ length h.gathered = same ∙ sym sound.shaped.gathered in
+          subst (λ row. ThreadFits n row (frame_at h' s) (popped_at h' s) (work_at h' s) (queue_at h' s) (is_gathered h' s)) (sym (get_or_push h.rows new_row no_row s (sym same)))
+          (subst (λ frame. ThreadFits n new_row frame (popped_at h' s) (work_at h' s) (queue_at h' s) (is_gathered h' s)) (sym (get_or_push h.frames [] [] s (sym at_frames)))
+          (active_fits n new_row new_row [] [] (popped_at h' s) (work_at h' s) (work_at h' s) (queue_at h' s) (is_gathered h' s) refl
+          (get_or_push h.gathered false false s (sym at_gathered)) refl (λ k _. refl) (omega arith) (omega arith)))
+      | inr other ↦
+          let not_frames : s ≢ length h.frames = λ e. other (e ∙ sound.shaped.frames) in
+          let not_popped : s ≢ length h.popped = λ e. other (e ∙ sound.shaped.popped) in
+          let not_works : s ≢ length h.works = λ e. other (e ∙ sound.shaped.works) in
+          let not_queues : s ≢ length h.queues = λ e. other (e ∙ sound.shaped.queues) in
+          let not_gathered : s ≢ length h.gathered = λ e. other (e ∙ sound.shaped.gathered) in
+          subst (λ row. ThreadFits n row (frame_at h' s) (popped_at h' s) (work_at h' s) (queue_at h' s) (is_gathered h' s)) (sym (push_else h.rows new_row no_row s other))
+          (subst (λ frame. ThreadFits n (row_at h s) frame (popped_at h' s) (work_at h' s) (queue_at h' s) (is_gathered h' s)) (sym (push_else h.frames [] [] s not_frames))
+          (subst (λ popped. ThreadFits n (row_at h s) (frame_at h s) popped (work_at h' s) (queue_at h' s) (is_gathered h' s)) (sym (push_else h.popped _ [] s not_popped))
+          (subst (λ work. ThreadFits n (row_at h s) (frame_at h s) (popped_at h s) work (queue_at h' s) (is_gathered h' s)) (sym (push_else h.works _ [] s not_works))
+          (subst (λ queue. ThreadFits n (row_at h s) (frame_at h s) (popped_at h s) (work_at h s) queue (is_gathered h' s)) (sym (push_else h.queues _ [] s not_queues))
+          (subst (λ gathered. ThreadFits n (row_at h s) (frame_at h s) (popped_at h s) (work_at h s) (queue_at h s) gathered) (sym (push_else h.gathered false false s not_gathered))
+          (sound.threads s))))))
+    ]
+
+works_fit : (h : Heap) → IsSound h → (s q : ℕ) → is_marked (work_at (registered h) s) q ≡ true → WorkFits s q (cell_at h q)
+works_fit h sound s q = read_push (λ j (marks : List Bool). is_marked marks q ≡ true → WorkFits j q (cell_at h q)) h.works (replicate (length h.cells) false) []
+    (λ on. absurd (true≢false (sym on ∙ new_mark (length h.cells) q))) (λ j _ on. sound.works j q on) s
+
+bits_fit : (h : Heap) → IsSound h → (s q : ℕ) → 0 < bit_of (queue_at (registered h) s) q + bit_of (popped_at (registered h) s) q → (cell_at h q).bore ≡ s
+bits_fit h sound s q some =
+    let n : ℕ = words_for (length h.cells) in
+    elim (cases_eq s (length h.rows)) [
+      | inl same ↦ absurd (omega (
+        arith,
+        some,
+        new_bit n q,
+        ap (λ words. bit_of words q) (get_or_push h.queues (replicate n 0) [] s (sound.shaped.queues ∙ sym same)),
+        ap (λ words. bit_of words q) (get_or_push h.popped (replicate n 0) [] s (sound.shaped.popped ∙ sym same)),
+      ))
+      | inr other ↦ sound.bits s q (omega (
+        arith,
+        some,
+        ap (λ words. bit_of words q) (push_else h.queues (replicate n 0) [] s (λ e. other (e ∙ sound.shaped.queues))),
+        ap (λ words. bit_of words q) (push_else h.popped (replicate n 0) [] s (λ e. other (e ∙ sound.shaped.popped))),
+      ))
+    ]
+
+-- a lock of a thread that was there
+old_lock : (h : Heap) → IsSound h → (s k q : ℕ) → s ≢ length h.rows → Locks h s k q → Locks (registered h) s k q
+old_lock h sound s k q other lock = record {
+  place = ap (λ (row : Row). row.locked) (push_else h.rows new_row no_row s other) ∙ lock.place;
+  names = ap (λ frame. place_at frame k) (push_else h.frames [] [] s (λ e. other (e ∙ sound.shaped.frames))) ∙ lock.names;
+}
+
+locks_fit : (h : Heap) → IsSound h → (s k : ℕ) → (row_at (registered h) s).locked ≡ Some k → (q : ℕ) × Locks (registered h) s k q × ((cell_at h q).mutex ≡ s)
+locks_fit h sound s k locked =
+    elim (cases_eq s (length h.rows)) [
+      | inl same ↦ absurd (let e : None ≡ Some k = sym (ap (λ (row : Row). row.locked) (get_or_push h.rows new_row no_row s (sym same))) ∙ locked in cc)
+      | inr other ↦
+          let old : (q : ℕ) × Locks h s k q × ((cell_at h q).mutex ≡ s) = sound.locks s k (sym (ap (λ (row : Row). row.locked) (push_else h.rows new_row no_row s other)) ∙ locked) in
+          (old.0, old_lock h sound s k old.0 other old.1, old.2)
+    ]
+
+mutexes_fit : (h : Heap) → IsSound h → (s q : ℕ) → 0 < s → (cell_at h q).mutex ≡ s → (k : ℕ) × Locks (registered h) s k q
+mutexes_fit h sound s q some mutex =
+    let old : (k : ℕ) × Locks h s k q = sound.mutexes s q some mutex in (
+      old.0,
+      old_lock h sound s old.0 q (λ same.
+          let e : None ≡ Some old.0 = sym (ap (λ (row : Row). row.locked) (get_or_past h.rows s no_row (omega (arith, same)))) ∙ old.1.place in absurd (cc)) old.1,
+    )
+
+pub registered_sound : (h : Heap) → IsSound h → length h.rows ≤ 64 → IsSound (registered h)
+registered_sound h sound room = record {
+  shaped = shape h sound.shaped room;
+  counted = λ q mortal. sound.counted q mortal ∙ ap pos (sym (same_held h q));
+  gripped = λ q mortal. same_gripped h q ∙ sound.gripped q mortal;
+  most = λ q mortal. omega (arith, sound.most q mortal, same_asks h q);
+  least = λ q mortal. omega (arith, sound.least q mortal, same_asks h q);
+  hands = hands_fit h sound;
+  cells = cells_fit h sound;
+  immortals = sound.immortals;
+  works = works_fit h sound;
+  threads = threads_fit h sound;
+  bits = bits_fit h sound;
+  locks = locks_fit h sound;
+  mutexes = mutexes_fit h sound;
+  ledger = omega (arith, sound.ledger, sum_by_push (λ (row : Row). row.allocs) h.rows new_row, sum_by_push (λ (row : Row). row.frees) h.rows new_row);
+}
