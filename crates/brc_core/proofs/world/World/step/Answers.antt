@@ -1,0 +1,37 @@
+use Rattle.std.proofs.Common.{◌≡◌, true, subst, sym, ◌∙◌}
+use Rattle.brc_runs.specs.declared.event.Event.{Event}
+use Rattle.brc_runs.specs.Heap.{Heap}
+use Rattle.brc_runs.specs.Steps.{enabled, after}
+use Rattle.brc_runs.specs.Runs.{IsReached}
+use Rattle.brc_runs.specs.Holding.{MakesMoves, map_of, moves_by}
+use Rattle.brc_runs.proofs.Reached.{reached_allocs, reached_frees, reached_moves}
+use Rattle.brc_core.proofs.Reaching.{reached_after}
+use Rattle.brc_core.proofs.world.World.step.Goals as goal
+use Rattle.brc_core.proofs.world.World.step.Goals.{in-Ok, in-Err}
+
+-- the moves of an event, where the worlds before and after it go by other names
+made_moves : (inside old new : Heap) (e : Event) → inside ≡ old → new ≡ after inside e → IsReached inside → enabled inside e ≡ true → MakesMoves {A = Unit {0}} (map_of old) (moves_by old e) (map_of new)
+made_moves inside old new e is_old is_after reached may =
+    let P : Heap → Type 0 = λ h. MakesMoves {A = Unit {0}} (map_of h) (moves_by h e) (map_of new) in
+    let Q : Heap → Type 0 = λ h. MakesMoves {A = Unit {0}} (map_of inside) (moves_by inside e) (map_of h) in
+    subst P is_old (subst Q (sym is_after) (reached_moves (Unit {0}) inside e reached may))
+
+pub apply-requires-clause-allocs : goal.apply-requires-clause-allocs
+apply-requires-clause-allocs g c = reached_allocs c.self.inside.tables c.self.invariant c.args.event.now.thread
+
+pub apply-requires-clause-frees : goal.apply-requires-clause-frees
+apply-requires-clause-frees g c = reached_frees c.self.inside.tables c.self.invariant c.args.event.now.thread
+
+pub invariant_of-self : goal.invariant_of-self
+invariant_of-self g c =
+    elim c.match-apply.branch [
+        in-Ok w ↦ subst IsReached (sym w.in-Ok.ensures.ok) (reached_after _ c.args.event.now c.self.invariant (sym c.enabled.ensures ∙ c.if-not-enabled.false))
+        | in-Err w ↦ subst IsReached (sym w.in-Err.ensures.err) c.self.invariant
+    ]
+
+pub returns-clause-moves : goal.returns-clause-moves
+returns-clause-moves g c =
+    elim c.match-apply.branch [
+        in-Ok w ↦ rw w.result-is (made_moves c.self.inside.tables c.args.self.now c.apply.new.self c.args.event.now c.self.view_is w.in-Ok.ensures.ok c.self.invariant (sym c.enabled.ensures ∙ c.if-not-enabled.false))
+        | in-Err w ↦ rw w.result-is tt
+    ]

@@ -1,0 +1,4 @@
+pub mod Memory
+pub mod Places
+pub mod Readings
+pub mod Replays

@@ -1,0 +1,41 @@
+-- What the readers of a world say, where the world's lists don't say it at once.
+use Rattle.std.specs.Prelude.{ℕ, ◌&&◌, ◌||◌, not, Bool, true, false, Option, Some, None, sum_by}
+use Rattle.brc_core.specs.declared.readers.Status.{Status}
+use Rattle.brc_core.specs.declared.readers.Status.TheVariants as statuses
+use Rattle.brc_core.specs.declared.totals.Ledger.{Ledger}
+use Rattle.brc_runs.specs.declared.row.Row.{Row}
+use Rattle.brc_runs.specs.declared.row.Stage.{Stage}
+use Rattle.brc_runs.specs.declared.row.Stage.TheVariants as stages
+use Rattle.brc_runs.specs.Heap.{Heap, cell_at, is_immortal}
+use Rattle.brc_runs.specs.Holding.{lives_at}
+use Rattle.brc_runs.specs.Sound.{is_merged}
+
+-- this, where the test holds
+abbrev pub only_if : {A : Type 0} → Bool → A → Option A
+only_if true x = Some x
+only_if false x = None
+
+-- how far a thread's life is; that it is gathered is known by the root
+abbrev pub status_of : Stage → Bool → Status
+status_of stages.Active false = statuses.Active
+status_of (stages.Closing n) false = statuses.Closing
+status_of stages.Left false = statuses.Left
+status_of stages.Active true = statuses.Gathered
+status_of (stages.Closing n) true = statuses.Gathered
+status_of stages.Left true = statuses.Gathered
+
+-- an object is in the cell: an immortal, or a mortal one that lives
+abbrev pub has_object : Heap → ℕ → Bool
+has_object h c = is_immortal c || lives_at h c
+
+-- an object is in the cell whose local count counts
+abbrev pub counts_locally : Heap → ℕ → Bool
+counts_locally h c = has_object h c && not (is_merged (cell_at h c).state)
+
+-- a thread's ledger
+abbrev pub ledger_of : Row → Ledger
+ledger_of row = record { allocs = row.allocs; frees = row.frees }
+
+-- the ledgers of all threads together
+abbrev pub ledgers_of : Heap → Ledger
+ledgers_of h = record { allocs = sum_by (λ row. row.allocs) h.rows; frees = sum_by (λ row. row.frees) h.rows }

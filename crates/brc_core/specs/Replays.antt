@@ -1,0 +1,22 @@
+-- What a replay says where it gives no world.
+use Rattle.std.specs.Prelude.{◌≡◌, ℕ, false, List, take, reverse, Some, slice_get}
+use Rattle.brc_core.specs.declared.replaying.ReplayFault.{ReplayFault}
+use Rattle.brc_core.specs.declared.replaying.ReplayFault.TheVariants as faults
+use Rattle.brc_runs.specs.declared.event.Event.{Event}
+use Rattle.brc_runs.specs.Heap.{Heap, opening, AreOptions}
+use Rattle.brc_runs.specs.Steps.{enabled}
+use Rattle.brc_runs.specs.Runs.{IsRun, world_after}
+
+-- an event stands at this index that isn't enabled there, and those before it are a run
+pub record IsFirstNotEnabled (start : Heap) (events : List Event) (at : ℕ) : Type 0 where
+  pub event : Event
+  pub there : slice_get events at ≡ Some event
+  pub earlier : IsRun start (reverse (take at events))
+  pub refused : enabled (world_after start (reverse (take at events))) event ≡ false
+
+-- the fault is right: the sizes are none of a heap, or the named event is the first that isn't enabled; or memory is
+-- wanting, of which nothing can be said
+abbrev pub IsRight : ReplayFault → ℕ → ℕ → List Event → Type 0
+IsRight faults.Options cells limit events = ¬ (AreOptions cells limit)
+IsRight (faults.NotEnabled at) cells limit events = IsFirstNotEnabled (opening cells limit) events at
+IsRight faults.Memory cells limit events = AreOptions cells limit

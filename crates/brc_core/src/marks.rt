@@ -1,0 +1,48 @@
+//! Marks of cells: the dead blocks that a thread has on its worklist.
+
+ghost use Rattle.std.specs.Prelude.{◌≡◌, false, replicate, slice_set, IfOk};
+ghost use Rattle.brc_runs.specs.Lists.{is_marked};
+
+use std::alloc::{AllocError, Allocator};
+use std::marker::Model;
+
+/// A mark for each cell, as a list.
+#[derive(Drop)]
+pub(crate) struct Marks<A: Allocator> {
+    marks: Vec<bool, A>,
+}
+
+impl<A: Allocator> Model for Marks<A> {
+    ghost use Rattle.std.specs.Prelude.{Bool, List};
+
+    ghost Value = { List Bool };
+
+    ghost view = { λ m. m.marks.items };
+}
+
+impl<A: Allocator> Marks<A> {
+    /// No mark at all. The root has such a list.
+    pub(crate) fn unset(alloc: A, count: usize) -> Result<Self, AllocError>
+        ensures { IfOk result (λ made. made ≡ replicate count false) }
+    {
+        let mut marks = Vec::new(alloc);
+        marks.resize(count, false)?;
+        Ok(Marks { marks })
+    }
+
+    /// Whether the cell is marked.
+    pub(crate) fn has(&self, cell: u32) -> bool
+        ensures { result ≡ is_marked self.now cell }
+    {
+        self.marks.get(cell as usize).copied().unwrap_or(false)
+    }
+
+    /// The cell's mark becomes this one. No memory is taken.
+    pub(crate) fn set(&mut self, cell: u32, mark: bool)
+        ensures { self.new ≡ slice_set self.old cell mark }
+    {
+        if let Some(there) = self.marks.get_mut(cell as usize) {
+            *there = mark;
+        }
+    }
+}

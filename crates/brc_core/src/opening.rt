@@ -1,0 +1,121 @@
+//! The opening world: the immortals, all other cells free, and no thread but the root.
+
+ghost use Rattle.std.specs.Prelude.{◌≡◌, ◌↔◌, [], replicate, IfOk, IsTrue};
+ghost use Rattle.brc_runs.specs.Heap.{AreOptions, immortal_kind, immortal, opening_cell, opening_cells, opening};
+
+use crate::conditions::is_immortal;
+use crate::entries::Entries;
+use crate::frame::Frame;
+use crate::marks::Marks;
+use crate::tables::{Tables, no_cell, no_row};
+use crate::words::Words;
+use brc_runs::Cell;
+use brc_words::{
+    GLOBALS, IMMORTAL_LOCAL, Kind, MOST_CELLS, MOST_LOCAL, Owner, State, fewest_cells,
+};
+use std::alloc::{AllocError, Allocator};
+
+/// Whether a heap may have these sizes.
+pub(crate) fn are_options(cells: u32, local_limit: u32) -> bool
+    ensures { IsTrue result ↔ AreOptions cells local_limit }
+{
+    fewest_cells() <= cells && cells <= MOST_CELLS && 1 <= local_limit && local_limit <= MOST_LOCAL
+}
+
+/// What an immortal cell is.
+fn immortal_kind(cell: u32) -> Kind
+    ensures { result ≡ immortal_kind cell }
+{
+    if cell == 0 {
+        Kind::Nothing
+    } else if cell == 1 {
+        Kind::False
+    } else if cell == 2 {
+        Kind::True
+    } else if cell == GLOBALS {
+        Kind::Dict
+    } else {
+        Kind::Int
+    }
+}
+
+/// A cell as the heap opens.
+fn opening_cell(cell: u32) -> Cell
+    ensures { result ≡ opening_cell cell }
+{
+    if is_immortal(cell) {
+        Cell {
+            owner: Owner::Nobody,
+            local: IMMORTAL_LOCAL,
+            count: 0,
+            state: State::Default,
+            mutex: 0,
+            bore: 0,
+            kind: immortal_kind(cell),
+        }
+    } else {
+        no_cell()
+    }
+}
+
+/// All cells as the heap opens.
+fn opening_cells<A: Allocator>(alloc: A, cells: u32) -> Result<Vec<Cell, A>, AllocError>
+    ensures { IfOk result (λ made. made.items ≡ opening_cells cells) }
+{
+    let mut made = Vec::with_capacity(alloc, cells as usize)?;
+    for cell in 0..cells {
+        made.push(opening_cell(cell))?;
+    }
+    Ok(made)
+}
+
+/// No entries, for each cell.
+fn opening_entries<A: Allocator + Copy>(
+    alloc: A,
+    cells: u32,
+) -> Result<Vec<Entries<A>, A>, AllocError>
+    ensures { IfOk result (λ made. made.items ≡ replicate cells []) }
+{
+    let mut made = Vec::with_capacity(alloc, cells as usize)?;
+    for cell in 0..cells {
+        made.push(Entries::new(alloc))?;
+    }
+    Ok(made)
+}
+
+impl<A: Allocator + Copy> Tables<A> {
+    /// The tables as the heap opens.
+    pub(crate) fn opening(alloc: A, cells: u32, local_limit: u32) -> Result<Self, AllocError>
+        ensures { IfOk result (λ made. made ≡ opening cells local_limit) }
+    {
+        let cells_made = opening_cells(alloc, cells)?;
+        let entries = opening_entries(alloc, cells)?;
+        let mut rows = Vec::new(alloc);
+        rows.push(no_row())?;
+        let mut frames = Vec::new(alloc);
+        frames.push(Frame::new(alloc))?;
+        let mut popped = Vec::new(alloc);
+        popped.push(Words::zeros(alloc, 0)?)?;
+        let mut works = Vec::new(alloc);
+        works.push(Marks::unset(alloc, 0)?)?;
+        let mut queues = Vec::new(alloc);
+        queues.push(Words::zeros(alloc, 0)?)?;
+        let mut notices = Vec::new(alloc);
+        notices.push(0)?;
+        let mut gathered = Vec::new(alloc);
+        gathered.push(false)?;
+        Ok(Tables {
+            alloc,
+            local_limit,
+            cells: cells_made,
+            entries,
+            rows,
+            frames,
+            popped,
+            works,
+            queues,
+            notices,
+            gathered,
+        })
+    }
+}

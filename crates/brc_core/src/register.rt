@@ -1,0 +1,70 @@
+//! The registration of a thread: one more row of every table that is indexed by thread.
+
+ghost use Rattle.std.specs.Prelude.{◌≡◌, ◌<◌, [], ◌∷◌, ◌++◌, OnOk, OnErr, vec_len, vec_capacity};
+ghost use Rattle.brc_runs.specs.Heap.{new_row, words_for};
+ghost use Rattle.brc_runs.specs.Steps.{registered};
+
+use crate::frame::Frame;
+use crate::marks::Marks;
+use crate::tables::Tables;
+use crate::words::Words;
+use brc_runs::{Hand, Row, Stage};
+use std::alloc::{AllocError, Allocator};
+
+/// A thread as it is registered.
+fn new_row() -> Row
+    ensures { result ≡ new_row }
+{
+    Row {
+        stage: Stage::Active,
+        hand: Hand::Free,
+        locked: None,
+        allocs: 0,
+        frees: 0,
+    }
+}
+
+/// The queue words of a thread: one for 32 cells.
+fn words_for(cells: usize) -> usize
+    ensures { result ≡ words_for cells }
+{
+    cells.div_ceil(32)
+}
+
+/// Puts the item at the end of a vector that has room for it.
+fn put_last<T: Drop, A: Allocator>(list: &mut Vec<T, A>, item: T)
+    requires { vec_len list.old < vec_capacity list.old }
+
+    ensures { list.new.items ≡ list.old.items ++ item ∷ [] }
+{
+    let _ = list.push(item);
+}
+
+impl<A: Allocator + Copy> Tables<A> {
+    /// One more thread. A refused growth changes nothing.
+    pub(crate) fn register(&mut self) -> Result<(), AllocError>
+        ensures ok { OnOk result (self.new ≡ registered self.old) }
+        ensures err { OnErr result (self.new ≡ self.old) }
+    {
+        let cells = self.cells.len();
+        let popped = Words::zeros(self.alloc, words_for(cells))?;
+        let queue = Words::zeros(self.alloc, words_for(cells))?;
+        let work = Marks::unset(self.alloc, cells)?;
+        // All growth comes before the first item, so that no list is longer than another after a refusal.
+        self.rows.reserve(1)?;
+        self.frames.reserve(1)?;
+        self.popped.reserve(1)?;
+        self.works.reserve(1)?;
+        self.queues.reserve(1)?;
+        self.notices.reserve(1)?;
+        self.gathered.reserve(1)?;
+        put_last(&mut self.rows, new_row());
+        put_last(&mut self.frames, Frame::new(self.alloc));
+        put_last(&mut self.popped, popped);
+        put_last(&mut self.works, work);
+        put_last(&mut self.queues, queue);
+        put_last(&mut self.notices, 0);
+        put_last(&mut self.gathered, false);
+        Ok(())
+    }
+}

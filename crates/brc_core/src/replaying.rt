@@ -1,0 +1,56 @@
+//! Replay: the world that a list of events leads to from the opening one.
+
+ghost use Rattle.std.specs.Prelude.{◌≡◌, ◌↔◌, Err, IfOk, IfErr, OnOk, reverse};
+ghost use Rattle.brc_core.specs.Replays.{IsRight};
+ghost use Rattle.brc_runs.specs.Heap.{AreOptions, opening};
+ghost use Rattle.brc_runs.specs.Runs.{IsRun, world_after};
+ghost use Rattle.brc_runs.specs.Holding.{Headline, Histories};
+
+use crate::world::{StepFault, World};
+use brc_runs::Event;
+use brc_words::Fault;
+use std::alloc::Allocator;
+
+/// Why a replay gives no world.
+#[derive(Clone, Copy, Debug, PartialEq, Eq)]
+pub enum ReplayFault {
+    /// A heap can't have these sizes.
+    Options,
+    /// The event at this index isn't enabled where it stands.
+    NotEnabled { at: usize },
+    /// A growth was refused.
+    Memory,
+}
+
+/// The world after these events, the oldest first.
+pub fn replay<A: Allocator + Copy>(
+    alloc: A,
+    events: &[Event],
+    cells: u32,
+    local_limit: u32,
+) -> Result<World<A>, ReplayFault>
+    // The runs of the definitions have the newest event first.
+    ensures run { OnOk result (IsRun (opening cells local_limit) (reverse events.now)) }
+    ensures world { IfOk result (λ world. world ≡ world_after (opening cells local_limit) (reverse events.now)) }
+
+    // Counts are references, nothing is lost, and lives and ledgers are what the run says.
+    ensures headline { IfOk result Headline }
+    ensures histories { OnOk result (Histories (opening cells local_limit) (reverse events.now)) }
+
+    ensures options { (result ≡ Err ReplayFault.Options) ↔ ¬ (AreOptions cells local_limit) }
+    ensures refused { IfErr result (λ fault. IsRight fault cells local_limit events.now) }
+{
+    let mut world = match World::new(alloc, cells, local_limit) {
+        Ok(world) => world,
+        Err(Fault::BadOptions) => return Err(ReplayFault::Options),
+        Err(_) => return Err(ReplayFault::Memory),
+    };
+    for (at, event) in events.iter().enumerate() {
+        match world.step(event) {
+            Ok(()) => {}
+            Err(StepFault::NotEnabled) => return Err(ReplayFault::NotEnabled { at }),
+            Err(StepFault::Memory) => return Err(ReplayFault::Memory),
+        }
+    }
+    Ok(world)
+}

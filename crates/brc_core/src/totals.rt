@@ -1,0 +1,126 @@
+//! The numbers of a world: a cell's total count, the ledgers of births and frees, and how many objects live.
+
+ghost use Rattle.std.specs.Prelude.{◌≡◌, ◌+◌, ◌<◌, ◌^◌, pos, negsuc, ◌≤ℤ◌, ◌<ℤ◌, length, drop, sum_by, count_by, IfSome};
+ghost use Rattle.brc_core.specs.Readings.{only_if, ledger_of, ledgers_of};
+ghost use Rattle.brc_runs.specs.Heap.{cell_at, row_at, is_registered};
+ghost use Rattle.brc_runs.specs.Holding.{lives, lives_at, total_of, holders_of, live_count};
+
+use crate::conditions::is_immortal;
+use crate::readers::lives;
+use crate::tables::Tables;
+use crate::world::World;
+use brc_runs::Cell;
+use brc_words::State;
+use std::alloc::Allocator;
+
+/// How many objects a thread has made, and how many blocks it has given back.
+#[derive(Clone, Copy, Debug, PartialEq, Eq)]
+pub struct Ledger {
+    pub allocs: u64,
+    pub frees: u64,
+}
+
+/// Once merged the shared count is the count, before that local and shared count together.
+fn total_of(found: Cell) -> i64
+    requires low { negsuc 1099511627775 ≤ℤ found.count }
+    requires high { found.count <ℤ pos 1099511627776 }
+
+    ensures { result ≡ total_of found }
+{
+    match found.state {
+        State::Default => found.local as i64 + found.count,
+        State::Queued => found.local as i64 + found.count,
+        State::Merged => found.count,
+    }
+}
+
+impl<A: Allocator + Copy> Tables<A> {
+    /// Whether a mortal object lives in the cell.
+    pub(crate) fn is_live(&self, cell: u32) -> bool
+        ensures { result ≡ lives_at self.now cell }
+    {
+        !is_immortal(cell) && lives(self.cell(cell).owner)
+    }
+
+    /// All births.
+    fn allocs(&self) -> u64
+        requires { sum_by (λ row. row.allocs) self.now.rows < 2 ^ 64 }
+
+        ensures { result ≡ sum_by (λ row. row.allocs) self.now.rows }
+    {
+        self.rows.as_slice().iter().map(|row| row.allocs).sum()
+    }
+
+    /// All frees.
+    fn frees(&self) -> u64
+        requires { sum_by (λ row. row.frees) self.now.rows < 2 ^ 64 }
+
+        ensures { result ≡ sum_by (λ row. row.frees) self.now.rows }
+    {
+        self.rows.as_slice().iter().map(|row| row.frees).sum()
+    }
+
+    /// How many mortal objects live.
+    fn live(&self) -> usize
+        ensures { result ≡ count_by (λ x. lives x.owner) (drop 266 self.now.cells) }
+    {
+        self.cells
+            .as_slice()
+            .iter()
+            .skip(266)
+            .filter(|found| lives(found.owner))
+            .count()
+    }
+}
+
+impl<A: Allocator + Copy> World<A> {
+    /// Whether a mortal object lives in the cell.
+    pub fn is_live(&self, cell: u32) -> bool
+        ensures { result ≡ lives_at self.now cell }
+    {
+        self.tables.is_live(cell)
+    }
+
+    /// The total count of a live mortal object (PEP 703): its references.
+    pub fn total(&self, cell: u32) -> Option<i64>
+        ensures total { result ≡ only_if (lives_at self.now cell) (total_of (cell_at self.now cell)) }
+        ensures references { IfSome result (λ total. total ≡ pos (length (holders_of self.now cell))) }
+    {
+        if !self.tables.is_live(cell) {
+            return None;
+        }
+        Some(total_of(self.tables.cell(cell)))
+    }
+
+    /// The ledger of a thread, if it was registered.
+    pub fn ledger(&self, thread: u32) -> Option<Ledger>
+        ensures { result ≡ only_if (is_registered self.now thread) (ledger_of (row_at self.now thread)) }
+    {
+        if !self.tables.is_registered(thread) {
+            return None;
+        }
+        let row = self.tables.row(thread);
+        Some(Ledger {
+            allocs: row.allocs,
+            frees: row.frees,
+        })
+    }
+
+    /// The ledgers of all threads together.
+    pub fn ledgers(&self) -> Ledger
+        ensures { result ≡ ledgers_of self.now }
+    {
+        Ledger {
+            allocs: self.tables.allocs(),
+            frees: self.tables.frees(),
+        }
+    }
+
+    /// How many mortal objects live.
+    pub fn live(&self) -> u32
+        ensures live { result ≡ live_count self.now }
+        ensures ledger { (ledgers_of self.now).allocs ≡ (ledgers_of self.now).frees + result }
+    {
+        self.tables.live() as u32
+    }
+}

@@ -1,0 +1,78 @@
+//! The world of the heap: made open, and changed by one event at a time.
+
+ghost use Rattle.std.specs.Prelude.{◌≡◌, ◌↔◌, ◌⊎◌, true, false, Err, IfOk, IfErr, OnOk, OnErr};
+ghost use Rattle.brc_core.specs.Memory.{needs_memory};
+ghost use Rattle.brc_runs.specs.Heap.{AreOptions, opening};
+ghost use Rattle.brc_runs.specs.Steps.{enabled, after};
+ghost use Rattle.brc_runs.specs.Holding.{MakesMoves, map_of, moves_by};
+
+use crate::opening::are_options;
+use crate::tables::Tables;
+use brc_runs::Event;
+use brc_words::Fault;
+use std::alloc::Allocator;
+use std::marker::Model;
+
+/// A world that some run of events leads to: contracts see its lists, and that it is reached is known of each.
+#[derive(Drop)]
+pub struct World<A: Allocator + Copy> {
+    pub(crate) tables: Tables<A>,
+}
+
+impl<A: Allocator + Copy> Model for World<A> {
+    ghost use Rattle.brc_runs.specs.Heap.{Heap};
+    ghost use Rattle.brc_runs.specs.Runs.{IsReached};
+
+    ghost Value = { Heap };
+
+    ghost view = { λ w. w.tables };
+
+    ghost invariant = { λ w. IsReached w.tables };
+}
+
+/// Why an event wasn't made.
+#[derive(Clone, Copy, Debug, PartialEq, Eq)]
+pub enum StepFault {
+    /// It isn't enabled here.
+    NotEnabled,
+    /// A growth was refused.
+    Memory,
+}
+
+impl<A: Allocator + Copy> World<A> {
+    /// The opening world of a heap with so many cells and this local limit.
+    pub fn new(alloc: A, cells: u32, local_limit: u32) -> Result<World<A>, Fault>
+        // The sizes are looked at first, and all else that is refused is memory.
+        ensures options { (result ≡ Err Fault.BadOptions) ↔ ¬ (AreOptions cells local_limit) }
+        ensures refused { IfErr result (λ fault. (fault ≡ Fault.BadOptions) ⊎ (fault ≡ Fault.OutOfMemory)) }
+
+        ensures sizes { OnOk result (AreOptions cells local_limit) }
+        ensures world { IfOk result (λ world. world ≡ opening cells local_limit) }
+    {
+        if !are_options(cells, local_limit) {
+            return Err(Fault::BadOptions);
+        }
+        let tables = Tables::opening(alloc, cells, local_limit)?;
+        Ok(World { tables })
+    }
+
+    /// Makes the event, if it is enabled.
+    pub fn step(&mut self, event: &Event) -> Result<(), StepFault>
+        ensures may { OnOk result (enabled self.old event.now ≡ true) }
+        ensures ok { OnOk result (self.new ≡ after self.old event.now) }
+        ensures moves { OnOk result (MakesMoves {A = Unit {0}} (map_of self.old) (moves_by self.old event.now) (map_of self.new)) }
+
+        // Whether it is enabled is looked at first.
+        ensures not_enabled { (result ≡ Err StepFault.NotEnabled) ↔ (enabled self.old event.now ≡ false) }
+        ensures memory { (result ≡ Err StepFault.Memory) → needs_memory event.now.step ≡ true }
+        ensures unchanged { OnErr result (self.new ≡ self.old) }
+    {
+        if !self.tables.enabled(event) {
+            return Err(StepFault::NotEnabled);
+        }
+        match self.tables.apply(event) {
+            Ok(()) => Ok(()),
+            Err(_) => Err(StepFault::Memory),
+        }
+    }
+}
