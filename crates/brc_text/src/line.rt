@@ -21,6 +21,8 @@ pub fn cut_at(bytes: &[u8], mark: u8) -> (&[u8], Option<&[u8]>)
 }
 
 /// The tokens of a line: 1 to 8 words with one space between them; none where the bytes are no such line.
+// Inlined, since the row of tokens would be copied to each caller.
+#[inline(always)]
 pub fn tokens_of(bytes: &[u8]) -> Option<ArrayVec<Token, 8>>
     ensures { MatchOption result (tokens_at 8 bytes.now ≡ None)
         (λ tokens. tokens_at 8 bytes.now ≡ Some tokens.items) }
