@@ -1,0 +1,205 @@
+//! The program over streams in memory: statuses, error lines, help.
+
+use crate::program::program;
+use std::io::{self, Error, ErrorKind, Read, Write};
+use std::test::*;
+
+/// A status, and what was written to the two outputs.
+#[derive(Drop)]
+struct Told {
+    status: u8,
+    output: Vec<u8>,
+    errors: Vec<u8>,
+}
+
+fn ran(rt: &HostRuntime, words: &[&str], input: &str) -> Result<Told, Fail> {
+    let mut list = Vec::new(rt.alloc());
+    for word in words {
+        list.push(String::from_str(rt.alloc(), word)?)?;
+    }
+    let mut output = Vec::new(rt.alloc());
+    let mut errors = Vec::new(rt.alloc());
+    let status = program(
+        rt.alloc(),
+        list.as_slice(),
+        input.as_bytes(),
+        &mut output,
+        &mut errors,
+    );
+    Ok(Told {
+        status,
+        output,
+        errors,
+    })
+}
+
+#[test]
+fn statuses_and_lines(rt: HostRuntime) -> Result<(), Fail> {
+    let life =
+        "heap 512 4294967294\n0 register 1\n1 claim 266\n1 local 266\n1 shared 266\n1 born 266 list 0\n1 down f0\n1 see 266\n1 free 266\n";
+    let born =
+        "heap 512 4294967294\n0 register 1\n1 claim 266\n1 local 266\n1 shared 266\n1 born 266 list 0\n";
+    let early =
+        "heap 512 4294967294\n0 register 1\n1 claim 266\n1 local 266\n1 shared 266\n1 born 266 list 0\n1 free 266\n";
+    let cases = [
+        (
+            "no event",
+            "heap 512 4294967294\n",
+            0,
+            "world 512 4294967294\nledger 0 0 0\n",
+            "",
+        ),
+        (
+            "one life",
+            life,
+            0,
+            "world 512 4294967294\nthread 1 active\nledger 1 1 0\n",
+            "",
+        ),
+        (
+            "one that lives",
+            born,
+            1,
+            "world 512 4294967294\nthread 1 active\nframe 1 0 266\nobject 266 list 1 1 0 default 1\nledger 1 0 1\n",
+            "",
+        ),
+        (
+            "freed too early",
+            early,
+            3,
+            "",
+            "brc: line 7: not enabled\n",
+        ),
+        ("nothing", "", 3, "", "brc: line 1: not a trace line\n"),
+        (
+            "a bad line before one that isn't enabled",
+            "heap 512 4294967294\n1 free 266\n1 fre 266\n",
+            3,
+            "",
+            "brc: line 3: not a trace line\n",
+        ),
+        (
+            "a thread that isn't next",
+            "heap 512 4294967294\n0 register 2\n",
+            3,
+            "",
+            "brc: line 2: not enabled\n",
+        ),
+        (
+            "a cell past the last",
+            "heap 512 4294967294\n0 register 1\n1 claim 512\n",
+            3,
+            "",
+            "brc: line 3: not enabled\n",
+        ),
+        (
+            "an immortal isn't claimed",
+            "heap 512 4294967294\n0 register 1\n1 claim 265\n",
+            3,
+            "",
+            "brc: line 3: not enabled\n",
+        ),
+    ];
+    for (case, input, status, output, errors) in cases {
+        let told = ran(&rt, &["brc", "replay"], input)?;
+        assert_eq!(rt; told.status, status, "{case}");
+        assert_eq!(rt; told.output.as_slice(), output.as_bytes(), "{case}");
+        assert_eq!(rt; told.errors.as_slice(), errors.as_bytes(), "{case}");
+    }
+    Ok(())
+}
+
+#[test]
+fn bad_command_lines(rt: HostRuntime) -> Result<(), Fail> {
+    let none = ran(&rt, &["brc"], "")?;
+    assert_eq!(rt; none.status, 2);
+    let other = ran(&rt, &["brc", "run"], "")?;
+    assert_eq!(rt; other.status, 2);
+    let more = ran(&rt, &["brc", "replay", "more"], "")?;
+    assert_eq!(rt; more.status, 2);
+    assert_eq!(rt; more.output.as_slice(), [].as_slice());
+    assert_eq!(rt;
+        more.errors.as_slice(),
+        b"brc: bad command line\n".as_slice()
+    );
+    Ok(())
+}
+
+#[test]
+fn help_is_no_error(rt: HostRuntime) -> Result<(), Fail> {
+    let help = ran(&rt, &["brc", "--help"], "")?;
+    assert_eq!(rt; help.status, 0);
+    assert_eq!(rt; help.errors.as_slice(), [].as_slice());
+    let text = String::from_utf8(help.output)?;
+    assert!(rt; text.as_str().contains("1 born 266 list 0"));
+    assert!(rt; text.as_str().contains("3 bad trace"));
+    let of_replay = ran(&rt, &["brc", "replay", "--help"], "")?;
+    assert_eq!(rt; of_replay.status, 0);
+    Ok(())
+}
+
+/// A reader whose first read fails.
+#[derive(Drop)]
+struct Broken;
+
+impl Read for Broken {
+    fn read(&mut self, _into: &mut [u8]) -> io::Result<usize> {
+        Err(Error::from(ErrorKind::Other))
+    }
+}
+
+/// A writer that takes nothing.
+#[derive(Drop)]
+struct Full;
+
+impl Write for Full {
+    fn write(&mut self, _from: &[u8]) -> io::Result<usize> {
+        Ok(0)
+    }
+
+    fn flush(&mut self) -> io::Result<()> {
+        Ok(())
+    }
+}
+
+#[test]
+fn streams_that_fail(rt: HostRuntime) -> Result<(), Fail> {
+    let mut words = Vec::new(rt.alloc());
+    words.push(String::from_str(rt.alloc(), "brc")?)?;
+    words.push(String::from_str(rt.alloc(), "replay")?)?;
+    let mut output = Vec::new(rt.alloc());
+    let mut errors = Vec::new(rt.alloc());
+    let read = program(
+        rt.alloc(),
+        words.as_slice(),
+        Broken,
+        &mut output,
+        &mut errors,
+    );
+    assert_eq!(rt; read, 5);
+    assert_eq!(rt; output.as_slice(), [].as_slice());
+    assert_eq!(rt; errors.as_slice(), b"brc: fault 15 Io\n".as_slice());
+
+    let trace = "heap 512 4294967294\n";
+    let mut no_errors = Vec::new(rt.alloc());
+    let written = program(
+        rt.alloc(),
+        words.as_slice(),
+        trace.as_bytes(),
+        &mut Full,
+        &mut no_errors,
+    );
+    assert_eq!(rt; written, 5);
+
+    let mut untold = Full;
+    let mut nothing = Vec::new(rt.alloc());
+    let bad = program(
+        rt.alloc(),
+        words.as_slice(),
+        "".as_bytes(),
+        &mut nothing,
+        &mut untold,
+    );
+    assert_eq!(rt; bad, 5);
+    Ok(())
+}
