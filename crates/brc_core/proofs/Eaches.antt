@@ -24,7 +24,7 @@ pub found_more : {A : Type 0} (f : ℕ → A → List Holder) (xs : List A) (k :
     → Found f xs k old now → k < length xs → next ≡ now ++ f k (get_or xs k d) → Found f xs (k + 1) old next
 found_more f xs k d old now next found within more =
     let taken : each f 0 (take (k + 1) xs) ≡ each f 0 (take k xs) ++ f k (get_or xs k d) =
-        ap (λ n. each f 0 (take n xs)) (add-one k) ∙ each_take f 0 xs k d within ∙ ap (λ n. each f 0 (take k xs) ++ f n (get_or xs k d)) (zero-add k) in
+    ap (λ n. each f 0 (take n xs)) (add-one k) ∙ each_take f 0 xs k d within ∙ ap (λ n. each f 0 (take k xs) ++ f n (get_or xs k d)) (zero-add k) in
     record { is = more ∙ ap (λ ys. ys ++ f k (get_or xs k d)) found.is ∙ append_assoc old (each f 0 (take k xs)) (f k (get_or xs k d)) ∙ ap (λ ys. old ++ ys) (sym taken) }
 
 pub found_all : {A : Type 0} (f : ℕ → A → List Holder) (xs : List A) (k : ℕ) (old now : List Holder)

@@ -7,22 +7,22 @@ use Rattle.brc_runs.specs.Runs.{IsRun, IsReached, world_after}
 
 pub reached_opening : (cells limit : ℕ) → AreOptions cells limit → IsReached (opening cells limit)
 reached_opening cells limit options = record {
-    cells = cells;
-    limit = limit;
-    options = options;
-    run = [];
-    is_run = tt;
-    leads_here = refl;
+  cells = cells;
+  limit = limit;
+  options = options;
+  run = [];
+  is_run = tt;
+  leads_here = refl;
 }
 
 pub reached_after : (h : Heap) (e : Event) → IsReached h → enabled h e ≡ true → IsReached (after h e)
 reached_after h e reached may =
     let P : Heap → Type 0 = λ world. enabled world e ≡ true in
     record {
-        cells = reached.cells;
-        limit = reached.limit;
-        options = reached.options;
-        run = e ∷ reached.run;
-        is_run = (reached.is_run, subst P (sym reached.leads_here) may);
-        leads_here = ap (λ (world : Heap). after world e) reached.leads_here;
+      cells = reached.cells;
+      limit = reached.limit;
+      options = reached.options;
+      run = e ∷ reached.run;
+      is_run = (reached.is_run, subst P (sym reached.leads_here) may);
+      leads_here = ap (λ (world : Heap). after world e) reached.leads_here;
     }
