@@ -1,6 +1,5 @@
 pub mod Bounds
 pub mod Eaches
-pub mod Last
 pub mod Reaching
 pub mod Sizes
 pub mod Targets

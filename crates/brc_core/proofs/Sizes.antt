@@ -82,3 +82,46 @@ pub reached_births : (h : Heap) → IsReached h → sum_by (λ row. row.allocs) 
 reached_births h reached =
     let sound = reached_sound h reached in
     omega (arith, sum_few (λ (row : Row). row.allocs) no_row 140737488355328 65 h.rows sound.shaped.threads (λ t. (sound.threads t).births))
+
+-- ---- references
+
+one_small : (b : Bool) → one b ≤ 1
+one_small true = omega arith
+one_small false = omega arith
+
+bit_small : (words : List ℕ) (q : ℕ) → bit_of words q ≤ 1
+bit_small words q = omega arith
+
+times_few : (h : Heap) → IsSound h → (q t : ℕ) → times q (frame_at h t) ≤ 65536
+times_few h sound q t = omega (arith, sum_few (λ x. one (names q x)) None 1 65536 (frame_at h t) ((sound.threads t).places) (λ k. one_small (names q (slice_index_or (frame_at h t) k None))))
+
+entry_times_few : (h : Heap) → IsReached h → (q c : ℕ) → entry_times q (entries_at h c) ≤ 1048576
+entry_times_few h reached q c = omega (arith, sum_few (λ x. one (x == q)) 0 1 1048576 (entries_at h c) (reached_entries h reached c) (λ k. one_small (slice_index_or (entries_at h c) k 0 == q)))
+
+held_few : (h : Heap) → IsReached h → (q : ℕ) → held h q < 1099511627776
+held_few h reached q =
+    let sound = reached_sound h reached in
+    let frames : in_frames h q ≤ 65 * 65536 = sum_few (times q) [] 65536 65 h.frames (omega (arith, sound.shaped.frames, sound.shaped.threads)) (times_few h sound q) in
+    let popped : in_popped h q ≤ 65 * 1 = sum_few (λ words. bit_of words q) [] 1 65 h.popped (omega (arith, sound.shaped.popped, sound.shaped.threads)) (λ t. bit_small (slice_index_or h.popped t []) q) in
+    let queues : in_queues h q ≤ 65 * 1 = sum_few (λ words. bit_of words q) [] 1 65 h.queues (omega (arith, sound.shaped.queues, sound.shaped.threads)) (λ t. bit_small (slice_index_or h.queues t []) q) in
+    let hands : in_hands h q ≤ 65 * 1 = sum_few (λ (row : Row). one (carries q row.hand)) no_row 1 65 h.rows sound.shaped.threads (λ t. one_small (carries q (row_at h t).hand)) in
+    let entries : in_entries h q ≤ 65536 * 1048576 = sum_few (entry_times q) [] 1048576 65536 h.entries (omega (arith, sound.shaped.entries, sound.shaped.options.few_enough)) (entry_times_few h reached q) in
+    omega (arith, frames, popped, queues, hands, entries)
+
+-- a count of few references, with a local part below the largest, is small
+count_range : (state : State) (local : ℕ) (count : ℤ) (references : ℕ) → count_of_state state local count ≡ pos references → local ≤ 4294967294 → references < 1099511627776
+    → (negsuc 1099511627775 ≤ℤ count) × (count <ℤ pos 1099511627776)
+count_range states.Default local count references is limited few = (omega (arith, ints, is), omega (arith, ints, is))
+count_range states.Queued local count references is limited few = (omega (arith, ints, is), omega (arith, ints, is))
+count_range states.Merged local count references is limited few = (omega (arith, ints, is), omega (arith, ints, is))
+
+-- the numbers that a live mortal object's words may have
+pub reached_counts : (h : Heap) → IsReached h → (c : ℕ) → lives_at h c ≡ true → (negsuc 1099511627775 ≤ℤ (cell_at h c).count) × ((cell_at h c).count <ℤ pos 1099511627776)
+reached_counts h reached c live =
+    let sound = reached_sound h reached in
+    let parts = and_parts _ _ live in
+    let mortal : 266 ≤ c = ltb-false c 266 (not-true _ parts.0) in
+    let P : Bool → Type 0 = λ b. (if b then total_of (cell_at h c) else pos 0) ≡ pos (held h c) in
+    let total : total_of (cell_at h c) ≡ pos (held h c) = subst P parts.1 (sound.counted c mortal) in
+    let x = cell_at h c in
+    count_range x.state x.local x.count (held h c) total (omega (arith, (sound.cells c mortal).limited parts.1, sound.shaped.options.below_immortal)) (held_few h reached c)
