@@ -1,5 +1,5 @@
 -- What each item of a list adds, one more item at a time.
-use Rattle.std.proofs.Common.{◌≡◌, Bool, ℕ, zero, suc, ◌+◌, ◌<◌, ◌≤◌, List, [], ◌∷◌, ◌++◌, length, take, get_or, refl, sym, ◌∙◌, ap, append_assoc, add-zero, zero-add, add-suc, add-one, arith}
+use Rattle.std.proofs.Common.{◌≡◌, Bool, ℕ, zero, suc, ◌+◌, ◌<◌, ◌≤◌, List, [], ◌∷◌, ◌++◌, length, take, get_or, sym, ◌∙◌, ap, append_assoc, add-zero, zero-add, add-one, arith}
 use Rattle.std.proofs.lemmas.List.{take_all, append-nil}
 use Rattle.brc_model.specs.declared.holder.Holder.{Holder}
 use Rattle.brc_runs.specs.Holding.{each, if_so}

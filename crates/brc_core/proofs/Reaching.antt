@@ -1,9 +1,9 @@
 -- The opening world is reached, and so is the world after an event that is enabled in a reached one.
-use Rattle.std.proofs.Common.{◌≡◌, ℕ, true, List, [], ◌∷◌, ap, subst, sym, refl}
+use Rattle.std.proofs.Common.{◌≡◌, ℕ, true, [], ◌∷◌, ap, subst, sym, refl}
 use Rattle.brc_runs.specs.declared.event.Event.{Event}
 use Rattle.brc_runs.specs.Heap.{Heap, opening, AreOptions}
 use Rattle.brc_runs.specs.Steps.{enabled, after}
-use Rattle.brc_runs.specs.Runs.{IsRun, IsReached, world_after}
+use Rattle.brc_runs.specs.Runs.{IsReached}
 
 pub reached_opening : (cells limit : ℕ) → AreOptions cells limit → IsReached (opening cells limit)
 reached_opening cells limit options = record {

@@ -1,24 +1,22 @@
 -- How much a reached world has: entries, references and births, each few enough for the number that tells it.
-use Rattle.std.proofs.Common.{◌≡◌, ℕ, zero, suc, ◌+◌, ◌-◌, ◌*◌, ◌<◌, ◌≤◌, ◌^◌, ◌==◌, Bool, true, false, if◌then◌else◌, ℤ, pos, negsuc, ◌+ℤ◌, ◌≤ℤ◌, ◌<ℤ◌, List, [], ◌∷◌, length, take, replicate, Option, Some, None, slice_index_or, slice_set, sum_by, subst, sym, ap, ◌∙◌, refl, arith, nat_lt}
+use Rattle.std.proofs.Common.{◌≡◌, ℕ, zero, suc, ◌-◌, ◌*◌, ◌<◌, ◌≤◌, ◌^◌, ◌==◌, Bool, true, false, if◌then◌else◌, ℤ, pos, negsuc, ◌≤ℤ◌, ◌<ℤ◌, List, [], ◌∷◌, length, replicate, Option, Some, None, slice_index_or, slice_set, sum_by, subst, arith}
 use Rattle.std.proofs.lemmas.List.{length-take}
 use Rattle.std.proofs.lemmas.List.Sums.{sum_by-cons}
 use Rattle.std.proofs.lemmas.Bool.{and_parts, ltb-false, not-true}
 use Rattle.std.proofs.lemmas.Int.{ints}
-use native.Mathlib.Numerals.{unary_clauses}
 use Rattle.brc_words.specs.declared.state.State.{State}
 use Rattle.brc_words.specs.declared.state.State.TheVariants as states
-use Rattle.brc_runs.specs.declared.cell.Cell.{Cell}
 use Rattle.brc_runs.specs.declared.row.Row.{Row}
 use Rattle.brc_runs.specs.declared.event.Event.{Event}
 use Rattle.brc_runs.specs.declared.event.Step.{Step}
 use Rattle.brc_runs.specs.declared.event.Step.TheVariants.{Claim, InitLocal, InitShared, Birth, LocalUp, LocalDown, SeeZero, Free, Register}
 use Rattle.brc_runs.specs.declared.event.Dropped.TheVariants as dropped
 use Rattle.brc_runs.specs.Lists.{one, names, times, entry_times, bit_of, front_of}
-use Rattle.brc_runs.specs.Heap.{Heap, opening, cell_at, row_at, frame_at, work_at, entries_at, is_immortal, no_row}
-use Rattle.brc_runs.specs.Steps.{after, after_target, registered, entries_after, target}
+use Rattle.brc_runs.specs.Heap.{Heap, opening, cell_at, row_at, frame_at, work_at, entries_at, no_row}
+use Rattle.brc_runs.specs.Steps.{after_target, registered, entries_after, target}
 use Rattle.brc_runs.specs.Runs.{IsReached, world_after}
-use Rattle.brc_runs.specs.Holding.{lives, lives_at, count_of_state, total_of, carries}
-use Rattle.brc_runs.specs.Sound.{IsSound, held, in_frames, in_popped, in_hands, in_queues, in_entries, counted_in}
+use Rattle.brc_runs.specs.Holding.{lives_at, count_of_state, total_of, carries}
+use Rattle.brc_runs.specs.Sound.{IsSound, held, in_frames, in_popped, in_hands, in_queues, in_entries}
 use Rattle.brc_runs.proofs.Reached.{reached_sound}
 
 -- ---- entries

@@ -1,5 +1,5 @@
 -- One turn of a replay: the events so far are a run to the world, and stay so with one more that is enabled.
-use Rattle.std.proofs.Common.{◌≡◌, ℕ, ◌+◌, ◌<◌, ◌≤◌, true, false, List, [], ◌∷◌, ◌++◌, length, take, reverse, get_or, sym, subst, ap, ◌∙◌, refl}
+use Rattle.std.proofs.Common.{◌≡◌, ℕ, ◌+◌, ◌<◌, ◌≤◌, true, false, List, [], ◌∷◌, length, take, reverse, get_or, sym, subst, ap, ◌∙◌}
 use Rattle.std.proofs.lemmas.List.{take_more, reverse-append, take_all}
 use Rattle.std.proofs.lemmas.Option.{slice_get-get_or}
 use Rattle.brc_core.specs.Replays.{IsFirstNotEnabled}

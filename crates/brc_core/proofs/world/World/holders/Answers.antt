@@ -1,4 +1,4 @@
-use Rattle.std.proofs.Common.{length, arith}
+use Rattle.std.proofs.Common.{arith}
 use Rattle.brc_core.proofs.Sizes.{reached_entries}
 use Rattle.brc_runs.proofs.Reached.{reached_sound}
 use Rattle.brc_core.proofs.Bounds.{cells_fit, threads_fit, places_fit}
