@@ -1,5 +1,5 @@
 -- What each item of a list adds, one more item at a time.
-use Rattle.std.proofs.Common.{◌≡◌, Bool, ℕ, zero, suc, ◌+◌, ◌<◌, ◌≤◌, List, [], ◌∷◌, ◌++◌, length, take, get_or, refl, sym, ◌∙◌, ap, append_assoc, add-zero, zero-add, add-suc, add-one, arith}
+use Rattle.std.proofs.Common.{◌≡◌, Bool, ℕ, zero, suc, ◌+◌, ◌<◌, ◌≤◌, List, [], ◌∷◌, ◌++◌, length, take, get_or, sym, ◌∙◌, ap, append_assoc, add-zero, zero-add, add-one, arith}
 use Rattle.std.proofs.lemmas.List.{take_all, append-nil}
 use Rattle.brc_model.specs.declared.holder.Holder.{Holder}
 use Rattle.brc_runs.specs.Holding.{each, if_so}
@@ -24,7 +24,7 @@ pub found_more : {A : Type 0} (f : ℕ → A → List Holder) (xs : List A) (k :
     → Found f xs k old now → k < length xs → next ≡ now ++ f k (get_or xs k d) → Found f xs (k + 1) old next
 found_more f xs k d old now next found within more =
     let taken : each f 0 (take (k + 1) xs) ≡ each f 0 (take k xs) ++ f k (get_or xs k d) =
-        ap (λ n. each f 0 (take n xs)) (add-one k) ∙ each_take f 0 xs k d within ∙ ap (λ n. each f 0 (take k xs) ++ f n (get_or xs k d)) (zero-add k) in
+    ap (λ n. each f 0 (take n xs)) (add-one k) ∙ each_take f 0 xs k d within ∙ ap (λ n. each f 0 (take k xs) ++ f n (get_or xs k d)) (zero-add k) in
     record { is = more ∙ ap (λ ys. ys ++ f k (get_or xs k d)) found.is ∙ append_assoc old (each f 0 (take k xs)) (f k (get_or xs k d)) ∙ ap (λ ys. old ++ ys) (sym taken) }
 
 pub found_all : {A : Type 0} (f : ℕ → A → List Holder) (xs : List A) (k : ℕ) (old now : List Holder)

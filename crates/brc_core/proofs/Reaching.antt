@@ -1,28 +1,28 @@
 -- The opening world is reached, and so is the world after an event that is enabled in a reached one.
-use Rattle.std.proofs.Common.{◌≡◌, ℕ, true, List, [], ◌∷◌, ap, subst, sym, refl}
+use Rattle.std.proofs.Common.{◌≡◌, ℕ, true, [], ◌∷◌, ap, subst, sym, refl}
 use Rattle.brc_runs.specs.declared.event.Event.{Event}
 use Rattle.brc_runs.specs.Heap.{Heap, opening, AreOptions}
 use Rattle.brc_runs.specs.Steps.{enabled, after}
-use Rattle.brc_runs.specs.Runs.{IsRun, IsReached, world_after}
+use Rattle.brc_runs.specs.Runs.{IsReached}
 
 pub reached_opening : (cells limit : ℕ) → AreOptions cells limit → IsReached (opening cells limit)
 reached_opening cells limit options = record {
-    cells = cells;
-    limit = limit;
-    options = options;
-    run = [];
-    is_run = tt;
-    leads_here = refl;
+  cells = cells;
+  limit = limit;
+  options = options;
+  run = [];
+  is_run = tt;
+  leads_here = refl;
 }
 
 pub reached_after : (h : Heap) (e : Event) → IsReached h → enabled h e ≡ true → IsReached (after h e)
 reached_after h e reached may =
     let P : Heap → Type 0 = λ world. enabled world e ≡ true in
     record {
-        cells = reached.cells;
-        limit = reached.limit;
-        options = reached.options;
-        run = e ∷ reached.run;
-        is_run = (reached.is_run, subst P (sym reached.leads_here) may);
-        leads_here = ap (λ (world : Heap). after world e) reached.leads_here;
+      cells = reached.cells;
+      limit = reached.limit;
+      options = reached.options;
+      run = e ∷ reached.run;
+      is_run = (reached.is_run, subst P (sym reached.leads_here) may);
+      leads_here = ap (λ (world : Heap). after world e) reached.leads_here;
     }

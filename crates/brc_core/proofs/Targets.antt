@@ -1,12 +1,11 @@
 -- What an enabled event says of the one cell that its step means, and of the step that the root makes.
-use Rattle.std.proofs.Common.{◌≡◌, ℕ, true, false, Some, Bool, ◌&&◌, cond, length, slice_get, nat_lt, List, Option, subst, refl}
+use Rattle.std.proofs.Common.{◌≡◌, ℕ, true, Some, Option, subst, refl}
 use Rattle.std.proofs.lemmas.Bool.{and_parts}
 use Rattle.brc_core.specs.Memory.{needs_memory}
 use Rattle.brc_runs.specs.declared.event.Step.{Step}
 use Rattle.brc_runs.specs.declared.event.Step.TheVariants.{Claim, InitLocal, InitShared, Birth, LocalUp, LocalDown, SeeZero, Free, Register}
-use Rattle.brc_runs.specs.declared.event.Event.{Event}
 use Rattle.brc_runs.specs.Heap.{Heap, cell_at, entries_at, row_at, frame_at, work_at}
-use Rattle.brc_runs.specs.Steps.{target, target_ok, cell_ok, thread_may, root_may, enabled}
+use Rattle.brc_runs.specs.Steps.{target, target_ok, cell_ok, thread_may, root_may}
 
 -- a thread's cell is as its step wants it
 pub thread_cell : (h : Heap) (t : ℕ) (s : Step) (c : ℕ)

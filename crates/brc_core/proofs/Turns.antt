@@ -1,5 +1,5 @@
 -- One turn of a replay: the events so far are a run to the world, and stay so with one more that is enabled.
-use Rattle.std.proofs.Common.{◌≡◌, ℕ, ◌+◌, ◌<◌, ◌≤◌, true, false, List, [], ◌∷◌, ◌++◌, length, take, reverse, get_or, sym, subst, ap, ◌∙◌, refl}
+use Rattle.std.proofs.Common.{◌≡◌, ℕ, ◌+◌, ◌<◌, ◌≤◌, true, false, List, [], ◌∷◌, length, take, reverse, get_or, sym, subst, ap, ◌∙◌}
 use Rattle.std.proofs.lemmas.List.{take_more, reverse-append, take_all}
 use Rattle.std.proofs.lemmas.Option.{slice_get-get_or}
 use Rattle.brc_core.specs.Replays.{IsFirstNotEnabled}
@@ -41,10 +41,10 @@ pub first_not_enabled : (start : Heap) (events : List Event) (at : ℕ) (old : H
 first_not_enabled start events at old d leads within refused =
     let P : Heap → Type 0 = λ h. enabled h (get_or events at d) ≡ false in
     record {
-        event = get_or events at d;
-        there = slice_get-get_or events at d within;
-        earlier = leads.is_run;
-        refused = subst P leads.world_is refused;
+      event = get_or events at d;
+      there = slice_get-get_or events at d within;
+      earlier = leads.is_run;
+      refused = subst P leads.world_is refused;
     }
 
 -- where the loop ends
@@ -56,10 +56,10 @@ leads_whole start events at world leads past =
 
 pub leads_reached : (cells limit : ℕ) (run : List Event) (world : Heap) → AreOptions cells limit → LeadsTo (opening cells limit) run world → IsReached world
 leads_reached cells limit run world options leads = record {
-    cells = cells;
-    limit = limit;
-    options = options;
-    run = run;
-    is_run = leads.is_run;
-    leads_here = sym leads.world_is;
+  cells = cells;
+  limit = limit;
+  options = options;
+  run = run;
+  is_run = leads.is_run;
+  leads_here = sym leads.world_is;
 }

@@ -101,12 +101,7 @@ fn change_entries<A: Allocator>(lists: &mut Vec<Entries<A>, A>, step: Step)
 
 impl<A: Allocator + Copy> Tables<A> {
     /// What a thread's step does, where its cell is this one.
-    pub(crate) fn make_step(
-        &mut self,
-        thread: u32,
-        step: Step,
-        cell: u32,
-    ) -> Result<(), AllocError>
+    pub(crate) fn make_step(&mut self, thread: u32, step: Step, cell: u32) -> Result<(), AllocError>
         requires cell { cell_ok self.old.limit thread (row_at self.old thread).stage step cell (cell_at self.old cell) ≡ true }
         requires allocs { (row_at self.old thread).allocs + 1 < 2 ^ 64 }
         requires frees { (row_at self.old thread).frees + 1 < 2 ^ 64 }

@@ -32,13 +32,7 @@ impl<A: Allocator + Copy> Tables<A> {
                 Some(cell) => self.entry(cell, index),
                 None => None,
             },
-            Source::Immortal(cell) => {
-                if is_immortal(cell) {
-                    Some(cell)
-                } else {
-                    None
-                }
-            }
+            Source::Immortal(cell) => { if is_immortal(cell) { Some(cell) } else { None } }
         }
     }
 

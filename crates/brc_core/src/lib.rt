@@ -15,10 +15,13 @@ mod readers;
 mod register;
 mod replaying;
 mod tables;
+#[cfg(test)]
+mod tests;
 mod totals;
 mod words;
 mod world;
 
+// What callers write and read.
 pub use brc_runs::{Cell, Dropped, Event, Hand, Phase, Source, Step};
 pub use readers::Status;
 pub use replaying::{ReplayFault, replay};

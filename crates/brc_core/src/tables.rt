@@ -36,16 +36,16 @@ impl<A: Allocator + Copy> Model for Tables<A> {
     ghost Value = { Heap };
 
     ghost view = { λ t. record {
-        limit = t.local_limit;
-        cells = t.cells.items;
-        entries = t.entries.items;
-        rows = t.rows.items;
-        frames = t.frames.items;
-        popped = t.popped.items;
-        works = t.works.items;
-        queues = t.queues.items;
-        notices = t.notices.items;
-        gathered = t.gathered.items;
+      limit = t.local_limit;
+      cells = t.cells.items;
+      entries = t.entries.items;
+      rows = t.rows.items;
+      frames = t.frames.items;
+      popped = t.popped.items;
+      works = t.works.items;
+      queues = t.queues.items;
+      notices = t.notices.items;
+      gathered = t.gathered.items;
     } };
 }
 

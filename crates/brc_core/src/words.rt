@@ -34,11 +34,7 @@ impl<A: Allocator> Words<A> {
     pub(crate) fn has(&self, cell: u32) -> bool
         ensures { result ≡ (bit_of self.now cell == 1) }
     {
-        let word = self
-            .words
-            .get((cell / 32) as usize)
-            .copied()
-            .unwrap_or(0);
+        let word = self.words.get((cell / 32) as usize).copied().unwrap_or(0);
         (word >> (cell % 32)) % 2 == 1
     }
 }

@@ -1,7 +1,6 @@
-use Rattle.std.proofs.Common.{◌≡◌, take, reverse, sym, refl}
+use Rattle.std.proofs.Common.{reverse}
 use Rattle.brc_runs.proofs.Reached.{reached_headline, run_histories}
-use Rattle.brc_core.proofs.Turns.{LeadsTo, turn, first_not_enabled, leads_whole, leads_reached}
-use Rattle.brc_runs.specs.Heap.{opening}
+use Rattle.brc_core.proofs.Turns.{turn, first_not_enabled, leads_whole, leads_reached}
 use Rattle.brc_core.proofs.replaying.replay.Goals as goal
 
 pub returns-in-Err-NotEnabled-clause-refused : goal.returns-in-Err-NotEnabled-clause-refused

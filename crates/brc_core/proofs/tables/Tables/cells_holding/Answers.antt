@@ -1,4 +1,4 @@
-use Rattle.std.proofs.Common.{◌≡◌, ◌∙◌, ap, length, None, [], arith}
+use Rattle.std.proofs.Common.{ap, length, [], arith}
 use Rattle.brc_core.proofs.Eaches.{found_more}
 use Rattle.brc_runs.specs.Heap.{Heap}
 use Rattle.brc_core.proofs.tables.Tables.cells_holding.Goals as goal

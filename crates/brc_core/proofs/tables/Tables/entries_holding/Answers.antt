@@ -1,4 +1,4 @@
-use Rattle.std.proofs.Common.{◌≡◌, ◌∙◌, ◌==◌, ℕ, List, ap, length, get_or, arith}
+use Rattle.std.proofs.Common.{◌==◌, ℕ, List, ap, length, get_or, arith}
 use Rattle.brc_core.proofs.Eaches.{found_more, more_if}
 use Rattle.brc_core.proofs.tables.Tables.entries_holding.Goals as goal
 

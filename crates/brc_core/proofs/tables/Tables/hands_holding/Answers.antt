@@ -1,4 +1,4 @@
-use Rattle.std.proofs.Common.{◌≡◌, ◌∙◌, ap, length, None, [], arith}
+use Rattle.std.proofs.Common.{◌∙◌, ap, length, arith}
 use Rattle.brc_core.proofs.Eaches.{found_more, more_if}
 use Rattle.brc_runs.specs.declared.row.Row.{Row}
 use Rattle.brc_runs.specs.Heap.{Heap, no_row}

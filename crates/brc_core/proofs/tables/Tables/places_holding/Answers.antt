@@ -1,4 +1,4 @@
-use Rattle.std.proofs.Common.{◌≡◌, ◌∙◌, ap, length, None, [], arith}
+use Rattle.std.proofs.Common.{◌∙◌, ap, None, arith}
 use Rattle.brc_core.proofs.Eaches.{found_more, more_if}
 use Rattle.brc_runs.specs.Lists.{names}
 use Rattle.brc_core.proofs.tables.Tables.places_holding.Goals as goal

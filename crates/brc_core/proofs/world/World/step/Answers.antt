@@ -25,13 +25,13 @@ apply-requires-clause-frees g c = reached_frees c.self.inside.tables c.self.inva
 pub invariant_of-self : goal.invariant_of-self
 invariant_of-self g c =
     elim c.match-apply.branch [
-        in-Ok w ↦ subst IsReached (sym w.in-Ok.ensures.ok) (reached_after _ c.args.event.now c.self.invariant (sym c.enabled.ensures ∙ c.if-not-enabled.false))
-        | in-Err w ↦ subst IsReached (sym w.in-Err.ensures.err) c.self.invariant
+      | in-Ok w ↦ subst IsReached (sym w.in-Ok.ensures.ok) (reached_after _ c.args.event.now c.self.invariant (sym c.enabled.ensures ∙ c.if-not-enabled.false))
+      | in-Err w ↦ subst IsReached (sym w.in-Err.ensures.err) c.self.invariant
     ]
 
 pub returns-clause-moves : goal.returns-clause-moves
 returns-clause-moves g c =
     elim c.match-apply.branch [
-        in-Ok w ↦ rw w.result-is (made_moves c.self.inside.tables c.args.self.now c.apply.new.self c.args.event.now c.self.view_is w.in-Ok.ensures.ok c.self.invariant (sym c.enabled.ensures ∙ c.if-not-enabled.false))
-        | in-Err w ↦ rw w.result-is tt
+      | in-Ok w ↦ rw w.result-is (made_moves c.self.inside.tables c.args.self.now c.apply.new.self c.args.event.now c.self.view_is w.in-Ok.ensures.ok c.self.invariant (sym c.enabled.ensures ∙ c.if-not-enabled.false))
+      | in-Err w ↦ rw w.result-is tt
     ]

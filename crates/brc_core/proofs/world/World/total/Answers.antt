@@ -1,9 +1,9 @@
-use Rattle.std.proofs.Common.{◌≡◌, ℕ, sym, subst, ap, ◌∙◌, true, arith, pos, length, ℤ}
+use Rattle.std.proofs.Common.{◌≡◌, sym, subst, ap, ◌∙◌, arith, pos, length}
 use Rattle.std.proofs.lemmas.Int.{to_z-of_z, ints}
 use Rattle.brc_core.proofs.Bounds.{count_low, count_high, references}
 use Rattle.brc_runs.specs.Heap.{Heap}
 use Rattle.brc_runs.specs.Holding.{holders_of, total_of}
-use mir.Val.{SFits, to_z, of_z}
+use mir.Val.{SFits}
 use mir.Syntax.{w64}
 use Rattle.brc_core.proofs.world.World.total.Goals as goal
 
