@@ -1,1 +1,3 @@
 pub mod Holders
+pub mod Facts
+pub mod Tests

@@ -4,8 +4,10 @@
 //! (`specs/Holders.antt`) and never run it; `HolderWorld` is the map as a program.
 #![tactic(auto)]
 
+mod fact;
 mod holder;
 mod moves;
 
+pub use fact::Fact;
 pub use holder::Holder;
 pub use moves::{Exchange, Handover, Handovers, Move, Spot};
