@@ -1,3 +1,4 @@
 pub mod Holders
 pub mod Facts
 pub mod Tests
+pub mod Edits

@@ -1,15 +1,15 @@
 -- The tests of the program, which decide from a list of facts what the map allows.
 -- That they decide just that is proved in `proofs/Decides.antt`.
-use Rattle.std.specs.Prelude.{ℕ, ◌+◌, ◌==◌, nat_lt, nat_le, ◌&&◌, ◌||◌, not, Bool, true, false, List, [], ◌∷◌, length, Option, Some, None, slice_get, is_none}
+use Rattle.std.specs.Prelude.{◌≡◌, ℕ, ◌+◌, ◌==◌, nat_le, ◌&&◌, not, Bool, true, false, List, length, take, Some, slice_get, is_none}
 use Rattle.std.specs.List.{list_any}
 use Rattle.brc_words.specs.declared.kind.Kind.{Kind}
-use Rattle.brc_words.specs.Kinds.{is_mortal, is_container}
+use Rattle.brc_words.specs.Kinds.{is_mortal}
 use Rattle.brc_model.specs.declared.holder.Holder.{Holder}
 use Rattle.brc_model.specs.declared.holder.Holder.TheVariants.{Frame, Entry, Queue, Popped, Hand}
 use Rattle.brc_model.specs.declared.fact.Fact.{Fact}
 use Rattle.brc_model.specs.declared.fact.Fact.TheVariants.{Lives, Holds, Contains}
-use Rattle.brc_model.specs.Holders.{Map, same_holder, has, is_number, first_mortal, globals}
-use Rattle.brc_model.specs.Facts.{says_lives, says_held, entries_in, map_of}
+use Rattle.brc_model.specs.Holders.{same_holder, has, is_number, first_mortal}
+use Rattle.brc_model.specs.Facts.{says_lives, entries_in, map_of}
 
 abbrev pub is_no_entry : Holder → Bool
 is_no_entry (Frame thread place) = true
@@ -72,3 +72,9 @@ test_dies facts c =
     list_any (says_lives c) facts
     && not (list_any (names c) facts)
     && is_none (slice_get (entries_in facts c) 0)
+
+-- the fact at the place gives the cell's entry of this number
+pub record IsEntryAt (facts : List Fact) (cell index place : ℕ) : Type 0 where
+  pub object : ℕ
+  pub stands : slice_get facts place ≡ Some (Contains cell object)
+  pub before : length (entries_in (take place facts) cell) ≡ index

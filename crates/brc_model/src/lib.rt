@@ -4,9 +4,11 @@
 //! (`specs/Holders.antt`) and never run it; `HolderWorld` is the map as a program.
 #![tactic(auto)]
 
+mod edits;
 mod fact;
 mod holder;
 mod moves;
+mod reads;
 
 pub use fact::Fact;
 pub use holder::Holder;
