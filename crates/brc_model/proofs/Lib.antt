@@ -5,3 +5,6 @@ pub mod Filtering
 pub mod Splicing
 pub mod Maps
 pub mod Steps
+pub mod Members
+pub mod Deciding
+pub mod Allowing

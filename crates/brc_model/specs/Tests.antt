@@ -1,14 +1,17 @@
 -- The tests of the program, which decide from a list of facts what the map allows.
--- That they decide just that is proved in `proofs/Decides.antt`.
-use Rattle.std.specs.Prelude.{◌≡◌, ℕ, ◌+◌, ◌==◌, nat_le, ◌&&◌, not, Bool, true, false, List, length, take, Some, slice_get, is_none}
+-- That they decide just that is proved in `proofs/Deciding.antt`.
+use Rattle.std.specs.Prelude.{◌≡◌, ℕ, ◌+◌, ◌==◌, nat_le, nat_lt, ◌&&◌, ◌||◌, not, Bool, true, false, List, length, take, Some, slice_get, is_none}
 use Rattle.std.specs.List.{list_any}
 use Rattle.brc_words.specs.declared.kind.Kind.{Kind}
-use Rattle.brc_words.specs.Kinds.{is_mortal}
+use Rattle.brc_words.specs.Kinds.{is_mortal, is_container}
 use Rattle.brc_model.specs.declared.holder.Holder.{Holder}
 use Rattle.brc_model.specs.declared.holder.Holder.TheVariants.{Frame, Entry, Queue, Popped, Hand}
+use Rattle.brc_model.specs.declared.moves.Spot.{Spot}
+use Rattle.brc_model.specs.declared.moves.Exchange.{Exchange}
+use Rattle.brc_model.specs.declared.moves.Exchange.TheVariants.{Put, Take, Swap}
 use Rattle.brc_model.specs.declared.fact.Fact.{Fact}
 use Rattle.brc_model.specs.declared.fact.Fact.TheVariants.{Lives, Holds, Contains}
-use Rattle.brc_model.specs.Holders.{same_holder, has, is_number, first_mortal}
+use Rattle.brc_model.specs.Holders.{same_holder, has, is_number, first_mortal, globals, place_used}
 use Rattle.brc_model.specs.Facts.{says_lives, entries_in, map_of}
 
 abbrev pub is_no_entry : Holder → Bool
@@ -78,3 +81,29 @@ pub record IsEntryAt (facts : List Fact) (cell index place : ℕ) : Type 0 where
   pub object : ℕ
   pub stands : slice_get facts place ≡ Some (Contains cell object)
   pub before : length (entries_in (take place facts) cell) ≡ index
+
+-- a mortal cell is in the place of the frame, or the cell is immortal
+abbrev pub test_occupies : List Fact → ℕ → ℕ → ℕ → Bool
+test_occupies facts c thread place = nat_lt c first_mortal || has (map_of facts) c (Frame thread place)
+
+abbrev pub test_container : List Fact → ℕ → Bool
+test_container facts c = (c == globals) || ((map_of facts).live c && is_container ((map_of facts).kind c))
+
+abbrev pub test_entry : List Fact → ℕ → Exchange → Bool
+test_entry facts c (Put place cell) = is_none (slice_get (entries_in facts c) 1048575)
+test_entry facts c (Take index place cell) = is_number (slice_get (entries_in facts c) index) cell
+test_entry facts c (Swap index place cell old) = is_number (slice_get (entries_in facts c) index) old
+
+abbrev pub test_fits : List Fact → Exchange → ℕ → Bool
+test_fits facts (Put place cell) thread = test_occupies facts cell thread place
+test_fits facts (Take index place cell) thread = test_vacant facts thread place
+test_fits facts (Swap index place cell old) thread =
+    test_occupies facts cell thread place && (nat_le first_mortal cell || test_vacant facts thread place)
+
+abbrev pub test_change : List Fact → ℕ → Spot → Exchange → Bool
+test_change facts c spot change =
+    test_container facts c
+    && test_occupies facts c spot.thread spot.place
+    && not (place_used change == spot.place)
+    && test_entry facts c change
+    && test_fits facts change spot.thread

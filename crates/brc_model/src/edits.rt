@@ -4,6 +4,7 @@ ghost use Rattle.std.specs.Prelude.{◌≡◌, ◌≤◌, ◌++◌, [], ◌∷�
 ghost use Rattle.std.specs.Vec.{vec_capacity};
 ghost use Rattle.std.specs.Bool.{OnTrue, OnFalse};
 ghost use Rattle.std.specs.List.{filter};
+ghost use Rattle.brc_model.specs.declared.fact.Fact.TheVariants.{Holds};
 ghost use Rattle.brc_model.specs.Facts.{says_held, says_lives};
 ghost use Rattle.brc_model.specs.Edits.{begun, ended, without_hold, replaced, handed_fact, is_about, test_hand, test_hand_all, hand_all};
 
@@ -46,6 +47,20 @@ pub fn begin<A: Allocator>(
     facts.reserve(2)?;
     clear(facts, object);
     facts.push_reserved(Fact::Lives { object, kind });
+    facts.push_reserved(Fact::Holds { object, holder });
+    Ok(())
+}
+
+/// The object has one more holder.
+pub fn add<A: Allocator>(
+    facts: &mut Vec<Fact, A>,
+    object: u32,
+    holder: Holder,
+) -> Result<(), AllocError>
+    ensures added { OnOk result (facts.new.items ≡ facts.old.items ++ Holds object holder ∷ []) }
+    ensures unchanged { OnErr result (facts.new.items ≡ facts.old.items) }
+{
+    facts.reserve(1)?;
     facts.push_reserved(Fact::Holds { object, holder });
     Ok(())
 }

@@ -5,11 +5,14 @@
 #![tactic(auto)]
 
 mod edits;
+mod exchanges;
 mod fact;
 mod holder;
 mod moves;
 mod reads;
+mod world;
 
 pub use fact::Fact;
 pub use holder::Holder;
 pub use moves::{Exchange, Handover, Handovers, Move, Spot};
+pub use world::{HolderWorld, Refused};
