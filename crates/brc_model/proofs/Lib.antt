@@ -8,3 +8,5 @@ pub mod Steps
 pub mod Members
 pub mod Deciding
 pub mod Allowing
+pub mod Handing
+pub mod Exchanging

@@ -30,7 +30,7 @@ same_holder-comm g h =
     rw (eq-comm x.0 y.0, eq-comm x.1 y.1, eq-comm x.2 y.2) refl
 
 -- what is true of a cell that is the one, and of each other cell
-by_cell : (c d : ℕ) (P : Bool → Type 0) → (d ≡ c → P true) → ((d == c) ≡ false → P false) → P (d == c)
+pub by_cell : (c d : ℕ) (P : Bool → Type 0) → (d ≡ c → P true) → ((d == c) ≡ false → P false) → P (d == c)
 by_cell c d P here other =
     elim (d == c) as (λ t. (d == c) ≡ t → P t) [ true ↦ (λ e. here (eqb-true d c e)) | false ↦ other ] refl
 

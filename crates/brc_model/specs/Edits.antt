@@ -1,12 +1,12 @@
 -- What the program does to its list of facts.
-use Rattle.std.specs.Prelude.{ℕ, ◌==◌, ◌&&◌, not, Bool, true, cond, List, [], ◌∷◌, ◌++◌, map}
+use Rattle.std.specs.Prelude.{ℕ, ◌==◌, ◌&&◌, not, nat_lt, if◌then◌else◌, Bool, true, cond, List, [], ◌∷◌, ◌++◌, map}
 use Rattle.std.specs.List.{filter}
 use Rattle.brc_words.specs.declared.kind.Kind.{Kind}
 use Rattle.brc_model.specs.declared.holder.Holder.{Holder}
 use Rattle.brc_model.specs.declared.moves.Handover.{Handover}
 use Rattle.brc_model.specs.declared.fact.Fact.{Fact}
 use Rattle.brc_model.specs.declared.fact.Fact.TheVariants.{Lives, Holds, Contains}
-use Rattle.brc_model.specs.Holders.{has}
+use Rattle.brc_model.specs.Holders.{has, first_mortal}
 use Rattle.brc_model.specs.Facts.{says_lives, says_held, map_of}
 use Rattle.brc_model.specs.Tests.{is_no_entry, test_may_hold}
 
@@ -48,3 +48,11 @@ test_hand_all facts (x ∷ xs) = test_hand facts x && test_hand_all (map (handed
 abbrev pub hand_all : List Fact → List Handover → List Fact
 hand_all facts [] = facts
 hand_all facts (x ∷ xs) = hand_all (map (handed_fact x) facts) xs
+
+-- the place of a frame no longer holds the cell, which it never did if that is immortal
+abbrev pub left : List Fact → ℕ → Holder → List Fact
+left facts cell frame = if nat_lt cell first_mortal then facts else without_hold facts cell frame
+
+-- the place of a frame holds the cell, which an immortal has no need of
+abbrev pub come : List Fact → ℕ → Holder → List Fact
+come facts cell frame = if nat_lt cell first_mortal then facts else facts ++ Holds cell frame ∷ []

@@ -1,10 +1,12 @@
 //! Entries of a container and places of a frame, which change together.
 
-ghost use Rattle.std.specs.Prelude.{◌≡◌, true, OnOk, OnErr};
+ghost use Rattle.std.specs.Prelude.{◌≡◌, ◌&&◌, ◌||◌, nat_le, ◌≤◌, ◌<◌, true, OnOk, OnErr, vec_len};
+ghost use Rattle.std.specs.Vec.{vec_capacity};
 ghost use Rattle.brc_model.specs.declared.moves.Exchange.TheVariants as exchange;
-ghost use Rattle.brc_model.specs.Holders.{Same, exchanged, place_used, let_go};
+ghost use Rattle.brc_model.specs.Holders.{Same, exchanged, first_mortal, place_used, let_go};
 ghost use Rattle.brc_model.specs.Facts.{map_of};
-ghost use Rattle.brc_model.specs.Tests.{test_occupies, test_container, test_entry, test_fits, test_change, test_remove};
+ghost use Rattle.brc_model.specs.Tests.{test_occupies, test_vacant, test_container, test_entry, test_fits, test_change, test_remove};
+ghost use Rattle.brc_model.specs.Edits.{left, come};
 ghost use Rattle.brc_model.specs.World.{grows};
 
 use crate::edits::forget;
@@ -49,16 +51,26 @@ fn entry_fits(facts: &[Fact], cell: u32, change: &Exchange) -> bool
     }
 }
 
+/// Whether the place is free once a mortal cell has left it.
+fn leaves_free(facts: &[Fact], cell: u32, thread: u32, at: u32) -> bool
+    ensures { result ≡ (nat_le first_mortal cell || test_vacant facts.now thread at) }
+{
+    FIRST_MORTAL <= cell || is_vacant(facts, thread, at)
+}
+
+fn swap_fits(facts: &[Fact], cell: u32, thread: u32, at: u32) -> bool
+    ensures { result ≡ (test_occupies facts.now cell thread at && (nat_le first_mortal cell || test_vacant facts.now thread at)) }
+{
+    occupies(facts, cell, thread, at) && leaves_free(facts, cell, thread, at)
+}
+
 fn fits(facts: &[Fact], change: &Exchange, thread: u32) -> bool
     ensures { result ≡ test_fits facts.now change.now thread }
 {
     match *change {
         Exchange::Put { from, cell } => occupies(facts, cell, thread, from),
         Exchange::Take { to, .. } => is_vacant(facts, thread, to),
-        Exchange::Swap { at, cell, .. } => {
-            occupies(facts, cell, thread, at)
-                && (FIRST_MORTAL <= cell || is_vacant(facts, thread, at))
-        }
+        Exchange::Swap { at, cell, .. } => swap_fits(facts, cell, thread, at),
     }
 }
 
@@ -88,6 +100,30 @@ pub fn let_it_go<A: Allocator>(facts: &mut Vec<Fact, A>, object: u32, holder: &H
     }
 }
 
+/// The cell leaves the place of the frame, in which an immortal never was.
+fn leave<A: Allocator>(facts: &mut Vec<Fact, A>, cell: u32, frame: &Holder)
+    ensures left { facts.new.items ≡ left facts.old.items cell frame.now }
+    ensures len { vec_len facts.new ≤ vec_len facts.old }
+    ensures room { vec_capacity facts.new ≡ vec_capacity facts.old }
+{
+    if FIRST_MORTAL <= cell {
+        forget(facts, cell, frame);
+    }
+}
+
+/// The cell comes into the place of the frame, which for an immortal says nothing.
+fn arrive<A: Allocator>(facts: &mut Vec<Fact, A>, cell: u32, frame: Holder)
+    requires { vec_len facts.old < vec_capacity facts.old }
+    ensures { facts.new.items ≡ come facts.old.items cell frame }
+{
+    if FIRST_MORTAL <= cell {
+        facts.push_reserved(Fact::Holds {
+            object: cell,
+            holder: frame,
+        });
+    }
+}
+
 fn put<A: Allocator>(
     facts: &mut Vec<Fact, A>,
     container: u32,
@@ -104,16 +140,11 @@ fn put<A: Allocator>(
         cell: container,
         object: cell,
     });
-    if FIRST_MORTAL <= cell {
-        forget(
-            facts,
-            cell,
-            &Holder::Frame {
-                thread,
-                place: from,
-            },
-        );
-    }
+    let frame = Holder::Frame {
+        thread,
+        place: from,
+    };
+    leave(facts, cell, &frame);
     Ok(())
 }
 
@@ -155,21 +186,14 @@ fn swap<A: Allocator>(
     ensures unchanged { OnErr result (facts.new.items ≡ facts.old.items) }
 {
     facts.reserve(1)?;
-    let place_of_frame = Holder::Frame { thread, place: at };
     if let Some(place) = entry_place(facts, container, index as usize) {
         facts[place] = Fact::Contains {
             cell: container,
             object: cell,
         };
-        if FIRST_MORTAL <= cell {
-            forget(facts, cell, &place_of_frame);
-        }
-        if FIRST_MORTAL <= old {
-            facts.push_reserved(Fact::Holds {
-                object: old,
-                holder: place_of_frame,
-            });
-        }
+        let frame = Holder::Frame { thread, place: at };
+        leave(facts, cell, &frame);
+        arrive(facts, old, frame);
     }
     Ok(())
 }
