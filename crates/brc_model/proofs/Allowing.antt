@@ -1,8 +1,8 @@
 -- Each move is allowed where its test says so, and nowhere else.
-use Rattle.std.proofs.Common.{◌≡◌, ◌≢◌, ℕ, ◌+◌, ◌<◌, ◌≤◌, suc, zero, Bool, true, false, cond, Option, Some, None, List, [], ◌∷◌, length, refl, ap, sym, ◌∙◌, slice_get, arith, inl, inr}
-use Rattle.std.specs.Prelude.{◌==◌, ◌&&◌, ◌||◌, ◌⊎◌, not, nat_le, nat_lt, is_none}
+use Rattle.std.proofs.Common.{◌≡◌, ℕ, ◌+◌, ◌≤◌, suc, zero, true, false, Some, List, [], ◌∷◌, length, refl, slice_get, arith, inl, inr}
+use Rattle.std.specs.Prelude.{◌==◌, ◌&&◌, ◌||◌, not, nat_le, nat_lt, is_none}
 use Rattle.std.specs.List.{list_any}
-use Rattle.std.proofs.lemmas.Bool.{or_left, or_right, eqb-true, eq-eqb, ne_eqb, eqb-false, both_ways, or_cases, and_parts, and_from, false_from_ne_true, not-true, not_from_false, leb-true, le-leb, ltb-true, lt-ltb, ltb-false, leb-false}
+use Rattle.std.proofs.lemmas.Bool.{or_left, or_right, eqb-true, eq-eqb, ne_eqb, eqb-false, or_cases, and_parts, and_from, not-true, not_from_false, leb-true, le-leb, ltb-true, ltb-false, leb-false}
 use Rattle.std.proofs.lemmas.Option.{slice_get_past, slice_get_within}
 use Rattle.brc_words.specs.declared.kind.Kind.{Kind}
 use Rattle.brc_words.specs.Kinds.{is_mortal, is_container}
@@ -13,12 +13,12 @@ use Rattle.brc_model.specs.declared.moves.Exchange.{Exchange}
 use Rattle.brc_model.specs.declared.moves.Exchange.TheVariants.{Put, Take, Swap}
 use Rattle.brc_model.specs.declared.moves.Handover.{Handover}
 use Rattle.brc_model.specs.declared.fact.Fact.{Fact}
-use Rattle.brc_model.specs.Holders.{Map, has, IsHeld, IsUnheld, IsVacant, MayHold, MayBeBorn, MayBeAdded, MayBeRemoved, MayBeHanded, IsNoEntry, IsLastOfDead, MayDie, MayBeChanged, IsContainer, Occupies, FitsIn, EntryFits, place_used, first_mortal, globals, is_number}
-use Rattle.brc_model.specs.Facts.{says_lives, says_held, entries_in, map_of}
+use Rattle.brc_model.specs.Holders.{has, MayBeBorn, MayBeAdded, MayBeRemoved, MayBeHanded, IsNoEntry, IsLastOfDead, MayDie, MayBeChanged, IsContainer, Occupies, FitsIn, EntryFits, place_used, first_mortal, globals, is_number}
+use Rattle.brc_model.specs.Facts.{says_lives, entries_in, map_of}
 use Rattle.brc_model.specs.Tests.{names, is_no_entry, test_held, test_vacant, test_may_hold, test_born, test_add, test_last, test_remove, test_dies, test_occupies, test_container, test_entry, test_fits, test_change}
 use Rattle.brc_model.specs.Edits.{test_hand}
 use Rattle.brc_model.proofs.Members.{is_number-true, is_number-from}
-use Rattle.brc_model.proofs.Replacing.{MayHand, MayHand-from_test}
+use Rattle.brc_model.proofs.Replacing.{MayHand-from_test}
 use Rattle.brc_model.proofs.Deciding.{IsHeld-from_test, test-from_IsHeld, IsUnheld-from_test, test-from_IsUnheld, IsVacant-from_test, test-from_IsVacant, MayHold-from_test, test-from_MayHold}
 
 pub length_from_none : (xs : List ℕ) (n : ℕ) → is_none (slice_get xs n) ≡ true → length xs ≤ n

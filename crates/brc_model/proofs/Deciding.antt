@@ -1,21 +1,18 @@
 -- The tests decide what the map allows.
-use Rattle.std.proofs.Common.{◌≡◌, ℕ, ◌+◌, ◌<◌, ◌≤◌, suc, zero, Bool, true, false, cond, Option, Some, None, List, [], ◌∷◌, length, refl, ap, sym, ◌∙◌, slice_get, arith}
-use Rattle.std.specs.Prelude.{◌==◌, ◌&&◌, ◌||◌, not, nat_le, nat_lt, is_none}
+use Rattle.std.proofs.Common.{◌≡◌, ℕ, Bool, true, false, cond, Some, None, List, refl, sym, slice_get}
+use Rattle.std.specs.Prelude.{◌==◌}
 use Rattle.std.specs.List.{list_any}
-use Rattle.std.proofs.lemmas.Bool.{or_left, or_right, eqb-true, eq-eqb, both_ways, or_cases, and_parts, and_from, false_from_ne_true, not-true, not_from_false, leb-true, le-leb}
-use Rattle.std.proofs.lemmas.Option.{slice_get_past, slice_get_within}
-use Rattle.brc_words.specs.declared.kind.Kind.{Kind}
-use Rattle.brc_words.specs.Kinds.{is_mortal}
+use Rattle.std.proofs.lemmas.Bool.{eqb-true, eq-eqb, both_ways, and_parts, and_from, false_from_ne_true, not-true, not_from_false}
 use Rattle.brc_model.specs.declared.holder.Holder.{Holder}
 use Rattle.brc_model.specs.declared.holder.Holder.TheVariants.{Frame, Entry, Queue, Popped, Hand}
 use Rattle.brc_model.specs.declared.fact.Fact.{Fact}
 use Rattle.brc_model.specs.declared.fact.Fact.TheVariants.{Lives, Holds, Contains}
-use Rattle.brc_model.specs.Holders.{Map, has, IsHeld, IsUnheld, IsVacant, MayHold, MayBeBorn, MayBeAdded, MayBeRemoved, IsLastOfDead, MayDie, same_holder, is_number}
+use Rattle.brc_model.specs.Holders.{has, IsHeld, IsUnheld, IsVacant, MayHold, same_holder, is_number}
 use Rattle.brc_model.specs.Facts.{says_lives, says_held, entry_in, entries_in, map_of}
-use Rattle.brc_model.specs.Tests.{names, is_no_entry, fills, test_held, test_vacant, test_may_hold, test_born, test_add, test_last, test_remove, test_dies}
-use Rattle.brc_model.proofs.Places.{same_holder-true, same_holder-refl}
-use Rattle.brc_model.proofs.Replacing.{says_held-true, says_held-own}
-use Rattle.brc_model.proofs.Members.{Member, Member-from_any, list_any-implied, is_number-true, is_number-from, entry_from_any, any_from_entry}
+use Rattle.brc_model.specs.Tests.{names, is_no_entry, fills, test_held, test_vacant, test_may_hold}
+use Rattle.brc_model.proofs.Places.{same_holder-refl}
+use Rattle.brc_model.proofs.Replacing.{says_held-true}
+use Rattle.brc_model.proofs.Members.{Member-from_any, list_any-implied, entry_from_any, any_from_entry}
 
 -- a live object has each place that a fact of the list says, if that is no entry
 has_from_any : (facts : List Fact) (c : ℕ) (h : Holder) → list_any (says_lives c) facts ≡ true → is_no_entry h ≡ true

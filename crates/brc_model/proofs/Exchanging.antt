@@ -1,20 +1,20 @@
 -- Entries and places that change together, on lists of facts and on the maps that these spell.
-use Rattle.std.proofs.Common.{◌≡◌, ℕ, ◌+◌, ◌<◌, ◌≤◌, Bool, true, false, cond, Option, Some, None, List, [], ◌∷◌, ◌++◌, length, take, drop, refl, ap, sym, ◌∙◌, slice_get, slice_set, arith}
-use Rattle.std.specs.Prelude.{◌==◌, ◌&&◌, ◌||◌, not, nat_lt, nat_le, if◌then◌else◌, remove}
-use Rattle.std.specs.List.{list_any, find, filter_map}
+use Rattle.std.proofs.Common.{◌≡◌, ℕ, ◌<◌, ◌≤◌, true, false, Some, List, [], ◌∷◌, ◌++◌, length, refl, ap, sym, ◌∙◌, slice_get, slice_set, arith}
+use Rattle.std.specs.Prelude.{◌||◌, nat_lt, if◌then◌else◌, remove}
+use Rattle.std.specs.List.{list_any}
 use Rattle.std.proofs.lemmas.List.Folds.{list_any-append}
 use Rattle.std.proofs.lemmas.List.Elements.{filter_map-append}
 use Rattle.std.proofs.lemmas.List.{append-nil}
-use Rattle.std.proofs.lemmas.Bool.{eqb-true, eq-eqb, lt-ltb, le-ltb}
-use Rattle.std.proofs.lemmas.Option.{slice_get_past, slice_get_within}
+use Rattle.std.proofs.lemmas.Bool.{eq-eqb, lt-ltb, le-ltb}
+use Rattle.std.proofs.lemmas.Option.{slice_get_within}
 use Rattle.brc_model.specs.declared.holder.Holder.{Holder}
 use Rattle.brc_model.specs.declared.holder.Holder.TheVariants.{Frame, Entry, Queue, Popped, Hand}
 use Rattle.brc_model.specs.declared.moves.Exchange.TheVariants.{Put, Take, Swap}
 use Rattle.brc_model.specs.declared.fact.Fact.{Fact}
-use Rattle.brc_model.specs.declared.fact.Fact.TheVariants.{Lives, Holds, Contains}
-use Rattle.brc_model.specs.Holders.{Map, Same, put, with_holder, without_holder, placed, unplaced, exchanged, let_go, same_holder, first_mortal, is_number}
+use Rattle.brc_model.specs.declared.fact.Fact.TheVariants.{Holds, Contains}
+use Rattle.brc_model.specs.Holders.{Map, Same, put, with_holder, without_holder, placed, unplaced, exchanged, let_go, first_mortal, is_number}
 use Rattle.brc_model.specs.Facts.{says_lives, says_held, entry_in, entries_in, kind_said, map_of}
-use Rattle.brc_model.specs.Tests.{IsEntryAt, test_remove, test_last}
+use Rattle.brc_model.specs.Tests.{IsEntryAt, test_last}
 use Rattle.brc_model.specs.Edits.{without_hold, left, come}
 use Rattle.brc_model.proofs.Filtering.{or-false, find-append_left}
 use Rattle.brc_model.proofs.Splicing.{splice, slice_set-splice, take_last}

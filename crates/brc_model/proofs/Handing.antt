@@ -1,20 +1,18 @@
 -- Handovers one after the other, on lists of facts and on the maps that these spell.
-use Rattle.std.proofs.Common.{◌≡◌, ℕ, Bool, true, false, List, [], ◌∷◌, refl, ap, sym, ◌∙◌, map}
-use Rattle.std.specs.Prelude.{◌&&◌, ◌||◌, not, ◌==◌}
+use Rattle.std.proofs.Common.{◌≡◌, ℕ, true, List, [], ◌∷◌, refl, sym, ◌∙◌, map}
 use Rattle.std.specs.List.{list_any}
 use Rattle.std.proofs.lemmas.Bool.{and_parts, and_from}
 use Rattle.brc_model.specs.declared.holder.Holder.{Holder}
 use Rattle.brc_model.specs.declared.holder.Holder.TheVariants.{Frame, Entry, Queue, Popped, Hand}
 use Rattle.brc_model.specs.declared.moves.Handover.{Handover}
 use Rattle.brc_model.specs.declared.fact.Fact.{Fact}
-use Rattle.brc_model.specs.Holders.{Map, Same, has, MayHold, MayBeHanded, MayAllBeHanded, handed, all_handed, is_number, same_holder, with_holder, without_holder}
+use Rattle.brc_model.specs.Holders.{Map, Same, has, MayHold, MayBeHanded, MayAllBeHanded, handed, all_handed, without_holder}
 use Rattle.brc_model.specs.Facts.{says_lives, says_held, map_of}
 use Rattle.brc_model.specs.Tests.{is_no_entry}
 use Rattle.brc_model.specs.Edits.{handed_fact, test_hand, test_hand_all, hand_all}
-use Rattle.std.specs.Prelude.{slice_get}
 use Rattle.brc_model.proofs.Maps.{Same-refl, Same-trans, Same-with, Same-without}
 use Rattle.brc_model.proofs.Steps.{Same-replaced}
-use Rattle.brc_model.proofs.Replacing.{MayHand, MayHand-from_test, has-live}
+use Rattle.brc_model.proofs.Replacing.{MayHand-from_test}
 use Rattle.brc_model.proofs.Allowing.{MayBeHanded-from_test, test-from_MayBeHanded}
 
 Same-sym : (a b : Map) → Same a b → Same b a

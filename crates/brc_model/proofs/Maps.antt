@@ -1,9 +1,8 @@
 -- Maps that say the same, and the changes that keep them so.
-use Rattle.std.proofs.Common.{◌≡◌, ℕ, ◌∙◌, Bool, true, false, List, refl, ap, sym}
-use Rattle.std.specs.Prelude.{◌==◌, ◌&&◌, ◌||◌, not, if◌then◌else◌}
-use Rattle.brc_words.specs.declared.kind.Kind.{Kind}
+use Rattle.std.proofs.Common.{ℕ, ◌∙◌, refl, ap, sym}
+use Rattle.std.specs.Prelude.{◌==◌, ◌&&◌, ◌||◌, not}
 use Rattle.brc_model.specs.declared.holder.Holder.{Holder}
-use Rattle.brc_model.specs.Holders.{Map, Same, put, with_holder, without_holder, same_holder}
+use Rattle.brc_model.specs.Holders.{Map, Same, with_holder, without_holder, same_holder}
 
 pub Same-refl : (m : Map) → Same m m
 Same-refl m = record { live = λ c. refl; kind = λ c h. refl; entries = λ c. refl; held = λ c h. refl }

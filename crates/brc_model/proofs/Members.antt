@@ -1,8 +1,8 @@
 -- What passes a test stands in the list.
-use Rattle.std.proofs.Common.{◌≡◌, ℕ, ◌+◌, ◌<◌, ◌≤◌, suc, zero, Bool, true, false, Option, Some, None, List, [], ◌∷◌, length, refl, ap, sym, ◌∙◌, slice_get, arith}
-use Rattle.std.specs.Prelude.{◌==◌, ◌||◌, is_none}
+use Rattle.std.proofs.Common.{◌≡◌, ℕ, suc, zero, Bool, true, false, Option, Some, None, List, [], ◌∷◌, refl, ap, slice_get}
+use Rattle.std.specs.Prelude.{◌==◌, ◌||◌}
 use Rattle.std.specs.List.{list_any, cons_option}
-use Rattle.std.proofs.lemmas.Bool.{or_left, or_right, eqb-true, eq-eqb, both_ways, or_cases}
+use Rattle.std.proofs.lemmas.Bool.{or_left, or_right, eqb-true, eq-eqb}
 use Rattle.brc_model.specs.declared.fact.Fact.{Fact}
 use Rattle.brc_model.specs.Holders.{is_number}
 use Rattle.brc_model.specs.Facts.{entry_in, entries_in}

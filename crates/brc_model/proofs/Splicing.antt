@@ -1,10 +1,9 @@
 -- One element of a list gives way to others, or to none at all.
-use Rattle.std.proofs.Common.{◌≡◌, ℕ, ◌+◌, ◌<◌, suc, zero, ◌∙◌, Bool, true, false, cond, Option, Some, None, List, [], ◌∷◌, ◌++◌, length, take, drop, refl, ap, sym, slice_set, slice_get, arith, length-drop}
-use Rattle.std.specs.Prelude.{◌&&◌, ◌||◌, not, remove}
+use Rattle.std.proofs.Common.{◌≡◌, ℕ, ◌+◌, ◌<◌, suc, zero, Bool, false, cond, Option, Some, None, List, [], ◌∷◌, ◌++◌, length, take, drop, refl, ap, slice_set, slice_get, arith}
+use Rattle.std.specs.Prelude.{◌||◌, remove}
 use Rattle.std.specs.List.{list_any, find, filter_map, cons_option}
 use Rattle.std.proofs.lemmas.List.Folds.{list_any-append}
 use Rattle.std.proofs.lemmas.List.Elements.{filter_map-append}
-use Rattle.std.proofs.lemmas.List.{append-nil}
 use Rattle.brc_model.proofs.Filtering.{or-swap, find-append_right}
 
 abbrev pub splice : {X : Type 0} → List X → ℕ → List X → List X

@@ -1,25 +1,24 @@
 -- What each change of the list of facts makes of the map.
-use Rattle.std.proofs.Common.{◌≡◌, ℕ, ◌+◌, ◌<◌, suc, ◌∙◌, Bool, true, false, cond, Option, Some, None, List, [], ◌∷◌, ◌++◌, length, take, drop, refl, ap, sym, slice_set, slice_get, arith, nat_eq, map}
-use Rattle.std.specs.Prelude.{◌==◌, ◌&&◌, ◌||◌, not, if◌then◌else◌, remove}
-use Rattle.std.specs.List.{list_any, find, filter, filter_map, cons_option}
+use Rattle.std.proofs.Common.{◌≡◌, ℕ, ◌∙◌, Bool, true, false, cond, None, List, [], ◌∷◌, ◌++◌, refl, ap, sym, arith, map}
+use Rattle.std.specs.Prelude.{◌==◌, ◌&&◌, ◌||◌, not, if◌then◌else◌}
+use Rattle.std.specs.List.{list_any, find, filter, filter_map}
 use Rattle.std.proofs.lemmas.List.Folds.{list_any-append}
 use Rattle.std.proofs.lemmas.List.Elements.{filter_map-append}
 use Rattle.std.proofs.lemmas.List.{append-nil}
-use Rattle.std.proofs.lemmas.Bool.{eqb-true, eq-eqb, and_parts, and_from, not-true, not-false}
+use Rattle.std.proofs.lemmas.Bool.{eqb-true, and_parts, not-true, not-false}
 use Rattle.std.proofs.lemmas.Bool.Decides.{nat_tests}
 use Rattle.brc_words.specs.declared.kind.Kind.{Kind}
 use Rattle.brc_model.specs.declared.holder.Holder.{Holder}
 use Rattle.brc_model.specs.declared.fact.Fact.{Fact}
 use Rattle.brc_model.specs.declared.fact.Fact.TheVariants.{Lives, Holds, Contains}
-use Rattle.brc_model.specs.Holders.{Map, Same, put, with_holder, without_holder, same_holder, same_code, holder_code}
+use Rattle.brc_model.specs.Holders.{Same, put, with_holder, without_holder, same_holder, holder_code}
 use Rattle.brc_model.specs.Facts.{says_lives, says_held, entry_in, entries_in, kind_said, map_of}
 use Rattle.brc_model.specs.Tests.{IsEntryAt}
 use Rattle.brc_model.specs.Edits.{is_about, begun, ended, without_hold, replaced}
-use Rattle.brc_model.proofs.Places.{same_holder-true, same_holder-refl}
-use Rattle.brc_model.proofs.Replacing.{says_held-true, says_held-own}
+use Rattle.brc_model.proofs.Replacing.{says_held-true}
 use Rattle.brc_model.proofs.Entries.{entry_in_own}
 use Rattle.brc_model.proofs.Filtering.{list_any-filter, find-filter, filter_map-filter, filter_map-filter_none, find-append_left, find-append_right, and-false, or-false, or-comm, list_any-map_same, find-map_same, filter_map-map_same}
-use Rattle.brc_model.proofs.Splicing.{splice, list_any-splice, find-splice, filter_map-splice_other, filter_map-splice, slice_set-splice}
+use Rattle.brc_model.proofs.Splicing.{splice, list_any-splice, find-splice, filter_map-splice_other, filter_map-splice}
 
 eq-comm : (a b : ℕ) → (a == b) ≡ (b == a)
 eq-comm a b = grind (arith, nat_tests)

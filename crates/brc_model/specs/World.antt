@@ -1,5 +1,5 @@
 -- What the yardstick says of a move.
-use Rattle.std.specs.Prelude.{◌≡◌, Bool, true, false, List}
+use Rattle.std.specs.Prelude.{◌≡◌, Bool, true, false}
 use Rattle.brc_model.specs.declared.moves.Exchange.{Exchange}
 use Rattle.brc_model.specs.declared.moves.Exchange.TheVariants.{Put, Take, Swap}
 use Rattle.brc_model.specs.declared.moves.Move.{Move}

@@ -109,7 +109,7 @@ fn may_be_handed(facts: &[Fact], handover: &Handover) -> bool
 }
 
 /// The references go from holder to holder one after the other, or all stay where they are.
-pub fn hand_over(facts: &mut [Fact], list: &[Handover]) -> bool
+fn hand_over(facts: &mut [Fact], list: &[Handover]) -> bool
     ensures tested { result ≡ test_hand_all facts.old list.now }
     ensures handed { OnTrue result (facts.new ≡ hand_all facts.old list.now) }
     ensures unchanged { OnFalse result (facts.new ≡ facts.old) }
@@ -129,4 +129,13 @@ pub fn hand_over(facts: &mut [Fact], list: &[Handover]) -> bool
             handed
         }
     }
+}
+
+/// The references go from holder to holder, or all stay; no fact is added, so no memory is asked for.
+pub fn pass_on<A: Allocator>(facts: &mut Vec<Fact, A>, list: &[Handover]) -> bool
+    ensures tested { result ≡ test_hand_all facts.old.items list.now }
+    ensures handed { OnTrue result (facts.new.items ≡ hand_all facts.old.items list.now) }
+    ensures unchanged { OnFalse result (facts.new.items ≡ facts.old.items) }
+{
+    hand_over(facts.as_mut_slice(), list)
 }

@@ -5,7 +5,7 @@ ghost use Rattle.brc_model.specs.Holders.{Same, Allowed, moved, has};
 ghost use Rattle.brc_model.specs.Facts.{map_of};
 ghost use Rattle.brc_model.specs.World.{IsReason};
 
-use crate::edits::{add, begin, end, hand_over};
+use crate::edits::{add, begin, end, pass_on};
 use crate::exchanges::{change_it, let_it_go, may_be_changed};
 use crate::fact::Fact;
 use crate::holder::Holder;
@@ -67,13 +67,19 @@ impl<A: Allocator> HolderWorld<A> {
                 if !may_be_born(&self.facts, *object, *kind, holder) {
                     return Err(Refused::NotAllowed);
                 }
-                begin(&mut self.facts, *object, *kind, *holder).map_err(|_| Refused::Memory)
+                match begin(&mut self.facts, *object, *kind, *holder) {
+                    Ok(()) => Ok(()),
+                    Err(_) => Err(Refused::Memory),
+                }
             }
             Move::Add { object, holder } => {
                 if !may_be_added(&self.facts, *object, holder) {
                     return Err(Refused::NotAllowed);
                 }
-                add(&mut self.facts, *object, *holder).map_err(|_| Refused::Memory)
+                match add(&mut self.facts, *object, *holder) {
+                    Ok(()) => Ok(()),
+                    Err(_) => Err(Refused::Memory),
+                }
             }
             Move::Remove { object, holder } => {
                 if !may_be_removed(&self.facts, *object, holder) {
@@ -83,11 +89,10 @@ impl<A: Allocator> HolderWorld<A> {
                 Ok(())
             }
             Move::Pass { list } => {
-                if hand_over(&mut self.facts, list.as_slice()) {
-                    Ok(())
-                } else {
-                    Err(Refused::NotAllowed)
+                if !pass_on(&mut self.facts, list.as_slice()) {
+                    return Err(Refused::NotAllowed);
                 }
+                Ok(())
             }
             Move::Change {
                 cell,
@@ -97,8 +102,10 @@ impl<A: Allocator> HolderWorld<A> {
                 if !may_be_changed(&self.facts, *cell, place, change) {
                     return Err(Refused::NotAllowed);
                 }
-                change_it(&mut self.facts, *cell, place.thread, change)
-                    .map_err(|_| Refused::Memory)
+                match change_it(&mut self.facts, *cell, place.thread, change) {
+                    Ok(()) => Ok(()),
+                    Err(_) => Err(Refused::Memory),
+                }
             }
             Move::Dies { object } => {
                 if !may_die(&self.facts, *object) {
