@@ -45,8 +45,8 @@ pub test-from_MayBeBorn : (facts : List Fact) (c : ℕ) (k : Kind) (h : Holder) 
 test-from_MayBeBorn facts c k h may =
     let live = list_any (says_lives c) facts in
     and_from (nat_le first_mortal c && not live && is_mortal k) (test_may_hold facts c h)
-      (and_from (nat_le first_mortal c && not live) (is_mortal k) (and_from (nat_le first_mortal c) (not live) (le-leb first_mortal c may.mortal) (not_from_false live may.new)) may.kind_is_born)
-      (test-from_MayHold facts c h may.holder_is_new)
+    (and_from (nat_le first_mortal c && not live) (is_mortal k) (and_from (nat_le first_mortal c) (not live) (le-leb first_mortal c may.mortal) (not_from_false live may.new)) may.kind_is_born)
+    (test-from_MayHold facts c h may.holder_is_new)
 
 pub MayBeAdded-from_test : (facts : List Fact) (c : ℕ) (h : Holder) → test_add facts c h ≡ true → MayBeAdded (map_of facts) c h
 MayBeAdded-from_test facts c h e =
@@ -57,8 +57,8 @@ MayBeAdded-from_test facts c h e =
 pub test-from_MayBeAdded : (facts : List Fact) (c : ℕ) (h : Holder) → MayBeAdded (map_of facts) c h → test_add facts c h ≡ true
 test-from_MayBeAdded facts c h may =
     and_from (test_held facts c && not (has (map_of facts) c h)) (test_may_hold facts c h)
-      (and_from (test_held facts c) (not (has (map_of facts) c h)) (test-from_IsHeld facts c may.is_held) (not_from_false (has (map_of facts) c h) may.not_yet))
-      (test-from_MayHold facts c h may.holder_is_new)
+    (and_from (test_held facts c) (not (has (map_of facts) c h)) (test-from_IsHeld facts c may.is_held) (not_from_false (has (map_of facts) c h) may.not_yet))
+    (test-from_MayHold facts c h may.holder_is_new)
 
 pub IsLastOfDead-from_test : (facts : List Fact) (c cell index : ℕ) → test_last facts c cell index ≡ true → IsLastOfDead (map_of facts) c cell index
 IsLastOfDead-from_test facts c cell index e =
@@ -80,10 +80,10 @@ test-from_IsLastOfDead facts c cell index may =
     let es = entries_in facts cell in
     let short : length es ≤ index + 1 = omega (arith, may.last) in
     and_from (live && not named && is_none (slice_get es (index + 1))) (is_number (slice_get es index) c)
-      (and_from (live && not named) (is_none (slice_get es (index + 1)))
-        (and_from live (not named) may.live (not_from_false named (test-from_IsUnheld facts cell may.live may.unheld)))
-        (none_from_length es (index + 1) short))
-      (is_number-from (slice_get es index) c may.there)
+    (and_from (live && not named) (is_none (slice_get es (index + 1)))
+    (and_from live (not named) may.live (not_from_false named (test-from_IsUnheld facts cell may.live may.unheld)))
+    (none_from_length es (index + 1) short))
+    (is_number-from (slice_get es index) c may.there)
 
 pub MayBeRemoved-from_test : (facts : List Fact) (c : ℕ) (h : Holder) → test_remove facts c h ≡ true → MayBeRemoved (map_of facts) c h
 MayBeRemoved-from_test facts c (Frame thread place) e = e
@@ -113,7 +113,7 @@ test-from_MayDie facts c may =
     let named = list_any (names c) facts in
     let none : is_none (slice_get (entries_in facts c) 0) ≡ true = rw may.empty refl in
     and_from (live && not named) (is_none (slice_get (entries_in facts c) 0))
-      (and_from live (not named) may.live (not_from_false named (test-from_IsUnheld facts c may.live may.unheld))) none
+    (and_from live (not named) may.live (not_from_false named (test-from_IsUnheld facts c may.live may.unheld))) none
 
 IsNoEntry-from_test : (h : Holder) → is_no_entry h ≡ true → IsNoEntry h
 IsNoEntry-from_test (Frame thread place) e = tt
@@ -140,36 +140,40 @@ test-from_MayBeHanded facts x may =
     let held = has (map_of facts) x.object x.«from» in
     let new = has (map_of facts) x.object x.to in
     and_from (outside && held && not new) (test_may_hold facts x.object x.to)
-      (and_from (outside && held) (not new) (and_from outside held (test-from_IsNoEntry x.«from» may.from_no_entry) may.held) (not_from_false new may.not_yet))
-      (test-from_MayHold facts x.object x.to may.holder_is_new)
+    (and_from (outside && held) (not new) (and_from outside held (test-from_IsNoEntry x.«from» may.from_no_entry) may.held) (not_from_false new may.not_yet))
+    (test-from_MayHold facts x.object x.to may.holder_is_new)
 
 Occupies-from_test : (facts : List Fact) (c thread place : ℕ) → test_occupies facts c thread place ≡ true → Occupies (map_of facts) c thread place
 Occupies-from_test facts c thread place e mortal =
     elim (or_cases (nat_lt c first_mortal) (has (map_of facts) c (Frame thread place)) e) [
-      inl low ↦ let below = ltb-true c first_mortal low in absurd (omega arith)
-    | inr held ↦ held ]
+      | inl low ↦ let below = ltb-true c first_mortal low in absurd (omega arith)
+      | inr held ↦ held
+    ]
 
 test-from_Occupies : (facts : List Fact) (c thread place : ℕ) → Occupies (map_of facts) c thread place → test_occupies facts c thread place ≡ true
 test-from_Occupies facts c thread place may =
     elim (nat_lt c first_mortal) as (λ t. nat_lt c first_mortal ≡ t → (t || has (map_of facts) c (Frame thread place)) ≡ true) [
-      true ↦ (λ e. refl)
-    | false ↦ (λ e. may (ltb-false c first_mortal e)) ] refl
+      | true ↦ (λ e. refl)
+      | false ↦ (λ e. may (ltb-false c first_mortal e))
+    ] refl
 
 IsContainer-from_test : (facts : List Fact) (c : ℕ) → test_container facts c ≡ true → IsContainer (map_of facts) c
 IsContainer-from_test facts c e =
     let live = (map_of facts).live c in
     let contains = is_container ((map_of facts).kind c) in
     elim (or_cases (c == globals) (live && contains) e) [
-      inl own ↦ inl (eqb-true c globals own)
-    | inr both ↦ inr (and_parts live contains both) ]
+      | inl own ↦ inl (eqb-true c globals own)
+      | inr both ↦ inr (and_parts live contains both)
+    ]
 
 test-from_IsContainer : (facts : List Fact) (c : ℕ) → IsContainer (map_of facts) c → test_container facts c ≡ true
 test-from_IsContainer facts c may =
     let live = (map_of facts).live c in
     let contains = is_container ((map_of facts).kind c) in
     elim may [
-      inl own ↦ or_left (c == globals) (live && contains) (eq-eqb c globals own)
-    | inr both ↦ or_right (c == globals) (live && contains) (and_from live contains both.0 both.1) ]
+      | inl own ↦ or_left (c == globals) (live && contains) (eq-eqb c globals own)
+      | inr both ↦ or_right (c == globals) (live && contains) (and_from live contains both.0 both.1)
+    ]
 
 EntryFits-from_test : (facts : List Fact) (c : ℕ) (x : Exchange) → test_entry facts c x ≡ true → EntryFits (entries_in facts c) x
 EntryFits-from_test facts c (Put place cell) e = let most = length_from_none (entries_in facts c) 1048575 e in omega arith
@@ -185,21 +189,25 @@ FitsIn-from_test : (facts : List Fact) (x : Exchange) (thread : ℕ) → test_fi
 FitsIn-from_test facts (Put place cell) thread e = Occupies-from_test facts cell thread place e
 FitsIn-from_test facts (Take index place cell) thread e = IsVacant-from_test facts thread place e
 FitsIn-from_test facts (Swap index place cell old) thread e =
-    let p = and_parts (test_occupies facts cell thread place) (nat_le first_mortal cell || test_vacant facts thread place) e in
-    (Occupies-from_test facts cell thread place p.0, λ low.
-      elim (or_cases (nat_le first_mortal cell) (test_vacant facts thread place) p.1) [
-        inl high ↦ let above = leb-true first_mortal cell high in absurd (omega arith)
-      | inr free ↦ IsVacant-from_test facts thread place free ])
+    let p = and_parts (test_occupies facts cell thread place) (nat_le first_mortal cell || test_vacant facts thread place) e in (
+      Occupies-from_test facts cell thread place p.0,
+      λ low.
+          elim (or_cases (nat_le first_mortal cell) (test_vacant facts thread place) p.1) [
+            | inl high ↦ let above = leb-true first_mortal cell high in absurd (omega arith)
+            | inr free ↦ IsVacant-from_test facts thread place free
+          ],
+    )
 
 test-from_FitsIn : (facts : List Fact) (x : Exchange) (thread : ℕ) → FitsIn (map_of facts) x thread → test_fits facts x thread ≡ true
 test-from_FitsIn facts (Put place cell) thread may = test-from_Occupies facts cell thread place may
 test-from_FitsIn facts (Take index place cell) thread may = test-from_IsVacant facts thread place may
 test-from_FitsIn facts (Swap index place cell old) thread may =
     and_from (test_occupies facts cell thread place) (nat_le first_mortal cell || test_vacant facts thread place)
-      (test-from_Occupies facts cell thread place may.0)
-      (elim (nat_le first_mortal cell) as (λ t. nat_le first_mortal cell ≡ t → (t || test_vacant facts thread place) ≡ true) [
-        true ↦ (λ e. refl)
-      | false ↦ (λ e. test-from_IsVacant facts thread place (may.1 (leb-false first_mortal cell e))) ] refl)
+    (test-from_Occupies facts cell thread place may.0)
+    (elim (nat_le first_mortal cell) as (λ t. nat_le first_mortal cell ≡ t → (t || test_vacant facts thread place) ≡ true) [
+      | true ↦ (λ e. refl)
+      | false ↦ (λ e. test-from_IsVacant facts thread place (may.1 (leb-false first_mortal cell e)))
+    ] refl)
 
 pub entry_from_test_change : (facts : List Fact) (c : ℕ) (s : Spot) (x : Exchange) → test_change facts c s x ≡ true → test_entry facts c x ≡ true
 entry_from_test_change facts c s x e =
@@ -226,9 +234,9 @@ pub test-from_MayBeChanged : (facts : List Fact) (c : ℕ) (s : Spot) (x : Excha
 test-from_MayBeChanged facts c s x may =
     let container = test_container facts c in let holds = test_occupies facts c s.thread s.place in let other = not (place_used x == s.place) in
     and_from (container && holds && other && test_entry facts c x) (test_fits facts x s.thread)
-      (and_from (container && holds && other) (test_entry facts c x)
-        (and_from (container && holds) other
-          (and_from container holds (test-from_IsContainer facts c may.container) (test-from_Occupies facts c s.thread s.place may.holds))
-          (not_from_false (place_used x == s.place) (ne_eqb (place_used x) s.place may.other_place)))
-        (test-from_EntryFits facts c x may.entry))
-      (test-from_FitsIn facts x s.thread may.fits)
+    (and_from (container && holds && other) (test_entry facts c x)
+    (and_from (container && holds) other
+    (and_from container holds (test-from_IsContainer facts c may.container) (test-from_Occupies facts c s.thread s.place may.holds))
+    (not_from_false (place_used x == s.place) (ne_eqb (place_used x) s.place may.other_place)))
+    (test-from_EntryFits facts c x may.entry))
+    (test-from_FitsIn facts x s.thread may.fits)

@@ -48,8 +48,9 @@ names_entry c cell (Lives object kind) e = cc
 names_entry c cell (Holds object holder) e = cc
 names_entry c cell (Contains container object) e =
     elim (cell == container) as (λ t. is_number (cond t (Some object) None) c ≡ true → (c == object) ≡ true) [
-      true ↦ (λ h. eq-eqb c object (sym (eqb-true object c h)))
-    | false ↦ (λ h. cc) ] e
+      | true ↦ (λ h. eq-eqb c object (sym (eqb-true object c h)))
+      | false ↦ (λ h. cc)
+    ] e
 
 test_from_has : (facts : List Fact) (c : ℕ) (h : Holder) → has (map_of facts) c h ≡ true → test_held facts c ≡ true
 test_from_has facts c (Frame thread place) e =
@@ -74,40 +75,42 @@ test-from_IsHeld facts c held = test_from_has facts c held.0 held.1
 pub IsUnheld-from_test : (facts : List Fact) (c : ℕ) → list_any (names c) facts ≡ false → IsUnheld (map_of facts) c
 IsUnheld-from_test facts c none h =
     false_from_ne_true (has (map_of facts) c h)
-      (λ e. both_ways (list_any (names c) facts) none (and_parts (list_any (says_lives c) facts) (list_any (names c) facts) (test_from_has facts c h e)).1)
+    (λ e. both_ways (list_any (names c) facts) none (and_parts (list_any (says_lives c) facts) (list_any (names c) facts) (test_from_has facts c h e)).1)
 
 pub test-from_IsUnheld : (facts : List Fact) (c : ℕ) → list_any (says_lives c) facts ≡ true → IsUnheld (map_of facts) c → list_any (names c) facts ≡ false
 test-from_IsUnheld facts c live unheld =
     false_from_ne_true (list_any (names c) facts)
-      (λ e. let held = IsHeld-from_test facts c (and_from (list_any (says_lives c) facts) (list_any (names c) facts) live e) in
-        both_ways (has (map_of facts) c held.0) (unheld held.0) held.1)
+    (λ e. let held = IsHeld-from_test facts c (and_from (list_any (says_lives c) facts) (list_any (names c) facts) live e) in
+    both_ways (has (map_of facts) c held.0) (unheld held.0) held.1)
 
 -- a place of a frame that a fact says to be filled
 pub IsVacant-from_test : (facts : List Fact) (thread place : ℕ) → test_vacant facts thread place ≡ true → IsVacant (map_of facts) thread place
 IsVacant-from_test facts thread place e c =
     false_from_ne_true (has (map_of facts) c (Frame thread place)) (λ h.
-      let p = and_parts (list_any (says_lives c) facts) (list_any (says_held c (Frame thread place)) facts) h in
-      both_ways (list_any (fills facts thread place) facts) (not-true (list_any (fills facts thread place) facts) e)
-        (list_any-implied (says_held c (Frame thread place)) (fills facts thread place)
-          (λ f s. rw (says_held-true c (Frame thread place) f s) (and_from (same_holder (Frame thread place) (Frame thread place)) (list_any (says_lives c) facts) (same_holder-refl (Frame thread place)) p.0))
-          facts p.1))
+    let p = and_parts (list_any (says_lives c) facts) (list_any (says_held c (Frame thread place)) facts) h in
+    both_ways (list_any (fills facts thread place) facts) (not-true (list_any (fills facts thread place) facts) e)
+    (list_any-implied (says_held c (Frame thread place)) (fills facts thread place)
+    (λ f s. rw (says_held-true c (Frame thread place) f s) (and_from (same_holder (Frame thread place) (Frame thread place)) (list_any (says_lives c) facts) (same_holder-refl (Frame thread place)) p.0))
+    facts p.1))
 
 filled_by_fact : (facts : List Fact) (thread place : ℕ) (f : Fact) → fills facts thread place f ≡ true
     → ((q : Fact → Bool) → q f ≡ true → list_any q facts ≡ true) → (c : ℕ) × (has (map_of facts) c (Frame thread place) ≡ true)
 filled_by_fact facts thread place (Lives object kind) e stands = cc
 filled_by_fact facts thread place (Holds object holder) e stands =
-    let p = and_parts (same_holder (Frame thread place) holder) (list_any (says_lives object) facts) e in
-    (object, and_from (list_any (says_lives object) facts) (list_any (says_held object (Frame thread place)) facts) p.1
-      (stands (says_held object (Frame thread place)) (and_from (object == object) (same_holder (Frame thread place) holder) (eq-eqb object object refl) p.0)))
+    let p = and_parts (same_holder (Frame thread place) holder) (list_any (says_lives object) facts) e in (
+      object,
+      and_from (list_any (says_lives object) facts) (list_any (says_held object (Frame thread place)) facts) p.1
+          (stands (says_held object (Frame thread place)) (and_from (object == object) (same_holder (Frame thread place) holder) (eq-eqb object object refl) p.0)),
+    )
 filled_by_fact facts thread place (Contains cell object) e stands = cc
 
 pub test-from_IsVacant : (facts : List Fact) (thread place : ℕ) → IsVacant (map_of facts) thread place → test_vacant facts thread place ≡ true
 test-from_IsVacant facts thread place vacant =
     not_from_false (list_any (fills facts thread place) facts)
-      (false_from_ne_true (list_any (fills facts thread place) facts) (λ e.
-        let m = Member-from_any (fills facts thread place) facts e in
-        let filled = filled_by_fact facts thread place m.item m.passes m.stands in
-        both_ways (has (map_of facts) filled.0 (Frame thread place)) (vacant filled.0) filled.1))
+    (false_from_ne_true (list_any (fills facts thread place) facts) (λ e.
+    let m = Member-from_any (fills facts thread place) facts e in
+    let filled = filled_by_fact facts thread place m.item m.passes m.stands in
+    both_ways (has (map_of facts) filled.0 (Frame thread place)) (vacant filled.0) filled.1))
 
 pub MayHold-from_test : (facts : List Fact) (c : ℕ) (h : Holder) → test_may_hold facts c h ≡ true → MayHold (map_of facts) c h
 MayHold-from_test facts c (Frame thread place) e = IsVacant-from_test facts thread place e

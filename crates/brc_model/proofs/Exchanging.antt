@@ -31,9 +31,9 @@ Same-contains_more facts c o = record {
   live = λ d. list_any-append (says_lives d) facts (Contains c o ∷ []) ∙ or-false (list_any (says_lives d) facts);
   kind = λ d live. ap kind_said (find-append_left (says_lives d) facts (Contains c o ∷ []) refl);
   entries = λ d. filter_map-append (entry_in d) facts (Contains c o ∷ [])
-    ∙ by_cell c d (λ t. entries_in facts d ++ entries_in (Contains c o ∷ []) d ≡ (if t then entries_in facts c ++ o ∷ [] else entries_in facts d))
-        (λ e. rw (e, eq-eqb c c refl) refl)
-        (λ e. rw e (append-nil (entries_in facts d)));
+      ∙ by_cell c d (λ t. entries_in facts d ++ entries_in (Contains c o ∷ []) d ≡ (if t then entries_in facts c ++ o ∷ [] else entries_in facts d))
+      (λ e. rw (e, eq-eqb c c refl) refl)
+      (λ e. rw e (append-nil (entries_in facts d)));
   held = λ d g. list_any-append (says_held d g) facts (Contains c o ∷ []) ∙ or-false (list_any (says_held d g) facts);
 }
 
@@ -45,9 +45,9 @@ Same-removed facts c i place there = Same-spliced facts c i place [] there (λ d
 -- a place in its stead
 Same-taken : (facts : List Fact) (c i place o : ℕ) (h : Holder) → IsEntryAt facts c i place
     → Same (map_of (splice facts place (Holds o h ∷ []))) (record (map_of facts) {
-        entries = put (map_of facts).entries c (remove (entries_in facts c) i);
-        held = with_holder (map_of facts).held o h;
-      })
+      entries = put (map_of facts).entries c (remove (entries_in facts c) i);
+      held = with_holder (map_of facts).held o h;
+    })
 Same-taken facts c i place o h there =
     let same = Same-spliced facts c i place (Holds o h ∷ []) there (λ d. refl) (λ d e. refl) in record {
       live = same.live;
@@ -110,29 +110,33 @@ pub Same-take_mortal : (facts : List Fact) (c thread i to cell place : ℕ) → 
     → Same (map_of (slice_set facts place (Holds cell (Frame thread to)))) (exchanged (map_of facts) c thread (Take i to cell))
 Same-take_mortal facts c thread i to cell place high there =
     rw (slice_set-splice facts place (Holds cell (Frame thread to)) (within_list facts c i place there), le-ltb cell first_mortal high)
-      (Same-taken facts c i place cell (Frame thread to) there)
+    (Same-taken facts c i place cell (Frame thread to) there)
 
 Same-left : (facts : List Fact) (cell : ℕ) (frame : Holder)
     → Same (map_of (left facts cell frame)) (record (map_of facts) { held = unplaced (map_of facts).held cell frame })
 Same-left facts cell frame = elim (nat_lt cell first_mortal) as (λ t. Same (map_of (if t then facts else without_hold facts cell frame)) (record (map_of facts) { held = if t then (map_of facts).held else without_holder (map_of facts).held cell frame })) [
-    true ↦ Same-refl (map_of facts)
-  | false ↦ Same-without_hold facts cell frame ]
+  | true ↦ Same-refl (map_of facts)
+  | false ↦ Same-without_hold facts cell frame
+]
 
 Same-come : (facts : List Fact) (cell : ℕ) (frame : Holder)
     → Same (map_of (come facts cell frame)) (record (map_of facts) { held = placed (map_of facts).held cell frame })
 Same-come facts cell frame = elim (nat_lt cell first_mortal) as (λ t. Same (map_of (if t then facts else facts ++ Holds cell frame ∷ [])) (record (map_of facts) { held = if t then (map_of facts).held else with_holder (map_of facts).held cell frame })) [
-    true ↦ Same-refl (map_of facts)
-  | false ↦ Same-held_more facts cell frame ]
+  | true ↦ Same-refl (map_of facts)
+  | false ↦ Same-held_more facts cell frame
+]
 
 Same-unplaced : (a b : Map) (c : ℕ) (h : Holder) → Same a b → Same (record a { held = unplaced a.held c h }) (record b { held = unplaced b.held c h })
 Same-unplaced a b c h s = elim (nat_lt c first_mortal) as (λ t. Same (record a { held = if t then a.held else without_holder a.held c h }) (record b { held = if t then b.held else without_holder b.held c h })) [
-    true ↦ record { live = s.live; kind = s.kind; entries = s.entries; held = s.held }
-  | false ↦ Same-without a b c h s ]
+  | true ↦ record { live = s.live; kind = s.kind; entries = s.entries; held = s.held }
+  | false ↦ Same-without a b c h s
+]
 
 Same-placed : (a b : Map) (c : ℕ) (h : Holder) → Same a b → Same (record a { held = placed a.held c h }) (record b { held = placed b.held c h })
 Same-placed a b c h s = elim (nat_lt c first_mortal) as (λ t. Same (record a { held = if t then a.held else with_holder a.held c h }) (record b { held = if t then b.held else with_holder b.held c h })) [
-    true ↦ record { live = s.live; kind = s.kind; entries = s.entries; held = s.held }
-  | false ↦ Same-with a b c h s ]
+  | true ↦ record { live = s.live; kind = s.kind; entries = s.entries; held = s.held }
+  | false ↦ Same-with a b c h s
+]
 
 pub Same-put : (facts : List Fact) (c thread place cell : ℕ)
     → Same (map_of (left (facts ++ Contains c cell ∷ []) cell (Frame thread place))) (exchanged (map_of facts) c thread (Put place cell))
@@ -141,8 +145,8 @@ Same-put facts c thread place cell =
     let frame = Frame thread place in
     let b = record (map_of facts) { entries = put (map_of facts).entries c (entries_in facts c ++ cell ∷ []) } in
     Same-trans (map_of (left more cell frame)) (record (map_of more) { held = unplaced (map_of more).held cell frame }) (record b { held = unplaced b.held cell frame })
-      (Same-left more cell frame)
-      (Same-unplaced (map_of more) b cell frame (Same-contains_more facts c cell))
+    (Same-left more cell frame)
+    (Same-unplaced (map_of more) b cell frame (Same-contains_more facts c cell))
 
 pub Same-swap : (facts : List Fact) (c thread i at cell old place : ℕ) → IsEntryAt facts c i place
     → Same (map_of (come (left (slice_set facts place (Contains c cell)) cell (Frame thread at)) old (Frame thread at))) (exchanged (map_of facts) c thread (Swap i at cell old))
@@ -153,7 +157,7 @@ Same-swap facts c thread i at cell old place there =
     let b = record a { held = unplaced a.held cell frame } in
     let set : Same (map_of new) a = rw (slice_set-splice facts place (Contains c cell) (within_list facts c i place there)) (Same-set facts c i place cell there) in
     let gone : Same (map_of (left new cell frame)) b =
-      Same-trans (map_of (left new cell frame)) (record (map_of new) { held = unplaced (map_of new).held cell frame }) b (Same-left new cell frame) (Same-unplaced (map_of new) a cell frame set) in
+    Same-trans (map_of (left new cell frame)) (record (map_of new) { held = unplaced (map_of new).held cell frame }) b (Same-left new cell frame) (Same-unplaced (map_of new) a cell frame set) in
     Same-trans (map_of (come (left new cell frame) old frame)) (record (map_of (left new cell frame)) { held = placed (map_of (left new cell frame)).held old frame }) (record b { held = placed b.held old frame })
-      (Same-come (left new cell frame) old frame)
-      (Same-placed (map_of (left new cell frame)) b old frame gone)
+    (Same-come (left new cell frame) old frame)
+    (Same-placed (map_of (left new cell frame)) b old frame gone)

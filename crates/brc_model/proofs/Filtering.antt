@@ -30,22 +30,27 @@ pub list_any-filter : {X : Type 0} (p q : X → Bool) (b : Bool) → ((x : X) �
 list_any-filter p q b h [] = sym (and-false b)
 list_any-filter p q b h (x ∷ xs) =
     elim (p x) as (λ u. p x ≡ u → list_any p (cond (q x) (x ∷ filter q xs) (filter q xs)) ≡ (b && (u || list_any p xs))) [
-      true ↦ (λ e. rw (h x e) (elim b as (λ v. (b ≡ v) → list_any p (cond v (x ∷ filter q xs) (filter q xs)) ≡ (v && true)) [
-          true ↦ (λ k. rw e refl)
-        | false ↦ (λ k. list_any-filter p q b h xs ∙ rw k refl) ] refl))
-    | false ↦ (λ e. elim (q x) as (λ t. list_any p (cond t (x ∷ filter q xs) (filter q xs)) ≡ (b && list_any p xs)) [
-          true ↦ rw e (list_any-filter p q b h xs)
-        | false ↦ list_any-filter p q b h xs ]) ] refl
+      | true ↦ (λ e. rw (h x e) (elim b as (λ v. (b ≡ v) → list_any p (cond v (x ∷ filter q xs) (filter q xs)) ≡ (v && true)) [
+        | true ↦ (λ k. rw e refl)
+        | false ↦ (λ k. list_any-filter p q b h xs ∙ rw k refl)
+      ] refl))
+      | false ↦ (λ e. elim (q x) as (λ t. list_any p (cond t (x ∷ filter q xs) (filter q xs)) ≡ (b && list_any p xs)) [
+        | true ↦ rw e (list_any-filter p q b h xs)
+        | false ↦ list_any-filter p q b h xs
+      ])
+    ] refl
 
 pub find-filter : {X : Type 0} (p q : X → Bool) → ((x : X) → p x ≡ true → q x ≡ true) → (xs : List X)
     → find p (filter q xs) ≡ find p xs
 find-filter p q h [] = refl
 find-filter p q h (x ∷ xs) =
     elim (p x) as (λ u. p x ≡ u → find p (cond (q x) (x ∷ filter q xs) (filter q xs)) ≡ cond u (Some x) (find p xs)) [
-      true ↦ (λ e. rw (h x e, e) refl)
-    | false ↦ (λ e. elim (q x) as (λ t. find p (cond t (x ∷ filter q xs) (filter q xs)) ≡ find p xs) [
-          true ↦ rw e (find-filter p q h xs)
-        | false ↦ find-filter p q h xs ]) ] refl
+      | true ↦ (λ e. rw (h x e, e) refl)
+      | false ↦ (λ e. elim (q x) as (λ t. find p (cond t (x ∷ filter q xs) (filter q xs)) ≡ find p xs) [
+        | true ↦ rw e (find-filter p q h xs)
+        | false ↦ find-filter p q h xs
+      ])
+    ] refl
 
 -- where nothing that the filter drops is selected
 pub filter_map-filter : {X Y : Type 0} (h : X → Option Y) (q : X → Bool) → ((x : X) → q x ≡ false → h x ≡ None) → (xs : List X)
@@ -53,8 +58,9 @@ pub filter_map-filter : {X Y : Type 0} (h : X → Option Y) (q : X → Bool) →
 filter_map-filter h q none [] = refl
 filter_map-filter h q none (x ∷ xs) =
     elim (q x) as (λ t. q x ≡ t → filter_map h (cond t (x ∷ filter q xs) (filter q xs)) ≡ cons_option (h x) (filter_map h xs)) [
-      true ↦ (λ e. ap (cons_option (h x)) (filter_map-filter h q none xs))
-    | false ↦ (λ e. rw (none x e) (filter_map-filter h q none xs)) ] refl
+      | true ↦ (λ e. ap (cons_option (h x)) (filter_map-filter h q none xs))
+      | false ↦ (λ e. rw (none x e) (filter_map-filter h q none xs))
+    ] refl
 
 -- where nothing that it keeps is
 pub filter_map-filter_none : {X Y : Type 0} (h : X → Option Y) (q : X → Bool) → ((x : X) → q x ≡ true → h x ≡ None) → (xs : List X)
@@ -62,8 +68,9 @@ pub filter_map-filter_none : {X Y : Type 0} (h : X → Option Y) (q : X → Bool
 filter_map-filter_none h q none [] = refl
 filter_map-filter_none h q none (x ∷ xs) =
     elim (q x) as (λ t. q x ≡ t → filter_map h (cond t (x ∷ filter q xs) (filter q xs)) ≡ []) [
-      true ↦ (λ e. rw (none x e) (filter_map-filter_none h q none xs))
-    | false ↦ (λ e. filter_map-filter_none h q none xs) ] refl
+      | true ↦ (λ e. rw (none x e) (filter_map-filter_none h q none xs))
+      | false ↦ (λ e. filter_map-filter_none h q none xs)
+    ] refl
 
 pub find-append_left : {X : Type 0} (p : X → Bool) (xs ys : List X) → list_any p ys ≡ false → find p (xs ++ ys) ≡ find p xs
 find-append_left p [] [] h = refl
@@ -85,8 +92,9 @@ pub find-map_same : {X : Type 0} (p : X → Bool) (r : X → X) → ((x : X) →
 find-map_same p r h k [] = refl
 find-map_same p r h k (x ∷ xs) =
     rw (h x, find-map_same p r h k xs) (elim (p x) as (λ u. p x ≡ u → cond u (Some (r x)) (find p xs) ≡ cond u (Some x) (find p xs)) [
-      true ↦ (λ e. ap Some (k x e))
-    | false ↦ (λ e. refl) ] refl)
+      | true ↦ (λ e. ap Some (k x e))
+      | false ↦ (λ e. refl)
+    ] refl)
 
 pub filter_map-map_same : {X Y : Type 0} (h : X → Option Y) (r : X → X) → ((x : X) → h (r x) ≡ h x) → (xs : List X) → filter_map h (map r xs) ≡ filter_map h xs
 filter_map-map_same h r k [] = refl

@@ -48,7 +48,7 @@ MayBeHanded-Same a b s x may = record {
 handed-Same : (a b : Map) → Same a b → (x : Handover) → Same (handed a x) (handed b x)
 handed-Same a b s x =
     Same-with (record a { held = without_holder a.held x.object x.«from» }) (record b { held = without_holder b.held x.object x.«from» }) x.object x.to
-      (Same-without a b x.object x.«from» s)
+    (Same-without a b x.object x.«from» s)
 
 MayAllBeHanded-Same : (a b : Map) → Same a b → (xs : List Handover) → MayAllBeHanded a xs → MayAllBeHanded b xs
 MayAllBeHanded-Same a b s [] may = tt
@@ -78,15 +78,16 @@ Same-hand_all facts (x ∷ xs) e =
     let next = map (handed_fact x) facts in
     let p = and_parts (test_hand facts x) (test_hand_all next xs) e in
     Same-trans (map_of (hand_all next xs)) (all_handed (map_of next) xs) (all_handed (handed (map_of facts) x) xs)
-      (Same-hand_all next xs p.1) (all_handed-Same (map_of next) (handed (map_of facts) x) (Same-handed facts x p.0) xs)
+    (Same-hand_all next xs p.1) (all_handed-Same (map_of next) (handed (map_of facts) x) (Same-handed facts x p.0) xs)
 
 pub MayAllBeHanded-from_test : (facts : List Fact) (xs : List Handover) → test_hand_all facts xs ≡ true → MayAllBeHanded (map_of facts) xs
 MayAllBeHanded-from_test facts [] e = tt
 MayAllBeHanded-from_test facts (x ∷ xs) e =
     let next = map (handed_fact x) facts in
-    let p = and_parts (test_hand facts x) (test_hand_all next xs) e in
-    (MayBeHanded-from_test facts x p.0,
-      MayAllBeHanded-Same (map_of next) (handed (map_of facts) x) (Same-handed facts x p.0) xs (MayAllBeHanded-from_test next xs p.1))
+    let p = and_parts (test_hand facts x) (test_hand_all next xs) e in (
+      MayBeHanded-from_test facts x p.0,
+      MayAllBeHanded-Same (map_of next) (handed (map_of facts) x) (Same-handed facts x p.0) xs (MayAllBeHanded-from_test next xs p.1),
+    )
 
 pub test-from_MayAllBeHanded : (facts : List Fact) (xs : List Handover) → MayAllBeHanded (map_of facts) xs → test_hand_all facts xs ≡ true
 test-from_MayAllBeHanded facts [] may = refl
@@ -94,5 +95,5 @@ test-from_MayAllBeHanded facts (x ∷ xs) may =
     let next = map (handed_fact x) facts in
     let first = test-from_MayBeHanded facts x may.0 in
     and_from (test_hand facts x) (test_hand_all next xs) first
-      (test-from_MayAllBeHanded next xs
-        (MayAllBeHanded-Same (handed (map_of facts) x) (map_of next) (Same-sym (map_of next) (handed (map_of facts) x) (Same-handed facts x first)) xs may.1))
+    (test-from_MayAllBeHanded next xs
+    (MayAllBeHanded-Same (handed (map_of facts) x) (map_of next) (Same-sym (map_of next) (handed (map_of facts) x) (Same-handed facts x first)) xs may.1))

@@ -17,11 +17,12 @@ pub Member-from_any : {X : Type 0} (p : X → Bool) (xs : List X) → list_any p
 Member-from_any p [] e = cc
 Member-from_any p (x ∷ xs) e =
     elim (p x) as (λ t. p x ≡ t → Member p (x ∷ xs)) [
-      true ↦ (λ h. record { item = x; passes = h; stands = λ q k. or_left (q x) (list_any q xs) k })
-    | false ↦ (λ h.
-        let rest : list_any p xs ≡ true = rw h at e in
-        let m = Member-from_any p xs rest in
-        record { item = m.item; passes = m.passes; stands = λ q k. or_right (q x) (list_any q xs) (m.stands q k) }) ] refl
+      | true ↦ (λ h. record { item = x; passes = h; stands = λ q k. or_left (q x) (list_any q xs) k })
+      | false ↦ (λ h.
+          let rest : list_any p xs ≡ true = rw h at e in
+          let m = Member-from_any p xs rest in
+          record { item = m.item; passes = m.passes; stands = λ q k. or_right (q x) (list_any q xs) (m.stands q k) })
+    ] refl
 
 pub list_any-implied : {X : Type 0} (p q : X → Bool) → ((x : X) → p x ≡ true → q x ≡ true) → (xs : List X) → list_any p xs ≡ true → list_any q xs ≡ true
 list_any-implied p q h xs e = let m = Member-from_any p xs e in m.stands q (h m.item m.passes)
@@ -39,13 +40,15 @@ pub entry_from_any : (facts : List Fact) (cell c : ℕ) → list_any (λ f. is_n
 entry_from_any [] cell c e = cc
 entry_from_any (x ∷ xs) cell c e =
     elim (entry_in cell x) as (λ o. entry_in cell x ≡ o → (i : ℕ) × (is_number (slice_get (cons_option o (entries_in xs cell)) i) c ≡ true)) [
-      None ↦ (λ h. let rest : list_any (λ f. is_number (entry_in cell f) c) xs ≡ true = rw h at e in entry_from_any xs cell c rest)
-    | Some y ↦ (λ h.
-        elim (y == c) as (λ t. (y == c) ≡ t → (i : ℕ) × (is_number (slice_get (y ∷ entries_in xs cell) i) c ≡ true)) [
-          true ↦ (λ k. (0, k))
-        | false ↦ (λ k.
-            let rest : list_any (λ f. is_number (entry_in cell f) c) xs ≡ true = rw (h, k) at e in
-            let found = entry_from_any xs cell c rest in (suc found.0, found.1)) ] refl) ] refl
+      | None ↦ (λ h. let rest : list_any (λ f. is_number (entry_in cell f) c) xs ≡ true = rw h at e in entry_from_any xs cell c rest)
+      | Some y ↦ (λ h.
+          elim (y == c) as (λ t. (y == c) ≡ t → (i : ℕ) × (is_number (slice_get (y ∷ entries_in xs cell) i) c ≡ true)) [
+            | true ↦ (λ k. (0, k))
+            | false ↦ (λ k.
+                let rest : list_any (λ f. is_number (entry_in cell f) c) xs ≡ true = rw (h, k) at e in
+                let found = entry_from_any xs cell c rest in (suc found.0, found.1))
+          ] refl)
+    ] refl
 
 -- and each entry is given by such a fact
 pub any_from_entry : (facts : List Fact) (cell c i : ℕ) → is_number (slice_get (entries_in facts cell) i) c ≡ true
@@ -54,10 +57,12 @@ any_from_entry [] cell c i e = cc
 any_from_entry (x ∷ xs) cell c zero e =
     let rest = list_any (λ f. is_number (entry_in cell f) c) xs in
     elim (entry_in cell x) as (λ o. is_number (slice_get (cons_option o (entries_in xs cell)) zero) c ≡ true → (is_number o c || rest) ≡ true) [
-      None ↦ (λ h. any_from_entry xs cell c zero h)
-    | Some y ↦ (λ h. or_left (y == c) rest h) ] e
+      | None ↦ (λ h. any_from_entry xs cell c zero h)
+      | Some y ↦ (λ h. or_left (y == c) rest h)
+    ] e
 any_from_entry (x ∷ xs) cell c (suc i) e =
     let rest = list_any (λ f. is_number (entry_in cell f) c) xs in
     elim (entry_in cell x) as (λ o. is_number (slice_get (cons_option o (entries_in xs cell)) (suc i)) c ≡ true → (is_number o c || rest) ≡ true) [
-      None ↦ (λ h. any_from_entry xs cell c (suc i) h)
-    | Some y ↦ (λ h. or_right (y == c) rest (any_from_entry xs cell c i h)) ] e
+      | None ↦ (λ h. any_from_entry xs cell c (suc i) h)
+      | Some y ↦ (λ h. or_right (y == c) rest (any_from_entry xs cell c i h))
+    ] e

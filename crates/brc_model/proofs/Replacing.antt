@@ -30,8 +30,9 @@ says_held-own c h = and_from (c == c) (same_holder h h) (eq-eqb c c refl) (same_
 replaced_back : (c : ℕ) (g h : Holder) (f : Fact) → says_held c h f ≡ false → replaced c h g (replaced c g h f) ≡ f
 replaced_back c g h f absent =
     elim (says_held c g f) as (λ b. says_held c g f ≡ b → replaced c h g (cond b (Holds c h) f) ≡ f) [
-      true ↦ (λ e. rw (says_held-own c h) (sym (says_held-true c g f e)))
-    | false ↦ (λ e. rw absent refl) ] refl
+      | true ↦ (λ e. rw (says_held-own c h) (sym (says_held-true c g f e)))
+      | false ↦ (λ e. rw absent refl)
+    ] refl
 
 -- where nobody had the new holder, the way back leads to what was before
 pub map-replaced_back : (c : ℕ) (g h : Holder) (facts : List Fact) → list_any (says_held c h) facts ≡ false
@@ -79,4 +80,4 @@ pub map-handed_back : (facts : List Fact) (x : Handover) → test_hand facts x �
 map-handed_back facts x e =
     let may = MayHand-from_test facts x e in
     map-replaced_back x.object x.«from» x.to facts
-      (list_any-says_held_false facts x.object x.to (has-live facts x.object x.«from» may.held) may.not_yet may.may)
+    (list_any-says_held_false facts x.object x.to (has-live facts x.object x.«from» may.held) may.not_yet may.may)

@@ -38,8 +38,9 @@ filter_map-splice h (x ∷ xs) zero ys v o there some =
     let e : x ≡ v = cc in rw (e, some) (filter_map-append h ys xs)
 filter_map-splice h (x ∷ xs) (suc i) ys v o there some =
     elim (h x) as (λ w. cons_option w (filter_map h (splice xs i ys)) ≡ splice (cons_option w (filter_map h xs)) (length (cons_option w (filter_map h (take i xs)))) (filter_map h ys)) [
-      None ↦ filter_map-splice h xs i ys v o there some
-    | Some y ↦ ap (λ l. y ∷ l) (filter_map-splice h xs i ys v o there some) ]
+      | None ↦ filter_map-splice h xs i ys v o there some
+      | Some y ↦ ap (λ l. y ∷ l) (filter_map-splice h xs i ys v o there some)
+    ]
 
 pub slice_set-splice : {X : Type 0} (xs : List X) (i : ℕ) (y : X) → i < length xs → slice_set xs i y ≡ splice xs i (y ∷ [])
 slice_set-splice [] i y h = absurd (omega arith)

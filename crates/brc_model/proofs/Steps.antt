@@ -41,8 +41,8 @@ Same-held_more facts c h = record {
   kind = λ d live. ap kind_said (find-append_left (says_lives d) facts (Holds c h ∷ []) refl);
   entries = λ d. filter_map-append (entry_in d) facts (Holds c h ∷ []) ∙ append-nil (entries_in facts d);
   held = λ d g. list_any-append (says_held d g) facts (Holds c h ∷ [])
-    ∙ ap (λ t. list_any (says_held d g) facts || t) (or-false (says_held d g (Holds c h)))
-    ∙ or-comm (list_any (says_held d g) facts) (says_held d g (Holds c h));
+      ∙ ap (λ t. list_any (says_held d g) facts || t) (or-false (says_held d g (Holds c h)))
+      ∙ or-comm (list_any (says_held d g) facts) (says_held d g (Holds c h));
 }
 
 keeps_entries : (c d : ℕ) (h : Holder) (f : Fact) → not (says_held c h f) ≡ false → entry_in d f ≡ None
@@ -93,8 +93,8 @@ pub Same-ended : (facts : List Fact) (c : ℕ)
 Same-ended facts c = record {
   live = λ d. list_any-filter (says_lives d) (λ f. not (says_lives c f)) (not (d == c)) (ends_lives c d) facts ∙ not-and (d == c) (list_any (says_lives d) facts);
   kind = λ d live.
-    let other = and_parts (not (d == c)) (list_any (says_lives d) facts) (sym (list_any-filter (says_lives d) (λ f. not (says_lives c f)) (not (d == c)) (ends_lives c d) facts) ∙ live) in
-    ap kind_said (find-filter (says_lives d) (λ f. not (says_lives c f)) (λ f e. ends_lives c d f e ∙ other.0) facts);
+      let other = and_parts (not (d == c)) (list_any (says_lives d) facts) (sym (list_any-filter (says_lives d) (λ f. not (says_lives c f)) (not (d == c)) (ends_lives c d) facts) ∙ live) in
+      ap kind_said (find-filter (says_lives d) (λ f. not (says_lives c f)) (λ f e. ends_lives c d f e ∙ other.0) facts);
   entries = λ d. filter_map-filter (entry_in d) (λ f. not (says_lives c f)) (ends_no_entry c d) facts;
   held = λ d g. list_any-filter (says_held d g) (λ f. not (says_lives c f)) true (ends_no_held c d g) facts;
 }
@@ -122,34 +122,36 @@ begins_other c d other (Contains cell object) e =
 -- an object that begins
 pub Same-begun : (facts : List Fact) (c : ℕ) (k : Kind) (h : Holder)
     → Same (map_of (begun facts c k h)) (record {
-        live = put (map_of facts).live c true;
-        kind = put (map_of facts).kind c k;
-        entries = put (map_of facts).entries c [];
-        held = with_holder (put (map_of facts).held c (λ _. false)) c h;
-      })
+      live = put (map_of facts).live c true;
+      kind = put (map_of facts).kind c k;
+      entries = put (map_of facts).entries c [];
+      held = with_holder (put (map_of facts).held c (λ _. false)) c h;
+    })
 Same-begun facts c k h =
     let old = filter (λ f. not (is_about c f)) facts in
     let new = Lives c k ∷ Holds c h ∷ [] in
     let lives = λ (d : ℕ). list_any-filter (says_lives d) (λ f. not (is_about c f)) (not (d == c)) (begins_lives c d) facts in
     record {
       live = λ d. list_any-append (says_lives d) old new ∙ ap (λ t. t || list_any (says_lives d) new) (lives d)
-        ∙ live_bool (d == c) (list_any (says_lives d) facts);
+          ∙ live_bool (d == c) (list_any (says_lives d) facts);
       kind = λ d live.
-        elim (d == c) as (λ t. (d == c) ≡ t → kind_said (find (says_lives d) (old ++ new)) ≡ (if t then k else kind_said (find (says_lives d) facts))) [
-          true ↦ (λ e. rw (find-append_right (says_lives d) old new (lives d ∙ ap (λ t. not t && list_any (says_lives d) facts) e), e) refl)
-        | false ↦ (λ e. rw (find-append_left (says_lives d) old new (rw e refl)) (ap kind_said (find-filter (says_lives d) (λ f. not (is_about c f)) (λ f s. begins_lives c d f s ∙ ap not e) facts))) ] refl;
+          elim (d == c) as (λ t. (d == c) ≡ t → kind_said (find (says_lives d) (old ++ new)) ≡ (if t then k else kind_said (find (says_lives d) facts))) [
+            | true ↦ (λ e. rw (find-append_right (says_lives d) old new (lives d ∙ ap (λ t. not t && list_any (says_lives d) facts) e), e) refl)
+            | false ↦ (λ e. rw (find-append_left (says_lives d) old new (rw e refl)) (ap kind_said (find-filter (says_lives d) (λ f. not (is_about c f)) (λ f s. begins_lives c d f s ∙ ap not e) facts)))
+          ] refl;
       entries = λ d. filter_map-append (entry_in d) old new ∙ append-nil (filter_map (entry_in d) old)
-        ∙ by_cell c d (λ t. filter_map (entry_in d) old ≡ (if t then [] else entries_in facts d))
-            (λ e. rw e (filter_map-filter_none (entry_in c) (λ f. not (is_about c f)) (begins_entry c) facts))
-            (λ e. filter_map-filter (entry_in d) (λ f. not (is_about c f)) (begins_other c d e) facts);
+          ∙ by_cell c d (λ t. filter_map (entry_in d) old ≡ (if t then [] else entries_in facts d))
+          (λ e. rw e (filter_map-filter_none (entry_in c) (λ f. not (is_about c f)) (begins_entry c) facts))
+          (λ e. filter_map-filter (entry_in d) (λ f. not (is_about c f)) (begins_other c d e) facts);
       held = λ d g. list_any-append (says_held d g) old new
-        ∙ ap (λ t. t || list_any (says_held d g) new) (list_any-filter (says_held d g) (λ f. not (is_about c f)) (not (d == c)) (begins_held c d g) facts)
-        ∙ held_bool (d == c) (same_holder g h) (λ q. list_any (says_held d q) facts) g;
+          ∙ ap (λ t. t || list_any (says_held d g) new) (list_any-filter (says_held d g) (λ f. not (is_about c f)) (not (d == c)) (begins_held c d g) facts)
+          ∙ held_bool (d == c) (same_holder g h) (λ q. list_any (says_held d q) facts) g;
     }
   where
     live_bool : (t l : Bool) → ((not t && l) || (t || (false || false))) ≡ (if t then true else l)
     live_bool true l = refl
     live_bool false l = or-false l
+
     held_bool : (t s : Bool) (held : Holder → Bool) (g : Holder)
         → ((not t && held g) || (false || ((t && s) || false))) ≡ ((t && s) || (if t then (λ _. false) else held) g)
     held_bool true s held g = refl
@@ -159,15 +161,15 @@ Same-begun facts c k h =
 pub Same-spliced : (facts : List Fact) (c i place : ℕ) (ys : List Fact) (there : IsEntryAt facts c i place)
     → ((d : ℕ) → list_any (says_lives d) ys ≡ false) → ((d : ℕ) → (d == c) ≡ false → entries_in ys d ≡ [])
     → Same (map_of (splice facts place ys)) (record (map_of facts) {
-        entries = put (map_of facts).entries c (splice (entries_in facts c) i (entries_in ys c));
-        held = λ d g. list_any (says_held d g) ys || list_any (says_held d g) facts;
-      })
+      entries = put (map_of facts).entries c (splice (entries_in facts c) i (entries_in ys c));
+      held = λ d g. list_any (says_held d g) ys || list_any (says_held d g) facts;
+    })
 Same-spliced facts c i place ys there lifeless own = record {
   live = λ d. list_any-splice (says_lives d) facts place ys (Contains c there.object) there.stands refl ∙ ap (λ t. t || list_any (says_lives d) facts) (lifeless d);
   kind = λ d live. ap kind_said (find-splice (says_lives d) facts place ys (Contains c there.object) there.stands refl (lifeless d));
   entries = λ d. by_cell c d (λ t. entries_in (splice facts place ys) d ≡ (if t then splice (entries_in facts c) i (entries_in ys c) else entries_in facts d))
-    (λ e. rw (e, ← there.before) (filter_map-splice (entry_in c) facts place ys (Contains c there.object) there.object there.stands (entry_in_own c there.object)))
-    (λ e. filter_map-splice_other (entry_in d) facts place ys (Contains c there.object) there.stands (rw e refl) (own d e));
+      (λ e. rw (e, ← there.before) (filter_map-splice (entry_in c) facts place ys (Contains c there.object) there.object there.stands (entry_in_own c there.object)))
+      (λ e. filter_map-splice_other (entry_in d) facts place ys (Contains c there.object) there.stands (rw e refl) (own d e));
   held = λ d g. list_any-splice (says_held d g) facts place ys (Contains c there.object) there.stands refl;
 }
 
@@ -191,12 +193,12 @@ says_one c d g h f e = rw (says_held-true d g f e, eq-comm d c, same_holder-comm
 
 list_any-replaced : (facts : List Fact) (c : ℕ) (g h : Holder) (d : ℕ) (q : Holder)
     → list_any (says_held d q) (map (replaced c g h) facts)
-        ≡ ((list_any (says_held c g) facts && says_held d q (Holds c h)) || (not ((d == c) && same_holder q g) && list_any (says_held d q) facts))
+    ≡ ((list_any (says_held c g) facts && says_held d q (Holds c h)) || (not ((d == c) && same_holder q g) && list_any (says_held d q) facts))
 list_any-replaced [] c g h d q = sym (and-false (not ((d == c) && same_holder q g)))
 list_any-replaced (f ∷ fs) c g h d q =
     rw (list_any-replaced fs c g h d q)
-      (ap (λ t. t || ((list_any (says_held c g) fs && says_held d q (Holds c h)) || (not ((d == c) && same_holder q g) && list_any (says_held d q) fs))) (through (says_held c g f))
-        ∙ bool_replace (says_held c g f) (says_held d q f) (list_any (says_held c g) fs) (says_held d q (Holds c h)) ((d == c) && same_holder q g) (list_any (says_held d q) fs) (says_one c d q g f))
+    (ap (λ t. t || ((list_any (says_held c g) fs && says_held d q (Holds c h)) || (not ((d == c) && same_holder q g) && list_any (says_held d q) fs))) (through (says_held c g f))
+    ∙ bool_replace (says_held c g f) (says_held d q f) (list_any (says_held c g) fs) (says_held d q (Holds c h)) ((d == c) && same_holder q g) (list_any (says_held d q) fs) (says_one c d q g f))
   where
     through : (t : Bool) → says_held d q (cond t (Holds c h) f) ≡ cond t (says_held d q (Holds c h)) (says_held d q f)
     through true = refl
@@ -227,5 +229,5 @@ Same-replaced facts c g h held = record {
   kind = λ d live. ap kind_said (find-map_same (says_lives d) (replaced c g h) (replaced_lives c d g h) (replaced_life c d g h) facts);
   entries = λ d. filter_map-map_same (entry_in d) (replaced c g h) (replaced_entry c d g h) facts;
   held = λ d q. list_any-replaced facts c g h d q
-    ∙ ap (λ t. (t && says_held d q (Holds c h)) || (not ((d == c) && same_holder q g) && list_any (says_held d q) facts)) held;
+      ∙ ap (λ t. (t && says_held d q (Holds c h)) || (not ((d == c) && same_holder q g) && list_any (says_held d q) facts)) held;
 }

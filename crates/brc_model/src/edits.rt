@@ -21,7 +21,8 @@ fn is_about_cell(fact: &Fact, cell: u32) -> bool
     match *fact {
         Fact::Lives { object, .. } | Fact::Holds { object, .. } => cell == object,
         Fact::Contains {
-            cell: container, ..
+            cell: container,
+            ..
         } => cell == container,
     }
 }

@@ -45,7 +45,9 @@ fn entry_fits(facts: &[Fact], cell: u32, change: &Exchange) -> bool
     match *change {
         Exchange::Put { .. } => entry(facts, cell, MOST_ENTRIES as usize - 1).is_none(),
         Exchange::Take {
-            index, cell: out, ..
+            index,
+            cell: out,
+            ..
         } => entry(facts, cell, index as usize) == Some(out),
         Exchange::Swap { index, old, .. } => entry(facts, cell, index as usize) == Some(old),
     }

@@ -16,3 +16,6 @@ pub use fact::Fact;
 pub use holder::Holder;
 pub use moves::{Exchange, Handover, Handovers, Move, Spot};
 pub use world::{HolderWorld, Refused};
+
+#[cfg(test)]
+mod tests;

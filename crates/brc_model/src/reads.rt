@@ -104,7 +104,9 @@ fn is_filled(facts: &[Fact], fact: &Fact, thread: u32, place: u32) -> bool
 fn is_taken(facts: &[Fact], thread: u32, place: u32) -> bool
     ensures { result ≡ list_any (fills facts.now thread place) facts.now }
 {
-    facts.iter().any(|fact| is_filled(facts, fact, thread, place))
+    facts
+        .iter()
+        .any(|fact| is_filled(facts, fact, thread, place))
 }
 
 /// Whether nothing that lives is in the place of the frame.
@@ -171,7 +173,5 @@ pub fn may_be_removed(facts: &[Fact], object: u32, holder: &Holder) -> bool
 pub fn may_die(facts: &[Fact], object: u32) -> bool
     ensures { result ≡ test_dies facts.now object }
 {
-    lives(facts, object)
-        && !is_named(facts, object)
-        && entry(facts, object, 0).is_none()
+    lives(facts, object) && !is_named(facts, object) && entry(facts, object, 0).is_none()
 }

@@ -14,5 +14,6 @@ loop-place-preserved c =
     let said = entry_in c.args.cell (slice_index_or c.args.facts.now c.loop-place.place d) in
     let told : c.is_some.result ≡ is_some said = c.is_some.ensures ∙ ap is_some c.entry_of.ensures in
     elim c.if-is_some.branch [
-      then-is_some+else-left-eq0 w ↦ let one = count_said-some said (sym told ∙ w.if-is_some.true) in omega arith
-    | else-is_some w ↦ let none = count_said-none said (sym told ∙ w.if-is_some.false) in omega arith ]
+      | then-is_some+else-left-eq0 w ↦ let one = count_said-some said (sym told ∙ w.if-is_some.true) in omega arith
+      | else-is_some w ↦ let none = count_said-none said (sym told ∙ w.if-is_some.false) in omega arith
+    ]

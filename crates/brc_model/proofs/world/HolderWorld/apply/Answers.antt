@@ -71,52 +71,60 @@ pub returns-after-begin-clause-allowed : goal.returns-after-begin-clause-allowed
 returns-after-begin-clause-allowed g c =
     let told = rw c.deref.ensures.value at (sym c.may_be_born.ensures ∙ c.if-not-may_be_born.false) in
     elim c.match-begin.branch [
-      in-Ok w ↦ rw (w.result-is, ← c.self.view_is, c.in-Born.is) (MayBeBorn-from_test c.self.inside.facts.items c.in-Born.object c.in-Born.kind c.in-Born.holder told)
-    | in-Err w ↦ rw w.result-is tt ]
+      | in-Ok w ↦ rw (w.result-is, ← c.self.view_is, c.in-Born.is) (MayBeBorn-from_test c.self.inside.facts.items c.in-Born.object c.in-Born.kind c.in-Born.holder told)
+      | in-Err w ↦ rw w.result-is tt
+    ]
 
 pub returns-after-begin-clause-reason : goal.returns-after-begin-clause-reason
 returns-after-begin-clause-reason g c =
     let told = rw c.deref.ensures.value at (sym c.may_be_born.ensures ∙ c.if-not-may_be_born.false) in
     elim c.match-begin.branch [
-      in-Ok w ↦ rw w.result-is tt
-    | in-Err w ↦ rw (w.result-is, ← c.self.view_is, c.in-Born.is) (MayBeBorn-from_test c.self.inside.facts.items c.in-Born.object c.in-Born.kind c.in-Born.holder told, refl) ]
+      | in-Ok w ↦ rw w.result-is tt
+      | in-Err w ↦ rw (w.result-is, ← c.self.view_is, c.in-Born.is) (MayBeBorn-from_test c.self.inside.facts.items c.in-Born.object c.in-Born.kind c.in-Born.holder told, refl)
+    ]
 
 pub returns-after-add-clause-allowed : goal.returns-after-add-clause-allowed
 returns-after-add-clause-allowed g c =
     let told = rw c.deref-in-Add.ensures.value at (sym c.may_be_added.ensures ∙ c.if-not-may_be_added.false) in
     elim c.match-add.branch [
-      in-Ok-add w ↦ rw (w.result-is, ← c.self.view_is, c.in-Add.is) (MayBeAdded-from_test c.self.inside.facts.items c.in-Add.object c.in-Add.holder told)
-    | in-Err-add w ↦ rw w.result-is tt ]
+      | in-Ok-add w ↦ rw (w.result-is, ← c.self.view_is, c.in-Add.is) (MayBeAdded-from_test c.self.inside.facts.items c.in-Add.object c.in-Add.holder told)
+      | in-Err-add w ↦ rw w.result-is tt
+    ]
 
 pub returns-after-add-clause-reason : goal.returns-after-add-clause-reason
 returns-after-add-clause-reason g c =
     let told = rw c.deref-in-Add.ensures.value at (sym c.may_be_added.ensures ∙ c.if-not-may_be_added.false) in
     elim c.match-add.branch [
-      in-Ok-add w ↦ rw w.result-is tt
-    | in-Err-add w ↦ rw (w.result-is, ← c.self.view_is, c.in-Add.is) (MayBeAdded-from_test c.self.inside.facts.items c.in-Add.object c.in-Add.holder told, refl) ]
+      | in-Ok-add w ↦ rw w.result-is tt
+      | in-Err-add w ↦ rw (w.result-is, ← c.self.view_is, c.in-Add.is) (MayBeAdded-from_test c.self.inside.facts.items c.in-Add.object c.in-Add.holder told, refl)
+    ]
 
 pub returns-after-change_it-clause-allowed : goal.returns-after-change_it-clause-allowed
 returns-after-change_it-clause-allowed g c =
     let told = rw c.deref-in-Change.ensures.value at (sym c.may_be_changed.ensures ∙ c.if-not-may_be_changed.false) in
     elim c.match-change_it.branch [
-      in-Ok-change_it w ↦ rw (w.result-is, ← c.self.view_is, c.in-Change.is) (MayBeChanged-from_test c.self.inside.facts.items c.in-Change.cell c.in-Change.place c.in-Change.change told)
-    | in-Err-change_it w ↦ rw w.result-is tt ]
+      | in-Ok-change_it w ↦ rw (w.result-is, ← c.self.view_is, c.in-Change.is) (MayBeChanged-from_test c.self.inside.facts.items c.in-Change.cell c.in-Change.place c.in-Change.change told)
+      | in-Err-change_it w ↦ rw w.result-is tt
+    ]
 
 pub returns-after-change_it-clause-reason : goal.returns-after-change_it-clause-reason
 returns-after-change_it-clause-reason g c =
     let told = rw c.deref-in-Change.ensures.value at (sym c.may_be_changed.ensures ∙ c.if-not-may_be_changed.false) in
     elim c.match-change_it.branch [
-      in-Ok-change_it w ↦ rw w.result-is tt
-    | in-Err-change_it w ↦ rw (w.result-is, ← c.self.view_is, c.in-Change.is) (MayBeChanged-from_test c.self.inside.facts.items c.in-Change.cell c.in-Change.place c.in-Change.change told, w.in-Err-change_it.ensures.memory) ]
+      | in-Ok-change_it w ↦ rw w.result-is tt
+      | in-Err-change_it w ↦ rw (w.result-is, ← c.self.view_is, c.in-Change.is) (MayBeChanged-from_test c.self.inside.facts.items c.in-Change.cell c.in-Change.place c.in-Change.change told, w.in-Err-change_it.ensures.memory)
+    ]
 
 pub returns-after-begin-clause-moved : goal.returns-after-begin-clause-moved
 returns-after-begin-clause-moved g c =
     elim c.match-begin.branch [
-      in-Ok w ↦ rw (w.result-is, w.in-Ok.ensures.begun, ← c.self.view_is, c.in-Born.is) (Same-begun c.self.inside.facts.items c.in-Born.object c.in-Born.kind c.in-Born.holder)
-    | in-Err w ↦ rw w.result-is tt ]
+      | in-Ok w ↦ rw (w.result-is, w.in-Ok.ensures.begun, ← c.self.view_is, c.in-Born.is) (Same-begun c.self.inside.facts.items c.in-Born.object c.in-Born.kind c.in-Born.holder)
+      | in-Err w ↦ rw w.result-is tt
+    ]
 
 pub returns-after-add-clause-moved : goal.returns-after-add-clause-moved
 returns-after-add-clause-moved g c =
     elim c.match-add.branch [
-      in-Ok-add w ↦ rw (w.result-is, w.in-Ok-add.ensures.added, ← c.self.view_is, c.in-Add.is) (Same-held_more c.self.inside.facts.items c.in-Add.object c.in-Add.holder)
-    | in-Err-add w ↦ rw w.result-is tt ]
+      | in-Ok-add w ↦ rw (w.result-is, w.in-Ok-add.ensures.added, ← c.self.view_is, c.in-Add.is) (Same-held_more c.self.inside.facts.items c.in-Add.object c.in-Add.holder)
+      | in-Err-add w ↦ rw w.result-is tt
+    ]
