@@ -1,7 +1,7 @@
 -- The holder map: which places hold which objects, and when a reference may move.
 -- This is the plain meaning of "reference" in PEP 703 and in Choi, Shull and Torrellas, "Biased Reference Counting":
 -- sets of holders, with no count, owner, state or order of queues.
-use Rattle.std.specs.Prelude.{◌≡◌, ◌≢◌, ℕ, ◌+◌, ◌-◌, ◌<◌, ◌≤◌, ◌==◌, nat_lt, ◌&&◌, ◌||◌, not, Bool, true, false, if◌then◌else◌, List, [], ◌∷◌, ◌++◌, length, take, Option, Some, None, slice_get, slice_set, remove, ◌⊎◌}
+use Rattle.std.specs.Prelude.{◌≡◌, ◌≢◌, ℕ, ◌+◌, ◌<◌, ◌≤◌, ◌==◌, nat_lt, ◌&&◌, ◌||◌, not, Bool, true, false, if◌then◌else◌, List, [], ◌∷◌, ◌++◌, length, take, Option, Some, None, slice_get, slice_set, remove, ◌⊎◌}
 use Rattle.brc_words.specs.declared.kind.Kind.{Kind}
 use Rattle.brc_words.specs.Kinds.{is_mortal, is_container}
 use Rattle.brc_model.specs.declared.holder.Holder.{Holder}

@@ -1,1 +1,5 @@
 pub mod Holders
+pub mod Facts
+pub mod Tests
+pub mod Edits
+pub mod World

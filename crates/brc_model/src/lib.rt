@@ -4,8 +4,18 @@
 //! (`specs/Holders.antt`) and never run it; `HolderWorld` is the map as a program.
 #![tactic(auto)]
 
+mod edits;
+mod exchanges;
+mod fact;
 mod holder;
 mod moves;
+mod reads;
+mod world;
 
+pub use fact::Fact;
 pub use holder::Holder;
 pub use moves::{Exchange, Handover, Handovers, Move, Spot};
+pub use world::{HolderWorld, Refused};
+
+#[cfg(test)]
+mod tests;

@@ -1,0 +1,12 @@
+pub mod Entries
+pub mod Places
+pub mod Replacing
+pub mod Filtering
+pub mod Splicing
+pub mod Maps
+pub mod Steps
+pub mod Members
+pub mod Deciding
+pub mod Allowing
+pub mod Handing
+pub mod Exchanging
