@@ -11,7 +11,7 @@ use crate::tables::{Tables, no_cell, no_row};
 use crate::words::Words;
 use brc_runs::Cell;
 use brc_words::{
-    GLOBALS, IMMORTAL_LOCAL, Kind, MOST_CELLS, MOST_LOCAL, Owner, State, fewest_cells,
+    FEWEST_CELLS, GLOBALS, IMMORTAL_LOCAL, Kind, MOST_CELLS, MOST_LOCAL, Owner, State,
 };
 use std::alloc::{AllocError, Allocator};
 
@@ -19,7 +19,7 @@ use std::alloc::{AllocError, Allocator};
 pub(crate) fn are_options(cells: u32, local_limit: u32) -> bool
     ensures { IsTrue result ↔ AreOptions cells local_limit }
 {
-    fewest_cells() <= cells && cells <= MOST_CELLS && 1 <= local_limit && local_limit <= MOST_LOCAL
+    FEWEST_CELLS <= cells && cells <= MOST_CELLS && 1 <= local_limit && local_limit <= MOST_LOCAL
 }
 
 /// What an immortal cell is.

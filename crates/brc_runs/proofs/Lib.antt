@@ -8,7 +8,7 @@ pub mod Counting
 pub mod Ending
 pub mod Preserving
 pub mod Registering
-pub mod Opening
+pub mod Beginning
 pub mod Headlines
 pub mod Lifetimes
 pub mod Moving

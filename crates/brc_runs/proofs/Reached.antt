@@ -13,7 +13,7 @@ use Rattle.brc_runs.specs.Steps.{enabled, after, after_target, registered, root_
 use Rattle.brc_runs.specs.Runs.{IsRun, IsReached, world_after}
 use Rattle.brc_runs.specs.Holding.{Headline, Histories, lives, lives_at, lives_since, is_birth, is_free_step, MakesMoves, map_of, moves_by}
 use Rattle.brc_runs.specs.Sound.{IsSound}
-use Rattle.brc_runs.proofs.Opening.{opening_sound, free_cell}
+use Rattle.brc_runs.proofs.Beginning.{opening_sound, free_cell}
 use Rattle.brc_runs.proofs.Registering.{registered_sound}
 use Rattle.brc_runs.proofs.Preserving.{step_sound}
 use Rattle.brc_runs.proofs.Headlines.{sound_headline, allocs_fit, frees_fit}

@@ -6,8 +6,14 @@
 
 mod cell;
 mod event;
+mod laws;
+mod opening;
 mod row;
 
 pub use cell::Cell;
 pub use event::{Dropped, Event, Source, Step};
+pub use laws::{
+    counts_are_references, events_make_their_moves, lives_are_told_by_the_run, worlds_are_sound,
+};
+pub use opening::{is_immortal, new_row, no_cell, no_row, opening_cell, words_for};
 pub use row::{Hand, Phase, Row, Stage};

@@ -13,8 +13,11 @@ mod state;
 pub use fault::{Fault, Reason};
 pub use kind::{Kind, is_container_kind, is_mortal_kind};
 pub use limits::{
-    COUNTED_FROM, FIRST_MORTAL, GLOBALS, IMMORTAL_LOCAL, MOST_BIRTHS, MOST_CELLS, MOST_ENTRIES,
-    MOST_LOCAL, MOST_PLACES, MOST_THREADS, fewest_cells,
+    COUNTED_FROM, FEWEST_CELLS, FIRST_MORTAL, GLOBALS, IMMORTAL_LOCAL, MOST_BIRTHS, MOST_CELLS,
+    MOST_ENTRIES, MOST_LOCAL, MOST_PLACES, MOST_THREADS,
 };
 pub use owner::{Owner, OwnerWord};
 pub use state::{State, count_of, shared_word, state_of};
+
+#[cfg(test)]
+mod tests;

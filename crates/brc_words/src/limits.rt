@@ -1,11 +1,11 @@
 //! The limits of this heap, and the cells that have names.
 
-ghost use Rattle.std.specs.Prelude.{◌≡◌};
-
 /// Cells 0 to 264 are immortal and have a fixed value; this one is the immortal dictionary of globals.
 pub const GLOBALS: u32 = 265;
 /// The first cell that is born and dies.
 pub const FIRST_MORTAL: u32 = 266;
+/// A heap has at least this many cells.
+pub const FEWEST_CELLS: u32 = 512;
 /// A heap has at most this many cells.
 pub const MOST_CELLS: u32 = 65_536;
 /// A heap registers at most this many threads; the root is thread 0.
@@ -22,10 +22,3 @@ pub const IMMORTAL_LOCAL: u32 = 4_294_967_295;
 pub const MOST_BIRTHS: u64 = 140_737_488_355_328;
 /// The shared word of count 0 has this number above its state bits, so that a count below 0 has a spelling.
 pub const COUNTED_FROM: i64 = 1_099_511_627_776;
-
-/// A heap has at least this many cells.
-pub const fn fewest_cells() -> u32
-    ensures { result ≡ 512 }
-{
-    512
-}
