@@ -1,4 +1,6 @@
 pub mod Memory
+pub mod Moves
+pub mod Parts
 pub mod Places
 pub mod Readings
 pub mod Replays

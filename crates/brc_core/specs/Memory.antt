@@ -1,4 +1,4 @@
--- Which steps may need memory: those that fill a place of a frame, and the registration of a thread.
+-- Which steps may need memory: those that fill a place of a frame, and a registration.
 use Rattle.std.specs.Prelude.{Bool, true, false}
 use Rattle.brc_runs.specs.declared.event.Step.{Step}
 use Rattle.brc_runs.specs.declared.event.Step.TheVariants.{Claim, InitLocal, InitShared, Birth, LocalUp, LocalDown, SeeZero, Free, Register}

@@ -1,13 +1,14 @@
 -- What the readers of a world say, where the world's lists don't say it at once.
-use Rattle.std.specs.Prelude.{ℕ, ◌&&◌, ◌||◌, not, Bool, true, false, Option, Some, None, sum_by}
+use Rattle.std.specs.Prelude.{ℕ, ◌&&◌, ◌||◌, not, Bool, true, false, Option, Some, None, List, [], if◌then◌else◌, sum_by}
 use Rattle.brc_core.specs.declared.readers.Status.{Status}
 use Rattle.brc_core.specs.declared.readers.Status.TheVariants as statuses
 use Rattle.brc_core.specs.declared.totals.Ledger.{Ledger}
+use Rattle.brc_model.specs.declared.holder.Holder.{Holder}
 use Rattle.brc_runs.specs.declared.row.Row.{Row}
 use Rattle.brc_runs.specs.declared.row.Stage.{Stage}
 use Rattle.brc_runs.specs.declared.row.Stage.TheVariants as stages
-use Rattle.brc_runs.specs.Heap.{Heap, cell_at, is_immortal}
-use Rattle.brc_runs.specs.Holding.{lives_at}
+use Rattle.brc_runs.specs.Heap.{Heap, cell_at, row_at, is_immortal, is_registered, is_gathered}
+use Rattle.brc_runs.specs.Holding.{lives_at, holders_of}
 use Rattle.brc_runs.specs.Sound.{is_merged}
 
 -- this, where the test holds
@@ -38,4 +39,15 @@ ledger_of row = record { allocs = row.allocs; frees = row.frees }
 
 -- the ledgers of all threads together
 abbrev pub ledgers_of : Heap → Ledger
-ledgers_of h = record { allocs = sum_by (λ row. row.allocs) h.rows; frees = sum_by (λ row. row.frees) h.rows }
+ledgers_of h = record {
+  allocs = sum_by (λ row. row.allocs) h.rows;
+  frees = sum_by (λ row. row.frees) h.rows;
+}
+
+-- how far the life of a registered thread is
+abbrev pub status_at : Heap → ℕ → Option Status
+status_at h t = only_if (is_registered h t) (status_of (row_at h t).stage (is_gathered h t))
+
+-- the holders of an object that lives and dies
+abbrev pub mortal_holders : Heap → ℕ → List Holder
+mortal_holders h c = if lives_at h c then holders_of h c else []

@@ -14,9 +14,10 @@ pub record IsFirstNotEnabled (start : Heap) (events : List Event) (at : ℕ) : T
   pub earlier : IsRun start (reverse (take at events))
   pub refused : enabled (world_after start (reverse (take at events))) event ≡ false
 
--- the fault is right: the sizes are none of a heap, or the named event is the first that isn't enabled; or memory is
--- wanting, of which nothing can be said
+-- the fault is right: the sizes are none of a heap, or the named event is the first that isn't
+-- enabled; or memory is wanting, of which nothing can be said
 abbrev pub IsRight : ReplayFault → ℕ → ℕ → List Event → Type 0
 IsRight faults.Options cells limit events = ¬ (AreOptions cells limit)
-IsRight (faults.NotEnabled at) cells limit events = IsFirstNotEnabled (opening cells limit) events at
+IsRight (faults.NotEnabled at) cells limit events =
+    IsFirstNotEnabled (opening cells limit) events at
 IsRight faults.Memory cells limit events = AreOptions cells limit

@@ -1,9 +1,10 @@
 //! What a thread's step does to each of the tables.
 
-ghost use Rattle.std.specs.Prelude.{◌≡◌, ◌+◌, ◌<◌, ◌^◌, true, [], OnOk, OnErr, slice_set, slice_index_or};
+ghost use Rattle.std.specs.Prelude.{◌≡◌, ◌+◌, ◌<◌, ◌^◌, true, OnOk, OnErr, slice_set};
 ghost use Rattle.brc_core.specs.Memory.{needs_memory};
+ghost use Rattle.brc_core.specs.Parts.{frames_after, works_after};
 ghost use Rattle.brc_runs.specs.Heap.{cell_at, row_at};
-ghost use Rattle.brc_runs.specs.Steps.{cell_ok, frame_after, work_after, entries_after, stepped};
+ghost use Rattle.brc_runs.specs.Steps.{cell_ok, entries_after, stepped};
 
 use crate::effects::{cell_after, is_untouched, row_after};
 use crate::entries::Entries;
@@ -38,7 +39,7 @@ fn change_frame<A: Allocator>(
     step: Step,
     cell: u32,
 ) -> Result<(), AllocError>
-    ensures ok { OnOk result (frames.new.items ≡ slice_set frames.old.items thread (frame_after step cell (slice_index_or frames.old.items thread []))) }
+    ensures ok { OnOk result (frames.new.items ≡ frames_after step thread cell frames.old.items) }
     ensures err { OnErr result (frames.new.items ≡ frames.old.items) }
     ensures memory { OnErr result (needs_memory step ≡ true) }
 {
@@ -64,7 +65,7 @@ fn change_marks<A: Allocator>(
     cell: u32,
     found: Cell,
 )
-    ensures { works.new.items ≡ slice_set works.old.items thread (work_after step cell found (slice_index_or works.old.items thread [])) }
+    ensures { works.new.items ≡ works_after step thread cell found works.old.items }
 {
     let Some(marks) = works.get_mut(thread as usize) else {
         return;
@@ -102,7 +103,8 @@ fn change_entries<A: Allocator>(lists: &mut Vec<Entries<A>, A>, step: Step)
 impl<A: Allocator + Copy> Tables<A> {
     /// What a thread's step does, where its cell is this one.
     pub(crate) fn make_step(&mut self, thread: u32, step: Step, cell: u32) -> Result<(), AllocError>
-        requires cell { cell_ok self.old.limit thread (row_at self.old thread).stage step cell (cell_at self.old cell) ≡ true }
+        requires cell { cell_ok self.old.limit thread (row_at self.old thread).stage step cell
+            (cell_at self.old cell) ≡ true }
         requires allocs { (row_at self.old thread).allocs + 1 < 2 ^ 64 }
         requires frees { (row_at self.old thread).frees + 1 < 2 ^ 64 }
 

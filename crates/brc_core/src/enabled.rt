@@ -1,9 +1,9 @@
 //! Whether an event is enabled in a world, and which cell its step means.
 
-ghost use Rattle.std.specs.Prelude.{◌≡◌, Option};
-ghost use Rattle.brc_runs.specs.Lists.{place_at};
-ghost use Rattle.brc_runs.specs.Heap.{Heap, cell_at, entries_at, row_at, frame_at, work_at};
-ghost use Rattle.brc_runs.specs.Steps.{locked_cell, source_cell, dropped_cell, target, is_vacant, own_ok, target_ok, thread_may, root_may, enabled};
+ghost use Rattle.std.specs.Prelude.{◌≡◌};
+ghost use Rattle.brc_core.specs.Parts.{locked_at, source_at, dropped_at, target_at, own_ok_at, cell_ok_at};
+ghost use Rattle.brc_runs.specs.Heap.{frame_at};
+ghost use Rattle.brc_runs.specs.Steps.{is_vacant, thread_may, root_may, enabled};
 
 use crate::conditions::{cell_ok, hand_ok, is_immortal, lock_ok, stage_ok};
 use crate::tables::Tables;
@@ -14,7 +14,7 @@ use std::alloc::Allocator;
 impl<A: Allocator + Copy> Tables<A> {
     /// The cell that the thread has locked.
     fn locked_cell(&self, thread: u32) -> Option<u32>
-        ensures { result ≡ locked_cell (frame_at self.now thread) (row_at self.now thread).locked }
+        ensures { result ≡ locked_at self.now thread }
     {
         match self.row(thread).locked {
             Some(place) => self.place(thread, place),
@@ -24,7 +24,7 @@ impl<A: Allocator + Copy> Tables<A> {
 
     /// The cell that a source names.
     fn source_cell(&self, thread: u32, source: Source) -> Option<u32>
-        ensures { result ≡ source_cell (row_at self.now thread) (frame_at self.now thread) (entries_at self.now) source }
+        ensures { result ≡ source_at self.now thread source }
     {
         match source {
             Source::Frame(place) => self.place(thread, place),
@@ -38,7 +38,7 @@ impl<A: Allocator + Copy> Tables<A> {
 
     /// The cell whose reference goes.
     fn dropped_cell(&self, thread: u32, dropped: Dropped) -> Option<u32>
-        ensures { result ≡ dropped_cell (frame_at self.now thread) (work_at self.now thread) (entries_at self.now) dropped }
+        ensures { result ≡ dropped_at self.now thread dropped }
     {
         match dropped {
             Dropped::Frame(place) => self.place(thread, place),
@@ -54,7 +54,7 @@ impl<A: Allocator + Copy> Tables<A> {
 
     /// The one cell that the step means.
     pub(crate) fn target(&self, thread: u32, step: Step) -> Option<u32>
-        ensures { result ≡ target (row_at self.now thread) (frame_at self.now thread) (work_at self.now thread) (entries_at self.now) step }
+        ensures { result ≡ target_at self.now thread step }
     {
         match step {
             Step::Claim(cell) => Some(cell),
@@ -78,7 +78,7 @@ impl<A: Allocator + Copy> Tables<A> {
 
     /// What the thread's own part must be besides.
     fn own_ok(&self, thread: u32, step: Step) -> bool
-        ensures { result ≡ own_ok (row_at self.now thread) (frame_at self.now thread) (work_at self.now thread) (entries_at self.now) step }
+        ensures { result ≡ own_ok_at self.now thread step }
     {
         match step {
             Step::Claim(_) => self.row(thread).allocs < MOST_BIRTHS,
@@ -93,7 +93,7 @@ impl<A: Allocator + Copy> Tables<A> {
 
     /// Whether the cell that is meant is one of the heap, and as it must be.
     fn target_ok(&self, thread: u32, step: Step) -> bool
-        ensures { result ≡ target_ok self.now thread (row_at self.now thread).stage step (target (row_at self.now thread) (frame_at self.now thread) (work_at self.now thread) (entries_at self.now) step) }
+        ensures { result ≡ cell_ok_at self.now thread step }
     {
         match self.target(thread, step) {
             None => false,

@@ -1,10 +1,13 @@
-//! The holders of an object: every place that keeps it alive, read off frames, entries, queues and hands.
+//! The holders of an object: every place that keeps it alive.
+//!
+//! They are read off frames, entries, queues and hands, and never off a count.
 
-ghost use Rattle.std.specs.Prelude.{◌≡◌, ◌≤◌, ◌==◌, ℕ, [], ◌++◌, length, if◌then◌else◌, IfOk, IfErr, OnOk};
+ghost use Rattle.std.specs.Prelude.{◌≡◌, ◌≤◌, ℕ, ◌++◌, length, IfOk, IfErr, OnOk};
+ghost use Rattle.brc_core.specs.Readings.{mortal_holders};
 ghost use Rattle.brc_core.specs.Places.{of_place, of_frame, of_entry, of_entries, of_queue, of_popped, of_row};
 ghost use Rattle.brc_runs.specs.Lists.{names};
 ghost use Rattle.brc_runs.specs.Heap.{frame_at, entries_at};
-ghost use Rattle.brc_runs.specs.Holding.{each, if_so, has_reference, carries, lives_at, holders_of};
+ghost use Rattle.brc_runs.specs.Holding.{each, if_so, has_reference, carries};
 
 use crate::tables::Tables;
 use crate::world::World;
@@ -76,7 +79,8 @@ impl<A: Allocator + Copy> Tables<A> {
     ) -> Result<(), AllocError>
         requires { length (frame_at self.now thread) ≤ 65536 }
 
-        ensures { OnOk result (found.new.items ≡ found.old.items ++ of_frame cell thread (frame_at self.now thread)) }
+        ensures { OnOk result
+            (found.new.items ≡ found.old.items ++ of_frame cell thread (frame_at self.now thread)) }
     {
         for place in 0..self.frame_len(thread) as u32 {
             let holds = names(cell, self.place(thread, place));
@@ -94,7 +98,8 @@ impl<A: Allocator + Copy> Tables<A> {
         requires threads { length self.now.frames ≤ 65 }
         requires places { (t : ℕ) → length (frame_at self.now t) ≤ 65536 }
 
-        ensures { OnOk result (found.new.items ≡ found.old.items ++ each (of_frame cell) 0 self.now.frames) }
+        ensures { OnOk result
+            (found.new.items ≡ found.old.items ++ each (of_frame cell) 0 self.now.frames) }
     {
         for thread in 0..self.frames.len() as u32 {
             self.places_holding(found, thread, cell)?;
@@ -111,7 +116,8 @@ impl<A: Allocator + Copy> Tables<A> {
     ) -> Result<(), AllocError>
         requires { length (entries_at self.now at) ≤ 1048576 }
 
-        ensures { OnOk result (found.new.items ≡ found.old.items ++ of_entries cell at (entries_at self.now at)) }
+        ensures { OnOk result
+            (found.new.items ≡ found.old.items ++ of_entries cell at (entries_at self.now at)) }
     {
         let entries = self.entries(at);
         for index in 0..entries.len() as u32 {
@@ -130,7 +136,8 @@ impl<A: Allocator + Copy> Tables<A> {
         requires cells { length self.now.entries ≤ 65536 }
         requires entries { (c : ℕ) → length (entries_at self.now c) ≤ 1048576 }
 
-        ensures { OnOk result (found.new.items ≡ found.old.items ++ each (of_entries cell) 0 self.now.entries) }
+        ensures { OnOk result
+            (found.new.items ≡ found.old.items ++ each (of_entries cell) 0 self.now.entries) }
     {
         for at in 0..self.entries.len() as u32 {
             self.entries_holding(found, at, cell)?;
@@ -146,7 +153,8 @@ impl<A: Allocator + Copy> Tables<A> {
     ) -> Result<(), AllocError>
         requires { length self.now.queues ≤ 65 }
 
-        ensures { OnOk result (found.new.items ≡ found.old.items ++ each (of_queue cell) 0 self.now.queues) }
+        ensures { OnOk result
+            (found.new.items ≡ found.old.items ++ each (of_queue cell) 0 self.now.queues) }
     {
         for thread in 0..self.queues.len() as u32 {
             let holds = self.is_queued(thread, cell);
@@ -163,7 +171,8 @@ impl<A: Allocator + Copy> Tables<A> {
     ) -> Result<(), AllocError>
         requires { length self.now.popped ≤ 65 }
 
-        ensures { OnOk result (found.new.items ≡ found.old.items ++ each (of_popped cell) 0 self.now.popped) }
+        ensures { OnOk result
+            (found.new.items ≡ found.old.items ++ each (of_popped cell) 0 self.now.popped) }
     {
         for thread in 0..self.popped.len() as u32 {
             let holds = self.is_popped(thread, cell);
@@ -180,7 +189,8 @@ impl<A: Allocator + Copy> Tables<A> {
     ) -> Result<(), AllocError>
         requires { length self.now.rows ≤ 65 }
 
-        ensures { OnOk result (found.new.items ≡ found.old.items ++ each (of_row cell) 0 self.now.rows) }
+        ensures { OnOk result
+            (found.new.items ≡ found.old.items ++ each (of_row cell) 0 self.now.rows) }
     {
         for thread in 0..self.rows.len() as u32 {
             let holds = carries(cell, self.row(thread).hand);
@@ -191,9 +201,10 @@ impl<A: Allocator + Copy> Tables<A> {
 }
 
 impl<A: Allocator + Copy> World<A> {
-    /// The holders of a live mortal object: frames, entries, queue bits, popped, hands, each by rising numbers.
+    /// The holders of a live mortal object: frame places, entries, queue bits, popped bits, hands,
+    /// each by rising numbers.
     pub fn holders<B: Allocator>(&self, alloc: B, cell: u32) -> Result<Vec<Holder, B>, Fault>
-        ensures holders { IfOk result (λ list. list.items ≡ (if lives_at self.now cell then holders_of self.now cell else [])) }
+        ensures holders { IfOk result (λ list. list.items ≡ mortal_holders self.now cell) }
         ensures refused { IfErr result (λ fault. fault ≡ Fault.OutOfMemory) }
     {
         let mut found = Vec::new(alloc);

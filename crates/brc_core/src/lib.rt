@@ -1,4 +1,9 @@
 //! The world of the heap as a program: events one by one, replay, and readers of every part.
+//!
+//! Each `World` is reached by some run of events from an opening one: that is the invariant of its
+//! type, so counts are references in every world that a caller has. What an event is and does is
+//! `brc_runs`, `specs/Steps.antt`, and the argument is its `proofs/Reached.antt`. Here each step is
+//! a few writes to tables, proved to be what is defined there.
 #![tactic(auto)]
 
 mod apply;

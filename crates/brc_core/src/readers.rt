@@ -1,9 +1,9 @@
 //! What callers read of a world, part by part. None of this takes memory.
 
 ghost use Rattle.std.specs.Prelude.{◌≡◌, ◌-◌, ◌==◌, nat_lt, length, slice_get};
-ghost use Rattle.brc_core.specs.Readings.{only_if, status_of, has_object, counts_locally};
+ghost use Rattle.brc_core.specs.Readings.{only_if, status_at, has_object, counts_locally};
 ghost use Rattle.brc_runs.specs.Lists.{bit_of, place_at, is_marked};
-ghost use Rattle.brc_runs.specs.Heap.{cell_at, entries_at, row_at, frame_at, popped_at, work_at, queue_at, is_registered, is_gathered};
+ghost use Rattle.brc_runs.specs.Heap.{cell_at, entries_at, row_at, frame_at, popped_at, work_at, queue_at, is_registered};
 ghost use Rattle.brc_runs.specs.Holding.{lives};
 
 use crate::conditions::is_immortal;
@@ -65,7 +65,7 @@ impl<A: Allocator + Copy> World<A> {
 
     /// How far the thread's life is, if it was registered.
     pub fn status(&self, thread: u32) -> Option<Status>
-        ensures { result ≡ only_if (is_registered self.now thread) (status_of (row_at self.now thread).stage (is_gathered self.now thread)) }
+        ensures { result ≡ status_at self.now thread }
     {
         if !self.tables.is_registered(thread) {
             return None;
@@ -145,7 +145,8 @@ impl<A: Allocator + Copy> World<A> {
 
     /// Who owns the cell, of each cell of the heap.
     pub fn owner(&self, cell: u32) -> Option<Owner>
-        ensures { result ≡ only_if (nat_lt cell (length self.now.cells)) (cell_at self.now cell).owner }
+        ensures { result ≡ only_if (nat_lt cell (length self.now.cells))
+            (cell_at self.now cell).owner }
     {
         if (cell as usize) < self.tables.cell_count() {
             Some(self.tables.cell(cell).owner)

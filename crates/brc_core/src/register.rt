@@ -50,7 +50,8 @@ impl<A: Allocator + Copy> Tables<A> {
         let popped = Words::zeros(self.alloc, words_for(cells))?;
         let queue = Words::zeros(self.alloc, words_for(cells))?;
         let work = Marks::unset(self.alloc, cells)?;
-        // All growth comes before the first item, so that no list is longer than another after a refusal.
+        // All growth comes before the first item, so that after a refusal no list is longer than
+        // another.
         self.rows.reserve(1)?;
         self.frames.reserve(1)?;
         self.popped.reserve(1)?;

@@ -31,7 +31,8 @@ pub fn replay<A: Allocator + Copy>(
 ) -> Result<World<A>, ReplayFault>
     // The runs of the definitions have the newest event first.
     ensures run { OnOk result (IsRun (opening cells local_limit) (reverse events.now)) }
-    ensures world { IfOk result (λ world. world ≡ world_after (opening cells local_limit) (reverse events.now)) }
+    ensures world { IfOk result
+        (λ world. world ≡ world_after (opening cells local_limit) (reverse events.now)) }
 
     // Counts are references, nothing is lost, and lives and ledgers are what the run says.
     ensures headline { IfOk result Headline }

@@ -1,4 +1,4 @@
-//! The numbers of a world: a cell's total count, the ledgers of births and frees, and how many objects live.
+//! The numbers of a world: a cell's total count, the ledgers, and how many objects live.
 
 ghost use Rattle.std.specs.Prelude.{◌≡◌, ◌+◌, ◌<◌, ◌^◌, pos, negsuc, ◌≤ℤ◌, ◌<ℤ◌, length, drop, sum_by, count_by, IfSome};
 ghost use Rattle.brc_core.specs.Readings.{only_if, ledger_of, ledgers_of};
@@ -83,8 +83,10 @@ impl<A: Allocator + Copy> World<A> {
 
     /// The total count of a live mortal object (PEP 703): its references.
     pub fn total(&self, cell: u32) -> Option<i64>
-        ensures total { result ≡ only_if (lives_at self.now cell) (total_of (cell_at self.now cell)) }
-        ensures references { IfSome result (λ total. total ≡ pos (length (holders_of self.now cell))) }
+        ensures total { result ≡ only_if (lives_at self.now cell)
+            (total_of (cell_at self.now cell)) }
+        ensures references { IfSome result
+            (λ total. total ≡ pos (length (holders_of self.now cell))) }
     {
         if !self.tables.is_live(cell) {
             return None;
@@ -94,7 +96,8 @@ impl<A: Allocator + Copy> World<A> {
 
     /// The ledger of a thread, if it was registered.
     pub fn ledger(&self, thread: u32) -> Option<Ledger>
-        ensures { result ≡ only_if (is_registered self.now thread) (ledger_of (row_at self.now thread)) }
+        ensures { result ≡ only_if (is_registered self.now thread)
+            (ledger_of (row_at self.now thread)) }
     {
         if !self.tables.is_registered(thread) {
             return None;

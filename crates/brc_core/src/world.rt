@@ -2,9 +2,9 @@
 
 ghost use Rattle.std.specs.Prelude.{◌≡◌, ◌↔◌, ◌⊎◌, true, false, Err, IfOk, IfErr, OnOk, OnErr};
 ghost use Rattle.brc_core.specs.Memory.{needs_memory};
+ghost use Rattle.brc_core.specs.Moves.{MovesOn};
 ghost use Rattle.brc_runs.specs.Heap.{AreOptions, opening};
 ghost use Rattle.brc_runs.specs.Steps.{enabled, after};
-ghost use Rattle.brc_runs.specs.Holding.{MakesMoves, map_of, moves_by};
 
 use crate::opening::are_options;
 use crate::tables::Tables;
@@ -13,7 +13,7 @@ use brc_words::Fault;
 use std::alloc::Allocator;
 use std::marker::Model;
 
-/// A world that some run of events leads to: contracts see its lists, and that it is reached is known of each.
+/// A world that some run of events leads to. Contracts see its lists.
 #[derive(Drop)]
 pub struct World<A: Allocator + Copy> {
     pub(crate) tables: Tables<A>,
@@ -44,7 +44,8 @@ impl<A: Allocator + Copy> World<A> {
     pub fn new(alloc: A, cells: u32, local_limit: u32) -> Result<World<A>, Fault>
         // The sizes are looked at first, and all else that is refused is memory.
         ensures options { (result ≡ Err Fault.BadOptions) ↔ ¬ (AreOptions cells local_limit) }
-        ensures refused { IfErr result (λ fault. (fault ≡ Fault.BadOptions) ⊎ (fault ≡ Fault.OutOfMemory)) }
+        ensures refused { IfErr result
+            (λ fault. (fault ≡ Fault.BadOptions) ⊎ (fault ≡ Fault.OutOfMemory)) }
 
         ensures sizes { OnOk result (AreOptions cells local_limit) }
         ensures world { IfOk result (λ world. world ≡ opening cells local_limit) }
@@ -60,10 +61,11 @@ impl<A: Allocator + Copy> World<A> {
     pub fn step(&mut self, event: &Event) -> Result<(), StepFault>
         ensures may { OnOk result (enabled self.old event.now ≡ true) }
         ensures ok { OnOk result (self.new ≡ after self.old event.now) }
-        ensures moves { OnOk result (MakesMoves {A = Unit {0}} (map_of self.old) (moves_by self.old event.now) (map_of self.new)) }
+        ensures moves { OnOk result (MovesOn self.old event.now self.new) }
 
         // Whether it is enabled is looked at first.
-        ensures not_enabled { (result ≡ Err StepFault.NotEnabled) ↔ (enabled self.old event.now ≡ false) }
+        ensures not_enabled { (result ≡ Err StepFault.NotEnabled) ↔
+            (enabled self.old event.now ≡ false) }
         ensures memory { (result ≡ Err StepFault.Memory) → needs_memory event.now.step ≡ true }
         ensures unchanged { OnErr result (self.new ≡ self.old) }
     {
