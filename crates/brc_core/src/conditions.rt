@@ -1,18 +1,10 @@
 //! When a step is enabled: what a thread's row must be, and what the one cell must be.
 
 ghost use Rattle.std.specs.Prelude.{◌≡◌};
-ghost use Rattle.brc_runs.specs.Heap.{is_immortal};
 ghost use Rattle.brc_runs.specs.Steps.{reads_entries, lock_ok, may_after_leaving, stage_ok, phase_number, is_free_hand, is_at, hand_ok, is_active, is_owned_by, is_free, is_mine, cell_ok};
 
-use brc_runs::{Cell, Hand, Phase, Source, Stage, Step};
+use brc_runs::{Cell, Hand, Phase, Source, Stage, Step, is_immortal};
 use brc_words::{FIRST_MORTAL, Owner};
-
-/// Whether the cell never dies.
-pub(crate) fn is_immortal(cell: u32) -> bool
-    ensures { result ≡ is_immortal cell }
-{
-    cell < FIRST_MORTAL
-}
 
 /// Whether the step takes its cell from the locked object's entries.
 fn reads_entries(step: Step) -> bool

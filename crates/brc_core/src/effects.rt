@@ -3,8 +3,7 @@
 ghost use Rattle.std.specs.Prelude.{◌≡◌, ◌+◌, ◌<◌, ◌^◌, true};
 ghost use Rattle.brc_runs.specs.Steps.{cell_ok, cell_after, is_default, is_zero, is_untouched, hand_after, allocs_after, frees_after, row_after};
 
-use crate::conditions::is_immortal;
-use brc_runs::{Cell, Hand, Phase, Row, Stage, Step};
+use brc_runs::{Cell, Hand, Phase, Row, Stage, Step, is_immortal};
 use brc_words::{Owner, State};
 
 /// The cell after the step.

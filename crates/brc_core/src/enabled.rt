@@ -5,9 +5,9 @@ ghost use Rattle.brc_core.specs.Parts.{locked_at, source_at, dropped_at, target_
 ghost use Rattle.brc_runs.specs.Heap.{frame_at};
 ghost use Rattle.brc_runs.specs.Steps.{is_vacant, thread_may, root_may, enabled};
 
-use crate::conditions::{cell_ok, hand_ok, is_immortal, lock_ok, stage_ok};
+use crate::conditions::{cell_ok, hand_ok, lock_ok, stage_ok};
 use crate::tables::Tables;
-use brc_runs::{Dropped, Event, Source, Step};
+use brc_runs::{Dropped, Event, Source, Step, is_immortal};
 use brc_words::{MOST_BIRTHS, MOST_PLACES, MOST_THREADS, is_mortal_kind};
 use std::alloc::Allocator;
 

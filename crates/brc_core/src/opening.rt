@@ -1,18 +1,15 @@
 //! The opening world: the immortals, all other cells free, and no thread but the root.
 
 ghost use Rattle.std.specs.Prelude.{◌≡◌, ◌↔◌, [], replicate, IfOk, IsTrue};
-ghost use Rattle.brc_runs.specs.Heap.{AreOptions, immortal_kind, immortal, opening_cell, opening_cells, opening};
+ghost use Rattle.brc_runs.specs.Heap.{AreOptions, opening_cells, opening};
 
-use crate::conditions::is_immortal;
 use crate::entries::Entries;
 use crate::frame::Frame;
 use crate::marks::Marks;
-use crate::tables::{Tables, no_cell, no_row};
+use crate::tables::Tables;
 use crate::words::Words;
-use brc_runs::Cell;
-use brc_words::{
-    FEWEST_CELLS, GLOBALS, IMMORTAL_LOCAL, Kind, MOST_CELLS, MOST_LOCAL, Owner, State,
-};
+use brc_runs::{Cell, no_row, opening_cell};
+use brc_words::{FEWEST_CELLS, MOST_CELLS, MOST_LOCAL};
 use std::alloc::{AllocError, Allocator};
 
 /// Whether a heap may have these sizes.
@@ -20,42 +17,6 @@ pub(crate) fn are_options(cells: u32, local_limit: u32) -> bool
     ensures { IsTrue result ↔ AreOptions cells local_limit }
 {
     FEWEST_CELLS <= cells && cells <= MOST_CELLS && 1 <= local_limit && local_limit <= MOST_LOCAL
-}
-
-/// What an immortal cell is.
-fn immortal_kind(cell: u32) -> Kind
-    ensures { result ≡ immortal_kind cell }
-{
-    if cell == 0 {
-        Kind::Nothing
-    } else if cell == 1 {
-        Kind::False
-    } else if cell == 2 {
-        Kind::True
-    } else if cell == GLOBALS {
-        Kind::Dict
-    } else {
-        Kind::Int
-    }
-}
-
-/// A cell as the heap opens.
-fn opening_cell(cell: u32) -> Cell
-    ensures { result ≡ opening_cell cell }
-{
-    if is_immortal(cell) {
-        Cell {
-            owner: Owner::Nobody,
-            local: IMMORTAL_LOCAL,
-            count: 0,
-            state: State::Default,
-            mutex: 0,
-            bore: 0,
-            kind: immortal_kind(cell),
-        }
-    } else {
-        no_cell()
-    }
 }
 
 /// All cells as the heap opens.

@@ -6,9 +6,8 @@ ghost use Rattle.brc_runs.specs.Lists.{bit_of, place_at, is_marked};
 ghost use Rattle.brc_runs.specs.Heap.{cell_at, entries_at, row_at, frame_at, popped_at, work_at, queue_at, is_registered};
 ghost use Rattle.brc_runs.specs.Holding.{lives};
 
-use crate::conditions::is_immortal;
 use crate::world::World;
-use brc_runs::{Hand, Stage};
+use brc_runs::{Hand, Stage, is_immortal};
 use brc_words::{Kind, Owner, State};
 use std::alloc::Allocator;
 

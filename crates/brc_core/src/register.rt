@@ -8,28 +8,8 @@ use crate::frame::Frame;
 use crate::marks::Marks;
 use crate::tables::Tables;
 use crate::words::Words;
-use brc_runs::{Hand, Row, Stage};
+use brc_runs::{new_row, words_for};
 use std::alloc::{AllocError, Allocator};
-
-/// A thread as it is registered.
-fn new_row() -> Row
-    ensures { result ≡ new_row }
-{
-    Row {
-        stage: Stage::Active,
-        hand: Hand::Free,
-        locked: None,
-        allocs: 0,
-        frees: 0,
-    }
-}
-
-/// The queue words of a thread: one for 32 cells.
-fn words_for(cells: usize) -> usize
-    ensures { result ≡ words_for cells }
-{
-    cells.div_ceil(32)
-}
 
 /// Puts the item at the end of a vector that has room for it.
 fn put_last<T: Drop, A: Allocator>(list: &mut Vec<T, A>, item: T)

@@ -9,8 +9,7 @@ use crate::entries::Entries;
 use crate::frame::Frame;
 use crate::marks::Marks;
 use crate::words::Words;
-use brc_runs::{Cell, Hand, Row, Stage};
-use brc_words::{Kind, Owner, State};
+use brc_runs::{Cell, Row, no_cell, no_row};
 use std::alloc::Allocator;
 use std::marker::Model;
 
@@ -47,34 +46,6 @@ impl<A: Allocator + Copy> Model for Tables<A> {
       notices = t.notices.items;
       gathered = t.gathered.items;
     } };
-}
-
-/// No object: what is read past the last cell, and what a free cell of the opening world is.
-pub(crate) fn no_cell() -> Cell
-    ensures { result ≡ no_cell }
-{
-    Cell {
-        owner: Owner::Free,
-        local: 0,
-        count: 0,
-        state: State::Default,
-        mutex: 0,
-        bore: 0,
-        kind: Kind::Nothing,
-    }
-}
-
-/// No thread: what is read of a number that isn't registered, and of the root.
-pub(crate) fn no_row() -> Row
-    ensures { result ≡ no_row }
-{
-    Row {
-        stage: Stage::Left,
-        hand: Hand::Free,
-        locked: None,
-        allocs: 0,
-        frees: 0,
-    }
 }
 
 impl<A: Allocator + Copy> Tables<A> {

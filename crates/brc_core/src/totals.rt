@@ -5,11 +5,10 @@ ghost use Rattle.brc_core.specs.Readings.{only_if, ledger_of, ledgers_of};
 ghost use Rattle.brc_runs.specs.Heap.{cell_at, row_at, is_registered};
 ghost use Rattle.brc_runs.specs.Holding.{lives, lives_at, total_of, holders_of, live_count};
 
-use crate::conditions::is_immortal;
 use crate::readers::lives;
 use crate::tables::Tables;
 use crate::world::World;
-use brc_runs::Cell;
+use brc_runs::{Cell, is_immortal};
 use brc_words::State;
 use std::alloc::Allocator;
 
