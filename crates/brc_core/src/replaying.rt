@@ -23,6 +23,7 @@ pub enum ReplayFault {
 }
 
 /// The world after these events, the oldest first.
+#[tactic(auto, using(crate::proofs::Turns::turn, crate::proofs::Turns::first_not_enabled))]
 pub fn replay<A: Allocator + Copy>(
     alloc: A,
     events: &[Event],
