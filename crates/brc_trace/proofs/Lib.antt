@@ -1,3 +1,4 @@
 pub mod EventLaws
 pub mod TextLaws
 pub mod ReadingLoop
+pub mod WorldLaws

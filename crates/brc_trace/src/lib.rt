@@ -8,10 +8,13 @@
 mod event_line;
 mod reading;
 mod trace;
+mod world_text;
+mod world_thread;
 mod writing;
 
 pub use reading::read_trace;
 pub use trace::Trace;
+pub use world_text::write_world;
 pub use writing::write_trace;
 
 #[cfg(test)]
