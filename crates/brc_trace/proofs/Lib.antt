@@ -2,3 +2,4 @@ pub mod EventLaws
 pub mod TextLaws
 pub mod ReadingLoop
 pub mod WorldLaws
+pub mod ReplayLaws

@@ -1,4 +1,4 @@
-use Rattle.std.proofs.Common.{◌≡◌, ◌∙◌, ℕ, ◌≤◌, ◌<◌, List, [], ◌∷◌, length, Bool, true, false, Option, Some, None, refl, sym, ap, subst, get_or, ℤ, pos, w64, rules}
+use Rattle.std.proofs.Common.{◌≡◌, ◌∙◌, ℕ, List, [], ◌∷◌, length, Bool, true, false, Option, refl, sym, ap, subst, get_or, pos, w64, rules}
 use Rattle.std.specs.Prelude.{unwrap_or, nat_lt, ◌&&◌, ◌||◌, not}
 use Rattle.std.proofs.lemmas.List.{get_or_past}
 use Rattle.std.proofs.lemmas.Bool.{ltb-false}
@@ -9,10 +9,10 @@ use Rattle.brc_words.specs.declared.owner.Owner.TheVariants as owners
 use Rattle.brc_words.specs.declared.state.State.{State}
 use Rattle.brc_words.specs.declared.state.State.TheVariants as states
 use Rattle.brc_runs.specs.declared.cell.Cell.{Cell}
-use Rattle.brc_runs.specs.Heap.{Heap, cell_at, is_immortal, no_cell}
-use Rattle.brc_runs.specs.Holding.{lives_at, lives, total_of}
+use Rattle.brc_runs.specs.Heap.{cell_at, is_immortal, no_cell}
+use Rattle.brc_runs.specs.Holding.{lives_at, total_of}
 use Rattle.brc_runs.specs.Sound.{is_merged}
-use Rattle.brc_core.specs.Readings.{only_if, has_object, counts_locally}
+use Rattle.brc_core.specs.Readings.{only_if, has_object}
 use Rattle.brc_text.specs.declared.keyword.Keyword.{Keyword}
 use Rattle.brc_text.specs.declared.keyword.Keyword.TheVariants as words
 use Rattle.brc_text.specs.declared.token.Token.{Token}

@@ -1,4 +1,4 @@
-use Rattle.std.proofs.Common.{ℕ, ◌+◌, ◌-◌, length}
+use Rattle.std.proofs.Common.{◌+◌, ◌-◌, length}
 use Rattle.brc_trace.specs.Worlds.{over, thread_text}
 use Rattle.brc_trace.proofs.WorldLaws.{PutsOver}
 use Rattle.brc_trace.proofs.world_text.put_threads.Given as goal

@@ -1,7 +1,6 @@
-use Rattle.std.proofs.Common.{ℕ, ◌+◌, ◌-◌, length}
+use Rattle.std.proofs.Common.{length}
 use Rattle.brc_runs.specs.Heap.{frame_at}
-use Rattle.brc_text.specs.declared.keyword.Keyword.TheVariants as words
-use Rattle.brc_trace.specs.Worlds.{over, frame_text, place_text}
+use Rattle.brc_trace.specs.Worlds.{over, frame_text}
 use Rattle.brc_trace.proofs.WorldLaws.{PutsOver}
 use Rattle.brc_trace.proofs.world_thread.put_frame.Given as goal
 

@@ -1,4 +1,4 @@
-use Rattle.std.proofs.Common.{◌≡◌, ◌-◌, ℕ, List, ◌++◌, length, refl, sym, ap}
+use Rattle.std.proofs.Common.{◌≡◌, ℕ, List, ◌++◌, length, refl, sym, ap}
 use Rattle.std.proofs.lemmas.Result.{err_from_is_err_and}
 use Rattle.brc_runs.specs.declared.row.Hand.{Hand}
 use Rattle.brc_runs.specs.Heap.{Heap, row_at, frame_at}

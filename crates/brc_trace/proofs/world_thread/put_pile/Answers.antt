@@ -1,6 +1,6 @@
-use Rattle.std.proofs.Common.{sym, ap, refl, arith, ℕ, ◌+◌, ◌-◌, Option, length}
+use Rattle.std.proofs.Common.{refl, arith, length}
 use Rattle.std.proofs.lemmas.Result.{err_from_is_err_and}
-use Rattle.brc_trace.specs.Worlds.{over, lying_text}
+use Rattle.brc_trace.specs.Worlds.{lying_text}
 use Rattle.brc_trace.proofs.WorldLaws.{turns_begin, turn_puts, turn_fails, turns_end}
 use Rattle.brc_trace.proofs.world_thread.put_pile.Goals as goal
 
