@@ -1,3 +1,5 @@
 pub mod EventLaws
 pub mod TextLaws
 pub mod ReadingLoop
+pub mod WorldLaws
+pub mod ReplayLaws

@@ -204,7 +204,7 @@ pub fn event_of_line(line: &[u8]) -> Option<Event>
     event_of_words(words.as_slice())
 }
 
-fn word_of_kind(kind: Kind) -> Keyword
+pub(crate) fn word_of_kind(kind: Kind) -> Keyword
     ensures { result ≡ kind_word kind }
 {
     match kind {

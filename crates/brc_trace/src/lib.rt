@@ -7,11 +7,16 @@
 
 mod event_line;
 mod reading;
+mod replaying;
 mod trace;
+mod world_text;
+mod world_thread;
 mod writing;
 
 pub use reading::read_trace;
+pub use replaying::run_replay;
 pub use trace::Trace;
+pub use world_text::write_world;
 pub use writing::write_trace;
 
 #[cfg(test)]

@@ -3,7 +3,7 @@
 use super::*;
 use brc_words::{Fault, Reason};
 use linked_list_allocator::LocalHeap;
-use std::io::{self, Error, ErrorKind, Write};
+use std::io::{self, Error, ErrorKind, Read, Write};
 use std::test::*;
 
 /// One object's life, from registration to the cell given back.
@@ -201,5 +201,141 @@ fn long_texts(rt: HostRuntime) -> Result<(), Fail> {
     assert_eq!(rt; read_trace(rt.alloc(), text.as_slice()).err(), bad(0));
     text.truncate(16_777_216);
     assert_eq!(rt; read_trace(rt.alloc(), text.as_slice()).err(), bad(2));
+    Ok(())
+}
+
+/// What a replay of these bytes answers, and what it writes.
+fn replayed(rt: &HostRuntime, text: &str) -> Result<(Result<bool, Fault>, Vec<u8>), Fail> {
+    let mut out = Narrow {
+        taken: Vec::new(rt.alloc()),
+        at_once: 1000,
+        room: 1_000_000,
+        fails: true,
+    };
+    let answer = run_replay(rt.alloc(), text.as_bytes(), &mut out);
+    Ok((answer, out.taken))
+}
+
+#[test]
+fn replays(rt: HostRuntime) -> Result<(), Fail> {
+    let reason = Reason::NotEnabled;
+    let cases = [
+        (
+            "no event",
+            "heap 512 4294967294\n",
+            Ok(false),
+            "world 512 4294967294\nledger 0 0 0\n",
+        ),
+        (
+            "a whole life",
+            "heap 512 4294967294\n0 register 1\n1 claim 266\n1 local 266\n1 shared 266\n1 born 266 list 0\n1 down f0\n1 see 266\n1 free 266\n",
+            Ok(false),
+            "world 512 4294967294\nthread 1 active\nledger 1 1 0\n",
+        ),
+        (
+            "counted twice",
+            "heap 512 4294967294\n0 register 1\n0 register 2\n1 claim 266\n1 local 266\n1 shared 266\n1 born 266 text 0\n1 up f0 1\n1 up i265 2\n2 up i0 7\n1 down f0\n",
+            Ok(true),
+            "world 512 4294967294\nthread 1 active\nframe 1 1 266\nframe 1 2 265\nthread 2 active\nframe 2 7 0\nobject 266 text 1 1 0 default 1\nledger 1 0 1\n",
+        ),
+        (
+            "in the hand",
+            "heap 512 4294967294\n0 register 1\n1 claim 266\n1 local 266\n1 shared 266\n1 born 266 dict 3\n1 down f3\n",
+            Ok(true),
+            "world 512 4294967294\nthread 1 active\nhand 1 zero 266\nobject 266 dict 1 0 0 default 0\nledger 1 0 1\n",
+        ),
+        (
+            "on the worklist",
+            "heap 512 4294967294\n0 register 1\n1 claim 300\n1 local 300\n1 shared 300\n1 born 300 dict 3\n1 down f3\n1 see 300\n",
+            Ok(true),
+            "world 512 4294967294\nthread 1 active\nwork 1 300\nobject 300 dict 1 0 0 default 0\nledger 1 0 1\n",
+        ),
+        (
+            "freed before it was seen",
+            "heap 512 9\n0 register 1\n1 claim 266\n1 local 266\n1 shared 266\n1 born 266 int 0\n1 free 266\n",
+            Err(Fault::BadTrace { line: 7, reason }),
+            "",
+        ),
+        (
+            "a bad line behind it",
+            "heap 512 9\n1 free 266\nx\n",
+            Err(Fault::BadTrace {
+                line: 3,
+                reason: Reason::NotALine,
+            }),
+            "",
+        ),
+    ];
+    for (case, text, answer, written) in cases {
+        let (found, out) = replayed(&rt, text)?;
+        assert_eq!(rt; found, answer, "{case}");
+        assert_eq!(rt; out.as_slice(), written.as_bytes(), "{case}");
+    }
+    Ok(())
+}
+
+#[test]
+fn writers_of_worlds_that_fail(rt: HostRuntime) -> Result<(), Fail> {
+    for fails in [true, false] {
+        let mut out = Narrow {
+            taken: Vec::new(rt.alloc()),
+            at_once: 1000,
+            room: 7,
+            fails,
+        };
+        let input = b"heap 512 1\n".as_slice();
+        assert_eq!(rt; run_replay(rt.alloc(), input, &mut out), Err(Fault::Io));
+        assert_eq!(rt; out.taken.as_slice(), b"world 5".as_slice());
+    }
+    Ok(())
+}
+
+/// Gives one byte a read, and fails at the read with this number.
+#[derive(Drop)]
+struct Slow {
+    rest: &'static [u8],
+    until_failure: u32,
+}
+
+impl Read for Slow {
+    fn read(&mut self, buf: &mut [u8]) -> io::Result<usize> {
+        self.until_failure = self.until_failure.saturating_sub(1);
+        if self.until_failure == 0 {
+            return Err(Error::from(ErrorKind::Interrupted));
+        }
+        let count = buf.len().min(self.rest.len()).min(1);
+        let (given, rest) = self.rest.split_at(count);
+        buf[..count].copy_from_slice(given);
+        self.rest = rest;
+        Ok(count)
+    }
+}
+
+#[test]
+fn slow_and_failing_readers(rt: HostRuntime) -> Result<(), Fail> {
+    let cases = [
+        (
+            "one byte a read",
+            1000,
+            Ok(false),
+            "world 512 1\nledger 0 0 0\n",
+        ),
+        ("the second read fails", 2, Err(Fault::Io), ""),
+        ("the first read fails", 1, Err(Fault::Io), ""),
+    ];
+    for (case, until_failure, answer, written) in cases {
+        let reader = Slow {
+            rest: b"heap 512 1\n",
+            until_failure,
+        };
+        let mut out = Narrow {
+            taken: Vec::new(rt.alloc()),
+            at_once: 1000,
+            room: 1000,
+            fails: true,
+        };
+        assert_eq!(rt; run_replay(rt.alloc(), reader, &mut out), answer, "{case}");
+        assert_eq!(rt; out.taken.as_slice(), written.as_bytes(), "{case}");
+    }
     Ok(())
 }

@@ -1,0 +1,158 @@
+-- How many lines a trace has, and the text that was read in place of the whole input.
+use Rattle.std.proofs.Common.{◌≡◌, ◌∙◌, ℕ, ◌+◌, ◌<◌, ◌≤◌, true, List, [], ◌∷◌, ◌++◌, length, take, Some, Ok, refl, sym, ap, subst, arith, ltb, leb, Bool, false, Option, None, length-append, append-nil}
+use Rattle.std.specs.Prelude.{IfSome}
+use Rattle.std.proofs.lemmas.Bool.{and_parts, leb-true, ltb-true, ltb-false}
+use Rattle.std.proofs.Math.Seq.{take-append_seam}
+use Rattle.std.proofs.lemmas.List.{take_all, length-take-le}
+use Rattle.std.specs.Prelude.{reverse, Err, ◌⊎◌, Bool}
+use Rattle.std.proofs.Common.{inl, inr}
+use Rattle.std.specs.Io.KnownBytes.{Consumes, IsAtEnd}
+use Rattle.std.proofs.KnownBytes.{Consumes-whole, Consumes-trans, Appends-nil, Keeps-refl}
+use Rattle.std.proofs.lemmas.Option.{slice_get_within}
+use Rattle.brc_words.specs.declared.fault.Fault.{Fault}
+use Rattle.brc_words.specs.declared.fault.Fault.TheVariants as faults
+use Rattle.brc_words.specs.declared.fault.Reason.{Reason}
+use Rattle.brc_words.specs.declared.fault.Reason.TheVariants as reasons
+use Rattle.brc_runs.specs.Heap.{Heap, opening}
+use Rattle.brc_runs.specs.Runs.{IsRun, world_after}
+use Rattle.brc_core.specs.Replays.{IsFirstNotEnabled}
+use Rattle.brc_text.specs.Puts.{PutsUpTo}
+use Rattle.brc_trace.specs.Worlds.{world_text}
+use Rattle.brc_trace.specs.Replaying.{IsReplayed, IsNotEnabled, IsBad, LeadsNowhere, IsHalfWritten, Replays}
+use Rattle.brc_runs.specs.declared.event.Event.{Event}
+use Rattle.brc_runs.specs.Heap.{AreOptions}
+use Rattle.brc_text.specs.Lines.{line, spaced}
+use Rattle.brc_trace.specs.Events.{event_words}
+use Rattle.brc_trace.specs.Traces.{Listing, trace_at, trace_text, is_size, is_limit, head_words}
+use Rattle.brc_trace.proofs.TextLaws.{trace_takes, events_text}
+
+each_a_byte : (events : List Event) → length events ≤ length (events_text events)
+each_a_byte [] = omega arith
+each_a_byte (event ∷ events) =
+    let words = spaced (event_words event) in
+    let first : length (line (event_words event)) ≡ length words + 1 = length-append words (10 ∷ []) in
+    let both : length (events_text (event ∷ events)) ≡ length (line (event_words event)) + length (events_text events) =
+    length-append (line (event_words event)) (events_text events) in
+    omega (arith, first, both, each_a_byte events)
+
+pub few_events : (text : List ℕ) (trace : Listing) → trace_at text ≡ Ok trace → length trace.events ≤ 16777216
+unfolding trace_text
+few_events text trace spelled =
+    let found = trace_takes text trace spelled in
+    let head = line (head_words trace.cells trace.local_limit) in
+    let parts : length text ≡ length head + length (events_text trace.events) =
+    ap (λ (l : List ℕ). length l) found.spelled ∙ length-append head (events_text trace.events) in
+    omega (arith, parts, found.short, each_a_byte trace.events)
+
+pub are_options : (cells limit : ℕ) → is_size cells ≡ true → is_limit limit ≡ true → AreOptions cells limit
+are_options cells limit size limited =
+    let sizes = and_parts (leb 512 cells) (leb cells 65536) size in
+    let limits = and_parts (leb 1 limit) (leb limit 4294967294) limited in
+    record {
+      enough = leb-true 512 cells sizes.0;
+      few_enough = leb-true cells 65536 sizes.1;
+      counts = leb-true 1 limit limits.0;
+      below_immortal = leb-true limit 4294967294 limits.1;
+    }
+
+front_or_whole : (input : List ℕ) (long : Bool) → ltb 16777216 (length input) ≡ long → trace_at (take 16777217 input) ≡ trace_at input
+unfolding trace_at
+front_or_whole input true long =
+    let over = ltb-true 16777216 (length input) long in
+    let kept : length (take 16777217 input) ≡ 16777217 = length-take-le 16777217 input (omega (arith, over)) in
+    rw (kept, long) refl
+front_or_whole input false long = ap trace_at (take_all 16777217 input (omega (arith, ltb-false 16777216 (length input) long)))
+
+-- what is behind the limit doesn't matter
+pub trace_of_front : (input : List ℕ) → trace_at (take 16777217 input) ≡ trace_at input
+trace_of_front input = front_or_whole input (ltb 16777216 (length input)) refl
+
+-- ---- the input as it was read
+
+pub whole_input : (old new : Option (List ℕ)) (bytes : List ℕ) → Consumes old new bytes → IsAtEnd new → length bytes ≤ 16777217
+    → IfSome old (λ input. bytes ≡ take 16777217 input)
+whole_input old new bytes read end short = Consumes-whole old new bytes (λ input. bytes ≡ take 16777217 input) read end (sym (take_all 16777217 bytes short))
+
+pub front_of_input : (old new : Option (List ℕ)) (bytes : List ℕ) → Consumes old new bytes → length bytes ≡ 16777217
+    → IfSome old (λ input. bytes ≡ take 16777217 input)
+front_of_input None new bytes read full = tt
+front_of_input (Some input) None bytes read full = absurd read
+front_of_input (Some input) (Some rest) bytes read full =
+    sym (take-append_seam bytes rest) ∙ ap (λ (n : ℕ). take n (bytes ++ rest)) full ∙ ap (take 16777217) (sym read)
+
+pub nothing_read : (old mid new : Option (List ℕ)) (bytes chunk : List ℕ) (count : ℕ) → Consumes old mid bytes → Consumes mid new (take count chunk) → count ≡ 0
+    → Consumes old new bytes
+nothing_read old mid new bytes chunk count read last none =
+    let empty : take count chunk ≡ [] = ap (λ (n : ℕ). take n chunk) none in
+    subst (Consumes old new) (ap (λ (l : List ℕ). bytes ++ l) empty ∙ append-nil bytes) (Consumes-trans old mid new bytes (take count chunk) read last)
+
+-- ---- the replay of a trace that was read
+
+pub replayed : (text bytes : List ℕ) (trace : Listing) (events : List Event) (world : Heap) → text ≡ bytes → trace_at text ≡ Ok trace → events ≡ trace.events
+    → IsRun (opening trace.cells trace.local_limit) (reverse events) → world ≡ world_after (opening trace.cells trace.local_limit) (reverse events)
+    → IsReplayed bytes world
+replayed text bytes trace events world same spelled these run leads =
+    let start = opening trace.cells trace.local_limit in
+    record {
+      trace = trace;
+      spelled = ap trace_at (sym same) ∙ spelled;
+      run = subst (λ (es : List Event). IsRun start (reverse es)) these run;
+      leads = leads ∙ ap (λ (es : List Event). world_after start (reverse es)) these;
+    }
+
+pub not_enabled : (text bytes : List ℕ) (trace : Listing) (events : List Event) (at : ℕ) → text ≡ bytes → trace_at text ≡ Ok trace → events ≡ trace.events
+    → IsFirstNotEnabled (opening trace.cells trace.local_limit) events at → IsNotEnabled bytes (at + 2)
+not_enabled text bytes trace events at same spelled these first =
+    record {
+      trace = trace;
+      spelled = ap trace_at (sym same) ∙ spelled;
+      at = at;
+      first = subst (λ (es : List Event). IsFirstNotEnabled (opening trace.cells trace.local_limit) es at) these first;
+      counted = refl;
+    }
+
+pub few_lines : (text : List ℕ) (trace : Listing) (events : List Event) (at : ℕ) → trace_at text ≡ Ok trace → events ≡ trace.events
+    → IsFirstNotEnabled (opening trace.cells trace.local_limit) events at → at < 16777216
+few_lines text trace events at spelled these first =
+    let within : at < length events = slice_get_within events at first.event first.there in
+    let same : length events ≡ length trace.events = ap (λ (es : List Event). length es) these in
+    omega (arith, within, same, few_events text trace spelled)
+
+-- ---- what the whole replay does
+
+-- what was read spells what the whole input does
+same_trace : (bytes input : List ℕ) → bytes ≡ take 16777217 input → trace_at input ≡ trace_at bytes
+same_trace bytes input is = sym (trace_of_front input) ∙ ap trace_at (sym is)
+
+pub carried : (input : Option (List ℕ)) (bytes : List ℕ) (world : Heap) → IfSome input (λ all. bytes ≡ take 16777217 all) → IsReplayed bytes world
+    → IfSome input (λ all. IsReplayed all world)
+carried None bytes world is h = tt
+carried (Some all) bytes world is h = record { trace = h.trace; spelled = same_trace bytes all is ∙ h.spelled; run = h.run; leads = h.leads }
+
+bad : (input : Option (List ℕ)) (bytes : List ℕ) (line : ℕ) (reason : Reason) → IfSome input (λ all. bytes ≡ take 16777217 all) → IsBad reason line bytes
+    → IfSome input (IsBad reason line)
+bad None bytes line reason is h = tt
+bad (Some all) bytes line reasons.NotALine is h = same_trace bytes all is ∙ h
+bad (Some all) bytes line reasons.NotEnabled is h =
+    record { trace = h.trace; spelled = same_trace bytes all is ∙ h.spelled; at = h.at; first = h.first; counted = h.counted }
+
+pub stopped : (input old : Option (List ℕ)) (bytes : List ℕ) (fault : Fault) → IfSome input (λ all. bytes ≡ take 16777217 all) → LeadsNowhere fault bytes
+    → Replays input old old (Err fault)
+stopped input old bytes faults.OutOfMemory is h = Keeps-refl old
+stopped input old bytes (faults.BadTrace line reason) is h = (Keeps-refl old, bad input bytes line reason is h)
+stopped input old bytes _ is h = absurd h
+
+pub not_read : (input old : Option (List ℕ)) (fault : Fault) → (fault ≡ faults.Io) ⊎ (fault ≡ faults.OutOfMemory) → Replays input old old (Err fault)
+not_read input old fault (inl io) =
+    let P : Fault → Type 0 = λ f. Replays input old old (Err f) in
+    subst P (sym io) ([], Appends-nil old, inl refl)
+not_read input old fault (inr memory) =
+    let P : Fault → Type 0 = λ f. Replays input old old (Err f) in
+    subst P (sym memory) (Keeps-refl old)
+
+pub not_written : (input old new : Option (List ℕ)) (bytes left : List ℕ) (world : Heap) (fault : Fault) → IfSome input (λ all. bytes ≡ take 16777217 all)
+    → IsReplayed bytes world → fault ≡ faults.Io → PutsUpTo old new (world_text world) left → Replays input old new (Err fault)
+not_written input old new bytes left world fault is h io put =
+    let P : Fault → Type 0 = λ f. Replays input old new (Err f) in
+    let half : IsHalfWritten input put.front = record { world = world; replayed = carried input bytes world is h; left = left; text = put.is } in
+    subst P (sym io) (put.front, put.put, inr half)

@@ -1,0 +1,55 @@
+-- Writing the texts of numbers one after the other: one turn of such a loop.
+use Rattle.std.proofs.Common.{◌≡◌, ◌∙◌, ℕ, suc, ◌+◌, ◌-◌, ◌<◌, ◌≤◌, List, [], ◌++◌, Option, Result, Ok, Err, refl, sym, ap, append-nil, arith}
+use Rattle.std.specs.Io.KnownBytes.{Appends}
+use Rattle.brc_text.specs.Puts.{Puts, PutsUpTo}
+use Rattle.brc_words.specs.declared.fault.Fault.{Fault}
+use Rattle.brc_text.proofs.PutLaws.{starts, goes_on, fails, ends}
+use Rattle.brc_trace.specs.Worlds.{over}
+
+-- the text of this number, and of those behind it
+over_turn : (text : ℕ → List ℕ) (first count turns : ℕ) → turns < count
+    → over text first (count - turns) ≡ text first ++ over text (first + 1) (count - (turns + 1))
+unfolding over
+over_turn text first count turns within =
+    let step : count - turns ≡ suc (count - (turns + 1)) = omega (arith, within) in
+    rw step refl
+
+over_none : (text : ℕ → List ℕ) (first count turns : ℕ) → count ≤ turns → over text first (count - turns) ≡ []
+unfolding over
+over_none text first count turns past =
+    let step : count - turns ≡ 0 = omega (arith, past) in
+    rw step refl
+
+-- of so many numbers the texts of these many are put, and those from the first on are left
+pub record PutsOver (old new : Option (List ℕ)) (whole : List ℕ) (text : ℕ → List ℕ) (first count turns : ℕ) : Type 0 where
+  pub so_far : PutsUpTo old new whole (over text first (count - turns))
+
+pub turns_begin : (old : Option (List ℕ)) (text : ℕ → List ℕ) (first count : ℕ) → PutsOver old old (over text first count) text first count 0
+turns_begin old text first count =
+    let all : count - 0 ≡ count = omega arith in
+    record { so_far = rw all (starts old (over text first count)) }
+
+pub turn_puts : {old new : Option (List ℕ)} {whole : List ℕ} {text : ℕ → List ℕ} {first count turns : ℕ} (after : Option (List ℕ)) (piece : List ℕ)
+    → PutsOver old new whole text first count turns → turns < count → text first ≡ piece → Appends new after piece
+    → PutsOver old after whole text (first + 1) count (turns + 1)
+turn_puts {text = text} {first = first} {count = count} {turns = turns} after piece before within is put = record {
+  so_far = goes_on after piece (over text (first + 1) (count - (turns + 1))) before.so_far
+      (over_turn text first count turns within ∙ ap (λ (l : List ℕ). l ++ over text (first + 1) (count - (turns + 1))) is) put;
+}
+
+pub turn_fails : {old new after : Option (List ℕ)} {whole left : List ℕ} {text : ℕ → List ℕ} {first count turns : ℕ} (piece : List ℕ)
+    → PutsOver old new whole text first count turns → turns < count → text first ≡ piece → PutsUpTo new after piece left
+    → (rest : List ℕ) × PutsUpTo old after whole rest
+turn_fails {left = left} {text = text} {first = first} {count = count} {turns = turns} piece before within is part =
+    let behind = over text (first + 1) (count - (turns + 1)) in
+    (left ++ behind, fails piece behind before.so_far (over_turn text first count turns within ∙ ap (λ (l : List ℕ). l ++ behind) is) part)
+
+pub turns_end : {old new : Option (List ℕ)} {whole : List ℕ} {text : ℕ → List ℕ} {first count turns : ℕ}
+    → PutsOver old new whole text first count turns → count ≤ turns → Appends old new whole
+turns_end {text = text} {first = first} {count = count} {turns = turns} before past = ends before.so_far (over_none text first count turns past)
+
+-- the last piece, put or not, ends the text
+pub last_puts : {old mid : Option (List ℕ)} {whole rest : List ℕ} (new : Option (List ℕ)) (result : Result (Unit {0}) Fault) (piece : List ℕ) → PutsUpTo old mid whole rest
+    → rest ≡ piece → Puts mid new result piece → Puts old new result whole
+last_puts new (Ok done) piece so_far is put = ends (goes_on new piece [] so_far (is ∙ sym (append-nil piece)) put) refl
+last_puts new (Err fault) piece so_far is failed = (failed.0, failed.1 ++ [], fails piece [] so_far (is ∙ sym (append-nil piece)) failed.2)
