@@ -13,3 +13,8 @@ blocks_of (Some node) = (node.value.cell, node.value.payload) ∷ node.value.bel
 abbrev pub front_cell : {P : Type 0} → List (ℕ × P) → Option ℕ
 front_cell [] = None
 front_cell (block ∷ below) = Some block.0
+
+-- what the front holds
+abbrev pub front_payload : {P : Type 0} → List (ℕ × P) → Option P
+front_payload [] = None
+front_payload (block ∷ below) = Some block.1

@@ -26,6 +26,9 @@ impl<A: Allocator> Model for Block<A> {
 }
 
 impl<A: Allocator> Block<A> {
+    ghost use Rattle.std.specs.Borrow.{sem};
+    ghost use Rattle.brc_block.specs.Lending.{lends_payload};
+
     /// A block of the cell with the payload, or the payload back.
     pub fn new(alloc: A, cell: u32, payload: Payload<A>) -> Result<Self, (Fault, Payload<A>)>
         ensures made { IfOk result (λ block. block ≡ (cell, payload)) }
@@ -70,6 +73,14 @@ impl<A: Allocator> Block<A> {
         ensures { result.now ≡ self.now.1 }
     {
         &self.node.payload
+    }
+
+    /// What the block holds, to be changed.
+    pub fn payload_mut(&mut self) -> &mut Payload<A>
+        ensures* lends { sem 𝓛 (lends_payload A.row A.Allocator self.entry result) }
+        ensures value { result.now ≡ self.old.1 }
+    {
+        &mut self.node.payload
     }
 
     /// The payload; the memory of the block is given back.

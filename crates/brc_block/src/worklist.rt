@@ -1,7 +1,8 @@
 //! Blocks of dead objects, last pushed first: each link is in its block.
 
 ghost use Rattle.std.specs.Prelude.{◌≡◌, ℕ, ◌+◌, ◌-◌, ◌^◌, ◌<◌, List, [], ◌∷◌, length, IfSome, IfNone};
-ghost use Rattle.brc_block.specs.Blocks.{front_cell};
+ghost use Rattle.std.specs.Option.{option_copied_mut};
+ghost use Rattle.brc_block.specs.Blocks.{front_cell, front_payload};
 
 use crate::block::Block;
 use crate::payload::Payload;
@@ -44,6 +45,9 @@ impl<A: Allocator> Model for Worklist<A> {
 }
 
 impl<A: Allocator> Worklist<A> {
+    ghost use Rattle.std.specs.Borrow.{sem};
+    ghost use Rattle.brc_block.specs.Lending.{lends_front};
+
     /// No block.
     pub fn new() -> Self
         ensures { result ≡ [] }
@@ -116,6 +120,17 @@ impl<A: Allocator> Worklist<A> {
         match &self.top {
             None => None,
             Some(node) => Some(node.cell),
+        }
+    }
+
+    /// What the front holds, to be changed.
+    pub fn front_mut(&mut self) -> Option<&mut Payload<A>>
+        ensures* lends { sem 𝓛 (lends_front A.row A.Allocator self.entry result) }
+        ensures value { option_copied_mut result ≡ front_payload self.old }
+    {
+        match &mut self.top {
+            None => None,
+            Some(node) => Some(&mut node.payload),
         }
     }
 
