@@ -8,5 +8,5 @@ mod payload;
 mod worklist;
 
 pub use block::Block;
-pub use payload::{Cells, Payload};
+pub use payload::{Cells, Letters, Pairs, Payload};
 pub use worklist::Worklist;
