@@ -1,6 +1,5 @@
 -- A list of blocks as cell numbers and payloads.
 use Rattle.std.specs.Prelude.{ℕ, List, [], ◌∷◌, Option, Some, None, Box}
-
 use Rattle.brc_block.specs.declared.payload.Payload.{Payload}
 use Rattle.brc_block.specs.declared.worklist.Node.{Node}
 

@@ -10,3 +10,6 @@ mod worklist;
 pub use block::Block;
 pub use payload::{Cells, Letters, Pairs, Payload};
 pub use worklist::Worklist;
+
+#[cfg(test)]
+mod tests;
