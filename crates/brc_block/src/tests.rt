@@ -2,10 +2,11 @@
 
 ghost use Rattle.std.specs.Prelude.{◌+◌, ◌^◌, ◌<◌, ◌≤◌, length};
 
-use crate::{Block, Payload, Worklist};
-use brc_words::Fault;
+use crate::{Block, Cells, Letters, Pairs, Payload, Worklist};
+use brc_words::{Fault, Key};
 use linked_list_allocator::LocalHeap;
 use std::alloc::Allocator;
+use std::collections::VecDeque;
 
 /// Pushes a block that holds the number of its cell, if there is memory for it.
 fn push_block<A: Allocator>(list: &mut Worklist<A>, alloc: A, cell: u32)
@@ -64,6 +65,22 @@ fn a_block_of_another_cell_keeps_its_payload(rt: HostRuntime) {
             assert!(rt; matches!(block.into_payload(), Payload::Nothing));
         }
     }
+}
+
+#[test]
+fn containers_keep_their_order(rt: HostRuntime) {
+    let mut cells = Cells::new(Vec::new(rt.alloc()));
+    let mut letters = Letters::new(VecDeque::new(rt.alloc()));
+    let mut pairs = Pairs::new(Vec::new(rt.alloc()));
+    for cell in [266, 267, 268] {
+        assert!(rt; cells.push(cell).is_ok());
+        assert!(rt; letters.put(cell).is_ok());
+        assert!(rt; pairs.push(Key::Int(i64::from(cell)), cell).is_ok());
+    }
+    assert!(rt; cells.len() == 3 && letters.len() == 3 && pairs.len() == 3);
+    assert!(rt; cells.pop() == Some(268) && letters.pop() == Some(268));
+    assert!(rt; letters.take() == Some(266));
+    assert!(rt; matches!(pairs.pop(), Some((Key::Int(268), 268))));
 }
 
 #[test]
