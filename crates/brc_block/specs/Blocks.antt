@@ -17,3 +17,7 @@ front_cell (block ∷ below) = Some block.0
 abbrev pub front_payload : {P : Type 0} → List (ℕ × P) → Option P
 front_payload [] = None
 front_payload (block ∷ below) = Some block.1
+
+-- as far as a list of blocks counts
+abbrev pub most_counted : ℕ
+most_counted = 18446744073709551615

@@ -1,7 +1,5 @@
 //! Blocks that are pushed, popped and given back.
 
-ghost use Rattle.std.specs.Prelude.{◌+◌, ◌^◌, ◌<◌, ◌≤◌, length};
-
 use crate::{Block, Cells, Letters, Pairs, Payload, Worklist};
 use brc_words::{Fault, Key};
 use linked_list_allocator::LocalHeap;
@@ -9,10 +7,7 @@ use std::alloc::Allocator;
 use std::collections::VecDeque;
 
 /// Pushes a block that holds the number of its cell, if there is memory for it.
-fn push_block<A: Allocator>(list: &mut Worklist<A>, alloc: A, cell: u32)
-    requires { length list.old + 1 < 2 ^ 64 }
-    ensures { length list.new ≤ length list.old + 1 }
-{
+fn push_block<A: Allocator>(list: &mut Worklist<A>, alloc: A, cell: u32) {
     if let Ok(block) = Block::new(alloc, cell, Payload::Int(i64::from(cell))) {
         list.push(block);
     }

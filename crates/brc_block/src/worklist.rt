@@ -1,8 +1,8 @@
 //! Blocks of dead objects, last pushed first: each link is in its block.
 
-ghost use Rattle.std.specs.Prelude.{◌≡◌, ℕ, ◌+◌, ◌-◌, ◌^◌, ◌<◌, List, [], ◌∷◌, length, IfSome, IfNone};
+ghost use Rattle.std.specs.Prelude.{◌≡◌, ℕ, ◌+◌, ◌-◌, ◌^◌, ◌<◌, List, [], ◌∷◌, length, min, IfSome, IfNone};
 ghost use Rattle.std.specs.Option.{option_copied_mut};
-ghost use Rattle.brc_block.specs.Blocks.{front_cell, front_payload};
+ghost use Rattle.brc_block.specs.Blocks.{front_cell, front_payload, most_counted};
 
 use crate::block::Block;
 use crate::payload::Payload;
@@ -26,16 +26,16 @@ pub struct Worklist<A: Allocator> {
 }
 
 impl<A: Allocator> Model for Worklist<A> {
-    ghost use Rattle.std.specs.Prelude.{◌≡◌, List, ℕ, length};
+    ghost use Rattle.std.specs.Prelude.{◌≡◌, List, ℕ, length, min};
     ghost use Rattle.brc_block.specs.declared.payload.Payload.{Payload};
 
     ghost Value = { List (ℕ × Payload A) };
 
-    ghost use Rattle.brc_block.specs.Blocks.{blocks_of};
+    ghost use Rattle.brc_block.specs.Blocks.{blocks_of, most_counted};
 
     ghost view = { λ w. blocks_of w.top };
 
-    ghost invariant = { λ w. w.len ≡ length (blocks_of w.top) };
+    ghost invariant = { λ w. w.len ≡ min (length (blocks_of w.top)) most_counted };
 
     ghost size = { length };
 
@@ -55,21 +55,20 @@ impl<A: Allocator> Worklist<A> {
         Worklist { len: 0, top: None }
     }
 
-    /// How many blocks there are.
+    /// How many blocks there are, as far as a `usize` counts; more than memory has room for are not.
     pub fn len(&self) -> usize
-        ensures { result ≡ length self.now }
+        ensures { result ≡ min (length self.now) most_counted }
     {
         self.len
     }
 
     /// The last pushed block is the front.
     pub fn push(&mut self, block: Block<A>)
-        requires room { length self.old + 1 < 2 ^ 64 }
         ensures { self.new ≡ block ∷ self.old }
     {
         let mut node = block.into_node();
         let rest = self.take_all();
-        let len = rest.len() + 1;
+        let len = rest.len().saturating_add(1);
         node.below.fill(rest);
         self.fill(Worklist {
             len,
