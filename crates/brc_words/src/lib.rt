@@ -5,12 +5,14 @@
 #![tactic(auto)]
 
 mod fault;
+mod key;
 mod kind;
 mod limits;
 mod owner;
 mod state;
 
 pub use fault::{Fault, Reason};
+pub use key::{Key, Text};
 pub use kind::{Kind, is_container_kind, is_mortal_kind};
 pub use limits::{
     COUNTED_FROM, FEWEST_CELLS, FIRST_MORTAL, GLOBALS, IMMORTAL_LOCAL, MOST_BIRTHS, MOST_CELLS,

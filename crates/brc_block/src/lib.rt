@@ -1,0 +1,15 @@
+//! The memory of objects: blocks, each one allocation with its own link, and lists of blocks.
+//!
+//! A block is made once and given back once; it can be neither copied nor forgotten.
+#![tactic(auto)]
+
+mod block;
+mod payload;
+mod worklist;
+
+pub use block::Block;
+pub use payload::{Cells, Letters, Pairs, Payload};
+pub use worklist::Worklist;
+
+#[cfg(test)]
+mod tests;
