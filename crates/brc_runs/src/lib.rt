@@ -11,7 +11,7 @@ mod opening;
 mod row;
 
 pub use cell::Cell;
-pub use event::{Dropped, Event, Source, Step};
+pub use event::{Change, Dropped, Event, LastDropped, Source, Step};
 pub use laws::{
     counts_are_references, events_make_their_moves, lives_are_told_by_the_run, worlds_are_sound,
 };
