@@ -1,5 +1,5 @@
 -- Small words on lists: places of a frame, bits of words, marks.
-use Rattle.std.specs.Prelude.{ℕ, ◌+◌, ◌-◌, ◌/◌, ◌%◌, ◌==◌, Bool, true, false, List, ◌++◌, length, take, replicate, Option, Some, None, slice_index_or, slice_get, slice_set, sum_by}
+use Rattle.std.specs.Prelude.{ℕ, ◌+◌, ◌-◌, ◌/◌, ◌%◌, ◌^◌, ◌==◌, not, Bool, true, false, List, ◌++◌, length, take, replicate, Option, Some, None, is_some, slice_index_or, slice_get, slice_set, sum_by, count_by, bit_or, bit_xor}
 use Rattle.std.specs.Int.{bit_at}
 
 -- 1 for yes
@@ -51,3 +51,40 @@ last_of xs = slice_get xs (length xs - 1)
 -- all entries but the last
 abbrev pub front_of : List ℕ → List ℕ
 front_of xs = take (length xs - 1) xs
+
+-- the number in an option, or 0
+abbrev pub number_in : Option ℕ → ℕ
+number_in None = 0
+number_in (Some n) = n
+
+-- how many places of a frame have a cell, and that none has
+abbrev pub filled_places : List (Option ℕ) → ℕ
+filled_places frame = count_by is_some frame
+
+abbrev pub is_bare : List (Option ℕ) → Bool
+is_bare frame = filled_places frame == 0
+
+-- how many cells are marked, and that none is
+abbrev pub marked_cells : List Bool → ℕ
+marked_cells marks = count_by (λ b. b) marks
+
+abbrev pub is_unmarked : List Bool → Bool
+is_unmarked marks = marked_cells marks == 0
+
+-- how many words have a bit, and that none has
+abbrev pub used_words : List ℕ → ℕ
+used_words words = count_by (λ w. not (w == 0)) words
+
+abbrev pub is_blank : List ℕ → Bool
+is_blank words = used_words words == 0
+
+abbrev pub word_at : List ℕ → ℕ → ℕ
+word_at words k = slice_index_or words k 0
+
+-- the words with the cell's bit set
+abbrev pub with_bit : List ℕ → ℕ → List ℕ
+with_bit words c = slice_set words (c / 32) (bit_or (word_at words (c / 32)) (2 ^ (c % 32)))
+
+-- the words without the cell's bit, where it was set
+abbrev pub without_bit : List ℕ → ℕ → List ℕ
+without_bit words c = slice_set words (c / 32) (bit_xor (word_at words (c / 32)) (2 ^ (c % 32)))

@@ -19,7 +19,7 @@ use Rattle.brc_runs.specs.declared.row.Stage.{Stage}
 use Rattle.brc_runs.specs.declared.row.Stage.TheVariants as stages
 use Rattle.brc_runs.specs.Lists.{one, times, entry_times, bit_of, is_marked, place_at}
 use Rattle.brc_runs.specs.Heap.{Heap, cell_at, entries_at, row_at, frame_at, popped_at, work_at, queue_at, immortal_kind, is_gathered, words_for, AreOptions}
-use Rattle.brc_runs.specs.Steps.{is_active, is_default, is_zero}
+use Rattle.brc_runs.specs.Steps.{is_active, is_default, is_queued, is_merged, is_closed, is_zero}
 use Rattle.brc_runs.specs.Holding.{lives, total_of, carries, live_count}
 
 -- ---- sums over the places that name a cell
@@ -76,16 +76,6 @@ gripped h q = sum_by (λ marks. one (is_marked marks q)) h.works + sum_by (λ ro
 abbrev pub counted_in : Cell → ℤ
 counted_in x = if lives x.owner then total_of x else pos 0
 
-abbrev pub is_merged : State → Bool
-is_merged states.Default = false
-is_merged states.Queued = false
-is_merged states.Merged = true
-
-abbrev pub is_queued : State → Bool
-is_queued states.Default = false
-is_queued states.Queued = true
-is_queued states.Merged = false
-
 abbrev pub grips_by_owner : Owner → State → ℕ → ℤ → ℕ
 grips_by_owner owners.Free state local count = 0
 grips_by_owner (owners.Claimed t) state local count = 1
@@ -111,12 +101,6 @@ abbrev pub asks_least : Cell → ℕ
 asks_least x = one (is_queued x.state && is_threads x.owner)
 
 -- ---- what hands, cells, worklists and threads say besides
-
--- the word is one of those that the thread has closed
-abbrev pub is_closed : Stage → ℕ → Bool
-is_closed stages.Active k = false
-is_closed (stages.Closing n) k = nat_lt k n
-is_closed stages.Left k = true
 
 pub record Births (t : ℕ) (row : Row) (x : Cell) : Type 0 where
   pub claimed : x.owner ≡ owners.Claimed t
@@ -152,6 +136,7 @@ pub record CellFits (threads limit : ℕ) (x : Cell) (entries : List ℕ) : Type
   pub born : lives x.owner ≡ true → (0 < x.bore) × (x.bore < threads)
   pub limited : lives x.owner ≡ true → x.local ≤ limit
   pub plain : is_container x.kind ≡ false → entries ≡ []
+  pub few : length entries ≤ 1048576
 
 -- an immortal's words are never written, its mutex aside; only the globals have entries
 pub record ImmortalFits (c : ℕ) (x : Cell) (entries : List ℕ) : Type 0 where
@@ -161,6 +146,7 @@ pub record ImmortalFits (c : ℕ) (x : Cell) (entries : List ℕ) : Type 0 where
   pub state : x.state ≡ states.Default
   pub kind : x.kind ≡ immortal_kind c
   pub empty : c ≢ 265 → entries ≡ []
+  pub few : length entries ≤ 1048576
 
 -- an object on the thread's worklist: nothing counts it, and it is merged or the thread's own
 pub record WorkFits (t : ℕ) (q : ℕ) (x : Cell) : Type 0 where
@@ -241,7 +227,7 @@ pub record IsSound (h : Heap) : Type 0 where
   pub immortals : (q : ℕ) → q < 266 → ImmortalFits q (cell_at h q) (entries_at h q)
   pub works : (t q : ℕ) → is_marked (work_at h t) q ≡ true → WorkFits t q (cell_at h q)
   pub threads : (t : ℕ) → ThreadFits (words_for (length h.cells)) (row_at h t) (frame_at h t) (popped_at h t) (work_at h t) (queue_at h t) (is_gathered h t)
-  pub bits : (t q : ℕ) → 0 < bit_of (queue_at h t) q + bit_of (popped_at h t) q → (cell_at h q).bore ≡ t
+  pub bits : (t q : ℕ) → 0 < bit_of (queue_at h t) q + bit_of (popped_at h t) q → (266 ≤ q) × ((cell_at h q).bore ≡ t)
   pub locks : (t k : ℕ) → (row_at h t).locked ≡ Some k → (q : ℕ) × Locks h t k q × ((cell_at h q).mutex ≡ t)
   pub mutexes : (t q : ℕ) → 0 < t → (cell_at h q).mutex ≡ t → (k : ℕ) × Locks h t k q
   pub ledger : sum_by (λ row. row.allocs) h.rows ≡ sum_by (λ row. row.frees) h.rows + live_count h

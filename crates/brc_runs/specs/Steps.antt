@@ -1,10 +1,11 @@
 -- The atomic steps: when each is enabled, and what it does.
 --
 -- Both are factored: what the thread's own part must be, which one cell is meant (read off the own part alone), and what
--- that cell must be; then what becomes of the cell, of the own part and of entries. Counting is that of PEP 703,
--- "Biased Reference Counting"; claiming, the hand and the worklist are this heap's own.
-use Rattle.std.specs.Prelude.{ℕ, ◌+◌, ◌-◌, ◌==◌, nat_lt, nat_le, ◌&&◌, ◌||◌, not, Bool, true, false, if◌then◌else◌, ℤ, pos, negsuc, List, [], ◌∷◌, ◌++◌, length, replicate, Option, Some, None, is_none, slice_index_or, slice_get, slice_set}
-use Rattle.brc_words.specs.Kinds.{is_mortal}
+-- that cell must be; then what becomes of the cell, of the own part, of entries and of queue words. Counting, merging,
+-- asking and the merge queue are those of PEP 703, "Biased Reference Counting", and of Choi, Shull and Torrellas;
+-- claiming, the hand, closed queue words and the worklist are this heap's own.
+use Rattle.std.specs.Prelude.{ℕ, ◌+◌, ◌-◌, ◌/◌, ◌^◌, ◌==◌, nat_lt, nat_le, ◌&&◌, ◌||◌, not, Bool, true, false, if◌then◌else◌, ℤ, pos, negsuc, ◌+ℤ◌, ◌-ℤ◌, List, [], ◌∷◌, ◌++◌, length, replicate, remove, bit_or, Option, Some, None, is_none, is_some, slice_index_or, slice_get, slice_set}
+use Rattle.brc_words.specs.Kinds.{is_mortal, is_container}
 use Rattle.brc_words.specs.declared.owner.Owner.{Owner}
 use Rattle.brc_words.specs.declared.owner.Owner.TheVariants as owners
 use Rattle.brc_words.specs.declared.state.State.{State}
@@ -12,11 +13,15 @@ use Rattle.brc_words.specs.declared.state.State.TheVariants as states
 use Rattle.brc_runs.specs.declared.cell.Cell.{Cell}
 use Rattle.brc_runs.specs.declared.event.Event.{Event}
 use Rattle.brc_runs.specs.declared.event.Step.{Step}
-use Rattle.brc_runs.specs.declared.event.Step.TheVariants.{Claim, InitLocal, InitShared, Birth, LocalUp, LocalDown, SeeZero, Free, Register}
+use Rattle.brc_runs.specs.declared.event.Step.TheVariants.{Claim, InitLocal, InitShared, Birth, LocalUp, LocalDown, SeeZero, Free, Untie, MergeZero, SharedUp, SharedDown, Ask, LastDown, Enqueue, Drain, MergeAdd, Close, Nudge, Wake, Lock, Unlock, Register, Gather}
 use Rattle.brc_runs.specs.declared.event.Source.{Source}
 use Rattle.brc_runs.specs.declared.event.Source.TheVariants as sources
 use Rattle.brc_runs.specs.declared.event.Dropped.{Dropped}
 use Rattle.brc_runs.specs.declared.event.Dropped.TheVariants as dropped
+use Rattle.brc_runs.specs.declared.event.LastDropped.{LastDropped}
+use Rattle.brc_runs.specs.declared.event.LastDropped.TheVariants as lasts
+use Rattle.brc_runs.specs.declared.event.Change.{Change}
+use Rattle.brc_runs.specs.declared.event.Change.TheVariants as changes
 use Rattle.brc_runs.specs.declared.row.Row.{Row}
 use Rattle.brc_runs.specs.declared.row.Hand.{Hand}
 use Rattle.brc_runs.specs.declared.row.Hand.TheVariants as hands
@@ -24,8 +29,8 @@ use Rattle.brc_runs.specs.declared.row.Phase.{Phase}
 use Rattle.brc_runs.specs.declared.row.Phase.TheVariants as phases
 use Rattle.brc_runs.specs.declared.row.Stage.{Stage}
 use Rattle.brc_runs.specs.declared.row.Stage.TheVariants as stages
-use Rattle.brc_runs.specs.Lists.{place_at, filled, vacated, is_marked, last_of, front_of}
-use Rattle.brc_runs.specs.Heap.{Heap, cell_at, entries_at, row_at, frame_at, work_at, new_row, is_registered, is_gathered, is_immortal, words_for}
+use Rattle.brc_runs.specs.Lists.{place_at, filled, vacated, is_marked, last_of, front_of, number_in, bit_of, word_at, with_bit, without_bit, is_bare, is_unmarked, is_blank}
+use Rattle.brc_runs.specs.Heap.{Heap, cell_at, entries_at, row_at, frame_at, popped_at, work_at, queue_at, new_row, is_registered, is_gathered, is_immortal, words_for}
 
 -- ---- which cell a step means
 
@@ -49,6 +54,16 @@ abbrev pub dropped_cell : List (Option ℕ) → List Bool → (ℕ → List ℕ)
 dropped_cell frame work has (dropped.Frame k) = place_at frame k
 dropped_cell frame work has (dropped.Work c) = if is_marked work c then last_of (has c) else None
 
+-- the cell in the hand
+abbrev pub cell_in_hand : Hand → Option ℕ
+cell_in_hand hands.Free = None
+cell_in_hand (hands.Busy phase c) = Some c
+
+abbrev pub last_cell : Hand → List (Option ℕ) → List Bool → (ℕ → List ℕ) → LastDropped → Option ℕ
+last_cell hand frame work has (lasts.Dropped drop) = dropped_cell frame work has drop
+last_cell hand frame work has (lasts.Popped c) = Some c
+last_cell hand frame work has lasts.Hand = cell_in_hand hand
+
 -- the one cell that the step means, read off the thread's own part: its row, its frame, its worklist, and the entries
 -- of the cell that it has locked and of the cells on its worklist
 abbrev pub target : Row → List (Option ℕ) → List Bool → (ℕ → List ℕ) → Step → Option ℕ
@@ -60,29 +75,65 @@ target row frame work has (LocalUp source k) = source_cell row frame has source
 target row frame work has (LocalDown drop) = dropped_cell frame work has drop
 target row frame work has (SeeZero c) = Some c
 target row frame work has (Free c) = Some c
+target row frame work has (Untie c) = Some c
+target row frame work has (MergeZero c) = Some c
+target row frame work has (SharedUp source k) = source_cell row frame has source
+target row frame work has (SharedDown drop) = dropped_cell frame work has drop
+target row frame work has (Ask drop) = dropped_cell frame work has drop
+target row frame work has (LastDown last) = last_cell row.hand frame work has last
+target row frame work has (Enqueue c) = Some c
+target row frame work has (Drain k) = None
+target row frame work has (MergeAdd c) = Some c
+target row frame work has (Close k) = None
+target row frame work has (Nudge u k) = None
+target row frame work has Wake = None
+target row frame work has (Lock k) = place_at frame k
+target row frame work has (Unlock change) = locked_cell frame row.locked
 target row frame work has (Register u) = None
+target row frame work has (Gather u) = None
+
+-- a thread's steps on words that are no cell's: of its own merge queue, or a notify word
+abbrev pub needs_no_cell : Step → Bool
+needs_no_cell (Drain k) = true
+needs_no_cell (Close k) = true
+needs_no_cell (Nudge u k) = true
+needs_no_cell Wake = true
+needs_no_cell _ = false
 
 -- ---- the general conditions, one line a kind of step
 
--- the step takes its cell from the locked object's entries
-abbrev pub reads_entries : Step → Bool
-reads_entries (LocalUp (sources.Entry i) k) = true
-reads_entries _ = false
+-- while an object is locked only steps from its entries are made, and its unlocking; without a lock none of these
+abbrev pub needs_lock : Step → Bool
+needs_lock (LocalUp (sources.Entry i) k) = true
+needs_lock (SharedUp (sources.Entry i) k) = true
+needs_lock (Unlock change) = true
+needs_lock _ = false
 
--- while an object is locked only steps from its entries are made, and without a lock none of these
 abbrev pub lock_ok : Option ℕ → Step → Bool
-lock_ok None s = not (reads_entries s)
-lock_ok (Some k) s = reads_entries s
+lock_ok None s = not (needs_lock s)
+lock_ok (Some k) s = needs_lock s
+
+-- a thread that is closing only closes
+abbrev pub is_close : Step → Bool
+is_close (Close k) = true
+is_close _ = false
 
 -- a thread that has left only gives up and deals with what it still has
 abbrev pub may_after_leaving : Step → Bool
 may_after_leaving (LocalDown drop) = true
+may_after_leaving (SharedDown drop) = true
+may_after_leaving (Ask drop) = true
+may_after_leaving (LastDown last) = true
+may_after_leaving (Enqueue c) = true
+may_after_leaving (Untie c) = true
+may_after_leaving (MergeAdd c) = true
 may_after_leaving (Free c) = true
+may_after_leaving (Nudge u k) = true
 may_after_leaving _ = false
 
 abbrev pub stage_ok : Stage → Step → Bool
 stage_ok stages.Active s = true
-stage_ok (stages.Closing n) s = false
+stage_ok (stages.Closing n) s = is_close s
 stage_ok stages.Left s = may_after_leaving s
 
 abbrev pub phase_number : Phase → ℕ
@@ -107,6 +158,24 @@ abbrev pub is_at : Phase → ℕ → Hand → Bool
 is_at wanted d hands.Free = false
 is_at wanted d (hands.Busy phase c) = (phase_number phase == phase_number wanted) && (c == d)
 
+-- a reference in a hand that the shared word may count down: an asked one, a shut one, or one of a merged object
+abbrev pub is_ending : Phase → Bool
+is_ending phases.Claimed = false
+is_ending phases.Counted = false
+is_ending phases.Ready = false
+is_ending phases.Zero = false
+is_ending phases.Over = false
+is_ending phases.Untied = false
+is_ending phases.Asked = true
+is_ending phases.Shut = true
+is_ending phases.Taking = false
+is_ending phases.Held = true
+is_ending phases.Popping = false
+
+abbrev pub is_ending_hand : Hand → Bool
+is_ending_hand hands.Free = false
+is_ending_hand (hands.Busy phase c) = is_ending phase
+
 -- a step needs the hand free, but for those that go on with the cell in it
 abbrev pub hand_ok : Hand → Step → Bool
 hand_ok hand (Claim c) = is_free_hand hand
@@ -117,7 +186,24 @@ hand_ok hand (LocalUp source k) = is_free_hand hand
 hand_ok hand (LocalDown drop) = is_free_hand hand
 hand_ok hand (SeeZero c) = is_at phases.Zero c hand
 hand_ok hand (Free c) = is_free_hand hand
+hand_ok hand (Untie c) = is_at phases.Over c hand || is_at phases.Shut c hand || is_free_hand hand
+hand_ok hand (MergeZero c) = is_at phases.Untied c hand
+hand_ok hand (SharedUp source k) = is_free_hand hand
+hand_ok hand (SharedDown drop) = is_free_hand hand
+hand_ok hand (Ask drop) = is_free_hand hand
+hand_ok hand (LastDown (lasts.Dropped drop)) = is_free_hand hand
+hand_ok hand (LastDown (lasts.Popped c)) = is_free_hand hand
+hand_ok hand (LastDown lasts.Hand) = is_ending_hand hand
+hand_ok hand (Enqueue c) = is_at phases.Asked c hand
+hand_ok hand (Drain k) = is_free_hand hand
+hand_ok hand (MergeAdd c) = is_at phases.Taking c hand || is_at phases.Popping c hand
+hand_ok hand (Close k) = is_free_hand hand
+hand_ok hand (Nudge u k) = is_free_hand hand
+hand_ok hand Wake = is_free_hand hand
+hand_ok hand (Lock k) = is_free_hand hand
+hand_ok hand (Unlock change) = is_free_hand hand
 hand_ok hand (Register u) = false
+hand_ok hand (Gather u) = false
 
 -- ---- further conditions
 
@@ -128,18 +214,67 @@ is_vacant frame k = nat_lt k 65536 && is_none (place_at frame k)
 abbrev pub is_empty : List ℕ → Bool
 is_empty xs = length xs == 0
 
--- what the own part must be besides
-abbrev pub own_ok : Row → List (Option ℕ) → List Bool → (ℕ → List ℕ) → Step → Bool
-own_ok row frame work has (Claim c) = nat_lt row.allocs 140737488355328
-own_ok row frame work has (Birth c kind k) = is_mortal kind && is_vacant frame k
-own_ok row frame work has (LocalUp source k) = is_vacant frame k
-own_ok row frame work has (Free c) = is_marked work c && is_empty (has c)
-own_ok row frame work has _ = true
-
 abbrev pub is_active : Stage → Bool
 is_active stages.Active = true
 is_active (stages.Closing n) = false
 is_active stages.Left = false
+
+abbrev pub is_left : Stage → Bool
+is_left stages.Active = false
+is_left (stages.Closing n) = false
+is_left stages.Left = true
+
+-- the word is one of those that the thread has closed
+abbrev pub is_closed : Stage → ℕ → Bool
+is_closed stages.Active k = false
+is_closed (stages.Closing n) k = nat_lt k n
+is_closed stages.Left k = true
+
+-- words are closed in rising order: this one is the next
+abbrev pub closes_next : Stage → ℕ → Bool
+closes_next stages.Active k = k == 0
+closes_next (stages.Closing n) k = k == n
+closes_next stages.Left k = false
+
+-- before the first is closed nothing popped is left
+abbrev pub may_begin_closing : List ℕ → ℕ → Bool
+may_begin_closing popped k = nat_lt 0 k || is_blank popped
+
+-- a place that isn't the locked one
+abbrev pub is_unlocked : Option ℕ → ℕ → Bool
+is_unlocked None j = true
+is_unlocked (Some k) j = not (k == j)
+
+-- what the change needs of the frame and of the entries of the locked object
+abbrev pub change_ok : Option ℕ → List (Option ℕ) → List ℕ → Change → Bool
+change_ok locked frame entries changes.Keep = true
+change_ok locked frame entries (changes.Put j) = nat_lt (length entries) 1048576 && is_some (place_at frame j) && is_unlocked locked j
+change_ok locked frame entries (changes.Take i j) = nat_lt i (length entries) && is_vacant frame j && is_unlocked locked j
+change_ok locked frame entries (changes.Swap i j) = nat_lt i (length entries) && is_some (place_at frame j) && is_unlocked locked j
+
+-- the entries of the locked object
+abbrev pub locked_entries : (ℕ → List ℕ) → Option ℕ → List ℕ
+locked_entries has None = []
+locked_entries has (Some c) = has c
+
+-- a popped entry, where nothing is in the hand
+abbrev pub untie_ok : Hand → List ℕ → ℕ → Bool
+untie_ok hands.Free popped c = bit_of popped c == 1
+untie_ok (hands.Busy phase d) popped c = true
+
+-- what the own part must be besides; a thread has so many queue words
+abbrev pub own_ok : ℕ → Row → List (Option ℕ) → List ℕ → List Bool → (ℕ → List ℕ) → Step → Bool
+own_ok words row frame popped work has (Claim c) = nat_lt row.allocs 140737488355328
+own_ok words row frame popped work has (Birth c kind k) = is_mortal kind && is_vacant frame k
+own_ok words row frame popped work has (LocalUp source k) = is_vacant frame k
+own_ok words row frame popped work has (Free c) = is_marked work c && is_empty (has c)
+own_ok words row frame popped work has (Untie c) = untie_ok row.hand popped c
+own_ok words row frame popped work has (SharedUp source k) = is_vacant frame k
+own_ok words row frame popped work has (LastDown (lasts.Popped c)) = bit_of popped c == 1
+own_ok words row frame popped work has (Drain k) = nat_lt k words
+own_ok words row frame popped work has (Close k) = nat_lt k words && closes_next row.stage k && is_bare frame && is_unmarked work && may_begin_closing popped k
+own_ok words row frame popped work has (Unlock change) = change_ok row.locked frame (locked_entries has (locked_cell frame row.locked)) change
+own_ok words row frame popped work has _ = true
 
 abbrev pub is_owned_by : ℕ → Owner → Bool
 is_owned_by t owners.Nobody = false
@@ -147,39 +282,120 @@ is_owned_by t (owners.Thread s) = s == t
 is_owned_by t (owners.Claimed s) = false
 is_owned_by t owners.Free = false
 
+abbrev pub is_nobody : Owner → Bool
+is_nobody owners.Nobody = true
+is_nobody (owners.Thread s) = false
+is_nobody (owners.Claimed s) = false
+is_nobody owners.Free = false
+
 abbrev pub is_free : Owner → Bool
 is_free owners.Nobody = false
 is_free (owners.Thread s) = false
 is_free (owners.Claimed s) = false
 is_free owners.Free = true
 
+abbrev pub is_default : State → Bool
+is_default states.Default = true
+is_default states.Queued = false
+is_default states.Merged = false
+
+abbrev pub is_queued : State → Bool
+is_queued states.Default = false
+is_queued states.Queued = true
+is_queued states.Merged = false
+
+abbrev pub is_merged : State → Bool
+is_merged states.Default = false
+is_merged states.Queued = false
+is_merged states.Merged = true
+
+abbrev pub is_zero : ℤ → Bool
+is_zero (pos n) = n == 0
+is_zero (negsuc n) = false
+
+abbrev pub is_positive : ℤ → Bool
+is_positive (pos n) = nat_lt 0 n
+is_positive (negsuc n) = false
+
 -- the thread counts on the cell's local word: it owns the cell, and is active
 abbrev pub is_mine : ℕ → Stage → Cell → Bool
 is_mine t stage x = is_owned_by t x.owner && is_active stage
 
+-- the owner's count may rise
+abbrev pub counts_up_locally : ℕ → ℕ → Stage → Cell → Bool
+counts_up_locally limit t stage x = is_mine t stage x && nat_lt x.local limit
+
+-- a mortal cell that the thread counts on the shared word
+abbrev pub is_others : ℕ → Stage → ℕ → Cell → Bool
+is_others t stage c x = not (is_immortal c) && not (is_mine t stage x)
+
+-- the owner lets its object go: at count 0, for a popped entry, or another in its place after it left
+abbrev pub untied_ok : ℕ → Hand → Cell → Bool
+untied_ok t hands.Free x = is_owned_by t x.owner && is_queued x.state
+untied_ok t (hands.Busy phases.Shut c) x = not (is_nobody x.owner)
+untied_ok t (hands.Busy phase c) x = true
+
+-- a reference that was asked for goes once the owner word is nobody's; one of a merged object always
+abbrev pub ends_ok : Hand → Cell → Bool
+ends_ok hands.Free x = false
+ends_ok (hands.Busy phases.Held c) x = true
+ends_ok (hands.Busy phase c) x = is_nobody x.owner
+
+abbrev pub last_ok : ℕ → Row → LastDropped → ℕ → Cell → Bool
+last_ok t row (lasts.Dropped drop) c x = is_others t row.stage c x
+last_ok t row (lasts.Popped d) c x = is_merged x.state
+last_ok t row lasts.Hand c x = ends_ok row.hand x
+
+abbrev pub is_keep : Change → Bool
+is_keep changes.Keep = true
+is_keep (changes.Put j) = false
+is_keep (changes.Take i j) = false
+is_keep (changes.Swap i j) = false
+
 -- what the one cell must be
-abbrev pub cell_ok : ℕ → ℕ → Stage → Step → ℕ → Cell → Bool
-cell_ok limit t stage (Claim d) c x = nat_le 266 c && is_free x.owner
-cell_ok limit t stage (LocalUp source k) c x = is_immortal c || (is_mine t stage x && nat_lt x.local limit)
-cell_ok limit t stage (LocalDown drop) c x = is_immortal c || is_mine t stage x
-cell_ok limit t stage _ c x = true
+abbrev pub cell_ok : ℕ → ℕ → Row → Step → ℕ → Cell → Bool
+cell_ok limit t row (Claim d) c x = nat_le 266 c && is_free x.owner
+cell_ok limit t row (LocalUp source k) c x = is_immortal c || counts_up_locally limit t row.stage x
+cell_ok limit t row (LocalDown drop) c x = is_immortal c || is_mine t row.stage x
+cell_ok limit t row (Untie d) c x = untied_ok t row.hand x
+cell_ok limit t row (SharedUp source k) c x = not (is_immortal c) && not (counts_up_locally limit t row.stage x)
+cell_ok limit t row (SharedDown drop) c x = is_others t row.stage c x && is_default x.state && is_positive x.count
+cell_ok limit t row (Ask drop) c x = is_others t row.stage c x
+cell_ok limit t row (LastDown last) c x = not (is_default x.state) && last_ok t row last c x
+cell_ok limit t row (Lock k) c x = x.mutex == 0
+cell_ok limit t row (Unlock change) c x = is_keep change || is_container x.kind
+cell_ok limit t row _ c x = true
 
 -- the cell that is meant is one of the heap, and is as it must be
-abbrev pub target_ok : Heap → ℕ → Stage → Step → Option ℕ → Bool
-target_ok h t stage s None = false
-target_ok h t stage s (Some c) = nat_lt c (length h.cells) && cell_ok h.limit t stage s c (cell_at h c)
+abbrev pub target_ok : Heap → ℕ → Row → Step → Option ℕ → Bool
+target_ok h t row s None = needs_no_cell s
+target_ok h t row s (Some c) = nat_lt c (length h.cells) && cell_ok h.limit t row s c (cell_at h c)
+
+-- a thread that is told something is registered, and has the word
+abbrev pub others_ok : Heap → Step → Bool
+others_ok h (Nudge u k) = is_registered h u && nat_lt k (words_for (length h.cells))
+others_ok h _ = true
+
+abbrev pub target_at : Heap → ℕ → Step → Option ℕ
+target_at h t s = target (row_at h t) (frame_at h t) (work_at h t) (entries_at h) s
+
+abbrev pub own_ok_at : Heap → ℕ → Step → Bool
+own_ok_at h t s = own_ok (words_for (length h.cells)) (row_at h t) (frame_at h t) (popped_at h t) (work_at h t) (entries_at h) s
 
 -- a thread's step
 abbrev pub thread_may : Heap → ℕ → Step → Bool
 thread_may h t s =
     is_registered h t && not (is_gathered h t)
     && stage_ok (row_at h t).stage s && lock_ok (row_at h t).locked s && hand_ok (row_at h t).hand s
-    && own_ok (row_at h t) (frame_at h t) (work_at h t) (entries_at h) s
-    && target_ok h t (row_at h t).stage s (target (row_at h t) (frame_at h t) (work_at h t) (entries_at h) s)
+    && own_ok_at h t s && others_ok h s
+    && target_ok h t (row_at h t) s (target_at h t s)
 
--- the root's step: the next number is registered, of at most 64
+-- the root's steps: the next number is registered, of at most 64; a thread that left and holds nothing is gathered
 abbrev pub root_may : Heap → Step → Bool
 root_may h (Register u) = (u == length h.rows) && nat_le u 64
+root_may h (Gather u) =
+    is_registered h u && not (is_gathered h u)
+    && is_left (row_at h u).stage && is_free_hand (row_at h u).hand && is_blank (popped_at h u) && is_unmarked (work_at h u)
 root_may h _ = false
 
 abbrev pub enabled : Heap → Event → Bool
@@ -196,32 +412,59 @@ cell_after t (LocalUp source k) c x = if is_immortal c then x else record x { lo
 cell_after t (LocalDown drop) c x = if is_immortal c then x else record x { local = x.local - 1 }
 cell_after t (SeeZero d) c x = x
 cell_after t (Free d) c x = record x { owner = owners.Free }
+cell_after t (Untie d) c x = record x { owner = owners.Nobody }
+cell_after t (MergeZero d) c x = record x { state = states.Merged }
+cell_after t (SharedUp source k) c x = record x { count = x.count +ℤ pos 1 }
+cell_after t (SharedDown drop) c x = record x { count = x.count -ℤ pos 1 }
+cell_after t (Ask drop) c x = if is_default x.state then record x { state = states.Queued } else x
+cell_after t (LastDown last) c x = record x { count = x.count -ℤ pos 1 }
+cell_after t (Enqueue d) c x = x
+cell_after t (Drain k) c x = x
+cell_after t (MergeAdd d) c x = record x { count = x.count +ℤ pos x.local; state = states.Merged }
+cell_after t (Close k) c x = x
+cell_after t (Nudge u k) c x = x
+cell_after t Wake c x = x
+cell_after t (Lock k) c x = record x { mutex = t }
+cell_after t (Unlock change) c x = record x { mutex = 0 }
 cell_after t (Register u) c x = x
+cell_after t (Gather u) c x = x
 
 -- the shared word is 0: nobody else ever counted, and nobody asked
-abbrev pub is_default : State → Bool
-is_default states.Default = true
-is_default states.Queued = false
-is_default states.Merged = false
-
-abbrev pub is_zero : ℤ → Bool
-is_zero (pos n) = n == 0
-is_zero (negsuc n) = false
-
 abbrev pub is_untouched : Cell → Bool
 is_untouched x = is_zero x.count && is_default x.state
 
--- what the thread carries afterwards
-abbrev pub hand_after : Step → ℕ → Cell → Hand → Hand
-hand_after (Claim d) c x hand = hands.Busy phases.Claimed c
-hand_after (InitLocal d) c x hand = hands.Busy phases.Counted c
-hand_after (InitShared d) c x hand = hands.Busy phases.Ready c
-hand_after (Birth d kind k) c x hand = hands.Free
-hand_after (LocalUp source k) c x hand = hand
-hand_after (LocalDown drop) c x hand = if not (is_immortal c) && (x.local == 1) then hands.Busy phases.Zero c else hand
-hand_after (SeeZero d) c x hand = if is_untouched x then hands.Free else hands.Busy phases.Over c
-hand_after (Free d) c x hand = hand
-hand_after (Register u) c x hand = hand
+-- after the owner let its object go
+abbrev pub untied_hand : ℕ → Hand → Hand
+untied_hand c hands.Free = hands.Busy phases.Popping c
+untied_hand c (hands.Busy phases.Shut d) = hands.Busy phases.Taking c
+untied_hand c (hands.Busy phase d) = hands.Busy phases.Untied c
+
+-- after the counts were added: a reference of the thread's own stays in its hand
+abbrev pub added_hand : ℕ → Hand → Hand
+added_hand c hands.Free = hands.Free
+added_hand c (hands.Busy phases.Taking d) = hands.Busy phases.Held c
+added_hand c (hands.Busy phase d) = hands.Free
+
+-- what the thread carries afterwards; shut says that the queue word which the step meant was closed
+abbrev pub hand_after : Step → ℕ → Cell → Bool → Hand → Hand
+hand_after (Claim d) c x shut hand = hands.Busy phases.Claimed c
+hand_after (InitLocal d) c x shut hand = hands.Busy phases.Counted c
+hand_after (InitShared d) c x shut hand = hands.Busy phases.Ready c
+hand_after (Birth d kind k) c x shut hand = hands.Free
+hand_after (LocalDown drop) c x shut hand = if not (is_immortal c) && (x.local == 1) then hands.Busy phases.Zero c else hand
+hand_after (SeeZero d) c x shut hand = if is_untouched x then hands.Free else hands.Busy phases.Over c
+hand_after (Untie d) c x shut hand = untied_hand c hand
+hand_after (MergeZero d) c x shut hand = hands.Free
+hand_after (Ask drop) c x shut hand = if is_default x.state then hands.Busy phases.Asked c else hand
+hand_after (LastDown lasts.Hand) c x shut hand = hands.Free
+hand_after (Enqueue d) c x shut hand = if shut then hands.Busy phases.Shut c else hands.Free
+hand_after (MergeAdd d) c x shut hand = added_hand c hand
+hand_after _ c x shut hand = hand
+
+abbrev pub locked_after : Step → Option ℕ → Option ℕ
+locked_after (Lock k) locked = Some k
+locked_after (Unlock change) locked = None
+locked_after _ locked = locked
 
 abbrev pub allocs_after : Step → ℕ → ℕ
 allocs_after (Birth d kind k) n = n + 1
@@ -231,35 +474,130 @@ abbrev pub frees_after : Step → ℕ → ℕ
 frees_after (Free d) n = n + 1
 frees_after _ n = n
 
-abbrev pub row_after : Step → ℕ → Cell → Row → Row
-row_after s c x row = record row { hand = hand_after s c x row.hand; allocs = allocs_after s row.allocs; frees = frees_after s row.frees }
+abbrev pub row_after : Step → ℕ → Cell → Bool → Row → Row
+row_after s c x shut row = record row { hand = hand_after s c x shut row.hand; locked = locked_after s row.locked; allocs = allocs_after s row.allocs; frees = frees_after s row.frees }
 
-abbrev pub frame_after : Step → ℕ → List (Option ℕ) → List (Option ℕ)
-frame_after (Birth d kind k) c frame = filled frame k c
-frame_after (LocalUp source k) c frame = filled frame k c
-frame_after (LocalDown (dropped.Frame k)) c frame = vacated frame k
-frame_after _ c frame = frame
+-- the reference that goes from a place or from entries
+abbrev pub gone : Step → Cell → Option Dropped
+gone (LocalDown drop) x = Some drop
+gone (SharedDown drop) x = Some drop
+gone (Ask drop) x = if is_default x.state then Some drop else None
+gone (LastDown (lasts.Dropped drop)) x = Some drop
+gone _ x = None
 
-abbrev pub work_after : Step → ℕ → Cell → List Bool → List Bool
-work_after (SeeZero d) c x work = if is_untouched x then slice_set work c true else work
-work_after (Free d) c x work = slice_set work c false
-work_after _ c x work = work
+abbrev pub frame_without : Option Dropped → List (Option ℕ) → List (Option ℕ)
+frame_without None frame = frame
+frame_without (Some (dropped.Frame k)) frame = vacated frame k
+frame_without (Some (dropped.Work c)) frame = frame
+
+abbrev pub entries_without : Option Dropped → List (List ℕ) → List (List ℕ)
+entries_without None lists = lists
+entries_without (Some (dropped.Frame k)) lists = lists
+entries_without (Some (dropped.Work c)) lists = slice_set lists c (front_of (slice_index_or lists c []))
+
+-- the frame after an unlock, and the locked object's entries: one moves in, one moves out, or two are exchanged
+abbrev pub frame_changed : Change → List ℕ → List (Option ℕ) → List (Option ℕ)
+frame_changed changes.Keep entries frame = frame
+frame_changed (changes.Put j) entries frame = vacated frame j
+frame_changed (changes.Take i j) entries frame = filled frame j (slice_index_or entries i 0)
+frame_changed (changes.Swap i j) entries frame = filled frame j (slice_index_or entries i 0)
+
+abbrev pub entries_changed : Change → List (Option ℕ) → List ℕ → List ℕ
+entries_changed changes.Keep frame entries = entries
+entries_changed (changes.Put j) frame entries = entries ++ number_in (place_at frame j) ∷ []
+entries_changed (changes.Take i j) frame entries = remove entries i
+entries_changed (changes.Swap i j) frame entries = slice_set entries i (number_in (place_at frame j))
+
+abbrev pub frame_after : Step → ℕ → Cell → List ℕ → List (Option ℕ) → List (Option ℕ)
+frame_after (Birth d kind k) c x entries frame = filled frame k c
+frame_after (LocalUp source k) c x entries frame = filled frame k c
+frame_after (SharedUp source k) c x entries frame = filled frame k c
+frame_after (Unlock change) c x entries frame = frame_changed change entries frame
+frame_after s c x entries frame = frame_without (gone s x) frame
 
 -- the entries of all cells
-abbrev pub entries_after : Step → List (List ℕ) → List (List ℕ)
-entries_after (Birth c kind k) lists = slice_set lists c []
-entries_after (LocalDown (dropped.Work c)) lists = slice_set lists c (front_of (slice_index_or lists c []))
-entries_after _ lists = lists
+abbrev pub entries_after : Step → ℕ → Cell → List (Option ℕ) → List (List ℕ) → List (List ℕ)
+entries_after (Birth d kind k) c x frame lists = slice_set lists d []
+entries_after (Unlock change) c x frame lists = slice_set lists c (entries_changed change frame (slice_index_or lists c []))
+entries_after s c x frame lists = entries_without (gone s x) lists
+
+-- a popped entry that was counted down is dealt with
+abbrev pub popped_after : Step → List ℕ → List ℕ
+popped_after (LastDown (lasts.Popped c)) popped = without_bit popped c
+popped_after _ popped = popped
+
+-- the object is dead with this step, so its block is taken
+abbrev pub takes_block : Step → Cell → Bool
+takes_block (SeeZero d) x = is_untouched x
+takes_block (MergeZero d) x = is_zero x.count
+takes_block (LastDown last) x = is_merged x.state && is_zero (x.count -ℤ pos 1)
+takes_block _ x = false
+
+abbrev pub work_after : Step → ℕ → Cell → List Bool → List Bool
+work_after (Free d) c x work = slice_set work c false
+work_after s c x work = if takes_block s x then slice_set work c true else work
+
+-- the queue word of the thread that bore the cell is closed
+abbrev pub is_shut : Heap → ℕ → Bool
+is_shut h c = is_closed (row_at h (cell_at h c).bore).stage (c / 32)
+
+-- the merge queues: the bearer's gets the cell's bit, unless it is closed
+abbrev pub queues_after : Heap → Step → ℕ → List (List ℕ)
+queues_after h (Enqueue d) c = if is_shut h c then h.queues else slice_set h.queues (cell_at h c).bore (with_bit (queue_at h (cell_at h c).bore) c)
+queues_after h _ c = h.queues
 
 -- what a thread's step does, where its cell is c
 abbrev pub stepped : Heap → ℕ → Step → ℕ → Heap
 stepped h t s c = record h {
   cells = slice_set h.cells c (cell_after t s c (cell_at h c));
-  entries = entries_after s h.entries;
-  rows = slice_set h.rows t (row_after s c (cell_at h c) (row_at h t));
-  frames = slice_set h.frames t (frame_after s c (frame_at h t));
+  entries = entries_after s c (cell_at h c) (frame_at h t) h.entries;
+  rows = slice_set h.rows t (row_after s c (cell_at h c) (is_shut h c) (row_at h t));
+  frames = slice_set h.frames t (frame_after s c (cell_at h c) (entries_at h c) (frame_at h t));
+  popped = slice_set h.popped t (popped_after s (popped_at h t));
   works = slice_set h.works t (work_after s c (cell_at h c) (work_at h t));
+  queues = queues_after h s c;
 }
+
+-- ---- steps on words that are no cell's
+
+-- the stage after one more word is closed
+abbrev pub closed_more : ℕ → ℕ → Stage
+closed_more words k = if k + 1 == words then stages.Left else stages.Closing (k + 1)
+
+abbrev pub stage_after : ℕ → Step → Stage → Stage
+stage_after words (Close k) stage = closed_more words k
+stage_after words _ stage = stage
+
+-- the queue word whose bits are taken
+abbrev pub taken_word : Step → Option ℕ
+taken_word (Drain k) = Some k
+taken_word (Close k) = Some k
+taken_word _ = None
+
+abbrev pub with_taken : Option ℕ → List ℕ → List ℕ → List ℕ
+with_taken None queue popped = popped
+with_taken (Some k) queue popped = slice_set popped k (bit_or (word_at popped k) (word_at queue k))
+
+abbrev pub without_taken : Option ℕ → List ℕ → List ℕ
+without_taken None queue = queue
+without_taken (Some k) queue = slice_set queue k 0
+
+-- the notify words: one more bit for 32 queue words, or all taken
+abbrev pub notices_after : ℕ → Step → List ℕ → List ℕ
+notices_after t (Nudge u k) notices = slice_set notices u (bit_or (word_at notices u) (2 ^ (k / 32)))
+notices_after t Wake notices = slice_set notices t 0
+notices_after t _ notices = notices
+
+-- what a thread's step does that means no cell
+abbrev pub kept_cells : Heap → ℕ → Step → Heap
+kept_cells h t s = record h {
+  rows = slice_set h.rows t (record (row_at h t) { stage = stage_after (words_for (length h.cells)) s (row_at h t).stage });
+  popped = slice_set h.popped t (with_taken (taken_word s) (queue_at h t) (popped_at h t));
+  queues = slice_set h.queues t (without_taken (taken_word s) (queue_at h t));
+  notices = notices_after t s h.notices;
+}
+
+-- ---- the root's steps
 
 -- one more thread
 abbrev pub registered : Heap → Heap
@@ -273,11 +611,20 @@ registered h = record h {
   gathered = h.gathered ++ false ∷ [];
 }
 
+-- one thread is gathered
+abbrev pub gathered_in : Heap → ℕ → Heap
+gathered_in h u = record h { gathered = slice_set h.gathered u true }
+
+abbrev pub root_after : Heap → Step → Heap
+root_after h (Register u) = registered h
+root_after h (Gather u) = gathered_in h u
+root_after h _ = h
+
+-- ---- the world after an event that is enabled
+
 abbrev pub after_target : Heap → ℕ → Step → Option ℕ → Heap
-after_target h t s None = h
+after_target h t s None = kept_cells h t s
 after_target h t s (Some c) = stepped h t s c
 
--- the world after an event that is enabled
 abbrev pub after : Heap → Event → Heap
-after h e = if e.thread == 0 then registered h else
-    after_target h e.thread e.step (target (row_at h e.thread) (frame_at h e.thread) (work_at h e.thread) (entries_at h) e.step)
+after h e = if e.thread == 0 then root_after h e.step else after_target h e.thread e.step (target_at h e.thread e.step)
