@@ -112,7 +112,7 @@ birth_moves A h t c kind k sound ok =
     let place : Vacant (frame_at h t) k = vacant _ k parts.1 in
     let within : c < length h.entries = omega (arith, inside, sound.shaped.entries) in
     let x : Cell = cell_after t (Birth c kind k) c (cell_at h c) in
-    let r : Row = row_after (Birth c kind k) c (cell_at h c) (row_at h t) in
+    let r : Row = row_after (Birth c kind k) c (cell_at h c) (is_shut h c) (row_at h t) in
     let hands_same : SameHands h t r = quiet_hands h t r (hands.Busy phases.Ready c) hands.Free sound may.inside busy refl (λ q. refl) in
     let sides : (j : ℕ) → (j == c) ≡ (c == j) = λ j. elim (cases_eq j c) [
       | inl same ↦ eq-eqb j c same ∙ sym (eq-eqb c j (sym same))
@@ -202,7 +202,7 @@ up_moves A h t k source (Some c) sound ok named on live =
 
 -- ---- counting down
 
-down_hands : (h : Heap) (t c : ℕ) (drop : Dropped) → IsSound h → May h t (LocalDown drop) → SameHands h t (row_after (LocalDown drop) c (cell_at h c) (row_at h t))
+down_hands : (h : Heap) (t c : ℕ) (drop : Dropped) → IsSound h → May h t (LocalDown drop) → SameHands h t (row_after (LocalDown drop) c (cell_at h c) (is_shut h c) (row_at h t))
 down_hands h t c drop sound may =
     let hand : (row_at h t).hand ≡ hands.Free = free_hand _ may.hand in
     record {
@@ -225,7 +225,7 @@ down_frame_moves A h t k (Some c) sound ok named on live =
     let may : May h t s = may_parts h t s ok in
     let inside : c < length h.cells = (on_cell h t s c on).inside in
     let x : Cell = cell_after t s c (cell_at h c) in
-    let r : Row = row_after s c (cell_at h c) (row_at h t) in
+    let r : Row = row_after s c (cell_at h c) (is_shut h c) (row_at h t) in
     let same_hands : SameHands h t r = down_hands h t c (dropped.Frame k) sound may in
     let kind : x.kind ≡ (cell_at h c).kind = kept_kind (is_immortal c) (cell_at h c) ((cell_at h c).local - 1) in
     elim (cases_Bool (is_immortal c)) [
@@ -257,7 +257,7 @@ down_work_moves A h t d (Some c) sound ok named on live =
     let may : May h t s = may_parts h t s ok in
     let inside : c < length h.cells = (on_cell h t s c on).inside in
     let x : Cell = cell_after t s c (cell_at h c) in
-    let r : Row = row_after s c (cell_at h c) (row_at h t) in
+    let r : Row = row_after s c (cell_at h c) (is_shut h c) (row_at h t) in
     let same_hands : SameHands h t r = down_hands h t c (dropped.Work d) sound may in
     let last : last_of (entries_at h d) ≡ Some c = work_source _ (is_marked (work_at h t) d) c named in
     let some : length (entries_at h d) - 1 < length (entries_at h d) = found_inside (entries_at h d) _ c last in
@@ -289,7 +289,7 @@ see_moves : (A : Type 0) (h : Heap) (t c : ℕ) → IsSound h → thread_may h t
 see_moves A h t c sound ok =
     let may : May h t (SeeZero c) = may_parts h t (SeeZero c) ok in
     let busy : (row_at h t).hand ≡ hands.Busy phases.Zero c = busy_hand phases.Zero c _ may.hand in
-    let r : Row = row_after (SeeZero c) c (cell_at h c) (row_at h t) in
+    let r : Row = row_after (SeeZero c) c (cell_at h c) (is_shut h c) (row_at h t) in
     same_map h t c (cell_at h c) r (frame_at h t) (work_of (is_untouched (cell_at h c))) h.entries
     (record {
       inside = may.inside;
@@ -312,7 +312,7 @@ free_moves A h t c sound ok =
     let parts = and_parts _ _ may.own in
     let fits : WorkFits t c (cell_at h c) = sound.works t c parts.0 in
     let hand : (row_at h t).hand ≡ hands.Free = free_hand _ may.hand in
-    let r : Row = row_after (Free c) c (cell_at h c) (row_at h t) in
+    let r : Row = row_after (Free c) c (cell_at h c) (is_shut h c) (row_at h t) in
     let x : Cell = cell_after t (Free c) c (cell_at h c) in
     let same_hands : SameHands h t r = quiet_hands h t r hands.Free hands.Free sound may.inside hand hand (λ q. refl) in
     let sides : (j : ℕ) → (j == c) ≡ (c == j) = λ j. elim (cases_eq j c) [

@@ -8,7 +8,7 @@ use Rattle.brc_runs.specs.declared.row.Stage.{Stage}
 use Rattle.brc_runs.specs.declared.row.Stage.TheVariants as stages
 use Rattle.brc_runs.specs.Lists.{place_at}
 use Rattle.brc_runs.specs.Heap.{Heap, cell_at, entries_at, row_at, frame_at, work_at, is_gathered}
-use Rattle.brc_runs.specs.Steps.{thread_may, stage_ok, lock_ok, hand_ok, own_ok, target_ok, cell_ok, target, is_vacant, is_mine}
+use Rattle.brc_runs.specs.Steps.{thread_may, stage_ok, lock_ok, hand_ok, own_ok_at, others_ok, target_ok, target_at, cell_ok, is_vacant, is_mine}
 use Rattle.brc_runs.proofs.Naming.{thread_owner, active_stage}
 
 -- the tests of a thread's step
@@ -19,8 +19,9 @@ pub record May (h : Heap) (t : ℕ) (s : Step) : Type 0 where
   pub stage : stage_ok (row_at h t).stage s ≡ true
   pub lock : lock_ok (row_at h t).locked s ≡ true
   pub hand : hand_ok (row_at h t).hand s ≡ true
-  pub own : own_ok (row_at h t) (frame_at h t) (work_at h t) (entries_at h) s ≡ true
-  pub on_target : target_ok h t (row_at h t).stage s (target (row_at h t) (frame_at h t) (work_at h t) (entries_at h) s) ≡ true
+  pub own : own_ok_at h t s ≡ true
+  pub others : others_ok h s ≡ true
+  pub on_target : target_ok h t (row_at h t) s (target_at h t s) ≡ true
 
 pub may_parts : (h : Heap) (t : ℕ) (s : Step) → thread_may h t s ≡ true → May h t s
 may_parts h t s may =
@@ -31,23 +32,25 @@ may_parts h t s may =
     let e = and_parts _ _ d.0 in
     let f = and_parts _ _ e.0 in
     let g = and_parts _ _ f.0 in
+    let i = and_parts _ _ g.0 in
     record {
-      some_thread = ltb-true _ _ g.0;
-      inside = ltb-true _ _ g.1;
-      not_gathered = not-true _ f.1;
-      stage = e.1;
-      lock = d.1;
-      hand = c.1;
-      own = b.1;
+      some_thread = ltb-true _ _ i.0;
+      inside = ltb-true _ _ i.1;
+      not_gathered = not-true _ g.1;
+      stage = f.1;
+      lock = e.1;
+      hand = d.1;
+      own = c.1;
+      others = b.1;
       on_target = a.1;
     }
 
 -- the cell that is meant
 pub record OnCell (h : Heap) (t : ℕ) (s : Step) (c : ℕ) : Type 0 where
   pub inside : c < length h.cells
-  pub fits : cell_ok h.limit t (row_at h t).stage s c (cell_at h c) ≡ true
+  pub fits : cell_ok h.limit t (row_at h t) s c (cell_at h c) ≡ true
 
-pub on_cell : (h : Heap) (t : ℕ) (s : Step) (c : ℕ) → target_ok h t (row_at h t).stage s (Some c) ≡ true → OnCell h t s c
+pub on_cell : (h : Heap) (t : ℕ) (s : Step) (c : ℕ) → target_ok h t (row_at h t) s (Some c) ≡ true → OnCell h t s c
 on_cell h t s c ok = let parts = and_parts _ _ ok in record { inside = ltb-true _ _ parts.0; fits = parts.1 }
 
 -- a vacant place

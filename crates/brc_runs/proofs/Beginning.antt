@@ -111,6 +111,7 @@ opening_sound n limit options =
         born = λ live. absurd (true≢false (sym live));
         limited = λ live. absurd (true≢false (sym live));
         plain = λ _. entries q;
+        few = omega (arith, ap (λ (xs : List ℕ). length xs) (entries q));
       });
       immortals = λ q low. subst (λ x. ImmortalFits q x (entries_at h q)) (sym (immortal_cell n q (omega (arith, options.enough)) low)) (record {
         owner = refl;
@@ -119,6 +120,7 @@ opening_sound n limit options =
         state = refl;
         kind = refl;
         empty = λ _. entries q;
+        few = omega (arith, ap (λ (xs : List ℕ). length xs) (entries q));
       });
       works = λ t q on. absurd (true≢false (sym on ∙ ap (λ marks. is_marked marks q) (work t)));
       threads = λ t.

@@ -18,24 +18,25 @@ use Rattle.brc_runs.specs.declared.row.Stage.{Stage}
 use Rattle.brc_runs.specs.declared.row.Stage.TheVariants as stages
 use Rattle.brc_runs.specs.Lists.{one, entry_times, is_marked, filled}
 use Rattle.brc_runs.specs.Heap.{Heap, cell_at, entries_at, row_at, frame_at, popped_at, work_at}
-use Rattle.brc_runs.specs.Steps.{thread_may, stepped, cell_after, row_after, stage_ok, lock_ok, may_after_leaving, reads_entries, is_active}
+use Rattle.brc_runs.specs.Steps.{thread_may, is_shut, stepped, cell_after, row_after, stage_ok, lock_ok, may_after_leaving, is_close, needs_lock, is_active, is_closed, is_queued, is_merged}
 use Rattle.brc_runs.specs.Holding.{lives, carries, has_reference, count_of_state}
-use Rattle.brc_runs.specs.Sound.{IsSound, ThreadFits, PhaseFits, Births, HandFits, counted_in, grips_of, grips_by_owner, grips, is_gripping, is_closed, is_queued, is_threads, is_merged, asks_least, in_entries}
+use Rattle.brc_runs.specs.Sound.{IsSound, ThreadFits, PhaseFits, Births, HandFits, counted_in, grips_of, grips_by_owner, grips, is_gripping, is_threads, asks_least, in_entries}
 use Rattle.brc_runs.proofs.Naming.{Unheld, Ungripped, dead_unheld, ungripped, sole_grip, unnamed, no_mark, grips_free, carries_free, free_hand, busy_hand, free_owner, dead_counts, grips_once}
 use Rattle.brc_runs.proofs.Framing.{times-filled, length-filled}
 use Rattle.brc_runs.proofs.Asking.{May, OnCell, on_cell, may_parts, Vacant, vacant}
-use Rattle.brc_runs.proofs.Changes.{Fits, changed_sound}
+use Rattle.brc_runs.proofs.Changes.{same_entries, Fewer, changed_sound}
+use Rattle.brc_runs.proofs.Plainly.{Plain, plain_sound}
 
 -- ---- threads
 
 -- only an active thread makes these steps
-pub active_from : (stage : Stage) (s : Step) → stage_ok stage s ≡ true → may_after_leaving s ≡ false → stage ≡ stages.Active
-active_from stages.Active s ok more = refl
-active_from (stages.Closing n) s ok more = absurd (true≢false (sym ok))
-active_from stages.Left s ok more = absurd (true≢false (sym ok ∙ more))
+pub active_from : (stage : Stage) (s : Step) → stage_ok stage s ≡ true → may_after_leaving s ≡ false → is_close s ≡ false → stage ≡ stages.Active
+active_from stages.Active s ok more close = refl
+active_from (stages.Closing n) s ok more close = absurd (true≢false (sym ok ∙ close))
+active_from stages.Left s ok more close = absurd (true≢false (sym ok ∙ more))
 
 -- without a lock
-pub no_lock : (locked : Option ℕ) (s : Step) → lock_ok locked s ≡ true → reads_entries s ≡ false → locked ≡ None
+pub no_lock : (locked : Option ℕ) (s : Step) → lock_ok locked s ≡ true → needs_lock s ≡ false → locked ≡ None
 no_lock None s ok plain = refl
 no_lock (Some k) s ok plain = absurd (true≢false (sym ok ∙ plain))
 
@@ -90,15 +91,15 @@ pub record Bears (h : Heap) (t c : ℕ) : Type 0 where
   pub others : (s : ℕ) → s ≢ t → Ungripped h c s
 
 -- claimed and the two words set: the cell stays without an object, in the thread's hand
-claim_fits : (h : Heap) (t c : ℕ) (s : Step) (x : Cell) (r : Row) (p : Phase) → IsSound h → May h t s → may_after_leaving s ≡ false → reads_entries s ≡ false → c < length h.cells → Bears h t c
+claim_fits : (h : Heap) (t c : ℕ) (s : Step) (x : Cell) (r : Row) (p : Phase) → IsSound h → May h t s → may_after_leaving s ≡ false → is_close s ≡ false → needs_lock s ≡ false → c < length h.cells → Bears h t c
     → x.owner ≡ owners.Claimed t → x.mutex ≡ (cell_at h c).mutex → x.bore ≡ (cell_at h c).bore → x.count ≡ pos 0
     → r.stage ≡ (row_at h t).stage → r.locked ≡ (row_at h t).locked → r.allocs ≡ (row_at h t).allocs → r.frees ≡ (row_at h t).frees
     → r.hand ≡ hands.Busy p c → is_gripping p ≡ true → has_reference p ≡ false
     → ((g : Stage) → PhaseFits t r (popped_at h t) x g c p)
-    → Fits h t c x r (frame_at h t) (work_at h t) h.entries
-claim_fits h t c s x r p sound may runs plain inside bears owner mutex bore count stage locked allocs frees hand gripping no_reference phase =
+    → Plain h t c x r (frame_at h t) (work_at h t) h.entries
+claim_fits h t c s x r p sound may runs opens plain inside bears owner mutex bore count stage locked allocs frees hand gripping no_reference phase =
     let none : Unheld h c = dead_unheld h c sound bears.mortal bears.dead in
-    let active : (row_at h t).stage ≡ stages.Active = active_from _ s may.stage runs in
+    let active : (row_at h t).stage ≡ stages.Active = active_from _ s may.stage runs opens in
     let unlocked : r.locked ≡ None = locked ∙ no_lock _ s may.lock plain in
     let dead : lives x.owner ≡ false = ap lives owner in
     let old_count : counted_in (cell_at h c) ≡ pos 0 = dead_counts (cell_at h c) bears.dead in
@@ -142,8 +143,9 @@ claim_fits h t c s x r p sound may runs plain inside bears owner mutex bore coun
         born = λ live. absurd (true≢false (sym live ∙ dead));
         limited = λ live. absurd (true≢false (sym live ∙ dead));
         plain = λ _. (sound.cells c mortal).dead_empty bears.dead;
+        few = (sound.cells c mortal).few;
       };
-      empty = λ q _ e. e;
+      fewer = λ q _. same_entries _;
       works_here = λ on. absurd (no_mark _ bears.mark on);
       works_own = λ q _ on. on;
       works_else = λ j ne on. absurd (no_mark _ (bears.others j ne).mark on);
@@ -165,9 +167,9 @@ claim_sound h t c sound ok =
     let grip : grips_of (cell_at h c) ≡ 0 = ap (λ o. grips_by_owner o (cell_at h c).state (cell_at h c).local (cell_at h c).count) free in
     let alone : (s : ℕ) → Ungripped h c s = ungripped h c (sound.gripped c mortal ∙ grip) in
     let x : Cell = cell_after t (Claim c) c (cell_at h c) in
-    let r : Row = row_after (Claim c) c (cell_at h c) (row_at h t) in
-    changed_sound h t c x r (frame_at h t) (work_at h t) h.entries sound
-    (claim_fits h t c (Claim c) x r phases.Claimed sound may refl refl at_cell.inside
+    let r : Row = row_after (Claim c) c (cell_at h c) (is_shut h c) (row_at h t) in
+    plain_sound h t c x r (frame_at h t) (work_at h t) h.entries sound
+    (claim_fits h t c (Claim c) x r phases.Claimed sound may refl refl refl at_cell.inside
     (record {
       mortal = mortal;
       dead = ap lives free;
@@ -203,9 +205,9 @@ local_sound h t c sound ok =
     let births : Births t (row_at h t) (cell_at h c) = said.fits in
     let bears : Bears h t c = birth_bears h t c phases.Claimed sound busy refl said.mortal births.claimed in
     let x : Cell = cell_after t (InitLocal c) c (cell_at h c) in
-    let r : Row = row_after (InitLocal c) c (cell_at h c) (row_at h t) in
-    changed_sound h t c x r (frame_at h t) (work_at h t) h.entries sound
-    (claim_fits h t c (InitLocal c) x r phases.Counted sound may refl refl at_cell.inside bears
+    let r : Row = row_after (InitLocal c) c (cell_at h c) (is_shut h c) (row_at h t) in
+    plain_sound h t c x r (frame_at h t) (work_at h t) h.entries sound
+    (claim_fits h t c (InitLocal c) x r phases.Counted sound may refl refl refl at_cell.inside bears
     births.claimed refl refl ((sound.cells c said.mortal).dead_count bears.dead) refl refl refl refl refl refl refl
     (λ g. (record { claimed = births.claimed; more = births.more }, refl)))
 
@@ -219,9 +221,9 @@ shared_sound h t c sound ok =
     let births : Births t (row_at h t) (cell_at h c) = fits.0 in
     let bears : Bears h t c = birth_bears h t c phases.Counted sound busy refl said.mortal births.claimed in
     let x : Cell = cell_after t (InitShared c) c (cell_at h c) in
-    let r : Row = row_after (InitShared c) c (cell_at h c) (row_at h t) in
-    changed_sound h t c x r (frame_at h t) (work_at h t) h.entries sound
-    (claim_fits h t c (InitShared c) x r phases.Ready sound may refl refl at_cell.inside bears
+    let r : Row = row_after (InitShared c) c (cell_at h c) (is_shut h c) (row_at h t) in
+    plain_sound h t c x r (frame_at h t) (work_at h t) h.entries sound
+    (claim_fits h t c (InitShared c) x r phases.Ready sound may refl refl refl at_cell.inside bears
     births.claimed refl refl refl refl refl refl refl refl refl refl
     (λ g. (record { claimed = births.claimed; more = births.more }, fits.1, refl)))
 
@@ -237,10 +239,10 @@ birth_sound h t c kind k sound ok =
     let bears : Bears h t c = birth_bears h t c phases.Ready sound busy refl said.mortal births.claimed in
     let none : Unheld h c = dead_unheld h c sound bears.mortal bears.dead in
     let place : Vacant (frame_at h t) k = vacant _ k (and_parts _ _ may.own).1 in
-    let active : (row_at h t).stage ≡ stages.Active = active_from _ (Birth c kind k) may.stage refl in
+    let active : (row_at h t).stage ≡ stages.Active = active_from _ (Birth c kind k) may.stage refl refl in
     let unlocked : (row_at h t).locked ≡ None = no_lock _ (Birth c kind k) may.lock refl in
     let x : Cell = cell_after t (Birth c kind k) c (cell_at h c) in
-    let r : Row = row_after (Birth c kind k) c (cell_at h c) (row_at h t) in
+    let r : Row = row_after (Birth c kind k) c (cell_at h c) (is_shut h c) (row_at h t) in
     let f : List (Option ℕ) = filled (frame_at h t) k c in
     let es : List (List ℕ) = set h.entries c [] in
     let count : (cell_at h c).count ≡ pos 0 = (sound.cells c bears.mortal).dead_count bears.dead in
@@ -255,7 +257,7 @@ birth_sound h t c kind k sound ok =
     let grip : grips_of x ≡ 0 = ap (λ n. one (n == 0)) fits.1 in
     let filled_here = times-filled c (frame_at h t) k c place.none in
     let asked : asks_least x ≡ 0 = ap (λ s. one (is_queued s && true)) fits.2 in
-    changed_sound h t c x r f (work_at h t) es sound (record {
+    plain_sound h t c x r f (work_at h t) es sound (record {
       thread = may.some_thread;
       thread_inside = may.inside;
       cell_inside = at_cell.inside;
@@ -285,10 +287,11 @@ birth_sound h t c kind k sound ok =
         born = λ _. (may.some_thread, may.inside);
         limited = λ _. omega (arith, fits.1, sound.shaped.options.counts);
         plain = λ _. get_or-set_same h.entries c [] [] within;
+        few = omega (arith, ap (λ (xs : List ℕ). length xs) (get_or-set_same h.entries c [] [] within));
       };
-      empty = λ q other e. elim (cases_eq q c) [
-        | inl same ↦ ap (λ i. get_or es i []) same ∙ get_or-set_same h.entries c [] [] within
-        | inr ne ↦ get_or-set_other h.entries c q [] [] ne ∙ e
+      fewer = λ q other. elim (cases_eq q c) [
+        | inl same ↦ absurd (other (omega (arith, same, bears.mortal)) same)
+        | inr ne ↦ subst (λ xs. Fewer (entries_at h q) xs) (sym (get_or-set_other h.entries c q [] [] ne)) (same_entries (entries_at h q))
       ];
       works_here = λ on. absurd (no_mark _ bears.mark on);
       works_own = λ q _ on. on;

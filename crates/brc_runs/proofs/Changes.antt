@@ -1,5 +1,5 @@
--- One thread's part and one cell change, with entries: what every clause becomes, once for all steps.
-use Rattle.std.proofs.Common.{◌≡◌, ◌≢◌, ℕ, ◌+◌, ◌-◌, ◌<◌, ◌≤◌, Bool, true, ℤ, pos, ◌+ℤ◌, List, [], length, get_or, set, drop, Option, Some, sum_by, refl, sym, ◌∙◌, ap, subst, inl, inr, ◌⊎◌, arith}
+-- One thread's part and one cell change, with entries and queue words: what every clause becomes, once for all steps.
+use Rattle.std.proofs.Common.{◌≡◌, ◌≢◌, ℕ, ◌+◌, ◌-◌, ◌/◌, ◌<◌, ◌≤◌, Bool, true, ℤ, pos, ◌+ℤ◌, List, [], length, get_or, set, drop, Option, Some, sum_by, refl, sym, ◌∙◌, ap, subst, inl, inr, ◌⊎◌, arith}
 use Rattle.std.proofs.lemmas.List.{get_or-set_same, get_or-set_other, length-set, drop-set-lt, drop-set-add, get_or-drop, length-drop}
 use Rattle.std.proofs.lemmas.List.Sums.{sum_by-set}
 use Rattle.std.proofs.lemmas.Bool.{cases_eq, cases_lt}
@@ -8,19 +8,33 @@ use Rattle.brc_runs.specs.declared.cell.Cell.{Cell}
 use Rattle.brc_runs.specs.declared.row.Row.{Row}
 use Rattle.brc_runs.specs.declared.row.Hand.TheVariants as hands
 use Rattle.brc_runs.specs.declared.row.Phase.{Phase}
-use Rattle.brc_runs.specs.Lists.{one, times, entry_times, bit_of, is_marked, place_at}
+use Rattle.brc_runs.specs.declared.row.Phase.TheVariants as phases
+use Rattle.brc_runs.specs.declared.row.Stage.{Stage}
+use Rattle.brc_runs.specs.Lists.{one, times, entry_times, bit_of, is_marked, place_at, word_at}
 use Rattle.brc_runs.specs.Heap.{Heap, cell_at, entries_at, row_at, frame_at, popped_at, work_at, queue_at, no_cell, no_row, is_gathered, words_for, AreOptions}
+use Rattle.brc_runs.specs.Steps.{is_closed}
 use Rattle.brc_runs.specs.Holding.{lives, carries, live_count}
 use Rattle.brc_runs.specs.Sound.{IsSound, IsShaped, CellFits, ImmortalFits, WorkFits, ThreadFits, HandFits, PhaseFits, Locks, counted_in, grips_of, grips, gripped, held, asks, asks_most, asks_least, in_frames, in_popped, in_queues, in_hands, in_entries}
 
--- the world with one cell, one thread's row, frame and worklist, and entries replaced
-abbrev pub changed : Heap → ℕ → ℕ → Cell → Row → List (Option ℕ) → List Bool → List (List ℕ) → Heap
-changed h t c x r f w es = record h {
-  cells = set h.cells c x;
-  entries = es;
-  rows = set h.rows t r;
-  frames = set h.frames t f;
-  works = set h.works t w;
+-- what a step puts in place of one cell, of one thread's parts, of all entries and of all queue words
+pub record New : Type 0 where
+  pub cell : Cell
+  pub row : Row
+  pub frame : List (Option ℕ)
+  pub popped : List ℕ
+  pub work : List Bool
+  pub entries : List (List ℕ)
+  pub queues : List (List ℕ)
+
+abbrev pub changed : Heap → ℕ → ℕ → New → Heap
+changed h t c n = record h {
+  cells = set h.cells c n.cell;
+  entries = n.entries;
+  rows = set h.rows t n.row;
+  frames = set h.frames t n.frame;
+  popped = set h.popped t n.popped;
+  works = set h.works t n.work;
+  queues = n.queues;
 }
 
 -- ---- reading a list after a write
@@ -41,68 +55,96 @@ read_by {A} P xs i v d h here there j =
 
 -- ---- what the law asks: each fact is about the changed cell, the changed thread, or those that name the cell
 
-pub record Fits (h : Heap) (t c : ℕ) (x : Cell) (r : Row) (f : List (Option ℕ)) (w : List Bool) (es : List (List ℕ)) : Type 0 where
+-- the references to a cell where the step changes something, before and after; and those on their way among them
+abbrev pub old_part : Heap → ℕ → ℕ → ℕ
+old_part h t q = times q (frame_at h t) + bit_of (popped_at h t) q + one (carries q (row_at h t).hand) + in_queues h q + in_entries h q
+
+abbrev pub new_part : New → ℕ → ℕ
+new_part n q = times q n.frame + bit_of n.popped q + one (carries q n.row.hand) + sum_by (λ words. bit_of words q) n.queues + sum_by (entry_times q) n.entries
+
+abbrev pub old_asks : Heap → ℕ → ℕ → ℕ
+old_asks h t q = bit_of (popped_at h t) q + one (carries q (row_at h t).hand) + in_queues h q
+
+abbrev pub new_asks : New → ℕ → ℕ
+new_asks n q = bit_of n.popped q + one (carries q n.row.hand) + sum_by (λ words. bit_of words q) n.queues
+
+-- entries that grow no longer
+pub record Fewer (old new : List ℕ) : Type 0 where
+  pub empty : old ≡ [] → new ≡ []
+  pub few : length new ≤ length old
+
+-- a lock is told by the thread's place and by the cell's mutex alike
+pub record LocksFit (h : Heap) : Type 0 where
+  pub locks : (s k : ℕ) → (row_at h s).locked ≡ Some k → (q : ℕ) × Locks h s k q × ((cell_at h q).mutex ≡ s)
+  pub mutexes : (s q : ℕ) → 0 < s → (cell_at h q).mutex ≡ s → (k : ℕ) × Locks h s k q
+
+pub record Fits (h : Heap) (t c : ℕ) (n : New) : Type 0 where
   pub thread : 0 < t
   pub thread_inside : t < length h.rows
   pub cell_inside : c < length h.cells
-  pub immortal : c < 266 → x ≡ cell_at h c
-  pub mutex : x.mutex ≡ (cell_at h c).mutex
-  pub bore : (x.bore ≡ (cell_at h c).bore) ⊎ ((s : ℕ) → bit_of (queue_at h s) c + bit_of (popped_at h s) c ≡ 0)
-  pub stage : r.stage ≡ (row_at h t).stage
-  pub locked : r.locked ≡ (row_at h t).locked
-  pub locked_place : (k : ℕ) → (row_at h t).locked ≡ Some k → place_at f k ≡ place_at (frame_at h t) k
-  pub marks : length w ≡ length (work_at h t)
-  pub lists : length es ≡ length h.entries
+  -- lengths
+  pub marks : length n.work ≡ length (work_at h t)
+  pub lists : length n.entries ≡ length h.entries
+  pub words : length n.popped ≡ length (popped_at h t)
+  pub queues : length n.queues ≡ length h.queues
+  pub queue_words : (s : ℕ) → length (get_or n.queues s []) ≡ length (queue_at h s)
   -- sums
-  pub counted_here : 266 ≤ c → counted_in x +ℤ pos (times c (frame_at h t) + one (carries c (row_at h t).hand) + in_entries h c)
-      ≡ counted_in (cell_at h c) +ℤ pos (times c f + one (carries c r.hand) + sum_by (entry_times c) es)
-  pub counted_else : (q : ℕ) → 266 ≤ q → q ≢ c → times q (frame_at h t) + one (carries q (row_at h t).hand) + in_entries h q
-      ≡ times q f + one (carries q r.hand) + sum_by (entry_times q) es
-  pub gripped_here : 266 ≤ c → grips_of x + one (is_marked (work_at h t) c) + one (grips c (row_at h t).hand)
-      ≡ grips_of (cell_at h c) + one (is_marked w c) + one (grips c r.hand)
+  pub counted_here : 266 ≤ c → counted_in n.cell +ℤ pos (old_part h t c) ≡ counted_in (cell_at h c) +ℤ pos (new_part n c)
+  pub counted_else : (q : ℕ) → 266 ≤ q → q ≢ c → old_part h t q ≡ new_part n q
+  pub gripped_here : 266 ≤ c → grips_of n.cell + one (is_marked (work_at h t) c) + one (grips c (row_at h t).hand)
+      ≡ grips_of (cell_at h c) + one (is_marked n.work c) + one (grips c n.row.hand)
   pub gripped_else : (q : ℕ) → 266 ≤ q → q ≢ c → one (is_marked (work_at h t) q) + one (grips q (row_at h t).hand)
-      ≡ one (is_marked w q) + one (grips q r.hand)
-  pub most_here : 266 ≤ c → asks h c + one (carries c r.hand) ≤ asks_most x + one (carries c (row_at h t).hand)
-  pub least_here : 266 ≤ c → asks_least x + one (carries c (row_at h t).hand) ≤ asks h c + one (carries c r.hand)
-  pub asks_else : (q : ℕ) → 266 ≤ q → q ≢ c → one (carries q r.hand) ≡ one (carries q (row_at h t).hand)
+      ≡ one (is_marked n.work q) + one (grips q n.row.hand)
+  pub most_here : 266 ≤ c → asks h c + new_asks n c ≤ asks_most n.cell + old_asks h t c
+  pub least_here : 266 ≤ c → asks_least n.cell + old_asks h t c ≤ asks h c + new_asks n c
+  pub asks_else : (q : ℕ) → 266 ≤ q → q ≢ c → new_asks n q ≡ old_asks h t q
   -- hands
-  pub hand : (p : Phase) (d : ℕ) → r.hand ≡ hands.Busy p d → (d ≡ c) × (266 ≤ c) × PhaseFits t r (popped_at h t) x (row_at h x.bore).stage c p
-  pub hands_else : (s : ℕ) (p : Phase) → s ≢ t → (row_at h s).hand ≡ hands.Busy p c → PhaseFits s (row_at h s) (popped_at h s) x (row_at h x.bore).stage c p
-  -- cells and worklists
-  pub cell : 266 ≤ c → CellFits (length h.rows) h.limit x (get_or es c [])
-  pub empty : (q : ℕ) → (266 ≤ q → q ≢ c) → entries_at h q ≡ [] → get_or es q [] ≡ []
-  pub works_here : is_marked w c ≡ true → WorkFits t c x
-  pub works_own : (q : ℕ) → q ≢ c → is_marked w q ≡ true → is_marked (work_at h t) q ≡ true
-  pub works_else : (s : ℕ) → s ≢ t → is_marked (work_at h s) c ≡ true → WorkFits s c x
-  -- the thread, and the ledger
-  pub own : ThreadFits (words_for (length h.cells)) r f (popped_at h t) w (queue_at h t) (is_gathered h t)
-  pub ledger : r.allocs + (row_at h t).frees + one (lives (cell_at h c).owner) ≡ (row_at h t).allocs + r.frees + one (lives x.owner)
+  pub hand : (p : Phase) (d : ℕ) → n.row.hand ≡ hands.Busy p d → (d ≡ c) × (266 ≤ c) × PhaseFits t n.row n.popped n.cell (row_at h n.cell.bore).stage c p
+  pub hands_else : (s : ℕ) (p : Phase) → s ≢ t → (row_at h s).hand ≡ hands.Busy p c → PhaseFits s (row_at h s) (popped_at h s) n.cell (row_at h n.cell.bore).stage c p
+  -- cells, entries and worklists
+  pub cell : 266 ≤ c → CellFits (length h.rows) h.limit n.cell (get_or n.entries c [])
+  pub immortal : c < 266 → ImmortalFits c n.cell (get_or n.entries c [])
+  pub fewer : (q : ℕ) → q ≢ c → Fewer (entries_at h q) (get_or n.entries q [])
+  pub works_here : is_marked n.work c ≡ true → WorkFits t c n.cell
+  pub works_own : (q : ℕ) → q ≢ c → is_marked n.work q ≡ true → is_marked (work_at h t) q ≡ true
+  pub works_else : (s : ℕ) → s ≢ t → is_marked (work_at h s) c ≡ true → WorkFits s c n.cell
+  -- threads: closed words stay closed and hold nothing
+  pub closes : (k : ℕ) → is_closed (row_at h t).stage k ≡ true → is_closed n.row.stage k ≡ true
+  pub own : ThreadFits (words_for (length h.cells)) n.row n.frame n.popped n.work (get_or n.queues t []) (is_gathered h t)
+  pub queues_else : (s k : ℕ) → s ≢ t → is_closed (row_at h s).stage k ≡ true → word_at (get_or n.queues s []) k ≡ 0
+  -- bits are of objects that the thread bore; locks
+  pub bits : (s q : ℕ) → 0 < bit_of (get_or n.queues s []) q + bit_of (get_or (set h.popped t n.popped) s []) q
+      → (266 ≤ q) × ((get_or (set h.cells c n.cell) q no_cell).bore ≡ s)
+  pub locks : LocksFit (changed h t c n)
+  pub ledger : n.row.allocs + (row_at h t).frees + one (lives (cell_at h c).owner) ≡ (row_at h t).allocs + n.row.frees + one (lives n.cell.owner)
 
 -- ---- the shape
 
-changed_shape : (h : Heap) (t c : ℕ) (x : Cell) (r : Row) (f : List (Option ℕ)) (w : List Bool) (es : List (List ℕ))
-    → IsShaped h → Fits h t c x r f w es → IsShaped (changed h t c x r f w es)
-changed_shape h t c x r f w es shaped fits =
-    let cells : length (set h.cells c x) ≡ length h.cells = length-set h.cells c x in
-    let rows : length (set h.rows t r) ≡ length h.rows = length-set h.rows t r in
-    let frames : length (set h.frames t f) ≡ length h.frames = length-set h.frames t f in
-    let works : length (set h.works t w) ≡ length h.works = length-set h.works t w in
-    let inside : t < length h.works = omega (arith, shaped.works, fits.thread_inside) in
+changed_shape : (h : Heap) (t c : ℕ) (n : New) → IsShaped h → Fits h t c n → IsShaped (changed h t c n)
+changed_shape h t c n shaped fits =
+    let cells : length (set h.cells c n.cell) ≡ length h.cells = length-set h.cells c n.cell in
+    let rows : length (set h.rows t n.row) ≡ length h.rows = length-set h.rows t n.row in
+    let frames : length (set h.frames t n.frame) ≡ length h.frames = length-set h.frames t n.frame in
+    let works : length (set h.works t n.work) ≡ length h.works = length-set h.works t n.work in
+    let popped : length (set h.popped t n.popped) ≡ length h.popped = length-set h.popped t n.popped in
+    let at_works : t < length h.works = omega (arith, shaped.works, fits.thread_inside) in
+    let at_popped : t < length h.popped = omega (arith, shaped.popped, fits.thread_inside) in
     record {
-      options = subst (λ n. AreOptions n h.limit) (sym cells) shaped.options;
+      options = subst (λ m. AreOptions m h.limit) (sym cells) shaped.options;
       entries = fits.lists ∙ shaped.entries ∙ sym cells;
-      root = subst (λ n. 0 < n) (sym rows) shaped.root;
-      threads = subst (λ n. n ≤ 65) (sym rows) shaped.threads;
+      root = subst (λ m. 0 < m) (sym rows) shaped.root;
+      threads = subst (λ m. m ≤ 65) (sym rows) shaped.threads;
       frames = frames ∙ shaped.frames ∙ sym rows;
-      popped = shaped.popped ∙ sym rows;
+      popped = popped ∙ shaped.popped ∙ sym rows;
       works = works ∙ shaped.works ∙ sym rows;
-      queues = shaped.queues ∙ sym rows;
+      queues = fits.queues ∙ shaped.queues ∙ sym rows;
       notices = shaped.notices ∙ sym rows;
       gathered = shaped.gathered ∙ sym rows;
-      marks = λ s low high. read_by (λ j marks. 0 < j → j < length h.rows → length marks ≡ length (set h.cells c x)) h.works t w [] inside
-          (λ a b. fits.marks ∙ shaped.marks t a b ∙ sym cells) (λ j ne a b. shaped.marks j a b ∙ sym cells) s low (subst (λ n. s < n) rows high);
-      popped_words = λ s low high. shaped.popped_words s low (subst (λ n. s < n) rows high) ∙ ap words_for (sym cells);
-      queue_words = λ s low high. shaped.queue_words s low (subst (λ n. s < n) rows high) ∙ ap words_for (sym cells);
+      marks = λ s low high. read_by (λ j marks. 0 < j → j < length h.rows → length marks ≡ length (set h.cells c n.cell)) h.works t n.work [] at_works
+          (λ a b. fits.marks ∙ shaped.marks t a b ∙ sym cells) (λ j ne a b. shaped.marks j a b ∙ sym cells) s low (subst (λ m. s < m) rows high);
+      popped_words = λ s low high. read_by (λ j words. 0 < j → j < length h.rows → length words ≡ words_for (length (set h.cells c n.cell))) h.popped t n.popped [] at_popped
+          (λ a b. fits.words ∙ shaped.popped_words t a b ∙ ap words_for (sym cells)) (λ j ne a b. shaped.popped_words j a b ∙ ap words_for (sym cells)) s low (subst (λ m. s < m) rows high);
+      queue_words = λ s low high. fits.queue_words s ∙ shaped.queue_words s low (subst (λ m. s < m) rows high) ∙ ap words_for (sym cells);
     }
 
 -- ---- sums
@@ -110,6 +152,10 @@ changed_shape h t c x r f w es shaped fits =
 frames_sum : (h : Heap) (t q : ℕ) (f : List (Option ℕ)) → t < length h.frames
     → sum_by (times q) (set h.frames t f) + times q (frame_at h t) ≡ in_frames h q + times q f
 frames_sum h t q f inside = sum_by-set (times q) h.frames t f [] inside
+
+popped_sum : (h : Heap) (t q : ℕ) (words : List ℕ) → t < length h.popped
+    → sum_by (λ words. bit_of words q) (set h.popped t words) + bit_of (popped_at h t) q ≡ in_popped h q + bit_of words q
+popped_sum h t q words inside = sum_by-set (λ words. bit_of words q) h.popped t words [] inside
 
 hands_sum : (h : Heap) (t q : ℕ) (r : Row) → t < length h.rows
     → sum_by (λ row. one (carries q row.hand)) (set h.rows t r) + one (carries q (row_at h t).hand) ≡ in_hands h q + one (carries q r.hand)
@@ -124,211 +170,211 @@ marks_sum : (h : Heap) (t q : ℕ) (w : List Bool) → t < length h.works
 marks_sum h t q w inside = sum_by-set (λ marks. one (is_marked marks q)) h.works t w [] inside
 
 -- plain arithmetic: the holders of one cell, and those of the others
-here_balance : (new old : ℤ) (frames' popped hands' queues entries' frames hands entries f f0 d d0 : ℕ)
-    → frames' + f0 ≡ frames + f → hands' + d0 ≡ hands + d → old ≡ pos (frames + popped + hands + queues + entries)
-    → new +ℤ pos (f0 + d0 + entries) ≡ old +ℤ pos (f + d + entries')
-    → new ≡ pos (frames' + popped + hands' + queues + entries')
-here_balance new old frames' popped hands' queues entries' frames hands entries f f0 d d0 a b e g = omega (arith, ints)
+here_balance : (new old : ℤ) (frames' popped' hands' queues' entries' frames popped hands queues entries f f0 p p0 d d0 : ℕ)
+    → frames' + f0 ≡ frames + f → popped' + p0 ≡ popped + p → hands' + d0 ≡ hands + d → old ≡ pos (frames + popped + hands + queues + entries)
+    → new +ℤ pos (f0 + p0 + d0 + queues + entries) ≡ old +ℤ pos (f + p + d + queues' + entries')
+    → new ≡ pos (frames' + popped' + hands' + queues' + entries')
+here_balance new old frames' popped' hands' queues' entries' frames popped hands queues entries f f0 p p0 d d0 a b c e g = omega (arith, ints)
 
-else_balance : (old : ℤ) (frames' popped hands' queues entries' frames hands entries f f0 d d0 : ℕ)
-    → frames' + f0 ≡ frames + f → hands' + d0 ≡ hands + d → old ≡ pos (frames + popped + hands + queues + entries)
-    → f0 + d0 + entries ≡ f + d + entries'
-    → old ≡ pos (frames' + popped + hands' + queues + entries')
-else_balance old frames' popped hands' queues entries' frames hands entries f f0 d d0 a b e g = omega (arith, ints)
+else_balance : (old : ℤ) (frames' popped' hands' queues' entries' frames popped hands queues entries f f0 p p0 d d0 : ℕ)
+    → frames' + f0 ≡ frames + f → popped' + p0 ≡ popped + p → hands' + d0 ≡ hands + d → old ≡ pos (frames + popped + hands + queues + entries)
+    → f0 + p0 + d0 + queues + entries ≡ f + p + d + queues' + entries'
+    → old ≡ pos (frames' + popped' + hands' + queues' + entries')
+else_balance old frames' popped' hands' queues' entries' frames popped hands queues entries f f0 p p0 d d0 a b c e g = omega (arith, ints)
 
-changed_counted : (h : Heap) (t c : ℕ) (x : Cell) (r : Row) (f : List (Option ℕ)) (w : List Bool) (es : List (List ℕ))
-    → IsSound h → Fits h t c x r f w es → (q : ℕ) → 266 ≤ q → counted_in (cell_at (changed h t c x r f w es) q) ≡ pos (held (changed h t c x r f w es) q)
-changed_counted h t c x r f w es sound fits =
-    let h' : Heap = changed h t c x r f w es in
-    let inside : t < length h.frames = omega (arith, sound.shaped.frames, fits.thread_inside) in
-    read_by (λ q y. 266 ≤ q → counted_in y ≡ pos (held h' q)) h.cells c x no_cell fits.cell_inside
-    (λ mortal. here_balance _ _ (in_frames h' c) (in_popped h c) (in_hands h' c) (in_queues h c) (in_entries h' c) (in_frames h c) (in_hands h c) (in_entries h c) _ _ _ _
-    (frames_sum h t c f inside) (hands_sum h t c r fits.thread_inside) (sound.counted c mortal) (fits.counted_here mortal))
-    (λ q ne mortal. else_balance _ (in_frames h' q) (in_popped h q) (in_hands h' q) (in_queues h q) (in_entries h' q) (in_frames h q) (in_hands h q) (in_entries h q) _ _ _ _
-    (frames_sum h t q f inside) (hands_sum h t q r fits.thread_inside) (sound.counted q mortal) (fits.counted_else q mortal ne))
+changed_counted : (h : Heap) (t c : ℕ) (n : New) → IsSound h → Fits h t c n
+    → (q : ℕ) → 266 ≤ q → counted_in (cell_at (changed h t c n) q) ≡ pos (held (changed h t c n) q)
+changed_counted h t c n sound fits =
+    let h' : Heap = changed h t c n in
+    let at_frames : t < length h.frames = omega (arith, sound.shaped.frames, fits.thread_inside) in
+    let at_popped : t < length h.popped = omega (arith, sound.shaped.popped, fits.thread_inside) in
+    read_by (λ q y. 266 ≤ q → counted_in y ≡ pos (held h' q)) h.cells c n.cell no_cell fits.cell_inside
+    (λ mortal. here_balance _ _ (in_frames h' c) (in_popped h' c) (in_hands h' c) (in_queues h' c) (in_entries h' c) (in_frames h c) (in_popped h c) (in_hands h c) (in_queues h c) (in_entries h c) _ _ _ _ _ _
+    (frames_sum h t c n.frame at_frames) (popped_sum h t c n.popped at_popped) (hands_sum h t c n.row fits.thread_inside) (sound.counted c mortal) (fits.counted_here mortal))
+    (λ q ne mortal. else_balance _ (in_frames h' q) (in_popped h' q) (in_hands h' q) (in_queues h' q) (in_entries h' q) (in_frames h q) (in_popped h q) (in_hands h q) (in_queues h q) (in_entries h q) _ _ _ _ _ _
+    (frames_sum h t q n.frame at_frames) (popped_sum h t q n.popped at_popped) (hands_sum h t q n.row fits.thread_inside) (sound.counted q mortal) (fits.counted_else q mortal ne))
 
-changed_gripped : (h : Heap) (t c : ℕ) (x : Cell) (r : Row) (f : List (Option ℕ)) (w : List Bool) (es : List (List ℕ))
-    → IsSound h → Fits h t c x r f w es → (q : ℕ) → 266 ≤ q → gripped (changed h t c x r f w es) q ≡ grips_of (cell_at (changed h t c x r f w es) q)
-changed_gripped h t c x r f w es sound fits =
-    let h' : Heap = changed h t c x r f w es in
+changed_gripped : (h : Heap) (t c : ℕ) (n : New) → IsSound h → Fits h t c n
+    → (q : ℕ) → 266 ≤ q → gripped (changed h t c n) q ≡ grips_of (cell_at (changed h t c n) q)
+changed_gripped h t c n sound fits =
+    let h' : Heap = changed h t c n in
     let inside : t < length h.works = omega (arith, sound.shaped.works, fits.thread_inside) in
-    read_by (λ q y. 266 ≤ q → gripped h' q ≡ grips_of y) h.cells c x no_cell fits.cell_inside
-    (λ mortal. omega (arith, marks_sum h t c w inside, grips_sum h t c r fits.thread_inside, sound.gripped c mortal, fits.gripped_here mortal))
-    (λ q ne mortal. omega (arith, marks_sum h t q w inside, grips_sum h t q r fits.thread_inside, sound.gripped q mortal, fits.gripped_else q mortal ne))
+    read_by (λ q y. 266 ≤ q → gripped h' q ≡ grips_of y) h.cells c n.cell no_cell fits.cell_inside
+    (λ mortal. omega (arith, marks_sum h t c n.work inside, grips_sum h t c n.row fits.thread_inside, sound.gripped c mortal, fits.gripped_here mortal))
+    (λ q ne mortal. omega (arith, marks_sum h t q n.work inside, grips_sum h t q n.row fits.thread_inside, sound.gripped q mortal, fits.gripped_else q mortal ne))
 
-changed_most : (h : Heap) (t c : ℕ) (x : Cell) (r : Row) (f : List (Option ℕ)) (w : List Bool) (es : List (List ℕ))
-    → IsSound h → Fits h t c x r f w es → (q : ℕ) → 266 ≤ q → asks (changed h t c x r f w es) q ≤ asks_most (cell_at (changed h t c x r f w es) q)
-changed_most h t c x r f w es sound fits =
-    let h' : Heap = changed h t c x r f w es in
-    read_by (λ q y. 266 ≤ q → asks h' q ≤ asks_most y) h.cells c x no_cell fits.cell_inside
-    (λ mortal. omega (arith, hands_sum h t c r fits.thread_inside, fits.most_here mortal))
-    (λ q ne mortal. omega (arith, hands_sum h t q r fits.thread_inside, fits.asks_else q mortal ne, sound.most q mortal))
+changed_most : (h : Heap) (t c : ℕ) (n : New) → IsSound h → Fits h t c n
+    → (q : ℕ) → 266 ≤ q → asks (changed h t c n) q ≤ asks_most (cell_at (changed h t c n) q)
+changed_most h t c n sound fits =
+    let h' : Heap = changed h t c n in
+    let at_popped : t < length h.popped = omega (arith, sound.shaped.popped, fits.thread_inside) in
+    read_by (λ q y. 266 ≤ q → asks h' q ≤ asks_most y) h.cells c n.cell no_cell fits.cell_inside
+    (λ mortal. omega (arith, hands_sum h t c n.row fits.thread_inside, popped_sum h t c n.popped at_popped, fits.most_here mortal))
+    (λ q ne mortal. omega (arith, hands_sum h t q n.row fits.thread_inside, popped_sum h t q n.popped at_popped, fits.asks_else q mortal ne, sound.most q mortal))
 
-changed_least : (h : Heap) (t c : ℕ) (x : Cell) (r : Row) (f : List (Option ℕ)) (w : List Bool) (es : List (List ℕ))
-    → IsSound h → Fits h t c x r f w es → (q : ℕ) → 266 ≤ q → asks_least (cell_at (changed h t c x r f w es) q) ≤ asks (changed h t c x r f w es) q
-changed_least h t c x r f w es sound fits =
-    let h' : Heap = changed h t c x r f w es in
-    read_by (λ q y. 266 ≤ q → asks_least y ≤ asks h' q) h.cells c x no_cell fits.cell_inside
-    (λ mortal. omega (arith, hands_sum h t c r fits.thread_inside, fits.least_here mortal))
-    (λ q ne mortal. omega (arith, hands_sum h t q r fits.thread_inside, fits.asks_else q mortal ne, sound.least q mortal))
+changed_least : (h : Heap) (t c : ℕ) (n : New) → IsSound h → Fits h t c n
+    → (q : ℕ) → 266 ≤ q → asks_least (cell_at (changed h t c n) q) ≤ asks (changed h t c n) q
+changed_least h t c n sound fits =
+    let h' : Heap = changed h t c n in
+    let at_popped : t < length h.popped = omega (arith, sound.shaped.popped, fits.thread_inside) in
+    read_by (λ q y. 266 ≤ q → asks_least y ≤ asks h' q) h.cells c n.cell no_cell fits.cell_inside
+    (λ mortal. omega (arith, hands_sum h t c n.row fits.thread_inside, popped_sum h t c n.popped at_popped, fits.least_here mortal))
+    (λ q ne mortal. omega (arith, hands_sum h t q n.row fits.thread_inside, popped_sum h t q n.popped at_popped, fits.asks_else q mortal ne, sound.least q mortal))
 
 -- ---- hands, cells, worklists
 
-stage_same : (h : Heap) (t c : ℕ) (x : Cell) (r : Row) (f : List (Option ℕ)) (w : List Bool) (es : List (List ℕ))
-    → Fits h t c x r f w es → (j : ℕ) → (row_at (changed h t c x r f w es) j).stage ≡ (row_at h j).stage
-stage_same h t c x r f w es fits = read_by (λ j row. row.stage ≡ (row_at h j).stage) h.rows t r no_row fits.thread_inside fits.stage (λ j _. refl)
+-- only a shut hand looks at the bearer's stage, and closed words stay closed
+pub other_bearer : (t : ℕ) (row : Row) (popped : List ℕ) (x : Cell) (old new : Stage) (d : ℕ) (p : Phase)
+    → (p ≡ phases.Shut → is_closed old (d / 32) ≡ true → is_closed new (d / 32) ≡ true) → PhaseFits t row popped x old d p → PhaseFits t row popped x new d p
+other_bearer t row popped x old new d phases.Claimed same fits = fits
+other_bearer t row popped x old new d phases.Counted same fits = fits
+other_bearer t row popped x old new d phases.Ready same fits = fits
+other_bearer t row popped x old new d phases.Zero same fits = fits
+other_bearer t row popped x old new d phases.Over same fits = fits
+other_bearer t row popped x old new d phases.Untied same fits = fits
+other_bearer t row popped x old new d phases.Asked same fits = fits
+other_bearer t row popped x old new d phases.Shut same fits = same refl fits
+other_bearer t row popped x old new d phases.Taking same fits = fits
+other_bearer t row popped x old new d phases.Held same fits = fits
+other_bearer t row popped x old new d phases.Popping same fits = fits
+
+stays_closed : (h : Heap) (t c : ℕ) (n : New) → Fits h t c n
+    → (j k : ℕ) → is_closed (row_at h j).stage k ≡ true → is_closed (row_at (changed h t c n) j).stage k ≡ true
+stays_closed h t c n fits j k = read_by (λ i row. is_closed (row_at h i).stage k ≡ true → is_closed row.stage k ≡ true) h.rows t n.row no_row fits.thread_inside (fits.closes k) (λ i _ closed. closed) j
 
 -- what a hand says of a cell, whichever row and cell are read
-PhaseHolds : Heap → ℕ → Row → ℕ → Phase → Cell → Type 0
-PhaseHolds h' s row d p y = (266 ≤ d) × PhaseFits s row (popped_at h' s) y (row_at h' y.bore).stage d p
+PhaseHolds : Heap → ℕ → Row → List ℕ → ℕ → Phase → Cell → Type 0
+PhaseHolds h' s row popped d p y = (266 ≤ d) × PhaseFits s row popped y (row_at h' y.bore).stage d p
 
-changed_hands : (h : Heap) (t c : ℕ) (x : Cell) (r : Row) (f : List (Option ℕ)) (w : List Bool) (es : List (List ℕ))
-    → IsSound h → Fits h t c x r f w es → (s d : ℕ) (p : Phase) → (row_at (changed h t c x r f w es) s).hand ≡ hands.Busy p d
-    → HandFits (changed h t c x r f w es) s p d
+changed_hands : (h : Heap) (t c : ℕ) (n : New) → IsSound h → Fits h t c n
+    → (s d : ℕ) (p : Phase) → (row_at (changed h t c n) s).hand ≡ hands.Busy p d → HandFits (changed h t c n) s p d
 unfolding PhaseHolds
-changed_hands h t c x r f w es sound fits s d p busy =
-    let h' : Heap = changed h t c x r f w es in
-    let stages : (j : ℕ) → (row_at h' j).stage ≡ (row_at h j).stage = stage_same h t c x r f w es fits in
-    let own : r.hand ≡ hands.Busy p d → PhaseHolds h' t r d p (cell_at h' d) = λ busy.
-    let said : (d ≡ c) × (266 ≤ c) × PhaseFits t r (popped_at h t) x (row_at h x.bore).stage c p = fits.hand p d busy in
-    subst (λ e. PhaseHolds h' t r e p (cell_at h' e)) (sym said.0)
-    (subst (λ y. PhaseHolds h' t r c p y) (sym (read_here h.cells c x no_cell fits.cell_inside))
-    (said.1, subst (λ g. PhaseFits t r (popped_at h t) x g c p) (sym (stages x.bore)) said.2)) in
-    let others : (j : ℕ) → j ≢ t → (row_at h j).hand ≡ hands.Busy p d → PhaseHolds h' j (row_at h j) d p (cell_at h' d) = λ j ne busy.
-    read_by (λ e y. (row_at h j).hand ≡ hands.Busy p e → PhaseHolds h' j (row_at h j) e p y) h.cells c x no_cell fits.cell_inside
-    (λ at_c. ((sound.hands j c p at_c).mortal, subst (λ g. PhaseFits j (row_at h j) (popped_at h j) x g c p) (sym (stages x.bore)) (fits.hands_else j p ne at_c)))
-    (λ e _ at_e. ((sound.hands j e p at_e).mortal, subst (λ g. PhaseFits j (row_at h j) (popped_at h j) (cell_at h e) g e p) (sym (stages (cell_at h e).bore)) (sound.hands j e p at_e).fits))
-    d busy in
-    let holds : PhaseHolds h' s (row_at h' s) d p (cell_at h' d) =
-    read_by (λ j row. row.hand ≡ hands.Busy p d → PhaseHolds h' j row d p (cell_at h' d)) h.rows t r no_row fits.thread_inside own others s busy in
+changed_hands h t c n sound fits s d p busy =
+    let h' : Heap = changed h t c n in
+    let at_popped : t < length h.popped = omega (arith, sound.shaped.popped, fits.thread_inside) in
+    let bearer : (j : ℕ) (row : Row) (popped : List ℕ) (y : Cell) (e : ℕ) → PhaseFits j row popped y (row_at h y.bore).stage e p → PhaseFits j row popped y (row_at h' y.bore).stage e p =
+    λ j row popped y e. other_bearer j row popped y (row_at h y.bore).stage (row_at h' y.bore).stage e p (λ _. stays_closed h t c n fits y.bore (e / 32)) in
+    let own : n.row.hand ≡ hands.Busy p d → PhaseHolds h' t n.row (popped_at h' t) d p (cell_at h' d) = λ busy.
+    let said : (d ≡ c) × (266 ≤ c) × PhaseFits t n.row n.popped n.cell (row_at h n.cell.bore).stage c p = fits.hand p d busy in
+    subst (λ e. PhaseHolds h' t n.row (popped_at h' t) e p (cell_at h' e)) (sym said.0)
+    (subst (λ words. PhaseHolds h' t n.row words c p (cell_at h' c)) (sym (read_here h.popped t n.popped [] at_popped))
+    (subst (λ y. PhaseHolds h' t n.row n.popped c p y) (sym (read_here h.cells c n.cell no_cell fits.cell_inside))
+    (said.1, bearer t n.row n.popped n.cell c said.2))) in
+    let others : (j : ℕ) → j ≢ t → (row_at h j).hand ≡ hands.Busy p d → PhaseHolds h' j (row_at h j) (popped_at h' j) d p (cell_at h' d) = λ j ne busy.
+    subst (λ words. PhaseHolds h' j (row_at h j) words d p (cell_at h' d)) (sym (read_there h.popped t j n.popped [] ne))
+    (read_by (λ e y. (row_at h j).hand ≡ hands.Busy p e → PhaseHolds h' j (row_at h j) (popped_at h j) e p y) h.cells c n.cell no_cell fits.cell_inside
+    (λ at_c. ((sound.hands j c p at_c).mortal, bearer j (row_at h j) (popped_at h j) n.cell c (fits.hands_else j p ne at_c)))
+    (λ e _ at_e. ((sound.hands j e p at_e).mortal, bearer j (row_at h j) (popped_at h j) (cell_at h e) e (sound.hands j e p at_e).fits))
+    d busy) in
+    let holds : PhaseHolds h' s (row_at h' s) (popped_at h' s) d p (cell_at h' d) =
+    read_by (λ j row. row.hand ≡ hands.Busy p d → PhaseHolds h' j row (popped_at h' j) d p (cell_at h' d)) h.rows t n.row no_row fits.thread_inside own others s busy in
     record { mortal = holds.0; fits = holds.1 }
 
 -- fewer entries break nothing that a cell says
-other_entries : (threads limit : ℕ) (y : Cell) (old new : List ℕ) → (old ≡ [] → new ≡ []) → CellFits threads limit y old → CellFits threads limit y new
-other_entries threads limit y old new empty fits = record {
+other_entries : (threads limit : ℕ) (y : Cell) (old new : List ℕ) → Fewer old new → CellFits threads limit y old → CellFits threads limit y new
+other_entries threads limit y old new fewer fits = record {
   default = fits.default;
   owned_unmerged = fits.owned_unmerged;
   owned_by_bearer = fits.owned_by_bearer;
-  dead_empty = λ dead. empty (fits.dead_empty dead);
+  dead_empty = λ dead. fewer.empty (fits.dead_empty dead);
   dead_count = fits.dead_count;
   born = fits.born;
   limited = fits.limited;
-  plain = λ plain. empty (fits.plain plain);
+  plain = λ plain. fewer.empty (fits.plain plain);
+  few = omega (arith, fits.few, fewer.few);
 }
 
-changed_cells : (h : Heap) (t c : ℕ) (x : Cell) (r : Row) (f : List (Option ℕ)) (w : List Bool) (es : List (List ℕ))
-    → IsSound h → Fits h t c x r f w es → (q : ℕ) → 266 ≤ q
-    → CellFits (length (set h.rows t r)) h.limit (cell_at (changed h t c x r f w es) q) (get_or es q [])
-changed_cells h t c x r f w es sound fits q mortal =
-    subst (λ n. CellFits n h.limit (cell_at (changed h t c x r f w es) q) (get_or es q [])) (sym (length-set h.rows t r))
-    (read_by (λ j y. 266 ≤ j → CellFits (length h.rows) h.limit y (get_or es j [])) h.cells c x no_cell fits.cell_inside
+pub immortal_entries : (c : ℕ) (y : Cell) (old new : List ℕ) → Fewer old new → ImmortalFits c y old → ImmortalFits c y new
+immortal_entries c y old new fewer fits = record {
+  owner = fits.owner;
+  local = fits.local;
+  count = fits.count;
+  state = fits.state;
+  kind = fits.kind;
+  empty = λ ne. fewer.empty (fits.empty ne);
+  few = omega (arith, fits.few, fewer.few);
+}
+
+changed_cells : (h : Heap) (t c : ℕ) (n : New) → IsSound h → Fits h t c n
+    → (q : ℕ) → 266 ≤ q → CellFits (length (set h.rows t n.row)) h.limit (cell_at (changed h t c n) q) (get_or n.entries q [])
+changed_cells h t c n sound fits q mortal =
+    subst (λ m. CellFits m h.limit (cell_at (changed h t c n) q) (get_or n.entries q [])) (sym (length-set h.rows t n.row))
+    (read_by (λ j y. 266 ≤ j → CellFits (length h.rows) h.limit y (get_or n.entries j [])) h.cells c n.cell no_cell fits.cell_inside
     fits.cell
-    (λ j ne mortal. other_entries (length h.rows) h.limit (cell_at h j) (entries_at h j) (get_or es j []) (fits.empty j (λ _. ne)) (sound.cells j mortal))
+    (λ j ne mortal. other_entries (length h.rows) h.limit (cell_at h j) (entries_at h j) (get_or n.entries j []) (fits.fewer j ne) (sound.cells j mortal))
     q mortal)
 
-changed_immortals : (h : Heap) (t c : ℕ) (x : Cell) (r : Row) (f : List (Option ℕ)) (w : List Bool) (es : List (List ℕ))
-    → IsSound h → Fits h t c x r f w es → (q : ℕ) → q < 266 → ImmortalFits q (cell_at (changed h t c x r f w es) q) (get_or es q [])
-changed_immortals h t c x r f w es sound fits =
-    let keeps : (j : ℕ) (y : Cell) → j < 266 → ImmortalFits j y (entries_at h j) → ImmortalFits j y (get_or es j []) = λ j y low old.
-    record {
-      owner = old.owner;
-      local = old.local;
-      count = old.count;
-      state = old.state;
-      kind = old.kind;
-      empty = λ ne. fits.empty j (λ high. absurd (omega arith)) (old.empty ne);
-    } in
-    read_by (λ j y. j < 266 → ImmortalFits j y (get_or es j [])) h.cells c x no_cell fits.cell_inside
-    (λ low. keeps c x low (subst (λ y. ImmortalFits c y (entries_at h c)) (sym (fits.immortal low)) (sound.immortals c low)))
-    (λ j _ low. keeps j (cell_at h j) low (sound.immortals j low))
+changed_immortals : (h : Heap) (t c : ℕ) (n : New) → IsSound h → Fits h t c n
+    → (q : ℕ) → q < 266 → ImmortalFits q (cell_at (changed h t c n) q) (get_or n.entries q [])
+changed_immortals h t c n sound fits =
+    read_by (λ j y. j < 266 → ImmortalFits j y (get_or n.entries j [])) h.cells c n.cell no_cell fits.cell_inside
+    fits.immortal
+    (λ j ne low. immortal_entries j (cell_at h j) (entries_at h j) (get_or n.entries j []) (fits.fewer j ne) (sound.immortals j low))
 
-changed_works : (h : Heap) (t c : ℕ) (x : Cell) (r : Row) (f : List (Option ℕ)) (w : List Bool) (es : List (List ℕ))
-    → IsSound h → Fits h t c x r f w es → (s q : ℕ) → is_marked (work_at (changed h t c x r f w es) s) q ≡ true
-    → WorkFits s q (cell_at (changed h t c x r f w es) q)
-changed_works h t c x r f w es sound fits s q marked =
-    let h' : Heap = changed h t c x r f w es in
+changed_works : (h : Heap) (t c : ℕ) (n : New) → IsSound h → Fits h t c n
+    → (s q : ℕ) → is_marked (work_at (changed h t c n) s) q ≡ true → WorkFits s q (cell_at (changed h t c n) q)
+changed_works h t c n sound fits s q marked =
+    let h' : Heap = changed h t c n in
     let inside : t < length h.works = omega (arith, sound.shaped.works, fits.thread_inside) in
-    read_by (λ j marks. is_marked marks q ≡ true → WorkFits j q (cell_at h' q)) h.works t w [] inside
-    (λ on. read_by (λ e y. is_marked w e ≡ true → WorkFits t e y) h.cells c x no_cell fits.cell_inside
+    read_by (λ j marks. is_marked marks q ≡ true → WorkFits j q (cell_at h' q)) h.works t n.work [] inside
+    (λ on. read_by (λ e y. is_marked n.work e ≡ true → WorkFits t e y) h.cells c n.cell no_cell fits.cell_inside
     fits.works_here (λ e ne on. sound.works t e (fits.works_own e ne on)) q on)
-    (λ j ne on. read_by (λ e y. is_marked (work_at h j) e ≡ true → WorkFits j e y) h.cells c x no_cell fits.cell_inside
+    (λ j ne on. read_by (λ e y. is_marked (work_at h j) e ≡ true → WorkFits j e y) h.cells c n.cell no_cell fits.cell_inside
     (fits.works_else j ne) (λ e _ on. sound.works j e on) q on)
     s marked
 
--- ---- threads and locks
+-- ---- threads
 
-changed_threads : (h : Heap) (t c : ℕ) (x : Cell) (r : Row) (f : List (Option ℕ)) (w : List Bool) (es : List (List ℕ))
-    → IsSound h → Fits h t c x r f w es → (s : ℕ)
-    → ThreadFits (words_for (length (set h.cells c x))) (row_at (changed h t c x r f w es) s) (frame_at (changed h t c x r f w es) s) (popped_at h s) (work_at (changed h t c x r f w es) s) (queue_at h s) (is_gathered h s)
-changed_threads h t c x r f w es sound fits s =
-    let n : ℕ = words_for (length h.cells) in
+-- another thread's queue may change, where its closed words stay empty
+other_queue : (words : ℕ) (row : Row) (frame : List (Option ℕ)) (popped : List ℕ) (work : List Bool) (old new : List ℕ) (gathered : Bool)
+    → ((k : ℕ) → is_closed row.stage k ≡ true → word_at new k ≡ 0) → ThreadFits words row frame popped work old gathered → ThreadFits words row frame popped work new gathered
+other_queue words row frame popped work old new gathered empty fits = record {
+  inactive_hand = fits.inactive_hand;
+  inactive_frame = fits.inactive_frame;
+  inactive_lock = fits.inactive_lock;
+  closing = fits.closing;
+  closing_work = fits.closing_work;
+  closed = empty;
+  gathered_left = fits.gathered_left;
+  gathered_hand = fits.gathered_hand;
+  gathered_work = fits.gathered_work;
+  locked_hand = fits.locked_hand;
+  births = fits.births;
+  places = fits.places;
+}
+
+changed_threads : (h : Heap) (t c : ℕ) (n : New) → IsSound h → Fits h t c n
+    → (s : ℕ)
+    → ThreadFits (words_for (length (set h.cells c n.cell))) (row_at (changed h t c n) s) (frame_at (changed h t c n) s) (popped_at (changed h t c n) s) (work_at (changed h t c n) s) (get_or n.queues s []) (is_gathered h s)
+changed_threads h t c n sound fits s =
+    let h' : Heap = changed h t c n in
+    let m : ℕ = words_for (length h.cells) in
     let at_works : t < length h.works = omega (arith, sound.shaped.works, fits.thread_inside) in
     let at_frames : t < length h.frames = omega (arith, sound.shaped.frames, fits.thread_inside) in
-    subst (λ m. ThreadFits (words_for m) (row_at (changed h t c x r f w es) s) (frame_at (changed h t c x r f w es) s) (popped_at h s) (work_at (changed h t c x r f w es) s) (queue_at h s) (is_gathered h s)) (sym (length-set h.cells c x))
+    let at_popped : t < length h.popped = omega (arith, sound.shaped.popped, fits.thread_inside) in
+    subst (λ i. ThreadFits (words_for i) (row_at h' s) (frame_at h' s) (popped_at h' s) (work_at h' s) (get_or n.queues s []) (is_gathered h s)) (sym (length-set h.cells c n.cell))
     (elim (cases_eq s t) [
-      | inl same ↦ subst (λ j. ThreadFits n (row_at (changed h t c x r f w es) j) (frame_at (changed h t c x r f w es) j) (popped_at h j) (work_at (changed h t c x r f w es) j) (queue_at h j) (is_gathered h j)) (sym same)
-          (subst (λ row. ThreadFits n row (get_or (set h.frames t f) t []) (popped_at h t) (get_or (set h.works t w) t []) (queue_at h t) (is_gathered h t)) (sym (read_here h.rows t r no_row fits.thread_inside))
-          (subst (λ frame. ThreadFits n r frame (popped_at h t) (get_or (set h.works t w) t []) (queue_at h t) (is_gathered h t)) (sym (read_here h.frames t f [] at_frames))
-          (subst (λ work. ThreadFits n r f (popped_at h t) work (queue_at h t) (is_gathered h t)) (sym (read_here h.works t w [] at_works)) fits.own)))
+      | inl same ↦ subst (λ j. ThreadFits m (row_at h' j) (frame_at h' j) (popped_at h' j) (work_at h' j) (get_or n.queues j []) (is_gathered h j)) (sym same)
+          (subst (λ row. ThreadFits m row (frame_at h' t) (popped_at h' t) (work_at h' t) (get_or n.queues t []) (is_gathered h t)) (sym (read_here h.rows t n.row no_row fits.thread_inside))
+          (subst (λ frame. ThreadFits m n.row frame (popped_at h' t) (work_at h' t) (get_or n.queues t []) (is_gathered h t)) (sym (read_here h.frames t n.frame [] at_frames))
+          (subst (λ words. ThreadFits m n.row n.frame words (work_at h' t) (get_or n.queues t []) (is_gathered h t)) (sym (read_here h.popped t n.popped [] at_popped))
+          (subst (λ work. ThreadFits m n.row n.frame n.popped work (get_or n.queues t []) (is_gathered h t)) (sym (read_here h.works t n.work [] at_works)) fits.own))))
       | inr other ↦
-          (subst (λ row. ThreadFits n row (get_or (set h.frames t f) s []) (popped_at h s) (get_or (set h.works t w) s []) (queue_at h s) (is_gathered h s)) (sym (read_there h.rows t s r no_row other))
-          (subst (λ frame. ThreadFits n (row_at h s) frame (popped_at h s) (get_or (set h.works t w) s []) (queue_at h s) (is_gathered h s)) (sym (read_there h.frames t s f [] other))
-          (subst (λ work. ThreadFits n (row_at h s) (frame_at h s) (popped_at h s) work (queue_at h s) (is_gathered h s)) (sym (read_there h.works t s w [] other)) (sound.threads s))))
+          (subst (λ row. ThreadFits m row (frame_at h' s) (popped_at h' s) (work_at h' s) (get_or n.queues s []) (is_gathered h s)) (sym (read_there h.rows t s n.row no_row other))
+          (subst (λ frame. ThreadFits m (row_at h s) frame (popped_at h' s) (work_at h' s) (get_or n.queues s []) (is_gathered h s)) (sym (read_there h.frames t s n.frame [] other))
+          (subst (λ words. ThreadFits m (row_at h s) (frame_at h s) words (work_at h' s) (get_or n.queues s []) (is_gathered h s)) (sym (read_there h.popped t s n.popped [] other))
+          (subst (λ work. ThreadFits m (row_at h s) (frame_at h s) (popped_at h s) work (get_or n.queues s []) (is_gathered h s)) (sym (read_there h.works t s n.work [] other))
+          (other_queue m (row_at h s) (frame_at h s) (popped_at h s) (work_at h s) (queue_at h s) (get_or n.queues s []) (is_gathered h s) (λ k. fits.queues_else s k other) (sound.threads s))))))
     ])
-
-changed_bits : (h : Heap) (t c : ℕ) (x : Cell) (r : Row) (f : List (Option ℕ)) (w : List Bool) (es : List (List ℕ))
-    → IsSound h → Fits h t c x r f w es → (s q : ℕ) → 0 < bit_of (queue_at h s) q + bit_of (popped_at h s) q
-    → (cell_at (changed h t c x r f w es) q).bore ≡ s
-changed_bits h t c x r f w es sound fits s =
-    read_by (λ j y. 0 < bit_of (queue_at h s) j + bit_of (popped_at h s) j → y.bore ≡ s) h.cells c x no_cell fits.cell_inside
-    (λ some. elim fits.bore [ inl same ↦ same ∙ sound.bits s c some | inr none ↦ absurd (omega (arith, none s)) ])
-    (λ j _ some. sound.bits s j some)
-
-mutex_same : (h : Heap) (t c : ℕ) (x : Cell) (r : Row) (f : List (Option ℕ)) (w : List Bool) (es : List (List ℕ))
-    → Fits h t c x r f w es → (q : ℕ) → (cell_at (changed h t c x r f w es) q).mutex ≡ (cell_at h q).mutex
-mutex_same h t c x r f w es fits = read_by (λ j y. y.mutex ≡ (cell_at h j).mutex) h.cells c x no_cell fits.cell_inside fits.mutex (λ j _. refl)
-
-locked_same : (h : Heap) (t c : ℕ) (x : Cell) (r : Row) (f : List (Option ℕ)) (w : List Bool) (es : List (List ℕ))
-    → Fits h t c x r f w es → (j : ℕ) → (row_at (changed h t c x r f w es) j).locked ≡ (row_at h j).locked
-locked_same h t c x r f w es fits = read_by (λ j row. row.locked ≡ (row_at h j).locked) h.rows t r no_row fits.thread_inside fits.locked (λ j _. refl)
-
--- a lock names what it named
-names_same : (h : Heap) (t c : ℕ) (x : Cell) (r : Row) (f : List (Option ℕ)) (w : List Bool) (es : List (List ℕ))
-    → IsSound h → Fits h t c x r f w es → (j k : ℕ) → (row_at h j).locked ≡ Some k
-    → place_at (frame_at (changed h t c x r f w es) j) k ≡ place_at (frame_at h j) k
-names_same h t c x r f w es sound fits j k =
-    let inside : t < length h.frames = omega (arith, sound.shaped.frames, fits.thread_inside) in
-    read_by (λ j frame. (row_at h j).locked ≡ Some k → place_at frame k ≡ place_at (frame_at h j) k) h.frames t f [] inside
-    (fits.locked_place k) (λ j _ _. refl) j
-
-changed_locks : (h : Heap) (t c : ℕ) (x : Cell) (r : Row) (f : List (Option ℕ)) (w : List Bool) (es : List (List ℕ))
-    → IsSound h → Fits h t c x r f w es → (s k : ℕ) → (row_at (changed h t c x r f w es) s).locked ≡ Some k
-    → (q : ℕ) × Locks (changed h t c x r f w es) s k q × ((cell_at (changed h t c x r f w es) q).mutex ≡ s)
-changed_locks h t c x r f w es sound fits s k locked =
-    let before : (row_at h s).locked ≡ Some k = sym (locked_same h t c x r f w es fits s) ∙ locked in
-    let old : (q : ℕ) × Locks h s k q × ((cell_at h q).mutex ≡ s) = sound.locks s k before in
-    (old.0, record { place = locked; names = names_same h t c x r f w es sound fits s k before ∙ old.1.names }, mutex_same h t c x r f w es fits old.0 ∙ old.2)
-
-changed_mutexes : (h : Heap) (t c : ℕ) (x : Cell) (r : Row) (f : List (Option ℕ)) (w : List Bool) (es : List (List ℕ))
-    → IsSound h → Fits h t c x r f w es → (s q : ℕ) → 0 < s → (cell_at (changed h t c x r f w es) q).mutex ≡ s
-    → (k : ℕ) × Locks (changed h t c x r f w es) s k q
-changed_mutexes h t c x r f w es sound fits s q some locked =
-    let old : (k : ℕ) × Locks h s k q = sound.mutexes s q some (sym (mutex_same h t c x r f w es fits q) ∙ locked) in (
-      old.0,
-      record {
-        place = locked_same h t c x r f w es fits s ∙ old.1.place;
-        names = names_same h t c x r f w es sound fits s old.0 old.1.place ∙ old.1.names;
-      },
-    )
 
 -- ---- the ledger
 
-live_sum : (cells : List Cell) (c : ℕ) (x : Cell) → c < length cells → (c < 266 → x ≡ get_or cells c no_cell)
+live_sum : (cells : List Cell) (c : ℕ) (x : Cell) → c < length cells → (c < 266 → lives x.owner ≡ lives (get_or cells c no_cell).owner)
     → sum_by (λ y. one (lives y.owner)) (drop 266 (set cells c x)) + one (lives (get_or cells c no_cell).owner) ≡ sum_by (λ y. one (lives y.owner)) (drop 266 cells) + one (lives x.owner)
 live_sum cells c x inside same =
     elim (cases_lt c 266) [
       | inl low ↦ subst (λ (l : List Cell). sum_by (λ y. one (lives y.owner)) l + one (lives (get_or cells c no_cell).owner) ≡ sum_by (λ y. one (lives y.owner)) (drop 266 cells) + one (lives x.owner))
-          (sym (drop-set-lt 266 cells c x low)) (ap (λ (y : Cell). sum_by (λ z. one (lives z.owner)) (drop 266 cells) + one (lives y.owner)) (sym (same low)))
+          (sym (drop-set-lt 266 cells c x low)) (ap (λ b. sum_by (λ z. one (lives z.owner)) (drop 266 cells) + one b) (sym (same low)))
       | inr high ↦
           let e : 266 + (c - 266) ≡ c = omega arith in
           let within : c - 266 < length (drop 266 cells) = omega (arith, length-drop 266 cells) in
@@ -340,32 +386,79 @@ live_sum cells c x inside same =
           read (sum_by-set (λ z. one (lives z.owner)) (drop 266 cells) (c - 266) x no_cell within))
     ]
 
-changed_ledger : (h : Heap) (t c : ℕ) (x : Cell) (r : Row) (f : List (Option ℕ)) (w : List Bool) (es : List (List ℕ))
-    → IsSound h → Fits h t c x r f w es
-    → sum_by (λ row. row.allocs) (set h.rows t r) ≡ sum_by (λ row. row.frees) (set h.rows t r) + live_count (changed h t c x r f w es)
-changed_ledger h t c x r f w es sound fits =
-    let allocs = sum_by-set (λ (row : Row). row.allocs) h.rows t r no_row fits.thread_inside in
-    let frees = sum_by-set (λ (row : Row). row.frees) h.rows t r no_row fits.thread_inside in
-    let live = live_sum h.cells c x fits.cell_inside fits.immortal in
+changed_ledger : (h : Heap) (t c : ℕ) (n : New) → IsSound h → Fits h t c n
+    → sum_by (λ row. row.allocs) (set h.rows t n.row) ≡ sum_by (λ row. row.frees) (set h.rows t n.row) + live_count (changed h t c n)
+changed_ledger h t c n sound fits =
+    let allocs = sum_by-set (λ (row : Row). row.allocs) h.rows t n.row no_row fits.thread_inside in
+    let frees = sum_by-set (λ (row : Row). row.frees) h.rows t n.row no_row fits.thread_inside in
+    let live = live_sum h.cells c n.cell fits.cell_inside (λ low. ap lives ((fits.immortal low).owner ∙ sym (sound.immortals c low).owner)) in
     omega (arith, allocs, frees, live, fits.ledger, sound.ledger)
 
 -- ---- all of it
 
-pub changed_sound : (h : Heap) (t c : ℕ) (x : Cell) (r : Row) (f : List (Option ℕ)) (w : List Bool) (es : List (List ℕ))
-    → IsSound h → Fits h t c x r f w es → IsSound (changed h t c x r f w es)
-changed_sound h t c x r f w es sound fits = record {
-  shaped = changed_shape h t c x r f w es sound.shaped fits;
-  counted = changed_counted h t c x r f w es sound fits;
-  gripped = changed_gripped h t c x r f w es sound fits;
-  most = changed_most h t c x r f w es sound fits;
-  least = changed_least h t c x r f w es sound fits;
-  hands = changed_hands h t c x r f w es sound fits;
-  cells = changed_cells h t c x r f w es sound fits;
-  immortals = changed_immortals h t c x r f w es sound fits;
-  works = changed_works h t c x r f w es sound fits;
-  threads = changed_threads h t c x r f w es sound fits;
-  bits = changed_bits h t c x r f w es sound fits;
-  locks = changed_locks h t c x r f w es sound fits;
-  mutexes = changed_mutexes h t c x r f w es sound fits;
-  ledger = changed_ledger h t c x r f w es sound fits;
+pub changed_sound : (h : Heap) (t c : ℕ) (n : New) → IsSound h → Fits h t c n → IsSound (changed h t c n)
+changed_sound h t c n sound fits = record {
+  shaped = changed_shape h t c n sound.shaped fits;
+  counted = changed_counted h t c n sound fits;
+  gripped = changed_gripped h t c n sound fits;
+  most = changed_most h t c n sound fits;
+  least = changed_least h t c n sound fits;
+  hands = changed_hands h t c n sound fits;
+  cells = changed_cells h t c n sound fits;
+  immortals = changed_immortals h t c n sound fits;
+  works = changed_works h t c n sound fits;
+  threads = changed_threads h t c n sound fits;
+  bits = fits.bits;
+  locks = fits.locks.locks;
+  mutexes = fits.locks.mutexes;
+  ledger = changed_ledger h t c n sound fits;
 }
+
+-- ---- what most steps leave alone
+
+-- locks stay as they are
+pub record SameLocks (h : Heap) (t c : ℕ) (n : New) : Type 0 where
+  pub mutex : n.cell.mutex ≡ (cell_at h c).mutex
+  pub locked : n.row.locked ≡ (row_at h t).locked
+  pub place : (k : ℕ) → (row_at h t).locked ≡ Some k → place_at n.frame k ≡ place_at (frame_at h t) k
+
+pub same_locks : (h : Heap) (t c : ℕ) (n : New) → IsSound h → t < length h.rows → c < length h.cells → SameLocks h t c n → LocksFit (changed h t c n)
+same_locks h t c n sound thread_inside cell_inside same =
+    let h' : Heap = changed h t c n in
+    let at_frames : t < length h.frames = omega (arith, sound.shaped.frames, thread_inside) in
+    let mutex : (q : ℕ) → (cell_at h' q).mutex ≡ (cell_at h q).mutex = read_by (λ j y. y.mutex ≡ (cell_at h j).mutex) h.cells c n.cell no_cell cell_inside same.mutex (λ j _. refl) in
+    let locked : (j : ℕ) → (row_at h' j).locked ≡ (row_at h j).locked = read_by (λ j row. row.locked ≡ (row_at h j).locked) h.rows t n.row no_row thread_inside same.locked (λ j _. refl) in
+    let names : (j k : ℕ) → (row_at h j).locked ≡ Some k → place_at (frame_at h' j) k ≡ place_at (frame_at h j) k = λ j k.
+    read_by (λ i frame. (row_at h i).locked ≡ Some k → place_at frame k ≡ place_at (frame_at h i) k) h.frames t n.frame [] at_frames (same.place k) (λ i _ _. refl) j in
+    record {
+      locks = λ s k is.
+          let before : (row_at h s).locked ≡ Some k = sym (locked s) ∙ is in
+          let old : (q : ℕ) × Locks h s k q × ((cell_at h q).mutex ≡ s) = sound.locks s k before in
+          (old.0, record { place = is; names = names s k before ∙ old.1.names }, mutex old.0 ∙ old.2);
+      mutexes = λ s q some is.
+          let old : (k : ℕ) × Locks h s k q = sound.mutexes s q some (sym (mutex q) ∙ is) in
+          (old.0, record { place = locked s ∙ old.1.place; names = names s old.0 old.1.place ∙ old.1.names });
+    }
+
+-- no bit is new, and whoever has one bore the object
+pub same_bits : (h : Heap) (t c : ℕ) (n : New) → IsSound h → c < length h.cells
+    → ((s q : ℕ) → 0 < bit_of (get_or n.queues s []) q + bit_of (get_or (set h.popped t n.popped) s []) q → 0 < bit_of (queue_at h s) q + bit_of (popped_at h s) q)
+    → (n.cell.bore ≡ (cell_at h c).bore) ⊎ ((s : ℕ) → bit_of (queue_at h s) c + bit_of (popped_at h s) c ≡ 0)
+    → (s q : ℕ) → 0 < bit_of (get_or n.queues s []) q + bit_of (get_or (set h.popped t n.popped) s []) q
+    → (266 ≤ q) × ((get_or (set h.cells c n.cell) q no_cell).bore ≡ s)
+same_bits h t c n sound inside older bore s q some =
+    let before : 0 < bit_of (queue_at h s) q + bit_of (popped_at h s) q = older s q some in
+    read_by (λ j y. 0 < bit_of (queue_at h s) j + bit_of (popped_at h s) j → (266 ≤ j) × (y.bore ≡ s)) h.cells c n.cell no_cell inside
+    (λ some. elim bore [ inl same ↦ ((sound.bits s c some).0, same ∙ (sound.bits s c some).1) | inr none ↦ absurd (omega (arith, none s, some)) ])
+    (λ j _ some. sound.bits s j some)
+    q before
+
+-- where the popped words and the queues stay
+pub kept_bits : (h : Heap) (t : ℕ) → IsSound h → t < length h.rows → (s q : ℕ)
+    → 0 < bit_of (queue_at h s) q + bit_of (get_or (set h.popped t (popped_at h t)) s []) q → 0 < bit_of (queue_at h s) q + bit_of (popped_at h s) q
+kept_bits h t sound inside s q =
+    read_by (λ j words. 0 < bit_of (queue_at h j) q + bit_of words q → 0 < bit_of (queue_at h j) q + bit_of (popped_at h j) q) h.popped t (popped_at h t) []
+    (omega (arith, sound.shaped.popped, inside)) (λ some. some) (λ j _ some. some) s
+
+pub same_entries : (xs : List ℕ) → Fewer xs xs
+same_entries xs = record { empty = λ e. e; few = omega arith }

@@ -16,13 +16,15 @@ use Rattle.brc_runs.specs.declared.row.Stage.{Stage}
 use Rattle.brc_runs.specs.declared.row.Stage.TheVariants as stages
 use Rattle.brc_runs.specs.Lists.{one, times, entry_times, is_marked, place_at, filled}
 use Rattle.brc_runs.specs.Heap.{Heap, cell_at, entries_at, row_at, frame_at, popped_at, work_at, queue_at, is_gathered, words_for, no_row}
+use Rattle.brc_runs.specs.Steps.{is_merged}
 use Rattle.brc_runs.specs.Holding.{lives, carries, count_of_state}
-use Rattle.brc_runs.specs.Sound.{IsSound, CellFits, ThreadFits, PhaseFits, HandFits, WorkFits, Locks, counted_in, grips_of, grips_by_owner, grips, is_gripping, gripped, held, is_merged, in_entries}
+use Rattle.brc_runs.specs.Sound.{IsSound, CellFits, ThreadFits, PhaseFits, HandFits, WorkFits, Locks, counted_in, grips_of, grips_by_owner, grips, is_gripping, gripped, held, in_entries}
 use Rattle.brc_runs.proofs.Naming.{no_mark, grips_free, carries_free, live_counts, sum_one}
 use Rattle.brc_runs.proofs.Framing.{place_at-filled_else, times-filled, length-filled}
 use Rattle.brc_runs.proofs.Birthing.{active_fits, busy_else}
 use Rattle.brc_runs.proofs.Asking.{Vacant}
-use Rattle.brc_runs.proofs.Changes.{Fits}
+use Rattle.brc_runs.proofs.Changes.{Fewer, same_entries}
+use Rattle.brc_runs.proofs.Plainly.{Plain}
 
 -- ---- an owned object that somebody holds is gripped by nobody, so its local count isn't 0
 
@@ -138,7 +140,7 @@ pub record Ups (h : Heap) (t c k : ℕ) : Type 0 where
   pub hand : (row_at h t).hand ≡ hands.Free
 
 pub up_immortal_fits : (h : Heap) (t c k : ℕ) → IsSound h → Ups h t c k → c < 266
-    → Fits h t c (cell_at h c) (row_at h t) (filled (frame_at h t) k c) (work_at h t) h.entries
+    → Plain h t c (cell_at h c) (row_at h t) (filled (frame_at h t) k c) (work_at h t) h.entries
 up_immortal_fits h t c k sound ups low = record {
   thread = ups.thread;
   thread_inside = ups.inside;
@@ -161,7 +163,7 @@ up_immortal_fits h t c k sound ups low = record {
   hand = λ p d busy. let bad : hands.Free ≡ hands.Busy p d = sym ups.hand ∙ busy in absurd (cc);
   hands_else = λ s p ne busy. (sound.hands s c p busy).fits;
   cell = λ high. absurd (omega (arith, low, high));
-  empty = λ q _ e. e;
+  fewer = λ q _. same_entries _;
   works_here = sound.works t c;
   works_own = λ q _ on. on;
   works_else = λ s ne on. sound.works s c on;
@@ -172,7 +174,7 @@ up_immortal_fits h t c k sound ups low = record {
 
 pub up_mortal_fits : (h : Heap) (t c k : ℕ) → IsSound h → Ups h t c k → 266 ≤ c → (cell_at h c).owner ≡ owners.Thread t
     → (cell_at h c).local < h.limit → 1 ≤ held h c
-    → Fits h t c (record (cell_at h c) { local = (cell_at h c).local + 1 }) (row_at h t) (filled (frame_at h t) k c) (work_at h t) h.entries
+    → Plain h t c (record (cell_at h c) { local = (cell_at h c).local + 1 }) (row_at h t) (filled (frame_at h t) k c) (work_at h t) h.entries
 up_mortal_fits h t c k sound ups mortal owner below some =
     let x : Cell = cell_at h c in
     let free : one (grips c (row_at h t).hand) ≡ 0 = grips_free c _ ups.hand in
@@ -215,8 +217,9 @@ up_mortal_fits h t c k sound ups mortal owner below some =
         born = fits.born;
         limited = λ _. omega (arith, below);
         plain = fits.plain;
+        few = fits.few;
       };
-      empty = λ q _ e. e;
+      fewer = λ q _. same_entries _;
       works_here = λ on. absurd (no_mark _ (held_unmarked h t c sound some) on);
       works_own = λ q _ on. on;
       works_else = λ s ne on. absurd (no_mark _ (held_unmarked h s c sound some) on);
@@ -239,10 +242,10 @@ pub record Downs (h : Heap) (t c : ℕ) (f : List (Option ℕ)) (es : List (List
   pub vacant : (j : ℕ) → place_at (frame_at h t) j ≡ None → place_at f j ≡ None
   pub places : length f ≤ 65536
   pub lists : length es ≡ length h.entries
-  pub empty : (q : ℕ) → entries_at h q ≡ [] → get_or es q [] ≡ []
+  pub fewer : (q : ℕ) → Fewer (entries_at h q) (get_or es q [])
 
 pub down_immortal_fits : (h : Heap) (t c : ℕ) (f : List (Option ℕ)) (es : List (List ℕ)) → IsSound h → Downs h t c f es → c < 266
-    → Fits h t c (cell_at h c) (row_at h t) f (work_at h t) es
+    → Plain h t c (cell_at h c) (row_at h t) f (work_at h t) es
 down_immortal_fits h t c f es sound downs low =
     let old : ThreadFits (words_for (length h.cells)) (row_at h t) (frame_at h t) (popped_at h t) (work_at h t) (queue_at h t) (is_gathered h t) = sound.threads t in
     record {
@@ -267,7 +270,7 @@ down_immortal_fits h t c f es sound downs low =
       hand = λ p d busy. let bad : hands.Free ≡ hands.Busy p d = sym downs.hand ∙ busy in absurd (cc);
       hands_else = λ s p ne busy. (sound.hands s c p busy).fits;
       cell = λ high. absurd (omega (arith, low, high));
-      empty = λ q _ e. downs.empty q e;
+      fewer = λ q _. downs.fewer q;
       works_here = sound.works t c;
       works_own = λ q _ on. on;
       works_else = λ s ne on. sound.works s c on;
@@ -294,7 +297,7 @@ down_hand c n hand = if n == 1 then hands.Busy phases.Zero c else hand
 
 pub down_mortal_fits : (h : Heap) (t c : ℕ) (f : List (Option ℕ)) (es : List (List ℕ)) → IsSound h → Downs h t c f es → 266 ≤ c
     → (cell_at h c).owner ≡ owners.Thread t → (row_at h t).stage ≡ stages.Active
-    → Fits h t c (record (cell_at h c) { local = (cell_at h c).local - 1 }) (record (row_at h t) { hand = down_hand c (cell_at h c).local (row_at h t).hand }) f (work_at h t) es
+    → Plain h t c (record (cell_at h c) { local = (cell_at h c).local - 1 }) (record (row_at h t) { hand = down_hand c (cell_at h c).local (row_at h t).hand }) f (work_at h t) es
 down_mortal_fits h t c f es sound downs mortal owner active =
     let x : Cell = cell_at h c in
     let hand' : Hand = down_hand c x.local (row_at h t).hand in
@@ -355,13 +358,14 @@ down_mortal_fits h t c f es sound downs mortal owner active =
         default = fits.default;
         owned_unmerged = fits.owned_unmerged;
         owned_by_bearer = fits.owned_by_bearer;
-        dead_empty = λ dead. downs.empty c (fits.dead_empty dead);
+        dead_empty = λ dead. (downs.fewer c).empty (fits.dead_empty dead);
         dead_count = fits.dead_count;
         born = fits.born;
         limited = λ live. omega (arith, fits.limited live);
-        plain = λ plain. downs.empty c (fits.plain plain);
+        plain = λ plain. (downs.fewer c).empty (fits.plain plain);
+        few = omega (arith, fits.few, (downs.fewer c).few);
       };
-      empty = λ q _ e. downs.empty q e;
+      fewer = λ q _. downs.fewer q;
       works_here = λ on. absurd (no_mark _ (held_unmarked h t c sound some) on);
       works_own = λ q _ on. on;
       works_else = λ s ne on. absurd (no_mark _ (held_unmarked h s c sound some) on);

@@ -13,14 +13,15 @@ use Rattle.brc_runs.specs.declared.row.Phase.TheVariants as phases
 use Rattle.brc_runs.specs.declared.row.Stage.TheVariants as stages
 use Rattle.brc_runs.specs.Lists.{one, is_marked}
 use Rattle.brc_runs.specs.Heap.{Heap, cell_at, entries_at, row_at, frame_at, popped_at, work_at, queue_at, is_gathered, words_for, no_row}
-use Rattle.brc_runs.specs.Steps.{thread_may, stepped, cell_after, row_after, is_untouched}
+use Rattle.brc_runs.specs.Steps.{thread_may, is_shut, stepped, cell_after, row_after, is_untouched, is_queued}
 use Rattle.brc_runs.specs.Holding.{lives, carries, count_of_state}
-use Rattle.brc_runs.specs.Sound.{IsSound, ThreadFits, PhaseFits, HandFits, WorkFits, counted_in, grips_of, grips_by_owner, grips, gripped, is_queued}
+use Rattle.brc_runs.specs.Sound.{IsSound, ThreadFits, PhaseFits, HandFits, WorkFits, counted_in, grips_of, grips_by_owner, grips, gripped}
 use Rattle.brc_runs.proofs.Naming.{Unheld, Ungripped, unheld, sole_grip, grips_once, unnamed, no_mark, one-true, free_hand, busy_hand, live_counts, zero_count, default_state, sum_one, grips_of-le}
 use Rattle.brc_runs.proofs.Birthing.{active_from, active_fits, no_lock, busy_else, busy_grips, one_and}
 use Rattle.brc_runs.proofs.Counting.{marked_unheld, total_unmerged}
 use Rattle.brc_runs.proofs.Asking.{May, OnCell, on_cell, may_parts}
-use Rattle.brc_runs.proofs.Changes.{Fits, changed_sound}
+use Rattle.brc_runs.proofs.Changes.{same_entries, Fewer, changed_sound}
+use Rattle.brc_runs.proofs.Plainly.{Plain, plain_sound}
 
 -- ---- seeing zero
 
@@ -52,7 +53,7 @@ zero_parts h t c sound ok =
       busy = busy;
       mortal = said.mortal;
       owner = owner;
-      active = active_from _ (SeeZero c) may.stage refl;
+      active = active_from _ (SeeZero c) may.stage refl refl;
       unlocked = no_lock _ (SeeZero c) may.lock refl;
       grip = grip;
       mark = omega (arith, grips_once h c t sound said.mortal, grip);
@@ -64,7 +65,7 @@ zero_parts h t c sound ok =
 
 -- nothing was ever counted on the shared word: the block goes to the worklist
 taken_fits : (h : Heap) (t c : ℕ) → IsSound h → Zero h t c → is_untouched (cell_at h c) ≡ true
-    → Fits h t c (cell_at h c) (record (row_at h t) { hand = hands.Free }) (frame_at h t) (set (work_at h t) c true) h.entries
+    → Plain h t c (cell_at h c) (record (row_at h t) { hand = hands.Free }) (frame_at h t) (set (work_at h t) c true) h.entries
 taken_fits h t c sound zero untouched =
     let parts = and_parts _ _ untouched in
     let count : (cell_at h c).count ≡ pos 0 = zero_count _ parts.0 in
@@ -97,7 +98,7 @@ taken_fits h t c sound zero untouched =
       hand = λ p d busy. let bad : hands.Free ≡ hands.Busy p d = busy in absurd (cc);
       hands_else = λ s p ne busy. (sound.hands s c p busy).fits;
       cell = sound.cells c;
-      empty = λ q _ e. e;
+      fewer = λ q _. same_entries _;
       works_here = λ _. record {
         mortal = zero.mortal;
         lives = ap lives zero.owner;
@@ -113,7 +114,7 @@ taken_fits h t c sound zero untouched =
 
 -- somebody has counted or asked: the thread goes on to merge
 over_fits : (h : Heap) (t c : ℕ) → IsSound h → Zero h t c
-    → Fits h t c (cell_at h c) (record (row_at h t) { hand = hands.Busy phases.Over c }) (frame_at h t) (work_at h t) h.entries
+    → Plain h t c (cell_at h c) (record (row_at h t) { hand = hands.Busy phases.Over c }) (frame_at h t) (work_at h t) h.entries
 over_fits h t c sound zero =
     let here : one (c == c) ≡ 1 = ap one (eq-eqb c c refl) in
     let hand_else : (q : ℕ) → q ≢ c → one (grips q (row_at h t).hand) ≡ 0 = λ q ne. ap (λ z. one (grips q z)) zero.busy ∙ (busy_else phases.Zero c q ne).0 in
@@ -142,7 +143,7 @@ over_fits h t c sound zero =
           (cc, zero.mortal, subst (λ z. PhaseFits t (record (row_at h t) { hand = hands.Busy phases.Over c }) (popped_at h t) (cell_at h c) (row_at h (cell_at h c).bore).stage c z) (sym phase) zero.owner);
       hands_else = λ s p ne busy. (sound.hands s c p busy).fits;
       cell = sound.cells c;
-      empty = λ q _ e. e;
+      fewer = λ q _. same_entries _;
       works_here = sound.works t c;
       works_own = λ q _ on. on;
       works_else = λ s ne on. sound.works s c on;
@@ -159,16 +160,18 @@ see_sound h t c sound ok =
         cells = set h.cells c (cell_at h c);
         rows = set h.rows t (record (row_at h t) { hand = if b then hands.Free else hands.Busy phases.Over c });
         frames = set h.frames t (frame_at h t);
+        popped = set h.popped t (popped_at h t);
         works = set h.works t (if b then set (work_at h t) c true else work_at h t);
       })) (sym untouched)
-          (changed_sound h t c _ _ _ _ _ sound (taken_fits h t c sound zero untouched))
+          (plain_sound h t c _ _ _ _ _ sound (taken_fits h t c sound zero untouched))
       | inr touched ↦ subst (λ b. IsSound (record h {
         cells = set h.cells c (cell_at h c);
         rows = set h.rows t (record (row_at h t) { hand = if b then hands.Free else hands.Busy phases.Over c });
         frames = set h.frames t (frame_at h t);
+        popped = set h.popped t (popped_at h t);
         works = set h.works t (if b then set (work_at h t) c true else work_at h t);
       })) (sym touched)
-          (changed_sound h t c _ _ _ _ _ sound (over_fits h t c sound zero))
+          (plain_sound h t c _ _ _ _ _ sound (over_fits h t c sound zero))
     ]
 
 -- ---- freeing
@@ -218,7 +221,7 @@ free_sound h t c sound ok =
     let count : (cell_at h c).count ≡ pos 0 = dead_count h t c sound on in
     let asked : one (is_queued (cell_at h c).state && false) ≡ 0 = one_and (is_queued (cell_at h c).state) false refl in
     let old : ThreadFits (words_for (length h.cells)) (row_at h t) (frame_at h t) (popped_at h t) (work_at h t) (queue_at h t) (is_gathered h t) = sound.threads t in
-    changed_sound h t c (cell_after t (Free c) c (cell_at h c)) (row_after (Free c) c (cell_at h c) (row_at h t)) (frame_at h t) (set (work_at h t) c false) h.entries sound (record {
+    plain_sound h t c (cell_after t (Free c) c (cell_at h c)) (row_after (Free c) c (cell_at h c) (is_shut h c) (row_at h t)) (frame_at h t) (set (work_at h t) c false) h.entries sound (record {
       thread = may.some_thread;
       thread_inside = may.inside;
       cell_inside = at_cell.inside;
@@ -248,8 +251,9 @@ free_sound h t c sound ok =
         born = λ live. absurd (true≢false (sym live));
         limited = λ live. absurd (true≢false (sym live));
         plain = λ _. empty;
+        few = (sound.cells c fits.mortal).few;
       };
-      empty = λ q _ e. e;
+      fewer = λ q _. same_entries _;
       works_here = λ still. absurd (true≢false (sym still ∙ off));
       works_own = λ q ne still. sym (else_marked q ne) ∙ still;
       works_else = λ s ne still. absurd (no_mark _ (others s ne).mark still);

@@ -17,9 +17,9 @@ use Rattle.brc_runs.specs.declared.row.Phase.{Phase}
 use Rattle.brc_runs.specs.declared.row.Phase.TheVariants as phases
 use Rattle.brc_runs.specs.Lists.{one, times, names, entry_times, bit_of, is_marked}
 use Rattle.brc_runs.specs.Heap.{Heap, cell_at, row_at, popped_at, work_at, no_row}
-use Rattle.brc_runs.specs.Steps.{is_at, is_zero}
+use Rattle.brc_runs.specs.Steps.{is_at, is_zero, is_queued, is_merged}
 use Rattle.brc_runs.specs.Holding.{Headline, IsInHand, buries, each, if_so, holders_of, lives, lives_at, carries, count_of_state}
-use Rattle.brc_runs.specs.Sound.{IsSound, PhaseFits, grips_by_owner, grips, is_gripping, gripped, held, is_queued, is_threads, is_merged}
+use Rattle.brc_runs.specs.Sound.{IsSound, PhaseFits, grips_by_owner, grips, is_gripping, gripped, held, is_threads}
 use Rattle.brc_runs.proofs.Naming.{Unheld, unheld, live_counts, sum_one, busy_carrier}
 
 -- ---- the list of holders is as long as the sums say

@@ -1,5 +1,6 @@
 pub mod Reached
 pub mod Changes
+pub mod Plainly
 pub mod Naming
 pub mod Framing
 pub mod Asking

@@ -111,7 +111,7 @@ pub counted_step : (f : Row → ℕ) (counts : Step → Bool) (h : Heap) (t : �
     → f (row_at (after_target h t s o) q) ≡ f (row_at h q) + one ((t == q) && counts s)
 counted_step f counts h t s None q inside more ok = absurd (true≢false (sym ok))
 counted_step f counts h t s (Some c) q inside more ok =
-    read_by (λ j (row : Row). f row ≡ f (row_at h j) + one ((t == j) && counts s)) h.rows t (row_after s c (cell_at h c) (row_at h t)) no_row inside
+    read_by (λ j (row : Row). f row ≡ f (row_at h j) + one ((t == j) && counts s)) h.rows t (row_after s c (cell_at h c) (is_shut h c) (row_at h t)) no_row inside
     (more c (cell_at h c) (row_at h t) ∙ ap (λ b. f (row_at h t) + one (b && counts s)) (sym (eq-eqb t t refl)))
     (λ j other. omega (arith, ap (λ b. one (b && counts s)) (ne_eqb t j (λ e. other (sym e)))))
     q

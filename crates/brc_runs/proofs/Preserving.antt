@@ -59,7 +59,7 @@ up_target h t k source (Some c) sound may named ok =
       inside = may.inside;
       cell_inside = at_cell.inside;
       place = vacant _ k may.own;
-      active = active_from _ (LocalUp source k) may.stage refl;
+      active = active_from _ (LocalUp source k) may.stage refl refl;
       here = may.not_gathered;
       hand = free_hand _ may.hand;
     } in

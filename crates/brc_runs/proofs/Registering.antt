@@ -13,10 +13,11 @@ use Rattle.brc_runs.specs.declared.row.Phase.TheVariants as phases
 use Rattle.brc_runs.specs.declared.row.Stage.{Stage}
 use Rattle.brc_runs.specs.Lists.{one, times, bit_of, is_marked, place_at}
 use Rattle.brc_runs.specs.Heap.{Heap, cell_at, entries_at, row_at, frame_at, popped_at, work_at, queue_at, is_gathered, no_row, new_row, words_for}
-use Rattle.brc_runs.specs.Steps.{registered}
+use Rattle.brc_runs.specs.Steps.{registered, is_closed}
 use Rattle.brc_runs.specs.Holding.{lives, carries}
-use Rattle.brc_runs.specs.Sound.{IsSound, IsShaped, CellFits, ThreadFits, PhaseFits, HandFits, WorkFits, Locks, grips, gripped, held, asks, is_closed}
+use Rattle.brc_runs.specs.Sound.{IsSound, IsShaped, CellFits, ThreadFits, PhaseFits, HandFits, WorkFits, Locks, grips, gripped, held, asks}
 use Rattle.brc_runs.proofs.Naming.{dead_unheld, Unheld, busy_carrier}
+use Rattle.brc_runs.proofs.Changes.{other_bearer}
 use Rattle.brc_runs.proofs.Birthing.{active_fits}
 
 pub push_else : {A : Type 0} (xs : List A) (v d : A) (j : ℕ) → j ≢ length xs → get_or (xs ++ v ∷ []) j d ≡ get_or xs j d
@@ -112,21 +113,6 @@ same_gripped h q =
       ap one (new_mark (length h.cells) q),
     )
 
--- only a shut hand looks at the bearer's stage
-other_bearer : (t : ℕ) (row : Row) (popped : List ℕ) (x : Cell) (old new : Stage) (d : ℕ) (p : Phase)
-    → (p ≡ phases.Shut → old ≡ new) → PhaseFits t row popped x old d p → PhaseFits t row popped x new d p
-other_bearer t row popped x old new d phases.Claimed same fits = fits
-other_bearer t row popped x old new d phases.Counted same fits = fits
-other_bearer t row popped x old new d phases.Ready same fits = fits
-other_bearer t row popped x old new d phases.Zero same fits = fits
-other_bearer t row popped x old new d phases.Over same fits = fits
-other_bearer t row popped x old new d phases.Untied same fits = fits
-other_bearer t row popped x old new d phases.Asked same fits = fits
-other_bearer t row popped x old new d phases.Shut same fits = subst (λ g. is_closed g (d / 32) ≡ true) (same refl) fits
-other_bearer t row popped x old new d phases.Taking same fits = fits
-other_bearer t row popped x old new d phases.Held same fits = fits
-other_bearer t row popped x old new d phases.Popping same fits = fits
-
 -- the bearer of an object that a hand refers to is registered
 shut_bearer : (h : Heap) (s d : ℕ) → IsSound h → (row_at h s).hand ≡ hands.Busy phases.Shut d → 266 ≤ d → (cell_at h d).bore ≢ length h.rows
 shut_bearer h s d sound busy mortal e =
@@ -148,7 +134,7 @@ hands_fit h sound s d p busy =
     λ j other at_d.
     let fits : HandFits h j p d = sound.hands j d p at_d in (
       fits.mortal,
-      other_bearer j (row_at h j) (popped_at h' j) (cell_at h d) (row_at h (cell_at h d).bore).stage (row_at h' (cell_at h d).bore).stage d p (bearer j at_d)
+      other_bearer j (row_at h j) (popped_at h' j) (cell_at h d) (row_at h (cell_at h d).bore).stage (row_at h' (cell_at h d).bore).stage d p (λ shut closed. subst (λ g. is_closed g (d / 32) ≡ true) (bearer j at_d shut) closed)
           (subst (λ popped. PhaseFits j (row_at h j) popped (cell_at h d) (row_at h (cell_at h d).bore).stage d p)
           (sym (push_else h.popped _ [] j (λ e. other (e ∙ sound.shaped.popped)))) fits.fits),
     ) in
@@ -169,6 +155,7 @@ cells_fit h sound q mortal =
       born = λ live. ((fits.born live).0, omega (arith, (fits.born live).1, length-push h.rows new_row));
       limited = fits.limited;
       plain = fits.plain;
+      few = fits.few;
     }
 
 threads_fit : (h : Heap) → IsSound h → (s : ℕ)
@@ -207,7 +194,7 @@ works_fit : (h : Heap) → IsSound h → (s q : ℕ) → is_marked (work_at (reg
 works_fit h sound s q = read_push (λ j (marks : List Bool). is_marked marks q ≡ true → WorkFits j q (cell_at h q)) h.works (replicate (length h.cells) false) []
     (λ on. absurd (true≢false (sym on ∙ new_mark (length h.cells) q))) (λ j _ on. sound.works j q on) s
 
-bits_fit : (h : Heap) → IsSound h → (s q : ℕ) → 0 < bit_of (queue_at (registered h) s) q + bit_of (popped_at (registered h) s) q → (cell_at h q).bore ≡ s
+bits_fit : (h : Heap) → IsSound h → (s q : ℕ) → 0 < bit_of (queue_at (registered h) s) q + bit_of (popped_at (registered h) s) q → (266 ≤ q) × ((cell_at h q).bore ≡ s)
 bits_fit h sound s q some =
     let n : ℕ = words_for (length h.cells) in
     elim (cases_eq s (length h.rows)) [

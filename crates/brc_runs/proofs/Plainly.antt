@@ -1,0 +1,102 @@
+-- Steps that leave popped bits, queue words, stages and locks alone: what the law on changes asks of them.
+use Rattle.std.proofs.Common.{◌≡◌, ◌≢◌, ℕ, ◌+◌, ◌<◌, ◌≤◌, true, pos, ◌+ℤ◌, Bool, List, [], length, get_or, set, Option, Some, sum_by, refl, sym, subst, ◌⊎◌, arith}
+use Rattle.std.proofs.lemmas.List.{set-get_or}
+use Rattle.std.proofs.lemmas.Int.{ints}
+use Rattle.brc_runs.specs.declared.cell.Cell.{Cell}
+use Rattle.brc_runs.specs.declared.row.Row.{Row}
+use Rattle.brc_runs.specs.declared.row.Hand.TheVariants as hands
+use Rattle.brc_runs.specs.declared.row.Phase.{Phase}
+use Rattle.brc_runs.specs.Lists.{one, times, entry_times, bit_of, is_marked, place_at}
+use Rattle.brc_runs.specs.Heap.{Heap, cell_at, entries_at, row_at, frame_at, popped_at, work_at, queue_at, is_gathered, words_for}
+use Rattle.brc_runs.specs.Steps.{is_closed}
+use Rattle.brc_runs.specs.Holding.{lives, carries}
+use Rattle.brc_runs.specs.Sound.{IsSound, CellFits, ImmortalFits, WorkFits, ThreadFits, PhaseFits, counted_in, grips_of, grips, asks, asks_most, asks_least, in_entries}
+use Rattle.brc_runs.proofs.Changes.{New, Fits, Fewer, changed, changed_sound, immortal_entries, same_locks, same_bits, kept_bits}
+
+-- one cell, one thread's row, frame and worklist, and entries replaced; the popped bits and all queues as they were
+abbrev pub plain : Heap → ℕ → Cell → Row → List (Option ℕ) → List Bool → List (List ℕ) → New
+plain h t x r f w es = record {
+  cell = x;
+  row = r;
+  frame = f;
+  popped = popped_at h t;
+  work = w;
+  entries = es;
+  queues = h.queues;
+}
+
+pub record Plain (h : Heap) (t c : ℕ) (x : Cell) (r : Row) (f : List (Option ℕ)) (w : List Bool) (es : List (List ℕ)) : Type 0 where
+  pub thread : 0 < t
+  pub thread_inside : t < length h.rows
+  pub cell_inside : c < length h.cells
+  pub immortal : c < 266 → x ≡ cell_at h c
+  pub mutex : x.mutex ≡ (cell_at h c).mutex
+  pub bore : (x.bore ≡ (cell_at h c).bore) ⊎ ((s : ℕ) → bit_of (queue_at h s) c + bit_of (popped_at h s) c ≡ 0)
+  pub stage : r.stage ≡ (row_at h t).stage
+  pub locked : r.locked ≡ (row_at h t).locked
+  pub locked_place : (k : ℕ) → (row_at h t).locked ≡ Some k → place_at f k ≡ place_at (frame_at h t) k
+  pub marks : length w ≡ length (work_at h t)
+  pub lists : length es ≡ length h.entries
+  -- sums
+  pub counted_here : 266 ≤ c → counted_in x +ℤ pos (times c (frame_at h t) + one (carries c (row_at h t).hand) + in_entries h c)
+      ≡ counted_in (cell_at h c) +ℤ pos (times c f + one (carries c r.hand) + sum_by (entry_times c) es)
+  pub counted_else : (q : ℕ) → 266 ≤ q → q ≢ c → times q (frame_at h t) + one (carries q (row_at h t).hand) + in_entries h q
+      ≡ times q f + one (carries q r.hand) + sum_by (entry_times q) es
+  pub gripped_here : 266 ≤ c → grips_of x + one (is_marked (work_at h t) c) + one (grips c (row_at h t).hand)
+      ≡ grips_of (cell_at h c) + one (is_marked w c) + one (grips c r.hand)
+  pub gripped_else : (q : ℕ) → 266 ≤ q → q ≢ c → one (is_marked (work_at h t) q) + one (grips q (row_at h t).hand)
+      ≡ one (is_marked w q) + one (grips q r.hand)
+  pub most_here : 266 ≤ c → asks h c + one (carries c r.hand) ≤ asks_most x + one (carries c (row_at h t).hand)
+  pub least_here : 266 ≤ c → asks_least x + one (carries c (row_at h t).hand) ≤ asks h c + one (carries c r.hand)
+  pub asks_else : (q : ℕ) → 266 ≤ q → q ≢ c → one (carries q r.hand) ≡ one (carries q (row_at h t).hand)
+  -- hands
+  pub hand : (p : Phase) (d : ℕ) → r.hand ≡ hands.Busy p d → (d ≡ c) × (266 ≤ c) × PhaseFits t r (popped_at h t) x (row_at h x.bore).stage c p
+  pub hands_else : (s : ℕ) (p : Phase) → s ≢ t → (row_at h s).hand ≡ hands.Busy p c → PhaseFits s (row_at h s) (popped_at h s) x (row_at h x.bore).stage c p
+  -- cells and worklists
+  pub cell : 266 ≤ c → CellFits (length h.rows) h.limit x (get_or es c [])
+  pub fewer : (q : ℕ) → (266 ≤ q → q ≢ c) → Fewer (entries_at h q) (get_or es q [])
+  pub works_here : is_marked w c ≡ true → WorkFits t c x
+  pub works_own : (q : ℕ) → q ≢ c → is_marked w q ≡ true → is_marked (work_at h t) q ≡ true
+  pub works_else : (s : ℕ) → s ≢ t → is_marked (work_at h s) c ≡ true → WorkFits s c x
+  -- the thread, and the ledger
+  pub own : ThreadFits (words_for (length h.cells)) r f (popped_at h t) w (queue_at h t) (is_gathered h t)
+  pub ledger : r.allocs + (row_at h t).frees + one (lives (cell_at h c).owner) ≡ (row_at h t).allocs + r.frees + one (lives x.owner)
+
+pub plain_fits : (h : Heap) (t c : ℕ) (x : Cell) (r : Row) (f : List (Option ℕ)) (w : List Bool) (es : List (List ℕ))
+    → IsSound h → Plain h t c x r f w es → Fits h t c (plain h t x r f w es)
+plain_fits h t c x r f w es sound p = record {
+  thread = p.thread;
+  thread_inside = p.thread_inside;
+  cell_inside = p.cell_inside;
+  marks = p.marks;
+  lists = p.lists;
+  words = refl;
+  queues = refl;
+  queue_words = λ s. refl;
+  counted_here = λ mortal. omega (arith, ints, p.counted_here mortal);
+  counted_else = λ q mortal ne. omega (arith, p.counted_else q mortal ne);
+  gripped_here = p.gripped_here;
+  gripped_else = p.gripped_else;
+  most_here = λ mortal. omega (arith, p.most_here mortal);
+  least_here = λ mortal. omega (arith, p.least_here mortal);
+  asks_else = λ q mortal ne. omega (arith, p.asks_else q mortal ne);
+  hand = p.hand;
+  hands_else = p.hands_else;
+  cell = p.cell;
+  immortal = λ low. immortal_entries c x (entries_at h c) (get_or es c []) (p.fewer c (λ high. absurd (omega (arith, low, high))))
+      (subst (λ y. ImmortalFits c y (entries_at h c)) (sym (p.immortal low)) (sound.immortals c low));
+  fewer = λ q ne. p.fewer q (λ _. ne);
+  works_here = p.works_here;
+  works_own = p.works_own;
+  works_else = p.works_else;
+  closes = λ k. subst (λ g. is_closed (row_at h t).stage k ≡ true → is_closed g k ≡ true) (sym p.stage) (λ closed. closed);
+  own = p.own;
+  queues_else = λ s k _. (sound.threads s).closed k;
+  bits = same_bits h t c (plain h t x r f w es) sound p.cell_inside (kept_bits h t sound p.thread_inside) p.bore;
+  locks = same_locks h t c (plain h t x r f w es) sound p.thread_inside p.cell_inside (record { mutex = p.mutex; locked = p.locked; place = p.locked_place });
+  ledger = p.ledger;
+}
+
+pub plain_sound : (h : Heap) (t c : ℕ) (x : Cell) (r : Row) (f : List (Option ℕ)) (w : List Bool) (es : List (List ℕ))
+    → IsSound h → Plain h t c x r f w es → IsSound (changed h t c (plain h t x r f w es))
+plain_sound h t c x r f w es sound p = changed_sound h t c (plain h t x r f w es) sound (plain_fits h t c x r f w es sound p)
