@@ -7,6 +7,8 @@ pub mod Asking
 pub mod Birthing
 pub mod Counting
 pub mod Ending
+pub mod Turning
+pub mod Merging
 pub mod Preserving
 pub mod Registering
 pub mod Beginning
