@@ -9,6 +9,10 @@ pub mod Counting
 pub mod Ending
 pub mod Turning
 pub mod Merging
+pub mod Dropping
+pub mod Sharing
+pub mod Bitwise
+pub mod Queueing
 pub mod Preserving
 pub mod Registering
 pub mod Beginning

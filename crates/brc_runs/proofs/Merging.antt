@@ -360,6 +360,19 @@ merged_grips x n owner = ap (λ o. grips_by_owner o states.Merged x.local n) own
 nobodys_grips : (x : Cell) → x.owner ≡ owners.Nobody → is_merged x.state ≡ false → grips_of x ≡ 1
 nobodys_grips x owner unmerged = ap (λ o. grips_by_owner o x.state x.local x.count) owner ∙ ap (λ b. if b then one (is_zero x.count) else 1) unmerged
 
+-- the worklist's marks, where the block is taken or isn't
+pub taken_marks : (work : List Bool) (c : ℕ) → c < length work → one (is_marked work c) ≡ 0 → (b : Bool)
+    → (one (is_marked (if b then set work c true else work) c) ≡ one b)
+    × (length (if b then set work c true else work) ≡ length work)
+    × ((q : ℕ) → q ≢ c → is_marked (if b then set work c true else work) q ≡ is_marked work q)
+taken_marks work c within mark true = (ap one (get_or-set_same work c true false within), length-set work c true, λ q ne. get_or-set_other work c q true false ne)
+taken_marks work c within mark false = (mark, refl, λ q _. refl)
+
+-- a block on the list was taken
+pub marked_so : (b : Bool) (m : ℕ) → m ≡ 1 → m ≡ one b → b ≡ true
+marked_so true m e f = refl
+marked_so false m e f = absurd (omega (arith, e, f))
+
 zero_turn : (h : Heap) (t c : ℕ) (b : Bool) → IsSound h → thread_may h t (MergeZero c) ≡ true → is_zero (cell_at h c).count ≡ b
     → Turn h t c (record (cell_at h c) { state = states.Merged }) hands.Free (frame_at h t) (if b then set (work_at h t) c true else work_at h t) h.entries
 zero_turn h t c b sound ok zero =
@@ -403,23 +416,12 @@ zero_turn h t c b sound ok zero =
       works_here = λ on. record {
         mortal = said.mortal;
         lives = live;
-        total = zero_count x.count (zero ∙ marked_so b (ap one on ∙ refl) ((marks b).0));
+        total = zero_count x.count (zero ∙ marked_so b _ (ap one on) ((marks b).0));
         whose = inl refl;
       };
       marks_else = (marks b).2;
       works_else = λ s ne on. absurd (no_mark _ (alone s ne).mark on);
     }
-  where
-    marked_so : (b : Bool) {m : ℕ} → m ≡ 1 → m ≡ one b → b ≡ true
-    marked_so true e f = refl
-    marked_so false e f = absurd (omega (arith, e, f))
-
-    taken_marks : (work : List Bool) (c : ℕ) → c < length work → one (is_marked work c) ≡ 0 → (b : Bool)
-        → (one (is_marked (if b then set work c true else work) c) ≡ one b)
-        × (length (if b then set work c true else work) ≡ length work)
-        × ((q : ℕ) → q ≢ c → is_marked (if b then set work c true else work) q ≡ is_marked work q)
-    taken_marks work c within mark true = (ap one (get_or-set_same work c true false within), length-set work c true, λ q ne. get_or-set_other work c q true false ne)
-    taken_marks work c within mark false = (mark, refl, λ q _. refl)
 
 pub merge_zero_sound : (h : Heap) (t c : ℕ) → IsSound h → thread_may h t (MergeZero c) ≡ true → IsSound (stepped h t (MergeZero c) c)
 merge_zero_sound h t c sound ok =
