@@ -13,6 +13,8 @@ pub mod Dropping
 pub mod Sharing
 pub mod Bitwise
 pub mod Queueing
+pub mod Locking
+pub mod Resting
 pub mod Preserving
 pub mod Registering
 pub mod Beginning
