@@ -1,4 +1,5 @@
 pub mod Reached
+pub mod Sizes
 pub mod Changes
 pub mod Plainly
 pub mod Naming
