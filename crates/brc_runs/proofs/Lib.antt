@@ -1,3 +1,5 @@
+pub mod Reasons
+pub mod Lasting
 pub mod Reached
 pub mod Sizes
 pub mod Changes

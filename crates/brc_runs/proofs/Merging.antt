@@ -296,7 +296,7 @@ untie_popped h t c sound may inside free on owner =
 
 -- ---- the step
 
-third : (a b c : Bool) → a ≡ false → b ≡ false → (a || b || c) ≡ true → c ≡ true
+pub third : (a b c : Bool) → a ≡ false → b ≡ false → (a || b || c) ≡ true → c ≡ true
 third true b c off apart ok = absurd (true≢false off)
 third false true c off apart ok = absurd (true≢false apart)
 third false false c off apart ok = ok

@@ -479,11 +479,11 @@ last_dropped_sound h t drop (Some c) sound may named ok =
     }))
 
 -- what is in a hand whose reference may end, and that the object isn't its owner's any more
-ending_hand : (hand : Hand) (c : ℕ) → is_ending_hand hand ≡ true → cell_in_hand hand ≡ Some c → (p : Phase) × (hand ≡ hands.Busy p c) × (is_ending p ≡ true)
+pub ending_hand : (hand : Hand) (c : ℕ) → is_ending_hand hand ≡ true → cell_in_hand hand ≡ Some c → (p : Phase) × (hand ≡ hands.Busy p c) × (is_ending p ≡ true)
 ending_hand hands.Free c ends named = absurd (true≢false (sym ends))
 ending_hand (hands.Busy p d) c ends named = (p, (let e : d ≡ c = cc in ap (hands.Busy p) e), ends)
 
-ending_reference : (p : Phase) → is_ending p ≡ true → has_reference p ≡ true
+pub ending_reference : (p : Phase) → is_ending p ≡ true → has_reference p ≡ true
 ending_reference phases.Claimed ends = absurd (true≢false (sym ends))
 ending_reference phases.Counted ends = absurd (true≢false (sym ends))
 ending_reference phases.Ready ends = absurd (true≢false (sym ends))
