@@ -80,7 +80,7 @@ live_parts h c live =
 -- ---- an object without holders is in some thread's hand
 
 -- a sum that isn't 0 has a term that isn't
-sum_some : {A : Type 0} (f : A → ℕ) (xs : List A) (d : A) → 1 ≤ sum_by f xs → (i : ℕ) × (1 ≤ f (get_or xs i d))
+pub sum_some : {A : Type 0} (f : A → ℕ) (xs : List A) (d : A) → 1 ≤ sum_by f xs → (i : ℕ) × (1 ≤ f (get_or xs i d))
 sum_some {A} f [] d some = absurd (omega (arith, some))
 sum_some {A} f (x ∷ xs) d some = elim (cases_lt 0 (f x)) [
   | inl here ↦ (0, omega (arith, here))
@@ -88,7 +88,7 @@ sum_some {A} f (x ∷ xs) d some = elim (cases_lt 0 (f x)) [
       (suc rest.0, rest.1)
 ]
 
-from_one : (b : Bool) → 1 ≤ one b → b ≡ true
+pub from_one : (b : Bool) → 1 ≤ one b → b ≡ true
 from_one true h = refl
 from_one false h = absurd (omega (arith, h))
 
@@ -133,7 +133,7 @@ or_true true b h = refl
 or_true false b h = h
 
 -- which hand grips
-gripping_hand : (c : ℕ) (hand : Hand) → grips c hand ≡ true → (p : Phase) × (hand ≡ hands.Busy p c) × (is_gripping p ≡ true)
+pub gripping_hand : (c : ℕ) (hand : Hand) → grips c hand ≡ true → (p : Phase) × (hand ≡ hands.Busy p c) × (is_gripping p ≡ true)
 gripping_hand c hands.Free g = absurd (true≢false (sym g))
 gripping_hand c (hands.Busy p d) g = let parts = and_parts _ _ g in (p, ap (hands.Busy p) (eqb-true d c parts.1), parts.0)
 

@@ -123,7 +123,7 @@ alone_stays h e t c sound ok other mortal grip none owner =
 
 -- ---- births and burials
 
-bearing : (p : Phase) → (p ≡ phases.Claimed) ⊎ ((p ≡ phases.Counted) ⊎ (p ≡ phases.Ready)) → (h : Heap) (t c : ℕ) → IsSound h → (row_at h t).hand ≡ hands.Busy p c
+pub bearing : (p : Phase) → (p ≡ phases.Claimed) ⊎ ((p ≡ phases.Counted) ⊎ (p ≡ phases.Ready)) → (h : Heap) (t c : ℕ) → IsSound h → (row_at h t).hand ≡ hands.Busy p c
     → (266 ≤ c) × ((cell_at h c).owner ≡ owners.Claimed t) × (one (grips c (row_at h t).hand) ≡ 1)
 bearing p which h t c sound busy = elim which [
   | inl claimed ↦
@@ -223,7 +223,7 @@ asked_keeps s true x default = record { kind = refl; bore = refl; state = by_sta
 asked_keeps s false x other = keeps_all s x
 
 -- the cell isn't one that is being born
-not_bearing : (h : Heap) (u c d : ℕ) (p : Phase) → IsSound h → (p ≡ phases.Claimed) ⊎ ((p ≡ phases.Counted) ⊎ (p ≡ phases.Ready)) → is_at p d (row_at h u).hand ≡ true → d ≡ c → lives (cell_at h c).owner ≡ true → ⊥
+pub not_bearing : (h : Heap) (u c d : ℕ) (p : Phase) → IsSound h → (p ≡ phases.Claimed) ⊎ ((p ≡ phases.Counted) ⊎ (p ≡ phases.Ready)) → is_at p d (row_at h u).hand ≡ true → d ≡ c → lives (cell_at h c).owner ≡ true → ⊥
 not_bearing h u c d p sound which at same live =
     let dead : lives (cell_at h d).owner ≡ false = ap lives (bearing p which h u d sound (busy_hand p d _ at)).1 in
     true≢false (sym live ∙ ap (λ i. lives (cell_at h i).owner) (sym same) ∙ dead)

@@ -1,5 +1,6 @@
 pub mod Reasons
 pub mod Lasting
+pub mod Telling
 pub mod Reached
 pub mod Sizes
 pub mod Changes

@@ -230,12 +230,12 @@ idle_apart h s c (hands.Busy p d) sound off owner e =
     by_phase phases.Held idle fits = refl
     by_phase phases.Popping idle fits = let bad : owners.Thread s ≡ owners.Nobody = sym owner ∙ fits.0 in absurd (cc)
 
-closed_idle : (g : Stage) (k : ℕ) → is_closed g k ≡ true → is_active g ≡ false
+pub closed_idle : (g : Stage) (k : ℕ) → is_closed g k ≡ true → is_active g ≡ false
 closed_idle stages.Active k closed = absurd (true≢false (sym closed))
 closed_idle (stages.Closing n) k closed = refl
 closed_idle stages.Left k closed = refl
 
-live_thread : (owner : Owner) → lives owner ≡ true → is_nobody owner ≡ false → (s : ℕ) × (owner ≡ owners.Thread s)
+pub live_thread : (owner : Owner) → lives owner ≡ true → is_nobody owner ≡ false → (s : ℕ) × (owner ≡ owners.Thread s)
 live_thread owners.Nobody live some = absurd (true≢false some)
 live_thread (owners.Thread s) live some = (s, refl)
 live_thread (owners.Claimed s) live some = absurd (true≢false (sym live))
@@ -433,7 +433,7 @@ pub nonzero : (n : ℤ) (m : ℕ) → n ≡ pos m → 1 ≤ m → is_zero n ≡ 
 nonzero n m is some = ap is_zero is ∙ ne_eqb m 0 (λ e. omega (arith, e, some))
 
 -- an object that is gripped and held has no owner, and isn't merged yet
-gripped_unmerged : (h : Heap) (c : ℕ) → IsSound h → 266 ≤ c → (cell_at h c).owner ≡ owners.Nobody → 1 ≤ gripped h c → 1 ≤ held h c → is_merged (cell_at h c).state ≡ false
+pub gripped_unmerged : (h : Heap) (c : ℕ) → IsSound h → 266 ≤ c → (cell_at h c).owner ≡ owners.Nobody → 1 ≤ gripped h c → 1 ≤ held h c → is_merged (cell_at h c).state ≡ false
 gripped_unmerged h c sound mortal owner grip some =
     let x : Cell = cell_at h c in
     elim (cases_Bool (is_merged x.state)) [

@@ -1,5 +1,5 @@
 -- What a thread may rely on while others step: its own part, and the words of what it holds, locks, bears or buries.
-use Rattle.std.specs.Prelude.{◌≡◌, ◌≢◌, ℕ, ◌≤◌, ◌==◌, Bool, true, false, List, [], ◌∷◌, ◌++◌, Option, Some, None, slice_get, ◌⊎◌}
+use Rattle.std.specs.Prelude.{◌≡◌, ◌≢◌, ℕ, ◌≤◌, ◌==◌, Bool, true, false, List, [], ◌∷◌, ◌++◌, pos, Option, Some, None, slice_get, ◌⊎◌}
 use Rattle.brc_words.specs.declared.owner.Owner.TheVariants as owners
 use Rattle.brc_words.specs.declared.state.State.{State}
 use Rattle.brc_words.specs.declared.state.State.TheVariants as states
@@ -12,9 +12,10 @@ use Rattle.brc_runs.specs.declared.row.Row.{Row}
 use Rattle.brc_runs.specs.declared.row.Phase.{Phase}
 use Rattle.brc_runs.specs.declared.row.Phase.TheVariants as phases
 use Rattle.brc_runs.specs.declared.row.Hand.TheVariants as hands
+use Rattle.brc_runs.specs.declared.row.Stage.TheVariants as stages
 use Rattle.brc_runs.specs.Lists.{place_at, bit_of, is_marked}
 use Rattle.brc_runs.specs.Heap.{Heap, cell_at, entries_at, row_at, frame_at, popped_at, work_at, queue_at, is_gathered}
-use Rattle.brc_runs.specs.Steps.{enabled, after, is_active, locked_cell}
+use Rattle.brc_runs.specs.Steps.{enabled, after, is_active, is_default, is_merged, locked_cell}
 use Rattle.brc_runs.specs.Runs.{IsReached}
 use Rattle.brc_runs.specs.Holding.{carries, lives}
 
@@ -109,3 +110,57 @@ pub record Owns (h : Heap) (t c local : ℕ) : Type 0 where
   pub owner : (cell_at h c).owner ≡ owners.Thread t
   pub unmarked : is_marked (work_at h t) c ≡ false
   pub count : (cell_at h c).local ≡ local
+
+-- an object that is being adopted, or whose popped entry is being dealt with: nobody else writes its local word, and it
+-- stays asked for
+pub record Merges (h : Heap) (t c local : ℕ) (p : Phase) : Type 0 where
+  pub hand : (row_at h t).hand ≡ hands.Busy p c
+  pub phase : (p ≡ phases.Taking) ⊎ (p ≡ phases.Popping)
+  pub owner : (cell_at h c).owner ≡ owners.Nobody
+  pub state : (cell_at h c).state ≡ states.Queued
+  pub count : (cell_at h c).local ≡ local
+
+-- an object whose owner has left, before it is adopted: only the thread that was shut out can adopt it
+pub record Adopts (h : Heap) (t c s local : ℕ) : Type 0 where
+  pub hand : (row_at h t).hand ≡ hands.Busy phases.Shut c
+  pub owner : (cell_at h c).owner ≡ owners.Thread s
+  pub state : (cell_at h c).state ≡ states.Queued
+  pub count : (cell_at h c).local ≡ local
+
+-- a popped entry that isn't merged is the thread's own, and stays so
+pub record PoppedOwn (h : Heap) (t c local : ℕ) : Type 0 where
+  pub popped : bit_of (popped_at h t) c ≡ 1
+  pub owner : (cell_at h c).owner ≡ owners.Thread t
+  pub state : (cell_at h c).state ≡ states.Queued
+  pub count : (cell_at h c).local ≡ local
+
+-- ---- what a thread knows without a look
+
+-- of the cell in its hand, by the phase
+abbrev pub Tells : ℕ → Phase → Cell → Type 0
+Tells t phases.Claimed x = x.owner ≡ owners.Claimed t
+Tells t phases.Counted x = (x.owner ≡ owners.Claimed t) × (x.local ≡ 1)
+Tells t phases.Ready x = (x.owner ≡ owners.Claimed t) × (x.local ≡ 1) × (x.count ≡ pos 0) × (x.state ≡ states.Default)
+Tells t phases.Zero x = (x.owner ≡ owners.Thread t) × (x.local ≡ 0) × (is_merged x.state ≡ false)
+Tells t phases.Over x = (x.owner ≡ owners.Thread t) × (x.local ≡ 0) × (is_merged x.state ≡ false)
+Tells t phases.Untied x = (x.owner ≡ owners.Nobody) × (x.local ≡ 0) × (is_merged x.state ≡ false)
+Tells t phases.Asked x = is_default x.state ≡ false
+Tells t phases.Shut x = ((x.owner ≡ owners.Nobody) × (x.state ≡ states.Merged)) ⊎ ((s : ℕ) × (x.owner ≡ owners.Thread s) × (x.state ≡ states.Queued))
+Tells t phases.Taking x = (x.owner ≡ owners.Nobody) × (x.state ≡ states.Queued)
+Tells t phases.Held x = (x.owner ≡ owners.Nobody) × (x.state ≡ states.Merged)
+Tells t phases.Popping x = (x.owner ≡ owners.Nobody) × (x.state ≡ states.Queued)
+
+-- of a popped entry, between two calls: merged, or its own and asked for; so the shared word alone decides
+abbrev pub PoppedTells : ℕ → Cell → Type 0
+PoppedTells t x = (x.state ≡ states.Merged) ⊎ ((x.owner ≡ owners.Thread t) × (x.state ≡ states.Queued))
+
+-- ---- once all are gathered
+
+pub record HoldsNothing (h : Heap) (t : ℕ) : Type 0 where
+  pub left : (row_at h t).stage ≡ stages.Left
+  pub hand : (row_at h t).hand ≡ hands.Free
+  pub unlocked : (row_at h t).locked ≡ None
+  pub frame : (k : ℕ) → place_at (frame_at h t) k ≡ None
+  pub popped : (q : ℕ) → bit_of (popped_at h t) q ≡ 0
+  pub queue : (q : ℕ) → bit_of (queue_at h t) q ≡ 0
+  pub worklist : (q : ℕ) → is_marked (work_at h t) q ≡ false
