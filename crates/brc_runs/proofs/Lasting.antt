@@ -22,7 +22,7 @@ use Rattle.brc_runs.specs.Steps.{enabled, after, after_target, root_after, root_
 use Rattle.brc_runs.specs.Runs.{IsReached}
 use Rattle.brc_runs.specs.Holding.{carries, lives}
 use Rattle.brc_runs.specs.Sound.{IsSound, HandFits, WorkFits, Births, Locks, grips, gripped, held, is_gripping}
-use Rattle.brc_runs.specs.Staying.{is_about, IsAnothers, Lasts, locked_at, HasEntry, Has, rank, Bears, Buries, Locked, Keeps, Foreign, OwnedOrNot, Nobodys, Owns}
+use Rattle.brc_runs.specs.Staying.{is_about, IsAnothers, Lasts, SameOwn, locked_at, HasEntry, Has, rank, Bears, Buries, Locked, Keeps, Foreign, OwnedOrNot, Nobodys, Owns}
 use Rattle.brc_runs.proofs.Naming.{Ungripped, Unheld, dead_unheld, sole_grip, one-true, busy_hand, free_hand}
 use Rattle.brc_runs.proofs.Asking.{May, may_parts, OnCell, on_cell}
 use Rattle.brc_runs.proofs.Changes.{read_there, read_by}
@@ -35,18 +35,10 @@ use Rattle.brc_runs.proofs.Reached.{reached_sound}
 
 -- ---- the own part
 
--- the thread's row, frame, popped bits and worklist, and that it isn't gathered
-pub record SameOwn (t : ℕ) (old new : Heap) : Type 0 where
-  pub row : row_at new t ≡ row_at old t
-  pub frame : frame_at new t ≡ frame_at old t
-  pub popped : popped_at new t ≡ popped_at old t
-  pub work : work_at new t ≡ work_at old t
-  pub gathered : is_gathered new t ≡ is_gathered old t
-
 same_own : (t : ℕ) (h : Heap) → SameOwn t h h
 same_own t h = record { row = refl; frame = refl; popped = refl; work = refl; gathered = refl }
 
-other_number : (u t : ℕ) → (u == t) ≡ false → t ≢ u
+pub other_number : (u t : ℕ) → (u == t) ≡ false → t ≢ u
 other_number u t apart same = true≢false (sym (eq-eqb u t (sym same)) ∙ apart)
 
 root_own : (h : Heap) (s : Step) (t : ℕ) → IsSound h → root_may h s ≡ true → is_about t s ≡ false → SameOwn t h (root_after h s)

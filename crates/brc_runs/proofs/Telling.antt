@@ -22,12 +22,12 @@ use Rattle.brc_runs.specs.Steps.{enabled, after, target_at, cell_after, untie_ok
 use Rattle.brc_runs.specs.Runs.{IsReached}
 use Rattle.brc_runs.specs.Holding.{carries, lives}
 use Rattle.brc_runs.specs.Sound.{IsSound, HandFits, WorkFits, Births, Untied, grips, grips_of, grips_by_owner, gripped, held, asks, is_gripping}
-use Rattle.brc_runs.specs.Staying.{IsAnothers, Lasts, Owns, Merges, Adopts, PoppedOwn, Tells, PoppedTells, HoldsNothing}
+use Rattle.brc_runs.specs.Staying.{IsAnothers, Lasts, SameOwn, Owns, Merges, Adopts, PoppedOwn, Tells, PoppedTells, HoldsNothing}
 use Rattle.brc_runs.proofs.Naming.{Ungripped, sole_grip, one-le, one-true, sum_one, sum_two, no_bit, busy_hand, busy_carrier, free_hand, free_owner, thread_owner}
 use Rattle.brc_runs.proofs.Asking.{May, OnCell, on_cell, Mine, mine}
 use Rattle.brc_runs.proofs.Merging.{hand_grips, hand_gripped, gripped_local, gripped_unmerged, carried_held, popped_held, held_owner, closed_idle, active_now, live_thread, third}
 use Rattle.brc_runs.proofs.Reasons.{At, event_cell}
-use Rattle.brc_runs.proofs.Lasting.{SameOwn, others_own, bearing, not_bearing, dead_unlocked}
+use Rattle.brc_runs.proofs.Lasting.{others_own, bearing, not_bearing, dead_unlocked}
 use Rattle.brc_runs.proofs.Counting.{sum_none, held_unmarked}
 use Rattle.brc_runs.proofs.Headlines.{sum_some, from_one, gripping_hand}
 use Rattle.brc_runs.proofs.Reached.{reached_sound}

@@ -34,6 +34,19 @@ pub record IsAnothers (t : ℕ) (e : Event) : Type 0 where
 abbrev pub Lasts : ℕ → (Heap → Type 0) → Type 0
 Lasts t P = (h : Heap) (e : Event) → IsReached h → enabled h e ≡ true → IsAnothers t e → P h → P (after h e)
 
+-- a list of events, none of them the thread's or about it
+abbrev pub AreAnothers : ℕ → List Event → Type 0
+AreAnothers t [] = Unit {0}
+AreAnothers t (e ∷ events) = IsAnothers t e × AreAnothers t events
+
+-- the thread's own part: its row, its frame, its popped bits, its worklist, and that it isn't gathered
+pub record SameOwn (t : ℕ) (old new : Heap) : Type 0 where
+  pub row : row_at new t ≡ row_at old t
+  pub frame : frame_at new t ≡ frame_at old t
+  pub popped : popped_at new t ≡ popped_at old t
+  pub work : work_at new t ≡ work_at old t
+  pub gathered : is_gathered new t ≡ is_gathered old t
+
 -- the cell that the thread has locked
 abbrev pub locked_at : Heap → ℕ → Option ℕ
 locked_at h t = locked_cell (frame_at h t) (row_at h t).locked
