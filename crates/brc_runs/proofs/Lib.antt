@@ -4,6 +4,7 @@ pub mod Plainly
 pub mod Naming
 pub mod Framing
 pub mod Asking
+pub mod Bitwise
 pub mod Birthing
 pub mod Counting
 pub mod Ending
