@@ -132,17 +132,17 @@ step_lives h t s q sound ok = kept_lives h t s (target_at h t s) q refl (may_par
 -- ---- births and frees of each thread
 
 -- a step on no cell is no birth and no free
-record Neither (s : Step) : Type 0 where
-  birth : is_birth s ≡ false
-  death : is_free_step s ≡ false
+pub record Neither (s : Step) : Type 0 where
+  pub birth : is_birth s ≡ false
+  pub death : is_free_step s ≡ false
 
-no_cell_step : (s : Step) → needs_no_cell s ≡ true → Neither s
+pub no_cell_step : (s : Step) → needs_no_cell s ≡ true → Neither s
 no_cell_step (Birth c kind k) none = absurd (true≢false (sym none))
 no_cell_step (Free c) none = absurd (true≢false (sym none))
 no_cell_step _ none = record { birth = refl; death = refl }
 
 -- nor is a step of the root's
-root_step : (h : Heap) (s : Step) → root_may h s ≡ true → Neither s
+pub root_step : (h : Heap) (s : Step) → root_may h s ≡ true → Neither s
 root_step h (Birth c kind k) ok = absurd (true≢false (sym ok))
 root_step h (Free c) ok = absurd (true≢false (sym ok))
 root_step h _ ok = record { birth = refl; death = refl }
@@ -191,7 +191,7 @@ root_counted f h (Register u) q none =
     (none ∙ sym (ap f (get_or_past h.rows (length h.rows) no_row (omega arith)))) (λ j _. refl) q
 root_counted f h _ q none = refl
 
-lives_stay : (s : Step) (q : ℕ) (b : Bool) → Neither s → lives_since s q b ≡ b
+pub lives_stay : (s : Step) (q : ℕ) (b : Bool) → Neither s → lives_since s q b ≡ b
 lives_stay (Birth c kind k) q b neither = absurd (true≢false neither.birth)
 lives_stay (Free c) q b neither = absurd (true≢false neither.death)
 lives_stay _ q b neither = refl
