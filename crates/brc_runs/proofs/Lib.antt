@@ -14,4 +14,5 @@ pub mod Beginning
 pub mod Headlines
 pub mod Lifetimes
 pub mod Moving
+pub mod Handing
 pub mod Allowing

@@ -1,7 +1,7 @@
 -- The holder maps of two worlds: where they say the same, and that one of them is the other after a move.
 use Rattle.std.proofs.Common.{◌≡◌, ◌≢◌, ℕ, ◌<◌, ◌≤◌, ◌==◌, ◌&&◌, ◌||◌, not, Bool, true, false, if◌then◌else◌, List, [], length, get_or, set, slice_get, Option, Some, None, refl, sym, ◌∙◌, ap, subst, inl, inr, arith}
 use Rattle.std.proofs.lemmas.List.{get_or_past, get_or-set_same, get_or-set_other, length-set}
-use Rattle.std.proofs.lemmas.Bool.{cases_eq, cases_lt, cases_Bool, eq-eqb, ne_eqb, eqb-true, and_parts, and_from, and_right, or_parts, or_from, le-ltb, ltb-false, true≢false}
+use Rattle.std.proofs.lemmas.Bool.{cases_eq, cases_lt, cases_Bool, eq-eqb, ne_eqb, eqb-true, and_parts, and_from, and_right, or_left, or_right, or_parts, or_from, le-ltb, ltb-false, true≢false}
 use Rattle.brc_model.specs.declared.holder.Holder.{Holder}
 use Rattle.brc_model.specs.declared.holder.Holder.TheVariants as holders
 use Rattle.brc_model.specs.Holders.{Map, Same, has, is_number, IsNoEntry, IsUnheld, IsVacant, same_holder, with_holder, without_holder}
@@ -24,7 +24,7 @@ use Rattle.brc_runs.proofs.Lifetimes.{Neither, step_lives, lives_stay, either_ce
 
 -- ---- tests
 
-eqb_turned : (a b : ℕ) → (a == b) ≡ (b == a)
+pub eqb_turned : (a b : ℕ) → (a == b) ≡ (b == a)
 eqb_turned a b = elim (cases_eq a b) [
   | inl same ↦ eq-eqb a b same ∙ sym (eq-eqb b a (sym same))
   | inr other ↦ ne_eqb a b other ∙ sym (ne_eqb b a (λ e. other (sym e)))
@@ -40,6 +40,10 @@ number_is o q e = ap (λ x. is_number x q) e ∙ eq-eqb q q refl
 pub mortal_number : (c : ℕ) → 266 ≤ c → is_immortal c ≡ false
 mortal_number c high = le-ltb c 266 high
 
+pub from_one : (b : Bool) → one b ≡ 1 → b ≡ true
+from_one true e = refl
+from_one false e = absurd (omega (arith, e))
+
 -- ---- one holder among all
 
 -- this object and this place
@@ -53,11 +57,21 @@ is_either c g d k q p = is_this c g q p || is_this d k q p
 abbrev pub is_none : ℕ → Holder → Bool
 is_none q p = false
 
-this_one : (c : ℕ) (g : Holder) → is_this c g c g ≡ true
+pub this_one : (c : ℕ) (g : Holder) → is_this c g c g ≡ true
 this_one c g = and_from (c == c) (same_holder g g) (eq-eqb c c refl) (same_holder-refl g)
+
+pub either_first : (c : ℕ) (g : Holder) (d : ℕ) (k : Holder) → is_either c g d k c g ≡ true
+either_first c g d k = or_left (is_this c g c g) (is_this d k c g) (this_one c g)
+
+pub either_second : (c : ℕ) (g : Holder) (d : ℕ) (k : Holder) → is_either c g d k d k ≡ true
+either_second c g d k = or_right (is_this c g d k) (is_this d k d k) (this_one d k)
 
 pub apart : (c : ℕ) (g : Holder) (q : ℕ) (p : Holder) → is_this c g q p ≡ false → q ≡ c → p ≢ g
 apart c g q p none same e = true≢false (sym (this_one c g) ∙ sym (ap (λ r. is_this c g c r) e) ∙ sym (ap (λ n. is_this c g n p) same) ∙ none)
+
+-- a place that names its cell, of another cell
+pub other_cell : (c : ℕ) (place : ℕ → Holder) (q : ℕ) → is_this c (place c) q (place q) ≡ false → q ≢ c
+other_cell c place q none same = apart c (place c) q (place q) none same (ap place same)
 
 -- what holds of the one holds where the test says so
 at_this : (P : ℕ → Holder → Type 0) (c : ℕ) (g : Holder) (q : ℕ) (p : Holder) → is_this c g q p ≡ true → P c g → P q p
@@ -127,7 +141,7 @@ pub record Own (h h' : Heap) (t : ℕ) (f : List (Option ℕ)) (words : List ℕ
   pub hands : (j : ℕ) → j ≢ t → (row_at h' j).hand ≡ (row_at h j).hand
 
 -- what holds of the thread's own and of the others' old parts holds of all
-by_owner : {A : Type 0} (P : ℕ → A → Type 0) (old new : ℕ → A) (t : ℕ) (v : A) → new t ≡ v → ((j : ℕ) → j ≢ t → new j ≡ old j) → P t v → ((j : ℕ) → P j (old j)) → (j : ℕ) → P j (new j)
+pub by_owner : {A : Type 0} (P : ℕ → A → Type 0) (old new : ℕ → A) (t : ℕ) (v : A) → new t ≡ v → ((j : ℕ) → j ≢ t → new j ≡ old j) → P t v → ((j : ℕ) → P j (old j)) → (j : ℕ) → P j (new j)
 by_owner {A} P old new t v own others here there j = elim (cases_eq j t) [
   | inl same ↦ subst (λ n. P n (new n)) (sym same) (subst (P t) (sym own) here)
   | inr other ↦ subst (P j) (sym (others j other)) (there j)
