@@ -20,10 +20,10 @@ use Rattle.brc_runs.specs.Holding.{lives, lives_at, carries, map_of, moves_of, p
 use Rattle.brc_runs.specs.Sound.{IsSound}
 use Rattle.brc_runs.proofs.Naming.{no_bit, one-le, sum_one, busy_hand, busy_carrier}
 use Rattle.brc_runs.proofs.Bitwise.{bit_of-lt, with_bit_here, with_bit_else, taken_here, taken_else, untaken_here, untaken_else}
-use Rattle.brc_runs.proofs.Asking.{May, may_parts, on_cell}
+use Rattle.brc_runs.proofs.Asking.{May}
 use Rattle.brc_runs.proofs.Changes.{read_by, read_here, read_there}
 use Rattle.brc_runs.proofs.Lifetimes.{held_alive, alive_lives, held_lives, held_by_hand, held_by_bits}
-use Rattle.brc_runs.proofs.Moving.{is_none, is_either, either_first, either_second, other_cell, from_one, instead_as, Own, by_owner, own_elsewhere, stepped_own, kept_own, Elsewhere, elsewhere, Lasting, lasting, same_held, same_map, passed_map, hand_shows, hand_hides, queue_shows, queue_hides, popped_shows, popped_hides}
+use Rattle.brc_runs.proofs.Moving.{is_none, is_either, either_first, either_second, other_cell, from_one, instead_as, Own, by_owner, own_elsewhere, kept_own, Elsewhere, elsewhere, Lasting, At, at_named, same_held, same_map, passed_map, hand_shows, hand_hides, queue_shows, queue_hides, popped_shows, popped_hides}
 
 -- ---- at most one reference is on its way
 
@@ -239,23 +239,21 @@ enqueue_moves A h t c sound ok =
     let h' : Heap = stepped h t s c in
     let b : ℕ = (cell_at h c).bore in
     let shut : Bool = is_shut h c in
-    let may : May h t s = may_parts h t s ok in
-    let inside : c < length h.cells = (on_cell h t s c may.on_target).inside in
-    let busy : (row_at h t).hand ≡ hands.Busy phases.Asked c = busy_hand phases.Asked c _ may.hand in
+    let at : At h t s c = at_named h t s c refl sound ok (record { birth = refl; death = refl }) in
+    let busy : (row_at h t).hand ≡ hands.Busy phases.Asked c = busy_hand phases.Asked c _ at.may.hand in
     let mortal : 266 ≤ c = (sound.hands t c phases.Asked busy).mortal in
     let carried : one (carries c (row_at h t).hand) ≡ 1 = busy_carrier phases.Asked c _ refl busy in
     let alive : lives (cell_at h c).owner ≡ true = held_alive h c sound mortal (held_by_hand h t c carried) in
-    let queued : Queued h c = queued_at h c sound mortal inside alive in
-    let last : Lasting h h' = lasting h t s sound ok (record { birth = refl; death = refl }) in
+    let queued : Queued h c = queued_at h c sound mortal at.inside alive in
     let own : (hand : Hand) → hand_after s c (cell_at h c) shut (row_at h t).hand ≡ hand → Own h h' t (frame_at h t) (popped_at h t) hand = λ hand e.
-    subst (λ x. Own h h' t (frame_at h t) (popped_at h t) x) e (stepped_own h t s c sound may.inside) in
+    subst (λ x. Own h h' t (frame_at h t) (popped_at h t) x) e at.own in
     let from : Holder = holders.Hand t c in
     let to : Holder = holders.Queue b c in
     elim (cases_Bool shut) [
       | inl closed ↦
           let same : Own h h' t (frame_at h t) (popped_at h t) (hands.Busy phases.Shut c) = own (hands.Busy phases.Shut c) (ap (λ x. hand_after s c (cell_at h c) x (row_at h t).hand) closed) in
           subst (λ x. MakesMoves {A = A} (map_of h) (if x then [] else passes c from to) (map_of h')) (sym closed)
-          (same_map h h' last (λ q. refl) (own_elsewhere h h' t _ _ _ is_none same (λ i q _ _. refl) (λ q _. refl) (λ q _. sym (ap (carries q) busy))
+          (same_map h h' at.lasting (λ q. refl) (own_elsewhere h h' t _ _ _ is_none same (λ i q _ _. refl) (λ q _. refl) (λ q _. sym (ap (carries q) busy))
           (λ j q _. ap (λ x. bit_of (get_or (if x then h.queues else set h.queues b (with_bit (queue_at h b) c)) j []) q) closed)))
       | inr unshut ↦
           let free : Own h h' t (frame_at h t) (popped_at h t) hands.Free = own hands.Free (ap (λ x. hand_after s c (cell_at h c) x (row_at h t).hand) unshut) in
@@ -271,7 +269,7 @@ enqueue_moves A h t c sound ok =
               },
               tt,
             ),
-            passed_map h h' c from c to last (λ q. refl)
+            passed_map h h' c from c to at.lasting (λ q. refl)
             (λ _. hand_hides h' t c c (ap (carries c) free.hand))
             (queue_shows h' b c mortal (queues b c ∙ ap (λ words. bit_of words c) (read_here h.queues b _ [] queued.queue) ∙ with_bit_here (queue_at h b) c queued.word))
             (own_elsewhere h h' t _ _ _ (is_either c from c to) free (λ i q _ _. refl) (λ q _. refl)

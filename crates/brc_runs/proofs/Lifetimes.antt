@@ -71,19 +71,19 @@ writes_owner (Free c) = true
 writes_owner (Untie c) = true
 writes_owner _ = false
 
--- what two cells say alike, either of them says
-pub either_cell : {A : Type 0} (f : Cell → A) (b : Bool) (x y z : Cell) → f x ≡ f z → f y ≡ f z → f (if b then x else y) ≡ f z
-either_cell {A} f true x y z first second = first
-either_cell {A} f false x y z first second = second
+-- what is so of two values is so of either
+pub either_way : {A B : Type 0} (f : A → B) (b : Bool) (x y : A) (v : B) → f x ≡ v → f y ≡ v → f (if b then x else y) ≡ v
+either_way {A} {B} f true x y v first second = first
+either_way {A} {B} f false x y v first second = second
 
 owner_kept : (t : ℕ) (s : Step) (c : ℕ) (x : Cell) → writes_owner s ≡ false → (cell_after t s c x).owner ≡ x.owner
 owner_kept t (Claim d) c x plain = absurd (true≢false plain)
 owner_kept t (Birth d kind k) c x plain = absurd (true≢false plain)
 owner_kept t (Free d) c x plain = absurd (true≢false plain)
 owner_kept t (Untie d) c x plain = absurd (true≢false plain)
-owner_kept t (LocalUp source k) c x plain = either_cell (λ (y : Cell). y.owner) (is_immortal c) x _ x refl refl
-owner_kept t (LocalDown drop) c x plain = either_cell (λ (y : Cell). y.owner) (is_immortal c) x _ x refl refl
-owner_kept t (Ask drop) c x plain = either_cell (λ (y : Cell). y.owner) _ _ x x refl refl
+owner_kept t (LocalUp source k) c x plain = either_way (λ (y : Cell). y.owner) (is_immortal c) x _ x.owner refl refl
+owner_kept t (LocalDown drop) c x plain = either_way (λ (y : Cell). y.owner) (is_immortal c) x _ x.owner refl refl
+owner_kept t (Ask drop) c x plain = either_way (λ (y : Cell). y.owner) _ _ x x.owner refl refl
 owner_kept t _ c x plain = refl
 
 kept_lives : (h : Heap) (t : ℕ) (s : Step) (o : Option ℕ) (q : ℕ) → writes_owner s ≡ false → target_ok h t (row_at h t) s o ≡ true

@@ -4,7 +4,7 @@ use Rattle.std.proofs.lemmas.List.{get_or_past, get_or-set_same, get_or-set_othe
 use Rattle.std.proofs.lemmas.Bool.{cases_eq, cases_lt, cases_Bool, eq-eqb, ne_eqb, eqb-true, and_parts, and_from, and_right, or_left, or_right, or_parts, or_from, le-ltb, ltb-false, true≢false}
 use Rattle.brc_model.specs.declared.holder.Holder.{Holder}
 use Rattle.brc_model.specs.declared.holder.Holder.TheVariants as holders
-use Rattle.brc_model.specs.Holders.{Map, Same, has, is_number, IsNoEntry, IsUnheld, IsVacant, same_holder, with_holder, without_holder}
+use Rattle.brc_model.specs.Holders.{Map, Same, has, is_number, IsNoEntry, IsUnheld, IsVacant, put, same_holder, with_holder, without_holder}
 use Rattle.brc_model.proofs.Places.{same_holder-true, same_holder-refl}
 use Rattle.brc_runs.specs.declared.cell.Cell.{Cell}
 use Rattle.brc_runs.specs.declared.event.Step.{Step}
@@ -13,14 +13,14 @@ use Rattle.brc_runs.specs.declared.row.Row.{Row}
 use Rattle.brc_runs.specs.declared.row.Hand.{Hand}
 use Rattle.brc_runs.specs.Lists.{one, times, entry_times, bit_of, place_at, filled, vacated}
 use Rattle.brc_runs.specs.Heap.{Heap, cell_at, entries_at, row_at, frame_at, popped_at, queue_at, no_cell, no_row, is_immortal}
-use Rattle.brc_runs.specs.Steps.{after_target, stepped, kept_cells, target_at, target_ok, thread_may, cell_after, row_after, frame_after, popped_after, hand_after, is_shut, with_taken, taken_word}
+use Rattle.brc_runs.specs.Steps.{after_target, stepped, kept_cells, target_at, target_ok, needs_no_cell, thread_may, cell_ok, cell_after, frame_after, popped_after, hand_after, queues_after, is_shut, with_taken, taken_word}
 use Rattle.brc_runs.specs.Holding.{lives, lives_at, carries, stands, map_of, is_birth}
 use Rattle.brc_runs.specs.Sound.{IsSound}
 use Rattle.brc_runs.proofs.Naming.{Unheld, one-false, sum_one}
 use Rattle.brc_runs.proofs.Framing.{place_at-filled_here, place_at-filled_else, place_at-vacated_else, place_is_held, entry_is_held}
-use Rattle.brc_runs.proofs.Asking.{may_parts, on_cell}
+use Rattle.brc_runs.proofs.Asking.{May, may_parts, OnCell, on_cell}
 use Rattle.brc_runs.proofs.Changes.{read_by, read_here, read_there}
-use Rattle.brc_runs.proofs.Lifetimes.{Neither, step_lives, lives_stay, either_cell}
+use Rattle.brc_runs.proofs.Lifetimes.{Neither, step_lives, lives_stay, either_way}
 
 -- ---- tests
 
@@ -39,6 +39,13 @@ number_is o q e = ap (λ x. is_number x q) e ∙ eq-eqb q q refl
 
 pub mortal_number : (c : ℕ) → 266 ≤ c → is_immortal c ≡ false
 mortal_number c high = le-ltb c 266 high
+
+-- one value is put, and all others stay
+pub put_after : {A : Type 0} (old new : ℕ → A) (c : ℕ) (v : A) → new c ≡ v → ((j : ℕ) → j ≢ c → new j ≡ old j) → (j : ℕ) → new j ≡ put {A = A} old c v j
+put_after {A} old new c v here there j = elim (cases_eq j c) [
+  | inl same ↦ ap new same ∙ here ∙ sym (ap (λ b. if b then v else old j) (eq-eqb j c same))
+  | inr other ↦ there j other ∙ sym (ap (λ b. if b then v else old j) (ne_eqb j c other))
+]
 
 pub from_one : (b : Bool) → one b ≡ 1 → b ≡ true
 from_one true e = refl
@@ -72,6 +79,9 @@ apart c g q p none same e = true≢false (sym (this_one c g) ∙ sym (ap (λ r. 
 -- a place that names its cell, of another cell
 pub other_cell : (c : ℕ) (place : ℕ → Holder) (q : ℕ) → is_this c (place c) q (place q) ≡ false → q ≢ c
 other_cell c place q none same = apart c (place c) q (place q) none same (ap place same)
+
+pub other_place : (t k c q i : ℕ) → is_this c (holders.Frame t k) q (holders.Frame t i) ≡ false → i ≡ k → q ≢ c
+other_place t k c q i none place same = apart c (holders.Frame t k) q (holders.Frame t i) none same (ap (holders.Frame t) place)
 
 -- what holds of the one holds where the test says so
 at_this : (P : ℕ → Holder → Type 0) (c : ℕ) (g : Holder) (q : ℕ) (p : Holder) → is_this c g q p ≡ true → P c g → P q p
@@ -196,9 +206,9 @@ pub record Lasting (h h' : Heap) : Type 0 where
 
 pub kind_kept : (t : ℕ) (s : Step) (c : ℕ) (x : Cell) → is_birth s ≡ false → (cell_after t s c x).kind ≡ x.kind
 kind_kept t (Birth d kind k) c x plain = absurd (true≢false plain)
-kind_kept t (LocalUp source k) c x plain = either_cell (λ (y : Cell). y.kind) (is_immortal c) x _ x refl refl
-kind_kept t (LocalDown drop) c x plain = either_cell (λ (y : Cell). y.kind) (is_immortal c) x _ x refl refl
-kind_kept t (Ask drop) c x plain = either_cell (λ (y : Cell). y.kind) _ _ x x refl refl
+kind_kept t (LocalUp source k) c x plain = either_way (λ (y : Cell). y.kind) (is_immortal c) x _ x.kind refl refl
+kind_kept t (LocalDown drop) c x plain = either_way (λ (y : Cell). y.kind) (is_immortal c) x _ x.kind refl refl
+kind_kept t (Ask drop) c x plain = either_way (λ (y : Cell). y.kind) _ _ x x.kind refl refl
 kind_kept t _ c x plain = refl
 
 kinds_last : (h : Heap) (t : ℕ) (s : Step) (o : Option ℕ) (q : ℕ) → is_birth s ≡ false → target_ok h t (row_at h t) s o ≡ true → (cell_at (after_target h t s o) q).kind ≡ (cell_at h q).kind
@@ -353,3 +363,46 @@ vacated_alike frame k c i q there new = place_alike frame (vacated frame k) k i 
 
 pub none_shows : (frame : List (Option ℕ)) (k q : ℕ) → place_at frame k ≡ None → is_number (place_at frame k) q ≡ false
 none_shows frame k q none = ap (λ o. is_number o q) none
+
+-- ---- a thread's step at its cell
+
+-- what stands at the cell of an enabled step that is no birth and no free
+pub record At (h : Heap) (t : ℕ) (s : Step) (c : ℕ) : Type 0 where
+  pub named : target_at h t s ≡ Some c
+  pub may : May h t s
+  pub inside : c < length h.cells
+  pub fits : cell_ok h.limit t (row_at h t) s c (cell_at h c) ≡ true
+  pub lasting : Lasting h (stepped h t s c)
+  pub own : Own h (stepped h t s c) t (frame_after s c (cell_at h c) (entries_at h c) (frame_at h t)) (popped_after s (popped_at h t)) (hand_after s c (cell_at h c) (is_shut h c) (row_at h t).hand)
+
+pub at_named : (h : Heap) (t : ℕ) (s : Step) (c : ℕ) → target_at h t s ≡ Some c → IsSound h → thread_may h t s ≡ true → Neither s → At h t s c
+at_named h t s c named sound ok neither =
+    let may : May h t s = may_parts h t s ok in
+    let on : OnCell h t s c = on_cell h t s c (subst (λ o. target_ok h t (row_at h t) s o ≡ true) named may.on_target) in
+    record {
+      named = named;
+      may = may;
+      inside = on.inside;
+      fits = on.fits;
+      lasting = subst (λ o. Lasting h (after_target h t s o)) named (lasting h t s sound ok neither);
+      own = stepped_own h t s c sound may.inside;
+    }
+
+-- a step that needs a cell has one
+pub at_target : (P : Option ℕ → Type 0) (h : Heap) (t : ℕ) (s : Step) → IsSound h → thread_may h t s ≡ true → Neither s → needs_no_cell s ≡ false
+    → ((c : ℕ) → At h t s c → P (Some c)) → P (target_at h t s)
+at_target P h t s sound ok neither needs step = named_by (target_at h t s) refl
+  where
+    named_by : (o : Option ℕ) → target_at h t s ≡ o → P o
+    named_by None named = absurd (true≢false (sym (subst (λ o. target_ok h t (row_at h t) s o ≡ true) named (may_parts h t s ok).on_target) ∙ needs))
+    named_by (Some c) named = step c (at_named h t s c named sound ok neither)
+
+-- a step that moves no reference
+pub quiet_step : (h : Heap) (t : ℕ) (s : Step) (c : ℕ) → At h t s c → frame_after s c (cell_at h c) (entries_at h c) (frame_at h t) ≡ frame_at h t → popped_after s (popped_at h t) ≡ popped_at h t
+    → ((q : ℕ) → carries q (hand_after s c (cell_at h c) (is_shut h c) (row_at h t).hand) ≡ carries q (row_at h t).hand) → queues_after h s c ≡ h.queues
+    → ((q : ℕ) → entries_at (stepped h t s c) q ≡ entries_at h q) → Same (map_of h) (map_of (stepped h t s c))
+quiet_step h t s c at frame popped hand queues entries =
+    same_map h (stepped h t s c) at.lasting entries
+    (own_elsewhere h (stepped h t s c) t _ _ _ is_none at.own
+    (λ i q _ _. ap (λ (f : List (Option ℕ)). is_number (place_at f i) q) frame) (λ q _. ap (λ words. bit_of words q) popped) (λ q _. hand q)
+    (λ j q _. ap (λ (lists : List (List ℕ)). bit_of (get_or lists j []) q) queues))
