@@ -1,12 +1,13 @@
 -- Event by event: the moves that it makes are allowed, and lead to the holder map of the world after it.
 use Rattle.std.proofs.Common.{◌≡◌, ◌≢◌, ℕ, ◌+◌, ◌-◌, ◌<◌, ◌≤◌, ◌==◌, ◌&&◌, ◌||◌, not, Bool, true, false, if◌then◌else◌, List, [], ◌∷◌, length, get_or, set, replicate, slice_get, Option, Some, None, refl, sym, ◌∙◌, ap, subst, inl, inr, arith}
 use Rattle.std.proofs.lemmas.List.{get_or_past, nil_from_length}
-use Rattle.std.proofs.lemmas.Bool.{cases_eq, cases_lt, cases_Bool, eq-eqb, ne_eqb, eqb-true, and_parts, and_from, and_right, or_parts, or_cases, not-true, ltb-true, ltb-false, le-ltb, true≢false}
+use Rattle.std.proofs.lemmas.Bool.{cases_eq, cases_lt, cases_Bool, eq-eqb, ne_eqb, eqb-true, and_parts, and_from, and_left, and_right, or_parts, or_from, or_cases, not-true, ltb-true, ltb-false, le-ltb, true≢false}
 use Rattle.brc_words.specs.declared.kind.Kind.{Kind}
 use Rattle.brc_model.specs.declared.holder.Holder.{Holder}
 use Rattle.brc_model.specs.declared.holder.Holder.TheVariants as holders
 use Rattle.brc_model.specs.declared.moves.Move.TheVariants as moves
 use Rattle.brc_model.specs.Holders.{Same, is_number, IsHeld, IsLastOfDead, put, same_holder, with_holder}
+use Rattle.brc_model.proofs.Maps.{Same-refl}
 use Rattle.brc_runs.specs.declared.cell.Cell.{Cell}
 use Rattle.brc_runs.specs.declared.event.Event.{Event}
 use Rattle.brc_runs.specs.declared.event.Step.{Step}
@@ -23,8 +24,8 @@ use Rattle.brc_runs.specs.declared.row.Phase.{Phase}
 use Rattle.brc_runs.specs.declared.row.Phase.TheVariants as phases
 use Rattle.brc_runs.specs.Lists.{one, bit_of, is_marked, place_at, filled, vacated, last_of, front_of, word_at}
 use Rattle.brc_runs.specs.Heap.{Heap, cell_at, entries_at, row_at, frame_at, popped_at, work_at, queue_at, no_cell, no_row, new_row, is_immortal, words_for}
-use Rattle.brc_runs.specs.Steps.{enabled, after, after_target, stepped, kept_cells, registered, root_after, thread_may, root_may, target_at, target_ok, needs_no_cell, source_cell, dropped_cell, locked_cell, entry_of, cell_after, hand_after, frame_after, popped_after, queues_after, entries_after, frame_without, entries_without, is_untouched, is_shut, is_ending, is_others, is_mine, is_default}
-use Rattle.brc_runs.specs.Holding.{lives, lives_at, carries, has_reference, map_of, moves_of, moves_by, of_mortal, removal, MakesMoves}
+use Rattle.brc_runs.specs.Steps.{enabled, after, after_target, stepped, kept_cells, registered, root_after, thread_may, root_may, target_at, target_ok, needs_no_cell, source_cell, dropped_cell, locked_cell, entry_of, cell_after, hand_after, frame_after, popped_after, queues_after, entries_after, frame_without, entries_without, is_default, is_ending, is_ending_hand, cell_in_hand, hand_ok, is_free_hand, is_at, untied_hand, added_hand, taken_word, with_taken, without_taken}
+use Rattle.brc_runs.specs.Holding.{lives, lives_at, carries, has_reference, map_of, moves_of, moves_by, of_mortal, removal, asking, MakesMoves}
 use Rattle.brc_runs.specs.Sound.{IsSound, held, HandFits, WorkFits, Births}
 use Rattle.brc_runs.proofs.Naming.{no_bit, Unheld, unheld, dead_unheld, free_hand, busy_hand, busy_carrier}
 use Rattle.brc_runs.proofs.Bitwise.{without_bit_here, without_bit_else}
@@ -34,8 +35,8 @@ use Rattle.brc_runs.proofs.Counting.{marked_unheld}
 use Rattle.brc_runs.proofs.Framing.{found_inside, place_at-filled_here}
 use Rattle.brc_runs.proofs.Preserving.{source_held, held_by_place, held_by_entry, work_source}
 use Rattle.brc_runs.proofs.Registering.{read_push, new_bit}
-use Rattle.brc_runs.proofs.Lifetimes.{step_lives, held_lives, held_alive, alive_lives, held_by_hand, held_by_bits, by_whom, Neither}
-use Rattle.brc_runs.proofs.Moving.{eqb_turned, number_is, from_one, is_none, is_this, is_either, other_cell, apart, Own, own_elsewhere, Elsewhere, other_place, put_after, At, at_named, at_target, quiet_step, stepped_own, kept_own, Lasting, lasting, same_held, same_map, added_map, removed_map, passed_map, with_as, elsewhere, has_of, hasnt_of, frame_shows, frame_hides, hand_shows, hand_hides, popped_shows, popped_hides, no_place, is_unheld, unheld_in, is_vacant_place, filled_alike, vacated_alike, vacated_here, none_shows}
+use Rattle.brc_runs.proofs.Lifetimes.{step_lives, either_way, held_lives, held_alive, alive_lives, held_by_hand, held_by_bits, by_whom}
+use Rattle.brc_runs.proofs.Moving.{eqb_turned, number_is, from_one, is_none, is_this, is_either, other_cell, apart, Own, own_elsewhere, Elsewhere, other_place, put_after, At, at_named, moves_at, quiet_step, stepped_own, kept_own, Lasting, lasting, same_held, same_map, added_map, removed_map, passed_map, with_as, elsewhere, has_of, hasnt_of, frame_shows, frame_hides, hand_shows, hand_hides, popped_shows, popped_hides, no_place, is_unheld, unheld_in, is_vacant_place, filled_alike, vacated_alike, vacated_here, none_shows}
 use Rattle.brc_runs.proofs.Handing.{enqueue_moves, taken_by, pop_moves, Taken}
 
 -- ---- births and deaths
@@ -47,6 +48,7 @@ birth_moves A h t c kind k sound ok =
     let h' : Heap = stepped h t s c in
     let may : May h t s = may_parts h t s ok in
     let inside : c < length h.cells = (on_cell h t s c may.on_target).inside in
+    let within : c < length h.entries = omega (arith, inside, sound.shaped.entries) in
     let busy : (row_at h t).hand ≡ hands.Busy phases.Ready c = busy_hand phases.Ready c _ may.hand in
     let said : HandFits h t phases.Ready c = sound.hands t c phases.Ready busy in
     let births : Births t (row_at h t) (cell_at h c) = said.fits.0 in
@@ -54,7 +56,6 @@ birth_moves A h t c kind k sound ok =
     let none : Unheld h c = dead_unheld h c sound said.mortal dead in
     let parts = and_parts _ _ may.own in
     let place : Vacant (frame_at h t) k = vacant _ k parts.1 in
-    let within : c < length h.entries = omega (arith, inside, sound.shaped.entries) in
     let vacated : (q : ℕ) → is_number (place_at (frame_at h t) k) q ≡ false = λ q. none_shows (frame_at h t) k q place.none in
     let own : Own h h' t (filled (frame_at h t) k c) (popped_at h t) hands.Free = stepped_own h t s c sound may.inside in (
       record {
@@ -144,4 +145,316 @@ up_moves A h h' t k c source sound named none own queues entries last =
             (frame_shows h' t k c high (ap (λ (f : List (Option ℕ)). place_at f k) own.frame ∙ place_at-filled_here (frame_at h t) k c))
             (others (is_this c (holders.Frame t k)) (λ i q _ kept. other_place t k c q i kept)),
           )
+    ]
+
+-- ---- a reference goes
+
+-- an entry of an object on the worklist
+record Worked (h : Heap) (t d c : ℕ) : Type 0 where
+  live : lives_at h d ≡ true
+  none : Unheld h d
+  within : d < length h.entries
+  some : length (entries_at h d) - 1 < length (entries_at h d)
+  last : last_of (entries_at h d) ≡ Some c
+  other : d ≢ c
+
+worked : (h : Heap) (t d c : ℕ) → IsSound h → (if is_marked (work_at h t) d then last_of (entries_at h d) else None) ≡ Some c → Worked h t d c
+worked h t d c sound named = on_list (is_marked (work_at h t) d) refl named
+  where
+    on_list : (b : Bool) → is_marked (work_at h t) d ≡ b → (if b then last_of (entries_at h d) else None) ≡ Some c → Worked h t d c
+    on_list false on last = absurd (cc)
+    on_list true on last =
+        let fits : WorkFits t d (cell_at h d) = sound.works t d on in
+        let none : held h d ≡ 0 = marked_unheld h t d sound on in
+        let some : length (entries_at h d) - 1 < length (entries_at h d) = found_inside (entries_at h d) _ c last in
+        record {
+          live = alive_lives h d fits.mortal fits.lives;
+          none = unheld h d none;
+          within = elim (cases_lt d (length h.entries)) [
+            | inl low ↦ low
+            | inr past ↦ absurd (omega (arith, some, ap (λ (xs : List ℕ). length xs) (get_or_past h.entries d [] past)))
+          ];
+          some = some;
+          last = last;
+          other = λ e. omega (arith, none, held_by_entry h d _ d (last ∙ ap Some (sym e)));
+        }
+
+-- the last entry may go, whatever else holds other objects
+last_may_go : (h : Heap) (t d c : ℕ) (held : ℕ → Holder → Bool) → Worked h t d c → ((g : Holder) → held d g ≡ false)
+    → IsLastOfDead (record (map_of h) { held = held }) c d (length (entries_at h d) - 1)
+last_may_go h t d c held work places = record {
+  live = work.live;
+  unheld = unheld_in h d held work.none places;
+  last = omega (arith, work.some);
+  there = work.last;
+}
+
+-- and leads to a world without it
+cut_map : (h h' : Heap) (t d c : ℕ) (held : ℕ → Holder → Bool) → Worked h t d c → Lasting h h' → ((q : ℕ) → entries_at h' q ≡ get_or (entries_without (Some (dropped.Work d)) h.entries) q [])
+    → ((q : ℕ) (p : Holder) → held q p ≡ (map_of h').held q p)
+    → Same (record (map_of h) { entries = put (entries_at h) d (front_of (entries_at h d)); held = held }) (map_of h')
+cut_map h h' t d c held work last entries same = record {
+  live = λ q. sym (last.live q);
+  kind = λ q _. sym (last.kind q);
+  entries = λ q. sym (entries q ∙ put_after (entries_at h) (λ j. get_or (set h.entries d (front_of (entries_at h d))) j []) d (front_of (entries_at h d))
+      (read_here h.entries d _ [] work.within) (λ j other. read_there h.entries d j _ [] other) q);
+  held = same;
+}
+
+-- a place or an entry lets the cell go, and nothing else moves
+down_moves : (A : Type 0) (h h' : Heap) (t c : ℕ) (hand : Hand) (drop : Dropped) → IsSound h → dropped_cell (frame_at h t) (work_at h t) (entries_at h) drop ≡ Some c
+    → Own h h' t (frame_without (Some drop) (frame_at h t)) (popped_at h t) hand → ((q : ℕ) → carries q hand ≡ carries q (row_at h t).hand) → ((j : ℕ) → queue_at h' j ≡ queue_at h j)
+    → ((q : ℕ) → entries_at h' q ≡ get_or (entries_without (Some drop) h.entries) q []) → Lasting h h'
+    → MakesMoves {A = A} (map_of h) (removal h t drop (Some c)) (map_of h')
+down_moves A h h' t c hand (dropped.Frame k) sound named own carried queues entries last =
+    let others : (these : ℕ → Holder → Bool) → ((i q : ℕ) → is_immortal q ≡ false → these q (holders.Frame t i) ≡ false → i ≡ k → q ≢ c) → Elsewhere h h' these = λ these far.
+    own_elsewhere h h' t _ _ _ these own (λ i q mortal kept. vacated_alike (frame_at h t) k c i q named (far i q mortal kept)) (λ q _. refl) (λ q _. carried q) (λ j q _. ap (λ words. bit_of words q) (queues j)) in
+    elim (cases_Bool (is_immortal c)) [
+      | inl immortal ↦ subst (λ b. MakesMoves {A = A} (map_of h) (if b then [] else (moves.Remove c (holders.Frame t k) ∷ [])) (map_of h')) (sym immortal)
+          (same_map h h' last entries (others is_none (λ i q mortal _ _ e. true≢false (sym immortal ∙ ap is_immortal (sym e) ∙ mortal))))
+      | inr mortal ↦
+          let high : 266 ≤ c = ltb-false c 266 mortal in
+          let alive : lives_at h c ≡ true = held_lives h c sound high (held_by_place h t k c named) in
+          subst (λ b. MakesMoves {A = A} (map_of h) (if b then [] else (moves.Remove c (holders.Frame t k) ∷ [])) (map_of h')) (sym mortal) (
+            and_from _ _ alive (frame_shows h t k c high named),
+            removed_map h h' c (holders.Frame t k) last entries
+            (frame_hides h' t k c (ap (λ (f : List (Option ℕ)). is_number (place_at f k) c) own.frame ∙ ap (λ o. is_number o c) (vacated_here (frame_at h t) k)))
+            (others (is_this c (holders.Frame t k)) (λ i q _ kept. other_place t k c q i kept)),
+          )
+    ]
+down_moves A h h' t c hand (dropped.Work d) sound named own carried queues entries last =
+    let work : Worked h t d c = worked h t d c sound named in (
+      last_may_go h t d c (map_of h).held work (λ g. no_place h d g work.none),
+      cut_map h h' t d c (map_of h).held work last entries
+      (λ q g. sym (elsewhere h h' is_none (own_elsewhere h h' t _ _ _ is_none own (λ i q _ _. refl) (λ q _. refl) (λ q _. carried q) (λ j q _. ap (λ words. bit_of words q) (queues j))) q g refl)),
+    )
+
+-- ---- a reference that a release gave up is the hand's
+
+asked_moves : (A : Type 0) (h h' : Heap) (t c : ℕ) (drop : Dropped) → IsSound h → 266 ≤ c → dropped_cell (frame_at h t) (work_at h t) (entries_at h) drop ≡ Some c → (row_at h t).hand ≡ hands.Free
+    → Own h h' t (frame_without (Some drop) (frame_at h t)) (popped_at h t) (hands.Busy phases.Asked c) → ((j : ℕ) → queue_at h' j ≡ queue_at h j)
+    → ((q : ℕ) → entries_at h' q ≡ get_or (entries_without (Some drop) h.entries) q []) → Lasting h h'
+    → MakesMoves {A = A} (map_of h) (asking h t drop c) (map_of h')
+asked_moves A h h' t c (dropped.Frame k) sound mortal named free own queues entries last =
+    let from : Holder = holders.Frame t k in
+    let to : Holder = holders.Hand t c in (
+      (
+        record {
+          from_no_entry = tt;
+          held = and_from _ _ (held_lives h c sound mortal (held_by_place h t k c named)) (frame_shows h t k c mortal named);
+          not_yet = and_right (lives_at h c) _ (hand_hides h t c c (ap (carries c) free));
+          holder_is_new = refl;
+        },
+        tt,
+      ),
+      passed_map h h' c from c to last entries
+      (λ _. frame_hides h' t k c (ap (λ (f : List (Option ℕ)). is_number (place_at f k) c) own.frame ∙ ap (λ o. is_number o c) (vacated_here (frame_at h t) k)))
+      (hand_shows h' t c mortal (ap (carries c) own.hand ∙ eq-eqb c c refl))
+      (own_elsewhere h h' t _ _ _ (is_either c from c to) own
+      (λ i q _ kept. vacated_alike (frame_at h t) k c i q named (other_place t k c q i (or_parts _ _ kept).0)) (λ q _. refl)
+      (λ q kept. ne_eqb c q (λ e. other_cell c (holders.Hand t) q (or_parts _ _ kept).1 (sym e)) ∙ sym (ap (carries q) free)) (λ j q _. ap (λ words. bit_of words q) (queues j))),
+    )
+asked_moves A h h' t c (dropped.Work d) sound mortal named free own queues entries last =
+    let work : Worked h t d c = worked h t d c sound named in
+    let to : Holder = holders.Hand t c in
+    let alive : lives_at h c ≡ true = held_lives h c sound mortal (held_by_entry h d _ c work.last) in
+    let none_yet : (map_of h).held c to ≡ false = hand_hides h t c c (ap (carries c) free) in (
+      record {
+        is_held = (holders.Entry d _, and_from _ _ alive (number_is (slice_get (entries_at h d) _) c work.last));
+        not_yet = and_right (lives_at h c) _ none_yet;
+        holder_is_new = refl;
+      },
+      (
+        last_may_go h t d c (with_holder (map_of h).held c to) work
+            (λ g. or_from _ _ (and_left _ _ (ne_eqb d c work.other)) (no_place h d g work.none)),
+        cut_map h h' t d c (with_holder (map_of h).held c to) work last entries
+            (with_as (map_of h).held (map_of h').held c to (hand_shows h' t c mortal (ap (carries c) own.hand ∙ eq-eqb c c refl))
+            (elsewhere h h' (is_this c to) (own_elsewhere h h' t _ _ _ (is_this c to) own (λ i q _ _. refl) (λ q _. refl)
+            (λ q kept. ne_eqb c q (λ e. other_cell c (holders.Hand t) q kept (sym e)) ∙ sym (ap (carries q) free)) (λ j q _. ap (λ words. bit_of words q) (queues j))))),
+      ),
+    )
+
+ask_moves : (A : Type 0) (h : Heap) (t c : ℕ) (drop : Dropped) → IsSound h → At h t (Ask drop) c → MakesMoves {A = A} (map_of h) (moves_of h t (Ask drop) (Some c)) (map_of (stepped h t (Ask drop) c))
+ask_moves A h t c drop sound at =
+    let s : Step = Ask drop in
+    let h' : Heap = stepped h t s c in
+    let x : Cell = cell_at h c in
+    let free : (row_at h t).hand ≡ hands.Free = free_hand _ at.may.hand in
+    let mortal : 266 ≤ c = ltb-false c 266 (not-true _ (and_parts _ _ at.fits).0) in
+    elim (cases_Bool (is_default x.state)) [
+      | inr again ↦ subst (λ b. MakesMoves {A = A} (map_of h) (if b then asking h t drop c else []) (map_of h')) (sym again)
+          (quiet_step h t s c at
+          (ap (λ b. frame_without (if b then Some drop else None) (frame_at h t)) again) refl (λ q. ap (λ b. carries q (if b then hands.Busy phases.Asked c else (row_at h t).hand)) again) refl
+          (λ q. ap (λ b. get_or (entries_without (if b then Some drop else None) h.entries) q []) again))
+      | inl first ↦ subst (λ b. MakesMoves {A = A} (map_of h) (if b then asking h t drop c else []) (map_of h')) (sym first)
+          (asked_moves A h h' t c drop sound mortal at.named free
+          (subst (λ b. Own h h' t (frame_without (if b then Some drop else None) (frame_at h t)) (popped_at h t) (if b then hands.Busy phases.Asked c else (row_at h t).hand)) first at.own)
+          (λ j. refl) (λ q. ap (λ b. get_or (entries_without (if b then Some drop else None) h.entries) q []) first) at.lasting)
+    ]
+
+-- ---- a reference on its way ends
+
+popped_moves : (A : Type 0) (h : Heap) (t c : ℕ) → IsSound h → At h t (LastDown (lasts.Popped c)) c
+    → MakesMoves {A = A} (map_of h) (moves.Remove c (holders.Popped t c) ∷ []) (map_of (stepped h t (LastDown (lasts.Popped c)) c))
+popped_moves A h t c sound at =
+    let h' : Heap = stepped h t (LastDown (lasts.Popped c)) c in
+    let on : bit_of (popped_at h t) c ≡ 1 = eqb-true _ 1 at.may.own in
+    let some : 0 < bit_of (queue_at h t) c + bit_of (popped_at h t) c = omega (arith, on) in
+    let mortal : 266 ≤ c = (sound.bits t c some).0 in (
+      and_from _ _ (held_lives h c sound mortal (held_by_bits h t c some)) (popped_shows h t c mortal on),
+      removed_map h h' c (holders.Popped t c) at.lasting (λ q. refl)
+      (popped_hides h' t c c (ap (λ words. bit_of words c) at.own.popped ∙ without_bit_here (popped_at h t) c on))
+      (own_elsewhere h h' t _ _ _ (is_this c (holders.Popped t c)) at.own (λ i q _ _. refl)
+      (λ q kept. without_bit_else (popped_at h t) c q (other_cell c (holders.Popped t) q kept)) (λ q _. refl) (λ j q _. refl)),
+    )
+
+ending_has : (p : Phase) → is_ending p ≡ true → has_reference p ≡ true
+ending_has phases.Asked ending = refl
+ending_has phases.Shut ending = refl
+ending_has phases.Held ending = refl
+ending_has _ ending = absurd (true≢false (sym ending))
+
+-- the hand has a reference of its own
+record Carried (c : ℕ) (hand : Hand) : Type 0 where
+  phase : Phase
+  busy : hand ≡ hands.Busy phase c
+  has : has_reference phase ≡ true
+
+ending_hand : (hand : Hand) (c : ℕ) → is_ending_hand hand ≡ true → cell_in_hand hand ≡ Some c → Carried c hand
+ending_hand hands.Free c ending named = absurd (cc)
+ending_hand (hands.Busy p d) c ending named = record { phase = p; busy = let same : d ≡ c = cc in ap (hands.Busy p) same; has = ending_has p ending }
+
+hand_moves : (A : Type 0) (h : Heap) (t c : ℕ) → IsSound h → At h t (LastDown lasts.Hand) c
+    → MakesMoves {A = A} (map_of h) (moves.Remove c (holders.Hand t c) ∷ []) (map_of (stepped h t (LastDown lasts.Hand) c))
+hand_moves A h t c sound at =
+    let h' : Heap = stepped h t (LastDown lasts.Hand) c in
+    let had : Carried c (row_at h t).hand = ending_hand _ c at.may.hand at.named in
+    let mortal : 266 ≤ c = (sound.hands t c had.phase had.busy).mortal in
+    let carried : one (carries c (row_at h t).hand) ≡ 1 = busy_carrier had.phase c _ had.has had.busy in (
+      and_from _ _ (held_lives h c sound mortal (held_by_hand h t c carried)) (hand_shows h t c mortal (from_one _ carried)),
+      removed_map h h' c (holders.Hand t c) at.lasting (λ q. refl) (hand_hides h' t c c (ap (carries c) at.own.hand))
+      (own_elsewhere h h' t _ _ _ (is_this c (holders.Hand t c)) at.own (λ i q _ _. refl) (λ q _. refl)
+      (λ q kept. sym (ap (carries q) had.busy ∙ and_right _ _ (ne_eqb c q (λ e. other_cell c (holders.Hand t) q kept (sym e))))) (λ j q _. refl)),
+    )
+
+-- ---- hands that change and carry what they carried
+
+down_hand_carries : (b : Bool) (q c : ℕ) (hand : Hand) → hand ≡ hands.Free → carries q (if b then hands.Busy phases.Zero c else hand) ≡ carries q hand
+down_hand_carries b q c hand free = either_way (carries q) b (hands.Busy phases.Zero c) hand (carries q hand) (sym (ap (carries q) free)) refl
+
+untied_carries : (q c : ℕ) (hand : Hand) → hand_ok hand (Untie c) ≡ true → carries q (untied_hand c hand) ≡ carries q hand
+untied_carries q c hand ok = elim (or_cases (is_at phases.Over c hand || is_at phases.Shut c hand) (is_free_hand hand) ok) [
+  | inr free ↦ subst (λ x. carries q (untied_hand c x) ≡ carries q x) (sym (free_hand hand free)) refl
+  | inl busy ↦ elim (or_cases (is_at phases.Over c hand) (is_at phases.Shut c hand) busy) [
+    | inl over ↦ subst (λ x. carries q (untied_hand c x) ≡ carries q x) (sym (busy_hand phases.Over c hand over)) refl
+    | inr shut ↦ subst (λ x. carries q (untied_hand c x) ≡ carries q x) (sym (busy_hand phases.Shut c hand shut)) refl
+  ]
+]
+
+added_carries : (q c : ℕ) (hand : Hand) → hand_ok hand (MergeAdd c) ≡ true → carries q (added_hand c hand) ≡ carries q hand
+added_carries q c hand ok = elim (or_cases (is_at phases.Taking c hand) (is_at phases.Popping c hand) ok) [
+  | inl taking ↦ subst (λ x. carries q (added_hand c x) ≡ carries q x) (sym (busy_hand phases.Taking c hand taking)) refl
+  | inr popping ↦ subst (λ x. carries q (added_hand c x) ≡ carries q x) (sym (busy_hand phases.Popping c hand popping)) refl
+]
+
+-- ---- steps on no cell that move nothing
+
+still_moves : (h : Heap) (t : ℕ) (s : Step) → IsSound h → May h t s → taken_word s ≡ None → Lasting h (kept_cells h t s) → Same (map_of h) (map_of (kept_cells h t s))
+still_moves h t s sound may takes last =
+    let h' : Heap = kept_cells h t s in
+    same_map h h' last (λ q. refl)
+    (own_elsewhere h h' t _ _ _ is_none (kept_own h t s sound may.inside) (λ i q _ _. refl)
+    (λ q _. ap (λ o. bit_of (with_taken o (queue_at h t) (popped_at h t)) q) takes) (λ q _. refl)
+    (λ j q _. read_by (λ n (words : List ℕ). bit_of words q ≡ bit_of (queue_at h n) q) h.queues t (without_taken (taken_word s) (queue_at h t)) []
+    (omega (arith, sound.shaped.queues, may.inside)) (ap (λ o. bit_of (without_taken o (queue_at h t)) q) takes) (λ n _. refl) j))
+
+-- ---- each step of a thread
+
+pub step_moves : (A : Type 0) (h : Heap) (t : ℕ) (s : Step) → IsSound h → thread_may h t s ≡ true
+    → MakesMoves {A = A} (map_of h) (moves_of h t s (target_at h t s)) (map_of (after_target h t s (target_at h t s)))
+step_moves A h t (Claim c) sound ok =
+    let at = at_named h t (Claim c) c refl sound ok refl in
+    quiet_step h t (Claim c) c at refl refl (λ q. sym (ap (carries q) (free_hand _ at.may.hand))) refl (λ q. refl)
+step_moves A h t (InitLocal c) sound ok =
+    let at = at_named h t (InitLocal c) c refl sound ok refl in
+    quiet_step h t (InitLocal c) c at refl refl (λ q. sym (ap (carries q) (busy_hand phases.Claimed c _ at.may.hand))) refl (λ q. refl)
+step_moves A h t (InitShared c) sound ok =
+    let at = at_named h t (InitShared c) c refl sound ok refl in
+    quiet_step h t (InitShared c) c at refl refl (λ q. sym (ap (carries q) (busy_hand phases.Counted c _ at.may.hand))) refl (λ q. refl)
+step_moves A h t (Birth c kind k) sound ok = birth_moves A h t c kind k sound ok
+step_moves A h t (LocalUp source k) sound ok =
+    moves_at A h t (LocalUp source k) sound ok refl refl (λ c at. up_moves A h (stepped h t (LocalUp source k) c) t k c source sound at.named (vacant _ k at.may.own).none at.own (λ j. refl) (λ q. refl) at.lasting)
+step_moves A h t (LocalDown drop) sound ok =
+    moves_at A h t (LocalDown drop) sound ok refl refl (λ c at. down_moves A h (stepped h t (LocalDown drop) c) t c _ drop sound at.named at.own (λ q. down_hand_carries _ q c _ (free_hand _ at.may.hand)) (λ j. refl) (λ q. refl) at.lasting)
+step_moves A h t (SeeZero c) sound ok =
+    let at = at_named h t (SeeZero c) c refl sound ok refl in
+    quiet_step h t (SeeZero c) c at refl refl
+    (λ q. either_way (carries q) _ hands.Free (hands.Busy phases.Over c) _ (sym (ap (carries q) (busy_hand phases.Zero c _ at.may.hand))) (sym (ap (carries q) (busy_hand phases.Zero c _ at.may.hand)))) refl (λ q. refl)
+step_moves A h t (Free c) sound ok = free_moves A h t c sound ok
+step_moves A h t (Untie c) sound ok =
+    let at = at_named h t (Untie c) c refl sound ok refl in
+    quiet_step h t (Untie c) c at refl refl (λ q. untied_carries q c _ at.may.hand) refl (λ q. refl)
+step_moves A h t (MergeZero c) sound ok =
+    let at = at_named h t (MergeZero c) c refl sound ok refl in
+    quiet_step h t (MergeZero c) c at refl refl (λ q. sym (ap (carries q) (busy_hand phases.Untied c _ at.may.hand))) refl (λ q. refl)
+step_moves A h t (SharedUp source k) sound ok =
+    moves_at A h t (SharedUp source k) sound ok refl refl (λ c at. up_moves A h (stepped h t (SharedUp source k) c) t k c source sound at.named (vacant _ k at.may.own).none at.own (λ j. refl) (λ q. refl) at.lasting)
+step_moves A h t (SharedDown drop) sound ok =
+    moves_at A h t (SharedDown drop) sound ok refl refl (λ c at. down_moves A h (stepped h t (SharedDown drop) c) t c _ drop sound at.named at.own (λ q. refl) (λ j. refl) (λ q. refl) at.lasting)
+step_moves A h t (Ask drop) sound ok =
+    moves_at A h t (Ask drop) sound ok refl refl (λ c at. ask_moves A h t c drop sound at)
+step_moves A h t (LastDown (lasts.Dropped drop)) sound ok =
+    moves_at A h t (LastDown (lasts.Dropped drop)) sound ok refl refl (λ c at. down_moves A h (stepped h t (LastDown (lasts.Dropped drop)) c) t c _ drop sound at.named at.own (λ q. refl) (λ j. refl) (λ q. refl) at.lasting)
+step_moves A h t (LastDown (lasts.Popped c)) sound ok = popped_moves A h t c sound (at_named h t (LastDown (lasts.Popped c)) c refl sound ok refl)
+step_moves A h t (LastDown lasts.Hand) sound ok =
+    moves_at A h t (LastDown lasts.Hand) sound ok refl refl (λ c at. hand_moves A h t c sound at)
+step_moves A h t (Enqueue c) sound ok = enqueue_moves A h t c sound ok
+step_moves A h t (Drain k) sound ok =
+    let may = may_parts h t (Drain k) ok in
+    pop_moves h (kept_cells h t (Drain k)) t k sound (taken_by h t (Drain k) k sound may refl (ltb-true k _ may.own) (lasting h t (Drain k) sound ok refl))
+step_moves A h t (MergeAdd c) sound ok =
+    let at = at_named h t (MergeAdd c) c refl sound ok refl in
+    quiet_step h t (MergeAdd c) c at refl refl (λ q. added_carries q c _ at.may.hand) refl (λ q. refl)
+step_moves A h t (Close k) sound ok =
+    let may = may_parts h t (Close k) ok in
+    let first = and_parts _ _ (and_parts _ _ (and_parts _ _ (and_parts _ _ may.own).0).0).0 in
+    pop_moves h (kept_cells h t (Close k)) t k sound (taken_by h t (Close k) k sound may refl (ltb-true k _ first.0) (lasting h t (Close k) sound ok refl))
+step_moves A h t (Nudge u k) sound ok =
+    still_moves h t (Nudge u k) sound (may_parts h t (Nudge u k) ok) refl (lasting h t (Nudge u k) sound ok refl)
+step_moves A h t Wake sound ok = still_moves h t Wake sound (may_parts h t Wake ok) refl (lasting h t Wake sound ok refl)
+step_moves A h t (Lock k) sound ok =
+    moves_at A h t (Lock k) sound ok refl refl (λ c at. quiet_step h t (Lock k) c at refl refl (λ q. refl) refl (λ q. refl))
+step_moves A h t (Unlock change) sound ok = ?
+step_moves A h t (Register u) sound ok = absurd (true≢false (sym (may_parts h t (Register u) ok).hand))
+step_moves A h t (Gather u) sound ok = absurd (true≢false (sym (may_parts h t (Gather u) ok).hand))
+
+-- ---- the root
+
+registered_elsewhere : (h : Heap) → Elsewhere h (registered h) is_none
+registered_elsewhere h = record {
+  frames = λ t k q _ _. read_push (λ j (frame : List (Option ℕ)). is_number (place_at frame k) q ≡ is_number (place_at (frame_at h j) k) q) h.frames [] []
+      (sym (ap (λ frame. is_number (place_at frame k) q) (get_or_past h.frames (length h.frames) [] (omega arith)))) (λ j _. refl) t;
+  queues = λ t q _. read_push (λ j (words : List ℕ). bit_of words q ≡ bit_of (queue_at h j) q) h.queues (replicate (words_for (length h.cells)) 0) []
+      (new_bit (words_for (length h.cells)) q ∙ sym (ap (λ words. bit_of words q) (get_or_past h.queues (length h.queues) [] (omega arith)) ∙ no_bit q)) (λ j _. refl) t;
+  popped = λ t q _. read_push (λ j (words : List ℕ). bit_of words q ≡ bit_of (popped_at h j) q) h.popped (replicate (words_for (length h.cells)) 0) []
+      (new_bit (words_for (length h.cells)) q ∙ sym (ap (λ words. bit_of words q) (get_or_past h.popped (length h.popped) [] (omega arith)) ∙ no_bit q)) (λ j _. refl) t;
+  hands = λ t q _. read_push (λ j (row : Row). carries q row.hand ≡ carries q (row_at h j).hand) h.rows new_row no_row
+      (sym (ap (λ (row : Row). carries q row.hand) (get_or_past h.rows (length h.rows) no_row (omega arith)))) (λ j _. refl) t;
+}
+
+root_moves : (A : Type 0) (h : Heap) (s : Step) → root_may h s ≡ true → MakesMoves {A = A} (map_of h) (moves_of h 0 s (target_at h 0 s)) (map_of (root_after h s))
+root_moves A h (Register u) ok = same_map h (registered h) (record { live = λ q. refl; kind = λ q. refl }) (λ q. refl) (registered_elsewhere h)
+root_moves A h (Gather u) ok = Same-refl (map_of h)
+root_moves A h _ ok = absurd (true≢false (sym ok))
+
+pub event_moves : (A : Type 0) (h : Heap) (e : Event) → IsSound h → enabled h e ≡ true
+    → MakesMoves {A = A} (map_of h) (moves_of h e.thread e.step (target_at h e.thread e.step)) (map_of (after h e))
+event_moves A h e sound ok =
+    elim (by_whom h e ok) [
+      | inl root ↦
+          subst (λ w. MakesMoves {A = A} (map_of h) (moves_of h e.thread e.step (target_at h e.thread e.step)) (map_of w)) (sym root.leads)
+          (subst (λ n. MakesMoves {A = A} (map_of h) (moves_of h n e.step (target_at h n e.step)) (map_of (root_after h e.step))) (sym root.root) (root_moves A h e.step root.may))
+      | inr thread ↦
+          subst (λ w. MakesMoves {A = A} (map_of h) (moves_of h e.thread e.step (target_at h e.thread e.step)) (map_of w)) (sym thread.leads)
+          (step_moves A h e.thread e.step sound thread.may)
     ]

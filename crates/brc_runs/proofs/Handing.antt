@@ -239,7 +239,7 @@ enqueue_moves A h t c sound ok =
     let h' : Heap = stepped h t s c in
     let b : ℕ = (cell_at h c).bore in
     let shut : Bool = is_shut h c in
-    let at : At h t s c = at_named h t s c refl sound ok (record { birth = refl; death = refl }) in
+    let at : At h t s c = at_named h t s c refl sound ok refl in
     let busy : (row_at h t).hand ≡ hands.Busy phases.Asked c = busy_hand phases.Asked c _ at.may.hand in
     let mortal : 266 ≤ c = (sound.hands t c phases.Asked busy).mortal in
     let carried : one (carries c (row_at h t).hand) ≡ 1 = busy_carrier phases.Asked c _ refl busy in

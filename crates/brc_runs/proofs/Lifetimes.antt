@@ -1,7 +1,7 @@
 -- Lives, births and frees: what each event does to them, so that the run alone tells them.
-use Rattle.std.proofs.Common.{◌≡◌, ℕ, ◌+◌, ◌<◌, ◌≤◌, ◌==◌, ◌&&◌, not, Bool, true, false, if◌then◌else◌, List, [], length, get_or, set, Option, Some, None, refl, sym, ◌∙◌, ap, subst, inl, inr, ◌⊎◌, arith}
+use Rattle.std.proofs.Common.{◌≡◌, ℕ, ◌+◌, ◌<◌, ◌≤◌, ◌==◌, ◌&&◌, ◌||◌, not, Bool, true, false, if◌then◌else◌, List, [], length, get_or, set, Option, Some, None, refl, sym, ◌∙◌, ap, subst, inl, inr, ◌⊎◌, arith}
 use Rattle.std.proofs.lemmas.List.{get_or_past}
-use Rattle.std.proofs.lemmas.Bool.{cases_Bool, or_cases, eq-eqb, ne_eqb, eqb-true, and_parts, and_right, le-ltb, true≢false}
+use Rattle.std.proofs.lemmas.Bool.{cases_Bool, or_cases, eq-eqb, ne_eqb, eqb-true, and_parts, and_right, or_parts, le-ltb, true≢false}
 use Rattle.brc_runs.specs.declared.cell.Cell.{Cell}
 use Rattle.brc_runs.specs.declared.event.Event.{Event}
 use Rattle.brc_runs.specs.declared.event.Step.{Step}
@@ -131,21 +131,21 @@ step_lives h t s q sound ok = kept_lives h t s (target_at h t s) q refl (may_par
 
 -- ---- births and frees of each thread
 
--- a step on no cell is no birth and no free
-pub record Neither (s : Step) : Type 0 where
-  pub birth : is_birth s ≡ false
-  pub death : is_free_step s ≡ false
+-- the steps with which an object begins or ends
+abbrev pub is_of_life : Step → Bool
+is_of_life s = is_birth s || is_free_step s
 
-pub no_cell_step : (s : Step) → needs_no_cell s ≡ true → Neither s
+-- steps on no cell aren't among them
+no_cell_step : (s : Step) → needs_no_cell s ≡ true → is_of_life s ≡ false
 no_cell_step (Birth c kind k) none = absurd (true≢false (sym none))
 no_cell_step (Free c) none = absurd (true≢false (sym none))
-no_cell_step _ none = record { birth = refl; death = refl }
+no_cell_step _ none = refl
 
--- nor is a step of the root's
-pub root_step : (h : Heap) (s : Step) → root_may h s ≡ true → Neither s
+-- nor are the root's
+root_step : (h : Heap) (s : Step) → root_may h s ≡ true → is_of_life s ≡ false
 root_step h (Birth c kind k) ok = absurd (true≢false (sym ok))
 root_step h (Free c) ok = absurd (true≢false (sym ok))
-root_step h _ ok = record { birth = refl; death = refl }
+root_step h _ ok = refl
 
 -- a ledger's number rises exactly at the thread's own steps that count
 counted_step : (f : Row → ℕ) (counts : Step → Bool) (h : Heap) (t : ℕ) (s : Step) (o : Option ℕ) (q : ℕ)
@@ -191,10 +191,10 @@ root_counted f h (Register u) q none =
     (none ∙ sym (ap f (get_or_past h.rows (length h.rows) no_row (omega arith)))) (λ j _. refl) q
 root_counted f h _ q none = refl
 
-pub lives_stay : (s : Step) (q : ℕ) (b : Bool) → Neither s → lives_since s q b ≡ b
-lives_stay (Birth c kind k) q b neither = absurd (true≢false neither.birth)
-lives_stay (Free c) q b neither = absurd (true≢false neither.death)
-lives_stay _ q b neither = refl
+pub lives_stay : (s : Step) (q : ℕ) (b : Bool) → is_of_life s ≡ false → lives_since s q b ≡ b
+lives_stay (Birth c kind k) q b plain = absurd (true≢false plain)
+lives_stay (Free c) q b plain = absurd (true≢false plain)
+lives_stay _ q b plain = refl
 
 -- the two kinds of steps
 pub record AtRoot (h : Heap) (e : Event) : Type 0 where
@@ -225,20 +225,20 @@ pub event_turns : (h : Heap) (e : Event) → IsSound h → enabled h e ≡ true 
 event_turns h e sound ok =
     elim (by_whom h e ok) [
       | inl root ↦
-          let neither : Neither e.step = root_step h e.step root.may in
+          let plain : is_of_life e.step ≡ false = root_step h e.step root.may in
           record {
-            lives = λ q. ap (λ w. lives_at w q) root.leads ∙ root_lives h e.step q ∙ sym (lives_stay e.step q (lives_at h q) neither);
+            lives = λ q. ap (λ w. lives_at w q) root.leads ∙ root_lives h e.step q ∙ sym (lives_stay e.step q (lives_at h q) plain);
             allocs = λ q. omega (
               arith,
               ap (λ w. (row_at w q).allocs) root.leads,
               root_counted (λ (r : Row). r.allocs) h e.step q refl,
-              ap one (and_right (e.thread == q) (is_birth e.step) neither.birth),
+              ap one (and_right (e.thread == q) (is_birth e.step) (or_parts _ _ plain).0),
             );
             frees = λ q. omega (
               arith,
               ap (λ w. (row_at w q).frees) root.leads,
               root_counted (λ (r : Row). r.frees) h e.step q refl,
-              ap one (and_right (e.thread == q) (is_free_step e.step) neither.death),
+              ap one (and_right (e.thread == q) (is_free_step e.step) (or_parts _ _ plain).1),
             );
           }
       | inr thread ↦
@@ -248,10 +248,10 @@ event_turns h e sound ok =
             lives = λ q. ap (λ w. lives_at w q) thread.leads ∙ step_lives h e.thread e.step q sound thread.may;
             allocs = λ q. ap (λ w. (row_at w q).allocs) thread.leads
                 ∙ counted_step (λ (r : Row). r.allocs) is_birth h e.thread e.step o q may.inside (λ c x shut row. allocs_step e.step row.allocs) (λ row stage. refl)
-                    (λ none. (no_cell_step e.step none).birth) may.on_target;
+                    (λ none. (or_parts _ _ (no_cell_step e.step none)).0) may.on_target;
             frees = λ q. ap (λ w. (row_at w q).frees) thread.leads
                 ∙ counted_step (λ (r : Row). r.frees) is_free_step h e.thread e.step o q may.inside (λ c x shut row. frees_step e.step row.frees) (λ row stage. refl)
-                    (λ none. (no_cell_step e.step none).death) may.on_target;
+                    (λ none. (or_parts _ _ (no_cell_step e.step none)).1) may.on_target;
           }
     ]
 
@@ -273,10 +273,10 @@ step_dies h t (Free c) run sound same ok =
     )
 step_dies h t _ run sound same ok = tt
 
-dies_plainly : (h : Heap) (s : Step) (run : List Event) → Neither s → DiesUnheld h run s
-dies_plainly h (Birth c kind k) run neither = absurd (true≢false neither.birth)
-dies_plainly h (Free c) run neither = absurd (true≢false neither.death)
-dies_plainly h _ run neither = tt
+dies_plainly : (h : Heap) (s : Step) (run : List Event) → is_of_life s ≡ false → DiesUnheld h run s
+dies_plainly h (Birth c kind k) run plain = absurd (true≢false plain)
+dies_plainly h (Free c) run plain = absurd (true≢false plain)
+dies_plainly h _ run plain = tt
 
 pub event_dies : (h : Heap) (e : Event) (run : List Event) → IsSound h → ((q : ℕ) → lives_at h q ≡ lives_by run q) → enabled h e ≡ true → DiesUnheld h run e.step
 event_dies h e run sound same ok =

@@ -14,13 +14,13 @@ use Rattle.brc_runs.specs.declared.row.Hand.{Hand}
 use Rattle.brc_runs.specs.Lists.{one, times, entry_times, bit_of, place_at, filled, vacated}
 use Rattle.brc_runs.specs.Heap.{Heap, cell_at, entries_at, row_at, frame_at, popped_at, queue_at, no_cell, no_row, is_immortal}
 use Rattle.brc_runs.specs.Steps.{after_target, stepped, kept_cells, target_at, target_ok, needs_no_cell, thread_may, cell_ok, cell_after, frame_after, popped_after, hand_after, queues_after, is_shut, with_taken, taken_word}
-use Rattle.brc_runs.specs.Holding.{lives, lives_at, carries, stands, map_of, is_birth}
+use Rattle.brc_runs.specs.Holding.{lives, lives_at, carries, stands, map_of, moves_of, MakesMoves, is_birth}
 use Rattle.brc_runs.specs.Sound.{IsSound}
 use Rattle.brc_runs.proofs.Naming.{Unheld, one-false, sum_one}
 use Rattle.brc_runs.proofs.Framing.{place_at-filled_here, place_at-filled_else, place_at-vacated_else, place_is_held, entry_is_held}
 use Rattle.brc_runs.proofs.Asking.{May, may_parts, OnCell, on_cell}
 use Rattle.brc_runs.proofs.Changes.{read_by, read_here, read_there}
-use Rattle.brc_runs.proofs.Lifetimes.{Neither, step_lives, lives_stay, either_way}
+use Rattle.brc_runs.proofs.Lifetimes.{is_of_life, step_lives, lives_stay, either_way}
 
 -- ---- tests
 
@@ -216,10 +216,10 @@ kinds_last h t s None q plain ok = refl
 kinds_last h t s (Some c) q plain ok =
     read_by (λ j (y : Cell). y.kind ≡ (cell_at h j).kind) h.cells c (cell_after t s c (cell_at h c)) no_cell (on_cell h t s c ok).inside (kind_kept t s c (cell_at h c) plain) (λ j _. refl) q
 
-pub lasting : (h : Heap) (t : ℕ) (s : Step) → IsSound h → thread_may h t s ≡ true → Neither s → Lasting h (after_target h t s (target_at h t s))
-lasting h t s sound ok neither = record {
-  live = λ q. step_lives h t s q sound ok ∙ lives_stay s q (lives_at h q) neither;
-  kind = λ q. kinds_last h t s (target_at h t s) q neither.birth (may_parts h t s ok).on_target;
+pub lasting : (h : Heap) (t : ℕ) (s : Step) → IsSound h → thread_may h t s ≡ true → is_of_life s ≡ false → Lasting h (after_target h t s (target_at h t s))
+lasting h t s sound ok plain = record {
+  live = λ q. step_lives h t s q sound ok ∙ lives_stay s q (lives_at h q) plain;
+  kind = λ q. kinds_last h t s (target_at h t s) q (or_parts _ _ plain).0 (may_parts h t s ok).on_target;
 }
 
 -- ---- one move, where entries stay
@@ -375,8 +375,8 @@ pub record At (h : Heap) (t : ℕ) (s : Step) (c : ℕ) : Type 0 where
   pub lasting : Lasting h (stepped h t s c)
   pub own : Own h (stepped h t s c) t (frame_after s c (cell_at h c) (entries_at h c) (frame_at h t)) (popped_after s (popped_at h t)) (hand_after s c (cell_at h c) (is_shut h c) (row_at h t).hand)
 
-pub at_named : (h : Heap) (t : ℕ) (s : Step) (c : ℕ) → target_at h t s ≡ Some c → IsSound h → thread_may h t s ≡ true → Neither s → At h t s c
-at_named h t s c named sound ok neither =
+pub at_named : (h : Heap) (t : ℕ) (s : Step) (c : ℕ) → target_at h t s ≡ Some c → IsSound h → thread_may h t s ≡ true → is_of_life s ≡ false → At h t s c
+at_named h t s c named sound ok plain =
     let may : May h t s = may_parts h t s ok in
     let on : OnCell h t s c = on_cell h t s c (subst (λ o. target_ok h t (row_at h t) s o ≡ true) named may.on_target) in
     record {
@@ -384,18 +384,19 @@ at_named h t s c named sound ok neither =
       may = may;
       inside = on.inside;
       fits = on.fits;
-      lasting = subst (λ o. Lasting h (after_target h t s o)) named (lasting h t s sound ok neither);
+      lasting = subst (λ o. Lasting h (after_target h t s o)) named (lasting h t s sound ok plain);
       own = stepped_own h t s c sound may.inside;
     }
 
 -- a step that needs a cell has one
-pub at_target : (P : Option ℕ → Type 0) (h : Heap) (t : ℕ) (s : Step) → IsSound h → thread_may h t s ≡ true → Neither s → needs_no_cell s ≡ false
-    → ((c : ℕ) → At h t s c → P (Some c)) → P (target_at h t s)
-at_target P h t s sound ok neither needs step = named_by (target_at h t s) refl
+pub moves_at : (A : Type 0) (h : Heap) (t : ℕ) (s : Step) → IsSound h → thread_may h t s ≡ true → is_of_life s ≡ false → needs_no_cell s ≡ false
+    → ((c : ℕ) → At h t s c → MakesMoves {A = A} (map_of h) (moves_of h t s (Some c)) (map_of (stepped h t s c)))
+    → MakesMoves {A = A} (map_of h) (moves_of h t s (target_at h t s)) (map_of (after_target h t s (target_at h t s)))
+moves_at A h t s sound ok plain needs step = named_by (target_at h t s) refl
   where
-    named_by : (o : Option ℕ) → target_at h t s ≡ o → P o
+    named_by : (o : Option ℕ) → target_at h t s ≡ o → MakesMoves {A = A} (map_of h) (moves_of h t s o) (map_of (after_target h t s o))
     named_by None named = absurd (true≢false (sym (subst (λ o. target_ok h t (row_at h t) s o ≡ true) named (may_parts h t s ok).on_target) ∙ needs))
-    named_by (Some c) named = step c (at_named h t s c named sound ok neither)
+    named_by (Some c) named = step c (at_named h t s c named sound ok plain)
 
 -- a step that moves no reference
 pub quiet_step : (h : Heap) (t : ℕ) (s : Step) (c : ℕ) → At h t s c → frame_after s c (cell_at h c) (entries_at h c) (frame_at h t) ≡ frame_at h t → popped_after s (popped_at h t) ≡ popped_at h t
