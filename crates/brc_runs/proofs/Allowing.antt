@@ -36,7 +36,8 @@ use Rattle.brc_runs.proofs.Framing.{found_inside, place_at-filled_here}
 use Rattle.brc_runs.proofs.Preserving.{source_held, held_by_place, held_by_entry, work_source}
 use Rattle.brc_runs.proofs.Registering.{read_push, new_bit}
 use Rattle.brc_runs.proofs.Lifetimes.{step_lives, either_way, held_lives, held_alive, alive_lives, held_by_hand, held_by_bits, by_whom}
-use Rattle.brc_runs.proofs.Moving.{eqb_turned, number_is, from_one, is_none, is_this, is_either, other_cell, apart, Own, own_elsewhere, Elsewhere, other_place, put_after, At, at_named, moves_at, quiet_step, stepped_own, kept_own, Lasting, lasting, same_held, same_map, added_map, removed_map, passed_map, with_as, elsewhere, has_of, hasnt_of, frame_shows, frame_hides, hand_shows, hand_hides, popped_shows, popped_hides, no_place, is_unheld, unheld_in, is_vacant_place, filled_alike, vacated_alike, vacated_here, none_shows}
+use Rattle.brc_runs.proofs.Moving.{eqb_turned, number_is, from_one, is_none, is_this, is_either, other_cell, apart, Own, own_elsewhere, Elsewhere, other_place, put_after, At, at_named, moves_at, quiet_step, stepped_own, kept_own, Lasting, lasting, same_held, same_map, entries_map, added_map, removed_map, passed_map, with_as, elsewhere, has_of, hasnt_of, frame_shows, frame_hides, hand_shows, hand_hides, popped_shows, popped_hides, no_place, is_unheld, unheld_in, is_vacant_place, filled_alike, vacated_alike, vacated_here, none_shows}
+use Rattle.brc_runs.proofs.Exchanging.{unlock_moves}
 use Rattle.brc_runs.proofs.Handing.{enqueue_moves, taken_by, pop_moves, Taken}
 
 -- ---- births and deaths
@@ -189,18 +190,6 @@ last_may_go h t d c held work places = record {
   there = work.last;
 }
 
--- and leads to a world without it
-cut_map : (h h' : Heap) (t d c : ℕ) (held : ℕ → Holder → Bool) → Worked h t d c → Lasting h h' → ((q : ℕ) → entries_at h' q ≡ get_or (entries_without (Some (dropped.Work d)) h.entries) q [])
-    → ((q : ℕ) (p : Holder) → held q p ≡ (map_of h').held q p)
-    → Same (record (map_of h) { entries = put (entries_at h) d (front_of (entries_at h d)); held = held }) (map_of h')
-cut_map h h' t d c held work last entries same = record {
-  live = λ q. sym (last.live q);
-  kind = λ q _. sym (last.kind q);
-  entries = λ q. sym (entries q ∙ put_after (entries_at h) (λ j. get_or (set h.entries d (front_of (entries_at h d))) j []) d (front_of (entries_at h d))
-      (read_here h.entries d _ [] work.within) (λ j other. read_there h.entries d j _ [] other) q);
-  held = same;
-}
-
 -- a place or an entry lets the cell go, and nothing else moves
 down_moves : (A : Type 0) (h h' : Heap) (t c : ℕ) (hand : Hand) (drop : Dropped) → IsSound h → dropped_cell (frame_at h t) (work_at h t) (entries_at h) drop ≡ Some c
     → Own h h' t (frame_without (Some drop) (frame_at h t)) (popped_at h t) hand → ((q : ℕ) → carries q hand ≡ carries q (row_at h t).hand) → ((j : ℕ) → queue_at h' j ≡ queue_at h j)
@@ -225,7 +214,7 @@ down_moves A h h' t c hand (dropped.Frame k) sound named own carried queues entr
 down_moves A h h' t c hand (dropped.Work d) sound named own carried queues entries last =
     let work : Worked h t d c = worked h t d c sound named in (
       last_may_go h t d c (map_of h).held work (λ g. no_place h d g work.none),
-      cut_map h h' t d c (map_of h).held work last entries
+      entries_map h h' d _ (map_of h).held work.within last entries
       (λ q g. sym (elsewhere h h' is_none (own_elsewhere h h' t _ _ _ is_none own (λ i q _ _. refl) (λ q _. refl) (λ q _. carried q) (λ j q _. ap (λ words. bit_of words q) (queues j))) q g refl)),
     )
 
@@ -267,7 +256,7 @@ asked_moves A h h' t c (dropped.Work d) sound mortal named free own queues entri
       (
         last_may_go h t d c (with_holder (map_of h).held c to) work
             (λ g. or_from _ _ (and_left _ _ (ne_eqb d c work.other)) (no_place h d g work.none)),
-        cut_map h h' t d c (with_holder (map_of h).held c to) work last entries
+        entries_map h h' d _ (with_holder (map_of h).held c to) work.within last entries
             (with_as (map_of h).held (map_of h').held c to (hand_shows h' t c mortal (ap (carries c) own.hand ∙ eq-eqb c c refl))
             (elsewhere h h' (is_this c to) (own_elsewhere h h' t _ _ _ (is_this c to) own (λ i q _ _. refl) (λ q _. refl)
             (λ q kept. ne_eqb c q (λ e. other_cell c (holders.Hand t) q kept (sym e)) ∙ sym (ap (carries q) free)) (λ j q _. ap (λ words. bit_of words q) (queues j))))),
@@ -424,7 +413,7 @@ step_moves A h t (Nudge u k) sound ok =
 step_moves A h t Wake sound ok = still_moves h t Wake sound (may_parts h t Wake ok) refl (lasting h t Wake sound ok refl)
 step_moves A h t (Lock k) sound ok =
     moves_at A h t (Lock k) sound ok refl refl (λ c at. quiet_step h t (Lock k) c at refl refl (λ q. refl) refl (λ q. refl))
-step_moves A h t (Unlock change) sound ok = ?
+step_moves A h t (Unlock change) sound ok = moves_at A h t (Unlock change) sound ok refl refl (λ c at. unlock_moves A h t c change sound at)
 step_moves A h t (Register u) sound ok = absurd (true≢false (sym (may_parts h t (Register u) ok).hand))
 step_moves A h t (Gather u) sound ok = absurd (true≢false (sym (may_parts h t (Gather u) ok).hand))
 

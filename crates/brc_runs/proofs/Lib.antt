@@ -15,4 +15,5 @@ pub mod Headlines
 pub mod Lifetimes
 pub mod Moving
 pub mod Handing
+pub mod Exchanging
 pub mod Allowing

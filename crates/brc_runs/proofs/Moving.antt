@@ -84,7 +84,7 @@ pub other_place : (t k c q i : ℕ) → is_this c (holders.Frame t k) q (holders
 other_place t k c q i none place same = apart c (holders.Frame t k) q (holders.Frame t i) none same (ap (holders.Frame t) place)
 
 -- what holds of the one holds where the test says so
-at_this : (P : ℕ → Holder → Type 0) (c : ℕ) (g : Holder) (q : ℕ) (p : Holder) → is_this c g q p ≡ true → P c g → P q p
+pub at_this : (P : ℕ → Holder → Type 0) (c : ℕ) (g : Holder) (q : ℕ) (p : Holder) → is_this c g q p ≡ true → P c g → P q p
 at_this P c g q p it here =
     let parts = and_parts (q == c) (same_holder p g) it in
     subst (λ n. P n p) (sym (eqb-true q c parts.0)) (subst (P c) (sym (same_holder-true p g parts.1)) here)
@@ -230,6 +230,16 @@ same_held h h' held last entries same = record {
   live = λ q. sym (last.live q);
   kind = λ q _. sym (last.kind q);
   entries = λ q. sym (entries q);
+  held = same;
+}
+
+-- the same where one object's entries change
+pub entries_map : (h h' : Heap) (c : ℕ) (xs : List ℕ) (held : ℕ → Holder → Bool) → c < length h.entries → Lasting h h' → ((q : ℕ) → entries_at h' q ≡ get_or (set h.entries c xs) q [])
+    → ((q : ℕ) (p : Holder) → held q p ≡ (map_of h').held q p) → Same (record (map_of h) { entries = put (entries_at h) c xs; held = held }) (map_of h')
+entries_map h h' c xs held within last entries same = record {
+  live = λ q. sym (last.live q);
+  kind = λ q _. sym (last.kind q);
+  entries = λ q. sym (entries q ∙ put_after (entries_at h) (λ j. get_or (set h.entries c xs) j []) c xs (read_here h.entries c xs [] within) (λ j other. read_there h.entries c j xs [] other) q);
   held = same;
 }
 
