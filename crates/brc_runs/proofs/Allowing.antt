@@ -1,12 +1,12 @@
 -- Event by event: the moves that it makes are allowed, and lead to the holder map of the world after it.
-use Rattle.std.proofs.Common.{◌≡◌, ◌≢◌, ℕ, ◌+◌, ◌-◌, ◌<◌, ◌≤◌, ◌==◌, ◌&&◌, ◌||◌, not, Bool, true, false, if◌then◌else◌, List, [], ◌∷◌, length, get_or, set, replicate, slice_get, Option, Some, None, refl, sym, ◌∙◌, ap, subst, inl, inr, arith}
+use Rattle.std.proofs.Common.{◌≡◌, ◌≢◌, ℕ, ◌+◌, ◌-◌, ◌<◌, ◌≤◌, ◌||◌, not, Bool, true, false, if◌then◌else◌, List, [], ◌∷◌, length, get_or, replicate, slice_get, Option, Some, None, refl, sym, ◌∙◌, ap, subst, inl, inr, arith}
 use Rattle.std.proofs.lemmas.List.{get_or_past, nil_from_length}
-use Rattle.std.proofs.lemmas.Bool.{cases_eq, cases_lt, cases_Bool, eq-eqb, ne_eqb, eqb-true, and_parts, and_from, and_left, and_right, or_parts, or_from, or_cases, not-true, ltb-true, ltb-false, le-ltb, true≢false}
+use Rattle.std.proofs.lemmas.Bool.{cases_eq, cases_lt, cases_Bool, eq-eqb, ne_eqb, eqb-true, and_parts, and_from, and_left, and_right, or_parts, or_from, or_cases, not-true, ltb-true, ltb-false, true≢false}
 use Rattle.brc_words.specs.declared.kind.Kind.{Kind}
 use Rattle.brc_model.specs.declared.holder.Holder.{Holder}
 use Rattle.brc_model.specs.declared.holder.Holder.TheVariants as holders
 use Rattle.brc_model.specs.declared.moves.Move.TheVariants as moves
-use Rattle.brc_model.specs.Holders.{Same, is_number, IsHeld, IsLastOfDead, put, same_holder, with_holder}
+use Rattle.brc_model.specs.Holders.{Same, is_number, IsHeld, IsLastOfDead, put, with_holder}
 use Rattle.brc_model.proofs.Maps.{Same-refl}
 use Rattle.brc_runs.specs.declared.cell.Cell.{Cell}
 use Rattle.brc_runs.specs.declared.event.Event.{Event}
@@ -22,23 +22,23 @@ use Rattle.brc_runs.specs.declared.row.Hand.{Hand}
 use Rattle.brc_runs.specs.declared.row.Hand.TheVariants as hands
 use Rattle.brc_runs.specs.declared.row.Phase.{Phase}
 use Rattle.brc_runs.specs.declared.row.Phase.TheVariants as phases
-use Rattle.brc_runs.specs.Lists.{one, bit_of, is_marked, place_at, filled, vacated, last_of, front_of, word_at}
+use Rattle.brc_runs.specs.Lists.{one, bit_of, is_marked, place_at, filled, vacated, last_of}
 use Rattle.brc_runs.specs.Heap.{Heap, cell_at, entries_at, row_at, frame_at, popped_at, work_at, queue_at, no_cell, no_row, new_row, is_immortal, words_for}
-use Rattle.brc_runs.specs.Steps.{enabled, after, after_target, stepped, kept_cells, registered, root_after, thread_may, root_may, target_at, target_ok, needs_no_cell, source_cell, dropped_cell, locked_cell, entry_of, cell_after, hand_after, frame_after, popped_after, queues_after, entries_after, frame_without, entries_without, is_default, is_ending, is_ending_hand, cell_in_hand, hand_ok, is_free_hand, is_at, untied_hand, added_hand, taken_word, with_taken, without_taken}
-use Rattle.brc_runs.specs.Holding.{lives, lives_at, carries, has_reference, map_of, moves_of, moves_by, of_mortal, removal, asking, MakesMoves}
+use Rattle.brc_runs.specs.Steps.{enabled, after, after_target, stepped, kept_cells, registered, root_after, thread_may, root_may, target_at, source_cell, dropped_cell, locked_cell, entry_of, frame_without, entries_without, is_default, is_ending, is_ending_hand, cell_in_hand, hand_ok, is_free_hand, is_at, untied_hand, added_hand, taken_word, with_taken, without_taken}
+use Rattle.brc_runs.specs.Holding.{lives, lives_at, carries, has_reference, map_of, moves_of, of_mortal, removal, asking, MakesMoves}
 use Rattle.brc_runs.specs.Sound.{IsSound, held, HandFits, WorkFits, Births}
 use Rattle.brc_runs.proofs.Naming.{no_bit, Unheld, unheld, dead_unheld, free_hand, busy_hand, busy_carrier}
 use Rattle.brc_runs.proofs.Bitwise.{without_bit_here, without_bit_else}
-use Rattle.brc_runs.proofs.Asking.{May, may_parts, OnCell, on_cell, Vacant, vacant}
+use Rattle.brc_runs.proofs.Asking.{May, may_parts, on_cell, Vacant, vacant}
 use Rattle.brc_runs.proofs.Changes.{read_by, read_here, read_there}
 use Rattle.brc_runs.proofs.Counting.{marked_unheld}
 use Rattle.brc_runs.proofs.Framing.{found_inside, place_at-filled_here}
-use Rattle.brc_runs.proofs.Preserving.{source_held, held_by_place, held_by_entry, work_source}
+use Rattle.brc_runs.proofs.Preserving.{source_held, held_by_place, held_by_entry}
 use Rattle.brc_runs.proofs.Registering.{read_push, new_bit}
-use Rattle.brc_runs.proofs.Lifetimes.{step_lives, either_way, held_lives, held_alive, alive_lives, held_by_hand, held_by_bits, by_whom}
-use Rattle.brc_runs.proofs.Moving.{eqb_turned, number_is, from_one, is_none, is_this, is_either, other_cell, apart, Own, own_elsewhere, Elsewhere, other_place, put_after, At, at_named, moves_at, quiet_step, stepped_own, kept_own, Lasting, lasting, same_held, same_map, entries_map, added_map, removed_map, passed_map, with_as, elsewhere, has_of, hasnt_of, frame_shows, frame_hides, hand_shows, hand_hides, popped_shows, popped_hides, no_place, is_unheld, unheld_in, is_vacant_place, filled_alike, vacated_alike, vacated_here, none_shows}
+use Rattle.brc_runs.proofs.Lifetimes.{step_lives, either_way, held_lives, alive_lives, held_by_hand, held_by_bits, by_whom}
+use Rattle.brc_runs.proofs.Moving.{eqb_turned, number_is, from_one, is_none, is_this, is_either, other_cell, Own, own_elsewhere, Elsewhere, other_place, put_after, At, at_named, moves_at, quiet_step, stepped_own, kept_own, Lasting, lasting, same_map, entries_map, added_map, removed_map, passed_map, with_as, elsewhere, frame_shows, frame_hides, hand_shows, hand_hides, popped_shows, popped_hides, no_place, is_unheld, unheld_in, is_vacant_place, filled_alike, vacated_alike, vacated_here, none_shows}
 use Rattle.brc_runs.proofs.Exchanging.{unlock_moves}
-use Rattle.brc_runs.proofs.Handing.{enqueue_moves, taken_by, pop_moves, Taken}
+use Rattle.brc_runs.proofs.Handing.{enqueue_moves, taken_by, pop_moves}
 
 -- ---- births and deaths
 
@@ -143,8 +143,8 @@ up_moves A h h' t k c source sound named none own queues entries last =
               holder_is_new = is_vacant_place h t k (λ q _. shows q);
             },
             added_map h h' c (holders.Frame t k) last entries
-            (frame_shows h' t k c high (ap (λ (f : List (Option ℕ)). place_at f k) own.frame ∙ place_at-filled_here (frame_at h t) k c))
-            (others (is_this c (holders.Frame t k)) (λ i q _ kept. other_place t k c q i kept)),
+                (frame_shows h' t k c high (ap (λ (f : List (Option ℕ)). place_at f k) own.frame ∙ place_at-filled_here (frame_at h t) k c))
+                (others (is_this c (holders.Frame t k)) (λ i q _ kept. other_place t k c q i kept)),
           )
     ]
 
@@ -207,15 +207,15 @@ down_moves A h h' t c hand (dropped.Frame k) sound named own carried queues entr
           subst (λ b. MakesMoves {A = A} (map_of h) (if b then [] else (moves.Remove c (holders.Frame t k) ∷ [])) (map_of h')) (sym mortal) (
             and_from _ _ alive (frame_shows h t k c high named),
             removed_map h h' c (holders.Frame t k) last entries
-            (frame_hides h' t k c (ap (λ (f : List (Option ℕ)). is_number (place_at f k) c) own.frame ∙ ap (λ o. is_number o c) (vacated_here (frame_at h t) k)))
-            (others (is_this c (holders.Frame t k)) (λ i q _ kept. other_place t k c q i kept)),
+                (frame_hides h' t k c (ap (λ (f : List (Option ℕ)). is_number (place_at f k) c) own.frame ∙ ap (λ o. is_number o c) (vacated_here (frame_at h t) k)))
+                (others (is_this c (holders.Frame t k)) (λ i q _ kept. other_place t k c q i kept)),
           )
     ]
 down_moves A h h' t c hand (dropped.Work d) sound named own carried queues entries last =
     let work : Worked h t d c = worked h t d c sound named in (
       last_may_go h t d c (map_of h).held work (λ g. no_place h d g work.none),
       entries_map h h' d _ (map_of h).held work.within last entries
-      (λ q g. sym (elsewhere h h' is_none (own_elsewhere h h' t _ _ _ is_none own (λ i q _ _. refl) (λ q _. refl) (λ q _. carried q) (λ j q _. ap (λ words. bit_of words q) (queues j))) q g refl)),
+          (λ q g. sym (elsewhere h h' is_none (own_elsewhere h h' t _ _ _ is_none own (λ i q _ _. refl) (λ q _. refl) (λ q _. carried q) (λ j q _. ap (λ words. bit_of words q) (queues j))) q g refl)),
     )
 
 -- ---- a reference that a release gave up is the hand's
@@ -237,11 +237,11 @@ asked_moves A h h' t c (dropped.Frame k) sound mortal named free own queues entr
         tt,
       ),
       passed_map h h' c from c to last entries
-      (λ _. frame_hides h' t k c (ap (λ (f : List (Option ℕ)). is_number (place_at f k) c) own.frame ∙ ap (λ o. is_number o c) (vacated_here (frame_at h t) k)))
-      (hand_shows h' t c mortal (ap (carries c) own.hand ∙ eq-eqb c c refl))
-      (own_elsewhere h h' t _ _ _ (is_either c from c to) own
-      (λ i q _ kept. vacated_alike (frame_at h t) k c i q named (other_place t k c q i (or_parts _ _ kept).0)) (λ q _. refl)
-      (λ q kept. ne_eqb c q (λ e. other_cell c (holders.Hand t) q (or_parts _ _ kept).1 (sym e)) ∙ sym (ap (carries q) free)) (λ j q _. ap (λ words. bit_of words q) (queues j))),
+          (λ _. frame_hides h' t k c (ap (λ (f : List (Option ℕ)). is_number (place_at f k) c) own.frame ∙ ap (λ o. is_number o c) (vacated_here (frame_at h t) k)))
+          (hand_shows h' t c mortal (ap (carries c) own.hand ∙ eq-eqb c c refl))
+          (own_elsewhere h h' t _ _ _ (is_either c from c to) own
+          (λ i q _ kept. vacated_alike (frame_at h t) k c i q named (other_place t k c q i (or_parts _ _ kept).0)) (λ q _. refl)
+          (λ q kept. ne_eqb c q (λ e. other_cell c (holders.Hand t) q (or_parts _ _ kept).1 (sym e)) ∙ sym (ap (carries q) free)) (λ j q _. ap (λ words. bit_of words q) (queues j))),
     )
 asked_moves A h h' t c (dropped.Work d) sound mortal named free own queues entries last =
     let work : Worked h t d c = worked h t d c sound named in
@@ -292,9 +292,9 @@ popped_moves A h t c sound at =
     let mortal : 266 ≤ c = (sound.bits t c some).0 in (
       and_from _ _ (held_lives h c sound mortal (held_by_bits h t c some)) (popped_shows h t c mortal on),
       removed_map h h' c (holders.Popped t c) at.lasting (λ q. refl)
-      (popped_hides h' t c c (ap (λ words. bit_of words c) at.own.popped ∙ without_bit_here (popped_at h t) c on))
-      (own_elsewhere h h' t _ _ _ (is_this c (holders.Popped t c)) at.own (λ i q _ _. refl)
-      (λ q kept. without_bit_else (popped_at h t) c q (other_cell c (holders.Popped t) q kept)) (λ q _. refl) (λ j q _. refl)),
+          (popped_hides h' t c c (ap (λ words. bit_of words c) at.own.popped ∙ without_bit_here (popped_at h t) c on))
+          (own_elsewhere h h' t _ _ _ (is_this c (holders.Popped t c)) at.own (λ i q _ _. refl)
+          (λ q kept. without_bit_else (popped_at h t) c q (other_cell c (holders.Popped t) q kept)) (λ q _. refl) (λ j q _. refl)),
     )
 
 ending_has : (p : Phase) → is_ending p ≡ true → has_reference p ≡ true
@@ -322,8 +322,8 @@ hand_moves A h t c sound at =
     let carried : one (carries c (row_at h t).hand) ≡ 1 = busy_carrier had.phase c _ had.has had.busy in (
       and_from _ _ (held_lives h c sound mortal (held_by_hand h t c carried)) (hand_shows h t c mortal (from_one _ carried)),
       removed_map h h' c (holders.Hand t c) at.lasting (λ q. refl) (hand_hides h' t c c (ap (carries c) at.own.hand))
-      (own_elsewhere h h' t _ _ _ (is_this c (holders.Hand t c)) at.own (λ i q _ _. refl) (λ q _. refl)
-      (λ q kept. sym (ap (carries q) had.busy ∙ and_right _ _ (ne_eqb c q (λ e. other_cell c (holders.Hand t) q kept (sym e))))) (λ j q _. refl)),
+          (own_elsewhere h h' t _ _ _ (is_this c (holders.Hand t c)) at.own (λ i q _ _. refl) (λ q _. refl)
+          (λ q kept. sym (ap (carries q) had.busy ∙ and_right _ _ (ne_eqb c q (λ e. other_cell c (holders.Hand t) q kept (sym e))))) (λ j q _. refl)),
     )
 
 -- ---- hands that change and carry what they carried

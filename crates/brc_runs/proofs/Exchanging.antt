@@ -1,30 +1,26 @@
 -- An unlock: entries of the locked container and places of the frame change together.
-use Rattle.std.proofs.Common.{◌≡◌, ◌≢◌, ℕ, ◌+◌, ◌<◌, ◌≤◌, ◌==◌, ◌&&◌, ◌||◌, not, Bool, true, false, if◌then◌else◌, List, [], ◌∷◌, ◌++◌, length, get_or, set, slice_get, Option, Some, None, is_some, refl, sym, ◌∙◌, ap, subst, inl, inr, ◌⊎◌, arith}
+use Rattle.std.proofs.Common.{◌≡◌, ◌≢◌, ℕ, ◌<◌, ◌≤◌, ◌==◌, ◌&&◌, ◌||◌, not, Bool, true, false, if◌then◌else◌, List, [], length, get_or, Option, Some, None, is_some, refl, sym, ◌∙◌, ap, subst, inl, inr, arith}
 use Rattle.std.proofs.lemmas.List.{set-get_or}
 use Rattle.std.proofs.lemmas.Option.{slice_get-get_or}
-use Rattle.std.proofs.lemmas.Bool.{cases_Bool, eq-eqb, ne_eqb, eqb-true, and_parts, and_from, and_left, and_right, or_cases, or_parts, or_from, not-true, ltb-true, ltb-false, true≢false}
-use Rattle.brc_words.specs.declared.kind.Kind.{Kind}
+use Rattle.std.proofs.lemmas.Bool.{cases_Bool, eq-eqb, ne_eqb, eqb-true, and_parts, and_from, or_cases, or_parts, or_from, not-true, ltb-true, ltb-false, true≢false}
 use Rattle.brc_words.specs.declared.kind.Kind.TheVariants as kinds
 use Rattle.brc_words.specs.Kinds.{is_container}
 use Rattle.brc_model.specs.declared.holder.Holder.{Holder}
 use Rattle.brc_model.specs.declared.holder.Holder.TheVariants as holders
-use Rattle.brc_model.specs.Holders.{Map, Same, is_number, IsContainer, IsVacant, Occupies, placed, unplaced, with_holder, without_holder}
-use Rattle.brc_runs.specs.declared.cell.Cell.{Cell}
-use Rattle.brc_runs.specs.declared.event.Step.{Step}
+use Rattle.brc_model.specs.Holders.{is_number, IsContainer, Occupies, placed, unplaced, with_holder, without_holder}
 use Rattle.brc_runs.specs.declared.event.Step.TheVariants.{Unlock}
 use Rattle.brc_runs.specs.declared.event.Change.{Change}
 use Rattle.brc_runs.specs.declared.event.Change.TheVariants as changes
-use Rattle.brc_runs.specs.declared.row.Row.{Row}
-use Rattle.brc_runs.specs.Lists.{place_at, filled, vacated, number_in}
-use Rattle.brc_runs.specs.Heap.{Heap, cell_at, entries_at, row_at, frame_at, popped_at, is_immortal, immortal_kind}
-use Rattle.brc_runs.specs.Steps.{stepped, is_keep, locked_cell, locked_entries, change_ok, is_unlocked, is_vacant, entries_changed, frame_changed}
-use Rattle.brc_runs.specs.Holding.{lives_at, map_of, moves_of, MakesMoves}
+use Rattle.brc_runs.specs.Lists.{place_at, number_in}
+use Rattle.brc_runs.specs.Heap.{Heap, cell_at, entries_at, row_at, frame_at, is_immortal}
+use Rattle.brc_runs.specs.Steps.{stepped, is_keep, locked_cell, locked_entries, change_ok, is_unlocked, frame_changed}
+use Rattle.brc_runs.specs.Holding.{map_of, moves_of, MakesMoves}
 use Rattle.brc_runs.specs.Sound.{IsSound}
 use Rattle.brc_runs.proofs.Framing.{place_at-filled_here}
-use Rattle.brc_runs.proofs.Asking.{Vacant, vacant}
+use Rattle.brc_runs.proofs.Asking.{vacant}
 use Rattle.brc_runs.proofs.Preserving.{held_by_place}
 use Rattle.brc_runs.proofs.Lifetimes.{held_lives}
-use Rattle.brc_runs.proofs.Moving.{is_this, this_one, at_this, apart, Own, own_elsewhere, Elsewhere, elsewhere, At, quiet_step, entries_map, frame_shows, frame_hides, is_vacant_place, filled_alike, vacated_alike, vacated_here, none_shows, mortal_number}
+use Rattle.brc_runs.proofs.Moving.{is_this, this_one, at_this, own_elsewhere, elsewhere, At, quiet_step, entries_map, frame_shows, frame_hides, is_vacant_place, filled_alike, vacated_alike, vacated_here, none_shows, mortal_number}
 
 -- ---- a place that a mortal cell takes or leaves
 
@@ -47,8 +43,8 @@ unplaced_at held c g q p v = by_kind (is_immortal c)
         → ◌≡◌ {A = Bool} (let places : ℕ → Holder → Bool = if b then held else without_holder held c g in places q p) v
     by_kind true gone other = sym (other refl)
     by_kind false gone other = elim (cases_Bool (is_this c g q p)) [
-      | inl it ↦ ap (λ b. not b && held q p) it ∙ sym (gone it)
-      | inr not_it ↦ ap (λ b. not b && held q p) not_it ∙ sym (other not_it)
+      | inl same ↦ ap (λ b. not b && held q p) same ∙ sym (gone same)
+      | inr kept ↦ ap (λ b. not b && held q p) kept ∙ sym (other kept)
     ]
 
 placed_at : (held : ℕ → Holder → Bool) (c : ℕ) (g : Holder) (q : ℕ) (p : Holder) (v : Bool) → (is_placed c g q p ≡ true → v ≡ true) → (is_placed c g q p ≡ false → v ≡ held q p)
@@ -59,14 +55,14 @@ placed_at held c g q p v = by_kind (is_immortal c)
         → ◌≡◌ {A = Bool} (let places : ℕ → Holder → Bool = if b then held else with_holder held c g in places q p) v
     by_kind true there other = sym (other refl)
     by_kind false there other = elim (cases_Bool (is_this c g q p)) [
-      | inl it ↦ ap (λ b. b || held q p) it ∙ sym (there it)
-      | inr not_it ↦ ap (λ b. b || held q p) not_it ∙ sym (other not_it)
+      | inl same ↦ ap (λ b. b || held q p) same ∙ sym (there same)
+      | inr kept ↦ ap (λ b. b || held q p) kept ∙ sym (other kept)
     ]
 
 -- what holds of a mortal cell in its place holds where the test says so
 at_placed : (P : ℕ → Holder → Type 0) (c : ℕ) (g : Holder) (q : ℕ) (p : Holder) → is_placed c g q p ≡ true → (266 ≤ c → P c g) → P q p
-at_placed P c g q p it here =
-    let parts = and_parts (not (is_immortal c)) (is_this c g q p) it in
+at_placed P c g q p same here =
+    let parts = and_parts (not (is_immortal c)) (is_this c g q p) same in
     at_this P c g q p parts.1 (here (ltb-false c 266 (not-true _ parts.0)))
 
 -- ---- the container
@@ -153,10 +149,10 @@ put_moves A h t c j sound at =
         fits = occupies h t j cell sound there;
       },
       entries_map h h' c _ (unplaced (map_of h).held cell place) door.within at.lasting (λ q. refl)
-      (λ q p. unplaced_at (map_of h).held cell place q p ((map_of h').held q p)
-      (λ it. at_placed (λ n r. (map_of h').held n r ≡ false) cell place q p it (λ _.
-      frame_hides h' t j cell (ap (λ (f : List (Option ℕ)). is_number (place_at f j) cell) at.own.frame ∙ ap (λ o. is_number o cell) (vacated_here (frame_at h t) j))))
-      (places_after h t c (changes.Put j) (is_placed cell place) at (λ i n mortal kept. vacated_alike (frame_at h t) j cell i n there (placed_apart t j cell n i kept mortal)) q p)),
+          (λ q p. unplaced_at (map_of h).held cell place q p ((map_of h').held q p)
+          (λ same. at_placed (λ n r. (map_of h').held n r ≡ false) cell place q p same (λ _.
+          frame_hides h' t j cell (ap (λ (f : List (Option ℕ)). is_number (place_at f j) cell) at.own.frame ∙ ap (λ o. is_number o cell) (vacated_here (frame_at h t) j))))
+          (places_after h t c (changes.Put j) (is_placed cell place) at (λ i n mortal kept. vacated_alike (frame_at h t) j cell i n there (placed_apart t j cell n i kept mortal)) q p)),
     )
 
 -- one moves out
@@ -178,10 +174,10 @@ take_moves A h t c i j sound at =
         fits = is_vacant_place h t j (λ q _. none q);
       },
       entries_map h h' c _ (placed (map_of h).held cell place) door.within at.lasting (λ q. refl)
-      (λ q p. placed_at (map_of h).held cell place q p ((map_of h').held q p)
-      (λ it. at_placed (λ n r. (map_of h').held n r ≡ true) cell place q p it (λ mortal.
-      frame_shows h' t j cell mortal (ap (λ (f : List (Option ℕ)). place_at f j) at.own.frame ∙ place_at-filled_here (frame_at h t) j cell)))
-      (places_after h t c (changes.Take i j) (is_placed cell place) at (λ k n mortal kept. filled_alike (frame_at h t) j cell k n (λ _. none n) (placed_apart t j cell n k kept mortal)) q p)),
+          (λ q p. placed_at (map_of h).held cell place q p ((map_of h').held q p)
+          (λ same. at_placed (λ n r. (map_of h').held n r ≡ true) cell place q p same (λ mortal.
+          frame_shows h' t j cell mortal (ap (λ (f : List (Option ℕ)). place_at f j) at.own.frame ∙ place_at-filled_here (frame_at h t) j cell)))
+          (places_after h t c (changes.Take i j) (is_placed cell place) at (λ k n mortal kept. filled_alike (frame_at h t) j cell k n (λ _. none n) (placed_apart t j cell n k kept mortal)) q p)),
     )
 
 -- two are exchanged
@@ -206,14 +202,14 @@ swap_moves A h t c i j sound at =
         fits = (occupies h t j cell sound there, λ low. is_vacant_place h t j (λ q high. shows q (λ e. omega (arith, low, high, e))));
       },
       entries_map h h' c _ (placed (unplaced (map_of h).held cell place) old place) door.within at.lasting (λ q. refl)
-      (λ q p. placed_at (unplaced (map_of h).held cell place) old place q p ((map_of h').held q p)
-      (λ it. at_placed (λ n r. (map_of h').held n r ≡ true) old place q p it (λ mortal. frame_shows h' t j old mortal filled_place))
-      (λ not_old. sym (unplaced_at (map_of h).held cell place q p ((map_of h').held q p)
-      (λ it. at_placed (λ n r. is_placed old place n r ≡ false → (map_of h').held n r ≡ false) cell place q p it (λ mortal other.
-      frame_hides h' t j cell (ap (λ o. is_number o cell) filled_place ∙ ne_eqb old cell (λ e. placed_apart t j old cell j other (mortal_number cell mortal) refl (sym e)))) not_old)
-      (λ not_cell. places_after h t c (changes.Swap i j) (λ n r. is_placed cell place n r || is_placed old place n r) at
-      (λ k n mortal kept. filled_alike (frame_at h t) j old k n
-      (λ same. shows n (placed_apart t j cell n k (or_parts _ _ kept).0 mortal same)) (placed_apart t j old n k (or_parts _ _ kept).1 mortal)) q p (or_from _ _ not_cell not_old))))),
+          (λ q p. placed_at (unplaced (map_of h).held cell place) old place q p ((map_of h').held q p)
+          (λ same. at_placed (λ n r. (map_of h').held n r ≡ true) old place q p same (λ mortal. frame_shows h' t j old mortal filled_place))
+          (λ not_old. sym (unplaced_at (map_of h).held cell place q p ((map_of h').held q p)
+          (λ same. at_placed (λ n r. is_placed old place n r ≡ false → (map_of h').held n r ≡ false) cell place q p same (λ mortal other.
+          frame_hides h' t j cell (ap (λ o. is_number o cell) filled_place ∙ ne_eqb old cell (λ e. placed_apart t j old cell j other (mortal_number cell mortal) refl (sym e)))) not_old)
+          (λ not_cell. places_after h t c (changes.Swap i j) (λ n r. is_placed cell place n r || is_placed old place n r) at
+          (λ k n mortal kept. filled_alike (frame_at h t) j old k n
+          (λ same. shows n (placed_apart t j cell n k (or_parts _ _ kept).0 mortal same)) (placed_apart t j old n k (or_parts _ _ kept).1 mortal)) q p (or_from _ _ not_cell not_old))))),
     )
 
 pub unlock_moves : (A : Type 0) (h : Heap) (t c : ℕ) (change : Change) → IsSound h → At h t (Unlock change) c

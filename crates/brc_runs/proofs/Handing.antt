@@ -1,12 +1,11 @@
 -- Handovers on the way through a merge queue: from the hand to a queue bit, and from the bits of one word to popped bits.
-use Rattle.std.proofs.Common.{◌≡◌, ◌≢◌, ℕ, ◌+◌, ◌*◌, ◌/◌, ◌%◌, ◌<◌, ◌≤◌, ◌==◌, nat_lt, ◌&&◌, not, zero, suc, Bool, true, false, if◌then◌else◌, List, [], ◌∷◌, length, get_or, set, max, Option, Some, refl, sym, ◌∙◌, ap, subst, inl, inr, arith}
+use Rattle.std.proofs.Common.{◌≡◌, ◌≢◌, ℕ, ◌+◌, ◌*◌, ◌/◌, ◌%◌, ◌<◌, ◌≤◌, ◌==◌, nat_lt, ◌&&◌, not, zero, suc, Bool, true, false, if◌then◌else◌, List, [], ◌∷◌, length, get_or, set, Some, refl, sym, ◌∙◌, ap, subst, inl, inr, arith}
 use Rattle.std.specs.Int.{bit_at}
 use Rattle.std.proofs.lemmas.Bool.{cases_eq, cases_lt, cases_Bool, eq-eqb, ne_eqb, eqb-true, and_left, and_from, and_right, or_parts, lt-ltb, le-ltb, true≢false}
-use Rattle.std.proofs.lemmas.Nat.Bits.{bit_at-lt}
 use Rattle.brc_model.specs.declared.holder.Holder.{Holder}
 use Rattle.brc_model.specs.declared.holder.Holder.TheVariants as holders
 use Rattle.brc_model.specs.declared.moves.Handover.{Handover}
-use Rattle.brc_model.specs.Holders.{Map, Same, MayBeHanded, MayAllBeHanded, handed, all_handed, with_holder, without_holder}
+use Rattle.brc_model.specs.Holders.{Map, Same, MayAllBeHanded, all_handed, with_holder, without_holder}
 use Rattle.brc_runs.specs.declared.event.Step.{Step}
 use Rattle.brc_runs.specs.declared.event.Step.TheVariants.{Enqueue}
 use Rattle.brc_runs.specs.declared.row.Row.{Row}
@@ -270,12 +269,12 @@ enqueue_moves A h t c sound ok =
               tt,
             ),
             passed_map h h' c from c to at.lasting (λ q. refl)
-            (λ _. hand_hides h' t c c (ap (carries c) free.hand))
-            (queue_shows h' b c mortal (queues b c ∙ ap (λ words. bit_of words c) (read_here h.queues b _ [] queued.queue) ∙ with_bit_here (queue_at h b) c queued.word))
-            (own_elsewhere h h' t _ _ _ (is_either c from c to) free (λ i q _ _. refl) (λ q _. refl)
-            (λ q kept. sym (ap (carries q) busy ∙ ne_eqb c q (λ e. other_cell c (holders.Hand t) q (or_parts _ _ kept).0 (sym e))))
-            (λ j q kept. queues j q
-            ∙ read_by (λ n (words : List ℕ). is_either c from c to q (holders.Queue n q) ≡ false → bit_of words q ≡ bit_of (queue_at h n) q) h.queues b (with_bit (queue_at h b) c) [] queued.queue
-            (λ kept. with_bit_else (queue_at h b) c q (other_cell c (holders.Queue b) q (or_parts _ _ kept).1)) (λ n _ _. refl) j kept)),
+                (λ _. hand_hides h' t c c (ap (carries c) free.hand))
+                (queue_shows h' b c mortal (queues b c ∙ ap (λ words. bit_of words c) (read_here h.queues b _ [] queued.queue) ∙ with_bit_here (queue_at h b) c queued.word))
+                (own_elsewhere h h' t _ _ _ (is_either c from c to) free (λ i q _ _. refl) (λ q _. refl)
+                (λ q kept. sym (ap (carries q) busy ∙ ne_eqb c q (λ e. other_cell c (holders.Hand t) q (or_parts _ _ kept).0 (sym e))))
+                (λ j q kept. queues j q
+                ∙ read_by (λ n (words : List ℕ). is_either c from c to q (holders.Queue n q) ≡ false → bit_of words q ≡ bit_of (queue_at h n) q) h.queues b (with_bit (queue_at h b) c) [] queued.queue
+                (λ kept. with_bit_else (queue_at h b) c q (other_cell c (holders.Queue b) q (or_parts _ _ kept).1)) (λ n _ _. refl) j kept)),
           )
     ]

@@ -248,10 +248,10 @@ event_turns h e sound ok =
             lives = λ q. ap (λ w. lives_at w q) thread.leads ∙ step_lives h e.thread e.step q sound thread.may;
             allocs = λ q. ap (λ w. (row_at w q).allocs) thread.leads
                 ∙ counted_step (λ (r : Row). r.allocs) is_birth h e.thread e.step o q may.inside (λ c x shut row. allocs_step e.step row.allocs) (λ row stage. refl)
-                    (λ none. (or_parts _ _ (no_cell_step e.step none)).0) may.on_target;
+                (λ none. (or_parts _ _ (no_cell_step e.step none)).0) may.on_target;
             frees = λ q. ap (λ w. (row_at w q).frees) thread.leads
                 ∙ counted_step (λ (r : Row). r.frees) is_free_step h e.thread e.step o q may.inside (λ c x shut row. frees_step e.step row.frees) (λ row stage. refl)
-                    (λ none. (or_parts _ _ (no_cell_step e.step none)).1) may.on_target;
+                (λ none. (or_parts _ _ (no_cell_step e.step none)).1) may.on_target;
           }
     ]
 

@@ -1,10 +1,10 @@
 -- The holder maps of two worlds: where they say the same, and that one of them is the other after a move.
 use Rattle.std.proofs.Common.{◌≡◌, ◌≢◌, ℕ, ◌<◌, ◌≤◌, ◌==◌, ◌&&◌, ◌||◌, not, Bool, true, false, if◌then◌else◌, List, [], length, get_or, set, slice_get, Option, Some, None, refl, sym, ◌∙◌, ap, subst, inl, inr, arith}
-use Rattle.std.proofs.lemmas.List.{get_or_past, get_or-set_same, get_or-set_other, length-set}
+use Rattle.std.proofs.lemmas.List.{get_or_past, get_or-set_same, length-set}
 use Rattle.std.proofs.lemmas.Bool.{cases_eq, cases_lt, cases_Bool, eq-eqb, ne_eqb, eqb-true, and_parts, and_from, and_right, or_left, or_right, or_parts, or_from, le-ltb, ltb-false, true≢false}
 use Rattle.brc_model.specs.declared.holder.Holder.{Holder}
 use Rattle.brc_model.specs.declared.holder.Holder.TheVariants as holders
-use Rattle.brc_model.specs.Holders.{Map, Same, has, is_number, IsNoEntry, IsUnheld, IsVacant, put, same_holder, with_holder, without_holder}
+use Rattle.brc_model.specs.Holders.{Same, is_number, IsUnheld, IsVacant, put, same_holder, with_holder, without_holder}
 use Rattle.brc_model.proofs.Places.{same_holder-true, same_holder-refl}
 use Rattle.brc_runs.specs.declared.cell.Cell.{Cell}
 use Rattle.brc_runs.specs.declared.event.Step.{Step}
@@ -14,7 +14,7 @@ use Rattle.brc_runs.specs.declared.row.Hand.{Hand}
 use Rattle.brc_runs.specs.Lists.{one, times, entry_times, bit_of, place_at, filled, vacated}
 use Rattle.brc_runs.specs.Heap.{Heap, cell_at, entries_at, row_at, frame_at, popped_at, queue_at, no_cell, no_row, is_immortal}
 use Rattle.brc_runs.specs.Steps.{after_target, stepped, kept_cells, target_at, target_ok, needs_no_cell, thread_may, cell_ok, cell_after, frame_after, popped_after, hand_after, queues_after, is_shut, with_taken, taken_word}
-use Rattle.brc_runs.specs.Holding.{lives, lives_at, carries, stands, map_of, moves_of, MakesMoves, is_birth}
+use Rattle.brc_runs.specs.Holding.{lives_at, carries, map_of, moves_of, MakesMoves, is_birth}
 use Rattle.brc_runs.specs.Sound.{IsSound}
 use Rattle.brc_runs.proofs.Naming.{Unheld, one-false, sum_one}
 use Rattle.brc_runs.proofs.Framing.{place_at-filled_here, place_at-filled_else, place_at-vacated_else, place_is_held, entry_is_held}
@@ -85,24 +85,24 @@ other_place t k c q i none place same = apart c (holders.Frame t k) q (holders.F
 
 -- what holds of the one holds where the test says so
 pub at_this : (P : ℕ → Holder → Type 0) (c : ℕ) (g : Holder) (q : ℕ) (p : Holder) → is_this c g q p ≡ true → P c g → P q p
-at_this P c g q p it here =
-    let parts = and_parts (q == c) (same_holder p g) it in
+at_this P c g q p same here =
+    let parts = and_parts (q == c) (same_holder p g) same in
     subst (λ n. P n p) (sym (eqb-true q c parts.0)) (subst (P c) (sym (same_holder-true p g parts.1)) here)
 
 -- one holder is added
 pub with_as : (held held' : ℕ → Holder → Bool) (c : ℕ) (g : Holder) → held' c g ≡ true → ((q : ℕ) (p : Holder) → is_this c g q p ≡ false → held' q p ≡ held q p)
     → (q : ℕ) (p : Holder) → with_holder held c g q p ≡ held' q p
 with_as held held' c g there others q p = elim (cases_Bool (is_this c g q p)) [
-  | inl it ↦ ap (λ b. b || held q p) it ∙ sym (at_this (λ n r. held' n r ≡ true) c g q p it there)
-  | inr not_it ↦ ap (λ b. b || held q p) not_it ∙ sym (others q p not_it)
+  | inl same ↦ ap (λ b. b || held q p) same ∙ sym (at_this (λ n r. held' n r ≡ true) c g q p same there)
+  | inr kept ↦ ap (λ b. b || held q p) kept ∙ sym (others q p kept)
 ]
 
 -- one holder is removed
 pub without_as : (held held' : ℕ → Holder → Bool) (c : ℕ) (g : Holder) → held' c g ≡ false → ((q : ℕ) (p : Holder) → is_this c g q p ≡ false → held' q p ≡ held q p)
     → (q : ℕ) (p : Holder) → without_holder held c g q p ≡ held' q p
 without_as held held' c g there others q p = elim (cases_Bool (is_this c g q p)) [
-  | inl it ↦ ap (λ b. not b && held q p) it ∙ sym (at_this (λ n r. held' n r ≡ false) c g q p it there)
-  | inr not_it ↦ ap (λ b. not b && held q p) not_it ∙ sym (others q p not_it)
+  | inl same ↦ ap (λ b. not b && held q p) same ∙ sym (at_this (λ n r. held' n r ≡ false) c g q p same there)
+  | inr kept ↦ ap (λ b. not b && held q p) kept ∙ sym (others q p kept)
 ]
 
 -- one is removed, and then one is added
@@ -110,9 +110,9 @@ pub instead_as : (held held' : ℕ → Holder → Bool) (c : ℕ) (g : Holder) (
     → ((q : ℕ) (p : Holder) → is_either c g d k q p ≡ false → held' q p ≡ held q p)
     → (q : ℕ) (p : Holder) → with_holder (without_holder held c g) d k q p ≡ held' q p
 instead_as held held' c g d k gone there others =
-    with_as (without_holder held c g) held' d k there (λ q p not_it. elim (cases_Bool (is_this c g q p)) [
-      | inl it ↦ at_this (λ n r. is_this d k n r ≡ false → held' n r ≡ false) c g q p it gone not_it ∙ sym (ap (λ b. not b && held q p) it)
-      | inr other ↦ others q p (or_from _ _ other not_it) ∙ sym (ap (λ b. not b && held q p) other)
+    with_as (without_holder held c g) held' d k there (λ q p kept. elim (cases_Bool (is_this c g q p)) [
+      | inl same ↦ at_this (λ n r. is_this d k n r ≡ false → held' n r ≡ false) c g q p same gone kept ∙ sym (ap (λ b. not b && held q p) same)
+      | inr other ↦ others q p (or_from _ _ other kept) ∙ sym (ap (λ b. not b && held q p) other)
     ])
 
 -- ---- where two worlds show the same holders
@@ -132,14 +132,14 @@ named_alike d q a b alike = elim (cases_eq d q) [
 ]
 
 pub elsewhere : (h h' : Heap) (these : ℕ → Holder → Bool) → Elsewhere h h' these → (q : ℕ) (p : Holder) → these q p ≡ false → (map_of h').held q p ≡ (map_of h).held q p
-elsewhere h h' these same q (holders.Frame j i) not_it = elim (cases_Bool (is_immortal q)) [
+elsewhere h h' these same q (holders.Frame j i) kept = elim (cases_Bool (is_immortal q)) [
   | inl immortal ↦ ap (λ b. not b && is_number (place_at (frame_at h' j) i) q) immortal ∙ sym (ap (λ b. not b && is_number (place_at (frame_at h j) i) q) immortal)
-  | inr mortal ↦ ap (λ b. not (is_immortal q) && b) (same.frames j i q mortal not_it)
+  | inr mortal ↦ ap (λ b. not (is_immortal q) && b) (same.frames j i q mortal kept)
 ]
-elsewhere h h' these same q (holders.Entry d i) not_it = refl
-elsewhere h h' these same q (holders.Queue j d) not_it = named_alike d q _ _ (λ e. ap (λ n. n == 1) (same.queues j q (subst (λ n. these q (holders.Queue j n) ≡ false) e not_it)))
-elsewhere h h' these same q (holders.Popped j d) not_it = named_alike d q _ _ (λ e. ap (λ n. n == 1) (same.popped j q (subst (λ n. these q (holders.Popped j n) ≡ false) e not_it)))
-elsewhere h h' these same q (holders.Hand j d) not_it = named_alike d q _ _ (λ e. same.hands j q (subst (λ n. these q (holders.Hand j n) ≡ false) e not_it))
+elsewhere h h' these same q (holders.Entry d i) kept = refl
+elsewhere h h' these same q (holders.Queue j d) kept = named_alike d q _ _ (λ e. ap (λ n. n == 1) (same.queues j q (subst (λ n. these q (holders.Queue j n) ≡ false) e kept)))
+elsewhere h h' these same q (holders.Popped j d) kept = named_alike d q _ _ (λ e. ap (λ n. n == 1) (same.popped j q (subst (λ n. these q (holders.Popped j n) ≡ false) e kept)))
+elsewhere h h' these same q (holders.Hand j d) kept = named_alike d q _ _ (λ e. same.hands j q (subst (λ n. these q (holders.Hand j n) ≡ false) e kept))
 
 -- the thread's own places in the new world; those of other threads are as they were
 pub record Own (h h' : Heap) (t : ℕ) (f : List (Option ℕ)) (words : List ℕ) (carried : Hand) : Type 0 where
@@ -259,23 +259,8 @@ pub passed_map : (h h' : Heap) (c : ℕ) (g : Holder) (d : ℕ) (k : Holder) →
     → Same (record (map_of h) { held = with_holder (without_holder (map_of h).held c g) d k }) (map_of h')
 passed_map h h' c g d k last entries gone there same = same_held h h' _ last entries (instead_as (map_of h).held (map_of h').held c g d k gone there (elsewhere h h' (is_either c g d k) same))
 
--- ---- what a map has
+-- ---- what the map of a world shows
 
-pub has_of : (m : Map) (c : ℕ) (g : Holder) → IsNoEntry g → m.live c ≡ true → m.held c g ≡ true → has m c g ≡ true
-has_of m c (holders.Frame t k) not_it live held = and_from _ _ live held
-has_of m c (holders.Entry d i) not_it live held = absurd not_it
-has_of m c (holders.Queue t d) not_it live held = and_from _ _ live held
-has_of m c (holders.Popped t d) not_it live held = and_from _ _ live held
-has_of m c (holders.Hand t d) not_it live held = and_from _ _ live held
-
-pub hasnt_of : (m : Map) (c : ℕ) (g : Holder) → IsNoEntry g → m.held c g ≡ false → has m c g ≡ false
-hasnt_of m c (holders.Frame t k) not_it none = and_right (m.live c) _ none
-hasnt_of m c (holders.Entry d i) not_it none = absurd not_it
-hasnt_of m c (holders.Queue t d) not_it none = and_right (m.live c) _ none
-hasnt_of m c (holders.Popped t d) not_it none = and_right (m.live c) _ none
-hasnt_of m c (holders.Hand t d) not_it none = and_right (m.live c) _ none
-
--- what a world shows
 pub frame_shows : (h : Heap) (t k c : ℕ) → 266 ≤ c → place_at (frame_at h t) k ≡ Some c → (map_of h).held c (holders.Frame t k) ≡ true
 frame_shows h t k c mortal there = ap (λ b. not b && is_number (place_at (frame_at h t) k) c) (mortal_number c mortal) ∙ number_is _ c there
 
