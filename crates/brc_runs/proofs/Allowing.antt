@@ -33,7 +33,7 @@ use Rattle.brc_runs.proofs.Asking.{May, may_parts, on_cell, Vacant, vacant}
 use Rattle.brc_runs.proofs.Changes.{read_by, read_here, read_there}
 use Rattle.brc_runs.proofs.Counting.{marked_unheld}
 use Rattle.brc_runs.proofs.Framing.{found_inside, place_at-filled_here}
-use Rattle.brc_runs.proofs.Preserving.{source_held, held_by_place, held_by_entry}
+use Rattle.brc_runs.proofs.Dropping.{source_held, held_by_place, held_by_entry}
 use Rattle.brc_runs.proofs.Registering.{read_push, new_bit}
 use Rattle.brc_runs.proofs.Lifetimes.{step_lives, either_way, held_lives, alive_lives, held_by_hand, held_by_bits, by_whom}
 use Rattle.brc_runs.proofs.Moving.{eqb_turned, number_is, from_one, is_none, is_this, is_either, other_cell, Own, own_elsewhere, Elsewhere, other_place, put_after, At, at_named, moves_at, quiet_step, stepped_own, kept_own, Lasting, lasting, same_map, entries_map, added_map, removed_map, passed_map, with_as, elsewhere, frame_shows, frame_hides, hand_shows, hand_hides, popped_shows, popped_hides, no_place, is_unheld, unheld_in, is_vacant_place, filled_alike, vacated_alike, vacated_here, none_shows}

@@ -326,7 +326,7 @@ changed_works h t c n sound fits s q marked =
 -- ---- threads
 
 -- another thread's queue may change, where its closed words stay empty
-other_queue : (words : ℕ) (row : Row) (frame : List (Option ℕ)) (popped : List ℕ) (work : List Bool) (old new : List ℕ) (gathered : Bool)
+pub other_queue : (words : ℕ) (row : Row) (frame : List (Option ℕ)) (popped : List ℕ) (work : List Bool) (old new : List ℕ) (gathered : Bool)
     → ((k : ℕ) → is_closed row.stage k ≡ true → word_at new k ≡ 0) → ThreadFits words row frame popped work old gathered → ThreadFits words row frame popped work new gathered
 other_queue words row frame popped work old new gathered empty fits = record {
   inactive_hand = fits.inactive_hand;
@@ -434,10 +434,10 @@ same_locks h t c n sound thread_inside cell_inside same =
       locks = λ s k is.
           let before : (row_at h s).locked ≡ Some k = sym (locked s) ∙ is in
           let old : (q : ℕ) × Locks h s k q × ((cell_at h q).mutex ≡ s) = sound.locks s k before in
-          (old.0, record { place = is; names = names s k before ∙ old.1.names }, mutex old.0 ∙ old.2);
+          (old.0, record { thread = old.1.thread; place = is; names = names s k before ∙ old.1.names }, mutex old.0 ∙ old.2);
       mutexes = λ s q some is.
           let old : (k : ℕ) × Locks h s k q = sound.mutexes s q some (sym (mutex q) ∙ is) in
-          (old.0, record { place = locked s ∙ old.1.place; names = names s old.0 old.1.place ∙ old.1.names });
+          (old.0, record { thread = some; place = locked s ∙ old.1.place; names = names s old.0 old.1.place ∙ old.1.names });
     }
 
 -- no bit is new, and whoever has one bore the object

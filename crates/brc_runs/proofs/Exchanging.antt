@@ -18,7 +18,7 @@ use Rattle.brc_runs.specs.Holding.{map_of, moves_of, MakesMoves}
 use Rattle.brc_runs.specs.Sound.{IsSound}
 use Rattle.brc_runs.proofs.Framing.{place_at-filled_here}
 use Rattle.brc_runs.proofs.Asking.{vacant}
-use Rattle.brc_runs.proofs.Preserving.{held_by_place}
+use Rattle.brc_runs.proofs.Dropping.{held_by_place}
 use Rattle.brc_runs.proofs.Lifetimes.{held_lives}
 use Rattle.brc_runs.proofs.Moving.{is_this, this_one, at_this, own_elsewhere, elsewhere, At, quiet_step, entries_map, frame_shows, frame_hides, is_vacant_place, filled_alike, vacated_alike, vacated_here, none_shows, mortal_number}
 

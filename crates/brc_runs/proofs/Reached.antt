@@ -5,16 +5,17 @@ use Rattle.std.proofs.lemmas.Bool.{cases_Bool, cases_lt, and_parts, eqb-true, le
 use Rattle.brc_runs.specs.declared.cell.Cell.{Cell}
 use Rattle.brc_runs.specs.declared.event.Event.{Event}
 use Rattle.brc_runs.specs.declared.event.Step.{Step}
-use Rattle.brc_runs.specs.declared.event.Step.TheVariants.{Claim, InitLocal, InitShared, Birth, LocalUp, LocalDown, SeeZero, Free, Register}
+use Rattle.brc_runs.specs.declared.event.Step.TheVariants.{Register, Gather}
 use Rattle.brc_runs.specs.declared.row.Row.{Row}
 use Rattle.brc_runs.specs.Lists.{one}
 use Rattle.brc_runs.specs.Heap.{Heap, opening, cell_at, row_at, frame_at, work_at, entries_at, no_row, AreOptions}
-use Rattle.brc_runs.specs.Steps.{enabled, after, after_target, registered, root_may, thread_may, target}
+use Rattle.brc_runs.specs.Steps.{enabled, after, after_target, root_after, root_may, thread_may, target_at}
 use Rattle.brc_runs.specs.Runs.{IsRun, IsReached, world_after}
 use Rattle.brc_runs.specs.Holding.{Headline, Histories, lives, lives_at, lives_since, is_birth, is_free_step, MakesMoves, map_of, moves_by}
 use Rattle.brc_runs.specs.Sound.{IsSound}
 use Rattle.brc_runs.proofs.Beginning.{opening_sound, free_cell}
 use Rattle.brc_runs.proofs.Registering.{registered_sound}
+use Rattle.brc_runs.proofs.Resting.{gathered_sound}
 use Rattle.brc_runs.proofs.Preserving.{step_sound}
 use Rattle.brc_runs.proofs.Headlines.{sound_headline, allocs_fit, frees_fit}
 use Rattle.brc_runs.proofs.Allowing.{event_moves}
@@ -22,25 +23,21 @@ use Rattle.brc_runs.proofs.Lifetimes.{Turns, event_turns, event_dies}
 
 -- ---- every reached world is sound
 
--- the root's step leaves room for the thread that it makes
-root_room : (h : Heap) (s : Step) → root_may h s ≡ true → length h.rows ≤ 64
-root_room h (Claim c) ok = absurd (true≢false (sym ok))
-root_room h (InitLocal c) ok = absurd (true≢false (sym ok))
-root_room h (InitShared c) ok = absurd (true≢false (sym ok))
-root_room h (Birth c kind k) ok = absurd (true≢false (sym ok))
-root_room h (LocalUp source k) ok = absurd (true≢false (sym ok))
-root_room h (LocalDown drop) ok = absurd (true≢false (sym ok))
-root_room h (SeeZero c) ok = absurd (true≢false (sym ok))
-root_room h (Free c) ok = absurd (true≢false (sym ok))
-root_room h (Register u) ok = let parts = and_parts (u == length h.rows) (nat_le u 64) ok in omega (arith, eqb-true u (length h.rows) parts.0, leb-true u 64 parts.1)
+-- the root's steps
+root_sound : (h : Heap) (s : Step) → IsSound h → root_may h s ≡ true → IsSound (root_after h s)
+root_sound h (Register u) sound ok =
+    let parts = and_parts (u == length h.rows) (nat_le u 64) ok in
+    registered_sound h sound (omega (arith, eqb-true u (length h.rows) parts.0, leb-true u 64 parts.1))
+root_sound h (Gather u) sound ok = gathered_sound h u sound ok
+root_sound h _ sound ok = sound
 
 pub event_sound : (h : Heap) (e : Event) → IsSound h → enabled h e ≡ true → IsSound (after h e)
 event_sound h e sound ok =
-    let moved : Heap = after_target h e.thread e.step (target (row_at h e.thread) (frame_at h e.thread) (work_at h e.thread) (entries_at h) e.step) in
+    let moved : Heap = after_target h e.thread e.step (target_at h e.thread e.step) in
     elim (cases_Bool (e.thread == 0)) [
-      | inl root ↦ subst (λ b. IsSound (if b then registered h else moved)) (sym root)
-          (registered_sound h sound (root_room h e.step (subst (λ b. (if b then root_may h e.step else thread_may h e.thread e.step) ≡ true) root ok)))
-      | inr thread ↦ subst (λ b. IsSound (if b then registered h else moved)) (sym thread)
+      | inl root ↦ subst (λ b. IsSound (if b then root_after h e.step else moved)) (sym root)
+          (root_sound h e.step sound (subst (λ b. (if b then root_may h e.step else thread_may h e.thread e.step) ≡ true) root ok))
+      | inr thread ↦ subst (λ b. IsSound (if b then root_after h e.step else moved)) (sym thread)
           (step_sound h e.thread e.step sound (subst (λ b. (if b then root_may h e.step else thread_may h e.thread e.step) ≡ true) thread ok))
     ]
 

@@ -216,6 +216,7 @@ bits_fit h sound s q some =
 -- a lock of a thread that was there
 old_lock : (h : Heap) → IsSound h → (s k q : ℕ) → s ≢ length h.rows → Locks h s k q → Locks (registered h) s k q
 old_lock h sound s k q other lock = record {
+  thread = lock.thread;
   place = ap (λ (row : Row). row.locked) (push_else h.rows new_row no_row s other) ∙ lock.place;
   names = ap (λ frame. place_at frame k) (push_else h.frames [] [] s (λ e. other (e ∙ sound.shaped.frames))) ∙ lock.names;
 }

@@ -4,3 +4,4 @@ pub mod Steps
 pub mod Runs
 pub mod Holding
 pub mod Sound
+pub mod Staying

@@ -211,6 +211,7 @@ pub record HandFits (h : Heap) (t : ℕ) (phase : Phase) (d : ℕ) : Type 0 wher
 
 -- a lock is told by the thread's place and by the cell's mutex alike
 pub record Locks (h : Heap) (t k q : ℕ) : Type 0 where
+  pub thread : 0 < t
   pub place : (row_at h t).locked ≡ Some k
   pub names : place_at (frame_at h t) k ≡ Some q
 

@@ -1,0 +1,111 @@
+-- What a thread may rely on while others step: its own part, and the words of what it holds, locks, bears or buries.
+use Rattle.std.specs.Prelude.{◌≡◌, ◌≢◌, ℕ, ◌≤◌, ◌==◌, Bool, true, false, List, [], ◌∷◌, ◌++◌, Option, Some, None, slice_get, ◌⊎◌}
+use Rattle.brc_words.specs.declared.owner.Owner.TheVariants as owners
+use Rattle.brc_words.specs.declared.state.State.{State}
+use Rattle.brc_words.specs.declared.state.State.TheVariants as states
+use Rattle.brc_words.specs.declared.kind.Kind.{Kind}
+use Rattle.brc_runs.specs.declared.cell.Cell.{Cell}
+use Rattle.brc_runs.specs.declared.event.Event.{Event}
+use Rattle.brc_runs.specs.declared.event.Step.{Step}
+use Rattle.brc_runs.specs.declared.event.Step.TheVariants.{Register, Gather}
+use Rattle.brc_runs.specs.declared.row.Row.{Row}
+use Rattle.brc_runs.specs.declared.row.Phase.{Phase}
+use Rattle.brc_runs.specs.declared.row.Phase.TheVariants as phases
+use Rattle.brc_runs.specs.declared.row.Hand.TheVariants as hands
+use Rattle.brc_runs.specs.Lists.{place_at, bit_of, is_marked}
+use Rattle.brc_runs.specs.Heap.{Heap, cell_at, entries_at, row_at, frame_at, popped_at, work_at, queue_at, is_gathered}
+use Rattle.brc_runs.specs.Steps.{enabled, after, is_active, locked_cell}
+use Rattle.brc_runs.specs.Runs.{IsReached}
+use Rattle.brc_runs.specs.Holding.{carries, lives}
+
+-- the root registers or gathers this thread
+abbrev pub is_about : ℕ → Step → Bool
+is_about t (Register u) = u == t
+is_about t (Gather u) = u == t
+is_about t _ = false
+
+-- another's event: no step of the thread, and none of the root's about it
+pub record IsAnothers (t : ℕ) (e : Event) : Type 0 where
+  pub other : e.thread ≢ t
+  pub apart : is_about t e.step ≡ false
+
+-- what holds before another's event holds after it
+abbrev pub Lasts : ℕ → (Heap → Type 0) → Type 0
+Lasts t P = (h : Heap) (e : Event) → IsReached h → enabled h e ≡ true → IsAnothers t e → P h → P (after h e)
+
+-- the cell that the thread has locked
+abbrev pub locked_at : Heap → ℕ → Option ℕ
+locked_at h t = locked_cell (frame_at h t) (row_at h t).locked
+
+-- an entry of the cell that the thread has locked, or of a dead block on its worklist
+pub record HasEntry (h : Heap) (t c : ℕ) : Type 0 where
+  pub in_cell : ℕ
+  pub at_hand : (locked_at h t ≡ Some in_cell) ⊎ (is_marked (work_at h t) in_cell ≡ true)
+  pub index : ℕ
+  pub there : slice_get (entries_at h in_cell) index ≡ Some c
+
+-- the thread has the cell: in a place, in its hand with a reference, popped, or as an entry
+abbrev pub Has : Heap → ℕ → ℕ → Type 0
+Has h t c = ((k : ℕ) × (place_at (frame_at h t) k ≡ Some c)) ⊎ ((carries c (row_at h t).hand ≡ true) ⊎ ((bit_of (popped_at h t) c ≡ 1) ⊎ HasEntry h t c))
+
+-- the states only rise
+abbrev pub rank : State → ℕ
+rank states.Default = 0
+rank states.Queued = 1
+rank states.Merged = 2
+
+-- ---- the facts that last
+
+-- a new object's words are its maker's until it is born
+pub record Bears (h : Heap) (t c : ℕ) (p : Phase) (x : Cell) : Type 0 where
+  pub hand : (row_at h t).hand ≡ hands.Busy p c
+  pub phase : (p ≡ phases.Claimed) ⊎ ((p ≡ phases.Counted) ⊎ (p ≡ phases.Ready))
+  pub words : cell_at h c ≡ x
+
+-- a dead block is its thread's: all of its words, unlocked, and its entries
+pub record Buries (h : Heap) (t c : ℕ) (x : Cell) (entries : List ℕ) : Type 0 where
+  pub marked : is_marked (work_at h t) c ≡ true
+  pub words : cell_at h c ≡ x
+  pub has : entries_at h c ≡ entries
+
+-- a locked object keeps its entries, its kind and its lock
+pub record Locked (h : Heap) (t c : ℕ) (kind : Kind) (entries : List ℕ) : Type 0 where
+  pub thread : (row_at h t).locked ≢ None
+  pub cell : locked_at h t ≡ Some c
+  pub mutex : (cell_at h c).mutex ≡ t
+  pub kind_is : (cell_at h c).kind ≡ kind
+  pub has : entries_at h c ≡ entries
+
+-- what a thread has lives on, as what it is and with whom bore it; its state never falls
+pub record Keeps (h : Heap) (t c : ℕ) (kind : Kind) (bore least : ℕ) : Type 0 where
+  pub held : Has h t c
+  pub mortal : 266 ≤ c
+  pub live : lives (cell_at h c).owner ≡ true
+  pub kind_is : (cell_at h c).kind ≡ kind
+  pub bearer : (cell_at h c).bore ≡ bore
+  pub state : least ≤ rank (cell_at h c).state
+
+-- what others own or nobody owns never becomes the thread's
+pub record Foreign (h : Heap) (t c : ℕ) : Type 0 where
+  pub held : Has h t c
+  pub mortal : 266 ≤ c
+  pub owner : (cell_at h c).owner ≢ owners.Thread t
+
+-- the owner word goes from a thread to nobody, once
+pub record OwnedOrNot (h : Heap) (t c s : ℕ) : Type 0 where
+  pub held : Has h t c
+  pub mortal : 266 ≤ c
+  pub owner : ((cell_at h c).owner ≡ owners.Thread s) ⊎ ((cell_at h c).owner ≡ owners.Nobody)
+
+pub record Nobodys (h : Heap) (t c : ℕ) : Type 0 where
+  pub held : Has h t c
+  pub mortal : 266 ≤ c
+  pub owner : (cell_at h c).owner ≡ owners.Nobody
+
+-- an active thread's own object, off its worklist: nobody else writes its owner word or its local word
+pub record Owns (h : Heap) (t c local : ℕ) : Type 0 where
+  pub active : is_active (row_at h t).stage ≡ true
+  pub mortal : 266 ≤ c
+  pub owner : (cell_at h c).owner ≡ owners.Thread t
+  pub unmarked : is_marked (work_at h t) c ≡ false
+  pub count : (cell_at h c).local ≡ local
