@@ -1,5 +1,5 @@
 -- Event by event: the moves that it makes are allowed, and lead to the holder map of the world after it.
-use Rattle.std.proofs.Common.{◌≡◌, ◌≢◌, ℕ, ◌+◌, ◌-◌, ◌<◌, ◌≤◌, ◌||◌, not, Bool, true, false, if◌then◌else◌, List, [], ◌∷◌, length, get_or, replicate, slice_get, Option, Some, None, refl, sym, ◌∙◌, ap, subst, inl, inr, arith}
+use Rattle.std.proofs.Common.{◌≡◌, ◌≢◌, ℕ, ◌-◌, ◌<◌, ◌≤◌, ◌||◌, not, Bool, true, false, if◌then◌else◌, List, [], ◌∷◌, length, get_or, replicate, slice_get, Option, Some, None, refl, sym, ◌∙◌, ap, subst, inl, inr, arith}
 use Rattle.std.proofs.lemmas.List.{get_or_past, nil_from_length}
 use Rattle.std.proofs.lemmas.Bool.{cases_eq, cases_lt, cases_Bool, eq-eqb, ne_eqb, eqb-true, and_parts, and_from, and_left, and_right, or_parts, or_from, or_cases, not-true, ltb-true, ltb-false, true≢false}
 use Rattle.brc_words.specs.declared.kind.Kind.{Kind}
@@ -20,12 +20,11 @@ use Rattle.brc_runs.specs.declared.event.LastDropped.TheVariants as lasts
 use Rattle.brc_runs.specs.declared.row.Row.{Row}
 use Rattle.brc_runs.specs.declared.row.Hand.{Hand}
 use Rattle.brc_runs.specs.declared.row.Hand.TheVariants as hands
-use Rattle.brc_runs.specs.declared.row.Phase.{Phase}
 use Rattle.brc_runs.specs.declared.row.Phase.TheVariants as phases
 use Rattle.brc_runs.specs.Lists.{one, bit_of, is_marked, place_at, filled, vacated, last_of}
 use Rattle.brc_runs.specs.Heap.{Heap, cell_at, entries_at, row_at, frame_at, popped_at, work_at, queue_at, no_cell, no_row, new_row, is_immortal, words_for}
-use Rattle.brc_runs.specs.Steps.{enabled, after, after_target, stepped, kept_cells, registered, root_after, thread_may, root_may, target_at, source_cell, dropped_cell, locked_cell, entry_of, frame_without, entries_without, is_default, is_ending, is_ending_hand, cell_in_hand, hand_ok, is_free_hand, is_at, untied_hand, added_hand, taken_word, with_taken, without_taken}
-use Rattle.brc_runs.specs.Holding.{lives, lives_at, carries, has_reference, map_of, moves_of, of_mortal, removal, asking, MakesMoves}
+use Rattle.brc_runs.specs.Steps.{enabled, after, after_target, stepped, kept_cells, registered, root_after, thread_may, root_may, target_at, source_cell, dropped_cell, locked_cell, entry_of, frame_without, entries_without, is_default, hand_ok, is_free_hand, is_at, untied_hand, added_hand, taken_word, with_taken, without_taken}
+use Rattle.brc_runs.specs.Holding.{lives, lives_at, carries, map_of, moves_of, of_mortal, removal, asking, MakesMoves}
 use Rattle.brc_runs.specs.Sound.{IsSound, held, HandFits, WorkFits, Births}
 use Rattle.brc_runs.proofs.Naming.{no_bit, Unheld, unheld, dead_unheld, free_hand, busy_hand, busy_carrier}
 use Rattle.brc_runs.proofs.Bitwise.{without_bit_here, without_bit_else}
@@ -35,7 +34,9 @@ use Rattle.brc_runs.proofs.Counting.{marked_unheld}
 use Rattle.brc_runs.proofs.Framing.{found_inside, place_at-filled_here}
 use Rattle.brc_runs.proofs.Dropping.{source_held, held_by_place, held_by_entry}
 use Rattle.brc_runs.proofs.Registering.{read_push, new_bit}
-use Rattle.brc_runs.proofs.Lifetimes.{step_lives, either_way, held_lives, alive_lives, held_by_hand, held_by_bits, by_whom}
+use Rattle.brc_runs.proofs.Lifetimes.{step_lives, either_way, held_lives, alive_lives, by_whom}
+use Rattle.brc_runs.proofs.Merging.{carried_held, popped_held}
+use Rattle.brc_runs.proofs.Sharing.{ending_hand, ending_reference}
 use Rattle.brc_runs.proofs.Moving.{eqb_turned, number_is, from_one, is_none, is_this, is_either, other_cell, Own, own_elsewhere, Elsewhere, other_place, put_after, At, at_named, moves_at, quiet_step, stepped_own, kept_own, Lasting, lasting, same_map, entries_map, added_map, removed_map, passed_map, with_as, elsewhere, frame_shows, frame_hides, hand_shows, hand_hides, popped_shows, popped_hides, no_place, is_unheld, unheld_in, is_vacant_place, filled_alike, vacated_alike, vacated_here, none_shows}
 use Rattle.brc_runs.proofs.Exchanging.{unlock_moves}
 use Rattle.brc_runs.proofs.Handing.{enqueue_moves, taken_by, pop_moves}
@@ -288,42 +289,25 @@ popped_moves : (A : Type 0) (h : Heap) (t c : ℕ) → IsSound h → At h t (Las
 popped_moves A h t c sound at =
     let h' : Heap = stepped h t (LastDown (lasts.Popped c)) c in
     let on : bit_of (popped_at h t) c ≡ 1 = eqb-true _ 1 at.may.own in
-    let some : 0 < bit_of (queue_at h t) c + bit_of (popped_at h t) c = omega (arith, on) in
-    let mortal : 266 ≤ c = (sound.bits t c some).0 in (
-      and_from _ _ (held_lives h c sound mortal (held_by_bits h t c some)) (popped_shows h t c mortal on),
+    let mortal : 266 ≤ c = (sound.bits t c (omega (arith, on))).0 in (
+      and_from _ _ (held_lives h c sound mortal (popped_held h t c on)) (popped_shows h t c mortal on),
       removed_map h h' c (holders.Popped t c) at.lasting (λ q. refl)
           (popped_hides h' t c c (ap (λ words. bit_of words c) at.own.popped ∙ without_bit_here (popped_at h t) c on))
           (own_elsewhere h h' t _ _ _ (is_this c (holders.Popped t c)) at.own (λ i q _ _. refl)
           (λ q kept. without_bit_else (popped_at h t) c q (other_cell c (holders.Popped t) q kept)) (λ q _. refl) (λ j q _. refl)),
     )
 
-ending_has : (p : Phase) → is_ending p ≡ true → has_reference p ≡ true
-ending_has phases.Asked ending = refl
-ending_has phases.Shut ending = refl
-ending_has phases.Held ending = refl
-ending_has _ ending = absurd (true≢false (sym ending))
-
--- the hand has a reference of its own
-record Carried (c : ℕ) (hand : Hand) : Type 0 where
-  phase : Phase
-  busy : hand ≡ hands.Busy phase c
-  has : has_reference phase ≡ true
-
-ending_hand : (hand : Hand) (c : ℕ) → is_ending_hand hand ≡ true → cell_in_hand hand ≡ Some c → Carried c hand
-ending_hand hands.Free c ending named = absurd (cc)
-ending_hand (hands.Busy p d) c ending named = record { phase = p; busy = let same : d ≡ c = cc in ap (hands.Busy p) same; has = ending_has p ending }
-
 hand_moves : (A : Type 0) (h : Heap) (t c : ℕ) → IsSound h → At h t (LastDown lasts.Hand) c
     → MakesMoves {A = A} (map_of h) (moves.Remove c (holders.Hand t c) ∷ []) (map_of (stepped h t (LastDown lasts.Hand) c))
 hand_moves A h t c sound at =
     let h' : Heap = stepped h t (LastDown lasts.Hand) c in
-    let had : Carried c (row_at h t).hand = ending_hand _ c at.may.hand at.named in
-    let mortal : 266 ≤ c = (sound.hands t c had.phase had.busy).mortal in
-    let carried : one (carries c (row_at h t).hand) ≡ 1 = busy_carrier had.phase c _ had.has had.busy in (
-      and_from _ _ (held_lives h c sound mortal (held_by_hand h t c carried)) (hand_shows h t c mortal (from_one _ carried)),
+    let had = ending_hand (row_at h t).hand c at.may.hand at.named in
+    let mortal : 266 ≤ c = (sound.hands t c had.0 had.1).mortal in
+    let carried : one (carries c (row_at h t).hand) ≡ 1 = busy_carrier had.0 c _ (ending_reference had.0 had.2) had.1 in (
+      and_from _ _ (held_lives h c sound mortal (carried_held h t c carried)) (hand_shows h t c mortal (from_one _ carried)),
       removed_map h h' c (holders.Hand t c) at.lasting (λ q. refl) (hand_hides h' t c c (ap (carries c) at.own.hand))
           (own_elsewhere h h' t _ _ _ (is_this c (holders.Hand t c)) at.own (λ i q _ _. refl) (λ q _. refl)
-          (λ q kept. sym (ap (carries q) had.busy ∙ and_right _ _ (ne_eqb c q (λ e. other_cell c (holders.Hand t) q kept (sym e))))) (λ j q _. refl)),
+          (λ q kept. sym (ap (carries q) had.1 ∙ and_right _ _ (ne_eqb c q (λ e. other_cell c (holders.Hand t) q kept (sym e))))) (λ j q _. refl)),
     )
 
 -- ---- hands that change and carry what they carried

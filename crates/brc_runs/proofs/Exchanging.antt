@@ -1,9 +1,8 @@
 -- An unlock: entries of the locked container and places of the frame change together.
-use Rattle.std.proofs.Common.{◌≡◌, ◌≢◌, ℕ, ◌<◌, ◌≤◌, ◌==◌, ◌&&◌, ◌||◌, not, Bool, true, false, if◌then◌else◌, List, [], length, get_or, Option, Some, None, is_some, refl, sym, ◌∙◌, ap, subst, inl, inr, arith}
+use Rattle.std.proofs.Common.{◌≡◌, ◌≢◌, ℕ, ◌<◌, ◌≤◌, ◌&&◌, ◌||◌, not, Bool, true, false, if◌then◌else◌, List, [], length, get_or, Option, Some, None, is_some, refl, sym, ◌∙◌, ap, subst, inl, inr, arith}
 use Rattle.std.proofs.lemmas.List.{set-get_or}
 use Rattle.std.proofs.lemmas.Option.{slice_get-get_or}
-use Rattle.std.proofs.lemmas.Bool.{cases_Bool, eq-eqb, ne_eqb, eqb-true, and_parts, and_from, or_cases, or_parts, or_from, not-true, ltb-true, ltb-false, true≢false}
-use Rattle.brc_words.specs.declared.kind.Kind.TheVariants as kinds
+use Rattle.std.proofs.lemmas.Bool.{cases_Bool, eq-eqb, ne_eqb, and_parts, and_from, or_cases, or_parts, or_from, not-true, ltb-true, ltb-false, true≢false}
 use Rattle.brc_words.specs.Kinds.{is_container}
 use Rattle.brc_model.specs.declared.holder.Holder.{Holder}
 use Rattle.brc_model.specs.declared.holder.Holder.TheVariants as holders
@@ -19,6 +18,7 @@ use Rattle.brc_runs.specs.Sound.{IsSound}
 use Rattle.brc_runs.proofs.Framing.{place_at-filled_here}
 use Rattle.brc_runs.proofs.Asking.{vacant}
 use Rattle.brc_runs.proofs.Dropping.{held_by_place}
+use Rattle.brc_runs.proofs.Locking.{immortal_container}
 use Rattle.brc_runs.proofs.Lifetimes.{held_lives}
 use Rattle.brc_runs.proofs.Moving.{is_this, this_one, at_this, own_elsewhere, elsewhere, At, quiet_step, entries_map, frame_shows, frame_hides, is_vacant_place, filled_alike, vacated_alike, vacated_here, none_shows, mortal_number}
 
@@ -67,13 +67,6 @@ at_placed P c g q p same here =
 
 -- ---- the container
 
-container_kind : (a b d e : Bool) → is_container (if a then kinds.Nothing else (if b then kinds.False else (if d then kinds.True else (if e then kinds.Dict else kinds.Int)))) ≡ true → e ≡ true
-container_kind true b d e holds = absurd (true≢false (sym holds))
-container_kind false true d e holds = absurd (true≢false (sym holds))
-container_kind false false true e holds = absurd (true≢false (sym holds))
-container_kind false false false true holds = refl
-container_kind false false false false holds = absurd (true≢false (sym holds))
-
 some_there : (o : Option ℕ) → is_some o ≡ true → o ≡ Some (number_in o)
 some_there None some = absurd (true≢false (sym some))
 some_there (Some c) some = refl
@@ -112,7 +105,7 @@ opened h t c change sound at more =
     ] in
     record {
       container = elim (cases_Bool (is_immortal c)) [
-        | inl low ↦ inl (eqb-true c 265 (container_kind (c == 0) (c == 1) (c == 2) (c == 265) (sym (ap is_container (sound.immortals c (ltb-true c 266 low)).kind) ∙ kind)))
+        | inl low ↦ inl (immortal_container c (sym (ap is_container (sound.immortals c (ltb-true c 266 low)).kind) ∙ kind))
         | inr high ↦ inr (held_lives h c sound (ltb-false c 266 high) (held_by_place h t lock.place c lock.there), kind)
       ];
       holds = occupies h t (number_in (row_at h t).locked) c sound (ap (λ o. place_at (frame_at h t) (number_in o)) lock.locked ∙ lock.there);

@@ -16,25 +16,29 @@ use Rattle.brc_runs.specs.Lists.{one, bit_of, word_at, with_bit}
 use Rattle.brc_runs.specs.Heap.{Heap, cell_at, entries_at, row_at, frame_at, popped_at, queue_at, no_row, words_for}
 use Rattle.brc_runs.specs.Steps.{thread_may, stepped, kept_cells, hand_after, is_shut, is_default, taken_word, with_taken, without_taken}
 use Rattle.brc_runs.specs.Holding.{lives, lives_at, carries, map_of, moves_of, passes, each_bit, popping, MakesMoves}
-use Rattle.brc_runs.specs.Sound.{IsSound}
+use Rattle.brc_runs.specs.Sound.{IsSound, held}
 use Rattle.brc_runs.proofs.Naming.{no_bit, one-le, sum_one, busy_hand, busy_carrier}
 use Rattle.brc_runs.proofs.Bitwise.{bit_of-lt, with_bit_here, with_bit_else, taken_here, taken_else, untaken_here, untaken_else}
 use Rattle.brc_runs.proofs.Asking.{May}
 use Rattle.brc_runs.proofs.Changes.{read_by, read_here, read_there}
-use Rattle.brc_runs.proofs.Lifetimes.{held_alive, alive_lives, held_lives, held_by_hand, held_by_bits}
+use Rattle.brc_runs.proofs.Lifetimes.{alive_lives, held_lives}
+use Rattle.brc_runs.proofs.Merging.{held_owner, carried_held}
+use Rattle.brc_runs.proofs.Queueing.{bits_once}
 use Rattle.brc_runs.proofs.Moving.{is_none, is_either, either_first, either_second, other_cell, from_one, instead_as, Own, by_owner, own_elsewhere, kept_own, Elsewhere, elsewhere, Lasting, At, at_named, same_held, same_map, passed_map, hand_shows, hand_hides, queue_shows, queue_hides, popped_shows, popped_hides}
 
--- ---- at most one reference is on its way
+-- ---- what is queued is held, and is in no hand
 
-pub one_token : (h : Heap) (c t s u : ℕ) → IsSound h → 266 ≤ c → bit_of (queue_at h t) c + bit_of (popped_at h s) c + one (carries c (row_at h u).hand) ≤ 1
-one_token h c t s u sound mortal =
+queued_held : (h : Heap) (t c : ℕ) → bit_of (queue_at h t) c ≡ 1 → 1 ≤ held h c
+queued_held h t c on = omega (arith, on, sum_one (λ (words : List ℕ). bit_of words c) h.queues t [] (no_bit c))
+
+carried_or_queued : (h : Heap) (t s c : ℕ) → IsSound h → 266 ≤ c → bit_of (queue_at h t) c + one (carries c (row_at h s).hand) ≤ 1
+carried_or_queued h t s c sound mortal =
     omega (
       arith,
       sound.most c mortal,
       one-le (not (is_default (cell_at h c).state)),
       sum_one (λ (words : List ℕ). bit_of words c) h.queues t [] (no_bit c),
-      sum_one (λ (words : List ℕ). bit_of words c) h.popped s [] (no_bit c),
-      sum_one (λ (row : Row). one (carries c row.hand)) h.rows u no_row refl,
+      sum_one (λ (row : Row). one (carries c row.hand)) h.rows s no_row refl,
     )
 
 -- ---- one word is popped
@@ -142,9 +146,9 @@ pub record Popped (h h' : Heap) (t c : ℕ) : Type 0 where
 popped_one : (h h' : Heap) (t k c : ℕ) → IsSound h → Taken h h' t k → c / 32 ≡ k → bit_of (queue_at h t) c ≡ 1 → Popped h h' t c
 popped_one h h' t k c sound taken word on =
     let mortal : 266 ≤ c = (sound.bits t c (omega (arith, on))).0 in
-    let off : bit_of (popped_at h t) c ≡ 0 = omega (arith, on, one_token h c t t t sound mortal) in
+    let off : bit_of (popped_at h t) c ≡ 0 = omega (arith, on, bits_once h t c sound) in
     record {
-      live = held_lives h c sound mortal (held_by_bits h t c (omega (arith, on)));
+      live = held_lives h c sound mortal (queued_held h t c on);
       queued = queue_shows h t c mortal on;
       unpopped = popped_hides h t c c off;
       unqueued = queue_hides h' t c c (ap (λ words. bit_of words c) taken.queue ∙ untaken_here k (queue_at h t) c word);
@@ -242,7 +246,7 @@ enqueue_moves A h t c sound ok =
     let busy : (row_at h t).hand ≡ hands.Busy phases.Asked c = busy_hand phases.Asked c _ at.may.hand in
     let mortal : 266 ≤ c = (sound.hands t c phases.Asked busy).mortal in
     let carried : one (carries c (row_at h t).hand) ≡ 1 = busy_carrier phases.Asked c _ refl busy in
-    let alive : lives (cell_at h c).owner ≡ true = held_alive h c sound mortal (held_by_hand h t c carried) in
+    let alive : lives (cell_at h c).owner ≡ true = held_owner h c sound mortal (carried_held h t c carried) in
     let queued : Queued h c = queued_at h c sound mortal at.inside alive in
     let own : (hand : Hand) → hand_after s c (cell_at h c) shut (row_at h t).hand ≡ hand → Own h h' t (frame_at h t) (popped_at h t) hand = λ hand e.
     subst (λ x. Own h h' t (frame_at h t) (popped_at h t) x) e at.own in
@@ -263,7 +267,7 @@ enqueue_moves A h t c sound ok =
               record {
                 from_no_entry = tt;
                 held = and_from _ _ (alive_lives h c mortal alive) (hand_shows h t c mortal (from_one _ carried));
-                not_yet = and_right (lives_at h c) _ (queue_hides h b c c (omega (arith, carried, one_token h c b t t sound mortal)));
+                not_yet = and_right (lives_at h c) _ (queue_hides h b c c (omega (arith, carried, carried_or_queued h b t c sound mortal)));
                 holder_is_new = refl;
               },
               tt,

@@ -1,5 +1,5 @@
 -- Lives, births and frees: what each event does to them, so that the run alone tells them.
-use Rattle.std.proofs.Common.{◌≡◌, ℕ, ◌+◌, ◌<◌, ◌≤◌, ◌==◌, ◌&&◌, ◌||◌, not, Bool, true, false, if◌then◌else◌, List, [], length, get_or, set, Option, Some, None, refl, sym, ◌∙◌, ap, subst, inl, inr, ◌⊎◌, arith}
+use Rattle.std.proofs.Common.{◌≡◌, ℕ, ◌+◌, ◌<◌, ◌≤◌, ◌==◌, ◌&&◌, ◌||◌, not, Bool, true, false, if◌then◌else◌, List, length, get_or, set, Option, Some, None, refl, sym, ◌∙◌, ap, subst, inl, inr, ◌⊎◌, arith}
 use Rattle.std.proofs.lemmas.List.{get_or_past}
 use Rattle.std.proofs.lemmas.Bool.{cases_Bool, or_cases, eq-eqb, ne_eqb, eqb-true, and_parts, and_right, or_parts, le-ltb, true≢false}
 use Rattle.brc_runs.specs.declared.cell.Cell.{Cell}
@@ -11,39 +11,26 @@ use Rattle.brc_runs.specs.declared.row.Hand.{Hand}
 use Rattle.brc_runs.specs.declared.row.Hand.TheVariants as hands
 use Rattle.brc_runs.specs.declared.row.Phase.TheVariants as phases
 use Rattle.brc_runs.specs.declared.row.Stage.{Stage}
-use Rattle.brc_runs.specs.Lists.{one, bit_of, is_marked}
-use Rattle.brc_runs.specs.Heap.{Heap, cell_at, row_at, popped_at, work_at, queue_at, no_cell, no_row, new_row, is_immortal, words_for}
+use Rattle.brc_runs.specs.Lists.{one, is_marked}
+use Rattle.brc_runs.specs.Heap.{Heap, cell_at, row_at, work_at, no_cell, no_row, new_row, is_immortal, words_for}
 use Rattle.brc_runs.specs.Steps.{enabled, after, after_target, root_after, needs_no_cell, hand_ok, untied_ok, cell_after, row_after, is_shut, thread_may, root_may, target_at, target_ok, allocs_after, frees_after, stage_after}
-use Rattle.brc_runs.specs.Holding.{lives, lives_at, carries, lives_since, lives_by, is_birth, is_free_step, holders_of, DiesUnheld}
+use Rattle.brc_runs.specs.Holding.{lives, lives_at, lives_since, lives_by, is_birth, is_free_step, holders_of, DiesUnheld}
 use Rattle.brc_runs.specs.Sound.{IsSound, HandFits, WorkFits, Births, held}
-use Rattle.brc_runs.proofs.Naming.{busy_hand, busy_carrier, free_owner, thread_owner, dead_unheld, no_bit, sum_one}
+use Rattle.brc_runs.proofs.Naming.{busy_hand, busy_carrier, free_owner, thread_owner}
 use Rattle.brc_runs.proofs.Asking.{May, may_parts, on_cell, OnCell}
 use Rattle.brc_runs.proofs.Changes.{read_by}
 use Rattle.brc_runs.proofs.Registering.{read_push}
 use Rattle.brc_runs.proofs.Counting.{marked_unheld}
+use Rattle.brc_runs.proofs.Merging.{held_owner, carried_held}
 use Rattle.brc_runs.proofs.Headlines.{length-holders, no_holders}
 
 -- ---- what is held lives
-
-pub held_alive : (h : Heap) (c : ℕ) → IsSound h → 266 ≤ c → 1 ≤ held h c → lives (cell_at h c).owner ≡ true
-held_alive h c sound mortal some =
-    elim (cases_Bool (lives (cell_at h c).owner)) [
-      | inl live ↦ live
-      | inr dead ↦ absurd (omega (arith, some, (dead_unheld h c sound mortal dead).sum))
-    ]
 
 pub alive_lives : (h : Heap) (c : ℕ) → 266 ≤ c → lives (cell_at h c).owner ≡ true → lives_at h c ≡ true
 alive_lives h c mortal live = ap (λ b. not b && lives (cell_at h c).owner) (le-ltb c 266 mortal) ∙ live
 
 pub held_lives : (h : Heap) (c : ℕ) → IsSound h → 266 ≤ c → 1 ≤ held h c → lives_at h c ≡ true
-held_lives h c sound mortal some = alive_lives h c mortal (held_alive h c sound mortal some)
-
-pub held_by_hand : (h : Heap) (t c : ℕ) → one (carries c (row_at h t).hand) ≡ 1 → 1 ≤ held h c
-held_by_hand h t c there = omega (arith, there, sum_one (λ (row : Row). one (carries c row.hand)) h.rows t no_row refl)
-
-pub held_by_bits : (h : Heap) (t c : ℕ) → 0 < bit_of (queue_at h t) c + bit_of (popped_at h t) c → 1 ≤ held h c
-held_by_bits h t c there =
-    omega (arith, there, sum_one (λ (words : List ℕ). bit_of words c) h.queues t [] (no_bit c), sum_one (λ (words : List ℕ). bit_of words c) h.popped t [] (no_bit c))
+held_lives h c sound mortal some = alive_lives h c mortal (held_owner h c sound mortal some)
 
 -- ---- lives
 
@@ -105,7 +92,7 @@ untied_alive h t c (hands.Busy p d) sound busy ok fits =
             ap lives said.fits
         | inr shut ↦
             let is : (row_at h t).hand ≡ hands.Busy phases.Shut c = busy ∙ busy_hand phases.Shut c _ shut in
-            held_alive h c sound (sound.hands t c phases.Shut is).mortal (held_by_hand h t c (busy_carrier phases.Shut c _ refl is))
+            held_owner h c sound (sound.hands t c phases.Shut is).mortal (carried_held h t c (busy_carrier phases.Shut c _ refl is))
       ]
     ]
 
