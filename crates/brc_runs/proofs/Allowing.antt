@@ -37,7 +37,7 @@ use Rattle.brc_runs.proofs.Registering.{read_push, new_bit}
 use Rattle.brc_runs.proofs.Lifetimes.{step_lives, either_way, held_lives, alive_lives, by_whom}
 use Rattle.brc_runs.proofs.Merging.{carried_held, popped_held}
 use Rattle.brc_runs.proofs.Sharing.{ending_hand, ending_reference}
-use Rattle.brc_runs.proofs.Moving.{eqb_turned, number_is, from_one, is_none, is_this, is_either, other_cell, Own, own_elsewhere, Elsewhere, other_place, put_after, At, at_named, moves_at, quiet_step, stepped_own, kept_own, Lasting, lasting, same_map, entries_map, added_map, removed_map, passed_map, with_as, elsewhere, frame_shows, frame_hides, hand_shows, hand_hides, popped_shows, popped_hides, no_place, is_unheld, unheld_in, is_vacant_place, filled_alike, vacated_alike, vacated_here, none_shows}
+use Rattle.brc_runs.proofs.Moving.{eqb_turned, number_is, from_one, is_none, is_this, is_either, other_cell, Own, own_elsewhere, Elsewhere, other_place, put_after, AtCell, at_named, moves_at, quiet_step, stepped_own, kept_own, Lasting, lasting, same_map, entries_map, added_map, removed_map, passed_map, with_as, elsewhere, frame_shows, frame_hides, hand_shows, hand_hides, popped_shows, popped_hides, no_place, is_unheld, unheld_in, is_vacant_place, filled_alike, vacated_alike, vacated_here, none_shows}
 use Rattle.brc_runs.proofs.Exchanging.{unlock_moves}
 use Rattle.brc_runs.proofs.Handing.{enqueue_moves, taken_by, pop_moves}
 
@@ -264,7 +264,7 @@ asked_moves A h h' t c (dropped.Work d) sound mortal named free own queues entri
       ),
     )
 
-ask_moves : (A : Type 0) (h : Heap) (t c : ℕ) (drop : Dropped) → IsSound h → At h t (Ask drop) c → MakesMoves {A = A} (map_of h) (moves_of h t (Ask drop) (Some c)) (map_of (stepped h t (Ask drop) c))
+ask_moves : (A : Type 0) (h : Heap) (t c : ℕ) (drop : Dropped) → IsSound h → AtCell h t (Ask drop) c → MakesMoves {A = A} (map_of h) (moves_of h t (Ask drop) (Some c)) (map_of (stepped h t (Ask drop) c))
 ask_moves A h t c drop sound at =
     let s : Step = Ask drop in
     let h' : Heap = stepped h t s c in
@@ -284,7 +284,7 @@ ask_moves A h t c drop sound at =
 
 -- ---- a reference on its way ends
 
-popped_moves : (A : Type 0) (h : Heap) (t c : ℕ) → IsSound h → At h t (LastDown (lasts.Popped c)) c
+popped_moves : (A : Type 0) (h : Heap) (t c : ℕ) → IsSound h → AtCell h t (LastDown (lasts.Popped c)) c
     → MakesMoves {A = A} (map_of h) (moves.Remove c (holders.Popped t c) ∷ []) (map_of (stepped h t (LastDown (lasts.Popped c)) c))
 popped_moves A h t c sound at =
     let h' : Heap = stepped h t (LastDown (lasts.Popped c)) c in
@@ -297,7 +297,7 @@ popped_moves A h t c sound at =
           (λ q kept. without_bit_else (popped_at h t) c q (other_cell c (holders.Popped t) q kept)) (λ q _. refl) (λ j q _. refl)),
     )
 
-hand_moves : (A : Type 0) (h : Heap) (t c : ℕ) → IsSound h → At h t (LastDown lasts.Hand) c
+hand_moves : (A : Type 0) (h : Heap) (t c : ℕ) → IsSound h → AtCell h t (LastDown lasts.Hand) c
     → MakesMoves {A = A} (map_of h) (moves.Remove c (holders.Hand t c) ∷ []) (map_of (stepped h t (LastDown lasts.Hand) c))
 hand_moves A h t c sound at =
     let h' : Heap = stepped h t (LastDown lasts.Hand) c in

@@ -20,7 +20,7 @@ use Rattle.brc_runs.proofs.Asking.{vacant}
 use Rattle.brc_runs.proofs.Dropping.{held_by_place}
 use Rattle.brc_runs.proofs.Locking.{immortal_container}
 use Rattle.brc_runs.proofs.Lifetimes.{held_lives}
-use Rattle.brc_runs.proofs.Moving.{is_this, this_one, at_this, own_elsewhere, elsewhere, At, quiet_step, entries_map, frame_shows, frame_hides, is_vacant_place, filled_alike, vacated_alike, vacated_here, none_shows, mortal_number}
+use Rattle.brc_runs.proofs.Moving.{is_this, this_one, at_this, own_elsewhere, elsewhere, AtCell, quiet_step, entries_map, frame_shows, frame_hides, is_vacant_place, filled_alike, vacated_alike, vacated_here, none_shows, mortal_number}
 
 -- ---- a place that a mortal cell takes or leaves
 
@@ -96,7 +96,7 @@ record Opened (h : Heap) (t c : ℕ) (change : Change) : Type 0 where
   ok : change_ok (row_at h t).locked (frame_at h t) (entries_at h c) change ≡ true
   unlocked : (j : ℕ) → is_unlocked (row_at h t).locked j ≡ true → j ≢ number_in (row_at h t).locked
 
-opened : (h : Heap) (t c : ℕ) (change : Change) → IsSound h → At h t (Unlock change) c → is_keep change ≡ false → Opened h t c change
+opened : (h : Heap) (t c : ℕ) (change : Change) → IsSound h → AtCell h t (Unlock change) c → is_keep change ≡ false → Opened h t c change
 opened h t c change sound at more =
     let lock : Locked h t c = locked_at h t c (row_at h t).locked refl at.named in
     let kind : is_container (cell_at h c).kind ≡ true = elim (or_cases (is_keep change) (is_container (cell_at h c).kind) at.fits) [
@@ -115,7 +115,7 @@ opened h t c change sound at more =
     }
 
 -- all places but those of the change are as they were
-places_after : (h : Heap) (t c : ℕ) (change : Change) (these : ℕ → Holder → Bool) → At h t (Unlock change) c
+places_after : (h : Heap) (t c : ℕ) (change : Change) (these : ℕ → Holder → Bool) → AtCell h t (Unlock change) c
     → ((i q : ℕ) → is_immortal q ≡ false → these q (holders.Frame t i) ≡ false → is_number (place_at (frame_changed change (entries_at h c) (frame_at h t)) i) q ≡ is_number (place_at (frame_at h t) i) q)
     → (q : ℕ) (p : Holder) → these q p ≡ false → (map_of (stepped h t (Unlock change) c)).held q p ≡ (map_of h).held q p
 places_after h t c change these at frames =
@@ -124,7 +124,7 @@ places_after h t c change these at frames =
 -- ---- each change
 
 -- one moves in
-put_moves : (A : Type 0) (h : Heap) (t c j : ℕ) → IsSound h → At h t (Unlock (changes.Put j)) c
+put_moves : (A : Type 0) (h : Heap) (t c j : ℕ) → IsSound h → AtCell h t (Unlock (changes.Put j)) c
     → MakesMoves {A = A} (map_of h) (moves_of h t (Unlock (changes.Put j)) (Some c)) (map_of (stepped h t (Unlock (changes.Put j)) c))
 put_moves A h t c j sound at =
     let h' : Heap = stepped h t (Unlock (changes.Put j)) c in
@@ -149,7 +149,7 @@ put_moves A h t c j sound at =
     )
 
 -- one moves out
-take_moves : (A : Type 0) (h : Heap) (t c i j : ℕ) → IsSound h → At h t (Unlock (changes.Take i j)) c
+take_moves : (A : Type 0) (h : Heap) (t c i j : ℕ) → IsSound h → AtCell h t (Unlock (changes.Take i j)) c
     → MakesMoves {A = A} (map_of h) (moves_of h t (Unlock (changes.Take i j)) (Some c)) (map_of (stepped h t (Unlock (changes.Take i j)) c))
 take_moves A h t c i j sound at =
     let h' : Heap = stepped h t (Unlock (changes.Take i j)) c in
@@ -174,7 +174,7 @@ take_moves A h t c i j sound at =
     )
 
 -- two are exchanged
-swap_moves : (A : Type 0) (h : Heap) (t c i j : ℕ) → IsSound h → At h t (Unlock (changes.Swap i j)) c
+swap_moves : (A : Type 0) (h : Heap) (t c i j : ℕ) → IsSound h → AtCell h t (Unlock (changes.Swap i j)) c
     → MakesMoves {A = A} (map_of h) (moves_of h t (Unlock (changes.Swap i j)) (Some c)) (map_of (stepped h t (Unlock (changes.Swap i j)) c))
 swap_moves A h t c i j sound at =
     let h' : Heap = stepped h t (Unlock (changes.Swap i j)) c in
@@ -205,7 +205,7 @@ swap_moves A h t c i j sound at =
           (λ same. shows n (placed_apart t j cell n k (or_parts _ _ kept).0 mortal same)) (placed_apart t j old n k (or_parts _ _ kept).1 mortal)) q p (or_from _ _ not_cell not_old))))),
     )
 
-pub unlock_moves : (A : Type 0) (h : Heap) (t c : ℕ) (change : Change) → IsSound h → At h t (Unlock change) c
+pub unlock_moves : (A : Type 0) (h : Heap) (t c : ℕ) (change : Change) → IsSound h → AtCell h t (Unlock change) c
     → MakesMoves {A = A} (map_of h) (moves_of h t (Unlock change) (Some c)) (map_of (stepped h t (Unlock change) c))
 unlock_moves A h t c changes.Keep sound at = quiet_step h t (Unlock changes.Keep) c at refl refl (λ q. refl) refl (λ q. ap (λ lists. get_or lists q []) (set-get_or h.entries c []))
 unlock_moves A h t c (changes.Put j) sound at = put_moves A h t c j sound at

@@ -24,7 +24,7 @@ use Rattle.brc_runs.proofs.Changes.{read_by, read_here, read_there}
 use Rattle.brc_runs.proofs.Lifetimes.{alive_lives, held_lives}
 use Rattle.brc_runs.proofs.Merging.{held_owner, carried_held}
 use Rattle.brc_runs.proofs.Queueing.{bits_once}
-use Rattle.brc_runs.proofs.Moving.{is_none, is_either, either_first, either_second, other_cell, from_one, instead_as, Own, by_owner, own_elsewhere, kept_own, Elsewhere, elsewhere, Lasting, At, at_named, same_held, same_map, passed_map, hand_shows, hand_hides, queue_shows, queue_hides, popped_shows, popped_hides}
+use Rattle.brc_runs.proofs.Moving.{is_none, is_either, either_first, either_second, other_cell, from_one, instead_as, Own, by_owner, own_elsewhere, kept_own, Elsewhere, elsewhere, Lasting, AtCell, at_named, same_held, same_map, passed_map, hand_shows, hand_hides, queue_shows, queue_hides, popped_shows, popped_hides}
 
 -- ---- what is queued is held, and is in no hand
 
@@ -242,7 +242,7 @@ enqueue_moves A h t c sound ok =
     let h' : Heap = stepped h t s c in
     let b : ℕ = (cell_at h c).bore in
     let shut : Bool = is_shut h c in
-    let at : At h t s c = at_named h t s c refl sound ok refl in
+    let at : AtCell h t s c = at_named h t s c refl sound ok refl in
     let busy : (row_at h t).hand ≡ hands.Busy phases.Asked c = busy_hand phases.Asked c _ at.may.hand in
     let mortal : 266 ≤ c = (sound.hands t c phases.Asked busy).mortal in
     let carried : one (carries c (row_at h t).hand) ≡ 1 = busy_carrier phases.Asked c _ refl busy in

@@ -362,7 +362,7 @@ none_shows frame k q none = ap (λ o. is_number o q) none
 -- ---- a thread's step at its cell
 
 -- what stands at the cell of an enabled step that is no birth and no free
-pub record At (h : Heap) (t : ℕ) (s : Step) (c : ℕ) : Type 0 where
+pub record AtCell (h : Heap) (t : ℕ) (s : Step) (c : ℕ) : Type 0 where
   pub named : target_at h t s ≡ Some c
   pub may : May h t s
   pub inside : c < length h.cells
@@ -370,7 +370,7 @@ pub record At (h : Heap) (t : ℕ) (s : Step) (c : ℕ) : Type 0 where
   pub lasting : Lasting h (stepped h t s c)
   pub own : Own h (stepped h t s c) t (frame_after s c (cell_at h c) (entries_at h c) (frame_at h t)) (popped_after s (popped_at h t)) (hand_after s c (cell_at h c) (is_shut h c) (row_at h t).hand)
 
-pub at_named : (h : Heap) (t : ℕ) (s : Step) (c : ℕ) → target_at h t s ≡ Some c → IsSound h → thread_may h t s ≡ true → is_of_life s ≡ false → At h t s c
+pub at_named : (h : Heap) (t : ℕ) (s : Step) (c : ℕ) → target_at h t s ≡ Some c → IsSound h → thread_may h t s ≡ true → is_of_life s ≡ false → AtCell h t s c
 at_named h t s c named sound ok plain =
     let may : May h t s = may_parts h t s ok in
     let on : OnCell h t s c = on_cell h t s c (subst (λ o. target_ok h t (row_at h t) s o ≡ true) named may.on_target) in
@@ -385,7 +385,7 @@ at_named h t s c named sound ok plain =
 
 -- a step that needs a cell has one
 pub moves_at : (A : Type 0) (h : Heap) (t : ℕ) (s : Step) → IsSound h → thread_may h t s ≡ true → is_of_life s ≡ false → needs_no_cell s ≡ false
-    → ((c : ℕ) → At h t s c → MakesMoves {A = A} (map_of h) (moves_of h t s (Some c)) (map_of (stepped h t s c)))
+    → ((c : ℕ) → AtCell h t s c → MakesMoves {A = A} (map_of h) (moves_of h t s (Some c)) (map_of (stepped h t s c)))
     → MakesMoves {A = A} (map_of h) (moves_of h t s (target_at h t s)) (map_of (after_target h t s (target_at h t s)))
 moves_at A h t s sound ok plain needs step = named_by (target_at h t s) refl
   where
@@ -394,7 +394,7 @@ moves_at A h t s sound ok plain needs step = named_by (target_at h t s) refl
     named_by (Some c) named = step c (at_named h t s c named sound ok plain)
 
 -- a step that moves no reference
-pub quiet_step : (h : Heap) (t : ℕ) (s : Step) (c : ℕ) → At h t s c → frame_after s c (cell_at h c) (entries_at h c) (frame_at h t) ≡ frame_at h t → popped_after s (popped_at h t) ≡ popped_at h t
+pub quiet_step : (h : Heap) (t : ℕ) (s : Step) (c : ℕ) → AtCell h t s c → frame_after s c (cell_at h c) (entries_at h c) (frame_at h t) ≡ frame_at h t → popped_after s (popped_at h t) ≡ popped_at h t
     → ((q : ℕ) → carries q (hand_after s c (cell_at h c) (is_shut h c) (row_at h t).hand) ≡ carries q (row_at h t).hand) → queues_after h s c ≡ h.queues
     → ((q : ℕ) → entries_at (stepped h t s c) q ≡ entries_at h q) → Same (map_of h) (map_of (stepped h t s c))
 quiet_step h t s c at frame popped hand queues entries =
