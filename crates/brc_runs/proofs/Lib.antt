@@ -26,4 +26,6 @@ pub mod Beginning
 pub mod Headlines
 pub mod Lifetimes
 pub mod Moving
+pub mod Handing
+pub mod Exchanging
 pub mod Allowing
