@@ -1,7 +1,7 @@
 -- How large the numbers of a reached world get.
 use Rattle.std.proofs.Common.{◌≡◌, ℕ, ◌<◌, ◌≤◌, ◌^◌, List, [], ◌∷◌, length, drop, sum_by, count_by, cond, pos, negsuc, ◌≤ℤ◌, ◌<ℤ◌, true, false, refl, arith, length-drop}
 use Rattle.std.proofs.lemmas.List.Sums.{sum_by-cons, count_by-le-length}
-use Rattle.brc_core.proofs.Sizes.{reached_births, reached_counts}
+use Rattle.brc_runs.proofs.Sizes.{reached_births, reached_counts}
 use Rattle.brc_runs.proofs.Reached.{reached_sound, reached_headline}
 use Rattle.brc_runs.specs.declared.cell.Cell.{Cell}
 use Rattle.brc_runs.specs.Lists.{one}

@@ -1,6 +1,6 @@
 pub mod Bounds
 pub mod Eaches
+pub mod Enabling
+pub mod Parting
 pub mod Reaching
-pub mod Sizes
-pub mod Targets
 pub mod Turns

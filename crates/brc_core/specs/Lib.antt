@@ -1,3 +1,4 @@
+pub mod Changes
 pub mod Memory
 pub mod Moves
 pub mod Parts

@@ -1,16 +1,22 @@
--- Which steps may need memory: those that fill a place of a frame, and a registration.
+-- Which steps may need memory: those that fill a place of a frame or add an entry, and a registration.
 use Rattle.std.specs.Prelude.{Bool, true, false}
+use Rattle.brc_runs.specs.declared.event.Change.{Change}
+use Rattle.brc_runs.specs.declared.event.Change.TheVariants as changes
 use Rattle.brc_runs.specs.declared.event.Step.{Step}
-use Rattle.brc_runs.specs.declared.event.Step.TheVariants.{Claim, InitLocal, InitShared, Birth, LocalUp, LocalDown, SeeZero, Free, Register}
+use Rattle.brc_runs.specs.declared.event.Step.TheVariants.{Birth, LocalUp, SharedUp, Unlock, Register}
+
+-- an exchange fills a place that has a cell
+abbrev pub moves_one : Change → Bool
+moves_one changes.Keep = false
+moves_one (changes.Put j) = true
+moves_one (changes.Take i j) = true
+moves_one (changes.Swap i j) = false
 
 -- a growth may be refused at this step
 abbrev pub needs_memory : Step → Bool
-needs_memory (Claim c) = false
-needs_memory (InitLocal c) = false
-needs_memory (InitShared c) = false
 needs_memory (Birth c kind k) = true
 needs_memory (LocalUp source k) = true
-needs_memory (LocalDown drop) = false
-needs_memory (SeeZero c) = false
-needs_memory (Free c) = false
+needs_memory (SharedUp source k) = true
+needs_memory (Unlock change) = moves_one change
 needs_memory (Register u) = true
+needs_memory _ = false

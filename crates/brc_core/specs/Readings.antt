@@ -9,7 +9,7 @@ use Rattle.brc_runs.specs.declared.row.Stage.{Stage}
 use Rattle.brc_runs.specs.declared.row.Stage.TheVariants as stages
 use Rattle.brc_runs.specs.Heap.{Heap, cell_at, row_at, is_immortal, is_registered, is_gathered}
 use Rattle.brc_runs.specs.Holding.{lives_at, holders_of}
-use Rattle.brc_runs.specs.Sound.{is_merged}
+use Rattle.brc_runs.specs.Steps.{is_merged}
 
 -- this, where the test holds
 abbrev pub only_if : {A : Type 0} → Bool → A → Option A

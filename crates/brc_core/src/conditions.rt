@@ -1,22 +1,26 @@
-//! When a step is enabled: what a thread's row must be, and what the one cell must be.
+//! When a step is enabled: what its thread's stage, lock and hand must be.
 
 ghost use Rattle.std.specs.Prelude.{◌≡◌};
-ghost use Rattle.brc_runs.specs.Steps.{reads_entries, lock_ok, may_after_leaving, stage_ok, phase_number, is_free_hand, is_at, hand_ok, is_active, is_owned_by, is_free, is_mine, cell_ok};
+ghost use Rattle.brc_runs.specs.Steps.{needs_lock, lock_ok, is_close, may_after_leaving, stage_ok, phase_number, is_free_hand, is_at, is_ending, is_ending_hand, hand_ok, is_active, is_left, is_closed, closes_next};
 
-use brc_runs::{Cell, Hand, Phase, Source, Stage, Step, is_immortal};
-use brc_words::{FIRST_MORTAL, Owner};
+use brc_runs::{Hand, LastDropped, Phase, Source, Stage, Step};
 
-/// Whether the step takes its cell from the locked object's entries.
-fn reads_entries(step: Step) -> bool
-    ensures { result ≡ reads_entries step }
+/// Whether the step is one of those that are made while an object is locked.
+fn needs_lock(step: Step) -> bool
+    ensures { result ≡ needs_lock step }
 {
-    matches!(
-        step,
+    match step {
         Step::LocalUp {
             source: Source::Entry(_),
             ..
-        }
-    )
+        } => true,
+        Step::SharedUp {
+            source: Source::Entry(_),
+            ..
+        } => true,
+        Step::Unlock(_) => true,
+        _ => false,
+    }
 }
 
 /// Whether the step fits the lock that the thread has.
@@ -24,16 +28,34 @@ pub(crate) fn lock_ok(locked: Option<u32>, step: Step) -> bool
     ensures { result ≡ lock_ok locked step }
 {
     match locked {
-        None => !reads_entries(step),
-        Some(_) => reads_entries(step),
+        None => !needs_lock(step),
+        Some(_) => needs_lock(step),
     }
+}
+
+/// Whether the step closes a queue word.
+fn is_close(step: Step) -> bool
+    ensures { result ≡ is_close step }
+{
+    matches!(step, Step::Close(_))
 }
 
 /// Whether a thread that has left may still make the step.
 fn may_after_leaving(step: Step) -> bool
     ensures { result ≡ may_after_leaving step }
 {
-    matches!(step, Step::LocalDown(_) | Step::Free(_))
+    matches!(
+        step,
+        Step::LocalDown(_)
+            | Step::SharedDown(_)
+            | Step::Ask(_)
+            | Step::LastDown(_)
+            | Step::Enqueue(_)
+            | Step::Untie(_)
+            | Step::MergeAdd(_)
+            | Step::Free(_)
+            | Step::Nudge { .. }
+    )
 }
 
 /// Whether the step fits how far the thread's life is.
@@ -42,7 +64,7 @@ pub(crate) fn stage_ok(stage: Stage, step: Step) -> bool
 {
     match stage {
         Stage::Active => true,
-        Stage::Closing(_) => false,
+        Stage::Closing(_) => is_close(step),
         Stage::Left => may_after_leaving(step),
     }
 }
@@ -67,7 +89,7 @@ fn phase_number(phase: Phase) -> u8
 }
 
 /// Whether the hand has nothing.
-fn is_free_hand(hand: Hand) -> bool
+pub(crate) fn is_free_hand(hand: Hand) -> bool
     ensures { result ≡ is_free_hand hand }
 {
     match hand {
@@ -86,6 +108,35 @@ fn is_at(wanted: Phase, cell: u32, hand: Hand) -> bool
     }
 }
 
+/// Whether the shared word may count down the reference in a hand of this phase.
+fn is_ending(phase: Phase) -> bool
+    ensures { result ≡ is_ending phase }
+{
+    match phase {
+        Phase::Claimed => false,
+        Phase::Counted => false,
+        Phase::Ready => false,
+        Phase::Zero => false,
+        Phase::Over => false,
+        Phase::Untied => false,
+        Phase::Asked => true,
+        Phase::Shut => true,
+        Phase::Taking => false,
+        Phase::Held => true,
+        Phase::Popping => false,
+    }
+}
+
+/// Whether the hand has a reference that the shared word may count down.
+fn is_ending_hand(hand: Hand) -> bool
+    ensures { result ≡ is_ending_hand hand }
+{
+    match hand {
+        Hand::Free => false,
+        Hand::Busy(phase, _) => is_ending(phase),
+    }
+}
+
 /// Whether the step fits what the thread carries.
 pub(crate) fn hand_ok(hand: Hand, step: Step) -> bool
     ensures { result ≡ hand_ok hand step }
@@ -99,12 +150,33 @@ pub(crate) fn hand_ok(hand: Hand, step: Step) -> bool
         Step::LocalDown(_) => is_free_hand(hand),
         Step::SeeZero(cell) => is_at(Phase::Zero, cell, hand),
         Step::Free(_) => is_free_hand(hand),
+        Step::Untie(cell) => {
+            is_at(Phase::Over, cell, hand) || is_at(Phase::Shut, cell, hand) || is_free_hand(hand)
+        }
+        Step::MergeZero(cell) => is_at(Phase::Untied, cell, hand),
+        Step::SharedUp { .. } => is_free_hand(hand),
+        Step::SharedDown(_) => is_free_hand(hand),
+        Step::Ask(_) => is_free_hand(hand),
+        Step::LastDown(LastDropped::Dropped(_)) => is_free_hand(hand),
+        Step::LastDown(LastDropped::Popped(_)) => is_free_hand(hand),
+        Step::LastDown(LastDropped::Hand) => is_ending_hand(hand),
+        Step::Enqueue(cell) => is_at(Phase::Asked, cell, hand),
+        Step::Drain(_) => is_free_hand(hand),
+        Step::MergeAdd(cell) => {
+            is_at(Phase::Taking, cell, hand) || is_at(Phase::Popping, cell, hand)
+        }
+        Step::Close(_) => is_free_hand(hand),
+        Step::Nudge { .. } => is_free_hand(hand),
+        Step::Wake => is_free_hand(hand),
+        Step::Lock(_) => is_free_hand(hand),
+        Step::Unlock(_) => is_free_hand(hand),
         Step::Register(_) => false,
+        Step::Gather(_) => false,
     }
 }
 
 /// Whether the thread runs.
-fn is_active(stage: Stage) -> bool
+pub(crate) fn is_active(stage: Stage) -> bool
     ensures { result ≡ is_active stage }
 {
     match stage {
@@ -114,54 +186,35 @@ fn is_active(stage: Stage) -> bool
     }
 }
 
-/// Whether the thread owns what has this owner.
-fn is_owned_by(thread: u32, owner: Owner) -> bool
-    ensures { result ≡ is_owned_by thread owner }
+/// Whether the thread has closed all its queue words.
+pub(crate) fn is_left(stage: Stage) -> bool
+    ensures { result ≡ is_left stage }
 {
-    match owner {
-        Owner::Nobody => false,
-        Owner::Thread(there) => there == thread,
-        Owner::Claimed(_) => false,
-        Owner::Free => false,
+    match stage {
+        Stage::Active => false,
+        Stage::Closing(_) => false,
+        Stage::Left => true,
     }
 }
 
-/// Whether no object is there and none is being made.
-fn is_free(owner: Owner) -> bool
-    ensures { result ≡ is_free owner }
+/// Whether the queue word is one of those that the thread has closed.
+pub(crate) fn is_closed(stage: Stage, word: u32) -> bool
+    ensures { result ≡ is_closed stage word }
 {
-    match owner {
-        Owner::Nobody => false,
-        Owner::Thread(_) => false,
-        Owner::Claimed(_) => false,
-        Owner::Free => true,
+    match stage {
+        Stage::Active => false,
+        Stage::Closing(closed) => word < closed,
+        Stage::Left => true,
     }
 }
 
-/// Whether the thread counts on the cell's local word.
-fn is_mine(thread: u32, stage: Stage, found: Cell) -> bool
-    ensures { result ≡ is_mine thread stage found }
+/// Whether the queue word is the next that the thread closes.
+pub(crate) fn closes_next(stage: Stage, word: u32) -> bool
+    ensures { result ≡ closes_next stage word }
 {
-    is_owned_by(thread, found.owner) && is_active(stage)
-}
-
-/// Whether the one cell that the step means is as it must be.
-pub(crate) fn cell_ok(
-    limit: u32,
-    thread: u32,
-    stage: Stage,
-    step: Step,
-    cell: u32,
-    found: Cell,
-) -> bool
-    ensures { result ≡ cell_ok limit thread stage step cell found }
-{
-    match step {
-        Step::Claim(_) => FIRST_MORTAL <= cell && is_free(found.owner),
-        Step::LocalUp { .. } => {
-            is_immortal(cell) || (is_mine(thread, stage, found) && found.local < limit)
-        }
-        Step::LocalDown(_) => is_immortal(cell) || is_mine(thread, stage, found),
-        _ => true,
+    match stage {
+        Stage::Active => word == 0,
+        Stage::Closing(closed) => word == closed,
+        Stage::Left => false,
     }
 }

@@ -1,21 +1,24 @@
-//! What a step does to the one cell, and to what its thread carries and has counted.
+//! What a step does to the one cell, and which references and marks go or come with it.
 
-ghost use Rattle.std.specs.Prelude.{◌≡◌, ◌+◌, ◌<◌, ◌^◌, true};
-ghost use Rattle.brc_runs.specs.Steps.{cell_ok, cell_after, is_default, is_zero, is_untouched, hand_after, allocs_after, frees_after, row_after};
+ghost use Rattle.std.specs.Prelude.{◌≡◌, true};
+ghost use Rattle.brc_core.specs.Changes.{CountFits, filled_place, born_cell, settled_cell, is_enqueue, is_free_step};
+ghost use Rattle.brc_runs.specs.Steps.{cell_ok, cell_after, is_untouched, takes_block, gone};
 
-use brc_runs::{Cell, Hand, Phase, Row, Stage, Step, is_immortal};
+use crate::cell_conditions::{is_default, is_merged, is_zero};
+use brc_runs::{Cell, Dropped, LastDropped, Row, Step, is_immortal};
 use brc_words::{Owner, State};
 
 /// The cell after the step.
 pub(crate) fn cell_after(
     limit: u32,
     thread: u32,
-    stage: Stage,
+    row: Row,
     step: Step,
     cell: u32,
     found: Cell,
 ) -> Cell
-    requires { cell_ok limit thread stage step cell found ≡ true }
+    requires ok { cell_ok limit thread row step cell found ≡ true }
+    requires count { CountFits found.count }
 
     ensures { result ≡ cell_after thread step cell found }
 {
@@ -61,18 +64,53 @@ pub(crate) fn cell_after(
             owner: Owner::Free,
             ..found
         },
+        Step::Untie(_) => Cell {
+            owner: Owner::Nobody,
+            ..found
+        },
+        Step::MergeZero(_) => Cell {
+            state: State::Merged,
+            ..found
+        },
+        Step::SharedUp { .. } => Cell {
+            count: found.count + 1,
+            ..found
+        },
+        Step::SharedDown(_) => Cell {
+            count: found.count - 1,
+            ..found
+        },
+        Step::Ask(_) => {
+            if is_default(found.state) {
+                Cell {
+                    state: State::Queued,
+                    ..found
+                }
+            } else {
+                found
+            }
+        }
+        Step::LastDown(_) => Cell {
+            count: found.count - 1,
+            ..found
+        },
+        Step::Enqueue(_) => found,
+        Step::Drain(_) => found,
+        Step::MergeAdd(_) => Cell {
+            count: found.count + found.local as i64,
+            state: State::Merged,
+            ..found
+        },
+        Step::Close(_) => found,
+        Step::Nudge { .. } => found,
+        Step::Wake => found,
+        Step::Lock(_) => Cell {
+            mutex: thread,
+            ..found
+        },
+        Step::Unlock(_) => Cell { mutex: 0, ..found },
         Step::Register(_) => found,
-    }
-}
-
-/// Whether nobody has asked for the object's counts.
-fn is_default(state: State) -> bool
-    ensures { result ≡ is_default state }
-{
-    match state {
-        State::Default => true,
-        State::Queued => false,
-        State::Merged => false,
+        Step::Gather(_) => found,
     }
 }
 
@@ -80,57 +118,84 @@ fn is_default(state: State) -> bool
 pub(crate) fn is_untouched(found: Cell) -> bool
     ensures { result ≡ is_untouched found }
 {
-    found.count == 0 && is_default(found.state)
+    is_zero(found.count) && is_default(found.state)
 }
 
-/// What the thread carries after the step.
-fn hand_after(step: Step, cell: u32, found: Cell, hand: Hand) -> Hand
-    ensures { result ≡ hand_after step cell found hand }
+/// Whether the object is dead with this step.
+pub(crate) fn takes_block(step: Step, found: Cell) -> bool
+    requires { CountFits found.count }
+
+    ensures { result ≡ takes_block step found }
 {
     match step {
-        Step::Claim(_) => Hand::Busy(Phase::Claimed, cell),
-        Step::InitLocal(_) => Hand::Busy(Phase::Counted, cell),
-        Step::InitShared(_) => Hand::Busy(Phase::Ready, cell),
-        Step::Birth { .. } => Hand::Free,
-        Step::LocalUp { .. } => hand,
-        Step::LocalDown(_) => {
-            if !is_immortal(cell) && found.local == 1 {
-                Hand::Busy(Phase::Zero, cell)
-            } else {
-                hand
-            }
-        }
-        Step::SeeZero(_) => {
-            if is_untouched(found) {
-                Hand::Free
-            } else {
-                Hand::Busy(Phase::Over, cell)
-            }
-        }
-        Step::Free(_) => hand,
-        Step::Register(_) => hand,
+        Step::SeeZero(_) => is_untouched(found),
+        Step::MergeZero(_) => is_zero(found.count),
+        Step::LastDown(_) => is_merged(found.state) && is_zero(found.count - 1),
+        _ => false,
     }
 }
 
-/// The thread's row after the step.
-pub(crate) fn row_after(step: Step, cell: u32, found: Cell, row: Row) -> Row
-    requires allocs { row.allocs + 1 < 2 ^ 64 }
-    requires frees { row.frees + 1 < 2 ^ 64 }
-
-    ensures { result ≡ row_after step cell found row }
+/// The reference that goes from a place or from entries.
+pub(crate) fn gone(step: Step, found: Cell) -> Option<Dropped>
+    ensures { result ≡ gone step found }
 {
-    let hand = hand_after(step, cell, found, row.hand);
     match step {
-        Step::Birth { .. } => Row {
-            hand,
-            allocs: row.allocs + 1,
-            ..row
-        },
-        Step::Free(_) => Row {
-            hand,
-            frees: row.frees + 1,
-            ..row
-        },
-        _ => Row { hand, ..row },
+        Step::LocalDown(dropped) => Some(dropped),
+        Step::SharedDown(dropped) => Some(dropped),
+        Step::Ask(dropped) => {
+            if is_default(found.state) {
+                Some(dropped)
+            } else {
+                None
+            }
+        }
+        Step::LastDown(LastDropped::Dropped(dropped)) => Some(dropped),
+        _ => None,
     }
+}
+
+/// The place that is filled.
+pub(crate) fn filled_place(step: Step) -> Option<u32>
+    ensures { result ≡ filled_place step }
+{
+    match step {
+        Step::Birth { place, .. } => Some(place),
+        Step::LocalUp { place, .. } => Some(place),
+        Step::SharedUp { place, .. } => Some(place),
+        _ => None,
+    }
+}
+
+/// The cell whose object is born.
+pub(crate) fn born_cell(step: Step) -> Option<u32>
+    ensures { result ≡ born_cell step }
+{
+    match step {
+        Step::Birth { cell, .. } => Some(cell),
+        _ => None,
+    }
+}
+
+/// The popped entry that is dealt with.
+pub(crate) fn settled_cell(step: Step) -> Option<u32>
+    ensures { result ≡ settled_cell step }
+{
+    match step {
+        Step::LastDown(LastDropped::Popped(cell)) => Some(cell),
+        _ => None,
+    }
+}
+
+/// Whether the cell goes into a merge queue.
+pub(crate) fn is_enqueue(step: Step) -> bool
+    ensures { result ≡ is_enqueue step }
+{
+    matches!(step, Step::Enqueue(_))
+}
+
+/// Whether a block is given back.
+pub(crate) fn is_free_step(step: Step) -> bool
+    ensures { result ≡ is_free_step step }
+{
+    matches!(step, Step::Free(_))
 }

@@ -1,8 +1,9 @@
 //! The frame of a thread: numbered places, each vacant or with the cell that it holds.
 
-ghost use Rattle.std.specs.Prelude.{◌≡◌, [], OnOk, OnErr};
-ghost use Rattle.brc_runs.specs.Lists.{place_at, filled, vacated};
+ghost use Rattle.std.specs.Prelude.{◌≡◌, [], true, is_some, OnOk, OnErr, slice_set};
+ghost use Rattle.brc_runs.specs.Lists.{place_at, reaching, filled, vacated, is_bare};
 
+use crate::tally::recount;
 use std::alloc::{AllocError, Allocator};
 use std::marker::Model;
 
@@ -10,14 +11,19 @@ use std::marker::Model;
 #[derive(Drop)]
 pub(crate) struct Frame<A: Allocator> {
     places: Vec<Option<u32>, A>,
+    // How many have a cell, so that whether none has takes no search.
+    holding: usize,
 }
 
 impl<A: Allocator> Model for Frame<A> {
-    ghost use Rattle.std.specs.Prelude.{ℕ, List, Option};
+    ghost use Rattle.std.specs.Prelude.{◌≡◌, ℕ, List, Option};
+    ghost use Rattle.brc_runs.specs.Lists.{filled_places};
 
     ghost Value = { List (Option ℕ) };
 
     ghost view = { λ f. f.places.items };
+
+    ghost invariant = { λ f. f.holding ≡ filled_places f.places.items };
 }
 
 impl<A: Allocator> Frame<A> {
@@ -27,6 +33,7 @@ impl<A: Allocator> Frame<A> {
     {
         Frame {
             places: Vec::new(alloc),
+            holding: 0,
         }
     }
 
@@ -44,27 +51,60 @@ impl<A: Allocator> Frame<A> {
         self.places.get(place as usize).copied().unwrap_or(None)
     }
 
-    /// The place gets this cell. A refused growth changes nothing.
-    pub(crate) fn fill(&mut self, place: u32, cell: u32) -> Result<(), AllocError>
-        ensures ok { OnOk result (self.new ≡ filled self.old place cell) }
+    /// Whether no place has a cell.
+    pub(crate) fn is_bare(&self) -> bool
+        ensures { result ≡ is_bare self.now }
+    {
+        self.holding == 0
+    }
+
+    /// The frame is made long enough to have the place. A refused growth changes nothing.
+    fn reach(&mut self, place: u32) -> Result<(), AllocError>
+        ensures ok { OnOk result (self.new ≡ reaching self.old place) }
         ensures err { OnErr result (self.new ≡ self.old) }
     {
         let index = place as usize;
         if self.places.len() <= index {
             self.places.resize(index + 1, None)?;
         }
-        if let Some(there) = self.places.get_mut(index) {
-            *there = Some(cell);
-        }
         Ok(())
+    }
+
+    /// The place gets this content; past the end nothing happens.
+    fn set(&mut self, place: u32, content: Option<u32>)
+        ensures { self.new ≡ slice_set self.old place content }
+    {
+        let before = self.get(place).is_some();
+        let after = content.is_some();
+        if let Some(there) = self.places.get_mut(place as usize) {
+            *there = content;
+            self.holding = recount(self.holding, before, after);
+        }
+    }
+
+    /// The place gets this cell. A refused growth changes nothing.
+    pub(crate) fn fill(&mut self, place: u32, cell: u32) -> Result<(), AllocError>
+        ensures ok { OnOk result (self.new ≡ filled self.old place cell) }
+        ensures err { OnErr result (self.new ≡ self.old) }
+    {
+        self.reach(place)?;
+        self.set(place, Some(cell));
+        Ok(())
+    }
+
+    /// The place, which has a cell, gets another. No memory is taken.
+    pub(crate) fn refill(&mut self, place: u32, cell: u32)
+        requires { is_some (place_at self.old place) ≡ true }
+
+        ensures { self.new ≡ filled self.old place cell }
+    {
+        self.set(place, Some(cell));
     }
 
     /// The place becomes vacant.
     pub(crate) fn vacate(&mut self, place: u32)
         ensures { self.new ≡ vacated self.old place }
     {
-        if let Some(there) = self.places.get_mut(place as usize) {
-            *there = None;
-        }
+        self.set(place, None);
     }
 }

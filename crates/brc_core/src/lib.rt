@@ -7,27 +7,37 @@
 #![tactic(auto)]
 
 mod apply;
+mod cell_conditions;
 mod changes;
 mod conditions;
+mod draining;
 mod effects;
 mod enabled;
 mod entries;
 mod frame;
+mod frames;
 mod holders;
+mod lists;
 mod marks;
 mod opening;
+mod own_part;
+mod queues;
 mod readers;
 mod register;
 mod replaying;
+mod row_effects;
 mod tables;
+mod tally;
+mod targets;
 #[cfg(test)]
 mod tests;
 mod totals;
+mod unlocking;
 mod words;
 mod world;
 
 // What callers write and read.
-pub use brc_runs::{Cell, Dropped, Event, Hand, Phase, Source, Step};
+pub use brc_runs::{Cell, Change, Dropped, Event, Hand, LastDropped, Phase, Source, Step};
 pub use readers::Status;
 pub use replaying::{ReplayFault, replay};
 pub use totals::Ledger;

@@ -1,8 +1,9 @@
 //! Marks of cells: the dead blocks that a thread has on its worklist.
 
 ghost use Rattle.std.specs.Prelude.{◌≡◌, false, replicate, slice_set, IfOk};
-ghost use Rattle.brc_runs.specs.Lists.{is_marked};
+ghost use Rattle.brc_runs.specs.Lists.{is_marked, is_unmarked};
 
+use crate::tally::recount;
 use std::alloc::{AllocError, Allocator};
 use std::marker::Model;
 
@@ -10,14 +11,19 @@ use std::marker::Model;
 #[derive(Drop)]
 pub(crate) struct Marks<A: Allocator> {
     marks: Vec<bool, A>,
+    // How many cells are marked, so that whether none is takes no search.
+    marked: usize,
 }
 
 impl<A: Allocator> Model for Marks<A> {
-    ghost use Rattle.std.specs.Prelude.{Bool, List};
+    ghost use Rattle.std.specs.Prelude.{◌≡◌, Bool, List};
+    ghost use Rattle.brc_runs.specs.Lists.{marked_cells};
 
     ghost Value = { List Bool };
 
     ghost view = { λ m. m.marks.items };
+
+    ghost invariant = { λ m. m.marked ≡ marked_cells m.marks.items };
 }
 
 impl<A: Allocator> Marks<A> {
@@ -27,7 +33,7 @@ impl<A: Allocator> Marks<A> {
     {
         let mut marks = Vec::new(alloc);
         marks.resize(count, false)?;
-        Ok(Marks { marks })
+        Ok(Marks { marks, marked: 0 })
     }
 
     /// Whether the cell is marked.
@@ -37,12 +43,21 @@ impl<A: Allocator> Marks<A> {
         self.marks.get(cell as usize).copied().unwrap_or(false)
     }
 
+    /// Whether no cell is marked.
+    pub(crate) fn is_unmarked(&self) -> bool
+        ensures { result ≡ is_unmarked self.now }
+    {
+        self.marked == 0
+    }
+
     /// The cell's mark becomes this one. No memory is taken.
     pub(crate) fn set(&mut self, cell: u32, mark: bool)
         ensures { self.new ≡ slice_set self.old cell mark }
     {
+        let before = self.has(cell);
         if let Some(there) = self.marks.get_mut(cell as usize) {
             *there = mark;
+            self.marked = recount(self.marked, before, mark);
         }
     }
 }

@@ -1,7 +1,7 @@
 //! The tables of a world: one vector for each of its lists, and what is read of them.
 
 ghost use Rattle.std.specs.Prelude.{◌≡◌, ◌==◌, length, slice_get, slice_index_or, Some, None};
-ghost use Rattle.brc_runs.specs.Lists.{bit_of, place_at, is_marked, last_of};
+ghost use Rattle.brc_runs.specs.Lists.{bit_of, place_at, is_marked, last_of, is_bare, is_unmarked, is_blank};
 ghost use Rattle.brc_runs.specs.Heap.{cell_at, entries_at, row_at, frame_at, popped_at, work_at, queue_at, is_gathered, is_registered, no_cell, no_row};
 ghost use Rattle.brc_runs.specs.Steps.{is_empty};
 
@@ -104,6 +104,36 @@ impl<A: Allocator + Copy> Tables<A> {
         match self.works.get(thread as usize) {
             Some(marks) => marks.has(cell),
             None => false,
+        }
+    }
+
+    /// Whether the thread's frame has no cell.
+    pub(crate) fn is_bare(&self, thread: u32) -> bool
+        ensures { result ≡ is_bare (frame_at self.now thread) }
+    {
+        match self.frames.get(thread as usize) {
+            Some(frame) => frame.is_bare(),
+            None => true,
+        }
+    }
+
+    /// Whether the thread's worklist is empty.
+    pub(crate) fn is_unmarked(&self, thread: u32) -> bool
+        ensures { result ≡ is_unmarked (work_at self.now thread) }
+    {
+        match self.works.get(thread as usize) {
+            Some(marks) => marks.is_unmarked(),
+            None => true,
+        }
+    }
+
+    /// Whether the thread has dealt with all that it took from its merge queue.
+    pub(crate) fn has_popped_nothing(&self, thread: u32) -> bool
+        ensures { result ≡ is_blank (popped_at self.now thread) }
+    {
+        match self.popped.get(thread as usize) {
+            Some(words) => words.is_blank(),
+            None => true,
         }
     }
 

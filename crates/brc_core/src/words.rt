@@ -1,7 +1,7 @@
 //! Words of bits, each for 32 cells: a thread's merge queue, and what it has taken from it.
 
-ghost use Rattle.std.specs.Prelude.{◌≡◌, ◌==◌, replicate, IfOk};
-ghost use Rattle.brc_runs.specs.Lists.{bit_of};
+ghost use Rattle.std.specs.Prelude.{◌≡◌, ◌==◌, ◌^◌, ◌%◌, ◌<◌, replicate, slice_set, bit_or, bit_xor, IfOk};
+ghost use Rattle.brc_runs.specs.Lists.{bit_of, word_at, with_bit, without_bit, is_blank};
 
 use std::alloc::{AllocError, Allocator};
 use std::marker::Model;
@@ -20,6 +20,15 @@ impl<A: Allocator> Model for Words<A> {
     ghost view = { λ w. w.words.items };
 }
 
+/// The word with this bit alone.
+pub(crate) fn only_bit(bit: u32) -> u64
+    requires { bit < 64 }
+
+    ensures { result ≡ 2 ^ bit }
+{
+    1 << bit
+}
+
 impl<A: Allocator> Words<A> {
     /// So many words without a bit.
     pub(crate) fn zeros(alloc: A, count: usize) -> Result<Self, AllocError>
@@ -36,5 +45,58 @@ impl<A: Allocator> Words<A> {
     {
         let word = self.words.get((cell / 32) as usize).copied().unwrap_or(0);
         (word >> (cell % 32)) % 2 == 1
+    }
+
+    /// One word.
+    pub(crate) fn word(&self, index: u32) -> u64
+        ensures { result ≡ word_at self.now index }
+    {
+        self.words.get(index as usize).copied().unwrap_or(0)
+    }
+
+    /// Whether no bit is set. It looks at every word.
+    pub(crate) fn is_blank(&self) -> bool
+        ensures { result ≡ is_blank self.now }
+    {
+        self.words
+            .as_slice()
+            .iter()
+            .filter(|word| **word != 0)
+            .count()
+            == 0
+    }
+
+    /// A word gets these bits besides.
+    pub(crate) fn add(&mut self, index: u32, bits: u64)
+        ensures { self.new ≡ slice_set self.old index (bit_or (word_at self.old index) bits) }
+    {
+        if let Some(word) = self.words.get_mut(index as usize) {
+            *word |= bits;
+        }
+    }
+
+    /// A word loses all its bits.
+    pub(crate) fn empty(&mut self, index: u32)
+        ensures { self.new ≡ slice_set self.old index 0 }
+    {
+        if let Some(word) = self.words.get_mut(index as usize) {
+            *word = 0;
+        }
+    }
+
+    /// The cell's bit is set.
+    pub(crate) fn set_bit(&mut self, cell: u32)
+        ensures { self.new ≡ with_bit self.old cell }
+    {
+        self.add(cell / 32, only_bit(cell % 32));
+    }
+
+    /// The cell's bit, which is set, is cleared.
+    pub(crate) fn clear_bit(&mut self, cell: u32)
+        ensures { self.new ≡ without_bit self.old cell }
+    {
+        if let Some(word) = self.words.get_mut((cell / 32) as usize) {
+            *word ^= only_bit(cell % 32);
+        }
     }
 }

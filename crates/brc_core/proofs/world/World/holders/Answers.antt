@@ -1,5 +1,5 @@
 use Rattle.std.proofs.Common.{arith}
-use Rattle.brc_core.proofs.Sizes.{reached_entries}
+use Rattle.brc_runs.proofs.Sizes.{reached_entries}
 use Rattle.brc_runs.proofs.Reached.{reached_sound}
 use Rattle.brc_core.proofs.Bounds.{cells_fit, threads_fit, places_fit}
 use Rattle.brc_core.proofs.world.World.holders.Goals as goal

@@ -4,7 +4,8 @@ use Rattle.brc_runs.specs.Heap.{Heap}
 use Rattle.brc_runs.specs.Steps.{enabled, after}
 use Rattle.brc_runs.specs.Runs.{IsReached}
 use Rattle.brc_runs.specs.Holding.{MakesMoves, map_of, moves_by}
-use Rattle.brc_runs.proofs.Reached.{reached_allocs, reached_frees, reached_moves}
+use Rattle.brc_runs.proofs.Reached.{reached_allocs, reached_frees, reached_count_range, reached_moves}
+use Rattle.brc_core.proofs.Bounds.{cells_fit}
 use Rattle.brc_core.proofs.Reaching.{reached_after}
 use Rattle.brc_core.proofs.world.World.step.Goals as goal
 use Rattle.brc_core.proofs.world.World.step.Goals.{in-Ok, in-Err}
@@ -21,6 +22,12 @@ apply-requires-clause-allocs g c = reached_allocs c.self.inside.tables c.self.in
 
 pub apply-requires-clause-frees : goal.apply-requires-clause-frees
 apply-requires-clause-frees g c = reached_frees c.self.inside.tables c.self.invariant c.args.event.now.thread
+
+pub apply-requires-clause-counts : goal.apply-requires-clause-counts
+apply-requires-clause-counts g c = reached_count_range c.self.inside.tables c.self.invariant
+
+pub apply-requires-clause-cells : goal.apply-requires-clause-cells
+apply-requires-clause-cells g c = cells_fit c.self.inside.tables c.self.invariant
 
 pub invariant_of-self : goal.invariant_of-self
 invariant_of-self g c =
