@@ -1,4 +1,5 @@
-//! The steps that mean no cell: bits of a queue word are taken, a word is closed, a notify word changes.
+//! The steps that mean no cell: bits of a queue word are taken, a word is closed, a notify word
+//! changes.
 
 ghost use Rattle.std.specs.Prelude.{◌≡◌, ◌<◌};
 ghost use Rattle.brc_core.specs.Changes.{named_word};

@@ -52,7 +52,8 @@ pub(crate) fn vacate_place<A: Allocator>(frames: &mut Vec<Frame<A>, A>, thread: 
     }
 }
 
-/// A place of the thread's frame is filled with the cell, or a reference goes. A refused growth changes nothing.
+/// A place of the thread's frame is filled with the cell, or a reference goes. A refused growth
+/// changes nothing.
 pub(crate) fn change_frame<A: Allocator>(
     frames: &mut Vec<Frame<A>, A>,
     thread: u32,

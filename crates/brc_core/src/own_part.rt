@@ -1,4 +1,5 @@
-//! When a step is enabled: what its thread's frame, popped bits, worklist and locked object must be.
+//! When a step is enabled: what its thread's frame, popped bits, worklist and locked object must
+//! be.
 
 ghost use Rattle.std.specs.Prelude.{◌≡◌};
 ghost use Rattle.brc_core.specs.Parts.{locked_entries_at, close_ok_at, change_ok_at};
@@ -76,7 +77,8 @@ impl<A: Allocator + Copy> Tables<A> {
         }
     }
 
-    /// Whether closing may begin or go on with this queue word. All popped bits are looked at before the first.
+    /// Whether closing may begin or go on with this queue word. All popped bits are looked at
+    /// before the first.
     fn may_begin_closing(&self, thread: u32, word: u32) -> bool
         ensures { result ≡ may_begin_closing (popped_at self.now thread) word }
     {

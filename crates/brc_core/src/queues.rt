@@ -85,7 +85,8 @@ pub(crate) fn empty_taken<A: Allocator>(
     }
 }
 
-/// A thread is told of a queue word, or takes what it was told. A notify word has a bit for 32 queue words.
+/// A thread is told of a queue word, or takes what it was told. A notify word has a bit for 32
+/// queue words.
 pub(crate) fn change_notices<A: Allocator>(notices: &mut Vec<u64, A>, thread: u32, step: Step)
     requires { named_word step < 2048 }
 

@@ -1,4 +1,4 @@
-//! How many of a list's items pass a test, kept beside the list as one item after the other changes.
+//! How many of a list's items pass a test, kept beside the list while its items change.
 
 ghost use Rattle.std.specs.Prelude.{◌≡◌, ◌+◌, ◌<◌, ◌≤◌, ◌^◌};
 ghost use Rattle.brc_runs.specs.Lists.{one};

@@ -1,5 +1,7 @@
 //! One whole life, a refusal of each kind, refused growths, and every reader once.
 
+mod steps;
+
 use crate::{
     Dropped, Event, Hand, Ledger, Phase, ReplayFault, Source, Status, Step, StepFault, World,
     replay,

@@ -1,0 +1,417 @@
+//! Steps of every kind, by whole lives of objects that two threads share, and refused growths.
+
+use super::LIMIT;
+use crate::{Change, Dropped, Event, LastDropped, Ledger, Source, Status, Step, StepFault, World};
+use brc_model::Holder;
+use brc_words::{Fault, Kind, Owner, State};
+use linked_list_allocator::LocalHeap;
+use std::alloc::{Allocator, Global};
+
+/// A list that two threads count ends on the shared word: its owner merges it at zero, and the
+/// other thread lets it go last.
+const MERGED: [(u32, Step); 21] = [
+    (0, Step::Register(1)),
+    (0, Step::Register(2)),
+    (1, Step::Claim(266)),
+    (1, Step::InitLocal(266)),
+    (1, Step::InitShared(266)),
+    (
+        1,
+        Step::Birth {
+            cell: 266,
+            kind: Kind::List,
+            place: 0,
+        },
+    ),
+    (
+        1,
+        Step::LocalUp {
+            source: Source::Immortal(265),
+            place: 1,
+        },
+    ),
+    (1, Step::Lock(1)),
+    (1, Step::Unlock(Change::Put(0))),
+    (
+        2,
+        Step::LocalUp {
+            source: Source::Immortal(265),
+            place: 0,
+        },
+    ),
+    (2, Step::Lock(0)),
+    (
+        2,
+        Step::SharedUp {
+            source: Source::Entry(0),
+            place: 1,
+        },
+    ),
+    (2, Step::Unlock(Change::Keep)),
+    (1, Step::Lock(1)),
+    (1, Step::Unlock(Change::Take { index: 0, place: 0 })),
+    (1, Step::LocalDown(Dropped::Frame(0))),
+    (1, Step::SeeZero(266)),
+    (1, Step::Untie(266)),
+    (1, Step::MergeZero(266)),
+    (2, Step::LastDown(LastDropped::Dropped(Dropped::Frame(1)))),
+    (2, Step::Free(266)),
+];
+
+/// A thread that took the list out of the globals asks its owner for a merge.
+const ASKED: [(u32, Step); 21] = [
+    (0, Step::Register(1)),
+    (0, Step::Register(2)),
+    (1, Step::Claim(266)),
+    (1, Step::InitLocal(266)),
+    (1, Step::InitShared(266)),
+    (
+        1,
+        Step::Birth {
+            cell: 266,
+            kind: Kind::List,
+            place: 0,
+        },
+    ),
+    (
+        1,
+        Step::LocalUp {
+            source: Source::Frame(0),
+            place: 1,
+        },
+    ),
+    (
+        1,
+        Step::LocalUp {
+            source: Source::Immortal(265),
+            place: 2,
+        },
+    ),
+    (1, Step::Lock(2)),
+    (1, Step::Unlock(Change::Put(1))),
+    (
+        2,
+        Step::LocalUp {
+            source: Source::Immortal(265),
+            place: 0,
+        },
+    ),
+    (2, Step::Lock(0)),
+    (2, Step::Unlock(Change::Take { index: 0, place: 1 })),
+    (2, Step::Ask(Dropped::Frame(1))),
+    (2, Step::Enqueue(266)),
+    (2, Step::Nudge { thread: 1, word: 8 }),
+    (1, Step::Wake),
+    (1, Step::Drain(8)),
+    (1, Step::Untie(266)),
+    (1, Step::MergeAdd(266)),
+    (1, Step::LastDown(LastDropped::Popped(266))),
+];
+
+/// The owner leaves before it is asked, and the asker merges in its place.
+const ADOPTED: [(u32, Step); 36] = [
+    (0, Step::Register(1)),
+    (0, Step::Register(2)),
+    (1, Step::Claim(266)),
+    (1, Step::InitLocal(266)),
+    (1, Step::InitShared(266)),
+    (
+        1,
+        Step::Birth {
+            cell: 266,
+            kind: Kind::List,
+            place: 0,
+        },
+    ),
+    (
+        1,
+        Step::LocalUp {
+            source: Source::Immortal(265),
+            place: 1,
+        },
+    ),
+    (1, Step::Lock(1)),
+    (1, Step::Unlock(Change::Put(0))),
+    (
+        2,
+        Step::LocalUp {
+            source: Source::Immortal(265),
+            place: 0,
+        },
+    ),
+    (2, Step::Lock(0)),
+    (2, Step::Unlock(Change::Take { index: 0, place: 1 })),
+    (1, Step::LocalDown(Dropped::Frame(1))),
+    (2, Step::Ask(Dropped::Frame(1))),
+    (1, Step::Close(0)),
+    (1, Step::Close(1)),
+    (1, Step::Close(2)),
+    (1, Step::Close(3)),
+    (1, Step::Close(4)),
+    (1, Step::Close(5)),
+    (1, Step::Close(6)),
+    (1, Step::Close(7)),
+    (1, Step::Close(8)),
+    (1, Step::Close(9)),
+    (1, Step::Close(10)),
+    (1, Step::Close(11)),
+    (1, Step::Close(12)),
+    (1, Step::Close(13)),
+    (1, Step::Close(14)),
+    (1, Step::Close(15)),
+    (2, Step::Enqueue(266)),
+    (2, Step::Untie(266)),
+    (2, Step::MergeAdd(266)),
+    (2, Step::LastDown(LastDropped::Hand)),
+    (2, Step::Free(266)),
+    (0, Step::Gather(1)),
+];
+
+/// Entries are exchanged, taken over by another thread, and let go by a dead list.
+const EXCHANGED: [(u32, Step); 32] = [
+    (0, Step::Register(1)),
+    (0, Step::Register(2)),
+    (1, Step::Claim(266)),
+    (1, Step::InitLocal(266)),
+    (1, Step::InitShared(266)),
+    (
+        1,
+        Step::Birth {
+            cell: 266,
+            kind: Kind::List,
+            place: 0,
+        },
+    ),
+    (1, Step::Claim(267)),
+    (1, Step::InitLocal(267)),
+    (1, Step::InitShared(267)),
+    (
+        1,
+        Step::Birth {
+            cell: 267,
+            kind: Kind::List,
+            place: 1,
+        },
+    ),
+    (1, Step::Claim(268)),
+    (1, Step::InitLocal(268)),
+    (1, Step::InitShared(268)),
+    (
+        1,
+        Step::Birth {
+            cell: 268,
+            kind: Kind::List,
+            place: 2,
+        },
+    ),
+    (1, Step::Lock(0)),
+    (1, Step::Unlock(Change::Put(1))),
+    (1, Step::Lock(0)),
+    (1, Step::Unlock(Change::Swap { index: 0, place: 2 })),
+    (
+        1,
+        Step::LocalUp {
+            source: Source::Immortal(265),
+            place: 3,
+        },
+    ),
+    (1, Step::Lock(3)),
+    (1, Step::Unlock(Change::Put(2))),
+    (
+        2,
+        Step::LocalUp {
+            source: Source::Immortal(265),
+            place: 0,
+        },
+    ),
+    (2, Step::Lock(0)),
+    (
+        2,
+        Step::SharedUp {
+            source: Source::Entry(0),
+            place: 1,
+        },
+    ),
+    (2, Step::Unlock(Change::Keep)),
+    (2, Step::SharedDown(Dropped::Frame(1))),
+    (1, Step::LocalDown(Dropped::Frame(0))),
+    (1, Step::SeeZero(266)),
+    (1, Step::LocalDown(Dropped::Work(266))),
+    (1, Step::SeeZero(268)),
+    (1, Step::Free(268)),
+    (1, Step::Free(266)),
+];
+
+/// A list is locked, for another to be put into it.
+const BEFORE_A_PUT: [(u32, Step); 10] = [
+    (0, Step::Register(1)),
+    (1, Step::Claim(266)),
+    (1, Step::InitLocal(266)),
+    (1, Step::InitShared(266)),
+    (
+        1,
+        Step::Birth {
+            cell: 266,
+            kind: Kind::List,
+            place: 0,
+        },
+    ),
+    (1, Step::Claim(267)),
+    (1, Step::InitLocal(267)),
+    (1, Step::InitShared(267)),
+    (
+        1,
+        Step::Birth {
+            cell: 267,
+            kind: Kind::List,
+            place: 1,
+        },
+    ),
+    (1, Step::Lock(0)),
+];
+
+/// Makes the steps, each by its thread, until one is refused.
+fn make<A: Allocator + Copy>(world: &mut World<A>, steps: &[(u32, Step)]) -> Result<(), StepFault> {
+    for (thread, step) in steps {
+        world.step(&Event {
+            thread: *thread,
+            step: *step,
+        })?;
+    }
+    Ok(())
+}
+
+#[test]
+fn a_merged_object_ends_with_its_last_reference(rt: HostRuntime) -> Result<(), Fault> {
+    let mut world = World::new(rt.alloc(), 512, LIMIT)?;
+    assert_eq!(rt; make(&mut world, &MERGED[..19]), Ok(()));
+    assert_eq!(rt; world.place(2, 1), Some(266));
+    assert_eq!(rt; world.owner(266), Some(Owner::Nobody));
+    assert_eq!(rt; world.state(266), Some(State::Merged));
+    assert_eq!(rt; world.total(266), Some(1));
+    assert_eq!(rt; make(&mut world, &MERGED[19..]), Ok(()));
+    assert_eq!(rt;
+        world.ledgers(),
+        Ledger {
+            allocs: 1,
+            frees: 1
+        }
+    );
+    Ok(())
+}
+
+#[test]
+fn an_asked_reference_goes_through_the_merge_queue(rt: HostRuntime) -> Result<(), Fault> {
+    let mut world = World::new(rt.alloc(), 512, LIMIT)?;
+    assert_eq!(rt; make(&mut world, &ASKED[..16]), Ok(()));
+    assert_eq!(rt; world.local(266), Some(2));
+    assert_eq!(rt; world.count(266), Some(0));
+    assert_eq!(rt; world.state(266), Some(State::Queued));
+    let holders = world.holders(rt.alloc(), 266)?;
+    let wanted = [
+        Holder::Frame {
+            thread: 1,
+            place: 0,
+        },
+        Holder::Queue {
+            thread: 1,
+            cell: 266,
+        },
+    ];
+    assert!(rt; holders.as_slice() == &wanted[..]);
+
+    assert_eq!(rt; make(&mut world, &ASKED[16..]), Ok(()));
+    assert_eq!(rt; world.popped(1, 266), false);
+    assert_eq!(rt; world.state(266), Some(State::Merged));
+    assert_eq!(rt; world.total(266), Some(1));
+    Ok(())
+}
+
+#[test]
+fn an_object_of_a_thread_that_left_is_adopted(rt: HostRuntime) -> Result<(), Fault> {
+    let mut world = World::new(rt.alloc(), 512, LIMIT)?;
+    assert_eq!(rt; make(&mut world, &ADOPTED[..15]), Ok(()));
+    assert_eq!(rt; world.status(1), Some(Status::Closing));
+    assert_eq!(rt; make(&mut world, &ADOPTED[15..]), Ok(()));
+    assert_eq!(rt; world.status(1), Some(Status::Gathered));
+    assert_eq!(rt;
+        world.ledgers(),
+        Ledger {
+            allocs: 1,
+            frees: 1
+        }
+    );
+    Ok(())
+}
+
+#[test]
+fn a_dead_list_lets_its_entries_go(rt: HostRuntime) -> Result<(), Fault> {
+    let mut world = World::new(rt.alloc(), 512, LIMIT)?;
+    assert_eq!(rt; make(&mut world, &EXCHANGED[..18]), Ok(()));
+    assert_eq!(rt; world.entry(266, 0), Some(268));
+    assert_eq!(rt; world.place(1, 2), Some(267));
+    assert_eq!(rt; make(&mut world, &EXCHANGED[18..26]), Ok(()));
+    assert_eq!(rt; world.place(2, 1), None);
+    assert_eq!(rt; world.count(267), Some(0));
+    assert_eq!(rt; make(&mut world, &EXCHANGED[26..]), Ok(()));
+    assert_eq!(rt;
+        world.ledgers(),
+        Ledger {
+            allocs: 3,
+            frees: 2
+        }
+    );
+    Ok(())
+}
+
+/// A step of thread 1 that memory is refused for.
+fn is_refused<A: Allocator + Copy>(world: &mut World<A>, step: Step) -> bool {
+    world.step(&Event { thread: 1, step }) == Err(StepFault::Memory)
+}
+
+/// Each size of memory in turn: a refused growth of entries or of a frame leaves all as it was.
+#[test]
+fn refused_growths_of_containers_change_nothing(rt: HostRuntime) -> Result<(), Fault> {
+    let take = Step::Unlock(Change::Take {
+        index: 0,
+        place: 20,
+    });
+    let count = Step::SharedUp {
+        source: Source::Frame(0),
+        place: 90,
+    };
+    let mut refused_puts = 0u32;
+    let mut refused_takes = 0u32;
+    let mut refused_counts = 0u32;
+    for size in 2_000..8_000usize {
+        let heap = LocalHeap::new(rt.alloc(), size * 8)?;
+        let Ok(mut world) = World::new(&heap, 512, 1) else {
+            continue;
+        };
+        if make(&mut world, &BEFORE_A_PUT) != Ok(()) {
+            continue;
+        }
+        if is_refused(&mut world, Step::Unlock(Change::Put(1))) {
+            assert_eq!(rt; world.place(1, 1), Some(267));
+            assert_eq!(rt; world.locked(1), Some(0));
+            refused_puts = refused_puts.saturating_add(1);
+            continue;
+        }
+        assert_eq!(rt; is_refused(&mut world, Step::Lock(0)), false);
+        if is_refused(&mut world, take) {
+            assert_eq!(rt; world.entry(266, 0), Some(267));
+            assert_eq!(rt; world.locked(1), Some(0));
+            refused_takes = refused_takes.saturating_add(1);
+            continue;
+        }
+        if is_refused(&mut world, count) {
+            assert_eq!(rt; world.count(266), Some(0));
+            assert_eq!(rt; world.place(1, 90), None);
+            refused_counts = refused_counts.saturating_add(1);
+        }
+    }
+    assert!(rt; 0 < refused_puts);
+    assert!(rt; 0 < refused_takes);
+    assert!(rt; 0 < refused_counts);
+    Ok(())
+}
