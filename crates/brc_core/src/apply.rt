@@ -37,7 +37,7 @@ impl<A: Allocator + Copy> Tables<A> {
     }
 
     /// A thread's step, where its cell is this one. A refused growth changes nothing.
-    #[tactic(auto, using(crate::proofs::Parting::by_parts, crate::proofs::Enabling::thread_cell, crate::proofs::Enabling::unlocked_change,))]
+    #[tactic(auto, using(crate::proofs::Parting::by_parts, crate::proofs::Enabling::thread_cell, crate::proofs::Enabling::unlocked_change))]
     fn make_step(&mut self, thread: u32, step: Step, cell: u32) -> Result<(), AllocError>
         requires may { thread_may self.old thread step ≡ true }
         requires target { target_at self.old thread step ≡ Some cell }
