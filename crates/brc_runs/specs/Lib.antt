@@ -5,3 +5,4 @@ pub mod Runs
 pub mod Holding
 pub mod Sound
 pub mod Staying
+pub mod Items
