@@ -29,3 +29,4 @@ pub mod Moving
 pub mod Handing
 pub mod Exchanging
 pub mod Allowing
+pub mod Items_Told
