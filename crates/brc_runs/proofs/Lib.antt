@@ -30,3 +30,5 @@ pub mod Handing
 pub mod Exchanging
 pub mod Allowing
 pub mod Items_Told
+pub mod Items_Queues
+pub mod Items_Own
