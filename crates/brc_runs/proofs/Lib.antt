@@ -32,3 +32,4 @@ pub mod Allowing
 pub mod Items_Told
 pub mod Items_Queues
 pub mod Items_Own
+pub mod Items_Law
