@@ -1,10 +1,9 @@
 -- A thread's own step changes its part as its item says.
-use Rattle.std.proofs.Common.{◌≡◌, ◌≢◌, ℕ, ◌+◌, ◌<◌, ◌≤◌, ◌==◌, slice_get, Bool, true, false, if◌then◌else◌, List, [], ◌∷◌, length, get_or, set, Option, Some, None, refl, sym, ◌∙◌, ap, subst, inl, inr, ◌⊎◌, arith}
+use Rattle.std.proofs.Common.{◌≡◌, ◌≢◌, ℕ, ◌+◌, ◌<◌, ◌≤◌, slice_get, Bool, true, false, if◌then◌else◌, List, [], length, get_or, set, Option, Some, None, refl, sym, ◌∙◌, ap, subst, inl, inr, ◌⊎◌, arith}
 use Rattle.std.specs.Int.RustNames.{bit_or}
 use Rattle.std.proofs.lemmas.List.{get_or-set_same, get_or-set_other, get_or_past, length-set}
 use Rattle.std.proofs.lemmas.Bool.{cases_eq, cases_lt, cases_Bool, eq-eqb, ne_eqb, eqb-true, le-ltb, and_parts, true≢false}
 use Rattle.brc_runs.specs.declared.cell.Cell.{Cell}
-use Rattle.brc_runs.specs.declared.event.Source.{Source}
 use Rattle.brc_runs.specs.declared.event.Source.TheVariants as sources
 use Rattle.brc_runs.specs.declared.event.Dropped.{Dropped}
 use Rattle.brc_runs.specs.declared.event.Dropped.TheVariants as dropped
@@ -12,17 +11,16 @@ use Rattle.brc_runs.specs.declared.event.LastDropped.TheVariants as lasts
 use Rattle.brc_runs.specs.declared.event.Step.{Step}
 use Rattle.brc_runs.specs.declared.event.Step.TheVariants.{Birth, LocalUp, LocalDown, Free, SharedUp, SharedDown, Ask, LastDown, Drain, Close, Lock, Unlock}
 use Rattle.brc_runs.specs.declared.row.Row.{Row}
-use Rattle.brc_runs.specs.declared.row.Hand.{Hand}
 use Rattle.brc_runs.specs.declared.row.Stage.{Stage}
 use Rattle.brc_runs.specs.declared.row.Stage.TheVariants as stages
 use Rattle.brc_runs.specs.Lists.{place_at, filled, front_of, last_of, is_marked, word_at}
 use Rattle.brc_runs.specs.Heap.{Heap, cell_at, entries_at, row_at, frame_at, popped_at, work_at, queue_at, no_row, words_for}
-use Rattle.brc_runs.specs.Steps.{target, target_at, target_ok, after_target, kept_cells, stepped, locked_cell, entry_of, source_cell, dropped_cell, last_cell, lock_ok, stage_ok, own_ok_at, closes_next, is_closed, is_shut, row_after, hand_after, locked_after, allocs_after, frees_after, frame_after, frame_without, frame_changed, entries_after, entries_without, entries_changed, gone, takes_block, work_after, popped_after, stage_after, taken_word, with_taken, is_vacant}
+use Rattle.brc_runs.specs.Steps.{target, target_at, target_ok, after_target, kept_cells, stepped, locked_cell, entry_of, dropped_cell, lock_ok, stage_ok, closes_next, is_closed, is_shut, row_after, locked_after, allocs_after, frees_after, frame_after, frame_without, frame_changed, entries_after, entries_without, entries_changed, gone, takes_block, work_after, stage_after, taken_word, with_taken}
 use Rattle.brc_runs.specs.Sound.{IsSound, Locks}
 use Rattle.brc_runs.specs.Staying.{locked_at}
-use Rattle.brc_runs.specs.Items.{closing_bit, told_at, told_of, told_apart, finds, found_at, Part, cell_told, is_shut_word, popped_told, put, has_found, has_without, has_after, part_by, part_after, IsPart, Did}
-use Rattle.brc_runs.proofs.Changes.{read_here, read_there}
-use Rattle.brc_runs.proofs.Asking.{May, OnCell, on_cell, Vacant, vacant}
+use Rattle.brc_runs.specs.Items.{closing_bit, told_at, told_of, told_apart, finds, found_at, Part, cell_told, popped_told, put, has_found, has_without, has_after, part_by, part_after, IsPart, Did}
+use Rattle.brc_runs.proofs.Changes.{read_here}
+use Rattle.brc_runs.proofs.Asking.{May, on_cell, Vacant, vacant}
 use Rattle.brc_runs.proofs.Framing.{place_at-filled_else}
 use Rattle.brc_runs.proofs.Items_Told.{Alike, alike, finds_alike, QueuesFit}
 
@@ -145,10 +143,10 @@ after_alike s c x y frame lists has d same inside is = without_alike (gone s x) 
 -- entries that were found are known
 found_known : (h : Heap) (c d : ℕ) (b : Bool) (entries : List ℕ) (has : ℕ → List ℕ) → entries ≡ (if b then entries_at h c else []) → (entries_at h d ≡ has d) ⊎ ((d ≡ c) × (b ≡ true))
     → entries_at h d ≡ has_found b c entries has d
-found_known h c d false entries has are known = elim known [ | inl is ↦ is | inr new ↦ absurd (true≢false (sym new.1)) ]
+found_known h c d false entries has are known = elim known [ inl is ↦ is | inr new ↦ absurd (true≢false (sym new.1)) ]
 found_known h c d true entries has are known = elim (cases_eq d c) [
   | inl same ↦ ap (entries_at h) same ∙ sym are ∙ sym (put_here c d entries has same)
-  | inr other ↦ elim known [ | inl is ↦ is ∙ sym (put_else c d entries has other) | inr new ↦ absurd (other new.0) ]
+  | inr other ↦ elim known [ inl is ↦ is ∙ sym (put_else c d entries has other) | inr new ↦ absurd (other new.0) ]
 ]
 
 -- ---- the part afterwards
@@ -195,7 +193,7 @@ stepped_part cells h t s c number entries has sound may named same are knows =
     let found : finds s y ≡ finds s x = finds_alike h s c number same in
     let entries_now : (d : ℕ) → (entries_at h d ≡ has d) ⊎ ((d ≡ c) × (finds s x ≡ true)) → entries_at (stepped h t s c) d ≡ has_after s c y (frame_at h t) (has_found (finds s y) c entries has) d =
     λ d known. after_alike s c x y (frame_at h t) h.entries (has_found (finds s y) c entries has) d same.gone_is inside
-        (subst (λ b. entries_at h d ≡ has_found b c entries has d) (sym found) (found_known h c d (finds s x) entries has are known)) in
+    (subst (λ b. entries_at h d ≡ has_found b c entries has d) (sym found) (found_known h c d (finds s x) entries has are known)) in
     record {
       row_is = row ∙ ap (λ g. record (row_at h t) { hand = g; locked = locked_after s (row_at h t).locked; allocs = allocs_after s (row_at h t).allocs; frees = frees_after s (row_at h t).frees }) (sym (same.hand (row_at h t).hand));
       frame_is = frame ∙ frame_known h t s c x y has knows named same.gone_is;
@@ -203,9 +201,9 @@ stepped_part cells h t s c number entries has sound may named same are knows =
       work_is = work ∙ work_alike s c x y (work_at h t) same.takes;
       locked_has = λ d at. entries_now d (elim (was_locked h t s c x (entries_at h c) (row_at h t).locked d sound may refl named
           (ap (λ (f : List (Option ℕ)). locked_cell f (locked_after s (row_at h t).locked)) (sym frame) ∙ ap (λ (r : Row). locked_cell (frame_at (stepped h t s c) t) r.locked) (sym row) ∙ at)) [
-        | inl was ↦ inl (knows.locked d was)
-        | inr new ↦ inr new
-      ]);
+            | inl was ↦ inl (knows.locked d was)
+            | inr new ↦ inr new
+          ]);
       work_has = λ d marked. entries_now d (elim (was_marked s c x (work_at h t) d (ap (λ (ws : List Bool). is_marked ws d) (sym work) ∙ marked)) [
         | inl was ↦ inl (knows.works d was)
         | inr new ↦ inr new

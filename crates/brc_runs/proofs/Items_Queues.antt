@@ -1,16 +1,15 @@
 -- Queue words have bits of their 32 cells alone, and a heap has as many cells as it opened with.
-use Rattle.std.proofs.Common.{◌≡◌, ℕ, ◌+◌, ◌/◌, ◌%◌, ◌^◌, ◌<◌, ◌≤◌, ◌==◌, Bool, true, false, if◌then◌else◌, List, [], ◌∷◌, length, get_or, set, replicate, zero, suc, Option, Some, None, refl, sym, ◌∙◌, ap, subst, inl, inr, arith}
-use Rattle.std.specs.Int.RustNames.{bit_or}
+use Rattle.std.proofs.Common.{◌≡◌, ℕ, ◌/◌, ◌%◌, ◌<◌, ◌==◌, Bool, if◌then◌else◌, List, [], ◌∷◌, length, get_or, set, replicate, zero, suc, Option, Some, None, refl, sym, ◌∙◌, subst, inl, inr, arith}
 use Rattle.std.proofs.lemmas.List.{length-set, get_or_past}
-use Rattle.std.proofs.lemmas.Bool.{cases_eq, cases_lt, cases_Bool, and_parts}
+use Rattle.std.proofs.lemmas.Bool.{cases_eq, cases_lt, cases_Bool}
 use Rattle.std.proofs.lemmas.Nat.{or_lt, pow_below}
 use Rattle.brc_runs.specs.declared.event.Event.{Event}
 use Rattle.brc_runs.specs.declared.event.Step.{Step}
-use Rattle.brc_runs.specs.declared.event.Step.TheVariants.{Enqueue, Drain, Close, Register, Gather}
+use Rattle.brc_runs.specs.declared.event.Step.TheVariants.{Enqueue, Register, Gather}
 use Rattle.brc_runs.specs.Lists.{word_at, with_bit}
-use Rattle.brc_runs.specs.Heap.{Heap, opening, queue_at, cell_at, words_for, AreOptions}
-use Rattle.brc_runs.specs.Steps.{enabled, after, after_target, root_after, target_at, is_shut, queues_after, taken_word, without_taken}
-use Rattle.brc_runs.specs.Runs.{IsRun, world_after}
+use Rattle.brc_runs.specs.Heap.{Heap, opening, queue_at, cell_at, words_for}
+use Rattle.brc_runs.specs.Steps.{after, after_target, root_after, target_at, is_shut, queues_after, taken_word, without_taken}
+use Rattle.brc_runs.specs.Runs.{world_after}
 use Rattle.brc_runs.proofs.Changes.{read_by, read_there}
 use Rattle.brc_runs.proofs.Registering.{read_push, new_word}
 use Rattle.brc_runs.proofs.Beginning.{length-opening}

@@ -1,5 +1,5 @@
 -- What the number that a step is told says of its cell: as much as the step's effect on its thread rests on.
-use Rattle.std.proofs.Common.{◌≡◌, ℕ, ◌+◌, ◌-◌, ◌*◌, ◌/◌, ◌%◌, ◌<◌, ◌≤◌, ◌==◌, ◌&&◌, ◌||◌, not, Bool, true, false, if◌then◌else◌, ℤ, pos, negsuc, ◌+ℤ◌, ◌-ℤ◌, ◌*ℤ◌, ◌≤ℤ◌, List, Option, Some, refl, sym, ◌∙◌, ap, subst, inl, inr, arith}
+use Rattle.std.proofs.Common.{◌≡◌, ℕ, ◌+◌, ◌-◌, ◌*◌, ◌/◌, ◌%◌, ◌<◌, ◌≤◌, ◌==◌, ◌&&◌, ◌||◌, not, Bool, true, false, if◌then◌else◌, ℤ, pos, negsuc, ◌+ℤ◌, ◌*ℤ◌, ◌≤ℤ◌, Some, refl, sym, ◌∙◌, ap, subst, inl, inr, arith}
 use Rattle.std.proofs.lemmas.Bool.{cases_Bool, le-leb, lt-leb, ltb-false}
 use Rattle.std.proofs.lemmas.Int.{ints}
 use Rattle.brc_words.specs.Shared.{Spells, bits_of}
@@ -7,16 +7,15 @@ use Rattle.brc_words.specs.declared.state.State.{State}
 use Rattle.brc_words.specs.declared.state.State.TheVariants as states
 use Rattle.brc_runs.specs.declared.cell.Cell.{Cell}
 use Rattle.brc_runs.specs.declared.event.Dropped.{Dropped}
-use Rattle.brc_runs.specs.declared.event.LastDropped.{LastDropped}
 use Rattle.brc_runs.specs.declared.event.LastDropped.TheVariants as lasts
 use Rattle.brc_runs.specs.declared.event.Step.{Step}
 use Rattle.brc_runs.specs.declared.event.Step.TheVariants.{LocalDown, SeeZero, MergeZero, Ask, LastDown, Enqueue, Lock}
 use Rattle.brc_runs.specs.declared.row.Hand.{Hand}
 use Rattle.brc_runs.specs.declared.row.Hand.TheVariants as hands
 use Rattle.brc_runs.specs.declared.row.Phase.TheVariants as phases
-use Rattle.brc_runs.specs.Lists.{one, word_at}
-use Rattle.brc_runs.specs.Heap.{Heap, cell_at, row_at, frame_at, work_at, entries_at, queue_at, no_cell, is_immortal}
-use Rattle.brc_runs.specs.Steps.{target_at, target_ok, hand_after, gone, takes_block, is_closed, is_shut, is_mine}
+use Rattle.brc_runs.specs.Lists.{word_at}
+use Rattle.brc_runs.specs.Heap.{Heap, cell_at, row_at, queue_at, no_cell, is_immortal}
+use Rattle.brc_runs.specs.Steps.{target_at, target_ok, hand_after, gone, takes_block, is_shut, is_mine}
 use Rattle.brc_runs.specs.Runs.{IsReached}
 use Rattle.brc_runs.specs.Sound.{IsSound}
 use Rattle.brc_runs.specs.Items.{raised, shared_word, closing_bit, told_of, finds, count_told, state_told, cell_told, is_shut_word}

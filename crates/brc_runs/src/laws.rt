@@ -3,11 +3,12 @@
 
 ghost use Rattle.std.specs.Prelude.{◌≡◌, ℕ, List, true};
 ghost use Rattle.brc_runs.specs.declared.event.Event.{Event as event};
-ghost use Rattle.brc_runs.specs.Heap.{Heap, opening, AreOptions};
+ghost use Rattle.brc_runs.specs.Heap.{Heap, opening, is_registered, AreOptions};
 ghost use Rattle.brc_runs.specs.Steps.{enabled, after};
 ghost use Rattle.brc_runs.specs.Runs.{IsRun, IsReached};
 ghost use Rattle.brc_runs.specs.Holding.{Headline, Histories, MakesMoves, map_of, moves_by};
 ghost use Rattle.brc_runs.specs.Sound.{IsSound};
+ghost use Rattle.brc_runs.specs.Items.{ItemRun, AreItems, IsPart, events_of, world_of_items, part_of, own};
 
 /// Counts are references, an object without references is in some thread's hand, and births less frees are the live
 /// objects.
@@ -30,4 +31,13 @@ pub fn events_make_their_moves()
 /// Every reached world keeps the invariant, on which the running heap will rest.
 pub fn worlds_are_sound()
     ensures { (h : Heap) → IsReached h → IsSound h }
+{}
+
+/// A thread's own part of the world, with the entries of what it has locked and of its worklist, is a function of its
+/// own items.
+pub fn own_items_tell_the_part()
+    ensures run { (cells limit : ℕ) (items : ItemRun) → AreItems (opening cells limit) items → IsRun (opening cells limit) (events_of items) }
+    ensures told { (cells limit : ℕ) (items : ItemRun) (t : ℕ) → AreOptions cells limit → AreItems (opening cells limit) items
+        → is_registered (world_of_items (opening cells limit) items) t ≡ true
+        → IsPart (world_of_items (opening cells limit) items) t (part_of cells (own t items)) }
 {}

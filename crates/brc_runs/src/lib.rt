@@ -13,7 +13,8 @@ mod row;
 pub use cell::Cell;
 pub use event::{Change, Dropped, Event, LastDropped, Source, Step};
 pub use laws::{
-    counts_are_references, events_make_their_moves, lives_are_told_by_the_run, worlds_are_sound,
+    counts_are_references, events_make_their_moves, lives_are_told_by_the_run,
+    own_items_tell_the_part, worlds_are_sound,
 };
 pub use opening::{is_immortal, new_row, no_cell, no_row, opening_cell, words_for};
 pub use row::{Hand, Phase, Row, Stage};
