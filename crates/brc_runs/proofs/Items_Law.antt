@@ -36,6 +36,18 @@ pub events_run : (start : Heap) (items : ItemRun) → AreItems start items → I
 events_run start [] are = tt
 events_run start (x ∷ items) are = item_run start x.0 x.1 items (events_run start items are.0) are.1
 
+-- and each run is the events of items
+item_for : (start : Heap) (e : Event) (run : List Event) (items : ItemRun) → events_of items ≡ run → enabled (world_after start run) e ≡ true
+    → MayCome (world_of_items start items) e.thread (Did e.step (told (world_after start run) e.thread e.step) (found (world_after start run) e.thread e.step))
+item_for start e run items is may = subst (λ r. MayCome (world_after start r) e.thread (Did e.step (told (world_after start run) e.thread e.step) (found (world_after start run) e.thread e.step))) (sym is) (may, refl, refl)
+
+pub run_items : (start : Heap) (run : List Event) → IsRun start run → (items : ItemRun) × AreItems start items × (events_of items ≡ run)
+run_items start [] is_run = ([], tt, refl)
+run_items start (e ∷ run) is_run =
+    let before : (items : ItemRun) × AreItems start items × (events_of items ≡ run) = run_items start run is_run.0 in
+    let h : Heap = world_after start run in
+    ((e.thread, Did e.step (told h e.thread e.step) (found h e.thread e.step)) ∷ before.0, (before.1, item_for start e run before.0 before.2 is_run.1), ap (λ r. e ∷ r) before.2)
+
 -- ---- others change nothing of it
 
 is_live : (h : Heap) (t c : ℕ) → WorkFits t c (cell_at h c) → (cell_at h c).owner ≢ owners.Free

@@ -33,3 +33,4 @@ pub mod Items_Told
 pub mod Items_Queues
 pub mod Items_Own
 pub mod Items_Law
+pub mod Items_Numbers

@@ -33,10 +33,12 @@ pub fn worlds_are_sound()
     ensures { (h : Heap) → IsReached h → IsSound h }
 {}
 
-/// A thread's own part of the world, with the entries of what it has locked and of its worklist, is a function of its
-/// own items.
+/// Items are runs with what each step was told: the events of items are a run, and each run is the events of items. A
+/// thread's own part of the world, with the entries of what it has locked and of its worklist, is a function of its own
+/// items.
 pub fn own_items_tell_the_part()
-    ensures run { (cells limit : ℕ) (items : ItemRun) → AreItems (opening cells limit) items → IsRun (opening cells limit) (events_of items) }
+    ensures run { (start : Heap) (items : ItemRun) → AreItems start items → IsRun start (events_of items) }
+    ensures every { (start : Heap) (run : List event) → IsRun start run → (items : ItemRun) × AreItems start items × (events_of items ≡ run) }
     ensures told { (cells limit : ℕ) (items : ItemRun) (t : ℕ) → AreOptions cells limit → AreItems (opening cells limit) items
         → is_registered (world_of_items (opening cells limit) items) t ≡ true
         → IsPart (world_of_items (opening cells limit) items) t (part_of cells (own t items)) }
