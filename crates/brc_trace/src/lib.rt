@@ -6,6 +6,7 @@
 #![tactic(auto)]
 
 mod event_line;
+mod operands;
 mod reading;
 mod replaying;
 mod trace;

@@ -19,7 +19,7 @@ use Rattle.brc_text.specs.declared.token.Token.{Token}
 use Rattle.brc_text.specs.declared.token.Token.TheVariants as tokens
 use Rattle.brc_text.specs.Lines.{line}
 use Rattle.brc_text.specs.Puts.{Puts}
-use Rattle.brc_trace.specs.Events.{kind_word}
+use Rattle.brc_trace.specs.Operands.{kind_word}
 use Rattle.brc_trace.specs.Worlds.{object_line, owner_number, local_token, count_token, state_word}
 use Rattle.brc_trace.proofs.world_text.put_object_line.Goals as goal
 
