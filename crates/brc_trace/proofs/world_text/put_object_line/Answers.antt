@@ -11,7 +11,7 @@ use Rattle.brc_words.specs.declared.state.State.TheVariants as states
 use Rattle.brc_runs.specs.declared.cell.Cell.{Cell}
 use Rattle.brc_runs.specs.Heap.{cell_at, is_immortal, no_cell}
 use Rattle.brc_runs.specs.Holding.{lives_at, total_of}
-use Rattle.brc_runs.specs.Sound.{is_merged}
+use Rattle.brc_runs.specs.Steps.{is_merged}
 use Rattle.brc_core.specs.Readings.{only_if, has_object}
 use Rattle.brc_text.specs.declared.keyword.Keyword.{Keyword}
 use Rattle.brc_text.specs.declared.keyword.Keyword.TheVariants as words
