@@ -22,3 +22,5 @@ pub use writing::write_trace;
 
 #[cfg(test)]
 mod tests;
+#[cfg(test)]
+mod worked_runs;
