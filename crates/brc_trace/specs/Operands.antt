@@ -47,6 +47,7 @@ last_token (lasts.Dropped dropped) = dropped_token dropped
 last_token (lasts.Popped cell) = tokens.Place letters.Popped cell
 last_token lasts.Hand = tokens.Word words.InHand
 
+-- the words behind unlock
 abbrev pub change_words : Change → List Token
 change_words changes.Keep = tokens.Word words.Keep ∷ []
 change_words (changes.Put j) = tokens.Word words.Put ∷ tokens.Number j ∷ []
@@ -93,6 +94,7 @@ fits_change (changes.Swap i j) = is_entry i && is_place j
 
 -- ---- what a word is read as
 
+-- a number in its range
 abbrev pub number_at : (ℕ → Bool) → Token → Option ℕ
 number_at fits (tokens.Number n) = if fits n then Some n else None
 number_at fits _ = None
@@ -109,17 +111,20 @@ abbrev pub kind_at : Token → Option Kind
 kind_at (tokens.Word word) = kind_named word
 kind_at _ = None
 
+-- f, e or i
 abbrev pub source_at : Token → Option Source
 source_at (tokens.Place letters.Frame k) = if is_place k then Some (sources.Frame k) else None
 source_at (tokens.Place letters.Entry i) = if is_entry i then Some (sources.Entry i) else None
 source_at (tokens.Place letters.Immortal c) = if is_cell c then Some (sources.Immortal c) else None
 source_at _ = None
 
+-- f or w
 abbrev pub dropped_at : Token → Option Dropped
 dropped_at (tokens.Place letters.Frame k) = if is_place k then Some (drops.Frame k) else None
 dropped_at (tokens.Place letters.Work c) = if is_cell c then Some (drops.Work c) else None
 dropped_at _ = None
 
+-- f, w or q, or h alone
 abbrev pub last_at : Token → Option LastDropped
 last_at (tokens.Place letters.Frame k) = if is_place k then Some (lasts.Dropped (drops.Frame k)) else None
 last_at (tokens.Place letters.Work c) = if is_cell c then Some (lasts.Dropped (drops.Work c)) else None
@@ -129,6 +134,7 @@ last_at _ = None
 
 -- ---- operands in a row
 
+-- there is no operand
 unfoldable pub is_bare : List Token → Bool
 is_bare [] = true
 is_bare _ = false
@@ -143,14 +149,17 @@ unfoldable pub both : List Token → Option (Token × Token)
 both (a ∷ b ∷ []) = Some (a, b)
 both _ = None
 
+-- one operand, read so
 abbrev pub one_of : {A : Type 0} → (Token → Option A) → List Token → Option A
 one_of read operands = only operands >>= read
 
+-- two operands, each read in its way
 abbrev pub two_of : {A B : Type 0} → (Token → Option A) → (Token → Option B) → List Token → Option (A × B)
 two_of first second operands = both operands >>= λ them. first them.0 >>= λ x. second them.1 >>= λ y. Some (x, y)
 
 -- ---- the change of an unlock
 
+-- each change by its word
 abbrev pub change_named : Keyword → List Token → Option Change
 change_named words.Keep operands = if is_bare operands then Some changes.Keep else None
 change_named words.Put operands = one_of (number_at is_place) operands >>= λ j. Some (changes.Put j)
