@@ -41,6 +41,8 @@ fn statuses_and_lines(rt: HostRuntime) -> Result<(), Fail> {
         "heap 512 4294967294\n0 register 1\n1 claim 266\n1 local 266\n1 shared 266\n1 born 266 list 0\n";
     let early =
         "heap 512 4294967294\n0 register 1\n1 claim 266\n1 local 266\n1 shared 266\n1 born 266 list 0\n1 free 266\n";
+    let merged =
+        "heap 512 4294967294\n0 register 1\n0 register 2\n1 claim 266\n1 local 266\n1 shared 266\n1 born 266 list 0\n1 up i265 1\n1 lock 1\n1 unlock put 0\n2 up i265 0\n2 lock 0\n2 shup e0 1\n2 unlock keep\n1 lock 1\n1 unlock take 0 0\n1 down f0\n1 see 266\n1 untie 266\n1 zero 266\n";
     let cases = [
         (
             "no event",
@@ -69,6 +71,13 @@ fn statuses_and_lines(rt: HostRuntime) -> Result<(), Fail> {
             3,
             "",
             "brc: line 7: not enabled\n",
+        ),
+        (
+            "merged by its owner, and held by another thread",
+            merged,
+            1,
+            "world 512 4294967294\nthread 1 active\nframe 1 1 265\nthread 2 active\nframe 2 0 265\nframe 2 1 266\nobject 266 list 0 - 1 merged 1\nledger 1 0 1\n",
+            "",
         ),
         ("nothing", "", 3, "", "brc: line 1: not a trace line\n"),
         (

@@ -1,9 +1,8 @@
 -- What an enabled step of a thread says: of the one cell that it means, of what an unlock changes, and of the queue word
 -- that it names.
-use Rattle.std.proofs.Common.{◌≡◌, ℕ, ◌<◌, ◌≤◌, ◌/◌, ◌+◌, ◌&&◌, nat_lt, true, Some, Option, List, length, subst, refl, arith}
+use Rattle.std.proofs.Common.{◌≡◌, ℕ, ◌<◌, ◌≤◌, nat_lt, true, Some, Option, length, subst, arith}
 use Rattle.std.proofs.lemmas.Bool.{and_parts, ltb-true}
 use Rattle.brc_core.specs.Changes.{named_word}
-use Rattle.brc_core.specs.Parts.{locked_at}
 use Rattle.brc_runs.specs.declared.event.Change.{Change}
 use Rattle.brc_runs.specs.declared.event.Step.{Step}
 use Rattle.brc_runs.specs.declared.event.Step.TheVariants.{Claim, InitLocal, InitShared, Birth, LocalUp, LocalDown, SeeZero, Free, Untie, MergeZero, SharedUp, SharedDown, Ask, LastDown, Enqueue, Drain, MergeAdd, Close, Nudge, Wake, Lock, Unlock, Register, Gather}

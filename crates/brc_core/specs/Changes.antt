@@ -1,6 +1,5 @@
 -- A thread's step by parts: what it fills, lets go and marks, and what each part does to one table.
-use Rattle.std.specs.Prelude.{ℕ, ◌≤ℤ◌, ◌<ℤ◌, ℤ, pos, negsuc, Bool, true, false, if◌then◌else◌, List, [], length, Option, Some, None, slice_index_or, slice_set}
-use Rattle.brc_runs.specs.declared.cell.Cell.{Cell}
+use Rattle.std.specs.Prelude.{ℕ, ◌≤ℤ◌, ◌<ℤ◌, ℤ, pos, negsuc, Bool, true, false, if◌then◌else◌, List, [], Option, Some, None, slice_index_or, slice_set}
 use Rattle.brc_runs.specs.declared.event.Change.{Change}
 use Rattle.brc_runs.specs.declared.event.Dropped.{Dropped}
 use Rattle.brc_runs.specs.declared.event.LastDropped.TheVariants as lasts

@@ -1,7 +1,7 @@
 //! What a thread's step on one cell does to each of the tables.
 
-ghost use Rattle.std.specs.Prelude.{◌≡◌, ◌+◌, ◌<◌, ◌^◌, true, false, OnOk, OnErr, slice_set};
-ghost use Rattle.brc_core.specs.Changes.{CountFits, is_unlock, works_with, stepped_by_parts};
+ghost use Rattle.std.specs.Prelude.{◌≡◌, ◌+◌, ◌<◌, ◌^◌, true, OnOk, OnErr, slice_set};
+ghost use Rattle.brc_core.specs.Changes.{CountFits, works_with, stepped_by_parts};
 ghost use Rattle.brc_core.specs.Memory.{needs_memory};
 ghost use Rattle.brc_runs.specs.Heap.{cell_at, row_at};
 ghost use Rattle.brc_runs.specs.Steps.{cell_ok, is_shut};

@@ -1,6 +1,6 @@
 //! Words of bits, each for 32 cells: a thread's merge queue, and what it has taken from it.
 
-ghost use Rattle.std.specs.Prelude.{◌≡◌, ◌==◌, ◌^◌, ◌%◌, ◌<◌, replicate, slice_set, bit_or, bit_xor, IfOk};
+ghost use Rattle.std.specs.Prelude.{◌≡◌, ◌==◌, ◌^◌, ◌%◌, ◌<◌, replicate, slice_set, bit_or, IfOk};
 ghost use Rattle.brc_runs.specs.Lists.{bit_of, word_at, with_bit, without_bit, is_blank};
 
 use std::alloc::{AllocError, Allocator};

@@ -100,7 +100,7 @@ alone_stays h e t c sound ok other mortal grip none owner =
         | inr his ↦ omega (arith, grip_of h e.thread c his, alone.mark, alone.hand)
       ]
     ] in (
-      elim (event_cell h e c ok) [ | inl same ↦ same | inr at ↦ absurd (no_step at.0) ],
+      elim (event_cell h e c ok) [ inl same ↦ same | inr at ↦ absurd (no_step at.0) ],
       elim (event_entries h e c ok) [
         | inl same ↦ same
         | inr more ↦ elim more [
@@ -305,8 +305,7 @@ pub locked_stays : (h : Heap) (e : Event) (t c : ℕ) → IsSound h → enabled 
 locked_stays h e t c sound ok other named =
     let at : (0 < t) × ((cell_at h c).mutex ≡ t) × (1 ≤ held h c) = locked_mutex h t c sound named in
     let live : lives (cell_at h c).owner ≡ true = held_live h c sound at.2 in
-    let no_lock : (s : Step) → At h (record { thread = e.thread; step = s }) c → is_locking s ≡ false = λ s his. locking_apart s his in
-    (
+    let no_lock : (s : Step) → At h (record { thread = e.thread; step = s }) c → is_locking s ≡ false = λ s his. locking_apart s his in (
       elim (event_cell h e c ok) [
         | inl same ↦ ap (λ (x : Cell). x.mutex) same ∙ at.1
         | inr his ↦ ap (λ (x : Cell). x.mutex) his.1
@@ -359,7 +358,7 @@ has_held h t c has = elim has [
   | inl place ↦ held_by_place h t place.0 c place.1
   | inr more ↦ elim more [
     | inl carried ↦ carried_held h t c (ap one carried)
-    | inr rest ↦ elim rest [ | inl popped ↦ popped_held h t c popped | inr entry ↦ held_by_entry h entry.in_cell entry.index c entry.there ]
+    | inr rest ↦ elim rest [ inl popped ↦ popped_held h t c popped | inr entry ↦ held_by_entry h entry.in_cell entry.index c entry.there ]
   ]
 ]
 
@@ -401,7 +400,7 @@ keeping_lasts t c kind bore least h e reached ok others keeps =
     record {
       held = has_lasts h e t c sound ok others keeps.held;
       mortal = keeps.mortal;
-      live = elim stays.owner [ | inl same ↦ ap lives same ∙ keeps.live | inr nobody ↦ ap lives nobody ];
+      live = elim stays.owner [ inl same ↦ ap lives same ∙ keeps.live | inr nobody ↦ ap lives nobody ];
       kind_is = stays.kind ∙ keeps.kind_is;
       bearer = stays.bore ∙ keeps.bearer;
       state = omega (arith, keeps.state, stays.state);
@@ -428,7 +427,7 @@ nobodys_last t c h e reached ok others nobodys =
     record {
       held = has_lasts h e t c sound ok others nobodys.held;
       mortal = nobodys.mortal;
-      owner = elim (owner_stays h e t c sound ok nobodys.mortal nobodys.held) [ | inl same ↦ same ∙ nobodys.owner | inr nobody ↦ nobody ];
+      owner = elim (owner_stays h e t c sound ok nobodys.mortal nobodys.held) [ inl same ↦ same ∙ nobodys.owner | inr nobody ↦ nobody ];
     }
 
 pub owning_lasts : (t c s : ℕ) → Lasts t (λ h. OwnedOrNot h t c s)
@@ -438,7 +437,7 @@ owning_lasts t c s h e reached ok others owned =
       held = has_lasts h e t c sound ok others owned.held;
       mortal = owned.mortal;
       owner = elim (owner_stays h e t c sound ok owned.mortal owned.held) [
-        | inl same ↦ elim owned.owner [ | inl thread ↦ inl (same ∙ thread) | inr nobody ↦ inr (same ∙ nobody) ]
+        | inl same ↦ elim owned.owner [ inl thread ↦ inl (same ∙ thread) | inr nobody ↦ inr (same ∙ nobody) ]
         | inr nobody ↦ inr nobody
       ];
     }

@@ -177,12 +177,14 @@ unlocked_mutex h t c k sound some inside cell_inside unlocked vacant_mutex named
       mutexes = λ s q positive is. elim (cases_eq q c) [
         | inl same ↦ (k, subst (λ i. Locks h' s k i) (sym same) (own s (sym is ∙ ap (λ i. (cell_at h' i).mutex) same ∙ own_cell)))
         | inr other ↦
-            let old : (j : ℕ) × Locks h s j q = sound.mutexes s q positive (sym (cells q other) ∙ is) in
-            (old.0, record {
-              thread = positive;
-              place = rows s (λ same. let e : None ≡ Some old.0 = sym unlocked ∙ ap (λ i. (row_at h i).locked) (sym same) ∙ old.1.place in absurd (cc)) ∙ old.1.place;
-              names = ap (λ f. place_at f old.0) (frames s) ∙ old.1.names;
-            })
+            let old : (j : ℕ) × Locks h s j q = sound.mutexes s q positive (sym (cells q other) ∙ is) in (
+              old.0,
+              record {
+                thread = positive;
+                place = rows s (λ same. let e : None ≡ Some old.0 = sym unlocked ∙ ap (λ i. (row_at h i).locked) (sym same) ∙ old.1.place in absurd (cc)) ∙ old.1.place;
+                names = ap (λ f. place_at f old.0) (frames s) ∙ old.1.names;
+              },
+            )
       ];
     }
 
@@ -229,9 +231,11 @@ released_mutex h t c k f es sound inside cell_inside locked named =
       locks = λ s j is. elim (cases_eq s t) [
         | inl same ↦ absurd (let e : None ≡ Some j = sym own_row ∙ ap (λ i. (row_at h' i).locked) (sym same) ∙ is in cc)
         | inr other ↦
-            let old : (q : ℕ) × Locks h s j q × ((cell_at h q).mutex ≡ s) = sound.locks s j (sym (rows s other) ∙ is) in
-            (old.0, record { thread = old.1.thread; place = is; names = ap (λ f. place_at f j) (frames s other) ∙ old.1.names },
-                cells old.0 (λ e. other (sym old.2 ∙ ap (λ i. (cell_at h i).mutex) e ∙ mutex)) ∙ old.2)
+            let old : (q : ℕ) × Locks h s j q × ((cell_at h q).mutex ≡ s) = sound.locks s j (sym (rows s other) ∙ is) in (
+              old.0,
+              record { thread = old.1.thread; place = is; names = ap (λ f. place_at f j) (frames s other) ∙ old.1.names },
+              cells old.0 (λ e. other (sym old.2 ∙ ap (λ i. (cell_at h i).mutex) e ∙ mutex)) ∙ old.2,
+            )
       ];
       mutexes = λ s q positive is. elim (cases_eq q c) [
         | inl same ↦ absurd (omega (arith, positive, sym is ∙ ap (λ i. (cell_at h' i).mutex) same ∙ own_cell))
@@ -250,7 +254,7 @@ released_mutex h t c k f es sound inside cell_inside locked named =
 times-refilled : (q : ℕ) (frame : List (Option ℕ)) (k c d : ℕ) → place_at frame k ≡ Some d → times q (filled frame k c) + one (d == q) ≡ times q frame + one (c == q)
 times-refilled q frame k c d there =
     let f : Option ℕ → ℕ = λ x. one (names q x) in
-    let inside : k < length frame = elim (cases_lt k (length frame)) [ | inl low ↦ low | inr past ↦ absurd (let e : None ≡ Some d = sym (get_or_past frame k None past) ∙ there in cc) ] in
+    let inside : k < length frame = elim (cases_lt k (length frame)) [ inl low ↦ low | inr past ↦ absurd (let e : None ≡ Some d = sym (get_or_past frame k None past) ∙ there in cc) ] in
     let same : reaching frame k ≡ frame = reached_already frame k inside in
     let put = sum_by-set f frame k (Some c) None inside in
     let was : f (place_at frame k) ≡ one (d == q) = ap f there in
@@ -299,9 +303,10 @@ unlock_lengths h t c locked (changes.Take i j) sound ok =
 unlock_lengths h t c locked (changes.Swap i j) sound ok =
     let parts = and_parts _ _ (and_parts _ _ ok).0 in
     let there : place_at (frame_at h t) j ≡ Some (number_in (place_at (frame_at h t) j)) = some_there _ parts.1 in
-    let inside : j < length (frame_at h t) = elim (cases_lt j (length (frame_at h t))) [ | inl low ↦ low | inr past ↦ absurd (let e : None ≡ Some (number_in (place_at (frame_at h t) j)) = sym (get_or_past (frame_at h t) j None past) ∙ there in cc) ] in
-    (omega (arith, length-set (entries_at h c) i (number_in (place_at (frame_at h t) j)), any_few h c sound),
-        length-filled (frame_at h t) j (get_or (entries_at h c) i 0) (omega (arith, inside, (sound.threads t).places)) (sound.threads t).places)
+    let inside : j < length (frame_at h t) = elim (cases_lt j (length (frame_at h t))) [ inl low ↦ low | inr past ↦ absurd (let e : None ≡ Some (number_in (place_at (frame_at h t) j)) = sym (get_or_past (frame_at h t) j None past) ∙ there in cc) ] in (
+      omega (arith, length-set (entries_at h c) i (number_in (place_at (frame_at h t) j)), any_few h c sound),
+      length-filled (frame_at h t) j (get_or (entries_at h c) i 0) (omega (arith, inside, (sound.threads t).places)) (sound.threads t).places,
+    )
 
 -- only the globals are an immortal container
 pub immortal_container : (c : ℕ) → is_container (immortal_kind c) ≡ true → c ≡ 265

@@ -199,9 +199,11 @@ untie_over h t c sound may inside busy =
       );
       before = λ p d e. (busy_same phases.Over c (row_at h t).hand busy p d e).0;
       after = λ p d e.
-          let same = busy_same phases.Untied c (hands.Busy phases.Untied c) refl p d e in
-          (same.0, subst (λ z. PhaseFits t (record (row_at h t) { hand = hands.Busy phases.Untied c }) (popped_at h t) (record (cell_at h c) { owner = owners.Nobody }) (row_at h (cell_at h c).bore).stage c z) (sym same.1)
-              (record { owner = refl; local = local; not_merged = unmerged; bore = (sound.cells c said.mortal).owned_by_bearer t owner }));
+          let same = busy_same phases.Untied c (hands.Busy phases.Untied c) refl p d e in (
+            same.0,
+            subst (λ z. PhaseFits t (record (row_at h t) { hand = hands.Busy phases.Untied c }) (popped_at h t) (record (cell_at h c) { owner = owners.Nobody }) (row_at h (cell_at h c).bore).stage c z) (sym same.1)
+                (record { owner = refl; local = local; not_merged = unmerged; bore = (sound.cells c said.mortal).owned_by_bearer t owner }),
+          );
       idle = never_idle h t (hands.Busy phases.Untied c) (active_now h t c phases.Over sound busy refl);
     }
 

@@ -282,8 +282,13 @@ bits_once h t q sound = elim (cases_lt 0 (bit_of (queue_at h t) q + bit_of (popp
   | inr none ↦ omega (arith, none)
   | inl some ↦
       let mortal : 266 ≤ q = (sound.bits t q some).0 in
-      omega (arith, sound.most q mortal, one-le (not (is_default (cell_at h q).state)),
-      sum_one (λ (words : List ℕ). bit_of words q) h.queues t [] (no_bit q), sum_one (λ (words : List ℕ). bit_of words q) h.popped t [] (no_bit q))
+      omega (
+        arith,
+        sound.most q mortal,
+        one-le (not (is_default (cell_at h q).state)),
+        sum_one (λ (words : List ℕ). bit_of words q) h.queues t [] (no_bit q),
+        sum_one (λ (words : List ℕ). bit_of words q) h.popped t [] (no_bit q),
+      )
 ]
 
 -- the thread's stage, and the bits of one of its queue words
@@ -501,7 +506,7 @@ close_sound h t k sound ok =
           | inl same ↦ ap (λ i. word_at (without_taken (Some k) (queue_at h t)) i) same ∙ get_or-set_same (queue_at h t) k 0 0 (omega (arith, inside, long))
           | inr other ↦ get_or-set_other (queue_at h t) k j 0 0 other ∙ elim (now_closed words k (row_at h t).stage next j closed) [
             | inl before ↦ old.closed j before
-            | inr more ↦ elim more [ | inl same ↦ absurd (other same) | inr past ↦ get_or_past (queue_at h t) j 0 (omega (arith, past, long)) ]
+            | inr more ↦ elim more [ inl same ↦ absurd (other same) | inr past ↦ get_or_past (queue_at h t) j 0 (omega (arith, past, long)) ]
           ]
         ];
         gathered_left = λ g. absurd (true≢false (sym g ∙ may.not_gathered));

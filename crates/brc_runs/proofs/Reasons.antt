@@ -43,8 +43,11 @@ target_cell : (h : Heap) (t : ℕ) (s : Step) (o : Option ℕ) (c : ℕ) → tar
     → (cell_at (after_target h t s o) c ≡ cell_at h c) ⊎ ((o ≡ Some c) × (cell_at (after_target h t s o) c ≡ cell_after t s c (cell_at h c)))
 target_cell h t s None c ok = inl refl
 target_cell h t s (Some d) c ok = elim (cases_eq c d) [
-  | inl same ↦ inr (ap Some (sym same), subst (λ i. get_or (set h.cells d (cell_after t s d (cell_at h d))) i no_cell ≡ cell_after t s i (cell_at h i)) (sym same)
-      (read_here h.cells d (cell_after t s d (cell_at h d)) no_cell (on_cell h t s d ok).inside))
+  | inl same ↦ inr (
+    ap Some (sym same),
+    subst (λ i. get_or (set h.cells d (cell_after t s d (cell_at h d))) i no_cell ≡ cell_after t s i (cell_at h i)) (sym same)
+        (read_here h.cells d (cell_after t s d (cell_at h d)) no_cell (on_cell h t s d ok).inside),
+  )
   | inr other ↦ inl (read_there h.cells d c _ no_cell other)
 ]
 

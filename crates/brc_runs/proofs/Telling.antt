@@ -446,7 +446,7 @@ merging_kept h t u c p sound mortal owner other busy gripping =
     second false b off ok = ok
 
 gripping_merge : (p : Phase) → (p ≡ phases.Taking) ⊎ (p ≡ phases.Popping) → is_gripping p ≡ true
-gripping_merge p which = elim which [ | inl taking ↦ ap is_gripping taking | inr popping ↦ ap is_gripping popping ]
+gripping_merge p which = elim which [ inl taking ↦ ap is_gripping taking | inr popping ↦ ap is_gripping popping ]
 
 pub merging_lasts : (t c local : ℕ) (p : Phase) → Lasts t (λ h. Merges h t c local p)
 merging_lasts t c local p h e reached ok others merges =

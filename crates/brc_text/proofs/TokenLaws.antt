@@ -52,15 +52,16 @@ letter_again letters.Frame = refl
 letter_again _ = refl
 
 letter_takes : (byte : ℕ) (l : Letter) → letter_at byte ≡ Some l → byte ≡ letter l
-letter_takes byte l e = by_tests (eqb byte 102) (eqb byte 101) (eqb byte 105) (eqb byte 119) refl refl refl refl e
+letter_takes byte l e = by_tests (eqb byte 102) (eqb byte 101) (eqb byte 105) (eqb byte 119) (eqb byte 113) refl refl refl refl refl e
   where
-    by_tests : (a b c d : Bool) → eqb byte 102 ≡ a → eqb byte 101 ≡ b → eqb byte 105 ≡ c → eqb byte 119 ≡ d
-        → cond a (Some letters.Frame) (cond b (Some letters.Entry) (cond c (Some letters.Immortal) (cond d (Some letters.Work) None))) ≡ Some l → byte ≡ letter l
-    by_tests true b c d p q r s e = eqb-true _ _ p ∙ ap letter (same_some e)
-    by_tests false true c d p q r s e = eqb-true _ _ q ∙ ap letter (same_some e)
-    by_tests false false true d p q r s e = eqb-true _ _ r ∙ ap letter (same_some e)
-    by_tests false false false true p q r s e = eqb-true _ _ s ∙ ap letter (same_some e)
-    by_tests false false false false p q r s e = absurd cc
+    by_tests : (a b c d g : Bool) → eqb byte 102 ≡ a → eqb byte 101 ≡ b → eqb byte 105 ≡ c → eqb byte 119 ≡ d → eqb byte 113 ≡ g
+        → cond a (Some letters.Frame) (cond b (Some letters.Entry) (cond c (Some letters.Immortal) (cond d (Some letters.Work) (cond g (Some letters.Popped) None)))) ≡ Some l → byte ≡ letter l
+    by_tests true b c d g p q r s u e = eqb-true _ _ p ∙ ap letter (same_some e)
+    by_tests false true c d g p q r s u e = eqb-true _ _ q ∙ ap letter (same_some e)
+    by_tests false false true d g p q r s u e = eqb-true _ _ r ∙ ap letter (same_some e)
+    by_tests false false false true g p q r s u e = eqb-true _ _ s ∙ ap letter (same_some e)
+    by_tests false false false false true p q r s u e = eqb-true _ _ u ∙ ap letter (same_some e)
+    by_tests false false false false false p q r s u e = absurd cc
 
 -- ---- tokens
 
@@ -69,6 +70,7 @@ place_is_no_number letters.Frame ds = not_a_digit (102 ∷ ds) 0 (omega arith) (
 place_is_no_number letters.Entry ds = not_a_digit (101 ∷ ds) 0 (omega arith) (λ r. omega (arith, r.1))
 place_is_no_number letters.Immortal ds = not_a_digit (105 ∷ ds) 0 (omega arith) (λ r. omega (arith, r.1))
 place_is_no_number letters.Work ds = not_a_digit (119 ∷ ds) 0 (omega arith) (λ r. omega (arith, r.1))
+place_is_no_number letters.Popped ds = not_a_digit (113 ∷ ds) 0 (omega arith) (λ r. omega (arith, r.1))
 
 keyword_is_no_number : (k : Keyword) → number_at (keyword k) ≡ None
 unfolding number_at digits

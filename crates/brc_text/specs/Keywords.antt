@@ -15,6 +15,25 @@ keyword words.Up = codes "up"
 keyword words.Down = codes "down"
 keyword words.See = codes "see"
 keyword words.Free = codes "free"
+keyword words.Untie = codes "untie"
+keyword words.Shup = codes "shup"
+keyword words.Shdown = codes "shdown"
+keyword words.Ask = codes "ask"
+keyword words.Last = codes "last"
+keyword words.Enq = codes "enq"
+keyword words.Drain = codes "drain"
+keyword words.Add = codes "add"
+keyword words.Close = codes "close"
+keyword words.Nudge = codes "nudge"
+keyword words.Wake = codes "wake"
+keyword words.Lock = codes "lock"
+keyword words.Unlock = codes "unlock"
+keyword words.Gather = codes "gather"
+keyword words.InHand = codes "h"
+keyword words.Keep = codes "keep"
+keyword words.Put = codes "put"
+keyword words.Take = codes "take"
+keyword words.Swap = codes "swap"
 keyword words.Int = codes "int"
 keyword words.Text = codes "text"
 keyword words.List = codes "list"
@@ -54,25 +73,27 @@ keyword words.Dash = codes "-"
 abbrev pub candidates_at : ℕ → List Keyword
 candidates_at first =
     if first == 45 then words.Dash ∷ []
-    else if first == 97 then words.Active ∷ words.Asked ∷ []
+    else if first == 97 then words.Ask ∷ words.Add ∷ words.Active ∷ words.Asked ∷ []
     else if first == 98 then words.Born ∷ []
-    else if first == 99 then words.Claim ∷ words.Closing ∷ words.Claimed ∷ words.Counted ∷ []
-    else if first == 100 then words.Down ∷ words.Dict ∷ words.Default ∷ []
-    else if first == 101 then words.Entry ∷ []
+    else if first == 99 then words.Claim ∷ words.Close ∷ words.Closing ∷ words.Claimed ∷ words.Counted ∷ []
+    else if first == 100 then words.Down ∷ words.Drain ∷ words.Dict ∷ words.Default ∷ []
+    else if first == 101 then words.Enq ∷ words.Entry ∷ []
     else if first == 102 then words.Free ∷ words.Frame ∷ []
-    else if first == 103 then words.Gathered ∷ []
-    else if first == 104 then words.Heap ∷ words.Hand ∷ words.Held ∷ []
+    else if first == 103 then words.Gather ∷ words.Gathered ∷ []
+    else if first == 104 then words.InHand ∷ words.Heap ∷ words.Hand ∷ words.Held ∷ []
     else if first == 105 then words.Int ∷ []
-    else if first == 108 then words.Local ∷ words.List ∷ words.Locked ∷ words.Ledger ∷ words.Left ∷ []
+    else if first == 107 then words.Keep ∷ []
+    else if first == 108 then words.Local ∷ words.Last ∷ words.Lock ∷ words.List ∷ words.Locked ∷ words.Ledger ∷ words.Left ∷ []
     else if first == 109 then words.Mailbox ∷ words.Merged ∷ []
+    else if first == 110 then words.Nudge ∷ []
     else if first == 111 then words.Object ∷ words.Over ∷ []
-    else if first == 112 then words.Popped ∷ words.Popping ∷ []
+    else if first == 112 then words.Put ∷ words.Popped ∷ words.Popping ∷ []
     else if first == 113 then words.Queued ∷ []
     else if first == 114 then words.Register ∷ words.Ready ∷ []
-    else if first == 115 then words.Shared ∷ words.See ∷ words.Shut ∷ []
-    else if first == 116 then words.Text ∷ words.Thread ∷ words.Taking ∷ []
-    else if first == 117 then words.Up ∷ words.Untied ∷ []
-    else if first == 119 then words.World ∷ words.Work ∷ []
+    else if first == 115 then words.Shared ∷ words.See ∷ words.Shup ∷ words.Shdown ∷ words.Swap ∷ words.Shut ∷ []
+    else if first == 116 then words.Take ∷ words.Text ∷ words.Thread ∷ words.Taking ∷ []
+    else if first == 117 then words.Up ∷ words.Unlock ∷ words.Untie ∷ words.Untied ∷ []
+    else if first == 119 then words.Wake ∷ words.World ∷ words.Work ∷ []
     else if first == 122 then words.Zero ∷ []
     else []
 

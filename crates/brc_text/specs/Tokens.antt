@@ -16,12 +16,13 @@ abbrev pub or_else : {A : Type 0} → Option A → Option A → Option A
 or_else (Some x) second = Some x
 or_else None second = second
 
--- f, e, i and w
+-- f, e, i, w and q
 abbrev pub letter : Letter → ℕ
 letter letters.Frame = 102
 letter letters.Entry = 101
 letter letters.Immortal = 105
 letter letters.Work = 119
+letter letters.Popped = 113
 
 -- each token as it stands in a text
 abbrev pub token : Token → List ℕ
@@ -43,6 +44,7 @@ letter_at byte =
     else if byte == 101 then Some letters.Entry
     else if byte == 105 then Some letters.Immortal
     else if byte == 119 then Some letters.Work
+    else if byte == 113 then Some letters.Popped
     else None
 
 -- a letter and a number behind it

@@ -47,6 +47,7 @@ fn letter_byte(letter: Letter) -> u8
         Letter::Entry => b'e',
         Letter::Immortal => b'i',
         Letter::Work => b'w',
+        Letter::Popped => b'q',
     }
 }
 

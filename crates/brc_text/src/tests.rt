@@ -29,6 +29,12 @@ fn tokens(rt: HostRuntime) {
     let cases = [
         ("a number", "266", Some(Token::Number(266))),
         ("a place", "f12", Some(Token::Place(Letter::Frame, 12))),
+        (
+            "a popped cell",
+            "q266",
+            Some(Token::Place(Letter::Popped, 266)),
+        ),
+        ("the hand", "h", Some(Token::Word(Keyword::InHand))),
         ("a keyword", "frame", Some(Token::Word(Keyword::Frame))),
         ("its first letter", "f", None),
         ("a letter of none", "g5", None),

@@ -17,6 +17,8 @@ pub enum Letter {
     Immortal,
     /// `w`: the last entry of a cell on the thread's worklist.
     Work,
+    /// `q`: a cell whose reference the thread has popped from its merge queue.
+    Popped,
 }
 
 /// What one word of a line means.
@@ -44,6 +46,7 @@ fn letter_of(byte: u8) -> Option<Letter>
         b'e' => Some(Letter::Entry),
         b'i' => Some(Letter::Immortal),
         b'w' => Some(Letter::Work),
+        b'q' => Some(Letter::Popped),
         _ => None,
     }
 }

@@ -1,150 +1,195 @@
 -- The words of an event are read as that event, and no other words are.
-use Rattle.std.proofs.Common.{◌≡◌, ℕ, ◌^◌, ◌<◌, ◌≤◌, true, ◌&&◌, List, [], ◌∷◌, length, Some, refl, sym, ap, subst, arith, eqb, leb}
+use Rattle.std.proofs.Common.{◌≡◌, ℕ, ◌^◌, ◌<◌, ◌≤◌, ◌==◌, Bool, true, false, if◌then◌else◌, ◌&&◌, List, [], ◌∷◌, length, Option, Some, refl, ap, subst, ◌∙◌, arith}
 use Rattle.std.specs.List.{AllByRecursion}
 use Rattle.std.proofs.lemmas.Option.{cond_some}
-use Rattle.std.proofs.lemmas.Bool.{and_parts, leb-true, ltb-true, eqb-true}
+use Rattle.std.proofs.lemmas.Bool.{and_parts, and_from, eqb-true}
 use Rattle.brc_words.specs.declared.kind.Kind.{Kind}
-use Rattle.brc_words.specs.declared.kind.Kind.TheVariants as kinds
 use Rattle.brc_words.specs.Kinds.{is_mortal}
 use Rattle.brc_runs.specs.declared.event.Event.{Event}
 use Rattle.brc_runs.specs.declared.event.Step.{Step}
 use Rattle.brc_runs.specs.declared.event.Step.TheVariants as steps
-use Rattle.brc_runs.specs.declared.event.Source.TheVariants as sources
-use Rattle.brc_runs.specs.declared.event.Dropped.TheVariants as drops
+use Rattle.brc_runs.specs.declared.event.Source.{Source}
+use Rattle.brc_runs.specs.declared.event.Change.TheVariants as changes
 use Rattle.brc_text.specs.declared.keyword.Keyword.{Keyword}
 use Rattle.brc_text.specs.declared.keyword.Keyword.TheVariants as words
-use Rattle.brc_text.specs.declared.token.Letter.TheVariants as letters
 use Rattle.brc_text.specs.declared.token.Token.{Token}
 use Rattle.brc_text.specs.declared.token.Token.TheVariants as tokens
-use Rattle.brc_text.specs.Tokens.{IsRead}
+use Rattle.brc_text.specs.Tokens.{◌>>=◌, IsRead}
 use Rattle.brc_text.proofs.TokenLaws.{some_bind, same_some}
 use Rattle.brc_text.proofs.LineLaws.{IsLine}
-use Rattle.brc_trace.specs.Events.{event_words, step_words, kind_word, kind_at, fits, fits_step, fitting, event_at, is_thread, is_cell, is_place, is_entry}
+use Rattle.brc_trace.specs.Operands.{kind_token, source_token, fits_source, is_thread, is_cell, is_place, is_queue_word, number_at, kind_at, source_at, change_at, is_bare, one_of, two_of}
+use Rattle.brc_trace.specs.Events.{event_words, step_words, fits, fits_step, fits_thread, is_root_step, birth_at, step_at, made_by, event_at}
+use Rattle.brc_trace.proofs.OperandLaws.{Form, Spells, threads, cells, places, queue_words, mortal_kinds, all_sources, all_drops, all_lasts, bare_spells, one_again, one_takes, two_again, two_takes, made_spells, change_again, change_takes, change_read}
 
-fitting_again : (t : ℕ) (s : Step) → fits_step t s ≡ true → fitting t s ≡ Some (record { thread = t; step = s })
-fitting_again t s h = rw h refl
+-- ---- the words of an event spell it
 
-kind_again : (k : Kind) → is_mortal k ≡ true → kind_at (kind_word k) ≡ Some k
-kind_again kinds.Int h = refl
-kind_again kinds.Text h = refl
-kind_again kinds.List h = refl
-kind_again kinds.Dict h = refl
-kind_again kinds.Mailbox h = refl
-kind_again kinds.Nothing h = absurd cc
-kind_again kinds.False h = absurd cc
-kind_again kinds.True h = absurd cc
+-- the step that was read is made by its thread
+made_again : (t : ℕ) (s : Step) → fits_thread t s ≡ true → made_by t s ≡ Some (record { thread = t; step = s })
+made_again t s h = rw h refl
 
-step_again : (t : ℕ) (s : Step) → fits_step t s ≡ true → event_at (step_words t s) ≡ Some (record { thread = t; step = s })
-step_again t (steps.Claim c) h = fitting_again t (steps.Claim c) h
-step_again t (steps.InitLocal c) h = fitting_again t (steps.InitLocal c) h
-step_again t (steps.InitShared c) h = fitting_again t (steps.InitShared c) h
-step_again t (steps.Birth c k j) h =
-    let mortal : is_mortal k ≡ true = (and_parts _ _ (and_parts _ _ h).0).1 in
-    rw (kind_again k mortal) (fitting_again t (steps.Birth c k j) h)
-step_again t (steps.LocalUp (sources.Frame k) j) h = fitting_again t (steps.LocalUp (sources.Frame k) j) h
-step_again t (steps.LocalUp (sources.Entry i) j) h = fitting_again t (steps.LocalUp (sources.Entry i) j) h
-step_again t (steps.LocalUp (sources.Immortal c) j) h = fitting_again t (steps.LocalUp (sources.Immortal c) j) h
-step_again t (steps.LocalDown (drops.Frame k)) h = fitting_again t (steps.LocalDown (drops.Frame k)) h
-step_again t (steps.LocalDown (drops.Work c)) h = fitting_again t (steps.LocalDown (drops.Work c)) h
-step_again t (steps.SeeZero c) h = fitting_again t (steps.SeeZero c) h
-step_again t (steps.Free c) h = fitting_again t (steps.Free c) h
-step_again t (steps.Register r) h = fitting_again t (steps.Register r) h
+birth_again : (c j : ℕ) (kind : Kind) → fits_step (steps.Birth c kind j) ≡ true
+    → birth_at (tokens.Number c ∷ kind_token kind ∷ tokens.Number j ∷ []) ≡ Some (steps.Birth c kind j)
+unfolding birth_at
+birth_again c j kind h =
+    let parts = and_parts (is_cell c) (is_mortal kind && is_place j) h in
+    let others = and_parts (is_mortal kind) (is_place j) parts.1 in
+    rw (cells.again c parts.0, mortal_kinds.again kind others.0, places.again j others.1) refl
 
--- the words of an event spell it
+step_again : (t : ℕ) (s : Step) → fits_step s ≡ true → event_at (tokens.Number t ∷ step_words s) ≡ made_by t s
+unfolding is_bare
+step_again t (steps.Claim c) h = rw (one_again cells c h) refl
+step_again t (steps.InitLocal c) h = rw (one_again cells c h) refl
+step_again t (steps.InitShared c) h = rw (one_again cells c h) refl
+step_again t (steps.Birth c kind j) h = rw (birth_again c j kind h) refl
+step_again t (steps.LocalUp source j) h = rw (two_again all_sources places source j h) refl
+step_again t (steps.LocalDown dropped) h = rw (one_again all_drops dropped h) refl
+step_again t (steps.SeeZero c) h = rw (one_again cells c h) refl
+step_again t (steps.Free c) h = rw (one_again cells c h) refl
+step_again t (steps.Untie c) h = rw (one_again cells c h) refl
+step_again t (steps.MergeZero c) h = rw (one_again cells c h) refl
+step_again t (steps.SharedUp source j) h = rw (two_again all_sources places source j h) refl
+step_again t (steps.SharedDown dropped) h = rw (one_again all_drops dropped h) refl
+step_again t (steps.Ask dropped) h = rw (one_again all_drops dropped h) refl
+step_again t (steps.LastDown dropped) h = rw (one_again all_lasts dropped h) refl
+step_again t (steps.Enqueue c) h = rw (one_again cells c h) refl
+step_again t (steps.Drain k) h = rw (one_again queue_words k h) refl
+step_again t (steps.MergeAdd c) h = rw (one_again cells c h) refl
+step_again t (steps.Close k) h = rw (one_again queue_words k h) refl
+step_again t (steps.Nudge q k) h = rw (two_again threads queue_words q k h) refl
+step_again t steps.Wake h = refl
+step_again t (steps.Lock k) h = rw (one_again places k h) refl
+step_again t (steps.Unlock change) h = rw (change_again change h) refl
+step_again t (steps.Register r) h = rw (one_again threads r h) refl
+step_again t (steps.Gather r) h = rw (one_again threads r h) refl
+
 pub event_again : (e : Event) → fits e ≡ true → event_at (event_words e) ≡ Some e
-event_again e h = step_again e.thread e.step h
+event_again e h =
+    let parts = and_parts (fits_thread e.thread e.step) (fits_step e.step) h in
+    step_again e.thread e.step parts.1 ∙ made_again e.thread e.step parts.0
 
--- the words spell the event
-pub record Spell (ts : List Token) (e : Event) : Type 0 where
-  pub fit : fits e ≡ true
-  pub are : event_words e ≡ ts
+-- ---- words that spell an event are its words
 
-fitting_takes : (t : ℕ) (s : Step) (ts : List Token) (e : Event) → fitting t s ≡ Some e → step_words t s ≡ ts → Spell ts e
-fitting_takes t s ts e h same =
-    let tests = cond_some (fits_step t s) (record { thread = t; step = s }) e h in
-    subst (Spell ts) tests.1 (record { fit = tests.0; are = same })
+birth_takes : (ops : List Token) (s : Step) → birth_at ops ≡ Some s → Spells step_words fits_step (tokens.Word words.Born ∷ ops) s
+unfolding birth_at
+birth_takes (a ∷ b ∷ d ∷ []) s e =
+    let c = some_bind (number_at is_cell a) (λ c. kind_at b >>= λ kind. number_at is_place d >>= λ k. Some (steps.Birth c kind k)) s e in
+    let kind = some_bind (kind_at b) (λ kind. number_at is_place d >>= λ k. Some (steps.Birth c.0 kind k)) s c.2 in
+    let k = some_bind (number_at is_place d) (λ k. Some (steps.Birth c.0 kind.0 k)) s kind.2 in
+    let is_c = cells.takes a c.0 c.1 in
+    let is_kind = mortal_kinds.takes b kind.0 kind.1 in
+    let is_k = places.takes d k.0 k.1 in
+    subst (Spells step_words fits_step (tokens.Word words.Born ∷ a ∷ b ∷ d ∷ [])) (same_some k.2) (record {
+      fit = and_from (is_cell c.0) (is_mortal kind.0 && is_place k.0) is_c.0 (and_from (is_mortal kind.0) (is_place k.0) is_kind.0 is_k.0);
+      are = ap (λ (x : Token). tokens.Word words.Born ∷ x ∷ kind_token kind.0 ∷ tokens.Number k.0 ∷ []) is_c.1
+          ∙ ap (λ (x : Token). tokens.Word words.Born ∷ a ∷ x ∷ tokens.Number k.0 ∷ []) is_kind.1
+          ∙ ap (λ (x : Token). tokens.Word words.Born ∷ a ∷ b ∷ x ∷ []) is_k.1;
+    })
+birth_takes _ s e = absurd cc
 
-kind_takes : (w : Keyword) (k : Kind) → kind_at w ≡ Some k → kind_word k ≡ w
-kind_takes words.Int k h = ap kind_word (sym (same_some h))
-kind_takes words.Text k h = ap kind_word (sym (same_some h))
-kind_takes words.List k h = ap kind_word (sym (same_some h))
-kind_takes words.Dict k h = ap kind_word (sym (same_some h))
-kind_takes words.Mailbox k h = ap kind_word (sym (same_some h))
-kind_takes _ k h = absurd cc
+-- a step of one operand
+one_step : {A : Type 0} {write : A → Token} {fits : A → Bool} {read : Token → Option A} → Form write fits read → (w : Keyword) (make : A → Step) (ops : List Token) (s : Step)
+    → ((x : A) → fits_step (make x) ≡ fits x) → ((x : A) → step_words (make x) ≡ tokens.Word w ∷ write x ∷ [])
+    → (one_of read ops >>= λ x. Some (make x)) ≡ Some s → Spells step_words fits_step (tokens.Word w ∷ ops) s
+one_step form w make ops s same_fits same_words e = made_spells _ _ (one_of _) make step_words fits_step (tokens.Word w ∷ []) ops s (one_takes form ops) same_fits same_words e
 
--- words that spell an event are its words
-pub event_takes : (ts : List Token) (e : Event) → event_at ts ≡ Some e → Spell ts e
-event_takes (tokens.Number t ∷ tokens.Word words.Claim ∷ tokens.Number c ∷ []) e h = fitting_takes t (steps.Claim c) _ e h refl
-event_takes (tokens.Number t ∷ tokens.Word words.Local ∷ tokens.Number c ∷ []) e h = fitting_takes t (steps.InitLocal c) _ e h refl
-event_takes (tokens.Number t ∷ tokens.Word words.Shared ∷ tokens.Number c ∷ []) e h = fitting_takes t (steps.InitShared c) _ e h refl
-event_takes (tokens.Number t ∷ tokens.Word words.Born ∷ tokens.Number c ∷ tokens.Word w ∷ tokens.Number j ∷ []) e h =
-    let k = some_bind (kind_at w) (λ kind. fitting t (steps.Birth c kind j)) e h in
-    fitting_takes t (steps.Birth c k.0 j) _ e k.2
-    (ap (λ (v : Keyword). tokens.Number t ∷ tokens.Word words.Born ∷ tokens.Number c ∷ tokens.Word v ∷ tokens.Number j ∷ []) (kind_takes w k.0 k.1))
-event_takes (tokens.Number t ∷ tokens.Word words.Up ∷ tokens.Place letters.Frame k ∷ tokens.Number j ∷ []) e h = fitting_takes t (steps.LocalUp (sources.Frame k) j) _ e h refl
-event_takes (tokens.Number t ∷ tokens.Word words.Up ∷ tokens.Place letters.Entry i ∷ tokens.Number j ∷ []) e h = fitting_takes t (steps.LocalUp (sources.Entry i) j) _ e h refl
-event_takes (tokens.Number t ∷ tokens.Word words.Up ∷ tokens.Place letters.Immortal c ∷ tokens.Number j ∷ []) e h = fitting_takes t (steps.LocalUp (sources.Immortal c) j) _ e h refl
-event_takes (tokens.Number t ∷ tokens.Word words.Down ∷ tokens.Place letters.Frame k ∷ []) e h = fitting_takes t (steps.LocalDown (drops.Frame k)) _ e h refl
-event_takes (tokens.Number t ∷ tokens.Word words.Down ∷ tokens.Place letters.Work c ∷ []) e h = fitting_takes t (steps.LocalDown (drops.Work c)) _ e h refl
-event_takes (tokens.Number t ∷ tokens.Word words.See ∷ tokens.Number c ∷ []) e h = fitting_takes t (steps.SeeZero c) _ e h refl
-event_takes (tokens.Number t ∷ tokens.Word words.Free ∷ tokens.Number c ∷ []) e h = fitting_takes t (steps.Free c) _ e h refl
-event_takes (tokens.Number t ∷ tokens.Word words.Register ∷ tokens.Number r ∷ []) e h = fitting_takes t (steps.Register r) _ e h refl
+step_takes : (w : Keyword) (ops : List Token) (s : Step) → step_at w ops ≡ Some s → Spells step_words fits_step (tokens.Word w ∷ ops) s
+step_takes words.Claim ops s e = one_step cells words.Claim steps.Claim ops s (λ c. refl) (λ c. refl) e
+step_takes words.Local ops s e = one_step cells words.Local steps.InitLocal ops s (λ c. refl) (λ c. refl) e
+step_takes words.Shared ops s e = one_step cells words.Shared steps.InitShared ops s (λ c. refl) (λ c. refl) e
+step_takes words.Born ops s e = birth_takes ops s e
+step_takes words.Up ops s e = made_spells _ _ (two_of source_at (number_at is_place)) (λ by. steps.LocalUp by.0 by.1) step_words fits_step (tokens.Word words.Up ∷ []) ops s
+    (two_takes all_sources places ops) (λ by. refl) (λ by. refl) e
+step_takes words.Down ops s e = one_step all_drops words.Down steps.LocalDown ops s (λ d. refl) (λ d. refl) e
+step_takes words.See ops s e = one_step cells words.See steps.SeeZero ops s (λ c. refl) (λ c. refl) e
+step_takes words.Free ops s e = one_step cells words.Free steps.Free ops s (λ c. refl) (λ c. refl) e
+step_takes words.Untie ops s e = one_step cells words.Untie steps.Untie ops s (λ c. refl) (λ c. refl) e
+step_takes words.Zero ops s e = one_step cells words.Zero steps.MergeZero ops s (λ c. refl) (λ c. refl) e
+step_takes words.Shup ops s e = made_spells _ _ (two_of source_at (number_at is_place)) (λ by. steps.SharedUp by.0 by.1) step_words fits_step (tokens.Word words.Shup ∷ []) ops s
+    (two_takes all_sources places ops) (λ by. refl) (λ by. refl) e
+step_takes words.Shdown ops s e = one_step all_drops words.Shdown steps.SharedDown ops s (λ d. refl) (λ d. refl) e
+step_takes words.Ask ops s e = one_step all_drops words.Ask steps.Ask ops s (λ d. refl) (λ d. refl) e
+step_takes words.Last ops s e = one_step all_lasts words.Last steps.LastDown ops s (λ d. refl) (λ d. refl) e
+step_takes words.Enq ops s e = one_step cells words.Enq steps.Enqueue ops s (λ c. refl) (λ c. refl) e
+step_takes words.Drain ops s e = one_step queue_words words.Drain steps.Drain ops s (λ k. refl) (λ k. refl) e
+step_takes words.Add ops s e = one_step cells words.Add steps.MergeAdd ops s (λ c. refl) (λ c. refl) e
+step_takes words.Close ops s e = one_step queue_words words.Close steps.Close ops s (λ k. refl) (λ k. refl) e
+step_takes words.Nudge ops s e = made_spells _ _ (two_of (number_at is_thread) (number_at is_queue_word)) (λ to. steps.Nudge to.0 to.1) step_words fits_step (tokens.Word words.Nudge ∷ []) ops s
+    (two_takes threads queue_words ops) (λ to. refl) (λ to. refl) e
+step_takes words.Wake ops s e = bare_spells step_words fits_step (tokens.Word words.Wake) ops steps.Wake s refl refl e
+step_takes words.Lock ops s e = one_step places words.Lock steps.Lock ops s (λ k. refl) (λ k. refl) e
+step_takes words.Unlock ops s e = made_spells _ _ change_at steps.Unlock step_words fits_step (tokens.Word words.Unlock ∷ []) ops s
+    (change_takes ops) (λ change. refl) (λ change. refl) e
+step_takes words.Register ops s e = one_step threads words.Register steps.Register ops s (λ r. refl) (λ r. refl) e
+step_takes words.Gather ops s e = one_step threads words.Gather steps.Gather ops s (λ r. refl) (λ r. refl) e
+step_takes _ ops s e = absurd cc
+
+pub event_takes : (ts : List Token) (e : Event) → event_at ts ≡ Some e → Spells event_words fits ts e
+event_takes (tokens.Number t ∷ tokens.Word w ∷ ops) e h =
+    let s = some_bind (step_at w ops) (made_by t) e h in
+    let spells = step_takes w ops s.0 s.1 in
+    let made = cond_some (fits_thread t s.0) (record { thread = t; step = s.0 }) e s.2 in
+    subst (Spells event_words fits (tokens.Number t ∷ tokens.Word w ∷ ops)) made.1 (record {
+      fit = and_from (fits_thread t s.0) (fits_step s.0) made.0 spells.fit;
+      are = ap (λ (l : List Token). tokens.Number t ∷ l) spells.are;
+    })
 event_takes _ e h = absurd cc
 
 -- ---- the words of an event make a line
 
-thread_small : (t : ℕ) → is_thread t ≡ true → t < 2 ^ 64
-thread_small t h = omega (arith, leb-true t 64 (and_parts (leb 1 t) (leb t 64) h).1)
+thread_small : (t : ℕ) (root : Bool) → (if root then t == 0 else is_thread t) ≡ true → t < 2 ^ 64
+thread_small t true h = omega (arith, eqb-true t 0 h)
+thread_small t false h = threads.small t h
 
-cell_small : (c : ℕ) → is_cell c ≡ true → c < 2 ^ 64
-cell_small c h = omega (arith, ltb-true c 65536 h)
+-- one operand is read
+one_read : {A : Type 0} {write : A → Token} {fits : A → Bool} {read : Token → Option A} → Form write fits read → (w : Keyword) (x : A) → fits x ≡ true
+    → AllByRecursion IsRead (tokens.Word w ∷ write x ∷ [])
+one_read form w x h = (tt, (form.small x h, tt))
 
-entry_small : (c : ℕ) → is_entry c ≡ true → c < 2 ^ 64
-entry_small c h = omega (arith, ltb-true c 1048576 h)
+source_read : (w : Keyword) (source : Source) (j : ℕ) → (fits_source source && is_place j) ≡ true → AllByRecursion IsRead (tokens.Word w ∷ source_token source ∷ tokens.Number j ∷ [])
+source_read w source j h = let parts = and_parts (fits_source source) (is_place j) h in (tt, (all_sources.small source parts.0, (places.small j parts.1, tt)))
 
-root_small : (t : ℕ) → eqb t 0 ≡ true → t < 2 ^ 64
-root_small t h = omega (arith, eqb-true t 0 h)
+step_read : (s : Step) → fits_step s ≡ true → AllByRecursion IsRead (step_words s)
+step_read (steps.Claim c) h = one_read cells words.Claim c h
+step_read (steps.InitLocal c) h = one_read cells words.Local c h
+step_read (steps.InitShared c) h = one_read cells words.Shared c h
+step_read (steps.Birth c kind j) h =
+    let parts = and_parts (is_cell c) (is_mortal kind && is_place j) h in
+    let others = and_parts (is_mortal kind) (is_place j) parts.1 in
+    (tt, (cells.small c parts.0, (tt, (places.small j others.1, tt))))
+step_read (steps.LocalUp source j) h = source_read words.Up source j h
+step_read (steps.LocalDown dropped) h = one_read all_drops words.Down dropped h
+step_read (steps.SeeZero c) h = one_read cells words.See c h
+step_read (steps.Free c) h = one_read cells words.Free c h
+step_read (steps.Untie c) h = one_read cells words.Untie c h
+step_read (steps.MergeZero c) h = one_read cells words.Zero c h
+step_read (steps.SharedUp source j) h = source_read words.Shup source j h
+step_read (steps.SharedDown dropped) h = one_read all_drops words.Shdown dropped h
+step_read (steps.Ask dropped) h = one_read all_drops words.Ask dropped h
+step_read (steps.LastDown dropped) h = one_read all_lasts words.Last dropped h
+step_read (steps.Enqueue c) h = one_read cells words.Enq c h
+step_read (steps.Drain k) h = one_read queue_words words.Drain k h
+step_read (steps.MergeAdd c) h = one_read cells words.Add c h
+step_read (steps.Close k) h = one_read queue_words words.Close k h
+step_read (steps.Nudge q k) h = let parts = and_parts (is_thread q) (is_queue_word k) h in (tt, (threads.small q parts.0, (queue_words.small k parts.1, tt)))
+step_read steps.Wake h = (tt, tt)
+step_read (steps.Lock k) h = one_read places words.Lock k h
+step_read (steps.Unlock change) h = (tt, change_read change h)
+step_read (steps.Register r) h = one_read threads words.Register r h
+step_read (steps.Gather r) h = one_read threads words.Gather r h
 
-step_read : (t : ℕ) (s : Step) → fits_step t s ≡ true → AllByRecursion IsRead (step_words t s)
-step_read t (steps.Claim c) h = let p = and_parts (is_thread t) (is_cell c) h in (thread_small t p.0, (tt, (cell_small c p.1, tt)))
-step_read t (steps.InitLocal c) h = let p = and_parts (is_thread t) (is_cell c) h in (thread_small t p.0, (tt, (cell_small c p.1, tt)))
-step_read t (steps.InitShared c) h = let p = and_parts (is_thread t) (is_cell c) h in (thread_small t p.0, (tt, (cell_small c p.1, tt)))
-step_read t (steps.Birth c k j) h =
-    let p = and_parts (is_thread t && is_cell c && is_mortal k) (is_place j) h in
-    let q = and_parts (is_thread t && is_cell c) (is_mortal k) p.0 in
-    let r = and_parts (is_thread t) (is_cell c) q.0 in
-    (thread_small t r.0, (tt, (cell_small c r.1, (tt, (cell_small j p.1, tt)))))
-step_read t (steps.LocalUp (sources.Frame k) j) h =
-    let p = and_parts (is_thread t && is_place k) (is_place j) h in
-    let q = and_parts (is_thread t) (is_place k) p.0 in
-    (thread_small t q.0, (tt, (cell_small k q.1, (cell_small j p.1, tt))))
-step_read t (steps.LocalUp (sources.Entry i) j) h =
-    let p = and_parts (is_thread t && is_entry i) (is_place j) h in
-    let q = and_parts (is_thread t) (is_entry i) p.0 in
-    (thread_small t q.0, (tt, (entry_small i q.1, (cell_small j p.1, tt))))
-step_read t (steps.LocalUp (sources.Immortal c) j) h =
-    let p = and_parts (is_thread t && is_cell c) (is_place j) h in
-    let q = and_parts (is_thread t) (is_cell c) p.0 in
-    (thread_small t q.0, (tt, (cell_small c q.1, (cell_small j p.1, tt))))
-step_read t (steps.LocalDown (drops.Frame k)) h = let p = and_parts (is_thread t) (is_place k) h in (thread_small t p.0, (tt, (cell_small k p.1, tt)))
-step_read t (steps.LocalDown (drops.Work c)) h = let p = and_parts (is_thread t) (is_cell c) h in (thread_small t p.0, (tt, (cell_small c p.1, tt)))
-step_read t (steps.SeeZero c) h = let p = and_parts (is_thread t) (is_cell c) h in (thread_small t p.0, (tt, (cell_small c p.1, tt)))
-step_read t (steps.Free c) h = let p = and_parts (is_thread t) (is_cell c) h in (thread_small t p.0, (tt, (cell_small c p.1, tt)))
-step_read t (steps.Register r) h = let p = and_parts (eqb t 0) (is_thread r) h in (root_small t p.0, (tt, (thread_small r p.1, tt)))
-
--- 3 to 5 words
-pub step_length : (t : ℕ) (s : Step) → (0 < length (step_words t s)) × (length (step_words t s) ≤ 8)
-step_length t (steps.Claim c) = (omega arith, omega arith)
-step_length t (steps.InitLocal c) = (omega arith, omega arith)
-step_length t (steps.InitShared c) = (omega arith, omega arith)
-step_length t (steps.Birth c k j) = (omega arith, omega arith)
-step_length t (steps.LocalUp source j) = (omega arith, omega arith)
-step_length t (steps.LocalDown dropped) = (omega arith, omega arith)
-step_length t (steps.SeeZero c) = (omega arith, omega arith)
-step_length t (steps.Free c) = (omega arith, omega arith)
-step_length t (steps.Register r) = (omega arith, omega arith)
+-- an event has 2 to 5 words
+step_length : (s : Step) → length (step_words s) ≤ 4
+step_length (steps.Unlock changes.Keep) = omega arith
+step_length (steps.Unlock (changes.Put j)) = omega arith
+step_length (steps.Unlock (changes.Take i j)) = omega arith
+step_length (steps.Unlock (changes.Swap i j)) = omega arith
+step_length _ = omega arith
 
 pub event_line : (e : Event) → fits e ≡ true → IsLine 8 (event_words e)
 event_line e h =
-    let long = step_length e.thread e.step in
-    record { read = step_read e.thread e.step h; some = long.0; fit = long.1 }
+    let parts = and_parts (fits_thread e.thread e.step) (fits_step e.step) h in
+    record {
+      read = (thread_small e.thread (is_root_step e.step) parts.0, step_read e.step parts.1);
+      some = omega arith;
+      fit = omega (arith, step_length e.step);
+    }

@@ -1,3 +1,4 @@
+pub mod OperandLaws
 pub mod EventLaws
 pub mod TextLaws
 pub mod ReadingLoop

@@ -1,128 +1,127 @@
 -- The words of each event, which are the grammar of a line, and the event that words spell.
-use Rattle.std.specs.Prelude.{ℕ, Bool, List, [], ◌∷◌, Option, Some, None, nat_lt, nat_le, ◌==◌, ◌&&◌, if◌then◌else◌}
-use Rattle.brc_words.specs.declared.kind.Kind.{Kind}
-use Rattle.brc_words.specs.declared.kind.Kind.TheVariants as kinds
+use Rattle.std.specs.Prelude.{ℕ, Bool, true, false, List, [], ◌∷◌, Option, Some, None, ◌==◌, ◌&&◌, if◌then◌else◌}
 use Rattle.brc_words.specs.Kinds.{is_mortal}
 use Rattle.brc_runs.specs.declared.event.Event.{Event}
 use Rattle.brc_runs.specs.declared.event.Step.{Step}
 use Rattle.brc_runs.specs.declared.event.Step.TheVariants as steps
-use Rattle.brc_runs.specs.declared.event.Source.{Source}
-use Rattle.brc_runs.specs.declared.event.Source.TheVariants as sources
-use Rattle.brc_runs.specs.declared.event.Dropped.{Dropped}
-use Rattle.brc_runs.specs.declared.event.Dropped.TheVariants as drops
 use Rattle.brc_text.specs.declared.keyword.Keyword.{Keyword}
 use Rattle.brc_text.specs.declared.keyword.Keyword.TheVariants as words
-use Rattle.brc_text.specs.declared.token.Letter.TheVariants as letters
 use Rattle.brc_text.specs.declared.token.Token.{Token}
 use Rattle.brc_text.specs.declared.token.Token.TheVariants as tokens
 use Rattle.brc_text.specs.Tokens.{◌>>=◌}
+use Rattle.brc_trace.specs.Operands.{kind_token, source_token, dropped_token, last_token, change_words, is_thread, is_cell, is_place, is_queue_word, fits_source, fits_dropped, fits_last, fits_change, number_at, kind_at, source_at, dropped_at, last_at, change_at, is_bare, one_of, two_of}
 
--- ---- the words of an event
+-- ---- the words of an event: its thread, the word of its step, and the operands
 
--- kinds that are born have a word; None, False and True have none
-abbrev pub kind_word : Kind → Keyword
-kind_word kinds.Int = words.Int
-kind_word kinds.Text = words.Text
-kind_word kinds.List = words.List
-kind_word kinds.Dict = words.Dict
-kind_word kinds.Mailbox = words.Mailbox
-kind_word kinds.Nothing = words.Dash
-kind_word kinds.False = words.Dash
-kind_word kinds.True = words.Dash
-
-abbrev pub source_word : Source → Token
-source_word (sources.Frame place) = tokens.Place letters.Frame place
-source_word (sources.Entry index) = tokens.Place letters.Entry index
-source_word (sources.Immortal cell) = tokens.Place letters.Immortal cell
-
-abbrev pub dropped_word : Dropped → Token
-dropped_word (drops.Frame place) = tokens.Place letters.Frame place
-dropped_word (drops.Work cell) = tokens.Place letters.Work cell
-
-abbrev pub step_words : ℕ → Step → List Token
-step_words t (steps.Claim c) = tokens.Number t ∷ tokens.Word words.Claim ∷ tokens.Number c ∷ []
-step_words t (steps.InitLocal c) = tokens.Number t ∷ tokens.Word words.Local ∷ tokens.Number c ∷ []
-step_words t (steps.InitShared c) = tokens.Number t ∷ tokens.Word words.Shared ∷ tokens.Number c ∷ []
-step_words t (steps.Birth c kind k) =
-    tokens.Number t ∷ tokens.Word words.Born ∷ tokens.Number c ∷ tokens.Word (kind_word kind) ∷ tokens.Number k ∷ []
-step_words t (steps.LocalUp source j) = tokens.Number t ∷ tokens.Word words.Up ∷ source_word source ∷ tokens.Number j ∷ []
-step_words t (steps.LocalDown dropped) = tokens.Number t ∷ tokens.Word words.Down ∷ dropped_word dropped ∷ []
-step_words t (steps.SeeZero c) = tokens.Number t ∷ tokens.Word words.See ∷ tokens.Number c ∷ []
-step_words t (steps.Free c) = tokens.Number t ∷ tokens.Word words.Free ∷ tokens.Number c ∷ []
-step_words t (steps.Register r) = tokens.Number t ∷ tokens.Word words.Register ∷ tokens.Number r ∷ []
+abbrev pub step_words : Step → List Token
+step_words (steps.Claim c) = tokens.Word words.Claim ∷ tokens.Number c ∷ []
+step_words (steps.InitLocal c) = tokens.Word words.Local ∷ tokens.Number c ∷ []
+step_words (steps.InitShared c) = tokens.Word words.Shared ∷ tokens.Number c ∷ []
+step_words (steps.Birth c kind k) = tokens.Word words.Born ∷ tokens.Number c ∷ kind_token kind ∷ tokens.Number k ∷ []
+step_words (steps.LocalUp source j) = tokens.Word words.Up ∷ source_token source ∷ tokens.Number j ∷ []
+step_words (steps.LocalDown dropped) = tokens.Word words.Down ∷ dropped_token dropped ∷ []
+step_words (steps.SeeZero c) = tokens.Word words.See ∷ tokens.Number c ∷ []
+step_words (steps.Free c) = tokens.Word words.Free ∷ tokens.Number c ∷ []
+step_words (steps.Untie c) = tokens.Word words.Untie ∷ tokens.Number c ∷ []
+step_words (steps.MergeZero c) = tokens.Word words.Zero ∷ tokens.Number c ∷ []
+step_words (steps.SharedUp source j) = tokens.Word words.Shup ∷ source_token source ∷ tokens.Number j ∷ []
+step_words (steps.SharedDown dropped) = tokens.Word words.Shdown ∷ dropped_token dropped ∷ []
+step_words (steps.Ask dropped) = tokens.Word words.Ask ∷ dropped_token dropped ∷ []
+step_words (steps.LastDown dropped) = tokens.Word words.Last ∷ last_token dropped ∷ []
+step_words (steps.Enqueue c) = tokens.Word words.Enq ∷ tokens.Number c ∷ []
+step_words (steps.Drain k) = tokens.Word words.Drain ∷ tokens.Number k ∷ []
+step_words (steps.MergeAdd c) = tokens.Word words.Add ∷ tokens.Number c ∷ []
+step_words (steps.Close k) = tokens.Word words.Close ∷ tokens.Number k ∷ []
+step_words (steps.Nudge q k) = tokens.Word words.Nudge ∷ tokens.Number q ∷ tokens.Number k ∷ []
+step_words steps.Wake = tokens.Word words.Wake ∷ []
+step_words (steps.Lock k) = tokens.Word words.Lock ∷ tokens.Number k ∷ []
+step_words (steps.Unlock change) = tokens.Word words.Unlock ∷ change_words change
+step_words (steps.Register r) = tokens.Word words.Register ∷ tokens.Number r ∷ []
+step_words (steps.Gather r) = tokens.Word words.Gather ∷ tokens.Number r ∷ []
 
 abbrev pub event_words : Event → List Token
-event_words event = step_words event.thread event.step
+event_words event = tokens.Number event.thread ∷ step_words event.step
 
 -- ---- the events that have a spelling
 
--- threads are 1 to 64; cells and places are below 65,536, entries below 1,048,576
-abbrev pub is_thread : ℕ → Bool
-is_thread number = nat_le 1 number && nat_le number 64
+-- the operands are in their ranges
+abbrev pub fits_step : Step → Bool
+fits_step (steps.Claim c) = is_cell c
+fits_step (steps.InitLocal c) = is_cell c
+fits_step (steps.InitShared c) = is_cell c
+fits_step (steps.Birth c kind k) = is_cell c && (is_mortal kind && is_place k)
+fits_step (steps.LocalUp source j) = fits_source source && is_place j
+fits_step (steps.LocalDown dropped) = fits_dropped dropped
+fits_step (steps.SeeZero c) = is_cell c
+fits_step (steps.Free c) = is_cell c
+fits_step (steps.Untie c) = is_cell c
+fits_step (steps.MergeZero c) = is_cell c
+fits_step (steps.SharedUp source j) = fits_source source && is_place j
+fits_step (steps.SharedDown dropped) = fits_dropped dropped
+fits_step (steps.Ask dropped) = fits_dropped dropped
+fits_step (steps.LastDown dropped) = fits_last dropped
+fits_step (steps.Enqueue c) = is_cell c
+fits_step (steps.Drain k) = is_queue_word k
+fits_step (steps.MergeAdd c) = is_cell c
+fits_step (steps.Close k) = is_queue_word k
+fits_step (steps.Nudge q k) = is_thread q && is_queue_word k
+fits_step steps.Wake = true
+fits_step (steps.Lock k) = is_place k
+fits_step (steps.Unlock change) = fits_change change
+fits_step (steps.Register r) = is_thread r
+fits_step (steps.Gather r) = is_thread r
 
-abbrev pub is_cell : ℕ → Bool
-is_cell number = nat_lt number 65536
+-- threads are registered and gathered by the root, and make all other steps themselves
+abbrev pub is_root_step : Step → Bool
+is_root_step (steps.Register r) = true
+is_root_step (steps.Gather r) = true
+is_root_step _ = false
 
-abbrev pub is_place : ℕ → Bool
-is_place number = nat_lt number 65536
-
-abbrev pub is_entry : ℕ → Bool
-is_entry number = nat_lt number 1048576
-
-abbrev pub fits_source : Source → Bool
-fits_source (sources.Frame place) = is_place place
-fits_source (sources.Entry index) = is_entry index
-fits_source (sources.Immortal cell) = is_cell cell
-
-abbrev pub fits_dropped : Dropped → Bool
-fits_dropped (drops.Frame place) = is_place place
-fits_dropped (drops.Work cell) = is_cell cell
-
-abbrev pub fits_step : ℕ → Step → Bool
-fits_step t (steps.Claim c) = is_thread t && is_cell c
-fits_step t (steps.InitLocal c) = is_thread t && is_cell c
-fits_step t (steps.InitShared c) = is_thread t && is_cell c
-fits_step t (steps.Birth c kind k) = is_thread t && is_cell c && is_mortal kind && is_place k
-fits_step t (steps.LocalUp source j) = is_thread t && fits_source source && is_place j
-fits_step t (steps.LocalDown dropped) = is_thread t && fits_dropped dropped
-fits_step t (steps.SeeZero c) = is_thread t && is_cell c
-fits_step t (steps.Free c) = is_thread t && is_cell c
--- threads are registered by the root
-fits_step t (steps.Register r) = t == 0 && is_thread r
+abbrev pub fits_thread : ℕ → Step → Bool
+fits_thread t step = if is_root_step step then t == 0 else is_thread t
 
 abbrev pub fits : Event → Bool
-fits event = fits_step event.thread event.step
+fits event = fits_thread event.thread event.step && fits_step event.step
 
 -- ---- the event that words spell
 
-abbrev pub fitting : ℕ → Step → Option Event
-fitting t step = if fits_step t step then Some (record { thread = t; step = step }) else None
+-- a cell, the kind that is born in it, and a place
+unfoldable pub birth_at : List Token → Option Step
+birth_at (a ∷ b ∷ d ∷ []) = number_at is_cell a >>= λ c. kind_at b >>= λ kind. number_at is_place d >>= λ k. Some (steps.Birth c kind k)
+birth_at _ = None
 
-abbrev pub kind_at : Keyword → Option Kind
-kind_at words.Int = Some kinds.Int
-kind_at words.Text = Some kinds.Text
-kind_at words.List = Some kinds.List
-kind_at words.Dict = Some kinds.Dict
-kind_at words.Mailbox = Some kinds.Mailbox
-kind_at _ = None
+-- each step by its word
+abbrev pub step_at : Keyword → List Token → Option Step
+step_at words.Claim operands = one_of (number_at is_cell) operands >>= λ c. Some (steps.Claim c)
+step_at words.Local operands = one_of (number_at is_cell) operands >>= λ c. Some (steps.InitLocal c)
+step_at words.Shared operands = one_of (number_at is_cell) operands >>= λ c. Some (steps.InitShared c)
+step_at words.Born operands = birth_at operands
+step_at words.Up operands = two_of source_at (number_at is_place) operands >>= λ by. Some (steps.LocalUp by.0 by.1)
+step_at words.Down operands = one_of dropped_at operands >>= λ dropped. Some (steps.LocalDown dropped)
+step_at words.See operands = one_of (number_at is_cell) operands >>= λ c. Some (steps.SeeZero c)
+step_at words.Free operands = one_of (number_at is_cell) operands >>= λ c. Some (steps.Free c)
+step_at words.Untie operands = one_of (number_at is_cell) operands >>= λ c. Some (steps.Untie c)
+step_at words.Zero operands = one_of (number_at is_cell) operands >>= λ c. Some (steps.MergeZero c)
+step_at words.Shup operands = two_of source_at (number_at is_place) operands >>= λ by. Some (steps.SharedUp by.0 by.1)
+step_at words.Shdown operands = one_of dropped_at operands >>= λ dropped. Some (steps.SharedDown dropped)
+step_at words.Ask operands = one_of dropped_at operands >>= λ dropped. Some (steps.Ask dropped)
+step_at words.Last operands = one_of last_at operands >>= λ dropped. Some (steps.LastDown dropped)
+step_at words.Enq operands = one_of (number_at is_cell) operands >>= λ c. Some (steps.Enqueue c)
+step_at words.Drain operands = one_of (number_at is_queue_word) operands >>= λ k. Some (steps.Drain k)
+step_at words.Add operands = one_of (number_at is_cell) operands >>= λ c. Some (steps.MergeAdd c)
+step_at words.Close operands = one_of (number_at is_queue_word) operands >>= λ k. Some (steps.Close k)
+step_at words.Nudge operands = two_of (number_at is_thread) (number_at is_queue_word) operands >>= λ to. Some (steps.Nudge to.0 to.1)
+step_at words.Wake operands = if is_bare operands then Some steps.Wake else None
+step_at words.Lock operands = one_of (number_at is_place) operands >>= λ k. Some (steps.Lock k)
+step_at words.Unlock operands = change_at operands >>= λ change. Some (steps.Unlock change)
+step_at words.Register operands = one_of (number_at is_thread) operands >>= λ r. Some (steps.Register r)
+step_at words.Gather operands = one_of (number_at is_thread) operands >>= λ r. Some (steps.Gather r)
+step_at _ operands = None
+
+-- a step by the thread that may make it
+abbrev pub made_by : ℕ → Step → Option Event
+made_by t step = if fits_thread t step then Some (record { thread = t; step = step }) else None
 
 abbrev pub event_at : List Token → Option Event
-event_at (tokens.Number t ∷ tokens.Word words.Claim ∷ tokens.Number c ∷ []) = fitting t (steps.Claim c)
-event_at (tokens.Number t ∷ tokens.Word words.Local ∷ tokens.Number c ∷ []) = fitting t (steps.InitLocal c)
-event_at (tokens.Number t ∷ tokens.Word words.Shared ∷ tokens.Number c ∷ []) = fitting t (steps.InitShared c)
-event_at (tokens.Number t ∷ tokens.Word words.Born ∷ tokens.Number c ∷ tokens.Word k ∷ tokens.Number j ∷ []) =
-    kind_at k >>= λ kind. fitting t (steps.Birth c kind j)
-event_at (tokens.Number t ∷ tokens.Word words.Up ∷ tokens.Place letters.Frame k ∷ tokens.Number j ∷ []) =
-    fitting t (steps.LocalUp (sources.Frame k) j)
-event_at (tokens.Number t ∷ tokens.Word words.Up ∷ tokens.Place letters.Entry i ∷ tokens.Number j ∷ []) =
-    fitting t (steps.LocalUp (sources.Entry i) j)
-event_at (tokens.Number t ∷ tokens.Word words.Up ∷ tokens.Place letters.Immortal c ∷ tokens.Number j ∷ []) =
-    fitting t (steps.LocalUp (sources.Immortal c) j)
-event_at (tokens.Number t ∷ tokens.Word words.Down ∷ tokens.Place letters.Frame k ∷ []) =
-    fitting t (steps.LocalDown (drops.Frame k))
-event_at (tokens.Number t ∷ tokens.Word words.Down ∷ tokens.Place letters.Work c ∷ []) =
-    fitting t (steps.LocalDown (drops.Work c))
-event_at (tokens.Number t ∷ tokens.Word words.See ∷ tokens.Number c ∷ []) = fitting t (steps.SeeZero c)
-event_at (tokens.Number t ∷ tokens.Word words.Free ∷ tokens.Number c ∷ []) = fitting t (steps.Free c)
-event_at (tokens.Number t ∷ tokens.Word words.Register ∷ tokens.Number r ∷ []) = fitting t (steps.Register r)
+event_at (tokens.Number t ∷ tokens.Word word ∷ operands) = step_at word operands >>= made_by t
 event_at _ = None

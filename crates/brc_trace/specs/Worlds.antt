@@ -23,7 +23,7 @@ use Rattle.brc_text.specs.declared.token.Token.TheVariants as tokens
 use Rattle.brc_text.specs.Lines.{line}
 use Rattle.brc_trace.specs.declared.world_thread.Pile.{Pile}
 use Rattle.brc_trace.specs.declared.world_thread.Pile.TheVariants as piles
-use Rattle.brc_trace.specs.Events.{kind_word}
+use Rattle.brc_trace.specs.Operands.{kind_word}
 
 -- the texts of so many numbers, this one and those behind it, one after the other
 unfoldable pub over : (ℕ → List ℕ) → ℕ → ℕ → List ℕ

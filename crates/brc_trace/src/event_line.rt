@@ -1,50 +1,120 @@
 //! The line of one event: its words read and written.
 
-ghost use Rattle.std.specs.Prelude.{◌≡◌, option_and_then};
-ghost use Rattle.brc_words.specs.Kinds.{is_mortal};
+ghost use Rattle.std.specs.Prelude.{◌≡◌, ◌∷◌, [], option_and_then};
+ghost use Rattle.brc_text.specs.declared.token.Token.TheVariants as tokens;
 ghost use Rattle.brc_text.specs.Lines.{tokens_at, line as spelled};
 ghost use Rattle.brc_text.specs.Puts.{Puts};
-ghost use Rattle.brc_trace.specs.Events.{is_thread as thread_fits, is_cell as cell_fits, is_place as place_fits, is_entry as entry_fits, kind_at, kind_word, event_at, event_words};
+ghost use Rattle.brc_text.specs.declared.keyword.Keyword.TheVariants as words;
+ghost use Rattle.brc_trace.specs.Operands.{change_words};
+ghost use Rattle.brc_trace.specs.Events.{birth_at, step_at, is_root_step as is_of_the_root, made_by, event_at, event_words};
 
-use brc_runs::{Dropped, Event, Source, Step};
-use brc_text::{Keyword, Letter, Token, put_line, tokens_of};
-use brc_words::{Fault, Kind};
+use crate::operands::{
+    both, cell_of, change_of, dropped_of, dropped_token, is_bare, is_thread, kind_of, last_of,
+    last_token, only, place_of, queue_word_of, source_of, source_token, thread_of, word_of_kind,
+};
+use brc_runs::{Change, Event, Step};
+use brc_text::{Keyword, Token, put_line, tokens_of};
+use brc_words::Fault;
 use std::io::Write;
 
-fn is_thread(number: u64) -> bool
-    ensures { result ≡ thread_fits number }
+// ---- reading
+
+#[tactic(auto, unfolding(crate::specs::Events::birth_at))]
+fn birth_of(operands: &[Token]) -> Option<Step>
+    ensures { result ≡ birth_at operands.now }
 {
-    1 <= number && number <= 64
+    match operands {
+        [cell, kind, place] => {
+            Some(Step::Birth {
+                cell: cell_of(*cell)?,
+                kind: kind_of(*kind)?,
+                place: place_of(*place)?,
+            })
+        }
+        _ => None,
+    }
 }
 
-fn is_cell(number: u64) -> bool
-    ensures { result ≡ cell_fits number }
-{
-    number < 65_536
-}
-
-fn is_place(number: u64) -> bool
-    ensures { result ≡ place_fits number }
-{
-    number < 65_536
-}
-
-fn is_entry(number: u64) -> bool
-    ensures { result ≡ entry_fits number }
-{
-    number < 1_048_576
-}
-
-fn kind_of(word: Keyword) -> Option<Kind>
-    ensures { result ≡ kind_at word }
+/// The step that a word and the operands behind it spell; none where they spell none.
+fn step_of(word: Keyword, operands: &[Token]) -> Option<Step>
+    ensures { result ≡ step_at word operands.now }
 {
     match word {
-        Keyword::Int => Some(Kind::Int),
-        Keyword::Text => Some(Kind::Text),
-        Keyword::List => Some(Kind::List),
-        Keyword::Dict => Some(Kind::Dict),
-        Keyword::Mailbox => Some(Kind::Mailbox),
+        Keyword::Up => {
+            let (source, place) = both(operands)?;
+            Some(Step::LocalUp {
+                source: source_of(source)?,
+                place: place_of(place)?,
+            })
+        }
+        Keyword::Down => Some(Step::LocalDown(dropped_of(only(operands)?)?)),
+        Keyword::Claim => Some(Step::Claim(cell_of(only(operands)?)?)),
+        Keyword::Local => Some(Step::InitLocal(cell_of(only(operands)?)?)),
+        Keyword::Shared => Some(Step::InitShared(cell_of(only(operands)?)?)),
+        Keyword::Born => birth_of(operands),
+        Keyword::See => Some(Step::SeeZero(cell_of(only(operands)?)?)),
+        Keyword::Free => Some(Step::Free(cell_of(only(operands)?)?)),
+        Keyword::Untie => Some(Step::Untie(cell_of(only(operands)?)?)),
+        Keyword::Zero => Some(Step::MergeZero(cell_of(only(operands)?)?)),
+        Keyword::Shup => {
+            let (source, place) = both(operands)?;
+            Some(Step::SharedUp {
+                source: source_of(source)?,
+                place: place_of(place)?,
+            })
+        }
+        Keyword::Shdown => Some(Step::SharedDown(dropped_of(only(operands)?)?)),
+        Keyword::Ask => Some(Step::Ask(dropped_of(only(operands)?)?)),
+        Keyword::Last => Some(Step::LastDown(last_of(only(operands)?)?)),
+        Keyword::Enq => Some(Step::Enqueue(cell_of(only(operands)?)?)),
+        Keyword::Drain => Some(Step::Drain(queue_word_of(only(operands)?)?)),
+        Keyword::Add => Some(Step::MergeAdd(cell_of(only(operands)?)?)),
+        Keyword::Close => Some(Step::Close(queue_word_of(only(operands)?)?)),
+        Keyword::Nudge => {
+            let (thread, word) = both(operands)?;
+            Some(Step::Nudge {
+                thread: thread_of(thread)?,
+                word: queue_word_of(word)?,
+            })
+        }
+        Keyword::Wake => {
+            if is_bare(operands) {
+                Some(Step::Wake)
+            } else {
+                None
+            }
+        }
+        Keyword::Lock => Some(Step::Lock(place_of(only(operands)?)?)),
+        Keyword::Unlock => Some(Step::Unlock(change_of(operands)?)),
+        Keyword::Register => Some(Step::Register(thread_of(only(operands)?)?)),
+        Keyword::Gather => Some(Step::Gather(thread_of(only(operands)?)?)),
         _ => None,
+    }
+}
+
+/// Whether the root makes the step, and no thread.
+fn is_root_step(step: Step) -> bool
+    ensures { result ≡ is_of_the_root step }
+{
+    matches!(step, Step::Register(_) | Step::Gather(_))
+}
+
+/// The step by the thread, if that may make such a step.
+fn made_by(thread: u64, step: Step) -> Option<Event>
+    ensures { result ≡ made_by thread step }
+{
+    let fits = if is_root_step(step) {
+        thread == 0
+    } else {
+        is_thread(thread)
+    };
+    if fits {
+        Some(Event {
+            thread: thread as u32,
+            step,
+        })
+    } else {
+        None
     }
 }
 
@@ -53,144 +123,8 @@ fn event_of_words(words: &[Token]) -> Option<Event>
     ensures { result ≡ event_at words.now }
 {
     match words {
-        [
-            Token::Number(thread),
-            Token::Word(Keyword::Up),
-            Token::Place(Letter::Frame, from),
-            Token::Number(place),
-        ] if is_thread(*thread) && is_place(*from) && is_place(*place) => {
-            Some(Event {
-                thread: *thread as u32,
-                step: Step::LocalUp {
-                    source: Source::Frame(*from as u32),
-                    place: *place as u32,
-                },
-            })
-        }
-        [
-            Token::Number(thread),
-            Token::Word(Keyword::Up),
-            Token::Place(Letter::Entry, index),
-            Token::Number(place),
-        ] if is_thread(*thread) && is_entry(*index) && is_place(*place) => {
-            Some(Event {
-                thread: *thread as u32,
-                step: Step::LocalUp {
-                    source: Source::Entry(*index as u32),
-                    place: *place as u32,
-                },
-            })
-        }
-        [
-            Token::Number(thread),
-            Token::Word(Keyword::Up),
-            Token::Place(Letter::Immortal, cell),
-            Token::Number(place),
-        ] if is_thread(*thread) && is_cell(*cell) && is_place(*place) => {
-            Some(Event {
-                thread: *thread as u32,
-                step: Step::LocalUp {
-                    source: Source::Immortal(*cell as u32),
-                    place: *place as u32,
-                },
-            })
-        }
-        [
-            Token::Number(thread),
-            Token::Word(Keyword::Down),
-            Token::Place(Letter::Frame, place),
-        ] if is_thread(*thread) && is_place(*place) => {
-            Some(Event {
-                thread: *thread as u32,
-                step: Step::LocalDown(Dropped::Frame(*place as u32)),
-            })
-        }
-        [
-            Token::Number(thread),
-            Token::Word(Keyword::Down),
-            Token::Place(Letter::Work, cell),
-        ] if is_thread(*thread) && is_cell(*cell) => {
-            Some(Event {
-                thread: *thread as u32,
-                step: Step::LocalDown(Dropped::Work(*cell as u32)),
-            })
-        }
-        [
-            Token::Number(thread),
-            Token::Word(Keyword::Claim),
-            Token::Number(cell),
-        ] if is_thread(*thread) && is_cell(*cell) => {
-            Some(Event {
-                thread: *thread as u32,
-                step: Step::Claim(*cell as u32),
-            })
-        }
-        [
-            Token::Number(thread),
-            Token::Word(Keyword::Local),
-            Token::Number(cell),
-        ] if is_thread(*thread) && is_cell(*cell) => {
-            Some(Event {
-                thread: *thread as u32,
-                step: Step::InitLocal(*cell as u32),
-            })
-        }
-        [
-            Token::Number(thread),
-            Token::Word(Keyword::Shared),
-            Token::Number(cell),
-        ] if is_thread(*thread) && is_cell(*cell) => {
-            Some(Event {
-                thread: *thread as u32,
-                step: Step::InitShared(*cell as u32),
-            })
-        }
-        [
-            Token::Number(thread),
-            Token::Word(Keyword::Born),
-            Token::Number(cell),
-            Token::Word(word),
-            Token::Number(place),
-        ] if is_thread(*thread) && is_cell(*cell) && is_place(*place) => {
-            let kind = kind_of(*word)?;
-            Some(Event {
-                thread: *thread as u32,
-                step: Step::Birth {
-                    cell: *cell as u32,
-                    kind,
-                    place: *place as u32,
-                },
-            })
-        }
-        [
-            Token::Number(thread),
-            Token::Word(Keyword::See),
-            Token::Number(cell),
-        ] if is_thread(*thread) && is_cell(*cell) => {
-            Some(Event {
-                thread: *thread as u32,
-                step: Step::SeeZero(*cell as u32),
-            })
-        }
-        [
-            Token::Number(thread),
-            Token::Word(Keyword::Free),
-            Token::Number(cell),
-        ] if is_thread(*thread) && is_cell(*cell) => {
-            Some(Event {
-                thread: *thread as u32,
-                step: Step::Free(*cell as u32),
-            })
-        }
-        [
-            Token::Number(0),
-            Token::Word(Keyword::Register),
-            Token::Number(thread),
-        ] if is_thread(*thread) => {
-            Some(Event {
-                thread: 0,
-                step: Step::Register(*thread as u32),
-            })
+        [Token::Number(thread), Token::Word(word), operands @ ..] => {
+            made_by(*thread, step_of(*word, operands)?)
         }
         _ => None,
     }
@@ -204,16 +138,82 @@ pub fn event_of_line(line: &[u8]) -> Option<Event>
     event_of_words(words.as_slice())
 }
 
-pub(crate) fn word_of_kind(kind: Kind) -> Keyword
-    ensures { result ≡ kind_word kind }
+// ---- writing
+
+/// A number as a word.
+fn number(number: u32) -> Token
+    ensures { result ≡ tokens.Number number }
 {
-    match kind {
-        Kind::Int => Keyword::Int,
-        Kind::Text => Keyword::Text,
-        Kind::List => Keyword::List,
-        Kind::Dict => Keyword::Dict,
-        Kind::Mailbox => Keyword::Mailbox,
-        Kind::Nothing | Kind::False | Kind::True => Keyword::Dash,
+    Token::Number(number as u64)
+}
+
+/// Writes the line of a step with one operand.
+fn put_one<W: Write>(
+    writer: &mut W,
+    thread: u32,
+    word: Keyword,
+    operand: Token,
+) -> Result<(), Fault>
+    ensures { Puts (W.contents writer.old) (W.contents writer.new) result
+        (spelled (tokens.Number thread ∷ tokens.Word word ∷ operand ∷ [])) }
+{
+    put_line(writer, &[number(thread), Token::Word(word), operand])
+}
+
+/// Writes the line of a step with two operands.
+fn put_two<W: Write>(
+    writer: &mut W,
+    thread: u32,
+    word: Keyword,
+    first: Token,
+    second: Token,
+) -> Result<(), Fault>
+    ensures { Puts (W.contents writer.old) (W.contents writer.new) result
+        (spelled (tokens.Number thread ∷ tokens.Word word ∷ first ∷ second ∷ [])) }
+{
+    put_line(writer, &[number(thread), Token::Word(word), first, second])
+}
+
+/// Writes the line of an unlock.
+fn put_unlock<W: Write>(writer: &mut W, thread: u32, change: Change) -> Result<(), Fault>
+    ensures { Puts (W.contents writer.old) (W.contents writer.new) result
+        (spelled (tokens.Number thread ∷ tokens.Word words.Unlock ∷ change_words change)) }
+{
+    let unlock = Token::Word(Keyword::Unlock);
+    match change {
+        Change::Keep => put_line(
+            writer,
+            &[number(thread), unlock, Token::Word(Keyword::Keep)],
+        ),
+        Change::Put(place) => put_line(
+            writer,
+            &[
+                number(thread),
+                unlock,
+                Token::Word(Keyword::Put),
+                number(place),
+            ],
+        ),
+        Change::Take { index, place } => put_line(
+            writer,
+            &[
+                number(thread),
+                unlock,
+                Token::Word(Keyword::Take),
+                number(index),
+                number(place),
+            ],
+        ),
+        Change::Swap { index, place } => put_line(
+            writer,
+            &[
+                number(thread),
+                unlock,
+                Token::Word(Keyword::Swap),
+                number(index),
+                number(place),
+            ],
+        ),
     }
 }
 
@@ -221,88 +221,61 @@ pub(crate) fn word_of_kind(kind: Kind) -> Keyword
 pub fn put_event<W: Write>(writer: &mut W, event: Event) -> Result<(), Fault>
     ensures { Puts (W.contents writer.old) (W.contents writer.new) result (spelled (event_words event)) }
 {
-    let thread = Token::Number(event.thread as u64);
+    let thread = event.thread;
     match event.step {
-        Step::Claim(cell) => put_line(
-            writer,
-            &[
-                thread,
-                Token::Word(Keyword::Claim),
-                Token::Number(cell as u64),
-            ],
-        ),
-        Step::InitLocal(cell) => put_line(
-            writer,
-            &[
-                thread,
-                Token::Word(Keyword::Local),
-                Token::Number(cell as u64),
-            ],
-        ),
-        Step::InitShared(cell) => put_line(
-            writer,
-            &[
-                thread,
-                Token::Word(Keyword::Shared),
-                Token::Number(cell as u64),
-            ],
-        ),
+        Step::Claim(cell) => put_one(writer, thread, Keyword::Claim, number(cell)),
+        Step::InitLocal(cell) => put_one(writer, thread, Keyword::Local, number(cell)),
+        Step::InitShared(cell) => put_one(writer, thread, Keyword::Shared, number(cell)),
         Step::Birth { cell, kind, place } => put_line(
             writer,
             &[
-                thread,
+                number(thread),
                 Token::Word(Keyword::Born),
-                Token::Number(cell as u64),
+                number(cell),
                 Token::Word(word_of_kind(kind)),
-                Token::Number(place as u64),
+                number(place),
             ],
         ),
-        Step::LocalUp { source, place } => {
-            let from = match source {
-                Source::Frame(place) => Token::Place(Letter::Frame, place as u64),
-                Source::Entry(index) => Token::Place(Letter::Entry, index as u64),
-                Source::Immortal(cell) => Token::Place(Letter::Immortal, cell as u64),
-            };
-            put_line(
-                writer,
-                &[
-                    thread,
-                    Token::Word(Keyword::Up),
-                    from,
-                    Token::Number(place as u64),
-                ],
-            )
-        }
+        Step::LocalUp { source, place } => put_two(
+            writer,
+            thread,
+            Keyword::Up,
+            source_token(source),
+            number(place),
+        ),
         Step::LocalDown(dropped) => {
-            let from = match dropped {
-                Dropped::Frame(place) => Token::Place(Letter::Frame, place as u64),
-                Dropped::Work(cell) => Token::Place(Letter::Work, cell as u64),
-            };
-            put_line(writer, &[thread, Token::Word(Keyword::Down), from])
+            put_one(writer, thread, Keyword::Down, dropped_token(dropped))
         }
-        Step::SeeZero(cell) => put_line(
+        Step::SeeZero(cell) => put_one(writer, thread, Keyword::See, number(cell)),
+        Step::Free(cell) => put_one(writer, thread, Keyword::Free, number(cell)),
+        Step::Untie(cell) => put_one(writer, thread, Keyword::Untie, number(cell)),
+        Step::MergeZero(cell) => put_one(writer, thread, Keyword::Zero, number(cell)),
+        Step::SharedUp { source, place } => put_two(
             writer,
-            &[
-                thread,
-                Token::Word(Keyword::See),
-                Token::Number(cell as u64),
-            ],
+            thread,
+            Keyword::Shup,
+            source_token(source),
+            number(place),
         ),
-        Step::Free(cell) => put_line(
-            writer,
-            &[
-                thread,
-                Token::Word(Keyword::Free),
-                Token::Number(cell as u64),
-            ],
-        ),
-        Step::Register(registered) => put_line(
-            writer,
-            &[
-                thread,
-                Token::Word(Keyword::Register),
-                Token::Number(registered as u64),
-            ],
-        ),
+        Step::SharedDown(dropped) => {
+            put_one(writer, thread, Keyword::Shdown, dropped_token(dropped))
+        }
+        Step::Ask(dropped) => put_one(writer, thread, Keyword::Ask, dropped_token(dropped)),
+        Step::LastDown(dropped) => put_one(writer, thread, Keyword::Last, last_token(dropped)),
+        Step::Enqueue(cell) => put_one(writer, thread, Keyword::Enq, number(cell)),
+        Step::Drain(word) => put_one(writer, thread, Keyword::Drain, number(word)),
+        Step::MergeAdd(cell) => put_one(writer, thread, Keyword::Add, number(cell)),
+        Step::Close(word) => put_one(writer, thread, Keyword::Close, number(word)),
+        Step::Nudge {
+            thread: nudged,
+            word,
+        } => put_two(writer, thread, Keyword::Nudge, number(nudged), number(word)),
+        Step::Wake => put_line(writer, &[number(thread), Token::Word(Keyword::Wake)]),
+        Step::Lock(place) => put_one(writer, thread, Keyword::Lock, number(place)),
+        Step::Unlock(change) => put_unlock(writer, thread, change),
+        Step::Register(registered) => {
+            put_one(writer, thread, Keyword::Register, number(registered))
+        }
+        Step::Gather(gathered) => put_one(writer, thread, Keyword::Gather, number(gathered)),
     }
 }

@@ -6,6 +6,7 @@
 #![tactic(auto)]
 
 mod event_line;
+mod operands;
 mod reading;
 mod replaying;
 mod trace;
@@ -21,3 +22,5 @@ pub use writing::write_trace;
 
 #[cfg(test)]
 mod tests;
+#[cfg(test)]
+mod worked_runs;

@@ -1,6 +1,8 @@
-//! Traces as texts: which lines are lines, a whole life there and back, streams and memory that fail.
+//! Traces as texts: which lines are lines, and which step each is; a whole life there and back, streams and memory that
+//! fail.
 
 use super::*;
+use brc_runs::{Change, Dropped, Event, LastDropped, Source, Step};
 use brc_words::{Fault, Reason};
 use linked_list_allocator::LocalHeap;
 use std::io::{self, Error, ErrorKind, Read, Write};
@@ -68,7 +70,6 @@ fn lines(rt: HostRuntime) {
         ("a capital", "heap 512 1\n1 Claim 266\n", Some(2)),
         ("one word more", "heap 512 1\n1 claim 266 0\n", Some(2)),
         ("nine words", "heap 512 1\n1 1 1 1 1 1 1 1 1\n", Some(2)),
-        ("not of this stage", "heap 512 1\n1 shup f0 1\n", Some(2)),
         ("thread 0", "heap 512 1\n0 claim 266\n", Some(2)),
         ("thread 65", "heap 512 1\n65 claim 266\n", Some(2)),
         (
@@ -94,6 +95,158 @@ fn lines(rt: HostRuntime) {
         let expected = line.map(|line| Fault::BadTrace { line, reason });
         assert_eq!(rt; fault_of(&rt, text), expected, "{case}");
     }
+}
+
+/// The first line of the traces of one event.
+const HEAD: &str = "heap 512 1\n";
+
+/// The head, and this line.
+fn below_head(rt: &HostRuntime, line: &str) -> Result<Vec<u8>, Fail> {
+    let mut text = Vec::new(rt.alloc());
+    text.extend_from_slice(HEAD.as_bytes())?;
+    text.extend_from_slice(line.as_bytes())?;
+    Ok(text)
+}
+
+#[test]
+fn neighbours_of_lines(rt: HostRuntime) -> Result<(), Fail> {
+    let cases = [
+        ("up from the hand", "1 up h 0\n"),
+        ("up by no place", "1 shup f0\n"),
+        ("up from a popped cell", "1 shup q266 0\n"),
+        ("down of a popped cell", "1 down q266\n"),
+        ("down of the hand", "1 shdown h\n"),
+        ("asked for the hand", "1 ask h\n"),
+        ("asked for a popped cell", "1 ask q266\n"),
+        ("the hand with a number", "1 last h1\n"),
+        ("the hand with a cell", "1 last h 1\n"),
+        ("the last of a source", "1 last e0\n"),
+        ("a drop without its letter", "1 last 266\n"),
+        ("popped cell 65536", "1 last q65536\n"),
+        ("queue word 2048", "1 drain 2048\n"),
+        ("closed word 2048", "1 close 2048\n"),
+        ("nudged thread 0", "1 nudge 0 0\n"),
+        ("nudged thread 65", "1 nudge 65 0\n"),
+        ("nudged word 2048", "1 nudge 1 2048\n"),
+        ("nudged for no word", "1 nudge 1\n"),
+        ("nudged by the root", "0 nudge 1 0\n"),
+        ("wake with a number", "1 wake 1\n"),
+        ("the root wakes", "0 wake\n"),
+        ("gathered 65", "0 gather 65\n"),
+        ("gathered root", "0 gather 0\n"),
+        ("gathered by another", "2 gather 1\n"),
+        ("locked place 65536", "1 lock 65536\n"),
+        ("a lock by a letter", "1 lock f0\n"),
+        ("an unlock without a change", "1 unlock\n"),
+        ("put without a place", "1 unlock put\n"),
+        ("put by a letter", "1 unlock put f0\n"),
+        ("keep with a place", "1 unlock keep 0\n"),
+        ("take of one number", "1 unlock take 0\n"),
+        ("take of three", "1 unlock take 0 0 0\n"),
+        ("take to place 65536", "1 unlock take 0 65536\n"),
+        ("swap of entry 1048576", "1 unlock swap 1048576 0\n"),
+        ("a change of another word", "1 unlock add 0\n"),
+        ("a change without its unlock", "1 take 0 0\n"),
+        ("a thread alone", "1\n"),
+        ("no step", "1 h\n"),
+    ];
+    for (case, line) in cases {
+        let text = below_head(&rt, line)?;
+        let (line, reason) = (2, Reason::NotALine);
+        let expected = Some(Fault::BadTrace { line, reason });
+        assert_eq!(rt;
+            read_trace(rt.alloc(), text.as_slice()).err(),
+            expected,
+            "{case}"
+        );
+    }
+    Ok(())
+}
+
+#[test]
+fn each_step(rt: HostRuntime) -> Result<(), Fail> {
+    let (source, place) = (Source::Immortal(265), 1);
+    let (index, far) = (1_048_575, 65_535);
+    let cases = [
+        ("1 untie 266\n", 1, Step::Untie(266)),
+        ("1 zero 266\n", 1, Step::MergeZero(266)),
+        ("1 shup i265 1\n", 1, Step::SharedUp { source, place }),
+        (
+            "64 shup e1048575 65535\n",
+            64,
+            Step::SharedUp {
+                source: Source::Entry(index),
+                place: far,
+            },
+        ),
+        ("1 shdown f3\n", 1, Step::SharedDown(Dropped::Frame(3))),
+        ("1 shdown w266\n", 1, Step::SharedDown(Dropped::Work(266))),
+        ("1 ask f3\n", 1, Step::Ask(Dropped::Frame(3))),
+        ("1 ask w266\n", 1, Step::Ask(Dropped::Work(266))),
+        (
+            "1 last f3\n",
+            1,
+            Step::LastDown(LastDropped::Dropped(Dropped::Frame(3))),
+        ),
+        (
+            "1 last w266\n",
+            1,
+            Step::LastDown(LastDropped::Dropped(Dropped::Work(266))),
+        ),
+        (
+            "1 last q65535\n",
+            1,
+            Step::LastDown(LastDropped::Popped(far)),
+        ),
+        ("1 last h\n", 1, Step::LastDown(LastDropped::Hand)),
+        ("1 enq 266\n", 1, Step::Enqueue(266)),
+        ("1 drain 2047\n", 1, Step::Drain(2047)),
+        ("1 add 266\n", 1, Step::MergeAdd(266)),
+        ("1 close 0\n", 1, Step::Close(0)),
+        (
+            "1 nudge 64 2047\n",
+            1,
+            Step::Nudge {
+                thread: 64,
+                word: 2047,
+            },
+        ),
+        ("64 wake\n", 64, Step::Wake),
+        ("1 lock 65535\n", 1, Step::Lock(far)),
+        ("1 unlock keep\n", 1, Step::Unlock(Change::Keep)),
+        ("1 unlock put 2\n", 1, Step::Unlock(Change::Put(2))),
+        (
+            "1 unlock take 1048575 1\n",
+            1,
+            Step::Unlock(Change::Take { index, place }),
+        ),
+        (
+            "1 unlock swap 1048575 1\n",
+            1,
+            Step::Unlock(Change::Swap { index, place }),
+        ),
+        ("0 gather 64\n", 0, Step::Gather(64)),
+    ];
+    for (line, thread, step) in cases {
+        let text = below_head(&rt, line)?;
+        let trace = read_trace(rt.alloc(), text.as_slice())
+            .ok()
+            .ok_or("a line of a trace")?;
+        assert_eq!(rt;
+            trace.events.as_slice(),
+            [Event { thread, step }].as_slice(),
+            "{line}"
+        );
+        let mut out = Narrow {
+            taken: Vec::new(rt.alloc()),
+            at_once: 1000,
+            room: 1000,
+            fails: true,
+        };
+        assert!(rt; write_trace(&trace, &mut out).is_ok());
+        assert_eq!(rt; out.taken.as_slice(), text.as_slice(), "{line}");
+    }
+    Ok(())
 }
 
 /// Takes so many bytes at a call, and so many in all before it fails or takes none.

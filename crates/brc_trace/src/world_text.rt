@@ -7,7 +7,7 @@ ghost use Rattle.brc_core.specs.Readings.{ledgers_of};
 ghost use Rattle.brc_text.specs.Puts.{Puts};
 ghost use Rattle.brc_trace.specs.Worlds.{over, state_word, count_token, owner_number, local_token, entries_text, object_line, object_text, thread_text, world_line, ledger_line, world_text};
 
-use crate::event_line::word_of_kind;
+use crate::operands::word_of_kind;
 use crate::world_thread::put_thread;
 use brc_core::World;
 use brc_text::{Keyword, Token, put_line};

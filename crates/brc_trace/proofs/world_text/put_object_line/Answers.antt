@@ -11,7 +11,7 @@ use Rattle.brc_words.specs.declared.state.State.TheVariants as states
 use Rattle.brc_runs.specs.declared.cell.Cell.{Cell}
 use Rattle.brc_runs.specs.Heap.{cell_at, is_immortal, no_cell}
 use Rattle.brc_runs.specs.Holding.{lives_at, total_of}
-use Rattle.brc_runs.specs.Sound.{is_merged}
+use Rattle.brc_runs.specs.Steps.{is_merged}
 use Rattle.brc_core.specs.Readings.{only_if, has_object}
 use Rattle.brc_text.specs.declared.keyword.Keyword.{Keyword}
 use Rattle.brc_text.specs.declared.keyword.Keyword.TheVariants as words
@@ -19,7 +19,7 @@ use Rattle.brc_text.specs.declared.token.Token.{Token}
 use Rattle.brc_text.specs.declared.token.Token.TheVariants as tokens
 use Rattle.brc_text.specs.Lines.{line}
 use Rattle.brc_text.specs.Puts.{Puts}
-use Rattle.brc_trace.specs.Events.{kind_word}
+use Rattle.brc_trace.specs.Operands.{kind_word}
 use Rattle.brc_trace.specs.Worlds.{object_line, owner_number, local_token, count_token, state_word}
 use Rattle.brc_trace.proofs.world_text.put_object_line.Goals as goal
 

@@ -4,7 +4,8 @@ use Rattle.brc_runs.specs.Heap.{Heap}
 use Rattle.brc_runs.specs.Steps.{enabled, after}
 use Rattle.brc_runs.specs.Runs.{IsReached}
 use Rattle.brc_runs.specs.Holding.{MakesMoves, map_of, moves_by}
-use Rattle.brc_runs.proofs.Reached.{reached_allocs, reached_frees, reached_count_range, reached_moves}
+use Rattle.brc_runs.proofs.Reached.{reached_allocs, reached_frees, reached_moves}
+use Rattle.brc_runs.proofs.Sizes.{reached_count_range}
 use Rattle.brc_core.proofs.Bounds.{cells_fit}
 use Rattle.brc_core.proofs.Reaching.{reached_after}
 use Rattle.brc_core.proofs.world.World.step.Goals as goal

@@ -1,0 +1,239 @@
+//! Runs that were worked by hand: what a replay of each writes, and what it answers.
+
+use super::*;
+use brc_words::{Fault, Reason};
+use std::alloc::AllocGlobal;
+use std::process::Abort;
+use std::test::*;
+
+/// Two threads, and a list of the first that is in place 0 of its frame.
+const BORN: &str =
+    "heap 512 4294967294\n0 register 1\n0 register 2\n1 claim 266\n1 local 266\n1 shared 266\n1 born 266 list 0\n";
+
+/// Thread 1 puts it into the globals; thread 2 finds it there and counts up on the shared word.
+const FOUND: &str =
+    "1 up i265 1\n1 lock 1\n1 unlock put 0\n2 up i265 0\n2 lock 0\n2 shup e0 1\n2 unlock keep\n";
+
+/// Thread 1 takes it back out.
+const TAKEN_BACK: &str = "1 lock 1\n1 unlock take 0 0\n";
+
+/// The owner gives up the one reference that it has counted, and merges.
+const MERGED: &str = "1 down f0\n1 see 266\n1 untie 266\n1 zero 266\n";
+
+/// Thread 1 keeps a reference, and puts a second one into the globals; thread 2 takes that out, gives it up and asks.
+const ASKED: &str =
+    "1 up f0 1\n1 up i265 2\n1 lock 2\n1 unlock put 1\n2 up i265 0\n2 lock 0\n2 unlock take 0 1\n2 ask f1\n2 enq 266\n2 nudge 1 8\n";
+
+/// Thread 1 puts its only reference into the globals and gives the globals up; thread 2 takes it out, gives it up and
+/// asks.
+const ASKED_FOR_THE_LAST: &str =
+    "1 up i265 1\n1 lock 1\n1 unlock put 0\n2 up i265 0\n2 lock 0\n2 unlock take 0 1\n1 down f1\n2 ask f1\n";
+
+/// Thread 1 leaves.
+const CLOSED: &str =
+    "1 close 0\n1 close 1\n1 close 2\n1 close 3\n1 close 4\n1 close 5\n1 close 6\n1 close 7\n1 close 8\n1 close 9\n1 close 10\n1 close 11\n1 close 12\n1 close 13\n1 close 14\n1 close 15\n";
+
+/// What a replay of these pieces, one after the other, answers, and what it writes.
+fn replayed<R: AllocGlobal>(
+    rt: &R,
+    pieces: &[&str],
+) -> Result<(Result<bool, Fault>, Vec<u8>), Fail> {
+    let mut text = Vec::new(rt.alloc());
+    for piece in pieces {
+        text.extend_from_slice(piece.as_bytes())?;
+    }
+    let mut out = Vec::new(rt.alloc());
+    let answer = run_replay(rt.alloc(), text.as_slice(), &mut out);
+    Ok((answer, out))
+}
+
+/// A run, and the world behind its first line; `is_live` says whether an object lives there.
+fn leads_to<R: Abort + AllocGlobal>(
+    rt: &R,
+    case: &str,
+    pieces: &[&str],
+    is_live: bool,
+    world: &str,
+) -> Result<(), Fail> {
+    let (answer, out) = replayed(rt, pieces)?;
+    assert_eq!(rt; answer, Ok(is_live), "{case}");
+    assert_eq!(rt; out.as_slice(), world.as_bytes(), "{case}");
+    Ok(())
+}
+
+/// A run whose event of this line isn't enabled.
+fn stops_at<R: Abort + AllocGlobal>(
+    rt: &R,
+    case: &str,
+    pieces: &[&str],
+    line: u32,
+) -> Result<(), Fail> {
+    let (answer, out) = replayed(rt, pieces)?;
+    let reason = Reason::NotEnabled;
+    assert_eq!(rt; answer, Err(Fault::BadTrace { line, reason }), "{case}");
+    assert_eq!(rt; out.as_slice(), [].as_slice(), "{case}");
+    Ok(())
+}
+
+#[test]
+fn merges_at_zero(rt: HostRuntime) -> Result<(), Fail> {
+    leads_to(
+        &rt,
+        "a merge at zero that leaves a reference",
+        &[BORN, FOUND, TAKEN_BACK, MERGED],
+        true,
+        "world 512 4294967294\nthread 1 active\nframe 1 1 265\nthread 2 active\nframe 2 0 265\nframe 2 1 266\nobject 266 list 0 - 1 merged 1\nledger 1 0 1\n",
+    )?;
+    leads_to(
+        &rt,
+        "the last reference to a merged object",
+        &[BORN, FOUND, TAKEN_BACK, MERGED, "2 last f1\n2 free 266\n"],
+        false,
+        "world 512 4294967294\nthread 1 active\nframe 1 1 265\nthread 2 active\nframe 2 0 265\nledger 1 1 0\n",
+    )?;
+    // A merged object goes through the globals once more: whoever counts it down to 0 frees it.
+    let again =
+        "2 shup f1 2\n2 lock 0\n2 unlock put 2\n1 lock 1\n1 unlock take 0 0\n1 last f0\n2 last f1\n";
+    leads_to(
+        &rt,
+        "the last of two who count a merged object down frees it",
+        &[BORN, FOUND, TAKEN_BACK, MERGED, again, "2 free 266\n"],
+        false,
+        "world 512 4294967294\nthread 1 active\nframe 1 1 265\nthread 2 active\nframe 2 0 265\nledger 1 1 0\n",
+    )?;
+    stops_at(
+        &rt,
+        "the first of the two doesn't",
+        &[BORN, FOUND, TAKEN_BACK, MERGED, again, "1 free 266\n"],
+        28,
+    )
+}
+
+#[test]
+fn asks(rt: HostRuntime) -> Result<(), Fail> {
+    leads_to(
+        &rt,
+        "an ask waits in the queue",
+        &[BORN, ASKED],
+        true,
+        "world 512 4294967294\nthread 1 active\nframe 1 0 266\nframe 1 2 265\nqueued 1 266\nthread 2 active\nframe 2 0 265\nobject 266 list 1 2 0 queued 2\nledger 1 0 1\n",
+    )?;
+    leads_to(
+        &rt,
+        "ask and drain",
+        &[
+            BORN,
+            ASKED,
+            "1 wake\n1 drain 8\n1 untie 266\n1 add 266\n1 last q266\n",
+        ],
+        true,
+        "world 512 4294967294\nthread 1 active\nframe 1 0 266\nframe 1 2 265\nthread 2 active\nframe 2 0 265\nobject 266 list 0 - 1 merged 1\nledger 1 0 1\n",
+    )?;
+    leads_to(
+        &rt,
+        "the asker uses a stale owner number",
+        &[
+            BORN,
+            FOUND,
+            TAKEN_BACK,
+            "2 ask f1\n",
+            MERGED,
+            "2 enq 266\n1 drain 8\n1 last q266\n1 free 266\n",
+        ],
+        false,
+        "world 512 4294967294\nthread 1 active\nframe 1 1 265\nthread 2 active\nframe 2 0 265\nledger 1 1 0\n",
+    )?;
+    leads_to(
+        &rt,
+        "an ask at a shared count above 0",
+        &[
+            BORN,
+            FOUND,
+            "2 shup f1 2\n2 shup f1 3\n2 ask f1\n2 enq 266\n",
+        ],
+        true,
+        "world 512 4294967294\nthread 1 active\nframe 1 1 265\nqueued 1 266\nthread 2 active\nframe 2 0 265\nframe 2 2 266\nframe 2 3 266\nentry 265 0 266\nobject 266 list 1 1 3 queued 4\nledger 1 0 1\n",
+    )
+}
+
+#[test]
+fn leaving(rt: HostRuntime) -> Result<(), Fail> {
+    leads_to(
+        &rt,
+        "adoption after exit",
+        &[
+            BORN,
+            ASKED_FOR_THE_LAST,
+            CLOSED,
+            "2 enq 266\n2 untie 266\n2 add 266\n2 last h\n2 free 266\n",
+        ],
+        false,
+        "world 512 4294967294\nthread 1 left\nthread 2 active\nframe 2 0 265\nledger 1 1 0\n",
+    )?;
+    leads_to(
+        &rt,
+        "an ask before the exit",
+        &[
+            BORN,
+            ASKED_FOR_THE_LAST,
+            "2 enq 266\n",
+            CLOSED,
+            "1 untie 266\n1 add 266\n1 last q266\n1 free 266\n0 gather 1\n",
+        ],
+        false,
+        "world 512 4294967294\nthread 1 gathered\nthread 2 active\nframe 2 0 265\nledger 1 1 0\n",
+    )
+}
+
+#[test]
+fn counts_at_the_local_limit(rt: HostRuntime) -> Result<(), Fail> {
+    let born =
+        "heap 512 1\n0 register 1\n1 claim 266\n1 local 266\n1 shared 266\n1 born 266 list 0\n";
+    let nothing_left = "world 512 1\nthread 1 active\nledger 1 1 0\n";
+    leads_to(
+        &rt,
+        "the owner counts up on the shared word",
+        &[born, "1 shup f0 1\n", MERGED, "1 last f1\n1 free 266\n"],
+        false,
+        nothing_left,
+    )?;
+    leads_to(
+        &rt,
+        "either reference may go first",
+        &[
+            born,
+            "1 shup f0 1\n",
+            "1 down f1\n1 see 266\n1 untie 266\n1 zero 266\n",
+            "1 last f0\n1 free 266\n",
+        ],
+        false,
+        nothing_left,
+    )?;
+    stops_at(&rt, "not on its local word", &[born, "1 up f0 1\n"], 7)
+}
+
+#[test]
+fn counts_below_zero(rt: HostRuntime) -> Result<(), Fail> {
+    let shared_out =
+        "heap 512 4294967294\n0 register 1\n0 register 2\n0 register 3\n1 claim 266\n1 local 266\n1 shared 266\n1 born 266 list 0\n1 up f0 1\n1 up i265 2\n1 lock 2\n1 unlock put 0\n1 lock 2\n1 unlock put 1\n";
+    let given_up =
+        "2 up i265 0\n2 lock 0\n2 unlock take 0 1\n3 up i265 0\n3 lock 0\n3 unlock take 0 1\n2 ask f1\n2 enq 266\n3 last f1\n";
+    leads_to(
+        &rt,
+        "a second asker finds the object queued, and counts the shared word below 0",
+        &[shared_out, given_up],
+        true,
+        "world 512 4294967294\nthread 1 active\nframe 1 2 265\nqueued 1 266\nthread 2 active\nframe 2 0 265\nthread 3 active\nframe 3 0 265\nobject 266 list 1 2 -1 queued 1\nledger 1 0 1\n",
+    )?;
+    leads_to(
+        &rt,
+        "the merge makes the count whole",
+        &[
+            shared_out,
+            given_up,
+            "1 drain 8\n1 untie 266\n1 add 266\n1 last q266\n1 free 266\n",
+        ],
+        false,
+        "world 512 4294967294\nthread 1 active\nframe 1 2 265\nthread 2 active\nframe 2 0 265\nthread 3 active\nframe 3 0 265\nledger 1 1 0\n",
+    )
+}
