@@ -21,7 +21,7 @@ use Rattle.brc_runs.specs.declared.row.Row.{Row}
 use Rattle.brc_runs.specs.declared.row.Hand.{Hand}
 use Rattle.brc_runs.specs.declared.row.Hand.TheVariants as hands
 use Rattle.brc_runs.specs.declared.row.Phase.TheVariants as phases
-use Rattle.brc_runs.specs.Lists.{one, bit_of, is_marked, place_at, filled, vacated, last_of}
+use Rattle.brc_runs.specs.Lists.{one, bit_of, is_marked, place_at, filled, last_of}
 use Rattle.brc_runs.specs.Heap.{Heap, cell_at, entries_at, row_at, frame_at, popped_at, work_at, queue_at, no_cell, no_row, new_row, is_immortal, words_for}
 use Rattle.brc_runs.specs.Steps.{enabled, after, after_target, stepped, kept_cells, registered, root_after, thread_may, root_may, target_at, source_cell, dropped_cell, locked_cell, entry_of, frame_without, entries_without, is_default, hand_ok, is_free_hand, is_at, untied_hand, added_hand, taken_word, with_taken, without_taken}
 use Rattle.brc_runs.specs.Holding.{lives, lives_at, carries, map_of, moves_of, of_mortal, removal, asking, MakesMoves}

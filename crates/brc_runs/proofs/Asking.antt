@@ -7,7 +7,7 @@ use Rattle.brc_runs.specs.declared.event.Step.{Step}
 use Rattle.brc_runs.specs.declared.row.Stage.{Stage}
 use Rattle.brc_runs.specs.declared.row.Stage.TheVariants as stages
 use Rattle.brc_runs.specs.Lists.{place_at}
-use Rattle.brc_runs.specs.Heap.{Heap, cell_at, entries_at, row_at, frame_at, work_at, is_gathered}
+use Rattle.brc_runs.specs.Heap.{Heap, cell_at, row_at, is_gathered}
 use Rattle.brc_runs.specs.Steps.{thread_may, stage_ok, lock_ok, hand_ok, own_ok_at, others_ok, target_ok, target_at, cell_ok, is_vacant, is_mine}
 use Rattle.brc_runs.proofs.Naming.{thread_owner, active_stage}
 

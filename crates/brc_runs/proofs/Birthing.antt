@@ -1,5 +1,5 @@
 -- A birth: a free cell is claimed, its words are set, and the object is there with one reference.
-use Rattle.std.proofs.Common.{◌≡◌, ◌≢◌, ℕ, ◌<◌, ◌≤◌, ◌==◌, ◌&&◌, Bool, true, false, pos, ◌+ℤ◌, ◌≤ℤ◌, List, [], length, get_or, set, Option, Some, None, sum_by, refl, sym, ◌∙◌, ap, subst, inl, inr, arith}
+use Rattle.std.proofs.Common.{◌≡◌, ◌≢◌, ℕ, ◌<◌, ◌≤◌, ◌==◌, ◌&&◌, Bool, true, false, pos, ◌+ℤ◌, ◌≤ℤ◌, List, [], length, set, Option, Some, None, sum_by, refl, sym, ◌∙◌, ap, subst, inl, inr, arith}
 use Rattle.std.proofs.lemmas.List.{get_or-set_same, get_or-set_other, length-set}
 use Rattle.std.proofs.lemmas.List.Sums.{sum_by-set}
 use Rattle.std.proofs.lemmas.Bool.{cases_eq, eq-eqb, ne_eqb, and_parts, leb-true, ltb-true, true≢false}
@@ -24,7 +24,7 @@ use Rattle.brc_runs.specs.Sound.{IsSound, ThreadFits, PhaseFits, Births, HandFit
 use Rattle.brc_runs.proofs.Naming.{Unheld, Ungripped, dead_unheld, ungripped, sole_grip, unnamed, no_mark, grips_free, carries_free, free_hand, busy_hand, free_owner, dead_counts, grips_once}
 use Rattle.brc_runs.proofs.Framing.{times-filled, length-filled}
 use Rattle.brc_runs.proofs.Asking.{May, OnCell, on_cell, may_parts, Vacant, vacant}
-use Rattle.brc_runs.proofs.Changes.{same_entries, Fewer, changed_sound}
+use Rattle.brc_runs.proofs.Changes.{same_entries, Fewer}
 use Rattle.brc_runs.proofs.Plainly.{Plain, plain_sound}
 
 -- ---- threads

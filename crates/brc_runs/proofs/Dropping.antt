@@ -1,15 +1,15 @@
 -- A place or an entry lets its cell go; and what a source names is held.
-use Rattle.std.proofs.Common.{◌≡◌, ◌≢◌, ℕ, ◌+◌, ◌-◌, ◌<◌, ◌≤◌, ◌==◌, Bool, true, false, if◌then◌else◌, List, [], length, get_or, set, slice_get, Option, Some, None, sum_by, refl, sym, ◌∙◌, ap, subst, inl, inr, arith}
-use Rattle.std.proofs.lemmas.List.{get_or-set_same, get_or-set_other, length-set, get_or_past, length-take}
+use Rattle.std.proofs.Common.{◌≡◌, ℕ, ◌-◌, ◌<◌, ◌≤◌, Bool, true, false, if◌then◌else◌, [], length, get_or, set, slice_get, Option, Some, None, refl, sym, ◌∙◌, ap, inl, inr, arith}
+use Rattle.std.proofs.lemmas.List.{length-set, get_or_past, length-take}
 use Rattle.std.proofs.lemmas.List.Sums.{sum_by-set}
-use Rattle.std.proofs.lemmas.Bool.{cases_eq, cases_lt, eq-eqb, ltb-true, true≢false}
+use Rattle.std.proofs.lemmas.Bool.{cases_eq, cases_lt, eq-eqb, ltb-true}
 use Rattle.brc_runs.specs.declared.event.Source.{Source}
 use Rattle.brc_runs.specs.declared.event.Source.TheVariants as sources
 use Rattle.brc_runs.specs.declared.event.Dropped.{Dropped}
 use Rattle.brc_runs.specs.declared.event.Dropped.TheVariants as dropped
 use Rattle.brc_runs.specs.declared.row.Hand.TheVariants as hands
-use Rattle.brc_runs.specs.Lists.{one, times, entry_times, is_marked, place_at, vacated, last_of, front_of}
-use Rattle.brc_runs.specs.Heap.{Heap, cell_at, entries_at, row_at, frame_at, work_at, is_immortal}
+use Rattle.brc_runs.specs.Lists.{one, times, entry_times, is_marked, place_at, last_of, front_of}
+use Rattle.brc_runs.specs.Heap.{Heap, entries_at, row_at, frame_at, work_at, is_immortal}
 use Rattle.brc_runs.specs.Steps.{source_cell, locked_cell, entry_of, dropped_cell, frame_without, entries_without}
 use Rattle.brc_runs.specs.Sound.{IsSound, held}
 use Rattle.brc_runs.proofs.Naming.{sum_one}

@@ -20,7 +20,7 @@ use Rattle.brc_runs.proofs.Naming.{Unheld, Ungripped, unheld, sole_grip, grips_o
 use Rattle.brc_runs.proofs.Birthing.{active_from, active_fits, no_lock, busy_else, busy_grips, one_and}
 use Rattle.brc_runs.proofs.Counting.{marked_unheld, total_unmerged}
 use Rattle.brc_runs.proofs.Asking.{May, OnCell, on_cell, may_parts}
-use Rattle.brc_runs.proofs.Changes.{same_entries, Fewer, changed_sound}
+use Rattle.brc_runs.proofs.Changes.{same_entries}
 use Rattle.brc_runs.proofs.Plainly.{Plain, plain_sound}
 
 -- ---- seeing zero

@@ -1,5 +1,5 @@
 -- An unlock: entries of the locked container and places of the frame change together.
-use Rattle.std.proofs.Common.{◌≡◌, ◌≢◌, ℕ, ◌<◌, ◌≤◌, ◌&&◌, ◌||◌, not, Bool, true, false, if◌then◌else◌, List, [], length, get_or, Option, Some, None, is_some, refl, sym, ◌∙◌, ap, subst, inl, inr, arith}
+use Rattle.std.proofs.Common.{◌≡◌, ◌≢◌, ℕ, ◌<◌, ◌≤◌, ◌&&◌, ◌||◌, not, Bool, true, false, if◌then◌else◌, List, [], length, get_or, Option, Some, None, refl, sym, ◌∙◌, ap, subst, inl, inr, arith}
 use Rattle.std.proofs.lemmas.List.{set-get_or}
 use Rattle.std.proofs.lemmas.Option.{slice_get-get_or}
 use Rattle.std.proofs.lemmas.Bool.{cases_Bool, eq-eqb, ne_eqb, and_parts, and_from, or_cases, or_parts, or_from, not-true, ltb-true, ltb-false, true≢false}
@@ -15,6 +15,7 @@ use Rattle.brc_runs.specs.Heap.{Heap, cell_at, entries_at, row_at, frame_at, is_
 use Rattle.brc_runs.specs.Steps.{stepped, is_keep, locked_cell, locked_entries, change_ok, is_unlocked, frame_changed}
 use Rattle.brc_runs.specs.Holding.{map_of, moves_of, MakesMoves}
 use Rattle.brc_runs.specs.Sound.{IsSound}
+use Rattle.brc_runs.proofs.Naming.{some_there}
 use Rattle.brc_runs.proofs.Framing.{place_at-filled_here}
 use Rattle.brc_runs.proofs.Asking.{vacant}
 use Rattle.brc_runs.proofs.Dropping.{held_by_place}
@@ -66,10 +67,6 @@ at_placed P c g q p same here =
     at_this P c g q p parts.1 (here (ltb-false c 266 (not-true _ parts.0)))
 
 -- ---- the container
-
-some_there : (o : Option ℕ) → is_some o ≡ true → o ≡ Some (number_in o)
-some_there None some = absurd (true≢false (sym some))
-some_there (Some c) some = refl
 
 -- the locked place, and what stands there
 record Locked (h : Heap) (t c : ℕ) : Type 0 where

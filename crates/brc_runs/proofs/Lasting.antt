@@ -1,6 +1,6 @@
 -- What lasts while others step: a thread's own part, and the words of what it holds, locks, bears or buries.
-use Rattle.std.proofs.Common.{◌≡◌, ◌≢◌, ℕ, ◌+◌, ◌-◌, ◌/◌, ◌<◌, ◌≤◌, ◌==◌, ◌&&◌, not, Bool, true, false, if◌then◌else◌, nat_le, List, [], ◌∷◌, ◌++◌, length, get_or, set, slice_get, Option, Some, None, refl, sym, ◌∙◌, ap, subst, inl, inr, ◌⊎◌, arith}
-use Rattle.std.proofs.lemmas.Bool.{cases_eq, cases_lt, cases_Bool, eq-eqb, ne_eqb, eqb-true, and_parts, not-true, ltb-true, true≢false}
+use Rattle.std.proofs.Common.{◌≡◌, ◌≢◌, ℕ, ◌+◌, ◌<◌, ◌≤◌, ◌==◌, Bool, true, false, if◌then◌else◌, List, [], length, slice_get, Option, Some, None, refl, sym, ◌∙◌, ap, subst, inl, inr, ◌⊎◌, arith}
+use Rattle.std.proofs.lemmas.Bool.{cases_lt, cases_Bool, eq-eqb, eqb-true, and_parts, true≢false}
 use Rattle.brc_words.specs.declared.kind.Kind.{Kind}
 use Rattle.brc_words.specs.declared.owner.Owner.{Owner}
 use Rattle.brc_words.specs.declared.owner.Owner.TheVariants as owners
@@ -10,27 +10,26 @@ use Rattle.brc_runs.specs.declared.cell.Cell.{Cell}
 use Rattle.brc_runs.specs.declared.event.Event.{Event}
 use Rattle.brc_runs.specs.declared.event.Step.{Step}
 use Rattle.brc_runs.specs.declared.event.Step.TheVariants.{Claim, InitLocal, InitShared, Birth, LocalUp, LocalDown, SeeZero, Free, Untie, MergeZero, SharedUp, SharedDown, Ask, LastDown, Enqueue, Drain, MergeAdd, Close, Nudge, Wake, Lock, Unlock, Register, Gather}
-use Rattle.brc_runs.specs.declared.event.LastDropped.TheVariants as lasts
 use Rattle.brc_runs.specs.declared.row.Row.{Row}
-use Rattle.brc_runs.specs.declared.row.Hand.{Hand}
 use Rattle.brc_runs.specs.declared.row.Hand.TheVariants as hands
 use Rattle.brc_runs.specs.declared.row.Phase.{Phase}
 use Rattle.brc_runs.specs.declared.row.Phase.TheVariants as phases
 use Rattle.brc_runs.specs.Lists.{one, is_marked, place_at, bit_of}
-use Rattle.brc_runs.specs.Heap.{Heap, cell_at, entries_at, row_at, frame_at, popped_at, work_at, queue_at, is_gathered, no_row, new_row, words_for, is_immortal}
-use Rattle.brc_runs.specs.Steps.{enabled, after, after_target, root_after, root_may, thread_may, target_at, cell_after, locked_cell, is_at, is_active, is_default, is_merged, is_queued, is_others, is_free, target_ok}
+use Rattle.brc_runs.specs.Heap.{Heap, cell_at, entries_at, row_at, frame_at, work_at, no_row, new_row, is_immortal}
+use Rattle.brc_runs.specs.Steps.{enabled, after, after_target, root_after, root_may, thread_may, target_at, cell_after, locked_cell, is_at, is_default, target_ok}
 use Rattle.brc_runs.specs.Runs.{IsReached}
 use Rattle.brc_runs.specs.Holding.{carries, lives}
-use Rattle.brc_runs.specs.Sound.{IsSound, HandFits, WorkFits, Births, Locks, grips, gripped, held, is_gripping}
-use Rattle.brc_runs.specs.Staying.{is_about, IsAnothers, Lasts, SameOwn, locked_at, HasEntry, Has, rank, Bears, Buries, Locked, Keeps, Foreign, OwnedOrNot, Nobodys, Owns}
-use Rattle.brc_runs.proofs.Naming.{Ungripped, Unheld, dead_unheld, sole_grip, one-true, busy_hand, free_hand}
-use Rattle.brc_runs.proofs.Asking.{May, may_parts, OnCell, on_cell}
-use Rattle.brc_runs.proofs.Changes.{read_there, read_by}
+use Rattle.brc_runs.specs.Sound.{IsSound, HandFits, WorkFits, Locks, grips, held}
+use Rattle.brc_runs.specs.Staying.{is_about, IsAnothers, Lasts, SameOwn, locked_at, Has, rank, Bears, Buries, Locked, Keeps, Foreign, OwnedOrNot, Nobodys}
+use Rattle.brc_runs.proofs.Naming.{free_owner, Ungripped, Unheld, dead_unheld, sole_grip, one-true, busy_hand}
+use Rattle.brc_runs.proofs.Asking.{May, OnCell, on_cell}
+use Rattle.brc_runs.proofs.Changes.{read_there}
 use Rattle.brc_runs.proofs.Registering.{push_else}
 use Rattle.brc_runs.proofs.Counting.{marked_unheld}
 use Rattle.brc_runs.proofs.Merging.{hand_grips, carried_held, popped_held, held_owner}
 use Rattle.brc_runs.proofs.Dropping.{held_by_place, held_by_entry}
-use Rattle.brc_runs.proofs.Reasons.{At, Grips, grip_of, event_cell, event_entries, step_reason}
+use Rattle.brc_runs.proofs.Locking.{lock_place}
+use Rattle.brc_runs.proofs.Reasons.{At, grip_of, event_cell, event_entries, step_reason}
 use Rattle.brc_runs.proofs.Reached.{reached_sound}
 
 -- ---- the own part
@@ -224,14 +223,8 @@ pub live_step : (h : Heap) (u : ℕ) (s : Step) (c : ℕ) → IsSound h → May 
     → StepKeeps s (cell_at h c) (cell_after u s c (cell_at h c))
 live_step h u (Claim d) c sound may named live some =
     let e : d ≡ c = cc in
-    let free : (cell_at h d).owner ≡ owners.Free = free_cell (cell_at h d).owner (and_parts _ _ (on_cell h u (Claim d) d may.on_target).fits).1 in
+    let free : (cell_at h d).owner ≡ owners.Free = free_owner (cell_at h d).owner (and_parts _ _ (on_cell h u (Claim d) d may.on_target).fits).1 in
     absurd (live_owner _ live (ap (λ i. (cell_at h i).owner) (sym e) ∙ free))
-  where
-    free_cell : (o : Owner) → is_free o ≡ true → o ≡ owners.Free
-    free_cell owners.Nobody f = absurd (true≢false (sym f))
-    free_cell (owners.Thread t) f = absurd (true≢false (sym f))
-    free_cell (owners.Claimed t) f = absurd (true≢false (sym f))
-    free_cell owners.Free f = refl
 live_step h u (InitLocal d) c sound may named live some = absurd (not_bearing h u c d phases.Claimed sound (inl refl) may.hand (cc) live)
 live_step h u (InitShared d) c sound may named live some = absurd (not_bearing h u c d phases.Counted sound (inr (inl refl)) may.hand (cc) live)
 live_step h u (Birth d kind k) c sound may named live some = absurd (not_bearing h u c d phases.Ready sound (inr (inr refl)) may.hand (cc) live)
@@ -279,10 +272,6 @@ event_keeps h e c sound ok live some = elim (event_cell h e c ok) [
 ]
 
 -- ---- a locked object
-
-lock_place : (h : Heap) (t c : ℕ) (o : Option ℕ) → locked_cell (frame_at h t) o ≡ Some c → (row_at h t).locked ≡ o → (k : ℕ) × ((row_at h t).locked ≡ Some k) × (place_at (frame_at h t) k ≡ Some c)
-lock_place h t c None named is = absurd (cc)
-lock_place h t c (Some k) named is = (k, is, named)
 
 -- the lock's cell has the thread's number on its mutex, and is held
 pub locked_mutex : (h : Heap) (t c : ℕ) → IsSound h → locked_at h t ≡ Some c → (0 < t) × ((cell_at h c).mutex ≡ t) × (1 ≤ held h c)

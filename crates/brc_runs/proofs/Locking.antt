@@ -1,9 +1,9 @@
 -- Locks: an object is locked, and changed as it is unlocked, entries and places of the frame together.
-use Rattle.std.proofs.Common.{◌≡◌, ◌≢◌, ℕ, ◌+◌, ◌-◌, ◌<◌, ◌≤◌, ◌==◌, ◌&&◌, ◌||◌, not, Bool, true, false, if◌then◌else◌, nat_lt, List, [], ◌∷◌, ◌++◌, length, get_or, set, remove, Option, Some, None, is_some, is_none, sum_by, refl, sym, ◌∙◌, ap, subst, inl, inr, arith, length-append, replicate, append-nil}
+use Rattle.std.proofs.Common.{◌≡◌, ◌≢◌, ℕ, ◌+◌, ◌-◌, ◌<◌, ◌≤◌, ◌==◌, ◌||◌, Bool, true, false, if◌then◌else◌, List, [], ◌∷◌, ◌++◌, length, get_or, set, Option, Some, None, sum_by, refl, sym, ◌∙◌, ap, subst, inl, inr, arith, length-append, replicate, append-nil}
 use Rattle.std.proofs.lemmas.List.{get_or-set_same, get_or-set_other, length-set, get_or_past, set-get_or}
 use Rattle.std.proofs.lemmas.List.Edits.{length-remove}
 use Rattle.std.proofs.lemmas.List.Sums.{sum_by-set, sum_by-append, sum_by-remove}
-use Rattle.std.proofs.lemmas.Bool.{cases_eq, cases_lt, cases_Bool, eq-eqb, ne_eqb, eqb-true, and_parts, ltb-true, lt-ltb, true≢false}
+use Rattle.std.proofs.lemmas.Bool.{cases_eq, cases_lt, cases_Bool, eqb-true, and_parts, ltb-true, true≢false}
 use Rattle.std.proofs.lemmas.Int.{ints}
 use Rattle.brc_words.specs.declared.kind.Kind.{Kind}
 use Rattle.brc_words.specs.declared.kind.Kind.TheVariants as kinds
@@ -19,14 +19,14 @@ use Rattle.brc_runs.specs.declared.row.Phase.{Phase}
 use Rattle.brc_runs.specs.declared.row.Phase.TheVariants as phases
 use Rattle.brc_runs.specs.declared.row.Stage.{Stage}
 use Rattle.brc_runs.specs.declared.row.Stage.TheVariants as stages
-use Rattle.brc_runs.specs.Lists.{one, times, names, entry_times, bit_of, is_marked, place_at, filled, vacated, reaching, number_in}
-use Rattle.brc_runs.specs.Heap.{Heap, cell_at, entries_at, row_at, frame_at, popped_at, work_at, queue_at, no_cell, no_row, is_gathered, words_for, immortal_kind}
-use Rattle.brc_runs.specs.Steps.{after_target, target_ok, locked_cell, change_ok, locked_entries, is_keep, frame_changed, entries_changed, stage_ok, may_after_leaving, is_close}
-use Rattle.brc_runs.specs.Holding.{lives, carries}
-use Rattle.brc_runs.specs.Sound.{IsSound, CellFits, ImmortalFits, ThreadFits, PhaseFits, WorkFits, Locks, counted_in, grips_of, grips, held, asks, asks_least, asks_most, in_entries}
-use Rattle.brc_runs.proofs.Naming.{sum_one, free_hand}
+use Rattle.brc_runs.specs.Lists.{one, times, names, entry_times, place_at, filled, reaching, number_in}
+use Rattle.brc_runs.specs.Heap.{Heap, cell_at, entries_at, row_at, frame_at, popped_at, work_at, no_cell, no_row, is_gathered, immortal_kind}
+use Rattle.brc_runs.specs.Steps.{after_target, target_ok, locked_cell, change_ok, locked_entries, is_keep, frame_changed, entries_changed}
+use Rattle.brc_runs.specs.Holding.{lives}
+use Rattle.brc_runs.specs.Sound.{IsSound, CellFits, ImmortalFits, PhaseFits, WorkFits, Locks, in_entries}
+use Rattle.brc_runs.proofs.Naming.{some_there, free_hand}
 use Rattle.brc_runs.proofs.Framing.{times-filled, times-vacated, length-filled, length-vacated}
-use Rattle.brc_runs.proofs.Asking.{May, OnCell, on_cell, may_parts, Vacant, vacant}
+use Rattle.brc_runs.proofs.Asking.{May, OnCell, on_cell, Vacant, vacant}
 use Rattle.brc_runs.proofs.Birthing.{active_from, active_fits, no_lock}
 use Rattle.brc_runs.proofs.Changes.{New, Fits, Fewer, LocksFit, changed, changed_sound, same_entries, same_bits, kept_bits, read_by, read_here, read_there}
 use Rattle.brc_runs.proofs.Merging.{held_owner}
@@ -143,6 +143,11 @@ turned_fits h t c m locked f es sound turns locks =
       locks = locks;
       ledger = refl;
     }
+
+-- the place whose cell the thread has locked
+pub lock_place : (h : Heap) (t c : ℕ) (o : Option ℕ) → locked_cell (frame_at h t) o ≡ Some c → (row_at h t).locked ≡ o → (k : ℕ) × ((row_at h t).locked ≡ Some k) × (place_at (frame_at h t) k ≡ Some c)
+lock_place h t c None named is = absurd (cc)
+lock_place h t c (Some k) named is = (k, is, named)
 
 -- no cell has too many entries
 pub any_few : (h : Heap) (c : ℕ) → IsSound h → length (entries_at h c) ≤ 1048576
@@ -265,10 +270,6 @@ times-refilled q frame k c d there =
         let none : k + 1 - length frame ≡ 0 = omega (arith, inside) in
         ap (λ n. frame ++ replicate n None) none ∙ append-nil frame
 
-some_there : (x : Option ℕ) → is_some x ≡ true → x ≡ Some (number_in x)
-some_there None is = absurd (true≢false (sym is))
-some_there (Some c) is = refl
-
 -- what each change moves
 unlock_moved : (h : Heap) (t c : ℕ) (locked : Option ℕ) (change : Change) → change_ok locked (frame_at h t) (entries_at h c) change ≡ true
     → (q : ℕ) → times q (frame_changed change (entries_at h c) (frame_at h t)) + entry_times q (entries_changed change (frame_at h t) (entries_at h c)) ≡ times q (frame_at h t) + entry_times q (entries_at h c)
@@ -310,19 +311,14 @@ unlock_lengths h t c locked (changes.Swap i j) sound ok =
 
 -- only the globals are an immortal container
 pub immortal_container : (c : ℕ) → is_container (immortal_kind c) ≡ true → c ≡ 265
-immortal_container c container = elim (cases_Bool (c == 0)) [
-  | inl a ↦ absurd (true≢false (sym container ∙ ap is_container (ap (λ b. if b then kinds.Nothing else (if c == 1 then kinds.False else (if c == 2 then kinds.True else (if c == 265 then kinds.Dict else kinds.Int)))) a)))
-  | inr a ↦ elim (cases_Bool (c == 1)) [
-    | inl b ↦ absurd (true≢false (sym container ∙ ap is_container (ap (λ x. if x then kinds.Nothing else (if c == 1 then kinds.False else (if c == 2 then kinds.True else (if c == 265 then kinds.Dict else kinds.Int)))) a ∙ ap (λ x. if x then kinds.False else (if c == 2 then kinds.True else (if c == 265 then kinds.Dict else kinds.Int))) b)))
-    | inr b ↦ elim (cases_Bool (c == 2)) [
-      | inl d ↦ absurd (true≢false (sym container ∙ ap is_container (ap (λ x. if x then kinds.Nothing else (if c == 1 then kinds.False else (if c == 2 then kinds.True else (if c == 265 then kinds.Dict else kinds.Int)))) a ∙ ap (λ x. if x then kinds.False else (if c == 2 then kinds.True else (if c == 265 then kinds.Dict else kinds.Int))) b ∙ ap (λ x. if x then kinds.True else (if c == 265 then kinds.Dict else kinds.Int)) d)))
-      | inr d ↦ elim (cases_Bool (c == 265)) [
-        | inl is ↦ eqb-true _ _ is
-        | inr e ↦ absurd (true≢false (sym container ∙ ap is_container (ap (λ x. if x then kinds.Nothing else (if c == 1 then kinds.False else (if c == 2 then kinds.True else (if c == 265 then kinds.Dict else kinds.Int)))) a ∙ ap (λ x. if x then kinds.False else (if c == 2 then kinds.True else (if c == 265 then kinds.Dict else kinds.Int))) b ∙ ap (λ x. if x then kinds.True else (if c == 265 then kinds.Dict else kinds.Int)) d ∙ ap (λ x. if x then kinds.Dict else kinds.Int) e)))
-      ]
-    ]
-  ]
-]
+immortal_container c container = eqb-true c 265 (globals_alone (c == 0) (c == 1) (c == 2) (c == 265) container)
+  where
+    globals_alone : (a b d e : Bool) → is_container (if a then kinds.Nothing else (if b then kinds.False else (if d then kinds.True else (if e then kinds.Dict else kinds.Int)))) ≡ true → e ≡ true
+    globals_alone true b d e container = absurd (true≢false (sym container))
+    globals_alone false true d e container = absurd (true≢false (sym container))
+    globals_alone false false true e container = absurd (true≢false (sym container))
+    globals_alone false false false true container = refl
+    globals_alone false false false false container = absurd (true≢false (sym container))
 
 -- keeping changes nothing, and else the object is a container
 kept_or_container : (change : Change) (kind : Kind) (frame : List (Option ℕ)) (entries : List ℕ) → (is_keep change || is_container kind) ≡ true → is_container kind ≡ false → entries ≡ [] → entries_changed change frame entries ≡ []
@@ -339,7 +335,7 @@ unlock_sound h t change (Some c) sound may named ok =
     let at_cell : OnCell h t s c = on_cell h t s c ok in
     let es : List ℕ = entries_changed change (frame_at h t) (entries_at h c) in
     let f : List (Option ℕ) = frame_changed change (entries_at h c) (frame_at h t) in
-    let lock : (k : ℕ) × ((row_at h t).locked ≡ Some k) × (place_at (frame_at h t) k ≡ Some c) = locked_place (row_at h t).locked refl named in
+    let lock : (k : ℕ) × ((row_at h t).locked ≡ Some k) × (place_at (frame_at h t) k ≡ Some c) = lock_place h t c (row_at h t).locked named refl in
     let fine : change_ok (row_at h t).locked (frame_at h t) (entries_at h c) change ≡ true =
     subst (λ d. change_ok (row_at h t).locked (frame_at h t) (locked_entries (entries_at h) d) change ≡ true) named may.own in
     let lengths = unlock_lengths h t c (row_at h t).locked change sound fine in
@@ -359,10 +355,6 @@ unlock_sound h t change (Some c) sound may named ok =
       places = lengths.1;
     }) (released_mutex h t c lock.0 f es sound may.inside at_cell.inside lock.1 lock.2))
   where
-    locked_place : (o : Option ℕ) → (row_at h t).locked ≡ o → locked_cell (frame_at h t) o ≡ Some c → (k : ℕ) × ((row_at h t).locked ≡ Some k) × (place_at (frame_at h t) k ≡ Some c)
-    locked_place None is named = absurd (cc)
-    locked_place (Some k) is named = (k, is, named)
-
     plain_kind : (c : ℕ) → c < 266 → c ≢ 265 → is_container (cell_at h c).kind ≡ false
     plain_kind c low ne = elim (cases_Bool (is_container (cell_at h c).kind)) [
       | inl container ↦ absurd (ne (immortal_container c (sym (ap is_container (sound.immortals c low).kind) ∙ container)))

@@ -1,14 +1,12 @@
 -- Merging: the owner lets its object go, and the counts become one.
-use Rattle.std.proofs.Common.{◌≡◌, ◌≢◌, ℕ, ◌+◌, ◌/◌, ◌<◌, ◌≤◌, ◌==◌, ◌&&◌, ◌||◌, not, Bool, true, false, if◌then◌else◌, ℤ, pos, ◌+ℤ◌, ◌≤ℤ◌, List, [], length, set, Option, Some, None, refl, sym, ◌∙◌, ap, subst, inl, inr, arith}
+use Rattle.std.proofs.Common.{◌≡◌, ◌≢◌, ℕ, ◌+◌, ◌/◌, ◌<◌, ◌≤◌, ◌==◌, ◌&&◌, not, Bool, true, false, if◌then◌else◌, ℤ, pos, ◌+ℤ◌, List, [], length, set, refl, sym, ◌∙◌, ap, subst, inl, inr, arith}
 use Rattle.std.proofs.lemmas.List.{get_or-set_same, get_or-set_other, length-set}
 use Rattle.std.proofs.lemmas.Bool.{cases_eq, cases_Bool, eq-eqb, ne_eqb, eqb-true, and_parts, not-true, true≢false}
 use Rattle.std.proofs.lemmas.Int.{ints}
 use Rattle.brc_words.specs.declared.owner.Owner.{Owner}
 use Rattle.brc_words.specs.declared.owner.Owner.TheVariants as owners
-use Rattle.brc_words.specs.declared.state.State.{State}
 use Rattle.brc_words.specs.declared.state.State.TheVariants as states
 use Rattle.brc_runs.specs.declared.cell.Cell.{Cell}
-use Rattle.brc_runs.specs.declared.event.Step.{Step}
 use Rattle.brc_runs.specs.declared.event.Step.TheVariants.{Untie, MergeZero, MergeAdd}
 use Rattle.brc_runs.specs.declared.row.Row.{Row}
 use Rattle.brc_runs.specs.declared.row.Hand.{Hand}
@@ -17,17 +15,17 @@ use Rattle.brc_runs.specs.declared.row.Phase.{Phase}
 use Rattle.brc_runs.specs.declared.row.Phase.TheVariants as phases
 use Rattle.brc_runs.specs.declared.row.Stage.{Stage}
 use Rattle.brc_runs.specs.declared.row.Stage.TheVariants as stages
-use Rattle.brc_runs.specs.Lists.{one, times, entry_times, bit_of, is_marked}
-use Rattle.brc_runs.specs.Heap.{Heap, cell_at, entries_at, row_at, frame_at, popped_at, work_at, queue_at, is_gathered, words_for, no_row}
-use Rattle.brc_runs.specs.Steps.{thread_may, stepped, is_shut, hand_ok, is_at, is_free_hand, is_active, is_default, is_queued, is_merged, is_zero, is_closed, is_nobody, untied_hand, untied_ok, untie_ok, added_hand}
-use Rattle.brc_runs.specs.Holding.{lives, carries, has_reference, count_of_state, total_of}
-use Rattle.brc_runs.specs.Sound.{IsSound, CellFits, ThreadFits, PhaseFits, HandFits, WorkFits, Untied, counted_in, grips_of, grips_by_owner, grips, is_gripping, is_active_phase, is_active_hand, gripped, held, asks, asks_least, asks_most, is_threads}
-use Rattle.brc_runs.proofs.Naming.{Unheld, Ungripped, unheld, dead_unheld, ungripped, sole_grip, grips_once, no_mark, one-le, one-false, one-true, free_hand, busy_hand, busy_carrier, live_counts, zero_count, default_state, sum_one, no_bit, thread_owner, grips_of-le}
+use Rattle.brc_runs.specs.Lists.{one, bit_of, is_marked}
+use Rattle.brc_runs.specs.Heap.{Heap, cell_at, entries_at, row_at, frame_at, popped_at, work_at, no_row}
+use Rattle.brc_runs.specs.Steps.{thread_may, stepped, is_at, is_active, is_default, is_queued, is_merged, is_zero, is_closed, is_nobody, untied_hand, untied_ok, untie_ok, added_hand}
+use Rattle.brc_runs.specs.Holding.{lives, carries, count_of_state}
+use Rattle.brc_runs.specs.Sound.{IsSound, CellFits, PhaseFits, HandFits, Untied, counted_in, grips_of, grips_by_owner, grips, is_gripping, is_active_phase, is_active_hand, gripped, held, asks_least}
+use Rattle.brc_runs.proofs.Naming.{second, third, merged_state, Ungripped, dead_unheld, ungripped, sole_grip, grips_once, no_mark, one-le, one-false, free_hand, busy_hand, busy_carrier, live_counts, zero_count, sum_one, no_bit, thread_owner}
 use Rattle.brc_runs.proofs.Birthing.{busy_else, busy_grips, one_and}
-use Rattle.brc_runs.proofs.Counting.{owned_ungripped, local_positive, total_unmerged}
+use Rattle.brc_runs.proofs.Counting.{owned_ungripped, total_unmerged}
 use Rattle.brc_runs.proofs.Asking.{May, OnCell, on_cell, may_parts}
 use Rattle.brc_runs.proofs.Changes.{same_entries}
-use Rattle.brc_runs.proofs.Turning.{Acts, acts, Turn, turn_sound}
+use Rattle.brc_runs.proofs.Turning.{acts, Turn, turn_sound}
 
 -- ---- what others' hands say of a cell that they don't grip
 
@@ -298,11 +296,6 @@ untie_popped h t c sound may inside free on owner =
 
 -- ---- the step
 
-pub third : (a b c : Bool) → a ≡ false → b ≡ false → (a || b || c) ≡ true → c ≡ true
-third true b c off apart ok = absurd (true≢false off)
-third false true c off apart ok = absurd (true≢false apart)
-third false false c off apart ok = ok
-
 pub untie_sound : (h : Heap) (t c : ℕ) → IsSound h → thread_may h t (Untie c) ≡ true → IsSound (stepped h t (Untie c) c)
 untie_sound h t c sound ok =
     let may : May h t (Untie c) = may_parts h t (Untie c) ok in
@@ -446,11 +439,6 @@ gripped_unmerged h c sound mortal owner grip some =
           let grips : grips_of x ≡ one (is_zero x.count) = ap (λ o. grips_by_owner o x.state x.local x.count) owner ∙ ap (λ b. if b then one (is_zero x.count) else 1) merged in
           absurd (omega (arith, grip, sound.gripped c mortal, grips, ap one (nonzero x.count (held h c) count some)))
     ]
-  where
-    merged_state : (s : State) → is_merged s ≡ true → s ≡ states.Merged
-    merged_state states.Default m = absurd (true≢false (sym m))
-    merged_state states.Queued m = absurd (true≢false (sym m))
-    merged_state states.Merged m = refl
 
 add_turn : (h : Heap) (t c : ℕ) (old new : Phase) (hand : Hand) → IsSound h → thread_may h t (MergeAdd c) ≡ true → (row_at h t).hand ≡ hands.Busy old c → is_gripping old ≡ true
     → (cell_at h c).owner ≡ owners.Nobody → 1 ≤ held h c → one (carries c hand) ≡ one (carries c (hands.Busy old c)) → one (grips c hand) ≡ 0
@@ -527,7 +515,3 @@ merge_add_sound h t c sound ok =
           (add_turn h t c phases.Popping phases.Held hands.Free sound ok busy refl said.fits.0 (popped_held h t c said.fits.1) refl refl
           (λ p d e. let bad : hands.Free ≡ hands.Busy p d = e in absurd (cc)))
     ]
-  where
-    second : (a b : Bool) → a ≡ false → (a || b) ≡ true → b ≡ true
-    second true b off ok = absurd (true≢false off)
-    second false b off ok = ok

@@ -1,5 +1,5 @@
 -- Who names a cell: what the sums say of one place, one hand, one worklist.
-use Rattle.std.proofs.Common.{◌≡◌, ◌≢◌, ℕ, ◌+◌, ◌≤◌, ◌==◌, ◌%◌, ◌&&◌, Bool, true, false, ℤ, pos, negsuc, List, [], length, get_or, set, sum_by, refl, sym, ◌∙◌, ap, inl, inr, arith, if◌then◌else◌}
+use Rattle.std.proofs.Common.{◌≡◌, ◌≢◌, ℕ, ◌+◌, ◌≤◌, ◌==◌, ◌%◌, ◌&&◌, ◌||◌, Bool, true, false, Option, Some, None, is_some, ℤ, pos, negsuc, List, [], length, get_or, set, sum_by, refl, sym, ◌∙◌, ap, inl, inr, arith, if◌then◌else◌}
 use Rattle.std.proofs.lemmas.List.{get_or-set_other, get_or_past}
 use Rattle.std.proofs.lemmas.List.Sums.{sum_by-set, get_or-le-sum_by}
 use Rattle.std.proofs.lemmas.Bool.{cases_lt, eq-eqb, eqb-true, and_parts, true≢false}
@@ -17,9 +17,9 @@ use Rattle.brc_runs.specs.declared.row.Phase.{Phase}
 use Rattle.brc_runs.specs.declared.row.Phase.TheVariants as phases
 use Rattle.brc_runs.specs.declared.row.Stage.{Stage}
 use Rattle.brc_runs.specs.declared.row.Stage.TheVariants as stages
-use Rattle.brc_runs.specs.Lists.{one, times, bit_of, is_marked}
+use Rattle.brc_runs.specs.Lists.{one, times, bit_of, is_marked, number_in}
 use Rattle.brc_runs.specs.Heap.{Heap, cell_at, row_at, frame_at, popped_at, work_at, queue_at, no_row}
-use Rattle.brc_runs.specs.Steps.{is_free_hand, is_at, phase_number, is_free, is_owned_by, is_active, is_zero, is_default}
+use Rattle.brc_runs.specs.Steps.{is_free_hand, is_at, phase_number, is_free, is_owned_by, is_nobody, is_active, is_zero, is_default, is_merged}
 use Rattle.brc_runs.specs.Holding.{lives, total_of, carries, has_reference}
 use Rattle.brc_runs.specs.Sound.{IsSound, counted_in, grips_by_owner, grips, gripped, held, asks, in_entries}
 
@@ -61,6 +61,21 @@ one-false false h = refl
 
 pub no_mark : (b : Bool) → one b ≡ 0 → b ≡ true → ⊥
 no_mark b none h = omega (arith, ap one h)
+
+-- what is left of a test by several
+pub second : (a b : Bool) → a ≡ false → (a || b) ≡ true → b ≡ true
+second true b off ok = absurd (true≢false off)
+second false b off ok = ok
+
+pub third : (a b c : Bool) → a ≡ false → b ≡ false → (a || b || c) ≡ true → c ≡ true
+third true b c off apart ok = absurd (true≢false off)
+third false true c off apart ok = absurd (true≢false apart)
+third false false c off apart ok = ok
+
+-- the number in an option that has one
+pub some_there : (x : Option ℕ) → is_some x ≡ true → x ≡ Some (number_in x)
+some_there None is = absurd (true≢false (sym is))
+some_there (Some c) is = refl
 
 -- ---- phases and hands
 
@@ -151,6 +166,17 @@ active_stage stages.Left h = absurd (true≢false (sym h))
 pub zero_count : (n : ℤ) → is_zero n ≡ true → n ≡ pos 0
 zero_count (pos n) h = ap pos (eqb-true n 0 h)
 zero_count (negsuc n) h = absurd (true≢false (sym h))
+
+pub merged_state : (state : State) → is_merged state ≡ true → state ≡ states.Merged
+merged_state states.Default h = absurd (true≢false (sym h))
+merged_state states.Queued h = absurd (true≢false (sym h))
+merged_state states.Merged h = refl
+
+pub nobody_owner : (owner : Owner) → is_nobody owner ≡ true → owner ≡ owners.Nobody
+nobody_owner owners.Nobody h = refl
+nobody_owner (owners.Thread t) h = absurd (true≢false (sym h))
+nobody_owner (owners.Claimed t) h = absurd (true≢false (sym h))
+nobody_owner owners.Free h = absurd (true≢false (sym h))
 
 pub default_state : (state : State) → is_default state ≡ true → state ≡ states.Default
 default_state states.Default h = refl

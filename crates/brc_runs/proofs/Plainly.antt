@@ -1,6 +1,5 @@
 -- Steps that leave popped bits, queue words, stages and locks alone: what the law on changes asks of them.
-use Rattle.std.proofs.Common.{◌≡◌, ◌≢◌, ℕ, ◌+◌, ◌<◌, ◌≤◌, true, pos, ◌+ℤ◌, Bool, List, [], length, get_or, set, Option, Some, sum_by, refl, sym, subst, ◌⊎◌, arith}
-use Rattle.std.proofs.lemmas.List.{set-get_or}
+use Rattle.std.proofs.Common.{◌≡◌, ◌≢◌, ℕ, ◌+◌, ◌<◌, ◌≤◌, true, pos, ◌+ℤ◌, Bool, List, [], length, get_or, Option, Some, sum_by, refl, sym, subst, ◌⊎◌, arith}
 use Rattle.std.proofs.lemmas.Int.{ints}
 use Rattle.brc_runs.specs.declared.cell.Cell.{Cell}
 use Rattle.brc_runs.specs.declared.row.Row.{Row}

@@ -1,5 +1,5 @@
 -- Each thread's step that is enabled keeps all that reached worlds keep.
-use Rattle.std.proofs.Common.{◌≡◌, ℕ, ◌+◌, ◌-◌, ◌<◌, ◌≤◌, ◌==◌, ◌&&◌, ◌||◌, not, Bool, true, false, if◌then◌else◌, List, length, set, Option, Some, None, refl, sym, subst, inl, inr}
+use Rattle.std.proofs.Common.{◌≡◌, ℕ, ◌+◌, ◌-◌, ◌≤◌, ◌==◌, ◌&&◌, ◌||◌, not, Bool, true, if◌then◌else◌, List, set, Option, Some, None, refl, sym, subst, inl, inr}
 use Rattle.std.proofs.lemmas.Bool.{cases_Bool, and_parts, ltb-true, ltb-false, true≢false}
 use Rattle.brc_runs.specs.declared.event.Step.{Step}
 use Rattle.brc_runs.specs.declared.event.Step.TheVariants.{Claim, InitLocal, InitShared, Birth, LocalUp, LocalDown, SeeZero, Free, Untie, MergeZero, SharedUp, SharedDown, Ask, LastDown, Enqueue, Drain, MergeAdd, Close, Nudge, Wake, Lock, Unlock, Register, Gather}
@@ -17,7 +17,7 @@ use Rattle.brc_runs.proofs.Asking.{May, may_parts, OnCell, on_cell, vacant, Mine
 use Rattle.brc_runs.proofs.Birthing.{active_from, claim_sound, local_sound, shared_sound, birth_sound}
 use Rattle.brc_runs.proofs.Counting.{Ups, Downs, up_immortal_fits, up_mortal_fits, down_immortal_fits, down_mortal_fits}
 use Rattle.brc_runs.proofs.Plainly.{plain_sound}
-use Rattle.brc_runs.proofs.Turning.{Acts, acts}
+use Rattle.brc_runs.proofs.Turning.{acts}
 use Rattle.brc_runs.proofs.Dropping.{source_held, drop_downs}
 use Rattle.brc_runs.proofs.Ending.{see_sound, free_sound}
 use Rattle.brc_runs.proofs.Merging.{untie_sound, merge_zero_sound, merge_add_sound}

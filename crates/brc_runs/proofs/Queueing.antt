@@ -1,5 +1,5 @@
 -- The merge queue: a reference goes in, bits are taken, a popped entry is counted down, and words are closed.
-use Rattle.std.proofs.Common.{◌≡◌, ◌≢◌, ℕ, ◌+◌, ◌-◌, ◌/◌, ◌<◌, ◌≤◌, ◌==◌, ◌&&◌, ◌||◌, nat_lt, not, Bool, true, false, if◌then◌else◌, ℤ, pos, ◌+ℤ◌, ◌-ℤ◌, List, [], length, get_or, set, Option, Some, None, sum_by, refl, sym, ◌∙◌, ap, subst, inl, inr, ◌⊎◌, arith}
+use Rattle.std.proofs.Common.{◌≡◌, ◌≢◌, ℕ, ◌+◌, ◌/◌, ◌<◌, ◌≤◌, ◌==◌, ◌&&◌, not, Bool, true, false, if◌then◌else◌, ℤ, pos, ◌-ℤ◌, List, [], length, get_or, set, Option, Some, None, sum_by, refl, sym, ◌∙◌, ap, subst, inl, inr, ◌⊎◌, arith}
 use Rattle.std.proofs.lemmas.List.{get_or-set_same, get_or-set_other, length-set, set-get_or, get_or_past}
 use Rattle.std.proofs.lemmas.List.Sums.{sum_by-set, get_or-le-sum_by}
 use Rattle.std.proofs.lemmas.Bool.{cases_eq, cases_lt, cases_Bool, eq-eqb, ne_eqb, eqb-true, and_parts, lt-ltb, ltb-true, true≢false}
@@ -11,25 +11,23 @@ use Rattle.brc_runs.specs.declared.event.LastDropped.TheVariants as lasts
 use Rattle.brc_runs.specs.declared.event.Step.{Step}
 use Rattle.brc_runs.specs.declared.event.Step.TheVariants.{LastDown, Enqueue, Drain, Close}
 use Rattle.brc_runs.specs.declared.row.Row.{Row}
-use Rattle.brc_runs.specs.declared.row.Hand.{Hand}
 use Rattle.brc_runs.specs.declared.row.Hand.TheVariants as hands
-use Rattle.brc_runs.specs.declared.row.Phase.{Phase}
 use Rattle.brc_runs.specs.declared.row.Phase.TheVariants as phases
 use Rattle.brc_runs.specs.declared.row.Stage.{Stage}
 use Rattle.brc_runs.specs.declared.row.Stage.TheVariants as stages
-use Rattle.brc_runs.specs.Lists.{one, times, entry_times, bit_of, is_marked, place_at, word_at, with_bit, without_bit, is_bare, is_unmarked}
+use Rattle.brc_runs.specs.Lists.{one, bit_of, is_marked, place_at, word_at, with_bit, without_bit, is_bare, is_unmarked}
 use Rattle.brc_runs.specs.Heap.{Heap, cell_at, entries_at, row_at, frame_at, popped_at, work_at, queue_at, no_cell, no_row, is_gathered, words_for}
-use Rattle.brc_runs.specs.Steps.{thread_may, stepped, is_shut, kept_cells, stage_ok, closes_next, closed_more, with_taken, without_taken, is_active, is_closed, is_default, is_queued, is_merged, is_zero}
-use Rattle.brc_runs.specs.Holding.{lives, carries, has_reference}
-use Rattle.brc_runs.specs.Sound.{IsSound, CellFits, ThreadFits, PhaseFits, HandFits, WorkFits, counted_in, grips_of, grips, is_active_hand, held, asks, asks_least, asks_most, is_threads, in_queues}
-use Rattle.brc_runs.proofs.Naming.{no_mark, one-le, free_hand, busy_hand, busy_carrier, sum_one, no_bit, grips_free, carries_free}
+use Rattle.brc_runs.specs.Steps.{thread_may, stepped, is_shut, kept_cells, closes_next, closed_more, with_taken, without_taken, is_active, is_closed, is_default, is_queued, is_merged, is_zero}
+use Rattle.brc_runs.specs.Holding.{lives, carries}
+use Rattle.brc_runs.specs.Sound.{IsSound, ThreadFits, PhaseFits, HandFits, grips, is_active_hand, held, asks, is_threads, in_queues}
+use Rattle.brc_runs.proofs.Naming.{no_mark, one-le, free_hand, busy_hand, busy_carrier, sum_one, no_bit}
 use Rattle.brc_runs.proofs.Bitwise.{with_bit_here, with_bit_else, length-with_bit, without_bit_here, without_bit_else, length-without_bit, taken_bits, length-with_taken, length-without_taken}
 use Rattle.brc_runs.proofs.Asking.{May, OnCell, on_cell, may_parts}
-use Rattle.brc_runs.proofs.Birthing.{active_from, active_fits, no_lock, busy_else, busy_grips}
+use Rattle.brc_runs.proofs.Birthing.{active_from, active_fits, no_lock}
 use Rattle.brc_runs.proofs.Counting.{held_unmarked}
-use Rattle.brc_runs.proofs.Changes.{New, Fits, changed, changed_sound, same_entries, same_locks, same_bits, other_queue, read_by, read_here, read_there, immortal_entries}
+use Rattle.brc_runs.proofs.Changes.{New, Fits, changed_sound, same_entries, same_locks, same_bits, other_queue, read_by, read_here, read_there}
 use Rattle.brc_runs.proofs.Turning.{Acts, acts, Turn, turn_sound, turned_thread, hand_else}
-use Rattle.brc_runs.proofs.Merging.{held_owner, carried_held, popped_held, hand_gripped, hands_kept, taken_marks, marked_so, busy_same}
+use Rattle.brc_runs.proofs.Merging.{held_owner, carried_held, popped_held, taken_marks, marked_so, busy_same}
 use Rattle.brc_runs.proofs.Sharing.{Lasts, lasts_of, count_hands, count_cell, queued_or_merged}
 
 -- ---- a reference goes into the merge queue

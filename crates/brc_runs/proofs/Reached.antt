@@ -1,14 +1,14 @@
 -- What holds of every world that a run reaches: the laws that the rooms above cite.
-use Rattle.std.proofs.Common.{◌≡◌, ℕ, ◌+◌, ◌<◌, ◌≤◌, ◌^◌, ◌==◌, ◌&&◌, not, Bool, true, false, if◌then◌else◌, nat_le, List, [], ◌∷◌, zero, suc, length, refl, sym, ◌∙◌, ap, subst, inl, inr, arith}
+use Rattle.std.proofs.Common.{◌≡◌, ℕ, ◌+◌, ◌<◌, ◌^◌, ◌==◌, ◌&&◌, not, Bool, true, false, if◌then◌else◌, nat_le, List, [], ◌∷◌, zero, suc, length, refl, sym, ◌∙◌, ap, subst, inl, inr, arith}
 use Rattle.std.proofs.lemmas.List.Sums.{sum_by-cons}
-use Rattle.std.proofs.lemmas.Bool.{cases_Bool, cases_lt, and_parts, eqb-true, leb-true, le-ltb, lt-ltb, true≢false}
+use Rattle.std.proofs.lemmas.Bool.{cases_Bool, cases_lt, and_parts, eqb-true, leb-true, le-ltb, lt-ltb}
 use Rattle.brc_runs.specs.declared.cell.Cell.{Cell}
 use Rattle.brc_runs.specs.declared.event.Event.{Event}
 use Rattle.brc_runs.specs.declared.event.Step.{Step}
 use Rattle.brc_runs.specs.declared.event.Step.TheVariants.{Register, Gather}
 use Rattle.brc_runs.specs.declared.row.Row.{Row}
 use Rattle.brc_runs.specs.Lists.{one}
-use Rattle.brc_runs.specs.Heap.{Heap, opening, cell_at, row_at, frame_at, work_at, entries_at, no_row, AreOptions}
+use Rattle.brc_runs.specs.Heap.{Heap, opening, cell_at, row_at, no_row, AreOptions}
 use Rattle.brc_runs.specs.Steps.{enabled, after, after_target, root_after, root_may, thread_may, target_at}
 use Rattle.brc_runs.specs.Runs.{IsRun, IsReached, world_after}
 use Rattle.brc_runs.specs.Holding.{Headline, Histories, lives, lives_at, lives_since, is_birth, is_free_step, MakesMoves, map_of, moves_by}

@@ -1,9 +1,8 @@
 -- Which cell an event writes, and why its thread may: the thread holds it, grips it, or claims it.
-use Rattle.std.proofs.Common.{◌≡◌, ◌≢◌, ℕ, ◌+◌, ◌<◌, ◌≤◌, ◌==◌, ◌||◌, Bool, true, false, if◌then◌else◌, List, [], length, get_or, set, Option, Some, None, refl, sym, ◌∙◌, ap, subst, inl, inr, ◌⊎◌, arith}
-use Rattle.std.proofs.lemmas.Bool.{cases_eq, cases_Bool, eqb-true, and_parts, true≢false}
+use Rattle.std.proofs.Common.{◌≡◌, ℕ, ◌+◌, ◌≤◌, ◌==◌, Bool, true, false, if◌then◌else◌, [], get_or, set, Option, Some, None, refl, sym, ◌∙◌, ap, subst, inl, inr, ◌⊎◌, arith}
+use Rattle.std.proofs.lemmas.Bool.{cases_eq, cases_Bool, eqb-true, and_parts}
 use Rattle.brc_words.specs.declared.kind.Kind.{Kind}
 use Rattle.brc_words.specs.declared.owner.Owner.TheVariants as owners
-use Rattle.brc_runs.specs.declared.cell.Cell.{Cell}
 use Rattle.brc_runs.specs.declared.event.Event.{Event}
 use Rattle.brc_runs.specs.declared.event.Change.{Change}
 use Rattle.brc_runs.specs.declared.event.Dropped.{Dropped}
@@ -11,19 +10,17 @@ use Rattle.brc_runs.specs.declared.event.Dropped.TheVariants as dropped
 use Rattle.brc_runs.specs.declared.event.LastDropped.TheVariants as lasts
 use Rattle.brc_runs.specs.declared.event.Step.{Step}
 use Rattle.brc_runs.specs.declared.event.Step.TheVariants.{Claim, InitLocal, InitShared, Birth, LocalUp, LocalDown, SeeZero, Free, Untie, MergeZero, SharedUp, SharedDown, Ask, LastDown, Enqueue, Drain, MergeAdd, Close, Nudge, Wake, Lock, Unlock, Register, Gather}
-use Rattle.brc_runs.specs.declared.row.Hand.{Hand}
 use Rattle.brc_runs.specs.declared.row.Hand.TheVariants as hands
 use Rattle.brc_runs.specs.declared.row.Phase.{Phase}
 use Rattle.brc_runs.specs.declared.row.Phase.TheVariants as phases
-use Rattle.brc_runs.specs.Lists.{one, is_marked, place_at, bit_of, last_of}
+use Rattle.brc_runs.specs.Lists.{one, is_marked}
 use Rattle.brc_runs.specs.Heap.{Heap, cell_at, entries_at, row_at, frame_at, popped_at, work_at, no_cell}
-use Rattle.brc_runs.specs.Steps.{enabled, after, after_target, root_after, thread_may, target_at, target_ok, cell_after, entries_without, entries_after, root_may, is_ending, dropped_cell, locked_cell, is_at, is_free_hand, is_default, untie_ok, cell_in_hand}
-use Rattle.brc_runs.specs.Holding.{carries}
+use Rattle.brc_runs.specs.Steps.{enabled, after, after_target, root_after, thread_may, target_at, target_ok, cell_after, entries_without, entries_after, root_may, is_ending, dropped_cell, locked_cell, is_at, is_default, untie_ok}
 use Rattle.brc_runs.specs.Sound.{IsSound, grips, is_gripping, held}
-use Rattle.brc_runs.proofs.Naming.{free_hand, busy_hand, busy_carrier, free_owner, one-true}
+use Rattle.brc_runs.proofs.Naming.{second, third, free_hand, busy_hand, busy_carrier, free_owner, one-true}
 use Rattle.brc_runs.proofs.Asking.{May, may_parts, OnCell, on_cell}
 use Rattle.brc_runs.proofs.Changes.{read_here, read_there}
-use Rattle.brc_runs.proofs.Merging.{hand_grips, carried_held, popped_held, third}
+use Rattle.brc_runs.proofs.Merging.{hand_grips, carried_held, popped_held}
 use Rattle.brc_runs.proofs.Sharing.{ending_hand, ending_reference}
 use Rattle.brc_runs.proofs.Dropping.{held_by_place, source_held, dropped_held}
 
@@ -134,10 +131,6 @@ step_reason h u (MergeAdd d) c sound may named mortal =
       | inl taking ↦ hand_reason h u d (MergeAdd d) phases.Taking taking refl
       | inr off ↦ hand_reason h u d (MergeAdd d) phases.Popping (second _ _ off may.hand) refl
     ])
-  where
-    second : (a b : Bool) → a ≡ false → (a || b) ≡ true → b ≡ true
-    second true b off ok = absurd (true≢false off)
-    second false b off ok = ok
 step_reason h u (Close k) c sound may named mortal = absurd (cc)
 step_reason h u (Nudge v k) c sound may named mortal = absurd (cc)
 step_reason h u Wake c sound may named mortal = absurd (cc)

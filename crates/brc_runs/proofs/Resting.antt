@@ -1,14 +1,10 @@
 -- Steps that change no cell and no reference: a thread is told something, or is gathered.
-use Rattle.std.proofs.Common.{◌≡◌, ◌≢◌, ℕ, ◌<◌, Bool, true, false, List, [], length, get_or, set, refl, sym, ◌∙◌, ap, subst, inl, inr, arith}
+use Rattle.std.proofs.Common.{◌≡◌, ℕ, ◌<◌, Bool, true, false, List, [], length, set, refl, sym, ◌∙◌, subst, arith}
 use Rattle.std.proofs.lemmas.List.{length-set, set-get_or}
-use Rattle.std.proofs.lemmas.Bool.{cases_eq, and_parts, not-true, ltb-true, true≢false}
-use Rattle.brc_runs.specs.declared.event.Step.{Step}
+use Rattle.std.proofs.lemmas.Bool.{and_parts, ltb-true, true≢false}
 use Rattle.brc_runs.specs.declared.event.Step.TheVariants.{Nudge, Wake, Gather}
-use Rattle.brc_runs.specs.declared.row.Row.{Row}
-use Rattle.brc_runs.specs.declared.row.Hand.TheVariants as hands
 use Rattle.brc_runs.specs.declared.row.Stage.{Stage}
 use Rattle.brc_runs.specs.declared.row.Stage.TheVariants as stages
-use Rattle.brc_runs.specs.Lists.{is_blank, is_unmarked}
 use Rattle.brc_runs.specs.Heap.{Heap, row_at, frame_at, popped_at, work_at, queue_at, no_row, is_gathered, words_for}
 use Rattle.brc_runs.specs.Steps.{kept_cells, gathered_in, root_may, notices_after, is_left}
 use Rattle.brc_runs.specs.Sound.{IsSound, ThreadFits}

@@ -1,6 +1,6 @@
 -- Everyone but the owner counts on the shared word: up, down, asking, and the last references.
-use Rattle.std.proofs.Common.{◌≡◌, ◌≢◌, ℕ, ◌+◌, ◌<◌, ◌≤◌, ◌==◌, ◌&&◌, ◌||◌, not, Bool, true, false, if◌then◌else◌, nat_lt, ℤ, pos, negsuc, ◌+ℤ◌, ◌-ℤ◌, ◌≤ℤ◌, List, [], length, get_or, set, Option, Some, None, sum_by, refl, sym, ◌∙◌, ap, subst, inl, inr, arith}
-use Rattle.std.proofs.lemmas.Bool.{cases_eq, cases_Bool, eq-eqb, ne_eqb, and_parts, not-true, ltb-true, ltb-false, true≢false}
+use Rattle.std.proofs.Common.{◌≡◌, ◌≢◌, ℕ, ◌+◌, ◌<◌, ◌≤◌, ◌==◌, ◌&&◌, not, Bool, true, false, if◌then◌else◌, ℤ, pos, negsuc, ◌+ℤ◌, ◌-ℤ◌, ◌≤ℤ◌, List, [], length, get_or, set, Option, Some, None, refl, sym, ◌∙◌, ap, subst, inl, inr, arith}
+use Rattle.std.proofs.lemmas.Bool.{cases_Bool, eq-eqb, ne_eqb, and_parts, not-true, ltb-true, ltb-false, true≢false}
 use Rattle.std.proofs.lemmas.Int.{ints}
 use Rattle.brc_words.specs.declared.owner.Owner.{Owner}
 use Rattle.brc_words.specs.declared.owner.Owner.TheVariants as owners
@@ -18,20 +18,20 @@ use Rattle.brc_runs.specs.declared.row.Hand.TheVariants as hands
 use Rattle.brc_runs.specs.declared.row.Phase.{Phase}
 use Rattle.brc_runs.specs.declared.row.Phase.TheVariants as phases
 use Rattle.brc_runs.specs.declared.row.Stage.{Stage}
-use Rattle.brc_runs.specs.Lists.{one, times, entry_times, bit_of, is_marked, place_at, filled}
-use Rattle.brc_runs.specs.Heap.{Heap, cell_at, entries_at, row_at, frame_at, popped_at, work_at, queue_at, is_immortal, no_row}
-use Rattle.brc_runs.specs.Steps.{after_target, target_ok, source_cell, dropped_cell, cell_in_hand, frame_without, entries_without, is_others, is_mine, is_active, is_default, is_queued, is_merged, is_zero, is_positive, is_nobody, is_ending, is_ending_hand, ends_ok}
+use Rattle.brc_runs.specs.Lists.{one, is_marked, filled}
+use Rattle.brc_runs.specs.Heap.{Heap, cell_at, entries_at, row_at, frame_at, popped_at, work_at, is_immortal, no_row}
+use Rattle.brc_runs.specs.Steps.{after_target, target_ok, source_cell, dropped_cell, cell_in_hand, frame_without, entries_without, is_default, is_queued, is_merged, is_zero, is_positive, is_nobody, is_ending, is_ending_hand, ends_ok}
 use Rattle.brc_runs.specs.Holding.{lives, carries, has_reference, count_of_state}
-use Rattle.brc_runs.specs.Sound.{IsSound, CellFits, PhaseFits, HandFits, WorkFits, counted_in, grips_of, grips_by_owner, grips, is_gripping, is_active_hand, held, asks, asks_least, asks_most, is_threads, in_entries}
-use Rattle.brc_runs.proofs.Naming.{no_mark, one-le, one-true, free_hand, busy_carrier, live_counts, zero_count, default_state, grips_free, carries_free, sum_one}
+use Rattle.brc_runs.specs.Sound.{IsSound, CellFits, PhaseFits, WorkFits, counted_in, grips_of, grips_by_owner, grips, is_gripping, is_active_hand, held, asks, asks_least, asks_most, is_threads}
+use Rattle.brc_runs.proofs.Naming.{merged_state, no_mark, one-le, free_hand, busy_carrier, live_counts, zero_count, default_state, grips_free, carries_free, sum_one}
 use Rattle.brc_runs.proofs.Framing.{times-filled, length-filled}
-use Rattle.brc_runs.proofs.Asking.{May, OnCell, on_cell, may_parts, Vacant, vacant}
-use Rattle.brc_runs.proofs.Birthing.{active_from, active_fits, busy_else, one_and}
-use Rattle.brc_runs.proofs.Counting.{Ups, Downs, lock_stays, held_unmarked, total_unmerged}
+use Rattle.brc_runs.proofs.Asking.{May, OnCell, on_cell, vacant}
+use Rattle.brc_runs.proofs.Birthing.{active_from, active_fits, one_and}
+use Rattle.brc_runs.proofs.Counting.{Ups, Downs, lock_stays, held_unmarked}
 use Rattle.brc_runs.proofs.Changes.{same_entries}
 use Rattle.brc_runs.proofs.Plainly.{Plain, plain_sound}
 use Rattle.brc_runs.proofs.Turning.{Acts, acts, Turn, turn_sound}
-use Rattle.brc_runs.proofs.Merging.{held_owner, carried_held, hands_kept, taken_marks, marked_so, nonzero, busy_same}
+use Rattle.brc_runs.proofs.Merging.{held_owner, carried_held, taken_marks, marked_so, nonzero, busy_same}
 use Rattle.brc_runs.proofs.Dropping.{source_held, dropped_held, drop_downs}
 
 -- ---- the shared count alone changes
@@ -410,11 +410,6 @@ pub record Lasts (h : Heap) (t c : ℕ) : Type 0 where
   pub counted : counted_in (record (cell_at h c) { count = (cell_at h c).count -ℤ pos 1 }) +ℤ pos 1 ≡ counted_in (cell_at h c)
   pub gripped : grips_of (record (cell_at h c) { count = (cell_at h c).count -ℤ pos 1 }) ≡ grips_of (cell_at h c) + one (is_merged (cell_at h c).state && is_zero ((cell_at h c).count -ℤ pos 1))
   pub dead : (is_merged (cell_at h c).state && is_zero ((cell_at h c).count -ℤ pos 1)) ≡ true → WorkFits t c (record (cell_at h c) { count = (cell_at h c).count -ℤ pos 1 })
-
-merged_state : (s : State) → is_merged s ≡ true → s ≡ states.Merged
-merged_state states.Default m = absurd (true≢false (sym m))
-merged_state states.Queued m = absurd (true≢false (sym m))
-merged_state states.Merged m = refl
 
 pub lasts_of : (h : Heap) (t c : ℕ) → IsSound h → 266 ≤ c → 1 ≤ held h c → Lasts h t c
 lasts_of h t c sound mortal some =

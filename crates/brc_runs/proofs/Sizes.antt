@@ -1,7 +1,7 @@
 -- How much a reached world has: entries, references and births, each few enough for the number that tells it.
-use Rattle.std.proofs.Common.{◌≡◌, ℕ, zero, suc, ◌*◌, ◌<◌, ◌≤◌, ◌^◌, ◌==◌, Bool, true, false, if◌then◌else◌, ℤ, pos, negsuc, ◌≤ℤ◌, ◌<ℤ◌, List, [], ◌∷◌, length, Option, None, get_or, sum_by, sym, ◌∙◌, ap, inl, inr, subst, arith}
+use Rattle.std.proofs.Common.{◌≡◌, ℕ, zero, suc, ◌*◌, ◌<◌, ◌≤◌, ◌^◌, ◌==◌, true, ℤ, pos, negsuc, ◌≤ℤ◌, ◌<ℤ◌, List, [], ◌∷◌, length, None, get_or, sum_by, sym, ◌∙◌, inl, inr, arith}
 use Rattle.std.proofs.lemmas.List.Sums.{sum_by-cons}
-use Rattle.std.proofs.lemmas.Bool.{and_parts, cases_lt, cases_Bool, ltb-false, not-true}
+use Rattle.std.proofs.lemmas.Bool.{cases_lt, cases_Bool}
 use Rattle.std.proofs.lemmas.Int.{ints}
 use Rattle.brc_words.specs.declared.state.State.{State}
 use Rattle.brc_words.specs.declared.state.State.TheVariants as states
@@ -9,7 +9,7 @@ use Rattle.brc_runs.specs.declared.row.Row.{Row}
 use Rattle.brc_runs.specs.Lists.{one, names, times, entry_times, bit_of}
 use Rattle.brc_runs.specs.Heap.{Heap, cell_at, row_at, frame_at, entries_at, no_row}
 use Rattle.brc_runs.specs.Runs.{IsReached}
-use Rattle.brc_runs.specs.Holding.{lives, lives_at, count_of_state, total_of, carries}
+use Rattle.brc_runs.specs.Holding.{lives, lives_at, count_of_state, carries}
 use Rattle.brc_runs.specs.Sound.{IsSound, held, in_frames, in_popped, in_hands, in_queues, in_entries}
 use Rattle.brc_runs.proofs.Naming.{live_counts, one-le}
 use Rattle.brc_runs.proofs.Locking.{any_few}

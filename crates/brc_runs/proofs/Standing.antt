@@ -1,28 +1,26 @@
 -- What stands of a run: facts that last over others' events, blocks that nobody has locked, and threads that hold nothing.
-use Rattle.std.proofs.Common.{◌≡◌, ◌≢◌, ℕ, ◌+◌, ◌/◌, ◌%◌, ◌<◌, ◌≤◌, ◌==◌, Bool, true, false, if◌then◌else◌, List, [], ◌∷◌, ◌++◌, length, get_or, set, Option, Some, None, refl, sym, ◌∙◌, ap, subst, inl, inr, ◌⊎◌, arith}
+use Rattle.std.proofs.Common.{◌≡◌, ◌≢◌, ℕ, ◌/◌, ◌%◌, ◌<◌, ◌==◌, Bool, true, false, if◌then◌else◌, List, [], ◌∷◌, ◌++◌, length, get_or, set, Option, Some, None, refl, sym, ◌∙◌, ap, subst, inl, inr, arith}
 use Rattle.std.proofs.lemmas.List.{get_or-set_same, get_or_past}
-use Rattle.std.proofs.lemmas.Bool.{cases_eq, cases_lt, cases_Bool, ne_eqb, and_parts, eqb-true, ltb-true, true≢false}
+use Rattle.std.proofs.lemmas.Bool.{cases_eq, cases_lt, cases_Bool, ne_eqb, and_parts, eqb-true, true≢false}
 use Rattle.std.proofs.lemmas.Nat.Bits.{bit_at-zero}
 use Rattle.std.specs.Int.{bit_at}
 use Rattle.brc_runs.specs.declared.cell.Cell.{Cell}
 use Rattle.brc_runs.specs.declared.event.Event.{Event}
 use Rattle.brc_runs.specs.declared.event.Step.{Step}
-use Rattle.brc_runs.specs.declared.event.Step.TheVariants.{SeeZero, Free, MergeZero, LastDown, Enqueue, Drain, Close, Register, Gather}
-use Rattle.brc_runs.specs.declared.row.Stage.{Stage}
+use Rattle.brc_runs.specs.declared.event.Step.TheVariants.{SeeZero, Free, MergeZero, LastDown, Enqueue, Register, Gather}
 use Rattle.brc_runs.specs.declared.row.Stage.TheVariants as stages
-use Rattle.brc_runs.specs.Lists.{one, is_marked, bit_of, with_bit}
-use Rattle.brc_runs.specs.Heap.{Heap, opening, cell_at, row_at, frame_at, popped_at, work_at, queue_at, is_gathered, is_registered, no_cell, words_for, AreOptions}
+use Rattle.brc_runs.specs.Lists.{is_marked, bit_of, with_bit}
+use Rattle.brc_runs.specs.Heap.{Heap, opening, cell_at, row_at, work_at, queue_at, is_gathered, no_cell, AreOptions}
 use Rattle.brc_runs.specs.Steps.{enabled, after, after_target, root_after, root_may, thread_may, target_at, cell_after, work_after, takes_block, is_active, is_closed, is_shut, queues_after, target_ok}
 use Rattle.brc_runs.specs.Runs.{IsRun, IsReached, world_after}
 use Rattle.brc_runs.specs.Sound.{IsSound}
-use Rattle.brc_runs.specs.Staying.{is_about, IsAnothers, AreAnothers, Lasts, HoldsNothing}
+use Rattle.brc_runs.specs.Staying.{is_about, AreAnothers, Lasts, HoldsNothing}
 use Rattle.brc_runs.proofs.Bitwise.{bit_inside, with_bit_here, with_bit_else}
-use Rattle.brc_runs.proofs.Changes.{read_by, read_here, read_there}
+use Rattle.brc_runs.proofs.Changes.{read_here, read_there}
 use Rattle.brc_runs.proofs.Counting.{marked_unheld}
 use Rattle.brc_runs.proofs.Registering.{push_else}
 use Rattle.brc_runs.proofs.Asking.{May, may_parts, on_cell}
 use Rattle.brc_runs.proofs.Naming.{no_bit}
-use Rattle.brc_runs.proofs.Reasons.{At}
 use Rattle.brc_runs.proofs.Lasting.{unheld_unlocked, other_number}
 use Rattle.brc_runs.proofs.Reached.{event_sound, reached_sound}
 

@@ -1,6 +1,6 @@
 -- What a thread's hand, its popped bits and its own objects tell it, and that it stays so while others step.
-use Rattle.std.proofs.Common.{◌≡◌, ◌≢◌, ℕ, ◌+◌, ◌/◌, ◌<◌, ◌≤◌, ◌==◌, ◌&&◌, ◌||◌, not, Bool, true, false, if◌then◌else◌, ℤ, pos, List, [], length, get_or, set, sum_by, Option, Some, None, refl, sym, ◌∙◌, ap, subst, inl, inr, ◌⊎◌, arith}
-use Rattle.std.proofs.lemmas.Bool.{cases_eq, cases_Bool, eq-eqb, eqb-true, and_parts, not-true, le-ltb, ltb-true, lt-ltb, true≢false}
+use Rattle.std.proofs.Common.{◌≡◌, ◌≢◌, ℕ, ◌/◌, ◌≤◌, ◌||◌, not, Bool, true, false, if◌then◌else◌, List, [], sum_by, Some, refl, sym, ◌∙◌, ap, subst, inl, inr, ◌⊎◌, arith}
+use Rattle.std.proofs.lemmas.Bool.{cases_Bool, eqb-true, and_parts, not-true, le-ltb, true≢false}
 use Rattle.brc_words.specs.declared.owner.Owner.{Owner}
 use Rattle.brc_words.specs.declared.owner.Owner.TheVariants as owners
 use Rattle.brc_words.specs.declared.state.State.{State}
@@ -10,24 +10,21 @@ use Rattle.brc_runs.specs.declared.event.Event.{Event}
 use Rattle.brc_runs.specs.declared.event.Step.{Step}
 use Rattle.brc_runs.specs.declared.event.Step.TheVariants.{Claim, InitLocal, InitShared, Birth, LocalUp, LocalDown, SeeZero, Free, Untie, MergeZero, SharedUp, SharedDown, Ask, LastDown, Enqueue, Drain, MergeAdd, Close, Nudge, Wake, Lock, Unlock, Register, Gather}
 use Rattle.brc_runs.specs.declared.row.Row.{Row}
-use Rattle.brc_runs.specs.declared.row.Hand.{Hand}
 use Rattle.brc_runs.specs.declared.row.Hand.TheVariants as hands
 use Rattle.brc_runs.specs.declared.row.Phase.{Phase}
 use Rattle.brc_runs.specs.declared.row.Phase.TheVariants as phases
-use Rattle.brc_runs.specs.declared.row.Stage.{Stage}
-use Rattle.brc_runs.specs.declared.row.Stage.TheVariants as stages
 use Rattle.brc_runs.specs.Lists.{one, is_marked, bit_of}
-use Rattle.brc_runs.specs.Heap.{Heap, cell_at, row_at, popped_at, work_at, no_row, is_immortal, is_registered, is_gathered}
-use Rattle.brc_runs.specs.Steps.{enabled, after, target_at, cell_after, untie_ok, untied_ok, is_at, is_free, is_active, is_closed, is_default, is_queued, is_merged, is_mine, is_nobody, is_zero, counts_up_locally, takes_block, work_after, stepped, after_target, target_ok}
+use Rattle.brc_runs.specs.Heap.{Heap, cell_at, row_at, popped_at, work_at, no_row, is_immortal}
+use Rattle.brc_runs.specs.Steps.{enabled, after, target_at, cell_after, untie_ok, untied_ok, is_at, is_active, is_default, is_merged, is_mine, is_nobody, is_zero, counts_up_locally, target_ok}
 use Rattle.brc_runs.specs.Runs.{IsReached}
 use Rattle.brc_runs.specs.Holding.{carries, lives}
-use Rattle.brc_runs.specs.Sound.{IsSound, HandFits, WorkFits, Births, Untied, grips, grips_of, grips_by_owner, gripped, held, asks, is_gripping}
-use Rattle.brc_runs.specs.Staying.{IsAnothers, Lasts, SameOwn, Owns, Merges, Adopts, PoppedOwn, Tells, PoppedTells, HoldsNothing}
-use Rattle.brc_runs.proofs.Naming.{Ungripped, sole_grip, one-le, one-true, sum_one, sum_two, no_bit, busy_hand, busy_carrier, free_hand, free_owner, thread_owner}
+use Rattle.brc_runs.specs.Sound.{IsSound, HandFits, WorkFits, Untied, grips, grips_by_owner, gripped, held, asks, is_gripping}
+use Rattle.brc_runs.specs.Staying.{Lasts, SameOwn, Owns, Merges, Adopts, PoppedOwn, Tells, PoppedTells}
+use Rattle.brc_runs.proofs.Naming.{second, third, merged_state, nobody_owner, Ungripped, sole_grip, one-le, one-true, sum_one, sum_two, no_bit, busy_hand, busy_carrier, free_hand, free_owner, thread_owner}
 use Rattle.brc_runs.proofs.Asking.{May, OnCell, on_cell, Mine, mine}
-use Rattle.brc_runs.proofs.Merging.{hand_grips, hand_gripped, gripped_local, gripped_unmerged, carried_held, popped_held, held_owner, closed_idle, active_now, live_thread, third}
-use Rattle.brc_runs.proofs.Reasons.{At, event_cell}
-use Rattle.brc_runs.proofs.Lasting.{others_own, bearing, not_bearing, dead_unlocked}
+use Rattle.brc_runs.proofs.Merging.{hand_grips, hand_gripped, gripped_local, gripped_unmerged, carried_held, popped_held, held_owner, closed_idle, active_now, live_thread}
+use Rattle.brc_runs.proofs.Reasons.{event_cell}
+use Rattle.brc_runs.proofs.Lasting.{others_own, not_bearing}
 use Rattle.brc_runs.proofs.Counting.{sum_none, held_unmarked}
 use Rattle.brc_runs.proofs.Headlines.{sum_some, from_one, gripping_hand}
 use Rattle.brc_runs.proofs.Reached.{reached_sound}
@@ -63,11 +60,6 @@ between : (s : State) → is_default s ≡ false → is_merged s ≡ false → s
 between states.Default default merged = absurd (true≢false default)
 between states.Queued default merged = refl
 between states.Merged default merged = absurd (true≢false merged)
-
-merged_is : (s : State) → is_merged s ≡ true → s ≡ states.Merged
-merged_is states.Default m = absurd (true≢false (sym m))
-merged_is states.Queued m = absurd (true≢false (sym m))
-merged_is states.Merged m = refl
 
 -- ---- what a hand tells
 
@@ -116,9 +108,9 @@ shut_tells h t c sound busy =
           let thread : (s : ℕ) × ((cell_at h c).owner ≡ owners.Thread s) = live_thread (cell_at h c).owner live owned in
           inr (thread.0, thread.1, between (cell_at h c).state asked ((sound.cells c said.mortal).owned_unmerged thread.0 thread.1))
       | inl nobody ↦
-          let owner : (cell_at h c).owner ≡ owners.Nobody = nobody_is (cell_at h c).owner nobody in
+          let owner : (cell_at h c).owner ≡ owners.Nobody = nobody_owner (cell_at h c).owner nobody in
           elim (cases_Bool (is_merged (cell_at h c).state)) [
-            | inl merged ↦ inl (owner, merged_is (cell_at h c).state merged)
+            | inl merged ↦ inl (owner, merged_state (cell_at h c).state merged)
             | inr unmerged ↦
                 let who : (u : ℕ) × (p : Phase) × Unties h u c p = who_unties h c sound said.mortal owner unmerged some in
                 absurd (elim who.2.1 [
@@ -137,12 +129,6 @@ shut_tells h t c sound busy =
                 ])
           ]
     ]
-  where
-    nobody_is : (o : Owner) → is_nobody o ≡ true → o ≡ owners.Nobody
-    nobody_is owners.Nobody n = refl
-    nobody_is (owners.Thread t) n = absurd (true≢false (sym n))
-    nobody_is (owners.Claimed t) n = absurd (true≢false (sym n))
-    nobody_is owners.Free n = absurd (true≢false (sym n))
 
 -- a hand that merges an asked object finds it queued
 merging_tells : (h : Heap) (t c : ℕ) (p : Phase) → IsSound h → (row_at h t).hand ≡ hands.Busy p c → is_gripping p ≡ true → 266 ≤ c → (cell_at h c).owner ≡ owners.Nobody → 1 ≤ held h c → 1 ≤ asks h c → (cell_at h c).state ≡ states.Queued
@@ -198,13 +184,13 @@ sound_popped h t c sound free popped =
     let live : lives (cell_at h c).owner ≡ true = held_owner h c sound bit.0 some in
     let asked : is_default (cell_at h c).state ≡ false = asked_for h c sound bit.0 (popped_asks h t c popped) in
     elim (cases_Bool (is_merged (cell_at h c).state)) [
-      | inl merged ↦ inl (merged_is (cell_at h c).state merged)
+      | inl merged ↦ inl (merged_state (cell_at h c).state merged)
       | inr unmerged ↦ inr (elim (cases_Bool (is_nobody (cell_at h c).owner)) [
         | inr owned ↦
             let thread : (s : ℕ) × ((cell_at h c).owner ≡ owners.Thread s) = live_thread (cell_at h c).owner live owned in
             (thread.1 ∙ ap owners.Thread (sym ((sound.cells c bit.0).owned_by_bearer thread.0 thread.1) ∙ bit.1), between (cell_at h c).state asked unmerged)
         | inl nobody ↦
-            let who : (u : ℕ) × (p : Phase) × Unties h u c p = who_unties h c sound bit.0 (nobody_is (cell_at h c).owner nobody) unmerged some in
+            let who : (u : ℕ) × (p : Phase) × Unties h u c p = who_unties h c sound bit.0 (nobody_owner (cell_at h c).owner nobody) unmerged some in
             let his : (u : ℕ) → (p : Phase) → (row_at h u).hand ≡ hands.Busy p c → (cell_at h c).bore ≡ u → ⊥ = λ u p at bore.
             let bad : hands.Free ≡ hands.Busy p c = sym free ∙ ap (λ i. (row_at h i).hand) (sym bit.1 ∙ bore) ∙ at in cc in
             absurd (elim who.2.1 [
@@ -223,12 +209,6 @@ sound_popped h t c sound free popped =
             ])
       ])
     ]
-  where
-    nobody_is : (o : Owner) → is_nobody o ≡ true → o ≡ owners.Nobody
-    nobody_is owners.Nobody n = refl
-    nobody_is (owners.Thread t) n = absurd (true≢false (sym n))
-    nobody_is (owners.Claimed t) n = absurd (true≢false (sym n))
-    nobody_is owners.Free n = absurd (true≢false (sym n))
 
 pub popped_tells : (h : Heap) (t c : ℕ) → IsReached h → (row_at h t).hand ≡ hands.Free → bit_of (popped_at h t) c ≡ 1 → PoppedTells t (cell_at h c)
 popped_tells h t c reached free popped = sound_popped h t c (reached_sound h reached) free popped
@@ -331,10 +311,6 @@ merges_nobodys h u c sound ways = elim ways [
     | inr off ↦ (sound.hands u c phases.Popping (busy_hand phases.Popping c _ (second _ _ off add.hand))).fits.0
   ]
 ]
-  where
-    second : (a b : Bool) → a ≡ false → (a || b) ≡ true → b ≡ true
-    second true b off ok = absurd (true≢false off)
-    second false b off ok = ok
 
 -- an object of a thread's: no other has it on its worklist, and nobody merges it
 owned_kept : (h : Heap) (t u c : ℕ) → IsSound h → 266 ≤ c → (cell_at h c).owner ≡ owners.Thread t → u ≢ t → (May h u (Untie c) → ⊥) → Kept h u c
@@ -440,10 +416,6 @@ merging_kept h t u c p sound mortal owner other busy gripping =
       ];
       unmarked = alone.mark;
     }
-  where
-    second : (a b : Bool) → a ≡ false → (a || b) ≡ true → b ≡ true
-    second true b off ok = absurd (true≢false off)
-    second false b off ok = ok
 
 gripping_merge : (p : Phase) → (p ≡ phases.Taking) ⊎ (p ≡ phases.Popping) → is_gripping p ≡ true
 gripping_merge p which = elim which [ inl taking ↦ ap is_gripping taking | inr popping ↦ ap is_gripping popping ]

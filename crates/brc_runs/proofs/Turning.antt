@@ -2,7 +2,6 @@
 -- a step owes, and that it keeps all that reached worlds keep.
 use Rattle.std.proofs.Common.{◌≡◌, ◌≢◌, ℕ, ◌+◌, ◌<◌, ◌≤◌, Bool, true, false, pos, ◌+ℤ◌, List, [], length, get_or, Option, Some, None, sum_by, refl, sym, ◌∙◌, ap, subst, inl, arith}
 use Rattle.std.proofs.lemmas.Bool.{true≢false}
-use Rattle.std.proofs.lemmas.Int.{ints}
 use Rattle.brc_runs.specs.declared.cell.Cell.{Cell}
 use Rattle.brc_runs.specs.declared.event.Step.{Step}
 use Rattle.brc_runs.specs.declared.row.Row.{Row}
@@ -12,7 +11,7 @@ use Rattle.brc_runs.specs.declared.row.Phase.{Phase}
 use Rattle.brc_runs.specs.declared.row.Stage.{Stage}
 use Rattle.brc_runs.specs.declared.row.Stage.TheVariants as stages
 use Rattle.brc_runs.specs.Lists.{one, times, entry_times, is_marked, place_at}
-use Rattle.brc_runs.specs.Heap.{Heap, cell_at, entries_at, row_at, frame_at, popped_at, work_at, queue_at, is_gathered, words_for}
+use Rattle.brc_runs.specs.Heap.{Heap, cell_at, entries_at, row_at, frame_at, popped_at, work_at, queue_at, is_gathered}
 use Rattle.brc_runs.specs.Steps.{stage_ok, is_close, needs_lock, is_active}
 use Rattle.brc_runs.specs.Holding.{lives, carries}
 use Rattle.brc_runs.specs.Sound.{IsSound, CellFits, WorkFits, ThreadFits, PhaseFits, counted_in, grips_of, grips, is_active_hand, asks, asks_most, asks_least, in_entries}

@@ -68,9 +68,6 @@ abbrev pub words_for : ℕ → ℕ
 words_for cells = (cells + 31) / 32
 
 -- the cells that never die: None, False, True, the integers from -5 to 256, and the dictionary of globals
-abbrev pub first_mortal : ℕ
-first_mortal = 266
-
 abbrev pub is_immortal : ℕ → Bool
 is_immortal c = nat_lt c 266
 

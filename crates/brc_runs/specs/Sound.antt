@@ -3,7 +3,7 @@
 --
 -- The picture: a cell has at most one reference on its way through a merge queue; the owner word goes from a thread to
 -- nobody once, by one hand; and an object without holders shows in exactly one hand or on one worklist.
-use Rattle.std.specs.Prelude.{◌≡◌, ◌≢◌, ℕ, ◌+◌, ◌/◌, ◌==◌, nat_lt, ◌<◌, ◌≤◌, ◌&&◌, not, Bool, true, false, if◌then◌else◌, ℤ, pos, ◌≤ℤ◌, List, [], length, Option, Some, None, slice_index_or, sum_by, ◌⊎◌}
+use Rattle.std.specs.Prelude.{◌≡◌, ◌≢◌, ℕ, ◌+◌, ◌/◌, ◌==◌, ◌<◌, ◌≤◌, ◌&&◌, not, Bool, true, false, if◌then◌else◌, ℤ, pos, ◌≤ℤ◌, List, [], length, Option, Some, None, slice_index_or, sum_by, ◌⊎◌}
 use Rattle.brc_words.specs.declared.owner.Owner.{Owner}
 use Rattle.brc_words.specs.declared.owner.Owner.TheVariants as owners
 use Rattle.brc_words.specs.declared.state.State.{State}
