@@ -1,62 +1,11 @@
-//! Steps of every kind, by whole lives of objects that two threads share, and refused growths.
+//! Steps of shared objects, and refused growths. More whole lives are replayed by `brc_trace`, as texts.
 
 use super::LIMIT;
-use crate::{Change, Dropped, Event, LastDropped, Ledger, Source, Status, Step, StepFault, World};
+use crate::{Change, Dropped, Event, LastDropped, Ledger, Source, Step, StepFault, World};
 use brc_model::Holder;
-use brc_words::{Fault, Kind, Owner, State};
+use brc_words::{Fault, Kind, State};
 use linked_list_allocator::LocalHeap;
 use std::alloc::{Allocator, Global};
-
-/// A list that two threads count ends on the shared word: its owner merges it at zero, and the
-/// other thread lets it go last.
-const MERGED: [(u32, Step); 21] = [
-    (0, Step::Register(1)),
-    (0, Step::Register(2)),
-    (1, Step::Claim(266)),
-    (1, Step::InitLocal(266)),
-    (1, Step::InitShared(266)),
-    (
-        1,
-        Step::Birth {
-            cell: 266,
-            kind: Kind::List,
-            place: 0,
-        },
-    ),
-    (
-        1,
-        Step::LocalUp {
-            source: Source::Immortal(265),
-            place: 1,
-        },
-    ),
-    (1, Step::Lock(1)),
-    (1, Step::Unlock(Change::Put(0))),
-    (
-        2,
-        Step::LocalUp {
-            source: Source::Immortal(265),
-            place: 0,
-        },
-    ),
-    (2, Step::Lock(0)),
-    (
-        2,
-        Step::SharedUp {
-            source: Source::Entry(0),
-            place: 1,
-        },
-    ),
-    (2, Step::Unlock(Change::Keep)),
-    (1, Step::Lock(1)),
-    (1, Step::Unlock(Change::Take { index: 0, place: 0 })),
-    (1, Step::LocalDown(Dropped::Frame(0))),
-    (1, Step::SeeZero(266)),
-    (1, Step::Untie(266)),
-    (1, Step::MergeZero(266)),
-    (2, Step::LastDown(LastDropped::Dropped(Dropped::Frame(1)))),
-    (2, Step::Free(266)),
-];
 
 /// A thread that took the list out of the globals asks its owner for a merge.
 const ASKED: [(u32, Step); 21] = [
@@ -106,65 +55,6 @@ const ASKED: [(u32, Step); 21] = [
     (1, Step::Untie(266)),
     (1, Step::MergeAdd(266)),
     (1, Step::LastDown(LastDropped::Popped(266))),
-];
-
-/// The owner leaves before it is asked, and the asker merges in its place.
-const ADOPTED: [(u32, Step); 36] = [
-    (0, Step::Register(1)),
-    (0, Step::Register(2)),
-    (1, Step::Claim(266)),
-    (1, Step::InitLocal(266)),
-    (1, Step::InitShared(266)),
-    (
-        1,
-        Step::Birth {
-            cell: 266,
-            kind: Kind::List,
-            place: 0,
-        },
-    ),
-    (
-        1,
-        Step::LocalUp {
-            source: Source::Immortal(265),
-            place: 1,
-        },
-    ),
-    (1, Step::Lock(1)),
-    (1, Step::Unlock(Change::Put(0))),
-    (
-        2,
-        Step::LocalUp {
-            source: Source::Immortal(265),
-            place: 0,
-        },
-    ),
-    (2, Step::Lock(0)),
-    (2, Step::Unlock(Change::Take { index: 0, place: 1 })),
-    (1, Step::LocalDown(Dropped::Frame(1))),
-    (2, Step::Ask(Dropped::Frame(1))),
-    (1, Step::Close(0)),
-    (1, Step::Close(1)),
-    (1, Step::Close(2)),
-    (1, Step::Close(3)),
-    (1, Step::Close(4)),
-    (1, Step::Close(5)),
-    (1, Step::Close(6)),
-    (1, Step::Close(7)),
-    (1, Step::Close(8)),
-    (1, Step::Close(9)),
-    (1, Step::Close(10)),
-    (1, Step::Close(11)),
-    (1, Step::Close(12)),
-    (1, Step::Close(13)),
-    (1, Step::Close(14)),
-    (1, Step::Close(15)),
-    (2, Step::Enqueue(266)),
-    (2, Step::Untie(266)),
-    (2, Step::MergeAdd(266)),
-    (2, Step::LastDown(LastDropped::Hand)),
-    (2, Step::Free(266)),
-    (0, Step::Gather(1)),
 ];
 
 /// Entries are exchanged, taken over by another thread, and let go by a dead list.
@@ -282,25 +172,6 @@ fn make<A: Allocator + Copy>(world: &mut World<A>, steps: &[(u32, Step)]) -> Res
 }
 
 #[test]
-fn a_merged_object_ends_with_its_last_reference(rt: HostRuntime) -> Result<(), Fault> {
-    let mut world = World::new(rt.alloc(), 512, LIMIT)?;
-    assert_eq!(rt; make(&mut world, &MERGED[..19]), Ok(()));
-    assert_eq!(rt; world.place(2, 1), Some(266));
-    assert_eq!(rt; world.owner(266), Some(Owner::Nobody));
-    assert_eq!(rt; world.state(266), Some(State::Merged));
-    assert_eq!(rt; world.total(266), Some(1));
-    assert_eq!(rt; make(&mut world, &MERGED[19..]), Ok(()));
-    assert_eq!(rt;
-        world.ledgers(),
-        Ledger {
-            allocs: 1,
-            frees: 1
-        }
-    );
-    Ok(())
-}
-
-#[test]
 fn an_asked_reference_goes_through_the_merge_queue(rt: HostRuntime) -> Result<(), Fault> {
     let mut world = World::new(rt.alloc(), 512, LIMIT)?;
     assert_eq!(rt; make(&mut world, &ASKED[..16]), Ok(()));
@@ -324,23 +195,6 @@ fn an_asked_reference_goes_through_the_merge_queue(rt: HostRuntime) -> Result<()
     assert_eq!(rt; world.popped(1, 266), false);
     assert_eq!(rt; world.state(266), Some(State::Merged));
     assert_eq!(rt; world.total(266), Some(1));
-    Ok(())
-}
-
-#[test]
-fn an_object_of_a_thread_that_left_is_adopted(rt: HostRuntime) -> Result<(), Fault> {
-    let mut world = World::new(rt.alloc(), 512, LIMIT)?;
-    assert_eq!(rt; make(&mut world, &ADOPTED[..15]), Ok(()));
-    assert_eq!(rt; world.status(1), Some(Status::Closing));
-    assert_eq!(rt; make(&mut world, &ADOPTED[15..]), Ok(()));
-    assert_eq!(rt; world.status(1), Some(Status::Gathered));
-    assert_eq!(rt;
-        world.ledgers(),
-        Ledger {
-            allocs: 1,
-            frees: 1
-        }
-    );
     Ok(())
 }
 
