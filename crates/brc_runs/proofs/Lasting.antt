@@ -146,7 +146,7 @@ births_last t c p x h e reached ok others bears =
       words = same.0 ∙ bears.words;
     }
 
-live_owner : (o : Owner) → lives o ≡ true → o ≢ owners.Free
+pub live_owner : (o : Owner) → lives o ≡ true → o ≢ owners.Free
 live_owner owners.Nobody live e = cc
 live_owner (owners.Thread t) live e = cc
 live_owner (owners.Claimed t) live e = true≢false (sym live)
@@ -282,7 +282,7 @@ locked_mutex h t c sound named =
     (lock.1.thread, ap (λ i. (cell_at h i).mutex) (sym same) ∙ lock.2, held_by_place h t at.0 c at.2)
 
 -- what is held lives, and so do immortals
-held_live : (h : Heap) (c : ℕ) → IsSound h → 1 ≤ held h c → lives (cell_at h c).owner ≡ true
+pub held_live : (h : Heap) (c : ℕ) → IsSound h → 1 ≤ held h c → lives (cell_at h c).owner ≡ true
 held_live h c sound some = elim (cases_lt c 266) [
   | inl low ↦ ap lives (sound.immortals c low).owner
   | inr mortal ↦ held_owner h c sound mortal some

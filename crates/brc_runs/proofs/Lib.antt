@@ -2,6 +2,7 @@ pub mod Reasons
 pub mod Lasting
 pub mod Telling
 pub mod Standing
+pub mod Progress
 pub mod Reached
 pub mod Sizes
 pub mod Changes

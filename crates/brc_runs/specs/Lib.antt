@@ -5,4 +5,5 @@ pub mod Runs
 pub mod Holding
 pub mod Sound
 pub mod Staying
+pub mod Progress
 pub mod Items

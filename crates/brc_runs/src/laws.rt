@@ -3,15 +3,20 @@
 //!
 //! What lasts over one event of another thread's lasts over any number of them: `proofs/Standing.antt`, `lasts_over`.
 
-ghost use Rattle.std.specs.Prelude.{◌≡◌, ◌≢◌, ◌<◌, ◌≤◌, ◌^◌, ℕ, ℤ, pos, negsuc, ◌≤ℤ◌, ◌<ℤ◌, List, length, Some, true, sum_by};
+ghost use Rattle.std.specs.Prelude.{[], ◌≡◌, ◌≢◌, ◌<◌, ◌≤◌, ◌^◌, ℕ, ℤ, pos, negsuc, ◌≤ℤ◌, ◌<ℤ◌, List, length, Some, true, sum_by};
 ghost use Rattle.brc_words.specs.declared.kind.Kind.{Kind as kind};
 ghost use Rattle.brc_runs.specs.declared.cell.Cell.{Cell as cell};
 ghost use Rattle.brc_runs.specs.declared.row.Phase.{Phase as phase};
+ghost use Rattle.brc_runs.specs.declared.row.Phase.TheVariants as phases;
 ghost use Rattle.brc_runs.specs.declared.row.Hand.TheVariants as hands;
+ghost use Rattle.brc_runs.specs.declared.event.Dropped.{Dropped as dropped};
+ghost use Rattle.brc_runs.specs.declared.event.Step.TheVariants as steps;
 ghost use Rattle.brc_runs.specs.declared.event.Event.{Event as event};
 ghost use Rattle.brc_runs.specs.Lists.{bit_of, is_marked};
-ghost use Rattle.brc_runs.specs.Heap.{Heap, opening, cell_at, entries_at, row_at, popped_at, work_at, queue_at, is_gathered, is_registered, AreOptions};
-ghost use Rattle.brc_runs.specs.Steps.{enabled, after, target_at, takes_block};
+ghost use Rattle.brc_runs.specs.Heap.{Heap, opening, cell_at, entries_at, row_at, frame_at, popped_at, work_at, queue_at, is_gathered, is_registered, AreOptions};
+ghost use Rattle.brc_words.specs.Kinds.{is_mortal};
+ghost use Rattle.brc_runs.specs.Progress.{Stands, IsAtRest, next_step, release_step, popped_step};
+ghost use Rattle.brc_runs.specs.Steps.{dropped_cell, is_vacant, enabled, after, target_at, takes_block};
 ghost use Rattle.brc_runs.specs.Runs.{IsRun, IsReached};
 ghost use Rattle.brc_runs.specs.Holding.{Headline, Histories, MakesMoves, map_of, moves_by};
 ghost use Rattle.brc_runs.specs.Sound.{IsSound};
@@ -115,4 +120,28 @@ pub fn own_items_tell_the_part()
         → AreItems (opening cells limit) items
         → is_registered (world_of_items (opening cells limit) items) t ≡ true
         → IsPart (world_of_items (opening cells limit) items) t (part_of cells (own t items)) }
+{}
+
+/// No thread is stuck by a condition. Whatever is in its hand it can go on with; at rest it can give up every place and
+/// every last entry of a dead block, deal with every popped entry, and give back every block without entries.
+pub fn no_thread_is_stuck()
+    ensures hands { (h : Heap) (t c : ℕ) (p : phase) → IsReached h → Stands h t
+        → (row_at h t).hand ≡ hands.Busy p c → p ≢ phases.Ready
+        → enabled h (record { thread = t; step = next_step p c (cell_at h c) }) ≡ true }
+    ensures births { (h : Heap) (t c k : ℕ) (of : kind) → IsReached h → Stands h t
+        → (row_at h t).hand ≡ hands.Busy phases.Ready c → is_mortal of ≡ true
+        → is_vacant (frame_at h t) k ≡ true
+        → enabled h (record { thread = t; step = steps.Birth c of k }) ≡ true }
+    ensures references { (h : Heap) (t c : ℕ) (drop : dropped) → IsReached h → IsAtRest h t
+        → dropped_cell (frame_at h t) (work_at h t) (entries_at h) drop ≡ Some c
+        → enabled h (record {
+          thread = t;
+          step = release_step t (row_at h t).stage c (cell_at h c) drop;
+        }) ≡ true }
+    ensures popped { (h : Heap) (t c : ℕ) → IsReached h → IsAtRest h t
+        → bit_of (popped_at h t) c ≡ 1
+        → enabled h (record { thread = t; step = popped_step c (cell_at h c) }) ≡ true }
+    ensures blocks { (h : Heap) (t c : ℕ) → IsReached h → IsAtRest h t
+        → is_marked (work_at h t) c ≡ true → entries_at h c ≡ []
+        → enabled h (record { thread = t; step = steps.Free c }) ≡ true }
 {}
