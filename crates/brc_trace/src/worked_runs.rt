@@ -237,3 +237,27 @@ fn counts_below_zero(rt: HostRuntime) -> Result<(), Fail> {
         "world 512 4294967294\nthread 1 active\nframe 1 2 265\nthread 2 active\nframe 2 0 265\nthread 3 active\nframe 3 0 265\nledger 1 1 0\n",
     )
 }
+
+/// Two more lists of thread 1: 267 is put into the first, and 268 takes its place there.
+const EXCHANGED: &str =
+    "1 claim 267\n1 local 267\n1 shared 267\n1 born 267 list 1\n1 claim 268\n1 local 268\n1 shared 268\n1 born 268 list 2\n1 lock 0\n1 unlock put 1\n1 lock 0\n1 unlock swap 0 2\n";
+
+/// Thread 1 puts 267 into the globals; thread 2 counts it up on the shared word and down again.
+const COUNTED_BY_ANOTHER: &str =
+    "1 up i265 3\n1 lock 3\n1 unlock put 2\n2 up i265 0\n2 lock 0\n2 shup e0 1\n2 unlock keep\n2 shdown f1\n";
+
+#[test]
+fn a_dead_list_lets_its_entries_go(rt: HostRuntime) -> Result<(), Fail> {
+    leads_to(
+        &rt,
+        "the list that is left has one reference, in the globals",
+        &[
+            BORN,
+            EXCHANGED,
+            COUNTED_BY_ANOTHER,
+            "1 down f0\n1 see 266\n1 down w266\n1 see 268\n1 free 268\n1 free 266\n",
+        ],
+        true,
+        "world 512 4294967294\nthread 1 active\nframe 1 3 265\nthread 2 active\nframe 2 0 265\nentry 265 0 267\nobject 267 list 1 1 0 default 1\nledger 3 2 1\n",
+    )
+}

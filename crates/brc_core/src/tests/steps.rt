@@ -1,7 +1,7 @@
-//! Steps of shared objects, and refused growths. More whole lives are replayed by `brc_trace`, as texts.
+//! Holders of an asked object, and refused growths. Whole lives are replayed by `brc_trace`, as texts.
 
 use super::LIMIT;
-use crate::{Change, Dropped, Event, LastDropped, Ledger, Source, Step, StepFault, World};
+use crate::{Change, Dropped, Event, LastDropped, Source, Step, StepFault, World};
 use brc_model::Holder;
 use brc_words::{Fault, Kind, State};
 use linked_list_allocator::LocalHeap;
@@ -55,81 +55,6 @@ const ASKED: [(u32, Step); 21] = [
     (1, Step::Untie(266)),
     (1, Step::MergeAdd(266)),
     (1, Step::LastDown(LastDropped::Popped(266))),
-];
-
-/// Entries are exchanged, taken over by another thread, and let go by a dead list.
-const EXCHANGED: [(u32, Step); 32] = [
-    (0, Step::Register(1)),
-    (0, Step::Register(2)),
-    (1, Step::Claim(266)),
-    (1, Step::InitLocal(266)),
-    (1, Step::InitShared(266)),
-    (
-        1,
-        Step::Birth {
-            cell: 266,
-            kind: Kind::List,
-            place: 0,
-        },
-    ),
-    (1, Step::Claim(267)),
-    (1, Step::InitLocal(267)),
-    (1, Step::InitShared(267)),
-    (
-        1,
-        Step::Birth {
-            cell: 267,
-            kind: Kind::List,
-            place: 1,
-        },
-    ),
-    (1, Step::Claim(268)),
-    (1, Step::InitLocal(268)),
-    (1, Step::InitShared(268)),
-    (
-        1,
-        Step::Birth {
-            cell: 268,
-            kind: Kind::List,
-            place: 2,
-        },
-    ),
-    (1, Step::Lock(0)),
-    (1, Step::Unlock(Change::Put(1))),
-    (1, Step::Lock(0)),
-    (1, Step::Unlock(Change::Swap { index: 0, place: 2 })),
-    (
-        1,
-        Step::LocalUp {
-            source: Source::Immortal(265),
-            place: 3,
-        },
-    ),
-    (1, Step::Lock(3)),
-    (1, Step::Unlock(Change::Put(2))),
-    (
-        2,
-        Step::LocalUp {
-            source: Source::Immortal(265),
-            place: 0,
-        },
-    ),
-    (2, Step::Lock(0)),
-    (
-        2,
-        Step::SharedUp {
-            source: Source::Entry(0),
-            place: 1,
-        },
-    ),
-    (2, Step::Unlock(Change::Keep)),
-    (2, Step::SharedDown(Dropped::Frame(1))),
-    (1, Step::LocalDown(Dropped::Frame(0))),
-    (1, Step::SeeZero(266)),
-    (1, Step::LocalDown(Dropped::Work(266))),
-    (1, Step::SeeZero(268)),
-    (1, Step::Free(268)),
-    (1, Step::Free(266)),
 ];
 
 /// A list is locked, for another to be put into it.
@@ -195,26 +120,6 @@ fn an_asked_reference_goes_through_the_merge_queue(rt: HostRuntime) -> Result<()
     assert_eq!(rt; world.popped(1, 266), false);
     assert_eq!(rt; world.state(266), Some(State::Merged));
     assert_eq!(rt; world.total(266), Some(1));
-    Ok(())
-}
-
-#[test]
-fn a_dead_list_lets_its_entries_go(rt: HostRuntime) -> Result<(), Fault> {
-    let mut world = World::new(rt.alloc(), 512, LIMIT)?;
-    assert_eq!(rt; make(&mut world, &EXCHANGED[..18]), Ok(()));
-    assert_eq!(rt; world.entry(266, 0), Some(268));
-    assert_eq!(rt; world.place(1, 2), Some(267));
-    assert_eq!(rt; make(&mut world, &EXCHANGED[18..26]), Ok(()));
-    assert_eq!(rt; world.place(2, 1), None);
-    assert_eq!(rt; world.count(267), Some(0));
-    assert_eq!(rt; make(&mut world, &EXCHANGED[26..]), Ok(()));
-    assert_eq!(rt;
-        world.ledgers(),
-        Ledger {
-            allocs: 3,
-            frees: 2
-        }
-    );
     Ok(())
 }
 
