@@ -7,7 +7,7 @@ use Rattle.brc_runs.specs.declared.event.Step.{Step}
 use Rattle.brc_runs.specs.declared.event.Step.TheVariants.{Birth, LocalUp, Free, SharedUp, LastDown, Enqueue, Close, Nudge, Unlock}
 use Rattle.brc_runs.specs.Lists.{filled, with_bit, without_bit}
 use Rattle.brc_runs.specs.Heap.{Heap, cell_at, entries_at, row_at, frame_at}
-use Rattle.brc_runs.specs.Steps.{cell_after, row_after, frame_without, entries_without, gone, takes_block, is_shut, frame_changed, entries_changed, with_taken, without_taken}
+use Rattle.brc_runs.specs.Steps.{cell_after, row_after, frame_without, entries_without, gone, takes_block, is_shut, frame_changed, entries_changed, with_drained, without_drained}
 
 -- a shared count with room for one more, one less, and any local count
 abbrev pub CountFits : ℤ → Type 0
@@ -77,11 +77,11 @@ is_free_step (Free c) = true
 is_free_step _ = false
 
 -- a worklist, where the cell goes or comes
-abbrev pub work_with : Bool → Bool → ℕ → List Bool → List Bool
-work_with frees takes c work = if frees then slice_set work c false else (if takes then slice_set work c true else work)
+abbrev pub worklist_with : Bool → Bool → ℕ → List Bool → List Bool
+worklist_with frees takes c worklist = if frees then slice_set worklist c false else (if takes then slice_set worklist c true else worklist)
 
-abbrev pub works_with : ℕ → Bool → Bool → ℕ → List (List Bool) → List (List Bool)
-works_with t frees takes c works = slice_set works t (work_with frees takes c (slice_index_or works t []))
+abbrev pub worklists_with : ℕ → Bool → Bool → ℕ → List (List Bool) → List (List Bool)
+worklists_with t frees takes c worklists = slice_set worklists t (worklist_with frees takes c (slice_index_or worklists t []))
 
 -- the world after a step that doesn't unlock, by these parts
 abbrev pub stepped_by_parts : Heap → ℕ → Step → ℕ → Heap
@@ -91,8 +91,8 @@ stepped_by_parts h t s c = record h {
   rows = slice_set h.rows t (row_after s c (cell_at h c) (is_shut h c) (row_at h t));
   frames = frames_with t (filled_place s) (gone s (cell_at h c)) c h.frames;
   popped = popped_without t (settled_cell s) h.popped;
-  works = works_with t (is_free_step s) (takes_block s (cell_at h c)) c h.works;
-  queues = queues_with (is_enqueue s) (is_shut h c) (cell_at h c).bore c h.queues;
+  worklists = worklists_with t (is_free_step s) (takes_block s (cell_at h c)) c h.worklists;
+  queues = queues_with (is_enqueue s) (is_shut h c) (cell_at h c).bearer c h.queues;
 }
 
 -- ---- an unlock
@@ -113,7 +113,7 @@ named_word (Nudge u k) = k
 named_word _ = 0
 
 abbrev pub popped_with : ℕ → Option ℕ → List (List ℕ) → List (List ℕ) → List (List ℕ)
-popped_with t taken queues popped = slice_set popped t (with_taken taken (slice_index_or queues t []) (slice_index_or popped t []))
+popped_with t taken queues popped = slice_set popped t (with_drained taken (slice_index_or queues t []) (slice_index_or popped t []))
 
 abbrev pub queues_without : ℕ → Option ℕ → List (List ℕ) → List (List ℕ)
-queues_without t taken queues = slice_set queues t (without_taken taken (slice_index_or queues t []))
+queues_without t taken queues = slice_set queues t (without_drained taken (slice_index_or queues t []))

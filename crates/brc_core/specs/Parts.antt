@@ -6,7 +6,7 @@ use Rattle.brc_runs.specs.declared.event.Dropped.{Dropped}
 use Rattle.brc_runs.specs.declared.event.LastDropped.{LastDropped}
 use Rattle.brc_runs.specs.declared.event.Step.{Step}
 use Rattle.brc_runs.specs.Lists.{is_bare, is_unmarked}
-use Rattle.brc_runs.specs.Heap.{Heap, entries_at, row_at, frame_at, popped_at, work_at, words_for}
+use Rattle.brc_runs.specs.Heap.{Heap, entries_at, row_at, frame_at, popped_at, worklist_at, words_for}
 use Rattle.brc_runs.specs.Steps.{locked_cell, source_cell, dropped_cell, last_cell, locked_entries, change_ok, closes_next, may_begin_closing, target_ok, target_at}
 
 -- the cell that the thread has locked, and its entries
@@ -22,16 +22,16 @@ source_at h t = source_cell (row_at h t) (frame_at h t) (entries_at h)
 
 -- the cell whose reference the thread gives up
 abbrev pub dropped_at : Heap → ℕ → Dropped → Option ℕ
-dropped_at h t = dropped_cell (frame_at h t) (work_at h t) (entries_at h)
+dropped_at h t = dropped_cell (frame_at h t) (worklist_at h t) (entries_at h)
 
 abbrev pub last_at : Heap → ℕ → LastDropped → Option ℕ
-last_at h t = last_cell (row_at h t).hand (frame_at h t) (work_at h t) (entries_at h)
+last_at h t = last_cell (row_at h t).hand (frame_at h t) (worklist_at h t) (entries_at h)
 
 -- whether the thread may close the queue word
 abbrev pub close_ok_at : Heap → ℕ → ℕ → Bool
 close_ok_at h t k =
     nat_lt k (words_for (length h.cells)) && closes_next (row_at h t).stage k
-    && is_bare (frame_at h t) && is_unmarked (work_at h t) && may_begin_closing (popped_at h t) k
+    && is_bare (frame_at h t) && is_unmarked (worklist_at h t) && may_begin_closing (popped_at h t) k
 
 -- whether the change fits the thread's frame and the entries of the object that it has locked
 abbrev pub change_ok_at : Heap → ℕ → Change → Bool

@@ -1,7 +1,7 @@
 //! What a thread's step on one cell does to each of the tables.
 
 ghost use Rattle.std.specs.Prelude.{◌≡◌, ◌+◌, ◌<◌, ◌^◌, true, OnOk, OnErr, slice_set};
-ghost use Rattle.brc_core.specs.Changes.{CountFits, works_with, stepped_by_parts};
+ghost use Rattle.brc_core.specs.Changes.{CountFits, worklists_with, stepped_by_parts};
 ghost use Rattle.brc_core.specs.Memory.{needs_memory};
 ghost use Rattle.brc_runs.specs.Heap.{cell_at, row_at};
 ghost use Rattle.brc_runs.specs.Steps.{cell_ok, is_shut};
@@ -39,15 +39,15 @@ pub(crate) fn set_row<A: Allocator>(rows: &mut Vec<Row, A>, thread: u32, new: Ro
 
 /// A block goes off the thread's worklist, or is taken onto it.
 fn change_marks<A: Allocator>(
-    works: &mut Vec<Marks<A>, A>,
+    worklists: &mut Vec<Marks<A>, A>,
     thread: u32,
     frees: bool,
     takes: bool,
     cell: u32,
 )
-    ensures { works.new.items ≡ works_with thread frees takes cell works.old.items }
+    ensures { worklists.new.items ≡ worklists_with thread frees takes cell worklists.old.items }
 {
-    if let Some(marks) = works.get_mut(thread as usize) {
+    if let Some(marks) = worklists.get_mut(thread as usize) {
         if frees {
             marks.set(cell, false);
         } else if takes {
@@ -61,7 +61,7 @@ impl<A: Allocator + Copy> Tables<A> {
     fn is_shut(&self, cell: u32) -> bool
         ensures { result ≡ is_shut self.now cell }
     {
-        is_closed(self.row(self.cell(cell).bore).stage, cell / 32)
+        is_closed(self.row(self.cell(cell).bearer).stage, cell / 32)
     }
 
     /// What a thread's step other than an unlock does, where its cell is this one.
@@ -95,8 +95,8 @@ impl<A: Allocator + Copy> Tables<A> {
         set_row(&mut self.rows, thread, row_now);
         change_entries(&mut self.entries, born_cell(step), out);
         settle(&mut self.popped, thread, settled_cell(step));
-        change_marks(&mut self.works, thread, is_free_step(step), takes, cell);
-        enqueue(&mut self.queues, is_enqueue(step), shut, found.bore, cell);
+        change_marks(&mut self.worklists, thread, is_free_step(step), takes, cell);
+        enqueue(&mut self.queues, is_enqueue(step), shut, found.bearer, cell);
         Ok(())
     }
 }

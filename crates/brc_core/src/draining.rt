@@ -6,7 +6,7 @@ ghost use Rattle.brc_core.specs.Changes.{named_word};
 ghost use Rattle.brc_runs.specs.Steps.{kept_cells};
 
 use crate::changes::set_row;
-use crate::queues::{change_notices, empty_taken, pop_taken, taken_word};
+use crate::queues::{change_notify_words, empty_drained, pop_drained, drained_word};
 use crate::row_effects::stage_after;
 use crate::tables::Tables;
 use brc_runs::{Row, Step, words_for};
@@ -21,10 +21,10 @@ impl<A: Allocator + Copy> Tables<A> {
     {
         let row = self.row(thread);
         let stage = stage_after(words_for(self.cells.len()), step, row.stage);
-        let taken = taken_word(step);
+        let taken = drained_word(step);
         set_row(&mut self.rows, thread, Row { stage, ..row });
-        pop_taken(&mut self.popped, &self.queues, thread, taken);
-        empty_taken(&mut self.queues, thread, taken);
-        change_notices(&mut self.notices, thread, step);
+        pop_drained(&mut self.popped, &self.queues, thread, taken);
+        empty_drained(&mut self.queues, thread, taken);
+        change_notify_words(&mut self.notify_words, thread, step);
     }
 }

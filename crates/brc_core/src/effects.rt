@@ -35,7 +35,7 @@ pub(crate) fn cell_after(
         },
         Step::Birth { kind, .. } => Cell {
             owner: Owner::Thread(thread),
-            bore: thread,
+            bearer: thread,
             kind,
             ..found
         },

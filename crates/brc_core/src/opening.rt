@@ -57,12 +57,12 @@ impl<A: Allocator + Copy> Tables<A> {
         frames.push(Frame::new(alloc))?;
         let mut popped = Vec::new(alloc);
         popped.push(Words::zeros(alloc, 0)?)?;
-        let mut works = Vec::new(alloc);
-        works.push(Marks::unset(alloc, 0)?)?;
+        let mut worklists = Vec::new(alloc);
+        worklists.push(Marks::unset(alloc, 0)?)?;
         let mut queues = Vec::new(alloc);
         queues.push(Words::zeros(alloc, 0)?)?;
-        let mut notices = Vec::new(alloc);
-        notices.push(0)?;
+        let mut notify_words = Vec::new(alloc);
+        notify_words.push(0)?;
         let mut gathered = Vec::new(alloc);
         gathered.push(false)?;
         Ok(Tables {
@@ -73,9 +73,9 @@ impl<A: Allocator + Copy> Tables<A> {
             rows,
             frames,
             popped,
-            works,
+            worklists,
             queues,
-            notices,
+            notify_words,
             gathered,
         })
     }

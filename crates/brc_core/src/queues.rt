@@ -2,7 +2,7 @@
 
 ghost use Rattle.std.specs.Prelude.{◌≡◌, ◌<◌};
 ghost use Rattle.brc_core.specs.Changes.{popped_without, queues_with, popped_with, queues_without, named_word};
-ghost use Rattle.brc_runs.specs.Steps.{taken_word, notices_after};
+ghost use Rattle.brc_runs.specs.Steps.{drained_word, notify_words_after};
 
 use crate::words::{Words, only_bit};
 use brc_runs::Step;
@@ -38,8 +38,8 @@ pub(crate) fn enqueue<A: Allocator>(
 }
 
 /// The queue word whose bits are taken.
-pub(crate) fn taken_word(step: Step) -> Option<u32>
-    ensures { result ≡ taken_word step }
+pub(crate) fn drained_word(step: Step) -> Option<u32>
+    ensures { result ≡ drained_word step }
 {
     match step {
         Step::Drain(word) => Some(word),
@@ -49,7 +49,7 @@ pub(crate) fn taken_word(step: Step) -> Option<u32>
 }
 
 /// The bits of a word of the thread's merge queue are popped besides.
-pub(crate) fn pop_taken<A: Allocator>(
+pub(crate) fn pop_drained<A: Allocator>(
     popped: &mut Vec<Words<A>, A>,
     queues: &Vec<Words<A>, A>,
     thread: u32,
@@ -70,7 +70,7 @@ pub(crate) fn pop_taken<A: Allocator>(
 }
 
 /// A word of the thread's merge queue becomes empty.
-pub(crate) fn empty_taken<A: Allocator>(
+pub(crate) fn empty_drained<A: Allocator>(
     queues: &mut Vec<Words<A>, A>,
     thread: u32,
     taken: Option<u32>,
@@ -87,20 +87,20 @@ pub(crate) fn empty_taken<A: Allocator>(
 
 /// A thread is told of a queue word, or takes what it was told. A notify word has a bit for 32
 /// queue words.
-pub(crate) fn change_notices<A: Allocator>(notices: &mut Vec<u64, A>, thread: u32, step: Step)
+pub(crate) fn change_notify_words<A: Allocator>(notify_words: &mut Vec<u64, A>, thread: u32, step: Step)
     requires { named_word step < 2048 }
 
-    ensures { notices.new.items ≡ notices_after thread step notices.old.items }
+    ensures { notify_words.new.items ≡ notify_words_after thread step notify_words.old.items }
 {
     match step {
         Step::Nudge { thread: told, word } => {
-            if let Some(notice) = notices.get_mut(told as usize) {
-                *notice |= only_bit(word / 32);
+            if let Some(notify_word) = notify_words.get_mut(told as usize) {
+                *notify_word |= only_bit(word / 32);
             }
         }
         Step::Wake => {
-            if let Some(notice) = notices.get_mut(thread as usize) {
-                *notice = 0;
+            if let Some(notify_word) = notify_words.get_mut(thread as usize) {
+                *notify_word = 0;
             }
         }
         _ => {}

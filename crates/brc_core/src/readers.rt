@@ -3,7 +3,7 @@
 ghost use Rattle.std.specs.Prelude.{◌≡◌, ◌-◌, ◌==◌, nat_lt, length, slice_get};
 ghost use Rattle.brc_core.specs.Readings.{only_if, status_at, has_object, counts_locally};
 ghost use Rattle.brc_runs.specs.Lists.{bit_of, place_at, is_marked};
-ghost use Rattle.brc_runs.specs.Heap.{cell_at, entries_at, row_at, frame_at, popped_at, work_at, queue_at, is_registered};
+ghost use Rattle.brc_runs.specs.Heap.{cell_at, entries_at, row_at, frame_at, popped_at, worklist_at, queue_at, is_registered};
 ghost use Rattle.brc_runs.specs.Holding.{lives};
 
 use crate::world::World;
@@ -128,7 +128,7 @@ impl<A: Allocator + Copy> World<A> {
 
     /// Whether the cell is on the thread's worklist.
     pub fn on_worklist(&self, thread: u32, cell: u32) -> bool
-        ensures { result ≡ is_marked (work_at self.now thread) cell }
+        ensures { result ≡ is_marked (worklist_at self.now thread) cell }
     {
         self.tables.is_on_worklist(thread, cell)
     }

@@ -29,22 +29,22 @@ impl<A: Allocator + Copy> Tables<A> {
         let cells = self.cells.len();
         let popped = Words::zeros(self.alloc, words_for(cells))?;
         let queue = Words::zeros(self.alloc, words_for(cells))?;
-        let work = Marks::unset(self.alloc, cells)?;
+        let worklist = Marks::unset(self.alloc, cells)?;
         // All growth comes before the first item, so that after a refusal no list is longer than
         // another.
         self.rows.reserve(1)?;
         self.frames.reserve(1)?;
         self.popped.reserve(1)?;
-        self.works.reserve(1)?;
+        self.worklists.reserve(1)?;
         self.queues.reserve(1)?;
-        self.notices.reserve(1)?;
+        self.notify_words.reserve(1)?;
         self.gathered.reserve(1)?;
         put_last(&mut self.rows, new_row());
         put_last(&mut self.frames, Frame::new(self.alloc));
         put_last(&mut self.popped, popped);
-        put_last(&mut self.works, work);
+        put_last(&mut self.worklists, worklist);
         put_last(&mut self.queues, queue);
-        put_last(&mut self.notices, 0);
+        put_last(&mut self.notify_words, 0);
         put_last(&mut self.gathered, false);
         Ok(())
     }

@@ -2,7 +2,7 @@
 
 ghost use Rattle.std.specs.Prelude.{◌≡◌, ◌==◌, length, slice_get, slice_index_or, Some, None};
 ghost use Rattle.brc_runs.specs.Lists.{bit_of, place_at, is_marked, last_of, is_bare, is_unmarked, is_blank};
-ghost use Rattle.brc_runs.specs.Heap.{cell_at, entries_at, row_at, frame_at, popped_at, work_at, queue_at, is_gathered, is_registered, no_cell, no_row};
+ghost use Rattle.brc_runs.specs.Heap.{cell_at, entries_at, row_at, frame_at, popped_at, worklist_at, queue_at, is_gathered, is_registered, no_cell, no_row};
 ghost use Rattle.brc_runs.specs.Steps.{is_empty};
 
 use crate::entries::Entries;
@@ -23,9 +23,9 @@ pub(crate) struct Tables<A: Allocator + Copy> {
     pub(crate) rows: Vec<Row, A>,
     pub(crate) frames: Vec<Frame<A>, A>,
     pub(crate) popped: Vec<Words<A>, A>,
-    pub(crate) works: Vec<Marks<A>, A>,
+    pub(crate) worklists: Vec<Marks<A>, A>,
     pub(crate) queues: Vec<Words<A>, A>,
-    pub(crate) notices: Vec<u64, A>,
+    pub(crate) notify_words: Vec<u64, A>,
     pub(crate) gathered: Vec<bool, A>,
 }
 
@@ -41,9 +41,9 @@ impl<A: Allocator + Copy> Model for Tables<A> {
       rows = t.rows.items;
       frames = t.frames.items;
       popped = t.popped.items;
-      works = t.works.items;
+      worklists = t.worklists.items;
       queues = t.queues.items;
-      notices = t.notices.items;
+      notify_words = t.notify_words.items;
       gathered = t.gathered.items;
     } };
 }
@@ -99,9 +99,9 @@ impl<A: Allocator + Copy> Tables<A> {
 
     /// Whether the cell is on the thread's worklist.
     pub(crate) fn is_on_worklist(&self, thread: u32, cell: u32) -> bool
-        ensures { result ≡ is_marked (work_at self.now thread) cell }
+        ensures { result ≡ is_marked (worklist_at self.now thread) cell }
     {
-        match self.works.get(thread as usize) {
+        match self.worklists.get(thread as usize) {
             Some(marks) => marks.has(cell),
             None => false,
         }
@@ -119,9 +119,9 @@ impl<A: Allocator + Copy> Tables<A> {
 
     /// Whether the thread's worklist is empty.
     pub(crate) fn is_unmarked(&self, thread: u32) -> bool
-        ensures { result ≡ is_unmarked (work_at self.now thread) }
+        ensures { result ≡ is_unmarked (worklist_at self.now thread) }
     {
-        match self.works.get(thread as usize) {
+        match self.worklists.get(thread as usize) {
             Some(marks) => marks.is_unmarked(),
             None => true,
         }

@@ -22,10 +22,10 @@ use Rattle.brc_runs.specs.declared.row.Hand.{Hand}
 use Rattle.brc_runs.specs.declared.row.Hand.TheVariants as hands
 use Rattle.brc_runs.specs.declared.row.Phase.TheVariants as phases
 use Rattle.brc_runs.specs.Lists.{one, bit_of, is_marked, place_at, filled, last_of}
-use Rattle.brc_runs.specs.Heap.{Heap, cell_at, entries_at, row_at, frame_at, popped_at, work_at, queue_at, no_cell, no_row, new_row, is_immortal, words_for}
-use Rattle.brc_runs.specs.Steps.{enabled, after, after_target, stepped, kept_cells, registered, root_after, thread_may, root_may, target_at, source_cell, dropped_cell, locked_cell, entry_of, frame_without, entries_without, is_default, hand_ok, is_free_hand, is_at, untied_hand, added_hand, taken_word, with_taken, without_taken}
+use Rattle.brc_runs.specs.Heap.{Heap, cell_at, entries_at, row_at, frame_at, popped_at, worklist_at, queue_at, no_cell, no_row, new_row, is_immortal, words_for}
+use Rattle.brc_runs.specs.Steps.{enabled, after, after_target, stepped, kept_cells, registered, root_after, thread_may, root_may, target_at, source_cell, dropped_cell, locked_cell, entry_of, frame_without, entries_without, is_default, hand_ok, is_free_hand, is_at, untied_hand, added_hand, drained_word, with_drained, without_drained}
 use Rattle.brc_runs.specs.Holding.{lives, lives_at, carries, map_of, moves_of, of_mortal, removal, asking, MakesMoves}
-use Rattle.brc_runs.specs.Sound.{IsSound, held, HandFits, WorkFits, Births}
+use Rattle.brc_runs.specs.Sound.{IsSound, held, HandFits, WorklistFits, Births}
 use Rattle.brc_runs.proofs.Naming.{no_bit, Unheld, unheld, dead_unheld, free_hand, busy_hand, busy_carrier}
 use Rattle.brc_runs.proofs.Bitwise.{without_bit_here, without_bit_else}
 use Rattle.brc_runs.proofs.Asking.{May, may_parts, on_cell, Vacant, vacant}
@@ -93,7 +93,7 @@ free_moves A h t c sound ok =
     let may : May h t s = may_parts h t s ok in
     let inside : c < length h.cells = (on_cell h t s c may.on_target).inside in
     let parts = and_parts _ _ may.own in
-    let fits : WorkFits t c (cell_at h c) = sound.works t c parts.0 in (
+    let fits : WorklistFits t c (cell_at h c) = sound.worklists t c parts.0 in (
       record {
         live = alive_lives h c fits.mortal fits.lives;
         unheld = is_unheld h c (unheld h c (marked_unheld h t c sound parts.0));
@@ -160,13 +160,13 @@ record Worked (h : Heap) (t d c : ℕ) : Type 0 where
   last : last_of (entries_at h d) ≡ Some c
   other : d ≢ c
 
-worked : (h : Heap) (t d c : ℕ) → IsSound h → (if is_marked (work_at h t) d then last_of (entries_at h d) else None) ≡ Some c → Worked h t d c
-worked h t d c sound named = on_list (is_marked (work_at h t) d) refl named
+worked : (h : Heap) (t d c : ℕ) → IsSound h → (if is_marked (worklist_at h t) d then last_of (entries_at h d) else None) ≡ Some c → Worked h t d c
+worked h t d c sound named = on_list (is_marked (worklist_at h t) d) refl named
   where
-    on_list : (b : Bool) → is_marked (work_at h t) d ≡ b → (if b then last_of (entries_at h d) else None) ≡ Some c → Worked h t d c
+    on_list : (b : Bool) → is_marked (worklist_at h t) d ≡ b → (if b then last_of (entries_at h d) else None) ≡ Some c → Worked h t d c
     on_list false on last = absurd (cc)
     on_list true on last =
-        let fits : WorkFits t d (cell_at h d) = sound.works t d on in
+        let fits : WorklistFits t d (cell_at h d) = sound.worklists t d on in
         let none : held h d ≡ 0 = marked_unheld h t d sound on in
         let some : length (entries_at h d) - 1 < length (entries_at h d) = found_inside (entries_at h d) _ c last in
         record {
@@ -184,15 +184,15 @@ worked h t d c sound named = on_list (is_marked (work_at h t) d) refl named
 -- the last entry may go, whatever else holds other objects
 last_may_go : (h : Heap) (t d c : ℕ) (held : ℕ → Holder → Bool) → Worked h t d c → ((g : Holder) → held d g ≡ false)
     → IsLastOfDead (record (map_of h) { held = held }) c d (length (entries_at h d) - 1)
-last_may_go h t d c held work places = record {
-  live = work.live;
-  unheld = unheld_in h d held work.none places;
-  last = omega (arith, work.some);
-  there = work.last;
+last_may_go h t d c held worklist places = record {
+  live = worklist.live;
+  unheld = unheld_in h d held worklist.none places;
+  last = omega (arith, worklist.some);
+  there = worklist.last;
 }
 
 -- a place or an entry lets the cell go, and nothing else moves
-down_moves : (A : Type 0) (h h' : Heap) (t c : ℕ) (hand : Hand) (drop : Dropped) → IsSound h → dropped_cell (frame_at h t) (work_at h t) (entries_at h) drop ≡ Some c
+down_moves : (A : Type 0) (h h' : Heap) (t c : ℕ) (hand : Hand) (drop : Dropped) → IsSound h → dropped_cell (frame_at h t) (worklist_at h t) (entries_at h) drop ≡ Some c
     → Own h h' t (frame_without (Some drop) (frame_at h t)) (popped_at h t) hand → ((q : ℕ) → carries q hand ≡ carries q (row_at h t).hand) → ((j : ℕ) → queue_at h' j ≡ queue_at h j)
     → ((q : ℕ) → entries_at h' q ≡ get_or (entries_without (Some drop) h.entries) q []) → Lasting h h'
     → MakesMoves {A = A} (map_of h) (removal h t drop (Some c)) (map_of h')
@@ -213,15 +213,15 @@ down_moves A h h' t c hand (dropped.Frame k) sound named own carried queues entr
           )
     ]
 down_moves A h h' t c hand (dropped.Work d) sound named own carried queues entries last =
-    let work : Worked h t d c = worked h t d c sound named in (
-      last_may_go h t d c (map_of h).held work (λ g. no_place h d g work.none),
-      entries_map h h' d _ (map_of h).held work.within last entries
+    let worklist : Worked h t d c = worked h t d c sound named in (
+      last_may_go h t d c (map_of h).held worklist (λ g. no_place h d g worklist.none),
+      entries_map h h' d _ (map_of h).held worklist.within last entries
           (λ q g. sym (elsewhere h h' is_none (own_elsewhere h h' t _ _ _ is_none own (λ i q _ _. refl) (λ q _. refl) (λ q _. carried q) (λ j q _. ap (λ words. bit_of words q) (queues j))) q g refl)),
     )
 
 -- ---- a reference that a release gave up is the hand's
 
-asked_moves : (A : Type 0) (h h' : Heap) (t c : ℕ) (drop : Dropped) → IsSound h → 266 ≤ c → dropped_cell (frame_at h t) (work_at h t) (entries_at h) drop ≡ Some c → (row_at h t).hand ≡ hands.Free
+asked_moves : (A : Type 0) (h h' : Heap) (t c : ℕ) (drop : Dropped) → IsSound h → 266 ≤ c → dropped_cell (frame_at h t) (worklist_at h t) (entries_at h) drop ≡ Some c → (row_at h t).hand ≡ hands.Free
     → Own h h' t (frame_without (Some drop) (frame_at h t)) (popped_at h t) (hands.Busy phases.Asked c) → ((j : ℕ) → queue_at h' j ≡ queue_at h j)
     → ((q : ℕ) → entries_at h' q ≡ get_or (entries_without (Some drop) h.entries) q []) → Lasting h h'
     → MakesMoves {A = A} (map_of h) (asking h t drop c) (map_of h')
@@ -245,19 +245,19 @@ asked_moves A h h' t c (dropped.Frame k) sound mortal named free own queues entr
           (λ q kept. ne_eqb c q (λ e. other_cell c (holders.Hand t) q (or_parts _ _ kept).1 (sym e)) ∙ sym (ap (carries q) free)) (λ j q _. ap (λ words. bit_of words q) (queues j))),
     )
 asked_moves A h h' t c (dropped.Work d) sound mortal named free own queues entries last =
-    let work : Worked h t d c = worked h t d c sound named in
+    let worklist : Worked h t d c = worked h t d c sound named in
     let to : Holder = holders.Hand t c in
-    let alive : lives_at h c ≡ true = held_lives h c sound mortal (held_by_entry h d _ c work.last) in
+    let alive : lives_at h c ≡ true = held_lives h c sound mortal (held_by_entry h d _ c worklist.last) in
     let none_yet : (map_of h).held c to ≡ false = hand_hides h t c c (ap (carries c) free) in (
       record {
-        is_held = (holders.Entry d _, and_from _ _ alive (number_is (slice_get (entries_at h d) _) c work.last));
+        is_held = (holders.Entry d _, and_from _ _ alive (number_is (slice_get (entries_at h d) _) c worklist.last));
         not_yet = and_right (lives_at h c) _ none_yet;
         holder_is_new = refl;
       },
       (
-        last_may_go h t d c (with_holder (map_of h).held c to) work
-            (λ g. or_from _ _ (and_left _ _ (ne_eqb d c work.other)) (no_place h d g work.none)),
-        entries_map h h' d _ (with_holder (map_of h).held c to) work.within last entries
+        last_may_go h t d c (with_holder (map_of h).held c to) worklist
+            (λ g. or_from _ _ (and_left _ _ (ne_eqb d c worklist.other)) (no_place h d g worklist.none)),
+        entries_map h h' d _ (with_holder (map_of h).held c to) worklist.within last entries
             (with_as (map_of h).held (map_of h').held c to (hand_shows h' t c mortal (ap (carries c) own.hand ∙ eq-eqb c c refl))
             (elsewhere h h' (is_this c to) (own_elsewhere h h' t _ _ _ (is_this c to) own (λ i q _ _. refl) (λ q _. refl)
             (λ q kept. ne_eqb c q (λ e. other_cell c (holders.Hand t) q kept (sym e)) ∙ sym (ap (carries q) free)) (λ j q _. ap (λ words. bit_of words q) (queues j))))),
@@ -332,14 +332,14 @@ added_carries q c hand ok = elim (or_cases (is_at phases.Taking c hand) (is_at p
 
 -- ---- steps on no cell that move nothing
 
-still_moves : (h : Heap) (t : ℕ) (s : Step) → IsSound h → May h t s → taken_word s ≡ None → Lasting h (kept_cells h t s) → Same (map_of h) (map_of (kept_cells h t s))
+still_moves : (h : Heap) (t : ℕ) (s : Step) → IsSound h → May h t s → drained_word s ≡ None → Lasting h (kept_cells h t s) → Same (map_of h) (map_of (kept_cells h t s))
 still_moves h t s sound may takes last =
     let h' : Heap = kept_cells h t s in
     same_map h h' last (λ q. refl)
     (own_elsewhere h h' t _ _ _ is_none (kept_own h t s sound may.inside) (λ i q _ _. refl)
-    (λ q _. ap (λ o. bit_of (with_taken o (queue_at h t) (popped_at h t)) q) takes) (λ q _. refl)
-    (λ j q _. read_by (λ n (words : List ℕ). bit_of words q ≡ bit_of (queue_at h n) q) h.queues t (without_taken (taken_word s) (queue_at h t)) []
-    (omega (arith, sound.shaped.queues, may.inside)) (ap (λ o. bit_of (without_taken o (queue_at h t)) q) takes) (λ n _. refl) j))
+    (λ q _. ap (λ o. bit_of (with_drained o (queue_at h t) (popped_at h t)) q) takes) (λ q _. refl)
+    (λ j q _. read_by (λ n (words : List ℕ). bit_of words q ≡ bit_of (queue_at h n) q) h.queues t (without_drained (drained_word s) (queue_at h t)) []
+    (omega (arith, sound.shaped.queues, may.inside)) (ap (λ o. bit_of (without_drained o (queue_at h t)) q) takes) (λ n _. refl) j))
 
 -- ---- each step of a thread
 

@@ -9,7 +9,7 @@ use Rattle.brc_runs.specs.declared.row.Row.{Row}
 use Rattle.brc_runs.specs.declared.row.Hand.TheVariants as hands
 use Rattle.brc_runs.specs.declared.row.Stage.TheVariants as stages
 use Rattle.brc_runs.specs.Lists.{one, entry_times, bit_of, is_marked, place_at}
-use Rattle.brc_runs.specs.Heap.{Heap, cell_at, entries_at, row_at, frame_at, popped_at, work_at, queue_at, is_gathered, no_cell, no_row, opening, opening_cell, opening_cells, immortal, words_for, AreOptions}
+use Rattle.brc_runs.specs.Heap.{Heap, cell_at, entries_at, row_at, frame_at, popped_at, worklist_at, queue_at, is_gathered, no_cell, no_row, opening, opening_cell, opening_cells, immortal, words_for, AreOptions}
 use Rattle.brc_runs.specs.Holding.{lives, live_count}
 use Rattle.brc_runs.specs.Sound.{IsSound, IsShaped, CellFits, ImmortalFits, ThreadFits, in_entries, counted_in, held, gripped, grips_of, asks, asks_least}
 use Rattle.brc_runs.proofs.Naming.{no_bit}
@@ -72,9 +72,9 @@ opening_shape n limit options = record {
   threads = omega arith;
   frames = refl;
   popped = refl;
-  works = refl;
+  worklists = refl;
   queues = refl;
-  notices = refl;
+  notify_words = refl;
   gathered = refl;
   marks = λ t low high. absurd (omega (arith, low, high));
   popped_words = λ t low high. absurd (omega (arith, low, high));
@@ -87,7 +87,7 @@ opening_sound n limit options =
     let row : (t : ℕ) → row_at h t ≡ no_row = lone no_row in
     let frame : (t : ℕ) → frame_at h t ≡ [] = lone [] in
     let popped : (t : ℕ) → popped_at h t ≡ [] = lone [] in
-    let work : (t : ℕ) → work_at h t ≡ [] = lone [] in
+    let worklist : (t : ℕ) → worklist_at h t ≡ [] = lone [] in
     let queue : (t : ℕ) → queue_at h t ≡ [] = lone [] in
     let gathered : (t : ℕ) → is_gathered h t ≡ false = lone false in
     let cell : (q : ℕ) → 266 ≤ q → cell_at h q ≡ no_cell = free_cell n in
@@ -122,9 +122,9 @@ opening_sound n limit options =
         empty = λ _. entries q;
         few = omega (arith, ap (λ (xs : List ℕ). length xs) (entries q));
       });
-      works = λ t q on. absurd (true≢false (sym on ∙ ap (λ marks. is_marked marks q) (work t)));
+      worklists = λ t q on. absurd (true≢false (sym on ∙ ap (λ marks. is_marked marks q) (worklist t)));
       threads = λ t.
-          subst (λ r. ThreadFits (words_for (length (opening_cells n))) r (frame_at h t) (popped_at h t) (work_at h t) (queue_at h t) (is_gathered h t)) (sym (row t)) (record {
+          subst (λ r. ThreadFits (words_for (length (opening_cells n))) r (frame_at h t) (popped_at h t) (worklist_at h t) (queue_at h t) (is_gathered h t)) (sym (row t)) (record {
             inactive_hand = λ _. refl;
             inactive_frame = λ _ k. ap (λ f. place_at f k) (frame t);
             inactive_lock = λ _. refl;

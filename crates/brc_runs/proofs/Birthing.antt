@@ -17,7 +17,7 @@ use Rattle.brc_runs.specs.declared.row.Phase.TheVariants as phases
 use Rattle.brc_runs.specs.declared.row.Stage.{Stage}
 use Rattle.brc_runs.specs.declared.row.Stage.TheVariants as stages
 use Rattle.brc_runs.specs.Lists.{one, entry_times, is_marked, filled}
-use Rattle.brc_runs.specs.Heap.{Heap, cell_at, entries_at, row_at, frame_at, popped_at, work_at}
+use Rattle.brc_runs.specs.Heap.{Heap, cell_at, entries_at, row_at, frame_at, popped_at, worklist_at}
 use Rattle.brc_runs.specs.Steps.{thread_may, is_shut, stepped, cell_after, row_after, stage_ok, lock_ok, may_after_leaving, is_close, needs_lock, is_active, is_closed, is_queued, is_merged}
 use Rattle.brc_runs.specs.Holding.{lives, carries, has_reference, count_of_state}
 use Rattle.brc_runs.specs.Sound.{IsSound, ThreadFits, PhaseFits, Births, HandFits, counted_in, grips_of, grips_by_owner, grips, is_gripping, is_threads, asks_least, in_entries}
@@ -41,11 +41,11 @@ no_lock None s ok plain = refl
 no_lock (Some k) s ok plain = absurd (true≢false (sym ok ∙ plain))
 
 -- what an active thread's own part owes when its row, frame and worklist change
-pub active_fits : (words : ℕ) (row row' : Row) (frame frame' : List (Option ℕ)) (popped : List ℕ) (work work' : List Bool) (queue : List ℕ) (gathered : Bool)
+pub active_fits : (words : ℕ) (row row' : Row) (frame frame' : List (Option ℕ)) (popped : List ℕ) (worklist work' : List Bool) (queue : List ℕ) (gathered : Bool)
     → row.stage ≡ stages.Active → gathered ≡ false → row'.stage ≡ row.stage
     → ((k : ℕ) → row'.locked ≡ Some k → row'.hand ≡ hands.Free) → row'.allocs ≤ 140737488355328 → length frame' ≤ 65536
     → ThreadFits words row' frame' popped work' queue gathered
-active_fits words row row' frame frame' popped work work' queue gathered active here same lock births places =
+active_fits words row row' frame frame' popped worklist work' queue gathered active here same lock births places =
     let now : row'.stage ≡ stages.Active = same ∙ active in
     let no : is_active row'.stage ≡ false → ⊥ = λ h. true≢false (sym (ap is_active now) ∙ h) in
     record {
@@ -87,17 +87,17 @@ pub record Bears (h : Heap) (t c : ℕ) : Type 0 where
   pub dead : lives (cell_at h c).owner ≡ false
   pub hand_else : (q : ℕ) → q ≢ c → (one (grips q (row_at h t).hand) ≡ 0) × (one (carries q (row_at h t).hand) ≡ 0)
   pub hand_here : one (grips c (row_at h t).hand) ≡ grips_of (cell_at h c)
-  pub mark : one (is_marked (work_at h t) c) ≡ 0
+  pub mark : one (is_marked (worklist_at h t) c) ≡ 0
   pub others : (s : ℕ) → s ≢ t → Ungripped h c s
 
 -- claimed and the two words set: the cell stays without an object, in the thread's hand
 claim_fits : (h : Heap) (t c : ℕ) (s : Step) (x : Cell) (r : Row) (p : Phase) → IsSound h → May h t s → may_after_leaving s ≡ false → is_close s ≡ false → needs_lock s ≡ false → c < length h.cells → Bears h t c
-    → x.owner ≡ owners.Claimed t → x.mutex ≡ (cell_at h c).mutex → x.bore ≡ (cell_at h c).bore → x.count ≡ pos 0
+    → x.owner ≡ owners.Claimed t → x.mutex ≡ (cell_at h c).mutex → x.bearer ≡ (cell_at h c).bearer → x.count ≡ pos 0
     → r.stage ≡ (row_at h t).stage → r.locked ≡ (row_at h t).locked → r.allocs ≡ (row_at h t).allocs → r.frees ≡ (row_at h t).frees
     → r.hand ≡ hands.Busy p c → is_gripping p ≡ true → has_reference p ≡ false
     → ((g : Stage) → PhaseFits t r (popped_at h t) x g c p)
-    → Plain h t c x r (frame_at h t) (work_at h t) h.entries
-claim_fits h t c s x r p sound may runs opens plain inside bears owner mutex bore count stage locked allocs frees hand gripping no_reference phase =
+    → Plain h t c x r (frame_at h t) (worklist_at h t) h.entries
+claim_fits h t c s x r p sound may runs opens plain inside bears owner mutex bearer count stage locked allocs frees hand gripping no_reference phase =
     let none : Unheld h c = dead_unheld h c sound bears.mortal bears.dead in
     let active : (row_at h t).stage ≡ stages.Active = active_from _ s may.stage runs opens in
     let unlocked : r.locked ≡ None = locked ∙ no_lock _ s may.lock plain in
@@ -117,7 +117,7 @@ claim_fits h t c s x r p sound may runs opens plain inside bears owner mutex bor
       cell_inside = inside;
       immortal = λ low. absurd (omega (arith, low, bears.mortal));
       mutex = mutex;
-      bore = inl bore;
+      bearer = inl bearer;
       stage = stage;
       locked = locked;
       locked_place = λ k _. refl;
@@ -132,7 +132,7 @@ claim_fits h t c s x r p sound may runs opens plain inside bears owner mutex bor
       asks_else = λ q _ ne. (new_else q ne).1 ∙ sym (bears.hand_else q ne).1;
       hand = λ q d busy. let e : hands.Busy q d ≡ hands.Busy p c = sym busy ∙ hand in
           let same_phase : q ≡ p = cc in let same_cell : d ≡ c = cc in
-          (same_cell, bears.mortal, subst (λ z. PhaseFits t r (popped_at h t) x (row_at h x.bore).stage c z) (sym same_phase) (phase (row_at h x.bore).stage));
+          (same_cell, bears.mortal, subst (λ z. PhaseFits t r (popped_at h t) x (row_at h x.bearer).stage c z) (sym same_phase) (phase (row_at h x.bearer).stage));
       hands_else = λ j q ne busy. absurd (unnamed q c (row_at h j).hand (bears.others j ne).hand (none.hands j) busy);
       cell = λ mortal. record {
         default = λ _. subst (λ z. pos 0 ≤ℤ z) (sym count) (omega (arith, ints));
@@ -149,7 +149,7 @@ claim_fits h t c s x r p sound may runs opens plain inside bears owner mutex bor
       works_here = λ on. absurd (no_mark _ bears.mark on);
       works_own = λ q _ on. on;
       works_else = λ j ne on. absurd (no_mark _ (bears.others j ne).mark on);
-      own = active_fits _ (row_at h t) r (frame_at h t) (frame_at h t) _ (work_at h t) (work_at h t) _ _ active may.not_gathered stage
+      own = active_fits _ (row_at h t) r (frame_at h t) (frame_at h t) _ (worklist_at h t) (worklist_at h t) _ _ active may.not_gathered stage
           (λ k e. let bad : None ≡ Some k = sym unlocked ∙ e in absurd (cc)) (subst (λ n. n ≤ 140737488355328) (sym allocs) (sound.threads t).births) (sound.threads t).places;
       ledger = omega (arith, allocs, frees, ap one bears.dead, ap one dead);
     }
@@ -168,7 +168,7 @@ claim_sound h t c sound ok =
     let alone : (s : ℕ) → Ungripped h c s = ungripped h c (sound.gripped c mortal ∙ grip) in
     let x : Cell = cell_after t (Claim c) c (cell_at h c) in
     let r : Row = row_after (Claim c) c (cell_at h c) (is_shut h c) (row_at h t) in
-    plain_sound h t c x r (frame_at h t) (work_at h t) h.entries sound
+    plain_sound h t c x r (frame_at h t) (worklist_at h t) h.entries sound
     (claim_fits h t c (Claim c) x r phases.Claimed sound may refl refl refl at_cell.inside
     (record {
       mortal = mortal;
@@ -206,7 +206,7 @@ local_sound h t c sound ok =
     let bears : Bears h t c = birth_bears h t c phases.Claimed sound busy refl said.mortal births.claimed in
     let x : Cell = cell_after t (InitLocal c) c (cell_at h c) in
     let r : Row = row_after (InitLocal c) c (cell_at h c) (is_shut h c) (row_at h t) in
-    plain_sound h t c x r (frame_at h t) (work_at h t) h.entries sound
+    plain_sound h t c x r (frame_at h t) (worklist_at h t) h.entries sound
     (claim_fits h t c (InitLocal c) x r phases.Counted sound may refl refl refl at_cell.inside bears
     births.claimed refl refl ((sound.cells c said.mortal).dead_count bears.dead) refl refl refl refl refl refl refl
     (λ g. (record { claimed = births.claimed; more = births.more }, refl)))
@@ -222,7 +222,7 @@ shared_sound h t c sound ok =
     let bears : Bears h t c = birth_bears h t c phases.Counted sound busy refl said.mortal births.claimed in
     let x : Cell = cell_after t (InitShared c) c (cell_at h c) in
     let r : Row = row_after (InitShared c) c (cell_at h c) (is_shut h c) (row_at h t) in
-    plain_sound h t c x r (frame_at h t) (work_at h t) h.entries sound
+    plain_sound h t c x r (frame_at h t) (worklist_at h t) h.entries sound
     (claim_fits h t c (InitShared c) x r phases.Ready sound may refl refl refl at_cell.inside bears
     births.claimed refl refl refl refl refl refl refl refl refl refl
     (λ g. (record { claimed = births.claimed; more = births.more }, fits.1, refl)))
@@ -257,13 +257,13 @@ birth_sound h t c kind k sound ok =
     let grip : grips_of x ≡ 0 = ap (λ n. one (n == 0)) fits.1 in
     let filled_here = times-filled c (frame_at h t) k c place.none in
     let asked : asks_least x ≡ 0 = ap (λ s. one (is_queued s && true)) fits.2 in
-    plain_sound h t c x r f (work_at h t) es sound (record {
+    plain_sound h t c x r f (worklist_at h t) es sound (record {
       thread = may.some_thread;
       thread_inside = may.inside;
       cell_inside = at_cell.inside;
       immortal = λ low. absurd (omega (arith, low, bears.mortal));
       mutex = refl;
-      bore = inr none.bits;
+      bearer = inr none.bits;
       stage = refl;
       locked = refl;
       locked_place = λ j e. let bad : None ≡ Some j = sym unlocked ∙ e in absurd (cc);
@@ -296,7 +296,7 @@ birth_sound h t c kind k sound ok =
       works_here = λ on. absurd (no_mark _ bears.mark on);
       works_own = λ q _ on. on;
       works_else = λ j ne on. absurd (no_mark _ (bears.others j ne).mark on);
-      own = active_fits _ (row_at h t) r (frame_at h t) f _ (work_at h t) (work_at h t) _ _ active may.not_gathered refl
+      own = active_fits _ (row_at h t) r (frame_at h t) f _ (worklist_at h t) (worklist_at h t) _ _ active may.not_gathered refl
           (λ j _. refl) (omega (arith, births.more)) (length-filled (frame_at h t) k c place.low (sound.threads t).places);
       ledger = omega (arith, ap one bears.dead);
     })

@@ -7,7 +7,7 @@ use Rattle.std.proofs.lemmas.List.Sums.{get_or-le-sum_by}
 use Rattle.std.proofs.lemmas.Bool.{cases_eq, cases_lt, ne_eqb, eqb-true}
 use Rattle.std.proofs.lemmas.Nat.Bits.{bit_at-zero, bit_at-lt, bit_at_or, bit_at_xor, bit_at-pow_same, bit_at-pow_other}
 use Rattle.brc_runs.specs.Lists.{bit_of, word_at, with_bit, without_bit, is_blank}
-use Rattle.brc_runs.specs.Steps.{with_taken, without_taken}
+use Rattle.brc_runs.specs.Steps.{with_drained, without_drained}
 
 pub bit_of-lt : (words : List ℕ) (q : ℕ) → bit_of words q < 2
 bit_of-lt words q = bit_at-lt (word_at words (q / 32)) (q % 32)
@@ -89,35 +89,35 @@ without_bit_else words c q other =
 
 -- ---- a word is moved
 
-pub length-with_taken : (k : ℕ) (queue popped : List ℕ) → length (with_taken (Some k) queue popped) ≡ length popped
+pub length-with_taken : (k : ℕ) (queue popped : List ℕ) → length (with_drained (Some k) queue popped) ≡ length popped
 length-with_taken k queue popped = length-set popped k (bit_or (word_at popped k) (word_at queue k))
 
-pub length-without_taken : (k : ℕ) (queue : List ℕ) → length (without_taken (Some k) queue) ≡ length queue
+pub length-without_taken : (k : ℕ) (queue : List ℕ) → length (without_drained (Some k) queue) ≡ length queue
 length-without_taken k queue = length-set queue k 0
 
 -- the cells of the word are popped, and no other
 pub taken_here : (k : ℕ) (queue popped : List ℕ) (q : ℕ) → k < length popped → q / 32 ≡ k
-    → bit_of (with_taken (Some k) queue popped) q ≡ max (bit_of popped q) (bit_of queue q)
+    → bit_of (with_drained (Some k) queue popped) q ≡ max (bit_of popped q) (bit_of queue q)
 taken_here k queue popped q inside same =
     word_here popped k (bit_or (word_at popped k) (word_at queue k)) q inside same
     ∙ bit_at_or (word_at popped k) (word_at queue k) (q % 32)
     ∙ ap (λ n. max (bit_at (word_at popped n) (q % 32)) (bit_at (word_at queue n) (q % 32))) (sym same)
 
-pub taken_else : (k : ℕ) (queue popped : List ℕ) (q : ℕ) → q / 32 ≢ k → bit_of (with_taken (Some k) queue popped) q ≡ bit_of popped q
+pub taken_else : (k : ℕ) (queue popped : List ℕ) (q : ℕ) → q / 32 ≢ k → bit_of (with_drained (Some k) queue popped) q ≡ bit_of popped q
 taken_else k queue popped q other = word_else popped k (bit_or (word_at popped k) (word_at queue k)) q other
 
-pub untaken_here : (k : ℕ) (queue : List ℕ) (q : ℕ) → q / 32 ≡ k → bit_of (without_taken (Some k) queue) q ≡ 0
+pub untaken_here : (k : ℕ) (queue : List ℕ) (q : ℕ) → q / 32 ≡ k → bit_of (without_drained (Some k) queue) q ≡ 0
 untaken_here k queue q same = elim (cases_lt k (length queue)) [
   | inl inside ↦ word_here queue k 0 q inside same ∙ bit_at-zero (q % 32)
   | inr past ↦ ap (λ v. bit_at v (q % 32)) (get_or_past (set queue k 0) (q / 32) 0 (omega (arith, past, same, length-set queue k 0))) ∙ bit_at-zero (q % 32)
 ]
 
-pub untaken_else : (k : ℕ) (queue : List ℕ) (q : ℕ) → q / 32 ≢ k → bit_of (without_taken (Some k) queue) q ≡ bit_of queue q
+pub untaken_else : (k : ℕ) (queue : List ℕ) (q : ℕ) → q / 32 ≢ k → bit_of (without_drained (Some k) queue) q ≡ bit_of queue q
 untaken_else k queue q other = word_else queue k 0 q other
 
 -- no bit is lost, and none is new
 pub taken_bits : (k : ℕ) (queue popped : List ℕ) (q : ℕ) → k < length popped → bit_of queue q + bit_of popped q ≤ 1
-    → bit_of (with_taken (Some k) queue popped) q + bit_of (without_taken (Some k) queue) q ≡ bit_of popped q + bit_of queue q
+    → bit_of (with_drained (Some k) queue popped) q + bit_of (without_drained (Some k) queue) q ≡ bit_of popped q + bit_of queue q
 taken_bits k queue popped q inside once = elim (cases_eq (q / 32) k) [
   | inl same ↦ omega (arith, once, taken_here k queue popped q inside same, untaken_here k queue q same)
   | inr other ↦ omega (arith, taken_else k queue popped q other, untaken_else k queue q other)

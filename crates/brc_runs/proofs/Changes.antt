@@ -11,10 +11,10 @@ use Rattle.brc_runs.specs.declared.row.Phase.{Phase}
 use Rattle.brc_runs.specs.declared.row.Phase.TheVariants as phases
 use Rattle.brc_runs.specs.declared.row.Stage.{Stage}
 use Rattle.brc_runs.specs.Lists.{one, times, entry_times, bit_of, is_marked, place_at, word_at}
-use Rattle.brc_runs.specs.Heap.{Heap, cell_at, entries_at, row_at, frame_at, popped_at, work_at, queue_at, no_cell, no_row, is_gathered, words_for, AreOptions}
+use Rattle.brc_runs.specs.Heap.{Heap, cell_at, entries_at, row_at, frame_at, popped_at, worklist_at, queue_at, no_cell, no_row, is_gathered, words_for, AreOptions}
 use Rattle.brc_runs.specs.Steps.{is_closed}
 use Rattle.brc_runs.specs.Holding.{lives, carries, live_count}
-use Rattle.brc_runs.specs.Sound.{IsSound, IsShaped, CellFits, ImmortalFits, WorkFits, ThreadFits, HandFits, PhaseFits, Locks, counted_in, grips_of, grips, gripped, held, asks, asks_most, asks_least, in_frames, in_popped, in_queues, in_hands, in_entries}
+use Rattle.brc_runs.specs.Sound.{IsSound, IsShaped, CellFits, ImmortalFits, WorklistFits, ThreadFits, HandFits, PhaseFits, Locks, counted_in, grips_of, grips, gripped, held, asks, asks_most, asks_least, in_frames, in_popped, in_queues, in_hands, in_entries}
 
 -- what a step puts in place of one cell, of one thread's parts, of all entries and of all queue words
 pub record New : Type 0 where
@@ -22,7 +22,7 @@ pub record New : Type 0 where
   pub row : Row
   pub frame : List (Option ℕ)
   pub popped : List ℕ
-  pub work : List Bool
+  pub worklist : List Bool
   pub entries : List (List ℕ)
   pub queues : List (List ℕ)
 
@@ -33,7 +33,7 @@ changed h t c n = record h {
   rows = set h.rows t n.row;
   frames = set h.frames t n.frame;
   popped = set h.popped t n.popped;
-  works = set h.works t n.work;
+  worklists = set h.worklists t n.worklist;
   queues = n.queues;
 }
 
@@ -83,7 +83,7 @@ pub record Fits (h : Heap) (t c : ℕ) (n : New) : Type 0 where
   pub thread_inside : t < length h.rows
   pub cell_inside : c < length h.cells
   -- lengths
-  pub marks : length n.work ≡ length (work_at h t)
+  pub marks : length n.worklist ≡ length (worklist_at h t)
   pub lists : length n.entries ≡ length h.entries
   pub words : length n.popped ≡ length (popped_at h t)
   pub queues : length n.queues ≡ length h.queues
@@ -91,30 +91,30 @@ pub record Fits (h : Heap) (t c : ℕ) (n : New) : Type 0 where
   -- sums
   pub counted_here : 266 ≤ c → counted_in n.cell +ℤ pos (old_part h t c) ≡ counted_in (cell_at h c) +ℤ pos (new_part n c)
   pub counted_else : (q : ℕ) → 266 ≤ q → q ≢ c → old_part h t q ≡ new_part n q
-  pub gripped_here : 266 ≤ c → grips_of n.cell + one (is_marked (work_at h t) c) + one (grips c (row_at h t).hand)
-      ≡ grips_of (cell_at h c) + one (is_marked n.work c) + one (grips c n.row.hand)
-  pub gripped_else : (q : ℕ) → 266 ≤ q → q ≢ c → one (is_marked (work_at h t) q) + one (grips q (row_at h t).hand)
-      ≡ one (is_marked n.work q) + one (grips q n.row.hand)
+  pub gripped_here : 266 ≤ c → grips_of n.cell + one (is_marked (worklist_at h t) c) + one (grips c (row_at h t).hand)
+      ≡ grips_of (cell_at h c) + one (is_marked n.worklist c) + one (grips c n.row.hand)
+  pub gripped_else : (q : ℕ) → 266 ≤ q → q ≢ c → one (is_marked (worklist_at h t) q) + one (grips q (row_at h t).hand)
+      ≡ one (is_marked n.worklist q) + one (grips q n.row.hand)
   pub most_here : 266 ≤ c → asks h c + new_asks n c ≤ asks_most n.cell + old_asks h t c
   pub least_here : 266 ≤ c → asks_least n.cell + old_asks h t c ≤ asks h c + new_asks n c
   pub asks_else : (q : ℕ) → 266 ≤ q → q ≢ c → new_asks n q ≡ old_asks h t q
   -- hands
-  pub hand : (p : Phase) (d : ℕ) → n.row.hand ≡ hands.Busy p d → (d ≡ c) × (266 ≤ c) × PhaseFits t n.row n.popped n.cell (row_at h n.cell.bore).stage c p
-  pub hands_else : (s : ℕ) (p : Phase) → s ≢ t → (row_at h s).hand ≡ hands.Busy p c → PhaseFits s (row_at h s) (popped_at h s) n.cell (row_at h n.cell.bore).stage c p
+  pub hand : (p : Phase) (d : ℕ) → n.row.hand ≡ hands.Busy p d → (d ≡ c) × (266 ≤ c) × PhaseFits t n.row n.popped n.cell (row_at h n.cell.bearer).stage c p
+  pub hands_else : (s : ℕ) (p : Phase) → s ≢ t → (row_at h s).hand ≡ hands.Busy p c → PhaseFits s (row_at h s) (popped_at h s) n.cell (row_at h n.cell.bearer).stage c p
   -- cells, entries and worklists
   pub cell : 266 ≤ c → CellFits (length h.rows) h.limit n.cell (get_or n.entries c [])
   pub immortal : c < 266 → ImmortalFits c n.cell (get_or n.entries c [])
   pub fewer : (q : ℕ) → q ≢ c → Fewer (entries_at h q) (get_or n.entries q [])
-  pub works_here : is_marked n.work c ≡ true → WorkFits t c n.cell
-  pub works_own : (q : ℕ) → q ≢ c → is_marked n.work q ≡ true → is_marked (work_at h t) q ≡ true
-  pub works_else : (s : ℕ) → s ≢ t → is_marked (work_at h s) c ≡ true → WorkFits s c n.cell
+  pub works_here : is_marked n.worklist c ≡ true → WorklistFits t c n.cell
+  pub works_own : (q : ℕ) → q ≢ c → is_marked n.worklist q ≡ true → is_marked (worklist_at h t) q ≡ true
+  pub works_else : (s : ℕ) → s ≢ t → is_marked (worklist_at h s) c ≡ true → WorklistFits s c n.cell
   -- threads: closed words stay closed and hold nothing
   pub closes : (k : ℕ) → is_closed (row_at h t).stage k ≡ true → is_closed n.row.stage k ≡ true
-  pub own : ThreadFits (words_for (length h.cells)) n.row n.frame n.popped n.work (get_or n.queues t []) (is_gathered h t)
+  pub own : ThreadFits (words_for (length h.cells)) n.row n.frame n.popped n.worklist (get_or n.queues t []) (is_gathered h t)
   pub queues_else : (s k : ℕ) → s ≢ t → is_closed (row_at h s).stage k ≡ true → word_at (get_or n.queues s []) k ≡ 0
   -- bits are of objects that the thread bore; locks
   pub bits : (s q : ℕ) → 0 < bit_of (get_or n.queues s []) q + bit_of (get_or (set h.popped t n.popped) s []) q
-      → (266 ≤ q) × ((get_or (set h.cells c n.cell) q no_cell).bore ≡ s)
+      → (266 ≤ q) × ((get_or (set h.cells c n.cell) q no_cell).bearer ≡ s)
   pub locks : LocksFit (changed h t c n)
   pub ledger : n.row.allocs + (row_at h t).frees + one (lives (cell_at h c).owner) ≡ (row_at h t).allocs + n.row.frees + one (lives n.cell.owner)
 
@@ -125,9 +125,9 @@ changed_shape h t c n shaped fits =
     let cells : length (set h.cells c n.cell) ≡ length h.cells = length-set h.cells c n.cell in
     let rows : length (set h.rows t n.row) ≡ length h.rows = length-set h.rows t n.row in
     let frames : length (set h.frames t n.frame) ≡ length h.frames = length-set h.frames t n.frame in
-    let works : length (set h.works t n.work) ≡ length h.works = length-set h.works t n.work in
+    let worklists : length (set h.worklists t n.worklist) ≡ length h.worklists = length-set h.worklists t n.worklist in
     let popped : length (set h.popped t n.popped) ≡ length h.popped = length-set h.popped t n.popped in
-    let at_works : t < length h.works = omega (arith, shaped.works, fits.thread_inside) in
+    let at_works : t < length h.worklists = omega (arith, shaped.worklists, fits.thread_inside) in
     let at_popped : t < length h.popped = omega (arith, shaped.popped, fits.thread_inside) in
     record {
       options = subst (λ m. AreOptions m h.limit) (sym cells) shaped.options;
@@ -136,11 +136,11 @@ changed_shape h t c n shaped fits =
       threads = subst (λ m. m ≤ 65) (sym rows) shaped.threads;
       frames = frames ∙ shaped.frames ∙ sym rows;
       popped = popped ∙ shaped.popped ∙ sym rows;
-      works = works ∙ shaped.works ∙ sym rows;
+      worklists = worklists ∙ shaped.worklists ∙ sym rows;
       queues = fits.queues ∙ shaped.queues ∙ sym rows;
-      notices = shaped.notices ∙ sym rows;
+      notify_words = shaped.notify_words ∙ sym rows;
       gathered = shaped.gathered ∙ sym rows;
-      marks = λ s low high. read_by (λ j marks. 0 < j → j < length h.rows → length marks ≡ length (set h.cells c n.cell)) h.works t n.work [] at_works
+      marks = λ s low high. read_by (λ j marks. 0 < j → j < length h.rows → length marks ≡ length (set h.cells c n.cell)) h.worklists t n.worklist [] at_works
           (λ a b. fits.marks ∙ shaped.marks t a b ∙ sym cells) (λ j ne a b. shaped.marks j a b ∙ sym cells) s low (subst (λ m. s < m) rows high);
       popped_words = λ s low high. read_by (λ j words. 0 < j → j < length h.rows → length words ≡ words_for (length (set h.cells c n.cell))) h.popped t n.popped [] at_popped
           (λ a b. fits.words ∙ shaped.popped_words t a b ∙ ap words_for (sym cells)) (λ j ne a b. shaped.popped_words j a b ∙ ap words_for (sym cells)) s low (subst (λ m. s < m) rows high);
@@ -165,9 +165,9 @@ grips_sum : (h : Heap) (t q : ℕ) (r : Row) → t < length h.rows
     → sum_by (λ row. one (grips q row.hand)) (set h.rows t r) + one (grips q (row_at h t).hand) ≡ sum_by (λ row. one (grips q row.hand)) h.rows + one (grips q r.hand)
 grips_sum h t q r inside = sum_by-set (λ row. one (grips q row.hand)) h.rows t r no_row inside
 
-marks_sum : (h : Heap) (t q : ℕ) (w : List Bool) → t < length h.works
-    → sum_by (λ marks. one (is_marked marks q)) (set h.works t w) + one (is_marked (work_at h t) q) ≡ sum_by (λ marks. one (is_marked marks q)) h.works + one (is_marked w q)
-marks_sum h t q w inside = sum_by-set (λ marks. one (is_marked marks q)) h.works t w [] inside
+marks_sum : (h : Heap) (t q : ℕ) (w : List Bool) → t < length h.worklists
+    → sum_by (λ marks. one (is_marked marks q)) (set h.worklists t w) + one (is_marked (worklist_at h t) q) ≡ sum_by (λ marks. one (is_marked marks q)) h.worklists + one (is_marked w q)
+marks_sum h t q w inside = sum_by-set (λ marks. one (is_marked marks q)) h.worklists t w [] inside
 
 -- plain arithmetic: the holders of one cell, and those of the others
 here_balance : (new old : ℤ) (frames' popped' hands' queues' entries' frames popped hands queues entries f f0 p p0 d d0 : ℕ)
@@ -198,10 +198,10 @@ changed_gripped : (h : Heap) (t c : ℕ) (n : New) → IsSound h → Fits h t c 
     → (q : ℕ) → 266 ≤ q → gripped (changed h t c n) q ≡ grips_of (cell_at (changed h t c n) q)
 changed_gripped h t c n sound fits =
     let h' : Heap = changed h t c n in
-    let inside : t < length h.works = omega (arith, sound.shaped.works, fits.thread_inside) in
+    let inside : t < length h.worklists = omega (arith, sound.shaped.worklists, fits.thread_inside) in
     read_by (λ q y. 266 ≤ q → gripped h' q ≡ grips_of y) h.cells c n.cell no_cell fits.cell_inside
-    (λ mortal. omega (arith, marks_sum h t c n.work inside, grips_sum h t c n.row fits.thread_inside, sound.gripped c mortal, fits.gripped_here mortal))
-    (λ q ne mortal. omega (arith, marks_sum h t q n.work inside, grips_sum h t q n.row fits.thread_inside, sound.gripped q mortal, fits.gripped_else q mortal ne))
+    (λ mortal. omega (arith, marks_sum h t c n.worklist inside, grips_sum h t c n.row fits.thread_inside, sound.gripped c mortal, fits.gripped_here mortal))
+    (λ q ne mortal. omega (arith, marks_sum h t q n.worklist inside, grips_sum h t q n.row fits.thread_inside, sound.gripped q mortal, fits.gripped_else q mortal ne))
 
 changed_most : (h : Heap) (t c : ℕ) (n : New) → IsSound h → Fits h t c n
     → (q : ℕ) → 266 ≤ q → asks (changed h t c n) q ≤ asks_most (cell_at (changed h t c n) q)
@@ -244,7 +244,7 @@ stays_closed h t c n fits j k = read_by (λ i row. is_closed (row_at h i).stage 
 
 -- what a hand says of a cell, whichever row and cell are read
 PhaseHolds : Heap → ℕ → Row → List ℕ → ℕ → Phase → Cell → Type 0
-PhaseHolds h' s row popped d p y = (266 ≤ d) × PhaseFits s row popped y (row_at h' y.bore).stage d p
+PhaseHolds h' s row popped d p y = (266 ≤ d) × PhaseFits s row popped y (row_at h' y.bearer).stage d p
 
 changed_hands : (h : Heap) (t c : ℕ) (n : New) → IsSound h → Fits h t c n
     → (s d : ℕ) (p : Phase) → (row_at (changed h t c n) s).hand ≡ hands.Busy p d → HandFits (changed h t c n) s p d
@@ -252,10 +252,10 @@ unfolding PhaseHolds
 changed_hands h t c n sound fits s d p busy =
     let h' : Heap = changed h t c n in
     let at_popped : t < length h.popped = omega (arith, sound.shaped.popped, fits.thread_inside) in
-    let bearer : (j : ℕ) (row : Row) (popped : List ℕ) (y : Cell) (e : ℕ) → PhaseFits j row popped y (row_at h y.bore).stage e p → PhaseFits j row popped y (row_at h' y.bore).stage e p =
-    λ j row popped y e. other_bearer j row popped y (row_at h y.bore).stage (row_at h' y.bore).stage e p (λ _. stays_closed h t c n fits y.bore (e / 32)) in
+    let bearer : (j : ℕ) (row : Row) (popped : List ℕ) (y : Cell) (e : ℕ) → PhaseFits j row popped y (row_at h y.bearer).stage e p → PhaseFits j row popped y (row_at h' y.bearer).stage e p =
+    λ j row popped y e. other_bearer j row popped y (row_at h y.bearer).stage (row_at h' y.bearer).stage e p (λ _. stays_closed h t c n fits y.bearer (e / 32)) in
     let own : n.row.hand ≡ hands.Busy p d → PhaseHolds h' t n.row (popped_at h' t) d p (cell_at h' d) = λ busy.
-    let said : (d ≡ c) × (266 ≤ c) × PhaseFits t n.row n.popped n.cell (row_at h n.cell.bore).stage c p = fits.hand p d busy in
+    let said : (d ≡ c) × (266 ≤ c) × PhaseFits t n.row n.popped n.cell (row_at h n.cell.bearer).stage c p = fits.hand p d busy in
     subst (λ e. PhaseHolds h' t n.row (popped_at h' t) e p (cell_at h' e)) (sym said.0)
     (subst (λ words. PhaseHolds h' t n.row words c p (cell_at h' c)) (sym (read_here h.popped t n.popped [] at_popped))
     (subst (λ y. PhaseHolds h' t n.row n.popped c p y) (sym (read_here h.cells c n.cell no_cell fits.cell_inside))
@@ -312,23 +312,23 @@ changed_immortals h t c n sound fits =
     (λ j ne low. immortal_entries j (cell_at h j) (entries_at h j) (get_or n.entries j []) (fits.fewer j ne) (sound.immortals j low))
 
 changed_works : (h : Heap) (t c : ℕ) (n : New) → IsSound h → Fits h t c n
-    → (s q : ℕ) → is_marked (work_at (changed h t c n) s) q ≡ true → WorkFits s q (cell_at (changed h t c n) q)
+    → (s q : ℕ) → is_marked (worklist_at (changed h t c n) s) q ≡ true → WorklistFits s q (cell_at (changed h t c n) q)
 changed_works h t c n sound fits s q marked =
     let h' : Heap = changed h t c n in
-    let inside : t < length h.works = omega (arith, sound.shaped.works, fits.thread_inside) in
-    read_by (λ j marks. is_marked marks q ≡ true → WorkFits j q (cell_at h' q)) h.works t n.work [] inside
-    (λ on. read_by (λ e y. is_marked n.work e ≡ true → WorkFits t e y) h.cells c n.cell no_cell fits.cell_inside
-    fits.works_here (λ e ne on. sound.works t e (fits.works_own e ne on)) q on)
-    (λ j ne on. read_by (λ e y. is_marked (work_at h j) e ≡ true → WorkFits j e y) h.cells c n.cell no_cell fits.cell_inside
-    (fits.works_else j ne) (λ e _ on. sound.works j e on) q on)
+    let inside : t < length h.worklists = omega (arith, sound.shaped.worklists, fits.thread_inside) in
+    read_by (λ j marks. is_marked marks q ≡ true → WorklistFits j q (cell_at h' q)) h.worklists t n.worklist [] inside
+    (λ on. read_by (λ e y. is_marked n.worklist e ≡ true → WorklistFits t e y) h.cells c n.cell no_cell fits.cell_inside
+    fits.works_here (λ e ne on. sound.worklists t e (fits.works_own e ne on)) q on)
+    (λ j ne on. read_by (λ e y. is_marked (worklist_at h j) e ≡ true → WorklistFits j e y) h.cells c n.cell no_cell fits.cell_inside
+    (fits.works_else j ne) (λ e _ on. sound.worklists j e on) q on)
     s marked
 
 -- ---- threads
 
 -- another thread's queue may change, where its closed words stay empty
-pub other_queue : (words : ℕ) (row : Row) (frame : List (Option ℕ)) (popped : List ℕ) (work : List Bool) (old new : List ℕ) (gathered : Bool)
-    → ((k : ℕ) → is_closed row.stage k ≡ true → word_at new k ≡ 0) → ThreadFits words row frame popped work old gathered → ThreadFits words row frame popped work new gathered
-other_queue words row frame popped work old new gathered empty fits = record {
+pub other_queue : (words : ℕ) (row : Row) (frame : List (Option ℕ)) (popped : List ℕ) (worklist : List Bool) (old new : List ℕ) (gathered : Bool)
+    → ((k : ℕ) → is_closed row.stage k ≡ true → word_at new k ≡ 0) → ThreadFits words row frame popped worklist old gathered → ThreadFits words row frame popped worklist new gathered
+other_queue words row frame popped worklist old new gathered empty fits = record {
   inactive_hand = fits.inactive_hand;
   inactive_frame = fits.inactive_frame;
   inactive_lock = fits.inactive_lock;
@@ -345,26 +345,26 @@ other_queue words row frame popped work old new gathered empty fits = record {
 
 changed_threads : (h : Heap) (t c : ℕ) (n : New) → IsSound h → Fits h t c n
     → (s : ℕ)
-    → ThreadFits (words_for (length (set h.cells c n.cell))) (row_at (changed h t c n) s) (frame_at (changed h t c n) s) (popped_at (changed h t c n) s) (work_at (changed h t c n) s) (get_or n.queues s []) (is_gathered h s)
+    → ThreadFits (words_for (length (set h.cells c n.cell))) (row_at (changed h t c n) s) (frame_at (changed h t c n) s) (popped_at (changed h t c n) s) (worklist_at (changed h t c n) s) (get_or n.queues s []) (is_gathered h s)
 changed_threads h t c n sound fits s =
     let h' : Heap = changed h t c n in
     let m : ℕ = words_for (length h.cells) in
-    let at_works : t < length h.works = omega (arith, sound.shaped.works, fits.thread_inside) in
+    let at_works : t < length h.worklists = omega (arith, sound.shaped.worklists, fits.thread_inside) in
     let at_frames : t < length h.frames = omega (arith, sound.shaped.frames, fits.thread_inside) in
     let at_popped : t < length h.popped = omega (arith, sound.shaped.popped, fits.thread_inside) in
-    subst (λ i. ThreadFits (words_for i) (row_at h' s) (frame_at h' s) (popped_at h' s) (work_at h' s) (get_or n.queues s []) (is_gathered h s)) (sym (length-set h.cells c n.cell))
+    subst (λ i. ThreadFits (words_for i) (row_at h' s) (frame_at h' s) (popped_at h' s) (worklist_at h' s) (get_or n.queues s []) (is_gathered h s)) (sym (length-set h.cells c n.cell))
     (elim (cases_eq s t) [
-      | inl same ↦ subst (λ j. ThreadFits m (row_at h' j) (frame_at h' j) (popped_at h' j) (work_at h' j) (get_or n.queues j []) (is_gathered h j)) (sym same)
-          (subst (λ row. ThreadFits m row (frame_at h' t) (popped_at h' t) (work_at h' t) (get_or n.queues t []) (is_gathered h t)) (sym (read_here h.rows t n.row no_row fits.thread_inside))
-          (subst (λ frame. ThreadFits m n.row frame (popped_at h' t) (work_at h' t) (get_or n.queues t []) (is_gathered h t)) (sym (read_here h.frames t n.frame [] at_frames))
-          (subst (λ words. ThreadFits m n.row n.frame words (work_at h' t) (get_or n.queues t []) (is_gathered h t)) (sym (read_here h.popped t n.popped [] at_popped))
-          (subst (λ work. ThreadFits m n.row n.frame n.popped work (get_or n.queues t []) (is_gathered h t)) (sym (read_here h.works t n.work [] at_works)) fits.own))))
+      | inl same ↦ subst (λ j. ThreadFits m (row_at h' j) (frame_at h' j) (popped_at h' j) (worklist_at h' j) (get_or n.queues j []) (is_gathered h j)) (sym same)
+          (subst (λ row. ThreadFits m row (frame_at h' t) (popped_at h' t) (worklist_at h' t) (get_or n.queues t []) (is_gathered h t)) (sym (read_here h.rows t n.row no_row fits.thread_inside))
+          (subst (λ frame. ThreadFits m n.row frame (popped_at h' t) (worklist_at h' t) (get_or n.queues t []) (is_gathered h t)) (sym (read_here h.frames t n.frame [] at_frames))
+          (subst (λ words. ThreadFits m n.row n.frame words (worklist_at h' t) (get_or n.queues t []) (is_gathered h t)) (sym (read_here h.popped t n.popped [] at_popped))
+          (subst (λ worklist. ThreadFits m n.row n.frame n.popped worklist (get_or n.queues t []) (is_gathered h t)) (sym (read_here h.worklists t n.worklist [] at_works)) fits.own))))
       | inr other ↦
-          (subst (λ row. ThreadFits m row (frame_at h' s) (popped_at h' s) (work_at h' s) (get_or n.queues s []) (is_gathered h s)) (sym (read_there h.rows t s n.row no_row other))
-          (subst (λ frame. ThreadFits m (row_at h s) frame (popped_at h' s) (work_at h' s) (get_or n.queues s []) (is_gathered h s)) (sym (read_there h.frames t s n.frame [] other))
-          (subst (λ words. ThreadFits m (row_at h s) (frame_at h s) words (work_at h' s) (get_or n.queues s []) (is_gathered h s)) (sym (read_there h.popped t s n.popped [] other))
-          (subst (λ work. ThreadFits m (row_at h s) (frame_at h s) (popped_at h s) work (get_or n.queues s []) (is_gathered h s)) (sym (read_there h.works t s n.work [] other))
-          (other_queue m (row_at h s) (frame_at h s) (popped_at h s) (work_at h s) (queue_at h s) (get_or n.queues s []) (is_gathered h s) (λ k. fits.queues_else s k other) (sound.threads s))))))
+          (subst (λ row. ThreadFits m row (frame_at h' s) (popped_at h' s) (worklist_at h' s) (get_or n.queues s []) (is_gathered h s)) (sym (read_there h.rows t s n.row no_row other))
+          (subst (λ frame. ThreadFits m (row_at h s) frame (popped_at h' s) (worklist_at h' s) (get_or n.queues s []) (is_gathered h s)) (sym (read_there h.frames t s n.frame [] other))
+          (subst (λ words. ThreadFits m (row_at h s) (frame_at h s) words (worklist_at h' s) (get_or n.queues s []) (is_gathered h s)) (sym (read_there h.popped t s n.popped [] other))
+          (subst (λ worklist. ThreadFits m (row_at h s) (frame_at h s) (popped_at h s) worklist (get_or n.queues s []) (is_gathered h s)) (sym (read_there h.worklists t s n.worklist [] other))
+          (other_queue m (row_at h s) (frame_at h s) (popped_at h s) (worklist_at h s) (queue_at h s) (get_or n.queues s []) (is_gathered h s) (λ k. fits.queues_else s k other) (sound.threads s))))))
     ])
 
 -- ---- the ledger
@@ -406,7 +406,7 @@ changed_sound h t c n sound fits = record {
   hands = changed_hands h t c n sound fits;
   cells = changed_cells h t c n sound fits;
   immortals = changed_immortals h t c n sound fits;
-  works = changed_works h t c n sound fits;
+  worklists = changed_works h t c n sound fits;
   threads = changed_threads h t c n sound fits;
   bits = fits.bits;
   locks = fits.locks.locks;
@@ -443,13 +443,13 @@ same_locks h t c n sound thread_inside cell_inside same =
 -- no bit is new, and whoever has one bore the object
 pub same_bits : (h : Heap) (t c : ℕ) (n : New) → IsSound h → c < length h.cells
     → ((s q : ℕ) → 0 < bit_of (get_or n.queues s []) q + bit_of (get_or (set h.popped t n.popped) s []) q → 0 < bit_of (queue_at h s) q + bit_of (popped_at h s) q)
-    → (n.cell.bore ≡ (cell_at h c).bore) ⊎ ((s : ℕ) → bit_of (queue_at h s) c + bit_of (popped_at h s) c ≡ 0)
+    → (n.cell.bearer ≡ (cell_at h c).bearer) ⊎ ((s : ℕ) → bit_of (queue_at h s) c + bit_of (popped_at h s) c ≡ 0)
     → (s q : ℕ) → 0 < bit_of (get_or n.queues s []) q + bit_of (get_or (set h.popped t n.popped) s []) q
-    → (266 ≤ q) × ((get_or (set h.cells c n.cell) q no_cell).bore ≡ s)
-same_bits h t c n sound inside older bore s q some =
+    → (266 ≤ q) × ((get_or (set h.cells c n.cell) q no_cell).bearer ≡ s)
+same_bits h t c n sound inside older bearer s q some =
     let before : 0 < bit_of (queue_at h s) q + bit_of (popped_at h s) q = older s q some in
-    read_by (λ j y. 0 < bit_of (queue_at h s) j + bit_of (popped_at h s) j → (266 ≤ j) × (y.bore ≡ s)) h.cells c n.cell no_cell inside
-    (λ some. elim bore [ inl same ↦ ((sound.bits s c some).0, same ∙ (sound.bits s c some).1) | inr none ↦ absurd (omega (arith, none s, some)) ])
+    read_by (λ j y. 0 < bit_of (queue_at h s) j + bit_of (popped_at h s) j → (266 ≤ j) × (y.bearer ≡ s)) h.cells c n.cell no_cell inside
+    (λ some. elim bearer [ inl same ↦ ((sound.bits s c some).0, same ∙ (sound.bits s c some).1) | inr none ↦ absurd (omega (arith, none s, some)) ])
     (λ j _ some. sound.bits s j some)
     q before
 

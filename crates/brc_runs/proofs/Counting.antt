@@ -15,10 +15,10 @@ use Rattle.brc_runs.specs.declared.row.Phase.TheVariants as phases
 use Rattle.brc_runs.specs.declared.row.Stage.{Stage}
 use Rattle.brc_runs.specs.declared.row.Stage.TheVariants as stages
 use Rattle.brc_runs.specs.Lists.{one, times, entry_times, is_marked, place_at, filled}
-use Rattle.brc_runs.specs.Heap.{Heap, cell_at, entries_at, row_at, frame_at, popped_at, work_at, queue_at, is_gathered, words_for, no_row}
+use Rattle.brc_runs.specs.Heap.{Heap, cell_at, entries_at, row_at, frame_at, popped_at, worklist_at, queue_at, is_gathered, words_for, no_row}
 use Rattle.brc_runs.specs.Steps.{is_merged}
 use Rattle.brc_runs.specs.Holding.{lives, carries, count_of_state}
-use Rattle.brc_runs.specs.Sound.{IsSound, CellFits, ThreadFits, PhaseFits, HandFits, WorkFits, Locks, counted_in, grips_of, grips_by_owner, grips, is_gripping, gripped, held, in_entries}
+use Rattle.brc_runs.specs.Sound.{IsSound, CellFits, ThreadFits, PhaseFits, HandFits, WorklistFits, Locks, counted_in, grips_of, grips_by_owner, grips, is_gripping, gripped, held, in_entries}
 use Rattle.brc_runs.proofs.Naming.{no_mark, grips_free, carries_free, live_counts, sum_one}
 use Rattle.brc_runs.proofs.Framing.{place_at-filled_else, times-filled, length-filled}
 use Rattle.brc_runs.proofs.Birthing.{active_fits, busy_else}
@@ -64,14 +64,14 @@ sum_none {A} f [] d none = refl
 sum_none {A} f (x ∷ xs) d none = omega (arith, sum_by-cons f x xs, none 0, sum_none f xs d (λ i. none (suc i)))
 
 -- what is on a worklist is held by nothing
-pub marked_unheld : (h : Heap) (s c : ℕ) → IsSound h → is_marked (work_at h s) c ≡ true → held h c ≡ 0
+pub marked_unheld : (h : Heap) (s c : ℕ) → IsSound h → is_marked (worklist_at h s) c ≡ true → held h c ≡ 0
 marked_unheld h s c sound on =
-    let fits : WorkFits s c (cell_at h c) = sound.works s c on in
+    let fits : WorklistFits s c (cell_at h c) = sound.worklists s c on in
     omega (arith, ints, sound.counted c fits.mortal, live_counts (cell_at h c) fits.lives, fits.total)
 
-pub held_unmarked : (h : Heap) (s c : ℕ) → IsSound h → 1 ≤ held h c → one (is_marked (work_at h s) c) ≡ 0
+pub held_unmarked : (h : Heap) (s c : ℕ) → IsSound h → 1 ≤ held h c → one (is_marked (worklist_at h s) c) ≡ 0
 held_unmarked h s c sound some =
-    elim (cases_Bool (is_marked (work_at h s) c)) [
+    elim (cases_Bool (is_marked (worklist_at h s) c)) [
       | inl on ↦ absurd (omega (arith, some, marked_unheld h s c sound on))
       | inr off ↦ ap one off
     ]
@@ -91,8 +91,8 @@ hand_apart h t s c (hands.Busy p d) sound owner ne e =
 pub owned_ungripped : (h : Heap) (t c : ℕ) → IsSound h → 266 ≤ c → (cell_at h c).owner ≡ owners.Thread t → 1 ≤ held h c
     → one (grips c (row_at h t).hand) ≡ 0 → gripped h c ≡ 0
 owned_ungripped h t c sound mortal owner some free =
-    let marks : sum_by (λ (marks : List Bool). one (is_marked marks c)) h.works ≡ 0 =
-    sum_none (λ (marks : List Bool). one (is_marked marks c)) h.works [] (λ s. held_unmarked h s c sound some) in
+    let marks : sum_by (λ (marks : List Bool). one (is_marked marks c)) h.worklists ≡ 0 =
+    sum_none (λ (marks : List Bool). one (is_marked marks c)) h.worklists [] (λ s. held_unmarked h s c sound some) in
     let rows : sum_by (λ (row : Row). one (grips c row.hand)) h.rows ≡ 0 =
     sum_none (λ (row : Row). one (grips c row.hand)) h.rows no_row (λ s.
     elim (cases_eq s t) [
@@ -140,14 +140,14 @@ pub record Ups (h : Heap) (t c k : ℕ) : Type 0 where
   pub hand : (row_at h t).hand ≡ hands.Free
 
 pub up_immortal_fits : (h : Heap) (t c k : ℕ) → IsSound h → Ups h t c k → c < 266
-    → Plain h t c (cell_at h c) (row_at h t) (filled (frame_at h t) k c) (work_at h t) h.entries
+    → Plain h t c (cell_at h c) (row_at h t) (filled (frame_at h t) k c) (worklist_at h t) h.entries
 up_immortal_fits h t c k sound ups low = record {
   thread = ups.thread;
   thread_inside = ups.inside;
   cell_inside = ups.cell_inside;
   immortal = λ _. refl;
   mutex = refl;
-  bore = inl refl;
+  bearer = inl refl;
   stage = refl;
   locked = refl;
   locked_place = lock_stays h t k c sound ups.place.none;
@@ -164,17 +164,17 @@ up_immortal_fits h t c k sound ups low = record {
   hands_else = λ s p ne busy. (sound.hands s c p busy).fits;
   cell = λ high. absurd (omega (arith, low, high));
   fewer = λ q _. same_entries _;
-  works_here = sound.works t c;
+  works_here = sound.worklists t c;
   works_own = λ q _ on. on;
-  works_else = λ s ne on. sound.works s c on;
-  own = active_fits _ (row_at h t) (row_at h t) (frame_at h t) _ _ (work_at h t) _ _ _ ups.active ups.here refl
+  works_else = λ s ne on. sound.worklists s c on;
+  own = active_fits _ (row_at h t) (row_at h t) (frame_at h t) _ _ (worklist_at h t) _ _ _ ups.active ups.here refl
       (λ _ _. ups.hand) (sound.threads t).births (length-filled (frame_at h t) k c ups.place.low (sound.threads t).places);
   ledger = refl;
 }
 
 pub up_mortal_fits : (h : Heap) (t c k : ℕ) → IsSound h → Ups h t c k → 266 ≤ c → (cell_at h c).owner ≡ owners.Thread t
     → (cell_at h c).local < h.limit → 1 ≤ held h c
-    → Plain h t c (record (cell_at h c) { local = (cell_at h c).local + 1 }) (row_at h t) (filled (frame_at h t) k c) (work_at h t) h.entries
+    → Plain h t c (record (cell_at h c) { local = (cell_at h c).local + 1 }) (row_at h t) (filled (frame_at h t) k c) (worklist_at h t) h.entries
 up_mortal_fits h t c k sound ups mortal owner below some =
     let x : Cell = cell_at h c in
     let free : one (grips c (row_at h t).hand) ≡ 0 = grips_free c _ ups.hand in
@@ -193,7 +193,7 @@ up_mortal_fits h t c k sound ups mortal owner below some =
       cell_inside = ups.cell_inside;
       immortal = λ low. absurd (omega (arith, low, mortal));
       mutex = refl;
-      bore = inl refl;
+      bearer = inl refl;
       stage = refl;
       locked = refl;
       locked_place = lock_stays h t k c sound ups.place.none;
@@ -223,7 +223,7 @@ up_mortal_fits h t c k sound ups mortal owner below some =
       works_here = λ on. absurd (no_mark _ (held_unmarked h t c sound some) on);
       works_own = λ q _ on. on;
       works_else = λ s ne on. absurd (no_mark _ (held_unmarked h s c sound some) on);
-      own = active_fits _ (row_at h t) (row_at h t) (frame_at h t) _ _ (work_at h t) _ _ _ ups.active ups.here refl
+      own = active_fits _ (row_at h t) (row_at h t) (frame_at h t) _ _ (worklist_at h t) _ _ _ ups.active ups.here refl
           (λ _ _. ups.hand) (sound.threads t).births (length-filled (frame_at h t) k c ups.place.low (sound.threads t).places);
       ledger = refl;
     }
@@ -245,16 +245,16 @@ pub record Downs (h : Heap) (t c : ℕ) (f : List (Option ℕ)) (es : List (List
   pub fewer : (q : ℕ) → Fewer (entries_at h q) (get_or es q [])
 
 pub down_immortal_fits : (h : Heap) (t c : ℕ) (f : List (Option ℕ)) (es : List (List ℕ)) → IsSound h → Downs h t c f es → c < 266
-    → Plain h t c (cell_at h c) (row_at h t) f (work_at h t) es
+    → Plain h t c (cell_at h c) (row_at h t) f (worklist_at h t) es
 down_immortal_fits h t c f es sound downs low =
-    let old : ThreadFits (words_for (length h.cells)) (row_at h t) (frame_at h t) (popped_at h t) (work_at h t) (queue_at h t) (is_gathered h t) = sound.threads t in
+    let old : ThreadFits (words_for (length h.cells)) (row_at h t) (frame_at h t) (popped_at h t) (worklist_at h t) (queue_at h t) (is_gathered h t) = sound.threads t in
     record {
       thread = downs.thread;
       thread_inside = downs.inside;
       cell_inside = downs.cell_inside;
       immortal = λ _. refl;
       mutex = refl;
-      bore = inl refl;
+      bearer = inl refl;
       stage = refl;
       locked = refl;
       locked_place = λ j e. let bad : None ≡ Some j = sym downs.unlocked ∙ e in absurd (cc);
@@ -271,9 +271,9 @@ down_immortal_fits h t c f es sound downs low =
       hands_else = λ s p ne busy. (sound.hands s c p busy).fits;
       cell = λ high. absurd (omega (arith, low, high));
       fewer = λ q _. downs.fewer q;
-      works_here = sound.works t c;
+      works_here = sound.worklists t c;
       works_own = λ q _ on. on;
-      works_else = λ s ne on. sound.works s c on;
+      works_else = λ s ne on. sound.worklists s c on;
       own = record {
         inactive_hand = old.inactive_hand;
         inactive_frame = λ off j. downs.vacant j (old.inactive_frame off j);
@@ -297,7 +297,7 @@ down_hand c n hand = if n == 1 then hands.Busy phases.Zero c else hand
 
 pub down_mortal_fits : (h : Heap) (t c : ℕ) (f : List (Option ℕ)) (es : List (List ℕ)) → IsSound h → Downs h t c f es → 266 ≤ c
     → (cell_at h c).owner ≡ owners.Thread t → (row_at h t).stage ≡ stages.Active
-    → Plain h t c (record (cell_at h c) { local = (cell_at h c).local - 1 }) (record (row_at h t) { hand = down_hand c (cell_at h c).local (row_at h t).hand }) f (work_at h t) es
+    → Plain h t c (record (cell_at h c) { local = (cell_at h c).local - 1 }) (record (row_at h t) { hand = down_hand c (cell_at h c).local (row_at h t).hand }) f (worklist_at h t) es
 down_mortal_fits h t c f es sound downs mortal owner active =
     let x : Cell = cell_at h c in
     let hand' : Hand = down_hand c x.local (row_at h t).hand in
@@ -338,7 +338,7 @@ down_mortal_fits h t c f es sound downs mortal owner active =
       cell_inside = downs.cell_inside;
       immortal = λ low. absurd (omega (arith, low, mortal));
       mutex = refl;
-      bore = inl refl;
+      bearer = inl refl;
       stage = refl;
       locked = refl;
       locked_place = λ j e. let bad : None ≡ Some j = sym downs.unlocked ∙ e in absurd (cc);
@@ -352,7 +352,7 @@ down_mortal_fits h t c f es sound downs mortal owner active =
       least_here = λ _. omega (arith, sound.least c mortal, hands_now.2 c, carries_free c _ downs.hand);
       asks_else = λ q _ ne. hands_now.2 q ∙ sym (carries_free q _ downs.hand);
       hand = λ p d busy. let said = hands_now.3 p d busy in
-          (said.0, mortal, subst (λ z. PhaseFits t (record (row_at h t) { hand = hand' }) (popped_at h t) (record x { local = x.local - 1 }) (row_at h x.bore).stage c z) (sym said.1) owner);
+          (said.0, mortal, subst (λ z. PhaseFits t (record (row_at h t) { hand = hand' }) (popped_at h t) (record x { local = x.local - 1 }) (row_at h x.bearer).stage c z) (sym said.1) owner);
       hands_else = λ s p ne busy. others_local s t (x.local - 1) (row_at h s) (popped_at h s) x _ c p (sound.hands s c p busy).fits owner ne;
       cell = λ _. record {
         default = fits.default;
@@ -369,7 +369,7 @@ down_mortal_fits h t c f es sound downs mortal owner active =
       works_here = λ on. absurd (no_mark _ (held_unmarked h t c sound some) on);
       works_own = λ q _ on. on;
       works_else = λ s ne on. absurd (no_mark _ (held_unmarked h s c sound some) on);
-      own = active_fits _ (row_at h t) _ (frame_at h t) f _ (work_at h t) _ _ _ active downs.here refl
+      own = active_fits _ (row_at h t) _ (frame_at h t) f _ (worklist_at h t) _ _ _ active downs.here refl
           (λ j e. let bad : None ≡ Some j = sym downs.unlocked ∙ e in absurd (cc)) (sound.threads t).births downs.places;
       ledger = refl;
     }

@@ -9,7 +9,7 @@ use Rattle.brc_runs.specs.declared.event.Dropped.{Dropped}
 use Rattle.brc_runs.specs.declared.event.Dropped.TheVariants as dropped
 use Rattle.brc_runs.specs.declared.row.Hand.TheVariants as hands
 use Rattle.brc_runs.specs.Lists.{one, times, entry_times, is_marked, place_at, last_of, front_of}
-use Rattle.brc_runs.specs.Heap.{Heap, entries_at, row_at, frame_at, work_at, is_immortal}
+use Rattle.brc_runs.specs.Heap.{Heap, entries_at, row_at, frame_at, worklist_at, is_immortal}
 use Rattle.brc_runs.specs.Steps.{source_cell, locked_cell, entry_of, dropped_cell, frame_without, entries_without}
 use Rattle.brc_runs.specs.Sound.{IsSound, held}
 use Rattle.brc_runs.proofs.Naming.{sum_one}
@@ -47,9 +47,9 @@ pub work_source : (o : Option ℕ) (b : Bool) (c : ℕ) → (if b then o else No
 work_source o true c named = named
 work_source o false c named = absurd (cc)
 
-pub dropped_held : (h : Heap) (t c : ℕ) (drop : Dropped) → dropped_cell (frame_at h t) (work_at h t) (entries_at h) drop ≡ Some c → 1 ≤ held h c
+pub dropped_held : (h : Heap) (t c : ℕ) (drop : Dropped) → dropped_cell (frame_at h t) (worklist_at h t) (entries_at h) drop ≡ Some c → 1 ≤ held h c
 dropped_held h t c (dropped.Frame k) named = held_by_place h t k c named
-dropped_held h t c (dropped.Work d) named = held_by_entry h d _ c (work_source _ (is_marked (work_at h t) d) c named)
+dropped_held h t c (dropped.Work d) named = held_by_entry h d _ c (work_source _ (is_marked (worklist_at h t) d) c named)
 
 -- the last entry goes: no list grows
 front_fewer : (h : Heap) (d q : ℕ) → d < length h.entries → Fewer (entries_at h q) (get_or (set h.entries d (front_of (entries_at h d))) q [])
@@ -61,7 +61,7 @@ front_fewer h d q inside = read_by (λ j xs. Fewer (entries_at h j) xs) h.entrie
     (λ j _. same_entries (entries_at h j)) q
 
 pub drop_downs : (h : Heap) (t c : ℕ) (drop : Dropped) → IsSound h → Acts h t → c < length h.cells → (row_at h t).hand ≡ hands.Free
-    → dropped_cell (frame_at h t) (work_at h t) (entries_at h) drop ≡ Some c
+    → dropped_cell (frame_at h t) (worklist_at h t) (entries_at h) drop ≡ Some c
     → Downs h t c (frame_without (Some drop) (frame_at h t)) (entries_without (Some drop) h.entries)
 drop_downs h t c (dropped.Frame k) sound acts cell_inside free named = record {
   thread = acts.thread;
@@ -80,7 +80,7 @@ drop_downs h t c (dropped.Frame k) sound acts cell_inside free named = record {
   fewer = λ q. same_entries (entries_at h q);
 }
 drop_downs h t c (dropped.Work d) sound acts cell_inside free named =
-    let last : last_of (entries_at h d) ≡ Some c = work_source _ (is_marked (work_at h t) d) c named in
+    let last : last_of (entries_at h d) ≡ Some c = work_source _ (is_marked (worklist_at h t) d) c named in
     let inside : d < length h.entries = elim (cases_lt d (length h.entries)) [
       | inl within ↦ within
       | inr past ↦ absurd (let e : None ≡ Some c = sym (ap last_of (get_or_past h.entries d [] past)) ∙ last in cc)

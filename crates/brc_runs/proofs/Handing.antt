@@ -14,7 +14,7 @@ use Rattle.brc_runs.specs.declared.row.Hand.TheVariants as hands
 use Rattle.brc_runs.specs.declared.row.Phase.TheVariants as phases
 use Rattle.brc_runs.specs.Lists.{one, bit_of, word_at, with_bit}
 use Rattle.brc_runs.specs.Heap.{Heap, cell_at, entries_at, row_at, frame_at, popped_at, queue_at, no_row, words_for}
-use Rattle.brc_runs.specs.Steps.{thread_may, stepped, kept_cells, hand_after, is_shut, is_default, taken_word, with_taken, without_taken}
+use Rattle.brc_runs.specs.Steps.{thread_may, stepped, kept_cells, hand_after, is_shut, is_default, drained_word, with_drained, without_drained}
 use Rattle.brc_runs.specs.Holding.{lives, lives_at, carries, map_of, moves_of, passes, each_bit, popping, MakesMoves}
 use Rattle.brc_runs.specs.Sound.{IsSound, held}
 use Rattle.brc_runs.proofs.Naming.{no_bit, one-le, sum_one, busy_hand, busy_carrier}
@@ -49,8 +49,8 @@ is_taken h t k q p = ((q / 32 == k) && (bit_of (queue_at h t) q == 1)) && is_eit
 
 -- a thread's popped and queue words after one word was taken
 pub record Taken (h h' : Heap) (t k : ℕ) : Type 0 where
-  pub own : Own h h' t (frame_at h t) (with_taken (Some k) (queue_at h t) (popped_at h t)) (row_at h t).hand
-  pub queue : queue_at h' t ≡ without_taken (Some k) (queue_at h t)
+  pub own : Own h h' t (frame_at h t) (with_drained (Some k) (queue_at h t) (popped_at h t)) (row_at h t).hand
+  pub queue : queue_at h' t ≡ without_drained (Some k) (queue_at h t)
   pub queues : (j : ℕ) → j ≢ t → queue_at h' j ≡ queue_at h j
   pub inside : k < length (popped_at h t)
   pub lasting : Lasting h h'
@@ -65,7 +65,7 @@ not_taken h t k q p this kept word = elim (cases_eq (bit_of (queue_at h t) q) 1)
 
 taken_elsewhere : (h h' : Heap) (t k : ℕ) → Taken h h' t k → Elsewhere h h' (is_taken h t k)
 taken_elsewhere h h' t k taken =
-    own_elsewhere h h' t (frame_at h t) (with_taken (Some k) (queue_at h t) (popped_at h t)) (row_at h t).hand (is_taken h t k) taken.own
+    own_elsewhere h h' t (frame_at h t) (with_drained (Some k) (queue_at h t) (popped_at h t)) (row_at h t).hand (is_taken h t k) taken.own
     (λ i q mortal kept. refl)
     (λ q kept. elim (cases_eq (q / 32) k) [
       | inr other ↦ taken_else k (queue_at h t) (popped_at h t) q other
@@ -73,7 +73,7 @@ taken_elsewhere h h' t k taken =
     ])
     (λ q kept. refl)
     (λ j q. by_owner (λ n (words : List ℕ). is_taken h t k q (holders.Queue n q) ≡ false → bit_of words q ≡ bit_of (queue_at h n) q)
-    (queue_at h) (queue_at h') t (without_taken (Some k) (queue_at h t)) taken.queue taken.queues
+    (queue_at h) (queue_at h') t (without_drained (Some k) (queue_at h t)) taken.queue taken.queues
     (λ kept. elim (cases_eq (q / 32) k) [
       | inr other ↦ untaken_else k (queue_at h t) q other
       | inl same ↦ untaken_here k (queue_at h t) q same ∙ sym (not_taken h t k q (holders.Queue t q) (either_first q (holders.Queue t q) q (holders.Popped t q)) kept same)
@@ -209,11 +209,11 @@ pop_moves h h' t k sound taken = pop_from h h' t k sound taken 32 0 refl (map_of
     (λ q p. sym (ap (λ b. if b then (map_of h').held q p else (map_of h).held q p) (and_right (q / 32 == k) (nat_lt (q % 32) 0) (le-ltb (q % 32) 0 (omega arith)))))
 
 -- a thread's step that takes a word of its queue
-pub taken_by : (h : Heap) (t : ℕ) (s : Step) (k : ℕ) → IsSound h → May h t s → taken_word s ≡ Some k → k < words_for (length h.cells) → Lasting h (kept_cells h t s) → Taken h (kept_cells h t s) t k
+pub taken_by : (h : Heap) (t : ℕ) (s : Step) (k : ℕ) → IsSound h → May h t s → drained_word s ≡ Some k → k < words_for (length h.cells) → Lasting h (kept_cells h t s) → Taken h (kept_cells h t s) t k
 taken_by h t s k sound may takes inside last =
     let h' : Heap = kept_cells h t s in record {
-      own = subst (λ o. Own h h' t (frame_at h t) (with_taken o (queue_at h t) (popped_at h t)) (row_at h t).hand) takes (kept_own h t s sound may.inside);
-      queue = read_here h.queues t _ [] (omega (arith, sound.shaped.queues, may.inside)) ∙ ap (λ o. without_taken o (queue_at h t)) takes;
+      own = subst (λ o. Own h h' t (frame_at h t) (with_drained o (queue_at h t) (popped_at h t)) (row_at h t).hand) takes (kept_own h t s sound may.inside);
+      queue = read_here h.queues t _ [] (omega (arith, sound.shaped.queues, may.inside)) ∙ ap (λ o. without_drained o (queue_at h t)) takes;
       queues = λ j other. read_there h.queues t j _ [] other;
       inside = omega (arith, inside, sound.shaped.popped_words t may.some_thread may.inside);
       lasting = last;
@@ -224,15 +224,15 @@ taken_by h t s k sound may takes inside last =
 
 -- whoever bore a live object has a queue, with a word for it
 pub record Queued (h : Heap) (c : ℕ) : Type 0 where
-  pub queue : (cell_at h c).bore < length h.queues
-  pub word : c / 32 < length (queue_at h (cell_at h c).bore)
+  pub queue : (cell_at h c).bearer < length h.queues
+  pub word : c / 32 < length (queue_at h (cell_at h c).bearer)
 
 pub queued_at : (h : Heap) (c : ℕ) → IsSound h → 266 ≤ c → c < length h.cells → lives (cell_at h c).owner ≡ true → Queued h c
 queued_at h c sound mortal inside live =
     let born = (sound.cells c mortal).born live in
     record {
       queue = omega (arith, born.1, sound.shaped.queues);
-      word = omega (arith, sound.shaped.queue_words (cell_at h c).bore born.0 born.1, inside);
+      word = omega (arith, sound.shaped.queue_words (cell_at h c).bearer born.0 born.1, inside);
     }
 
 pub enqueue_moves : (A : Type 0) (h : Heap) (t c : ℕ) → IsSound h → thread_may h t (Enqueue c) ≡ true
@@ -240,7 +240,7 @@ pub enqueue_moves : (A : Type 0) (h : Heap) (t c : ℕ) → IsSound h → thread
 enqueue_moves A h t c sound ok =
     let s : Step = Enqueue c in
     let h' : Heap = stepped h t s c in
-    let b : ℕ = (cell_at h c).bore in
+    let b : ℕ = (cell_at h c).bearer in
     let shut : Bool = is_shut h c in
     let at : AtCell h t s c = at_named h t s c refl sound ok refl in
     let busy : (row_at h t).hand ≡ hands.Busy phases.Asked c = busy_hand phases.Asked c _ at.may.hand in

@@ -16,7 +16,7 @@ use Rattle.brc_runs.specs.declared.row.Hand.TheVariants as hands
 use Rattle.brc_runs.specs.declared.row.Phase.{Phase}
 use Rattle.brc_runs.specs.declared.row.Phase.TheVariants as phases
 use Rattle.brc_runs.specs.Lists.{one, times, names, entry_times, bit_of, is_marked}
-use Rattle.brc_runs.specs.Heap.{Heap, cell_at, row_at, popped_at, work_at, no_row}
+use Rattle.brc_runs.specs.Heap.{Heap, cell_at, row_at, popped_at, worklist_at, no_row}
 use Rattle.brc_runs.specs.Steps.{is_at, is_zero, is_queued, is_merged}
 use Rattle.brc_runs.specs.Holding.{Headline, IsInHand, buries, each, if_so, holders_of, lives, lives_at, carries, count_of_state}
 use Rattle.brc_runs.specs.Sound.{IsSound, PhaseFits, grips_by_owner, grips, is_gripping, gripped, held, is_threads}
@@ -110,12 +110,12 @@ grip_of_owner owners.Free state local count live asked unmerged default total = 
 buried_by_hand : (h : Heap) (t c : ℕ) (p : Phase) → (is_at phases.Zero c (hands.Busy p c) || is_at phases.Over c (hands.Busy p c) || is_at phases.Untied c (hands.Busy p c)) ≡ true
     → (row_at h t).hand ≡ hands.Busy p c → buries h c t ≡ true
 buried_by_hand h t c p buries busy =
-    ap (λ hand. is_at phases.Zero c hand || is_at phases.Over c hand || is_at phases.Untied c hand || is_marked (work_at h t) c) busy
-    ∙ ap (λ b. b || is_marked (work_at h t) c) buries
+    ap (λ hand. is_at phases.Zero c hand || is_at phases.Over c hand || is_at phases.Untied c hand || is_marked (worklist_at h t) c) busy
+    ∙ ap (λ b. b || is_marked (worklist_at h t) c) buries
 
 -- a hand that grips a live object which nothing holds is about to bury it
 buried_by_grip : (h : Heap) (t c : ℕ) (p : Phase) → IsSound h → Unheld h c → lives (cell_at h c).owner ≡ true → (row_at h t).hand ≡ hands.Busy p c → is_gripping p ≡ true
-    → PhaseFits t (row_at h t) (popped_at h t) (cell_at h c) (row_at h (cell_at h c).bore).stage c p → buries h c t ≡ true
+    → PhaseFits t (row_at h t) (popped_at h t) (cell_at h c) (row_at h (cell_at h c).bearer).stage c p → buries h c t ≡ true
 buried_by_grip h t c phases.Claimed sound none live busy grip fits = absurd (true≢false (sym live ∙ ap lives fits.claimed))
 buried_by_grip h t c phases.Counted sound none live busy grip fits = absurd (true≢false (sym live ∙ ap lives fits.0.claimed))
 buried_by_grip h t c phases.Ready sound none live busy grip fits = absurd (true≢false (sym live ∙ ap lives fits.0.claimed))
@@ -146,9 +146,9 @@ found_in_hand h c sound live empty =
     let total : count_of_state x.state x.local x.count ≡ pos 0 = sym (live_counts x alive.owner) ∙ sound.counted c alive.mortal ∙ ap pos empty in
     let asked : one (is_queued x.state && is_threads x.owner) ≡ 0 = omega (arith, sound.least c alive.mortal, none.asks) in
     let grip : 1 ≤ gripped h c = omega (arith, sound.gripped c alive.mortal, grip_of_owner x.owner x.state x.local x.count alive.owner asked fits.owned_unmerged fits.default total) in
-    elim (cases_lt 0 (sum_by (λ (marks : List Bool). one (is_marked marks c)) h.works)) [
+    elim (cases_lt 0 (sum_by (λ (marks : List Bool). one (is_marked marks c)) h.worklists)) [
       | inl some ↦
-          let found : (t : ℕ) × (1 ≤ one (is_marked (work_at h t) c)) = sum_some (λ (marks : List Bool). one (is_marked marks c)) h.works [] (omega (arith, some)) in
+          let found : (t : ℕ) × (1 ≤ one (is_marked (worklist_at h t) c)) = sum_some (λ (marks : List Bool). one (is_marked marks c)) h.worklists [] (omega (arith, some)) in
           (found.0, or_true _ _ (from_one _ found.1))
       | inr no_marks ↦
           let found : (t : ℕ) × (1 ≤ one (grips c (row_at h t).hand)) = sum_some (λ (row : Row). one (grips c row.hand)) h.rows no_row (omega (arith, no_marks, grip)) in

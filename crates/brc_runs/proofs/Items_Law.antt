@@ -8,11 +8,11 @@ use Rattle.brc_runs.specs.declared.event.Step.{Step}
 use Rattle.brc_runs.specs.declared.event.Step.TheVariants.{Register, Gather}
 use Rattle.brc_runs.specs.declared.row.Row.{Row}
 use Rattle.brc_runs.specs.Lists.{is_marked}
-use Rattle.brc_runs.specs.Heap.{Heap, opening, cell_at, row_at, frame_at, work_at, new_row, no_row, is_registered, AreOptions}
+use Rattle.brc_runs.specs.Heap.{Heap, opening, cell_at, row_at, frame_at, worklist_at, new_row, no_row, is_registered, AreOptions}
 use Rattle.brc_runs.specs.Steps.{enabled, after, after_target, root_after, root_may, thread_may, target_at, locked_cell, registered, gathered_in}
 use Rattle.brc_runs.specs.Runs.{IsRun, world_after}
 use Rattle.brc_runs.specs.Holding.{lives}
-use Rattle.brc_runs.specs.Sound.{IsSound, WorkFits}
+use Rattle.brc_runs.specs.Sound.{IsSound, WorklistFits}
 use Rattle.brc_runs.specs.Staying.{is_about, IsAnothers, SameOwn, locked_at}
 use Rattle.brc_runs.specs.Items.{Item, Did, Saw, Lost, ItemRun, with_event, events_of, world_of_items, MayCome, AreItems, is_start, own, told, found, Part, new_part, part_after, part_of, IsPart}
 use Rattle.brc_runs.proofs.Asking.{May, may_parts}
@@ -50,7 +50,7 @@ run_items start (e ∷ run) is_run =
 
 -- ---- others change nothing of it
 
-is_live : (h : Heap) (t c : ℕ) → WorkFits t c (cell_at h c) → (cell_at h c).owner ≢ owners.Free
+is_live : (h : Heap) (t c : ℕ) → WorklistFits t c (cell_at h c) → (cell_at h c).owner ≢ owners.Free
 is_live h t c fits free = true≢false (sym fits.lives ∙ ap lives free)
 
 others_part : (h : Heap) (e : Event) (t : ℕ) (part : Part) → IsSound h → enabled h e ≡ true → IsAnothers t e → IsPart h t part → IsPart (after h e) t part
@@ -61,12 +61,12 @@ others_part h e t part sound ok others is =
       row_is = same.row ∙ is.row_is;
       frame_is = same.frame ∙ is.frame_is;
       popped_is = same.popped ∙ is.popped_is;
-      work_is = same.work ∙ is.work_is;
+      work_is = same.worklist ∙ is.work_is;
       locked_has = λ c at. let was : locked_at h t ≡ Some c = sym locked ∙ at in (locked_stays h e t c sound ok others.other was).2 ∙ is.locked_has c was;
       work_has = λ c marked.
-          let was : is_marked (work_at h t) c ≡ true = ap (λ marks. is_marked marks c) (sym same.work) ∙ marked in
-          let fits : WorkFits t c (cell_at h c) = sound.works t c was in
-          (alone_stays h e t c sound ok others.other fits.mortal (omega (arith, one-true (is_marked (work_at h t) c) was)) (marked_unheld h t c sound was) (is_live h t c fits)).1 ∙ is.work_has c was;
+          let was : is_marked (worklist_at h t) c ≡ true = ap (λ marks. is_marked marks c) (sym same.worklist) ∙ marked in
+          let fits : WorklistFits t c (cell_at h c) = sound.worklists t c was in
+          (alone_stays h e t c sound ok others.other fits.mortal (omega (arith, one-true (is_marked (worklist_at h t) c) was)) (marked_unheld h t c sound was) (is_live h t c fits)).1 ∙ is.work_has c was;
     }
 
 -- ---- a thread as it is registered
@@ -74,14 +74,14 @@ others_part h e t part sound ok others is =
 new_is : (h : Heap) (t : ℕ) → IsSound h → t ≡ length h.rows → IsPart (registered h) t (new_part (length h.cells))
 new_is h t sound last =
     let row : row_at (registered h) t ≡ new_row = get_or_push h.rows new_row no_row t (sym last) in
-    let work : work_at (registered h) t ≡ replicate (length h.cells) false = get_or_push h.works _ [] t (sound.shaped.works ∙ sym last) in
+    let worklist : worklist_at (registered h) t ≡ replicate (length h.cells) false = get_or_push h.worklists _ [] t (sound.shaped.worklists ∙ sym last) in
     record {
       row_is = row;
       frame_is = get_or_push h.frames [] [] t (sound.shaped.frames ∙ sym last);
       popped_is = get_or_push h.popped _ [] t (sound.shaped.popped ∙ sym last);
-      work_is = work;
+      work_is = worklist;
       locked_has = λ c at. absurd (let e : None ≡ Some c = ap (λ (r : Row). locked_cell (frame_at (registered h) t) r.locked) (sym row) ∙ at in cc);
-      work_has = λ c marked. absurd (true≢false (sym marked ∙ ap (λ (ws : List Bool). is_marked ws c) work ∙ new_mark (length h.cells) c));
+      work_has = λ c marked. absurd (true≢false (sym marked ∙ ap (λ (ws : List Bool). is_marked ws c) worklist ∙ new_mark (length h.cells) c));
     }
 
 -- gathering a thread changes nothing of its part
@@ -103,13 +103,13 @@ now_is h t part is =
     ap (λ (r : Row). record (now h t part.has) { row = r }) is.row_is
     ∙ ap (λ f. record (now h t part.has) { row = part.row; frame = f }) is.frame_is
     ∙ ap (λ ws. record (now h t part.has) { row = part.row; frame = part.frame; popped = ws }) is.popped_is
-    ∙ ap (λ ws. record part { work = ws }) is.work_is
+    ∙ ap (λ ws. record part { worklist = ws }) is.work_is
 
 own_part : (h : Heap) (t : ℕ) (s : Step) (number : ℕ) (entries : List ℕ) (part : Part) → IsSound h → QueuesFit h → May h t s → number ≡ told h t s → entries ≡ found h t s → IsPart h t part
     → IsPart (after_target h t s (target_at h t s)) t (part_after (length h.cells) part (Did s number entries))
 own_part h t s number entries part sound fit may told_is found_is is =
     let w : Heap = after_target h t s (target_at h t s) in
-    let knows : Knows h t part.has = record { locked = is.locked_has; works = is.work_has } in
+    let knows : Knows h t part.has = record { locked = is.locked_has; worklists = is.work_has } in
     subst (λ p. IsPart w t (part_after (length h.cells) p (Did s number entries))) (now_is h t part is)
     (subst (λ n. IsPart w t (part_after (length h.cells) (now h t part.has) (Did s n entries))) (sym told_is)
     (own_step h t s entries part.has sound fit may found_is knows))

@@ -14,8 +14,8 @@ use Rattle.brc_runs.specs.declared.row.Row.{Row}
 use Rattle.brc_runs.specs.declared.row.Stage.{Stage}
 use Rattle.brc_runs.specs.declared.row.Stage.TheVariants as stages
 use Rattle.brc_runs.specs.Lists.{place_at, filled, front_of, last_of, is_marked, word_at}
-use Rattle.brc_runs.specs.Heap.{Heap, cell_at, entries_at, row_at, frame_at, popped_at, work_at, queue_at, no_row, words_for}
-use Rattle.brc_runs.specs.Steps.{target, target_at, target_ok, after_target, kept_cells, stepped, locked_cell, entry_of, dropped_cell, lock_ok, stage_ok, closes_next, is_closed, is_shut, row_after, locked_after, allocs_after, frees_after, frame_after, frame_without, frame_changed, entries_after, entries_without, entries_changed, gone, takes_block, work_after, stage_after, taken_word, with_taken}
+use Rattle.brc_runs.specs.Heap.{Heap, cell_at, entries_at, row_at, frame_at, popped_at, worklist_at, queue_at, no_row, words_for}
+use Rattle.brc_runs.specs.Steps.{target, target_at, target_ok, after_target, kept_cells, stepped, locked_cell, entry_of, dropped_cell, lock_ok, stage_ok, closes_next, is_closed, is_shut, row_after, locked_after, allocs_after, frees_after, frame_after, frame_without, frame_changed, entries_after, entries_without, entries_changed, gone, takes_block, worklist_after, stage_after, drained_word, with_drained}
 use Rattle.brc_runs.specs.Sound.{IsSound, Locks}
 use Rattle.brc_runs.specs.Staying.{locked_at}
 use Rattle.brc_runs.specs.Items.{closing_bit, told_at, told_of, told_apart, finds, found_at, Part, cell_told, popped_told, put, has_found, has_without, has_after, part_by, part_after, IsPart, Did}
@@ -35,7 +35,7 @@ put_else c d entries has other = ap (λ b. if b then entries else has d) (ne_eqb
 -- the thread's locked cell and those on its worklist have these entries
 pub record Knows (h : Heap) (t : ℕ) (has : ℕ → List ℕ) : Type 0 where
   pub locked : (c : ℕ) → locked_at h t ≡ Some c → entries_at h c ≡ has c
-  pub works : (c : ℕ) → is_marked (work_at h t) c ≡ true → entries_at h c ≡ has c
+  pub worklists : (c : ℕ) → is_marked (worklist_at h t) c ≡ true → entries_at h c ≡ has c
 
 -- ---- the cell that a step means
 
@@ -44,14 +44,14 @@ entry_alike h t has None i knows at = refl
 entry_alike h t has (Some c) i knows at = ap (λ (es : List ℕ). slice_get es i) (sym (knows.locked c at))
 
 drop_alike : (h : Heap) (t : ℕ) (has : ℕ → List ℕ) (drop : Dropped) → Knows h t has
-    → dropped_cell (frame_at h t) (work_at h t) has drop ≡ dropped_cell (frame_at h t) (work_at h t) (entries_at h) drop
+    → dropped_cell (frame_at h t) (worklist_at h t) has drop ≡ dropped_cell (frame_at h t) (worklist_at h t) (entries_at h) drop
 drop_alike h t has (dropped.Frame k) knows = refl
-drop_alike h t has (dropped.Work c) knows = elim (cases_Bool (is_marked (work_at h t) c)) [
-  | inl marked ↦ ap (λ (es : List ℕ). if is_marked (work_at h t) c then last_of es else None) (sym (knows.works c marked))
+drop_alike h t has (dropped.Work c) knows = elim (cases_Bool (is_marked (worklist_at h t) c)) [
+  | inl marked ↦ ap (λ (es : List ℕ). if is_marked (worklist_at h t) c then last_of es else None) (sym (knows.worklists c marked))
   | inr off ↦ ap (λ b. if b then last_of (has c) else None) off ∙ sym (ap (λ b. if b then last_of (entries_at h c) else None) off)
 ]
 
-target_alike : (h : Heap) (t : ℕ) (has : ℕ → List ℕ) (s : Step) → Knows h t has → target (row_at h t) (frame_at h t) (work_at h t) has s ≡ target_at h t s
+target_alike : (h : Heap) (t : ℕ) (has : ℕ → List ℕ) (s : Step) → Knows h t has → target (row_at h t) (frame_at h t) (worklist_at h t) has s ≡ target_at h t s
 target_alike h t has (LocalUp (sources.Entry i) k) knows = entry_alike h t has (locked_at h t) i knows refl
 target_alike h t has (SharedUp (sources.Entry i) k) knows = entry_alike h t has (locked_at h t) i knows refl
 target_alike h t has (LocalDown drop) knows = drop_alike h t has drop knows
@@ -66,29 +66,29 @@ finds_taken : (s : Step) (x : Cell) → takes_block s x ≡ true → finds s x �
 finds_taken (Lock k) x takes = refl
 finds_taken _ x takes = takes
 
-marked_if : (b : Bool) (work : List Bool) (c d : ℕ) → is_marked (if b then set work c true else work) d ≡ true → (is_marked work d ≡ true) ⊎ ((d ≡ c) × (b ≡ true))
-marked_if false work c d marked = inl marked
-marked_if true work c d marked = elim (cases_eq d c) [
+marked_if : (b : Bool) (worklist : List Bool) (c d : ℕ) → is_marked (if b then set worklist c true else worklist) d ≡ true → (is_marked worklist d ≡ true) ⊎ ((d ≡ c) × (b ≡ true))
+marked_if false worklist c d marked = inl marked
+marked_if true worklist c d marked = elim (cases_eq d c) [
   | inl same ↦ inr (same, refl)
-  | inr other ↦ inl (sym (get_or-set_other work c d true false other) ∙ marked)
+  | inr other ↦ inl (sym (get_or-set_other worklist c d true false other) ∙ marked)
 ]
 
-unmarked_here : (work : List Bool) (c d : ℕ) → is_marked (set work c false) d ≡ true → is_marked work d ≡ true
-unmarked_here work c d marked = elim (cases_eq d c) [
-  | inr other ↦ sym (get_or-set_other work c d false false other) ∙ marked
-  | inl same ↦ absurd (true≢false (sym marked ∙ ap (is_marked (set work c false)) same ∙ off))
+unmarked_here : (worklist : List Bool) (c d : ℕ) → is_marked (set worklist c false) d ≡ true → is_marked worklist d ≡ true
+unmarked_here worklist c d marked = elim (cases_eq d c) [
+  | inr other ↦ sym (get_or-set_other worklist c d false false other) ∙ marked
+  | inl same ↦ absurd (true≢false (sym marked ∙ ap (is_marked (set worklist c false)) same ∙ off))
 ]
   where
-    off : is_marked (set work c false) c ≡ false
-    off = elim (cases_lt c (length work)) [
-      | inl inside ↦ get_or-set_same work c false false inside
-      | inr past ↦ get_or_past (set work c false) c false (omega (arith, past, length-set work c false))
+    off : is_marked (set worklist c false) c ≡ false
+    off = elim (cases_lt c (length worklist)) [
+      | inl inside ↦ get_or-set_same worklist c false false inside
+      | inr past ↦ get_or_past (set worklist c false) c false (omega (arith, past, length-set worklist c false))
     ]
 
-was_marked : (s : Step) (c : ℕ) (x : Cell) (work : List Bool) (d : ℕ) → is_marked (work_after s c x work) d ≡ true → (is_marked work d ≡ true) ⊎ ((d ≡ c) × (finds s x ≡ true))
-was_marked (Free e) c x work d marked = inl (unmarked_here work c d marked)
-was_marked (Lock k) c x work d marked = inl marked
-was_marked s c x work d marked = marked_if (takes_block s x) work c d marked
+was_marked : (s : Step) (c : ℕ) (x : Cell) (worklist : List Bool) (d : ℕ) → is_marked (worklist_after s c x worklist) d ≡ true → (is_marked worklist d ≡ true) ⊎ ((d ≡ c) × (finds s x ≡ true))
+was_marked (Free e) c x worklist d marked = inl (unmarked_here worklist c d marked)
+was_marked (Lock k) c x worklist d marked = inl marked
+was_marked s c x worklist d marked = marked_if (takes_block s x) worklist c d marked
 
 -- a locked place stays as it was, where another is filled
 was_named : (h : Heap) (t k c j d : ℕ) → IsSound h → Vacant (frame_at h t) k → (row_at h t).locked ≡ Some j → place_at (filled (frame_at h t) k c) j ≡ Some d → place_at (frame_at h t) j ≡ Some d
@@ -167,9 +167,9 @@ frame_known h t (LocalUp source k) c x y has knows named same = refl
 frame_known h t (SharedUp source k) c x y has knows named same = refl
 frame_known h t s c x y has knows named same = ap (λ o. frame_without o (frame_at h t)) (sym same)
 
-work_alike : (s : Step) (c : ℕ) (x y : Cell) (work : List Bool) → takes_block s y ≡ takes_block s x → work_after s c x work ≡ work_after s c y work
-work_alike (Free d) c x y work same = refl
-work_alike s c x y work same = ap (λ b. if b then set work c true else work) (sym same)
+work_alike : (s : Step) (c : ℕ) (x y : Cell) (worklist : List Bool) → takes_block s y ≡ takes_block s x → worklist_after s c x worklist ≡ worklist_after s c y worklist
+work_alike (Free d) c x y worklist same = refl
+work_alike s c x y worklist same = ap (λ b. if b then set worklist c true else worklist) (sym same)
 
 -- the thread's part of the world, and what it knows
 abbrev pub now : Heap → ℕ → (ℕ → List ℕ) → Part
@@ -177,7 +177,7 @@ now h t has = record {
   row = row_at h t;
   frame = frame_at h t;
   popped = popped_at h t;
-  work = work_at h t;
+  worklist = worklist_at h t;
   has = has;
 }
 
@@ -189,7 +189,7 @@ stepped_part cells h t s c number entries has sound may named same are knows =
     let inside : c < length h.entries = omega (arith, (on_cell h t s c (subst (λ o. target_ok h t (row_at h t) s o ≡ true) named may.on_target)).inside, sound.shaped.entries) in
     let row : row_at (stepped h t s c) t ≡ row_after s c x (is_shut h c) (row_at h t) = read_here h.rows t _ no_row may.inside in
     let frame : frame_at (stepped h t s c) t ≡ frame_after s c x (entries_at h c) (frame_at h t) = read_here h.frames t _ [] (omega (arith, sound.shaped.frames, may.inside)) in
-    let work : work_at (stepped h t s c) t ≡ work_after s c x (work_at h t) = read_here h.works t _ [] (omega (arith, sound.shaped.works, may.inside)) in
+    let worklist : worklist_at (stepped h t s c) t ≡ worklist_after s c x (worklist_at h t) = read_here h.worklists t _ [] (omega (arith, sound.shaped.worklists, may.inside)) in
     let found : finds s y ≡ finds s x = finds_alike h s c number same in
     let entries_now : (d : ℕ) → (entries_at h d ≡ has d) ⊎ ((d ≡ c) × (finds s x ≡ true)) → entries_at (stepped h t s c) d ≡ has_after s c y (frame_at h t) (has_found (finds s y) c entries has) d =
     λ d known. after_alike s c x y (frame_at h t) h.entries (has_found (finds s y) c entries has) d same.gone_is inside
@@ -198,14 +198,14 @@ stepped_part cells h t s c number entries has sound may named same are knows =
       row_is = row ∙ ap (λ g. record (row_at h t) { hand = g; locked = locked_after s (row_at h t).locked; allocs = allocs_after s (row_at h t).allocs; frees = frees_after s (row_at h t).frees }) (sym (same.hand (row_at h t).hand));
       frame_is = frame ∙ frame_known h t s c x y has knows named same.gone_is;
       popped_is = read_here h.popped t _ [] (omega (arith, sound.shaped.popped, may.inside));
-      work_is = work ∙ work_alike s c x y (work_at h t) same.takes;
+      work_is = worklist ∙ work_alike s c x y (worklist_at h t) same.takes;
       locked_has = λ d at. entries_now d (elim (was_locked h t s c x (entries_at h c) (row_at h t).locked d sound may refl named
           (ap (λ (f : List (Option ℕ)). locked_cell f (locked_after s (row_at h t).locked)) (sym frame) ∙ ap (λ (r : Row). locked_cell (frame_at (stepped h t s c) t) r.locked) (sym row) ∙ at)) [
             | inl was ↦ inl (knows.locked d was)
             | inr new ↦ inr new
           ]);
-      work_has = λ d marked. entries_now d (elim (was_marked s c x (work_at h t) d (ap (λ (ws : List Bool). is_marked ws d) (sym work) ∙ marked)) [
-        | inl was ↦ inl (knows.works d was)
+      work_has = λ d marked. entries_now d (elim (was_marked s c x (worklist_at h t) d (ap (λ (ws : List Bool). is_marked ws d) (sym worklist) ∙ marked)) [
+        | inl was ↦ inl (knows.worklists d was)
         | inr new ↦ inr new
       ]);
     }
@@ -224,12 +224,12 @@ drains_open stages.Left k ok = absurd (true≢false (sym ok))
 
 -- the bits that are taken are those of the word, which is open
 taken_alike : (h : Heap) (t k : ℕ) → is_closed (row_at h t).stage k ≡ false
-    → with_taken (Some k) (queue_at h t) (popped_at h t) ≡ popped_told (Some k) (word_at (queue_at h t) k + closing_bit (is_closed (row_at h t).stage k)) (popped_at h t)
+    → with_drained (Some k) (queue_at h t) (popped_at h t) ≡ popped_told (Some k) (word_at (queue_at h t) k + closing_bit (is_closed (row_at h t).stage k)) (popped_at h t)
 taken_alike h t k closed =
     let e : word_at (queue_at h t) k ≡ word_at (queue_at h t) k + closing_bit (is_closed (row_at h t).stage k) = omega (arith, ap closing_bit closed) in
     ap (λ w. set (popped_at h t) k (bit_or (word_at (popped_at h t) k) w)) e
 
-popped_alike : (h : Heap) (t : ℕ) (s : Step) → May h t s → with_taken (taken_word s) (queue_at h t) (popped_at h t) ≡ popped_told (taken_word s) (told_apart h t s) (popped_at h t)
+popped_alike : (h : Heap) (t : ℕ) (s : Step) → May h t s → with_drained (drained_word s) (queue_at h t) (popped_at h t) ≡ popped_told (drained_word s) (told_apart h t s) (popped_at h t)
 popped_alike h t (Drain k) may = taken_alike h t k (drains_open (row_at h t).stage k may.stage)
 popped_alike h t (Close k) may =
     let next : closes_next (row_at h t).stage k ≡ true = (and_parts _ _ (and_parts _ _ (and_parts _ _ (and_parts _ _ may.own).0).0).0).1 in
@@ -246,7 +246,7 @@ kept_part h t s entries has sound may knows =
       popped_is = read_here h.popped t _ [] (omega (arith, sound.shaped.popped, may.inside)) ∙ popped_alike h t s may;
       work_is = refl;
       locked_has = λ d at. knows.locked d (ap (λ (r : Row). locked_cell (frame_at h t) r.locked) (sym row) ∙ at);
-      work_has = knows.works;
+      work_has = knows.worklists;
     }
 
 -- ---- both

@@ -8,7 +8,7 @@ use Rattle.brc_runs.specs.declared.event.Step.{Step}
 use Rattle.brc_runs.specs.declared.event.Step.TheVariants.{Enqueue, Register, Gather}
 use Rattle.brc_runs.specs.Lists.{word_at, with_bit}
 use Rattle.brc_runs.specs.Heap.{Heap, opening, queue_at, cell_at, words_for}
-use Rattle.brc_runs.specs.Steps.{after, after_target, root_after, target_at, is_shut, queues_after, taken_word, without_taken}
+use Rattle.brc_runs.specs.Steps.{after, after_target, root_after, target_at, is_shut, queues_after, drained_word, without_drained}
 use Rattle.brc_runs.specs.Runs.{world_after}
 use Rattle.brc_runs.proofs.Changes.{read_by, read_there}
 use Rattle.brc_runs.proofs.Registering.{read_push, new_word}
@@ -48,16 +48,16 @@ put_small : (queues : List (List ℕ)) (t : ℕ) (words : List ℕ) → Small wo
 unfolding AllSmall
 put_small queues t words small all = set_keeps Small queues t words [] none_small small all
 
-taken_small : (o : Option ℕ) (queue : List ℕ) → Small queue → Small (without_taken o queue)
+taken_small : (o : Option ℕ) (queue : List ℕ) → Small queue → Small (without_drained o queue)
 taken_small None queue small = small
 taken_small (Some k) queue small = set_small queue k 0 (omega arith) small
 
 queued_small : (h : Heap) (s : Step) (c : ℕ) → AllSmall h.queues → AllSmall (queues_after h s c)
 unfolding AllSmall
 queued_small h (Enqueue d) c small = elim (cases_Bool (is_shut h c)) [
-  | inl shut ↦ subst (λ b. AllSmall (if b then h.queues else set h.queues (cell_at h c).bore (with_bit (queue_at h (cell_at h c).bore) c))) (sym shut) small
-  | inr apart ↦ subst (λ b. AllSmall (if b then h.queues else set h.queues (cell_at h c).bore (with_bit (queue_at h (cell_at h c).bore) c))) (sym apart)
-      (put_small h.queues _ _ (with_bit_small _ c (small (cell_at h c).bore)) small)
+  | inl shut ↦ subst (λ b. AllSmall (if b then h.queues else set h.queues (cell_at h c).bearer (with_bit (queue_at h (cell_at h c).bearer) c))) (sym shut) small
+  | inr apart ↦ subst (λ b. AllSmall (if b then h.queues else set h.queues (cell_at h c).bearer (with_bit (queue_at h (cell_at h c).bearer) c))) (sym apart)
+      (put_small h.queues _ _ (with_bit_small _ c (small (cell_at h c).bearer)) small)
 ]
 queued_small h _ c small = small
 
@@ -69,7 +69,7 @@ root_small h _ small = small
 
 target_small : (h : Heap) (t : ℕ) (s : Step) (o : Option ℕ) → AllSmall h.queues → AllSmall (after_target h t s o).queues
 unfolding AllSmall
-target_small h t s None small = put_small h.queues t _ (taken_small (taken_word s) (queue_at h t) (small t)) small
+target_small h t s None small = put_small h.queues t _ (taken_small (drained_word s) (queue_at h t) (small t)) small
 target_small h t s (Some c) small = queued_small h s c small
 
 after_small : (h : Heap) (e : Event) → AllSmall h.queues → AllSmall (after h e).queues

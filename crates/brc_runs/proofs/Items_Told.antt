@@ -119,7 +119,7 @@ alike h t (LastDown (lasts.Dropped drop)) c sound fit may named = record { hand 
 alike h t (LastDown (lasts.Popped d)) c sound fit may named = record { hand = λ g. refl; gone_is = refl; takes = ap (takes_block (LastDown (lasts.Popped d))) (both_back h c sound) }
 alike h t (LastDown lasts.Hand) c sound fit may named = record { hand = λ g. refl; gone_is = refl; takes = ap (takes_block (LastDown lasts.Hand)) (both_back h c sound) }
 alike h t (Enqueue d) c sound fit may named = record {
-  hand = λ g. ap (λ b. if b then hands.Busy phases.Shut c else hands.Free) (shut_back _ (is_shut h c) (omega (arith, fit.small (cell_at h c).bore (c / 32))));
+  hand = λ g. ap (λ b. if b then hands.Busy phases.Shut c else hands.Free) (shut_back _ (is_shut h c) (omega (arith, fit.small (cell_at h c).bearer (c / 32))));
   gone_is = refl;
   takes = refl;
 }

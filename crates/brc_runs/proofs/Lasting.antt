@@ -15,11 +15,11 @@ use Rattle.brc_runs.specs.declared.row.Hand.TheVariants as hands
 use Rattle.brc_runs.specs.declared.row.Phase.{Phase}
 use Rattle.brc_runs.specs.declared.row.Phase.TheVariants as phases
 use Rattle.brc_runs.specs.Lists.{one, is_marked, place_at, bit_of}
-use Rattle.brc_runs.specs.Heap.{Heap, cell_at, entries_at, row_at, frame_at, work_at, no_row, new_row, is_immortal}
+use Rattle.brc_runs.specs.Heap.{Heap, cell_at, entries_at, row_at, frame_at, worklist_at, no_row, new_row, is_immortal}
 use Rattle.brc_runs.specs.Steps.{enabled, after, after_target, root_after, root_may, thread_may, target_at, cell_after, locked_cell, is_at, is_default, target_ok}
 use Rattle.brc_runs.specs.Runs.{IsReached}
 use Rattle.brc_runs.specs.Holding.{carries, lives}
-use Rattle.brc_runs.specs.Sound.{IsSound, HandFits, WorkFits, Locks, grips, held}
+use Rattle.brc_runs.specs.Sound.{IsSound, HandFits, WorklistFits, Locks, grips, held}
 use Rattle.brc_runs.specs.Staying.{is_about, IsAnothers, Lasts, SameOwn, locked_at, Has, rank, Bears, Buries, Locked, Keeps, Foreign, OwnedOrNot, Nobodys}
 use Rattle.brc_runs.proofs.Naming.{free_owner, Ungripped, Unheld, dead_unheld, sole_grip, one-true, busy_hand}
 use Rattle.brc_runs.proofs.Asking.{May, OnCell, on_cell}
@@ -35,7 +35,7 @@ use Rattle.brc_runs.proofs.Reached.{reached_sound}
 -- ---- the own part
 
 same_own : (t : ℕ) (h : Heap) → SameOwn t h h
-same_own t h = record { row = refl; frame = refl; popped = refl; work = refl; gathered = refl }
+same_own t h = record { row = refl; frame = refl; popped = refl; worklist = refl; gathered = refl }
 
 pub other_number : (u t : ℕ) → (u == t) ≡ false → t ≢ u
 other_number u t apart same = true≢false (sym (eq-eqb u t (sym same)) ∙ apart)
@@ -48,14 +48,14 @@ root_own h (Register u) t sound ok apart =
       row = push_else h.rows new_row no_row t other;
       frame = push_else h.frames [] [] t (λ e. other (e ∙ sound.shaped.frames));
       popped = push_else h.popped _ [] t (λ e. other (e ∙ sound.shaped.popped));
-      work = push_else h.works _ [] t (λ e. other (e ∙ sound.shaped.works));
+      worklist = push_else h.worklists _ [] t (λ e. other (e ∙ sound.shaped.worklists));
       gathered = push_else h.gathered false false t (λ e. other (e ∙ sound.shaped.gathered));
     }
 root_own h (Gather u) t sound ok apart = record {
   row = refl;
   frame = refl;
   popped = refl;
-  work = refl;
+  worklist = refl;
   gathered = read_there h.gathered u t true false (other_number u t apart);
 }
 root_own h _ t sound ok apart = same_own t h
@@ -65,14 +65,14 @@ target_own h u s None t other = record {
   row = read_there h.rows u t _ no_row other;
   frame = refl;
   popped = read_there h.popped u t _ [] other;
-  work = refl;
+  worklist = refl;
   gathered = refl;
 }
 target_own h u s (Some c) t other = record {
   row = read_there h.rows u t _ no_row other;
   frame = read_there h.frames u t _ [] other;
   popped = read_there h.popped u t _ [] other;
-  work = read_there h.works u t _ [] other;
+  worklist = read_there h.worklists u t _ [] other;
   gathered = refl;
 }
 
@@ -88,7 +88,7 @@ others_own h e t sound ok others =
 
 -- ---- a cell that one thread grips, and nothing holds
 
-pub alone_stays : (h : Heap) (e : Event) (t c : ℕ) → IsSound h → enabled h e ≡ true → e.thread ≢ t → 266 ≤ c → 1 ≤ one (is_marked (work_at h t) c) + one (grips c (row_at h t).hand)
+pub alone_stays : (h : Heap) (e : Event) (t c : ℕ) → IsSound h → enabled h e ≡ true → e.thread ≢ t → 266 ≤ c → 1 ≤ one (is_marked (worklist_at h t) c) + one (grips c (row_at h t).hand)
     → held h c ≡ 0 → (cell_at h c).owner ≢ owners.Free → (cell_at (after h e) c ≡ cell_at h c) × (entries_at (after h e) c ≡ entries_at h c)
 alone_stays h e t c sound ok other mortal grip none owner =
     let alone : Ungripped h c e.thread = sole_grip h c t sound mortal grip e.thread other in
@@ -106,7 +106,7 @@ alone_stays h e t c sound ok other mortal grip none owner =
           | inl birth ↦ absurd (no_step (record { may = birth.3; named = ap (target_at h e.thread) birth.2 }))
           | inr rest ↦ elim rest [
             | inl unlock ↦ absurd (no_step unlock.2)
-            | inr marked ↦ absurd (omega (arith, one-true (is_marked (work_at h e.thread) c) marked, alone.mark))
+            | inr marked ↦ absurd (omega (arith, one-true (is_marked (worklist_at h e.thread) c) marked, alone.mark))
           ]
         ]
       ],
@@ -156,10 +156,10 @@ pub burials_last : (t c : ℕ) (x : Cell) (entries : List ℕ) → Lasts t (λ h
 burials_last t c x entries h e reached ok others buries =
     let sound : IsSound h = reached_sound h reached in
     let own : SameOwn t h (after h e) = others_own h e t sound ok others in
-    let fits : WorkFits t c (cell_at h c) = sound.works t c buries.marked in
-    let same = alone_stays h e t c sound ok others.other fits.mortal (omega (arith, one-true (is_marked (work_at h t) c) buries.marked)) (marked_unheld h t c sound buries.marked) (live_owner _ fits.lives) in
+    let fits : WorklistFits t c (cell_at h c) = sound.worklists t c buries.marked in
+    let same = alone_stays h e t c sound ok others.other fits.mortal (omega (arith, one-true (is_marked (worklist_at h t) c) buries.marked)) (marked_unheld h t c sound buries.marked) (live_owner _ fits.lives) in
     record {
-      marked = ap (λ marks. is_marked marks c) own.work ∙ buries.marked;
+      marked = ap (λ marks. is_marked marks c) own.worklist ∙ buries.marked;
       words = same.0 ∙ buries.words;
       has = same.1 ∙ buries.has;
     }
@@ -173,7 +173,7 @@ unheld_unlocked h c sound none = elim (cases_lt 0 (cell_at h c).mutex) [
       absurd (omega (arith, none, held_by_place h (cell_at h c).mutex lock.0 c lock.1.names))
 ]
 
-pub dead_unlocked : (h : Heap) (t c : ℕ) → IsReached h → is_marked (work_at h t) c ≡ true → (cell_at h c).mutex ≡ 0
+pub dead_unlocked : (h : Heap) (t c : ℕ) → IsReached h → is_marked (worklist_at h t) c ≡ true → (cell_at h c).mutex ≡ 0
 dead_unlocked h t c reached marked = let sound : IsSound h = reached_sound h reached in unheld_unlocked h c sound (marked_unheld h t c sound marked)
 
 -- ---- locks
@@ -187,13 +187,13 @@ is_locking _ = false
 -- what a step leaves of a live object's cell: kind and bearer; its state only rises; its owner stays or becomes nobody
 pub record StepKeeps (s : Step) (x y : Cell) : Type 0 where
   pub kind : y.kind ≡ x.kind
-  pub bore : y.bore ≡ x.bore
+  pub bearer : y.bearer ≡ x.bearer
   pub state : rank x.state ≤ rank y.state
   pub owner : (y.owner ≡ x.owner) ⊎ (y.owner ≡ owners.Nobody)
   pub mutex : is_locking s ≡ false → y.mutex ≡ x.mutex
 
 keeps_all : (s : Step) (x : Cell) → StepKeeps s x x
-keeps_all s x = record { kind = refl; bore = refl; state = omega arith; owner = inl refl; mutex = λ _. refl }
+keeps_all s x = record { kind = refl; bearer = refl; state = omega arith; owner = inl refl; mutex = λ _. refl }
 
 keeps_if : (s : Step) (b : Bool) (x y : Cell) → StepKeeps s x y → StepKeeps s x (if b then x else y)
 keeps_if s true x y keeps = keeps_all s x
@@ -205,7 +205,7 @@ rank_most states.Queued = omega arith
 rank_most states.Merged = omega arith
 
 asked_keeps : (s : Step) (b : Bool) (x : Cell) → is_default x.state ≡ b → StepKeeps s x (if b then record x { state = states.Queued } else x)
-asked_keeps s true x default = record { kind = refl; bore = refl; state = by_state x.state default; owner = inl refl; mutex = λ _. refl }
+asked_keeps s true x default = record { kind = refl; bearer = refl; state = by_state x.state default; owner = inl refl; mutex = λ _. refl }
   where
     by_state : (z : State) → is_default z ≡ true → rank z ≤ 1
     by_state states.Default d = omega arith
@@ -228,47 +228,47 @@ live_step h u (Claim d) c sound may named live some =
 live_step h u (InitLocal d) c sound may named live some = absurd (not_bearing h u c d phases.Claimed sound (inl refl) may.hand (cc) live)
 live_step h u (InitShared d) c sound may named live some = absurd (not_bearing h u c d phases.Counted sound (inr (inl refl)) may.hand (cc) live)
 live_step h u (Birth d kind k) c sound may named live some = absurd (not_bearing h u c d phases.Ready sound (inr (inr refl)) may.hand (cc) live)
-live_step h u (LocalUp source k) c sound may named live some = keeps_if (LocalUp source k) (is_immortal c) (cell_at h c) _ (record { kind = refl; bore = refl; state = omega arith; owner = inl refl; mutex = λ _. refl })
-live_step h u (LocalDown drop) c sound may named live some = keeps_if (LocalDown drop) (is_immortal c) (cell_at h c) _ (record { kind = refl; bore = refl; state = omega arith; owner = inl refl; mutex = λ _. refl })
+live_step h u (LocalUp source k) c sound may named live some = keeps_if (LocalUp source k) (is_immortal c) (cell_at h c) _ (record { kind = refl; bearer = refl; state = omega arith; owner = inl refl; mutex = λ _. refl })
+live_step h u (LocalDown drop) c sound may named live some = keeps_if (LocalDown drop) (is_immortal c) (cell_at h c) _ (record { kind = refl; bearer = refl; state = omega arith; owner = inl refl; mutex = λ _. refl })
 live_step h u (SeeZero d) c sound may named live some = keeps_all (SeeZero d) (cell_at h c)
 live_step h u (Free d) c sound may named live some =
     let e : d ≡ c = cc in
-    let marked : is_marked (work_at h u) d ≡ true = (and_parts _ _ may.own).0 in
-    let fits : WorkFits u d (cell_at h d) = sound.works u d marked in
+    let marked : is_marked (worklist_at h u) d ≡ true = (and_parts _ _ may.own).0 in
+    let fits : WorklistFits u d (cell_at h d) = sound.worklists u d marked in
     absurd (elim some [
       | inl more ↦ omega (arith, subst (λ i. 1 ≤ held h i) (sym e) more, marked_unheld h u d sound marked)
       | inr low ↦ omega (arith, low, fits.mortal, e)
     ])
-live_step h u (Untie d) c sound may named live some = record { kind = refl; bore = refl; state = omega arith; owner = inr refl; mutex = λ _. refl }
-live_step h u (MergeZero d) c sound may named live some = record { kind = refl; bore = refl; state = rank_most (cell_at h c).state; owner = inl refl; mutex = λ _. refl }
-live_step h u (SharedUp source k) c sound may named live some = record { kind = refl; bore = refl; state = omega arith; owner = inl refl; mutex = λ _. refl }
-live_step h u (SharedDown drop) c sound may named live some = record { kind = refl; bore = refl; state = omega arith; owner = inl refl; mutex = λ _. refl }
+live_step h u (Untie d) c sound may named live some = record { kind = refl; bearer = refl; state = omega arith; owner = inr refl; mutex = λ _. refl }
+live_step h u (MergeZero d) c sound may named live some = record { kind = refl; bearer = refl; state = rank_most (cell_at h c).state; owner = inl refl; mutex = λ _. refl }
+live_step h u (SharedUp source k) c sound may named live some = record { kind = refl; bearer = refl; state = omega arith; owner = inl refl; mutex = λ _. refl }
+live_step h u (SharedDown drop) c sound may named live some = record { kind = refl; bearer = refl; state = omega arith; owner = inl refl; mutex = λ _. refl }
 live_step h u (Ask drop) c sound may named live some = asked_keeps (Ask drop) (is_default (cell_at h c).state) (cell_at h c) refl
-live_step h u (LastDown last) c sound may named live some = record { kind = refl; bore = refl; state = omega arith; owner = inl refl; mutex = λ _. refl }
+live_step h u (LastDown last) c sound may named live some = record { kind = refl; bearer = refl; state = omega arith; owner = inl refl; mutex = λ _. refl }
 live_step h u (Enqueue d) c sound may named live some = keeps_all (Enqueue d) (cell_at h c)
 live_step h u (Drain k) c sound may named live some = keeps_all (Drain k) (cell_at h c)
-live_step h u (MergeAdd d) c sound may named live some = record { kind = refl; bore = refl; state = rank_most (cell_at h c).state; owner = inl refl; mutex = λ _. refl }
+live_step h u (MergeAdd d) c sound may named live some = record { kind = refl; bearer = refl; state = rank_most (cell_at h c).state; owner = inl refl; mutex = λ _. refl }
 live_step h u (Close k) c sound may named live some = keeps_all (Close k) (cell_at h c)
 live_step h u (Nudge v k) c sound may named live some = keeps_all (Nudge v k) (cell_at h c)
 live_step h u Wake c sound may named live some = keeps_all Wake (cell_at h c)
-live_step h u (Lock k) c sound may named live some = record { kind = refl; bore = refl; state = omega arith; owner = inl refl; mutex = λ off. absurd (true≢false off) }
-live_step h u (Unlock change) c sound may named live some = record { kind = refl; bore = refl; state = omega arith; owner = inl refl; mutex = λ off. absurd (true≢false off) }
+live_step h u (Lock k) c sound may named live some = record { kind = refl; bearer = refl; state = omega arith; owner = inl refl; mutex = λ off. absurd (true≢false off) }
+live_step h u (Unlock change) c sound may named live some = record { kind = refl; bearer = refl; state = omega arith; owner = inl refl; mutex = λ off. absurd (true≢false off) }
 live_step h u (Register v) c sound may named live some = keeps_all (Register v) (cell_at h c)
 live_step h u (Gather v) c sound may named live some = keeps_all (Gather v) (cell_at h c)
 
 -- what any event leaves of what is held, or immortal
 pub record EventKeeps (x y : Cell) : Type 0 where
   pub kind : y.kind ≡ x.kind
-  pub bore : y.bore ≡ x.bore
+  pub bearer : y.bearer ≡ x.bearer
   pub state : rank x.state ≤ rank y.state
   pub owner : (y.owner ≡ x.owner) ⊎ (y.owner ≡ owners.Nobody)
 
 pub event_keeps : (h : Heap) (e : Event) (c : ℕ) → IsSound h → enabled h e ≡ true → lives (cell_at h c).owner ≡ true → (1 ≤ held h c) ⊎ (c < 266) → EventKeeps (cell_at h c) (cell_at (after h e) c)
 event_keeps h e c sound ok live some = elim (event_cell h e c ok) [
-  | inl same ↦ subst (λ y. EventKeeps (cell_at h c) y) (sym same) (record { kind = refl; bore = refl; state = omega arith; owner = inl refl })
+  | inl same ↦ subst (λ y. EventKeeps (cell_at h c) y) (sym same) (record { kind = refl; bearer = refl; state = omega arith; owner = inl refl })
   | inr at ↦
       let keeps : StepKeeps e.step (cell_at h c) (cell_after e.thread e.step c (cell_at h c)) = live_step h e.thread e.step c sound at.0.may at.0.named live some in
-      subst (λ y. EventKeeps (cell_at h c) y) (sym at.1) (record { kind = keeps.kind; bore = keeps.bore; state = keeps.state; owner = keeps.owner })
+      subst (λ y. EventKeeps (cell_at h c) y) (sym at.1) (record { kind = keeps.kind; bearer = keeps.bearer; state = keeps.state; owner = keeps.owner })
 ]
 
 -- ---- a locked object
@@ -369,11 +369,11 @@ has_lasts h e t c sound ok others has =
               there = ap (λ xs. slice_get xs entry.index) (locked_stays h e t entry.in_cell sound ok others.other locked).2 ∙ entry.there;
             }
             | inr marked ↦
-                let fits : WorkFits t entry.in_cell (cell_at h entry.in_cell) = sound.works t entry.in_cell marked in
-                let same = alone_stays h e t entry.in_cell sound ok others.other fits.mortal (omega (arith, one-true (is_marked (work_at h t) entry.in_cell) marked)) (marked_unheld h t entry.in_cell sound marked) (live_owner _ fits.lives) in
+                let fits : WorklistFits t entry.in_cell (cell_at h entry.in_cell) = sound.worklists t entry.in_cell marked in
+                let same = alone_stays h e t entry.in_cell sound ok others.other fits.mortal (omega (arith, one-true (is_marked (worklist_at h t) entry.in_cell) marked)) (marked_unheld h t entry.in_cell sound marked) (live_owner _ fits.lives) in
                 record {
                   in_cell = entry.in_cell;
-                  at_hand = inr (ap (λ marks. is_marked marks entry.in_cell) own.work ∙ marked);
+                  at_hand = inr (ap (λ marks. is_marked marks entry.in_cell) own.worklist ∙ marked);
                   index = entry.index;
                   there = ap (λ xs. slice_get xs entry.index) same.1 ∙ entry.there;
                 }
@@ -382,8 +382,8 @@ has_lasts h e t c sound ok others has =
       ]
     ]
 
-pub keeping_lasts : (t c : ℕ) (kind : Kind) (bore least : ℕ) → Lasts t (λ h. Keeps h t c kind bore least)
-keeping_lasts t c kind bore least h e reached ok others keeps =
+pub keeping_lasts : (t c : ℕ) (kind : Kind) (bearer least : ℕ) → Lasts t (λ h. Keeps h t c kind bearer least)
+keeping_lasts t c kind bearer least h e reached ok others keeps =
     let sound : IsSound h = reached_sound h reached in
     let stays : EventKeeps (cell_at h c) (cell_at (after h e) c) = event_keeps h e c sound ok keeps.live (inl (has_held h t c keeps.held)) in
     record {
@@ -391,7 +391,7 @@ keeping_lasts t c kind bore least h e reached ok others keeps =
       mortal = keeps.mortal;
       live = elim stays.owner [ inl same ↦ ap lives same ∙ keeps.live | inr nobody ↦ ap lives nobody ];
       kind_is = stays.kind ∙ keeps.kind_is;
-      bearer = stays.bore ∙ keeps.bearer;
+      same_bearer = stays.bearer ∙ keeps.same_bearer;
       state = omega (arith, keeps.state, stays.state);
     }
 

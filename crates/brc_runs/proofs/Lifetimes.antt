@@ -12,10 +12,10 @@ use Rattle.brc_runs.specs.declared.row.Hand.TheVariants as hands
 use Rattle.brc_runs.specs.declared.row.Phase.TheVariants as phases
 use Rattle.brc_runs.specs.declared.row.Stage.{Stage}
 use Rattle.brc_runs.specs.Lists.{one, is_marked}
-use Rattle.brc_runs.specs.Heap.{Heap, cell_at, row_at, work_at, no_cell, no_row, new_row, is_immortal, words_for}
+use Rattle.brc_runs.specs.Heap.{Heap, cell_at, row_at, worklist_at, no_cell, no_row, new_row, is_immortal, words_for}
 use Rattle.brc_runs.specs.Steps.{enabled, after, after_target, root_after, needs_no_cell, hand_ok, untied_ok, cell_after, row_after, is_shut, thread_may, root_may, target_at, target_ok, allocs_after, frees_after, stage_after}
 use Rattle.brc_runs.specs.Holding.{lives, lives_at, lives_since, lives_by, is_birth, is_free_step, holders_of, DiesUnheld}
-use Rattle.brc_runs.specs.Sound.{IsSound, HandFits, WorkFits, Births, held}
+use Rattle.brc_runs.specs.Sound.{IsSound, HandFits, WorklistFits, Births, held}
 use Rattle.brc_runs.proofs.Naming.{busy_hand, busy_carrier, free_owner, thread_owner}
 use Rattle.brc_runs.proofs.Asking.{May, may_parts, on_cell, OnCell}
 use Rattle.brc_runs.proofs.Changes.{read_by}
@@ -108,7 +108,7 @@ step_lives h t (Birth c kind k) q sound ok =
     lives_set h c q (cell_after t (Birth c kind k) c (cell_at h c)) true (on_cell h t (Birth c kind k) c may.on_target).inside said.mortal refl
 step_lives h t (Free c) q sound ok =
     let may : May h t (Free c) = may_parts h t (Free c) ok in
-    let fits : WorkFits t c (cell_at h c) = sound.works t c (and_parts _ _ may.own).0 in
+    let fits : WorklistFits t c (cell_at h c) = sound.worklists t c (and_parts _ _ may.own).0 in
     lives_set h c q (cell_after t (Free c) c (cell_at h c)) false (on_cell h t (Free c) c may.on_target).inside fits.mortal refl
 step_lives h t (Untie c) q sound ok =
     let may : May h t (Untie c) = may_parts h t (Untie c) ok in
@@ -253,8 +253,8 @@ step_dies h t (Birth c kind k) run sound same ok =
     sym (same c) ∙ and_right (not (is_immortal c)) (lives (cell_at h c).owner) (ap lives births.claimed)
 step_dies h t (Free c) run sound same ok =
     let may : May h t (Free c) = may_parts h t (Free c) ok in
-    let on : is_marked (work_at h t) c ≡ true = (and_parts _ _ may.own).0 in
-    let fits : WorkFits t c (cell_at h c) = sound.works t c on in (
+    let on : is_marked (worklist_at h t) c ≡ true = (and_parts _ _ may.own).0 in
+    let fits : WorklistFits t c (cell_at h c) = sound.worklists t c on in (
       sym (same c) ∙ alive_lives h c fits.mortal fits.lives,
       no_holders (holders_of h c) (length-holders h c ∙ marked_unheld h t c sound on),
     )

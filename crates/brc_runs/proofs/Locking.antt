@@ -20,10 +20,10 @@ use Rattle.brc_runs.specs.declared.row.Phase.TheVariants as phases
 use Rattle.brc_runs.specs.declared.row.Stage.{Stage}
 use Rattle.brc_runs.specs.declared.row.Stage.TheVariants as stages
 use Rattle.brc_runs.specs.Lists.{one, times, names, entry_times, place_at, filled, reaching, number_in}
-use Rattle.brc_runs.specs.Heap.{Heap, cell_at, entries_at, row_at, frame_at, popped_at, work_at, no_cell, no_row, is_gathered, immortal_kind}
+use Rattle.brc_runs.specs.Heap.{Heap, cell_at, entries_at, row_at, frame_at, popped_at, worklist_at, no_cell, no_row, is_gathered, immortal_kind}
 use Rattle.brc_runs.specs.Steps.{after_target, target_ok, locked_cell, change_ok, locked_entries, is_keep, frame_changed, entries_changed}
 use Rattle.brc_runs.specs.Holding.{lives}
-use Rattle.brc_runs.specs.Sound.{IsSound, CellFits, ImmortalFits, PhaseFits, WorkFits, Locks, in_entries}
+use Rattle.brc_runs.specs.Sound.{IsSound, CellFits, ImmortalFits, PhaseFits, WorklistFits, Locks, in_entries}
 use Rattle.brc_runs.proofs.Naming.{some_there, free_hand}
 use Rattle.brc_runs.proofs.Framing.{times-filled, times-vacated, length-filled, length-vacated}
 use Rattle.brc_runs.proofs.Asking.{May, OnCell, on_cell, Vacant, vacant}
@@ -40,14 +40,14 @@ mutex_phase m s row popped x g c phases.Counted fits = (record { claimed = fits.
 mutex_phase m s row popped x g c phases.Ready fits = (record { claimed = fits.0.claimed; more = fits.0.more }, fits.1, fits.2)
 mutex_phase m s row popped x g c phases.Zero fits = fits
 mutex_phase m s row popped x g c phases.Over fits = fits
-mutex_phase m s row popped x g c phases.Untied fits = record { owner = fits.owner; local = fits.local; not_merged = fits.not_merged; bore = fits.bore }
+mutex_phase m s row popped x g c phases.Untied fits = record { owner = fits.owner; local = fits.local; not_merged = fits.not_merged; bearer = fits.bearer }
 mutex_phase m s row popped x g c phases.Asked fits = tt
 mutex_phase m s row popped x g c phases.Shut fits = fits
 mutex_phase m s row popped x g c phases.Taking fits = fits
 mutex_phase m s row popped x g c phases.Held fits = fits
 mutex_phase m s row popped x g c phases.Popping fits = fits
 
-mutex_work : (m t q : ℕ) (x : Cell) → WorkFits t q x → WorkFits t q (record x { mutex = m })
+mutex_work : (m t q : ℕ) (x : Cell) → WorklistFits t q x → WorklistFits t q (record x { mutex = m })
 mutex_work m t q x fits = record { mortal = fits.mortal; lives = fits.lives; total = fits.total; whose = fits.whose }
 
 mutex_cell : (m threads limit : ℕ) (x : Cell) (old new : List ℕ) → (lives x.owner ≡ false → new ≡ []) → (is_container x.kind ≡ false → new ≡ []) → length new ≤ 1048576
@@ -98,7 +98,7 @@ turned h t c m locked f es = record {
   row = record (row_at h t) { locked = locked };
   frame = f;
   popped = popped_at h t;
-  work = work_at h t;
+  worklist = worklist_at h t;
   entries = set h.entries c es;
   queues = h.queues;
 }
@@ -132,11 +132,11 @@ turned_fits h t c m locked f es sound turns locks =
       immortal = λ low. subst (λ xs. ImmortalFits c (record (cell_at h c) { mutex = m }) xs) (sym here)
           (mutex_immortal m c (cell_at h c) (entries_at h c) es (turns.immortal low) turns.few (sound.immortals c low));
       fewer = λ q ne. subst (λ xs. Fewer (entries_at h q) xs) (sym (get_or-set_other h.entries c q es [] ne)) (same_entries (entries_at h q));
-      works_here = λ on. mutex_work m t c (cell_at h c) (sound.works t c on);
+      works_here = λ on. mutex_work m t c (cell_at h c) (sound.worklists t c on);
       works_own = λ q _ on. on;
-      works_else = λ s _ on. mutex_work m s c (cell_at h c) (sound.works s c on);
+      works_else = λ s _ on. mutex_work m s c (cell_at h c) (sound.worklists s c on);
       closes = λ k closed. closed;
-      own = active_fits _ (row_at h t) (record (row_at h t) { locked = locked }) (frame_at h t) f _ (work_at h t) (work_at h t) _ _ turns.active turns.here refl
+      own = active_fits _ (row_at h t) (record (row_at h t) { locked = locked }) (frame_at h t) f _ (worklist_at h t) (worklist_at h t) _ _ turns.active turns.here refl
           (λ k _. turns.free) (sound.threads t).births turns.places;
       queues_else = λ s k _. (sound.threads s).closed k;
       bits = same_bits h t c (turned h t c m locked f es) sound turns.cell_inside (kept_bits h t sound turns.inside) (inl refl);
@@ -213,7 +213,7 @@ lock_sound h t k (Some c) sound may named ok =
       few = any_few h c sound;
       places = (sound.threads t).places;
     }) (unlocked_mutex h t c k sound may.some_thread may.inside at_cell.inside (no_lock _ (Lock k) may.lock refl) (eqb-true _ _ at_cell.fits) named) in
-    subst (λ entries. IsSound (record h { cells = set h.cells c n.cell; entries = entries; rows = set h.rows t n.row; frames = set h.frames t (frame_at h t); popped = set h.popped t (popped_at h t); works = set h.works t (work_at h t) }))
+    subst (λ entries. IsSound (record h { cells = set h.cells c n.cell; entries = entries; rows = set h.rows t n.row; frames = set h.frames t (frame_at h t); popped = set h.popped t (popped_at h t); worklists = set h.worklists t (worklist_at h t) }))
     (set-get_or h.entries c []) (changed_sound h t c n sound fits)
 
 -- ---- unlocking

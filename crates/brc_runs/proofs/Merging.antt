@@ -16,7 +16,7 @@ use Rattle.brc_runs.specs.declared.row.Phase.TheVariants as phases
 use Rattle.brc_runs.specs.declared.row.Stage.{Stage}
 use Rattle.brc_runs.specs.declared.row.Stage.TheVariants as stages
 use Rattle.brc_runs.specs.Lists.{one, bit_of, is_marked}
-use Rattle.brc_runs.specs.Heap.{Heap, cell_at, entries_at, row_at, frame_at, popped_at, work_at, no_row}
+use Rattle.brc_runs.specs.Heap.{Heap, cell_at, entries_at, row_at, frame_at, popped_at, worklist_at, no_row}
 use Rattle.brc_runs.specs.Steps.{thread_may, stepped, is_at, is_active, is_default, is_queued, is_merged, is_zero, is_closed, is_nobody, untied_hand, untied_ok, untie_ok, added_hand}
 use Rattle.brc_runs.specs.Holding.{lives, carries, count_of_state}
 use Rattle.brc_runs.specs.Sound.{IsSound, CellFits, PhaseFits, HandFits, Untied, counted_in, grips_of, grips_by_owner, grips, is_gripping, is_active_phase, is_active_hand, gripped, held, asks_least}
@@ -52,13 +52,13 @@ ungripping_phase s row popped x y g c phases.Taking off merged fits = absurd (tr
 ungripping_phase s row popped x y g c phases.Held off merged fits = merged fits
 ungripping_phase s row popped x y g c phases.Popping off merged fits = absurd (true≢false off)
 
-pub hands_kept : (h : Heap) (t c : ℕ) (y : Cell) → IsSound h → y.bore ≡ (cell_at h c).bore → ((cell_at h c).state ≡ states.Merged → y.state ≡ states.Merged)
+pub hands_kept : (h : Heap) (t c : ℕ) (y : Cell) → IsSound h → y.bearer ≡ (cell_at h c).bearer → ((cell_at h c).state ≡ states.Merged → y.state ≡ states.Merged)
     → ((s : ℕ) → s ≢ t → one (grips c (row_at h s).hand) ≡ 0)
-    → (s : ℕ) (p : Phase) → s ≢ t → (row_at h s).hand ≡ hands.Busy p c → PhaseFits s (row_at h s) (popped_at h s) y (row_at h y.bore).stage c p
-hands_kept h t c y sound bore merged none s p ne busy =
+    → (s : ℕ) (p : Phase) → s ≢ t → (row_at h s).hand ≡ hands.Busy p c → PhaseFits s (row_at h s) (popped_at h s) y (row_at h y.bearer).stage c p
+hands_kept h t c y sound bearer merged none s p ne busy =
     let fits : HandFits h s p c = sound.hands s c p busy in
-    subst (λ b. PhaseFits s (row_at h s) (popped_at h s) y (row_at h b).stage c p) (sym bore)
-    (ungripping_phase s (row_at h s) (popped_at h s) (cell_at h c) y (row_at h (cell_at h c).bore).stage c p (no_gripping p c (row_at h s).hand (none s ne) busy) merged fits.fits)
+    subst (λ b. PhaseFits s (row_at h s) (popped_at h s) y (row_at h b).stage c p) (sym bearer)
+    (ungripping_phase s (row_at h s) (popped_at h s) (cell_at h c) y (row_at h (cell_at h c).bearer).stage c p (no_gripping p c (row_at h s).hand (none s ne) busy) merged fits.fits)
 
 -- ---- what the thread's hand rests on
 
@@ -122,16 +122,16 @@ record Unties (h : Heap) (t c : ℕ) (hand : Hand) : Type 0 where
   mortal : 266 ≤ c
   live : lives (cell_at h c).owner ≡ true
   unmerged : is_merged (cell_at h c).state ≡ false
-  unmarked : (s : ℕ) → one (is_marked (work_at h s) c) ≡ 0
+  unmarked : (s : ℕ) → one (is_marked (worklist_at h s) c) ≡ 0
   others : (s : ℕ) → s ≢ t → one (grips c (row_at h s).hand) ≡ 0
   carried : one (carries c hand) ≡ one (carries c (row_at h t).hand)
   grip : 1 + one (grips c (row_at h t).hand) ≡ grips_of (cell_at h c) + one (grips c hand)
   before : (p : Phase) (d : ℕ) → (row_at h t).hand ≡ hands.Busy p d → d ≡ c
-  after : (p : Phase) (d : ℕ) → hand ≡ hands.Busy p d → (d ≡ c) × PhaseFits t (record (row_at h t) { hand = hand }) (popped_at h t) (record (cell_at h c) { owner = owners.Nobody }) (row_at h (cell_at h c).bore).stage c p
+  after : (p : Phase) (d : ℕ) → hand ≡ hands.Busy p d → (d ≡ c) × PhaseFits t (record (row_at h t) { hand = hand }) (popped_at h t) (record (cell_at h c) { owner = owners.Nobody }) (row_at h (cell_at h c).bearer).stage c p
   idle : is_active (row_at h t).stage ≡ false → is_active_hand hand ≡ false
 
 unties_turn : (h : Heap) (t c : ℕ) (hand : Hand) → IsSound h → Unties h t c hand
-    → Turn h t c (record (cell_at h c) { owner = owners.Nobody }) hand (frame_at h t) (work_at h t) h.entries
+    → Turn h t c (record (cell_at h c) { owner = owners.Nobody }) hand (frame_at h t) (worklist_at h t) h.entries
 unties_turn h t c hand sound u =
     let x : Cell = record (cell_at h c) { owner = owners.Nobody } in
     let grip : grips_of x ≡ 1 = ap (λ b. if b then one (is_zero (cell_at h c).count) else 1) u.unmerged in
@@ -141,7 +141,7 @@ unties_turn h t c hand sound u =
       cell_inside = u.inside;
       mortal = u.mortal;
       mutex = refl;
-      bore = refl;
+      bearer = refl;
       live = sym u.live;
       vacant = λ j none. none;
       places = (sound.threads t).places;
@@ -183,7 +183,7 @@ untie_over h t c sound may inside busy =
       live = ap lives owner;
       unmerged = unmerged;
       unmarked = λ s. elim (cases_eq s t) [
-        | inl same ↦ ap (λ j. one (is_marked (work_at h j) c)) same ∙ omega (arith, grips_once h c t sound said.mortal, grip)
+        | inl same ↦ ap (λ j. one (is_marked (worklist_at h j) c)) same ∙ omega (arith, grips_once h c t sound said.mortal, grip)
         | inr other ↦ (alone s other).mark
       ];
       others = λ s ne. (alone s ne).hand;
@@ -199,8 +199,8 @@ untie_over h t c sound may inside busy =
       after = λ p d e.
           let same = busy_same phases.Untied c (hands.Busy phases.Untied c) refl p d e in (
             same.0,
-            subst (λ z. PhaseFits t (record (row_at h t) { hand = hands.Busy phases.Untied c }) (popped_at h t) (record (cell_at h c) { owner = owners.Nobody }) (row_at h (cell_at h c).bore).stage c z) (sym same.1)
-                (record { owner = refl; local = local; not_merged = unmerged; bore = (sound.cells c said.mortal).owned_by_bearer t owner }),
+            subst (λ z. PhaseFits t (record (row_at h t) { hand = hands.Busy phases.Untied c }) (popped_at h t) (record (cell_at h c) { owner = owners.Nobody }) (row_at h (cell_at h c).bearer).stage c z) (sym same.1)
+                (record { owner = refl; local = local; not_merged = unmerged; bearer = (sound.cells c said.mortal).owned_by_bearer t owner }),
           );
       idle = never_idle h t (hands.Busy phases.Untied c) (active_now h t c phases.Over sound busy refl);
     }
@@ -217,7 +217,7 @@ idle_apart h s c (hands.Busy p d) sound off owner e =
           ap (λ b. one (b && (d == c))) (by_phase p idle (sound.hands s c p busy).fits)
     ]
   where
-    by_phase : (p : Phase) → is_active_phase p ≡ false → PhaseFits s (row_at h s) (popped_at h s) (cell_at h c) (row_at h (cell_at h c).bore).stage c p → is_gripping p ≡ false
+    by_phase : (p : Phase) → is_active_phase p ≡ false → PhaseFits s (row_at h s) (popped_at h s) (cell_at h c) (row_at h (cell_at h c).bearer).stage c p → is_gripping p ≡ false
     by_phase phases.Claimed idle fits = absurd (true≢false idle)
     by_phase phases.Counted idle fits = absurd (true≢false idle)
     by_phase phases.Ready idle fits = absurd (true≢false idle)
@@ -249,8 +249,8 @@ untie_shut h t c sound may inside busy some =
     let carried : one (carries c (row_at h t).hand) ≡ 1 = busy_carrier phases.Shut c (row_at h t).hand refl busy in
     let live : lives (cell_at h c).owner ≡ true = held_owner h c sound said.mortal (carried_held h t c carried) in
     let owned : (s : ℕ) × ((cell_at h c).owner ≡ owners.Thread s) = live_thread (cell_at h c).owner live some in
-    let bore : (cell_at h c).bore ≡ owned.0 = (sound.cells c said.mortal).owned_by_bearer owned.0 owned.1 in
-    let off : is_active (row_at h owned.0).stage ≡ false = subst (λ b. is_active (row_at h b).stage ≡ false) bore (closed_idle _ (c / 32) said.fits) in
+    let bearer : (cell_at h c).bearer ≡ owned.0 = (sound.cells c said.mortal).owned_by_bearer owned.0 owned.1 in
+    let off : is_active (row_at h owned.0).stage ≡ false = subst (λ b. is_active (row_at h b).stage ≡ false) bearer (closed_idle _ (c / 32) said.fits) in
     let none : gripped h c ≡ 0 = owned_ungripped h owned.0 c sound said.mortal owned.1 (carried_held h t c carried) (idle_apart h owned.0 c (row_at h owned.0).hand sound off owned.1 refl) in
     let alone : (s : ℕ) → Ungripped h c s = ungripped h c none in
     record {
@@ -266,7 +266,7 @@ untie_shut h t c sound may inside busy some =
       before = λ p d e. (busy_same phases.Shut c (row_at h t).hand busy p d e).0;
       after = λ p d e.
           let same = busy_same phases.Taking c (hands.Busy phases.Taking c) refl p d e in
-          (same.0, subst (λ z. PhaseFits t (record (row_at h t) { hand = hands.Busy phases.Taking c }) (popped_at h t) (record (cell_at h c) { owner = owners.Nobody }) (row_at h (cell_at h c).bore).stage c z) (sym same.1) refl);
+          (same.0, subst (λ z. PhaseFits t (record (row_at h t) { hand = hands.Busy phases.Taking c }) (popped_at h t) (record (cell_at h c) { owner = owners.Nobody }) (row_at h (cell_at h c).bearer).stage c z) (sym same.1) refl);
       idle = λ _. refl;
     }
 
@@ -290,7 +290,7 @@ untie_popped h t c sound may inside free on owner =
       before = λ p d e. let bad : hands.Free ≡ hands.Busy p d = sym free ∙ e in absurd (cc);
       after = λ p d e.
           let same = busy_same phases.Popping c (hands.Busy phases.Popping c) refl p d e in
-          (same.0, subst (λ z. PhaseFits t (record (row_at h t) { hand = hands.Busy phases.Popping c }) (popped_at h t) (record (cell_at h c) { owner = owners.Nobody }) (row_at h (cell_at h c).bore).stage c z) (sym same.1) (refl, on));
+          (same.0, subst (λ z. PhaseFits t (record (row_at h t) { hand = hands.Busy phases.Popping c }) (popped_at h t) (record (cell_at h c) { owner = owners.Nobody }) (row_at h (cell_at h c).bearer).stage c z) (sym same.1) (refl, on));
       idle = λ _. refl;
     }
 
@@ -306,10 +306,10 @@ untie_sound h t c sound ok =
       rows = set h.rows t (record (row_at h t) { hand = hand });
       frames = set h.frames t (frame_at h t);
       popped = set h.popped t (popped_at h t);
-      works = set h.works t (work_at h t);
+      worklists = set h.worklists t (worklist_at h t);
     }) in
     let done : (old new : Hand) → (row_at h t).hand ≡ old → untied_hand c old ≡ new → Unties h t c new → P (untied_hand c (row_at h t).hand) = λ old new is goes u.
-    subst P (sym (ap (untied_hand c) is ∙ goes)) (turn_sound h t c x new (frame_at h t) (work_at h t) h.entries sound (unties_turn h t c new sound u)) in
+    subst P (sym (ap (untied_hand c) is ∙ goes)) (turn_sound h t c x new (frame_at h t) (worklist_at h t) h.entries sound (unties_turn h t c new sound u)) in
     elim (cases_Bool (is_at phases.Over c (row_at h t).hand)) [
       | inl over ↦
           let busy : (row_at h t).hand ≡ hands.Busy phases.Over c = busy_hand phases.Over c _ over in
@@ -356,12 +356,12 @@ nobodys_grips : (x : Cell) → x.owner ≡ owners.Nobody → is_merged x.state �
 nobodys_grips x owner unmerged = ap (λ o. grips_by_owner o x.state x.local x.count) owner ∙ ap (λ b. if b then one (is_zero x.count) else 1) unmerged
 
 -- the worklist's marks, where the block is taken or isn't
-pub taken_marks : (work : List Bool) (c : ℕ) → c < length work → one (is_marked work c) ≡ 0 → (b : Bool)
-    → (one (is_marked (if b then set work c true else work) c) ≡ one b)
-    × (length (if b then set work c true else work) ≡ length work)
-    × ((q : ℕ) → q ≢ c → is_marked (if b then set work c true else work) q ≡ is_marked work q)
-taken_marks work c within mark true = (ap one (get_or-set_same work c true false within), length-set work c true, λ q ne. get_or-set_other work c q true false ne)
-taken_marks work c within mark false = (mark, refl, λ q _. refl)
+pub taken_marks : (worklist : List Bool) (c : ℕ) → c < length worklist → one (is_marked worklist c) ≡ 0 → (b : Bool)
+    → (one (is_marked (if b then set worklist c true else worklist) c) ≡ one b)
+    × (length (if b then set worklist c true else worklist) ≡ length worklist)
+    × ((q : ℕ) → q ≢ c → is_marked (if b then set worklist c true else worklist) q ≡ is_marked worklist q)
+taken_marks worklist c within mark true = (ap one (get_or-set_same worklist c true false within), length-set worklist c true, λ q ne. get_or-set_other worklist c q true false ne)
+taken_marks worklist c within mark false = (mark, refl, λ q _. refl)
 
 -- a block on the list was taken
 pub marked_so : (b : Bool) (m : ℕ) → m ≡ 1 → m ≡ one b → b ≡ true
@@ -369,7 +369,7 @@ marked_so true m e f = refl
 marked_so false m e f = absurd (omega (arith, e, f))
 
 zero_turn : (h : Heap) (t c : ℕ) (b : Bool) → IsSound h → thread_may h t (MergeZero c) ≡ true → is_zero (cell_at h c).count ≡ b
-    → Turn h t c (record (cell_at h c) { state = states.Merged }) hands.Free (frame_at h t) (if b then set (work_at h t) c true else work_at h t) h.entries
+    → Turn h t c (record (cell_at h c) { state = states.Merged }) hands.Free (frame_at h t) (if b then set (worklist_at h t) c true else worklist_at h t) h.entries
 zero_turn h t c b sound ok zero =
     let may : May h t (MergeZero c) = may_parts h t (MergeZero c) ok in
     let x : Cell = cell_at h c in
@@ -379,19 +379,19 @@ zero_turn h t c b sound ok zero =
     let untied : Untied t x = said.fits in
     let live : lives x.owner ≡ true = ap lives untied.owner in
     let grip : one (grips c (row_at h t).hand) ≡ 1 = hand_grips h t c phases.Untied busy refl in
-    let mark : one (is_marked (work_at h t) c) ≡ 0 = omega (arith, grips_once h c t sound said.mortal, grip) in
+    let mark : one (is_marked (worklist_at h t) c) ≡ 0 = omega (arith, grips_once h c t sound said.mortal, grip) in
     let alone : (s : ℕ) → s ≢ t → Ungripped h c s = sole_grip h c t sound said.mortal (omega (arith, grip)) in
     let no_carry : one (carries c (row_at h t).hand) ≡ 0 = ap (λ z. one (carries c z)) busy in
-    let within : c < length (work_at h t) = omega (arith, sound.shaped.marks t may.some_thread may.inside, inside) in
-    let marks : (b : Bool) → (one (is_marked (if b then set (work_at h t) c true else work_at h t) c) ≡ one b)
-    × (length (if b then set (work_at h t) c true else work_at h t) ≡ length (work_at h t))
-    × ((q : ℕ) → q ≢ c → is_marked (if b then set (work_at h t) c true else work_at h t) q ≡ is_marked (work_at h t) q) = taken_marks (work_at h t) c within mark in
+    let within : c < length (worklist_at h t) = omega (arith, sound.shaped.marks t may.some_thread may.inside, inside) in
+    let marks : (b : Bool) → (one (is_marked (if b then set (worklist_at h t) c true else worklist_at h t) c) ≡ one b)
+    × (length (if b then set (worklist_at h t) c true else worklist_at h t) ≡ length (worklist_at h t))
+    × ((q : ℕ) → q ≢ c → is_marked (if b then set (worklist_at h t) c true else worklist_at h t) q ≡ is_marked (worklist_at h t) q) = taken_marks (worklist_at h t) c within mark in
     record {
       acts = acts h t (MergeZero c) may refl refl;
       cell_inside = inside;
       mortal = said.mortal;
       mutex = refl;
-      bore = refl;
+      bearer = refl;
       live = refl;
       vacant = λ j none. none;
       places = (sound.threads t).places;
@@ -443,7 +443,7 @@ gripped_unmerged h c sound mortal owner grip some =
 add_turn : (h : Heap) (t c : ℕ) (old new : Phase) (hand : Hand) → IsSound h → thread_may h t (MergeAdd c) ≡ true → (row_at h t).hand ≡ hands.Busy old c → is_gripping old ≡ true
     → (cell_at h c).owner ≡ owners.Nobody → 1 ≤ held h c → one (carries c hand) ≡ one (carries c (hands.Busy old c)) → one (grips c hand) ≡ 0
     → ((p : Phase) (d : ℕ) → hand ≡ hands.Busy p d → (d ≡ c) × (p ≡ phases.Held))
-    → Turn h t c (record (cell_at h c) { count = (cell_at h c).count +ℤ pos (cell_at h c).local; state = states.Merged }) hand (frame_at h t) (work_at h t) h.entries
+    → Turn h t c (record (cell_at h c) { count = (cell_at h c).count +ℤ pos (cell_at h c).local; state = states.Merged }) hand (frame_at h t) (worklist_at h t) h.entries
 add_turn h t c old new hand sound ok busy gripping owner some carried let_go held_now =
     let may : May h t (MergeAdd c) = may_parts h t (MergeAdd c) ok in
     let x : Cell = cell_at h c in
@@ -460,7 +460,7 @@ add_turn h t c old new hand sound ok busy gripping owner some carried let_go hel
       cell_inside = (on_cell h t (MergeAdd c) c may.on_target).inside;
       mortal = said.mortal;
       mutex = refl;
-      bore = refl;
+      bearer = refl;
       live = refl;
       vacant = λ j none. none;
       places = (sound.threads t).places;
@@ -473,7 +473,7 @@ add_turn h t c old new hand sound ok busy gripping owner some carried let_go hel
       least_here = omega (arith, same);
       before = λ p d e. (busy_same old c (row_at h t).hand busy p d e).0;
       after = λ p d e. let now = held_now p d e in
-          (now.0, subst (λ z. PhaseFits t (record (row_at h t) { hand = hand }) (popped_at h t) (record x { count = n; state = states.Merged }) (row_at h x.bore).stage c z) (sym now.1) refl);
+          (now.0, subst (λ z. PhaseFits t (record (row_at h t) { hand = hand }) (popped_at h t) (record x { count = n; state = states.Merged }) (row_at h x.bearer).stage c z) (sym now.1) refl);
       idle = λ _. idle_hand hand held_now;
       hands_else = hands_kept h t c (record x { count = n; state = states.Merged }) sound refl (λ _. refl) (λ s ne. (alone s ne).hand);
       cell = merged_cell _ _ x n (entries_at h c) owner (sound.cells c said.mortal);
@@ -496,10 +496,10 @@ merge_add_sound h t c sound ok =
       rows = set h.rows t (record (row_at h t) { hand = hand });
       frames = set h.frames t (frame_at h t);
       popped = set h.popped t (popped_at h t);
-      works = set h.works t (work_at h t);
+      worklists = set h.worklists t (worklist_at h t);
     }) in
-    let done : (old new : Hand) → (row_at h t).hand ≡ old → added_hand c old ≡ new → Turn h t c x new (frame_at h t) (work_at h t) h.entries → P (added_hand c (row_at h t).hand) = λ old new is goes turn.
-    subst P (sym (ap (added_hand c) is ∙ goes)) (turn_sound h t c x new (frame_at h t) (work_at h t) h.entries sound turn) in
+    let done : (old new : Hand) → (row_at h t).hand ≡ old → added_hand c old ≡ new → Turn h t c x new (frame_at h t) (worklist_at h t) h.entries → P (added_hand c (row_at h t).hand) = λ old new is goes turn.
+    subst P (sym (ap (added_hand c) is ∙ goes)) (turn_sound h t c x new (frame_at h t) (worklist_at h t) h.entries sound turn) in
     elim (cases_Bool (is_at phases.Taking c (row_at h t).hand)) [
       | inl taking ↦
           let busy : (row_at h t).hand ≡ hands.Busy phases.Taking c = busy_hand phases.Taking c _ taking in

@@ -13,7 +13,7 @@ use Rattle.brc_runs.specs.declared.row.Row.{Row}
 use Rattle.brc_runs.specs.declared.row.Hand.{Hand}
 use Rattle.brc_runs.specs.Lists.{one, times, entry_times, bit_of, place_at, filled, vacated}
 use Rattle.brc_runs.specs.Heap.{Heap, cell_at, entries_at, row_at, frame_at, popped_at, queue_at, no_cell, no_row, is_immortal}
-use Rattle.brc_runs.specs.Steps.{after_target, stepped, kept_cells, target_at, target_ok, needs_no_cell, thread_may, cell_ok, cell_after, frame_after, popped_after, hand_after, queues_after, is_shut, with_taken, taken_word}
+use Rattle.brc_runs.specs.Steps.{after_target, stepped, kept_cells, target_at, target_ok, needs_no_cell, thread_may, cell_ok, cell_after, frame_after, popped_after, hand_after, queues_after, is_shut, with_drained, drained_word}
 use Rattle.brc_runs.specs.Holding.{lives_at, carries, map_of, moves_of, MakesMoves, is_birth}
 use Rattle.brc_runs.specs.Sound.{IsSound}
 use Rattle.brc_runs.proofs.Naming.{Unheld, one-false, sum_one}
@@ -188,7 +188,7 @@ stepped_own h t s c sound inside = record {
 }
 
 pub kept_own : (h : Heap) (t : ℕ) (s : Step) → IsSound h → t < length h.rows
-    → Own h (kept_cells h t s) t (frame_at h t) (with_taken (taken_word s) (queue_at h t) (popped_at h t)) (row_at h t).hand
+    → Own h (kept_cells h t s) t (frame_at h t) (with_drained (drained_word s) (queue_at h t) (popped_at h t)) (row_at h t).hand
 kept_own h t s sound inside = record {
   frame = refl;
   popped = read_here h.popped t _ [] (omega (arith, sound.shaped.popped, inside));

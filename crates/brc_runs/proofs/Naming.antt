@@ -18,7 +18,7 @@ use Rattle.brc_runs.specs.declared.row.Phase.TheVariants as phases
 use Rattle.brc_runs.specs.declared.row.Stage.{Stage}
 use Rattle.brc_runs.specs.declared.row.Stage.TheVariants as stages
 use Rattle.brc_runs.specs.Lists.{one, times, bit_of, is_marked, number_in}
-use Rattle.brc_runs.specs.Heap.{Heap, cell_at, row_at, frame_at, popped_at, work_at, queue_at, no_row}
+use Rattle.brc_runs.specs.Heap.{Heap, cell_at, row_at, frame_at, popped_at, worklist_at, queue_at, no_row}
 use Rattle.brc_runs.specs.Steps.{is_free_hand, is_at, phase_number, is_free, is_owned_by, is_nobody, is_active, is_zero, is_default, is_merged}
 use Rattle.brc_runs.specs.Holding.{lives, total_of, carries, has_reference}
 use Rattle.brc_runs.specs.Sound.{IsSound, counted_in, grips_by_owner, grips, gripped, held, asks, in_entries}
@@ -222,20 +222,20 @@ dead_unheld h c sound mortal dead =
 
 -- nothing grips the cell
 pub record Ungripped (h : Heap) (c s : ℕ) : Type 0 where
-  pub mark : one (is_marked (work_at h s) c) ≡ 0
+  pub mark : one (is_marked (worklist_at h s) c) ≡ 0
   pub hand : one (grips c (row_at h s).hand) ≡ 0
 
 pub ungripped : (h : Heap) (c : ℕ) → gripped h c ≡ 0 → (s : ℕ) → Ungripped h c s
 ungripped h c none s = record {
-  mark = omega (arith, none, sum_one (λ (marks : List Bool). one (is_marked marks c)) h.works s [] refl);
+  mark = omega (arith, none, sum_one (λ (marks : List Bool). one (is_marked marks c)) h.worklists s [] refl);
   hand = omega (arith, none, sum_one (λ (row : Row). one (grips c row.hand)) h.rows s no_row refl);
 }
 
 -- a thread that grips the cell is the only one, and does so once
-pub sole_grip : (h : Heap) (c t : ℕ) → IsSound h → 266 ≤ c → 1 ≤ one (is_marked (work_at h t) c) + one (grips c (row_at h t).hand)
+pub sole_grip : (h : Heap) (c t : ℕ) → IsSound h → 266 ≤ c → 1 ≤ one (is_marked (worklist_at h t) c) + one (grips c (row_at h t).hand)
     → (s : ℕ) → s ≢ t → Ungripped h c s
 sole_grip h c t sound mortal some s ne =
-    let marks = sum_two (λ (marks : List Bool). one (is_marked marks c)) h.works t s [] refl ne in
+    let marks = sum_two (λ (marks : List Bool). one (is_marked marks c)) h.worklists t s [] refl ne in
     let rows = sum_two (λ (row : Row). one (grips c row.hand)) h.rows t s no_row refl ne in
     let most = grips_of-le (cell_at h c).owner (cell_at h c).state (cell_at h c).local (cell_at h c).count in
     let total = sound.gripped c mortal in
@@ -244,11 +244,11 @@ sole_grip h c t sound mortal some s ne =
       hand = omega (arith, marks, rows, most, total, some);
     }
 
-pub grips_once : (h : Heap) (c t : ℕ) → IsSound h → 266 ≤ c → one (is_marked (work_at h t) c) + one (grips c (row_at h t).hand) ≤ 1
+pub grips_once : (h : Heap) (c t : ℕ) → IsSound h → 266 ≤ c → one (is_marked (worklist_at h t) c) + one (grips c (row_at h t).hand) ≤ 1
 grips_once h c t sound mortal =
     omega (
       arith,
-      sum_one (λ (marks : List Bool). one (is_marked marks c)) h.works t [] refl,
+      sum_one (λ (marks : List Bool). one (is_marked marks c)) h.worklists t [] refl,
       sum_one (λ (row : Row). one (grips c row.hand)) h.rows t no_row refl,
       grips_of-le (cell_at h c).owner (cell_at h c).state (cell_at h c).local (cell_at h c).count,
       sound.gripped c mortal,

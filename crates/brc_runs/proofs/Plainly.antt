@@ -6,10 +6,10 @@ use Rattle.brc_runs.specs.declared.row.Row.{Row}
 use Rattle.brc_runs.specs.declared.row.Hand.TheVariants as hands
 use Rattle.brc_runs.specs.declared.row.Phase.{Phase}
 use Rattle.brc_runs.specs.Lists.{one, times, entry_times, bit_of, is_marked, place_at}
-use Rattle.brc_runs.specs.Heap.{Heap, cell_at, entries_at, row_at, frame_at, popped_at, work_at, queue_at, is_gathered, words_for}
+use Rattle.brc_runs.specs.Heap.{Heap, cell_at, entries_at, row_at, frame_at, popped_at, worklist_at, queue_at, is_gathered, words_for}
 use Rattle.brc_runs.specs.Steps.{is_closed}
 use Rattle.brc_runs.specs.Holding.{lives, carries}
-use Rattle.brc_runs.specs.Sound.{IsSound, CellFits, ImmortalFits, WorkFits, ThreadFits, PhaseFits, counted_in, grips_of, grips, asks, asks_most, asks_least, in_entries}
+use Rattle.brc_runs.specs.Sound.{IsSound, CellFits, ImmortalFits, WorklistFits, ThreadFits, PhaseFits, counted_in, grips_of, grips, asks, asks_most, asks_least, in_entries}
 use Rattle.brc_runs.proofs.Changes.{New, Fits, Fewer, changed, changed_sound, immortal_entries, same_locks, same_bits, kept_bits}
 
 -- one cell, one thread's row, frame and worklist, and entries replaced; the popped bits and all queues as they were
@@ -19,7 +19,7 @@ plain h t x r f w es = record {
   row = r;
   frame = f;
   popped = popped_at h t;
-  work = w;
+  worklist = w;
   entries = es;
   queues = h.queues;
 }
@@ -30,33 +30,33 @@ pub record Plain (h : Heap) (t c : ℕ) (x : Cell) (r : Row) (f : List (Option �
   pub cell_inside : c < length h.cells
   pub immortal : c < 266 → x ≡ cell_at h c
   pub mutex : x.mutex ≡ (cell_at h c).mutex
-  pub bore : (x.bore ≡ (cell_at h c).bore) ⊎ ((s : ℕ) → bit_of (queue_at h s) c + bit_of (popped_at h s) c ≡ 0)
+  pub bearer : (x.bearer ≡ (cell_at h c).bearer) ⊎ ((s : ℕ) → bit_of (queue_at h s) c + bit_of (popped_at h s) c ≡ 0)
   pub stage : r.stage ≡ (row_at h t).stage
   pub locked : r.locked ≡ (row_at h t).locked
   pub locked_place : (k : ℕ) → (row_at h t).locked ≡ Some k → place_at f k ≡ place_at (frame_at h t) k
-  pub marks : length w ≡ length (work_at h t)
+  pub marks : length w ≡ length (worklist_at h t)
   pub lists : length es ≡ length h.entries
   -- sums
   pub counted_here : 266 ≤ c → counted_in x +ℤ pos (times c (frame_at h t) + one (carries c (row_at h t).hand) + in_entries h c)
       ≡ counted_in (cell_at h c) +ℤ pos (times c f + one (carries c r.hand) + sum_by (entry_times c) es)
   pub counted_else : (q : ℕ) → 266 ≤ q → q ≢ c → times q (frame_at h t) + one (carries q (row_at h t).hand) + in_entries h q
       ≡ times q f + one (carries q r.hand) + sum_by (entry_times q) es
-  pub gripped_here : 266 ≤ c → grips_of x + one (is_marked (work_at h t) c) + one (grips c (row_at h t).hand)
+  pub gripped_here : 266 ≤ c → grips_of x + one (is_marked (worklist_at h t) c) + one (grips c (row_at h t).hand)
       ≡ grips_of (cell_at h c) + one (is_marked w c) + one (grips c r.hand)
-  pub gripped_else : (q : ℕ) → 266 ≤ q → q ≢ c → one (is_marked (work_at h t) q) + one (grips q (row_at h t).hand)
+  pub gripped_else : (q : ℕ) → 266 ≤ q → q ≢ c → one (is_marked (worklist_at h t) q) + one (grips q (row_at h t).hand)
       ≡ one (is_marked w q) + one (grips q r.hand)
   pub most_here : 266 ≤ c → asks h c + one (carries c r.hand) ≤ asks_most x + one (carries c (row_at h t).hand)
   pub least_here : 266 ≤ c → asks_least x + one (carries c (row_at h t).hand) ≤ asks h c + one (carries c r.hand)
   pub asks_else : (q : ℕ) → 266 ≤ q → q ≢ c → one (carries q r.hand) ≡ one (carries q (row_at h t).hand)
   -- hands
-  pub hand : (p : Phase) (d : ℕ) → r.hand ≡ hands.Busy p d → (d ≡ c) × (266 ≤ c) × PhaseFits t r (popped_at h t) x (row_at h x.bore).stage c p
-  pub hands_else : (s : ℕ) (p : Phase) → s ≢ t → (row_at h s).hand ≡ hands.Busy p c → PhaseFits s (row_at h s) (popped_at h s) x (row_at h x.bore).stage c p
+  pub hand : (p : Phase) (d : ℕ) → r.hand ≡ hands.Busy p d → (d ≡ c) × (266 ≤ c) × PhaseFits t r (popped_at h t) x (row_at h x.bearer).stage c p
+  pub hands_else : (s : ℕ) (p : Phase) → s ≢ t → (row_at h s).hand ≡ hands.Busy p c → PhaseFits s (row_at h s) (popped_at h s) x (row_at h x.bearer).stage c p
   -- cells and worklists
   pub cell : 266 ≤ c → CellFits (length h.rows) h.limit x (get_or es c [])
   pub fewer : (q : ℕ) → (266 ≤ q → q ≢ c) → Fewer (entries_at h q) (get_or es q [])
-  pub works_here : is_marked w c ≡ true → WorkFits t c x
-  pub works_own : (q : ℕ) → q ≢ c → is_marked w q ≡ true → is_marked (work_at h t) q ≡ true
-  pub works_else : (s : ℕ) → s ≢ t → is_marked (work_at h s) c ≡ true → WorkFits s c x
+  pub works_here : is_marked w c ≡ true → WorklistFits t c x
+  pub works_own : (q : ℕ) → q ≢ c → is_marked w q ≡ true → is_marked (worklist_at h t) q ≡ true
+  pub works_else : (s : ℕ) → s ≢ t → is_marked (worklist_at h s) c ≡ true → WorklistFits s c x
   -- the thread, and the ledger
   pub own : ThreadFits (words_for (length h.cells)) r f (popped_at h t) w (queue_at h t) (is_gathered h t)
   pub ledger : r.allocs + (row_at h t).frees + one (lives (cell_at h c).owner) ≡ (row_at h t).allocs + r.frees + one (lives x.owner)
@@ -91,7 +91,7 @@ plain_fits h t c x r f w es sound p = record {
   closes = λ k. subst (λ g. is_closed (row_at h t).stage k ≡ true → is_closed g k ≡ true) (sym p.stage) (λ closed. closed);
   own = p.own;
   queues_else = λ s k _. (sound.threads s).closed k;
-  bits = same_bits h t c (plain h t x r f w es) sound p.cell_inside (kept_bits h t sound p.thread_inside) p.bore;
+  bits = same_bits h t c (plain h t x r f w es) sound p.cell_inside (kept_bits h t sound p.thread_inside) p.bearer;
   locks = same_locks h t c (plain h t x r f w es) sound p.thread_inside p.cell_inside (record { mutex = p.mutex; locked = p.locked; place = p.locked_place });
   ledger = p.ledger;
 }

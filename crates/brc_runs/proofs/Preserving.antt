@@ -9,7 +9,7 @@ use Rattle.brc_runs.specs.declared.event.LastDropped.TheVariants as lasts
 use Rattle.brc_runs.specs.declared.row.Hand.TheVariants as hands
 use Rattle.brc_runs.specs.declared.row.Phase.TheVariants as phases
 use Rattle.brc_runs.specs.Lists.{filled}
-use Rattle.brc_runs.specs.Heap.{Heap, cell_at, entries_at, row_at, frame_at, popped_at, work_at, is_immortal}
+use Rattle.brc_runs.specs.Heap.{Heap, cell_at, entries_at, row_at, frame_at, popped_at, worklist_at, is_immortal}
 use Rattle.brc_runs.specs.Steps.{thread_may, after_target, target_at, target_ok, source_cell, dropped_cell, frame_without, entries_without, is_mine, counts_up_locally}
 use Rattle.brc_runs.specs.Sound.{IsSound}
 use Rattle.brc_runs.proofs.Naming.{free_hand}
@@ -48,7 +48,7 @@ up_target h t k source (Some c) sound may named ok =
       rows = set h.rows t (row_at h t);
       frames = set h.frames t (filled (frame_at h t) k c);
       popped = set h.popped t (popped_at h t);
-      works = set h.works t (work_at h t);
+      worklists = set h.worklists t (worklist_at h t);
     }) in
     elim (cases_Bool (is_immortal c)) [
       | inl immortal ↦ subst P (sym immortal) (plain_sound h t c _ _ _ _ _ sound (up_immortal_fits h t c k sound ups (ltb-true c 266 immortal)))
@@ -65,7 +65,7 @@ up_target h t k source (Some c) sound may named ok =
 -- ---- the owner counts down
 
 down_target : (h : Heap) (t : ℕ) (drop : Dropped) (o : Option ℕ) → IsSound h → May h t (LocalDown drop)
-    → dropped_cell (frame_at h t) (work_at h t) (entries_at h) drop ≡ o → target_ok h t (row_at h t) (LocalDown drop) o ≡ true
+    → dropped_cell (frame_at h t) (worklist_at h t) (entries_at h) drop ≡ o → target_ok h t (row_at h t) (LocalDown drop) o ≡ true
     → IsSound (after_target h t (LocalDown drop) o)
 down_target h t drop None sound may named ok = absurd (true≢false (sym ok))
 down_target h t drop (Some c) sound may named ok =
@@ -79,7 +79,7 @@ down_target h t drop (Some c) sound may named ok =
       rows = set h.rows t (record (row_at h t) { hand = if not b && ((cell_at h c).local == 1) then hands.Busy phases.Zero c else (row_at h t).hand });
       frames = set h.frames t f;
       popped = set h.popped t (popped_at h t);
-      works = set h.works t (work_at h t);
+      worklists = set h.worklists t (worklist_at h t);
     }) in
     elim (cases_Bool (is_immortal c)) [
       | inl immortal ↦ subst P (sym immortal) (plain_sound h t c _ _ _ _ _ sound (down_immortal_fits h t c f es sound downs (ltb-true c 266 immortal)))

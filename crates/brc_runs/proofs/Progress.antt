@@ -20,7 +20,7 @@ use Rattle.brc_runs.specs.declared.row.Phase.TheVariants as phases
 use Rattle.brc_runs.specs.declared.row.Stage.{Stage}
 use Rattle.brc_runs.specs.declared.row.Stage.TheVariants as stages
 use Rattle.brc_runs.specs.Lists.{one, is_marked, bit_of, place_at}
-use Rattle.brc_runs.specs.Heap.{Heap, cell_at, entries_at, row_at, frame_at, popped_at, work_at, no_cell, is_registered, is_gathered, is_immortal}
+use Rattle.brc_runs.specs.Heap.{Heap, cell_at, entries_at, row_at, frame_at, popped_at, worklist_at, no_cell, is_registered, is_gathered, is_immortal}
 use Rattle.brc_runs.specs.Steps.{enabled, root_may, thread_may, stage_ok, lock_ok, hand_ok, own_ok_at, others_ok, target_at, target_ok, cell_ok, dropped_cell, may_after_leaving, is_close, needs_lock, is_at, is_active, is_vacant, is_mine, is_default, is_merged, is_nobody, is_queued, is_owned_by, cell_in_hand, untie_ok, untied_ok, ends_ok}
 use Rattle.brc_runs.specs.Runs.{IsReached}
 use Rattle.brc_runs.specs.Holding.{lives}
@@ -203,7 +203,7 @@ at_rest h t c s rest may plain hand own others named taken cell = is_enabled h t
   cell = cell;
 })
 
-pub references_go : (h : Heap) (t c : ℕ) (drop : Dropped) → IsReached h → IsAtRest h t → dropped_cell (frame_at h t) (work_at h t) (entries_at h) drop ≡ Some c
+pub references_go : (h : Heap) (t c : ℕ) (drop : Dropped) → IsReached h → IsAtRest h t → dropped_cell (frame_at h t) (worklist_at h t) (entries_at h) drop ≡ Some c
     → enabled h (record { thread = t; step = release_step t (row_at h t).stage c (cell_at h c) drop }) ≡ true
 references_go h t c drop reached rest named =
     let sound : IsSound h = reached_sound h reached in
@@ -240,7 +240,7 @@ popped_go h t c reached rest popped =
           (ap (λ g. untied_ok t g (cell_at h c)) rest.hand ∙ and_both _ _ (ap (is_owned_by t) own.0 ∙ here t) (ap is_queued own.1)))
     ]
 
-pub blocks_go : (h : Heap) (t c : ℕ) → IsReached h → IsAtRest h t → is_marked (work_at h t) c ≡ true → entries_at h c ≡ [] → enabled h (record { thread = t; step = Free c }) ≡ true
+pub blocks_go : (h : Heap) (t c : ℕ) → IsReached h → IsAtRest h t → is_marked (worklist_at h t) c ≡ true → entries_at h c ≡ [] → enabled h (record { thread = t; step = Free c }) ≡ true
 blocks_go h t c reached rest marked empty =
     let sound : IsSound h = reached_sound h reached in
-    at_rest h t c (Free c) rest refl refl refl (and_both _ _ marked (ap (λ (xs : List ℕ). length xs == 0) empty)) refl refl (live_owner _ (sound.works t c marked).lives) refl
+    at_rest h t c (Free c) rest refl refl refl (and_both _ _ marked (ap (λ (xs : List ℕ). length xs == 0) empty)) refl refl (live_owner _ (sound.worklists t c marked).lives) refl

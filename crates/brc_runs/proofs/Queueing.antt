@@ -16,8 +16,8 @@ use Rattle.brc_runs.specs.declared.row.Phase.TheVariants as phases
 use Rattle.brc_runs.specs.declared.row.Stage.{Stage}
 use Rattle.brc_runs.specs.declared.row.Stage.TheVariants as stages
 use Rattle.brc_runs.specs.Lists.{one, bit_of, is_marked, place_at, word_at, with_bit, without_bit, is_bare, is_unmarked}
-use Rattle.brc_runs.specs.Heap.{Heap, cell_at, entries_at, row_at, frame_at, popped_at, work_at, queue_at, no_cell, no_row, is_gathered, words_for}
-use Rattle.brc_runs.specs.Steps.{thread_may, stepped, is_shut, kept_cells, closes_next, closed_more, with_taken, without_taken, is_active, is_closed, is_default, is_queued, is_merged, is_zero}
+use Rattle.brc_runs.specs.Heap.{Heap, cell_at, entries_at, row_at, frame_at, popped_at, worklist_at, queue_at, no_cell, no_row, is_gathered, words_for}
+use Rattle.brc_runs.specs.Steps.{thread_may, stepped, is_shut, kept_cells, closes_next, closed_more, with_drained, without_drained, is_active, is_closed, is_default, is_queued, is_merged, is_zero}
 use Rattle.brc_runs.specs.Holding.{lives, carries}
 use Rattle.brc_runs.specs.Sound.{IsSound, ThreadFits, PhaseFits, HandFits, grips, is_active_hand, held, asks, is_threads, in_queues}
 use Rattle.brc_runs.proofs.Naming.{no_mark, one-le, free_hand, busy_hand, busy_carrier, sum_one, no_bit}
@@ -41,8 +41,8 @@ record Asked (h : Heap) (t c : ℕ) : Type 0 where
   mortal : 266 ≤ c
   carried : one (carries c (row_at h t).hand) ≡ 1
   live : lives (cell_at h c).owner ≡ true
-  bearer : (cell_at h c).bore < length h.rows
-  some_bearer : 0 < (cell_at h c).bore
+  bearer : (cell_at h c).bearer < length h.rows
+  some_bearer : 0 < (cell_at h c).bearer
   no_grip : one (grips c (row_at h t).hand) ≡ 0
 
 asked : (h : Heap) (t c : ℕ) → IsSound h → thread_may h t (Enqueue c) ≡ true → Asked h t c
@@ -66,7 +66,7 @@ asked h t c sound ok =
     }
 
 -- the word is closed: the reference stays in the hand
-shut_turn : (h : Heap) (t c : ℕ) → IsSound h → Asked h t c → is_shut h c ≡ true → Turn h t c (cell_at h c) (hands.Busy phases.Shut c) (frame_at h t) (work_at h t) h.entries
+shut_turn : (h : Heap) (t c : ℕ) → IsSound h → Asked h t c → is_shut h c ≡ true → Turn h t c (cell_at h c) (hands.Busy phases.Shut c) (frame_at h t) (worklist_at h t) h.entries
 shut_turn h t c sound a shut =
     let here : one (c == c) ≡ 1 = ap one (eq-eqb c c refl) in
     record {
@@ -74,7 +74,7 @@ shut_turn h t c sound a shut =
       cell_inside = a.inside;
       mortal = a.mortal;
       mutex = refl;
-      bore = refl;
+      bearer = refl;
       live = refl;
       vacant = λ j none. none;
       places = (sound.threads t).places;
@@ -87,14 +87,14 @@ shut_turn h t c sound a shut =
       least_here = omega (arith, sound.least c a.mortal, a.carried, here);
       before = λ p d e. (busy_same phases.Asked c (row_at h t).hand a.busy p d e).0;
       after = λ p d e. let same = busy_same phases.Shut c (hands.Busy phases.Shut c) refl p d e in
-          (same.0, subst (λ z. PhaseFits t (record (row_at h t) { hand = hands.Busy phases.Shut c }) (popped_at h t) (cell_at h c) (row_at h (cell_at h c).bore).stage c z) (sym same.1) shut);
+          (same.0, subst (λ z. PhaseFits t (record (row_at h t) { hand = hands.Busy phases.Shut c }) (popped_at h t) (cell_at h c) (row_at h (cell_at h c).bearer).stage c z) (sym same.1) shut);
       idle = λ _. refl;
       hands_else = λ s p _ busy. (sound.hands s c p busy).fits;
       cell = sound.cells c a.mortal;
       fewer = λ q _. same_entries _;
-      works_here = sound.works t c;
+      works_here = sound.worklists t c;
       marks_else = λ q _. refl;
-      works_else = λ s _ on. sound.works s c on;
+      works_else = λ s _ on. sound.worklists s c on;
     }
 
 -- the word is open: the bearer's queue gets the bit
@@ -104,14 +104,14 @@ queued h t c = record {
   row = record (row_at h t) { hand = hands.Free };
   frame = frame_at h t;
   popped = popped_at h t;
-  work = work_at h t;
+  worklist = worklist_at h t;
   entries = h.entries;
-  queues = set h.queues (cell_at h c).bore (with_bit (queue_at h (cell_at h c).bore) c);
+  queues = set h.queues (cell_at h c).bearer (with_bit (queue_at h (cell_at h c).bearer) c);
 }
 
 queued_fits : (h : Heap) (t c : ℕ) → IsSound h → Asked h t c → is_shut h c ≡ false → Fits h t c (queued h t c)
 queued_fits h t c sound a apart =
-    let b : ℕ = (cell_at h c).bore in
+    let b : ℕ = (cell_at h c).bearer in
     let words : List ℕ = with_bit (queue_at h b) c in
     let queues : List (List ℕ) = set h.queues b words in
     let within : b < length h.queues = omega (arith, sound.shaped.queues, a.bearer) in
@@ -151,32 +151,32 @@ queued_fits h t c sound a apart =
       cell = sound.cells c;
       immortal = sound.immortals c;
       fewer = λ q _. same_entries _;
-      works_here = sound.works t c;
+      works_here = sound.worklists t c;
       works_own = λ q _ on. on;
-      works_else = λ s _ on. sound.works s c on;
+      works_else = λ s _ on. sound.worklists s c on;
       closes = λ k closed. closed;
       own = other_queue _ _ _ _ _ (queue_at h t) (get_or queues t []) _ (empty t)
-          (turned_thread _ (row_at h t) hands.Free (frame_at h t) (frame_at h t) (popped_at h t) (popped_at h t) (work_at h t) (work_at h t) (queue_at h t) (is_gathered h t)
+          (turned_thread _ (row_at h t) hands.Free (frame_at h t) (frame_at h t) (popped_at h t) (popped_at h t) (worklist_at h t) (worklist_at h t) (queue_at h t) (is_gathered h t)
           (sound.threads t) a.who.here a.who.not_closing a.who.unlocked (λ _. refl) (λ j none. none) (sound.threads t).places);
       queues_else = λ s k _. empty s k;
       bits = λ s q some.
           let old : bit_of (get_or (set h.popped t (popped_at h t)) s []) q ≡ bit_of (popped_at h s) q = ap (λ l. bit_of (get_or l s []) q) (set-get_or h.popped t []) in
-          let bore : (get_or (set h.cells c (cell_at h c)) q no_cell).bore ≡ (cell_at h q).bore = ap (λ l. (get_or l q no_cell).bore) (set-get_or h.cells c no_cell) in
+          let bearer : (get_or (set h.cells c (cell_at h c)) q no_cell).bearer ≡ (cell_at h q).bearer = ap (λ l. (get_or l q no_cell).bearer) (set-get_or h.cells c no_cell) in
           elim (newer s q) [
-            | inl same ↦ let said = sound.bits s q (omega (arith, some, old, same)) in (said.0, bore ∙ said.1)
-            | inr new ↦ (omega (arith, new.1, a.mortal), bore ∙ ap (λ j. (cell_at h j).bore) new.1 ∙ sym new.0)
+            | inl same ↦ let said = sound.bits s q (omega (arith, some, old, same)) in (said.0, bearer ∙ said.1)
+            | inr new ↦ (omega (arith, new.1, a.mortal), bearer ∙ ap (λ j. (cell_at h j).bearer) new.1 ∙ sym new.0)
           ];
       locks = same_locks h t c (queued h t c) sound a.who.inside a.inside (record { mutex = refl; locked = refl; place = λ k _. refl });
       ledger = refl;
     }
   where
-    newer : (s q : ℕ) → (bit_of (get_or (set h.queues (cell_at h c).bore (with_bit (queue_at h (cell_at h c).bore) c)) s []) q ≡ bit_of (queue_at h s) q) ⊎ ((s ≡ (cell_at h c).bore) × (q ≡ c))
+    newer : (s q : ℕ) → (bit_of (get_or (set h.queues (cell_at h c).bearer (with_bit (queue_at h (cell_at h c).bearer) c)) s []) q ≡ bit_of (queue_at h s) q) ⊎ ((s ≡ (cell_at h c).bearer) × (q ≡ c))
     newer s q = elim (cases_eq q c) [
-      | inr other ↦ inl (read_by (λ j (ws : List ℕ). bit_of ws q ≡ bit_of (queue_at h j) q) h.queues (cell_at h c).bore (with_bit (queue_at h (cell_at h c).bore) c) []
-          (omega (arith, sound.shaped.queues, a.bearer)) (with_bit_else (queue_at h (cell_at h c).bore) c q other) (λ j _. refl) s)
-      | inl same ↦ elim (cases_eq s (cell_at h c).bore) [
+      | inr other ↦ inl (read_by (λ j (ws : List ℕ). bit_of ws q ≡ bit_of (queue_at h j) q) h.queues (cell_at h c).bearer (with_bit (queue_at h (cell_at h c).bearer) c) []
+          (omega (arith, sound.shaped.queues, a.bearer)) (with_bit_else (queue_at h (cell_at h c).bearer) c q other) (λ j _. refl) s)
+      | inl same ↦ elim (cases_eq s (cell_at h c).bearer) [
         | inl his ↦ inr (his, same)
-        | inr other ↦ inl (ap (λ (ws : List ℕ). bit_of ws q) (get_or-set_other h.queues (cell_at h c).bore s _ [] other))
+        | inr other ↦ inl (ap (λ (ws : List ℕ). bit_of ws q) (get_or-set_other h.queues (cell_at h c).bearer s _ [] other))
       ]
     ]
 
@@ -188,8 +188,8 @@ enqueue_sound h t c sound ok =
       rows = set h.rows t (record (row_at h t) { hand = if b then hands.Busy phases.Shut c else hands.Free });
       frames = set h.frames t (frame_at h t);
       popped = set h.popped t (popped_at h t);
-      works = set h.works t (work_at h t);
-      queues = if b then h.queues else set h.queues (cell_at h c).bore (with_bit (queue_at h (cell_at h c).bore) c);
+      worklists = set h.worklists t (worklist_at h t);
+      queues = if b then h.queues else set h.queues (cell_at h c).bearer (with_bit (queue_at h (cell_at h c).bearer) c);
     }) in
     elim (cases_Bool (is_shut h c)) [
       | inl shut ↦ subst P (sym shut) (turn_sound h t c _ _ _ _ _ sound (shut_turn h t c sound a shut))
@@ -218,8 +218,8 @@ last_popped_sound h t c sound ok =
     let free : (row_at h t).hand ≡ hands.Free = free_hand _ may.hand in
     let some : 1 ≤ held h c = popped_held h t c on in
     let last : Lasts h t c = lasts_of h t c sound mortal some in
-    let within : c < length (work_at h t) = omega (arith, sound.shaped.marks t may.some_thread may.inside, at_cell.inside) in
-    let marks = taken_marks (work_at h t) c within (held_unmarked h t c sound some) takes in
+    let within : c < length (worklist_at h t) = omega (arith, sound.shaped.marks t may.some_thread may.inside, at_cell.inside) in
+    let marks = taken_marks (worklist_at h t) c within (held_unmarked h t c sound some) takes in
     let words : List ℕ = without_bit (popped_at h t) c in
     let off : bit_of words c ≡ 0 = without_bit_here (popped_at h t) c on in
     let keep : (q : ℕ) → q ≢ c → bit_of words q ≡ bit_of (popped_at h t) q = λ q ne. without_bit_else (popped_at h t) c q ne in
@@ -233,7 +233,7 @@ last_popped_sound h t c sound ok =
       row = record (row_at h t) { hand = (row_at h t).hand };
       frame = frame_at h t;
       popped = words;
-      work = if takes then set (work_at h t) c true else work_at h t;
+      worklist = if takes then set (worklist_at h t) c true else worklist_at h t;
       entries = h.entries;
       queues = h.queues;
     } in
@@ -262,7 +262,7 @@ last_popped_sound h t c sound ok =
       works_own = λ q ne marked. sym (marks.2 q ne) ∙ marked;
       works_else = λ s ne marked. absurd (no_mark _ (held_unmarked h s c sound some) marked);
       closes = λ k closed. closed;
-      own = turned_thread _ (row_at h t) (row_at h t).hand (frame_at h t) (frame_at h t) (popped_at h t) words (work_at h t) _ (queue_at h t) (is_gathered h t)
+      own = turned_thread _ (row_at h t) (row_at h t).hand (frame_at h t) (frame_at h t) (popped_at h t) words (worklist_at h t) _ (queue_at h t) (is_gathered h t)
           (sound.threads t) who.here who.not_closing who.unlocked (λ _. ap is_active_hand free) (λ j none. none) (sound.threads t).places;
       queues_else = λ s k _. (sound.threads s).closed k;
       bits = same_bits h t c n' sound at_cell.inside
@@ -295,10 +295,10 @@ taken h t k stage = record {
   cell = cell_at h 0;
   row = record (row_at h t) { stage = stage };
   frame = frame_at h t;
-  popped = with_taken (Some k) (queue_at h t) (popped_at h t);
-  work = work_at h t;
+  popped = with_drained (Some k) (queue_at h t) (popped_at h t);
+  worklist = worklist_at h t;
   entries = h.entries;
-  queues = set h.queues t (without_taken (Some k) (queue_at h t));
+  queues = set h.queues t (without_drained (Some k) (queue_at h t));
 }
 
 not_mortal : {A : Type 0} → 266 ≤ 0 → A
@@ -311,12 +311,12 @@ record Takes (h : Heap) (t k : ℕ) (stage : Stage) : Type 0 where
   word : k < words_for (length h.cells)
   free : (row_at h t).hand ≡ hands.Free
   closes : (j : ℕ) → is_closed (row_at h t).stage j ≡ true → is_closed stage j ≡ true
-  own : ThreadFits (words_for (length h.cells)) (record (row_at h t) { stage = stage }) (frame_at h t) (with_taken (Some k) (queue_at h t) (popped_at h t)) (work_at h t) (without_taken (Some k) (queue_at h t)) (is_gathered h t)
+  own : ThreadFits (words_for (length h.cells)) (record (row_at h t) { stage = stage }) (frame_at h t) (with_drained (Some k) (queue_at h t) (popped_at h t)) (worklist_at h t) (without_drained (Some k) (queue_at h t)) (is_gathered h t)
 
 taken_fits : (h : Heap) (t k : ℕ) (stage : Stage) → IsSound h → Takes h t k stage → Fits h t 0 (taken h t k stage)
 taken_fits h t k stage sound takes =
-    let popped : List ℕ = with_taken (Some k) (queue_at h t) (popped_at h t) in
-    let queue : List ℕ = without_taken (Some k) (queue_at h t) in
+    let popped : List ℕ = with_drained (Some k) (queue_at h t) (popped_at h t) in
+    let queue : List ℕ = without_drained (Some k) (queue_at h t) in
     let at_queues : t < length h.queues = omega (arith, sound.shaped.queues, takes.inside) in
     let at_popped : t < length h.popped = omega (arith, sound.shaped.popped, takes.inside) in
     let long : k < length (popped_at h t) = omega (arith, sound.shaped.popped_words t takes.thread takes.inside, takes.word) in
@@ -344,18 +344,18 @@ taken_fits h t k stage sound takes =
       cell = not_mortal;
       immortal = sound.immortals 0;
       fewer = λ q _. same_entries _;
-      works_here = sound.works t 0;
+      works_here = sound.worklists t 0;
       works_own = λ q _ on. on;
-      works_else = λ s _ on. sound.works s 0 on;
+      works_else = λ s _ on. sound.worklists s 0 on;
       closes = takes.closes;
-      own = subst (λ ws. ThreadFits (words_for (length h.cells)) (record (row_at h t) { stage = stage }) (frame_at h t) popped (work_at h t) ws (is_gathered h t)) (sym (read_here h.queues t queue [] at_queues)) takes.own;
+      own = subst (λ ws. ThreadFits (words_for (length h.cells)) (record (row_at h t) { stage = stage }) (frame_at h t) popped (worklist_at h t) ws (is_gathered h t)) (sym (read_here h.queues t queue [] at_queues)) takes.own;
       queues_else = λ s j ne closed. ap (λ (ws : List ℕ). word_at ws j) (read_there h.queues t s queue [] ne) ∙ (sound.threads s).closed j closed;
       bits = same_bits h t 0 (taken h t k stage) sound (omega (arith, sound.shaped.options.enough)) older (inl refl);
       locks = same_locks h t 0 (taken h t k stage) sound takes.inside (omega (arith, sound.shaped.options.enough)) (record { mutex = refl; locked = refl; place = λ j _. refl });
       ledger = refl;
     }
   where
-    older : (s q : ℕ) → 0 < bit_of (get_or (set h.queues t (without_taken (Some k) (queue_at h t))) s []) q + bit_of (get_or (set h.popped t (with_taken (Some k) (queue_at h t) (popped_at h t))) s []) q
+    older : (s q : ℕ) → 0 < bit_of (get_or (set h.queues t (without_drained (Some k) (queue_at h t))) s []) q + bit_of (get_or (set h.popped t (with_drained (Some k) (queue_at h t) (popped_at h t))) s []) q
         → 0 < bit_of (queue_at h s) q + bit_of (popped_at h s) q
     older s q some =
         let at_queues : t < length h.queues = omega (arith, sound.shaped.queues, takes.inside) in
@@ -365,15 +365,15 @@ taken_fits h t k stage sound takes =
           | inr other ↦ omega (
             arith,
             some,
-            ap (λ (ws : List ℕ). bit_of ws q) (read_there h.queues t s (without_taken (Some k) (queue_at h t)) [] other),
-            ap (λ (ws : List ℕ). bit_of ws q) (read_there h.popped t s (with_taken (Some k) (queue_at h t) (popped_at h t)) [] other),
+            ap (λ (ws : List ℕ). bit_of ws q) (read_there h.queues t s (without_drained (Some k) (queue_at h t)) [] other),
+            ap (λ (ws : List ℕ). bit_of ws q) (read_there h.popped t s (with_drained (Some k) (queue_at h t) (popped_at h t)) [] other),
           )
           | inl same ↦ omega (
             arith,
             some,
             taken_bits k (queue_at h t) (popped_at h t) q long (bits_once h t q sound),
-            ap (λ (ws : List ℕ). bit_of ws q) (ap (λ j. get_or (set h.queues t (without_taken (Some k) (queue_at h t))) j []) same ∙ read_here h.queues t (without_taken (Some k) (queue_at h t)) [] at_queues),
-            ap (λ (ws : List ℕ). bit_of ws q) (ap (λ j. get_or (set h.popped t (with_taken (Some k) (queue_at h t) (popped_at h t))) j []) same ∙ read_here h.popped t (with_taken (Some k) (queue_at h t) (popped_at h t)) [] at_popped),
+            ap (λ (ws : List ℕ). bit_of ws q) (ap (λ j. get_or (set h.queues t (without_drained (Some k) (queue_at h t))) j []) same ∙ read_here h.queues t (without_drained (Some k) (queue_at h t)) [] at_queues),
+            ap (λ (ws : List ℕ). bit_of ws q) (ap (λ j. get_or (set h.popped t (with_drained (Some k) (queue_at h t) (popped_at h t))) j []) same ∙ read_here h.popped t (with_drained (Some k) (queue_at h t) (popped_at h t)) [] at_popped),
             ap (λ j. bit_of (queue_at h j) q) same,
             ap (λ j. bit_of (popped_at h j) q) same,
           )
@@ -382,14 +382,14 @@ taken_fits h t k stage sound takes =
 -- a step that means no cell writes no cell, no frame and no worklist
 taken_sound : (h : Heap) (t k : ℕ) (stage : Stage) → IsSound h → Takes h t k stage → IsSound (record h {
   rows = set h.rows t (record (row_at h t) { stage = stage });
-  popped = set h.popped t (with_taken (Some k) (queue_at h t) (popped_at h t));
-  queues = set h.queues t (without_taken (Some k) (queue_at h t));
+  popped = set h.popped t (with_drained (Some k) (queue_at h t) (popped_at h t));
+  queues = set h.queues t (without_drained (Some k) (queue_at h t));
 })
 taken_sound h t k stage sound takes =
     let n : New = taken h t k stage in
     subst (λ cells. IsSound (record h { cells = cells; rows = set h.rows t n.row; popped = set h.popped t n.popped; queues = n.queues })) (set-get_or h.cells 0 no_cell)
     (subst (λ frames. IsSound (record h { cells = set h.cells 0 (cell_at h 0); frames = frames; rows = set h.rows t n.row; popped = set h.popped t n.popped; queues = n.queues })) (set-get_or h.frames t [])
-    (subst (λ works. IsSound (record h { cells = set h.cells 0 (cell_at h 0); frames = set h.frames t (frame_at h t); works = works; rows = set h.rows t n.row; popped = set h.popped t n.popped; queues = n.queues })) (set-get_or h.works t [])
+    (subst (λ worklists. IsSound (record h { cells = set h.cells 0 (cell_at h 0); frames = set h.frames t (frame_at h t); worklists = worklists; rows = set h.rows t n.row; popped = set h.popped t n.popped; queues = n.queues })) (set-get_or h.worklists t [])
     (changed_sound h t 0 n sound (taken_fits h t k stage sound takes))))
 
 pub drain_sound : (h : Heap) (t k : ℕ) → IsSound h → thread_may h t (Drain k) ≡ true → IsSound (kept_cells h t (Drain k))
@@ -401,7 +401,7 @@ drain_sound h t k sound ok =
       word = ltb-true _ _ may.own;
       free = free_hand _ may.hand;
       closes = λ j closed. closed;
-      own = active_fits _ (row_at h t) (row_at h t) (frame_at h t) (frame_at h t) _ (work_at h t) (work_at h t) _ _ (active_from _ (Drain k) may.stage refl refl) may.not_gathered refl
+      own = active_fits _ (row_at h t) (row_at h t) (frame_at h t) (frame_at h t) _ (worklist_at h t) (worklist_at h t) _ _ (active_from _ (Drain k) may.stage refl refl) may.not_gathered refl
           (sound.threads t).locked_hand (sound.threads t).births (sound.threads t).places;
     })
 
@@ -482,10 +482,10 @@ close_sound h t k sound ok =
     let inside : k < words = ltb-true _ _ e.0 in
     let next : closes_next (row_at h t).stage k ≡ true = e.1 in
     let places : (j : ℕ) → place_at (frame_at h t) j ≡ None = bare_places (frame_at h t) d.1 in
-    let marks : (q : ℕ) → is_marked (work_at h t) q ≡ false = no_marks (work_at h t) b.1 in
+    let marks : (q : ℕ) → is_marked (worklist_at h t) q ≡ false = no_marks (worklist_at h t) b.1 in
     let free : (row_at h t).hand ≡ hands.Free = free_hand _ may.hand in
     let unlocked : (row_at h t).locked ≡ None = no_lock _ (Close k) may.lock refl in
-    let old : ThreadFits words (row_at h t) (frame_at h t) (popped_at h t) (work_at h t) (queue_at h t) (is_gathered h t) = sound.threads t in
+    let old : ThreadFits words (row_at h t) (frame_at h t) (popped_at h t) (worklist_at h t) (queue_at h t) (is_gathered h t) = sound.threads t in
     let stage = more_stage words k inside in
     let long : length (queue_at h t) ≡ words = sound.shaped.queue_words t may.some_thread may.inside in
     taken_sound h t k (closed_more words k) sound (record {
@@ -501,7 +501,7 @@ close_sound h t k sound ok =
         closing = λ n is. let bounds = stage.1 n is in (bounds.0, bounds.1, free);
         closing_work = λ n q _. marks q;
         closed = λ j closed. elim (cases_eq j k) [
-          | inl same ↦ ap (λ i. word_at (without_taken (Some k) (queue_at h t)) i) same ∙ get_or-set_same (queue_at h t) k 0 0 (omega (arith, inside, long))
+          | inl same ↦ ap (λ i. word_at (without_drained (Some k) (queue_at h t)) i) same ∙ get_or-set_same (queue_at h t) k 0 0 (omega (arith, inside, long))
           | inr other ↦ get_or-set_other (queue_at h t) k j 0 0 other ∙ elim (now_closed words k (row_at h t).stage next j closed) [
             | inl before ↦ old.closed j before
             | inr more ↦ elim more [ inl same ↦ absurd (other same) | inr past ↦ get_or_past (queue_at h t) j 0 (omega (arith, past, long)) ]

@@ -14,7 +14,7 @@ use Rattle.brc_runs.specs.declared.row.Hand.TheVariants as hands
 use Rattle.brc_runs.specs.declared.row.Phase.{Phase}
 use Rattle.brc_runs.specs.declared.row.Phase.TheVariants as phases
 use Rattle.brc_runs.specs.Lists.{one, is_marked}
-use Rattle.brc_runs.specs.Heap.{Heap, cell_at, entries_at, row_at, frame_at, popped_at, work_at, no_cell}
+use Rattle.brc_runs.specs.Heap.{Heap, cell_at, entries_at, row_at, frame_at, popped_at, worklist_at, no_cell}
 use Rattle.brc_runs.specs.Steps.{enabled, after, after_target, root_after, thread_may, target_at, target_ok, cell_after, entries_without, entries_after, root_may, is_ending, dropped_cell, locked_cell, is_at, is_default, untie_ok}
 use Rattle.brc_runs.specs.Sound.{IsSound, grips, is_gripping, held}
 use Rattle.brc_runs.proofs.Naming.{second, third, free_hand, busy_hand, busy_carrier, free_owner, one-true}
@@ -68,13 +68,13 @@ event_cell h e c ok =
 
 -- the thread grips it, by its worklist or its hand
 pub Grips : Heap → ℕ → ℕ → Type 0
-Grips h u c = 1 ≤ one (is_marked (work_at h u) c) + one (grips c (row_at h u).hand)
+Grips h u c = 1 ≤ one (is_marked (worklist_at h u) c) + one (grips c (row_at h u).hand)
 
-pub by_grip : (h : Heap) (u c : ℕ) → 1 ≤ one (is_marked (work_at h u) c) + one (grips c (row_at h u).hand) → Grips h u c
+pub by_grip : (h : Heap) (u c : ℕ) → 1 ≤ one (is_marked (worklist_at h u) c) + one (grips c (row_at h u).hand) → Grips h u c
 unfolding Grips
 by_grip h u c grip = grip
 
-pub grip_of : (h : Heap) (u c : ℕ) → Grips h u c → 1 ≤ one (is_marked (work_at h u) c) + one (grips c (row_at h u).hand)
+pub grip_of : (h : Heap) (u c : ℕ) → Grips h u c → 1 ≤ one (is_marked (worklist_at h u) c) + one (grips c (row_at h u).hand)
 unfolding Grips
 grip_of h u c grip = grip
 
@@ -98,7 +98,7 @@ step_reason h u (LocalDown drop) c sound may named mortal = inr (inl (dropped_he
 step_reason h u (SeeZero d) c sound may named mortal = let e : d ≡ c = cc in subst (Reason h u (SeeZero d)) e (hand_reason h u d (SeeZero d) phases.Zero may.hand refl)
 step_reason h u (Free d) c sound may named mortal =
     let e : d ≡ c = cc in
-    subst (Reason h u (Free d)) e (inr (inr (by_grip h u d (omega (arith, one-true (is_marked (work_at h u) d) (and_parts _ _ may.own).0)))))
+    subst (Reason h u (Free d)) e (inr (inr (by_grip h u d (omega (arith, one-true (is_marked (worklist_at h u) d) (and_parts _ _ may.own).0)))))
 step_reason h u (Untie d) c sound may named mortal =
     let e : d ≡ c = cc in
     subst (Reason h u (Untie d)) e (elim (cases_Bool (is_at phases.Over d (row_at h u).hand)) [
@@ -148,7 +148,7 @@ step_reason h u (Gather v) c sound may named mortal = absurd (cc)
 -- an object is born in the cell, is unlocked, or is a dead block that loses an entry
 abbrev pub Meddles : Heap → Event → ℕ → Type 0
 Meddles h e c = ((kind : Kind) × (k : ℕ) × (e.step ≡ Birth c kind k) × May h e.thread e.step)
-    ⊎ (((change : Change) × (e.step ≡ Unlock change) × At h e c) ⊎ (is_marked (work_at h e.thread) c ≡ true))
+    ⊎ (((change : Change) × (e.step ≡ Unlock change) × At h e c) ⊎ (is_marked (worklist_at h e.thread) c ≡ true))
 
 root_entries : (h : Heap) (s : Step) (c : ℕ) → entries_at (root_after h s) c ≡ entries_at h c
 root_entries h (Register u) c = refl
@@ -160,21 +160,21 @@ marked_source o true c named = refl
 marked_source o false c named = absurd (cc)
 
 -- a release gives up an entry of a dead block of the thread's
-drop_entries : (h : Heap) (u c d : ℕ) (o : Option Dropped) → ((drop : Dropped) → o ≡ Some drop → dropped_cell (frame_at h u) (work_at h u) (entries_at h) drop ≡ Some d)
-    → (get_or (entries_without o h.entries) c [] ≡ entries_at h c) ⊎ (is_marked (work_at h u) c ≡ true)
+drop_entries : (h : Heap) (u c d : ℕ) (o : Option Dropped) → ((drop : Dropped) → o ≡ Some drop → dropped_cell (frame_at h u) (worklist_at h u) (entries_at h) drop ≡ Some d)
+    → (get_or (entries_without o h.entries) c [] ≡ entries_at h c) ⊎ (is_marked (worklist_at h u) c ≡ true)
 drop_entries h u c d None named = inl refl
 drop_entries h u c d (Some (dropped.Frame k)) named = inl refl
 drop_entries h u c d (Some (dropped.Work b)) named = elim (cases_eq c b) [
-  | inl same ↦ inr (ap (λ i. is_marked (work_at h u) i) same ∙ marked_source _ (is_marked (work_at h u) b) d (named (dropped.Work b) refl))
+  | inl same ↦ inr (ap (λ i. is_marked (worklist_at h u) i) same ∙ marked_source _ (is_marked (worklist_at h u) b) d (named (dropped.Work b) refl))
   | inr other ↦ inl (read_there h.entries b c _ [] other)
 ]
 
 -- what a thread's step means, told of one cell
 StepEntries : Heap → ℕ → Step → ℕ → ℕ → Type 0
 StepEntries h u s d c = (get_or (entries_after s d (cell_at h d) (frame_at h u) h.entries) c [] ≡ entries_at h c)
-    ⊎ (((kind : Kind) × (k : ℕ) × (s ≡ Birth c kind k)) ⊎ (((change : Change) × (s ≡ Unlock change) × (d ≡ c)) ⊎ (is_marked (work_at h u) c ≡ true)))
+    ⊎ (((kind : Kind) × (k : ℕ) × (s ≡ Birth c kind k)) ⊎ (((change : Change) × (s ≡ Unlock change) × (d ≡ c)) ⊎ (is_marked (worklist_at h u) c ≡ true)))
 
-by_drop : (h : Heap) (u c d : ℕ) (s : Step) (o : Option Dropped) → ((drop : Dropped) → o ≡ Some drop → dropped_cell (frame_at h u) (work_at h u) (entries_at h) drop ≡ Some d)
+by_drop : (h : Heap) (u c d : ℕ) (s : Step) (o : Option Dropped) → ((drop : Dropped) → o ≡ Some drop → dropped_cell (frame_at h u) (worklist_at h u) (entries_at h) drop ≡ Some d)
     → get_or (entries_after s d (cell_at h d) (frame_at h u) h.entries) c [] ≡ get_or (entries_without o h.entries) c [] → StepEntries h u s d c
 unfolding StepEntries
 by_drop h u c d s o named is = elim (drop_entries h u c d o named) [
@@ -192,20 +192,20 @@ step_entries h u (Birth x kind k) d c named = elim (cases_eq c x) [
   | inr other ↦ inl (read_there h.entries x c [] [] other)
 ]
 step_entries h u (LocalUp source k) d c named = inl refl
-step_entries h u (LocalDown drop) d c named = by_drop h u c d (LocalDown drop) (Some drop) (λ x e. let same : drop ≡ x = cc in subst (λ y. dropped_cell (frame_at h u) (work_at h u) (entries_at h) y ≡ Some d) same named) refl
+step_entries h u (LocalDown drop) d c named = by_drop h u c d (LocalDown drop) (Some drop) (λ x e. let same : drop ≡ x = cc in subst (λ y. dropped_cell (frame_at h u) (worklist_at h u) (entries_at h) y ≡ Some d) same named) refl
 step_entries h u (SeeZero x) d c named = inl refl
 step_entries h u (Free x) d c named = inl refl
 step_entries h u (Untie x) d c named = inl refl
 step_entries h u (MergeZero x) d c named = inl refl
 step_entries h u (SharedUp source k) d c named = inl refl
-step_entries h u (SharedDown drop) d c named = by_drop h u c d (SharedDown drop) (Some drop) (λ x e. let same : drop ≡ x = cc in subst (λ y. dropped_cell (frame_at h u) (work_at h u) (entries_at h) y ≡ Some d) same named) refl
+step_entries h u (SharedDown drop) d c named = by_drop h u c d (SharedDown drop) (Some drop) (λ x e. let same : drop ≡ x = cc in subst (λ y. dropped_cell (frame_at h u) (worklist_at h u) (entries_at h) y ≡ Some d) same named) refl
 step_entries h u (Ask drop) d c named = asked (is_default (cell_at h d).state) refl
   where
     asked : (b : Bool) → is_default (cell_at h d).state ≡ b → StepEntries h u (Ask drop) d c
-    asked true default = by_drop h u c d (Ask drop) (Some drop) (λ x e. let same : drop ≡ x = cc in subst (λ y. dropped_cell (frame_at h u) (work_at h u) (entries_at h) y ≡ Some d) same named)
+    asked true default = by_drop h u c d (Ask drop) (Some drop) (λ x e. let same : drop ≡ x = cc in subst (λ y. dropped_cell (frame_at h u) (worklist_at h u) (entries_at h) y ≡ Some d) same named)
         (ap (λ b. get_or (entries_without (if b then Some drop else None) h.entries) c []) default)
     asked false other = by_drop h u c d (Ask drop) None (λ x e. absurd (cc)) (ap (λ b. get_or (entries_without (if b then Some drop else None) h.entries) c []) other)
-step_entries h u (LastDown (lasts.Dropped drop)) d c named = by_drop h u c d (LastDown (lasts.Dropped drop)) (Some drop) (λ x e. let same : drop ≡ x = cc in subst (λ y. dropped_cell (frame_at h u) (work_at h u) (entries_at h) y ≡ Some d) same named) refl
+step_entries h u (LastDown (lasts.Dropped drop)) d c named = by_drop h u c d (LastDown (lasts.Dropped drop)) (Some drop) (λ x e. let same : drop ≡ x = cc in subst (λ y. dropped_cell (frame_at h u) (worklist_at h u) (entries_at h) y ≡ Some d) same named) refl
 step_entries h u (LastDown (lasts.Popped x)) d c named = inl refl
 step_entries h u (LastDown lasts.Hand) d c named = inl refl
 step_entries h u (Enqueue x) d c named = inl refl

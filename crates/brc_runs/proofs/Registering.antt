@@ -10,10 +10,10 @@ use Rattle.brc_runs.specs.declared.row.Hand.TheVariants as hands
 use Rattle.brc_runs.specs.declared.row.Phase.{Phase}
 use Rattle.brc_runs.specs.declared.row.Phase.TheVariants as phases
 use Rattle.brc_runs.specs.Lists.{one, times, bit_of, is_marked, place_at}
-use Rattle.brc_runs.specs.Heap.{Heap, cell_at, entries_at, row_at, frame_at, popped_at, work_at, queue_at, is_gathered, no_row, new_row, words_for}
+use Rattle.brc_runs.specs.Heap.{Heap, cell_at, entries_at, row_at, frame_at, popped_at, worklist_at, queue_at, is_gathered, no_row, new_row, words_for}
 use Rattle.brc_runs.specs.Steps.{registered, is_closed}
 use Rattle.brc_runs.specs.Holding.{lives, carries}
-use Rattle.brc_runs.specs.Sound.{IsSound, IsShaped, CellFits, ThreadFits, PhaseFits, HandFits, WorkFits, Locks, grips, gripped, held, asks}
+use Rattle.brc_runs.specs.Sound.{IsSound, IsShaped, CellFits, ThreadFits, PhaseFits, HandFits, WorklistFits, Locks, grips, gripped, held, asks}
 use Rattle.brc_runs.proofs.Naming.{dead_unheld, Unheld, busy_carrier}
 use Rattle.brc_runs.proofs.Changes.{other_bearer}
 use Rattle.brc_runs.proofs.Birthing.{active_fits}
@@ -66,12 +66,12 @@ shape h shaped room =
       threads = omega (arith, length-push h.rows new_row, room);
       frames = length-push h.frames [] ∙ ap (λ m. m + 1) shaped.frames ∙ sym (length-push h.rows new_row);
       popped = length-push h.popped _ ∙ ap (λ m. m + 1) shaped.popped ∙ sym (length-push h.rows new_row);
-      works = length-push h.works _ ∙ ap (λ m. m + 1) shaped.works ∙ sym (length-push h.rows new_row);
+      worklists = length-push h.worklists _ ∙ ap (λ m. m + 1) shaped.worklists ∙ sym (length-push h.rows new_row);
       queues = length-push h.queues _ ∙ ap (λ m. m + 1) shaped.queues ∙ sym (length-push h.rows new_row);
-      notices = length-push h.notices 0 ∙ ap (λ m. m + 1) shaped.notices ∙ sym (length-push h.rows new_row);
+      notify_words = length-push h.notify_words 0 ∙ ap (λ m. m + 1) shaped.notify_words ∙ sym (length-push h.rows new_row);
       gathered = length-push h.gathered false ∙ ap (λ m. m + 1) shaped.gathered ∙ sym (length-push h.rows new_row);
-      marks = λ s low high. read_push (λ j (marks : List Bool). 0 < j → j < length h.rows + 1 → length marks ≡ n) h.works (replicate n false) []
-          (λ _ _. length-replicate n false) (λ j other a b. shaped.marks j a (omega (arith, shaped.works, other, b))) s low (subst (λ m. s < m) (length-push h.rows new_row) high);
+      marks = λ s low high. read_push (λ j (marks : List Bool). 0 < j → j < length h.rows + 1 → length marks ≡ n) h.worklists (replicate n false) []
+          (λ _ _. length-replicate n false) (λ j other a b. shaped.marks j a (omega (arith, shaped.worklists, other, b))) s low (subst (λ m. s < m) (length-push h.rows new_row) high);
       popped_words = λ s low high. read_push (λ j (words : List ℕ). 0 < j → j < length h.rows + 1 → length words ≡ words_for n) h.popped (replicate (words_for n) 0) []
           (λ _ _. length-replicate (words_for n) 0) (λ j other a b. shaped.popped_words j a (omega (arith, shaped.popped, other, b))) s low (subst (λ m. s < m) (length-push h.rows new_row) high);
       queue_words = λ s low high. read_push (λ j (words : List ℕ). 0 < j → j < length h.rows + 1 → length words ≡ words_for n) h.queues (replicate (words_for n) 0) []
@@ -106,13 +106,13 @@ same_gripped : (h : Heap) (q : ℕ) → gripped (registered h) q ≡ gripped h q
 same_gripped h q =
     omega (
       arith,
-      sum_by_push (λ (marks : List Bool). one (is_marked marks q)) h.works (replicate (length h.cells) false),
+      sum_by_push (λ (marks : List Bool). one (is_marked marks q)) h.worklists (replicate (length h.cells) false),
       sum_by_push (λ (row : Row). one (grips q row.hand)) h.rows new_row,
       ap one (new_mark (length h.cells) q),
     )
 
 -- the bearer of an object that a hand refers to is registered
-shut_bearer : (h : Heap) (s d : ℕ) → IsSound h → (row_at h s).hand ≡ hands.Busy phases.Shut d → 266 ≤ d → (cell_at h d).bore ≢ length h.rows
+shut_bearer : (h : Heap) (s d : ℕ) → IsSound h → (row_at h s).hand ≡ hands.Busy phases.Shut d → 266 ≤ d → (cell_at h d).bearer ≢ length h.rows
 shut_bearer h s d sound busy mortal e =
     elim (cases_Bool (lives (cell_at h d).owner)) [
       | inl live ↦ omega (arith, ((sound.cells d mortal).born live).1, e)
@@ -124,20 +124,20 @@ shut_bearer h s d sound busy mortal e =
 hands_fit : (h : Heap) → IsSound h → (s d : ℕ) (p : Phase) → (row_at (registered h) s).hand ≡ hands.Busy p d → HandFits (registered h) s p d
 hands_fit h sound s d p busy =
     let h' : Heap = registered h in
-    let bearer : (j : ℕ) → (row_at h j).hand ≡ hands.Busy p d → p ≡ phases.Shut → (row_at h (cell_at h d).bore).stage ≡ (row_at h' (cell_at h d).bore).stage =
-    λ j at_d shut. ap (λ (row : Row). row.stage) (sym (push_else h.rows new_row no_row (cell_at h d).bore
+    let bearer : (j : ℕ) → (row_at h j).hand ≡ hands.Busy p d → p ≡ phases.Shut → (row_at h (cell_at h d).bearer).stage ≡ (row_at h' (cell_at h d).bearer).stage =
+    λ j at_d shut. ap (λ (row : Row). row.stage) (sym (push_else h.rows new_row no_row (cell_at h d).bearer
     (shut_bearer h j d sound (at_d ∙ ap (λ z. hands.Busy z d) shut) (sound.hands j d p at_d).mortal))) in
     let old : (j : ℕ) → j ≢ length h.rows → (row_at h j).hand ≡ hands.Busy p d
-    → (266 ≤ d) × PhaseFits j (row_at h j) (popped_at h' j) (cell_at h d) (row_at h' (cell_at h d).bore).stage d p =
+    → (266 ≤ d) × PhaseFits j (row_at h j) (popped_at h' j) (cell_at h d) (row_at h' (cell_at h d).bearer).stage d p =
     λ j other at_d.
     let fits : HandFits h j p d = sound.hands j d p at_d in (
       fits.mortal,
-      other_bearer j (row_at h j) (popped_at h' j) (cell_at h d) (row_at h (cell_at h d).bore).stage (row_at h' (cell_at h d).bore).stage d p (λ shut closed. subst (λ g. is_closed g (d / 32) ≡ true) (bearer j at_d shut) closed)
-          (subst (λ popped. PhaseFits j (row_at h j) popped (cell_at h d) (row_at h (cell_at h d).bore).stage d p)
+      other_bearer j (row_at h j) (popped_at h' j) (cell_at h d) (row_at h (cell_at h d).bearer).stage (row_at h' (cell_at h d).bearer).stage d p (λ shut closed. subst (λ g. is_closed g (d / 32) ≡ true) (bearer j at_d shut) closed)
+          (subst (λ popped. PhaseFits j (row_at h j) popped (cell_at h d) (row_at h (cell_at h d).bearer).stage d p)
           (sym (push_else h.popped _ [] j (λ e. other (e ∙ sound.shaped.popped)))) fits.fits),
     ) in
-    let said : (266 ≤ d) × PhaseFits s (row_at h' s) (popped_at h' s) (cell_at h d) (row_at h' (cell_at h d).bore).stage d p =
-    read_push (λ j (row : Row). row.hand ≡ hands.Busy p d → (266 ≤ d) × PhaseFits j row (popped_at h' j) (cell_at h d) (row_at h' (cell_at h d).bore).stage d p) h.rows new_row no_row
+    let said : (266 ≤ d) × PhaseFits s (row_at h' s) (popped_at h' s) (cell_at h d) (row_at h' (cell_at h d).bearer).stage d p =
+    read_push (λ j (row : Row). row.hand ≡ hands.Busy p d → (266 ≤ d) × PhaseFits j row (popped_at h' j) (cell_at h d) (row_at h' (cell_at h d).bearer).stage d p) h.rows new_row no_row
     (λ bad. absurd (let e : hands.Free ≡ hands.Busy p d = bad in cc)) old s busy in
     record { mortal = said.0; fits = said.1 }
 
@@ -157,7 +157,7 @@ cells_fit h sound q mortal =
     }
 
 threads_fit : (h : Heap) → IsSound h → (s : ℕ)
-    → ThreadFits (words_for (length h.cells)) (row_at (registered h) s) (frame_at (registered h) s) (popped_at (registered h) s) (work_at (registered h) s) (queue_at (registered h) s) (is_gathered (registered h) s)
+    → ThreadFits (words_for (length h.cells)) (row_at (registered h) s) (frame_at (registered h) s) (popped_at (registered h) s) (worklist_at (registered h) s) (queue_at (registered h) s) (is_gathered (registered h) s)
 threads_fit h sound s =
     let n : ℕ = words_for (length h.cells) in
     let m : ℕ = length h.cells in
@@ -166,33 +166,33 @@ threads_fit h sound s =
       | inl same ↦
           let at_frames : s ≡ length h.frames = same ∙ sym sound.shaped.frames in
           let at_popped : s ≡ length h.popped = same ∙ sym sound.shaped.popped in
-          let at_works : s ≡ length h.works = same ∙ sym sound.shaped.works in
+          let at_works : s ≡ length h.worklists = same ∙ sym sound.shaped.worklists in
           let at_queues : s ≡ length h.queues = same ∙ sym sound.shaped.queues in
           let at_gathered : s ≡ length h.gathered = same ∙ sym sound.shaped.gathered in
-          subst (λ row. ThreadFits n row (frame_at h' s) (popped_at h' s) (work_at h' s) (queue_at h' s) (is_gathered h' s)) (sym (get_or_push h.rows new_row no_row s (sym same)))
-          (subst (λ frame. ThreadFits n new_row frame (popped_at h' s) (work_at h' s) (queue_at h' s) (is_gathered h' s)) (sym (get_or_push h.frames [] [] s (sym at_frames)))
-          (active_fits n new_row new_row [] [] (popped_at h' s) (work_at h' s) (work_at h' s) (queue_at h' s) (is_gathered h' s) refl
+          subst (λ row. ThreadFits n row (frame_at h' s) (popped_at h' s) (worklist_at h' s) (queue_at h' s) (is_gathered h' s)) (sym (get_or_push h.rows new_row no_row s (sym same)))
+          (subst (λ frame. ThreadFits n new_row frame (popped_at h' s) (worklist_at h' s) (queue_at h' s) (is_gathered h' s)) (sym (get_or_push h.frames [] [] s (sym at_frames)))
+          (active_fits n new_row new_row [] [] (popped_at h' s) (worklist_at h' s) (worklist_at h' s) (queue_at h' s) (is_gathered h' s) refl
           (get_or_push h.gathered false false s (sym at_gathered)) refl (λ k _. refl) (omega arith) (omega arith)))
       | inr other ↦
           let not_frames : s ≢ length h.frames = λ e. other (e ∙ sound.shaped.frames) in
           let not_popped : s ≢ length h.popped = λ e. other (e ∙ sound.shaped.popped) in
-          let not_works : s ≢ length h.works = λ e. other (e ∙ sound.shaped.works) in
+          let not_works : s ≢ length h.worklists = λ e. other (e ∙ sound.shaped.worklists) in
           let not_queues : s ≢ length h.queues = λ e. other (e ∙ sound.shaped.queues) in
           let not_gathered : s ≢ length h.gathered = λ e. other (e ∙ sound.shaped.gathered) in
-          subst (λ row. ThreadFits n row (frame_at h' s) (popped_at h' s) (work_at h' s) (queue_at h' s) (is_gathered h' s)) (sym (push_else h.rows new_row no_row s other))
-          (subst (λ frame. ThreadFits n (row_at h s) frame (popped_at h' s) (work_at h' s) (queue_at h' s) (is_gathered h' s)) (sym (push_else h.frames [] [] s not_frames))
-          (subst (λ popped. ThreadFits n (row_at h s) (frame_at h s) popped (work_at h' s) (queue_at h' s) (is_gathered h' s)) (sym (push_else h.popped _ [] s not_popped))
-          (subst (λ work. ThreadFits n (row_at h s) (frame_at h s) (popped_at h s) work (queue_at h' s) (is_gathered h' s)) (sym (push_else h.works _ [] s not_works))
-          (subst (λ queue. ThreadFits n (row_at h s) (frame_at h s) (popped_at h s) (work_at h s) queue (is_gathered h' s)) (sym (push_else h.queues _ [] s not_queues))
-          (subst (λ gathered. ThreadFits n (row_at h s) (frame_at h s) (popped_at h s) (work_at h s) (queue_at h s) gathered) (sym (push_else h.gathered false false s not_gathered))
+          subst (λ row. ThreadFits n row (frame_at h' s) (popped_at h' s) (worklist_at h' s) (queue_at h' s) (is_gathered h' s)) (sym (push_else h.rows new_row no_row s other))
+          (subst (λ frame. ThreadFits n (row_at h s) frame (popped_at h' s) (worklist_at h' s) (queue_at h' s) (is_gathered h' s)) (sym (push_else h.frames [] [] s not_frames))
+          (subst (λ popped. ThreadFits n (row_at h s) (frame_at h s) popped (worklist_at h' s) (queue_at h' s) (is_gathered h' s)) (sym (push_else h.popped _ [] s not_popped))
+          (subst (λ worklist. ThreadFits n (row_at h s) (frame_at h s) (popped_at h s) worklist (queue_at h' s) (is_gathered h' s)) (sym (push_else h.worklists _ [] s not_works))
+          (subst (λ queue. ThreadFits n (row_at h s) (frame_at h s) (popped_at h s) (worklist_at h s) queue (is_gathered h' s)) (sym (push_else h.queues _ [] s not_queues))
+          (subst (λ gathered. ThreadFits n (row_at h s) (frame_at h s) (popped_at h s) (worklist_at h s) (queue_at h s) gathered) (sym (push_else h.gathered false false s not_gathered))
           (sound.threads s))))))
     ]
 
-works_fit : (h : Heap) → IsSound h → (s q : ℕ) → is_marked (work_at (registered h) s) q ≡ true → WorkFits s q (cell_at h q)
-works_fit h sound s q = read_push (λ j (marks : List Bool). is_marked marks q ≡ true → WorkFits j q (cell_at h q)) h.works (replicate (length h.cells) false) []
-    (λ on. absurd (true≢false (sym on ∙ new_mark (length h.cells) q))) (λ j _ on. sound.works j q on) s
+works_fit : (h : Heap) → IsSound h → (s q : ℕ) → is_marked (worklist_at (registered h) s) q ≡ true → WorklistFits s q (cell_at h q)
+works_fit h sound s q = read_push (λ j (marks : List Bool). is_marked marks q ≡ true → WorklistFits j q (cell_at h q)) h.worklists (replicate (length h.cells) false) []
+    (λ on. absurd (true≢false (sym on ∙ new_mark (length h.cells) q))) (λ j _ on. sound.worklists j q on) s
 
-bits_fit : (h : Heap) → IsSound h → (s q : ℕ) → 0 < bit_of (queue_at (registered h) s) q + bit_of (popped_at (registered h) s) q → (266 ≤ q) × ((cell_at h q).bore ≡ s)
+bits_fit : (h : Heap) → IsSound h → (s q : ℕ) → 0 < bit_of (queue_at (registered h) s) q + bit_of (popped_at (registered h) s) q → (266 ≤ q) × ((cell_at h q).bearer ≡ s)
 bits_fit h sound s q some =
     let n : ℕ = words_for (length h.cells) in
     elim (cases_eq s (length h.rows)) [
@@ -246,7 +246,7 @@ registered_sound h sound room = record {
   hands = hands_fit h sound;
   cells = cells_fit h sound;
   immortals = sound.immortals;
-  works = works_fit h sound;
+  worklists = works_fit h sound;
   threads = threads_fit h sound;
   bits = bits_fit h sound;
   locks = locks_fit h sound;

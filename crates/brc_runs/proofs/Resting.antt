@@ -5,8 +5,8 @@ use Rattle.std.proofs.lemmas.Bool.{and_parts, ltb-true, true≢false}
 use Rattle.brc_runs.specs.declared.event.Step.TheVariants.{Nudge, Wake, Gather}
 use Rattle.brc_runs.specs.declared.row.Stage.{Stage}
 use Rattle.brc_runs.specs.declared.row.Stage.TheVariants as stages
-use Rattle.brc_runs.specs.Heap.{Heap, row_at, frame_at, popped_at, work_at, queue_at, no_row, is_gathered, words_for}
-use Rattle.brc_runs.specs.Steps.{kept_cells, gathered_in, root_may, notices_after, is_left}
+use Rattle.brc_runs.specs.Heap.{Heap, row_at, frame_at, popped_at, worklist_at, queue_at, no_row, is_gathered, words_for}
+use Rattle.brc_runs.specs.Steps.{kept_cells, gathered_in, root_may, notify_words_after, is_left}
 use Rattle.brc_runs.specs.Sound.{IsSound, ThreadFits}
 use Rattle.brc_runs.proofs.Bitwise.{blank_bits}
 use Rattle.brc_runs.proofs.Changes.{read_by}
@@ -14,8 +14,8 @@ use Rattle.brc_runs.proofs.Naming.{free_hand}
 use Rattle.brc_runs.proofs.Queueing.{no_marks}
 
 -- no clause speaks of notify words, but for how many there are
-pub told_sound : (h : Heap) (notices : List ℕ) → IsSound h → length notices ≡ length h.notices → IsSound (record h { notices = notices })
-told_sound h notices sound same = record {
+pub told_sound : (h : Heap) (notify_words : List ℕ) → IsSound h → length notify_words ≡ length h.notify_words → IsSound (record h { notify_words = notify_words })
+told_sound h notify_words sound same = record {
   shaped = record {
     options = sound.shaped.options;
     entries = sound.shaped.entries;
@@ -23,9 +23,9 @@ told_sound h notices sound same = record {
     threads = sound.shaped.threads;
     frames = sound.shaped.frames;
     popped = sound.shaped.popped;
-    works = sound.shaped.works;
+    worklists = sound.shaped.worklists;
     queues = sound.shaped.queues;
-    notices = same ∙ sound.shaped.notices;
+    notify_words = same ∙ sound.shaped.notify_words;
     gathered = sound.shaped.gathered;
     marks = sound.shaped.marks;
     popped_words = sound.shaped.popped_words;
@@ -38,7 +38,7 @@ told_sound h notices sound same = record {
   hands = λ t d p busy. let fits = sound.hands t d p busy in record { mortal = fits.mortal; fits = fits.fits };
   cells = sound.cells;
   immortals = sound.immortals;
-  works = sound.works;
+  worklists = sound.worklists;
   threads = sound.threads;
   bits = sound.bits;
   locks = λ t k locked. let old = sound.locks t k locked in (old.0, record { thread = old.1.thread; place = old.1.place; names = old.1.names }, old.2);
@@ -47,23 +47,23 @@ told_sound h notices sound same = record {
 }
 
 -- a step that takes no word writes back what it read
-untaken_sound : (h : Heap) (t : ℕ) (notices : List ℕ) → IsSound h → length notices ≡ length h.notices → IsSound (record h {
+untaken_sound : (h : Heap) (t : ℕ) (notify_words : List ℕ) → IsSound h → length notify_words ≡ length h.notify_words → IsSound (record h {
   rows = set h.rows t (record (row_at h t) { stage = (row_at h t).stage });
   popped = set h.popped t (popped_at h t);
   queues = set h.queues t (queue_at h t);
-  notices = notices;
+  notify_words = notify_words;
 })
-untaken_sound h t notices sound same =
-    subst (λ rows. IsSound (record h { rows = rows; popped = set h.popped t (popped_at h t); queues = set h.queues t (queue_at h t); notices = notices })) (sym (set-get_or h.rows t no_row))
-    (subst (λ popped. IsSound (record h { popped = popped; queues = set h.queues t (queue_at h t); notices = notices })) (sym (set-get_or h.popped t []))
-    (subst (λ queues. IsSound (record h { queues = queues; notices = notices })) (sym (set-get_or h.queues t []))
-    (told_sound h notices sound same)))
+untaken_sound h t notify_words sound same =
+    subst (λ rows. IsSound (record h { rows = rows; popped = set h.popped t (popped_at h t); queues = set h.queues t (queue_at h t); notify_words = notify_words })) (sym (set-get_or h.rows t no_row))
+    (subst (λ popped. IsSound (record h { popped = popped; queues = set h.queues t (queue_at h t); notify_words = notify_words })) (sym (set-get_or h.popped t []))
+    (subst (λ queues. IsSound (record h { queues = queues; notify_words = notify_words })) (sym (set-get_or h.queues t []))
+    (told_sound h notify_words sound same)))
 
 pub nudge_sound : (h : Heap) (t u k : ℕ) → IsSound h → IsSound (kept_cells h t (Nudge u k))
-nudge_sound h t u k sound = untaken_sound h t (notices_after t (Nudge u k) h.notices) sound (length-set h.notices u _)
+nudge_sound h t u k sound = untaken_sound h t (notify_words_after t (Nudge u k) h.notify_words) sound (length-set h.notify_words u _)
 
 pub wake_sound : (h : Heap) (t : ℕ) → IsSound h → IsSound (kept_cells h t Wake)
-wake_sound h t sound = untaken_sound h t (notices_after t Wake h.notices) sound (length-set h.notices t 0)
+wake_sound h t sound = untaken_sound h t (notify_words_after t Wake h.notify_words) sound (length-set h.notify_words t 0)
 
 -- ---- gathering
 
@@ -82,8 +82,8 @@ gathered_sound h u sound may =
     let inside : u < length h.rows = ltb-true _ _ (and_parts _ _ e.0).1 in
     let at_gathered : u < length h.gathered = omega (arith, sound.shaped.gathered, inside) in
     let size : length (set h.gathered u true) ≡ length h.gathered = length-set h.gathered u true in
-    let own : (g : Bool) → ThreadFits (words_for (length h.cells)) (row_at h u) (frame_at h u) (popped_at h u) (work_at h u) (queue_at h u) g = λ g.
-    let old : ThreadFits (words_for (length h.cells)) (row_at h u) (frame_at h u) (popped_at h u) (work_at h u) (queue_at h u) (is_gathered h u) = sound.threads u in
+    let own : (g : Bool) → ThreadFits (words_for (length h.cells)) (row_at h u) (frame_at h u) (popped_at h u) (worklist_at h u) (queue_at h u) g = λ g.
+    let old : ThreadFits (words_for (length h.cells)) (row_at h u) (frame_at h u) (popped_at h u) (worklist_at h u) (queue_at h u) (is_gathered h u) = sound.threads u in
     record {
       inactive_hand = old.inactive_hand;
       inactive_frame = old.inactive_frame;
@@ -93,7 +93,7 @@ gathered_sound h u sound may =
       closed = old.closed;
       gathered_left = λ _. left_stage (row_at h u).stage d.1;
       gathered_hand = λ _. free_hand (row_at h u).hand c.1;
-      gathered_work = λ _ q. (no_marks (work_at h u) a.1 q, blank_bits (popped_at h u) b.1 q);
+      gathered_work = λ _ q. (no_marks (worklist_at h u) a.1 q, blank_bits (popped_at h u) b.1 q);
       locked_hand = old.locked_hand;
       births = old.births;
       places = old.places;
@@ -106,9 +106,9 @@ gathered_sound h u sound may =
         threads = sound.shaped.threads;
         frames = sound.shaped.frames;
         popped = sound.shaped.popped;
-        works = sound.shaped.works;
+        worklists = sound.shaped.worklists;
         queues = sound.shaped.queues;
-        notices = sound.shaped.notices;
+        notify_words = sound.shaped.notify_words;
         gathered = size ∙ sound.shaped.gathered;
         marks = sound.shaped.marks;
         popped_words = sound.shaped.popped_words;
@@ -121,8 +121,8 @@ gathered_sound h u sound may =
       hands = λ t d p busy. let fits = sound.hands t d p busy in record { mortal = fits.mortal; fits = fits.fits };
       cells = sound.cells;
       immortals = sound.immortals;
-      works = sound.works;
-      threads = read_by (λ t g. ThreadFits (words_for (length h.cells)) (row_at h t) (frame_at h t) (popped_at h t) (work_at h t) (queue_at h t) g) h.gathered u true false at_gathered (own true) (λ t _. sound.threads t);
+      worklists = sound.worklists;
+      threads = read_by (λ t g. ThreadFits (words_for (length h.cells)) (row_at h t) (frame_at h t) (popped_at h t) (worklist_at h t) (queue_at h t) g) h.gathered u true false at_gathered (own true) (λ t _. sound.threads t);
       bits = sound.bits;
       locks = λ t k locked. let old = sound.locks t k locked in (old.0, record { thread = old.1.thread; place = old.1.place; names = old.1.names }, old.2);
       mutexes = λ t q some mutex. let old = sound.mutexes t q some mutex in (old.0, record { thread = old.1.thread; place = old.1.place; names = old.1.names });

@@ -19,10 +19,10 @@ use Rattle.brc_runs.specs.declared.row.Phase.{Phase}
 use Rattle.brc_runs.specs.declared.row.Phase.TheVariants as phases
 use Rattle.brc_runs.specs.declared.row.Stage.{Stage}
 use Rattle.brc_runs.specs.Lists.{one, is_marked, filled}
-use Rattle.brc_runs.specs.Heap.{Heap, cell_at, entries_at, row_at, frame_at, popped_at, work_at, is_immortal, no_row}
+use Rattle.brc_runs.specs.Heap.{Heap, cell_at, entries_at, row_at, frame_at, popped_at, worklist_at, is_immortal, no_row}
 use Rattle.brc_runs.specs.Steps.{after_target, target_ok, source_cell, dropped_cell, cell_in_hand, frame_without, entries_without, is_default, is_queued, is_merged, is_zero, is_positive, is_nobody, is_ending, is_ending_hand, ends_ok}
 use Rattle.brc_runs.specs.Holding.{lives, carries, has_reference, count_of_state}
-use Rattle.brc_runs.specs.Sound.{IsSound, CellFits, PhaseFits, WorkFits, counted_in, grips_of, grips_by_owner, grips, is_gripping, is_active_hand, held, asks, asks_least, asks_most, is_threads}
+use Rattle.brc_runs.specs.Sound.{IsSound, CellFits, PhaseFits, WorklistFits, counted_in, grips_of, grips_by_owner, grips, is_gripping, is_active_hand, held, asks, asks_least, asks_most, is_threads}
 use Rattle.brc_runs.proofs.Naming.{merged_state, no_mark, one-le, free_hand, busy_carrier, live_counts, zero_count, default_state, grips_free, carries_free, sum_one}
 use Rattle.brc_runs.proofs.Framing.{times-filled, length-filled}
 use Rattle.brc_runs.proofs.Asking.{May, OnCell, on_cell, vacant}
@@ -64,7 +64,7 @@ count_phase n s row popped x g c phases.Counted fits = (record { claimed = fits.
 count_phase n s row popped x g c phases.Ready fits = (record { claimed = fits.0.claimed; more = fits.0.more }, fits.1, fits.2)
 count_phase n s row popped x g c phases.Zero fits = fits
 count_phase n s row popped x g c phases.Over fits = fits
-count_phase n s row popped x g c phases.Untied fits = record { owner = fits.owner; local = fits.local; not_merged = fits.not_merged; bore = fits.bore }
+count_phase n s row popped x g c phases.Untied fits = record { owner = fits.owner; local = fits.local; not_merged = fits.not_merged; bearer = fits.bearer }
 count_phase n s row popped x g c phases.Asked fits = tt
 count_phase n s row popped x g c phases.Shut fits = fits
 count_phase n s row popped x g c phases.Taking fits = fits
@@ -72,7 +72,7 @@ count_phase n s row popped x g c phases.Held fits = fits
 count_phase n s row popped x g c phases.Popping fits = fits
 
 pub count_hands : (h : Heap) (t c : ℕ) (n : ℤ) → IsSound h → (s : ℕ) (p : Phase) → s ≢ t → (row_at h s).hand ≡ hands.Busy p c
-    → PhaseFits s (row_at h s) (popped_at h s) (record (cell_at h c) { count = n }) (row_at h (cell_at h c).bore).stage c p
+    → PhaseFits s (row_at h s) (popped_at h s) (record (cell_at h c) { count = n }) (row_at h (cell_at h c).bearer).stage c p
 count_hands h t c n sound s p ne busy = count_phase n s (row_at h s) (popped_at h s) (cell_at h c) _ c p (sound.hands s c p busy).fits
 
 pub count_cell : (threads limit : ℕ) (x : Cell) (n : ℤ) (old new : List ℕ) → lives x.owner ≡ true → (x.state ≡ states.Default → pos 0 ≤ℤ n) → (old ≡ [] → new ≡ []) → length new ≤ length old
@@ -103,7 +103,7 @@ merged_held h c sound mortal live merged =
 -- ---- up
 
 shared_up_fits : (h : Heap) (t c k : ℕ) → IsSound h → Ups h t c k → 266 ≤ c → 1 ≤ held h c
-    → Plain h t c (record (cell_at h c) { count = (cell_at h c).count +ℤ pos 1 }) (row_at h t) (filled (frame_at h t) k c) (work_at h t) h.entries
+    → Plain h t c (record (cell_at h c) { count = (cell_at h c).count +ℤ pos 1 }) (row_at h t) (filled (frame_at h t) k c) (worklist_at h t) h.entries
 shared_up_fits h t c k sound ups mortal some =
     let x : Cell = cell_at h c in
     let live : lives x.owner ≡ true = held_owner h c sound mortal some in
@@ -117,7 +117,7 @@ shared_up_fits h t c k sound ups mortal some =
       cell_inside = ups.cell_inside;
       immortal = λ low. absurd (omega (arith, low, mortal));
       mutex = refl;
-      bore = inl refl;
+      bearer = inl refl;
       stage = refl;
       locked = refl;
       locked_place = lock_stays h t k c sound ups.place.none;
@@ -137,7 +137,7 @@ shared_up_fits h t c k sound ups mortal some =
       works_here = λ on. absurd (no_mark _ (held_unmarked h t c sound some) on);
       works_own = λ q _ on. on;
       works_else = λ s ne on. absurd (no_mark _ (held_unmarked h s c sound some) on);
-      own = active_fits _ (row_at h t) (row_at h t) (frame_at h t) _ _ (work_at h t) _ _ _ ups.active ups.here refl
+      own = active_fits _ (row_at h t) (row_at h t) (frame_at h t) _ _ (worklist_at h t) _ _ _ ups.active ups.here refl
           (λ _ _. ups.hand) (sound.threads t).births (length-filled (frame_at h t) k c ups.place.low (sound.threads t).places);
       ledger = refl;
     }
@@ -169,20 +169,20 @@ record Lets (h : Heap) (t c : ℕ) (x : Cell) (now : Hand) (f : List (Option ℕ
   mortal : 266 ≤ c
   some : 1 ≤ held h c
   mutex : x.mutex ≡ (cell_at h c).mutex
-  bore : x.bore ≡ (cell_at h c).bore
+  bearer : x.bearer ≡ (cell_at h c).bearer
   live : lives x.owner ≡ lives (cell_at h c).owner
   counted : counted_in x +ℤ pos 1 ≡ counted_in (cell_at h c) +ℤ pos (one (carries c now))
   gripped : grips_of x ≡ grips_of (cell_at h c) + one (is_marked w c)
   no_grip : one (grips c now) ≡ 0
   most : asks h c + one (carries c now) ≤ asks_most x
   least : asks_least x ≤ asks h c + one (carries c now)
-  after : (p : Phase) (d : ℕ) → now ≡ hands.Busy p d → (d ≡ c) × PhaseFits t (record (row_at h t) { hand = now }) (popped_at h t) x (row_at h x.bore).stage c p
+  after : (p : Phase) (d : ℕ) → now ≡ hands.Busy p d → (d ≡ c) × PhaseFits t (record (row_at h t) { hand = now }) (popped_at h t) x (row_at h x.bearer).stage c p
   idle : is_active_hand now ≡ false
-  hands_else : (s : ℕ) (p : Phase) → s ≢ t → (row_at h s).hand ≡ hands.Busy p c → PhaseFits s (row_at h s) (popped_at h s) x (row_at h x.bore).stage c p
+  hands_else : (s : ℕ) (p : Phase) → s ≢ t → (row_at h s).hand ≡ hands.Busy p c → PhaseFits s (row_at h s) (popped_at h s) x (row_at h x.bearer).stage c p
   cell : CellFits (length h.rows) h.limit x (get_or es c [])
-  marks : length w ≡ length (work_at h t)
-  works_here : is_marked w c ≡ true → WorkFits t c x
-  marks_else : (q : ℕ) → q ≢ c → is_marked w q ≡ is_marked (work_at h t) q
+  marks : length w ≡ length (worklist_at h t)
+  works_here : is_marked w c ≡ true → WorklistFits t c x
+  marks_else : (q : ℕ) → q ≢ c → is_marked w q ≡ is_marked (worklist_at h t) q
 
 lets_turn : (h : Heap) (t c : ℕ) (x : Cell) (now : Hand) (f : List (Option ℕ)) (w : List Bool) (es : List (List ℕ)) → IsSound h → Lets h t c x now f w es → Turn h t c x now f w es
 lets_turn h t c x now f w es sound lets =
@@ -193,7 +193,7 @@ lets_turn h t c x now f w es sound lets =
       cell_inside = lets.downs.cell_inside;
       mortal = lets.mortal;
       mutex = lets.mutex;
-      bore = lets.bore;
+      bearer = lets.bearer;
       live = lets.live;
       vacant = lets.downs.vacant;
       places = lets.downs.places;
@@ -230,7 +230,7 @@ unmerged_default states.Queued h = refl
 unmerged_default states.Merged h = absurd (true≢false (sym h))
 
 pub shared_down_sound : (h : Heap) (t : ℕ) (drop : Dropped) (o : Option ℕ) → IsSound h → May h t (SharedDown drop)
-    → dropped_cell (frame_at h t) (work_at h t) (entries_at h) drop ≡ o → target_ok h t (row_at h t) (SharedDown drop) o ≡ true
+    → dropped_cell (frame_at h t) (worklist_at h t) (entries_at h) drop ≡ o → target_ok h t (row_at h t) (SharedDown drop) o ≡ true
     → IsSound (after_target h t (SharedDown drop) o)
 shared_down_sound h t drop None sound may named ok = absurd (true≢false (sym ok))
 shared_down_sound h t drop (Some c) sound may named ok =
@@ -245,13 +245,13 @@ shared_down_sound h t drop (Some c) sound may named ok =
     let live : lives x.owner ≡ true = held_owner h c sound mortal some in
     let who : Acts h t = acts h t (SharedDown drop) may refl refl in
     let downs : Downs h t c (frame_without (Some drop) (frame_at h t)) (entries_without (Some drop) h.entries) = drop_downs h t c drop sound who at_cell.inside free named in
-    turn_sound h t c (record x { count = n }) (row_at h t).hand _ (work_at h t) _ sound (lets_turn h t c (record x { count = n }) (row_at h t).hand _ (work_at h t) _ sound (record {
+    turn_sound h t c (record x { count = n }) (row_at h t).hand _ (worklist_at h t) _ sound (lets_turn h t c (record x { count = n }) (row_at h t).hand _ (worklist_at h t) _ sound (record {
       acts = who;
       downs = downs;
       mortal = mortal;
       some = some;
       mutex = refl;
-      bore = refl;
+      bearer = refl;
       live = refl;
       counted = omega (arith, ints, moved_counts x n live, carries_free c _ free);
       gripped = omega (arith, same_grips x.owner x.state x.local n x.count (λ merged. absurd (true≢false (sym merged ∙ unmerged_default x.state default))), held_unmarked h t c sound some);
@@ -277,7 +277,7 @@ queued_phase s row popped x g c phases.Counted default live fits = (record { cla
 queued_phase s row popped x g c phases.Ready default live fits = absurd (true≢false (sym live ∙ ap lives fits.0.claimed))
 queued_phase s row popped x g c phases.Zero default live fits = fits
 queued_phase s row popped x g c phases.Over default live fits = fits
-queued_phase s row popped x g c phases.Untied default live fits = record { owner = fits.owner; local = fits.local; not_merged = refl; bore = fits.bore }
+queued_phase s row popped x g c phases.Untied default live fits = record { owner = fits.owner; local = fits.local; not_merged = refl; bearer = fits.bearer }
 queued_phase s row popped x g c phases.Asked default live fits = tt
 queued_phase s row popped x g c phases.Shut default live fits = fits
 queued_phase s row popped x g c phases.Taking default live fits = fits
@@ -291,8 +291,8 @@ queued_grips (owners.Claimed t) local n = refl
 queued_grips owners.Free local n = refl
 
 asked_lets : (h : Heap) (t c : ℕ) (drop : Dropped) → IsSound h → Acts h t → c < length h.cells → 266 ≤ c → (row_at h t).hand ≡ hands.Free
-    → dropped_cell (frame_at h t) (work_at h t) (entries_at h) drop ≡ Some c → (cell_at h c).state ≡ states.Default
-    → Lets h t c (record (cell_at h c) { state = states.Queued }) (hands.Busy phases.Asked c) (frame_without (Some drop) (frame_at h t)) (work_at h t) (entries_without (Some drop) h.entries)
+    → dropped_cell (frame_at h t) (worklist_at h t) (entries_at h) drop ≡ Some c → (cell_at h c).state ≡ states.Default
+    → Lets h t c (record (cell_at h c) { state = states.Queued }) (hands.Busy phases.Asked c) (frame_without (Some drop) (frame_at h t)) (worklist_at h t) (entries_without (Some drop) h.entries)
 asked_lets h t c drop sound who inside mortal free named default =
     let x : Cell = cell_at h c in
     let y : Cell = record x { state = states.Queued } in
@@ -310,7 +310,7 @@ asked_lets h t c drop sound who inside mortal free named default =
       mortal = mortal;
       some = some;
       mutex = refl;
-      bore = refl;
+      bearer = refl;
       live = refl;
       counted = omega (arith, ints, same, here);
       gripped = omega (arith, grips, held_unmarked h t c sound some);
@@ -318,9 +318,9 @@ asked_lets h t c drop sound who inside mortal free named default =
       most = omega (arith, none, here);
       least = omega (arith, none, here, one-le (is_threads x.owner));
       after = λ p d e. let same = busy_same phases.Asked c (hands.Busy phases.Asked c) refl p d e in
-          (same.0, subst (λ z. PhaseFits t (record (row_at h t) { hand = hands.Busy phases.Asked c }) (popped_at h t) y (row_at h x.bore).stage c z) (sym same.1) tt);
+          (same.0, subst (λ z. PhaseFits t (record (row_at h t) { hand = hands.Busy phases.Asked c }) (popped_at h t) y (row_at h x.bearer).stage c z) (sym same.1) tt);
       idle = refl;
-      hands_else = λ s p ne busy. queued_phase s (row_at h s) (popped_at h s) x (row_at h x.bore).stage c p default live (sound.hands s c p busy).fits;
+      hands_else = λ s p ne busy. queued_phase s (row_at h s) (popped_at h s) x (row_at h x.bearer).stage c p default live (sound.hands s c p busy).fits;
       cell = record {
         default = λ e. let bad : states.Queued ≡ states.Default = e in absurd (cc);
         owned_unmerged = λ s e. refl;
@@ -339,13 +339,13 @@ asked_lets h t c drop sound who inside mortal free named default =
 
 -- nothing changes
 still_turn : (h : Heap) (t c : ℕ) → IsSound h → Acts h t → c < length h.cells → 266 ≤ c → (row_at h t).hand ≡ hands.Free
-    → Turn h t c (cell_at h c) (row_at h t).hand (frame_at h t) (work_at h t) h.entries
+    → Turn h t c (cell_at h c) (row_at h t).hand (frame_at h t) (worklist_at h t) h.entries
 still_turn h t c sound who inside mortal free = record {
   acts = who;
   cell_inside = inside;
   mortal = mortal;
   mutex = refl;
-  bore = refl;
+  bearer = refl;
   live = refl;
   vacant = λ j none. none;
   places = (sound.threads t).places;
@@ -362,13 +362,13 @@ still_turn h t c sound who inside mortal free = record {
   hands_else = λ s p _ busy. (sound.hands s c p busy).fits;
   cell = sound.cells c mortal;
   fewer = λ q _. same_entries _;
-  works_here = sound.works t c;
+  works_here = sound.worklists t c;
   marks_else = λ q _. refl;
-  works_else = λ s _ on. sound.works s c on;
+  works_else = λ s _ on. sound.worklists s c on;
 }
 
 pub ask_sound : (h : Heap) (t : ℕ) (drop : Dropped) (o : Option ℕ) → IsSound h → May h t (Ask drop)
-    → dropped_cell (frame_at h t) (work_at h t) (entries_at h) drop ≡ o → target_ok h t (row_at h t) (Ask drop) o ≡ true
+    → dropped_cell (frame_at h t) (worklist_at h t) (entries_at h) drop ≡ o → target_ok h t (row_at h t) (Ask drop) o ≡ true
     → IsSound (after_target h t (Ask drop) o)
 ask_sound h t drop None sound may named ok = absurd (true≢false (sym ok))
 ask_sound h t drop (Some c) sound may named ok =
@@ -383,7 +383,7 @@ ask_sound h t drop (Some c) sound may named ok =
       rows = set h.rows t (record (row_at h t) { hand = if b then hands.Busy phases.Asked c else (row_at h t).hand });
       frames = set h.frames t (frame_without (if b then Some drop else None) (frame_at h t));
       popped = set h.popped t (popped_at h t);
-      works = set h.works t (work_at h t);
+      worklists = set h.worklists t (worklist_at h t);
     }) in
     elim (cases_Bool (is_default x.state)) [
       | inl default ↦ subst P (sym default) (turn_sound h t c _ _ _ _ _ sound (lets_turn h t c _ _ _ _ _ sound (asked_lets h t c drop sound who at_cell.inside mortal free named (default_state x.state default))))
@@ -409,7 +409,7 @@ pub record Lasts (h : Heap) (t c : ℕ) : Type 0 where
   pub live : lives (cell_at h c).owner ≡ true
   pub counted : counted_in (record (cell_at h c) { count = (cell_at h c).count -ℤ pos 1 }) +ℤ pos 1 ≡ counted_in (cell_at h c)
   pub gripped : grips_of (record (cell_at h c) { count = (cell_at h c).count -ℤ pos 1 }) ≡ grips_of (cell_at h c) + one (is_merged (cell_at h c).state && is_zero ((cell_at h c).count -ℤ pos 1))
-  pub dead : (is_merged (cell_at h c).state && is_zero ((cell_at h c).count -ℤ pos 1)) ≡ true → WorkFits t c (record (cell_at h c) { count = (cell_at h c).count -ℤ pos 1 })
+  pub dead : (is_merged (cell_at h c).state && is_zero ((cell_at h c).count -ℤ pos 1)) ≡ true → WorklistFits t c (record (cell_at h c) { count = (cell_at h c).count -ℤ pos 1 })
 
 pub lasts_of : (h : Heap) (t c : ℕ) → IsSound h → 266 ≤ c → 1 ≤ held h c → Lasts h t c
 lasts_of h t c sound mortal some =
@@ -433,7 +433,7 @@ queued_or_merged s more e = true≢false (sym more ∙ ap (λ z. not (is_default
 
 -- a place or an entry
 pub last_dropped_sound : (h : Heap) (t : ℕ) (drop : Dropped) (o : Option ℕ) → IsSound h → May h t (LastDown (lasts.Dropped drop))
-    → dropped_cell (frame_at h t) (work_at h t) (entries_at h) drop ≡ o → target_ok h t (row_at h t) (LastDown (lasts.Dropped drop)) o ≡ true
+    → dropped_cell (frame_at h t) (worklist_at h t) (entries_at h) drop ≡ o → target_ok h t (row_at h t) (LastDown (lasts.Dropped drop)) o ≡ true
     → IsSound (after_target h t (LastDown (lasts.Dropped drop)) o)
 last_dropped_sound h t drop None sound may named ok = absurd (true≢false (sym ok))
 last_dropped_sound h t drop (Some c) sound may named ok =
@@ -449,15 +449,15 @@ last_dropped_sound h t drop (Some c) sound may named ok =
     let last : Lasts h t c = lasts_of h t c sound mortal some in
     let who : Acts h t = acts h t s may refl refl in
     let downs : Downs h t c (frame_without (Some drop) (frame_at h t)) (entries_without (Some drop) h.entries) = drop_downs h t c drop sound who at_cell.inside free named in
-    let within : c < length (work_at h t) = omega (arith, sound.shaped.marks t may.some_thread may.inside, at_cell.inside) in
-    let marks = taken_marks (work_at h t) c within (held_unmarked h t c sound some) takes in
-    turn_sound h t c (record x { count = n }) (row_at h t).hand _ (if takes then set (work_at h t) c true else work_at h t) _ sound (lets_turn h t c (record x { count = n }) (row_at h t).hand _ (if takes then set (work_at h t) c true else work_at h t) _ sound (record {
+    let within : c < length (worklist_at h t) = omega (arith, sound.shaped.marks t may.some_thread may.inside, at_cell.inside) in
+    let marks = taken_marks (worklist_at h t) c within (held_unmarked h t c sound some) takes in
+    turn_sound h t c (record x { count = n }) (row_at h t).hand _ (if takes then set (worklist_at h t) c true else worklist_at h t) _ sound (lets_turn h t c (record x { count = n }) (row_at h t).hand _ (if takes then set (worklist_at h t) c true else worklist_at h t) _ sound (record {
       acts = who;
       downs = downs;
       mortal = mortal;
       some = some;
       mutex = refl;
-      bore = refl;
+      bearer = refl;
       live = refl;
       counted = omega (arith, ints, last.counted, carries_free c _ free);
       gripped = omega (arith, last.gripped, marks.0);
@@ -542,14 +542,14 @@ last_hand_sound h t (Some c) sound may named ok =
     let least : asks_least x ≡ 0 = no_least h t c hand.0 sound hand.1 hand.2 (subst (λ g. ends_ok g x ≡ true) hand.1 parts.1) in
     let some : 1 ≤ held h c = carried_held h t c carried in
     let last : Lasts h t c = lasts_of h t c sound mortal some in
-    let within : c < length (work_at h t) = omega (arith, sound.shaped.marks t may.some_thread may.inside, at_cell.inside) in
-    let marks = taken_marks (work_at h t) c within (held_unmarked h t c sound some) takes in
-    turn_sound h t c (record x { count = n }) hands.Free (frame_at h t) (if takes then set (work_at h t) c true else work_at h t) h.entries sound (record {
+    let within : c < length (worklist_at h t) = omega (arith, sound.shaped.marks t may.some_thread may.inside, at_cell.inside) in
+    let marks = taken_marks (worklist_at h t) c within (held_unmarked h t c sound some) takes in
+    turn_sound h t c (record x { count = n }) hands.Free (frame_at h t) (if takes then set (worklist_at h t) c true else worklist_at h t) h.entries sound (record {
       acts = acts h t s may refl refl;
       cell_inside = at_cell.inside;
       mortal = mortal;
       mutex = refl;
-      bore = refl;
+      bearer = refl;
       live = refl;
       vacant = λ j none. none;
       places = (sound.threads t).places;

@@ -10,8 +10,8 @@ use Rattle.brc_runs.specs.declared.event.Step.{Step}
 use Rattle.brc_runs.specs.declared.event.Step.TheVariants.{SeeZero, Free, MergeZero, LastDown, Enqueue, Register, Gather}
 use Rattle.brc_runs.specs.declared.row.Stage.TheVariants as stages
 use Rattle.brc_runs.specs.Lists.{is_marked, bit_of, with_bit}
-use Rattle.brc_runs.specs.Heap.{Heap, opening, cell_at, row_at, work_at, queue_at, is_gathered, no_cell, AreOptions}
-use Rattle.brc_runs.specs.Steps.{enabled, after, after_target, root_after, root_may, thread_may, target_at, cell_after, work_after, takes_block, is_active, is_closed, is_shut, queues_after, target_ok}
+use Rattle.brc_runs.specs.Heap.{Heap, opening, cell_at, row_at, worklist_at, queue_at, is_gathered, no_cell, AreOptions}
+use Rattle.brc_runs.specs.Steps.{enabled, after, after_target, root_after, root_may, thread_may, target_at, cell_after, worklist_after, takes_block, is_active, is_closed, is_shut, queues_after, target_ok}
 use Rattle.brc_runs.specs.Runs.{IsRun, IsReached, world_after}
 use Rattle.brc_runs.specs.Sound.{IsSound}
 use Rattle.brc_runs.specs.Staying.{is_about, AreAnothers, Lasts, HoldsNothing}
@@ -47,12 +47,12 @@ taken_mutex t (MergeZero d) c x takes = refl
 taken_mutex t (LastDown last) c x takes = refl
 taken_mutex t _ c x takes = absurd (true≢false (sym takes))
 
-taken_work : (s : Step) (c : ℕ) (x : Cell) (work : List Bool) → takes_block s x ≡ true → work_after s c x work ≡ set work c true
-taken_work (Free d) c x work takes = absurd (true≢false (sym takes))
-taken_work (SeeZero d) c x work takes = ap (λ b. if b then set work c true else work) takes
-taken_work (MergeZero d) c x work takes = ap (λ b. if b then set work c true else work) takes
-taken_work (LastDown last) c x work takes = ap (λ b. if b then set work c true else work) takes
-taken_work _ c x work takes = absurd (true≢false (sym takes))
+taken_work : (s : Step) (c : ℕ) (x : Cell) (worklist : List Bool) → takes_block s x ≡ true → worklist_after s c x worklist ≡ set worklist c true
+taken_work (Free d) c x worklist takes = absurd (true≢false (sym takes))
+taken_work (SeeZero d) c x worklist takes = ap (λ b. if b then set worklist c true else worklist) takes
+taken_work (MergeZero d) c x worklist takes = ap (λ b. if b then set worklist c true else worklist) takes
+taken_work (LastDown last) c x worklist takes = ap (λ b. if b then set worklist c true else worklist) takes
+taken_work _ c x worklist takes = absurd (true≢false (sym takes))
 
 -- at the step that takes a block nobody has locked it
 pub taken_unlocked : (h : Heap) (e : Event) (c : ℕ) → IsReached h → enabled h e ≡ true → e.thread ≢ 0 → target_at h e.thread e.step ≡ Some c → takes_block e.step (cell_at h c) ≡ true → (cell_at h c).mutex ≡ 0
@@ -64,10 +64,10 @@ taken_unlocked h e c reached ok thread named takes =
     let is : after h e ≡ after_target h e.thread e.step (Some c) = ap (λ b. if b then root_after h e.step else moved) off ∙ ap (after_target h e.thread e.step) named in
     let new : IsSound (after_target h e.thread e.step (Some c)) = subst IsSound is (event_sound h e sound ok) in
     let inside : c < length h.cells = (on_cell h e.thread e.step c (subst (λ o. target_ok h e.thread (row_at h e.thread) e.step o ≡ true) named may.on_target)).inside in
-    let within : c < length (work_at h e.thread) = omega (arith, sound.shaped.marks e.thread may.some_thread may.inside, inside) in
-    let at_works : e.thread < length h.works = omega (arith, sound.shaped.works, may.inside) in
-    let marked : is_marked (work_at (after_target h e.thread e.step (Some c)) e.thread) c ≡ true =
-    ap (λ marks. is_marked marks c) (read_here h.works e.thread _ [] at_works ∙ taken_work e.step c (cell_at h c) (work_at h e.thread) takes) ∙ get_or-set_same (work_at h e.thread) c true false within in
+    let within : c < length (worklist_at h e.thread) = omega (arith, sound.shaped.marks e.thread may.some_thread may.inside, inside) in
+    let at_works : e.thread < length h.worklists = omega (arith, sound.shaped.worklists, may.inside) in
+    let marked : is_marked (worklist_at (after_target h e.thread e.step (Some c)) e.thread) c ≡ true =
+    ap (λ marks. is_marked marks c) (read_here h.worklists e.thread _ [] at_works ∙ taken_work e.step c (cell_at h c) (worklist_at h e.thread) takes) ∙ get_or-set_same (worklist_at h e.thread) c true false within in
     sym (ap (λ (x : Cell). x.mutex) (read_here h.cells c (cell_after e.thread e.step c (cell_at h c)) no_cell inside) ∙ taken_mutex e.thread e.step c (cell_at h c) takes)
     ∙ unheld_unlocked (after_target h e.thread e.step (Some c)) c new (marked_unheld (after_target h e.thread e.step (Some c)) e.thread c new marked)
 
@@ -99,15 +99,15 @@ queued_lasts t q h e reached ok others on =
 
     by_step : (u : ℕ) (s : Step) (c : ℕ) → bit_of (get_or (queues_after h s c) t []) q ≡ 1
     by_step u (Enqueue d) c = elim (cases_Bool (is_shut h c)) [
-      | inl shut ↦ ap (λ b. let queues : List (List ℕ) = if b then h.queues else set h.queues (cell_at h c).bore (with_bit (queue_at h (cell_at h c).bore) c) in bit_of (get_or queues t []) q) shut ∙ on
-      | inr apart ↦ ap (λ b. let queues : List (List ℕ) = if b then h.queues else set h.queues (cell_at h c).bore (with_bit (queue_at h (cell_at h c).bore) c) in bit_of (get_or queues t []) q) apart
-          ∙ elim (cases_eq t (cell_at h c).bore) [
-            | inr other ↦ ap (λ (ws : List ℕ). bit_of ws q) (read_there h.queues (cell_at h c).bore t _ [] other) ∙ on
-            | inl same ↦ elim (cases_lt (cell_at h c).bore (length h.queues)) [
-              | inl inside ↦ ap (λ j. bit_of (get_or (set h.queues (cell_at h c).bore (with_bit (queue_at h (cell_at h c).bore) c)) j []) q) same
-                  ∙ ap (λ (ws : List ℕ). bit_of ws q) (read_here h.queues (cell_at h c).bore _ [] inside)
-                  ∙ set_stays (queue_at h (cell_at h c).bore) c q (ap (λ j. bit_of (queue_at h j) q) (sym same) ∙ on)
-              | inr past ↦ absurd (omega (arith, on, ap (λ (ws : List ℕ). bit_of ws q) (ap (queue_at h) same ∙ get_or_past h.queues (cell_at h c).bore [] past), no_bit q))
+      | inl shut ↦ ap (λ b. let queues : List (List ℕ) = if b then h.queues else set h.queues (cell_at h c).bearer (with_bit (queue_at h (cell_at h c).bearer) c) in bit_of (get_or queues t []) q) shut ∙ on
+      | inr apart ↦ ap (λ b. let queues : List (List ℕ) = if b then h.queues else set h.queues (cell_at h c).bearer (with_bit (queue_at h (cell_at h c).bearer) c) in bit_of (get_or queues t []) q) apart
+          ∙ elim (cases_eq t (cell_at h c).bearer) [
+            | inr other ↦ ap (λ (ws : List ℕ). bit_of ws q) (read_there h.queues (cell_at h c).bearer t _ [] other) ∙ on
+            | inl same ↦ elim (cases_lt (cell_at h c).bearer (length h.queues)) [
+              | inl inside ↦ ap (λ j. bit_of (get_or (set h.queues (cell_at h c).bearer (with_bit (queue_at h (cell_at h c).bearer) c)) j []) q) same
+                  ∙ ap (λ (ws : List ℕ). bit_of ws q) (read_here h.queues (cell_at h c).bearer _ [] inside)
+                  ∙ set_stays (queue_at h (cell_at h c).bearer) c q (ap (λ j. bit_of (queue_at h j) q) (sym same) ∙ on)
+              | inr past ↦ absurd (omega (arith, on, ap (λ (ws : List ℕ). bit_of ws q) (ap (queue_at h) same ∙ get_or_past h.queues (cell_at h c).bearer [] past), no_bit q))
             ]
           ]
     ]

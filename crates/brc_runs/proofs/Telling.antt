@@ -14,11 +14,11 @@ use Rattle.brc_runs.specs.declared.row.Hand.TheVariants as hands
 use Rattle.brc_runs.specs.declared.row.Phase.{Phase}
 use Rattle.brc_runs.specs.declared.row.Phase.TheVariants as phases
 use Rattle.brc_runs.specs.Lists.{one, is_marked, bit_of}
-use Rattle.brc_runs.specs.Heap.{Heap, cell_at, row_at, popped_at, work_at, no_row, is_immortal}
+use Rattle.brc_runs.specs.Heap.{Heap, cell_at, row_at, popped_at, worklist_at, no_row, is_immortal}
 use Rattle.brc_runs.specs.Steps.{enabled, after, target_at, cell_after, untie_ok, untied_ok, is_at, is_active, is_default, is_merged, is_mine, is_nobody, is_zero, counts_up_locally, target_ok}
 use Rattle.brc_runs.specs.Runs.{IsReached}
 use Rattle.brc_runs.specs.Holding.{carries, lives}
-use Rattle.brc_runs.specs.Sound.{IsSound, HandFits, WorkFits, Untied, grips, grips_by_owner, gripped, held, asks, is_gripping}
+use Rattle.brc_runs.specs.Sound.{IsSound, HandFits, WorklistFits, Untied, grips, grips_by_owner, gripped, held, asks, is_gripping}
 use Rattle.brc_runs.specs.Staying.{Lasts, SameOwn, Owns, Merges, Adopts, PoppedOwn, Tells, PoppedTells}
 use Rattle.brc_runs.proofs.Naming.{second, third, merged_state, nobody_owner, Ungripped, sole_grip, one-le, one-true, sum_one, sum_two, no_bit, busy_hand, busy_carrier, free_hand, free_owner, thread_owner}
 use Rattle.brc_runs.proofs.Asking.{May, OnCell, on_cell, Mine, mine}
@@ -89,7 +89,7 @@ who_unties : (h : Heap) (c : ℕ) → IsSound h → 266 ≤ c → (cell_at h c).
 unfolding Unties
 who_unties h c sound mortal owner unmerged some =
     let grip : gripped h c ≡ 1 = untier h c sound mortal owner unmerged in
-    let marks : sum_by (λ (marks : List Bool). one (is_marked marks c)) h.works ≡ 0 = sum_none (λ (marks : List Bool). one (is_marked marks c)) h.works [] (λ s. held_unmarked h s c sound some) in
+    let marks : sum_by (λ (marks : List Bool). one (is_marked marks c)) h.worklists ≡ 0 = sum_none (λ (marks : List Bool). one (is_marked marks c)) h.worklists [] (λ s. held_unmarked h s c sound some) in
     let found : (t : ℕ) × (1 ≤ one (grips c (row_at h t).hand)) = sum_some (λ (row : Row). one (grips c row.hand)) h.rows no_row (omega (arith, grip, marks)) in
     let hand : (p : Phase) × ((row_at h found.0).hand ≡ hands.Busy p c) × (is_gripping p ≡ true) = gripping_hand c _ (from_one _ found.1) in
     (found.0, hand.0, (hand.1, untying_phase h found.0 c hand.0 owner hand.2 (sound.hands found.0 c hand.0 hand.1)))
@@ -117,7 +117,7 @@ shut_tells h t c sound busy =
                   | inl untied ↦
                       let at : (row_at h who.0).hand ≡ hands.Busy phases.Untied c = who.2.0 ∙ ap (λ q. hands.Busy q c) untied in
                       let fits : Untied who.0 (cell_at h c) = (sound.hands who.0 c phases.Untied at).fits in
-                      true≢false (sym (active_now h who.0 c phases.Untied sound at refl) ∙ ap (λ b. is_active (row_at h b).stage) (sym fits.bore) ∙ closed_idle _ (c / 32) said.fits)
+                      true≢false (sym (active_now h who.0 c phases.Untied sound at refl) ∙ ap (λ b. is_active (row_at h b).stage) (sym fits.bearer) ∙ closed_idle _ (c / 32) said.fits)
                   | inr more ↦ elim more [
                     | inl taking ↦
                         let at : (row_at h who.0).hand ≡ hands.Busy phases.Taking c = who.2.0 ∙ ap (λ q. hands.Busy q c) taking in
@@ -191,13 +191,13 @@ sound_popped h t c sound free popped =
             (thread.1 ∙ ap owners.Thread (sym ((sound.cells c bit.0).owned_by_bearer thread.0 thread.1) ∙ bit.1), between (cell_at h c).state asked unmerged)
         | inl nobody ↦
             let who : (u : ℕ) × (p : Phase) × Unties h u c p = who_unties h c sound bit.0 (nobody_owner (cell_at h c).owner nobody) unmerged some in
-            let his : (u : ℕ) → (p : Phase) → (row_at h u).hand ≡ hands.Busy p c → (cell_at h c).bore ≡ u → ⊥ = λ u p at bore.
-            let bad : hands.Free ≡ hands.Busy p c = sym free ∙ ap (λ i. (row_at h i).hand) (sym bit.1 ∙ bore) ∙ at in cc in
+            let his : (u : ℕ) → (p : Phase) → (row_at h u).hand ≡ hands.Busy p c → (cell_at h c).bearer ≡ u → ⊥ = λ u p at bearer.
+            let bad : hands.Free ≡ hands.Busy p c = sym free ∙ ap (λ i. (row_at h i).hand) (sym bit.1 ∙ bearer) ∙ at in cc in
             absurd (elim who.2.1 [
               | inl untied ↦
                   let at : (row_at h who.0).hand ≡ hands.Busy phases.Untied c = who.2.0 ∙ ap (λ q. hands.Busy q c) untied in
                   let fits : Untied who.0 (cell_at h c) = (sound.hands who.0 c phases.Untied at).fits in
-                  his who.0 phases.Untied at fits.bore
+                  his who.0 phases.Untied at fits.bearer
               | inr more ↦ elim more [
                 | inl taking ↦
                     let at : (row_at h who.0).hand ≡ hands.Busy phases.Taking c = who.2.0 ∙ ap (λ q. hands.Busy q c) taking in
@@ -232,7 +232,7 @@ record Kept (h : Heap) (u c : ℕ) : Type 0 where
   untie : May h u (Untie c) → ⊥
   zero : May h u (MergeZero c) → ⊥
   add : May h u (MergeAdd c) → ⊥
-  unmarked : one (is_marked (work_at h u) c) ≡ 0
+  unmarked : one (is_marked (worklist_at h u) c) ≡ 0
 
 not_mine : (h : Heap) (u c : ℕ) → Kept h u c → (is_immortal c || is_mine u (row_at h u).stage (cell_at h c)) ≡ true → ⊥
 not_mine h u c kept ok = kept.owner (mine u (row_at h u).stage (cell_at h c) (subst (λ b. (b || is_mine u (row_at h u).stage (cell_at h c)) ≡ true) (le-ltb c 266 kept.mortal) ok))
@@ -255,8 +255,8 @@ fixed_step h u (LocalDown drop) c sound may named kept =
 fixed_step h u (SeeZero d) c sound may named kept = fixed_all (cell_at h c)
 fixed_step h u (Free d) c sound may named kept =
     let e : d ≡ c = cc in
-    let on : is_marked (work_at h u) c ≡ true = subst (λ i. is_marked (work_at h u) i ≡ true) e (and_parts _ _ may.own).0 in
-    absurd (omega (arith, one-true (is_marked (work_at h u) c) on, kept.unmarked))
+    let on : is_marked (worklist_at h u) c ≡ true = subst (λ i. is_marked (worklist_at h u) i ≡ true) e (and_parts _ _ may.own).0 in
+    absurd (omega (arith, one-true (is_marked (worklist_at h u) c) on, kept.unmarked))
 fixed_step h u (Untie d) c sound may named kept = let e : d ≡ c = cc in absurd (kept.untie (subst (λ i. May h u (Untie i)) e may))
 fixed_step h u (MergeZero d) c sound may named kept = let e : d ≡ c = cc in absurd (kept.zero (subst (λ i. May h u (MergeZero i)) e may))
 fixed_step h u (SharedUp source k) c sound may named kept = record { owner = refl; local = refl; queued = λ q. q }
@@ -321,10 +321,10 @@ owned_kept h t u c sound mortal owner other untie = record {
   untie = untie;
   zero = λ may. let bad : owners.Thread t ≡ owners.Nobody = sym owner ∙ merges_nobodys h u c sound (inl may) in cc;
   add = λ may. let bad : owners.Thread t ≡ owners.Nobody = sym owner ∙ merges_nobodys h u c sound (inr may) in cc;
-  unmarked = elim (cases_Bool (is_marked (work_at h u) c)) [
+  unmarked = elim (cases_Bool (is_marked (worklist_at h u) c)) [
     | inr off ↦ ap one off
     | inl on ↦
-        let fits : WorkFits u c (cell_at h c) = sound.works u c on in
+        let fits : WorklistFits u c (cell_at h c) = sound.worklists u c on in
         absurd (elim fits.whose [
           | inl merged ↦ true≢false (ap is_merged (sym merged) ∙ (sound.cells c mortal).owned_unmerged t owner)
           | inr his ↦ other (let e : owners.Thread u ≡ owners.Thread t = sym his ∙ owner in cc)
@@ -355,7 +355,7 @@ owns_lasts t c local h e reached ok others owns =
       | inl over ↦ others.other (let e : owners.Thread e.thread ≡ owners.Thread t = sym (sound.hands e.thread c phases.Over over).fits ∙ owns.owner in cc)
       | inr more ↦ elim more [
         | inl shut ↦
-            let closed : is_active (row_at h (cell_at h c).bore).stage ≡ false = closed_idle _ (c / 32) (sound.hands e.thread c phases.Shut shut.0).fits in
+            let closed : is_active (row_at h (cell_at h c).bearer).stage ≡ false = closed_idle _ (c / 32) (sound.hands e.thread c phases.Shut shut.0).fits in
             true≢false (sym owns.active ∙ ap (λ b. is_active (row_at h b).stage) (sym ((sound.cells c owns.mortal).owned_by_bearer t owns.owner)) ∙ closed)
         | inr popped ↦ others.other (let e : owners.Thread e.thread ≡ owners.Thread t = sym popped.1 ∙ owns.owner in cc)
       ]
@@ -364,7 +364,7 @@ owns_lasts t c local h e reached ok others owns =
       active = ap (λ (row : Row). is_active row.stage) own.row ∙ owns.active;
       mortal = owns.mortal;
       owner = fixed.owner ∙ owns.owner;
-      unmarked = ap (λ marks. is_marked marks c) own.work ∙ owns.unmarked;
+      unmarked = ap (λ marks. is_marked marks c) own.worklist ∙ owns.unmarked;
       count = fixed.local ∙ owns.count;
     }
 

@@ -11,10 +11,10 @@ use Rattle.brc_runs.specs.declared.row.Phase.{Phase}
 use Rattle.brc_runs.specs.declared.row.Stage.{Stage}
 use Rattle.brc_runs.specs.declared.row.Stage.TheVariants as stages
 use Rattle.brc_runs.specs.Lists.{one, times, entry_times, is_marked, place_at}
-use Rattle.brc_runs.specs.Heap.{Heap, cell_at, entries_at, row_at, frame_at, popped_at, work_at, queue_at, is_gathered}
+use Rattle.brc_runs.specs.Heap.{Heap, cell_at, entries_at, row_at, frame_at, popped_at, worklist_at, queue_at, is_gathered}
 use Rattle.brc_runs.specs.Steps.{stage_ok, is_close, needs_lock, is_active}
 use Rattle.brc_runs.specs.Holding.{lives, carries}
-use Rattle.brc_runs.specs.Sound.{IsSound, CellFits, WorkFits, ThreadFits, PhaseFits, counted_in, grips_of, grips, is_active_hand, asks, asks_most, asks_least, in_entries}
+use Rattle.brc_runs.specs.Sound.{IsSound, CellFits, WorklistFits, ThreadFits, PhaseFits, counted_in, grips_of, grips, is_active_hand, asks, asks_most, asks_least, in_entries}
 use Rattle.brc_runs.proofs.Asking.{May}
 use Rattle.brc_runs.proofs.Birthing.{no_lock, busy_else}
 use Rattle.brc_runs.proofs.Changes.{Fewer, changed}
@@ -47,32 +47,32 @@ pub record Turn (h : Heap) (t c : ℕ) (x : Cell) (hand : Hand) (f : List (Optio
   pub cell_inside : c < length h.cells
   pub mortal : 266 ≤ c
   pub mutex : x.mutex ≡ (cell_at h c).mutex
-  pub bore : x.bore ≡ (cell_at h c).bore
+  pub bearer : x.bearer ≡ (cell_at h c).bearer
   pub live : lives x.owner ≡ lives (cell_at h c).owner
   -- the frame fills no place
   pub vacant : (j : ℕ) → place_at (frame_at h t) j ≡ None → place_at f j ≡ None
   pub places : length f ≤ 65536
-  pub marks : length w ≡ length (work_at h t)
+  pub marks : length w ≡ length (worklist_at h t)
   pub lists : length es ≡ length h.entries
   -- sums
   pub counted_here : counted_in x +ℤ pos (times c (frame_at h t) + one (carries c (row_at h t).hand) + in_entries h c)
       ≡ counted_in (cell_at h c) +ℤ pos (times c f + one (carries c hand) + sum_by (entry_times c) es)
   pub part_else : (q : ℕ) → q ≢ c → times q (frame_at h t) + in_entries h q ≡ times q f + sum_by (entry_times q) es
-  pub gripped_here : grips_of x + one (is_marked (work_at h t) c) + one (grips c (row_at h t).hand)
+  pub gripped_here : grips_of x + one (is_marked (worklist_at h t) c) + one (grips c (row_at h t).hand)
       ≡ grips_of (cell_at h c) + one (is_marked w c) + one (grips c hand)
   pub most_here : asks h c + one (carries c hand) ≤ asks_most x + one (carries c (row_at h t).hand)
   pub least_here : asks_least x + one (carries c (row_at h t).hand) ≤ asks h c + one (carries c hand)
   -- hands: before and after the thread's own has nothing or this cell
   pub before : (p : Phase) (d : ℕ) → (row_at h t).hand ≡ hands.Busy p d → d ≡ c
-  pub after : (p : Phase) (d : ℕ) → hand ≡ hands.Busy p d → (d ≡ c) × PhaseFits t (record (row_at h t) { hand = hand }) (popped_at h t) x (row_at h x.bore).stage c p
+  pub after : (p : Phase) (d : ℕ) → hand ≡ hands.Busy p d → (d ≡ c) × PhaseFits t (record (row_at h t) { hand = hand }) (popped_at h t) x (row_at h x.bearer).stage c p
   pub idle : is_active (row_at h t).stage ≡ false → is_active_hand hand ≡ false
-  pub hands_else : (s : ℕ) (p : Phase) → s ≢ t → (row_at h s).hand ≡ hands.Busy p c → PhaseFits s (row_at h s) (popped_at h s) x (row_at h x.bore).stage c p
+  pub hands_else : (s : ℕ) (p : Phase) → s ≢ t → (row_at h s).hand ≡ hands.Busy p c → PhaseFits s (row_at h s) (popped_at h s) x (row_at h x.bearer).stage c p
   -- cells, entries and worklists
   pub cell : CellFits (length h.rows) h.limit x (get_or es c [])
   pub fewer : (q : ℕ) → q ≢ c → Fewer (entries_at h q) (get_or es q [])
-  pub works_here : is_marked w c ≡ true → WorkFits t c x
-  pub marks_else : (q : ℕ) → q ≢ c → is_marked w q ≡ is_marked (work_at h t) q
-  pub works_else : (s : ℕ) → s ≢ t → is_marked (work_at h s) c ≡ true → WorkFits s c x
+  pub works_here : is_marked w c ≡ true → WorklistFits t c x
+  pub marks_else : (q : ℕ) → q ≢ c → is_marked w q ≡ is_marked (worklist_at h t) q
+  pub works_else : (s : ℕ) → s ≢ t → is_marked (worklist_at h s) c ≡ true → WorklistFits s c x
 
 -- a hand that has at most the one cell
 pub hand_else : (c q : ℕ) (hand : Hand) → ((p : Phase) (d : ℕ) → hand ≡ hands.Busy p d → d ≡ c) → q ≢ c → (one (grips q hand) ≡ 0) × (one (carries q hand) ≡ 0)
@@ -80,11 +80,11 @@ hand_else c q hands.Free at_c ne = (refl, refl)
 hand_else c q (hands.Busy p d) at_c ne = subst (λ e. (one (grips q (hands.Busy p e)) ≡ 0) × (one (carries q (hands.Busy p e)) ≡ 0)) (sym (at_c p d refl)) (busy_else p c q ne)
 
 -- the thread's own part after such a step
-pub turned_thread : (words : ℕ) (row : Row) (hand : Hand) (frame f : List (Option ℕ)) (popped popped' : List ℕ) (work w : List Bool) (queue : List ℕ) (gathered : Bool)
-    → ThreadFits words row frame popped work queue gathered → gathered ≡ false → ((n : ℕ) → row.stage ≢ stages.Closing n) → row.locked ≡ None
+pub turned_thread : (words : ℕ) (row : Row) (hand : Hand) (frame f : List (Option ℕ)) (popped popped' : List ℕ) (worklist w : List Bool) (queue : List ℕ) (gathered : Bool)
+    → ThreadFits words row frame popped worklist queue gathered → gathered ≡ false → ((n : ℕ) → row.stage ≢ stages.Closing n) → row.locked ≡ None
     → (is_active row.stage ≡ false → is_active_hand hand ≡ false) → ((j : ℕ) → place_at frame j ≡ None → place_at f j ≡ None) → length f ≤ 65536
     → ThreadFits words (record row { hand = hand }) f popped' w queue gathered
-turned_thread words row hand frame f popped popped' work w queue gathered old here apart unlocked idle vacant places = record {
+turned_thread words row hand frame f popped popped' worklist w queue gathered old here apart unlocked idle vacant places = record {
   inactive_hand = idle;
   inactive_frame = λ off j. vacant j (old.inactive_frame off j);
   inactive_lock = old.inactive_lock;
@@ -110,7 +110,7 @@ turn_plain h t c x hand f w es sound turn =
       cell_inside = turn.cell_inside;
       immortal = λ low. absurd (omega (arith, low, turn.mortal));
       mutex = turn.mutex;
-      bore = inl turn.bore;
+      bearer = inl turn.bearer;
       stage = refl;
       locked = refl;
       locked_place = λ k e. let bad : None ≡ Some k = sym turn.acts.unlocked ∙ e in absurd (cc);
@@ -130,7 +130,7 @@ turn_plain h t c x hand f w es sound turn =
       works_here = turn.works_here;
       works_own = λ q ne on. sym (turn.marks_else q ne) ∙ on;
       works_else = turn.works_else;
-      own = turned_thread _ (row_at h t) hand (frame_at h t) f (popped_at h t) (popped_at h t) (work_at h t) w (queue_at h t) (is_gathered h t)
+      own = turned_thread _ (row_at h t) hand (frame_at h t) f (popped_at h t) (popped_at h t) (worklist_at h t) w (queue_at h t) (is_gathered h t)
           (sound.threads t) turn.acts.here turn.acts.not_closing turn.acts.unlocked turn.idle turn.vacant turn.places;
       ledger = omega (arith, ap one turn.live);
     }

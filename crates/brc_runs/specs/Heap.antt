@@ -18,14 +18,14 @@ pub record Heap : Type 0 where
   pub rows : List Row
   pub frames : List (List (Option ℕ))
   pub popped : List (List ℕ)
-  pub works : List (List Bool)
+  pub worklists : List (List Bool)
   pub queues : List (List ℕ)
-  pub notices : List ℕ
+  pub notify_words : List ℕ
   pub gathered : List Bool
 
 -- no object: what is read past the last cell, and what a free cell of the opening world is
 abbrev pub no_cell : Cell
-no_cell = record { owner = owners.Free; local = 0; count = pos 0; state = states.Default; mutex = 0; bore = 0; kind = kinds.Nothing }
+no_cell = record { owner = owners.Free; local = 0; count = pos 0; state = states.Default; mutex = 0; bearer = 0; kind = kinds.Nothing }
 
 -- no thread: what is read of a number that isn't registered, and of the root
 abbrev pub no_row : Row
@@ -50,8 +50,8 @@ frame_at h t = slice_index_or h.frames t []
 abbrev pub popped_at : Heap → ℕ → List ℕ
 popped_at h t = slice_index_or h.popped t []
 
-abbrev pub work_at : Heap → ℕ → List Bool
-work_at h t = slice_index_or h.works t []
+abbrev pub worklist_at : Heap → ℕ → List Bool
+worklist_at h t = slice_index_or h.worklists t []
 
 abbrev pub queue_at : Heap → ℕ → List ℕ
 queue_at h t = slice_index_or h.queues t []
@@ -76,7 +76,7 @@ immortal_kind c = if c == 0 then kinds.Nothing else (if c == 1 then kinds.False 
 
 -- PEP 703, "Immortal objects": the local word is UINT32_MAX, and counting changes nothing
 abbrev pub immortal : ℕ → Cell
-immortal c = record { owner = owners.Nobody; local = 4294967295; count = pos 0; state = states.Default; mutex = 0; bore = 0; kind = immortal_kind c }
+immortal c = record { owner = owners.Nobody; local = 4294967295; count = pos 0; state = states.Default; mutex = 0; bearer = 0; kind = immortal_kind c }
 
 abbrev pub opening_cell : ℕ → Cell
 opening_cell c = if is_immortal c then immortal c else no_cell
@@ -95,9 +95,9 @@ opening cells limit = record {
   rows = no_row ∷ [];
   frames = [] ∷ [];
   popped = [] ∷ [];
-  works = [] ∷ [];
+  worklists = [] ∷ [];
   queues = [] ∷ [];
-  notices = 0 ∷ [];
+  notify_words = 0 ∷ [];
   gathered = false ∷ [];
 }
 

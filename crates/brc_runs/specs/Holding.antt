@@ -30,7 +30,7 @@ use Rattle.brc_runs.specs.declared.row.Hand.TheVariants as hands
 use Rattle.brc_runs.specs.declared.row.Phase.{Phase}
 use Rattle.brc_runs.specs.declared.row.Phase.TheVariants as phases
 use Rattle.brc_runs.specs.Lists.{one, names, place_at, number_in, word_at, bit_of, is_marked}
-use Rattle.brc_runs.specs.Heap.{Heap, cell_at, entries_at, row_at, frame_at, popped_at, work_at, queue_at, is_immortal}
+use Rattle.brc_runs.specs.Heap.{Heap, cell_at, entries_at, row_at, frame_at, popped_at, worklist_at, queue_at, is_immortal}
 use Rattle.brc_runs.specs.Steps.{target_at, is_at, is_default, is_shut}
 use Rattle.brc_runs.specs.Runs.{world_after}
 
@@ -95,7 +95,7 @@ holders_of h q =
 -- the thread is about to bury the object: it merges at zero, or has it on its worklist
 abbrev pub buries : Heap → ℕ → ℕ → Bool
 buries h c t = is_at phases.Zero c (row_at h t).hand || is_at phases.Over c (row_at h t).hand
-    || is_at phases.Untied c (row_at h t).hand || is_marked (work_at h t) c
+    || is_at phases.Untied c (row_at h t).hand || is_marked (worklist_at h t) c
 
 -- the object is in the hand of some thread
 abbrev pub IsInHand : Heap → ℕ → Type 0
@@ -235,7 +235,7 @@ moves_of h t (LastDown (lasts.Popped d)) cell = moves.Remove d (holders.Popped t
 moves_of h t (LastDown lasts.Hand) cell = with_cell cell (λ c. moves.Remove c (holders.Hand t c) ∷ [])
 moves_of h t (Free d) cell = moves.Dies d ∷ []
 moves_of h t (Ask drop) cell = with_cell cell (λ c. if is_default (cell_at h c).state then asking h t drop c else [])
-moves_of h t (Enqueue d) cell = if is_shut h d then [] else passes d (holders.Hand t d) (holders.Queue (cell_at h d).bore d)
+moves_of h t (Enqueue d) cell = if is_shut h d then [] else passes d (holders.Hand t d) (holders.Queue (cell_at h d).bearer d)
 moves_of h t (Drain k) cell = moves.Pass (popping t k (word_at (queue_at h t) k)) ∷ []
 moves_of h t (Close k) cell = moves.Pass (popping t k (word_at (queue_at h t) k)) ∷ []
 moves_of h t (Unlock change) cell = with_cell cell (changing h t change)

@@ -14,8 +14,8 @@ use Rattle.brc_runs.specs.declared.event.Dropped.{Dropped}
 use Rattle.brc_runs.specs.declared.event.Dropped.TheVariants as dropped
 use Rattle.brc_runs.specs.declared.row.Row.{Row}
 use Rattle.brc_runs.specs.Lists.{front_of, word_at, is_marked}
-use Rattle.brc_runs.specs.Heap.{Heap, no_cell, new_row, cell_at, entries_at, row_at, frame_at, popped_at, work_at, queue_at, words_for}
-use Rattle.brc_runs.specs.Steps.{enabled, target, target_at, cell_after, takes_block, is_closed, row_after, frame_after, popped_after, work_after, gone, entries_changed, stage_after, taken_word}
+use Rattle.brc_runs.specs.Heap.{Heap, no_cell, new_row, cell_at, entries_at, row_at, frame_at, popped_at, worklist_at, queue_at, words_for}
+use Rattle.brc_runs.specs.Steps.{enabled, target, target_at, cell_after, takes_block, is_closed, row_after, frame_after, popped_after, worklist_after, gone, entries_changed, stage_after, drained_word}
 use Rattle.brc_runs.specs.Runs.{world_after}
 use Rattle.brc_runs.specs.Staying.{locked_at}
 
@@ -57,7 +57,7 @@ closing_bit false = 0
 abbrev pub spelled : Heap → Word → ℕ
 spelled h (Of field c) = word_in field (cell_at h c)
 spelled h (Queue t k) = word_at (queue_at h t) k + closing_bit (is_closed (row_at h t).stage k)
-spelled h (Notice t) = word_at h.notices t
+spelled h (Notice t) = word_at h.notify_words t
 
 -- ---- what a step is told
 
@@ -87,7 +87,7 @@ is_store (Unlock change) = true
 is_store _ = false
 
 abbrev pub told_of : Heap → ℕ → Step → ℕ → ℕ
-told_of h t (Enqueue d) c = spelled h (Queue (cell_at h c).bore (c / 32))
+told_of h t (Enqueue d) c = spelled h (Queue (cell_at h c).bearer (c / 32))
 told_of h t s c = word_in (field_of s) (if is_store s then cell_after t s c (cell_at h c) else cell_at h c)
 
 -- of steps that mean no cell
@@ -173,7 +173,7 @@ pub record Part : Type 0 where
   pub row : Row
   pub frame : List (Option ℕ)
   pub popped : List ℕ
-  pub work : List Bool
+  pub worklist : List Bool
   pub has : ℕ → List ℕ
 
 -- a thread as it is registered, in a heap of so many cells
@@ -182,7 +182,7 @@ new_part cells = record {
   row = new_row;
   frame = [];
   popped = replicate (words_for cells) 0;
-  work = replicate cells false;
+  worklist = replicate cells false;
   has = λ _. [];
 }
 
@@ -230,18 +230,18 @@ has_after s c x frame has = has_without (gone s x) has
 abbrev pub part_by : ℕ → Part → Step → ℕ → List ℕ → Option ℕ → Part
 part_by cells part s number entries None = record part {
   row = record part.row { stage = stage_after (words_for cells) s part.row.stage };
-  popped = popped_told (taken_word s) number part.popped;
+  popped = popped_told (drained_word s) number part.popped;
 }
 part_by cells part s number entries (Some c) = record {
   row = row_after s c (cell_told s number) (is_shut_word number) part.row;
   frame = frame_after s c (cell_told s number) (part.has c) part.frame;
   popped = popped_after s part.popped;
-  work = work_after s c (cell_told s number) part.work;
+  worklist = worklist_after s c (cell_told s number) part.worklist;
   has = has_after s c (cell_told s number) part.frame (has_found (finds s (cell_told s number)) c entries part.has);
 }
 
 abbrev pub part_after : ℕ → Part → Item → Part
-part_after cells part (Did s number entries) = part_by cells part s number entries (target part.row part.frame part.work part.has s)
+part_after cells part (Did s number entries) = part_by cells part s number entries (target part.row part.frame part.worklist part.has s)
 part_after cells part (Saw word number) = part
 part_after cells part (Lost word number) = part
 
@@ -255,6 +255,6 @@ pub record IsPart (h : Heap) (t : ℕ) (part : Part) : Type 0 where
   pub row_is : row_at h t ≡ part.row
   pub frame_is : frame_at h t ≡ part.frame
   pub popped_is : popped_at h t ≡ part.popped
-  pub work_is : work_at h t ≡ part.work
+  pub work_is : worklist_at h t ≡ part.worklist
   pub locked_has : (c : ℕ) → locked_at h t ≡ Some c → entries_at h c ≡ part.has c
-  pub work_has : (c : ℕ) → is_marked (work_at h t) c ≡ true → entries_at h c ≡ part.has c
+  pub work_has : (c : ℕ) → is_marked (worklist_at h t) c ≡ true → entries_at h c ≡ part.has c

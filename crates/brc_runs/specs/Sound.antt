@@ -18,7 +18,7 @@ use Rattle.brc_runs.specs.declared.row.Phase.TheVariants as phases
 use Rattle.brc_runs.specs.declared.row.Stage.{Stage}
 use Rattle.brc_runs.specs.declared.row.Stage.TheVariants as stages
 use Rattle.brc_runs.specs.Lists.{one, times, entry_times, bit_of, is_marked, place_at}
-use Rattle.brc_runs.specs.Heap.{Heap, cell_at, entries_at, row_at, frame_at, popped_at, work_at, queue_at, immortal_kind, is_gathered, words_for, AreOptions}
+use Rattle.brc_runs.specs.Heap.{Heap, cell_at, entries_at, row_at, frame_at, popped_at, worklist_at, queue_at, immortal_kind, is_gathered, words_for, AreOptions}
 use Rattle.brc_runs.specs.Steps.{is_active, is_default, is_queued, is_merged, is_closed, is_zero}
 use Rattle.brc_runs.specs.Holding.{lives, total_of, carries, live_count}
 
@@ -68,7 +68,7 @@ grips q (hands.Busy phase c) = is_gripping phase && (c == q)
 
 -- hands and worklists that grip the cell
 abbrev pub gripped : Heap → ℕ → ℕ
-gripped h q = sum_by (λ marks. one (is_marked marks q)) h.works + sum_by (λ row. one (grips q row.hand)) h.rows
+gripped h q = sum_by (λ marks. one (is_marked marks q)) h.worklists + sum_by (λ row. one (grips q row.hand)) h.rows
 
 -- ---- the same, read off the cell
 
@@ -110,30 +110,30 @@ pub record Untied (t : ℕ) (x : Cell) : Type 0 where
   pub owner : x.owner ≡ owners.Nobody
   pub local : x.local ≡ 0
   pub not_merged : is_merged x.state ≡ false
-  pub bore : x.bore ≡ t
+  pub bearer : x.bearer ≡ t
 
 -- what a hand in this phase says of its cell x, whose number is d; the bearer is the thread that bore x
 abbrev pub PhaseFits : ℕ → Row → List ℕ → Cell → Stage → ℕ → Phase → Type 0
-PhaseFits t row popped x bearer d phases.Claimed = Births t row x
-PhaseFits t row popped x bearer d phases.Counted = Births t row x × (x.local ≡ 1)
-PhaseFits t row popped x bearer d phases.Ready = Births t row x × (x.local ≡ 1) × (x.state ≡ states.Default)
-PhaseFits t row popped x bearer d phases.Zero = x.owner ≡ owners.Thread t
-PhaseFits t row popped x bearer d phases.Over = x.owner ≡ owners.Thread t
-PhaseFits t row popped x bearer d phases.Untied = Untied t x
-PhaseFits t row popped x bearer d phases.Asked = Unit {0}
-PhaseFits t row popped x bearer d phases.Shut = is_closed bearer (d / 32) ≡ true
-PhaseFits t row popped x bearer d phases.Taking = x.owner ≡ owners.Nobody
-PhaseFits t row popped x bearer d phases.Held = x.state ≡ states.Merged
-PhaseFits t row popped x bearer d phases.Popping = (x.owner ≡ owners.Nobody) × (bit_of popped d ≡ 1)
+PhaseFits t row popped x bearer_stage d phases.Claimed = Births t row x
+PhaseFits t row popped x bearer_stage d phases.Counted = Births t row x × (x.local ≡ 1)
+PhaseFits t row popped x bearer_stage d phases.Ready = Births t row x × (x.local ≡ 1) × (x.state ≡ states.Default)
+PhaseFits t row popped x bearer_stage d phases.Zero = x.owner ≡ owners.Thread t
+PhaseFits t row popped x bearer_stage d phases.Over = x.owner ≡ owners.Thread t
+PhaseFits t row popped x bearer_stage d phases.Untied = Untied t x
+PhaseFits t row popped x bearer_stage d phases.Asked = Unit {0}
+PhaseFits t row popped x bearer_stage d phases.Shut = is_closed bearer_stage (d / 32) ≡ true
+PhaseFits t row popped x bearer_stage d phases.Taking = x.owner ≡ owners.Nobody
+PhaseFits t row popped x bearer_stage d phases.Held = x.state ≡ states.Merged
+PhaseFits t row popped x bearer_stage d phases.Popping = (x.owner ≡ owners.Nobody) × (bit_of popped d ≡ 1)
 
 -- what a mortal cell says of itself
 pub record CellFits (threads limit : ℕ) (x : Cell) (entries : List ℕ) : Type 0 where
   pub default : x.state ≡ states.Default → pos 0 ≤ℤ x.count
   pub owned_unmerged : (t : ℕ) → x.owner ≡ owners.Thread t → is_merged x.state ≡ false
-  pub owned_by_bearer : (t : ℕ) → x.owner ≡ owners.Thread t → x.bore ≡ t
+  pub owned_by_bearer : (t : ℕ) → x.owner ≡ owners.Thread t → x.bearer ≡ t
   pub dead_empty : lives x.owner ≡ false → entries ≡ []
   pub dead_count : lives x.owner ≡ false → x.count ≡ pos 0
-  pub born : lives x.owner ≡ true → (0 < x.bore) × (x.bore < threads)
+  pub born : lives x.owner ≡ true → (0 < x.bearer) × (x.bearer < threads)
   pub limited : lives x.owner ≡ true → x.local ≤ limit
   pub plain : is_container x.kind ≡ false → entries ≡ []
   pub few : length entries ≤ 1048576
@@ -149,7 +149,7 @@ pub record ImmortalFits (c : ℕ) (x : Cell) (entries : List ℕ) : Type 0 where
   pub few : length entries ≤ 1048576
 
 -- an object on the thread's worklist: nothing counts it, and it is merged or the thread's own
-pub record WorkFits (t : ℕ) (q : ℕ) (x : Cell) : Type 0 where
+pub record WorklistFits (t : ℕ) (q : ℕ) (x : Cell) : Type 0 where
   pub mortal : 266 ≤ q
   pub lives : lives x.owner ≡ true
   pub total : total_of x ≡ pos 0
@@ -174,16 +174,16 @@ is_active_hand hands.Free = false
 is_active_hand (hands.Busy phase c) = is_active_phase phase
 
 -- what one thread's own part says, beside its queue words and whether it is gathered
-pub record ThreadFits (words : ℕ) (row : Row) (frame : List (Option ℕ)) (popped : List ℕ) (work : List Bool) (queue : List ℕ) (gathered : Bool) : Type 0 where
+pub record ThreadFits (words : ℕ) (row : Row) (frame : List (Option ℕ)) (popped : List ℕ) (worklist : List Bool) (queue : List ℕ) (gathered : Bool) : Type 0 where
   pub inactive_hand : is_active row.stage ≡ false → is_active_hand row.hand ≡ false
   pub inactive_frame : is_active row.stage ≡ false → (k : ℕ) → place_at frame k ≡ None
   pub inactive_lock : is_active row.stage ≡ false → row.locked ≡ None
   pub closing : (n : ℕ) → row.stage ≡ stages.Closing n → (0 < n) × (n < words) × (row.hand ≡ hands.Free)
-  pub closing_work : (n q : ℕ) → row.stage ≡ stages.Closing n → is_marked work q ≡ false
+  pub closing_work : (n q : ℕ) → row.stage ≡ stages.Closing n → is_marked worklist q ≡ false
   pub closed : (k : ℕ) → is_closed row.stage k ≡ true → slice_index_or queue k 0 ≡ 0
   pub gathered_left : gathered ≡ true → row.stage ≡ stages.Left
   pub gathered_hand : gathered ≡ true → row.hand ≡ hands.Free
-  pub gathered_work : gathered ≡ true → (q : ℕ) → (is_marked work q ≡ false) × (bit_of popped q ≡ 0)
+  pub gathered_work : gathered ≡ true → (q : ℕ) → (is_marked worklist q ≡ false) × (bit_of popped q ≡ 0)
   pub locked_hand : (k : ℕ) → row.locked ≡ Some k → row.hand ≡ hands.Free
   pub births : row.allocs ≤ 140737488355328
   pub places : length frame ≤ 65536
@@ -196,18 +196,18 @@ pub record IsShaped (h : Heap) : Type 0 where
   pub threads : length h.rows ≤ 65
   pub frames : length h.frames ≡ length h.rows
   pub popped : length h.popped ≡ length h.rows
-  pub works : length h.works ≡ length h.rows
+  pub worklists : length h.worklists ≡ length h.rows
   pub queues : length h.queues ≡ length h.rows
-  pub notices : length h.notices ≡ length h.rows
+  pub notify_words : length h.notify_words ≡ length h.rows
   pub gathered : length h.gathered ≡ length h.rows
-  pub marks : (t : ℕ) → 0 < t → t < length h.rows → length (work_at h t) ≡ length h.cells
+  pub marks : (t : ℕ) → 0 < t → t < length h.rows → length (worklist_at h t) ≡ length h.cells
   pub popped_words : (t : ℕ) → 0 < t → t < length h.rows → length (popped_at h t) ≡ words_for (length h.cells)
   pub queue_words : (t : ℕ) → 0 < t → t < length h.rows → length (queue_at h t) ≡ words_for (length h.cells)
 
 -- what a hand says of its cell, which is mortal
 pub record HandFits (h : Heap) (t : ℕ) (phase : Phase) (d : ℕ) : Type 0 where
   pub mortal : 266 ≤ d
-  pub fits : PhaseFits t (row_at h t) (popped_at h t) (cell_at h d) (row_at h (cell_at h d).bore).stage d phase
+  pub fits : PhaseFits t (row_at h t) (popped_at h t) (cell_at h d) (row_at h (cell_at h d).bearer).stage d phase
 
 -- a lock is told by the thread's place and by the cell's mutex alike
 pub record Locks (h : Heap) (t k q : ℕ) : Type 0 where
@@ -226,9 +226,9 @@ pub record IsSound (h : Heap) : Type 0 where
   pub hands : (t d : ℕ) (phase : Phase) → (row_at h t).hand ≡ hands.Busy phase d → HandFits h t phase d
   pub cells : (q : ℕ) → 266 ≤ q → CellFits (length h.rows) h.limit (cell_at h q) (entries_at h q)
   pub immortals : (q : ℕ) → q < 266 → ImmortalFits q (cell_at h q) (entries_at h q)
-  pub works : (t q : ℕ) → is_marked (work_at h t) q ≡ true → WorkFits t q (cell_at h q)
-  pub threads : (t : ℕ) → ThreadFits (words_for (length h.cells)) (row_at h t) (frame_at h t) (popped_at h t) (work_at h t) (queue_at h t) (is_gathered h t)
-  pub bits : (t q : ℕ) → 0 < bit_of (queue_at h t) q + bit_of (popped_at h t) q → (266 ≤ q) × ((cell_at h q).bore ≡ t)
+  pub worklists : (t q : ℕ) → is_marked (worklist_at h t) q ≡ true → WorklistFits t q (cell_at h q)
+  pub threads : (t : ℕ) → ThreadFits (words_for (length h.cells)) (row_at h t) (frame_at h t) (popped_at h t) (worklist_at h t) (queue_at h t) (is_gathered h t)
+  pub bits : (t q : ℕ) → 0 < bit_of (queue_at h t) q + bit_of (popped_at h t) q → (266 ≤ q) × ((cell_at h q).bearer ≡ t)
   pub locks : (t k : ℕ) → (row_at h t).locked ≡ Some k → (q : ℕ) × Locks h t k q × ((cell_at h q).mutex ≡ t)
   pub mutexes : (t q : ℕ) → 0 < t → (cell_at h q).mutex ≡ t → (k : ℕ) × Locks h t k q
   pub ledger : sum_by (λ row. row.allocs) h.rows ≡ sum_by (λ row. row.frees) h.rows + live_count h

@@ -13,7 +13,7 @@ use Rattle.brc_runs.specs.declared.row.Phase.TheVariants as phases
 use Rattle.brc_runs.specs.declared.row.Hand.TheVariants as hands
 use Rattle.brc_runs.specs.declared.row.Stage.TheVariants as stages
 use Rattle.brc_runs.specs.Lists.{place_at, bit_of, is_marked}
-use Rattle.brc_runs.specs.Heap.{Heap, cell_at, entries_at, row_at, frame_at, popped_at, work_at, queue_at, is_gathered}
+use Rattle.brc_runs.specs.Heap.{Heap, cell_at, entries_at, row_at, frame_at, popped_at, worklist_at, queue_at, is_gathered}
 use Rattle.brc_runs.specs.Steps.{enabled, after, is_active, is_default, is_merged, locked_cell}
 use Rattle.brc_runs.specs.Runs.{IsReached}
 use Rattle.brc_runs.specs.Holding.{carries, lives}
@@ -43,7 +43,7 @@ pub record SameOwn (t : ℕ) (old new : Heap) : Type 0 where
   pub row : row_at new t ≡ row_at old t
   pub frame : frame_at new t ≡ frame_at old t
   pub popped : popped_at new t ≡ popped_at old t
-  pub work : work_at new t ≡ work_at old t
+  pub worklist : worklist_at new t ≡ worklist_at old t
   pub gathered : is_gathered new t ≡ is_gathered old t
 
 -- the cell that the thread has locked
@@ -53,7 +53,7 @@ locked_at h t = locked_cell (frame_at h t) (row_at h t).locked
 -- an entry of the cell that the thread has locked, or of a dead block on its worklist
 pub record HasEntry (h : Heap) (t c : ℕ) : Type 0 where
   pub in_cell : ℕ
-  pub at_hand : (locked_at h t ≡ Some in_cell) ⊎ (is_marked (work_at h t) in_cell ≡ true)
+  pub at_hand : (locked_at h t ≡ Some in_cell) ⊎ (is_marked (worklist_at h t) in_cell ≡ true)
   pub index : ℕ
   pub there : slice_get (entries_at h in_cell) index ≡ Some c
 
@@ -77,7 +77,7 @@ pub record Bears (h : Heap) (t c : ℕ) (p : Phase) (x : Cell) : Type 0 where
 
 -- a dead block is its thread's: all of its words, unlocked, and its entries
 pub record Buries (h : Heap) (t c : ℕ) (x : Cell) (entries : List ℕ) : Type 0 where
-  pub marked : is_marked (work_at h t) c ≡ true
+  pub marked : is_marked (worklist_at h t) c ≡ true
   pub words : cell_at h c ≡ x
   pub has : entries_at h c ≡ entries
 
@@ -90,12 +90,12 @@ pub record Locked (h : Heap) (t c : ℕ) (kind : Kind) (entries : List ℕ) : Ty
   pub has : entries_at h c ≡ entries
 
 -- what a thread has lives on, as what it is and with whom bore it; its state never falls
-pub record Keeps (h : Heap) (t c : ℕ) (kind : Kind) (bore least : ℕ) : Type 0 where
+pub record Keeps (h : Heap) (t c : ℕ) (kind : Kind) (bearer least : ℕ) : Type 0 where
   pub held : Has h t c
   pub mortal : 266 ≤ c
   pub live : lives (cell_at h c).owner ≡ true
   pub kind_is : (cell_at h c).kind ≡ kind
-  pub bearer : (cell_at h c).bore ≡ bore
+  pub same_bearer : (cell_at h c).bearer ≡ bearer
   pub state : least ≤ rank (cell_at h c).state
 
 -- what others own or nobody owns never becomes the thread's
@@ -120,7 +120,7 @@ pub record Owns (h : Heap) (t c local : ℕ) : Type 0 where
   pub active : is_active (row_at h t).stage ≡ true
   pub mortal : 266 ≤ c
   pub owner : (cell_at h c).owner ≡ owners.Thread t
-  pub unmarked : is_marked (work_at h t) c ≡ false
+  pub unmarked : is_marked (worklist_at h t) c ≡ false
   pub count : (cell_at h c).local ≡ local
 
 -- an object that is being adopted, or whose popped entry is being dealt with: nobody else writes its local word, and it
@@ -175,4 +175,4 @@ pub record HoldsNothing (h : Heap) (t : ℕ) : Type 0 where
   pub frame : (k : ℕ) → place_at (frame_at h t) k ≡ None
   pub popped : (q : ℕ) → bit_of (popped_at h t) q ≡ 0
   pub queue : (q : ℕ) → bit_of (queue_at h t) q ≡ 0
-  pub worklist : (q : ℕ) → is_marked (work_at h t) q ≡ false
+  pub worklist : (q : ℕ) → is_marked (worklist_at h t) q ≡ false

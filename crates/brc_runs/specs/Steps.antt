@@ -30,7 +30,7 @@ use Rattle.brc_runs.specs.declared.row.Phase.TheVariants as phases
 use Rattle.brc_runs.specs.declared.row.Stage.{Stage}
 use Rattle.brc_runs.specs.declared.row.Stage.TheVariants as stages
 use Rattle.brc_runs.specs.Lists.{place_at, filled, vacated, is_marked, last_of, front_of, number_in, bit_of, word_at, with_bit, without_bit, is_bare, is_unmarked, is_blank}
-use Rattle.brc_runs.specs.Heap.{Heap, cell_at, entries_at, row_at, frame_at, popped_at, work_at, queue_at, new_row, is_registered, is_gathered, is_immortal, words_for}
+use Rattle.brc_runs.specs.Heap.{Heap, cell_at, entries_at, row_at, frame_at, popped_at, worklist_at, queue_at, new_row, is_registered, is_gathered, is_immortal, words_for}
 
 -- ---- which cell a step means
 
@@ -51,8 +51,8 @@ source_cell row frame has (sources.Immortal c) = if is_immortal c then Some c el
 
 -- the cell whose reference goes
 abbrev pub dropped_cell : List (Option ℕ) → List Bool → (ℕ → List ℕ) → Dropped → Option ℕ
-dropped_cell frame work has (dropped.Frame k) = place_at frame k
-dropped_cell frame work has (dropped.Work c) = if is_marked work c then last_of (has c) else None
+dropped_cell frame worklist has (dropped.Frame k) = place_at frame k
+dropped_cell frame worklist has (dropped.Work c) = if is_marked worklist c then last_of (has c) else None
 
 -- the cell in the hand
 abbrev pub cell_in_hand : Hand → Option ℕ
@@ -60,37 +60,37 @@ cell_in_hand hands.Free = None
 cell_in_hand (hands.Busy phase c) = Some c
 
 abbrev pub last_cell : Hand → List (Option ℕ) → List Bool → (ℕ → List ℕ) → LastDropped → Option ℕ
-last_cell hand frame work has (lasts.Dropped drop) = dropped_cell frame work has drop
-last_cell hand frame work has (lasts.Popped c) = Some c
-last_cell hand frame work has lasts.Hand = cell_in_hand hand
+last_cell hand frame worklist has (lasts.Dropped drop) = dropped_cell frame worklist has drop
+last_cell hand frame worklist has (lasts.Popped c) = Some c
+last_cell hand frame worklist has lasts.Hand = cell_in_hand hand
 
 -- the one cell that the step means, read off the thread's own part: its row, its frame, its worklist, and the entries
 -- of the cell that it has locked and of the cells on its worklist
 abbrev pub target : Row → List (Option ℕ) → List Bool → (ℕ → List ℕ) → Step → Option ℕ
-target row frame work has (Claim c) = Some c
-target row frame work has (InitLocal c) = Some c
-target row frame work has (InitShared c) = Some c
-target row frame work has (Birth c kind k) = Some c
-target row frame work has (LocalUp source k) = source_cell row frame has source
-target row frame work has (LocalDown drop) = dropped_cell frame work has drop
-target row frame work has (SeeZero c) = Some c
-target row frame work has (Free c) = Some c
-target row frame work has (Untie c) = Some c
-target row frame work has (MergeZero c) = Some c
-target row frame work has (SharedUp source k) = source_cell row frame has source
-target row frame work has (SharedDown drop) = dropped_cell frame work has drop
-target row frame work has (Ask drop) = dropped_cell frame work has drop
-target row frame work has (LastDown last) = last_cell row.hand frame work has last
-target row frame work has (Enqueue c) = Some c
-target row frame work has (Drain k) = None
-target row frame work has (MergeAdd c) = Some c
-target row frame work has (Close k) = None
-target row frame work has (Nudge u k) = None
-target row frame work has Wake = None
-target row frame work has (Lock k) = place_at frame k
-target row frame work has (Unlock change) = locked_cell frame row.locked
-target row frame work has (Register u) = None
-target row frame work has (Gather u) = None
+target row frame worklist has (Claim c) = Some c
+target row frame worklist has (InitLocal c) = Some c
+target row frame worklist has (InitShared c) = Some c
+target row frame worklist has (Birth c kind k) = Some c
+target row frame worklist has (LocalUp source k) = source_cell row frame has source
+target row frame worklist has (LocalDown drop) = dropped_cell frame worklist has drop
+target row frame worklist has (SeeZero c) = Some c
+target row frame worklist has (Free c) = Some c
+target row frame worklist has (Untie c) = Some c
+target row frame worklist has (MergeZero c) = Some c
+target row frame worklist has (SharedUp source k) = source_cell row frame has source
+target row frame worklist has (SharedDown drop) = dropped_cell frame worklist has drop
+target row frame worklist has (Ask drop) = dropped_cell frame worklist has drop
+target row frame worklist has (LastDown last) = last_cell row.hand frame worklist has last
+target row frame worklist has (Enqueue c) = Some c
+target row frame worklist has (Drain k) = None
+target row frame worklist has (MergeAdd c) = Some c
+target row frame worklist has (Close k) = None
+target row frame worklist has (Nudge u k) = None
+target row frame worklist has Wake = None
+target row frame worklist has (Lock k) = place_at frame k
+target row frame worklist has (Unlock change) = locked_cell frame row.locked
+target row frame worklist has (Register u) = None
+target row frame worklist has (Gather u) = None
 
 -- a thread's steps on words that are no cell's: of its own merge queue, or a notify word
 abbrev pub needs_no_cell : Step → Bool
@@ -264,17 +264,17 @@ untie_ok (hands.Busy phase d) popped c = true
 
 -- what the own part must be besides; a thread has so many queue words
 abbrev pub own_ok : ℕ → Row → List (Option ℕ) → List ℕ → List Bool → (ℕ → List ℕ) → Step → Bool
-own_ok words row frame popped work has (Claim c) = nat_lt row.allocs 140737488355328
-own_ok words row frame popped work has (Birth c kind k) = is_mortal kind && is_vacant frame k
-own_ok words row frame popped work has (LocalUp source k) = is_vacant frame k
-own_ok words row frame popped work has (Free c) = is_marked work c && is_empty (has c)
-own_ok words row frame popped work has (Untie c) = untie_ok row.hand popped c
-own_ok words row frame popped work has (SharedUp source k) = is_vacant frame k
-own_ok words row frame popped work has (LastDown (lasts.Popped c)) = bit_of popped c == 1
-own_ok words row frame popped work has (Drain k) = nat_lt k words
-own_ok words row frame popped work has (Close k) = nat_lt k words && closes_next row.stage k && is_bare frame && is_unmarked work && may_begin_closing popped k
-own_ok words row frame popped work has (Unlock change) = change_ok row.locked frame (locked_entries has (locked_cell frame row.locked)) change
-own_ok words row frame popped work has _ = true
+own_ok words row frame popped worklist has (Claim c) = nat_lt row.allocs 140737488355328
+own_ok words row frame popped worklist has (Birth c kind k) = is_mortal kind && is_vacant frame k
+own_ok words row frame popped worklist has (LocalUp source k) = is_vacant frame k
+own_ok words row frame popped worklist has (Free c) = is_marked worklist c && is_empty (has c)
+own_ok words row frame popped worklist has (Untie c) = untie_ok row.hand popped c
+own_ok words row frame popped worklist has (SharedUp source k) = is_vacant frame k
+own_ok words row frame popped worklist has (LastDown (lasts.Popped c)) = bit_of popped c == 1
+own_ok words row frame popped worklist has (Drain k) = nat_lt k words
+own_ok words row frame popped worklist has (Close k) = nat_lt k words && closes_next row.stage k && is_bare frame && is_unmarked worklist && may_begin_closing popped k
+own_ok words row frame popped worklist has (Unlock change) = change_ok row.locked frame (locked_entries has (locked_cell frame row.locked)) change
+own_ok words row frame popped worklist has _ = true
 
 abbrev pub is_owned_by : ℕ → Owner → Bool
 is_owned_by t owners.Nobody = false
@@ -377,10 +377,10 @@ others_ok h (Nudge u k) = is_registered h u && nat_lt k (words_for (length h.cel
 others_ok h _ = true
 
 abbrev pub target_at : Heap → ℕ → Step → Option ℕ
-target_at h t s = target (row_at h t) (frame_at h t) (work_at h t) (entries_at h) s
+target_at h t s = target (row_at h t) (frame_at h t) (worklist_at h t) (entries_at h) s
 
 abbrev pub own_ok_at : Heap → ℕ → Step → Bool
-own_ok_at h t s = own_ok (words_for (length h.cells)) (row_at h t) (frame_at h t) (popped_at h t) (work_at h t) (entries_at h) s
+own_ok_at h t s = own_ok (words_for (length h.cells)) (row_at h t) (frame_at h t) (popped_at h t) (worklist_at h t) (entries_at h) s
 
 -- a thread's step
 abbrev pub thread_may : Heap → ℕ → Step → Bool
@@ -395,7 +395,7 @@ abbrev pub root_may : Heap → Step → Bool
 root_may h (Register u) = (u == length h.rows) && nat_le u 64
 root_may h (Gather u) =
     is_registered h u && not (is_gathered h u)
-    && is_left (row_at h u).stage && is_free_hand (row_at h u).hand && is_blank (popped_at h u) && is_unmarked (work_at h u)
+    && is_left (row_at h u).stage && is_free_hand (row_at h u).hand && is_blank (popped_at h u) && is_unmarked (worklist_at h u)
 root_may h _ = false
 
 abbrev pub enabled : Heap → Event → Bool
@@ -407,7 +407,7 @@ abbrev pub cell_after : ℕ → Step → ℕ → Cell → Cell
 cell_after t (Claim d) c x = record x { owner = owners.Claimed t }
 cell_after t (InitLocal d) c x = record x { local = 1 }
 cell_after t (InitShared d) c x = record x { count = pos 0; state = states.Default }
-cell_after t (Birth d kind k) c x = record x { owner = owners.Thread t; bore = t; kind = kind }
+cell_after t (Birth d kind k) c x = record x { owner = owners.Thread t; bearer = t; kind = kind }
 cell_after t (LocalUp source k) c x = if is_immortal c then x else record x { local = x.local + 1 }
 cell_after t (LocalDown drop) c x = if is_immortal c then x else record x { local = x.local - 1 }
 cell_after t (SeeZero d) c x = x
@@ -533,17 +533,17 @@ takes_block (MergeZero d) x = is_zero x.count
 takes_block (LastDown last) x = is_merged x.state && is_zero (x.count -ℤ pos 1)
 takes_block _ x = false
 
-abbrev pub work_after : Step → ℕ → Cell → List Bool → List Bool
-work_after (Free d) c x work = slice_set work c false
-work_after s c x work = if takes_block s x then slice_set work c true else work
+abbrev pub worklist_after : Step → ℕ → Cell → List Bool → List Bool
+worklist_after (Free d) c x worklist = slice_set worklist c false
+worklist_after s c x worklist = if takes_block s x then slice_set worklist c true else worklist
 
 -- the queue word of the thread that bore the cell is closed
 abbrev pub is_shut : Heap → ℕ → Bool
-is_shut h c = is_closed (row_at h (cell_at h c).bore).stage (c / 32)
+is_shut h c = is_closed (row_at h (cell_at h c).bearer).stage (c / 32)
 
 -- the merge queues: the bearer's gets the cell's bit, unless it is closed
 abbrev pub queues_after : Heap → Step → ℕ → List (List ℕ)
-queues_after h (Enqueue d) c = if is_shut h c then h.queues else slice_set h.queues (cell_at h c).bore (with_bit (queue_at h (cell_at h c).bore) c)
+queues_after h (Enqueue d) c = if is_shut h c then h.queues else slice_set h.queues (cell_at h c).bearer (with_bit (queue_at h (cell_at h c).bearer) c)
 queues_after h _ c = h.queues
 
 -- what a thread's step does, where its cell is c
@@ -554,7 +554,7 @@ stepped h t s c = record h {
   rows = slice_set h.rows t (row_after s c (cell_at h c) (is_shut h c) (row_at h t));
   frames = slice_set h.frames t (frame_after s c (cell_at h c) (entries_at h c) (frame_at h t));
   popped = slice_set h.popped t (popped_after s (popped_at h t));
-  works = slice_set h.works t (work_after s c (cell_at h c) (work_at h t));
+  worklists = slice_set h.worklists t (worklist_after s c (cell_at h c) (worklist_at h t));
   queues = queues_after h s c;
 }
 
@@ -569,32 +569,32 @@ stage_after words (Close k) stage = closed_more words k
 stage_after words _ stage = stage
 
 -- the queue word whose bits are taken
-abbrev pub taken_word : Step → Option ℕ
-taken_word (Drain k) = Some k
-taken_word (Close k) = Some k
-taken_word _ = None
+abbrev pub drained_word : Step → Option ℕ
+drained_word (Drain k) = Some k
+drained_word (Close k) = Some k
+drained_word _ = None
 
-abbrev pub with_taken : Option ℕ → List ℕ → List ℕ → List ℕ
-with_taken None queue popped = popped
-with_taken (Some k) queue popped = slice_set popped k (bit_or (word_at popped k) (word_at queue k))
+abbrev pub with_drained : Option ℕ → List ℕ → List ℕ → List ℕ
+with_drained None queue popped = popped
+with_drained (Some k) queue popped = slice_set popped k (bit_or (word_at popped k) (word_at queue k))
 
-abbrev pub without_taken : Option ℕ → List ℕ → List ℕ
-without_taken None queue = queue
-without_taken (Some k) queue = slice_set queue k 0
+abbrev pub without_drained : Option ℕ → List ℕ → List ℕ
+without_drained None queue = queue
+without_drained (Some k) queue = slice_set queue k 0
 
 -- the notify words: one more bit for 32 queue words, or all taken
-abbrev pub notices_after : ℕ → Step → List ℕ → List ℕ
-notices_after t (Nudge u k) notices = slice_set notices u (bit_or (word_at notices u) (2 ^ (k / 32)))
-notices_after t Wake notices = slice_set notices t 0
-notices_after t _ notices = notices
+abbrev pub notify_words_after : ℕ → Step → List ℕ → List ℕ
+notify_words_after t (Nudge u k) notify_words = slice_set notify_words u (bit_or (word_at notify_words u) (2 ^ (k / 32)))
+notify_words_after t Wake notify_words = slice_set notify_words t 0
+notify_words_after t _ notify_words = notify_words
 
 -- what a thread's step does that means no cell
 abbrev pub kept_cells : Heap → ℕ → Step → Heap
 kept_cells h t s = record h {
   rows = slice_set h.rows t (record (row_at h t) { stage = stage_after (words_for (length h.cells)) s (row_at h t).stage });
-  popped = slice_set h.popped t (with_taken (taken_word s) (queue_at h t) (popped_at h t));
-  queues = slice_set h.queues t (without_taken (taken_word s) (queue_at h t));
-  notices = notices_after t s h.notices;
+  popped = slice_set h.popped t (with_drained (drained_word s) (queue_at h t) (popped_at h t));
+  queues = slice_set h.queues t (without_drained (drained_word s) (queue_at h t));
+  notify_words = notify_words_after t s h.notify_words;
 }
 
 -- ---- the root's steps
@@ -605,9 +605,9 @@ registered h = record h {
   rows = h.rows ++ new_row ∷ [];
   frames = h.frames ++ [] ∷ [];
   popped = h.popped ++ replicate (words_for (length h.cells)) 0 ∷ [];
-  works = h.works ++ replicate (length h.cells) false ∷ [];
+  worklists = h.worklists ++ replicate (length h.cells) false ∷ [];
   queues = h.queues ++ replicate (words_for (length h.cells)) 0 ∷ [];
-  notices = h.notices ++ 0 ∷ [];
+  notify_words = h.notify_words ++ 0 ∷ [];
   gathered = h.gathered ++ false ∷ [];
 }
 

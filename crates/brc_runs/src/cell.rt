@@ -18,7 +18,7 @@ pub struct Cell {
     /// The thread that has locked it, or 0 (PEP 703, `ob_mutex`).
     pub mutex: u32,
     /// The thread that made the object, whose merge queue it goes into.
-    pub bore: u32,
+    pub bearer: u32,
     /// What the object is.
     pub kind: Kind,
 }

@@ -13,7 +13,7 @@ ghost use Rattle.brc_runs.specs.declared.event.Dropped.{Dropped as dropped};
 ghost use Rattle.brc_runs.specs.declared.event.Step.TheVariants as steps;
 ghost use Rattle.brc_runs.specs.declared.event.Event.{Event as event};
 ghost use Rattle.brc_runs.specs.Lists.{bit_of, is_marked};
-ghost use Rattle.brc_runs.specs.Heap.{Heap, opening, cell_at, entries_at, row_at, frame_at, popped_at, work_at, queue_at, is_gathered, is_registered, AreOptions};
+ghost use Rattle.brc_runs.specs.Heap.{Heap, opening, cell_at, entries_at, row_at, frame_at, popped_at, worklist_at, queue_at, is_gathered, is_registered, AreOptions};
 ghost use Rattle.brc_words.specs.Kinds.{is_mortal};
 ghost use Rattle.brc_runs.specs.Progress.{Stands, IsAtRest, next_step, release_step, popped_step};
 ghost use Rattle.brc_runs.specs.Steps.{dropped_cell, is_vacant, enabled, after, target_at, takes_block};
@@ -61,8 +61,8 @@ pub fn held_words_last()
         → Lasts t (λ h. Buries h t c x entries) }
     ensures locked { (t c : ℕ) (k : kind) (entries : List ℕ)
         → Lasts t (λ h. Locked h t c k entries) }
-    ensures kept { (t c : ℕ) (k : kind) (bore least : ℕ)
-        → Lasts t (λ h. Keeps h t c k bore least) }
+    ensures kept { (t c : ℕ) (k : kind) (bearer least : ℕ)
+        → Lasts t (λ h. Keeps h t c k bearer least) }
 {}
 
 /// While others step: an owner word goes from a thread to nobody alone, and never to the thread that looked; who owns,
@@ -88,7 +88,7 @@ pub fn hands_tell()
 
 /// Nobody has locked a dead block, nor the block that a step takes.
 pub fn dead_blocks_are_unlocked()
-    ensures listed { (h : Heap) (t c : ℕ) → IsReached h → is_marked (work_at h t) c ≡ true
+    ensures listed { (h : Heap) (t c : ℕ) → IsReached h → is_marked (worklist_at h t) c ≡ true
         → (cell_at h c).mutex ≡ 0 }
     ensures taken { (h : Heap) (e : event) (c : ℕ) → IsReached h → enabled h e ≡ true
         → e.thread ≢ 0 → target_at h e.thread e.step ≡ Some c
@@ -133,7 +133,7 @@ pub fn no_thread_is_stuck()
         → is_vacant (frame_at h t) k ≡ true
         → enabled h (record { thread = t; step = steps.Birth c of k }) ≡ true }
     ensures references { (h : Heap) (t c : ℕ) (drop : dropped) → IsReached h → IsAtRest h t
-        → dropped_cell (frame_at h t) (work_at h t) (entries_at h) drop ≡ Some c
+        → dropped_cell (frame_at h t) (worklist_at h t) (entries_at h) drop ≡ Some c
         → enabled h (record {
           thread = t;
           step = release_step t (row_at h t).stage c (cell_at h c) drop;
@@ -142,6 +142,6 @@ pub fn no_thread_is_stuck()
         → bit_of (popped_at h t) c ≡ 1
         → enabled h (record { thread = t; step = popped_step c (cell_at h c) }) ≡ true }
     ensures blocks { (h : Heap) (t c : ℕ) → IsReached h → IsAtRest h t
-        → is_marked (work_at h t) c ≡ true → entries_at h c ≡ []
+        → is_marked (worklist_at h t) c ≡ true → entries_at h c ≡ []
         → enabled h (record { thread = t; step = steps.Free c }) ≡ true }
 {}

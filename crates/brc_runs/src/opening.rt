@@ -41,7 +41,7 @@ pub fn no_cell() -> Cell
         count: 0,
         state: State::Default,
         mutex: 0,
-        bore: 0,
+        bearer: 0,
         kind: Kind::Nothing,
     }
 }
@@ -57,7 +57,7 @@ pub fn opening_cell(cell: u32) -> Cell
             count: 0,
             state: State::Default,
             mutex: 0,
-            bore: 0,
+            bearer: 0,
             kind: immortal_kind(cell),
         }
     } else {
