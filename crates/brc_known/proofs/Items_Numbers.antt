@@ -1,5 +1,5 @@
 -- The tests of a shared word's count and state, on the number that was told.
-use Rattle.std.proofs.Common.{◌≡◌, ◌≢◌, ℕ, ◌/◌, ◌%◌, ◌==◌, Bool, true, false, if◌then◌else◌, ℤ, pos, ◌-ℤ◌, refl, sym, ◌∙◌, ap, inl, inr, arith}
+use Rattle.std.proofs.Common.{◌≡◌, ◌≢◌, ℕ, ◌/◌, ◌%◌, ◌==◌, Bool, true, false, if◌then◌else◌, ℤ, pos, ◌-ℤ◌, refl, sym, ◌∙◌, ap, inl, inr, arith, ◌^◌}
 use Rattle.std.proofs.lemmas.Bool.{cases_eq, cases_Bool, eq-eqb, ne_eqb}
 use Rattle.std.proofs.lemmas.Int.{ints}
 use Rattle.brc_words.specs.declared.state.State.{State}
@@ -43,8 +43,8 @@ zero_at count k most is = elim (cases_eq k most) [
   ]
 ]
 
-pub zero_told : (n : ℕ) → is_zero (count_told n) ≡ (n / 4 == 1099511627776)
-zero_told n = zero_at (count_told n) (n / 4) 1099511627776 refl
+pub zero_told : (n : ℕ) → is_zero (count_told n) ≡ (n / 4 == 2 ^ 40)
+zero_told n = zero_at (count_told n) (n / 4) (2 ^ 40) refl
 
 -- the count is zero once one is taken
 pub one_told : (n : ℕ) → is_zero (count_told n -ℤ pos 1) ≡ (n / 4 == 1099511627777)

@@ -1,7 +1,8 @@
 -- What the number that a step is told says of its cell: as much as the step's effect on its thread rests on.
-use Rattle.std.proofs.Common.{◌≡◌, ℕ, ◌+◌, ◌-◌, ◌*◌, ◌/◌, ◌%◌, ◌<◌, ◌≤◌, ◌==◌, ◌&&◌, ◌||◌, not, Bool, true, false, if◌then◌else◌, ℤ, pos, negsuc, ◌+ℤ◌, ◌*ℤ◌, ◌≤ℤ◌, Some, refl, sym, ◌∙◌, ap, subst, inl, inr, arith}
+use Rattle.std.proofs.Common.{◌≡◌, ℕ, ◌+◌, ◌-◌, ◌*◌, ◌/◌, ◌%◌, ◌<◌, ◌≤◌, ◌==◌, ◌&&◌, ◌||◌, not, Bool, true, false, if◌then◌else◌, ℤ, pos, negsuc, ◌+ℤ◌, ◌*ℤ◌, ◌≤ℤ◌, Some, refl, sym, ◌∙◌, ap, subst, inl, inr, arith, ◌^◌}
 use Rattle.std.proofs.lemmas.Bool.{cases_Bool, le-leb, lt-leb, ltb-false}
 use Rattle.std.proofs.lemmas.Int.{ints}
+use Rattle.brc_words.specs.declared.limits.TheConstants.{FIRST_MORTAL}
 use Rattle.brc_words.specs.Shared.{Spells, bits_of}
 use Rattle.brc_words.specs.declared.state.State.{State}
 use Rattle.brc_words.specs.declared.state.State.TheVariants as states
@@ -28,7 +29,7 @@ use Rattle.brc_runs.proofs.Reached.{reached_sound}
 
 -- ---- plain numbers
 
-count_back : (count : ℤ) (bits : ℕ) → bits < 4 → negsuc 1099511627775 ≤ℤ count → count_told (raised count * 4 + bits) ≡ count
+count_back : (count : ℤ) (bits : ℕ) → bits < 4 → negsuc (2 ^ 40 - 1) ≤ℤ count → count_told (raised count * 4 + bits) ≡ count
 count_back (pos n) bits few low = omega (arith, ints)
 count_back (negsuc n) bits few low = omega (arith, ints, low)
 
@@ -46,7 +47,7 @@ state_back k states.Default = let e : (k * 4 + 0) % 4 ≡ 0 = omega arith in ap 
 state_back k states.Queued = let e : (k * 4 + 2) % 4 ≡ 2 = omega arith in ap by_rest e
 state_back k states.Merged = let e : (k * 4 + 3) % 4 ≡ 3 = omega arith in ap by_rest e
 
-spelled_back : (count : ℤ) (bits : ℕ) → bits < 4 → negsuc 1099511627775 ≤ℤ count → pos (raised count * 4 + bits) ≡ ((count +ℤ pos 1099511627776) *ℤ pos 4) +ℤ pos bits
+spelled_back : (count : ℤ) (bits : ℕ) → bits < 4 → negsuc (2 ^ 40 - 1) ≤ℤ count → pos (raised count * 4 + bits) ≡ ((count +ℤ pos (2 ^ 40)) *ℤ pos 4) +ℤ pos bits
 spelled_back (pos n) bits few low = omega (arith, ints)
 spelled_back (negsuc n) bits few low = omega (arith, ints, low)
 
@@ -92,7 +93,7 @@ down_back h t c drop sound may named g =
       | inl immortal ↦ ap (λ b. if not b && (told_of h t (LocalDown drop) c + 1 == 1) then hands.Busy phases.Zero c else g) immortal
           ∙ sym (ap (λ b. if not b && (x.local == 1) then hands.Busy phases.Zero c else g) immortal)
       | inr mortal ↦
-          let high : 266 ≤ c = ltb-false c 266 mortal in
+          let high : FIRST_MORTAL ≤ c = ltb-false c FIRST_MORTAL mortal in
           let at_cell : OnCell h t (LocalDown drop) c = on_cell h t (LocalDown drop) c (subst (λ o. target_ok h t (row_at h t) (LocalDown drop) o ≡ true) named may.on_target) in
           let own : Mine t (row_at h t).stage x = mine t _ _ (subst (λ b. (b || is_mine t (row_at h t).stage x) ≡ true) mortal at_cell.fits) in
           let some_count : 1 ≤ x.local = local_positive h t c sound high own.owner (owned_ungripped h t c sound high own.owner (dropped_held h t c drop named) (grips_free c _ (free_hand _ may.hand))) in

@@ -1,6 +1,7 @@
 -- What lasts while others step: a thread's own part, and the words of what it holds, locks, bears or buries.
 use Rattle.std.proofs.Common.{◌≡◌, ◌≢◌, ℕ, ◌+◌, ◌<◌, ◌≤◌, ◌==◌, Bool, true, false, if◌then◌else◌, List, [], length, slice_get, Option, Some, None, refl, sym, ◌∙◌, ap, subst, inl, inr, ◌⊎◌, arith}
 use Rattle.std.proofs.lemmas.Bool.{cases_lt, cases_Bool, eq-eqb, eqb-true, and_parts, true≢false}
+use Rattle.brc_words.specs.declared.limits.TheConstants.{FIRST_MORTAL}
 use Rattle.brc_words.specs.declared.kind.Kind.{Kind}
 use Rattle.brc_words.specs.declared.owner.Owner.{Owner}
 use Rattle.brc_words.specs.declared.owner.Owner.TheVariants as owners
@@ -88,7 +89,7 @@ others_own h e t sound ok others =
 
 -- ---- a cell that one thread grips, and nothing holds
 
-pub alone_stays : (h : Heap) (e : Event) (t c : ℕ) → IsSound h → enabled h e ≡ true → e.thread ≢ t → 266 ≤ c → 1 ≤ one (is_marked (worklist_at h t) c) + one (grips c (row_at h t).hand)
+pub alone_stays : (h : Heap) (e : Event) (t c : ℕ) → IsSound h → enabled h e ≡ true → e.thread ≢ t → FIRST_MORTAL ≤ c → 1 ≤ one (is_marked (worklist_at h t) c) + one (grips c (row_at h t).hand)
     → held h c ≡ 0 → (cell_at h c).owner ≢ owners.Free → (cell_at (after h e) c ≡ cell_at h c) × (entries_at (after h e) c ≡ entries_at h c)
 alone_stays h e t c sound ok other mortal grip none owner =
     let alone : Ungripped h c e.thread = sole_grip h c t sound mortal grip e.thread other in
@@ -115,7 +116,7 @@ alone_stays h e t c sound ok other mortal grip none owner =
 -- ---- births and burials
 
 pub bearing : (p : Phase) → (p ≡ phases.Claimed) ⊎ ((p ≡ phases.Counted) ⊎ (p ≡ phases.Ready)) → (h : Heap) (t c : ℕ) → IsSound h → (row_at h t).hand ≡ hands.Busy p c
-    → (266 ≤ c) × ((cell_at h c).owner ≡ owners.Claimed t) × (one (grips c (row_at h t).hand) ≡ 1)
+    → (FIRST_MORTAL ≤ c) × ((cell_at h c).owner ≡ owners.Claimed t) × (one (grips c (row_at h t).hand) ≡ 1)
 bearing p which h t c sound busy = elim which [
   | inl claimed ↦
       let at : (row_at h t).hand ≡ hands.Busy phases.Claimed c = busy ∙ ap (λ q. hands.Busy q c) claimed in
@@ -137,7 +138,7 @@ pub births_last : (t c : ℕ) (p : Phase) (x : Cell) → Lasts t (λ h. Bears h 
 births_last t c p x h e reached ok others bears =
     let sound : IsSound h = reached_sound h reached in
     let own : SameOwn t h (after h e) = others_own h e t sound ok others in
-    let at : (266 ≤ c) × ((cell_at h c).owner ≡ owners.Claimed t) × (one (grips c (row_at h t).hand) ≡ 1) = bearing p bears.phase h t c sound bears.hand in
+    let at : (FIRST_MORTAL ≤ c) × ((cell_at h c).owner ≡ owners.Claimed t) × (one (grips c (row_at h t).hand) ≡ 1) = bearing p bears.phase h t c sound bears.hand in
     let none : Unheld h c = dead_unheld h c sound at.0 (ap lives at.1) in
     let same = alone_stays h e t c sound ok others.other at.0 (omega (arith, at.2)) none.sum (λ free. let bad : owners.Claimed t ≡ owners.Free = sym at.1 ∙ free in cc) in
     record {
@@ -219,7 +220,7 @@ not_bearing h u c d p sound which at same live =
     let dead : lives (cell_at h d).owner ≡ false = ap lives (bearing p which h u d sound (busy_hand p d _ at)).1 in
     true≢false (sym live ∙ ap (λ i. lives (cell_at h i).owner) (sym same) ∙ dead)
 
-pub live_step : (h : Heap) (u : ℕ) (s : Step) (c : ℕ) → IsSound h → May h u s → target_at h u s ≡ Some c → lives (cell_at h c).owner ≡ true → (1 ≤ held h c) ⊎ (c < 266)
+pub live_step : (h : Heap) (u : ℕ) (s : Step) (c : ℕ) → IsSound h → May h u s → target_at h u s ≡ Some c → lives (cell_at h c).owner ≡ true → (1 ≤ held h c) ⊎ (c < FIRST_MORTAL)
     → StepKeeps s (cell_at h c) (cell_after u s c (cell_at h c))
 live_step h u (Claim d) c sound may named live some =
     let e : d ≡ c = cc in
@@ -263,7 +264,7 @@ pub record EventKeeps (x y : Cell) : Type 0 where
   pub state : rank x.state ≤ rank y.state
   pub owner : (y.owner ≡ x.owner) ⊎ (y.owner ≡ owners.Nobody)
 
-pub event_keeps : (h : Heap) (e : Event) (c : ℕ) → IsSound h → enabled h e ≡ true → lives (cell_at h c).owner ≡ true → (1 ≤ held h c) ⊎ (c < 266) → EventKeeps (cell_at h c) (cell_at (after h e) c)
+pub event_keeps : (h : Heap) (e : Event) (c : ℕ) → IsSound h → enabled h e ≡ true → lives (cell_at h c).owner ≡ true → (1 ≤ held h c) ⊎ (c < FIRST_MORTAL) → EventKeeps (cell_at h c) (cell_at (after h e) c)
 event_keeps h e c sound ok live some = elim (event_cell h e c ok) [
   | inl same ↦ subst (λ y. EventKeeps (cell_at h c) y) (sym same) (record { kind = refl; bearer = refl; state = omega arith; owner = inl refl })
   | inr at ↦
@@ -283,7 +284,7 @@ locked_mutex h t c sound named =
 
 -- what is held lives, and so do immortals
 pub held_live : (h : Heap) (c : ℕ) → IsSound h → 1 ≤ held h c → lives (cell_at h c).owner ≡ true
-held_live h c sound some = elim (cases_lt c 266) [
+held_live h c sound some = elim (cases_lt c FIRST_MORTAL) [
   | inl low ↦ ap lives (sound.immortals c low).owner
   | inr mortal ↦ held_owner h c sound mortal some
 ]
@@ -395,7 +396,7 @@ keeping_lasts t c kind bearer least h e reached ok others keeps =
       state = omega (arith, keeps.state, stays.state);
     }
 
-owner_stays : (h : Heap) (e : Event) (t c : ℕ) → IsSound h → enabled h e ≡ true → 266 ≤ c → Has h t c → ((cell_at (after h e) c).owner ≡ (cell_at h c).owner) ⊎ ((cell_at (after h e) c).owner ≡ owners.Nobody)
+owner_stays : (h : Heap) (e : Event) (t c : ℕ) → IsSound h → enabled h e ≡ true → FIRST_MORTAL ≤ c → Has h t c → ((cell_at (after h e) c).owner ≡ (cell_at h c).owner) ⊎ ((cell_at (after h e) c).owner ≡ owners.Nobody)
 owner_stays h e t c sound ok mortal has = (event_keeps h e c sound ok (held_owner h c sound mortal (has_held h t c has)) (inl (has_held h t c has))).owner
 
 pub foreign_lasts : (t c : ℕ) → Lasts t (λ h. Foreign h t c)

@@ -2,6 +2,7 @@
 use Rattle.std.proofs.Common.{◌≡◌, ◌≢◌, ℕ, ◌<◌, ◌≤◌, ◌==◌, ◌&&◌, ◌||◌, not, Bool, true, false, if◌then◌else◌, List, [], length, Option, Some, None, refl, sym, ◌∙◌, ap, subst, inl, inr, ◌⊎◌, arith}
 use Rattle.std.proofs.lemmas.List.{get_or_past}
 use Rattle.std.proofs.lemmas.Bool.{cases_lt, cases_Bool, eq-eqb, ne_eqb, and_parts, ltb-true, lt-ltb, true≢false}
+use Rattle.brc_words.specs.declared.limits.TheConstants.{FIRST_MORTAL}
 use Rattle.brc_words.specs.declared.owner.Owner.TheVariants as owners
 use Rattle.brc_words.specs.declared.kind.Kind.{Kind}
 use Rattle.brc_words.specs.Kinds.{is_mortal}
@@ -95,7 +96,7 @@ at_phase p c hand busy = ap (is_at p c) busy ∙ and_both _ _ (eq-eqb _ _ refl) 
 hand_taken : (h : Heap) (t c : ℕ) (p : Phase) → IsReached h → (row_at h t).hand ≡ hands.Busy p c → (cell_at h c).owner ≢ owners.Free
 hand_taken h t c p reached busy = by_phase p busy (hand_tells h t c p reached busy).1
   where
-    live : 266 ≤ c → 1 ≤ held h c → (cell_at h c).owner ≢ owners.Free
+    live : FIRST_MORTAL ≤ c → 1 ≤ held h c → (cell_at h c).owner ≢ owners.Free
     live mortal some = live_owner _ (held_owner h c (reached_sound h reached) mortal some)
 
     by_phase : (q : Phase) → (row_at h t).hand ≡ hands.Busy q c → Tells t q (cell_at h c) → (cell_at h c).owner ≢ owners.Free

@@ -1,6 +1,7 @@
 -- Which cell an event writes, and why its thread may: the thread holds it, grips it, or claims it.
 use Rattle.std.proofs.Common.{◌≡◌, ℕ, ◌+◌, ◌≤◌, ◌==◌, Bool, true, false, if◌then◌else◌, [], get_or, set, Option, Some, None, refl, sym, ◌∙◌, ap, subst, inl, inr, ◌⊎◌, arith}
 use Rattle.std.proofs.lemmas.Bool.{cases_eq, cases_Bool, eqb-true, and_parts}
+use Rattle.brc_words.specs.declared.limits.TheConstants.{FIRST_MORTAL}
 use Rattle.brc_words.specs.declared.kind.Kind.{Kind}
 use Rattle.brc_words.specs.declared.owner.Owner.TheVariants as owners
 use Rattle.brc_runs.specs.declared.event.Event.{Event}
@@ -85,7 +86,7 @@ Reason h u s c = ((s ≡ Claim c) × ((cell_at h c).owner ≡ owners.Free)) ⊎ 
 hand_reason : (h : Heap) (u c : ℕ) (s : Step) (p : Phase) → is_at p c (row_at h u).hand ≡ true → is_gripping p ≡ true → Reason h u s c
 hand_reason h u c s p at gripping = inr (inr (by_grip h u c (omega (arith, hand_grips h u c p (busy_hand p c _ at) gripping))))
 
-pub step_reason : (h : Heap) (u : ℕ) (s : Step) (c : ℕ) → IsSound h → May h u s → target_at h u s ≡ Some c → 266 ≤ c → Reason h u s c
+pub step_reason : (h : Heap) (u : ℕ) (s : Step) (c : ℕ) → IsSound h → May h u s → target_at h u s ≡ Some c → FIRST_MORTAL ≤ c → Reason h u s c
 step_reason h u (Claim d) c sound may named mortal =
     let e : d ≡ c = cc in
     let at_cell : OnCell h u (Claim d) d = on_cell h u (Claim d) d may.on_target in

@@ -1,6 +1,7 @@
 -- What a thread's hand, its popped bits and its own objects tell it, and that it stays so while others step.
 use Rattle.std.proofs.Common.{◌≡◌, ◌≢◌, ℕ, ◌/◌, ◌≤◌, ◌||◌, not, Bool, true, false, if◌then◌else◌, List, [], sum_by, Some, refl, sym, ◌∙◌, ap, subst, inl, inr, ◌⊎◌, arith}
 use Rattle.std.proofs.lemmas.Bool.{cases_Bool, eqb-true, and_parts, not-true, le-ltb, true≢false}
+use Rattle.brc_words.specs.declared.limits.TheConstants.{FIRST_MORTAL}
 use Rattle.brc_words.specs.declared.owner.Owner.{Owner}
 use Rattle.brc_words.specs.declared.owner.Owner.TheVariants as owners
 use Rattle.brc_words.specs.declared.state.State.{State}
@@ -31,20 +32,20 @@ use Rattle.brc_runs.proofs.Reached.{reached_sound}
 
 -- ---- one reference on its way
 
-pub asks_once : (h : Heap) (c : ℕ) → IsSound h → 266 ≤ c → asks h c ≤ 1
+pub asks_once : (h : Heap) (c : ℕ) → IsSound h → FIRST_MORTAL ≤ c → asks h c ≤ 1
 asks_once h c sound mortal = omega (arith, sound.most c mortal, one-le (not (is_default (cell_at h c).state)))
 
 -- two hands can't both have a reference on its way
-two_carry : (h : Heap) (t u c : ℕ) → IsSound h → 266 ≤ c → u ≢ t → one (carries c (row_at h t).hand) ≡ 1 → one (carries c (row_at h u).hand) ≡ 1 → ⊥
+two_carry : (h : Heap) (t u c : ℕ) → IsSound h → FIRST_MORTAL ≤ c → u ≢ t → one (carries c (row_at h t).hand) ≡ 1 → one (carries c (row_at h u).hand) ≡ 1 → ⊥
 two_carry h t u c sound mortal other mine his = omega (arith, asks_once h c sound mortal, mine, his, sum_two (λ (row : Row). one (carries c row.hand)) h.rows t u no_row refl other)
 
 -- nor a hand and a popped bit
-carry_popped : (h : Heap) (t u c : ℕ) → IsSound h → 266 ≤ c → one (carries c (row_at h t).hand) ≡ 1 → bit_of (popped_at h u) c ≡ 1 → ⊥
+carry_popped : (h : Heap) (t u c : ℕ) → IsSound h → FIRST_MORTAL ≤ c → one (carries c (row_at h t).hand) ≡ 1 → bit_of (popped_at h u) c ≡ 1 → ⊥
 carry_popped h t u c sound mortal carried popped =
     omega (arith, asks_once h c sound mortal, carried, popped, sum_one (λ (row : Row). one (carries c row.hand)) h.rows t no_row refl, sum_one (λ (words : List ℕ). bit_of words c) h.popped u [] (no_bit c))
 
 -- with one on its way the object isn't default
-asked_for : (h : Heap) (c : ℕ) → IsSound h → 266 ≤ c → 1 ≤ asks h c → is_default (cell_at h c).state ≡ false
+asked_for : (h : Heap) (c : ℕ) → IsSound h → FIRST_MORTAL ≤ c → 1 ≤ asks h c → is_default (cell_at h c).state ≡ false
 asked_for h c sound mortal some = elim (cases_Bool (is_default (cell_at h c).state)) [
   | inr apart ↦ apart
   | inl default ↦ absurd (omega (arith, some, sound.most c mortal, ap (λ b. one (not b)) default))
@@ -64,7 +65,7 @@ between states.Merged default merged = absurd (true≢false merged)
 -- ---- what a hand tells
 
 -- somebody grips what nobody owns and isn't merged yet
-untier : (h : Heap) (c : ℕ) → IsSound h → 266 ≤ c → (cell_at h c).owner ≡ owners.Nobody → is_merged (cell_at h c).state ≡ false → gripped h c ≡ 1
+untier : (h : Heap) (c : ℕ) → IsSound h → FIRST_MORTAL ≤ c → (cell_at h c).owner ≡ owners.Nobody → is_merged (cell_at h c).state ≡ false → gripped h c ≡ 1
 untier h c sound mortal owner unmerged =
     sound.gripped c mortal ∙ ap (λ o. grips_by_owner o (cell_at h c).state (cell_at h c).local (cell_at h c).count) owner ∙ ap (λ b. if b then one (is_zero (cell_at h c).count) else 1) unmerged
 
@@ -85,7 +86,7 @@ untying_phase h u c phases.Taking owner grip fits = inr (inl refl)
 untying_phase h u c phases.Held owner grip fits = absurd (true≢false (sym grip))
 untying_phase h u c phases.Popping owner grip fits = inr (inr refl)
 
-who_unties : (h : Heap) (c : ℕ) → IsSound h → 266 ≤ c → (cell_at h c).owner ≡ owners.Nobody → is_merged (cell_at h c).state ≡ false → 1 ≤ held h c → (u : ℕ) × (p : Phase) × Unties h u c p
+who_unties : (h : Heap) (c : ℕ) → IsSound h → FIRST_MORTAL ≤ c → (cell_at h c).owner ≡ owners.Nobody → is_merged (cell_at h c).state ≡ false → 1 ≤ held h c → (u : ℕ) × (p : Phase) × Unties h u c p
 unfolding Unties
 who_unties h c sound mortal owner unmerged some =
     let grip : gripped h c ≡ 1 = untier h c sound mortal owner unmerged in
@@ -131,12 +132,12 @@ shut_tells h t c sound busy =
     ]
 
 -- a hand that merges an asked object finds it queued
-merging_tells : (h : Heap) (t c : ℕ) (p : Phase) → IsSound h → (row_at h t).hand ≡ hands.Busy p c → is_gripping p ≡ true → 266 ≤ c → (cell_at h c).owner ≡ owners.Nobody → 1 ≤ held h c → 1 ≤ asks h c → (cell_at h c).state ≡ states.Queued
+merging_tells : (h : Heap) (t c : ℕ) (p : Phase) → IsSound h → (row_at h t).hand ≡ hands.Busy p c → is_gripping p ≡ true → FIRST_MORTAL ≤ c → (cell_at h c).owner ≡ owners.Nobody → 1 ≤ held h c → 1 ≤ asks h c → (cell_at h c).state ≡ states.Queued
 merging_tells h t c p sound busy gripping mortal owner some asked =
     between (cell_at h c).state (asked_for h c sound mortal asked) (gripped_unmerged h c sound mortal owner (hand_gripped h t c (hand_grips h t c p busy gripping)) some)
 
 -- the owner of a merged object that lives is nobody
-merged_nobody : (h : Heap) (c : ℕ) → IsSound h → 266 ≤ c → lives (cell_at h c).owner ≡ true → (cell_at h c).state ≡ states.Merged → (cell_at h c).owner ≡ owners.Nobody
+merged_nobody : (h : Heap) (c : ℕ) → IsSound h → FIRST_MORTAL ≤ c → lives (cell_at h c).owner ≡ true → (cell_at h c).state ≡ states.Merged → (cell_at h c).owner ≡ owners.Nobody
 merged_nobody h c sound mortal live merged = by_owner (cell_at h c).owner live refl
   where
     by_owner : (o : Owner) → lives o ≡ true → (cell_at h c).owner ≡ o → o ≡ owners.Nobody
@@ -145,7 +146,7 @@ merged_nobody h c sound mortal live merged = by_owner (cell_at h c).owner live r
     by_owner (owners.Claimed t) live is = absurd (true≢false (sym live))
     by_owner owners.Free live is = absurd (true≢false (sym live))
 
-zero_tells : (h : Heap) (t c : ℕ) (p : Phase) → IsSound h → (row_at h t).hand ≡ hands.Busy p c → is_gripping p ≡ true → 266 ≤ c → (cell_at h c).owner ≡ owners.Thread t
+zero_tells : (h : Heap) (t c : ℕ) (p : Phase) → IsSound h → (row_at h t).hand ≡ hands.Busy p c → is_gripping p ≡ true → FIRST_MORTAL ≤ c → (cell_at h c).owner ≡ owners.Thread t
     → ((cell_at h c).owner ≡ owners.Thread t) × ((cell_at h c).local ≡ 0) × (is_merged (cell_at h c).state ≡ false)
 zero_tells h t c p sound busy gripping mortal owner = (owner, gripped_local h t c sound mortal owner (hand_gripped h t c (hand_grips h t c p busy gripping)), (sound.cells c mortal).owned_unmerged t owner)
 
@@ -172,7 +173,7 @@ sound_tells h t c phases.Popping sound busy =
     (said.fits.0, merging_tells h t c phases.Popping sound busy refl said.mortal said.fits.0 (popped_held h t c said.fits.1) (popped_asks h t c said.fits.1))
 
 -- what the phase of a hand says of its cell
-pub hand_tells : (h : Heap) (t c : ℕ) (p : Phase) → IsReached h → (row_at h t).hand ≡ hands.Busy p c → (266 ≤ c) × Tells t p (cell_at h c)
+pub hand_tells : (h : Heap) (t c : ℕ) (p : Phase) → IsReached h → (row_at h t).hand ≡ hands.Busy p c → (FIRST_MORTAL ≤ c) × Tells t p (cell_at h c)
 hand_tells h t c p reached busy = let sound : IsSound h = reached_sound h reached in ((sound.hands t c p busy).mortal, sound_tells h t c p sound busy)
 
 -- a popped entry is merged, or the thread's own
@@ -226,7 +227,7 @@ fixed_all x = record { owner = refl; local = refl; queued = λ q. q }
 
 -- the step's thread doesn't own the object, and may neither untie nor merge it, nor has it on its worklist
 record Kept (h : Heap) (u c : ℕ) : Type 0 where
-  mortal : 266 ≤ c
+  mortal : FIRST_MORTAL ≤ c
   live : lives (cell_at h c).owner ≡ true
   owner : Mine u (row_at h u).stage (cell_at h c) → ⊥
   untie : May h u (Untie c) → ⊥
@@ -235,7 +236,7 @@ record Kept (h : Heap) (u c : ℕ) : Type 0 where
   unmarked : one (is_marked (worklist_at h u) c) ≡ 0
 
 not_mine : (h : Heap) (u c : ℕ) → Kept h u c → (is_immortal c || is_mine u (row_at h u).stage (cell_at h c)) ≡ true → ⊥
-not_mine h u c kept ok = kept.owner (mine u (row_at h u).stage (cell_at h c) (subst (λ b. (b || is_mine u (row_at h u).stage (cell_at h c)) ≡ true) (le-ltb c 266 kept.mortal) ok))
+not_mine h u c kept ok = kept.owner (mine u (row_at h u).stage (cell_at h c) (subst (λ b. (b || is_mine u (row_at h u).stage (cell_at h c)) ≡ true) (le-ltb c FIRST_MORTAL kept.mortal) ok))
 
 fixed_step : (h : Heap) (u : ℕ) (s : Step) (c : ℕ) → IsSound h → May h u s → target_at h u s ≡ Some c → Kept h u c → Fixed (cell_at h c) (cell_after u s c (cell_at h c))
 fixed_step h u (Claim d) c sound may named kept =
@@ -247,7 +248,7 @@ fixed_step h u (InitShared d) c sound may named kept = absurd (not_bearing h u c
 fixed_step h u (Birth d kind k) c sound may named kept = absurd (not_bearing h u c d phases.Ready sound (inr (inr refl)) may.hand (cc) kept.live)
 fixed_step h u (LocalUp source k) c sound may named kept =
     let at_cell : OnCell h u (LocalUp source k) c = on_cell h u (LocalUp source k) c (subst (λ o. target_ok h u (row_at h u) (LocalUp source k) o ≡ true) named may.on_target) in
-    let parts = and_parts _ _ (subst (λ b. (b || counts_up_locally h.limit u (row_at h u).stage (cell_at h c)) ≡ true) (le-ltb c 266 kept.mortal) at_cell.fits) in
+    let parts = and_parts _ _ (subst (λ b. (b || counts_up_locally h.limit u (row_at h u).stage (cell_at h c)) ≡ true) (le-ltb c FIRST_MORTAL kept.mortal) at_cell.fits) in
     absurd (kept.owner (mine u (row_at h u).stage (cell_at h c) parts.0))
 fixed_step h u (LocalDown drop) c sound may named kept =
     let at_cell : OnCell h u (LocalDown drop) c = on_cell h u (LocalDown drop) c (subst (λ o. target_ok h u (row_at h u) (LocalDown drop) o ≡ true) named may.on_target) in
@@ -313,7 +314,7 @@ merges_nobodys h u c sound ways = elim ways [
 ]
 
 -- an object of a thread's: no other has it on its worklist, and nobody merges it
-owned_kept : (h : Heap) (t u c : ℕ) → IsSound h → 266 ≤ c → (cell_at h c).owner ≡ owners.Thread t → u ≢ t → (May h u (Untie c) → ⊥) → Kept h u c
+owned_kept : (h : Heap) (t u c : ℕ) → IsSound h → FIRST_MORTAL ≤ c → (cell_at h c).owner ≡ owners.Thread t → u ≢ t → (May h u (Untie c) → ⊥) → Kept h u c
 owned_kept h t u c sound mortal owner other untie = record {
   mortal = mortal;
   live = ap lives owner;
@@ -333,7 +334,7 @@ owned_kept h t u c sound mortal owner other untie = record {
 }
 
 -- an object that is held: nobody has it on a worklist; where its owner isn't active, nobody counts on its local word
-idle_kept : (h : Heap) (s u c : ℕ) → IsSound h → 266 ≤ c → (cell_at h c).owner ≡ owners.Thread s → is_active (row_at h s).stage ≡ false → 1 ≤ held h c → (May h u (Untie c) → ⊥) → Kept h u c
+idle_kept : (h : Heap) (s u c : ℕ) → IsSound h → FIRST_MORTAL ≤ c → (cell_at h c).owner ≡ owners.Thread s → is_active (row_at h s).stage ≡ false → 1 ≤ held h c → (May h u (Untie c) → ⊥) → Kept h u c
 idle_kept h s u c sound mortal owner idle some untie = record {
   mortal = mortal;
   live = ap lives owner;
@@ -394,7 +395,7 @@ adopting_lasts t c s local h e reached ok others adopts =
     }
 
 -- an object without an owner that the thread merges
-merging_kept : (h : Heap) (t u c : ℕ) (p : Phase) → IsSound h → 266 ≤ c → (cell_at h c).owner ≡ owners.Nobody → u ≢ t → (row_at h t).hand ≡ hands.Busy p c → is_gripping p ≡ true → Kept h u c
+merging_kept : (h : Heap) (t u c : ℕ) (p : Phase) → IsSound h → FIRST_MORTAL ≤ c → (cell_at h c).owner ≡ owners.Nobody → u ≢ t → (row_at h t).hand ≡ hands.Busy p c → is_gripping p ≡ true → Kept h u c
 merging_kept h t u c p sound mortal owner other busy gripping =
     let alone : Ungripped h c u = sole_grip h c t sound mortal (omega (arith, hand_grips h t c p busy gripping)) u other in
     let grips_not : (q : Phase) → (row_at h u).hand ≡ hands.Busy q c → is_gripping q ≡ true → ⊥ = λ q at grip. omega (arith, alone.hand, hand_grips h u c q at grip) in
@@ -438,7 +439,7 @@ pub popped_lasts : (t c local : ℕ) → Lasts t (λ h. PoppedOwn h t c local)
 popped_lasts t c local h e reached ok others his =
     let sound : IsSound h = reached_sound h reached in
     let own : SameOwn t h (after h e) = others_own h e t sound ok others in
-    let mortal : 266 ≤ c = (sound.bits t c (omega (arith, his.popped))).0 in
+    let mortal : FIRST_MORTAL ≤ c = (sound.bits t c (omega (arith, his.popped))).0 in
     let fixed : Fixed (cell_at h c) (cell_at (after h e) c) = fixed_event h e c sound ok (owned_kept h t e.thread c sound mortal his.owner others.other
     (λ may. elim (untie_ways h e.thread c sound may) [
       | inl over ↦ others.other (let e : owners.Thread e.thread ≡ owners.Thread t = sym (sound.hands e.thread c phases.Over over).fits ∙ his.owner in cc)

@@ -1,7 +1,7 @@
 -- Items: what a thread's table answers to each of its steps and looks, and what the thread knows from its own items.
 --
 -- A run of items is a list of (thread, item), newest first. Its events are a run; its notes change nothing.
-use Rattle.std.specs.Prelude.{◌≡◌, ℕ, ◌+◌, ◌-◌, ◌*◌, ◌/◌, ◌%◌, ◌==◌, nat_le, Bool, true, false, if◌then◌else◌, ℤ, pos, negsuc, ◌-ℤ◌, List, [], ◌∷◌, replicate, bit_or, Option, Some, None, slice_set}
+use Rattle.std.specs.Prelude.{◌≡◌, ℕ, ◌+◌, ◌-◌, ◌*◌, ◌/◌, ◌%◌, ◌==◌, nat_le, Bool, true, false, if◌then◌else◌, ℤ, pos, negsuc, ◌-ℤ◌, List, [], ◌∷◌, replicate, bit_or, Option, Some, None, slice_set, ◌^◌}
 use Rattle.brc_words.specs.Owners.{word_of}
 use Rattle.brc_words.specs.Shared.{bits_of}
 use Rattle.brc_words.specs.declared.state.State.{State}
@@ -36,8 +36,8 @@ pub data Word : Type 0 where
 
 -- a count, counted from -2^40
 abbrev pub raised : ℤ → ℕ
-raised (pos n) = 1099511627776 + n
-raised (negsuc n) = 1099511627775 - n
+raised (pos n) = 2 ^ 40 + n
+raised (negsuc n) = 2 ^ 40 - 1 - n
 
 abbrev pub shared_word : ℤ → State → ℕ
 shared_word count state = raised count * 4 + bits_of state
@@ -188,7 +188,7 @@ new_part cells = record {
 
 -- count and state, read off the number of a shared word
 abbrev pub count_told : ℕ → ℤ
-count_told number = pos (number / 4) -ℤ pos 1099511627776
+count_told number = pos (number / 4) -ℤ pos (2 ^ 40)
 
 abbrev pub state_told : ℕ → State
 state_told number = if number % 4 == 0 then states.Default else (if number % 4 == 2 then states.Queued else states.Merged)

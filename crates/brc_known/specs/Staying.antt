@@ -1,5 +1,6 @@
 -- What a thread may rely on while others step: its own part, and the words of what it holds, locks, bears or buries.
 use Rattle.std.specs.Prelude.{◌≡◌, ◌≢◌, ℕ, ◌≤◌, ◌==◌, Bool, true, false, List, [], ◌∷◌, pos, Option, Some, None, slice_get, ◌⊎◌}
+use Rattle.brc_words.specs.declared.limits.TheConstants.{FIRST_MORTAL}
 use Rattle.brc_words.specs.declared.owner.Owner.TheVariants as owners
 use Rattle.brc_words.specs.declared.state.State.{State}
 use Rattle.brc_words.specs.declared.state.State.TheVariants as states
@@ -92,7 +93,7 @@ pub record Locked (h : Heap) (t c : ℕ) (kind : Kind) (entries : List ℕ) : Ty
 -- what a thread has lives on, as what it is and with whom bore it; its state never falls
 pub record Keeps (h : Heap) (t c : ℕ) (kind : Kind) (bearer least : ℕ) : Type 0 where
   pub held : Has h t c
-  pub mortal : 266 ≤ c
+  pub mortal : FIRST_MORTAL ≤ c
   pub live : lives (cell_at h c).owner ≡ true
   pub kind_is : (cell_at h c).kind ≡ kind
   pub same_bearer : (cell_at h c).bearer ≡ bearer
@@ -101,24 +102,24 @@ pub record Keeps (h : Heap) (t c : ℕ) (kind : Kind) (bearer least : ℕ) : Typ
 -- what others own or nobody owns never becomes the thread's
 pub record Foreign (h : Heap) (t c : ℕ) : Type 0 where
   pub held : Has h t c
-  pub mortal : 266 ≤ c
+  pub mortal : FIRST_MORTAL ≤ c
   pub owner : (cell_at h c).owner ≢ owners.Thread t
 
 -- the owner word goes from a thread to nobody, once
 pub record OwnedOrNot (h : Heap) (t c s : ℕ) : Type 0 where
   pub held : Has h t c
-  pub mortal : 266 ≤ c
+  pub mortal : FIRST_MORTAL ≤ c
   pub owner : ((cell_at h c).owner ≡ owners.Thread s) ⊎ ((cell_at h c).owner ≡ owners.Nobody)
 
 pub record Nobodys (h : Heap) (t c : ℕ) : Type 0 where
   pub held : Has h t c
-  pub mortal : 266 ≤ c
+  pub mortal : FIRST_MORTAL ≤ c
   pub owner : (cell_at h c).owner ≡ owners.Nobody
 
 -- an active thread's own object, off its worklist: nobody else writes its owner word or its local word
 pub record Owns (h : Heap) (t c local : ℕ) : Type 0 where
   pub active : is_active (row_at h t).stage ≡ true
-  pub mortal : 266 ≤ c
+  pub mortal : FIRST_MORTAL ≤ c
   pub owner : (cell_at h c).owner ≡ owners.Thread t
   pub unmarked : is_marked (worklist_at h t) c ≡ false
   pub count : (cell_at h c).local ≡ local

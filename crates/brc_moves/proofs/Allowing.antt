@@ -2,6 +2,7 @@
 use Rattle.std.proofs.Common.{◌≡◌, ◌≢◌, ℕ, ◌-◌, ◌<◌, ◌≤◌, ◌||◌, not, Bool, true, false, if◌then◌else◌, List, [], ◌∷◌, length, get_or, replicate, slice_get, Option, Some, None, refl, sym, ◌∙◌, ap, subst, inl, inr, arith}
 use Rattle.std.proofs.lemmas.List.{get_or_past, nil_from_length}
 use Rattle.std.proofs.lemmas.Bool.{cases_eq, cases_lt, cases_Bool, eq-eqb, ne_eqb, eqb-true, and_parts, and_from, and_left, and_right, or_parts, or_from, or_cases, not-true, ltb-true, ltb-false, true≢false}
+use Rattle.brc_words.specs.declared.limits.TheConstants.{FIRST_MORTAL}
 use Rattle.brc_words.specs.declared.kind.Kind.{Kind}
 use Rattle.brc_model.specs.declared.holder.Holder.{Holder}
 use Rattle.brc_model.specs.declared.holder.Holder.TheVariants as holders
@@ -113,7 +114,7 @@ free_moves A h t c sound ok =
 -- ---- counting up
 
 -- the holder that a source shows
-source_is_held : (h : Heap) (t c : ℕ) (source : Source) → source_cell (row_at h t) (frame_at h t) (entries_at h) source ≡ Some c → 266 ≤ c → lives_at h c ≡ true → IsHeld (map_of h) c
+source_is_held : (h : Heap) (t c : ℕ) (source : Source) → source_cell (row_at h t) (frame_at h t) (entries_at h) source ≡ Some c → FIRST_MORTAL ≤ c → lives_at h c ≡ true → IsHeld (map_of h) c
 source_is_held h t c (sources.Frame k) named mortal live = (holders.Frame t k, and_from _ _ live (frame_shows h t k c mortal named))
 source_is_held h t c (sources.Entry i) named mortal live = entry_is_held_by (locked_cell (frame_at h t) (row_at h t).locked) named
   where
@@ -123,7 +124,7 @@ source_is_held h t c (sources.Entry i) named mortal live = entry_is_held_by (loc
 source_is_held h t c (sources.Immortal d) named mortal live = immortal_is_none (is_immortal d) refl named
   where
     immortal_is_none : (b : Bool) → is_immortal d ≡ b → (if b then Some d else None) ≡ Some c → IsHeld (map_of h) c
-    immortal_is_none true low named = let same : d ≡ c = cc in absurd (omega (arith, ltb-true d 266 low, same, mortal))
+    immortal_is_none true low named = let same : d ≡ c = cc in absurd (omega (arith, ltb-true d FIRST_MORTAL low, same, mortal))
     immortal_is_none false low named = absurd (cc)
 
 -- one place more has the cell
@@ -138,7 +139,7 @@ up_moves A h h' t k c source sound named none own queues entries last =
       | inl immortal ↦ subst (λ b. MakesMoves {A = A} (map_of h) (if b then [] else (moves.Add c (holders.Frame t k) ∷ [])) (map_of h')) (sym immortal)
           (same_map h h' last entries (others is_none (λ i q mortal _ _ e. true≢false (sym immortal ∙ ap is_immortal (sym e) ∙ mortal))))
       | inr mortal ↦
-          let high : 266 ≤ c = ltb-false c 266 mortal in
+          let high : FIRST_MORTAL ≤ c = ltb-false c FIRST_MORTAL mortal in
           let alive : lives_at h c ≡ true = held_lives h c sound high (source_held h t c source named high) in
           subst (λ b. MakesMoves {A = A} (map_of h) (if b then [] else (moves.Add c (holders.Frame t k) ∷ [])) (map_of h')) (sym mortal) (
             record {
@@ -206,7 +207,7 @@ down_moves A h h' t c hand (dropped.Frame k) sound named own carried queues entr
       | inl immortal ↦ subst (λ b. MakesMoves {A = A} (map_of h) (if b then [] else (moves.Remove c (holders.Frame t k) ∷ [])) (map_of h')) (sym immortal)
           (same_map h h' last entries (others is_none (λ i q mortal _ _ e. true≢false (sym immortal ∙ ap is_immortal (sym e) ∙ mortal))))
       | inr mortal ↦
-          let high : 266 ≤ c = ltb-false c 266 mortal in
+          let high : FIRST_MORTAL ≤ c = ltb-false c FIRST_MORTAL mortal in
           let alive : lives_at h c ≡ true = held_lives h c sound high (held_by_place h t k c named) in
           subst (λ b. MakesMoves {A = A} (map_of h) (if b then [] else (moves.Remove c (holders.Frame t k) ∷ [])) (map_of h')) (sym mortal) (
             and_from _ _ alive (frame_shows h t k c high named),
@@ -224,7 +225,7 @@ down_moves A h h' t c hand (dropped.Work d) sound named own carried queues entri
 
 -- ---- a reference that a release gave up is the hand's
 
-asked_moves : (A : Type 0) (h h' : Heap) (t c : ℕ) (drop : Dropped) → IsSound h → 266 ≤ c → dropped_cell (frame_at h t) (worklist_at h t) (entries_at h) drop ≡ Some c → (row_at h t).hand ≡ hands.Free
+asked_moves : (A : Type 0) (h h' : Heap) (t c : ℕ) (drop : Dropped) → IsSound h → FIRST_MORTAL ≤ c → dropped_cell (frame_at h t) (worklist_at h t) (entries_at h) drop ≡ Some c → (row_at h t).hand ≡ hands.Free
     → Own h h' t (frame_without (Some drop) (frame_at h t)) (popped_at h t) (hands.Busy phases.Asked c) → ((j : ℕ) → queue_at h' j ≡ queue_at h j)
     → ((q : ℕ) → entries_at h' q ≡ get_or (entries_without (Some drop) h.entries) q []) → Lasting h h'
     → MakesMoves {A = A} (map_of h) (asking h t drop c) (map_of h')
@@ -273,7 +274,7 @@ ask_moves A h t c drop sound at =
     let h' : Heap = stepped h t s c in
     let x : Cell = cell_at h c in
     let free : (row_at h t).hand ≡ hands.Free = free_hand _ at.may.hand in
-    let mortal : 266 ≤ c = ltb-false c 266 (not-true _ (and_parts _ _ at.fits).0) in
+    let mortal : FIRST_MORTAL ≤ c = ltb-false c FIRST_MORTAL (not-true _ (and_parts _ _ at.fits).0) in
     elim (cases_Bool (is_default x.state)) [
       | inr again ↦ subst (λ b. MakesMoves {A = A} (map_of h) (if b then asking h t drop c else []) (map_of h')) (sym again)
           (quiet_step h t s c at
@@ -292,7 +293,7 @@ popped_moves : (A : Type 0) (h : Heap) (t c : ℕ) → IsSound h → AtCell h t 
 popped_moves A h t c sound at =
     let h' : Heap = stepped h t (LastDown (lasts.Popped c)) c in
     let on : bit_of (popped_at h t) c ≡ 1 = eqb-true _ 1 at.may.own in
-    let mortal : 266 ≤ c = (sound.bits t c (omega (arith, on))).0 in (
+    let mortal : FIRST_MORTAL ≤ c = (sound.bits t c (omega (arith, on))).0 in (
       and_from _ _ (held_lives h c sound mortal (popped_held h t c on)) (popped_shows h t c mortal on),
       removed_map h h' c (holders.Popped t c) at.lasting (λ q. refl)
           (popped_hides h' t c c (ap (λ words. bit_of words c) at.own.popped ∙ without_bit_here (popped_at h t) c on))
@@ -305,7 +306,7 @@ hand_moves : (A : Type 0) (h : Heap) (t c : ℕ) → IsSound h → AtCell h t (L
 hand_moves A h t c sound at =
     let h' : Heap = stepped h t (LastDown lasts.Hand) c in
     let had = ending_hand (row_at h t).hand c at.may.hand at.named in
-    let mortal : 266 ≤ c = (sound.hands t c had.0 had.1).mortal in
+    let mortal : FIRST_MORTAL ≤ c = (sound.hands t c had.0 had.1).mortal in
     let carried : one (carries c (row_at h t).hand) ≡ 1 = busy_carrier had.0 c _ (ending_reference had.0 had.2) had.1 in (
       and_from _ _ (held_lives h c sound mortal (carried_held h t c carried)) (hand_shows h t c mortal (from_one _ carried)),
       removed_map h h' c (holders.Hand t c) at.lasting (λ q. refl) (hand_hides h' t c c (ap (carries c) at.own.hand))

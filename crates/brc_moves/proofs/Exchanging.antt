@@ -3,6 +3,7 @@ use Rattle.std.proofs.Common.{◌≡◌, ◌≢◌, ℕ, ◌<◌, ◌≤◌, ◌
 use Rattle.std.proofs.lemmas.List.{set-get_or}
 use Rattle.std.proofs.lemmas.Option.{slice_get-get_or}
 use Rattle.std.proofs.lemmas.Bool.{cases_Bool, eq-eqb, ne_eqb, and_parts, and_from, or_cases, or_parts, or_from, not-true, ltb-true, ltb-false, true≢false}
+use Rattle.brc_words.specs.declared.limits.TheConstants.{FIRST_MORTAL}
 use Rattle.brc_words.specs.Kinds.{is_container}
 use Rattle.brc_model.specs.declared.holder.Holder.{Holder}
 use Rattle.brc_model.specs.declared.holder.Holder.TheVariants as holders
@@ -61,10 +62,10 @@ placed_at held c g q p v = by_kind (is_immortal c)
     ]
 
 -- what holds of a mortal cell in its place holds where the test says so
-at_placed : (P : ℕ → Holder → Type 0) (c : ℕ) (g : Holder) (q : ℕ) (p : Holder) → is_placed c g q p ≡ true → (266 ≤ c → P c g) → P q p
+at_placed : (P : ℕ → Holder → Type 0) (c : ℕ) (g : Holder) (q : ℕ) (p : Holder) → is_placed c g q p ≡ true → (FIRST_MORTAL ≤ c → P c g) → P q p
 at_placed P c g q p same here =
     let parts = and_parts (not (is_immortal c)) (is_this c g q p) same in
-    at_this P c g q p parts.1 (here (ltb-false c 266 (not-true _ parts.0)))
+    at_this P c g q p parts.1 (here (ltb-false c FIRST_MORTAL (not-true _ parts.0)))
 
 -- ---- the container
 
@@ -102,8 +103,8 @@ opened h t c change sound at more =
     ] in
     record {
       container = elim (cases_Bool (is_immortal c)) [
-        | inl low ↦ inl (immortal_container c (sym (ap is_container (sound.immortals c (ltb-true c 266 low)).kind) ∙ kind))
-        | inr high ↦ inr (held_lives h c sound (ltb-false c 266 high) (held_by_place h t lock.place c lock.there), kind)
+        | inl low ↦ inl (immortal_container c (sym (ap is_container (sound.immortals c (ltb-true c FIRST_MORTAL low)).kind) ∙ kind))
+        | inr high ↦ inr (held_lives h c sound (ltb-false c FIRST_MORTAL high) (held_by_place h t lock.place c lock.there), kind)
       ];
       holds = occupies h t (number_in (row_at h t).locked) c sound (ap (λ o. place_at (frame_at h t) (number_in o)) lock.locked ∙ lock.there);
       within = omega (arith, at.inside, sound.shaped.entries);

@@ -2,6 +2,7 @@
 use Rattle.std.proofs.Common.{◌≡◌, ◌≢◌, ℕ, ◌+◌, ◌*◌, ◌/◌, ◌%◌, ◌<◌, ◌≤◌, ◌==◌, nat_lt, ◌&&◌, not, zero, suc, Bool, true, false, if◌then◌else◌, List, [], ◌∷◌, length, get_or, set, Some, refl, sym, ◌∙◌, ap, subst, inl, inr, arith}
 use Rattle.std.specs.Int.{bit_at}
 use Rattle.std.proofs.lemmas.Bool.{cases_eq, cases_lt, cases_Bool, eq-eqb, ne_eqb, eqb-true, and_left, and_from, and_right, or_parts, lt-ltb, le-ltb, true≢false}
+use Rattle.brc_words.specs.declared.limits.TheConstants.{FIRST_MORTAL}
 use Rattle.brc_model.specs.declared.holder.Holder.{Holder}
 use Rattle.brc_model.specs.declared.holder.Holder.TheVariants as holders
 use Rattle.brc_model.specs.declared.moves.Handover.{Handover}
@@ -32,7 +33,7 @@ use Rattle.brc_moves.proofs.Moving.{is_none, is_either, either_first, either_sec
 queued_held : (h : Heap) (t c : ℕ) → bit_of (queue_at h t) c ≡ 1 → 1 ≤ held h c
 queued_held h t c on = omega (arith, on, sum_one (λ (words : List ℕ). bit_of words c) h.queues t [] (no_bit c))
 
-carried_or_queued : (h : Heap) (t s c : ℕ) → IsSound h → 266 ≤ c → bit_of (queue_at h t) c + one (carries c (row_at h s).hand) ≤ 1
+carried_or_queued : (h : Heap) (t s c : ℕ) → IsSound h → FIRST_MORTAL ≤ c → bit_of (queue_at h t) c + one (carries c (row_at h s).hand) ≤ 1
 carried_or_queued h t s c sound mortal =
     omega (
       arith,
@@ -146,7 +147,7 @@ pub record Popped (h h' : Heap) (t c : ℕ) : Type 0 where
 
 popped_one : (h h' : Heap) (t k c : ℕ) → IsSound h → Taken h h' t k → c / 32 ≡ k → bit_of (queue_at h t) c ≡ 1 → Popped h h' t c
 popped_one h h' t k c sound taken word on =
-    let mortal : 266 ≤ c = (sound.bits t c (omega (arith, on))).0 in
+    let mortal : FIRST_MORTAL ≤ c = (sound.bits t c (omega (arith, on))).0 in
     let off : bit_of (popped_at h t) c ≡ 0 = omega (arith, on, bits_once h t c sound) in
     record {
       live = held_lives h c sound mortal (queued_held h t c on);
@@ -228,7 +229,7 @@ pub record Queued (h : Heap) (c : ℕ) : Type 0 where
   pub queue : (cell_at h c).bearer < length h.queues
   pub word : c / 32 < length (queue_at h (cell_at h c).bearer)
 
-pub queued_at : (h : Heap) (c : ℕ) → IsSound h → 266 ≤ c → c < length h.cells → lives (cell_at h c).owner ≡ true → Queued h c
+pub queued_at : (h : Heap) (c : ℕ) → IsSound h → FIRST_MORTAL ≤ c → c < length h.cells → lives (cell_at h c).owner ≡ true → Queued h c
 queued_at h c sound mortal inside live =
     let born = (sound.cells c mortal).born live in
     record {
@@ -245,7 +246,7 @@ enqueue_moves A h t c sound ok =
     let shut : Bool = is_shut h c in
     let at : AtCell h t s c = at_named h t s c refl sound ok refl in
     let busy : (row_at h t).hand ≡ hands.Busy phases.Asked c = busy_hand phases.Asked c _ at.may.hand in
-    let mortal : 266 ≤ c = (sound.hands t c phases.Asked busy).mortal in
+    let mortal : FIRST_MORTAL ≤ c = (sound.hands t c phases.Asked busy).mortal in
     let carried : one (carries c (row_at h t).hand) ≡ 1 = busy_carrier phases.Asked c _ refl busy in
     let alive : lives (cell_at h c).owner ≡ true = held_owner h c sound mortal (carried_held h t c carried) in
     let queued : Queued h c = queued_at h c sound mortal at.inside alive in

@@ -2,6 +2,7 @@
 use Rattle.std.proofs.Common.{◌≡◌, ◌≢◌, ℕ, ◌<◌, ◌≤◌, ◌==◌, ◌&&◌, ◌||◌, not, Bool, true, false, if◌then◌else◌, List, [], length, get_or, set, slice_get, Option, Some, None, refl, sym, ◌∙◌, ap, subst, inl, inr, arith}
 use Rattle.std.proofs.lemmas.List.{get_or_past, get_or-set_same, length-set}
 use Rattle.std.proofs.lemmas.Bool.{cases_eq, cases_lt, cases_Bool, eq-eqb, ne_eqb, eqb-true, and_parts, and_from, and_right, or_left, or_right, or_parts, or_from, le-ltb, ltb-false, true≢false}
+use Rattle.brc_words.specs.declared.limits.TheConstants.{FIRST_MORTAL}
 use Rattle.brc_model.specs.declared.holder.Holder.{Holder}
 use Rattle.brc_model.specs.declared.holder.Holder.TheVariants as holders
 use Rattle.brc_model.specs.Holders.{Same, is_number, IsUnheld, IsVacant, put, same_holder, with_holder, without_holder}
@@ -38,8 +39,8 @@ number_differs (Some x) q ne = ne_eqb x q (λ e. ne (ap Some e))
 pub number_is : (o : Option ℕ) (q : ℕ) → o ≡ Some q → is_number o q ≡ true
 number_is o q e = ap (λ x. is_number x q) e ∙ eq-eqb q q refl
 
-pub mortal_number : (c : ℕ) → 266 ≤ c → is_immortal c ≡ false
-mortal_number c high = le-ltb c 266 high
+pub mortal_number : (c : ℕ) → FIRST_MORTAL ≤ c → is_immortal c ≡ false
+mortal_number c high = le-ltb c FIRST_MORTAL high
 
 -- one value is put, and all others stay
 pub put_after : {A : Type 0} (old new : ℕ → A) (c : ℕ) (v : A) → new c ≡ v → ((j : ℕ) → j ≢ c → new j ≡ old j) → (j : ℕ) → new j ≡ put {A = A} old c v j
@@ -262,19 +263,19 @@ passed_map h h' c g d k last entries gone there same = same_held h h' _ last ent
 
 -- ---- what the map of a world shows
 
-pub frame_shows : (h : Heap) (t k c : ℕ) → 266 ≤ c → place_at (frame_at h t) k ≡ Some c → (map_of h).held c (holders.Frame t k) ≡ true
+pub frame_shows : (h : Heap) (t k c : ℕ) → FIRST_MORTAL ≤ c → place_at (frame_at h t) k ≡ Some c → (map_of h).held c (holders.Frame t k) ≡ true
 frame_shows h t k c mortal there = ap (λ b. not b && is_number (place_at (frame_at h t) k) c) (mortal_number c mortal) ∙ number_is _ c there
 
 pub frame_hides : (h : Heap) (t k q : ℕ) → is_number (place_at (frame_at h t) k) q ≡ false → (map_of h).held q (holders.Frame t k) ≡ false
 frame_hides h t k q none = and_right (not (is_immortal q)) _ none
 
-cell_shows : (q : ℕ) (b : Bool) → 266 ≤ q → b ≡ true → (not (is_immortal q) && ((q == q) && b)) ≡ true
+cell_shows : (q : ℕ) (b : Bool) → FIRST_MORTAL ≤ q → b ≡ true → (not (is_immortal q) && ((q == q) && b)) ≡ true
 cell_shows q b mortal there = ap (λ i. not i && ((q == q) && b)) (mortal_number q mortal) ∙ ap (λ x. x && b) (eq-eqb q q refl) ∙ there
 
 cell_hides : (q d : ℕ) (b : Bool) → b ≡ false → (not (is_immortal q) && ((d == q) && b)) ≡ false
 cell_hides q d b none = and_right (not (is_immortal q)) _ (and_right (d == q) b none)
 
-pub hand_shows : (h : Heap) (t c : ℕ) → 266 ≤ c → carries c (row_at h t).hand ≡ true → (map_of h).held c (holders.Hand t c) ≡ true
+pub hand_shows : (h : Heap) (t c : ℕ) → FIRST_MORTAL ≤ c → carries c (row_at h t).hand ≡ true → (map_of h).held c (holders.Hand t c) ≡ true
 hand_shows h t c mortal there = cell_shows c _ mortal there
 
 pub hand_hides : (h : Heap) (t d q : ℕ) → carries q (row_at h t).hand ≡ false → (map_of h).held q (holders.Hand t d) ≡ false
@@ -283,13 +284,13 @@ hand_hides h t d q none = cell_hides q d _ none
 zero_bit : (n : ℕ) → n ≡ 0 → (n == 1) ≡ false
 zero_bit n e = ne_eqb n 1 (λ one. omega (arith, e, one))
 
-pub queue_shows : (h : Heap) (t c : ℕ) → 266 ≤ c → bit_of (queue_at h t) c ≡ 1 → (map_of h).held c (holders.Queue t c) ≡ true
+pub queue_shows : (h : Heap) (t c : ℕ) → FIRST_MORTAL ≤ c → bit_of (queue_at h t) c ≡ 1 → (map_of h).held c (holders.Queue t c) ≡ true
 queue_shows h t c mortal there = cell_shows c _ mortal (eq-eqb _ 1 there)
 
 pub queue_hides : (h : Heap) (t d q : ℕ) → bit_of (queue_at h t) q ≡ 0 → (map_of h).held q (holders.Queue t d) ≡ false
 queue_hides h t d q none = cell_hides q d _ (zero_bit _ none)
 
-pub popped_shows : (h : Heap) (t c : ℕ) → 266 ≤ c → bit_of (popped_at h t) c ≡ 1 → (map_of h).held c (holders.Popped t c) ≡ true
+pub popped_shows : (h : Heap) (t c : ℕ) → FIRST_MORTAL ≤ c → bit_of (popped_at h t) c ≡ 1 → (map_of h).held c (holders.Popped t c) ≡ true
 popped_shows h t c mortal there = cell_shows c _ mortal (eq-eqb _ 1 there)
 
 pub popped_hides : (h : Heap) (t d q : ℕ) → bit_of (popped_at h t) q ≡ 0 → (map_of h).held q (holders.Popped t d) ≡ false
@@ -325,10 +326,10 @@ pub is_unheld : (h : Heap) (q : ℕ) → Unheld h q → IsUnheld (map_of h) q
 is_unheld h q none = unheld_in h q (map_of h).held none (λ g. no_place h q g none)
 
 -- a place that shows no mortal cell is vacant in the map
-pub is_vacant_place : (h : Heap) (t k : ℕ) → ((q : ℕ) → 266 ≤ q → is_number (place_at (frame_at h t) k) q ≡ false) → IsVacant (map_of h) t k
+pub is_vacant_place : (h : Heap) (t k : ℕ) → ((q : ℕ) → FIRST_MORTAL ≤ q → is_number (place_at (frame_at h t) k) q ≡ false) → IsVacant (map_of h) t k
 is_vacant_place h t k none q = and_right (lives_at h q) _ (elim (cases_Bool (is_immortal q)) [
   | inl immortal ↦ ap (λ b. not b && is_number (place_at (frame_at h t) k) q) immortal
-  | inr mortal ↦ frame_hides h t k q (none q (ltb-false q 266 mortal))
+  | inr mortal ↦ frame_hides h t k q (none q (ltb-false q FIRST_MORTAL mortal))
 ])
 
 -- ---- places of a frame

@@ -1,6 +1,7 @@
 -- What it means that a thread's step is enabled, test by test.
 use Rattle.std.proofs.Common.{◌≡◌, ℕ, ◌<◌, true, false, List, length, Option, Some, None, is_none, refl, sym}
 use Rattle.std.proofs.lemmas.Bool.{and_parts, not-true, ltb-true, true≢false}
+use Rattle.brc_words.specs.declared.limits.TheConstants.{MOST_PLACES}
 use Rattle.brc_words.specs.declared.owner.Owner.TheVariants as owners
 use Rattle.brc_runs.specs.declared.cell.Cell.{Cell}
 use Rattle.brc_runs.specs.declared.event.Step.{Step}
@@ -59,7 +60,7 @@ none_there None h = refl
 none_there (Some c) h = absurd (true≢false (sym h))
 
 pub record Vacant (frame : List (Option ℕ)) (k : ℕ) : Type 0 where
-  pub low : k < 65536
+  pub low : k < MOST_PLACES
   pub none : place_at frame k ≡ None
 
 pub vacant : (frame : List (Option ℕ)) (k : ℕ) → is_vacant frame k ≡ true → Vacant frame k

@@ -3,6 +3,7 @@ use Rattle.std.proofs.Common.{◌≡◌, ℕ, ◌+◌, ◌<◌, ◌≤◌, false
 use Rattle.std.proofs.lemmas.List.{get_or_past, get_or-replicate, length-replicate, get_or-drop}
 use Rattle.std.proofs.lemmas.Bool.{cases_lt, lt-ltb, le-ltb, true≢false}
 use Rattle.std.proofs.lemmas.Int.{ints}
+use Rattle.brc_words.specs.declared.limits.TheConstants.{FIRST_MORTAL, MOST_PLACES}
 use Rattle.brc_words.specs.declared.owner.Owner.TheVariants as owners
 use Rattle.brc_runs.specs.declared.cell.Cell.{Cell}
 use Rattle.brc_runs.specs.declared.row.Row.{Row}
@@ -33,20 +34,20 @@ opening_read n c = elim (cases_lt c n) [
   | inr high ↦ inr (high, get_or_past (opening_cells n) c no_cell (omega (arith, high, length-opening n)))
 ]
 
-mortal_opens : (c : ℕ) → 266 ≤ c → opening_cell c ≡ no_cell
-mortal_opens c high = ap (λ b. if b then immortal c else no_cell) (le-ltb c 266 high)
+mortal_opens : (c : ℕ) → FIRST_MORTAL ≤ c → opening_cell c ≡ no_cell
+mortal_opens c high = ap (λ b. if b then immortal c else no_cell) (le-ltb c FIRST_MORTAL high)
 
-immortal_opens : (c : ℕ) → c < 266 → opening_cell c ≡ immortal c
-immortal_opens c low = ap (λ b. if b then immortal c else no_cell) (lt-ltb c 266 low)
+immortal_opens : (c : ℕ) → c < FIRST_MORTAL → opening_cell c ≡ immortal c
+immortal_opens c low = ap (λ b. if b then immortal c else no_cell) (lt-ltb c FIRST_MORTAL low)
 
 -- a mortal cell opens free
-pub free_cell : (n c : ℕ) → 266 ≤ c → get_or (opening_cells n) c no_cell ≡ no_cell
+pub free_cell : (n c : ℕ) → FIRST_MORTAL ≤ c → get_or (opening_cells n) c no_cell ≡ no_cell
 free_cell n c high = elim (opening_read n c) [
   | inl low ↦ low.1 ∙ mortal_opens c high
   | inr past ↦ past.1
 ]
 
-pub immortal_cell : (n c : ℕ) → 266 ≤ n → c < 266 → get_or (opening_cells n) c no_cell ≡ immortal c
+pub immortal_cell : (n c : ℕ) → FIRST_MORTAL ≤ n → c < FIRST_MORTAL → get_or (opening_cells n) c no_cell ≡ immortal c
 immortal_cell n c enough low = elim (opening_read n c) [
   | inl here ↦ here.1 ∙ immortal_opens c low
   | inr past ↦ absurd (omega (arith, past.0, enough, low))
@@ -90,11 +91,11 @@ opening_sound n limit options =
     let worklist : (t : ℕ) → worklist_at h t ≡ [] = lone [] in
     let queue : (t : ℕ) → queue_at h t ≡ [] = lone [] in
     let gathered : (t : ℕ) → is_gathered h t ≡ false = lone false in
-    let cell : (q : ℕ) → 266 ≤ q → cell_at h q ≡ no_cell = free_cell n in
+    let cell : (q : ℕ) → FIRST_MORTAL ≤ q → cell_at h q ≡ no_cell = free_cell n in
     let entries : (q : ℕ) → entries_at h q ≡ [] = λ q. no_entries n q [] in
     let no_entry : (q : ℕ) → in_entries h q ≡ 0 = λ q. sum_none (entry_times q) (replicate n []) [] (λ i. ap (entry_times q) (no_entries n i [])) in
-    let no_live : live_count h ≡ 0 = sum_none (λ (x : Cell). one (lives x.owner)) (drop 266 (opening_cells n)) no_cell
-    (λ i. ap (λ (x : Cell). one (lives x.owner)) (get_or-drop 266 (opening_cells n) i no_cell ∙ free_cell n (266 + i) (omega arith))) in
+    let no_live : live_count h ≡ 0 = sum_none (λ (x : Cell). one (lives x.owner)) (drop FIRST_MORTAL (opening_cells n)) no_cell
+    (λ i. ap (λ (x : Cell). one (lives x.owner)) (get_or-drop FIRST_MORTAL (opening_cells n) i no_cell ∙ free_cell n (FIRST_MORTAL + i) (omega arith))) in
     record {
       shaped = opening_shape n limit options;
       counted = λ q mortal. subst (λ x. counted_in x ≡ pos (held h q)) (sym (cell q mortal)) (ap pos (omega (arith, no_entry q, no_bit q)));
@@ -136,11 +137,11 @@ opening_sound n limit options =
             gathered_work = λ g _. absurd (true≢false (sym g ∙ gathered t));
             locked_hand = λ _ _. refl;
             births = omega arith;
-            places = subst (λ f. length f ≤ 65536) (sym (frame t)) (omega arith);
+            places = subst (λ f. length f ≤ MOST_PLACES) (sym (frame t)) (omega arith);
           });
       bits = λ t q some. absurd (omega (arith, some, ap (λ words. bit_of words q) (queue t), ap (λ words. bit_of words q) (popped t), no_bit q));
       locks = λ t k locked. absurd (let e : None ≡ Some k = sym (ap (λ (r : Row). r.locked) (row t)) ∙ locked in cc);
-      mutexes = λ t q some mutex. absurd (elim (cases_lt q 266) [
+      mutexes = λ t q some mutex. absurd (elim (cases_lt q FIRST_MORTAL) [
         | inl low ↦ omega (arith, some, mutex, ap (λ (x : Cell). x.mutex) (immortal_cell n q (omega (arith, options.enough)) low))
         | inr high ↦ omega (arith, some, mutex, ap (λ (x : Cell). x.mutex) (cell q high))
       ]);

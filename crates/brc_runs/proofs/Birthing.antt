@@ -4,6 +4,7 @@ use Rattle.std.proofs.lemmas.List.{get_or-set_same, get_or-set_other, length-set
 use Rattle.std.proofs.lemmas.List.Sums.{sum_by-set}
 use Rattle.std.proofs.lemmas.Bool.{cases_eq, eq-eqb, ne_eqb, and_parts, leb-true, ltb-true, true≢false}
 use Rattle.std.proofs.lemmas.Int.{ints}
+use Rattle.brc_words.specs.declared.limits.TheConstants.{FIRST_MORTAL, MOST_BIRTHS, MOST_PLACES}
 use Rattle.brc_words.specs.declared.kind.Kind.{Kind}
 use Rattle.brc_words.specs.declared.owner.Owner.TheVariants as owners
 use Rattle.brc_words.specs.declared.state.State.TheVariants as states
@@ -43,7 +44,7 @@ no_lock (Some k) s ok plain = absurd (true≢false (sym ok ∙ plain))
 -- what an active thread's own part owes when its row, frame and worklist change
 pub active_fits : (words : ℕ) (row row' : Row) (frame frame' : List (Option ℕ)) (popped : List ℕ) (worklist work' : List Bool) (queue : List ℕ) (gathered : Bool)
     → row.stage ≡ stages.Active → gathered ≡ false → row'.stage ≡ row.stage
-    → ((k : ℕ) → row'.locked ≡ Some k → row'.hand ≡ hands.Free) → row'.allocs ≤ 140737488355328 → length frame' ≤ 65536
+    → ((k : ℕ) → row'.locked ≡ Some k → row'.hand ≡ hands.Free) → row'.allocs ≤ MOST_BIRTHS → length frame' ≤ MOST_PLACES
     → ThreadFits words row' frame' popped work' queue gathered
 active_fits words row row' frame frame' popped worklist work' queue gathered active here same lock births places =
     let now : row'.stage ≡ stages.Active = same ∙ active in
@@ -83,7 +84,7 @@ busy_carries p c g = ap (λ b. one (b && (c == c))) g
 
 -- what a step of a birth rests on: the cell is dead, and nobody but the thread's hand names it
 pub record Bears (h : Heap) (t c : ℕ) : Type 0 where
-  pub mortal : 266 ≤ c
+  pub mortal : FIRST_MORTAL ≤ c
   pub dead : lives (cell_at h c).owner ≡ false
   pub hand_else : (q : ℕ) → q ≢ c → (one (grips q (row_at h t).hand) ≡ 0) × (one (carries q (row_at h t).hand) ≡ 0)
   pub hand_here : one (grips c (row_at h t).hand) ≡ grips_of (cell_at h c)
@@ -150,7 +151,7 @@ claim_fits h t c s x r p sound may runs opens plain inside bears owner mutex bea
       works_own = λ q _ on. on;
       works_else = λ j ne on. absurd (no_mark _ (bears.others j ne).mark on);
       own = active_fits _ (row_at h t) r (frame_at h t) (frame_at h t) _ (worklist_at h t) (worklist_at h t) _ _ active may.not_gathered stage
-          (λ k e. let bad : None ≡ Some k = sym unlocked ∙ e in absurd (cc)) (subst (λ n. n ≤ 140737488355328) (sym allocs) (sound.threads t).births) (sound.threads t).places;
+          (λ k e. let bad : None ≡ Some k = sym unlocked ∙ e in absurd (cc)) (subst (λ n. n ≤ MOST_BIRTHS) (sym allocs) (sound.threads t).births) (sound.threads t).places;
       ledger = omega (arith, allocs, frees, ap one bears.dead, ap one dead);
     }
 
@@ -161,7 +162,7 @@ claim_sound h t c sound ok =
     let may : May h t (Claim c) = may_parts h t (Claim c) ok in
     let at_cell : OnCell h t (Claim c) c = on_cell h t (Claim c) c may.on_target in
     let parts = and_parts _ _ at_cell.fits in
-    let mortal : 266 ≤ c = leb-true 266 c parts.0 in
+    let mortal : FIRST_MORTAL ≤ c = leb-true FIRST_MORTAL c parts.0 in
     let free : (cell_at h c).owner ≡ owners.Free = free_owner _ parts.1 in
     let hand : (row_at h t).hand ≡ hands.Free = free_hand _ may.hand in
     let grip : grips_of (cell_at h c) ≡ 0 = ap (λ o. grips_by_owner o (cell_at h c).state (cell_at h c).local (cell_at h c).count) free in
@@ -182,7 +183,7 @@ claim_sound h t c sound ok =
     (λ g. record { claimed = refl; more = ltb-true _ _ may.own }))
 
 -- what holds while a birth is in the thread's hand
-birth_bears : (h : Heap) (t c : ℕ) (p : Phase) → IsSound h → (row_at h t).hand ≡ hands.Busy p c → is_gripping p ≡ true → 266 ≤ c
+birth_bears : (h : Heap) (t c : ℕ) (p : Phase) → IsSound h → (row_at h t).hand ≡ hands.Busy p c → is_gripping p ≡ true → FIRST_MORTAL ≤ c
     → (cell_at h c).owner ≡ owners.Claimed t → Bears h t c
 birth_bears h t c p sound busy gripping mortal owner =
     let grip : grips_of (cell_at h c) ≡ 1 = ap (λ o. grips_by_owner o (cell_at h c).state (cell_at h c).local (cell_at h c).count) owner in

@@ -4,6 +4,7 @@ use Rattle.std.proofs.lemmas.List.{get_or-set_same, get_or-set_other, length-set
 use Rattle.std.proofs.lemmas.List.Sums.{sum_by-set}
 use Rattle.std.proofs.lemmas.Bool.{cases_eq, cases_lt}
 use Rattle.std.proofs.lemmas.Int.{ints}
+use Rattle.brc_words.specs.declared.limits.TheConstants.{FIRST_MORTAL, MOST_THREADS}
 use Rattle.brc_runs.specs.declared.cell.Cell.{Cell}
 use Rattle.brc_runs.specs.declared.row.Row.{Row}
 use Rattle.brc_runs.specs.declared.row.Hand.TheVariants as hands
@@ -89,21 +90,21 @@ pub record Fits (h : Heap) (t c : ℕ) (n : New) : Type 0 where
   pub queues : length n.queues ≡ length h.queues
   pub queue_words : (s : ℕ) → length (get_or n.queues s []) ≡ length (queue_at h s)
   -- sums
-  pub counted_here : 266 ≤ c → counted_in n.cell +ℤ pos (old_part h t c) ≡ counted_in (cell_at h c) +ℤ pos (new_part n c)
-  pub counted_else : (q : ℕ) → 266 ≤ q → q ≢ c → old_part h t q ≡ new_part n q
-  pub gripped_here : 266 ≤ c → grips_of n.cell + one (is_marked (worklist_at h t) c) + one (grips c (row_at h t).hand)
+  pub counted_here : FIRST_MORTAL ≤ c → counted_in n.cell +ℤ pos (old_part h t c) ≡ counted_in (cell_at h c) +ℤ pos (new_part n c)
+  pub counted_else : (q : ℕ) → FIRST_MORTAL ≤ q → q ≢ c → old_part h t q ≡ new_part n q
+  pub gripped_here : FIRST_MORTAL ≤ c → grips_of n.cell + one (is_marked (worklist_at h t) c) + one (grips c (row_at h t).hand)
       ≡ grips_of (cell_at h c) + one (is_marked n.worklist c) + one (grips c n.row.hand)
-  pub gripped_else : (q : ℕ) → 266 ≤ q → q ≢ c → one (is_marked (worklist_at h t) q) + one (grips q (row_at h t).hand)
+  pub gripped_else : (q : ℕ) → FIRST_MORTAL ≤ q → q ≢ c → one (is_marked (worklist_at h t) q) + one (grips q (row_at h t).hand)
       ≡ one (is_marked n.worklist q) + one (grips q n.row.hand)
-  pub most_here : 266 ≤ c → asks h c + new_asks n c ≤ asks_most n.cell + old_asks h t c
-  pub least_here : 266 ≤ c → asks_least n.cell + old_asks h t c ≤ asks h c + new_asks n c
-  pub asks_else : (q : ℕ) → 266 ≤ q → q ≢ c → new_asks n q ≡ old_asks h t q
+  pub most_here : FIRST_MORTAL ≤ c → asks h c + new_asks n c ≤ asks_most n.cell + old_asks h t c
+  pub least_here : FIRST_MORTAL ≤ c → asks_least n.cell + old_asks h t c ≤ asks h c + new_asks n c
+  pub asks_else : (q : ℕ) → FIRST_MORTAL ≤ q → q ≢ c → new_asks n q ≡ old_asks h t q
   -- hands
-  pub hand : (p : Phase) (d : ℕ) → n.row.hand ≡ hands.Busy p d → (d ≡ c) × (266 ≤ c) × PhaseFits t n.row n.popped n.cell (row_at h n.cell.bearer).stage c p
+  pub hand : (p : Phase) (d : ℕ) → n.row.hand ≡ hands.Busy p d → (d ≡ c) × (FIRST_MORTAL ≤ c) × PhaseFits t n.row n.popped n.cell (row_at h n.cell.bearer).stage c p
   pub hands_else : (s : ℕ) (p : Phase) → s ≢ t → (row_at h s).hand ≡ hands.Busy p c → PhaseFits s (row_at h s) (popped_at h s) n.cell (row_at h n.cell.bearer).stage c p
   -- cells, entries and worklists
-  pub cell : 266 ≤ c → CellFits (length h.rows) h.limit n.cell (get_or n.entries c [])
-  pub immortal : c < 266 → ImmortalFits c n.cell (get_or n.entries c [])
+  pub cell : FIRST_MORTAL ≤ c → CellFits (length h.rows) h.limit n.cell (get_or n.entries c [])
+  pub immortal : c < FIRST_MORTAL → ImmortalFits c n.cell (get_or n.entries c [])
   pub fewer : (q : ℕ) → q ≢ c → Fewer (entries_at h q) (get_or n.entries q [])
   pub works_here : is_marked n.worklist c ≡ true → WorklistFits t c n.cell
   pub works_own : (q : ℕ) → q ≢ c → is_marked n.worklist q ≡ true → is_marked (worklist_at h t) q ≡ true
@@ -114,7 +115,7 @@ pub record Fits (h : Heap) (t c : ℕ) (n : New) : Type 0 where
   pub queues_else : (s k : ℕ) → s ≢ t → is_closed (row_at h s).stage k ≡ true → word_at (get_or n.queues s []) k ≡ 0
   -- bits are of objects that the thread bore; locks
   pub bits : (s q : ℕ) → 0 < bit_of (get_or n.queues s []) q + bit_of (get_or (set h.popped t n.popped) s []) q
-      → (266 ≤ q) × ((get_or (set h.cells c n.cell) q no_cell).bearer ≡ s)
+      → (FIRST_MORTAL ≤ q) × ((get_or (set h.cells c n.cell) q no_cell).bearer ≡ s)
   pub locks : LocksFit (changed h t c n)
   pub ledger : n.row.allocs + (row_at h t).frees + one (lives (cell_at h c).owner) ≡ (row_at h t).allocs + n.row.frees + one (lives n.cell.owner)
 
@@ -133,7 +134,7 @@ changed_shape h t c n shaped fits =
       options = subst (λ m. AreOptions m h.limit) (sym cells) shaped.options;
       entries = fits.lists ∙ shaped.entries ∙ sym cells;
       root = subst (λ m. 0 < m) (sym rows) shaped.root;
-      threads = subst (λ m. m ≤ 65) (sym rows) shaped.threads;
+      threads = subst (λ m. m ≤ MOST_THREADS + 1) (sym rows) shaped.threads;
       frames = frames ∙ shaped.frames ∙ sym rows;
       popped = popped ∙ shaped.popped ∙ sym rows;
       worklists = worklists ∙ shaped.worklists ∙ sym rows;
@@ -183,41 +184,41 @@ else_balance : (old : ℤ) (frames' popped' hands' queues' entries' frames poppe
 else_balance old frames' popped' hands' queues' entries' frames popped hands queues entries f f0 p p0 d d0 a b c e g = omega (arith, ints)
 
 changed_counted : (h : Heap) (t c : ℕ) (n : New) → IsSound h → Fits h t c n
-    → (q : ℕ) → 266 ≤ q → counted_in (cell_at (changed h t c n) q) ≡ pos (held (changed h t c n) q)
+    → (q : ℕ) → FIRST_MORTAL ≤ q → counted_in (cell_at (changed h t c n) q) ≡ pos (held (changed h t c n) q)
 changed_counted h t c n sound fits =
     let h' : Heap = changed h t c n in
     let at_frames : t < length h.frames = omega (arith, sound.shaped.frames, fits.thread_inside) in
     let at_popped : t < length h.popped = omega (arith, sound.shaped.popped, fits.thread_inside) in
-    read_by (λ q y. 266 ≤ q → counted_in y ≡ pos (held h' q)) h.cells c n.cell no_cell fits.cell_inside
+    read_by (λ q y. FIRST_MORTAL ≤ q → counted_in y ≡ pos (held h' q)) h.cells c n.cell no_cell fits.cell_inside
     (λ mortal. here_balance _ _ (in_frames h' c) (in_popped h' c) (in_hands h' c) (in_queues h' c) (in_entries h' c) (in_frames h c) (in_popped h c) (in_hands h c) (in_queues h c) (in_entries h c) _ _ _ _ _ _
     (frames_sum h t c n.frame at_frames) (popped_sum h t c n.popped at_popped) (hands_sum h t c n.row fits.thread_inside) (sound.counted c mortal) (fits.counted_here mortal))
     (λ q ne mortal. else_balance _ (in_frames h' q) (in_popped h' q) (in_hands h' q) (in_queues h' q) (in_entries h' q) (in_frames h q) (in_popped h q) (in_hands h q) (in_queues h q) (in_entries h q) _ _ _ _ _ _
     (frames_sum h t q n.frame at_frames) (popped_sum h t q n.popped at_popped) (hands_sum h t q n.row fits.thread_inside) (sound.counted q mortal) (fits.counted_else q mortal ne))
 
 changed_gripped : (h : Heap) (t c : ℕ) (n : New) → IsSound h → Fits h t c n
-    → (q : ℕ) → 266 ≤ q → gripped (changed h t c n) q ≡ grips_of (cell_at (changed h t c n) q)
+    → (q : ℕ) → FIRST_MORTAL ≤ q → gripped (changed h t c n) q ≡ grips_of (cell_at (changed h t c n) q)
 changed_gripped h t c n sound fits =
     let h' : Heap = changed h t c n in
     let inside : t < length h.worklists = omega (arith, sound.shaped.worklists, fits.thread_inside) in
-    read_by (λ q y. 266 ≤ q → gripped h' q ≡ grips_of y) h.cells c n.cell no_cell fits.cell_inside
+    read_by (λ q y. FIRST_MORTAL ≤ q → gripped h' q ≡ grips_of y) h.cells c n.cell no_cell fits.cell_inside
     (λ mortal. omega (arith, marks_sum h t c n.worklist inside, grips_sum h t c n.row fits.thread_inside, sound.gripped c mortal, fits.gripped_here mortal))
     (λ q ne mortal. omega (arith, marks_sum h t q n.worklist inside, grips_sum h t q n.row fits.thread_inside, sound.gripped q mortal, fits.gripped_else q mortal ne))
 
 changed_most : (h : Heap) (t c : ℕ) (n : New) → IsSound h → Fits h t c n
-    → (q : ℕ) → 266 ≤ q → asks (changed h t c n) q ≤ asks_most (cell_at (changed h t c n) q)
+    → (q : ℕ) → FIRST_MORTAL ≤ q → asks (changed h t c n) q ≤ asks_most (cell_at (changed h t c n) q)
 changed_most h t c n sound fits =
     let h' : Heap = changed h t c n in
     let at_popped : t < length h.popped = omega (arith, sound.shaped.popped, fits.thread_inside) in
-    read_by (λ q y. 266 ≤ q → asks h' q ≤ asks_most y) h.cells c n.cell no_cell fits.cell_inside
+    read_by (λ q y. FIRST_MORTAL ≤ q → asks h' q ≤ asks_most y) h.cells c n.cell no_cell fits.cell_inside
     (λ mortal. omega (arith, hands_sum h t c n.row fits.thread_inside, popped_sum h t c n.popped at_popped, fits.most_here mortal))
     (λ q ne mortal. omega (arith, hands_sum h t q n.row fits.thread_inside, popped_sum h t q n.popped at_popped, fits.asks_else q mortal ne, sound.most q mortal))
 
 changed_least : (h : Heap) (t c : ℕ) (n : New) → IsSound h → Fits h t c n
-    → (q : ℕ) → 266 ≤ q → asks_least (cell_at (changed h t c n) q) ≤ asks (changed h t c n) q
+    → (q : ℕ) → FIRST_MORTAL ≤ q → asks_least (cell_at (changed h t c n) q) ≤ asks (changed h t c n) q
 changed_least h t c n sound fits =
     let h' : Heap = changed h t c n in
     let at_popped : t < length h.popped = omega (arith, sound.shaped.popped, fits.thread_inside) in
-    read_by (λ q y. 266 ≤ q → asks_least y ≤ asks h' q) h.cells c n.cell no_cell fits.cell_inside
+    read_by (λ q y. FIRST_MORTAL ≤ q → asks_least y ≤ asks h' q) h.cells c n.cell no_cell fits.cell_inside
     (λ mortal. omega (arith, hands_sum h t c n.row fits.thread_inside, popped_sum h t c n.popped at_popped, fits.least_here mortal))
     (λ q ne mortal. omega (arith, hands_sum h t q n.row fits.thread_inside, popped_sum h t q n.popped at_popped, fits.asks_else q mortal ne, sound.least q mortal))
 
@@ -244,7 +245,7 @@ stays_closed h t c n fits j k = read_by (λ i row. is_closed (row_at h i).stage 
 
 -- what a hand says of a cell, whichever row and cell are read
 PhaseHolds : Heap → ℕ → Row → List ℕ → ℕ → Phase → Cell → Type 0
-PhaseHolds h' s row popped d p y = (266 ≤ d) × PhaseFits s row popped y (row_at h' y.bearer).stage d p
+PhaseHolds h' s row popped d p y = (FIRST_MORTAL ≤ d) × PhaseFits s row popped y (row_at h' y.bearer).stage d p
 
 changed_hands : (h : Heap) (t c : ℕ) (n : New) → IsSound h → Fits h t c n
     → (s d : ℕ) (p : Phase) → (row_at (changed h t c n) s).hand ≡ hands.Busy p d → HandFits (changed h t c n) s p d
@@ -255,7 +256,7 @@ changed_hands h t c n sound fits s d p busy =
     let bearer : (j : ℕ) (row : Row) (popped : List ℕ) (y : Cell) (e : ℕ) → PhaseFits j row popped y (row_at h y.bearer).stage e p → PhaseFits j row popped y (row_at h' y.bearer).stage e p =
     λ j row popped y e. other_bearer j row popped y (row_at h y.bearer).stage (row_at h' y.bearer).stage e p (λ _. stays_closed h t c n fits y.bearer (e / 32)) in
     let own : n.row.hand ≡ hands.Busy p d → PhaseHolds h' t n.row (popped_at h' t) d p (cell_at h' d) = λ busy.
-    let said : (d ≡ c) × (266 ≤ c) × PhaseFits t n.row n.popped n.cell (row_at h n.cell.bearer).stage c p = fits.hand p d busy in
+    let said : (d ≡ c) × (FIRST_MORTAL ≤ c) × PhaseFits t n.row n.popped n.cell (row_at h n.cell.bearer).stage c p = fits.hand p d busy in
     subst (λ e. PhaseHolds h' t n.row (popped_at h' t) e p (cell_at h' e)) (sym said.0)
     (subst (λ words. PhaseHolds h' t n.row words c p (cell_at h' c)) (sym (read_here h.popped t n.popped [] at_popped))
     (subst (λ y. PhaseHolds h' t n.row n.popped c p y) (sym (read_here h.cells c n.cell no_cell fits.cell_inside))
@@ -296,18 +297,18 @@ immortal_entries c y old new fewer fits = record {
 }
 
 changed_cells : (h : Heap) (t c : ℕ) (n : New) → IsSound h → Fits h t c n
-    → (q : ℕ) → 266 ≤ q → CellFits (length (set h.rows t n.row)) h.limit (cell_at (changed h t c n) q) (get_or n.entries q [])
+    → (q : ℕ) → FIRST_MORTAL ≤ q → CellFits (length (set h.rows t n.row)) h.limit (cell_at (changed h t c n) q) (get_or n.entries q [])
 changed_cells h t c n sound fits q mortal =
     subst (λ m. CellFits m h.limit (cell_at (changed h t c n) q) (get_or n.entries q [])) (sym (length-set h.rows t n.row))
-    (read_by (λ j y. 266 ≤ j → CellFits (length h.rows) h.limit y (get_or n.entries j [])) h.cells c n.cell no_cell fits.cell_inside
+    (read_by (λ j y. FIRST_MORTAL ≤ j → CellFits (length h.rows) h.limit y (get_or n.entries j [])) h.cells c n.cell no_cell fits.cell_inside
     fits.cell
     (λ j ne mortal. other_entries (length h.rows) h.limit (cell_at h j) (entries_at h j) (get_or n.entries j []) (fits.fewer j ne) (sound.cells j mortal))
     q mortal)
 
 changed_immortals : (h : Heap) (t c : ℕ) (n : New) → IsSound h → Fits h t c n
-    → (q : ℕ) → q < 266 → ImmortalFits q (cell_at (changed h t c n) q) (get_or n.entries q [])
+    → (q : ℕ) → q < FIRST_MORTAL → ImmortalFits q (cell_at (changed h t c n) q) (get_or n.entries q [])
 changed_immortals h t c n sound fits =
-    read_by (λ j y. j < 266 → ImmortalFits j y (get_or n.entries j [])) h.cells c n.cell no_cell fits.cell_inside
+    read_by (λ j y. j < FIRST_MORTAL → ImmortalFits j y (get_or n.entries j [])) h.cells c n.cell no_cell fits.cell_inside
     fits.immortal
     (λ j ne low. immortal_entries j (cell_at h j) (entries_at h j) (get_or n.entries j []) (fits.fewer j ne) (sound.immortals j low))
 
@@ -369,21 +370,21 @@ changed_threads h t c n sound fits s =
 
 -- ---- the ledger
 
-live_sum : (cells : List Cell) (c : ℕ) (x : Cell) → c < length cells → (c < 266 → lives x.owner ≡ lives (get_or cells c no_cell).owner)
-    → sum_by (λ y. one (lives y.owner)) (drop 266 (set cells c x)) + one (lives (get_or cells c no_cell).owner) ≡ sum_by (λ y. one (lives y.owner)) (drop 266 cells) + one (lives x.owner)
+live_sum : (cells : List Cell) (c : ℕ) (x : Cell) → c < length cells → (c < FIRST_MORTAL → lives x.owner ≡ lives (get_or cells c no_cell).owner)
+    → sum_by (λ y. one (lives y.owner)) (drop FIRST_MORTAL (set cells c x)) + one (lives (get_or cells c no_cell).owner) ≡ sum_by (λ y. one (lives y.owner)) (drop FIRST_MORTAL cells) + one (lives x.owner)
 live_sum cells c x inside same =
-    elim (cases_lt c 266) [
-      | inl low ↦ subst (λ (l : List Cell). sum_by (λ y. one (lives y.owner)) l + one (lives (get_or cells c no_cell).owner) ≡ sum_by (λ y. one (lives y.owner)) (drop 266 cells) + one (lives x.owner))
-          (sym (drop-set-lt 266 cells c x low)) (ap (λ b. sum_by (λ z. one (lives z.owner)) (drop 266 cells) + one b) (sym (same low)))
+    elim (cases_lt c FIRST_MORTAL) [
+      | inl low ↦ subst (λ (l : List Cell). sum_by (λ y. one (lives y.owner)) l + one (lives (get_or cells c no_cell).owner) ≡ sum_by (λ y. one (lives y.owner)) (drop FIRST_MORTAL cells) + one (lives x.owner))
+          (sym (drop-set-lt FIRST_MORTAL cells c x low)) (ap (λ b. sum_by (λ z. one (lives z.owner)) (drop FIRST_MORTAL cells) + one b) (sym (same low)))
       | inr high ↦
-          let e : 266 + (c - 266) ≡ c = omega arith in
-          let within : c - 266 < length (drop 266 cells) = omega (arith, length-drop 266 cells) in
-          let moved : drop 266 (set cells c x) ≡ set (drop 266 cells) (c - 266) x = subst (λ i. drop 266 (set cells i x) ≡ set (drop 266 cells) (c - 266) x) e (drop-set-add 266 cells (c - 266) x) in
-          let read : get_or (drop 266 cells) (c - 266) no_cell ≡ get_or cells c no_cell = get_or-drop 266 cells (c - 266) no_cell ∙ ap (λ i. get_or cells i no_cell) e in
-          subst (λ (l : List Cell). sum_by (λ y. one (lives y.owner)) l + one (lives (get_or cells c no_cell).owner) ≡ sum_by (λ y. one (lives y.owner)) (drop 266 cells) + one (lives x.owner))
+          let e : FIRST_MORTAL + (c - FIRST_MORTAL) ≡ c = omega arith in
+          let within : c - FIRST_MORTAL < length (drop FIRST_MORTAL cells) = omega (arith, length-drop FIRST_MORTAL cells) in
+          let moved : drop FIRST_MORTAL (set cells c x) ≡ set (drop FIRST_MORTAL cells) (c - FIRST_MORTAL) x = subst (λ i. drop FIRST_MORTAL (set cells i x) ≡ set (drop FIRST_MORTAL cells) (c - FIRST_MORTAL) x) e (drop-set-add FIRST_MORTAL cells (c - FIRST_MORTAL) x) in
+          let read : get_or (drop FIRST_MORTAL cells) (c - FIRST_MORTAL) no_cell ≡ get_or cells c no_cell = get_or-drop FIRST_MORTAL cells (c - FIRST_MORTAL) no_cell ∙ ap (λ i. get_or cells i no_cell) e in
+          subst (λ (l : List Cell). sum_by (λ y. one (lives y.owner)) l + one (lives (get_or cells c no_cell).owner) ≡ sum_by (λ y. one (lives y.owner)) (drop FIRST_MORTAL cells) + one (lives x.owner))
           (sym moved)
-          (subst (λ (y : Cell). sum_by (λ z. one (lives z.owner)) (set (drop 266 cells) (c - 266) x) + one (lives y.owner) ≡ sum_by (λ z. one (lives z.owner)) (drop 266 cells) + one (lives x.owner))
-          read (sum_by-set (λ z. one (lives z.owner)) (drop 266 cells) (c - 266) x no_cell within))
+          (subst (λ (y : Cell). sum_by (λ z. one (lives z.owner)) (set (drop FIRST_MORTAL cells) (c - FIRST_MORTAL) x) + one (lives y.owner) ≡ sum_by (λ z. one (lives z.owner)) (drop FIRST_MORTAL cells) + one (lives x.owner))
+          read (sum_by-set (λ z. one (lives z.owner)) (drop FIRST_MORTAL cells) (c - FIRST_MORTAL) x no_cell within))
     ]
 
 changed_ledger : (h : Heap) (t c : ℕ) (n : New) → IsSound h → Fits h t c n
@@ -445,10 +446,10 @@ pub same_bits : (h : Heap) (t c : ℕ) (n : New) → IsSound h → c < length h.
     → ((s q : ℕ) → 0 < bit_of (get_or n.queues s []) q + bit_of (get_or (set h.popped t n.popped) s []) q → 0 < bit_of (queue_at h s) q + bit_of (popped_at h s) q)
     → (n.cell.bearer ≡ (cell_at h c).bearer) ⊎ ((s : ℕ) → bit_of (queue_at h s) c + bit_of (popped_at h s) c ≡ 0)
     → (s q : ℕ) → 0 < bit_of (get_or n.queues s []) q + bit_of (get_or (set h.popped t n.popped) s []) q
-    → (266 ≤ q) × ((get_or (set h.cells c n.cell) q no_cell).bearer ≡ s)
+    → (FIRST_MORTAL ≤ q) × ((get_or (set h.cells c n.cell) q no_cell).bearer ≡ s)
 same_bits h t c n sound inside older bearer s q some =
     let before : 0 < bit_of (queue_at h s) q + bit_of (popped_at h s) q = older s q some in
-    read_by (λ j y. 0 < bit_of (queue_at h s) j + bit_of (popped_at h s) j → (266 ≤ j) × (y.bearer ≡ s)) h.cells c n.cell no_cell inside
+    read_by (λ j y. 0 < bit_of (queue_at h s) j + bit_of (popped_at h s) j → (FIRST_MORTAL ≤ j) × (y.bearer ≡ s)) h.cells c n.cell no_cell inside
     (λ some. elim bearer [ inl same ↦ ((sound.bits s c some).0, same ∙ (sound.bits s c some).1) | inr none ↦ absurd (omega (arith, none s, some)) ])
     (λ j _ some. sound.bits s j some)
     q before

@@ -3,6 +3,7 @@ use Rattle.std.proofs.Common.{◌≡◌, ◌≢◌, ℕ, ◌+◌, ◌-◌, ◌<�
 use Rattle.std.proofs.lemmas.List.Sums.{sum_by-cons}
 use Rattle.std.proofs.lemmas.Bool.{cases_eq, cases_Bool, eq-eqb, ne_eqb, true≢false}
 use Rattle.std.proofs.lemmas.Int.{ints}
+use Rattle.brc_words.specs.declared.limits.TheConstants.{FIRST_MORTAL, MOST_PLACES}
 use Rattle.brc_words.specs.declared.owner.Owner.TheVariants as owners
 use Rattle.brc_words.specs.declared.state.State.{State}
 use Rattle.brc_words.specs.declared.state.State.TheVariants as states
@@ -88,7 +89,7 @@ hand_apart h t s c (hands.Busy p d) sound owner ne e =
     ]
 
 -- nobody grips an object that its owner and others hold
-pub owned_ungripped : (h : Heap) (t c : ℕ) → IsSound h → 266 ≤ c → (cell_at h c).owner ≡ owners.Thread t → 1 ≤ held h c
+pub owned_ungripped : (h : Heap) (t c : ℕ) → IsSound h → FIRST_MORTAL ≤ c → (cell_at h c).owner ≡ owners.Thread t → 1 ≤ held h c
     → one (grips c (row_at h t).hand) ≡ 0 → gripped h c ≡ 0
 owned_ungripped h t c sound mortal owner some free =
     let marks : sum_by (λ (marks : List Bool). one (is_marked marks c)) h.worklists ≡ 0 =
@@ -101,7 +102,7 @@ owned_ungripped h t c sound mortal owner some free =
     ]) in
     omega (arith, marks, rows)
 
-pub local_positive : (h : Heap) (t c : ℕ) → IsSound h → 266 ≤ c → (cell_at h c).owner ≡ owners.Thread t → gripped h c ≡ 0 → 1 ≤ (cell_at h c).local
+pub local_positive : (h : Heap) (t c : ℕ) → IsSound h → FIRST_MORTAL ≤ c → (cell_at h c).owner ≡ owners.Thread t → gripped h c ≡ 0 → 1 ≤ (cell_at h c).local
 local_positive h t c sound mortal owner none =
     let e : one ((cell_at h c).local == 0) ≡ 0 = sym (ap (λ o. grips_by_owner o (cell_at h c).state (cell_at h c).local (cell_at h c).count) owner) ∙ sym (sound.gripped c mortal) ∙ none in
     elim (cases_eq (cell_at h c).local 0) [
@@ -139,7 +140,7 @@ pub record Ups (h : Heap) (t c k : ℕ) : Type 0 where
   pub here : is_gathered h t ≡ false
   pub hand : (row_at h t).hand ≡ hands.Free
 
-pub up_immortal_fits : (h : Heap) (t c k : ℕ) → IsSound h → Ups h t c k → c < 266
+pub up_immortal_fits : (h : Heap) (t c k : ℕ) → IsSound h → Ups h t c k → c < FIRST_MORTAL
     → Plain h t c (cell_at h c) (row_at h t) (filled (frame_at h t) k c) (worklist_at h t) h.entries
 up_immortal_fits h t c k sound ups low = record {
   thread = ups.thread;
@@ -172,7 +173,7 @@ up_immortal_fits h t c k sound ups low = record {
   ledger = refl;
 }
 
-pub up_mortal_fits : (h : Heap) (t c k : ℕ) → IsSound h → Ups h t c k → 266 ≤ c → (cell_at h c).owner ≡ owners.Thread t
+pub up_mortal_fits : (h : Heap) (t c k : ℕ) → IsSound h → Ups h t c k → FIRST_MORTAL ≤ c → (cell_at h c).owner ≡ owners.Thread t
     → (cell_at h c).local < h.limit → 1 ≤ held h c
     → Plain h t c (record (cell_at h c) { local = (cell_at h c).local + 1 }) (row_at h t) (filled (frame_at h t) k c) (worklist_at h t) h.entries
 up_mortal_fits h t c k sound ups mortal owner below some =
@@ -240,11 +241,11 @@ pub record Downs (h : Heap) (t c : ℕ) (f : List (Option ℕ)) (es : List (List
   pub hand : (row_at h t).hand ≡ hands.Free
   pub let_go : (q : ℕ) → times q f + sum_by (entry_times q) es + one (c == q) ≡ times q (frame_at h t) + in_entries h q
   pub vacant : (j : ℕ) → place_at (frame_at h t) j ≡ None → place_at f j ≡ None
-  pub places : length f ≤ 65536
+  pub places : length f ≤ MOST_PLACES
   pub lists : length es ≡ length h.entries
   pub fewer : (q : ℕ) → Fewer (entries_at h q) (get_or es q [])
 
-pub down_immortal_fits : (h : Heap) (t c : ℕ) (f : List (Option ℕ)) (es : List (List ℕ)) → IsSound h → Downs h t c f es → c < 266
+pub down_immortal_fits : (h : Heap) (t c : ℕ) (f : List (Option ℕ)) (es : List (List ℕ)) → IsSound h → Downs h t c f es → c < FIRST_MORTAL
     → Plain h t c (cell_at h c) (row_at h t) f (worklist_at h t) es
 down_immortal_fits h t c f es sound downs low =
     let old : ThreadFits (words_for (length h.cells)) (row_at h t) (frame_at h t) (popped_at h t) (worklist_at h t) (queue_at h t) (is_gathered h t) = sound.threads t in
@@ -295,7 +296,7 @@ down_immortal_fits h t c f es sound downs low =
 abbrev pub down_hand : ℕ → ℕ → Hand → Hand
 down_hand c n hand = if n == 1 then hands.Busy phases.Zero c else hand
 
-pub down_mortal_fits : (h : Heap) (t c : ℕ) (f : List (Option ℕ)) (es : List (List ℕ)) → IsSound h → Downs h t c f es → 266 ≤ c
+pub down_mortal_fits : (h : Heap) (t c : ℕ) (f : List (Option ℕ)) (es : List (List ℕ)) → IsSound h → Downs h t c f es → FIRST_MORTAL ≤ c
     → (cell_at h c).owner ≡ owners.Thread t → (row_at h t).stage ≡ stages.Active
     → Plain h t c (record (cell_at h c) { local = (cell_at h c).local - 1 }) (record (row_at h t) { hand = down_hand c (cell_at h c).local (row_at h t).hand }) f (worklist_at h t) es
 down_mortal_fits h t c f es sound downs mortal owner active =

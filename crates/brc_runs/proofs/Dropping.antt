@@ -3,6 +3,7 @@ use Rattle.std.proofs.Common.{◌≡◌, ℕ, ◌-◌, ◌<◌, ◌≤◌, Bool,
 use Rattle.std.proofs.lemmas.List.{length-set, get_or_past, length-take}
 use Rattle.std.proofs.lemmas.List.Sums.{sum_by-set}
 use Rattle.std.proofs.lemmas.Bool.{cases_eq, cases_lt, eq-eqb, ltb-true}
+use Rattle.brc_words.specs.declared.limits.TheConstants.{FIRST_MORTAL}
 use Rattle.brc_runs.specs.declared.event.Source.{Source}
 use Rattle.brc_runs.specs.declared.event.Source.TheVariants as sources
 use Rattle.brc_runs.specs.declared.event.Dropped.{Dropped}
@@ -34,12 +35,12 @@ immortal_source : (d c : ℕ) (b : Bool) → (if b then Some d else None) ≡ So
 immortal_source d c true named = (refl, cc)
 immortal_source d c false named = absurd (cc)
 
-pub source_held : (h : Heap) (t c : ℕ) (source : Source) → source_cell (row_at h t) (frame_at h t) (entries_at h) source ≡ Some c → 266 ≤ c → 1 ≤ held h c
+pub source_held : (h : Heap) (t c : ℕ) (source : Source) → source_cell (row_at h t) (frame_at h t) (entries_at h) source ≡ Some c → FIRST_MORTAL ≤ c → 1 ≤ held h c
 source_held h t c (sources.Frame k) named mortal = held_by_place h t k c named
 source_held h t c (sources.Entry i) named mortal = entry_source h (locked_cell (frame_at h t) (row_at h t).locked) i c named
 source_held h t c (sources.Immortal d) named mortal =
     let parts = immortal_source d c (is_immortal d) named in
-    absurd (omega (arith, ltb-true d 266 parts.0, parts.1, mortal))
+    absurd (omega (arith, ltb-true d FIRST_MORTAL parts.0, parts.1, mortal))
 
 -- ---- what a release gives up
 

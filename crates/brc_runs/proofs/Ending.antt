@@ -3,6 +3,7 @@ use Rattle.std.proofs.Common.{◌≡◌, ◌≢◌, ℕ, ◌<◌, ◌≤◌, ◌
 use Rattle.std.proofs.lemmas.List.{get_or-set_same, get_or-set_other, length-set}
 use Rattle.std.proofs.lemmas.Bool.{cases_eq, cases_Bool, eq-eqb, ne_eqb, eqb-true, and_parts, true≢false}
 use Rattle.std.proofs.lemmas.Int.{ints}
+use Rattle.brc_words.specs.declared.limits.TheConstants.{FIRST_MORTAL}
 use Rattle.brc_words.specs.declared.owner.Owner.TheVariants as owners
 use Rattle.brc_words.specs.declared.state.State.TheVariants as states
 use Rattle.brc_runs.specs.declared.cell.Cell.{Cell}
@@ -30,7 +31,7 @@ record Zero (h : Heap) (t c : ℕ) : Type 0 where
   pub may : May h t (SeeZero c)
   pub inside : c < length h.cells
   pub busy : (row_at h t).hand ≡ hands.Busy phases.Zero c
-  pub mortal : 266 ≤ c
+  pub mortal : FIRST_MORTAL ≤ c
   pub owner : (cell_at h c).owner ≡ owners.Thread t
   pub active : (row_at h t).stage ≡ stages.Active
   pub unlocked : (row_at h t).locked ≡ None

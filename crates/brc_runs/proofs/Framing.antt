@@ -5,6 +5,7 @@ use Rattle.std.proofs.lemmas.List.Sums.{sum_by-set, sum_by-append, sum_by_more, 
 use Rattle.std.proofs.lemmas.List.Folds.{sum_by-replicate}
 use Rattle.std.proofs.lemmas.Option.{get_or_from_slice_get}
 use Rattle.std.proofs.lemmas.Bool.{cases_lt}
+use Rattle.brc_words.specs.declared.limits.TheConstants.{MOST_PLACES}
 use Rattle.brc_runs.specs.Lists.{one, names, times, entry_times, place_at, reaching, filled, vacated, last_of, front_of}
 
 pub length-reaching : (frame : List (Option ℕ)) (k : ℕ) → length (reaching frame k) ≡ length frame + (k + 1 - length frame)
@@ -34,10 +35,10 @@ place_at-filled_else frame k c j ne = get_or-set_other (reaching frame k) k j (S
 pub place_at-vacated_else : (frame : List (Option ℕ)) (k j : ℕ) → j ≢ k → place_at (vacated frame k) j ≡ place_at frame j
 place_at-vacated_else frame k j ne = get_or-set_other frame k j None None ne
 
-pub length-filled : (frame : List (Option ℕ)) (k c : ℕ) → k < 65536 → length frame ≤ 65536 → length (filled frame k c) ≤ 65536
+pub length-filled : (frame : List (Option ℕ)) (k c : ℕ) → k < MOST_PLACES → length frame ≤ MOST_PLACES → length (filled frame k c) ≤ MOST_PLACES
 length-filled frame k c low short = omega (arith, length-reaching frame k, length-set (reaching frame k) k (Some c))
 
-pub length-vacated : (frame : List (Option ℕ)) (k : ℕ) → length frame ≤ 65536 → length (vacated frame k) ≤ 65536
+pub length-vacated : (frame : List (Option ℕ)) (k : ℕ) → length frame ≤ MOST_PLACES → length (vacated frame k) ≤ MOST_PLACES
 length-vacated frame k short = omega (arith, length-set frame k None)
 
 -- a place that was vacant holds the cell once more

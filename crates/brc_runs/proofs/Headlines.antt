@@ -5,6 +5,7 @@ use Rattle.std.proofs.lemmas.Bool.{cases_eq, cases_lt, eq-eqb, ne_eqb, eqb-true,
 use Rattle.std.proofs.lemmas.Int.{ints}
 use Rattle.brc_model.specs.declared.holder.Holder.{Holder}
 use Rattle.brc_model.specs.declared.holder.Holder.TheVariants as holders
+use Rattle.brc_words.specs.declared.limits.TheConstants.{FIRST_MORTAL, MOST_BIRTHS}
 use Rattle.brc_words.specs.declared.owner.Owner.{Owner}
 use Rattle.brc_words.specs.declared.owner.Owner.TheVariants as owners
 use Rattle.brc_words.specs.declared.state.State.{State}
@@ -69,13 +70,13 @@ no_holders (x ∷ xs) h = absurd (omega (arith, h))
 
 -- a live mortal object
 pub record Lives (h : Heap) (c : ℕ) : Type 0 where
-  pub mortal : 266 ≤ c
+  pub mortal : FIRST_MORTAL ≤ c
   pub owner : lives (cell_at h c).owner ≡ true
 
 pub live_parts : (h : Heap) (c : ℕ) → lives_at h c ≡ true → Lives h c
 live_parts h c live =
     let parts = and_parts _ _ live in
-    record { mortal = ltb-false c 266 (not-true _ parts.0); owner = parts.1 }
+    record { mortal = ltb-false c FIRST_MORTAL (not-true _ parts.0); owner = parts.1 }
 
 -- ---- an object without holders is in some thread's hand
 
@@ -166,7 +167,7 @@ sound_headline h sound = record {
 
 -- ---- the ledgers fit their words
 
-sum_bound : {A : Type 0} (f : A → ℕ) (xs : List A) (d : A) → ((i : ℕ) → f (get_or xs i d) ≤ 140737488355328) → sum_by f xs ≤ length xs * 140737488355328
+sum_bound : {A : Type 0} (f : A → ℕ) (xs : List A) (d : A) → ((i : ℕ) → f (get_or xs i d) ≤ MOST_BIRTHS) → sum_by f xs ≤ length xs * MOST_BIRTHS
 sum_bound {A} f [] d most = omega arith
 sum_bound {A} f (x ∷ xs) d most = omega (arith, sum_by-cons f x xs, most 0, sum_bound f xs d (λ i. most (suc i)))
 

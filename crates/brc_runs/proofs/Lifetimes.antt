@@ -2,6 +2,7 @@
 use Rattle.std.proofs.Common.{◌≡◌, ℕ, ◌+◌, ◌<◌, ◌≤◌, ◌==◌, ◌&&◌, ◌||◌, not, Bool, true, false, if◌then◌else◌, List, length, get_or, set, Option, Some, None, refl, sym, ◌∙◌, ap, subst, inl, inr, ◌⊎◌, arith}
 use Rattle.std.proofs.lemmas.List.{get_or_past}
 use Rattle.std.proofs.lemmas.Bool.{cases_Bool, or_cases, eq-eqb, ne_eqb, eqb-true, and_parts, and_right, or_parts, le-ltb, true≢false}
+use Rattle.brc_words.specs.declared.limits.TheConstants.{FIRST_MORTAL}
 use Rattle.brc_runs.specs.declared.cell.Cell.{Cell}
 use Rattle.brc_runs.specs.declared.event.Event.{Event}
 use Rattle.brc_runs.specs.declared.event.Step.{Step}
@@ -26,20 +27,20 @@ use Rattle.brc_runs.proofs.Headlines.{length-holders, no_holders}
 
 -- ---- what is held lives
 
-pub alive_lives : (h : Heap) (c : ℕ) → 266 ≤ c → lives (cell_at h c).owner ≡ true → lives_at h c ≡ true
-alive_lives h c mortal live = ap (λ b. not b && lives (cell_at h c).owner) (le-ltb c 266 mortal) ∙ live
+pub alive_lives : (h : Heap) (c : ℕ) → FIRST_MORTAL ≤ c → lives (cell_at h c).owner ≡ true → lives_at h c ≡ true
+alive_lives h c mortal live = ap (λ b. not b && lives (cell_at h c).owner) (le-ltb c FIRST_MORTAL mortal) ∙ live
 
-pub held_lives : (h : Heap) (c : ℕ) → IsSound h → 266 ≤ c → 1 ≤ held h c → lives_at h c ≡ true
+pub held_lives : (h : Heap) (c : ℕ) → IsSound h → FIRST_MORTAL ≤ c → 1 ≤ held h c → lives_at h c ≡ true
 held_lives h c sound mortal some = alive_lives h c mortal (held_owner h c sound mortal some)
 
 -- ---- lives
 
 -- a cell whose owner changes: it lives as its new owner says, all others as before
-lives_set : (h : Heap) (c q : ℕ) (x : Cell) (b : Bool) → c < length h.cells → 266 ≤ c → lives x.owner ≡ b
+lives_set : (h : Heap) (c q : ℕ) (x : Cell) (b : Bool) → c < length h.cells → FIRST_MORTAL ≤ c → lives x.owner ≡ b
     → (not (is_immortal q) && lives (get_or (set h.cells c x) q no_cell).owner) ≡ (if c == q then b else lives_at h q)
 lives_set h c q x b inside mortal now =
     read_by (λ j (y : Cell). (not (is_immortal j) && lives y.owner) ≡ (if c == j then b else lives_at h j)) h.cells c x no_cell inside
-    (ap (λ i. not i && lives x.owner) (le-ltb c 266 mortal) ∙ now ∙ sym (ap (λ t. if t then b else lives_at h c) (eq-eqb c c refl)))
+    (ap (λ i. not i && lives x.owner) (le-ltb c FIRST_MORTAL mortal) ∙ now ∙ sym (ap (λ t. if t then b else lives_at h c) (eq-eqb c c refl)))
     (λ j other. sym (ap (λ t. if t then b else lives_at h j) (ne_eqb c j (λ e. other (sym e)))))
     q
 

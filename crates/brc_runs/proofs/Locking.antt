@@ -5,6 +5,7 @@ use Rattle.std.proofs.lemmas.List.Edits.{length-remove}
 use Rattle.std.proofs.lemmas.List.Sums.{sum_by-set, sum_by-append, sum_by-remove}
 use Rattle.std.proofs.lemmas.Bool.{cases_eq, cases_lt, cases_Bool, eqb-true, and_parts, ltb-true, true≢false}
 use Rattle.std.proofs.lemmas.Int.{ints}
+use Rattle.brc_words.specs.declared.limits.TheConstants.{FIRST_MORTAL, GLOBALS, MOST_ENTRIES, MOST_PLACES}
 use Rattle.brc_words.specs.declared.kind.Kind.{Kind}
 use Rattle.brc_words.specs.declared.kind.Kind.TheVariants as kinds
 use Rattle.brc_words.specs.Kinds.{is_container}
@@ -50,7 +51,7 @@ mutex_phase m s row popped x g c phases.Popping fits = fits
 mutex_work : (m t q : ℕ) (x : Cell) → WorklistFits t q x → WorklistFits t q (record x { mutex = m })
 mutex_work m t q x fits = record { mortal = fits.mortal; lives = fits.lives; total = fits.total; whose = fits.whose }
 
-mutex_cell : (m threads limit : ℕ) (x : Cell) (old new : List ℕ) → (lives x.owner ≡ false → new ≡ []) → (is_container x.kind ≡ false → new ≡ []) → length new ≤ 1048576
+mutex_cell : (m threads limit : ℕ) (x : Cell) (old new : List ℕ) → (lives x.owner ≡ false → new ≡ []) → (is_container x.kind ≡ false → new ≡ []) → length new ≤ MOST_ENTRIES
     → CellFits threads limit x old → CellFits threads limit (record x { mutex = m }) new
 mutex_cell m threads limit x old new dead plain few fits = record {
   default = fits.default;
@@ -64,7 +65,7 @@ mutex_cell m threads limit x old new dead plain few fits = record {
   few = few;
 }
 
-mutex_immortal : (m c : ℕ) (x : Cell) (old new : List ℕ) → (c ≢ 265 → new ≡ []) → length new ≤ 1048576 → ImmortalFits c x old → ImmortalFits c (record x { mutex = m }) new
+mutex_immortal : (m c : ℕ) (x : Cell) (old new : List ℕ) → (c ≢ GLOBALS → new ≡ []) → length new ≤ MOST_ENTRIES → ImmortalFits c x old → ImmortalFits c (record x { mutex = m }) new
 mutex_immortal m c x old new empty few fits = record {
   owner = fits.owner;
   local = fits.local;
@@ -86,11 +87,11 @@ record Turns (h : Heap) (t c m : ℕ) (locked : Option ℕ) (f : List (Option �
   free : (row_at h t).hand ≡ hands.Free
   -- what leaves the frame joins the entries, and the other way round
   moved : (q : ℕ) → times q f + entry_times q es ≡ times q (frame_at h t) + entry_times q (entries_at h c)
-  dead : 266 ≤ c → lives (cell_at h c).owner ≡ false → es ≡ []
-  plain : 266 ≤ c → is_container (cell_at h c).kind ≡ false → es ≡ []
-  immortal : c < 266 → c ≢ 265 → es ≡ []
-  few : length es ≤ 1048576
-  places : length f ≤ 65536
+  dead : FIRST_MORTAL ≤ c → lives (cell_at h c).owner ≡ false → es ≡ []
+  plain : FIRST_MORTAL ≤ c → is_container (cell_at h c).kind ≡ false → es ≡ []
+  immortal : c < FIRST_MORTAL → c ≢ GLOBALS → es ≡ []
+  few : length es ≤ MOST_ENTRIES
+  places : length f ≤ MOST_PLACES
 
 abbrev turned : Heap → ℕ → ℕ → ℕ → Option ℕ → List (Option ℕ) → List ℕ → New
 turned h t c m locked f es = record {
@@ -150,8 +151,8 @@ lock_place h t c None named is = absurd (cc)
 lock_place h t c (Some k) named is = (k, is, named)
 
 -- no cell has too many entries
-pub any_few : (h : Heap) (c : ℕ) → IsSound h → length (entries_at h c) ≤ 1048576
-any_few h c sound = elim (cases_lt c 266) [
+pub any_few : (h : Heap) (c : ℕ) → IsSound h → length (entries_at h c) ≤ MOST_ENTRIES
+any_few h c sound = elim (cases_lt c FIRST_MORTAL) [
   | inl low ↦ (sound.immortals c low).few
   | inr high ↦ (sound.cells c high).few
 ]
@@ -291,11 +292,11 @@ unlock_moved h t c locked (changes.Swap i j) ok q =
 
 -- and how long frame and entries are then
 unlock_lengths : (h : Heap) (t c : ℕ) (locked : Option ℕ) (change : Change) → IsSound h → change_ok locked (frame_at h t) (entries_at h c) change ≡ true
-    → (length (entries_changed change (frame_at h t) (entries_at h c)) ≤ 1048576) × (length (frame_changed change (entries_at h c) (frame_at h t)) ≤ 65536)
+    → (length (entries_changed change (frame_at h t) (entries_at h c)) ≤ MOST_ENTRIES) × (length (frame_changed change (entries_at h c) (frame_at h t)) ≤ MOST_PLACES)
 unlock_lengths h t c locked changes.Keep sound ok = (any_few h c sound, (sound.threads t).places)
 unlock_lengths h t c locked (changes.Put j) sound ok =
     let parts = and_parts _ _ (and_parts _ _ ok).0 in
-    let room : length (entries_at h c) < 1048576 = ltb-true _ _ parts.0 in
+    let room : length (entries_at h c) < MOST_ENTRIES = ltb-true _ _ parts.0 in
     (omega (arith, length-append (entries_at h c) (number_in (place_at (frame_at h t) j) ∷ []), room), length-vacated (frame_at h t) j (sound.threads t).places)
 unlock_lengths h t c locked (changes.Take i j) sound ok =
     let parts = and_parts _ _ (and_parts _ _ ok).0 in
@@ -310,8 +311,8 @@ unlock_lengths h t c locked (changes.Swap i j) sound ok =
     )
 
 -- only the globals are an immortal container
-pub immortal_container : (c : ℕ) → is_container (immortal_kind c) ≡ true → c ≡ 265
-immortal_container c container = eqb-true c 265 (globals_alone (c == 0) (c == 1) (c == 2) (c == 265) container)
+pub immortal_container : (c : ℕ) → is_container (immortal_kind c) ≡ true → c ≡ GLOBALS
+immortal_container c container = eqb-true c GLOBALS (globals_alone (c == 0) (c == 1) (c == 2) (c == GLOBALS) container)
   where
     globals_alone : (a b d e : Bool) → is_container (if a then kinds.Nothing else (if b then kinds.False else (if d then kinds.True else (if e then kinds.Dict else kinds.Int)))) ≡ true → e ≡ true
     globals_alone true b d e container = absurd (true≢false (sym container))
@@ -355,7 +356,7 @@ unlock_sound h t change (Some c) sound may named ok =
       places = lengths.1;
     }) (released_mutex h t c lock.0 f es sound may.inside at_cell.inside lock.1 lock.2))
   where
-    plain_kind : (c : ℕ) → c < 266 → c ≢ 265 → is_container (cell_at h c).kind ≡ false
+    plain_kind : (c : ℕ) → c < FIRST_MORTAL → c ≢ GLOBALS → is_container (cell_at h c).kind ≡ false
     plain_kind c low ne = elim (cases_Bool (is_container (cell_at h c).kind)) [
       | inl container ↦ absurd (ne (immortal_container c (sym (ap is_container (sound.immortals c low).kind) ∙ container)))
       | inr plain ↦ plain

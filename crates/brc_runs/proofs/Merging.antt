@@ -3,6 +3,7 @@ use Rattle.std.proofs.Common.{◌≡◌, ◌≢◌, ℕ, ◌+◌, ◌/◌, ◌<�
 use Rattle.std.proofs.lemmas.List.{get_or-set_same, get_or-set_other, length-set}
 use Rattle.std.proofs.lemmas.Bool.{cases_eq, cases_Bool, eq-eqb, ne_eqb, eqb-true, and_parts, not-true, true≢false}
 use Rattle.std.proofs.lemmas.Int.{ints}
+use Rattle.brc_words.specs.declared.limits.TheConstants.{FIRST_MORTAL}
 use Rattle.brc_words.specs.declared.owner.Owner.{Owner}
 use Rattle.brc_words.specs.declared.owner.Owner.TheVariants as owners
 use Rattle.brc_words.specs.declared.state.State.TheVariants as states
@@ -79,7 +80,7 @@ pub hand_gripped : (h : Heap) (t c : ℕ) → one (grips c (row_at h t).hand) �
 hand_gripped h t c grip = omega (arith, grip, sum_one (λ (row : Row). one (grips c row.hand)) h.rows t no_row refl)
 
 -- the owner's count of what somebody grips is 0
-pub gripped_local : (h : Heap) (s c : ℕ) → IsSound h → 266 ≤ c → (cell_at h c).owner ≡ owners.Thread s → 1 ≤ gripped h c → (cell_at h c).local ≡ 0
+pub gripped_local : (h : Heap) (s c : ℕ) → IsSound h → FIRST_MORTAL ≤ c → (cell_at h c).owner ≡ owners.Thread s → 1 ≤ gripped h c → (cell_at h c).local ≡ 0
 gripped_local h s c sound mortal owner all =
     let gone : one ((cell_at h c).local == 0) ≡ grips_of (cell_at h c) = sym (ap (λ o. grips_by_owner o (cell_at h c).state (cell_at h c).local (cell_at h c).count) owner) in
     elim (cases_eq (cell_at h c).local 0) [
@@ -91,7 +92,7 @@ gripped_local h s c sound mortal owner all =
 pub carried_held : (h : Heap) (t c : ℕ) → one (carries c (row_at h t).hand) ≡ 1 → 1 ≤ held h c
 carried_held h t c carried = omega (arith, carried, sum_one (λ (row : Row). one (carries c row.hand)) h.rows t no_row refl)
 
-pub held_owner : (h : Heap) (c : ℕ) → IsSound h → 266 ≤ c → 1 ≤ held h c → lives (cell_at h c).owner ≡ true
+pub held_owner : (h : Heap) (c : ℕ) → IsSound h → FIRST_MORTAL ≤ c → 1 ≤ held h c → lives (cell_at h c).owner ≡ true
 held_owner h c sound mortal some = elim (cases_Bool (lives (cell_at h c).owner)) [
   | inl live ↦ live
   | inr dead ↦ absurd (omega (arith, some, (dead_unheld h c sound mortal dead).sum))
@@ -119,7 +120,7 @@ untied_cell threads limit x entries live fits = record {
 record Unties (h : Heap) (t c : ℕ) (hand : Hand) : Type 0 where
   may : May h t (Untie c)
   inside : c < length h.cells
-  mortal : 266 ≤ c
+  mortal : FIRST_MORTAL ≤ c
   live : lives (cell_at h c).owner ≡ true
   unmerged : is_merged (cell_at h c).state ≡ false
   unmarked : (s : ℕ) → one (is_marked (worklist_at h s) c) ≡ 0
@@ -274,7 +275,7 @@ untie_shut h t c sound may inside busy some =
 untie_popped : (h : Heap) (t c : ℕ) → IsSound h → May h t (Untie c) → c < length h.cells → (row_at h t).hand ≡ hands.Free → bit_of (popped_at h t) c ≡ 1
     → (cell_at h c).owner ≡ owners.Thread t → Unties h t c (hands.Busy phases.Popping c)
 untie_popped h t c sound may inside free on owner =
-    let mortal : 266 ≤ c = (sound.bits t c (omega (arith, on))).0 in
+    let mortal : FIRST_MORTAL ≤ c = (sound.bits t c (omega (arith, on))).0 in
     let none : gripped h c ≡ 0 = owned_ungripped h t c sound mortal owner (popped_held h t c on) (ap (λ z. one (grips c z)) free) in
     let alone : (s : ℕ) → Ungripped h c s = ungripped h c none in
     record {
@@ -428,7 +429,7 @@ pub nonzero : (n : ℤ) (m : ℕ) → n ≡ pos m → 1 ≤ m → is_zero n ≡ 
 nonzero n m is some = ap is_zero is ∙ ne_eqb m 0 (λ e. omega (arith, e, some))
 
 -- an object that is gripped and held has no owner, and isn't merged yet
-pub gripped_unmerged : (h : Heap) (c : ℕ) → IsSound h → 266 ≤ c → (cell_at h c).owner ≡ owners.Nobody → 1 ≤ gripped h c → 1 ≤ held h c → is_merged (cell_at h c).state ≡ false
+pub gripped_unmerged : (h : Heap) (c : ℕ) → IsSound h → FIRST_MORTAL ≤ c → (cell_at h c).owner ≡ owners.Nobody → 1 ≤ gripped h c → 1 ≤ held h c → is_merged (cell_at h c).state ≡ false
 gripped_unmerged h c sound mortal owner grip some =
     let x : Cell = cell_at h c in
     elim (cases_Bool (is_merged x.state)) [

@@ -5,6 +5,7 @@ use Rattle.std.proofs.lemmas.List.Sums.{sum_by-set, get_or-le-sum_by}
 use Rattle.std.proofs.lemmas.Bool.{cases_lt, eq-eqb, eqb-true, and_parts, true≢false}
 use Rattle.std.proofs.lemmas.Int.{ints}
 use Rattle.std.proofs.lemmas.Nat.Bits.{bit_at-zero}
+use Rattle.brc_words.specs.declared.limits.TheConstants.{FIRST_MORTAL}
 use Rattle.brc_words.specs.declared.owner.Owner.{Owner}
 use Rattle.brc_words.specs.declared.owner.Owner.TheVariants as owners
 use Rattle.brc_words.specs.declared.state.State.{State}
@@ -216,7 +217,7 @@ unheld h c none = record {
 }
 
 -- a cell without an object is held nowhere
-pub dead_unheld : (h : Heap) (c : ℕ) → IsSound h → 266 ≤ c → lives (cell_at h c).owner ≡ false → Unheld h c
+pub dead_unheld : (h : Heap) (c : ℕ) → IsSound h → FIRST_MORTAL ≤ c → lives (cell_at h c).owner ≡ false → Unheld h c
 dead_unheld h c sound mortal dead =
     unheld h c (omega (arith, ints, sound.counted c mortal, dead_counts (cell_at h c) dead))
 
@@ -232,7 +233,7 @@ ungripped h c none s = record {
 }
 
 -- a thread that grips the cell is the only one, and does so once
-pub sole_grip : (h : Heap) (c t : ℕ) → IsSound h → 266 ≤ c → 1 ≤ one (is_marked (worklist_at h t) c) + one (grips c (row_at h t).hand)
+pub sole_grip : (h : Heap) (c t : ℕ) → IsSound h → FIRST_MORTAL ≤ c → 1 ≤ one (is_marked (worklist_at h t) c) + one (grips c (row_at h t).hand)
     → (s : ℕ) → s ≢ t → Ungripped h c s
 sole_grip h c t sound mortal some s ne =
     let marks = sum_two (λ (marks : List Bool). one (is_marked marks c)) h.worklists t s [] refl ne in
@@ -244,7 +245,7 @@ sole_grip h c t sound mortal some s ne =
       hand = omega (arith, marks, rows, most, total, some);
     }
 
-pub grips_once : (h : Heap) (c t : ℕ) → IsSound h → 266 ≤ c → one (is_marked (worklist_at h t) c) + one (grips c (row_at h t).hand) ≤ 1
+pub grips_once : (h : Heap) (c t : ℕ) → IsSound h → FIRST_MORTAL ≤ c → one (is_marked (worklist_at h t) c) + one (grips c (row_at h t).hand) ≤ 1
 grips_once h c t sound mortal =
     omega (
       arith,

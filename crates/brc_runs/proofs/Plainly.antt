@@ -1,6 +1,7 @@
 -- Steps that leave popped bits, queue words, stages and locks alone: what the law on changes asks of them.
 use Rattle.std.proofs.Common.{◌≡◌, ◌≢◌, ℕ, ◌+◌, ◌<◌, ◌≤◌, true, pos, ◌+ℤ◌, Bool, List, [], length, get_or, Option, Some, sum_by, refl, sym, subst, ◌⊎◌, arith}
 use Rattle.std.proofs.lemmas.Int.{ints}
+use Rattle.brc_words.specs.declared.limits.TheConstants.{FIRST_MORTAL}
 use Rattle.brc_runs.specs.declared.cell.Cell.{Cell}
 use Rattle.brc_runs.specs.declared.row.Row.{Row}
 use Rattle.brc_runs.specs.declared.row.Hand.TheVariants as hands
@@ -28,7 +29,7 @@ pub record Plain (h : Heap) (t c : ℕ) (x : Cell) (r : Row) (f : List (Option �
   pub thread : 0 < t
   pub thread_inside : t < length h.rows
   pub cell_inside : c < length h.cells
-  pub immortal : c < 266 → x ≡ cell_at h c
+  pub immortal : c < FIRST_MORTAL → x ≡ cell_at h c
   pub mutex : x.mutex ≡ (cell_at h c).mutex
   pub bearer : (x.bearer ≡ (cell_at h c).bearer) ⊎ ((s : ℕ) → bit_of (queue_at h s) c + bit_of (popped_at h s) c ≡ 0)
   pub stage : r.stage ≡ (row_at h t).stage
@@ -37,23 +38,23 @@ pub record Plain (h : Heap) (t c : ℕ) (x : Cell) (r : Row) (f : List (Option �
   pub marks : length w ≡ length (worklist_at h t)
   pub lists : length es ≡ length h.entries
   -- sums
-  pub counted_here : 266 ≤ c → counted_in x +ℤ pos (times c (frame_at h t) + one (carries c (row_at h t).hand) + in_entries h c)
+  pub counted_here : FIRST_MORTAL ≤ c → counted_in x +ℤ pos (times c (frame_at h t) + one (carries c (row_at h t).hand) + in_entries h c)
       ≡ counted_in (cell_at h c) +ℤ pos (times c f + one (carries c r.hand) + sum_by (entry_times c) es)
-  pub counted_else : (q : ℕ) → 266 ≤ q → q ≢ c → times q (frame_at h t) + one (carries q (row_at h t).hand) + in_entries h q
+  pub counted_else : (q : ℕ) → FIRST_MORTAL ≤ q → q ≢ c → times q (frame_at h t) + one (carries q (row_at h t).hand) + in_entries h q
       ≡ times q f + one (carries q r.hand) + sum_by (entry_times q) es
-  pub gripped_here : 266 ≤ c → grips_of x + one (is_marked (worklist_at h t) c) + one (grips c (row_at h t).hand)
+  pub gripped_here : FIRST_MORTAL ≤ c → grips_of x + one (is_marked (worklist_at h t) c) + one (grips c (row_at h t).hand)
       ≡ grips_of (cell_at h c) + one (is_marked w c) + one (grips c r.hand)
-  pub gripped_else : (q : ℕ) → 266 ≤ q → q ≢ c → one (is_marked (worklist_at h t) q) + one (grips q (row_at h t).hand)
+  pub gripped_else : (q : ℕ) → FIRST_MORTAL ≤ q → q ≢ c → one (is_marked (worklist_at h t) q) + one (grips q (row_at h t).hand)
       ≡ one (is_marked w q) + one (grips q r.hand)
-  pub most_here : 266 ≤ c → asks h c + one (carries c r.hand) ≤ asks_most x + one (carries c (row_at h t).hand)
-  pub least_here : 266 ≤ c → asks_least x + one (carries c (row_at h t).hand) ≤ asks h c + one (carries c r.hand)
-  pub asks_else : (q : ℕ) → 266 ≤ q → q ≢ c → one (carries q r.hand) ≡ one (carries q (row_at h t).hand)
+  pub most_here : FIRST_MORTAL ≤ c → asks h c + one (carries c r.hand) ≤ asks_most x + one (carries c (row_at h t).hand)
+  pub least_here : FIRST_MORTAL ≤ c → asks_least x + one (carries c (row_at h t).hand) ≤ asks h c + one (carries c r.hand)
+  pub asks_else : (q : ℕ) → FIRST_MORTAL ≤ q → q ≢ c → one (carries q r.hand) ≡ one (carries q (row_at h t).hand)
   -- hands
-  pub hand : (p : Phase) (d : ℕ) → r.hand ≡ hands.Busy p d → (d ≡ c) × (266 ≤ c) × PhaseFits t r (popped_at h t) x (row_at h x.bearer).stage c p
+  pub hand : (p : Phase) (d : ℕ) → r.hand ≡ hands.Busy p d → (d ≡ c) × (FIRST_MORTAL ≤ c) × PhaseFits t r (popped_at h t) x (row_at h x.bearer).stage c p
   pub hands_else : (s : ℕ) (p : Phase) → s ≢ t → (row_at h s).hand ≡ hands.Busy p c → PhaseFits s (row_at h s) (popped_at h s) x (row_at h x.bearer).stage c p
   -- cells and worklists
-  pub cell : 266 ≤ c → CellFits (length h.rows) h.limit x (get_or es c [])
-  pub fewer : (q : ℕ) → (266 ≤ q → q ≢ c) → Fewer (entries_at h q) (get_or es q [])
+  pub cell : FIRST_MORTAL ≤ c → CellFits (length h.rows) h.limit x (get_or es c [])
+  pub fewer : (q : ℕ) → (FIRST_MORTAL ≤ q → q ≢ c) → Fewer (entries_at h q) (get_or es q [])
   pub works_here : is_marked w c ≡ true → WorklistFits t c x
   pub works_own : (q : ℕ) → q ≢ c → is_marked w q ≡ true → is_marked (worklist_at h t) q ≡ true
   pub works_else : (s : ℕ) → s ≢ t → is_marked (worklist_at h s) c ≡ true → WorklistFits s c x

@@ -1,6 +1,7 @@
 -- Each thread's step that is enabled keeps all that reached worlds keep.
 use Rattle.std.proofs.Common.{◌≡◌, ℕ, ◌+◌, ◌-◌, ◌≤◌, ◌==◌, ◌&&◌, ◌||◌, not, Bool, true, if◌then◌else◌, List, set, Option, Some, None, refl, sym, subst, inl, inr}
 use Rattle.std.proofs.lemmas.Bool.{cases_Bool, and_parts, ltb-true, ltb-false, true≢false}
+use Rattle.brc_words.specs.declared.limits.TheConstants.{FIRST_MORTAL}
 use Rattle.brc_runs.specs.declared.event.Step.{Step}
 use Rattle.brc_runs.specs.declared.event.Step.TheVariants.{Claim, InitLocal, InitShared, Birth, LocalUp, LocalDown, SeeZero, Free, Untie, MergeZero, SharedUp, SharedDown, Ask, LastDown, Enqueue, Drain, MergeAdd, Close, Nudge, Wake, Lock, Unlock, Register, Gather}
 use Rattle.brc_runs.specs.declared.event.Source.{Source}
@@ -51,9 +52,9 @@ up_target h t k source (Some c) sound may named ok =
       worklists = set h.worklists t (worklist_at h t);
     }) in
     elim (cases_Bool (is_immortal c)) [
-      | inl immortal ↦ subst P (sym immortal) (plain_sound h t c _ _ _ _ _ sound (up_immortal_fits h t c k sound ups (ltb-true c 266 immortal)))
+      | inl immortal ↦ subst P (sym immortal) (plain_sound h t c _ _ _ _ _ sound (up_immortal_fits h t c k sound ups (ltb-true c FIRST_MORTAL immortal)))
       | inr mortal ↦
-          let high : 266 ≤ c = ltb-false c 266 mortal in
+          let high : FIRST_MORTAL ≤ c = ltb-false c FIRST_MORTAL mortal in
           let rest : counts_up_locally h.limit t (row_at h t).stage (cell_at h c) ≡ true =
           subst (λ b. (b || counts_up_locally h.limit t (row_at h t).stage (cell_at h c)) ≡ true) mortal at_cell.fits in
           let parts = and_parts _ _ rest in
@@ -82,9 +83,9 @@ down_target h t drop (Some c) sound may named ok =
       worklists = set h.worklists t (worklist_at h t);
     }) in
     elim (cases_Bool (is_immortal c)) [
-      | inl immortal ↦ subst P (sym immortal) (plain_sound h t c _ _ _ _ _ sound (down_immortal_fits h t c f es sound downs (ltb-true c 266 immortal)))
+      | inl immortal ↦ subst P (sym immortal) (plain_sound h t c _ _ _ _ _ sound (down_immortal_fits h t c f es sound downs (ltb-true c FIRST_MORTAL immortal)))
       | inr mortal ↦
-          let high : 266 ≤ c = ltb-false c 266 mortal in
+          let high : FIRST_MORTAL ≤ c = ltb-false c FIRST_MORTAL mortal in
           let own : Mine t (row_at h t).stage (cell_at h c) = mine t _ _ (subst (λ b. (b || is_mine t (row_at h t).stage (cell_at h c)) ≡ true) mortal at_cell.fits) in
           subst P (sym mortal) (plain_sound h t c _ _ _ _ _ sound (down_mortal_fits h t c f es sound downs high own.owner own.active))
     ]

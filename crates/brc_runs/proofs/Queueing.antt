@@ -4,6 +4,7 @@ use Rattle.std.proofs.lemmas.List.{get_or-set_same, get_or-set_other, length-set
 use Rattle.std.proofs.lemmas.List.Sums.{sum_by-set, get_or-le-sum_by}
 use Rattle.std.proofs.lemmas.Bool.{cases_eq, cases_lt, cases_Bool, eq-eqb, ne_eqb, eqb-true, and_parts, lt-ltb, ltb-true, true≢false}
 use Rattle.std.proofs.lemmas.Int.{ints}
+use Rattle.brc_words.specs.declared.limits.TheConstants.{FIRST_MORTAL}
 use Rattle.brc_words.specs.declared.state.State.{State}
 use Rattle.brc_words.specs.declared.state.State.TheVariants as states
 use Rattle.brc_runs.specs.declared.cell.Cell.{Cell}
@@ -38,7 +39,7 @@ record Asked (h : Heap) (t c : ℕ) : Type 0 where
   who : Acts h t
   inside : c < length h.cells
   busy : (row_at h t).hand ≡ hands.Busy phases.Asked c
-  mortal : 266 ≤ c
+  mortal : FIRST_MORTAL ≤ c
   carried : one (carries c (row_at h t).hand) ≡ 1
   live : lives (cell_at h c).owner ≡ true
   bearer : (cell_at h c).bearer < length h.rows
@@ -214,7 +215,7 @@ last_popped_sound h t c sound ok =
     let takes : Bool = is_merged x.state && is_zero n in
     let parts = and_parts _ _ at_cell.fits in
     let on : bit_of (popped_at h t) c ≡ 1 = eqb-true _ _ may.own in
-    let mortal : 266 ≤ c = (sound.bits t c (omega (arith, on))).0 in
+    let mortal : FIRST_MORTAL ≤ c = (sound.bits t c (omega (arith, on))).0 in
     let free : (row_at h t).hand ≡ hands.Free = free_hand _ may.hand in
     let some : 1 ≤ held h c = popped_held h t c on in
     let last : Lasts h t c = lasts_of h t c sound mortal some in
@@ -279,7 +280,7 @@ pub bits_once : (h : Heap) (t q : ℕ) → IsSound h → bit_of (queue_at h t) q
 bits_once h t q sound = elim (cases_lt 0 (bit_of (queue_at h t) q + bit_of (popped_at h t) q)) [
   | inr none ↦ omega (arith, none)
   | inl some ↦
-      let mortal : 266 ≤ q = (sound.bits t q some).0 in
+      let mortal : FIRST_MORTAL ≤ q = (sound.bits t q some).0 in
       omega (
         arith,
         sound.most q mortal,
@@ -301,7 +302,7 @@ taken h t k stage = record {
   queues = set h.queues t (without_drained (Some k) (queue_at h t));
 }
 
-not_mortal : {A : Type 0} → 266 ≤ 0 → A
+not_mortal : {A : Type 0} → FIRST_MORTAL ≤ 0 → A
 not_mortal high = absurd (omega (arith, high))
 
 -- what taking a word's bits rests on

@@ -2,6 +2,7 @@
 use Rattle.std.proofs.Common.{◌≡◌, ℕ, ◌+◌, ◌<◌, ◌^◌, ◌==◌, ◌&&◌, not, Bool, true, false, if◌then◌else◌, nat_le, List, [], ◌∷◌, zero, suc, length, refl, sym, ◌∙◌, ap, subst, inl, inr, arith}
 use Rattle.std.proofs.lemmas.List.Sums.{sum_by-cons}
 use Rattle.std.proofs.lemmas.Bool.{cases_Bool, cases_lt, and_parts, eqb-true, leb-true, le-ltb, lt-ltb}
+use Rattle.brc_words.specs.declared.limits.TheConstants.{FIRST_MORTAL, MOST_THREADS}
 use Rattle.brc_runs.specs.declared.cell.Cell.{Cell}
 use Rattle.brc_runs.specs.declared.event.Event.{Event}
 use Rattle.brc_runs.specs.declared.event.Step.{Step}
@@ -25,8 +26,8 @@ use Rattle.brc_runs.proofs.Lifetimes.{Turns, event_turns, event_dies}
 -- the root's steps
 root_sound : (h : Heap) (s : Step) → IsSound h → root_may h s ≡ true → IsSound (root_after h s)
 root_sound h (Register u) sound ok =
-    let parts = and_parts (u == length h.rows) (nat_le u 64) ok in
-    registered_sound h sound (omega (arith, eqb-true u (length h.rows) parts.0, leb-true u 64 parts.1))
+    let parts = and_parts (u == length h.rows) (nat_le u MOST_THREADS) ok in
+    registered_sound h sound (omega (arith, eqb-true u (length h.rows) parts.0, leb-true u MOST_THREADS parts.1))
 root_sound h (Gather u) sound ok = gathered_sound h u sound ok
 root_sound h _ sound ok = sound
 
@@ -56,9 +57,9 @@ reached_headline h reached = sound_headline h (reached_sound h reached)
 
 -- in the opening world no mortal object lives
 opening_lives : (cells limit q : ℕ) → lives_at (opening cells limit) q ≡ false
-opening_lives cells limit q = elim (cases_lt q 266) [
-  | inl low ↦ ap (λ b. not b && lives (cell_at (opening cells limit) q).owner) (lt-ltb q 266 low)
-  | inr high ↦ ap (λ b. not b && lives (cell_at (opening cells limit) q).owner) (le-ltb q 266 high) ∙ ap (λ (x : Cell). lives x.owner) (free_cell cells q high)
+opening_lives cells limit q = elim (cases_lt q FIRST_MORTAL) [
+  | inl low ↦ ap (λ b. not b && lives (cell_at (opening cells limit) q).owner) (lt-ltb q FIRST_MORTAL low)
+  | inr high ↦ ap (λ b. not b && lives (cell_at (opening cells limit) q).owner) (le-ltb q FIRST_MORTAL high) ∙ ap (λ (x : Cell). lives x.owner) (free_cell cells q high)
 ]
 
 opening_row : (cells limit t : ℕ) → row_at (opening cells limit) t ≡ no_row

@@ -5,6 +5,7 @@ use Rattle.std.proofs.lemmas.List.Sums.{sum_by_push}
 use Rattle.std.proofs.lemmas.Bool.{cases_eq, cases_lt, cases_Bool, true≢false}
 use Rattle.std.proofs.lemmas.Nat.Bits.{bit_at-zero}
 use Rattle.std.specs.Int.{bit_at}
+use Rattle.brc_words.specs.declared.limits.TheConstants.{FIRST_MORTAL, MOST_THREADS}
 use Rattle.brc_runs.specs.declared.row.Row.{Row}
 use Rattle.brc_runs.specs.declared.row.Hand.TheVariants as hands
 use Rattle.brc_runs.specs.declared.row.Phase.{Phase}
@@ -56,7 +57,7 @@ new_mark n q = elim (cases_lt q n) [
 
 -- ---- clause by clause
 
-shape : (h : Heap) → IsShaped h → length h.rows ≤ 64 → IsShaped (registered h)
+shape : (h : Heap) → IsShaped h → length h.rows ≤ MOST_THREADS → IsShaped (registered h)
 shape h shaped room =
     let n : ℕ = length h.cells in
     record {
@@ -112,7 +113,7 @@ same_gripped h q =
     )
 
 -- the bearer of an object that a hand refers to is registered
-shut_bearer : (h : Heap) (s d : ℕ) → IsSound h → (row_at h s).hand ≡ hands.Busy phases.Shut d → 266 ≤ d → (cell_at h d).bearer ≢ length h.rows
+shut_bearer : (h : Heap) (s d : ℕ) → IsSound h → (row_at h s).hand ≡ hands.Busy phases.Shut d → FIRST_MORTAL ≤ d → (cell_at h d).bearer ≢ length h.rows
 shut_bearer h s d sound busy mortal e =
     elim (cases_Bool (lives (cell_at h d).owner)) [
       | inl live ↦ omega (arith, ((sound.cells d mortal).born live).1, e)
@@ -128,7 +129,7 @@ hands_fit h sound s d p busy =
     λ j at_d shut. ap (λ (row : Row). row.stage) (sym (push_else h.rows new_row no_row (cell_at h d).bearer
     (shut_bearer h j d sound (at_d ∙ ap (λ z. hands.Busy z d) shut) (sound.hands j d p at_d).mortal))) in
     let old : (j : ℕ) → j ≢ length h.rows → (row_at h j).hand ≡ hands.Busy p d
-    → (266 ≤ d) × PhaseFits j (row_at h j) (popped_at h' j) (cell_at h d) (row_at h' (cell_at h d).bearer).stage d p =
+    → (FIRST_MORTAL ≤ d) × PhaseFits j (row_at h j) (popped_at h' j) (cell_at h d) (row_at h' (cell_at h d).bearer).stage d p =
     λ j other at_d.
     let fits : HandFits h j p d = sound.hands j d p at_d in (
       fits.mortal,
@@ -136,12 +137,12 @@ hands_fit h sound s d p busy =
           (subst (λ popped. PhaseFits j (row_at h j) popped (cell_at h d) (row_at h (cell_at h d).bearer).stage d p)
           (sym (push_else h.popped _ [] j (λ e. other (e ∙ sound.shaped.popped)))) fits.fits),
     ) in
-    let said : (266 ≤ d) × PhaseFits s (row_at h' s) (popped_at h' s) (cell_at h d) (row_at h' (cell_at h d).bearer).stage d p =
-    read_push (λ j (row : Row). row.hand ≡ hands.Busy p d → (266 ≤ d) × PhaseFits j row (popped_at h' j) (cell_at h d) (row_at h' (cell_at h d).bearer).stage d p) h.rows new_row no_row
+    let said : (FIRST_MORTAL ≤ d) × PhaseFits s (row_at h' s) (popped_at h' s) (cell_at h d) (row_at h' (cell_at h d).bearer).stage d p =
+    read_push (λ j (row : Row). row.hand ≡ hands.Busy p d → (FIRST_MORTAL ≤ d) × PhaseFits j row (popped_at h' j) (cell_at h d) (row_at h' (cell_at h d).bearer).stage d p) h.rows new_row no_row
     (λ bad. absurd (let e : hands.Free ≡ hands.Busy p d = bad in cc)) old s busy in
     record { mortal = said.0; fits = said.1 }
 
-cells_fit : (h : Heap) → IsSound h → (q : ℕ) → 266 ≤ q → CellFits (length (registered h).rows) h.limit (cell_at h q) (entries_at h q)
+cells_fit : (h : Heap) → IsSound h → (q : ℕ) → FIRST_MORTAL ≤ q → CellFits (length (registered h).rows) h.limit (cell_at h q) (entries_at h q)
 cells_fit h sound q mortal =
     let fits : CellFits (length h.rows) h.limit (cell_at h q) (entries_at h q) = sound.cells q mortal in
     record {
@@ -192,7 +193,7 @@ works_fit : (h : Heap) → IsSound h → (s q : ℕ) → is_marked (worklist_at 
 works_fit h sound s q = read_push (λ j (marks : List Bool). is_marked marks q ≡ true → WorklistFits j q (cell_at h q)) h.worklists (replicate (length h.cells) false) []
     (λ on. absurd (true≢false (sym on ∙ new_mark (length h.cells) q))) (λ j _ on. sound.worklists j q on) s
 
-bits_fit : (h : Heap) → IsSound h → (s q : ℕ) → 0 < bit_of (queue_at (registered h) s) q + bit_of (popped_at (registered h) s) q → (266 ≤ q) × ((cell_at h q).bearer ≡ s)
+bits_fit : (h : Heap) → IsSound h → (s q : ℕ) → 0 < bit_of (queue_at (registered h) s) q + bit_of (popped_at (registered h) s) q → (FIRST_MORTAL ≤ q) × ((cell_at h q).bearer ≡ s)
 bits_fit h sound s q some =
     let n : ℕ = words_for (length h.cells) in
     elim (cases_eq s (length h.rows)) [
@@ -236,7 +237,7 @@ mutexes_fit h sound s q some mutex =
           let e : None ≡ Some old.0 = sym (ap (λ (row : Row). row.locked) (get_or_past h.rows s no_row (omega (arith, same)))) ∙ old.1.place in absurd (cc)) old.1,
     )
 
-pub registered_sound : (h : Heap) → IsSound h → length h.rows ≤ 64 → IsSound (registered h)
+pub registered_sound : (h : Heap) → IsSound h → length h.rows ≤ MOST_THREADS → IsSound (registered h)
 registered_sound h sound room = record {
   shaped = shape h sound.shaped room;
   counted = λ q mortal. sound.counted q mortal ∙ ap pos (sym (same_held h q));

@@ -2,6 +2,7 @@
 use Rattle.std.proofs.Common.{◌≡◌, ◌≢◌, ℕ, ◌+◌, ◌<◌, ◌≤◌, ◌==◌, ◌&&◌, not, Bool, true, false, if◌then◌else◌, ℤ, pos, negsuc, ◌+ℤ◌, ◌-ℤ◌, ◌≤ℤ◌, List, [], length, get_or, set, Option, Some, None, refl, sym, ◌∙◌, ap, subst, inl, inr, arith}
 use Rattle.std.proofs.lemmas.Bool.{cases_Bool, eq-eqb, ne_eqb, and_parts, not-true, ltb-true, ltb-false, true≢false}
 use Rattle.std.proofs.lemmas.Int.{ints}
+use Rattle.brc_words.specs.declared.limits.TheConstants.{FIRST_MORTAL}
 use Rattle.brc_words.specs.declared.owner.Owner.{Owner}
 use Rattle.brc_words.specs.declared.owner.Owner.TheVariants as owners
 use Rattle.brc_words.specs.declared.state.State.{State}
@@ -95,14 +96,14 @@ merged_total states.Default local n merged = absurd (true≢false (sym merged))
 merged_total states.Queued local n merged = absurd (true≢false (sym merged))
 merged_total states.Merged local n merged = refl
 
-merged_held : (h : Heap) (c : ℕ) → IsSound h → 266 ≤ c → lives (cell_at h c).owner ≡ true → is_merged (cell_at h c).state ≡ true → (cell_at h c).count ≡ pos (held h c)
+merged_held : (h : Heap) (c : ℕ) → IsSound h → FIRST_MORTAL ≤ c → lives (cell_at h c).owner ≡ true → is_merged (cell_at h c).state ≡ true → (cell_at h c).count ≡ pos (held h c)
 merged_held h c sound mortal live merged =
     let x : Cell = cell_at h c in
     sym (live_counts x live ∙ merged_total x.state x.local x.count merged) ∙ sound.counted c mortal
 
 -- ---- up
 
-shared_up_fits : (h : Heap) (t c k : ℕ) → IsSound h → Ups h t c k → 266 ≤ c → 1 ≤ held h c
+shared_up_fits : (h : Heap) (t c k : ℕ) → IsSound h → Ups h t c k → FIRST_MORTAL ≤ c → 1 ≤ held h c
     → Plain h t c (record (cell_at h c) { count = (cell_at h c).count +ℤ pos 1 }) (row_at h t) (filled (frame_at h t) k c) (worklist_at h t) h.entries
 shared_up_fits h t c k sound ups mortal some =
     let x : Cell = cell_at h c in
@@ -149,7 +150,7 @@ shared_up_sound h t k source None sound may named ok = absurd (true≢false (sym
 shared_up_sound h t k source (Some c) sound may named ok =
     let at_cell : OnCell h t (SharedUp source k) c = on_cell h t (SharedUp source k) c ok in
     let parts = and_parts _ _ at_cell.fits in
-    let mortal : 266 ≤ c = ltb-false c 266 (not-true _ parts.0) in
+    let mortal : FIRST_MORTAL ≤ c = ltb-false c FIRST_MORTAL (not-true _ parts.0) in
     plain_sound h t c _ _ _ _ _ sound (shared_up_fits h t c k sound (record {
       thread = may.some_thread;
       inside = may.inside;
@@ -166,7 +167,7 @@ shared_up_sound h t k source (Some c) sound may named ok =
 record Lets (h : Heap) (t c : ℕ) (x : Cell) (now : Hand) (f : List (Option ℕ)) (w : List Bool) (es : List (List ℕ)) : Type 0 where
   acts : Acts h t
   downs : Downs h t c f es
-  mortal : 266 ≤ c
+  mortal : FIRST_MORTAL ≤ c
   some : 1 ≤ held h c
   mutex : x.mutex ≡ (cell_at h c).mutex
   bearer : x.bearer ≡ (cell_at h c).bearer
@@ -215,8 +216,8 @@ lets_turn h t c x now f w es sound lets =
       works_else = λ s ne on. absurd (no_mark _ (held_unmarked h s c sound lets.some) on);
     }
 
-others_mortal : (b : Bool) (c : ℕ) → (not (is_immortal c) && b) ≡ true → 266 ≤ c
-others_mortal b c ok = ltb-false c 266 (not-true _ (and_parts _ _ ok).0)
+others_mortal : (b : Bool) (c : ℕ) → (not (is_immortal c) && b) ≡ true → FIRST_MORTAL ≤ c
+others_mortal b c ok = ltb-false c FIRST_MORTAL (not-true _ (and_parts _ _ ok).0)
 
 -- ---- down
 
@@ -239,7 +240,7 @@ shared_down_sound h t drop (Some c) sound may named ok =
     let n : ℤ = x.count -ℤ pos 1 in
     let parts = and_parts _ _ at_cell.fits in
     let default : is_default x.state ≡ true = (and_parts _ _ parts.0).1 in
-    let mortal : 266 ≤ c = others_mortal _ c (and_parts _ _ parts.0).0 in
+    let mortal : FIRST_MORTAL ≤ c = others_mortal _ c (and_parts _ _ parts.0).0 in
     let free : (row_at h t).hand ≡ hands.Free = free_hand _ may.hand in
     let some : 1 ≤ held h c = dropped_held h t c drop named in
     let live : lives x.owner ≡ true = held_owner h c sound mortal some in
@@ -290,7 +291,7 @@ queued_grips (owners.Thread t) local n = refl
 queued_grips (owners.Claimed t) local n = refl
 queued_grips owners.Free local n = refl
 
-asked_lets : (h : Heap) (t c : ℕ) (drop : Dropped) → IsSound h → Acts h t → c < length h.cells → 266 ≤ c → (row_at h t).hand ≡ hands.Free
+asked_lets : (h : Heap) (t c : ℕ) (drop : Dropped) → IsSound h → Acts h t → c < length h.cells → FIRST_MORTAL ≤ c → (row_at h t).hand ≡ hands.Free
     → dropped_cell (frame_at h t) (worklist_at h t) (entries_at h) drop ≡ Some c → (cell_at h c).state ≡ states.Default
     → Lets h t c (record (cell_at h c) { state = states.Queued }) (hands.Busy phases.Asked c) (frame_without (Some drop) (frame_at h t)) (worklist_at h t) (entries_without (Some drop) h.entries)
 asked_lets h t c drop sound who inside mortal free named default =
@@ -338,7 +339,7 @@ asked_lets h t c drop sound who inside mortal free named default =
     }
 
 -- nothing changes
-still_turn : (h : Heap) (t c : ℕ) → IsSound h → Acts h t → c < length h.cells → 266 ≤ c → (row_at h t).hand ≡ hands.Free
+still_turn : (h : Heap) (t c : ℕ) → IsSound h → Acts h t → c < length h.cells → FIRST_MORTAL ≤ c → (row_at h t).hand ≡ hands.Free
     → Turn h t c (cell_at h c) (row_at h t).hand (frame_at h t) (worklist_at h t) h.entries
 still_turn h t c sound who inside mortal free = record {
   acts = who;
@@ -374,7 +375,7 @@ ask_sound h t drop None sound may named ok = absurd (true≢false (sym ok))
 ask_sound h t drop (Some c) sound may named ok =
     let at_cell : OnCell h t (Ask drop) c = on_cell h t (Ask drop) c ok in
     let x : Cell = cell_at h c in
-    let mortal : 266 ≤ c = others_mortal _ c at_cell.fits in
+    let mortal : FIRST_MORTAL ≤ c = others_mortal _ c at_cell.fits in
     let free : (row_at h t).hand ≡ hands.Free = free_hand _ may.hand in
     let who : Acts h t = acts h t (Ask drop) may refl refl in
     let P : Bool → Type 0 = λ b. IsSound (record h {
@@ -411,7 +412,7 @@ pub record Lasts (h : Heap) (t c : ℕ) : Type 0 where
   pub gripped : grips_of (record (cell_at h c) { count = (cell_at h c).count -ℤ pos 1 }) ≡ grips_of (cell_at h c) + one (is_merged (cell_at h c).state && is_zero ((cell_at h c).count -ℤ pos 1))
   pub dead : (is_merged (cell_at h c).state && is_zero ((cell_at h c).count -ℤ pos 1)) ≡ true → WorklistFits t c (record (cell_at h c) { count = (cell_at h c).count -ℤ pos 1 })
 
-pub lasts_of : (h : Heap) (t c : ℕ) → IsSound h → 266 ≤ c → 1 ≤ held h c → Lasts h t c
+pub lasts_of : (h : Heap) (t c : ℕ) → IsSound h → FIRST_MORTAL ≤ c → 1 ≤ held h c → Lasts h t c
 lasts_of h t c sound mortal some =
     let x : Cell = cell_at h c in
     let n : ℤ = x.count -ℤ pos 1 in
@@ -443,7 +444,7 @@ last_dropped_sound h t drop (Some c) sound may named ok =
     let n : ℤ = x.count -ℤ pos 1 in
     let takes : Bool = is_merged x.state && is_zero n in
     let parts = and_parts _ _ at_cell.fits in
-    let mortal : 266 ≤ c = others_mortal _ c parts.1 in
+    let mortal : FIRST_MORTAL ≤ c = others_mortal _ c parts.1 in
     let free : (row_at h t).hand ≡ hands.Free = free_hand _ may.hand in
     let some : 1 ≤ held h c = dropped_held h t c drop named in
     let last : Lasts h t c = lasts_of h t c sound mortal some in
@@ -536,7 +537,7 @@ last_hand_sound h t (Some c) sound may named ok =
     let takes : Bool = is_merged x.state && is_zero n in
     let parts = and_parts _ _ at_cell.fits in
     let hand : (p : Phase) × ((row_at h t).hand ≡ hands.Busy p c) × (is_ending p ≡ true) = ending_hand (row_at h t).hand c may.hand named in
-    let mortal : 266 ≤ c = (sound.hands t c hand.0 hand.1).mortal in
+    let mortal : FIRST_MORTAL ≤ c = (sound.hands t c hand.0 hand.1).mortal in
     let carried : one (carries c (row_at h t).hand) ≡ 1 = busy_carrier hand.0 c (row_at h t).hand (ending_reference hand.0 hand.2) hand.1 in
     let grip : one (grips c (row_at h t).hand) ≡ 0 = ap (λ z. one (grips c z)) hand.1 ∙ ap (λ b. one (b && (c == c))) (ending_grips hand.0 hand.2) in
     let least : asks_least x ≡ 0 = no_least h t c hand.0 sound hand.1 hand.2 (subst (λ g. ends_ok g x ≡ true) hand.1 parts.1) in

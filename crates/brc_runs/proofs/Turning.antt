@@ -2,6 +2,7 @@
 -- a step owes, and that it keeps all that reached worlds keep.
 use Rattle.std.proofs.Common.{◌≡◌, ◌≢◌, ℕ, ◌+◌, ◌<◌, ◌≤◌, Bool, true, false, pos, ◌+ℤ◌, List, [], length, get_or, Option, Some, None, sum_by, refl, sym, ◌∙◌, ap, subst, inl, arith}
 use Rattle.std.proofs.lemmas.Bool.{true≢false}
+use Rattle.brc_words.specs.declared.limits.TheConstants.{FIRST_MORTAL, MOST_PLACES}
 use Rattle.brc_runs.specs.declared.cell.Cell.{Cell}
 use Rattle.brc_runs.specs.declared.event.Step.{Step}
 use Rattle.brc_runs.specs.declared.row.Row.{Row}
@@ -45,13 +46,13 @@ acts h t s may other plain = record {
 pub record Turn (h : Heap) (t c : ℕ) (x : Cell) (hand : Hand) (f : List (Option ℕ)) (w : List Bool) (es : List (List ℕ)) : Type 0 where
   pub acts : Acts h t
   pub cell_inside : c < length h.cells
-  pub mortal : 266 ≤ c
+  pub mortal : FIRST_MORTAL ≤ c
   pub mutex : x.mutex ≡ (cell_at h c).mutex
   pub bearer : x.bearer ≡ (cell_at h c).bearer
   pub live : lives x.owner ≡ lives (cell_at h c).owner
   -- the frame fills no place
   pub vacant : (j : ℕ) → place_at (frame_at h t) j ≡ None → place_at f j ≡ None
-  pub places : length f ≤ 65536
+  pub places : length f ≤ MOST_PLACES
   pub marks : length w ≡ length (worklist_at h t)
   pub lists : length es ≡ length h.entries
   -- sums
@@ -82,7 +83,7 @@ hand_else c q (hands.Busy p d) at_c ne = subst (λ e. (one (grips q (hands.Busy 
 -- the thread's own part after such a step
 pub turned_thread : (words : ℕ) (row : Row) (hand : Hand) (frame f : List (Option ℕ)) (popped popped' : List ℕ) (worklist w : List Bool) (queue : List ℕ) (gathered : Bool)
     → ThreadFits words row frame popped worklist queue gathered → gathered ≡ false → ((n : ℕ) → row.stage ≢ stages.Closing n) → row.locked ≡ None
-    → (is_active row.stage ≡ false → is_active_hand hand ≡ false) → ((j : ℕ) → place_at frame j ≡ None → place_at f j ≡ None) → length f ≤ 65536
+    → (is_active row.stage ≡ false → is_active_hand hand ≡ false) → ((j : ℕ) → place_at frame j ≡ None → place_at f j ≡ None) → length f ≤ MOST_PLACES
     → ThreadFits words (record row { hand = hand }) f popped' w queue gathered
 turned_thread words row hand frame f popped popped' worklist w queue gathered old here apart unlocked idle vacant places = record {
   inactive_hand = idle;
@@ -135,7 +136,7 @@ turn_plain h t c x hand f w es sound turn =
       ledger = omega (arith, ap one turn.live);
     }
   where
-    other_cell : (q : ℕ) → (266 ≤ q → q ≢ c) → q ≢ c
+    other_cell : (q : ℕ) → (FIRST_MORTAL ≤ q → q ≢ c) → q ≢ c
     other_cell q other same = other (omega (arith, turn.mortal, same)) same
 
 pub turn_sound : (h : Heap) (t c : ℕ) (x : Cell) (hand : Hand) (f : List (Option ℕ)) (w : List Bool) (es : List (List ℕ))

@@ -1,5 +1,6 @@
 -- The world of the heap: the words of every cell, the own part of every thread, and what stands between threads.
 use Rattle.std.specs.Prelude.{ℕ, zero, suc, ◌+◌, ◌/◌, ◌==◌, ◌≤◌, nat_lt, ◌&&◌, Bool, false, if◌then◌else◌, pos, List, [], ◌∷◌, ◌++◌, length, replicate, Option, None, slice_index_or}
+use Rattle.brc_words.specs.declared.limits.TheConstants.{FIRST_MORTAL, GLOBALS, IMMORTAL_LOCAL, MOST_LOCAL, MOST_CELLS, FEWEST_CELLS}
 use Rattle.brc_words.specs.declared.kind.Kind.{Kind}
 use Rattle.brc_words.specs.declared.kind.Kind.TheVariants as kinds
 use Rattle.brc_words.specs.declared.owner.Owner.TheVariants as owners
@@ -69,14 +70,14 @@ words_for cells = (cells + 31) / 32
 
 -- the cells that never die: None, False, True, the integers from -5 to 256, and the dictionary of globals
 abbrev pub is_immortal : ℕ → Bool
-is_immortal c = nat_lt c 266
+is_immortal c = nat_lt c FIRST_MORTAL
 
 abbrev pub immortal_kind : ℕ → Kind
-immortal_kind c = if c == 0 then kinds.Nothing else (if c == 1 then kinds.False else (if c == 2 then kinds.True else (if c == 265 then kinds.Dict else kinds.Int)))
+immortal_kind c = if c == 0 then kinds.Nothing else (if c == 1 then kinds.False else (if c == 2 then kinds.True else (if c == GLOBALS then kinds.Dict else kinds.Int)))
 
 -- PEP 703, "Immortal objects": the local word is UINT32_MAX, and counting changes nothing
 abbrev pub immortal : ℕ → Cell
-immortal c = record { owner = owners.Nobody; local = 4294967295; count = pos 0; state = states.Default; mutex = 0; bearer = 0; kind = immortal_kind c }
+immortal c = record { owner = owners.Nobody; local = IMMORTAL_LOCAL; count = pos 0; state = states.Default; mutex = 0; bearer = 0; kind = immortal_kind c }
 
 abbrev pub opening_cell : ℕ → Cell
 opening_cell c = if is_immortal c then immortal c else no_cell
@@ -103,7 +104,7 @@ opening cells limit = record {
 
 -- the sizes that a heap may have
 pub record AreOptions (cells limit : ℕ) : Type 0 where
-  pub enough : 512 ≤ cells
-  pub few_enough : cells ≤ 65536
+  pub enough : FEWEST_CELLS ≤ cells
+  pub few_enough : cells ≤ MOST_CELLS
   pub counts : 1 ≤ limit
-  pub below_immortal : limit ≤ 4294967294
+  pub below_immortal : limit ≤ MOST_LOCAL

@@ -3,6 +3,7 @@
 -- A holder is a place that keeps an object alive; it is read off frames, entries, queue bits, popped bits and hands, and
 -- never off a count. The total is the count of PEP 703: the shared count once merged, else local and shared together.
 use Rattle.std.specs.Prelude.{◌≡◌, ℕ, suc, ◌+◌, ◌==◌, ◌&&◌, ◌||◌, not, Bool, true, false, if◌then◌else◌, ℤ, pos, ◌+ℤ◌, List, [], ◌∷◌, ◌++◌, length, drop, sum_by, count_by}
+use Rattle.brc_words.specs.declared.limits.TheConstants.{FIRST_MORTAL}
 use Rattle.brc_words.specs.declared.owner.Owner.{Owner}
 use Rattle.brc_words.specs.declared.owner.Owner.TheVariants as owners
 use Rattle.brc_words.specs.declared.state.State.{State}
@@ -91,7 +92,7 @@ IsInHand h c = (t : ℕ) × (buries h c t ≡ true)
 
 -- how many mortal objects live
 abbrev pub live_count : Heap → ℕ
-live_count h = sum_by (λ x. one (lives x.owner)) (drop 266 h.cells)
+live_count h = sum_by (λ x. one (lives x.owner)) (drop FIRST_MORTAL h.cells)
 
 -- The theorem on a world: counts are references, an object without references is in some thread's hand, and the
 -- births less the frees of all threads are the live objects.

@@ -4,6 +4,7 @@
 -- The picture: a cell has at most one reference on its way through a merge queue; the owner word goes from a thread to
 -- nobody once, by one hand; and an object without holders shows in exactly one hand or on one worklist.
 use Rattle.std.specs.Prelude.{◌≡◌, ◌≢◌, ℕ, ◌+◌, ◌/◌, ◌==◌, ◌<◌, ◌≤◌, ◌&&◌, not, Bool, true, false, if◌then◌else◌, ℤ, pos, ◌≤ℤ◌, List, [], length, Option, Some, None, slice_index_or, sum_by, ◌⊎◌}
+use Rattle.brc_words.specs.declared.limits.TheConstants.{FIRST_MORTAL, GLOBALS, MOST_ENTRIES, MOST_BIRTHS, IMMORTAL_LOCAL, MOST_PLACES, MOST_THREADS}
 use Rattle.brc_words.specs.declared.owner.Owner.{Owner}
 use Rattle.brc_words.specs.declared.owner.Owner.TheVariants as owners
 use Rattle.brc_words.specs.declared.state.State.{State}
@@ -104,7 +105,7 @@ asks_least x = one (is_queued x.state && is_threads x.owner)
 
 pub record Births (t : ℕ) (row : Row) (x : Cell) : Type 0 where
   pub claimed : x.owner ≡ owners.Claimed t
-  pub more : row.allocs < 140737488355328
+  pub more : row.allocs < MOST_BIRTHS
 
 pub record Untied (t : ℕ) (x : Cell) : Type 0 where
   pub owner : x.owner ≡ owners.Nobody
@@ -136,21 +137,21 @@ pub record CellFits (threads limit : ℕ) (x : Cell) (entries : List ℕ) : Type
   pub born : lives x.owner ≡ true → (0 < x.bearer) × (x.bearer < threads)
   pub limited : lives x.owner ≡ true → x.local ≤ limit
   pub plain : is_container x.kind ≡ false → entries ≡ []
-  pub few : length entries ≤ 1048576
+  pub few : length entries ≤ MOST_ENTRIES
 
 -- an immortal's words are never written, its mutex aside; only the globals have entries
 pub record ImmortalFits (c : ℕ) (x : Cell) (entries : List ℕ) : Type 0 where
   pub owner : x.owner ≡ owners.Nobody
-  pub local : x.local ≡ 4294967295
+  pub local : x.local ≡ IMMORTAL_LOCAL
   pub count : x.count ≡ pos 0
   pub state : x.state ≡ states.Default
   pub kind : x.kind ≡ immortal_kind c
-  pub empty : c ≢ 265 → entries ≡ []
-  pub few : length entries ≤ 1048576
+  pub empty : c ≢ GLOBALS → entries ≡ []
+  pub few : length entries ≤ MOST_ENTRIES
 
 -- an object on the thread's worklist: nothing counts it, and it is merged or the thread's own
 pub record WorklistFits (t : ℕ) (q : ℕ) (x : Cell) : Type 0 where
-  pub mortal : 266 ≤ q
+  pub mortal : FIRST_MORTAL ≤ q
   pub lives : lives x.owner ≡ true
   pub total : total_of x ≡ pos 0
   pub whose : (x.state ≡ states.Merged) ⊎ (x.owner ≡ owners.Thread t)
@@ -185,15 +186,15 @@ pub record ThreadFits (words : ℕ) (row : Row) (frame : List (Option ℕ)) (pop
   pub gathered_hand : gathered ≡ true → row.hand ≡ hands.Free
   pub gathered_work : gathered ≡ true → (q : ℕ) → (is_marked worklist q ≡ false) × (bit_of popped q ≡ 0)
   pub locked_hand : (k : ℕ) → row.locked ≡ Some k → row.hand ≡ hands.Free
-  pub births : row.allocs ≤ 140737488355328
-  pub places : length frame ≤ 65536
+  pub births : row.allocs ≤ MOST_BIRTHS
+  pub places : length frame ≤ MOST_PLACES
 
 -- how long the lists are
 pub record IsShaped (h : Heap) : Type 0 where
   pub options : AreOptions (length h.cells) h.limit
   pub entries : length h.entries ≡ length h.cells
   pub root : 0 < length h.rows
-  pub threads : length h.rows ≤ 65
+  pub threads : length h.rows ≤ MOST_THREADS + 1
   pub frames : length h.frames ≡ length h.rows
   pub popped : length h.popped ≡ length h.rows
   pub worklists : length h.worklists ≡ length h.rows
@@ -206,7 +207,7 @@ pub record IsShaped (h : Heap) : Type 0 where
 
 -- what a hand says of its cell, which is mortal
 pub record HandFits (h : Heap) (t : ℕ) (phase : Phase) (d : ℕ) : Type 0 where
-  pub mortal : 266 ≤ d
+  pub mortal : FIRST_MORTAL ≤ d
   pub fits : PhaseFits t (row_at h t) (popped_at h t) (cell_at h d) (row_at h (cell_at h d).bearer).stage d phase
 
 -- a lock is told by the thread's place and by the cell's mutex alike
@@ -219,16 +220,16 @@ pub record Locks (h : Heap) (t k q : ℕ) : Type 0 where
 -- heap needs them.
 pub record IsSound (h : Heap) : Type 0 where
   pub shaped : IsShaped h
-  pub counted : (q : ℕ) → 266 ≤ q → counted_in (cell_at h q) ≡ pos (held h q)
-  pub gripped : (q : ℕ) → 266 ≤ q → gripped h q ≡ grips_of (cell_at h q)
-  pub most : (q : ℕ) → 266 ≤ q → asks h q ≤ asks_most (cell_at h q)
-  pub least : (q : ℕ) → 266 ≤ q → asks_least (cell_at h q) ≤ asks h q
+  pub counted : (q : ℕ) → FIRST_MORTAL ≤ q → counted_in (cell_at h q) ≡ pos (held h q)
+  pub gripped : (q : ℕ) → FIRST_MORTAL ≤ q → gripped h q ≡ grips_of (cell_at h q)
+  pub most : (q : ℕ) → FIRST_MORTAL ≤ q → asks h q ≤ asks_most (cell_at h q)
+  pub least : (q : ℕ) → FIRST_MORTAL ≤ q → asks_least (cell_at h q) ≤ asks h q
   pub hands : (t d : ℕ) (phase : Phase) → (row_at h t).hand ≡ hands.Busy phase d → HandFits h t phase d
-  pub cells : (q : ℕ) → 266 ≤ q → CellFits (length h.rows) h.limit (cell_at h q) (entries_at h q)
-  pub immortals : (q : ℕ) → q < 266 → ImmortalFits q (cell_at h q) (entries_at h q)
+  pub cells : (q : ℕ) → FIRST_MORTAL ≤ q → CellFits (length h.rows) h.limit (cell_at h q) (entries_at h q)
+  pub immortals : (q : ℕ) → q < FIRST_MORTAL → ImmortalFits q (cell_at h q) (entries_at h q)
   pub worklists : (t q : ℕ) → is_marked (worklist_at h t) q ≡ true → WorklistFits t q (cell_at h q)
   pub threads : (t : ℕ) → ThreadFits (words_for (length h.cells)) (row_at h t) (frame_at h t) (popped_at h t) (worklist_at h t) (queue_at h t) (is_gathered h t)
-  pub bits : (t q : ℕ) → 0 < bit_of (queue_at h t) q + bit_of (popped_at h t) q → (266 ≤ q) × ((cell_at h q).bearer ≡ t)
+  pub bits : (t q : ℕ) → 0 < bit_of (queue_at h t) q + bit_of (popped_at h t) q → (FIRST_MORTAL ≤ q) × ((cell_at h q).bearer ≡ t)
   pub locks : (t k : ℕ) → (row_at h t).locked ≡ Some k → (q : ℕ) × Locks h t k q × ((cell_at h q).mutex ≡ t)
   pub mutexes : (t q : ℕ) → 0 < t → (cell_at h q).mutex ≡ t → (k : ℕ) × Locks h t k q
   pub ledger : sum_by (λ row. row.allocs) h.rows ≡ sum_by (λ row. row.frees) h.rows + live_count h

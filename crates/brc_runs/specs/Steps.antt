@@ -5,6 +5,7 @@
 -- asking and the merge queue are those of PEP 703, "Biased Reference Counting", and of Choi, Shull and Torrellas;
 -- claiming, the hand, closed queue words and the worklist are this heap's own.
 use Rattle.std.specs.Prelude.{ℕ, ◌+◌, ◌-◌, ◌/◌, ◌^◌, ◌==◌, nat_lt, nat_le, ◌&&◌, ◌||◌, not, Bool, true, false, if◌then◌else◌, ℤ, pos, negsuc, ◌+ℤ◌, ◌-ℤ◌, List, [], ◌∷◌, ◌++◌, length, replicate, remove, bit_or, Option, Some, None, is_none, is_some, slice_index_or, slice_get, slice_set}
+use Rattle.brc_words.specs.declared.limits.TheConstants.{FIRST_MORTAL, MOST_ENTRIES, MOST_BIRTHS, MOST_PLACES, MOST_THREADS}
 use Rattle.brc_words.specs.Kinds.{is_mortal, is_container}
 use Rattle.brc_words.specs.declared.owner.Owner.{Owner}
 use Rattle.brc_words.specs.declared.owner.Owner.TheVariants as owners
@@ -209,7 +210,7 @@ hand_ok hand (Gather u) = false
 
 -- a place that is filled must be vacant
 abbrev pub is_vacant : List (Option ℕ) → ℕ → Bool
-is_vacant frame k = nat_lt k 65536 && is_none (place_at frame k)
+is_vacant frame k = nat_lt k MOST_PLACES && is_none (place_at frame k)
 
 abbrev pub is_empty : List ℕ → Bool
 is_empty xs = length xs == 0
@@ -248,7 +249,7 @@ is_unlocked (Some k) j = not (k == j)
 -- what the change needs of the frame and of the entries of the locked object
 abbrev pub change_ok : Option ℕ → List (Option ℕ) → List ℕ → Change → Bool
 change_ok locked frame entries changes.Keep = true
-change_ok locked frame entries (changes.Put j) = nat_lt (length entries) 1048576 && is_some (place_at frame j) && is_unlocked locked j
+change_ok locked frame entries (changes.Put j) = nat_lt (length entries) MOST_ENTRIES && is_some (place_at frame j) && is_unlocked locked j
 change_ok locked frame entries (changes.Take i j) = nat_lt i (length entries) && is_vacant frame j && is_unlocked locked j
 change_ok locked frame entries (changes.Swap i j) = nat_lt i (length entries) && is_some (place_at frame j) && is_unlocked locked j
 
@@ -264,7 +265,7 @@ untie_ok (hands.Busy phase d) popped c = true
 
 -- what the own part must be besides; a thread has so many queue words
 abbrev pub own_ok : ℕ → Row → List (Option ℕ) → List ℕ → List Bool → (ℕ → List ℕ) → Step → Bool
-own_ok words row frame popped worklist has (Claim c) = nat_lt row.allocs 140737488355328
+own_ok words row frame popped worklist has (Claim c) = nat_lt row.allocs MOST_BIRTHS
 own_ok words row frame popped worklist has (Birth c kind k) = is_mortal kind && is_vacant frame k
 own_ok words row frame popped worklist has (LocalUp source k) = is_vacant frame k
 own_ok words row frame popped worklist has (Free c) = is_marked worklist c && is_empty (has c)
@@ -354,7 +355,7 @@ is_keep (changes.Swap i j) = false
 
 -- what the one cell must be
 abbrev pub cell_ok : ℕ → ℕ → Row → Step → ℕ → Cell → Bool
-cell_ok limit t row (Claim d) c x = nat_le 266 c && is_free x.owner
+cell_ok limit t row (Claim d) c x = nat_le FIRST_MORTAL c && is_free x.owner
 cell_ok limit t row (LocalUp source k) c x = is_immortal c || counts_up_locally limit t row.stage x
 cell_ok limit t row (LocalDown drop) c x = is_immortal c || is_mine t row.stage x
 cell_ok limit t row (Untie d) c x = untied_ok t row.hand x
@@ -392,7 +393,7 @@ thread_may h t s =
 
 -- the root's steps: the next number is registered, of at most 64; a thread that left and holds nothing is gathered
 abbrev pub root_may : Heap → Step → Bool
-root_may h (Register u) = (u == length h.rows) && nat_le u 64
+root_may h (Register u) = (u == length h.rows) && nat_le u MOST_THREADS
 root_may h (Gather u) =
     is_registered h u && not (is_gathered h u)
     && is_left (row_at h u).stage && is_free_hand (row_at h u).hand && is_blank (popped_at h u) && is_unmarked (worklist_at h u)

@@ -1,4 +1,4 @@
-use Rattle.std.specs.Prelude.{◌≡◌, ℕ, ◌^◌, ℤ, pos, ◌+ℤ◌, ◌*ℤ◌}
+use Rattle.std.specs.Prelude.{◌≡◌, ℕ, ◌^◌, ◌-◌, ℤ, pos, negsuc, ◌+ℤ◌, ◌*ℤ◌, ◌≤ℤ◌, ◌<ℤ◌}
 use Rattle.brc_words.specs.declared.state.State.{State}
 use Rattle.brc_words.specs.declared.state.State.TheVariants.{Default, Queued, Merged}
 
@@ -11,3 +11,7 @@ bits_of Merged = 3
 -- the word is four times the count, counted from -2^40, and the state's bits (the offset is this heap's own)
 pub record Spells (word : ℕ) (count : ℤ) (state : State) : Type 0 where
   pub spelled : pos word ≡ ((count +ℤ pos (2 ^ 40)) *ℤ pos 4) +ℤ pos (bits_of state)
+
+-- the counts that a word can spell: -2^40 or more, and below 2^40
+abbrev pub CountFits : ℤ → Type 0
+CountFits count = (negsuc (2 ^ 40 - 1) ≤ℤ count) × (count <ℤ pos (2 ^ 40))

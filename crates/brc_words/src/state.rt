@@ -1,7 +1,7 @@
 //! The shared word: a signed count above two state bits (PEP 703, "Biased Reference Counting").
 
-ghost use Rattle.std.specs.Prelude.{◌≡◌, ◌^◌, ◌<◌, ◌/◌, ◌%◌, ℤ, pos, negsuc, ◌+ℤ◌, ◌≤ℤ◌, ◌<ℤ◌, Some, IfSome, IfNone};
-ghost use Rattle.brc_words.specs.Shared.{Spells, bits_of};
+ghost use Rattle.std.specs.Prelude.{◌≡◌, ◌^◌, ◌<◌, ◌/◌, ◌%◌, ℤ, pos, ◌+ℤ◌, Some, IfSome, IfNone};
+ghost use Rattle.brc_words.specs.Shared.{CountFits, Spells, bits_of};
 
 use crate::limits::COUNTED_FROM;
 
@@ -31,8 +31,7 @@ impl State {
 
 /// The word that spells this count and state.
 pub fn shared_word(count: i64, state: State) -> u64
-    requires low { negsuc 1099511627775 ≤ℤ count }
-    requires high { count <ℤ pos 1099511627776 }
+    requires fits { CountFits count }
 
     ensures spelled { Spells result count state }
 {
