@@ -6,6 +6,7 @@ use Rattle.brc_words.specs.declared.limits.TheConstants.{FIRST_MORTAL}
 use Rattle.brc_words.specs.declared.owner.Owner.TheVariants as owners
 use Rattle.brc_words.specs.declared.kind.Kind.{Kind}
 use Rattle.brc_words.specs.Kinds.{is_mortal}
+use Rattle.brc_runs.specs.Phases.{is_active_phase}
 use Rattle.brc_runs.specs.declared.cell.Cell.{Cell}
 use Rattle.brc_runs.specs.declared.event.Step.{Step}
 use Rattle.brc_runs.specs.declared.event.Step.TheVariants.{InitLocal, InitShared, Birth, LocalDown, SeeZero, Free, Untie, MergeZero, Ask, LastDown, Enqueue, MergeAdd}
@@ -21,7 +22,7 @@ use Rattle.brc_runs.specs.Lists.{is_marked, bit_of}
 use Rattle.brc_runs.specs.Heap.{Heap, cell_at, entries_at, row_at, frame_at, popped_at, worklist_at, no_cell, is_immortal}
 use Rattle.brc_runs.specs.Steps.{enabled, root_may, thread_may, stage_ok, lock_ok, hand_ok, own_ok_at, others_ok, target_at, target_ok, cell_ok, dropped_cell, may_after_leaving, needs_lock, is_at, is_active, is_vacant, is_mine, is_default, is_merged, is_nobody, is_queued, is_owned_by, cell_in_hand, untie_ok, untied_ok, ends_ok}
 use Rattle.brc_runs.specs.Runs.{IsReached}
-use Rattle.brc_runs.specs.Sound.{IsSound, is_active_phase, held}
+use Rattle.brc_runs.specs.Sound.{IsSound, held}
 use Rattle.brc_known.specs.Staying.{Tells, PoppedTells}
 use Rattle.brc_known.specs.Progress.{Stands, IsAtRest, next_step, release_step, popped_step}
 use Rattle.brc_runs.proofs.Naming.{busy_carrier}

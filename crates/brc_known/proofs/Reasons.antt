@@ -4,6 +4,7 @@ use Rattle.std.proofs.lemmas.Bool.{cases_eq, cases_Bool, eqb-true, and_parts}
 use Rattle.brc_words.specs.declared.limits.TheConstants.{FIRST_MORTAL}
 use Rattle.brc_words.specs.declared.kind.Kind.{Kind}
 use Rattle.brc_words.specs.declared.owner.Owner.TheVariants as owners
+use Rattle.brc_runs.specs.Phases.{is_ending, is_gripping}
 use Rattle.brc_runs.specs.declared.event.Event.{Event}
 use Rattle.brc_runs.specs.declared.event.Change.{Change}
 use Rattle.brc_runs.specs.declared.event.Dropped.{Dropped}
@@ -16,8 +17,8 @@ use Rattle.brc_runs.specs.declared.row.Phase.{Phase}
 use Rattle.brc_runs.specs.declared.row.Phase.TheVariants as phases
 use Rattle.brc_runs.specs.Lists.{one, is_marked}
 use Rattle.brc_runs.specs.Heap.{Heap, cell_at, entries_at, row_at, frame_at, popped_at, worklist_at, no_cell}
-use Rattle.brc_runs.specs.Steps.{enabled, after, after_target, root_after, thread_may, target_at, target_ok, cell_after, entries_without, entries_after, root_may, is_ending, dropped_cell, locked_cell, is_at, is_default, untie_ok}
-use Rattle.brc_runs.specs.Sound.{IsSound, grips, is_gripping, held}
+use Rattle.brc_runs.specs.Steps.{enabled, after, after_target, root_after, thread_may, target_at, target_ok, cell_after, entries_without, entries_after, root_may, dropped_cell, locked_cell, is_at, is_default, untie_ok}
+use Rattle.brc_runs.specs.Sound.{IsSound, grips, held}
 use Rattle.brc_runs.proofs.Naming.{second, third, free_hand, busy_hand, busy_carrier, free_owner, one-true}
 use Rattle.brc_runs.proofs.Asking.{May, may_parts, OnCell, on_cell}
 use Rattle.brc_runs.proofs.Changes.{read_here, read_there}

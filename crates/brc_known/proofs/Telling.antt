@@ -6,6 +6,7 @@ use Rattle.brc_words.specs.declared.owner.Owner.{Owner}
 use Rattle.brc_words.specs.declared.owner.Owner.TheVariants as owners
 use Rattle.brc_words.specs.declared.state.State.{State}
 use Rattle.brc_words.specs.declared.state.State.TheVariants as states
+use Rattle.brc_runs.specs.Phases.{is_gripping}
 use Rattle.brc_runs.specs.declared.cell.Cell.{Cell}
 use Rattle.brc_runs.specs.declared.event.Event.{Event}
 use Rattle.brc_runs.specs.declared.event.Step.{Step}
@@ -19,7 +20,7 @@ use Rattle.brc_runs.specs.Heap.{Heap, cell_at, row_at, popped_at, worklist_at, n
 use Rattle.brc_runs.specs.Steps.{enabled, after, target_at, cell_after, untie_ok, untied_ok, is_at, is_active, is_default, is_merged, is_mine, is_nobody, is_zero, counts_up_locally, target_ok}
 use Rattle.brc_runs.specs.Runs.{IsReached}
 use Rattle.brc_runs.specs.Holding.{carries, lives}
-use Rattle.brc_runs.specs.Sound.{IsSound, HandFits, WorklistFits, Untied, grips, grips_by_owner, gripped, held, asks, is_gripping}
+use Rattle.brc_runs.specs.Sound.{IsSound, HandFits, WorklistFits, Untied, grips, grips_by_owner, gripped, held, asks}
 use Rattle.brc_known.specs.Staying.{Lasts, SameOwn, Owns, Merges, Adopts, PoppedOwn, Tells, PoppedTells}
 use Rattle.brc_runs.proofs.Naming.{second, third, merged_state, nobody_owner, Ungripped, sole_grip, one-le, one-true, sum_one, sum_two, no_bit, busy_hand, busy_carrier, free_hand, free_owner, thread_owner}
 use Rattle.brc_runs.proofs.Asking.{May, OnCell, on_cell, Mine, mine}

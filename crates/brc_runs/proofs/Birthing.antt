@@ -8,6 +8,7 @@ use Rattle.brc_words.specs.declared.limits.TheConstants.{FIRST_MORTAL, MOST_BIRT
 use Rattle.brc_words.specs.declared.kind.Kind.{Kind}
 use Rattle.brc_words.specs.declared.owner.Owner.TheVariants as owners
 use Rattle.brc_words.specs.declared.state.State.TheVariants as states
+use Rattle.brc_runs.specs.Phases.{has_reference, is_gripping}
 use Rattle.brc_runs.specs.declared.cell.Cell.{Cell}
 use Rattle.brc_runs.specs.declared.event.Step.{Step}
 use Rattle.brc_runs.specs.declared.event.Step.TheVariants.{Claim, InitLocal, InitShared, Birth}
@@ -20,8 +21,8 @@ use Rattle.brc_runs.specs.declared.row.Stage.TheVariants as stages
 use Rattle.brc_runs.specs.Lists.{one, entry_times, is_marked, filled}
 use Rattle.brc_runs.specs.Heap.{Heap, cell_at, entries_at, row_at, frame_at, popped_at, worklist_at}
 use Rattle.brc_runs.specs.Steps.{thread_may, is_shut, stepped, cell_after, row_after, stage_ok, lock_ok, may_after_leaving, is_close, needs_lock, is_active, is_closed, is_queued, is_merged}
-use Rattle.brc_runs.specs.Holding.{lives, carries, has_reference, count_of_state}
-use Rattle.brc_runs.specs.Sound.{IsSound, ThreadFits, PhaseFits, Births, HandFits, counted_in, grips_of, grips_by_owner, grips, is_gripping, is_threads, asks_least, in_entries}
+use Rattle.brc_runs.specs.Holding.{lives, carries, count_of_state}
+use Rattle.brc_runs.specs.Sound.{IsSound, ThreadFits, PhaseFits, Births, HandFits, counted_in, grips_of, grips_by_owner, grips, is_threads, asks_least, in_entries}
 use Rattle.brc_runs.proofs.Naming.{Unheld, Ungripped, dead_unheld, ungripped, sole_grip, unnamed, no_mark, grips_free, carries_free, free_hand, busy_hand, free_owner, dead_counts, grips_once}
 use Rattle.brc_runs.proofs.Framing.{times-filled, length-filled}
 use Rattle.brc_runs.proofs.Asking.{May, OnCell, on_cell, may_parts, Vacant, vacant}

@@ -7,6 +7,7 @@ use Rattle.brc_words.specs.declared.limits.TheConstants.{FIRST_MORTAL, MOST_PLAC
 use Rattle.brc_words.specs.declared.owner.Owner.TheVariants as owners
 use Rattle.brc_words.specs.declared.state.State.{State}
 use Rattle.brc_words.specs.declared.state.State.TheVariants as states
+use Rattle.brc_runs.specs.Phases.{is_gripping}
 use Rattle.brc_runs.specs.declared.cell.Cell.{Cell}
 use Rattle.brc_runs.specs.declared.row.Row.{Row}
 use Rattle.brc_runs.specs.declared.row.Hand.{Hand}
@@ -19,7 +20,7 @@ use Rattle.brc_runs.specs.Lists.{one, times, entry_times, is_marked, place_at, f
 use Rattle.brc_runs.specs.Heap.{Heap, cell_at, entries_at, row_at, frame_at, popped_at, worklist_at, queue_at, is_gathered, words_for, no_row}
 use Rattle.brc_runs.specs.Steps.{is_merged}
 use Rattle.brc_runs.specs.Holding.{lives, carries, count_of_state}
-use Rattle.brc_runs.specs.Sound.{IsSound, CellFits, ThreadFits, PhaseFits, HandFits, WorklistFits, Locks, counted_in, grips_of, grips_by_owner, grips, is_gripping, gripped, held, in_entries}
+use Rattle.brc_runs.specs.Sound.{IsSound, CellFits, ThreadFits, PhaseFits, HandFits, WorklistFits, Locks, counted_in, grips_of, grips_by_owner, grips, gripped, held, in_entries}
 use Rattle.brc_runs.proofs.Naming.{no_mark, grips_free, carries_free, live_counts, sum_one}
 use Rattle.brc_runs.proofs.Framing.{place_at-filled_else, times-filled, length-filled}
 use Rattle.brc_runs.proofs.Birthing.{active_fits, busy_else}

@@ -10,6 +10,7 @@ use Rattle.brc_words.specs.declared.owner.Owner.{Owner}
 use Rattle.brc_words.specs.declared.owner.Owner.TheVariants as owners
 use Rattle.brc_words.specs.declared.state.State.{State}
 use Rattle.brc_words.specs.declared.state.State.TheVariants as states
+use Rattle.brc_runs.specs.Phases.{is_gripping}
 use Rattle.brc_runs.specs.declared.cell.Cell.{Cell}
 use Rattle.brc_runs.specs.declared.row.Row.{Row}
 use Rattle.brc_runs.specs.declared.row.Hand.{Hand}
@@ -20,7 +21,7 @@ use Rattle.brc_runs.specs.Lists.{one, times, names, entry_times, bit_of, is_mark
 use Rattle.brc_runs.specs.Heap.{Heap, cell_at, row_at, popped_at, worklist_at, no_row}
 use Rattle.brc_runs.specs.Steps.{is_at, is_zero, is_queued, is_merged}
 use Rattle.brc_runs.specs.Holding.{Headline, IsInHand, buries, each, if_so, holders_of, lives, lives_at, carries, count_of_state}
-use Rattle.brc_runs.specs.Sound.{IsSound, PhaseFits, grips_by_owner, grips, is_gripping, gripped, held, is_threads}
+use Rattle.brc_runs.specs.Sound.{IsSound, PhaseFits, grips_by_owner, grips, gripped, held, is_threads}
 use Rattle.brc_runs.proofs.Naming.{Unheld, unheld, live_counts, sum_one, busy_carrier}
 
 -- ---- the list of holders is as long as the sums say

@@ -15,7 +15,8 @@ use Rattle.brc_runs.specs.declared.row.Stage.{Stage}
 use Rattle.brc_runs.specs.Lists.{one, is_marked}
 use Rattle.brc_runs.specs.Heap.{Heap, cell_at, row_at, worklist_at, no_cell, no_row, new_row, is_immortal, words_for}
 use Rattle.brc_runs.specs.Steps.{enabled, after, after_target, root_after, needs_no_cell, hand_ok, untied_ok, cell_after, row_after, is_shut, thread_may, root_may, target_at, target_ok, allocs_after, frees_after, stage_after}
-use Rattle.brc_runs.specs.Holding.{lives, lives_at, lives_since, lives_by, is_birth, is_free_step, holders_of, DiesUnheld}
+use Rattle.brc_runs.specs.Holding.{lives, lives_at, lives_since, lives_by, is_birth, holders_of, DiesUnheld}
+use Rattle.brc_runs.specs.Steps.{is_free_step}
 use Rattle.brc_runs.specs.Sound.{IsSound, HandFits, WorklistFits, Births, held}
 use Rattle.brc_runs.proofs.Naming.{busy_hand, busy_carrier, free_owner, thread_owner}
 use Rattle.brc_runs.proofs.Asking.{May, may_parts, on_cell, OnCell}

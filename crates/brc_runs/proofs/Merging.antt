@@ -7,6 +7,7 @@ use Rattle.brc_words.specs.declared.limits.TheConstants.{FIRST_MORTAL}
 use Rattle.brc_words.specs.declared.owner.Owner.{Owner}
 use Rattle.brc_words.specs.declared.owner.Owner.TheVariants as owners
 use Rattle.brc_words.specs.declared.state.State.TheVariants as states
+use Rattle.brc_runs.specs.Phases.{is_gripping, is_active_phase}
 use Rattle.brc_runs.specs.declared.cell.Cell.{Cell}
 use Rattle.brc_runs.specs.declared.event.Step.TheVariants.{Untie, MergeZero, MergeAdd}
 use Rattle.brc_runs.specs.declared.row.Row.{Row}
@@ -20,7 +21,7 @@ use Rattle.brc_runs.specs.Lists.{one, bit_of, is_marked}
 use Rattle.brc_runs.specs.Heap.{Heap, cell_at, entries_at, row_at, frame_at, popped_at, worklist_at, no_row}
 use Rattle.brc_runs.specs.Steps.{thread_may, stepped, is_at, is_active, is_default, is_queued, is_merged, is_zero, is_closed, is_nobody, untied_hand, untied_ok, untie_ok, added_hand}
 use Rattle.brc_runs.specs.Holding.{lives, carries, count_of_state}
-use Rattle.brc_runs.specs.Sound.{IsSound, CellFits, PhaseFits, HandFits, Untied, counted_in, grips_of, grips_by_owner, grips, is_gripping, is_active_phase, is_active_hand, gripped, held, asks_least}
+use Rattle.brc_runs.specs.Sound.{IsSound, CellFits, PhaseFits, HandFits, Untied, counted_in, grips_of, grips_by_owner, grips, is_active_hand, gripped, held, asks_least}
 use Rattle.brc_runs.proofs.Naming.{second, third, merged_state, Ungripped, dead_unheld, ungripped, sole_grip, grips_once, no_mark, one-le, one-false, free_hand, busy_hand, busy_carrier, live_counts, zero_count, sum_one, no_bit, thread_owner}
 use Rattle.brc_runs.proofs.Birthing.{busy_else, busy_grips, one_and}
 use Rattle.brc_runs.proofs.Counting.{owned_ungripped, total_unmerged}

@@ -10,6 +10,7 @@ use Rattle.brc_words.specs.declared.owner.Owner.{Owner}
 use Rattle.brc_words.specs.declared.owner.Owner.TheVariants as owners
 use Rattle.brc_words.specs.declared.state.State.{State}
 use Rattle.brc_words.specs.declared.state.State.TheVariants as states
+use Rattle.brc_runs.specs.Phases.{has_reference}
 use Rattle.brc_runs.specs.declared.cell.Cell.{Cell}
 use Rattle.brc_runs.specs.declared.row.Row.{Row}
 use Rattle.brc_runs.specs.declared.row.Hand.{Hand}
@@ -21,7 +22,7 @@ use Rattle.brc_runs.specs.declared.row.Stage.TheVariants as stages
 use Rattle.brc_runs.specs.Lists.{one, times, bit_of, is_marked, number_in}
 use Rattle.brc_runs.specs.Heap.{Heap, cell_at, row_at, frame_at, popped_at, worklist_at, queue_at, no_row}
 use Rattle.brc_runs.specs.Steps.{is_free_hand, is_at, phase_number, is_free, is_owned_by, is_nobody, is_active, is_zero, is_default, is_merged}
-use Rattle.brc_runs.specs.Holding.{lives, total_of, carries, has_reference}
+use Rattle.brc_runs.specs.Holding.{lives, total_of, carries}
 use Rattle.brc_runs.specs.Sound.{IsSound, counted_in, grips_by_owner, grips, gripped, held, asks, in_entries}
 
 -- ---- sums

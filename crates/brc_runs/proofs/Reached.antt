@@ -12,7 +12,8 @@ use Rattle.brc_runs.specs.Lists.{one}
 use Rattle.brc_runs.specs.Heap.{Heap, opening, cell_at, row_at, no_row, AreOptions}
 use Rattle.brc_runs.specs.Steps.{enabled, after, after_target, root_after, root_may, thread_may, target_at}
 use Rattle.brc_runs.specs.Runs.{IsRun, IsReached, world_after}
-use Rattle.brc_runs.specs.Holding.{Headline, Histories, lives, lives_at, lives_since, is_birth, is_free_step}
+use Rattle.brc_runs.specs.Holding.{Headline, Histories, lives, lives_at, lives_since, is_birth}
+use Rattle.brc_runs.specs.Steps.{is_free_step}
 use Rattle.brc_runs.specs.Sound.{IsSound}
 use Rattle.brc_runs.proofs.Beginning.{opening_sound, free_cell}
 use Rattle.brc_runs.proofs.Registering.{registered_sound}

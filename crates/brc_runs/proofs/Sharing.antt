@@ -7,6 +7,7 @@ use Rattle.brc_words.specs.declared.owner.Owner.{Owner}
 use Rattle.brc_words.specs.declared.owner.Owner.TheVariants as owners
 use Rattle.brc_words.specs.declared.state.State.{State}
 use Rattle.brc_words.specs.declared.state.State.TheVariants as states
+use Rattle.brc_runs.specs.Phases.{is_ending, has_reference, is_gripping}
 use Rattle.brc_runs.specs.declared.cell.Cell.{Cell}
 use Rattle.brc_runs.specs.declared.event.Dropped.{Dropped}
 use Rattle.brc_runs.specs.declared.event.LastDropped.TheVariants as lasts
@@ -21,9 +22,9 @@ use Rattle.brc_runs.specs.declared.row.Phase.TheVariants as phases
 use Rattle.brc_runs.specs.declared.row.Stage.{Stage}
 use Rattle.brc_runs.specs.Lists.{one, is_marked, filled}
 use Rattle.brc_runs.specs.Heap.{Heap, cell_at, entries_at, row_at, frame_at, popped_at, worklist_at, is_immortal, no_row}
-use Rattle.brc_runs.specs.Steps.{after_target, target_ok, source_cell, dropped_cell, cell_in_hand, frame_without, entries_without, is_default, is_queued, is_merged, is_zero, is_positive, is_nobody, is_ending, is_ending_hand, ends_ok}
-use Rattle.brc_runs.specs.Holding.{lives, carries, has_reference, count_of_state}
-use Rattle.brc_runs.specs.Sound.{IsSound, CellFits, PhaseFits, WorklistFits, counted_in, grips_of, grips_by_owner, grips, is_gripping, is_active_hand, held, asks, asks_least, asks_most, is_threads}
+use Rattle.brc_runs.specs.Steps.{after_target, target_ok, source_cell, dropped_cell, cell_in_hand, frame_without, entries_without, is_default, is_queued, is_merged, is_zero, is_positive, is_nobody, is_ending_hand, ends_ok}
+use Rattle.brc_runs.specs.Holding.{lives, carries, count_of_state}
+use Rattle.brc_runs.specs.Sound.{IsSound, CellFits, PhaseFits, WorklistFits, counted_in, grips_of, grips_by_owner, grips, is_active_hand, held, asks, asks_least, asks_most, is_threads}
 use Rattle.brc_runs.proofs.Naming.{merged_state, no_mark, one-le, free_hand, busy_carrier, live_counts, zero_count, default_state, grips_free, carries_free, sum_one}
 use Rattle.brc_runs.proofs.Framing.{times-filled, length-filled}
 use Rattle.brc_runs.proofs.Asking.{May, OnCell, on_cell, vacant}

@@ -10,6 +10,7 @@ use Rattle.brc_words.specs.declared.state.State.{State}
 use Rattle.brc_words.specs.declared.state.State.TheVariants as states
 use Rattle.brc_model.specs.declared.holder.Holder.{Holder}
 use Rattle.brc_model.specs.declared.holder.Holder.TheVariants as holders
+use Rattle.brc_runs.specs.Phases.{has_reference}
 use Rattle.brc_runs.specs.declared.cell.Cell.{Cell}
 use Rattle.brc_runs.specs.declared.event.Event.{Event}
 use Rattle.brc_runs.specs.declared.event.Step.{Step}
@@ -20,7 +21,7 @@ use Rattle.brc_runs.specs.declared.row.Phase.{Phase}
 use Rattle.brc_runs.specs.declared.row.Phase.TheVariants as phases
 use Rattle.brc_runs.specs.Lists.{one, names, bit_of, is_marked}
 use Rattle.brc_runs.specs.Heap.{Heap, cell_at, row_at, worklist_at, is_immortal}
-use Rattle.brc_runs.specs.Steps.{is_at}
+use Rattle.brc_runs.specs.Steps.{is_at, is_free_step}
 use Rattle.brc_runs.specs.Runs.{world_after}
 
 -- an object lives from its birth until it is freed: while its owner word is nobody's or a thread's
@@ -42,20 +43,6 @@ count_of_state states.Merged local count = count
 
 abbrev pub total_of : Cell → ℤ
 total_of x = count_of_state x.state x.local x.count
-
--- a hand in one of these phases has a reference of its own
-abbrev pub has_reference : Phase → Bool
-has_reference phases.Claimed = false
-has_reference phases.Counted = false
-has_reference phases.Ready = false
-has_reference phases.Zero = false
-has_reference phases.Over = false
-has_reference phases.Untied = false
-has_reference phases.Asked = true
-has_reference phases.Shut = true
-has_reference phases.Taking = true
-has_reference phases.Held = true
-has_reference phases.Popping = false
 
 abbrev pub carries : ℕ → Hand → Bool
 carries q hands.Free = false
@@ -117,10 +104,6 @@ lives_by (e ∷ run) c = lives_since e.step c (lives_by run c)
 abbrev pub is_birth : Step → Bool
 is_birth (Birth c kind k) = true
 is_birth _ = false
-
-abbrev pub is_free_step : Step → Bool
-is_free_step (Free c) = true
-is_free_step _ = false
 
 -- the thread's births and frees among the events
 abbrev pub births_by : ℕ → List Event → ℕ

@@ -1,4 +1,5 @@
 pub mod Lists
+pub mod Phases
 pub mod Heap
 pub mod Steps
 pub mod Runs

@@ -10,6 +10,7 @@ use Rattle.brc_words.specs.declared.owner.Owner.TheVariants as owners
 use Rattle.brc_words.specs.declared.state.State.{State}
 use Rattle.brc_words.specs.declared.state.State.TheVariants as states
 use Rattle.brc_words.specs.Kinds.{is_container}
+use Rattle.brc_runs.specs.Phases.{is_gripping, is_active_phase}
 use Rattle.brc_runs.specs.declared.cell.Cell.{Cell}
 use Rattle.brc_runs.specs.declared.row.Row.{Row}
 use Rattle.brc_runs.specs.declared.row.Hand.{Hand}
@@ -48,20 +49,6 @@ held h q = in_frames h q + in_popped h q + in_hands h q + in_queues h q + in_ent
 -- those that stand on the way through a merge queue
 abbrev pub asks : Heap → ℕ → ℕ
 asks h q = in_popped h q + in_hands h q + in_queues h q
-
--- a hand in one of these phases is about to bear, merge or bury its cell
-abbrev pub is_gripping : Phase → Bool
-is_gripping phases.Claimed = true
-is_gripping phases.Counted = true
-is_gripping phases.Ready = true
-is_gripping phases.Zero = true
-is_gripping phases.Over = true
-is_gripping phases.Untied = true
-is_gripping phases.Asked = false
-is_gripping phases.Shut = false
-is_gripping phases.Taking = true
-is_gripping phases.Held = false
-is_gripping phases.Popping = true
 
 abbrev pub grips : ℕ → Hand → Bool
 grips q hands.Free = false
@@ -155,20 +142,6 @@ pub record WorklistFits (t : ℕ) (q : ℕ) (x : Cell) : Type 0 where
   pub lives : lives x.owner ≡ true
   pub total : total_of x ≡ pos 0
   pub whose : (x.state ≡ states.Merged) ⊎ (x.owner ≡ owners.Thread t)
-
--- a hand that only an active thread has: a birth, or a merge at zero
-abbrev pub is_active_phase : Phase → Bool
-is_active_phase phases.Claimed = true
-is_active_phase phases.Counted = true
-is_active_phase phases.Ready = true
-is_active_phase phases.Zero = true
-is_active_phase phases.Over = true
-is_active_phase phases.Untied = true
-is_active_phase phases.Asked = false
-is_active_phase phases.Shut = false
-is_active_phase phases.Taking = false
-is_active_phase phases.Held = false
-is_active_phase phases.Popping = false
 
 abbrev pub is_active_hand : Hand → Bool
 is_active_hand hands.Free = false

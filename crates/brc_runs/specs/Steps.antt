@@ -11,6 +11,7 @@ use Rattle.brc_words.specs.declared.owner.Owner.{Owner}
 use Rattle.brc_words.specs.declared.owner.Owner.TheVariants as owners
 use Rattle.brc_words.specs.declared.state.State.{State}
 use Rattle.brc_words.specs.declared.state.State.TheVariants as states
+use Rattle.brc_runs.specs.Phases.{is_ending}
 use Rattle.brc_runs.specs.declared.cell.Cell.{Cell}
 use Rattle.brc_runs.specs.declared.event.Event.{Event}
 use Rattle.brc_runs.specs.declared.event.Step.{Step}
@@ -158,20 +159,6 @@ is_free_hand (hands.Busy phase c) = false
 abbrev pub is_at : Phase → ℕ → Hand → Bool
 is_at wanted d hands.Free = false
 is_at wanted d (hands.Busy phase c) = (phase_number phase == phase_number wanted) && (c == d)
-
--- a reference in a hand that the shared word may count down: an asked one, a shut one, or one of a merged object
-abbrev pub is_ending : Phase → Bool
-is_ending phases.Claimed = false
-is_ending phases.Counted = false
-is_ending phases.Ready = false
-is_ending phases.Zero = false
-is_ending phases.Over = false
-is_ending phases.Untied = false
-is_ending phases.Asked = true
-is_ending phases.Shut = true
-is_ending phases.Taking = false
-is_ending phases.Held = true
-is_ending phases.Popping = false
 
 abbrev pub is_ending_hand : Hand → Bool
 is_ending_hand hands.Free = false
@@ -478,6 +465,15 @@ frees_after _ n = n
 abbrev pub row_after : Step → ℕ → Cell → Bool → Row → Row
 row_after s c x shut row = record row { hand = hand_after s c x shut row.hand; locked = locked_after s row.locked; allocs = allocs_after s row.allocs; frees = frees_after s row.frees }
 
+-- ---- the parts of an effect: what a step fills, lets go, changes, settles and marks
+
+-- the place that the step fills with its cell
+abbrev pub filled_place : Step → Option ℕ
+filled_place (Birth c kind k) = Some k
+filled_place (LocalUp source k) = Some k
+filled_place (SharedUp source k) = Some k
+filled_place _ = None
+
 -- the reference that goes from a place or from entries
 abbrev pub gone : Step → Cell → Option Dropped
 gone (LocalDown drop) x = Some drop
@@ -486,15 +482,72 @@ gone (Ask drop) x = if is_default x.state then Some drop else None
 gone (LastDown (lasts.Dropped drop)) x = Some drop
 gone _ x = None
 
+-- the cell whose object is born
+abbrev pub born_cell : Step → Option ℕ
+born_cell (Birth c kind k) = Some c
+born_cell _ = None
+
+-- the popped entry that is counted down, and so dealt with
+abbrev pub settled_cell : Step → Option ℕ
+settled_cell (LastDown (lasts.Popped c)) = Some c
+settled_cell _ = None
+
+-- the cell goes into a merge queue
+abbrev pub is_enqueue : Step → Bool
+is_enqueue (Enqueue c) = true
+is_enqueue _ = false
+
+-- a block is given back
+abbrev pub is_free_step : Step → Bool
+is_free_step (Free c) = true
+is_free_step _ = false
+
+-- the object is dead with this step, so its block is taken
+abbrev pub takes_block : Step → Cell → Bool
+takes_block (SeeZero d) x = is_untouched x
+takes_block (MergeZero d) x = is_zero x.count
+takes_block (LastDown last) x = is_merged x.state && is_zero (x.count -ℤ pos 1)
+takes_block _ x = false
+
+-- the locked object is changed
+abbrev pub is_unlock : Step → Bool
+is_unlock (Unlock change) = true
+is_unlock _ = false
+
+-- ---- what each part does
+
+-- a frame: a place is filled, or a reference goes
 abbrev pub frame_without : Option Dropped → List (Option ℕ) → List (Option ℕ)
 frame_without None frame = frame
 frame_without (Some (dropped.Frame k)) frame = vacated frame k
 frame_without (Some (dropped.Work c)) frame = frame
 
+abbrev pub frame_with : Option ℕ → Option Dropped → ℕ → List (Option ℕ) → List (Option ℕ)
+frame_with (Some k) out c frame = filled frame k c
+frame_with None out c frame = frame_without out frame
+
+-- the entries of all cells: an object is born without any, or a reference goes
 abbrev pub entries_without : Option Dropped → List (List ℕ) → List (List ℕ)
 entries_without None lists = lists
 entries_without (Some (dropped.Frame k)) lists = lists
 entries_without (Some (dropped.Work c)) lists = slice_set lists c (front_of (slice_index_or lists c []))
+
+abbrev pub entries_with : Option ℕ → Option Dropped → List (List ℕ) → List (List ℕ)
+entries_with (Some c) out lists = slice_set lists c []
+entries_with None out lists = entries_without out lists
+
+abbrev pub without_settled : Option ℕ → List ℕ → List ℕ
+without_settled None popped = popped
+without_settled (Some c) popped = without_bit popped c
+
+-- a worklist: a block goes, or is taken
+abbrev pub worklist_with : Bool → Bool → ℕ → List Bool → List Bool
+worklist_with frees takes c worklist = if frees then slice_set worklist c false else (if takes then slice_set worklist c true else worklist)
+
+-- the merge queues: the cell's bit is set in a thread's, unless that word is closed
+abbrev pub queues_with : Bool → Bool → ℕ → ℕ → List (List ℕ) → List (List ℕ)
+queues_with enqueues shut t c queues =
+    if enqueues then (if shut then queues else slice_set queues t (with_bit (slice_index_or queues t []) c)) else queues
 
 -- the frame after an unlock, and the locked object's entries: one moves in, one moves out, or two are exchanged
 abbrev pub frame_changed : Change → List ℕ → List (Option ℕ) → List (Option ℕ)
@@ -509,43 +562,28 @@ entries_changed (changes.Put j) frame entries = entries ++ number_in (place_at f
 entries_changed (changes.Take i j) frame entries = remove entries i
 entries_changed (changes.Swap i j) frame entries = slice_set entries i (number_in (place_at frame j))
 
+-- ---- what a step does to each list of the world, by these parts
+
 abbrev pub frame_after : Step → ℕ → Cell → List ℕ → List (Option ℕ) → List (Option ℕ)
-frame_after (Birth d kind k) c x entries frame = filled frame k c
-frame_after (LocalUp source k) c x entries frame = filled frame k c
-frame_after (SharedUp source k) c x entries frame = filled frame k c
 frame_after (Unlock change) c x entries frame = frame_changed change entries frame
-frame_after s c x entries frame = frame_without (gone s x) frame
+frame_after s c x entries frame = frame_with (filled_place s) (gone s x) c frame
 
--- the entries of all cells
 abbrev pub entries_after : Step → ℕ → Cell → List (Option ℕ) → List (List ℕ) → List (List ℕ)
-entries_after (Birth d kind k) c x frame lists = slice_set lists d []
 entries_after (Unlock change) c x frame lists = slice_set lists c (entries_changed change frame (slice_index_or lists c []))
-entries_after s c x frame lists = entries_without (gone s x) lists
+entries_after s c x frame lists = entries_with (born_cell s) (gone s x) lists
 
--- a popped entry that was counted down is dealt with
 abbrev pub popped_after : Step → List ℕ → List ℕ
-popped_after (LastDown (lasts.Popped c)) popped = without_bit popped c
-popped_after _ popped = popped
-
--- the object is dead with this step, so its block is taken
-abbrev pub takes_block : Step → Cell → Bool
-takes_block (SeeZero d) x = is_untouched x
-takes_block (MergeZero d) x = is_zero x.count
-takes_block (LastDown last) x = is_merged x.state && is_zero (x.count -ℤ pos 1)
-takes_block _ x = false
+popped_after s popped = without_settled (settled_cell s) popped
 
 abbrev pub worklist_after : Step → ℕ → Cell → List Bool → List Bool
-worklist_after (Free d) c x worklist = slice_set worklist c false
-worklist_after s c x worklist = if takes_block s x then slice_set worklist c true else worklist
+worklist_after s c x worklist = worklist_with (is_free_step s) (takes_block s x) c worklist
 
--- the queue word of the thread that bore the cell is closed
+-- the queue word of the cell's bearer is closed
 abbrev pub is_shut : Heap → ℕ → Bool
 is_shut h c = is_closed (row_at h (cell_at h c).bearer).stage (c / 32)
 
--- the merge queues: the bearer's gets the cell's bit, unless it is closed
 abbrev pub queues_after : Heap → Step → ℕ → List (List ℕ)
-queues_after h (Enqueue d) c = if is_shut h c then h.queues else slice_set h.queues (cell_at h c).bearer (with_bit (queue_at h (cell_at h c).bearer) c)
-queues_after h _ c = h.queues
+queues_after h s c = queues_with (is_enqueue s) (is_shut h c) (cell_at h c).bearer c h.queues
 
 -- what a thread's step does, where its cell is c
 abbrev pub stepped : Heap → ℕ → Step → ℕ → Heap

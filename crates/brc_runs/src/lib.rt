@@ -14,4 +14,4 @@ pub use cell::Cell;
 pub use event::{Change, Dropped, Event, LastDropped, Source, Step};
 pub use laws::{counts_are_references, lives_are_told_by_the_run, worlds_are_sound};
 pub use opening::{is_immortal, new_row, no_cell, no_row, opening_cell, words_for};
-pub use row::{Hand, Phase, Row, Stage};
+pub use row::{Hand, Phase, Role, Row, Stage};

@@ -1,5 +1,8 @@
 //! What one thread's own row says: how far its life is, what is in its hand, and its ledger.
 
+ghost use Rattle.std.specs.Prelude.{◌≡◌};
+ghost use Rattle.brc_runs.specs.Phases.{role_of};
+
 /// How far a thread's life is. That it is gathered is known by the root.
 #[derive(Clone, Copy, Debug, PartialEq, Eq)]
 pub enum Stage {
@@ -43,15 +46,44 @@ pub enum Phase {
     Popping,
 }
 
+/// What a thread does with the cell in its hand.
+#[derive(Clone, Copy, Debug, PartialEq, Eq)]
+pub enum Role {
+    /// It bears the object, or ends or merges its own at local count 0. Only an active thread does.
+    Owns,
+    /// It has a reference on its way to a merge queue, or back from a closed one.
+    Carries,
+    /// It has such a reference, and merges the object in place of an owner that has left.
+    Adopts,
+    /// It merges its own object for a popped entry.
+    Pops,
+}
+
+impl Phase {
+    /// What a thread does with a cell that is in its hand in this phase.
+    pub fn role(self) -> Role
+        ensures { result ≡ role_of self }
+    {
+        match self {
+            Phase::Claimed | Phase::Counted | Phase::Ready => Role::Owns,
+            Phase::Zero | Phase::Over | Phase::Untied => Role::Owns,
+            Phase::Asked | Phase::Shut | Phase::Held => Role::Carries,
+            Phase::Taking => Role::Adopts,
+            Phase::Popping => Role::Pops,
+        }
+    }
+}
+
 /// A thread's row.
 #[derive(Clone, Copy, Debug, PartialEq, Eq)]
+// The widest fields first, since fields lie in the order of the source.
 pub struct Row {
-    pub stage: Stage,
-    pub hand: Hand,
-    /// The place of its frame whose object it has locked.
-    pub locked: Option<u32>,
     /// How many objects it has made.
     pub allocs: u64,
     /// How many blocks it has given back.
     pub frees: u64,
+    pub hand: Hand,
+    pub stage: Stage,
+    /// The place of its frame whose object it has locked.
+    pub locked: Option<u32>,
 }
