@@ -1,5 +1,5 @@
 -- The owner counts up and down on the local word; of an immortal only the places change.
-use Rattle.std.proofs.Common.{◌≡◌, ◌≢◌, ℕ, ◌+◌, ◌-◌, ◌<◌, ◌≤◌, ◌==◌, ◌&&◌, Bool, true, false, if◌then◌else◌, ℤ, pos, ◌+ℤ◌, List, [], ◌∷◌, suc, length, get_or, Option, Some, None, sum_by, refl, sym, ◌∙◌, ap, subst, inl, inr, arith}
+use Rattle.std.proofs.Common.{◌≡◌, ◌≢◌, ℕ, ◌+◌, ◌-◌, ◌<◌, ◌≤◌, ◌==◌, ◌&&◌, not, Bool, true, false, if◌then◌else◌, ℤ, pos, ◌+ℤ◌, List, [], ◌∷◌, suc, length, get_or, Option, Some, None, sum_by, refl, sym, ◌∙◌, ap, subst, inl, inr, arith}
 use Rattle.std.proofs.lemmas.List.Sums.{sum_by-cons}
 use Rattle.std.proofs.lemmas.Bool.{cases_eq, cases_Bool, eq-eqb, ne_eqb, true≢false}
 use Rattle.std.proofs.lemmas.Int.{ints}
@@ -18,9 +18,9 @@ use Rattle.brc_runs.specs.declared.row.Stage.{Stage}
 use Rattle.brc_runs.specs.declared.row.Stage.TheVariants as stages
 use Rattle.brc_runs.specs.Lists.{one, times, entry_times, is_marked, place_at, filled}
 use Rattle.brc_runs.specs.Heap.{Heap, cell_at, entries_at, row_at, frame_at, popped_at, worklist_at, queue_at, is_gathered, words_for, no_row}
-use Rattle.brc_runs.specs.Steps.{is_merged}
+use Rattle.brc_runs.specs.Steps.{is_merged, is_default, is_queued}
 use Rattle.brc_runs.specs.Holding.{lives, carries, count_of_state}
-use Rattle.brc_runs.specs.Sound.{IsSound, CellFits, ThreadFits, PhaseFits, HandFits, WorklistFits, Locks, counted_in, grips_of, grips_by_owner, grips, gripped, held, in_entries}
+use Rattle.brc_runs.specs.Sound.{IsSound, CellFits, ThreadFits, PhaseFits, HandFits, WorklistFits, Locks, counted_in, grips_of, grips_by_owner, grips, gripped, held, in_entries, is_threads, asks_least, asks_most}
 use Rattle.brc_runs.proofs.Naming.{no_mark, grips_free, carries_free, live_counts, sum_one}
 use Rattle.brc_runs.proofs.Framing.{place_at-filled_else, times-filled, length-filled}
 use Rattle.brc_runs.proofs.Birthing.{active_fits, busy_else}
@@ -121,6 +121,21 @@ total_unmerged states.Merged local count h = absurd (true≢false h)
 pub owned_counts : (x : Cell) (t n : ℕ) → x.owner ≡ owners.Thread t → is_merged x.state ≡ false → counted_in (record x { local = n }) ≡ pos n +ℤ x.count
 owned_counts x t n owner unmerged = live_counts (record x { local = n }) (ap lives owner) ∙ total_unmerged x.state n x.count unmerged
 
+-- what the cell says of itself, at another local count and with entries that are no more
+local_cell : (threads limit : ℕ) (x : Cell) (n : ℕ) (old new : List ℕ) → CellFits threads limit x old → (lives x.owner ≡ true → n ≤ limit) → Fewer old new
+    → CellFits threads limit (record x { local = n }) new
+local_cell threads limit x n old new fits limited fewer = record {
+  default = fits.default;
+  owned_unmerged = fits.owned_unmerged;
+  owned_by_bearer = fits.owned_by_bearer;
+  dead_empty = λ dead. fewer.empty (fits.dead_empty dead);
+  dead_count = fits.dead_count;
+  born = fits.born;
+  limited = limited;
+  plain = λ plain. fewer.empty (fits.plain plain);
+  few = omega (arith, fits.few, fewer.few);
+}
+
 -- ---- up
 
 -- a lock's place is filled, so it isn't the vacant one
@@ -141,93 +156,93 @@ pub record Ups (h : Heap) (t c k : ℕ) : Type 0 where
   pub here : is_gathered h t ≡ false
   pub hand : (row_at h t).hand ≡ hands.Free
 
-pub up_immortal_fits : (h : Heap) (t c k : ℕ) → IsSound h → Ups h t c k → c < FIRST_MORTAL
-    → Plain h t c (cell_at h c) (row_at h t) (filled (frame_at h t) k c) (worklist_at h t) h.entries
-up_immortal_fits h t c k sound ups low = record {
+-- what counting up owes besides: which word it writes, and that the total rises by one
+pub record Raises (h : Heap) (t c : ℕ) (x : Cell) : Type 0 where
+  pub immortal : c < FIRST_MORTAL → x ≡ cell_at h c
+  pub mutex : x.mutex ≡ (cell_at h c).mutex
+  pub bearer : x.bearer ≡ (cell_at h c).bearer
+  pub owner : x.owner ≡ (cell_at h c).owner
+  pub state : x.state ≡ (cell_at h c).state
+  pub counted : FIRST_MORTAL ≤ c → counted_in x ≡ counted_in (cell_at h c) +ℤ pos 1
+  pub gripped : FIRST_MORTAL ≤ c → grips_of x ≡ grips_of (cell_at h c)
+  pub hands_else : (s : ℕ) (p : Phase) → s ≢ t → (row_at h s).hand ≡ hands.Busy p c → PhaseFits s (row_at h s) (popped_at h s) x (row_at h x.bearer).stage c p
+  pub cell : FIRST_MORTAL ≤ c → CellFits (length h.rows) h.limit x (entries_at h c)
+  pub worklists : (s : ℕ) → is_marked (worklist_at h s) c ≡ true → WorklistFits s c x
+
+pub up_fits : (h : Heap) (t c k : ℕ) (x : Cell) → IsSound h → Ups h t c k → Raises h t c x
+    → Plain h t c x (row_at h t) (filled (frame_at h t) k c) (worklist_at h t) h.entries
+up_fits h t c k x sound ups raises = record {
   thread = ups.thread;
   thread_inside = ups.inside;
   cell_inside = ups.cell_inside;
-  immortal = λ _. refl;
-  mutex = refl;
-  bearer = inl refl;
+  immortal = raises.immortal;
+  mutex = raises.mutex;
+  bearer = inl raises.bearer;
   stage = refl;
   locked = refl;
   locked_place = lock_stays h t k c sound ups.place.none;
   marks = refl;
   lists = refl;
-  counted_here = λ high. absurd (omega (arith, low, high));
+  counted_here = λ mortal. omega (arith, ints, raises.counted mortal, times-filled c (frame_at h t) k c ups.place.none, ap one (eq-eqb c c refl));
   counted_else = λ q _ ne. omega (arith, times-filled q (frame_at h t) k c ups.place.none, ap one (ne_eqb c q (λ e. ne (sym e))));
-  gripped_here = λ _. refl;
+  gripped_here = λ mortal. omega (arith, raises.gripped mortal);
   gripped_else = λ q _ ne. refl;
-  most_here = λ high. absurd (omega (arith, low, high));
-  least_here = λ high. absurd (omega (arith, low, high));
+  most_here = λ mortal. omega (arith, sound.most c mortal, ap (λ s. one (not (is_default s))) raises.state);
+  least_here = λ mortal. omega (arith, sound.least c mortal, same_least x (cell_at h c) raises.owner raises.state);
   asks_else = λ q _ ne. refl;
   hand = λ p d busy. let bad : hands.Free ≡ hands.Busy p d = sym ups.hand ∙ busy in absurd (cc);
-  hands_else = λ s p ne busy. (sound.hands s c p busy).fits;
-  cell = λ high. absurd (omega (arith, low, high));
+  hands_else = raises.hands_else;
+  cell = raises.cell;
   fewer = λ q _. same_entries _;
-  works_here = sound.worklists t c;
+  works_here = raises.worklists t;
   works_own = λ q _ on. on;
-  works_else = λ s ne on. sound.worklists s c on;
+  works_else = λ s _ on. raises.worklists s on;
   own = active_fits _ (row_at h t) (row_at h t) (frame_at h t) _ _ (worklist_at h t) _ _ _ ups.active ups.here refl
       (λ _ _. ups.hand) (sound.threads t).births (length-filled (frame_at h t) k c ups.place.low (sound.threads t).places);
-  ledger = refl;
+  ledger = omega (arith, ap (λ o. one (lives o)) raises.owner);
+}
+  where
+    same_least : (x y : Cell) → x.owner ≡ y.owner → x.state ≡ y.state → asks_least x ≡ asks_least y
+    same_least x y owner state = ap (λ o. one (is_queued x.state && is_threads o)) owner ∙ ap (λ s. one (is_queued s && is_threads y.owner)) state
+
+-- an immortal's words don't change
+pub raises_immortal : (h : Heap) (t c : ℕ) → IsSound h → c < FIRST_MORTAL → Raises h t c (cell_at h c)
+raises_immortal h t c sound low = record {
+  immortal = λ _. refl;
+  mutex = refl;
+  bearer = refl;
+  owner = refl;
+  state = refl;
+  counted = λ high. absurd (omega (arith, low, high));
+  gripped = λ _. refl;
+  hands_else = λ s p _ busy. (sound.hands s c p busy).fits;
+  cell = λ high. absurd (omega (arith, low, high));
+  worklists = λ s on. sound.worklists s c on;
 }
 
-pub up_mortal_fits : (h : Heap) (t c k : ℕ) → IsSound h → Ups h t c k → FIRST_MORTAL ≤ c → (cell_at h c).owner ≡ owners.Thread t
+-- the owner counts on the local word
+pub raises_local : (h : Heap) (t c : ℕ) → IsSound h → (row_at h t).hand ≡ hands.Free → FIRST_MORTAL ≤ c → (cell_at h c).owner ≡ owners.Thread t
     → (cell_at h c).local < h.limit → 1 ≤ held h c
-    → Plain h t c (record (cell_at h c) { local = (cell_at h c).local + 1 }) (row_at h t) (filled (frame_at h t) k c) (worklist_at h t) h.entries
-up_mortal_fits h t c k sound ups mortal owner below some =
+    → Raises h t c (record (cell_at h c) { local = (cell_at h c).local + 1 })
+raises_local h t c sound free mortal owner below some =
     let x : Cell = cell_at h c in
-    let free : one (grips c (row_at h t).hand) ≡ 0 = grips_free c _ ups.hand in
-    let none : gripped h c ≡ 0 = owned_ungripped h t c sound mortal owner some free in
-    let positive : 1 ≤ x.local = local_positive h t c sound mortal owner none in
+    let none : gripped h c ≡ 0 = owned_ungripped h t c sound mortal owner some (grips_free c _ free) in
     let fits : CellFits (length h.rows) h.limit x (entries_at h c) = sound.cells c mortal in
-    let old_count = owned_counts x t x.local owner (fits.owned_unmerged t owner) in
-    let new_count = owned_counts x t (x.local + 1) owner (fits.owned_unmerged t owner) in
+    let unmerged = fits.owned_unmerged t owner in
     let old_grip : grips_of x ≡ 0 = sym (sound.gripped c mortal) ∙ none in
     let new_grip : grips_of (record x { local = x.local + 1 }) ≡ 0 =
     ap (λ o. grips_by_owner o x.state (x.local + 1) x.count) owner ∙ ap one (ne_eqb (x.local + 1) 0 (λ e. omega (arith, e))) in
-    let here : one (c == c) ≡ 1 = ap one (eq-eqb c c refl) in
     record {
-      thread = ups.thread;
-      thread_inside = ups.inside;
-      cell_inside = ups.cell_inside;
       immortal = λ low. absurd (omega (arith, low, mortal));
       mutex = refl;
-      bearer = inl refl;
-      stage = refl;
-      locked = refl;
-      locked_place = lock_stays h t k c sound ups.place.none;
-      marks = refl;
-      lists = refl;
-      counted_here = λ _. omega (arith, ints, old_count, new_count, here, times-filled c (frame_at h t) k c ups.place.none);
-      counted_else = λ q _ ne. omega (arith, times-filled q (frame_at h t) k c ups.place.none, ap one (ne_eqb c q (λ e. ne (sym e))));
-      gripped_here = λ _. omega (arith, old_grip, new_grip);
-      gripped_else = λ q _ ne. refl;
-      most_here = λ _. omega (arith, sound.most c mortal);
-      least_here = λ _. omega (arith, sound.least c mortal);
-      asks_else = λ q _ ne. refl;
-      hand = λ p d busy. let bad : hands.Free ≡ hands.Busy p d = sym ups.hand ∙ busy in absurd (cc);
+      bearer = refl;
+      owner = refl;
+      state = refl;
+      counted = λ _. omega (arith, ints, owned_counts x t x.local owner unmerged, owned_counts x t (x.local + 1) owner unmerged);
+      gripped = λ _. new_grip ∙ sym old_grip;
       hands_else = λ s p ne busy. others_local s t (x.local + 1) (row_at h s) (popped_at h s) x _ c p (sound.hands s c p busy).fits owner ne;
-      cell = λ _. record {
-        default = fits.default;
-        owned_unmerged = fits.owned_unmerged;
-        owned_by_bearer = fits.owned_by_bearer;
-        dead_empty = fits.dead_empty;
-        dead_count = fits.dead_count;
-        born = fits.born;
-        limited = λ _. omega (arith, below);
-        plain = fits.plain;
-        few = fits.few;
-      };
-      fewer = λ q _. same_entries _;
-      works_here = λ on. absurd (no_mark _ (held_unmarked h t c sound some) on);
-      works_own = λ q _ on. on;
-      works_else = λ s ne on. absurd (no_mark _ (held_unmarked h s c sound some) on);
-      own = active_fits _ (row_at h t) (row_at h t) (frame_at h t) _ _ (worklist_at h t) _ _ _ ups.active ups.here refl
-          (λ _ _. ups.hand) (sound.threads t).births (length-filled (frame_at h t) k c ups.place.low (sound.threads t).places);
-      ledger = refl;
+      cell = λ _. local_cell _ _ x (x.local + 1) _ _ fits (λ _. omega (arith, below)) (same_entries _);
+      worklists = λ s on. absurd (no_mark _ (held_unmarked h s c sound some) on);
     }
 
 -- ---- down
@@ -246,36 +261,77 @@ pub record Downs (h : Heap) (t c : ℕ) (f : List (Option ℕ)) (es : List (List
   pub lists : length es ≡ length h.entries
   pub fewer : (q : ℕ) → Fewer (entries_at h q) (get_or es q [])
 
-pub down_immortal_fits : (h : Heap) (t c : ℕ) (f : List (Option ℕ)) (es : List (List ℕ)) → IsSound h → Downs h t c f es → c < FIRST_MORTAL
-    → Plain h t c (cell_at h c) (row_at h t) f (worklist_at h t) es
-down_immortal_fits h t c f es sound downs low =
+-- what counting down owes besides: which word it writes, that the total falls by one, and what is in the hand then
+pub record Lowers (h : Heap) (t c : ℕ) (x : Cell) (now : Hand) (f : List (Option ℕ)) (es : List (List ℕ)) : Type 0 where
+  pub immortal : c < FIRST_MORTAL → x ≡ cell_at h c
+  pub mutex : x.mutex ≡ (cell_at h c).mutex
+  pub bearer : x.bearer ≡ (cell_at h c).bearer
+  pub live : lives x.owner ≡ lives (cell_at h c).owner
+  pub most : asks_most x ≡ asks_most (cell_at h c)
+  pub least : asks_least x ≡ asks_least (cell_at h c)
+  pub counted : FIRST_MORTAL ≤ c → counted_in x +ℤ pos 1 ≡ counted_in (cell_at h c)
+  pub gripped : FIRST_MORTAL ≤ c → grips_of x ≡ grips_of (cell_at h c) + one (grips c now)
+  pub grips_else : (q : ℕ) → q ≢ c → one (grips q now) ≡ 0
+  pub carries_none : (q : ℕ) → one (carries q now) ≡ 0
+  pub hand : (p : Phase) (d : ℕ) → now ≡ hands.Busy p d
+      → (d ≡ c) × (FIRST_MORTAL ≤ c) × PhaseFits t (record (row_at h t) { hand = now }) (popped_at h t) x (row_at h x.bearer).stage c p
+  pub hands_else : (s : ℕ) (p : Phase) → s ≢ t → (row_at h s).hand ≡ hands.Busy p c → PhaseFits s (row_at h s) (popped_at h s) x (row_at h x.bearer).stage c p
+  pub cell : FIRST_MORTAL ≤ c → CellFits (length h.rows) h.limit x (get_or es c [])
+  pub worklists : (s : ℕ) → is_marked (worklist_at h s) c ≡ true → WorklistFits s c x
+  pub own : ThreadFits (words_for (length h.cells)) (record (row_at h t) { hand = now }) f (popped_at h t) (worklist_at h t) (queue_at h t) (is_gathered h t)
+
+pub down_fits : (h : Heap) (t c : ℕ) (x : Cell) (now : Hand) (f : List (Option ℕ)) (es : List (List ℕ)) → IsSound h → Downs h t c f es → Lowers h t c x now f es
+    → Plain h t c x (record (row_at h t) { hand = now }) f (worklist_at h t) es
+down_fits h t c x now f es sound downs lowers = record {
+  thread = downs.thread;
+  thread_inside = downs.inside;
+  cell_inside = downs.cell_inside;
+  immortal = lowers.immortal;
+  mutex = lowers.mutex;
+  bearer = inl lowers.bearer;
+  stage = refl;
+  locked = refl;
+  locked_place = λ j e. let bad : None ≡ Some j = sym downs.unlocked ∙ e in absurd (cc);
+  marks = refl;
+  lists = downs.lists;
+  counted_here = λ mortal. omega (arith, ints, lowers.counted mortal, ap one (eq-eqb c c refl), downs.let_go c, lowers.carries_none c, carries_free c _ downs.hand);
+  counted_else = λ q _ ne. omega (arith, downs.let_go q, ap one (ne_eqb c q (λ e. ne (sym e))), lowers.carries_none q, carries_free q _ downs.hand);
+  gripped_here = λ mortal. omega (arith, lowers.gripped mortal, grips_free c _ downs.hand);
+  gripped_else = λ q _ ne. omega (arith, grips_free q _ downs.hand, lowers.grips_else q ne);
+  most_here = λ mortal. omega (arith, sound.most c mortal, lowers.most, lowers.carries_none c, carries_free c _ downs.hand);
+  least_here = λ mortal. omega (arith, sound.least c mortal, lowers.least, lowers.carries_none c, carries_free c _ downs.hand);
+  asks_else = λ q _ ne. lowers.carries_none q ∙ sym (carries_free q _ downs.hand);
+  hand = lowers.hand;
+  hands_else = lowers.hands_else;
+  cell = lowers.cell;
+  fewer = λ q _. downs.fewer q;
+  works_here = lowers.worklists t;
+  works_own = λ q _ on. on;
+  works_else = λ s _ on. lowers.worklists s on;
+  own = lowers.own;
+  ledger = omega (arith, ap one lowers.live);
+}
+
+-- an immortal's words don't change
+pub lowers_immortal : (h : Heap) (t c : ℕ) (f : List (Option ℕ)) (es : List (List ℕ)) → IsSound h → Downs h t c f es → c < FIRST_MORTAL
+    → Lowers h t c (cell_at h c) (row_at h t).hand f es
+lowers_immortal h t c f es sound downs low =
     let old : ThreadFits (words_for (length h.cells)) (row_at h t) (frame_at h t) (popped_at h t) (worklist_at h t) (queue_at h t) (is_gathered h t) = sound.threads t in
     record {
-      thread = downs.thread;
-      thread_inside = downs.inside;
-      cell_inside = downs.cell_inside;
       immortal = λ _. refl;
       mutex = refl;
-      bearer = inl refl;
-      stage = refl;
-      locked = refl;
-      locked_place = λ j e. let bad : None ≡ Some j = sym downs.unlocked ∙ e in absurd (cc);
-      marks = refl;
-      lists = downs.lists;
-      counted_here = λ high. absurd (omega (arith, low, high));
-      counted_else = λ q _ ne. omega (arith, downs.let_go q, ap one (ne_eqb c q (λ e. ne (sym e))));
-      gripped_here = λ _. refl;
-      gripped_else = λ q _ ne. refl;
-      most_here = λ high. absurd (omega (arith, low, high));
-      least_here = λ high. absurd (omega (arith, low, high));
-      asks_else = λ q _ ne. refl;
+      bearer = refl;
+      live = refl;
+      most = refl;
+      least = refl;
+      counted = λ high. absurd (omega (arith, low, high));
+      gripped = λ high. absurd (omega (arith, low, high));
+      grips_else = λ q _. grips_free q _ downs.hand;
+      carries_none = λ q. carries_free q _ downs.hand;
       hand = λ p d busy. let bad : hands.Free ≡ hands.Busy p d = sym downs.hand ∙ busy in absurd (cc);
       hands_else = λ s p ne busy. (sound.hands s c p busy).fits;
       cell = λ high. absurd (omega (arith, low, high));
-      fewer = λ q _. downs.fewer q;
-      works_here = sound.worklists t c;
-      works_own = λ q _ on. on;
-      works_else = λ s ne on. sound.worklists s c on;
+      worklists = λ s on. sound.worklists s c on;
       own = record {
         inactive_hand = old.inactive_hand;
         inactive_frame = λ off j. downs.vacant j (old.inactive_frame off j);
@@ -290,27 +346,24 @@ down_immortal_fits h t c f es sound downs low =
         births = old.births;
         places = downs.places;
       };
-      ledger = refl;
     }
 
 -- the hand after counting down: at 0 it has the cell
 abbrev pub down_hand : ℕ → ℕ → Hand → Hand
 down_hand c n hand = if n == 1 then hands.Busy phases.Zero c else hand
 
-pub down_mortal_fits : (h : Heap) (t c : ℕ) (f : List (Option ℕ)) (es : List (List ℕ)) → IsSound h → Downs h t c f es → FIRST_MORTAL ≤ c
+pub lowers_local : (h : Heap) (t c : ℕ) (f : List (Option ℕ)) (es : List (List ℕ)) → IsSound h → Downs h t c f es → FIRST_MORTAL ≤ c
     → (cell_at h c).owner ≡ owners.Thread t → (row_at h t).stage ≡ stages.Active
-    → Plain h t c (record (cell_at h c) { local = (cell_at h c).local - 1 }) (record (row_at h t) { hand = down_hand c (cell_at h c).local (row_at h t).hand }) f (worklist_at h t) es
-down_mortal_fits h t c f es sound downs mortal owner active =
+    → Lowers h t c (record (cell_at h c) { local = (cell_at h c).local - 1 }) (down_hand c (cell_at h c).local (row_at h t).hand) f es
+lowers_local h t c f es sound downs mortal owner active =
     let x : Cell = cell_at h c in
     let hand' : Hand = down_hand c x.local (row_at h t).hand in
     let here : one (c == c) ≡ 1 = ap one (eq-eqb c c refl) in
     let some : 1 ≤ held h c = omega (arith, downs.let_go c, here, sum_one (times c) h.frames t [] refl) in
-    let free : one (grips c (row_at h t).hand) ≡ 0 = grips_free c _ downs.hand in
-    let none : gripped h c ≡ 0 = owned_ungripped h t c sound mortal owner some free in
+    let none : gripped h c ≡ 0 = owned_ungripped h t c sound mortal owner some (grips_free c _ downs.hand) in
     let positive : 1 ≤ x.local = local_positive h t c sound mortal owner none in
     let fits : CellFits (length h.rows) h.limit x (entries_at h c) = sound.cells c mortal in
-    let old_count = owned_counts x t x.local owner (fits.owned_unmerged t owner) in
-    let new_count = owned_counts x t (x.local - 1) owner (fits.owned_unmerged t owner) in
+    let unmerged = fits.owned_unmerged t owner in
     let old_grip : grips_of x ≡ 0 = sym (sound.gripped c mortal) ∙ none in
     let new_grip : grips_of (record x { local = x.local - 1 }) ≡ one (x.local - 1 == 0) = ap (λ o. grips_by_owner o x.state (x.local - 1) x.count) owner in
     -- the hand grips the cell exactly where nothing is left on the local word, and never has a reference
@@ -335,43 +388,21 @@ down_mortal_fits h t c f es sound downs mortal owner active =
           )
     ] in
     record {
-      thread = downs.thread;
-      thread_inside = downs.inside;
-      cell_inside = downs.cell_inside;
       immortal = λ low. absurd (omega (arith, low, mortal));
       mutex = refl;
-      bearer = inl refl;
-      stage = refl;
-      locked = refl;
-      locked_place = λ j e. let bad : None ≡ Some j = sym downs.unlocked ∙ e in absurd (cc);
-      marks = refl;
-      lists = downs.lists;
-      counted_here = λ _. omega (arith, ints, old_count, new_count, positive, here, downs.let_go c, hands_now.2 c, carries_free c _ downs.hand);
-      counted_else = λ q _ ne. omega (arith, downs.let_go q, ap one (ne_eqb c q (λ e. ne (sym e))), hands_now.2 q, carries_free q _ downs.hand);
-      gripped_here = λ _. omega (arith, old_grip, new_grip, free, hands_now.0);
-      gripped_else = λ q _ ne. omega (arith, grips_free q _ downs.hand, hands_now.1 q ne);
-      most_here = λ _. omega (arith, sound.most c mortal, hands_now.2 c, carries_free c _ downs.hand);
-      least_here = λ _. omega (arith, sound.least c mortal, hands_now.2 c, carries_free c _ downs.hand);
-      asks_else = λ q _ ne. hands_now.2 q ∙ sym (carries_free q _ downs.hand);
+      bearer = refl;
+      live = refl;
+      most = refl;
+      least = refl;
+      counted = λ _. omega (arith, ints, owned_counts x t x.local owner unmerged, owned_counts x t (x.local - 1) owner unmerged, positive);
+      gripped = λ _. omega (arith, old_grip, new_grip, hands_now.0);
+      grips_else = hands_now.1;
+      carries_none = hands_now.2;
       hand = λ p d busy. let said = hands_now.3 p d busy in
           (said.0, mortal, subst (λ z. PhaseFits t (record (row_at h t) { hand = hand' }) (popped_at h t) (record x { local = x.local - 1 }) (row_at h x.bearer).stage c z) (sym said.1) owner);
       hands_else = λ s p ne busy. others_local s t (x.local - 1) (row_at h s) (popped_at h s) x _ c p (sound.hands s c p busy).fits owner ne;
-      cell = λ _. record {
-        default = fits.default;
-        owned_unmerged = fits.owned_unmerged;
-        owned_by_bearer = fits.owned_by_bearer;
-        dead_empty = λ dead. (downs.fewer c).empty (fits.dead_empty dead);
-        dead_count = fits.dead_count;
-        born = fits.born;
-        limited = λ live. omega (arith, fits.limited live);
-        plain = λ plain. (downs.fewer c).empty (fits.plain plain);
-        few = omega (arith, fits.few, (downs.fewer c).few);
-      };
-      fewer = λ q _. downs.fewer q;
-      works_here = λ on. absurd (no_mark _ (held_unmarked h t c sound some) on);
-      works_own = λ q _ on. on;
-      works_else = λ s ne on. absurd (no_mark _ (held_unmarked h s c sound some) on);
+      cell = λ _. local_cell _ _ x (x.local - 1) _ _ fits (λ live. omega (arith, fits.limited live)) (downs.fewer c);
+      worklists = λ s on. absurd (no_mark _ (held_unmarked h s c sound some) on);
       own = active_fits _ (row_at h t) _ (frame_at h t) f _ (worklist_at h t) _ _ _ active downs.here refl
           (λ j e. let bad : None ≡ Some j = sym downs.unlocked ∙ e in absurd (cc)) (sound.threads t).births downs.places;
-      ledger = refl;
     }

@@ -16,7 +16,7 @@ use Rattle.brc_runs.specs.Sound.{IsSound}
 use Rattle.brc_runs.proofs.Naming.{free_hand}
 use Rattle.brc_runs.proofs.Asking.{May, may_parts, OnCell, on_cell, vacant, Mine, mine}
 use Rattle.brc_runs.proofs.Birthing.{active_from, claim_sound, local_sound, shared_sound, birth_sound}
-use Rattle.brc_runs.proofs.Counting.{Ups, Downs, up_immortal_fits, up_mortal_fits, down_immortal_fits, down_mortal_fits}
+use Rattle.brc_runs.proofs.Counting.{Ups, Downs, up_fits, raises_immortal, raises_local, down_fits, lowers_immortal, lowers_local}
 use Rattle.brc_runs.proofs.Plainly.{plain_sound}
 use Rattle.brc_runs.proofs.Turning.{acts}
 use Rattle.brc_runs.proofs.Dropping.{source_held, drop_downs}
@@ -52,7 +52,7 @@ up_target h t k source (Some c) sound may named ok =
       worklists = set h.worklists t (worklist_at h t);
     }) in
     elim (cases_Bool (is_immortal c)) [
-      | inl immortal ↦ subst P (sym immortal) (plain_sound h t c _ _ _ _ _ sound (up_immortal_fits h t c k sound ups (ltb-true c FIRST_MORTAL immortal)))
+      | inl immortal ↦ subst P (sym immortal) (plain_sound h t c _ _ _ _ _ sound (up_fits h t c k _ sound ups (raises_immortal h t c sound (ltb-true c FIRST_MORTAL immortal))))
       | inr mortal ↦
           let high : FIRST_MORTAL ≤ c = ltb-false c FIRST_MORTAL mortal in
           let rest : counts_up_locally h.limit t (row_at h t).stage (cell_at h c) ≡ true =
@@ -60,7 +60,7 @@ up_target h t k source (Some c) sound may named ok =
           let parts = and_parts _ _ rest in
           let own : Mine t (row_at h t).stage (cell_at h c) = mine t _ _ parts.0 in
           subst P (sym mortal) (plain_sound h t c _ _ _ _ _ sound
-          (up_mortal_fits h t c k sound ups high own.owner (ltb-true _ _ parts.1) (source_held h t c source named high)))
+          (up_fits h t c k _ sound ups (raises_local h t c sound ups.hand high own.owner (ltb-true _ _ parts.1) (source_held h t c source named high))))
     ]
 
 -- ---- the owner counts down
@@ -83,11 +83,11 @@ down_target h t drop (Some c) sound may named ok =
       worklists = set h.worklists t (worklist_at h t);
     }) in
     elim (cases_Bool (is_immortal c)) [
-      | inl immortal ↦ subst P (sym immortal) (plain_sound h t c _ _ _ _ _ sound (down_immortal_fits h t c f es sound downs (ltb-true c FIRST_MORTAL immortal)))
+      | inl immortal ↦ subst P (sym immortal) (plain_sound h t c _ _ _ _ _ sound (down_fits h t c _ _ f es sound downs (lowers_immortal h t c f es sound downs (ltb-true c FIRST_MORTAL immortal))))
       | inr mortal ↦
           let high : FIRST_MORTAL ≤ c = ltb-false c FIRST_MORTAL mortal in
           let own : Mine t (row_at h t).stage (cell_at h c) = mine t _ _ (subst (λ b. (b || is_mine t (row_at h t).stage (cell_at h c)) ≡ true) mortal at_cell.fits) in
-          subst P (sym mortal) (plain_sound h t c _ _ _ _ _ sound (down_mortal_fits h t c f es sound downs high own.owner own.active))
+          subst P (sym mortal) (plain_sound h t c _ _ _ _ _ sound (down_fits h t c _ _ f es sound downs (lowers_local h t c f es sound downs high own.owner own.active)))
     ]
 
 -- ---- all steps of threads

@@ -7,7 +7,9 @@ use Rattle.brc_words.specs.declared.owner.Owner.{Owner}
 use Rattle.brc_words.specs.declared.owner.Owner.TheVariants as owners
 use Rattle.brc_words.specs.declared.state.State.{State}
 use Rattle.brc_words.specs.declared.state.State.TheVariants as states
-use Rattle.brc_runs.specs.Phases.{is_ending, has_reference, is_gripping}
+use Rattle.brc_runs.specs.declared.row.Role.{Role}
+use Rattle.brc_runs.specs.declared.row.Role.TheVariants as roles
+use Rattle.brc_runs.specs.Phases.{role_of, refers, merges, ends, is_ending, has_reference, is_gripping}
 use Rattle.brc_runs.specs.declared.cell.Cell.{Cell}
 use Rattle.brc_runs.specs.declared.event.Dropped.{Dropped}
 use Rattle.brc_runs.specs.declared.event.LastDropped.TheVariants as lasts
@@ -29,7 +31,7 @@ use Rattle.brc_runs.proofs.Naming.{merged_state, no_mark, one-le, free_hand, bus
 use Rattle.brc_runs.proofs.Framing.{times-filled, length-filled}
 use Rattle.brc_runs.proofs.Asking.{May, OnCell, on_cell, vacant}
 use Rattle.brc_runs.proofs.Birthing.{active_from, active_fits, one_and}
-use Rattle.brc_runs.proofs.Counting.{Ups, Downs, lock_stays, held_unmarked}
+use Rattle.brc_runs.proofs.Counting.{Ups, Raises, up_fits, Downs, held_unmarked}
 use Rattle.brc_runs.proofs.Changes.{same_entries}
 use Rattle.brc_runs.proofs.Plainly.{Plain, plain_sound}
 use Rattle.brc_runs.proofs.Turning.{Acts, acts, Turn, turn_sound}
@@ -104,44 +106,24 @@ merged_held h c sound mortal live merged =
 
 -- ---- up
 
-shared_up_fits : (h : Heap) (t c k : ℕ) → IsSound h → Ups h t c k → FIRST_MORTAL ≤ c → 1 ≤ held h c
-    → Plain h t c (record (cell_at h c) { count = (cell_at h c).count +ℤ pos 1 }) (row_at h t) (filled (frame_at h t) k c) (worklist_at h t) h.entries
-shared_up_fits h t c k sound ups mortal some =
+raises_shared : (h : Heap) (t c : ℕ) → IsSound h → FIRST_MORTAL ≤ c → 1 ≤ held h c → Raises h t c (record (cell_at h c) { count = (cell_at h c).count +ℤ pos 1 })
+raises_shared h t c sound mortal some =
     let x : Cell = cell_at h c in
     let live : lives x.owner ≡ true = held_owner h c sound mortal some in
-    let here : one (c == c) ≡ 1 = ap one (eq-eqb c c refl) in
     let merged : is_merged x.state ≡ true → is_zero (x.count +ℤ pos 1) ≡ is_zero x.count = λ merged.
     let count : x.count ≡ pos (held h c) = merged_held h c sound mortal live merged in
     nonzero (x.count +ℤ pos 1) (held h c + 1) (omega (arith, ints, count)) (omega arith) ∙ sym (nonzero x.count (held h c) count some) in
     record {
-      thread = ups.thread;
-      thread_inside = ups.inside;
-      cell_inside = ups.cell_inside;
       immortal = λ low. absurd (omega (arith, low, mortal));
       mutex = refl;
-      bearer = inl refl;
-      stage = refl;
-      locked = refl;
-      locked_place = lock_stays h t k c sound ups.place.none;
-      marks = refl;
-      lists = refl;
-      counted_here = λ _. omega (arith, ints, moved_counts x (x.count +ℤ pos 1) live, here, times-filled c (frame_at h t) k c ups.place.none);
-      counted_else = λ q _ ne. omega (arith, times-filled q (frame_at h t) k c ups.place.none, ap one (ne_eqb c q (λ e. ne (sym e))));
-      gripped_here = λ _. omega (arith, same_grips x.owner x.state x.local (x.count +ℤ pos 1) x.count merged);
-      gripped_else = λ q _ ne. refl;
-      most_here = λ _. omega (arith, sound.most c mortal);
-      least_here = λ _. omega (arith, sound.least c mortal);
-      asks_else = λ q _ ne. refl;
-      hand = λ p d busy. let bad : hands.Free ≡ hands.Busy p d = sym ups.hand ∙ busy in absurd (cc);
+      bearer = refl;
+      owner = refl;
+      state = refl;
+      counted = λ _. omega (arith, ints, moved_counts x (x.count +ℤ pos 1) live);
+      gripped = λ _. same_grips x.owner x.state x.local (x.count +ℤ pos 1) x.count merged;
       hands_else = count_hands h t c (x.count +ℤ pos 1) sound;
       cell = λ _. count_cell _ _ x (x.count +ℤ pos 1) (entries_at h c) (entries_at h c) live (λ e. omega (arith, ints, (sound.cells c mortal).default e)) (λ e. e) (omega arith) (sound.cells c mortal);
-      fewer = λ q _. same_entries _;
-      works_here = λ on. absurd (no_mark _ (held_unmarked h t c sound some) on);
-      works_own = λ q _ on. on;
-      works_else = λ s ne on. absurd (no_mark _ (held_unmarked h s c sound some) on);
-      own = active_fits _ (row_at h t) (row_at h t) (frame_at h t) _ _ (worklist_at h t) _ _ _ ups.active ups.here refl
-          (λ _ _. ups.hand) (sound.threads t).births (length-filled (frame_at h t) k c ups.place.low (sound.threads t).places);
-      ledger = refl;
+      worklists = λ s on. absurd (no_mark _ (held_unmarked h s c sound some) on);
     }
 
 pub shared_up_sound : (h : Heap) (t k : ℕ) (source : Source) (o : Option ℕ) → IsSound h → May h t (SharedUp source k)
@@ -152,7 +134,7 @@ shared_up_sound h t k source (Some c) sound may named ok =
     let at_cell : OnCell h t (SharedUp source k) c = on_cell h t (SharedUp source k) c ok in
     let parts = and_parts _ _ at_cell.fits in
     let mortal : FIRST_MORTAL ≤ c = ltb-false c FIRST_MORTAL (not-true _ parts.0) in
-    plain_sound h t c _ _ _ _ _ sound (shared_up_fits h t c k sound (record {
+    plain_sound h t c _ _ _ _ _ sound (up_fits h t c k _ sound (record {
       thread = may.some_thread;
       inside = may.inside;
       cell_inside = at_cell.inside;
@@ -160,7 +142,7 @@ shared_up_sound h t k source (Some c) sound may named ok =
       active = active_from _ (SharedUp source k) may.stage refl refl;
       here = may.not_gathered;
       hand = free_hand _ may.hand;
-    }) mortal (source_held h t c source named mortal))
+    }) (raises_shared h t c sound mortal (source_held h t c source named mortal)))
 
 -- ---- one reference goes, or becomes the hand's
 
@@ -480,31 +462,20 @@ pub ending_hand : (hand : Hand) (c : ℕ) → is_ending_hand hand ≡ true → c
 ending_hand hands.Free c ends named = absurd (true≢false (sym ends))
 ending_hand (hands.Busy p d) c ends named = (p, (let e : d ≡ c = cc in ap (hands.Busy p) e), ends)
 
+-- what is said of a role is said of each phase that has it
 pub ending_reference : (p : Phase) → is_ending p ≡ true → has_reference p ≡ true
-ending_reference phases.Claimed ends = absurd (true≢false (sym ends))
-ending_reference phases.Counted ends = absurd (true≢false (sym ends))
-ending_reference phases.Ready ends = absurd (true≢false (sym ends))
-ending_reference phases.Zero ends = absurd (true≢false (sym ends))
-ending_reference phases.Over ends = absurd (true≢false (sym ends))
-ending_reference phases.Untied ends = absurd (true≢false (sym ends))
-ending_reference phases.Asked ends = refl
-ending_reference phases.Shut ends = refl
-ending_reference phases.Taking ends = refl
-ending_reference phases.Held ends = refl
-ending_reference phases.Popping ends = absurd (true≢false (sym ends))
+ending_reference p = by_role (role_of p)
+  where
+    by_role : (r : Role) → ends r ≡ true → refers r ≡ true
+    by_role roles.Carries ending = refl
+    by_role _ ending = absurd (true≢false (sym ending))
 
 ending_grips : (p : Phase) → is_ending p ≡ true → is_gripping p ≡ false
-ending_grips phases.Claimed ends = absurd (true≢false (sym ends))
-ending_grips phases.Counted ends = absurd (true≢false (sym ends))
-ending_grips phases.Ready ends = absurd (true≢false (sym ends))
-ending_grips phases.Zero ends = absurd (true≢false (sym ends))
-ending_grips phases.Over ends = absurd (true≢false (sym ends))
-ending_grips phases.Untied ends = absurd (true≢false (sym ends))
-ending_grips phases.Asked ends = refl
-ending_grips phases.Shut ends = refl
-ending_grips phases.Taking ends = absurd (true≢false (sym ends))
-ending_grips phases.Held ends = refl
-ending_grips phases.Popping ends = absurd (true≢false (sym ends))
+ending_grips p = by_role (role_of p)
+  where
+    by_role : (r : Role) → ends r ≡ true → merges r ≡ false
+    by_role roles.Carries ending = refl
+    by_role _ ending = absurd (true≢false (sym ending))
 
 nobodys : (o : Owner) → is_nobody o ≡ true → is_threads o ≡ false
 nobodys owners.Nobody nobody = refl
@@ -513,17 +484,10 @@ nobodys (owners.Claimed t) nobody = refl
 nobodys owners.Free nobody = refl
 
 no_least : (h : Heap) (t c : ℕ) (p : Phase) → IsSound h → (row_at h t).hand ≡ hands.Busy p c → is_ending p ≡ true → ends_ok (hands.Busy p c) (cell_at h c) ≡ true → asks_least (cell_at h c) ≡ 0
-no_least h t c phases.Claimed sound busy ends ok = absurd (true≢false (sym ends))
-no_least h t c phases.Counted sound busy ends ok = absurd (true≢false (sym ends))
-no_least h t c phases.Ready sound busy ends ok = absurd (true≢false (sym ends))
-no_least h t c phases.Zero sound busy ends ok = absurd (true≢false (sym ends))
-no_least h t c phases.Over sound busy ends ok = absurd (true≢false (sym ends))
-no_least h t c phases.Untied sound busy ends ok = absurd (true≢false (sym ends))
 no_least h t c phases.Asked sound busy ends ok = one_and (is_queued (cell_at h c).state) (is_threads (cell_at h c).owner) (nobodys _ ok)
 no_least h t c phases.Shut sound busy ends ok = one_and (is_queued (cell_at h c).state) (is_threads (cell_at h c).owner) (nobodys _ ok)
-no_least h t c phases.Taking sound busy ends ok = absurd (true≢false (sym ends))
 no_least h t c phases.Held sound busy ends ok = ap (λ s. one (is_queued s && is_threads (cell_at h c).owner)) (sound.hands t c phases.Held busy).fits
-no_least h t c phases.Popping sound busy ends ok = absurd (true≢false (sym ends))
+no_least h t c _ sound busy ends ok = absurd (true≢false (sym ends))
 
 -- the one in the hand
 pub last_hand_sound : (h : Heap) (t : ℕ) (o : Option ℕ) → IsSound h → May h t (LastDown lasts.Hand)
