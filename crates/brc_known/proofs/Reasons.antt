@@ -186,20 +186,11 @@ by_drop h u c d s o named is = elim (drop_entries h u c d o named) [
 
 step_entries : (h : Heap) (u : ℕ) (s : Step) (d c : ℕ) → target_at h u s ≡ Some d → StepEntries h u s d c
 unfolding StepEntries
-step_entries h u (Claim x) d c named = inl refl
-step_entries h u (InitLocal x) d c named = inl refl
-step_entries h u (InitShared x) d c named = inl refl
 step_entries h u (Birth x kind k) d c named = elim (cases_eq c x) [
   | inl same ↦ inr (inl (kind, k, ap (λ i. Birth i kind k) (sym same)))
   | inr other ↦ inl (read_there h.entries x c [] [] other)
 ]
-step_entries h u (LocalUp source k) d c named = inl refl
 step_entries h u (LocalDown drop) d c named = by_drop h u c d (LocalDown drop) (Some drop) (λ x e. let same : drop ≡ x = cc in subst (λ y. dropped_cell (frame_at h u) (worklist_at h u) (entries_at h) y ≡ Some d) same named) refl
-step_entries h u (SeeZero x) d c named = inl refl
-step_entries h u (Free x) d c named = inl refl
-step_entries h u (Untie x) d c named = inl refl
-step_entries h u (MergeZero x) d c named = inl refl
-step_entries h u (SharedUp source k) d c named = inl refl
 step_entries h u (SharedDown drop) d c named = by_drop h u c d (SharedDown drop) (Some drop) (λ x e. let same : drop ≡ x = cc in subst (λ y. dropped_cell (frame_at h u) (worklist_at h u) (entries_at h) y ≡ Some d) same named) refl
 step_entries h u (Ask drop) d c named = asked (is_default (cell_at h d).state) refl
   where
@@ -208,21 +199,11 @@ step_entries h u (Ask drop) d c named = asked (is_default (cell_at h d).state) r
         (ap (λ b. get_or (entries_without (if b then Some drop else None) h.entries) c []) default)
     asked false other = by_drop h u c d (Ask drop) None (λ x e. absurd (cc)) (ap (λ b. get_or (entries_without (if b then Some drop else None) h.entries) c []) other)
 step_entries h u (LastDown (lasts.Dropped drop)) d c named = by_drop h u c d (LastDown (lasts.Dropped drop)) (Some drop) (λ x e. let same : drop ≡ x = cc in subst (λ y. dropped_cell (frame_at h u) (worklist_at h u) (entries_at h) y ≡ Some d) same named) refl
-step_entries h u (LastDown (lasts.Popped x)) d c named = inl refl
-step_entries h u (LastDown lasts.Hand) d c named = inl refl
-step_entries h u (Enqueue x) d c named = inl refl
-step_entries h u (Drain k) d c named = inl refl
-step_entries h u (MergeAdd x) d c named = inl refl
-step_entries h u (Close k) d c named = inl refl
-step_entries h u (Nudge v k) d c named = inl refl
-step_entries h u Wake d c named = inl refl
-step_entries h u (Lock k) d c named = inl refl
 step_entries h u (Unlock change) d c named = elim (cases_eq c d) [
   | inl same ↦ inr (inr (inl (change, refl, sym same)))
   | inr other ↦ inl (read_there h.entries d c _ [] other)
 ]
-step_entries h u (Register v) d c named = inl refl
-step_entries h u (Gather v) d c named = inl refl
+step_entries h u _ d c named = inl refl
 
 target_entries : (h : Heap) (u : ℕ) (s : Step) (o : Option ℕ) (c : ℕ) → target_at h u s ≡ o → May h u s
     → (entries_at (after_target h u s o) c ≡ entries_at h c) ⊎ Meddles h (record { thread = u; step = s }) c

@@ -75,17 +75,15 @@ Unties : Heap → ℕ → ℕ → Phase → Type 0
 Unties h u c p = ((row_at h u).hand ≡ hands.Busy p c) × ((p ≡ phases.Untied) ⊎ ((p ≡ phases.Taking) ⊎ (p ≡ phases.Popping)))
 
 untying_phase : (h : Heap) (u c : ℕ) (p : Phase) → (cell_at h c).owner ≡ owners.Nobody → is_gripping p ≡ true → HandFits h u p c → (p ≡ phases.Untied) ⊎ ((p ≡ phases.Taking) ⊎ (p ≡ phases.Popping))
+untying_phase h u c phases.Untied owner grip fits = inl refl
+untying_phase h u c phases.Taking owner grip fits = inr (inl refl)
+untying_phase h u c phases.Popping owner grip fits = inr (inr refl)
 untying_phase h u c phases.Claimed owner grip fits = absurd (let e : owners.Nobody ≡ owners.Claimed u = sym owner ∙ fits.fits.claimed in cc)
 untying_phase h u c phases.Counted owner grip fits = absurd (let e : owners.Nobody ≡ owners.Claimed u = sym owner ∙ fits.fits.0.claimed in cc)
 untying_phase h u c phases.Ready owner grip fits = absurd (let e : owners.Nobody ≡ owners.Claimed u = sym owner ∙ fits.fits.0.claimed in cc)
 untying_phase h u c phases.Zero owner grip fits = absurd (let e : owners.Nobody ≡ owners.Thread u = sym owner ∙ fits.fits in cc)
 untying_phase h u c phases.Over owner grip fits = absurd (let e : owners.Nobody ≡ owners.Thread u = sym owner ∙ fits.fits in cc)
-untying_phase h u c phases.Untied owner grip fits = inl refl
-untying_phase h u c phases.Asked owner grip fits = absurd (true≢false (sym grip))
-untying_phase h u c phases.Shut owner grip fits = absurd (true≢false (sym grip))
-untying_phase h u c phases.Taking owner grip fits = inr (inl refl)
-untying_phase h u c phases.Held owner grip fits = absurd (true≢false (sym grip))
-untying_phase h u c phases.Popping owner grip fits = inr (inr refl)
+untying_phase h u c _ owner grip fits = absurd (true≢false (sym grip))
 
 who_unties : (h : Heap) (c : ℕ) → IsSound h → FIRST_MORTAL ≤ c → (cell_at h c).owner ≡ owners.Nobody → is_merged (cell_at h c).state ≡ false → 1 ≤ held h c → (u : ℕ) × (p : Phase) × Unties h u c p
 unfolding Unties

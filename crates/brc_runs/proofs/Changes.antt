@@ -227,17 +227,8 @@ changed_least h t c n sound fits =
 -- only a shut hand looks at the bearer's stage, and closed words stay closed
 pub other_bearer : (t : ℕ) (row : Row) (popped : List ℕ) (x : Cell) (old new : Stage) (d : ℕ) (p : Phase)
     → (p ≡ phases.Shut → is_closed old (d / 32) ≡ true → is_closed new (d / 32) ≡ true) → PhaseFits t row popped x old d p → PhaseFits t row popped x new d p
-other_bearer t row popped x old new d phases.Claimed same fits = fits
-other_bearer t row popped x old new d phases.Counted same fits = fits
-other_bearer t row popped x old new d phases.Ready same fits = fits
-other_bearer t row popped x old new d phases.Zero same fits = fits
-other_bearer t row popped x old new d phases.Over same fits = fits
-other_bearer t row popped x old new d phases.Untied same fits = fits
-other_bearer t row popped x old new d phases.Asked same fits = fits
 other_bearer t row popped x old new d phases.Shut same fits = same refl fits
-other_bearer t row popped x old new d phases.Taking same fits = fits
-other_bearer t row popped x old new d phases.Held same fits = fits
-other_bearer t row popped x old new d phases.Popping same fits = fits
+other_bearer t row popped x old new d _ same fits = fits
 
 stays_closed : (h : Heap) (t c : ℕ) (n : New) → Fits h t c n
     → (j k : ℕ) → is_closed (row_at h j).stage k ≡ true → is_closed (row_at (changed h t c n) j).stage k ≡ true

@@ -21,7 +21,7 @@ use Rattle.brc_runs.specs.Heap.{Heap, cell_at, entries_at, row_at, frame_at, pop
 use Rattle.brc_runs.specs.Steps.{is_merged, is_default, is_queued}
 use Rattle.brc_runs.specs.Holding.{lives, carries, count_of_state}
 use Rattle.brc_runs.specs.Sound.{IsSound, CellFits, ThreadFits, PhaseFits, HandFits, WorklistFits, Locks, counted_in, grips_of, grips_by_owner, grips, gripped, held, in_entries, is_threads, asks_least, asks_most}
-use Rattle.brc_runs.proofs.Naming.{no_mark, grips_free, carries_free, live_counts, sum_one}
+use Rattle.brc_runs.proofs.Naming.{no_mark, grips_free, carries_free, live_counts, sum_one, gripping_owner}
 use Rattle.brc_runs.proofs.Framing.{place_at-filled_else, times-filled, length-filled}
 use Rattle.brc_runs.proofs.Birthing.{active_fits, busy_else}
 use Rattle.brc_runs.proofs.Asking.{Vacant}
@@ -33,17 +33,15 @@ use Rattle.brc_runs.proofs.Plainly.{Plain}
 -- what another thread's hand says of a cell that a thread owns is no birth, merge or burial
 others_phase : (s t : ℕ) (row : Row) (popped : List ℕ) (x : Cell) (g : Stage) (c : ℕ) (p : Phase) → PhaseFits s row popped x g c p
     → x.owner ≡ owners.Thread t → s ≢ t → is_gripping p ≡ false
-others_phase s t row popped x g c phases.Claimed fits owner ne = let e : owners.Thread t ≡ owners.Claimed s = sym owner ∙ fits.claimed in absurd (cc)
-others_phase s t row popped x g c phases.Counted fits owner ne = let e : owners.Thread t ≡ owners.Claimed s = sym owner ∙ fits.0.claimed in absurd (cc)
-others_phase s t row popped x g c phases.Ready fits owner ne = let e : owners.Thread t ≡ owners.Claimed s = sym owner ∙ fits.0.claimed in absurd (cc)
-others_phase s t row popped x g c phases.Zero fits owner ne = let e : owners.Thread t ≡ owners.Thread s = sym owner ∙ fits in absurd (ne (cc))
-others_phase s t row popped x g c phases.Over fits owner ne = let e : owners.Thread t ≡ owners.Thread s = sym owner ∙ fits in absurd (ne (cc))
-others_phase s t row popped x g c phases.Untied fits owner ne = let e : owners.Thread t ≡ owners.Nobody = sym owner ∙ fits.owner in absurd (cc)
-others_phase s t row popped x g c phases.Asked fits owner ne = refl
-others_phase s t row popped x g c phases.Shut fits owner ne = refl
-others_phase s t row popped x g c phases.Taking fits owner ne = let e : owners.Thread t ≡ owners.Nobody = sym owner ∙ fits in absurd (cc)
-others_phase s t row popped x g c phases.Held fits owner ne = refl
-others_phase s t row popped x g c phases.Popping fits owner ne = let e : owners.Thread t ≡ owners.Nobody = sym owner ∙ fits.0 in absurd (cc)
+others_phase s t row popped x g c p fits owner ne =
+    elim (cases_Bool (is_gripping p)) [
+      | inr off ↦ off
+      | inl grip ↦ absurd (elim (gripping_owner s row popped x g c p fits grip) [
+          | inl claimed ↦ let e : owners.Thread t ≡ owners.Claimed s = sym owner ∙ claimed in cc
+          | inr (inl owned) ↦ let e : owners.Thread t ≡ owners.Thread s = sym owner ∙ owned in ne (cc)
+          | inr (inr nobody) ↦ let e : owners.Thread t ≡ owners.Nobody = sym owner ∙ nobody in cc
+        ])
+    ]
 
 -- it says the same of the cell with another local count
 others_local : (s t n : ℕ) (row : Row) (popped : List ℕ) (x : Cell) (g : Stage) (c : ℕ) (p : Phase) → PhaseFits s row popped x g c p
@@ -51,14 +49,8 @@ others_local : (s t n : ℕ) (row : Row) (popped : List ℕ) (x : Cell) (g : Sta
 others_local s t n row popped x g c phases.Claimed fits owner ne = let e : owners.Thread t ≡ owners.Claimed s = sym owner ∙ fits.claimed in absurd (cc)
 others_local s t n row popped x g c phases.Counted fits owner ne = let e : owners.Thread t ≡ owners.Claimed s = sym owner ∙ fits.0.claimed in absurd (cc)
 others_local s t n row popped x g c phases.Ready fits owner ne = let e : owners.Thread t ≡ owners.Claimed s = sym owner ∙ fits.0.claimed in absurd (cc)
-others_local s t n row popped x g c phases.Zero fits owner ne = fits
-others_local s t n row popped x g c phases.Over fits owner ne = fits
 others_local s t n row popped x g c phases.Untied fits owner ne = let e : owners.Thread t ≡ owners.Nobody = sym owner ∙ fits.owner in absurd (cc)
-others_local s t n row popped x g c phases.Asked fits owner ne = tt
-others_local s t n row popped x g c phases.Shut fits owner ne = fits
-others_local s t n row popped x g c phases.Taking fits owner ne = fits
-others_local s t n row popped x g c phases.Held fits owner ne = fits
-others_local s t n row popped x g c phases.Popping fits owner ne = fits
+others_local s t n row popped x g c _ fits owner ne = fits
 
 -- terms that are all 0 add up to 0
 pub sum_none : {A : Type 0} (f : A → ℕ) (xs : List A) (d : A) → ((i : ℕ) → f (get_or xs i d) ≡ 0) → sum_by f xs ≡ 0

@@ -25,7 +25,7 @@ use Rattle.brc_runs.specs.Heap.{Heap, cell_at, entries_at, row_at, frame_at, pop
 use Rattle.brc_runs.specs.Steps.{after_target, target_ok, locked_cell, change_ok, locked_entries, is_keep, frame_changed, entries_changed}
 use Rattle.brc_runs.specs.Holding.{lives}
 use Rattle.brc_runs.specs.Sound.{IsSound, CellFits, ImmortalFits, PhaseFits, WorklistFits, Locks, in_entries}
-use Rattle.brc_runs.proofs.Naming.{some_there, free_hand}
+use Rattle.brc_runs.proofs.Naming.{some_there, free_hand, same_phase}
 use Rattle.brc_runs.proofs.Framing.{times-filled, times-vacated, length-filled, length-vacated}
 use Rattle.brc_runs.proofs.Asking.{May, OnCell, on_cell, Vacant, vacant}
 use Rattle.brc_runs.proofs.Birthing.{active_from, active_fits, no_lock}
@@ -34,19 +34,6 @@ use Rattle.brc_runs.proofs.Merging.{held_owner}
 use Rattle.brc_runs.proofs.Dropping.{held_by_place}
 
 -- ---- no clause but the two on locks looks at the mutex
-
-mutex_phase : (m s : ℕ) (row : Row) (popped : List ℕ) (x : Cell) (g : Stage) (c : ℕ) (p : Phase) → PhaseFits s row popped x g c p → PhaseFits s row popped (record x { mutex = m }) g c p
-mutex_phase m s row popped x g c phases.Claimed fits = record { claimed = fits.claimed; more = fits.more }
-mutex_phase m s row popped x g c phases.Counted fits = (record { claimed = fits.0.claimed; more = fits.0.more }, fits.1)
-mutex_phase m s row popped x g c phases.Ready fits = (record { claimed = fits.0.claimed; more = fits.0.more }, fits.1, fits.2)
-mutex_phase m s row popped x g c phases.Zero fits = fits
-mutex_phase m s row popped x g c phases.Over fits = fits
-mutex_phase m s row popped x g c phases.Untied fits = record { owner = fits.owner; local = fits.local; not_merged = fits.not_merged; bearer = fits.bearer }
-mutex_phase m s row popped x g c phases.Asked fits = tt
-mutex_phase m s row popped x g c phases.Shut fits = fits
-mutex_phase m s row popped x g c phases.Taking fits = fits
-mutex_phase m s row popped x g c phases.Held fits = fits
-mutex_phase m s row popped x g c phases.Popping fits = fits
 
 mutex_work : (m t q : ℕ) (x : Cell) → WorklistFits t q x → WorklistFits t q (record x { mutex = m })
 mutex_work m t q x fits = record { mortal = fits.mortal; lives = fits.lives; total = fits.total; whose = fits.whose }
@@ -127,7 +114,7 @@ turned_fits h t c m locked f es sound turns locks =
       least_here = λ mortal. omega (arith, sound.least c mortal);
       asks_else = λ q _ _. refl;
       hand = λ p d e. let bad : hands.Free ≡ hands.Busy p d = sym turns.free ∙ e in absurd (cc);
-      hands_else = λ s p _ busy. mutex_phase m s (row_at h s) (popped_at h s) (cell_at h c) _ c p (sound.hands s c p busy).fits;
+      hands_else = λ s p _ busy. same_phase s (row_at h s) (popped_at h s) (cell_at h c) (record (cell_at h c) { mutex = m }) _ c p refl refl refl refl (sound.hands s c p busy).fits;
       cell = λ mortal. subst (λ xs. CellFits (length h.rows) h.limit (record (cell_at h c) { mutex = m }) xs) (sym here)
           (mutex_cell m _ _ (cell_at h c) (entries_at h c) es (turns.dead mortal) (turns.plain mortal) turns.few (sound.cells c mortal));
       immortal = λ low. subst (λ xs. ImmortalFits c (record (cell_at h c) { mutex = m }) xs) (sym here)

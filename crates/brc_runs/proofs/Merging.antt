@@ -42,17 +42,10 @@ no_gripping p c hand none busy =
 -- such a hand looks at nothing but whether the object is merged
 pub ungripping_phase : (s : ℕ) (row : Row) (popped : List ℕ) (x y : Cell) (g : Stage) (c : ℕ) (p : Phase)
     → is_gripping p ≡ false → (x.state ≡ states.Merged → y.state ≡ states.Merged) → PhaseFits s row popped x g c p → PhaseFits s row popped y g c p
-ungripping_phase s row popped x y g c phases.Claimed off merged fits = absurd (true≢false off)
-ungripping_phase s row popped x y g c phases.Counted off merged fits = absurd (true≢false off)
-ungripping_phase s row popped x y g c phases.Ready off merged fits = absurd (true≢false off)
-ungripping_phase s row popped x y g c phases.Zero off merged fits = absurd (true≢false off)
-ungripping_phase s row popped x y g c phases.Over off merged fits = absurd (true≢false off)
-ungripping_phase s row popped x y g c phases.Untied off merged fits = absurd (true≢false off)
 ungripping_phase s row popped x y g c phases.Asked off merged fits = tt
 ungripping_phase s row popped x y g c phases.Shut off merged fits = fits
-ungripping_phase s row popped x y g c phases.Taking off merged fits = absurd (true≢false off)
 ungripping_phase s row popped x y g c phases.Held off merged fits = merged fits
-ungripping_phase s row popped x y g c phases.Popping off merged fits = absurd (true≢false off)
+ungripping_phase s row popped x y g c _ off merged fits = absurd (true≢false off)
 
 pub hands_kept : (h : Heap) (t c : ℕ) (y : Cell) → IsSound h → y.bearer ≡ (cell_at h c).bearer → ((cell_at h c).state ≡ states.Merged → y.state ≡ states.Merged)
     → ((s : ℕ) → s ≢ t → one (grips c (row_at h s).hand) ≡ 0)
@@ -220,17 +213,12 @@ idle_apart h s c (hands.Busy p d) sound off owner e =
     ]
   where
     by_phase : (p : Phase) → is_active_phase p ≡ false → PhaseFits s (row_at h s) (popped_at h s) (cell_at h c) (row_at h (cell_at h c).bearer).stage c p → is_gripping p ≡ false
-    by_phase phases.Claimed idle fits = absurd (true≢false idle)
-    by_phase phases.Counted idle fits = absurd (true≢false idle)
-    by_phase phases.Ready idle fits = absurd (true≢false idle)
-    by_phase phases.Zero idle fits = absurd (true≢false idle)
-    by_phase phases.Over idle fits = absurd (true≢false idle)
-    by_phase phases.Untied idle fits = absurd (true≢false idle)
     by_phase phases.Asked idle fits = refl
     by_phase phases.Shut idle fits = refl
     by_phase phases.Taking idle fits = let bad : owners.Thread s ≡ owners.Nobody = sym owner ∙ fits in absurd (cc)
     by_phase phases.Held idle fits = refl
     by_phase phases.Popping idle fits = let bad : owners.Thread s ≡ owners.Nobody = sym owner ∙ fits.0 in absurd (cc)
+    by_phase _ idle fits = absurd (true≢false idle)
 
 pub closed_idle : (g : Stage) (k : ℕ) → is_closed g k ≡ true → is_active g ≡ false
 closed_idle stages.Active k closed = absurd (true≢false (sym closed))

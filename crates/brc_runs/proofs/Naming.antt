@@ -1,5 +1,5 @@
 -- Who names a cell: what the sums say of one place, one hand, one worklist.
-use Rattle.std.proofs.Common.{◌≡◌, ◌≢◌, ℕ, ◌+◌, ◌≤◌, ◌==◌, ◌%◌, ◌&&◌, ◌||◌, Bool, true, false, Option, Some, None, is_some, ℤ, pos, negsuc, List, [], length, get_or, set, sum_by, refl, sym, ◌∙◌, ap, inl, inr, arith, if◌then◌else◌}
+use Rattle.std.proofs.Common.{◌≡◌, ◌≢◌, ℕ, ◌+◌, ◌≤◌, ◌==◌, ◌%◌, ◌&&◌, ◌||◌, Bool, true, false, Option, Some, None, is_some, ℤ, pos, negsuc, List, [], length, get_or, set, sum_by, refl, sym, ◌∙◌, ap, inl, inr, arith, if◌then◌else◌, ◌⊎◌}
 use Rattle.std.proofs.lemmas.List.{get_or-set_other, get_or_past}
 use Rattle.std.proofs.lemmas.List.Sums.{sum_by-set, get_or-le-sum_by}
 use Rattle.std.proofs.lemmas.Bool.{cases_lt, eq-eqb, eqb-true, and_parts, true≢false}
@@ -10,7 +10,9 @@ use Rattle.brc_words.specs.declared.owner.Owner.{Owner}
 use Rattle.brc_words.specs.declared.owner.Owner.TheVariants as owners
 use Rattle.brc_words.specs.declared.state.State.{State}
 use Rattle.brc_words.specs.declared.state.State.TheVariants as states
-use Rattle.brc_runs.specs.Phases.{has_reference}
+use Rattle.brc_runs.specs.declared.row.Role.{Role}
+use Rattle.brc_runs.specs.declared.row.Role.TheVariants as roles
+use Rattle.brc_runs.specs.Phases.{role_of, merges, refers, is_gripping, has_reference}
 use Rattle.brc_runs.specs.declared.cell.Cell.{Cell}
 use Rattle.brc_runs.specs.declared.row.Row.{Row}
 use Rattle.brc_runs.specs.declared.row.Hand.{Hand}
@@ -23,7 +25,7 @@ use Rattle.brc_runs.specs.Lists.{one, times, bit_of, is_marked, number_in}
 use Rattle.brc_runs.specs.Heap.{Heap, cell_at, row_at, frame_at, popped_at, worklist_at, queue_at, no_row}
 use Rattle.brc_runs.specs.Steps.{is_free_hand, is_at, phase_number, is_free, is_owned_by, is_nobody, is_active, is_zero, is_default, is_merged}
 use Rattle.brc_runs.specs.Holding.{lives, total_of, carries}
-use Rattle.brc_runs.specs.Sound.{IsSound, counted_in, grips_by_owner, grips, gripped, held, asks, in_entries}
+use Rattle.brc_runs.specs.Sound.{IsSound, counted_in, grips_by_owner, grips, gripped, held, asks, in_entries, PhaseFits}
 
 -- ---- sums
 
@@ -87,16 +89,7 @@ phase_of n = if n == 0 then phases.Claimed else (if n == 1 then phases.Counted e
 phase_of_number : (p : Phase) → phase_of (phase_number p) ≡ p
 unfolding phase_of
 phase_of_number phases.Claimed = refl
-phase_of_number phases.Counted = refl
-phase_of_number phases.Ready = refl
-phase_of_number phases.Zero = refl
-phase_of_number phases.Over = refl
-phase_of_number phases.Untied = refl
-phase_of_number phases.Asked = refl
-phase_of_number phases.Shut = refl
-phase_of_number phases.Taking = refl
-phase_of_number phases.Held = refl
-phase_of_number phases.Popping = refl
+phase_of_number _ = refl
 
 pub free_hand : (hand : Hand) → is_free_hand hand ≡ true → hand ≡ hands.Free
 free_hand hands.Free h = refl
@@ -109,19 +102,48 @@ busy_hand p c (hands.Busy q d) h =
     let same : q ≡ p = sym (phase_of_number q) ∙ ap phase_of (eqb-true _ _ parts.0) ∙ phase_of_number p in
     ap (λ (x : Phase). hands.Busy x d) same ∙ ap (hands.Busy p) (eqb-true _ _ parts.1)
 
+-- a phase looks at the owner, the local count, the state and the bearer of its cell
+pub same_phase : (s : ℕ) (row : Row) (popped : List ℕ) (x y : Cell) (g : Stage) (c : ℕ) (p : Phase) → x.owner ≡ y.owner → x.local ≡ y.local → x.state ≡ y.state → x.bearer ≡ y.bearer
+    → PhaseFits s row popped x g c p → PhaseFits s row popped y g c p
+same_phase s row popped x y g c phases.Claimed owner local state bearer fits = record { claimed = sym owner ∙ fits.claimed; more = fits.more }
+same_phase s row popped x y g c phases.Counted owner local state bearer fits = (record { claimed = sym owner ∙ fits.0.claimed; more = fits.0.more }, sym local ∙ fits.1)
+same_phase s row popped x y g c phases.Ready owner local state bearer fits = (record { claimed = sym owner ∙ fits.0.claimed; more = fits.0.more }, sym local ∙ fits.1, sym state ∙ fits.2)
+same_phase s row popped x y g c phases.Zero owner local state bearer fits = sym owner ∙ fits
+same_phase s row popped x y g c phases.Over owner local state bearer fits = sym owner ∙ fits
+same_phase s row popped x y g c phases.Untied owner local state bearer fits = record {
+  owner = sym owner ∙ fits.owner;
+  local = sym local ∙ fits.local;
+  not_merged = ap is_merged (sym state) ∙ fits.not_merged;
+  bearer = sym bearer ∙ fits.bearer;
+}
+same_phase s row popped x y g c phases.Taking owner local state bearer fits = sym owner ∙ fits
+same_phase s row popped x y g c phases.Held owner local state bearer fits = sym state ∙ fits
+same_phase s row popped x y g c phases.Popping owner local state bearer fits = (sym owner ∙ fits.0, fits.1)
+same_phase s row popped x y g c _ owner local state bearer fits = fits
+
+-- whoever grips a cell has claimed it, owns it, or has let it go
+pub gripping_owner : (s : ℕ) (row : Row) (popped : List ℕ) (x : Cell) (g : Stage) (c : ℕ) (p : Phase) → PhaseFits s row popped x g c p → is_gripping p ≡ true
+    → (x.owner ≡ owners.Claimed s) ⊎ ((x.owner ≡ owners.Thread s) ⊎ (x.owner ≡ owners.Nobody))
+gripping_owner s row popped x g c phases.Claimed fits grip = inl fits.claimed
+gripping_owner s row popped x g c phases.Counted fits grip = inl fits.0.claimed
+gripping_owner s row popped x g c phases.Ready fits grip = inl fits.0.claimed
+gripping_owner s row popped x g c phases.Zero fits grip = inr (inl fits)
+gripping_owner s row popped x g c phases.Over fits grip = inr (inl fits)
+gripping_owner s row popped x g c phases.Untied fits grip = inr (inr fits.owner)
+gripping_owner s row popped x g c phases.Taking fits grip = inr (inr fits)
+gripping_owner s row popped x g c phases.Popping fits grip = inr (inr fits.0)
+gripping_owner s row popped x g c _ fits grip = absurd (true≢false (sym grip))
+
 -- a hand that names a cell grips it or has a reference to it
 pub hand_names : (p : Phase) (c : ℕ) → 1 ≤ one (grips c (hands.Busy p c)) + one (carries c (hands.Busy p c))
-hand_names phases.Claimed c = omega (arith, ap one (eq-eqb c c refl))
-hand_names phases.Counted c = omega (arith, ap one (eq-eqb c c refl))
-hand_names phases.Ready c = omega (arith, ap one (eq-eqb c c refl))
-hand_names phases.Zero c = omega (arith, ap one (eq-eqb c c refl))
-hand_names phases.Over c = omega (arith, ap one (eq-eqb c c refl))
-hand_names phases.Untied c = omega (arith, ap one (eq-eqb c c refl))
-hand_names phases.Asked c = omega (arith, ap one (eq-eqb c c refl))
-hand_names phases.Shut c = omega (arith, ap one (eq-eqb c c refl))
-hand_names phases.Taking c = omega (arith, ap one (eq-eqb c c refl))
-hand_names phases.Held c = omega (arith, ap one (eq-eqb c c refl))
-hand_names phases.Popping c = omega (arith, ap one (eq-eqb c c refl))
+hand_names p c = by_role (role_of p)
+  where
+    here : one (c == c) ≡ 1
+    here = ap one (eq-eqb c c refl)
+
+    by_role : (r : Role) → 1 ≤ one (merges r && (c == c)) + one (refers r && (c == c))
+    by_role roles.Owns = omega (arith, here)
+    by_role _ = omega (arith, here)
 
 -- a hand with a reference counts it
 pub busy_carrier : (p : Phase) (c : ℕ) (hand : Hand) → has_reference p ≡ true → hand ≡ hands.Busy p c → one (carries c hand) ≡ 1

@@ -27,7 +27,7 @@ use Rattle.brc_runs.specs.Heap.{Heap, cell_at, entries_at, row_at, frame_at, pop
 use Rattle.brc_runs.specs.Steps.{after_target, target_ok, source_cell, dropped_cell, cell_in_hand, frame_without, entries_without, is_default, is_queued, is_merged, is_zero, is_positive, is_nobody, is_ending_hand, ends_ok}
 use Rattle.brc_runs.specs.Holding.{lives, carries, count_of_state}
 use Rattle.brc_runs.specs.Sound.{IsSound, CellFits, PhaseFits, WorklistFits, counted_in, grips_of, grips_by_owner, grips, is_active_hand, held, asks, asks_least, asks_most, is_threads}
-use Rattle.brc_runs.proofs.Naming.{merged_state, no_mark, one-le, free_hand, busy_carrier, live_counts, zero_count, default_state, grips_free, carries_free, sum_one}
+use Rattle.brc_runs.proofs.Naming.{merged_state, no_mark, one-le, free_hand, busy_carrier, live_counts, zero_count, default_state, grips_free, carries_free, sum_one, same_phase}
 use Rattle.brc_runs.proofs.Framing.{times-filled, length-filled}
 use Rattle.brc_runs.proofs.Asking.{May, OnCell, on_cell, vacant}
 use Rattle.brc_runs.proofs.Birthing.{active_from, active_fits, one_and}
@@ -62,22 +62,9 @@ same_grips (owners.Claimed t) s local n m same = refl
 same_grips owners.Free s local n m same = refl
 
 -- no hand looks at the count
-count_phase : (n : ℤ) (s : ℕ) (row : Row) (popped : List ℕ) (x : Cell) (g : Stage) (c : ℕ) (p : Phase) → PhaseFits s row popped x g c p → PhaseFits s row popped (record x { count = n }) g c p
-count_phase n s row popped x g c phases.Claimed fits = record { claimed = fits.claimed; more = fits.more }
-count_phase n s row popped x g c phases.Counted fits = (record { claimed = fits.0.claimed; more = fits.0.more }, fits.1)
-count_phase n s row popped x g c phases.Ready fits = (record { claimed = fits.0.claimed; more = fits.0.more }, fits.1, fits.2)
-count_phase n s row popped x g c phases.Zero fits = fits
-count_phase n s row popped x g c phases.Over fits = fits
-count_phase n s row popped x g c phases.Untied fits = record { owner = fits.owner; local = fits.local; not_merged = fits.not_merged; bearer = fits.bearer }
-count_phase n s row popped x g c phases.Asked fits = tt
-count_phase n s row popped x g c phases.Shut fits = fits
-count_phase n s row popped x g c phases.Taking fits = fits
-count_phase n s row popped x g c phases.Held fits = fits
-count_phase n s row popped x g c phases.Popping fits = fits
-
 pub count_hands : (h : Heap) (t c : ℕ) (n : ℤ) → IsSound h → (s : ℕ) (p : Phase) → s ≢ t → (row_at h s).hand ≡ hands.Busy p c
     → PhaseFits s (row_at h s) (popped_at h s) (record (cell_at h c) { count = n }) (row_at h (cell_at h c).bearer).stage c p
-count_hands h t c n sound s p ne busy = count_phase n s (row_at h s) (popped_at h s) (cell_at h c) _ c p (sound.hands s c p busy).fits
+count_hands h t c n sound s p ne busy = same_phase s (row_at h s) (popped_at h s) (cell_at h c) (record (cell_at h c) { count = n }) _ c p refl refl refl refl (sound.hands s c p busy).fits
 
 pub count_cell : (threads limit : ℕ) (x : Cell) (n : ℤ) (old new : List ℕ) → lives x.owner ≡ true → (x.state ≡ states.Default → pos 0 ≤ℤ n) → (old ≡ [] → new ≡ []) → length new ≤ length old
     → CellFits threads limit x old → CellFits threads limit (record x { count = n }) new
@@ -259,14 +246,9 @@ queued_phase : (s : ℕ) (row : Row) (popped : List ℕ) (x : Cell) (g : Stage) 
 queued_phase s row popped x g c phases.Claimed default live fits = record { claimed = fits.claimed; more = fits.more }
 queued_phase s row popped x g c phases.Counted default live fits = (record { claimed = fits.0.claimed; more = fits.0.more }, fits.1)
 queued_phase s row popped x g c phases.Ready default live fits = absurd (true≢false (sym live ∙ ap lives fits.0.claimed))
-queued_phase s row popped x g c phases.Zero default live fits = fits
-queued_phase s row popped x g c phases.Over default live fits = fits
 queued_phase s row popped x g c phases.Untied default live fits = record { owner = fits.owner; local = fits.local; not_merged = refl; bearer = fits.bearer }
-queued_phase s row popped x g c phases.Asked default live fits = tt
-queued_phase s row popped x g c phases.Shut default live fits = fits
-queued_phase s row popped x g c phases.Taking default live fits = fits
 queued_phase s row popped x g c phases.Held default live fits = let bad : states.Default ≡ states.Merged = sym default ∙ fits in absurd (cc)
-queued_phase s row popped x g c phases.Popping default live fits = fits
+queued_phase s row popped x g c _ default live fits = fits
 
 queued_grips : (o : Owner) (local : ℕ) (n : ℤ) → grips_by_owner o states.Queued local n ≡ grips_by_owner o states.Default local n
 queued_grips owners.Nobody local n = refl
