@@ -1,5 +1,5 @@
 -- What a thread has in its hand it can go on with, and what it holds it can give up: the conditions of the steps are met.
-use Rattle.std.proofs.Common.{◌≡◌, ◌≢◌, ℕ, ◌<◌, ◌≤◌, ◌==◌, ◌&&◌, ◌||◌, not, Bool, true, false, if◌then◌else◌, List, [], length, Option, Some, None, refl, sym, ◌∙◌, ap, subst, inl, inr, ◌⊎◌, arith}
+use Rattle.std.proofs.Common.{◌≡◌, ◌≢◌, ℕ, ◌<◌, ◌≤◌, ◌==◌, ◌&&◌, ◌||◌, not, Bool, true, false, if◌then◌else◌, List, [], length, Option, Some, None, refl, sym, ◌∙◌, ap, subst, inl, inr, ◌⊎◌, arith, get_or, count_by, is_some}
 use Rattle.std.proofs.lemmas.List.{get_or_past}
 use Rattle.std.proofs.lemmas.Bool.{cases_lt, cases_Bool, eq-eqb, ne_eqb, and_parts, ltb-true, lt-ltb, true≢false}
 use Rattle.brc_words.specs.declared.limits.TheConstants.{FIRST_MORTAL}
@@ -9,8 +9,9 @@ use Rattle.brc_words.specs.Kinds.{is_mortal}
 use Rattle.brc_runs.specs.Phases.{is_active_phase}
 use Rattle.brc_runs.specs.declared.cell.Cell.{Cell}
 use Rattle.brc_runs.specs.declared.event.Step.{Step}
-use Rattle.brc_runs.specs.declared.event.Step.TheVariants.{InitLocal, InitShared, Birth, LocalDown, SeeZero, Free, Untie, MergeZero, Ask, LastDown, Enqueue, MergeAdd}
+use Rattle.brc_runs.specs.declared.event.Step.TheVariants.{InitLocal, InitShared, Birth, LocalDown, SeeZero, Free, Untie, MergeZero, Ask, LastDown, Enqueue, MergeAdd, Unlock, Close, Gather}
 use Rattle.brc_runs.specs.declared.event.Dropped.{Dropped}
+use Rattle.brc_runs.specs.declared.event.Dropped.TheVariants as dropped
 use Rattle.brc_runs.specs.declared.event.LastDropped.TheVariants as lasts
 use Rattle.brc_runs.specs.declared.row.Hand.{Hand}
 use Rattle.brc_runs.specs.declared.row.Hand.TheVariants as hands
@@ -18,19 +19,21 @@ use Rattle.brc_runs.specs.declared.row.Phase.{Phase}
 use Rattle.brc_runs.specs.declared.row.Phase.TheVariants as phases
 use Rattle.brc_runs.specs.declared.row.Stage.{Stage}
 use Rattle.brc_runs.specs.declared.row.Stage.TheVariants as stages
-use Rattle.brc_runs.specs.Lists.{is_marked, bit_of}
-use Rattle.brc_runs.specs.Heap.{Heap, cell_at, entries_at, row_at, frame_at, popped_at, worklist_at, no_cell, is_immortal}
-use Rattle.brc_runs.specs.Steps.{enabled, root_may, thread_may, stage_ok, lock_ok, hand_ok, own_ok_at, others_ok, target_at, target_ok, cell_ok, dropped_cell, may_after_leaving, needs_lock, is_at, is_active, is_vacant, is_mine, is_default, is_merged, is_nobody, is_queued, is_owned_by, cell_in_hand, untie_ok, untied_ok, ends_ok}
+use Rattle.brc_runs.specs.Lists.{is_marked, bit_of, is_bare, is_unmarked, place_at, is_blank}
+use Rattle.brc_runs.specs.Heap.{Heap, cell_at, entries_at, row_at, frame_at, popped_at, worklist_at, no_cell, is_immortal, words_for}
+use Rattle.brc_runs.specs.Steps.{enabled, root_may, thread_may, stage_ok, lock_ok, hand_ok, own_ok_at, others_ok, target_at, target_ok, cell_ok, dropped_cell, may_after_leaving, needs_lock, is_at, is_active, is_vacant, is_mine, is_default, is_merged, is_nobody, is_queued, is_owned_by, cell_in_hand, untie_ok, untied_ok, ends_ok, is_free_hand, closes_next, is_left, locked_cell}
 use Rattle.brc_runs.specs.Runs.{IsReached}
 use Rattle.brc_runs.specs.Sound.{IsSound, held}
 use Rattle.brc_known.specs.Staying.{Tells, PoppedTells}
 use Rattle.brc_known.specs.Progress.{Stands, IsAtRest, next_step, release_step, popped_step}
-use Rattle.brc_runs.proofs.Naming.{busy_carrier}
+use Rattle.brc_runs.proofs.Naming.{busy_carrier, sum_one}
 use Rattle.brc_runs.proofs.Merging.{active_now, held_owner, popped_held, carried_held}
+use Rattle.brc_runs.proofs.Counting.{sum_none}
 use Rattle.brc_runs.proofs.Dropping.{dropped_held}
 use Rattle.brc_known.proofs.Lasting.{held_live, live_owner}
 use Rattle.brc_known.proofs.Telling.{hand_tells, popped_tells}
 use Rattle.brc_runs.proofs.Reached.{reached_sound}
+use Rattle.brc_runs.specs.declared.event.Change.TheVariants as changes
 
 -- ---- tests put together
 
@@ -242,3 +245,104 @@ pub blocks_go : (h : Heap) (t c : ℕ) → IsReached h → IsAtRest h t → is_m
 blocks_go h t c reached rest marked empty =
     let sound : IsSound h = reached_sound h reached in
     at_rest h t c (Free c) rest refl refl refl (and_both _ _ marked (ap (λ (xs : List ℕ). length xs == 0) empty)) refl refl (live_owner _ (sound.worklists t c marked).lives) refl
+
+-- ---- a lock is let go, and a thread that leaves goes on leaving
+
+-- tests that none passes are passed by none
+none_counted : {A : Type 0} (f : A → Bool) (xs : List A) (d : A) → ((i : ℕ) → f (get_or xs i d) ≡ false) → (count_by f xs == 0) ≡ true
+none_counted {A} f xs d none = eq-eqb _ 0 (sum_none (λ x. if f x then 1 else 0) xs d (λ i. ap (λ b. if b then 1 else 0) (none i)))
+
+-- what a thread's step on no cell asks
+record AsksNone (h : Heap) (t : ℕ) (s : Step) : Type 0 where
+  stands : Stands h t
+  stage : stage_ok (row_at h t).stage s ≡ true
+  lock : lock_ok (row_at h t).locked s ≡ true
+  hand : hand_ok (row_at h t).hand s ≡ true
+  own : own_ok_at h t s ≡ true
+  others : others_ok h s ≡ true
+  target : target_ok h t (row_at h t) s (target_at h t s) ≡ true
+
+may_step : (h : Heap) (t : ℕ) (s : Step) → AsksNone h t s → enabled h (record { thread = t; step = s }) ≡ true
+may_step h t s asks =
+    let number = and_parts _ _ asks.stands.registered in
+    let low : 0 < t = ltb-true 0 t number.0 in
+    let thread : (t == 0) ≡ false = ne_eqb t 0 (λ e. omega (arith, low, e)) in
+    ap (λ b. if b then root_may h s else thread_may h t s) thread
+    ∙ and_both _ _ (and_both _ _ (and_both _ _ (and_both _ _ (and_both _ _ (and_both _ _ (and_both _ _ asks.stands.registered (ap not asks.stands.here))
+    asks.stage) asks.lock) asks.hand) asks.own) asks.others) asks.target
+
+pub locks_go : (h : Heap) (t k : ℕ) → IsReached h → Stands h t → (row_at h t).locked ≡ Some k
+    → enabled h (record { thread = t; step = Unlock changes.Keep }) ≡ true
+locks_go h t k reached stands locked =
+    let sound : IsSound h = reached_sound h reached in
+    let lock = sound.locks t k locked in
+    let named : locked_cell (frame_at h t) (row_at h t).locked ≡ Some lock.0 = ap (locked_cell (frame_at h t)) locked ∙ lock.1.names in
+    may_step h t (Unlock changes.Keep) (record {
+      stands = stands;
+      stage = by_stage (row_at h t).stage refl;
+      lock = ap (λ o. lock_ok o (Unlock changes.Keep)) locked;
+      hand = ap is_free_hand ((sound.threads t).locked_hand k locked);
+      own = refl;
+      others = refl;
+      target = ap (target_ok h t (row_at h t) (Unlock changes.Keep)) named
+          ∙ and_both _ _ (lt-ltb lock.0 (length h.cells) (locked_inside lock.0 lock.1.names)) refl;
+    })
+  where
+    -- only an active thread has a lock
+    by_stage : (stage : Stage) → (row_at h t).stage ≡ stage → stage_ok stage (Unlock changes.Keep) ≡ true
+    by_stage stages.Active at = refl
+    by_stage stages.Left at = let bad : None ≡ Some k = sym (((reached_sound h reached).threads t).inactive_lock (ap is_active at)) ∙ locked in absurd (cc)
+    by_stage (stages.Closing n) at = let bad : None ≡ Some k = sym (((reached_sound h reached).threads t).inactive_lock (ap is_active at)) ∙ locked in absurd (cc)
+
+    -- what a place has is an immortal or lives, so it is one of the heap
+    locked_inside : (c : ℕ) → place_at (frame_at h t) k ≡ Some c → c < length h.cells
+    locked_inside c there = inside h c (elim (cases_lt c FIRST_MORTAL) [
+      | inl low ↦ (λ free. let bad : owners.Nobody ≡ owners.Free = sym ((reached_sound h reached).immortals c low).owner ∙ free in cc)
+      | inr high ↦ live_owner _ (held_live h c (reached_sound h reached) (dropped_held h t c (dropped.Frame k) there))
+    ])
+
+-- the next word of a closing thread may be closed
+pub closings_go : (h : Heap) (t n : ℕ) → IsReached h → Stands h t → (row_at h t).stage ≡ stages.Closing n → enabled h (record { thread = t; step = Close n }) ≡ true
+closings_go h t n reached stands closing =
+    let fits = (reached_sound h reached).threads t in
+    let closes = fits.closing n closing in
+    let off : is_active (row_at h t).stage ≡ false = ap is_active closing in
+    may_step h t (Close n) (record {
+      stands = stands;
+      stage = ap (λ g. stage_ok g (Close n)) closing;
+      lock = ap (λ o. lock_ok o (Close n)) (fits.inactive_lock off);
+      hand = ap is_free_hand closes.2;
+      own = and_both _ _ (and_both _ _ (and_both _ _ (and_both _ _ (lt-ltb n _ closes.1) (ap (λ g. closes_next g n) closing ∙ eq-eqb n n refl))
+          (none_counted is_some (frame_at h t) None (λ i. ap is_some (fits.inactive_frame off i))))
+          (none_counted (λ b. b) (worklist_at h t) false (λ q. fits.closing_work n q closing)))
+          (first_of_two _ _ (lt-ltb 0 n closes.0));
+      others = refl;
+      target = refl;
+    })
+  where
+    first_of_two : (a b : Bool) → a ≡ true → (a || b) ≡ true
+    first_of_two true b x = refl
+    first_of_two false b x = absurd (true≢false (sym x))
+
+-- an active thread that has nothing left may begin to close
+pub leavings_begin : (h : Heap) (t : ℕ) → IsReached h → IsAtRest h t → (row_at h t).stage ≡ stages.Active
+    → is_bare (frame_at h t) ≡ true → is_unmarked (worklist_at h t) ≡ true → is_blank (popped_at h t) ≡ true
+    → enabled h (record { thread = t; step = Close 0 }) ≡ true
+leavings_begin h t reached rest active bare unmarked blank =
+    let options = (reached_sound h reached).shaped.options in
+    may_step h t (Close 0) (record {
+      stands = rest.stands;
+      stage = ap (λ g. stage_ok g (Close 0)) active;
+      lock = ap (λ o. lock_ok o (Close 0)) rest.unlocked;
+      hand = ap is_free_hand rest.hand;
+      own = and_both _ _ (and_both _ _ (and_both _ _ (and_both _ _ (lt-ltb 0 (words_for (length h.cells)) (omega (arith, options.enough))) (ap (λ g. closes_next g 0) active)) bare) unmarked) blank;
+      others = refl;
+      target = refl;
+    })
+
+-- a thread that has left and has nothing left may be gathered
+pub gatherings_go : (h : Heap) (t : ℕ) → IsReached h → IsAtRest h t → (row_at h t).stage ≡ stages.Left
+    → is_unmarked (worklist_at h t) ≡ true → is_blank (popped_at h t) ≡ true
+    → enabled h (record { thread = 0; step = Gather t }) ≡ true
+gatherings_go h t reached rest left unmarked blank =
+    and_both _ _ (and_both _ _ (and_both _ _ (and_both _ _ (and_both _ _ rest.stands.registered (ap not rest.stands.here)) (ap is_left left)) (ap is_free_hand rest.hand)) blank) unmarked

@@ -11,8 +11,10 @@ ghost use Rattle.brc_runs.specs.declared.row.Phase.TheVariants as phases;
 ghost use Rattle.brc_runs.specs.declared.row.Hand.TheVariants as hands;
 ghost use Rattle.brc_runs.specs.declared.event.Dropped.{Dropped as dropped};
 ghost use Rattle.brc_runs.specs.declared.event.Step.TheVariants as steps;
+ghost use Rattle.brc_runs.specs.declared.event.Change.TheVariants as changes;
+ghost use Rattle.brc_runs.specs.declared.row.Stage.TheVariants as stages;
 ghost use Rattle.brc_runs.specs.declared.event.Event.{Event as event};
-ghost use Rattle.brc_runs.specs.Lists.{bit_of, is_marked};
+ghost use Rattle.brc_runs.specs.Lists.{bit_of, is_marked, is_bare, is_unmarked, is_blank};
 ghost use Rattle.brc_runs.specs.Heap.{Heap, opening, cell_at, entries_at, row_at, frame_at, popped_at, worklist_at, queue_at, is_gathered, is_registered, AreOptions};
 ghost use Rattle.brc_words.specs.Kinds.{is_mortal};
 ghost use Rattle.brc_known.specs.Progress.{Stands, IsAtRest, next_step, release_step, popped_step};
@@ -89,8 +91,10 @@ pub fn own_items_tell_the_part()
         → IsPart (world_of_items (opening cells limit) items) t (part_of cells (own t items)) }
 {}
 
-/// No thread is stuck by a condition. Whatever is in its hand it can go on with; at rest it can give up every place and
-/// every last entry of a dead block, deal with every popped entry, and give back every block without entries.
+/// No thread is stuck by a condition. Whatever is in its hand it can go on with, for which a ready object wants a vacant
+/// place: a thread whose places are all filled must not claim. A lock it can let go. At rest it can give up every place
+/// and every last entry of a dead block, deal with every popped entry, and give back every block without entries; with
+/// nothing left it can begin to leave, go on leaving, and then be gathered.
 pub fn no_thread_is_stuck()
     ensures hands { (h : Heap) (t c : ℕ) (p : phase) → IsReached h → Stands h t
         → (row_at h t).hand ≡ hands.Busy p c → p ≢ phases.Ready
@@ -111,4 +115,17 @@ pub fn no_thread_is_stuck()
     ensures blocks { (h : Heap) (t c : ℕ) → IsReached h → IsAtRest h t
         → is_marked (worklist_at h t) c ≡ true → entries_at h c ≡ []
         → enabled h (record { thread = t; step = steps.Free c }) ≡ true }
+    ensures locks { (h : Heap) (t k : ℕ) → IsReached h → Stands h t → (row_at h t).locked ≡ Some k
+        → enabled h (record { thread = t; step = steps.Unlock changes.Keep }) ≡ true }
+    ensures begins { (h : Heap) (t : ℕ) → IsReached h → IsAtRest h t
+        → (row_at h t).stage ≡ stages.Active → is_bare (frame_at h t) ≡ true
+        → is_unmarked (worklist_at h t) ≡ true → is_blank (popped_at h t) ≡ true
+        → enabled h (record { thread = t; step = steps.Close 0 }) ≡ true }
+    ensures closes { (h : Heap) (t n : ℕ) → IsReached h → Stands h t
+        → (row_at h t).stage ≡ stages.Closing n
+        → enabled h (record { thread = t; step = steps.Close n }) ≡ true }
+    ensures gathered { (h : Heap) (t : ℕ) → IsReached h → IsAtRest h t
+        → (row_at h t).stage ≡ stages.Left → is_unmarked (worklist_at h t) ≡ true
+        → is_blank (popped_at h t) ≡ true
+        → enabled h (record { thread = 0; step = steps.Gather t }) ≡ true }
 {}

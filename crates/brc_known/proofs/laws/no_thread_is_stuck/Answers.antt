@@ -1,4 +1,4 @@
-use Rattle.brc_known.proofs.Progress.{hands_go_on, births_go_on, references_go, popped_go, blocks_go}
+use Rattle.brc_known.proofs.Progress.{hands_go_on, births_go_on, references_go, popped_go, blocks_go, locks_go, leavings_begin, closings_go, gatherings_go}
 use Rattle.brc_known.proofs.laws.no_thread_is_stuck.Goals as goal
 
 pub returns-clause-hands : goal.returns-clause-hands
@@ -15,3 +15,15 @@ returns-clause-popped c = popped_go
 
 pub returns-clause-blocks : goal.returns-clause-blocks
 returns-clause-blocks c = blocks_go
+
+pub returns-clause-locks : goal.returns-clause-locks
+returns-clause-locks c = locks_go
+
+pub returns-clause-begins : goal.returns-clause-begins
+returns-clause-begins c = leavings_begin
+
+pub returns-clause-closes : goal.returns-clause-closes
+returns-clause-closes c = closings_go
+
+pub returns-clause-gathered : goal.returns-clause-gathered
+returns-clause-gathered c = gatherings_go
