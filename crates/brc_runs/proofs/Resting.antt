@@ -1,5 +1,5 @@
 -- Steps that change no cell and no reference: a thread is told something, or is gathered.
-use Rattle.std.proofs.Common.{◌≡◌, ℕ, ◌<◌, Bool, true, false, List, [], length, set, refl, sym, ◌∙◌, subst, arith}
+use Rattle.std.proofs.Common.{◌≡◌, ℕ, ◌<◌, Bool, true, false, List, [], length, set, refl, sym, ◌∙◌, subst, arith, slice_index_or}
 use Rattle.std.proofs.lemmas.List.{length-set, set-get_or}
 use Rattle.std.proofs.lemmas.Bool.{and_parts, ltb-true, true≢false}
 use Rattle.brc_runs.specs.declared.event.Step.TheVariants.{Nudge, Wake, Gather}
@@ -13,9 +13,11 @@ use Rattle.brc_runs.proofs.Changes.{read_by}
 use Rattle.brc_runs.proofs.Naming.{free_hand}
 use Rattle.brc_runs.proofs.Queueing.{no_marks}
 
--- no clause speaks of notify words, but for how many there are
-pub told_sound : (h : Heap) (notify_words : List ℕ) → IsSound h → length notify_words ≡ length h.notify_words → IsSound (record h { notify_words = notify_words })
-told_sound h notify_words sound same = record {
+-- no clause speaks of notify words but for how many there are, and whether a thread is gathered is for its own part alone
+aside_sound : (h : Heap) (notify_words : List ℕ) (gathered : List Bool) → IsSound h → length notify_words ≡ length h.notify_words → length gathered ≡ length h.gathered
+    → ((t : ℕ) → ThreadFits (words_for (length h.cells)) (row_at h t) (frame_at h t) (popped_at h t) (worklist_at h t) (queue_at h t) (slice_index_or gathered t false))
+    → IsSound (record h { notify_words = notify_words; gathered = gathered })
+aside_sound h notify_words gathered sound same_words same_marks threads = record {
   shaped = record {
     options = sound.shaped.options;
     entries = sound.shaped.entries;
@@ -25,8 +27,8 @@ told_sound h notify_words sound same = record {
     popped = sound.shaped.popped;
     worklists = sound.shaped.worklists;
     queues = sound.shaped.queues;
-    notify_words = same ∙ sound.shaped.notify_words;
-    gathered = sound.shaped.gathered;
+    notify_words = same_words ∙ sound.shaped.notify_words;
+    gathered = same_marks ∙ sound.shaped.gathered;
     marks = sound.shaped.marks;
     popped_words = sound.shaped.popped_words;
     queue_words = sound.shaped.queue_words;
@@ -39,12 +41,15 @@ told_sound h notify_words sound same = record {
   cells = sound.cells;
   immortals = sound.immortals;
   worklists = sound.worklists;
-  threads = sound.threads;
+  threads = threads;
   bits = sound.bits;
   locks = λ t k locked. let old = sound.locks t k locked in (old.0, record { thread = old.1.thread; place = old.1.place; names = old.1.names }, old.2);
   mutexes = λ t q some mutex. let old = sound.mutexes t q some mutex in (old.0, record { thread = old.1.thread; place = old.1.place; names = old.1.names });
   ledger = sound.ledger;
 }
+
+pub told_sound : (h : Heap) (notify_words : List ℕ) → IsSound h → length notify_words ≡ length h.notify_words → IsSound (record h { notify_words = notify_words })
+told_sound h notify_words sound same = aside_sound h notify_words h.gathered sound same refl sound.threads
 
 -- a step that takes no word writes back what it read
 untaken_sound : (h : Heap) (t : ℕ) (notify_words : List ℕ) → IsSound h → length notify_words ≡ length h.notify_words → IsSound (record h {
@@ -81,7 +86,6 @@ gathered_sound h u sound may =
     let e = and_parts _ _ d.0 in
     let inside : u < length h.rows = ltb-true _ _ (and_parts _ _ e.0).1 in
     let at_gathered : u < length h.gathered = omega (arith, sound.shaped.gathered, inside) in
-    let size : length (set h.gathered u true) ≡ length h.gathered = length-set h.gathered u true in
     let own : (g : Bool) → ThreadFits (words_for (length h.cells)) (row_at h u) (frame_at h u) (popped_at h u) (worklist_at h u) (queue_at h u) g = λ g.
     let old : ThreadFits (words_for (length h.cells)) (row_at h u) (frame_at h u) (popped_at h u) (worklist_at h u) (queue_at h u) (is_gathered h u) = sound.threads u in
     record {
@@ -98,33 +102,5 @@ gathered_sound h u sound may =
       births = old.births;
       places = old.places;
     } in
-    record {
-      shaped = record {
-        options = sound.shaped.options;
-        entries = sound.shaped.entries;
-        root = sound.shaped.root;
-        threads = sound.shaped.threads;
-        frames = sound.shaped.frames;
-        popped = sound.shaped.popped;
-        worklists = sound.shaped.worklists;
-        queues = sound.shaped.queues;
-        notify_words = sound.shaped.notify_words;
-        gathered = size ∙ sound.shaped.gathered;
-        marks = sound.shaped.marks;
-        popped_words = sound.shaped.popped_words;
-        queue_words = sound.shaped.queue_words;
-      };
-      counted = sound.counted;
-      gripped = sound.gripped;
-      most = sound.most;
-      least = sound.least;
-      hands = λ t d p busy. let fits = sound.hands t d p busy in record { mortal = fits.mortal; fits = fits.fits };
-      cells = sound.cells;
-      immortals = sound.immortals;
-      worklists = sound.worklists;
-      threads = read_by (λ t g. ThreadFits (words_for (length h.cells)) (row_at h t) (frame_at h t) (popped_at h t) (worklist_at h t) (queue_at h t) g) h.gathered u true false at_gathered (own true) (λ t _. sound.threads t);
-      bits = sound.bits;
-      locks = λ t k locked. let old = sound.locks t k locked in (old.0, record { thread = old.1.thread; place = old.1.place; names = old.1.names }, old.2);
-      mutexes = λ t q some mutex. let old = sound.mutexes t q some mutex in (old.0, record { thread = old.1.thread; place = old.1.place; names = old.1.names });
-      ledger = sound.ledger;
-    }
+    aside_sound h h.notify_words (set h.gathered u true) sound refl (length-set h.gathered u true)
+    (read_by (λ t g. ThreadFits (words_for (length h.cells)) (row_at h t) (frame_at h t) (popped_at h t) (worklist_at h t) (queue_at h t) g) h.gathered u true false at_gathered (own true) (λ t _. sound.threads t))
