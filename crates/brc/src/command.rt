@@ -16,31 +16,79 @@ pub enum Invocation {
     Replay,
 }
 
-const ABOUT: &str =
-    "Replays traces of an object heap with biased reference counting (PEP 703; Choi, Shull and \
-Torrellas, PACT 2018): each line of a trace is one atomic step of one thread.";
+const ABOUT: &str = "\
+Replays traces of an object heap with biased reference counting (PEP 703; Choi,
+Shull and Torrellas, PACT 2018): each line of a trace is one atomic step of one
+thread.";
 
 const MORE: &str = "\
 brc replay reads a trace on standard input and, if each of its lines is an event
 that is enabled where it stands, writes the world that it leads to.
 
+The first line is `heap CELLS LIMIT`: 512 to 65536 cells, of which those below
+266 are immortal, and the most that an owner counts up, 1 to 4294967294. Each
+further line is an event, of the root (0) or of a thread T:
+
+    0 register T           thread T is there: 1 for the first, then 2, to 64
+    0 gather T             the root sees that T has left and holds nothing
+    T claim C              a free cell, for an object to be made in
+    T local C              its local count is 1
+    T shared C             its shared word is 0, default
+    T born C KIND K        an object is there, held by place K of T's frame
+    T up S K               T counts up on its own object; place K has it
+    T down D               T counts down on its own object
+    T see C                T looks whether nobody else ever counted
+    T free C               a dead block is given back
+    T untie C              the owner word is nobody's from now on
+    T zero C               the object is merged at local count 0
+    T shup S K             T counts up on the shared word; place K has it
+    T shdown D             T counts down on the shared word
+    T ask D                T asks for a merge: its reference is in its hand
+    T last D               the shared word counts one down, once asked or merged
+    T enq C                the hand's reference goes into the merge queue
+    T drain W              T takes the bits of word W of its merge queue
+    T add C                the local count is added to the shared word: merged
+    T close W              T, on its way out, closes word W of its merge queue
+    T nudge U W            T tells U to drain word W
+    T wake                 T takes what it was told
+    T lock K               T locks the object in place K
+    T unlock keep          and unlocks it, or with one of these in place of keep:
+             put K         the cell of place K is now the last entry
+             take I K      entry I is now in place K
+             swap I K      entry I and the cell of place K change places
+
+    C is a cell, K a place of T's frame, U a thread, KIND one of int, text, list,
+    dict, mailbox. S is f<place>, e<entry of the locked object> or i<immortal>.
+    D is f<place> or w<cell on T's worklist>; for last also q<popped cell> or h,
+    the hand.
+
+A line is words with one space between them, ended by a line feed. Blank lines,
+comments, carriage returns and leading zeros are not in the grammar. Bad is the
+first line that isn't one of these; line 0 says that the input has more than
+16777216 bytes.
+
 A whole life of one object, made and given up by thread 1:
 
-    heap 512 4294967294      512 cells, and the largest local count
-    0 register 1             the root registers thread 1
-    1 claim 266              a free cell becomes the thread's,
-    1 local 266              its local count is set to 1,
-    1 shared 266             its shared word to 0, default,
-    1 born 266 list 0        and a list is there, held by place 0 of the frame
-    1 down f0                the reference goes: the local count is 0
-    1 see 266                nobody else ever counted: the block can go
-    1 free 266               and goes
+    heap 512 4294967294    512 cells, and the largest local count
+    0 register 1           the root registers thread 1
+    1 claim 266            a free cell becomes the thread's,
+    1 local 266            its local count is set to 1,
+    1 shared 266           its shared word to 0, default,
+    1 born 266 list 0      and a list is there, held by place 0 of the frame
+    1 down f0              the reference goes: the local count is 0
+    1 see 266              nobody else ever counted: the block can go
+    1 free 266             and goes
 
 (without the words on the right). It leads to this world:
 
     world 512 4294967294
     thread 1 active
-    ledger 1 1 0             one birth, one free, none live
+    ledger 1 1 0           one birth, one free, none live
+
+Where a trace stops, as with `brc: line 7: not enabled`, the lines before show
+the world that line 7 met:
+
+    head -n 6 TRACE | brc replay
 
 Statuses: 0 no mortal object is live at the end, 1 some are, 2 bad command line,
 3 bad trace, 4 want of memory, 5 input or output.
@@ -50,16 +98,22 @@ Statuses: 0 no mortal object is live at the end, 1 some are, 2 bad command line,
 pub fn read_words(alloc: Global, words: &[String]) -> Result<Invocation, Fault>
     ensures { IfErr result (λ fault. (fault ≡ Fault.BadOptions) ⊎ (fault ≡ Fault.OutOfMemory)) }
 {
+    // Without the first word, so that help says `brc` by whatever name the program was started.
+    let asked = match words {
+        [] => words,
+        [_name, asked @ ..] => asked,
+    };
     let replay = Command::new(alloc, "replay").about(
         "Writes the world that the trace on standard input leads to",
     );
     let brc = Command::new(alloc, "brc")
         .about(ABOUT)
+        .no_binary_name(true)
         .after_help(MORE)
         .disable_help_subcommand(true)
         .subcommand_required(true)
         .subcommand(replay)?;
-    match brc.try_get_matches_from(words) {
+    match brc.try_get_matches_from(asked) {
         Ok(matches) => match matches.subcommand_name() {
             Some("replay") => Ok(Invocation::Replay),
             _ => Err(Fault::BadOptions),

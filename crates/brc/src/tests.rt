@@ -136,12 +136,16 @@ fn bad_command_lines(rt: HostRuntime) -> Result<(), Fail> {
 
 #[test]
 fn help_is_no_error(rt: HostRuntime) -> Result<(), Fail> {
-    let help = ran(&rt, &["brc", "--help"], "")?;
+    let help = ran(&rt, &["/usr/bin/brc-1", "--help"], "")?;
     assert_eq!(rt; help.status, 0);
     assert_eq!(rt; help.errors.as_slice(), [].as_slice());
     let text = String::from_utf8(help.output)?;
+    assert!(rt; text.as_str().contains("Usage: brc <COMMAND>"));
     assert!(rt; text.as_str().contains("1 born 266 list 0"));
     assert!(rt; text.as_str().contains("3 bad trace"));
+    for line in text.as_str().lines() {
+        assert!(rt; line.len() <= 80, "{line}");
+    }
     let of_replay = ran(&rt, &["brc", "replay", "--help"], "")?;
     assert_eq!(rt; of_replay.status, 0);
     Ok(())

@@ -1,0 +1,64 @@
+//! The examples, run: each trace of `data/` is replayed, and its world compared with the text that stands beside it.
+#![tactic(auto)]
+
+mod library;
+
+use brc_trace::run_replay;
+use brc_words::{Fault, Reason};
+use library::count_and_holders;
+use std::{fs, io};
+
+/// The traces, by name.
+const NAMES: [&str; 11] = [
+    "adoption",
+    "ask_and_drain",
+    "asked_and_waiting",
+    "below_zero",
+    "counted_twice",
+    "in_hand",
+    "local_limit",
+    "merge_at_zero",
+    "one_life",
+    "shared_at_the_limit",
+    "stale_owner",
+];
+
+/// Whether the example's text for its world is this one.
+fn is_as_written(rt: &HostRuntime, name: &str, world: &[u8]) -> io::Result<bool> {
+    let path = format!(in rt.alloc(); "{name}.world")?;
+    let written = fs::read(rt, path.as_str())?;
+    Ok(written.as_slice() == world)
+}
+
+/// Replays one example, and prints what came of it.
+fn run_example(rt: &HostRuntime, name: &str) -> io::Result<()> {
+    let path = format!(in rt.alloc(); "{name}.trace")?;
+    let trace = fs::read(rt, path.as_str())?;
+    let mut world = Vec::new(rt.alloc());
+    match run_replay(rt.alloc(), trace.as_slice(), &mut world) {
+        Ok(lives) => {
+            let text = if is_as_written(rt, name, world.as_slice())? {
+                "as written"
+            } else {
+                "ANOTHER"
+            };
+            let end = if lives { "an object lives" } else { "nothing lives" };
+            println!(rt; "{name}: its world is {text}, {end}")
+        }
+        Err(Fault::BadTrace {
+            line,
+            reason: Reason::NotEnabled,
+        }) => println!(rt; "{name}: line {line} is not enabled"),
+        Err(_) => println!(rt; "{name}: NOT REPLAYED"),
+    }
+}
+
+fn main(rt: HostRuntime) -> io::Result<()> {
+    for name in NAMES {
+        run_example(&rt, name)?;
+    }
+    match count_and_holders(rt.alloc()) {
+        Ok((total, holders)) => println!(rt; "by the library: total {total}, {holders} holders"),
+        Err(_) => println!(rt; "by the library: NO WORLD"),
+    }
+}
