@@ -1,20 +1,22 @@
 -- A thread's own part of the world is what its own items say.
-use Rattle.std.proofs.Common.{◌≡◌, ◌≢◌, ℕ, ◌<◌, ◌==◌, Bool, true, false, if◌then◌else◌, List, [], ◌∷◌, length, replicate, Option, Some, None, refl, sym, ◌∙◌, ap, subst, inl, inr, arith}
+use Rattle.std.proofs.Common.{◌≡◌, ◌≢◌, ℕ, ◌/◌, ◌<◌, ◌==◌, Bool, true, false, if◌then◌else◌, List, [], ◌∷◌, length, replicate, Option, Some, None, refl, sym, ◌∙◌, ap, subst, inl, inr, arith, ◌≤◌, ◌/◌, le-leb}
 use Rattle.std.proofs.lemmas.List.{length-set, get_or_push}
 use Rattle.std.proofs.lemmas.Bool.{cases_eq, cases_Bool, eq-eqb, ne_eqb, eqb-true, ltb-true, and_parts, true≢false}
 use Rattle.brc_words.specs.declared.owner.Owner.TheVariants as owners
 use Rattle.brc_runs.specs.declared.event.Event.{Event}
 use Rattle.brc_runs.specs.declared.event.Step.{Step}
-use Rattle.brc_runs.specs.declared.event.Step.TheVariants.{Register, Gather}
+use Rattle.brc_runs.specs.declared.event.Step.TheVariants.{Register, Gather, Enqueue}
 use Rattle.brc_runs.specs.declared.row.Row.{Row}
+use Rattle.brc_runs.specs.declared.row.Hand.TheVariants as hands
+use Rattle.brc_runs.specs.declared.row.Phase.TheVariants as phases
 use Rattle.brc_runs.specs.Lists.{is_marked}
 use Rattle.brc_runs.specs.Heap.{Heap, opening, cell_at, row_at, frame_at, worklist_at, new_row, no_row, is_registered, AreOptions}
-use Rattle.brc_runs.specs.Steps.{enabled, after, after_target, root_after, root_may, thread_may, target_at, locked_cell, registered, gathered_in}
+use Rattle.brc_runs.specs.Steps.{enabled, after, after_target, root_after, root_may, thread_may, target_at, locked_cell, registered, gathered_in, is_shut}
 use Rattle.brc_runs.specs.Runs.{IsRun, world_after}
 use Rattle.brc_runs.specs.Holding.{lives}
 use Rattle.brc_runs.specs.Sound.{IsSound, WorklistFits}
 use Rattle.brc_known.specs.Staying.{is_about, IsAnothers, SameOwn, locked_at}
-use Rattle.brc_known.specs.Items.{Item, Did, Saw, Lost, ItemRun, with_event, events_of, world_of_items, MayCome, AreItems, is_start, own, told, found, Part, new_part, part_after, part_of, IsPart}
+use Rattle.brc_known.specs.Items.{Item, Did, Saw, Lost, ItemRun, with_event, events_of, world_of_items, MayCome, AreItems, is_start, own, told, found, Part, new_part, part_after, part_of, IsPart, IsTold, spelled, ToldBy, Queue, closing_bit}
 use Rattle.brc_runs.proofs.Asking.{May, may_parts}
 use Rattle.brc_runs.proofs.Naming.{one-true}
 use Rattle.brc_runs.proofs.Counting.{marked_unheld}
@@ -24,6 +26,34 @@ use Rattle.brc_runs.proofs.Reached.{run_sound}
 use Rattle.brc_known.proofs.Items_Told.{QueuesFit}
 use Rattle.brc_known.proofs.Items_Queues.{run_queues, run_cells}
 use Rattle.brc_known.proofs.Items_Own.{Knows, now, own_step}
+
+-- ---- what a step is told, where it meets a closed word
+
+pub closed_word : (h : Heap) (d : ℕ) → is_shut h d ≡ true → 9223372036854775808 ≤ spelled h (Queue (cell_at h d).bearer (d / 32))
+closed_word h d shut = omega (arith, ap closing_bit shut)
+
+-- the number that a step is told is one that it may be told
+pub told_is_told : (h : Heap) (t : ℕ) (s : Step) → IsTold h t s (told h t s)
+told_is_told h t (Enqueue d) = by_shut (is_shut h d) refl
+  where
+    by_shut : (b : Bool) → is_shut h d ≡ b → ToldBy b (told h t (Enqueue d)) (told h t (Enqueue d))
+    by_shut true shut = closed_word h d shut
+    by_shut false apart = refl
+told_is_told h t _ = refl
+
+-- a thread's part goes on alike with each of the numbers that its step may be told
+told_alike : (h : Heap) (t cells : ℕ) (s : Step) (number : ℕ) (entries : List ℕ) (part : Part) → IsTold h t s number
+    → part_after cells part (Did s (told h t s) entries) ≡ part_after cells part (Did s number entries)
+told_alike h t cells (Enqueue d) number entries part is = by_shut (is_shut h d) refl is
+  where
+    with_hand : Bool → Part
+    with_hand shut = record part { row = record part.row { hand = if shut then hands.Busy phases.Shut d else hands.Free } }
+
+    by_shut : (b : Bool) → is_shut h d ≡ b → ToldBy b (told h t (Enqueue d)) number
+        → part_after cells part (Did (Enqueue d) (told h t (Enqueue d)) entries) ≡ part_after cells part (Did (Enqueue d) number entries)
+    by_shut true shut high = ap with_hand (le-leb _ _ (closed_word h d shut) ∙ sym (le-leb 9223372036854775808 number high))
+    by_shut false apart same = ap (λ n. part_after cells part (Did (Enqueue d) n entries)) (sym same)
+told_alike h t cells s number entries part is = ap (λ n. part_after cells part (Did s n entries)) (sym is)
 
 -- ---- the events of items are a run
 
@@ -39,7 +69,7 @@ events_run start (x ∷ items) are = item_run start x.0 x.1 items (events_run st
 -- and each run is the events of items
 item_for : (start : Heap) (e : Event) (run : List Event) (items : ItemRun) → events_of items ≡ run → enabled (world_after start run) e ≡ true
     → MayCome (world_of_items start items) e.thread (Did e.step (told (world_after start run) e.thread e.step) (found (world_after start run) e.thread e.step))
-item_for start e run items is may = subst (λ r. MayCome (world_after start r) e.thread (Did e.step (told (world_after start run) e.thread e.step) (found (world_after start run) e.thread e.step))) (sym is) (may, refl, refl)
+item_for start e run items is may = subst (λ r. MayCome (world_after start r) e.thread (Did e.step (told (world_after start run) e.thread e.step) (found (world_after start run) e.thread e.step))) (sym is) (may, told_is_told (world_after start run) e.thread e.step, refl)
 
 pub run_items : (start : Heap) (run : List Event) → IsRun start run → (items : ItemRun) × AreItems start items × (events_of items ≡ run)
 run_items start [] is_run = ([], tt, refl)
@@ -105,13 +135,13 @@ now_is h t part is =
     ∙ ap (λ ws. record (now h t part.has) { row = part.row; frame = part.frame; popped = ws }) is.popped_is
     ∙ ap (λ ws. record part { worklist = ws }) is.work_is
 
-own_part : (h : Heap) (t : ℕ) (s : Step) (number : ℕ) (entries : List ℕ) (part : Part) → IsSound h → QueuesFit h → May h t s → number ≡ told h t s → entries ≡ found h t s → IsPart h t part
+own_part : (h : Heap) (t : ℕ) (s : Step) (number : ℕ) (entries : List ℕ) (part : Part) → IsSound h → QueuesFit h → May h t s → IsTold h t s number → entries ≡ found h t s → IsPart h t part
     → IsPart (after_target h t s (target_at h t s)) t (part_after (length h.cells) part (Did s number entries))
 own_part h t s number entries part sound fit may told_is found_is is =
     let w : Heap = after_target h t s (target_at h t s) in
     let knows : Knows h t part.has = record { locked = is.locked_has; worklists = is.work_has } in
     subst (λ p. IsPart w t (part_after (length h.cells) p (Did s number entries))) (now_is h t part is)
-    (subst (λ n. IsPart w t (part_after (length h.cells) (now h t part.has) (Did s n entries))) (sym told_is)
+    (subst (λ p. IsPart w t p) (told_alike h t (length h.cells) s number entries (now h t part.has) told_is)
     (own_step h t s entries part.has sound fit may found_is knows))
 
 -- ---- one more item

@@ -1,7 +1,7 @@
 -- Items: what a thread's table answers to each of its steps and looks, and what the thread knows from its own items.
 --
 -- A run of items is a list of (thread, item), newest first. Its events are a run; its notes change nothing.
-use Rattle.std.specs.Prelude.{◌≡◌, ℕ, ◌+◌, ◌-◌, ◌*◌, ◌/◌, ◌%◌, ◌==◌, nat_le, Bool, true, false, if◌then◌else◌, ℤ, pos, negsuc, ◌-ℤ◌, List, [], ◌∷◌, replicate, bit_or, Option, Some, None, slice_set, ◌^◌}
+use Rattle.std.specs.Prelude.{◌≡◌, ℕ, ◌+◌, ◌-◌, ◌*◌, ◌/◌, ◌%◌, ◌==◌, nat_le, Bool, true, false, if◌then◌else◌, ℤ, pos, negsuc, ◌-ℤ◌, List, [], ◌∷◌, replicate, bit_or, Option, Some, None, slice_set, ◌^◌, ◌≤◌}
 use Rattle.brc_words.specs.Owners.{word_of}
 use Rattle.brc_words.specs.Shared.{bits_of}
 use Rattle.brc_words.specs.declared.state.State.{State}
@@ -14,8 +14,8 @@ use Rattle.brc_runs.specs.declared.event.Dropped.{Dropped}
 use Rattle.brc_runs.specs.declared.event.Dropped.TheVariants as dropped
 use Rattle.brc_runs.specs.declared.row.Row.{Row}
 use Rattle.brc_runs.specs.Lists.{front_of, word_at, is_marked}
-use Rattle.brc_runs.specs.Heap.{Heap, no_cell, new_row, cell_at, entries_at, row_at, frame_at, popped_at, worklist_at, queue_at, words_for}
-use Rattle.brc_runs.specs.Steps.{enabled, target, target_at, cell_after, takes_block, is_closed, row_after, frame_after, popped_after, worklist_after, gone, entries_changed, stage_after, drained_word}
+use Rattle.brc_runs.specs.Heap.{Heap, no_cell, new_row, cell_at, entries_at, row_at, frame_at, popped_at, worklist_at, queue_at, words_for, is_registered}
+use Rattle.brc_runs.specs.Steps.{enabled, target, target_at, cell_after, takes_block, is_closed, row_after, frame_after, popped_after, worklist_after, gone, entries_changed, stage_after, drained_word, is_shut}
 use Rattle.brc_runs.specs.Runs.{world_after}
 use Rattle.brc_known.specs.Staying.{locked_at}
 
@@ -32,7 +32,7 @@ pub data Field : Type 0 where
 pub data Word : Type 0 where
   Of : Field → ℕ → Word
   Queue : ℕ → ℕ → Word
-  Notice : ℕ → Word
+  NotifyWord : ℕ → Word
 
 -- a count, counted from -2^40
 abbrev pub raised : ℤ → ℕ
@@ -57,7 +57,7 @@ closing_bit false = 0
 abbrev pub spelled : Heap → Word → ℕ
 spelled h (Of field c) = word_in field (cell_at h c)
 spelled h (Queue t k) = word_at (queue_at h t) k + closing_bit (is_closed (row_at h t).stage k)
-spelled h (Notice t) = word_at h.notify_words t
+spelled h (NotifyWord t) = word_at h.notify_words t
 
 -- ---- what a step is told
 
@@ -94,17 +94,40 @@ told_of h t s c = word_in (field_of s) (if is_store s then cell_after t s c (cel
 abbrev pub told_apart : Heap → ℕ → Step → ℕ
 told_apart h t (Drain k) = spelled h (Queue t k)
 told_apart h t (Close k) = spelled h (Queue t k)
-told_apart h t (Nudge u k) = spelled h (Notice u)
-told_apart h t Wake = spelled h (Notice t)
+told_apart h t (Nudge u k) = spelled h (NotifyWord u)
+told_apart h t Wake = spelled h (NotifyWord t)
 told_apart h t _ = 0
 
 abbrev pub told_at : Heap → ℕ → Step → Option ℕ → ℕ
 told_at h t s None = told_apart h t s
 told_at h t s (Some c) = told_of h t s c
 
--- the number that a thread's step is told
+-- the number that a thread's step is told; of a closed queue word this is one of those that may be there
 abbrev pub told : Heap → ℕ → Step → ℕ
 told h t s = told_at h t s (target_at h t s)
+
+-- the step meets a closed queue word
+abbrev pub meets_closed : Heap → Step → Bool
+meets_closed h (Enqueue d) = is_shut h d
+meets_closed h _ = false
+
+-- In a closed queue word the other bits mean nothing: who was late leaves a bit in it, so nothing is told but bit 63.
+abbrev pub ToldBy : Bool → ℕ → ℕ → Type 0
+ToldBy true word number = 9223372036854775808 ≤ number
+ToldBy false word number = number ≡ word
+
+-- the number is one that a thread's step may be told
+abbrev pub IsTold : Heap → ℕ → Step → ℕ → Type 0
+IsTold h t s number = ToldBy (meets_closed h s) (told h t s) number
+
+-- the number is one that may stand in the word; the words of a thread that isn't registered are 0, and open
+abbrev pub ShowsQueue : Bool → Bool → ℕ → ℕ → Type 0
+ShowsQueue false closed bits number = number ≡ 0
+ShowsQueue true closed bits number = ToldBy closed bits number
+
+abbrev pub Shows : Heap → Word → ℕ → Type 0
+Shows h (Queue t k) number = ShowsQueue (is_registered h t) (is_closed (row_at h t).stage k) (word_at (queue_at h t) k) number
+Shows h word number = number ≡ spelled h word
 
 -- a step that locks the cell finds its entries, and so does one that takes its block
 abbrev pub finds : Step → Cell → Bool
@@ -144,11 +167,11 @@ events_of (x ∷ items) = with_event x.0 x.1 (events_of items)
 abbrev pub world_of_items : Heap → ItemRun → Heap
 world_of_items start items = world_after start (events_of items)
 
--- the item may come next: a step that is enabled, with what it is told and finds; a note with the number that is there
+-- the item may come next: a step that is enabled, with what it is told and finds; a note with a number that may be there
 abbrev pub MayCome : Heap → ℕ → Item → Type 0
-MayCome h t (Did s number entries) = (enabled h (record { thread = t; step = s }) ≡ true) × (number ≡ told h t s) × (entries ≡ found h t s)
-MayCome h t (Saw word number) = number ≡ spelled h word
-MayCome h t (Lost word number) = number ≡ spelled h word
+MayCome h t (Did s number entries) = (enabled h (record { thread = t; step = s }) ≡ true) × IsTold h t s number × (entries ≡ found h t s)
+MayCome h t (Saw word number) = Shows h word number
+MayCome h t (Lost word number) = Shows h word number
 
 -- each item may come where it stands
 abbrev pub AreItems : Heap → ItemRun → Type 0
