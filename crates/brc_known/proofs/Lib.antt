@@ -8,3 +8,4 @@ pub mod Items_Queues
 pub mod Items_Own
 pub mod Items_Law
 pub mod Items_Numbers
+pub mod Words_Law

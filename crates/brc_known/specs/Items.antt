@@ -1,7 +1,8 @@
 -- Items: what a thread's table answers to each of its steps and looks, and what the thread knows from its own items.
 --
 -- A run of items is a list of (thread, item), newest first. Its events are a run; its notes change nothing.
-use Rattle.std.specs.Prelude.{◌≡◌, ℕ, ◌+◌, ◌-◌, ◌*◌, ◌/◌, ◌%◌, ◌==◌, nat_le, Bool, true, false, if◌then◌else◌, ℤ, pos, negsuc, ◌-ℤ◌, List, [], ◌∷◌, replicate, bit_or, Option, Some, None, slice_set, ◌^◌, ◌≤◌}
+use Rattle.std.specs.Prelude.{◌≡◌, ℕ, ◌+◌, ◌-◌, ◌*◌, ◌/◌, ◌%◌, ◌==◌, nat_le, Bool, true, false, if◌then◌else◌, ℤ, pos, negsuc, ◌-ℤ◌, List, [], ◌∷◌, replicate, bit_or, Option, Some, None, slice_set, ◌^◌, ◌≤◌, ◌<◌}
+use Rattle.brc_words.specs.declared.limits.TheConstants.{MOST_THREADS}
 use Rattle.brc_words.specs.Owners.{word_of}
 use Rattle.brc_words.specs.Shared.{bits_of}
 use Rattle.brc_words.specs.declared.state.State.{State}
@@ -13,7 +14,7 @@ use Rattle.brc_runs.specs.declared.event.Step.TheVariants.{Claim, InitLocal, Ini
 use Rattle.brc_runs.specs.declared.event.Dropped.{Dropped}
 use Rattle.brc_runs.specs.declared.event.Dropped.TheVariants as dropped
 use Rattle.brc_runs.specs.declared.row.Row.{Row}
-use Rattle.brc_runs.specs.Lists.{front_of, word_at, is_marked}
+use Rattle.brc_runs.specs.Lists.{front_of, word_at, is_marked, number_in}
 use Rattle.brc_runs.specs.Heap.{Heap, no_cell, new_row, cell_at, entries_at, row_at, frame_at, popped_at, worklist_at, queue_at, words_for, is_registered}
 use Rattle.brc_runs.specs.Steps.{enabled, target, target_at, cell_after, takes_block, is_closed, row_after, frame_after, popped_after, worklist_after, gone, entries_changed, stage_after, drained_word, is_shut}
 use Rattle.brc_runs.specs.Runs.{world_after}
@@ -128,6 +129,20 @@ ShowsQueue true closed bits number = ToldBy closed bits number
 abbrev pub Shows : Heap → Word → ℕ → Type 0
 Shows h (Queue t k) number = ShowsQueue (is_registered h t) (is_closed (row_at h t).stage k) (word_at (queue_at h t) k) number
 Shows h word number = number ≡ spelled h word
+
+-- the one word that a thread's step works on
+abbrev pub works_on : Heap → ℕ → Step → Option ℕ → Word
+works_on h t (Enqueue d) (Some c) = Queue (cell_at h c).bearer (c / 32)
+works_on h t s (Some c) = Of (field_of s) c
+works_on h t (Nudge u k) None = NotifyWord u
+works_on h t Wake None = NotifyWord t
+works_on h t s None = Queue t (number_in (drained_word s))
+
+-- the words of a heap of so many cells
+abbrev pub IsWord : ℕ → Word → Type 0
+IsWord cells (Of field c) = c < cells
+IsWord cells (Queue t k) = (t < MOST_THREADS + 1) × (k < words_for cells)
+IsWord cells (NotifyWord t) = t < MOST_THREADS + 1
 
 -- a step that locks the cell finds its entries, and so does one that takes its block
 abbrev pub finds : Step → Cell → Bool

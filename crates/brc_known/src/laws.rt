@@ -3,13 +3,14 @@
 //!
 //! What lasts over one event of another thread's lasts over any number of them: `proofs/Standing.antt`, `lasts_over`.
 
-ghost use Rattle.std.specs.Prelude.{[], ◌≡◌, ◌≢◌, ◌≤◌, ℕ, List, Some, true};
+ghost use Rattle.std.specs.Prelude.{[], ◌≡◌, ◌≢◌, ◌≤◌, ℕ, List, Some, true, length};
 ghost use Rattle.brc_words.specs.declared.kind.Kind.{Kind as kind};
 ghost use Rattle.brc_runs.specs.declared.cell.Cell.{Cell as cell};
 ghost use Rattle.brc_runs.specs.declared.row.Phase.{Phase as phase};
 ghost use Rattle.brc_runs.specs.declared.row.Phase.TheVariants as phases;
 ghost use Rattle.brc_runs.specs.declared.row.Hand.TheVariants as hands;
 ghost use Rattle.brc_runs.specs.declared.event.Dropped.{Dropped as dropped};
+ghost use Rattle.brc_runs.specs.declared.event.Step.{Step as step};
 ghost use Rattle.brc_runs.specs.declared.event.Step.TheVariants as steps;
 ghost use Rattle.brc_runs.specs.declared.event.Change.TheVariants as changes;
 ghost use Rattle.brc_runs.specs.declared.row.Stage.TheVariants as stages;
@@ -18,10 +19,10 @@ ghost use Rattle.brc_runs.specs.Lists.{bit_of, is_marked, is_bare, is_unmarked, 
 ghost use Rattle.brc_runs.specs.Heap.{Heap, opening, cell_at, entries_at, row_at, frame_at, popped_at, worklist_at, queue_at, is_gathered, is_registered, AreOptions};
 ghost use Rattle.brc_words.specs.Kinds.{is_mortal};
 ghost use Rattle.brc_known.specs.Progress.{Stands, IsAtRest, next_step, release_step, popped_step};
-ghost use Rattle.brc_runs.specs.Steps.{dropped_cell, is_vacant, enabled, after, target_at, takes_block};
+ghost use Rattle.brc_runs.specs.Steps.{dropped_cell, is_vacant, enabled, thread_may, after, after_target, target_at, takes_block};
 ghost use Rattle.brc_runs.specs.Runs.{IsRun, IsReached};
 ghost use Rattle.brc_known.specs.Staying.{IsAnothers, Lasts, SameOwn, Bears, Buries, Locked, Keeps, Foreign, OwnedOrNot, Nobodys, Owns, Merges, Adopts, PoppedOwn, Tells, PoppedTells, HoldsNothing};
-ghost use Rattle.brc_known.specs.Items.{ItemRun, AreItems, IsPart, events_of, world_of_items, part_of, own};
+ghost use Rattle.brc_known.specs.Items.{Word as word, IsWord, Shows, works_on, ItemRun, AreItems, IsPart, events_of, world_of_items, part_of, own};
 
 /// While others step, a thread's own part stays as it is, and a bit of its merge queue stays set.
 pub fn own_parts_last()
@@ -89,6 +90,14 @@ pub fn own_items_tell_the_part()
         → AreItems (opening cells limit) items
         → is_registered (world_of_items (opening cells limit) items) t ≡ true
         → IsPart (world_of_items (opening cells limit) items) t (part_of cells (own t items)) }
+{}
+
+/// A thread's step works on one word, and every other word of the table shows what it showed.
+pub fn a_step_changes_one_word()
+    ensures { (h : Heap) (t : ℕ) (s : step) (w : word) (number : ℕ)
+        → thread_may h t s ≡ true → IsWord (length h.cells) w
+        → w ≢ works_on h t s (target_at h t s) → Shows h w number
+        → Shows (after_target h t s (target_at h t s)) w number }
 {}
 
 /// No thread is stuck by a condition. Whatever is in its hand it can go on with, for which a ready object wants a vacant
