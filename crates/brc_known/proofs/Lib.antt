@@ -9,3 +9,4 @@ pub mod Items_Own
 pub mod Items_Law
 pub mod Items_Numbers
 pub mod Words_Law
+pub mod Ranges_Law

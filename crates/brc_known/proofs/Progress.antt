@@ -26,7 +26,7 @@ use Rattle.brc_runs.specs.Runs.{IsReached}
 use Rattle.brc_runs.specs.Sound.{IsSound, held}
 use Rattle.brc_known.specs.Staying.{Tells, PoppedTells}
 use Rattle.brc_known.specs.Progress.{Stands, IsAtRest, next_step, release_step, popped_step}
-use Rattle.brc_runs.proofs.Naming.{busy_carrier, sum_one}
+use Rattle.brc_runs.proofs.Naming.{busy_carrier}
 use Rattle.brc_runs.proofs.Merging.{active_now, held_owner, popped_held, carried_held}
 use Rattle.brc_runs.proofs.Counting.{sum_none}
 use Rattle.brc_runs.proofs.Dropping.{dropped_held}

@@ -1,17 +1,17 @@
 -- A thread's step changes the number of one word alone.
-use Rattle.std.proofs.Common.{◌≡◌, ◌≢◌, ℕ, ◌+◌, ◌/◌, ◌<◌, ◌==◌, ◌&&◌, nat_lt, Bool, true, false, if◌then◌else◌, List, [], length, set, get_or, Option, Some, None, refl, sym, ◌∙◌, ap, subst, inl, inr, ◌⊎◌, arith}
+use Rattle.std.proofs.Common.{◌≡◌, ◌≢◌, ℕ, ◌+◌, ◌/◌, ◌<◌, ◌&&◌, nat_lt, Bool, true, false, if◌then◌else◌, List, [], length, set, get_or, Option, Some, None, refl, sym, ◌∙◌, ap, subst, inl, inr, arith}
 use Rattle.std.proofs.lemmas.List.{length-set, get_or-set_same, get_or_past}
-use Rattle.std.proofs.lemmas.Bool.{le-ltb, lt-ltb, cases_lt, cases_eq, cases_Bool, eq-eqb, ne_eqb, eqb-true, true≢false, and_parts}
+use Rattle.std.proofs.lemmas.Bool.{le-ltb, lt-ltb, cases_lt, cases_eq, eq-eqb, ne_eqb, eqb-true, true≢false, and_parts}
 use Rattle.brc_runs.specs.declared.cell.Cell.{Cell}
 use Rattle.brc_runs.specs.declared.event.Step.{Step}
 use Rattle.brc_runs.specs.declared.event.Step.TheVariants.{Claim, InitLocal, InitShared, Birth, LocalUp, LocalDown, Free, Untie, MergeZero, SharedUp, SharedDown, Ask, LastDown, Enqueue, Drain, MergeAdd, Close, Nudge, Wake, Lock, Unlock}
 use Rattle.brc_runs.specs.declared.row.Row.{Row}
 use Rattle.brc_runs.specs.declared.row.Stage.{Stage}
 use Rattle.brc_runs.specs.declared.row.Stage.TheVariants as stages
-use Rattle.brc_runs.specs.Lists.{word_at, with_bit}
+use Rattle.brc_runs.specs.Lists.{word_at}
 use Rattle.brc_runs.specs.Heap.{Heap, cell_at, row_at, queue_at, no_cell, no_row, is_registered, is_immortal, words_for}
-use Rattle.brc_runs.specs.Steps.{cell_after, row_after, after_target, stepped, kept_cells, is_default, is_closed, is_shut, closed_more, stage_after, closes_next, drained_word, without_drained, queues_after, queues_with, notify_words_after, target_at, thread_may, own_ok_at}
-use Rattle.brc_known.specs.Items.{Field, Owner, Local, Shared, Mutex, Word, Of, Queue, NotifyWord, word_in, field_of, works_on, IsWord, Shows, ShowsQueue, ToldBy}
+use Rattle.brc_runs.specs.Steps.{cell_after, after_target, is_default, is_closed, is_shut, closed_more, closes_next, queues_with, own_ok_at}
+use Rattle.brc_known.specs.Items.{Field, Owner, Local, Shared, Mutex, Word, Of, Queue, NotifyWord, word_in, field_of, works_on, IsWord, Shows, ShowsQueue}
 use Rattle.brc_runs.proofs.Changes.{read_there}
 
 -- ---- the words of the cell that is meant
@@ -164,7 +164,7 @@ notify_word h t _ None u other = refl
 
 -- ---- all together
 
-same_rows : (h : Heap) (t : ℕ) (s : Step) (o : Option ℕ) → length (after_target h t s o).rows ≡ length h.rows
+pub same_rows : (h : Heap) (t : ℕ) (s : Step) (o : Option ℕ) → length (after_target h t s o).rows ≡ length h.rows
 same_rows h t s None = length-set h.rows t _
 same_rows h t s (Some c) = length-set h.rows t _
 

@@ -1,3 +1,4 @@
 pub mod Staying
 pub mod Items
 pub mod Progress
+pub mod Ranges

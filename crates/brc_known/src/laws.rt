@@ -3,7 +3,7 @@
 //!
 //! What lasts over one event of another thread's lasts over any number of them: `proofs/Standing.antt`, `lasts_over`.
 
-ghost use Rattle.std.specs.Prelude.{[], ◌≡◌, ◌≢◌, ◌≤◌, ℕ, List, Some, true, length};
+ghost use Rattle.std.specs.Prelude.{[], ◌≡◌, ◌≢◌, ◌≤◌, ℕ, ◌<◌, List, Some, true, false, length, slice_get};
 ghost use Rattle.brc_words.specs.declared.kind.Kind.{Kind as kind};
 ghost use Rattle.brc_runs.specs.declared.cell.Cell.{Cell as cell};
 ghost use Rattle.brc_runs.specs.declared.row.Phase.{Phase as phase};
@@ -20,7 +20,8 @@ ghost use Rattle.brc_runs.specs.Heap.{Heap, opening, cell_at, entries_at, row_at
 ghost use Rattle.brc_words.specs.Kinds.{is_mortal};
 ghost use Rattle.brc_known.specs.Progress.{Stands, IsAtRest, next_step, release_step, popped_step};
 ghost use Rattle.brc_runs.specs.Steps.{dropped_cell, is_vacant, enabled, thread_may, after, after_target, target_at, takes_block};
-ghost use Rattle.brc_runs.specs.Runs.{IsRun, IsReached};
+ghost use Rattle.brc_runs.specs.Runs.{IsRun, IsReached, world_after};
+ghost use Rattle.brc_known.specs.Ranges.{OwnerFits};
 ghost use Rattle.brc_known.specs.Staying.{IsAnothers, Lasts, SameOwn, Bears, Buries, Locked, Keeps, Foreign, OwnedOrNot, Nobodys, Owns, Merges, Adopts, PoppedOwn, Tells, PoppedTells, HoldsNothing};
 ghost use Rattle.brc_known.specs.Items.{Word as word, IsWord, Shows, works_on, ItemRun, AreItems, IsPart, events_of, world_of_items, part_of, own};
 
@@ -98,6 +99,19 @@ pub fn a_step_changes_one_word()
         → thread_may h t s ≡ true → IsWord (length h.cells) w
         → w ≢ works_on h t s (target_at h t s) → Shows h w number
         → Shows (after_target h t s (target_at h t s)) w number }
+{}
+
+/// Owners are registered threads, entries are cells of the heap, the cell in a hand is on no worklist, and the local limit
+/// stays as the heap was opened.
+pub fn numbers_name_what_is_there()
+    ensures owners { (h : Heap) (c : ℕ) → IsReached h
+        → OwnerFits (length h.rows) (cell_at h c).owner }
+    ensures entries { (h : Heap) (d i c : ℕ) → IsReached h
+        → slice_get (entries_at h d) i ≡ Some c → c < length h.cells }
+    ensures hands { (h : Heap) (t s c : ℕ) (p : phase) → IsReached h
+        → (row_at h t).hand ≡ hands.Busy p c → is_marked (worklist_at h s) c ≡ false }
+    ensures limit { (cells limit : ℕ) (run : List event)
+        → (world_after (opening cells limit) run).limit ≡ limit }
 {}
 
 /// No thread is stuck by a condition. Whatever is in its hand it can go on with, for which a ready object wants a vacant
