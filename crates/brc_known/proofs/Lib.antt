@@ -10,3 +10,5 @@ pub mod Items_Law
 pub mod Items_Numbers
 pub mod Words_Law
 pub mod Ranges_Law
+pub mod Items_Runs
+pub mod Items_Tells

@@ -1,4 +1,5 @@
-use Rattle.brc_known.proofs.Items_Law.{events_run, run_items, parts_are_told}
+use Rattle.brc_known.proofs.Items_Law.{parts_are_told}
+use Rattle.brc_known.proofs.Items_Runs.{events_run, run_items}
 use Rattle.brc_known.proofs.laws.own_items_tell_the_part.Goals as goal
 
 pub returns : goal.returns
