@@ -20,6 +20,7 @@ use Rattle.brc_runs.proofs.Registering.{new_mark}
 use Rattle.brc_known.proofs.Lasting.{others_own, alone_stays, locked_stays}
 use Rattle.brc_known.proofs.Items_Told.{QueuesFit}
 use Rattle.brc_known.proofs.Items_Own.{Knows, now, own_step}
+use Rattle.brc_runs.proofs.Reached.{reached_sound}
 use Rattle.brc_known.proofs.Items_Runs.{told_alike}
 use Rattle.brc_known.proofs.Items_Tells.{Follows, tells}
 
@@ -91,13 +92,13 @@ own_part h t s number entries part sound fit may told_is found_is is =
 
 -- ---- the law
 
-part_follows : (t cells : ℕ) → Follows t cells (λ h log. IsPart h t (part_of cells log))
+pub part_follows : (t cells : ℕ) → Follows t cells (λ h log. IsPart h t (part_of cells log))
 part_follows t cells = record {
-  starts = λ h sound size last. subst (λ n. IsPart (registered h) t (new_part n)) size (new_is h t sound last);
-  others = λ h e log sound ok others before. others_part h e t (part_of cells log) sound ok others before;
-  owns = λ h s number entries log sound size fit may told_is found_is before.
+  starts = λ h reached size last. subst (λ n. IsPart (registered h) t (new_part n)) size (new_is h t (reached_sound h reached) last);
+  others = λ h e log reached ok others before. others_part h e t (part_of cells log) (reached_sound h reached) ok others before;
+  owns = λ h s number entries log reached size fit may told_is found_is before.
       subst (λ n. IsPart (after_target h t s (target_at h t s)) t (part_after n (part_of cells log) (Did s number entries))) size
-      (own_part h t s number entries (part_of cells log) sound fit may told_is found_is before);
+      (own_part h t s number entries (part_of cells log) (reached_sound h reached) fit may told_is found_is before);
   gathers = λ h u log before. gathered_is h u t (part_of cells log) before;
   saw = λ h word number log before. before;
   lost = λ h word number log before. before;

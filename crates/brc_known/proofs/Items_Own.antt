@@ -51,7 +51,7 @@ drop_alike h t has (dropped.Work c) knows = elim (cases_Bool (is_marked (worklis
   | inr off ↦ ap (λ b. if b then last_of (has c) else None) off ∙ sym (ap (λ b. if b then last_of (entries_at h c) else None) off)
 ]
 
-target_alike : (h : Heap) (t : ℕ) (has : ℕ → List ℕ) (s : Step) → Knows h t has → target (row_at h t) (frame_at h t) (worklist_at h t) has s ≡ target_at h t s
+pub target_alike : (h : Heap) (t : ℕ) (has : ℕ → List ℕ) (s : Step) → Knows h t has → target (row_at h t) (frame_at h t) (worklist_at h t) has s ≡ target_at h t s
 target_alike h t has (LocalUp (sources.Entry i) k) knows = entry_alike h t has (locked_at h t) i knows refl
 target_alike h t has (SharedUp (sources.Entry i) k) knows = entry_alike h t has (locked_at h t) i knows refl
 target_alike h t has (LocalDown drop) knows = drop_alike h t has drop knows

@@ -7,13 +7,12 @@ use Rattle.brc_runs.specs.declared.event.Step.{Step}
 use Rattle.brc_runs.specs.declared.event.Step.TheVariants.{Register, Gather}
 use Rattle.brc_runs.specs.Heap.{Heap, opening, new_row, is_registered, AreOptions}
 use Rattle.brc_runs.specs.Steps.{enabled, after, after_target, root_after, root_may, thread_may, target_at, registered, gathered_in}
-use Rattle.brc_runs.specs.Runs.{world_after}
-use Rattle.brc_runs.specs.Sound.{IsSound}
+use Rattle.brc_runs.specs.Runs.{world_after, IsReached}
 use Rattle.brc_known.specs.Staying.{is_about, IsAnothers}
 use Rattle.brc_known.specs.Items.{Word, Item, Did, Saw, Lost, ItemRun, with_event, events_of, world_of_items, MayCome, AreItems, is_start, own, IsTold, found}
 use Rattle.brc_runs.proofs.Asking.{May, may_parts}
 use Rattle.brc_runs.proofs.Registering.{length-push}
-use Rattle.brc_runs.proofs.Reached.{run_sound}
+use Rattle.brc_known.proofs.Standing.{run_reached}
 use Rattle.brc_known.proofs.Lasting.{other_number}
 use Rattle.brc_known.proofs.Items_Told.{QueuesFit}
 use Rattle.brc_known.proofs.Items_Queues.{run_queues, run_cells}
@@ -22,9 +21,9 @@ use Rattle.brc_known.proofs.Words_Law.{same_rows}
 
 -- what is said of a thread's world and its items, newest first
 pub record Follows (t cells : ℕ) (P : Heap → List Item → Type 0) : Type 0 where
-  pub starts : (h : Heap) → IsSound h → length h.cells ≡ cells → t ≡ length h.rows → P (registered h) []
-  pub others : (h : Heap) (e : Event) (log : List Item) → IsSound h → enabled h e ≡ true → IsAnothers t e → P h log → P (after h e) log
-  pub owns : (h : Heap) (s : Step) (number : ℕ) (entries : List ℕ) (log : List Item) → IsSound h → length h.cells ≡ cells → QueuesFit h → May h t s
+  pub starts : (h : Heap) → IsReached h → length h.cells ≡ cells → t ≡ length h.rows → P (registered h) []
+  pub others : (h : Heap) (e : Event) (log : List Item) → IsReached h → enabled h e ≡ true → IsAnothers t e → P h log → P (after h e) log
+  pub owns : (h : Heap) (s : Step) (number : ℕ) (entries : List ℕ) (log : List Item) → IsReached h → length h.cells ≡ cells → QueuesFit h → May h t s
       → IsTold h t s number → entries ≡ found h t s → P h log → P (after_target h t s (target_at h t s)) (Did s number entries ∷ log)
   pub gathers : (h : Heap) (u : ℕ) (log : List Item) → P h log → P (gathered_in h u) log
   pub saw : (h : Heap) (word : Word) (number : ℕ) (log : List Item) → P h log → P h (Saw word number ∷ log)
@@ -51,11 +50,11 @@ module _ (t cells : ℕ) (P : Heap → List Item → Type 0) (follows : Follows 
   Holds : Heap → List Item → Type 0
   Holds h log = t < length h.rows → P h log
 
-  thread_item : (h : Heap) (u : ℕ) (s : Step) (number : ℕ) (entries : List ℕ) (log : List Item) → IsSound h → length h.cells ≡ cells → QueuesFit h → MayCome h u (Did s number entries)
+  thread_item : (h : Heap) (u : ℕ) (s : Step) (number : ℕ) (entries : List ℕ) (log : List Item) → IsReached h → length h.cells ≡ cells → QueuesFit h → MayCome h u (Did s number entries)
       → after h (record { thread = u; step = s }) ≡ after_target h u s (target_at h u s) → May h u s → Holds h log
       → Holds (after_target h u s (target_at h u s)) (with_item t u (Did s number entries) log)
   unfolding Holds
-  thread_item h u s number entries log sound size fit comes is may before inside =
+  thread_item h u s number entries log reached size fit comes is may before inside =
       let item : Item = Did s number entries in
       let w : Heap = after_target h u s (target_at h u s) in
       let was : P h log = before (omega (arith, inside, same_rows h u s (target_at h u s))) in
@@ -63,45 +62,45 @@ module _ (t cells : ℕ) (P : Heap → List Item → Type 0) (follows : Follows 
       elim (cases_eq u t) [
         | inl same ↦ subst (P w) (sym (mine_too t u item log apart.0 (eq-eqb u t same)))
             (subst (λ v. P (after_target h v s (target_at h v s)) (item ∷ log)) (sym same)
-            (follows.owns h s number entries log sound size fit (subst (λ v. May h v s) same may) (subst (λ v. IsTold h v s number) same comes.1) (comes.2 ∙ ap (λ v. found h v s) same) was))
+            (follows.owns h s number entries log reached size fit (subst (λ v. May h v s) same may) (subst (λ v. IsTold h v s number) same comes.1) (comes.2 ∙ ap (λ v. found h v s) same) was))
         | inr other ↦ subst (P w) (sym (not_mine t u item log apart.0 (ne_eqb u t other)))
             (subst (λ v. P v log) is
-            (follows.others h (record { thread = u; step = s }) log sound comes.0 (record { other = other; apart = apart.1 }) was))
+            (follows.others h (record { thread = u; step = s }) log reached comes.0 (record { other = other; apart = apart.1 }) was))
       ]
 
-  root_item : (h : Heap) (u : ℕ) (s : Step) (number : ℕ) (entries : List ℕ) (log : List Item) → IsSound h → length h.cells ≡ cells → enabled h (record { thread = u; step = s }) ≡ true
+  root_item : (h : Heap) (u : ℕ) (s : Step) (number : ℕ) (entries : List ℕ) (log : List Item) → IsReached h → length h.cells ≡ cells → enabled h (record { thread = u; step = s }) ≡ true
       → after h (record { thread = u; step = s }) ≡ root_after h s → root_may h s ≡ true → u ≢ t → Holds h log
       → Holds (root_after h s) (with_item t u (Did s number entries) log)
   unfolding Holds
-  root_item h u (Register v) number entries log sound size ok is may other before inside =
+  root_item h u (Register v) number entries log reached size ok is may other before inside =
       let item : Item = Did (Register v) number entries in
       let next : v ≡ length h.rows = eqb-true v (length h.rows) (and_parts _ _ may).0 in
       elim (cases_Bool (v == t)) [
-        | inl mine ↦ subst (λ b. P (registered h) (if b then [] else (if u == t then item ∷ log else log))) (sym mine) (follows.starts h sound size (sym (eqb-true v t mine) ∙ next))
+        | inl mine ↦ subst (λ b. P (registered h) (if b then [] else (if u == t then item ∷ log else log))) (sym mine) (follows.starts h reached size (sym (eqb-true v t mine) ∙ next))
         | inr apart ↦
             let low : t < length h.rows = omega (arith, inside, length-push h.rows new_row, next, other_number v t apart) in
             subst (P (registered h)) (sym (not_mine t u item log apart (ne_eqb u t other)))
             (subst (λ w. P w log) is
-            (follows.others h (record { thread = u; step = Register v }) log sound ok (record { other = other; apart = apart }) (before low)))
+            (follows.others h (record { thread = u; step = Register v }) log reached ok (record { other = other; apart = apart }) (before low)))
       ]
-  root_item h u (Gather v) number entries log sound size ok is may other before inside =
+  root_item h u (Gather v) number entries log reached size ok is may other before inside =
       subst (P (gathered_in h v)) (sym (not_mine t u (Did (Gather v) number entries) log refl (ne_eqb u t other))) (follows.gathers h v log (before inside))
-  root_item h u _ number entries log sound size ok is may other before inside = absurd (true≢false (sym may))
+  root_item h u _ number entries log reached size ok is may other before inside = absurd (true≢false (sym may))
 
-  did_item : (h : Heap) (u : ℕ) (s : Step) (number : ℕ) (entries : List ℕ) (log : List Item) → IsSound h → length h.cells ≡ cells → QueuesFit h → MayCome h u (Did s number entries) → 0 < t
+  did_item : (h : Heap) (u : ℕ) (s : Step) (number : ℕ) (entries : List ℕ) (log : List Item) → IsReached h → length h.cells ≡ cells → QueuesFit h → MayCome h u (Did s number entries) → 0 < t
       → Holds h log → Holds (after h (record { thread = u; step = s })) (with_item t u (Did s number entries) log)
-  did_item h u s number entries log sound size fit comes some_thread before =
+  did_item h u s number entries log reached size fit comes some_thread before =
       let moved : Heap = after_target h u s (target_at h u s) in
       elim (cases_Bool (u == 0)) [
         | inl root ↦
             let is : after h (record { thread = u; step = s }) ≡ root_after h s = ap (λ b. if b then root_after h s else moved) root in
             subst (λ w. Holds w (with_item t u (Did s number entries) log)) (sym is)
-            (root_item h u s number entries log sound size comes.0 is (subst (λ b. (if b then root_may h s else thread_may h u s) ≡ true) root comes.0)
+            (root_item h u s number entries log reached size comes.0 is (subst (λ b. (if b then root_may h s else thread_may h u s) ≡ true) root comes.0)
             (λ same. omega (arith, some_thread, same, eqb-true u 0 root)) before)
         | inr thread ↦
             let is : after h (record { thread = u; step = s }) ≡ moved = ap (λ b. if b then root_after h s else moved) thread in
             subst (λ w. Holds w (with_item t u (Did s number entries) log)) (sym is)
-            (thread_item h u s number entries log sound size fit comes is (may_parts h u s (subst (λ b. (if b then root_may h s else thread_may h u s) ≡ true) thread comes.0)) before)
+            (thread_item h u s number entries log reached size fit comes is (may_parts h u s (subst (λ b. (if b then root_may h s else thread_may h u s) ≡ true) thread comes.0)) before)
       ]
 
   -- a note changes nothing
@@ -117,7 +116,7 @@ module _ (t cells : ℕ) (P : Heap → List Item → Type 0) (follows : Follows 
       → Holds (world_after (opening cells limit) (with_event u item (events_of items))) (with_item t u item (own t items))
   item_holds limit u (Did s number entries) items options are comes some_thread before =
       let run : List Event = events_of items in
-      did_item (world_after (opening cells limit) run) u s number entries (own t items) (run_sound cells limit run options (events_run (opening cells limit) items are))
+      did_item (world_after (opening cells limit) run) u s number entries (own t items) (run_reached cells limit run options (events_run (opening cells limit) items are))
       (run_cells cells limit run) (run_queues cells limit run) comes some_thread before
   item_holds limit u (Saw word number) items options are comes some_thread before = noted _ u (Saw word number) (own t items) refl (follows.saw _ word number (own t items)) before
   item_holds limit u (Lost word number) items options are comes some_thread before = noted _ u (Lost word number) (own t items) refl (follows.lost _ word number (own t items)) before

@@ -12,3 +12,4 @@ pub mod Words_Law
 pub mod Ranges_Law
 pub mod Items_Runs
 pub mod Items_Tells
+pub mod Counts_Law

@@ -2,3 +2,4 @@ pub mod Staying
 pub mod Items
 pub mod Progress
 pub mod Ranges
+pub mod Counts

@@ -22,6 +22,8 @@ ghost use Rattle.brc_known.specs.Progress.{Stands, IsAtRest, next_step, release_
 ghost use Rattle.brc_runs.specs.Steps.{dropped_cell, is_vacant, enabled, thread_may, after, after_target, target_at, takes_block};
 ghost use Rattle.brc_runs.specs.Runs.{IsRun, IsReached, world_after};
 ghost use Rattle.brc_known.specs.Ranges.{OwnerFits};
+ghost use Rattle.brc_known.specs.Counts.{own_count, counts_of};
+ghost use Rattle.brc_words.specs.declared.limits.TheConstants.{FIRST_MORTAL};
 ghost use Rattle.brc_known.specs.Staying.{IsAnothers, Lasts, SameOwn, Bears, Buries, Locked, Keeps, Foreign, OwnedOrNot, Nobodys, Owns, Merges, Adopts, PoppedOwn, Tells, PoppedTells, HoldsNothing};
 ghost use Rattle.brc_known.specs.Items.{Word as word, IsWord, Shows, works_on, ItemRun, AreItems, IsPart, events_of, world_of_items, part_of, own};
 
@@ -60,7 +62,7 @@ pub fn owners_last()
 /// own and asked for.
 pub fn hands_tell()
     ensures hand { (h : Heap) (t c : ℕ) (p : phase) → IsReached h
-        → (row_at h t).hand ≡ hands.Busy p c → (266 ≤ c) × Tells t p (cell_at h c) }
+        → (row_at h t).hand ≡ hands.Busy p c → (FIRST_MORTAL ≤ c) × Tells t p (cell_at h c) }
     ensures popped { (h : Heap) (t c : ℕ) → IsReached h → (row_at h t).hand ≡ hands.Free
         → bit_of (popped_at h t) c ≡ 1 → PoppedTells t (cell_at h c) }
 {}
@@ -99,6 +101,16 @@ pub fn a_step_changes_one_word()
         → thread_may h t s ≡ true → IsWord (length h.cells) w
         → w ≢ works_on h t s (target_at h t s) → Shows h w number
         → Shows (after_target h t s (target_at h t s)) w number }
+{}
+
+/// The local count of each of a thread's own objects is a function of its own items, with the numbers that they were told:
+/// an active thread counts on what it owns without a look. 0 says that it doesn't count there on the local word.
+pub fn own_items_tell_the_counts()
+    ensures { (cells limit : ℕ) (items : ItemRun) (t c : ℕ) → AreOptions cells limit
+        → AreItems (opening cells limit) items
+        → is_registered (world_of_items (opening cells limit) items) t ≡ true → FIRST_MORTAL ≤ c
+        → own_count t (row_at (world_of_items (opening cells limit) items) t).stage
+        (cell_at (world_of_items (opening cells limit) items) c) ≡ counts_of cells (own t items) c }
 {}
 
 /// Owners are registered threads, entries are cells of the heap, the cell in a hand is on no worklist, and the local limit

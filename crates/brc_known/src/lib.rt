@@ -9,6 +9,6 @@ mod laws;
 
 pub use laws::{
     a_step_changes_one_word, dead_blocks_are_unlocked, gathered_threads_hold_nothing, hands_tell,
-    held_words_last, no_thread_is_stuck, numbers_name_what_is_there, own_items_tell_the_part,
-    own_parts_last, owners_last,
+    held_words_last, no_thread_is_stuck, numbers_name_what_is_there, own_items_tell_the_counts,
+    own_items_tell_the_part, own_parts_last, owners_last,
 };
