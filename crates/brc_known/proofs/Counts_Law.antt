@@ -19,14 +19,14 @@ use Rattle.brc_runs.specs.Steps.{target, closed_more, stage_after, enabled, afte
 use Rattle.brc_runs.specs.Runs.{IsReached}
 use Rattle.brc_words.specs.declared.state.State.{State}
 use Rattle.brc_words.specs.declared.state.State.TheVariants as states
-use Rattle.brc_runs.specs.Sound.{IsSound, WorklistFits, asks_least, is_threads}
+use Rattle.brc_runs.specs.Sound.{IsSound, held, gripped, WorklistFits, asks_least, is_threads}
 use Rattle.brc_known.specs.Staying.{IsAnothers, SameOwn, Owns}
 use Rattle.brc_known.specs.Items.{Part, Local, word_in, told_at, Item, ItemRun, AreItems, world_of_items, own, part_of, IsPart, IsTold, told}
 use Rattle.brc_known.specs.Counts.{own_count, counted_by, counted_apart, counts_by, counts_of}
 use Rattle.brc_runs.proofs.Asking.{May, OnCell, on_cell, Mine, mine}
 use Rattle.brc_runs.proofs.Changes.{read_there, read_here}
-use Rattle.brc_runs.proofs.Counting.{marked_unheld, total_unmerged}
-use Rattle.brc_runs.proofs.Naming.{busy_hand, one-true, thread_owner, free_owner}
+use Rattle.brc_runs.proofs.Counting.{marked_unheld, total_unmerged, owned_ungripped, local_positive}
+use Rattle.brc_runs.proofs.Naming.{busy_hand, grips_free, one-true, thread_owner, free_owner}
 use Rattle.brc_runs.proofs.Reached.{reached_sound}
 use Rattle.brc_known.proofs.Lasting.{bearing, others_own, alone_stays, live_owner}
 use Rattle.brc_known.proofs.Reasons.{event_cell}
@@ -239,7 +239,7 @@ step_count h t s (Some c) number d counts sound may named told mortal before =
 -- ---- the law
 
 -- the part that the items tell means the cell that the world's does
-part_target : (h : Heap) (t : ℕ) (part : Part) (s : Step) → IsPart h t part → target part.row part.frame part.worklist part.has s ≡ target_at h t s
+pub part_target : (h : Heap) (t : ℕ) (part : Part) (s : Step) → IsPart h t part → target part.row part.frame part.worklist part.has s ≡ target_at h t s
 part_target h t part s is =
     ap (λ r. target r part.frame part.worklist part.has s) (sym is.row_is)
     ∙ ap (λ f. target (row_at h t) f part.worklist part.has s) (sym is.frame_is)
@@ -269,8 +269,8 @@ counts_follow t cells =
             ∙ ap (λ o. counts_by s number o (counts_of cells log) c) (sym (part_target h t (part_of cells log) s before.0)),
       );
       gathers = λ h u log before. (parts.gathers h u log before.0, before.1);
-      saw = λ h word number log before. before;
-      lost = λ h word number log before. before;
+      saw = λ h word number log reached shows before. before;
+      lost = λ h word number log reached shows before. before;
     }
 
 -- a registered thread counts its own objects as its own items say
@@ -279,3 +279,24 @@ pub counts_are_told : (cells limit : ℕ) (items : ItemRun) (t c : ℕ) → AreO
     → own_count t (row_at (world_of_items (opening cells limit) items) t).stage (cell_at (world_of_items (opening cells limit) items) c) ≡ counts_of cells (own t items) c
 unfolding Counts
 counts_are_told cells limit items t c options are there mortal = (tells t cells (Counts t cells) (counts_follow t cells) limit items options are there).1 c mortal
+
+-- ---- what a count says of the world
+
+-- a thread with a bare hand that holds an object and has no count of it doesn't count there on the local word
+pub uncounted : (h : Heap) (t c : ℕ) → IsReached h → FIRST_MORTAL ≤ c → 1 ≤ held h c → (row_at h t).hand ≡ hands.Free → own_count t (row_at h t).stage (cell_at h c) ≡ 0
+    → is_mine t (row_at h t).stage (cell_at h c) ≡ false
+uncounted h t c reached mortal some free none = elim (cases_Bool (is_mine t (row_at h t).stage (cell_at h c))) [
+  | inr apart ↦ apart
+  | inl his ↦
+      let sound : IsSound h = reached_sound h reached in
+      let owner : (cell_at h c).owner ≡ owners.Thread t = (mine t (row_at h t).stage (cell_at h c) his).owner in
+      let ungripped : gripped h c ≡ 0 = owned_ungripped h t c sound mortal owner some (grips_free c _ free) in
+      absurd (omega (arith, none, counted_here t _ (cell_at h c) his, local_positive h t c sound mortal owner ungripped))
+]
+
+-- and where it has a count, the word has that count
+pub counted : (t : ℕ) (g : Stage) (x : Cell) → 0 < own_count t g x → (is_mine t g x ≡ true) × (x.local ≡ own_count t g x)
+counted t g x some = elim (cases_Bool (is_mine t g x)) [
+  | inl his ↦ (his, sym (counted_here t g x his))
+  | inr apart ↦ absurd (omega (arith, some, not_counted t g x apart))
+]

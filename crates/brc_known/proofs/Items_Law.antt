@@ -100,8 +100,8 @@ part_follows t cells = record {
       subst (λ n. IsPart (after_target h t s (target_at h t s)) t (part_after n (part_of cells log) (Did s number entries))) size
       (own_part h t s number entries (part_of cells log) (reached_sound h reached) fit may told_is found_is before);
   gathers = λ h u log before. gathered_is h u t (part_of cells log) before;
-  saw = λ h word number log before. before;
-  lost = λ h word number log before. before;
+  saw = λ h word number log reached shows before. before;
+  lost = λ h word number log reached shows before. before;
 }
 
 -- a registered thread's part of the world is what its own items say

@@ -43,7 +43,7 @@ entry_alike : (h : Heap) (t : ℕ) (has : ℕ → List ℕ) (o : Option ℕ) (i 
 entry_alike h t has None i knows at = refl
 entry_alike h t has (Some c) i knows at = ap (λ (es : List ℕ). slice_get es i) (sym (knows.locked c at))
 
-drop_alike : (h : Heap) (t : ℕ) (has : ℕ → List ℕ) (drop : Dropped) → Knows h t has
+pub drop_alike : (h : Heap) (t : ℕ) (has : ℕ → List ℕ) (drop : Dropped) → Knows h t has
     → dropped_cell (frame_at h t) (worklist_at h t) has drop ≡ dropped_cell (frame_at h t) (worklist_at h t) (entries_at h) drop
 drop_alike h t has (dropped.Frame k) knows = refl
 drop_alike h t has (dropped.Work c) knows = elim (cases_Bool (is_marked (worklist_at h t) c)) [

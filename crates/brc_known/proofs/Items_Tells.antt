@@ -9,7 +9,7 @@ use Rattle.brc_runs.specs.Heap.{Heap, opening, new_row, is_registered, AreOption
 use Rattle.brc_runs.specs.Steps.{enabled, after, after_target, root_after, root_may, thread_may, target_at, registered, gathered_in}
 use Rattle.brc_runs.specs.Runs.{world_after, IsReached}
 use Rattle.brc_known.specs.Staying.{is_about, IsAnothers}
-use Rattle.brc_known.specs.Items.{Word, Item, Did, Saw, Lost, ItemRun, with_event, events_of, world_of_items, MayCome, AreItems, is_start, own, IsTold, found}
+use Rattle.brc_known.specs.Items.{Word, Item, Did, Saw, Lost, ItemRun, with_event, events_of, world_of_items, MayCome, AreItems, is_start, own, IsTold, Shows, found}
 use Rattle.brc_runs.proofs.Asking.{May, may_parts}
 use Rattle.brc_runs.proofs.Registering.{length-push}
 use Rattle.brc_known.proofs.Standing.{run_reached}
@@ -26,8 +26,8 @@ pub record Follows (t cells : ℕ) (P : Heap → List Item → Type 0) : Type 0 
   pub owns : (h : Heap) (s : Step) (number : ℕ) (entries : List ℕ) (log : List Item) → IsReached h → length h.cells ≡ cells → QueuesFit h → May h t s
       → IsTold h t s number → entries ≡ found h t s → P h log → P (after_target h t s (target_at h t s)) (Did s number entries ∷ log)
   pub gathers : (h : Heap) (u : ℕ) (log : List Item) → P h log → P (gathered_in h u) log
-  pub saw : (h : Heap) (word : Word) (number : ℕ) (log : List Item) → P h log → P h (Saw word number ∷ log)
-  pub lost : (h : Heap) (word : Word) (number : ℕ) (log : List Item) → P h log → P h (Lost word number ∷ log)
+  pub saw : (h : Heap) (word : Word) (number : ℕ) (log : List Item) → IsReached h → Shows h word number → P h log → P h (Saw word number ∷ log)
+  pub lost : (h : Heap) (word : Word) (number : ℕ) (log : List Item) → IsReached h → Shows h word number → P h log → P h (Lost word number ∷ log)
 
 -- the thread's items after one more of some thread's
 abbrev pub with_item : ℕ → ℕ → Item → List Item → List Item
@@ -118,8 +118,8 @@ module _ (t cells : ℕ) (P : Heap → List Item → Type 0) (follows : Follows 
       let run : List Event = events_of items in
       did_item (world_after (opening cells limit) run) u s number entries (own t items) (run_reached cells limit run options (events_run (opening cells limit) items are))
       (run_cells cells limit run) (run_queues cells limit run) comes some_thread before
-  item_holds limit u (Saw word number) items options are comes some_thread before = noted _ u (Saw word number) (own t items) refl (follows.saw _ word number (own t items)) before
-  item_holds limit u (Lost word number) items options are comes some_thread before = noted _ u (Lost word number) (own t items) refl (follows.lost _ word number (own t items)) before
+  item_holds limit u (Saw word number) items options are comes some_thread before = noted _ u (Saw word number) (own t items) refl (follows.saw _ word number (own t items) (run_reached cells limit (events_of items) options (events_run (opening cells limit) items are)) comes) before
+  item_holds limit u (Lost word number) items options are comes some_thread before = noted _ u (Lost word number) (own t items) refl (follows.lost _ word number (own t items) (run_reached cells limit (events_of items) options (events_run (opening cells limit) items are)) comes) before
 
   items_hold : (limit : ℕ) (items : ItemRun) → AreOptions cells limit → AreItems (opening cells limit) items → 0 < t → Holds (world_of_items (opening cells limit) items) (own t items)
   unfolding Holds

@@ -13,3 +13,4 @@ pub mod Ranges_Law
 pub mod Items_Runs
 pub mod Items_Tells
 pub mod Counts_Law
+pub mod Risen_Law

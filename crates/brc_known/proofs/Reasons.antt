@@ -38,7 +38,7 @@ root_cells h (Register u) c = refl
 root_cells h (Gather u) c = refl
 root_cells h _ c = refl
 
-target_cell : (h : Heap) (t : ℕ) (s : Step) (o : Option ℕ) (c : ℕ) → target_ok h t (row_at h t) s o ≡ true
+pub target_cell : (h : Heap) (t : ℕ) (s : Step) (o : Option ℕ) (c : ℕ) → target_ok h t (row_at h t) s o ≡ true
     → (cell_at (after_target h t s o) c ≡ cell_at h c) ⊎ ((o ≡ Some c) × (cell_at (after_target h t s o) c ≡ cell_after t s c (cell_at h c)))
 target_cell h t s None c ok = inl refl
 target_cell h t s (Some d) c ok = elim (cases_eq c d) [

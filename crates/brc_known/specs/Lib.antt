@@ -3,3 +3,4 @@ pub mod Items
 pub mod Progress
 pub mod Ranges
 pub mod Counts
+pub mod Risen

@@ -19,12 +19,15 @@ ghost use Rattle.brc_runs.specs.Lists.{bit_of, is_marked, is_bare, is_unmarked, 
 ghost use Rattle.brc_runs.specs.Heap.{Heap, opening, cell_at, entries_at, row_at, frame_at, popped_at, worklist_at, queue_at, is_gathered, is_registered, AreOptions};
 ghost use Rattle.brc_words.specs.Kinds.{is_mortal};
 ghost use Rattle.brc_known.specs.Progress.{Stands, IsAtRest, next_step, release_step, popped_step};
-ghost use Rattle.brc_runs.specs.Steps.{dropped_cell, is_vacant, enabled, thread_may, after, after_target, target_at, takes_block};
+ghost use Rattle.brc_runs.specs.Steps.{is_mine, dropped_cell, is_vacant, enabled, thread_may, after, after_target, target_at, takes_block};
 ghost use Rattle.brc_runs.specs.Runs.{IsRun, IsReached, world_after};
 ghost use Rattle.brc_known.specs.Ranges.{OwnerFits};
 ghost use Rattle.brc_known.specs.Counts.{own_count, counts_of};
+ghost use Rattle.brc_known.specs.Risen.{is_risen};
+ghost use Rattle.brc_runs.specs.Sound.{held};
+ghost use Rattle.brc_runs.specs.declared.row.Stage.{Stage as stage};
 ghost use Rattle.brc_words.specs.declared.limits.TheConstants.{FIRST_MORTAL};
-ghost use Rattle.brc_known.specs.Staying.{IsAnothers, Lasts, SameOwn, Bears, Buries, Locked, Keeps, Foreign, OwnedOrNot, Nobodys, Owns, Merges, Adopts, PoppedOwn, Tells, PoppedTells, HoldsNothing};
+ghost use Rattle.brc_known.specs.Staying.{rank, IsAnothers, Lasts, SameOwn, Bears, Buries, Locked, Keeps, Foreign, OwnedOrNot, Nobodys, Owns, Merges, Adopts, PoppedOwn, Tells, PoppedTells, HoldsNothing};
 ghost use Rattle.brc_known.specs.Items.{Word as word, IsWord, Shows, works_on, ItemRun, AreItems, IsPart, events_of, world_of_items, part_of, own};
 
 /// While others step, a thread's own part stays as it is, and a bit of its merge queue stays set.
@@ -111,6 +114,26 @@ pub fn own_items_tell_the_counts()
         → is_registered (world_of_items (opening cells limit) items) t ≡ true → FIRST_MORTAL ≤ c
         → own_count t (row_at (world_of_items (opening cells limit) items) t).stage
         (cell_at (world_of_items (opening cells limit) items) c) ≡ counts_of cells (own t items) c }
+{}
+
+/// An object that a thread found queued or merged, in a place of its frame or as the last entry of a dead block that has
+/// had it since, is still queued or merged: its release goes straight to the shared word.
+pub fn own_items_tell_what_has_risen()
+    ensures { (cells limit : ℕ) (items : ItemRun) (t c : ℕ) (drop : dropped) → AreOptions cells limit
+        → AreItems (opening cells limit) items
+        → is_registered (world_of_items (opening cells limit) items) t ≡ true
+        → is_risen cells (own t items) drop c ≡ true → FIRST_MORTAL ≤ c
+        → 1 ≤ rank (cell_at (world_of_items (opening cells limit) items) c).state }
+{}
+
+/// What a count says: a thread with a bare hand that holds an object and has no count of it doesn't count on its local
+/// word, and where it has a count the word has that count.
+pub fn counts_say_who_counts()
+    ensures none { (h : Heap) (t c : ℕ) → IsReached h → FIRST_MORTAL ≤ c → 1 ≤ held h c
+        → (row_at h t).hand ≡ hands.Free → own_count t (row_at h t).stage (cell_at h c) ≡ 0
+        → is_mine t (row_at h t).stage (cell_at h c) ≡ false }
+    ensures some { (t : ℕ) (g : stage) (x : cell) → 0 < own_count t g x
+        → (is_mine t g x ≡ true) × (x.local ≡ own_count t g x) }
 {}
 
 /// Owners are registered threads, entries are cells of the heap, the cell in a hand is on no worklist, and the local limit
