@@ -68,9 +68,9 @@ fn containers_keep_their_order(rt: HostRuntime) {
     let mut letters = Letters::new(VecDeque::new(rt.alloc()));
     let mut pairs = Pairs::new(Vec::new(rt.alloc()));
     for cell in [266, 267, 268] {
-        assert!(rt; cells.push(cell).is_ok());
+        assert!(rt; cells.put(cell).is_ok());
         assert!(rt; letters.put(cell).is_ok());
-        assert!(rt; pairs.push(Key::Int(i64::from(cell)), cell).is_ok());
+        assert!(rt; pairs.put(Key::Int(i64::from(cell)), cell).is_ok());
     }
     assert!(rt; cells.len() == 3 && letters.len() == 3 && pairs.len() == 3);
     assert!(rt; cells.pop() == Some(268) && letters.pop() == Some(268));
