@@ -1,8 +1,8 @@
 -- A list seen through a function of its elements: read, changed and taken by index.
-use Rattle.std.proofs.Common.{◌≡◌, ◌<◌, ◌≤◌, ◌+◌, ℕ, zero, suc, List, [], ◌∷◌, ◌++◌, All, Some, None, ap, refl, subst, sym, ◌∙◌, length, get_or, map, take, slice_get, remove, arith}
-use Rattle.std.specs.Option.{option_map, option_to_list}
+use Rattle.std.proofs.Common.{◌≡◌, ◌<◌, ◌≤◌, ◌+◌, ℕ, List, All, Some, None, ap, subst, sym, ◌∙◌, length, get_or, map, take, slice_get, remove}
+use Rattle.std.specs.Option.{option_map}
 use Rattle.std.proofs.lemmas.Option.{slice_get-map, slice_get-get_or, slice_get_past}
-use Rattle.std.proofs.lemmas.List.{get_or-map, length-map, take_all}
+use Rattle.std.proofs.lemmas.List.{get_or-map, length-map, map-append, take-map, drop-map, take_all}
 use Rattle.std.proofs.lemmas.List.Elements.{All-more}
 
 module _ {X Y : Type 0} (f : X → Y) where
@@ -25,3 +25,6 @@ module _ {X Y : Type 0} (f : X → Y) where
       → All P (take i (map f xs)) → All P (map f xs)
   All-map_whole P xs i whole all =
       subst (All P) (take_all i (map f xs) (subst (λ n. n ≤ i) (sym (length-map xs f)) whole)) all
+
+  pub map-remove : (xs : List X) (i : ℕ) → map f (remove xs i) ≡ remove (map f xs) i
+  map-remove xs i = simp (map-append, take-map, drop-map)
