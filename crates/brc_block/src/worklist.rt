@@ -107,7 +107,8 @@ impl<A: Allocator> Worklist<A> {
                 let mut node = node;
                 let rest = node.below.take_all();
                 self.fill(rest);
-                Some(Block::from_node(node))
+                let front = Block::from_node(node);
+                Some(front)
             }
         }
     }
