@@ -3,7 +3,6 @@ use Rattle.std.specs.Prelude.{ℕ, List, [], true, false}
 use Rattle.brc_words.specs.declared.key.Key.{Key}
 use Rattle.brc_words.specs.declared.kind.Kind.{Kind}
 use Rattle.brc_words.specs.declared.kind.Kind.TheVariants as kinds
-use Rattle.brc_block.specs.Row.{Row}
 use Rattle.brc_block.specs.Pairs.{keys_in, cells_in}
 use Rattle.brc_block.specs.declared.payload.Payload.{Payload}
 use Rattle.brc_block.specs.declared.payload.Payload.TheVariants.{Int, Text, «List» as Items, Dict, Mailbox, Nothing, Truth}

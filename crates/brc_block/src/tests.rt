@@ -15,11 +15,7 @@ fn push_block<A: Allocator>(list: &mut Worklist<A>, alloc: A, cell: u32) {
 }
 
 /// Takes all the memory that the heap has left.
-fn fill<'h>(
-    rt: &impl Abort,
-    alloc: Global,
-    heap: &'h LocalHeap,
-) -> Vec<Box<u8, &'h LocalHeap>> {
+fn fill<'h>(rt: &impl Abort, alloc: Global, heap: &'h LocalHeap) -> Vec<Box<u8, &'h LocalHeap>> {
     let mut filler = Vec::new(alloc);
     for _ in 0..1_000_000 {
         match Box::new(heap, 0u8) {

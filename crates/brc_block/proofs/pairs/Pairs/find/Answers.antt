@@ -6,7 +6,7 @@ pub returns-then-is_same-clause-found : goal.returns-then-is_same-clause-found
 returns-then-is_same-clause-found g c =
     rw (← c.as_slice-pairs.ensures)
     (slice_get-map_read (λ pair. pair.0) _ _ c.index-pairs-index.result c.loop-index-test.true
-     ∙ ap Some (ap (λ pair. pair.0) (sym c.index-pairs-index.is) ∙ c.is_same.ensures.0 c.if-is_same.true))
+    ∙ ap Some (ap (λ pair. pair.0) (sym c.index-pairs-index.is) ∙ c.is_same.ensures.0 c.if-is_same.true))
 
 pub returns-then-is_same-clause-first : goal.returns-then-is_same-clause-first
 returns-then-is_same-clause-first g c = rw (← c.as_slice-pairs.ensures) c.loop-index.invariant

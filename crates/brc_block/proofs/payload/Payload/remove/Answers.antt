@@ -9,7 +9,7 @@ pub returns-in-Dict-clause-taken : goal.returns-in-Dict-clause-taken
 returns-in-Dict-clause-taken g c =
     rw c.in-Dict.is
     (slice_get-map (λ pair. pair.1) c.in-Dict.pairs.items c.args.index
-     ∙ ap (option_map (λ pair. pair.1)) c.remove-key.ensures.taken)
+    ∙ ap (option_map (λ pair. pair.1)) c.remove-key.ensures.taken)
 
 pub returns-in-Dict-clause-left : goal.returns-in-Dict-clause-left
 returns-in-Dict-clause-left g c =
