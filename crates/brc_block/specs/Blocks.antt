@@ -1,5 +1,6 @@
 -- A list of blocks as cell numbers and payloads.
-use Rattle.std.specs.Prelude.{ℕ, List, [], ◌∷◌, Option, Some, None, Box}
+use Rattle.std.specs.Prelude.{◌≡◌, ℕ, List, [], ◌∷◌, ◌++◌, length, take, Option, Some, None, Box}
+use Rattle.brc_block.specs.Payload.{kind_of, entries_of, keys_of}
 use Rattle.brc_block.specs.declared.payload.Payload.{Payload}
 use Rattle.brc_block.specs.declared.worklist.Node.{Node}
 
@@ -17,6 +18,23 @@ front_cell (block ∷ below) = Some block.0
 abbrev pub front_payload : {P : Type 0} → List (ℕ × P) → Option P
 front_payload [] = None
 front_payload (block ∷ below) = Some block.1
+
+-- the entries of the front
+abbrev pub front_entries : {A : Type 0} → List (ℕ × Payload A) → List ℕ
+front_entries [] = []
+front_entries (block ∷ below) = entries_of block.1
+
+-- the front loses its last entry, of a dictionary with its key; its cell, its kind and the blocks below it stay
+pub record PopsEntry {A : Type 0} (old new : List (ℕ × Payload A)) (entry : ℕ) : Type 0 where
+  pub cell : ℕ
+  pub held : Payload A
+  pub left : Payload A
+  pub below : List (ℕ × Payload A)
+  pub before : old ≡ (cell, held) ∷ below
+  pub after : new ≡ (cell, left) ∷ below
+  pub entries : entries_of held ≡ entries_of left ++ entry ∷ []
+  pub keys : keys_of left ≡ take (length (entries_of left)) (keys_of held)
+  pub kind : kind_of left ≡ kind_of held
 
 -- as far as a list of blocks counts
 abbrev pub most_counted : ℕ

@@ -1,2 +1,5 @@
+pub mod Row
+pub mod Pairs
+pub mod Payload
 pub mod Blocks
 pub mod Lending

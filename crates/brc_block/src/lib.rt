@@ -4,11 +4,17 @@
 #![tactic(auto)]
 
 mod block;
+mod cells;
+mod letters;
+mod pairs;
 mod payload;
 mod worklist;
 
 pub use block::Block;
-pub use payload::{Cells, Letters, Pairs, Payload};
+pub use cells::Cells;
+pub use letters::Letters;
+pub use pairs::Pairs;
+pub use payload::Payload;
 pub use worklist::Worklist;
 
 #[cfg(test)]

@@ -1,198 +1,15 @@
 //! What an object holds.
 
-ghost use Rattle.std.specs.Prelude.{◌≡◌, ◌<◌, ◌++◌, [], ◌∷◌, length, Some, OnOk, OnErr, IfErr, IfNone, slice_get, slice_set, remove};
+ghost use Rattle.std.specs.Prelude.{◌≡◌, ◌≢◌, ◌+◌, ◌<◌, ◌≤◌, ◌++◌, [], ◌∷◌, length, take, IsTrue, Some, OnOk, OnErr, OnSome, IfNone, slice_get, slice_set, remove};
 ghost use Rattle.std.specs.Option.{option_to_list};
-ghost use Rattle.std.specs.VecDeque.{deque_items};
+ghost use Rattle.brc_words.specs.Kinds.{is_container};
+ghost use Rattle.brc_words.specs.declared.kind.Kind.TheVariants as kinds;
 
-use brc_words::{Key, Text};
-use std::alloc::{AllocError, AllocFailed, Allocator};
-use std::collections::VecDeque;
-use std::marker::Model;
-
-/// The entries of a list, as cells.
-#[derive(Drop)]
-pub struct Cells<A: Allocator> {
-    list: Vec<u32, A>,
-}
-
-impl<A: Allocator> Model for Cells<A> {
-    ghost use Rattle.std.specs.Prelude.{List, ℕ};
-
-    ghost Value = { List ℕ };
-
-    ghost view = { λ c. c.list.items };
-}
-
-impl<A: Allocator> Cells<A> {
-    /// The vector as entries.
-    pub fn new(list: Vec<u32, A>) -> Self
-        ensures { result ≡ list.items }
-    {
-        Cells { list }
-    }
-
-    /// The cells in their order.
-    pub fn as_slice(&self) -> &[u32]
-        ensures { result.now ≡ self.now }
-    {
-        self.list.as_slice()
-    }
-
-    pub fn len(&self) -> usize
-        ensures { result ≡ length self.now }
-    {
-        self.as_slice().len()
-    }
-
-    /// One more entry, at the end.
-    pub fn push(&mut self, cell: u32) -> Result<(), AllocError>
-        ensures pushed { OnOk result (self.new ≡ self.old ++ cell ∷ []) }
-        ensures unchanged { OnErr result (self.new ≡ self.old) }
-    {
-        self.list.push(cell)?;
-        Ok(())
-    }
-
-    /// Takes the last entry.
-    pub fn pop(&mut self) -> Option<u32>
-        ensures last { self.old ≡ self.new ++ option_to_list result }
-        ensures none { IfNone result (self.old ≡ []) }
-    {
-        self.list.pop()
-    }
-
-    /// Another cell for an entry.
-    pub fn set(&mut self, index: usize, cell: u32)
-        requires within { index < length self.old }
-        ensures { self.new ≡ slice_set self.old index cell }
-    {
-        self.list[index] = cell;
-    }
-
-    /// Takes an entry, and the later ones close up.
-    pub fn remove(&mut self, index: usize) -> u32
-        requires within { index < length self.old }
-        ensures taken { slice_get self.old index ≡ Some result }
-        ensures left { self.new ≡ remove self.old index }
-    {
-        self.list.remove(index)
-    }
-}
-
-/// The entries of a dictionary: each key with its cell, in the order in which the keys came.
-#[derive(Drop)]
-pub struct Pairs<A: Allocator> {
-    list: Vec<(Key<A>, u32), A>,
-}
-
-impl<A: Allocator> Model for Pairs<A> {
-    ghost use Rattle.std.specs.Prelude.{List, ℕ};
-    ghost use Rattle.brc_words.specs.declared.key.Key.{Key};
-
-    ghost Value = { List (Key A × ℕ) };
-
-    ghost view = { λ p. p.list.items };
-}
-
-impl<A: Allocator> Pairs<A> {
-    /// The vector as entries.
-    pub fn new(list: Vec<(Key<A>, u32), A>) -> Self
-        ensures { result ≡ list.items }
-    {
-        Pairs { list }
-    }
-
-    /// The pairs in their order.
-    pub fn as_slice(&self) -> &[(Key<A>, u32)]
-        ensures { result.now ≡ self.now }
-    {
-        self.list.as_slice()
-    }
-
-    pub fn len(&self) -> usize
-        ensures { result ≡ length self.now }
-    {
-        self.as_slice().len()
-    }
-
-    /// One more entry, at the end, or its key back.
-    pub fn push(&mut self, key: Key<A>, cell: u32) -> Result<(), Key<A>>
-        ensures pushed { OnOk result (self.new ≡ self.old ++ (key, cell) ∷ []) }
-        ensures refused { IfErr result (λ back. back ≡ key) }
-        ensures unchanged { OnErr result (self.new ≡ self.old) }
-    {
-        match self.list.push((key, cell)) {
-            Ok(()) => Ok(()),
-            Err(failed) => {
-                let AllocFailed { value: (key, _) } = failed;
-                Err(key)
-            }
-        }
-    }
-
-    /// Takes the last entry.
-    pub fn pop(&mut self) -> Option<(Key<A>, u32)>
-        ensures last { self.old ≡ self.new ++ option_to_list result }
-        ensures none { IfNone result (self.old ≡ []) }
-    {
-        self.list.pop()
-    }
-}
-
-/// The entries of a mailbox, as cells: the first put in is the first taken out.
-#[derive(Drop)]
-pub struct Letters<A: Allocator> {
-    queue: VecDeque<u32, A>,
-}
-
-impl<A: Allocator> Model for Letters<A> {
-    ghost use Rattle.std.specs.Prelude.{List, ℕ};
-    ghost use Rattle.std.specs.VecDeque.{deque_items};
-
-    ghost Value = { List ℕ };
-
-    ghost view = { λ l. deque_items l.queue };
-}
-
-impl<A: Allocator> Letters<A> {
-    /// The queue as entries.
-    pub fn new(queue: VecDeque<u32, A>) -> Self
-        ensures { result ≡ deque_items queue }
-    {
-        Letters { queue }
-    }
-
-    pub fn len(&self) -> usize
-        ensures { result ≡ length self.now }
-    {
-        self.queue.len()
-    }
-
-    /// One more entry, at the end.
-    pub fn put(&mut self, cell: u32) -> Result<(), AllocError>
-        ensures put { OnOk result (self.new ≡ self.old ++ cell ∷ []) }
-        ensures unchanged { OnErr result (self.new ≡ self.old) }
-    {
-        self.queue.push_back(cell)?;
-        Ok(())
-    }
-
-    /// Takes the first entry.
-    pub fn take(&mut self) -> Option<u32>
-        ensures first { self.old ≡ option_to_list result ++ self.new }
-        ensures none { IfNone result (self.old ≡ []) }
-    {
-        self.queue.pop_front()
-    }
-
-    /// Takes the last entry.
-    pub fn pop(&mut self) -> Option<u32>
-        ensures last { self.old ≡ self.new ++ option_to_list result }
-        ensures none { IfNone result (self.old ≡ []) }
-    {
-        self.queue.pop_back()
-    }
-}
+use crate::cells::Cells;
+use crate::letters::Letters;
+use crate::pairs::Pairs;
+use brc_words::{Key, Kind, Text};
+use std::alloc::{AllocError, Allocator};
 
 /// What an object holds; containers hold cell numbers.
 #[derive(Drop)]
@@ -204,4 +21,156 @@ pub enum Payload<A: Allocator> {
     Mailbox(Letters<A>),
     Nothing,
     Truth(bool),
+}
+
+impl<A: Allocator> Payload<A> {
+    ghost use Rattle.brc_block.specs.Payload.{kind_of, entries_of, keys_of, spare_of};
+
+    /// What kind of object it is.
+    pub fn kind(&self) -> Kind
+        ensures { result ≡ kind_of self.now }
+    {
+        match self {
+            Payload::Int(_) => Kind::Int,
+            Payload::Text(_) => Kind::Text,
+            Payload::List(_) => Kind::List,
+            Payload::Dict(_) => Kind::Dict,
+            Payload::Mailbox(_) => Kind::Mailbox,
+            Payload::Nothing => Kind::Nothing,
+            Payload::Truth(false) => Kind::False,
+            Payload::Truth(true) => Kind::True,
+        }
+    }
+
+    /// How many entries it has; only containers have any.
+    pub fn len(&self) -> usize
+        ensures { result ≡ length (entries_of self.now) }
+    {
+        match self {
+            Payload::List(cells) => cells.len(),
+            Payload::Dict(pairs) => pairs.len(),
+            Payload::Mailbox(letters) => letters.len(),
+            _ => 0,
+        }
+    }
+
+    /// The cell of an entry, or None past the end.
+    pub fn entry(&self, index: usize) -> Option<u32>
+        ensures { result ≡ slice_get (entries_of self.now) index }
+    {
+        match self {
+            Payload::List(cells) => cells.entry(index),
+            Payload::Dict(pairs) => pairs.entry(index),
+            Payload::Mailbox(letters) => letters.entry(index),
+            _ => None,
+        }
+    }
+
+    /// Makes room for one more entry: the next put takes no memory then.
+    pub fn reserve(&mut self) -> Result<(), AllocError>
+        requires container { IsTrue (is_container (kind_of self.old)) }
+        ensures kind { kind_of self.new ≡ kind_of self.old }
+        ensures entries { entries_of self.new ≡ entries_of self.old }
+        ensures keys { keys_of self.new ≡ keys_of self.old }
+        ensures kept { spare_of self.old ≤ spare_of self.new }
+        ensures made { OnOk result (0 < spare_of self.new) }
+
+        // A growth is refused only where one was needed.
+        ensures needed { OnErr result (spare_of self.old ≡ 0) }
+        ensures unchanged { OnErr result (self.new ≡ self.old) }
+    {
+        match self {
+            Payload::List(cells) => cells.reserve(),
+            Payload::Dict(pairs) => pairs.reserve(),
+            Payload::Mailbox(letters) => letters.reserve(),
+            _ => unreachable!(),
+        }
+    }
+
+    /// One more entry of a list or a mailbox, at the end, in the room that was made for it.
+    pub fn put_reserved(&mut self, cell: u32)
+        requires keyless { kind_of self.old ≢ kinds.Dict }
+        requires room { 0 < spare_of self.old }
+        ensures put { entries_of self.new ≡ entries_of self.old ++ cell ∷ [] }
+        ensures used { spare_of self.new + 1 ≡ spare_of self.old }
+        ensures kind { kind_of self.new ≡ kind_of self.old }
+        ensures keys { keys_of self.new ≡ keys_of self.old }
+    {
+        match self {
+            Payload::List(cells) => cells.put_reserved(cell),
+            Payload::Mailbox(letters) => letters.put_reserved(cell),
+            _ => unreachable!(),
+        }
+    }
+
+    /// One more entry of a dictionary, at the end, in the room that was made for it.
+    pub fn put_pair_reserved(&mut self, key: Key<A>, cell: u32)
+        requires keyed { kind_of self.old ≡ kinds.Dict }
+        requires room { 0 < spare_of self.old }
+        ensures put { entries_of self.new ≡ entries_of self.old ++ cell ∷ [] }
+        ensures keys { keys_of self.new ≡ keys_of self.old ++ key ∷ [] }
+        ensures used { spare_of self.new + 1 ≡ spare_of self.old }
+        ensures kind { kind_of self.new ≡ kind_of self.old }
+    {
+        match self {
+            Payload::Dict(pairs) => pairs.put_reserved(key, cell),
+            _ => unreachable!(),
+        }
+    }
+
+    /// Another cell for an entry; of a dictionary the key and its place stay.
+    pub fn set(&mut self, index: usize, cell: u32)
+        requires within { index < length (entries_of self.old) }
+        ensures set { entries_of self.new ≡ slice_set (entries_of self.old) index cell }
+        ensures kind { kind_of self.new ≡ kind_of self.old }
+        ensures keys { keys_of self.new ≡ keys_of self.old }
+        ensures spare { spare_of self.new ≡ spare_of self.old }
+    {
+        match self {
+            Payload::List(cells) => cells.set(index, cell),
+            Payload::Dict(pairs) => pairs.set(index, cell),
+            Payload::Mailbox(letters) => letters.set(index, cell),
+            _ => unreachable!(),
+        }
+    }
+
+    /// Takes an entry, of a dictionary with its key, and the later ones close up.
+    pub fn remove(&mut self, index: usize) -> u32
+        requires within { index < length (entries_of self.old) }
+        ensures taken { slice_get (entries_of self.old) index ≡ Some result }
+        ensures left { entries_of self.new ≡ remove (entries_of self.old) index }
+        ensures keys { keys_of self.new ≡ remove (keys_of self.old) index }
+        ensures kind { kind_of self.new ≡ kind_of self.old }
+        ensures spare { spare_of self.new ≡ spare_of self.old + 1 }
+    {
+        match self {
+            Payload::List(cells) => cells.remove(index),
+            Payload::Dict(pairs) => {
+                let (_key, cell) = pairs.remove(index);
+                cell
+            }
+            Payload::Mailbox(letters) => letters.remove(index),
+            _ => unreachable!(),
+        }
+    }
+
+    /// Takes the last entry, of a dictionary with its key; None where there is none.
+    pub fn pop(&mut self) -> Option<u32>
+        ensures last { entries_of self.old ≡ entries_of self.new ++ option_to_list result }
+        ensures keys { keys_of self.new ≡ take (length (entries_of self.new)) (keys_of self.old) }
+        ensures kind { kind_of self.new ≡ kind_of self.old }
+        ensures spare { OnSome result (spare_of self.new ≡ spare_of self.old + 1) }
+        ensures empty { IfNone result (entries_of self.old ≡ []) }
+        ensures unchanged { IfNone result (self.new ≡ self.old) }
+    {
+        match self {
+            Payload::List(cells) => cells.pop(),
+            Payload::Dict(pairs) => match pairs.pop() {
+                None => None,
+                Some((_key, cell)) => Some(cell),
+            },
+            Payload::Mailbox(letters) => letters.pop(),
+            _ => None,
+        }
+    }
 }

@@ -1,16 +1,29 @@
-//! Blocks that are pushed, popped and given back.
+//! Blocks, their lists and what they hold, with ample memory and with none.
 
 use crate::{Block, Cells, Letters, Pairs, Payload, Worklist};
-use brc_words::{Fault, Key};
+use brc_words::{Fault, Key, Kind, is_container_kind};
 use linked_list_allocator::LocalHeap;
-use std::alloc::Allocator;
+use std::alloc::{Allocator, Global};
 use std::collections::VecDeque;
+use std::process::Abort;
 
 /// Pushes a block that holds the number of its cell, if there is memory for it.
 fn push_block<A: Allocator>(list: &mut Worklist<A>, alloc: A, cell: u32) {
     if let Ok(block) = Block::new(alloc, cell, Payload::Int(i64::from(cell))) {
         list.push(block);
     }
+}
+
+/// Takes all the memory that the heap has left.
+fn fill<'h>(rt: &impl Abort, alloc: Global, heap: &'h LocalHeap) -> Vec<Box<u8, &'h LocalHeap>> {
+    let mut filler = Vec::new(alloc);
+    for _ in 0..1_000_000 {
+        match Box::new(heap, 0u8) {
+            Ok(byte) => assert!(rt; filler.push(byte).is_ok()),
+            Err(_) => return filler,
+        }
+    }
+    panic!(rt; "a heap that is never full")
 }
 
 #[test]
@@ -67,15 +80,117 @@ fn containers_keep_their_order(rt: HostRuntime) {
     let mut cells = Cells::new(Vec::new(rt.alloc()));
     let mut letters = Letters::new(VecDeque::new(rt.alloc()));
     let mut pairs = Pairs::new(Vec::new(rt.alloc()));
-    for cell in [266, 267, 268] {
-        assert!(rt; cells.push(cell).is_ok());
+    for cell in [266, 267, 268, 269] {
+        assert!(rt; cells.put(cell).is_ok());
         assert!(rt; letters.put(cell).is_ok());
-        assert!(rt; pairs.push(Key::Int(i64::from(cell)), cell).is_ok());
+        assert!(rt; pairs.put(Key::Int(i64::from(cell)), cell).is_ok());
     }
-    assert!(rt; cells.len() == 3 && letters.len() == 3 && pairs.len() == 3);
-    assert!(rt; cells.pop() == Some(268) && letters.pop() == Some(268));
+    assert!(rt; cells.len() == 4 && letters.len() == 4 && pairs.len() == 4);
+    assert!(rt; cells.pop() == Some(269) && letters.pop() == Some(269));
+    assert!(rt; matches!(pairs.pop(), Some((Key::Int(269), 269))));
     assert!(rt; letters.take() == Some(266));
-    assert!(rt; matches!(pairs.pop(), Some((Key::Int(268), 268))));
+    assert!(rt; cells.entry(2) == Some(268) && cells.entry(3) == None);
+    assert!(rt; letters.entry(1) == Some(268) && letters.entry(2) == None);
+    assert!(rt; pairs.entry(2) == Some(268) && pairs.entry(3) == None);
+}
+
+#[test]
+fn a_key_is_found_by_its_value(rt: HostRuntime) {
+    let mut pairs = Pairs::new(Vec::new(rt.alloc()));
+    for cell in [266, 267, 268] {
+        assert!(rt; pairs.put(Key::Int(i64::from(cell) - 300), cell).is_ok());
+    }
+    assert!(rt; pairs.find(&Key::Int(-33)) == Some(1));
+    assert!(rt; pairs.find(&Key::Int(-31)) == None);
+    if pairs.len() == 3 {
+        pairs.set(1, 400);
+        assert!(rt; pairs.entry(1) == Some(400));
+        assert!(rt; matches!(pairs.remove(0), (Key::Int(-34), 266)));
+    }
+    assert!(rt; pairs.find(&Key::Int(-33)) == Some(0) && pairs.entry(0) == Some(400));
+}
+
+/// One more entry, in room that is made for it first; a dictionary's key is its cell's number.
+fn put<A: Allocator>(payload: &mut Payload<A>, cell: u32) -> bool {
+    if !is_container_kind(payload.kind()) || payload.reserve().is_err() {
+        return false;
+    }
+    match payload.kind() {
+        Kind::Dict => payload.put_pair_reserved(Key::Int(i64::from(cell)), cell),
+        _ => payload.put_reserved(cell),
+    }
+    true
+}
+
+#[test]
+fn payloads_are_edited_by_index(rt: HostRuntime) {
+    let payloads = [
+        Payload::List(Cells::new(Vec::new(rt.alloc()))),
+        Payload::Dict(Pairs::new(Vec::new(rt.alloc()))),
+        Payload::Mailbox(Letters::new(VecDeque::new(rt.alloc()))),
+    ];
+    for payload in payloads {
+        let mut payload = payload;
+        for cell in [266, 267, 268] {
+            assert!(rt; put(&mut payload, cell));
+        }
+        assert!(rt; payload.entry(1) == Some(267) && payload.entry(3) == None);
+        assert_eq!(rt; payload.len(), 3);
+        payload.set(1, 300);
+        assert_eq!(rt; payload.remove(0), 266);
+        assert!(rt; payload.pop() == Some(268) && payload.pop() == Some(300));
+        assert!(rt; payload.pop() == None && payload.len() == 0);
+    }
+}
+
+#[test]
+fn the_front_loses_its_last_entry(rt: HostRuntime) {
+    let mut list = Worklist::new();
+    assert!(rt; list.pop_entry() == None);
+    push_block(&mut list, rt.alloc(), 300);
+    let mut payload = Payload::List(Cells::new(Vec::new(rt.alloc())));
+    assert!(rt; put(&mut payload, 266) && put(&mut payload, 267));
+    if let Ok(block) = Block::new(rt.alloc(), 301, payload) {
+        list.push(block);
+    }
+    assert!(rt; list.pop_entry() == Some(267) && list.pop_entry() == Some(266));
+    assert!(rt; list.pop_entry() == None && list.front() == Some(301));
+    assert_eq!(rt; list.len(), 2);
+    while let Some(block) = list.pop() {
+        let _payload = block.into_payload();
+    }
+    list.end();
+}
+
+#[test]
+fn a_refused_growth_changes_nothing(rt: HostRuntime) {
+    let heap = LocalHeap::new(rt.alloc(), 1_000).expect(&rt, "memory");
+    let list = Vec::with_capacity(&heap, 2).expect(&rt, "memory");
+    let queue = VecDeque::with_capacity(&heap, 2).expect(&rt, "memory");
+    let keyed = Vec::with_capacity(&heap, 2).expect(&rt, "memory");
+    let mut cells = Cells::new(list);
+    let mut letters = Letters::new(queue);
+    let mut pairs = Pairs::new(keyed);
+    for cell in [266, 267] {
+        assert!(rt; cells.put(cell).is_ok());
+        assert!(rt; letters.put(cell).is_ok());
+        assert!(rt; pairs.put(Key::Int(i64::from(cell)), cell).is_ok());
+    }
+    let _filler = fill(&rt, rt.alloc(), &heap);
+
+    assert!(rt; cells.reserve().is_err() && cells.put(268).is_err());
+    assert!(rt; letters.reserve().is_err() && letters.put(268).is_err());
+    assert!(rt; pairs.reserve().is_err());
+    assert!(rt; matches!(pairs.put(Key::Int(268), 268), Err(Key::Int(268))));
+    assert!(rt; cells.as_slice() == [266, 267].as_slice());
+    assert!(rt; letters.len() == 2 && letters.entry(1) == Some(267));
+    assert!(rt; pairs.len() == 2 && pairs.find(&Key::Int(267)) == Some(1));
+
+    // The place of an entry that was taken serves the next one.
+    assert!(rt; cells.pop() == Some(267) && cells.put(268).is_ok());
+    assert!(rt; letters.take() == Some(266) && letters.put(268).is_ok());
+    assert!(rt; matches!(pairs.pop(), Some((Key::Int(267), 267))));
+    assert!(rt; pairs.put(Key::Int(268), 268).is_ok());
 }
 
 #[test]
@@ -85,19 +200,19 @@ fn a_list_of_blocks_takes_no_memory(rt: HostRuntime) {
     for cell in 0..100_000u32 {
         push_block(&mut first, &heap, cell);
     }
-    let used = heap.used();
+    let filler = fill(&rt, rt.alloc(), &heap);
     let mut second = Worklist::new();
     while let Some(block) = first.pop() {
         second.push(block);
     }
-    assert_eq!(rt; heap.used(), used);
     assert_eq!(rt; second.len(), 100_000);
     while let Some(block) = second.pop() {
         let _payload = block.into_payload();
     }
-    assert_eq!(rt; heap.used(), 0);
     first.end();
     second.end();
+    drop(filler);
+    assert_eq!(rt; heap.used(), 0);
 }
 
 #[test]

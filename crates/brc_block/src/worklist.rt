@@ -2,7 +2,7 @@
 
 ghost use Rattle.std.specs.Prelude.{◌≡◌, ℕ, ◌+◌, ◌-◌, ◌^◌, ◌<◌, List, [], ◌∷◌, length, min, IfSome, IfNone};
 ghost use Rattle.std.specs.Option.{option_copied_mut};
-ghost use Rattle.brc_block.specs.Blocks.{front_cell, front_payload, most_counted};
+ghost use Rattle.brc_block.specs.Blocks.{front_cell, front_payload, front_entries, most_counted, PopsEntry};
 
 use crate::block::Block;
 use crate::payload::Payload;
@@ -107,7 +107,8 @@ impl<A: Allocator> Worklist<A> {
                 let mut node = node;
                 let rest = node.below.take_all();
                 self.fill(rest);
-                Some(Block::from_node(node))
+                let front = Block::from_node(node);
+                Some(front)
             }
         }
     }
@@ -130,6 +131,18 @@ impl<A: Allocator> Worklist<A> {
         match &mut self.top {
             None => None,
             Some(node) => Some(&mut node.payload),
+        }
+    }
+
+    /// Takes the last entry of the front; None where there is no block or the front has no entries.
+    pub fn pop_entry(&mut self) -> Option<u32>
+        ensures popped { IfSome result (PopsEntry self.old self.new) }
+        ensures none { IfNone result (front_entries self.old ≡ []) }
+        ensures unchanged { IfNone result (self.new ≡ self.old) }
+    {
+        match self.front_mut() {
+            None => None,
+            Some(payload) => payload.pop(),
         }
     }
 

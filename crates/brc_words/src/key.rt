@@ -1,12 +1,18 @@
 //! The keys of a dictionary.
 
-ghost use Rattle.std.specs.Prelude.{◌≡◌, nat_eq};
+ghost use Rattle.std.specs.Prelude.{◌≡◌, ◌↔◌, nat_eq, IsTrue};
 ghost use Rattle.std.specs.String.{string_bytes};
-ghost use Rattle.std.specs.Cmp.{partial_equiv_from_equiv};
-ghost use Rattle.std.specs.Cmp.Lexicographic.{pointwise};
-ghost use Rattle.std.proofs.lemmas.Cmp.{nat_list_eq_equiv};
+ghost use Rattle.std.specs.Cmp.{partial_equiv_from_equiv, partial_order_from_own_ties};
+ghost use Rattle.std.specs.Cmp.Lexicographic.{pointwise, slice_cmp};
+ghost use Rattle.std.specs.Cmp.Rules.{comparing, hashing};
+ghost use Rattle.std.specs.Hash as fed;
+ghost use Rattle.std.specs.Ordering.{nat_cmp, as_partial_cmp};
+ghost use Rattle.std.proofs.Common.{rules};
+ghost use Rattle.std.proofs.lemmas.Cmp.{nat_list_eq_equiv, nat_list_cmp_total};
 
 use std::alloc::Allocator;
+use std::cmp::Ordering;
+use std::hash::{Hash, Hasher};
 use std::marker::Model;
 
 /// A text, seen as its bytes.
@@ -55,10 +61,58 @@ impl<A: Allocator> Eq for Text<A> {
     ghost laws = { nat_list_eq_equiv };
 }
 
-/// What a dictionary finds an entry by.
+/// By their bytes, the first that differs deciding; a text comes before those that it begins.
+impl<A: Allocator> Ord for Text<A> {
+    ghost cmp = { slice_cmp nat_cmp };
+
+    ghost total = { nat_list_cmp_total };
+
+    ghost matches_partial_cmp = { Prim.search (comparing, rules) };
+
+    ghost matches_eq = { Prim.search (comparing, rules) };
+
+    fn cmp(&self, other: &Self) -> Ordering {
+        self.as_str().cmp(other.as_str())
+    }
+}
+
+impl<A: Allocator> PartialOrd for Text<A> {
+    ghost partial_cmp = { as_partial_cmp (slice_cmp nat_cmp) };
+
+    ghost laws = { partial_order_from_own_ties (Prim.search (comparing, rules)) (Prim.search (comparing, rules)) };
+
+    fn partial_cmp(&self, other: &Self) -> Option<Ordering> {
+        Some(self.cmp(other))
+    }
+}
+
+impl<A: Allocator> Hash for Text<A> {
+    ghost hash_input = { fed.str };
+
+    ghost respects_eq = { Prim.search (hashing, rules) };
+
+    fn hash<H: Hasher>(&self, state: &mut H) {
+        self.as_str().hash(state);
+    }
+}
+
+/// What a dictionary finds an entry by. Integers come before texts.
 #[derive(Drop)]
-#[derive_where(Debug, PartialEq, Eq)]
+#[derive_where(Debug, PartialEq, Eq, PartialOrd, Ord, Hash)]
 pub enum Key<A: Allocator> {
     Int(i64),
     Text(Text<A>),
+}
+
+impl<A: Allocator> Key<A> {
+    /// Whether the other is the same key.
+    pub fn is_same(&self, other: &Self) -> bool
+        ensures { IsTrue result ↔ (self.now ≡ other.now) }
+    {
+        match (self, other) {
+            (Key::Int(number), Key::Int(other)) => number == other,
+            (Key::Text(text), Key::Text(other)) => text == other,
+            _ => false,
+        }
+    }
 }

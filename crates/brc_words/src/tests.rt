@@ -1,6 +1,8 @@
 //! The names of faults as they are shown, and words worked by hand.
 
 use super::*;
+use std::alloc::{AllocError, Allocator, Global};
+use std::hash::{DefaultHasher, Hash, Hasher};
 use std::test::*;
 
 #[test]
@@ -74,4 +76,33 @@ fn owner_words(rt: HostRuntime) {
     for (case, word, owner) in cases {
         assert_eq!(rt; OwnerWord::read(word), owner, "{case}");
     }
+}
+
+fn text_key(alloc: Global, text: &str) -> Result<Key<Global>, AllocError> {
+    Ok(Key::Text(Text::new(String::from_str(alloc, text)?)))
+}
+
+fn hash_of<A: Allocator>(key: &Key<A>) -> u64 {
+    let mut state = DefaultHasher::new();
+    key.hash(&mut state);
+    state.finish()
+}
+
+#[test]
+fn keys_in_rising_order(rt: HostRuntime) -> Result<(), Fail> {
+    let keys = [
+        Key::Int(-1),
+        Key::Int(5),
+        text_key(rt.alloc(), "")?,
+        text_key(rt.alloc(), "10")?,
+        text_key(rt.alloc(), "5")?,
+        text_key(rt.alloc(), "50")?,
+    ];
+    for i in 1..6 {
+        assert!(rt; keys[i - 1] < keys[i] && keys[i].is_same(&keys[i]));
+        assert!(rt; !keys[i].is_same(&keys[i - 1]), "key {i}");
+        assert!(rt; hash_of(&keys[i]) != hash_of(&keys[i - 1]), "key {i}");
+    }
+    assert_eq!(rt; hash_of(&keys[4]), hash_of(&text_key(rt.alloc(), "5")?));
+    Ok(())
 }
