@@ -29,7 +29,7 @@ use Rattle.brc_known.proofs.Items_Told.{Alike, alike, finds_alike, QueuesFit}
 put_here : (c d : ℕ) (entries : List ℕ) (has : ℕ → List ℕ) → d ≡ c → put c entries has d ≡ entries
 put_here c d entries has same = ap (λ b. if b then entries else has d) (eq-eqb d c same)
 
-put_else : (c d : ℕ) (entries : List ℕ) (has : ℕ → List ℕ) → d ≢ c → put c entries has d ≡ has d
+pub put_else : (c d : ℕ) (entries : List ℕ) (has : ℕ → List ℕ) → d ≢ c → put c entries has d ≡ has d
 put_else c d entries has other = ap (λ b. if b then entries else has d) (ne_eqb d c other)
 
 -- the thread's locked cell and those on its worklist have these entries
@@ -131,7 +131,7 @@ without_alike (Some (dropped.Work c)) lists has d is =
     (λ same. ap front_of (ap (λ i. get_or lists i []) (sym same) ∙ is ∙ ap has same))
     (λ past. ap front_of (get_or_past lists c [] past)) is
 
-after_alike : (s : Step) (c : ℕ) (x y : Cell) (frame : List (Option ℕ)) (lists : List (List ℕ)) (has : ℕ → List ℕ) (d : ℕ) → gone s y ≡ gone s x → c < length lists → get_or lists d [] ≡ has d
+pub after_alike : (s : Step) (c : ℕ) (x y : Cell) (frame : List (Option ℕ)) (lists : List (List ℕ)) (has : ℕ → List ℕ) (d : ℕ) → gone s y ≡ gone s x → c < length lists → get_or lists d [] ≡ has d
     → get_or (entries_after s c x frame lists) d [] ≡ has_after s c y frame has d
 after_alike (Birth e kind k) c x y frame lists has d same inside is = set_put lists e [] [] has d (λ _. refl) (λ _. refl) is
 after_alike (Unlock change) c x y frame lists has d same inside is =

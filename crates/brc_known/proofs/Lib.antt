@@ -14,3 +14,4 @@ pub mod Items_Runs
 pub mod Items_Tells
 pub mod Counts_Law
 pub mod Risen_Law
+pub mod Taken_Law

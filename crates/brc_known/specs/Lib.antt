@@ -4,3 +4,4 @@ pub mod Progress
 pub mod Ranges
 pub mod Counts
 pub mod Risen
+pub mod Taken

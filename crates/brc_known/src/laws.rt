@@ -24,6 +24,7 @@ ghost use Rattle.brc_runs.specs.Runs.{IsRun, IsReached, world_after};
 ghost use Rattle.brc_known.specs.Ranges.{OwnerFits};
 ghost use Rattle.brc_known.specs.Counts.{own_count, counts_of};
 ghost use Rattle.brc_known.specs.Risen.{is_risen};
+ghost use Rattle.brc_known.specs.Taken.{listed_at, taken_of, entries_if};
 ghost use Rattle.brc_runs.specs.Sound.{held};
 ghost use Rattle.brc_runs.specs.declared.row.Stage.{Stage as stage};
 ghost use Rattle.brc_words.specs.declared.limits.TheConstants.{FIRST_MORTAL};
@@ -124,6 +125,17 @@ pub fn own_items_tell_what_has_risen()
         → is_registered (world_of_items (opening cells limit) items) t ≡ true
         → is_risen cells (own t items) drop c ≡ true → FIRST_MORTAL ≤ c
         → 1 ≤ rank (cell_at (world_of_items (opening cells limit) items) c).state }
+{}
+
+/// The dead blocks that a thread has taken, with the entries that they still have, are a function of its own items: they
+/// are those on its worklist.
+pub fn own_items_tell_the_blocks()
+    ensures { (cells limit : ℕ) (items : ItemRun) (t c : ℕ) → AreOptions cells limit
+        → AreItems (opening cells limit) items
+        → is_registered (world_of_items (opening cells limit) items) t ≡ true
+        → listed_at (taken_of cells (own t items)) c
+        ≡ entries_if (is_marked (worklist_at (world_of_items (opening cells limit) items) t) c)
+        (entries_at (world_of_items (opening cells limit) items) c) }
 {}
 
 /// What a count says: a thread with a bare hand that holds an object and has no count of it doesn't count on its local

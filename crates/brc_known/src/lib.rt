@@ -10,6 +10,6 @@ mod laws;
 pub use laws::{
     a_step_changes_one_word, counts_say_who_counts, dead_blocks_are_unlocked,
     gathered_threads_hold_nothing, hands_tell, held_words_last, no_thread_is_stuck,
-    numbers_name_what_is_there, own_items_tell_the_counts, own_items_tell_the_part,
-    own_items_tell_what_has_risen, own_parts_last, owners_last,
+    numbers_name_what_is_there, own_items_tell_the_blocks, own_items_tell_the_counts,
+    own_items_tell_the_part, own_items_tell_what_has_risen, own_parts_last, owners_last,
 };
