@@ -20,7 +20,7 @@ use Rattle.brc_runs.specs.Runs.{IsReached}
 use Rattle.brc_words.specs.declared.state.State.{State}
 use Rattle.brc_words.specs.declared.state.State.TheVariants as states
 use Rattle.brc_runs.specs.Sound.{IsSound, held, gripped, WorklistFits, asks_least, is_threads}
-use Rattle.brc_known.specs.Staying.{IsAnothers, SameOwn, Owns}
+use Rattle.brc_lasting.specs.Staying.{IsAnothers, SameOwn, Owns}
 use Rattle.brc_known.specs.Items.{Part, Local, word_in, told_at, Item, ItemRun, AreItems, world_of_items, own, part_of, IsPart, IsTold, told}
 use Rattle.brc_known.specs.Counts.{own_count, counted_by, counted_apart, counts_by, counts_of}
 use Rattle.brc_runs.proofs.Asking.{May, OnCell, on_cell, Mine, mine}
@@ -28,9 +28,9 @@ use Rattle.brc_runs.proofs.Changes.{read_there, read_here}
 use Rattle.brc_runs.proofs.Counting.{marked_unheld, total_unmerged, owned_ungripped, local_positive}
 use Rattle.brc_runs.proofs.Naming.{busy_hand, grips_free, one-true, thread_owner, free_owner}
 use Rattle.brc_runs.proofs.Reached.{reached_sound}
-use Rattle.brc_known.proofs.Lasting.{bearing, others_own, alone_stays, live_owner}
-use Rattle.brc_known.proofs.Reasons.{event_cell}
-use Rattle.brc_known.proofs.Telling.{owns_lasts}
+use Rattle.brc_lasting.proofs.Lasting.{bearing, others_own, alone_stays, live_owner}
+use Rattle.brc_lasting.proofs.Reasons.{event_cell}
+use Rattle.brc_lasting.proofs.Telling.{owns_lasts}
 use Rattle.brc_known.proofs.Items_Own.{target_alike}
 use Rattle.brc_runs.proofs.Birthing.{active_from}
 use Rattle.brc_runs.specs.Holding.{lives}

@@ -11,13 +11,13 @@ use Rattle.brc_runs.specs.Heap.{Heap, opening, cell_at, row_at, frame_at, workli
 use Rattle.brc_runs.specs.Steps.{enabled, after, after_target, target_at, locked_cell, registered, gathered_in}
 use Rattle.brc_runs.specs.Holding.{lives}
 use Rattle.brc_runs.specs.Sound.{IsSound, WorklistFits}
-use Rattle.brc_known.specs.Staying.{IsAnothers, SameOwn, locked_at}
+use Rattle.brc_lasting.specs.Staying.{IsAnothers, SameOwn, locked_at}
 use Rattle.brc_known.specs.Items.{Did, ItemRun, world_of_items, AreItems, own, found, Part, new_part, part_after, part_of, IsPart, IsTold}
 use Rattle.brc_runs.proofs.Asking.{May}
 use Rattle.brc_runs.proofs.Naming.{one-true}
 use Rattle.brc_runs.proofs.Counting.{marked_unheld}
 use Rattle.brc_runs.proofs.Registering.{new_mark}
-use Rattle.brc_known.proofs.Lasting.{others_own, alone_stays, locked_stays}
+use Rattle.brc_lasting.proofs.Lasting.{others_own, alone_stays, locked_stays}
 use Rattle.brc_known.proofs.Items_Told.{QueuesFit}
 use Rattle.brc_known.proofs.Items_Own.{Knows, now, own_step}
 use Rattle.brc_runs.proofs.Reached.{reached_sound}

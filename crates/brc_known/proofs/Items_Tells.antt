@@ -8,12 +8,12 @@ use Rattle.brc_runs.specs.declared.event.Step.TheVariants.{Register, Gather}
 use Rattle.brc_runs.specs.Heap.{Heap, opening, new_row, is_registered, AreOptions}
 use Rattle.brc_runs.specs.Steps.{enabled, after, after_target, root_after, root_may, thread_may, target_at, registered, gathered_in}
 use Rattle.brc_runs.specs.Runs.{world_after, IsReached}
-use Rattle.brc_known.specs.Staying.{is_about, IsAnothers}
+use Rattle.brc_lasting.specs.Staying.{is_about, IsAnothers}
 use Rattle.brc_known.specs.Items.{Word, Item, Did, Saw, Lost, ItemRun, with_event, events_of, world_of_items, MayCome, AreItems, is_start, own, IsTold, Shows, found}
 use Rattle.brc_runs.proofs.Asking.{May, may_parts}
 use Rattle.brc_runs.proofs.Registering.{length-push}
-use Rattle.brc_known.proofs.Standing.{run_reached}
-use Rattle.brc_known.proofs.Lasting.{other_number}
+use Rattle.brc_lasting.proofs.Standing.{run_reached}
+use Rattle.brc_lasting.proofs.Lasting.{other_number}
 use Rattle.brc_known.proofs.Items_Told.{QueuesFit}
 use Rattle.brc_known.proofs.Items_Queues.{run_queues, run_cells}
 use Rattle.brc_known.proofs.Items_Runs.{events_run}

@@ -1,15 +1,9 @@
-pub mod Reasons
-pub mod Lasting
-pub mod Telling
-pub mod Standing
-pub mod Progress
 pub mod Items_Told
 pub mod Items_Queues
 pub mod Items_Own
 pub mod Items_Law
 pub mod Items_Numbers
 pub mod Words_Law
-pub mod Ranges_Law
 pub mod Items_Runs
 pub mod Items_Tells
 pub mod Counts_Law

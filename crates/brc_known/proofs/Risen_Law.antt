@@ -15,14 +15,14 @@ use Rattle.brc_runs.specs.Heap.{Heap, opening, cell_at, entries_at, frame_at, wo
 use Rattle.brc_runs.specs.Steps.{enabled, after, after_target, target, target_at, dropped_cell}
 use Rattle.brc_runs.specs.Runs.{IsReached}
 use Rattle.brc_runs.specs.Sound.{IsSound, held}
-use Rattle.brc_known.specs.Staying.{rank}
+use Rattle.brc_lasting.specs.Staying.{rank}
 use Rattle.brc_known.specs.Items.{Item, Did, Word, Of, Shared, ItemRun, AreItems, world_of_items, own, Part, part_of, IsPart, IsTold, Shows, shared_word, told_at}
 use Rattle.brc_known.specs.Risen.{drop_in, is_risen_word, is_shared_of, tells_risen, is_risen}
 use Rattle.brc_runs.proofs.Asking.{May}
 use Rattle.brc_runs.proofs.Dropping.{source_held, dropped_held}
 use Rattle.brc_runs.proofs.Reached.{reached_sound}
-use Rattle.brc_known.proofs.Lasting.{event_keeps, live_step, held_live}
-use Rattle.brc_known.proofs.Reasons.{target_cell}
+use Rattle.brc_lasting.proofs.Lasting.{event_keeps, live_step, held_live}
+use Rattle.brc_lasting.proofs.Reasons.{target_cell}
 use Rattle.brc_known.proofs.Items_Own.{drop_alike}
 use Rattle.brc_known.proofs.Items_Law.{part_follows}
 use Rattle.brc_known.proofs.Items_Tells.{Follows, tells}

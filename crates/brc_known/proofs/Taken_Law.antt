@@ -15,7 +15,7 @@ use Rattle.brc_runs.specs.Heap.{Heap, opening, cell_at, entries_at, row_at, fram
 use Rattle.brc_runs.specs.Steps.{enabled, after, after_target, stepped, target_at, target_ok, gone, takes_block, is_free_step, worklist_with}
 use Rattle.brc_runs.specs.Runs.{IsReached}
 use Rattle.brc_runs.specs.Sound.{IsSound, WorklistFits, held}
-use Rattle.brc_known.specs.Staying.{IsAnothers, SameOwn}
+use Rattle.brc_lasting.specs.Staying.{IsAnothers, SameOwn}
 use Rattle.brc_known.specs.Items.{Item, ItemRun, AreItems, world_of_items, own, part_of, IsPart, IsTold, found_at, finds, told, told_at, told_of, cell_told, has_without, has_after}
 use Rattle.brc_known.specs.Taken.{Blocks, listed_at, cut, off, cut_by, taken_on, taken_by, taken_of}
 use Rattle.brc_runs.proofs.Asking.{May, on_cell}
@@ -25,8 +25,8 @@ use Rattle.brc_runs.proofs.Dropping.{dropped_held}
 use Rattle.brc_runs.proofs.Naming.{one-true, no_mark, busy_hand}
 use Rattle.brc_runs.proofs.Reached.{reached_sound}
 use Rattle.brc_runs.proofs.Registering.{new_mark}
-use Rattle.brc_known.proofs.Lasting.{others_own, alone_stays, live_owner, locked_mutex, dead_unlocked}
-use Rattle.brc_known.proofs.Ranges_Law.{hand_unmarked}
+use Rattle.brc_lasting.proofs.Lasting.{others_own, alone_stays, live_owner, locked_mutex, dead_unlocked}
+use Rattle.brc_lasting.proofs.Ranges_Law.{hand_unmarked}
 use Rattle.brc_known.proofs.Items_Told.{QueuesFit, Alike, alike}
 use Rattle.brc_known.proofs.Items_Own.{after_alike, put_else}
 use Rattle.brc_known.proofs.Items_Law.{part_follows}

@@ -1,89 +1,23 @@
-//! The laws that a running thread rests on, each as the contract of a function with nothing to do: what it may rely on
-//! while others step, what it knows without a look, and that no condition stands in its way.
-//!
-//! What lasts over one event of another thread's lasts over any number of them: `proofs/Standing.antt`, `lasts_over`.
+//! What a thread's own items tell it, each as the contract of a function with nothing to do.
 
-ghost use Rattle.std.specs.Prelude.{[], ◌≡◌, ◌≢◌, ◌≤◌, ℕ, ◌<◌, List, Some, true, false, length, slice_get};
-ghost use Rattle.brc_words.specs.declared.kind.Kind.{Kind as kind};
+ghost use Rattle.std.specs.Prelude.{◌≡◌, ◌≢◌, ◌≤◌, ℕ, ◌<◌, List, true, false, length};
 ghost use Rattle.brc_runs.specs.declared.cell.Cell.{Cell as cell};
-ghost use Rattle.brc_runs.specs.declared.row.Phase.{Phase as phase};
-ghost use Rattle.brc_runs.specs.declared.row.Phase.TheVariants as phases;
 ghost use Rattle.brc_runs.specs.declared.row.Hand.TheVariants as hands;
 ghost use Rattle.brc_runs.specs.declared.event.Dropped.{Dropped as dropped};
 ghost use Rattle.brc_runs.specs.declared.event.Step.{Step as step};
-ghost use Rattle.brc_runs.specs.declared.event.Step.TheVariants as steps;
-ghost use Rattle.brc_runs.specs.declared.event.Change.TheVariants as changes;
-ghost use Rattle.brc_runs.specs.declared.row.Stage.TheVariants as stages;
 ghost use Rattle.brc_runs.specs.declared.event.Event.{Event as event};
-ghost use Rattle.brc_runs.specs.Lists.{bit_of, is_marked, is_bare, is_unmarked, is_blank};
-ghost use Rattle.brc_runs.specs.Heap.{Heap, opening, cell_at, entries_at, row_at, frame_at, popped_at, worklist_at, queue_at, is_gathered, is_registered, AreOptions};
-ghost use Rattle.brc_words.specs.Kinds.{is_mortal};
-ghost use Rattle.brc_known.specs.Progress.{Stands, IsAtRest, next_step, release_step, popped_step};
-ghost use Rattle.brc_runs.specs.Steps.{is_mine, dropped_cell, is_vacant, enabled, thread_may, after, after_target, target_at, takes_block};
-ghost use Rattle.brc_runs.specs.Runs.{IsRun, IsReached, world_after};
-ghost use Rattle.brc_known.specs.Ranges.{OwnerFits};
+ghost use Rattle.brc_runs.specs.Lists.{is_marked};
+ghost use Rattle.brc_runs.specs.Heap.{Heap, opening, cell_at, entries_at, row_at, worklist_at, is_registered, AreOptions};
+ghost use Rattle.brc_runs.specs.Steps.{is_mine, thread_may, after_target, target_at};
+ghost use Rattle.brc_runs.specs.Runs.{IsRun, IsReached};
 ghost use Rattle.brc_known.specs.Counts.{own_count, counts_of};
 ghost use Rattle.brc_known.specs.Risen.{is_risen};
 ghost use Rattle.brc_known.specs.Taken.{listed_at, taken_of, entries_if};
 ghost use Rattle.brc_runs.specs.Sound.{held};
 ghost use Rattle.brc_runs.specs.declared.row.Stage.{Stage as stage};
 ghost use Rattle.brc_words.specs.declared.limits.TheConstants.{FIRST_MORTAL};
-ghost use Rattle.brc_known.specs.Staying.{rank, IsAnothers, Lasts, SameOwn, Bears, Buries, Locked, Keeps, Foreign, OwnedOrNot, Nobodys, Owns, Merges, Adopts, PoppedOwn, Tells, PoppedTells, HoldsNothing};
+ghost use Rattle.brc_lasting.specs.Staying.{rank};
 ghost use Rattle.brc_known.specs.Items.{Word as word, IsWord, Shows, works_on, ItemRun, AreItems, IsPart, events_of, world_of_items, part_of, own};
-
-/// While others step, a thread's own part stays as it is, and a bit of its merge queue stays set.
-pub fn own_parts_last()
-    ensures own { (t : ℕ) (h : Heap) (e : event) → IsReached h → enabled h e ≡ true
-        → IsAnothers t e → SameOwn t h (after h e) }
-    ensures queued { (t q : ℕ) → Lasts t (λ h. bit_of (queue_at h t) q ≡ 1) }
-{}
-
-/// While others step: the words of a cell that is being made, and of a dead block; a locked object's entries, kind and
-/// lock; that what a thread has lives on, as what it is and with its bearer, and its state never falls.
-pub fn held_words_last()
-    ensures born { (t c : ℕ) (p : phase) (x : cell) → Lasts t (λ h. Bears h t c p x) }
-    ensures buried { (t c : ℕ) (x : cell) (entries : List ℕ)
-        → Lasts t (λ h. Buries h t c x entries) }
-    ensures locked { (t c : ℕ) (k : kind) (entries : List ℕ)
-        → Lasts t (λ h. Locked h t c k entries) }
-    ensures kept { (t c : ℕ) (k : kind) (bearer least : ℕ)
-        → Lasts t (λ h. Keeps h t c k bearer least) }
-{}
-
-/// While others step: an owner word goes from a thread to nobody alone, and never to the thread that looked; who owns,
-/// merges or adopts an object, or has popped it, is the one that writes its local word.
-pub fn owners_last()
-    ensures foreign { (t c : ℕ) → Lasts t (λ h. Foreign h t c) }
-    ensures owned { (t c s : ℕ) → Lasts t (λ h. OwnedOrNot h t c s) }
-    ensures nobodys { (t c : ℕ) → Lasts t (λ h. Nobodys h t c) }
-    ensures own { (t c local : ℕ) → Lasts t (λ h. Owns h t c local) }
-    ensures merging { (t c local : ℕ) (p : phase) → Lasts t (λ h. Merges h t c local p) }
-    ensures adopting { (t c s local : ℕ) → Lasts t (λ h. Adopts h t c s local) }
-    ensures popped { (t c local : ℕ) → Lasts t (λ h. PoppedOwn h t c local) }
-{}
-
-/// What a thread knows without a look: of the cell in its hand, by the phase; and that a popped entry is merged, or its
-/// own and asked for.
-pub fn hands_tell()
-    ensures hand { (h : Heap) (t c : ℕ) (p : phase) → IsReached h
-        → (row_at h t).hand ≡ hands.Busy p c → (FIRST_MORTAL ≤ c) × Tells t p (cell_at h c) }
-    ensures popped { (h : Heap) (t c : ℕ) → IsReached h → (row_at h t).hand ≡ hands.Free
-        → bit_of (popped_at h t) c ≡ 1 → PoppedTells t (cell_at h c) }
-{}
-
-/// Nobody has locked a dead block, nor the block that a step takes.
-pub fn dead_blocks_are_unlocked()
-    ensures listed { (h : Heap) (t c : ℕ) → IsReached h → is_marked (worklist_at h t) c ≡ true
-        → (cell_at h c).mutex ≡ 0 }
-    ensures taken { (h : Heap) (e : event) (c : ℕ) → IsReached h → enabled h e ≡ true
-        → e.thread ≢ 0 → target_at h e.thread e.step ≡ Some c
-        → takes_block e.step (cell_at h c) ≡ true → (cell_at h c).mutex ≡ 0 }
-{}
-
-/// A gathered thread holds nothing: no place, no reference in its hand, none queued or popped, no dead block, no lock.
-pub fn gathered_threads_hold_nothing()
-    ensures { (h : Heap) (t : ℕ) → IsReached h → is_gathered h t ≡ true → HoldsNothing h t }
-{}
 
 /// Items are runs with what each step was told: the events of items are a run, and each run is the events of items. A
 /// thread's own part of the world, with the entries of what it has locked and of its worklist, is a function of its own
@@ -99,14 +33,6 @@ pub fn own_items_tell_the_part()
         → IsPart (world_of_items (opening cells limit) items) t (part_of cells (own t items)) }
 {}
 
-/// A thread's step works on one word, and every other word of the table shows what it showed.
-pub fn a_step_changes_one_word()
-    ensures { (h : Heap) (t : ℕ) (s : step) (w : word) (number : ℕ)
-        → thread_may h t s ≡ true → IsWord (length h.cells) w
-        → w ≢ works_on h t s (target_at h t s) → Shows h w number
-        → Shows (after_target h t s (target_at h t s)) w number }
-{}
-
 /// The local count of each of a thread's own objects is a function of its own items, with the numbers that they were told:
 /// an active thread counts on what it owns without a look. 0 says that it doesn't count there on the local word.
 pub fn own_items_tell_the_counts()
@@ -115,6 +41,16 @@ pub fn own_items_tell_the_counts()
         → is_registered (world_of_items (opening cells limit) items) t ≡ true → FIRST_MORTAL ≤ c
         → own_count t (row_at (world_of_items (opening cells limit) items) t).stage
         (cell_at (world_of_items (opening cells limit) items) c) ≡ counts_of cells (own t items) c }
+{}
+
+/// What a count says: a thread with a bare hand that holds an object and has no count of it doesn't count on its local
+/// word, and where it has a count the word has that count.
+pub fn counts_say_who_counts()
+    ensures none { (h : Heap) (t c : ℕ) → IsReached h → FIRST_MORTAL ≤ c → 1 ≤ held h c
+        → (row_at h t).hand ≡ hands.Free → own_count t (row_at h t).stage (cell_at h c) ≡ 0
+        → is_mine t (row_at h t).stage (cell_at h c) ≡ false }
+    ensures some { (t : ℕ) (g : stage) (x : cell) → 0 < own_count t g x
+        → (is_mine t g x ≡ true) × (x.local ≡ own_count t g x) }
 {}
 
 /// An object that a thread found queued or merged, in a place of its frame or as the last entry of a dead block that has
@@ -138,64 +74,10 @@ pub fn own_items_tell_the_blocks()
         (entries_at (world_of_items (opening cells limit) items) c) }
 {}
 
-/// What a count says: a thread with a bare hand that holds an object and has no count of it doesn't count on its local
-/// word, and where it has a count the word has that count.
-pub fn counts_say_who_counts()
-    ensures none { (h : Heap) (t c : ℕ) → IsReached h → FIRST_MORTAL ≤ c → 1 ≤ held h c
-        → (row_at h t).hand ≡ hands.Free → own_count t (row_at h t).stage (cell_at h c) ≡ 0
-        → is_mine t (row_at h t).stage (cell_at h c) ≡ false }
-    ensures some { (t : ℕ) (g : stage) (x : cell) → 0 < own_count t g x
-        → (is_mine t g x ≡ true) × (x.local ≡ own_count t g x) }
-{}
-
-/// Owners are registered threads, entries are cells of the heap, the cell in a hand is on no worklist, and the local limit
-/// stays as the heap was opened.
-pub fn numbers_name_what_is_there()
-    ensures owners { (h : Heap) (c : ℕ) → IsReached h
-        → OwnerFits (length h.rows) (cell_at h c).owner }
-    ensures entries { (h : Heap) (d i c : ℕ) → IsReached h
-        → slice_get (entries_at h d) i ≡ Some c → c < length h.cells }
-    ensures hands { (h : Heap) (t s c : ℕ) (p : phase) → IsReached h
-        → (row_at h t).hand ≡ hands.Busy p c → is_marked (worklist_at h s) c ≡ false }
-    ensures limit { (cells limit : ℕ) (run : List event)
-        → (world_after (opening cells limit) run).limit ≡ limit }
-{}
-
-/// No thread is stuck by a condition. Whatever is in its hand it can go on with, for which a ready object wants a vacant
-/// place: a thread whose places are all filled must not claim. A lock it can let go. At rest it can give up every place
-/// and every last entry of a dead block, deal with every popped entry, and give back every block without entries; with
-/// nothing left it can begin to leave, go on leaving, and then be gathered.
-pub fn no_thread_is_stuck()
-    ensures hands { (h : Heap) (t c : ℕ) (p : phase) → IsReached h → Stands h t
-        → (row_at h t).hand ≡ hands.Busy p c → p ≢ phases.Ready
-        → enabled h (record { thread = t; step = next_step p c (cell_at h c) }) ≡ true }
-    ensures births { (h : Heap) (t c k : ℕ) (of : kind) → IsReached h → Stands h t
-        → (row_at h t).hand ≡ hands.Busy phases.Ready c → is_mortal of ≡ true
-        → is_vacant (frame_at h t) k ≡ true
-        → enabled h (record { thread = t; step = steps.Birth c of k }) ≡ true }
-    ensures references { (h : Heap) (t c : ℕ) (drop : dropped) → IsReached h → IsAtRest h t
-        → dropped_cell (frame_at h t) (worklist_at h t) (entries_at h) drop ≡ Some c
-        → enabled h (record {
-          thread = t;
-          step = release_step t (row_at h t).stage c (cell_at h c) drop;
-        }) ≡ true }
-    ensures popped { (h : Heap) (t c : ℕ) → IsReached h → IsAtRest h t
-        → bit_of (popped_at h t) c ≡ 1
-        → enabled h (record { thread = t; step = popped_step c (cell_at h c) }) ≡ true }
-    ensures blocks { (h : Heap) (t c : ℕ) → IsReached h → IsAtRest h t
-        → is_marked (worklist_at h t) c ≡ true → entries_at h c ≡ []
-        → enabled h (record { thread = t; step = steps.Free c }) ≡ true }
-    ensures locks { (h : Heap) (t k : ℕ) → IsReached h → Stands h t → (row_at h t).locked ≡ Some k
-        → enabled h (record { thread = t; step = steps.Unlock changes.Keep }) ≡ true }
-    ensures begins { (h : Heap) (t : ℕ) → IsReached h → IsAtRest h t
-        → (row_at h t).stage ≡ stages.Active → is_bare (frame_at h t) ≡ true
-        → is_unmarked (worklist_at h t) ≡ true → is_blank (popped_at h t) ≡ true
-        → enabled h (record { thread = t; step = steps.Close 0 }) ≡ true }
-    ensures closes { (h : Heap) (t n : ℕ) → IsReached h → Stands h t
-        → (row_at h t).stage ≡ stages.Closing n
-        → enabled h (record { thread = t; step = steps.Close n }) ≡ true }
-    ensures gathered { (h : Heap) (t : ℕ) → IsReached h → IsAtRest h t
-        → (row_at h t).stage ≡ stages.Left → is_unmarked (worklist_at h t) ≡ true
-        → is_blank (popped_at h t) ≡ true
-        → enabled h (record { thread = 0; step = steps.Gather t }) ≡ true }
+/// A thread's step works on one word, and every other word of the table shows what it showed.
+pub fn a_step_changes_one_word()
+    ensures { (h : Heap) (t : ℕ) (s : step) (w : word) (number : ℕ)
+        → thread_may h t s ≡ true → IsWord (length h.cells) w
+        → w ≢ works_on h t s (target_at h t s) → Shows h w number
+        → Shows (after_target h t s (target_at h t s)) w number }
 {}

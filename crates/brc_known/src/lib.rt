@@ -1,15 +1,15 @@
-//! What a running thread knows of the world: definitions and laws on runs of `brc_runs`.
+//! What a thread knows from its own items, the steps that it made with what they found: definitions and laws on runs of
+//! `brc_runs`.
 //!
-//! A thread sees its own steps, what they found, and what it loads. `specs/Staying.antt` says which facts last while
-//! others step and what a hand tells without a look, `specs/Items.antt` what a thread's own items tell of its own part,
-//! and `specs/Progress.antt` which step it can go on with. Nothing runs here; the running table cites these laws.
+//! All of it is read off the items alone, by recursion: its part of the world (`specs/Items.antt`), the local counts of
+//! its own objects (`specs/Counts.antt`), what it has seen queued or merged (`specs/Risen.antt`) and the blocks that it
+//! has taken (`specs/Taken.antt`). One induction says that all of it is so in the world (`proofs/Items_Tells.antt`).
+//! Nothing runs here; the running table and the frames above it cite these laws.
 #![tactic(auto)]
 
 mod laws;
 
 pub use laws::{
-    a_step_changes_one_word, counts_say_who_counts, dead_blocks_are_unlocked,
-    gathered_threads_hold_nothing, hands_tell, held_words_last, no_thread_is_stuck,
-    numbers_name_what_is_there, own_items_tell_the_blocks, own_items_tell_the_counts,
-    own_items_tell_the_part, own_items_tell_what_has_risen, own_parts_last, owners_last,
+    a_step_changes_one_word, counts_say_who_counts, own_items_tell_the_blocks,
+    own_items_tell_the_counts, own_items_tell_the_part, own_items_tell_what_has_risen,
 };

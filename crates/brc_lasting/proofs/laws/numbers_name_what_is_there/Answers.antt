@@ -1,5 +1,5 @@
-use Rattle.brc_known.proofs.Ranges_Law.{reached_owners, entries_inside, hand_unmarked, run_limit}
-use Rattle.brc_known.proofs.laws.numbers_name_what_is_there.Goals as goal
+use Rattle.brc_lasting.proofs.Ranges_Law.{reached_owners, entries_inside, hand_unmarked, run_limit}
+use Rattle.brc_lasting.proofs.laws.numbers_name_what_is_there.Goals as goal
 
 pub returns-clause-owners : goal.returns-clause-owners
 returns-clause-owners c = λ h q reached. reached_owners h reached q

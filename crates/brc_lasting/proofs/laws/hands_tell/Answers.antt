@@ -1,5 +1,5 @@
-use Rattle.brc_known.proofs.Telling.{hand_tells, popped_tells}
-use Rattle.brc_known.proofs.laws.hands_tell.Goals as goal
+use Rattle.brc_lasting.proofs.Telling.{hand_tells, popped_tells}
+use Rattle.brc_lasting.proofs.laws.hands_tell.Goals as goal
 
 pub returns-clause-hand : goal.returns-clause-hand
 returns-clause-hand c = hand_tells

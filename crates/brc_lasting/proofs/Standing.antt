@@ -14,14 +14,14 @@ use Rattle.brc_runs.specs.Heap.{Heap, opening, cell_at, row_at, worklist_at, que
 use Rattle.brc_runs.specs.Steps.{enabled, after, after_target, root_after, root_may, thread_may, target_at, cell_after, worklist_after, takes_block, is_active, is_closed, is_shut, queues_after, target_ok}
 use Rattle.brc_runs.specs.Runs.{IsRun, IsReached, world_after}
 use Rattle.brc_runs.specs.Sound.{IsSound}
-use Rattle.brc_known.specs.Staying.{is_about, AreAnothers, Lasts, HoldsNothing}
+use Rattle.brc_lasting.specs.Staying.{is_about, AreAnothers, Lasts, HoldsNothing}
 use Rattle.brc_runs.proofs.Bitwise.{bit_inside, with_bit_here, with_bit_else}
 use Rattle.brc_runs.proofs.Changes.{read_here, read_there}
 use Rattle.brc_runs.proofs.Counting.{marked_unheld}
 use Rattle.brc_runs.proofs.Registering.{push_else}
 use Rattle.brc_runs.proofs.Asking.{May, may_parts, on_cell}
 use Rattle.brc_runs.proofs.Naming.{no_bit}
-use Rattle.brc_known.proofs.Lasting.{unheld_unlocked, other_number}
+use Rattle.brc_lasting.proofs.Lasting.{unheld_unlocked, other_number}
 use Rattle.brc_runs.proofs.Reached.{event_sound, reached_sound}
 
 -- ---- over a run

@@ -21,7 +21,7 @@ use Rattle.brc_runs.specs.Steps.{enabled, after, after_target, root_after, root_
 use Rattle.brc_runs.specs.Runs.{IsReached}
 use Rattle.brc_runs.specs.Holding.{carries, lives}
 use Rattle.brc_runs.specs.Sound.{IsSound, HandFits, WorklistFits, Locks, grips, held}
-use Rattle.brc_known.specs.Staying.{is_about, IsAnothers, Lasts, SameOwn, locked_at, Has, rank, Bears, Buries, Locked, Keeps, Foreign, OwnedOrNot, Nobodys}
+use Rattle.brc_lasting.specs.Staying.{is_about, IsAnothers, Lasts, SameOwn, locked_at, Has, rank, Bears, Buries, Locked, Keeps, Foreign, OwnedOrNot, Nobodys}
 use Rattle.brc_runs.proofs.Naming.{free_owner, Ungripped, Unheld, dead_unheld, sole_grip, one-true, busy_hand}
 use Rattle.brc_runs.proofs.Asking.{May, OnCell, on_cell}
 use Rattle.brc_runs.proofs.Changes.{read_there}
@@ -30,7 +30,7 @@ use Rattle.brc_runs.proofs.Counting.{marked_unheld}
 use Rattle.brc_runs.proofs.Merging.{hand_grips, carried_held, popped_held, held_owner}
 use Rattle.brc_runs.proofs.Dropping.{held_by_place, held_by_entry}
 use Rattle.brc_runs.proofs.Locking.{lock_place}
-use Rattle.brc_known.proofs.Reasons.{At, grip_of, event_cell, event_entries, step_reason}
+use Rattle.brc_lasting.proofs.Reasons.{At, grip_of, event_cell, event_entries, step_reason}
 use Rattle.brc_runs.proofs.Reached.{reached_sound}
 
 -- ---- the own part

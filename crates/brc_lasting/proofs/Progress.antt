@@ -24,14 +24,14 @@ use Rattle.brc_runs.specs.Heap.{Heap, cell_at, entries_at, row_at, frame_at, pop
 use Rattle.brc_runs.specs.Steps.{enabled, root_may, thread_may, stage_ok, lock_ok, hand_ok, own_ok_at, others_ok, target_at, target_ok, cell_ok, dropped_cell, may_after_leaving, needs_lock, is_at, is_active, is_vacant, is_mine, is_default, is_merged, is_nobody, is_queued, is_owned_by, cell_in_hand, untie_ok, untied_ok, ends_ok, is_free_hand, closes_next, is_left, locked_cell}
 use Rattle.brc_runs.specs.Runs.{IsReached}
 use Rattle.brc_runs.specs.Sound.{IsSound, held}
-use Rattle.brc_known.specs.Staying.{Tells, PoppedTells}
-use Rattle.brc_known.specs.Progress.{Stands, IsAtRest, next_step, release_step, popped_step}
+use Rattle.brc_lasting.specs.Staying.{Tells, PoppedTells}
+use Rattle.brc_lasting.specs.Progress.{Stands, IsAtRest, next_step, release_step, popped_step}
 use Rattle.brc_runs.proofs.Naming.{busy_carrier}
 use Rattle.brc_runs.proofs.Merging.{active_now, held_owner, popped_held, carried_held}
 use Rattle.brc_runs.proofs.Counting.{sum_none}
 use Rattle.brc_runs.proofs.Dropping.{dropped_held}
-use Rattle.brc_known.proofs.Lasting.{held_live, live_owner}
-use Rattle.brc_known.proofs.Telling.{hand_tells, popped_tells}
+use Rattle.brc_lasting.proofs.Lasting.{held_live, live_owner}
+use Rattle.brc_lasting.proofs.Telling.{hand_tells, popped_tells}
 use Rattle.brc_runs.proofs.Reached.{reached_sound}
 use Rattle.brc_runs.specs.declared.event.Change.TheVariants as changes
 

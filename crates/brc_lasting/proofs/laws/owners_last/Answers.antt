@@ -1,6 +1,6 @@
-use Rattle.brc_known.proofs.Lasting.{foreign_lasts, nobodys_last, owning_lasts}
-use Rattle.brc_known.proofs.Telling.{owns_lasts, merging_lasts, adopting_lasts, popped_lasts}
-use Rattle.brc_known.proofs.laws.owners_last.Goals as goal
+use Rattle.brc_lasting.proofs.Lasting.{foreign_lasts, nobodys_last, owning_lasts}
+use Rattle.brc_lasting.proofs.Telling.{owns_lasts, merging_lasts, adopting_lasts, popped_lasts}
+use Rattle.brc_lasting.proofs.laws.owners_last.Goals as goal
 
 pub returns-clause-foreign : goal.returns-clause-foreign
 returns-clause-foreign c = foreign_lasts

@@ -1,5 +1,5 @@
-use Rattle.brc_known.proofs.Progress.{hands_go_on, births_go_on, references_go, popped_go, blocks_go, locks_go, leavings_begin, closings_go, gatherings_go}
-use Rattle.brc_known.proofs.laws.no_thread_is_stuck.Goals as goal
+use Rattle.brc_lasting.proofs.Progress.{hands_go_on, births_go_on, references_go, popped_go, blocks_go, locks_go, leavings_begin, closings_go, gatherings_go}
+use Rattle.brc_lasting.proofs.laws.no_thread_is_stuck.Goals as goal
 
 pub returns-clause-hands : goal.returns-clause-hands
 returns-clause-hands c = hands_go_on

@@ -21,12 +21,12 @@ use Rattle.brc_runs.specs.Steps.{enabled, after, target_at, cell_after, untie_ok
 use Rattle.brc_runs.specs.Runs.{IsReached}
 use Rattle.brc_runs.specs.Holding.{carries, lives}
 use Rattle.brc_runs.specs.Sound.{IsSound, HandFits, WorklistFits, Untied, grips, grips_by_owner, gripped, held, asks}
-use Rattle.brc_known.specs.Staying.{Lasts, SameOwn, Owns, Merges, Adopts, PoppedOwn, Tells, PoppedTells}
+use Rattle.brc_lasting.specs.Staying.{Lasts, SameOwn, Owns, Merges, Adopts, PoppedOwn, Tells, PoppedTells}
 use Rattle.brc_runs.proofs.Naming.{second, third, merged_state, nobody_owner, Ungripped, sole_grip, one-le, one-true, sum_one, sum_two, no_bit, busy_hand, busy_carrier, free_hand, free_owner, thread_owner}
 use Rattle.brc_runs.proofs.Asking.{May, OnCell, on_cell, Mine, mine}
 use Rattle.brc_runs.proofs.Merging.{hand_grips, hand_gripped, gripped_local, gripped_unmerged, carried_held, popped_held, held_owner, closed_idle, active_now, live_thread}
-use Rattle.brc_known.proofs.Reasons.{event_cell}
-use Rattle.brc_known.proofs.Lasting.{others_own, not_bearing}
+use Rattle.brc_lasting.proofs.Reasons.{event_cell}
+use Rattle.brc_lasting.proofs.Lasting.{others_own, not_bearing}
 use Rattle.brc_runs.proofs.Counting.{sum_none, held_unmarked}
 use Rattle.brc_runs.proofs.Headlines.{sum_some, from_one, gripping_hand}
 use Rattle.brc_runs.proofs.Reached.{reached_sound}

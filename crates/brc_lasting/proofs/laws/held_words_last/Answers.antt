@@ -1,5 +1,5 @@
-use Rattle.brc_known.proofs.Lasting.{births_last, burials_last, locks_last, keeping_lasts}
-use Rattle.brc_known.proofs.laws.held_words_last.Goals as goal
+use Rattle.brc_lasting.proofs.Lasting.{births_last, burials_last, locks_last, keeping_lasts}
+use Rattle.brc_lasting.proofs.laws.held_words_last.Goals as goal
 
 pub returns-clause-born : goal.returns-clause-born
 returns-clause-born c = births_last

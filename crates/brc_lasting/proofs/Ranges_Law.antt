@@ -20,9 +20,8 @@ use Rattle.brc_runs.specs.Heap.{Heap, opening, cell_at, entries_at, row_at, work
 use Rattle.brc_runs.specs.Steps.{enabled, after, after_target, root_after, root_may, thread_may, target_at, cell_after, is_default}
 use Rattle.brc_runs.specs.Runs.{IsReached, IsRun, world_after}
 use Rattle.brc_runs.specs.Sound.{IsSound, held, grips}
-use Rattle.brc_known.specs.Ranges.{OwnerFits}
-use Rattle.brc_known.proofs.Words_Law.{same_rows}
-use Rattle.brc_known.proofs.Lasting.{held_live, live_owner}
+use Rattle.brc_lasting.specs.Ranges.{OwnerFits}
+use Rattle.brc_lasting.proofs.Lasting.{held_live, live_owner}
 use Rattle.brc_runs.proofs.Asking.{May, may_parts}
 use Rattle.brc_runs.proofs.Beginning.{free_cell, immortal_cell}
 use Rattle.brc_runs.proofs.Changes.{read_there}
@@ -58,6 +57,10 @@ step_owner threads t _ c x low inside fits = fits
 
 Owners : Heap → Type 0
 Owners h = (c : ℕ) → OwnerFits (length h.rows) (cell_at h c).owner
+
+same_rows : (h : Heap) (t : ℕ) (s : Step) (o : Option ℕ) → length (after_target h t s o).rows ≡ length h.rows
+same_rows h t s None = length-set h.rows t _
+same_rows h t s (Some c) = length-set h.rows t _
 
 target_owners : (h : Heap) (t : ℕ) (s : Step) (o : Option ℕ) → 0 < t → t < length h.rows → Owners h → Owners (after_target h t s o)
 unfolding Owners

@@ -1,7 +1,7 @@
-use Rattle.brc_known.proofs.Lasting.{others_own}
-use Rattle.brc_known.proofs.Standing.{queued_lasts}
+use Rattle.brc_lasting.proofs.Lasting.{others_own}
+use Rattle.brc_lasting.proofs.Standing.{queued_lasts}
 use Rattle.brc_runs.proofs.Reached.{reached_sound}
-use Rattle.brc_known.proofs.laws.own_parts_last.Goals as goal
+use Rattle.brc_lasting.proofs.laws.own_parts_last.Goals as goal
 
 pub returns-clause-own : goal.returns-clause-own
 returns-clause-own c = λ t h e reached ok others. others_own h e t (reached_sound h reached) ok others

@@ -1,6 +1,6 @@
-use Rattle.brc_known.proofs.Lasting.{dead_unlocked}
-use Rattle.brc_known.proofs.Standing.{taken_unlocked}
-use Rattle.brc_known.proofs.laws.dead_blocks_are_unlocked.Goals as goal
+use Rattle.brc_lasting.proofs.Lasting.{dead_unlocked}
+use Rattle.brc_lasting.proofs.Standing.{taken_unlocked}
+use Rattle.brc_lasting.proofs.laws.dead_blocks_are_unlocked.Goals as goal
 
 pub returns-clause-listed : goal.returns-clause-listed
 returns-clause-listed c = dead_unlocked

@@ -1,0 +1,6 @@
+pub mod Reasons
+pub mod Lasting
+pub mod Telling
+pub mod Standing
+pub mod Progress
+pub mod Ranges_Law
