@@ -1,31 +1,48 @@
--- The holders that one place, or one part of a world, adds to a cell's list of holders.
-use Rattle.std.specs.Prelude.{ℕ, ◌==◌, List, Option}
+-- The parts of a world in which holders stand, at places that are numbered from 0.
+use Rattle.std.specs.Prelude.{ℕ, zero, suc, ◌==◌, Bool, List, [], ◌++◌, length, slice_get}
+use Rattle.brc_core.specs.declared.holders.Part.{Part}
+use Rattle.brc_core.specs.declared.holders.Part.TheVariants as parts
 use Rattle.brc_model.specs.declared.holder.Holder.{Holder}
 use Rattle.brc_model.specs.declared.holder.Holder.TheVariants as holders
-use Rattle.brc_runs.specs.declared.row.Row.{Row}
-use Rattle.brc_runs.specs.Lists.{names, bit_of}
-use Rattle.brc_runs.specs.Holding.{each, if_so, carries}
+use Rattle.brc_runs.specs.Lists.{names, place_at, bit_of}
+use Rattle.brc_runs.specs.Heap.{Heap, entries_at, row_at, frame_at, popped_at, queue_at}
+use Rattle.brc_runs.specs.Holding.{if_so, carries}
 
--- a place of a thread's frame, and the whole frame
-abbrev pub of_place : ℕ → ℕ → ℕ → Option ℕ → List Holder
-of_place q t k x = if_so (names q x) (holders.Frame t k)
+-- how many places the part has
+abbrev pub count_in : Heap → Part → ℕ
+count_in h (parts.Frame t) = length (frame_at h t)
+count_in h (parts.Entries c) = length (entries_at h c)
+count_in h parts.Queues = length h.rows
+count_in h parts.Popped = length h.rows
+count_in h parts.Hands = length h.rows
 
-abbrev pub of_frame : ℕ → ℕ → List (Option ℕ) → List Holder
-of_frame q t frame = each (of_place q t) 0 frame
+-- whether the part's place with this number holds the cell q
+abbrev pub holds : Heap → Part → ℕ → ℕ → Bool
+holds h (parts.Frame t) q k = names q (place_at (frame_at h t) k)
+holds h (parts.Entries c) q i = names q (slice_get (entries_at h c) i)
+holds h parts.Queues q t = bit_of (queue_at h t) q == 1
+holds h parts.Popped q t = bit_of (popped_at h t) q == 1
+holds h parts.Hands q t = carries q (row_at h t).hand
 
--- an entry of a cell, and all of them
-abbrev pub of_entry : ℕ → ℕ → ℕ → ℕ → List Holder
-of_entry q c i x = if_so (x == q) (holders.Entry c i)
+-- the holder that it then is
+abbrev pub holder_in : Part → ℕ → ℕ → Holder
+holder_in (parts.Frame t) q k = holders.Frame t k
+holder_in (parts.Entries c) q i = holders.Entry c i
+holder_in parts.Queues q t = holders.Queue t q
+holder_in parts.Popped q t = holders.Popped t q
+holder_in parts.Hands q t = holders.Hand t q
 
-abbrev pub of_entries : ℕ → ℕ → List ℕ → List Holder
-of_entries q c entries = each (of_entry q c) 0 entries
+-- what f makes of each number below another, one after the other
+abbrev pub below : (ℕ → List Holder) → ℕ → List Holder
+below f zero = []
+below f (suc n) = below f n ++ f n
 
--- a thread's merge queue, what it has popped, and its hand
-abbrev pub of_queue : ℕ → ℕ → List ℕ → List Holder
-of_queue q t words = if_so (bit_of words q == 1) (holders.Queue t q)
+-- the holders of the cell in the part; in all frames; among the entries of all cells
+abbrev pub in_part : Heap → Part → ℕ → List Holder
+in_part h part q = below (λ k. if_so (holds h part q k) (holder_in part q k)) (count_in h part)
 
-abbrev pub of_popped : ℕ → ℕ → List ℕ → List Holder
-of_popped q t words = if_so (bit_of words q == 1) (holders.Popped t q)
+abbrev pub in_frames : Heap → ℕ → List Holder
+in_frames h q = below (λ t. in_part h (parts.Frame t) q) (length h.rows)
 
-abbrev pub of_row : ℕ → ℕ → Row → List Holder
-of_row q t row = if_so (carries q row.hand) (holders.Hand t q)
+abbrev pub in_entries : Heap → ℕ → List Holder
+in_entries h q = below (λ c. in_part h (parts.Entries c) q) (length h.cells)

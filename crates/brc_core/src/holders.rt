@@ -2,19 +2,32 @@
 //!
 //! They are read off frames, entries, queues and hands, and never off a count.
 
-ghost use Rattle.std.specs.Prelude.{◌≡◌, ◌≤◌, ℕ, ◌++◌, length, IfOk, IfErr, OnOk};
+ghost use Rattle.std.specs.Prelude.{◌≡◌, ◌++◌, length, IfOk, IfErr, OnOk};
+ghost use Rattle.brc_core.specs.Places.{count_in, holds, holder_in, in_part, in_frames, in_entries};
 ghost use Rattle.brc_core.specs.Readings.{mortal_holders};
-ghost use Rattle.brc_core.specs.Places.{of_place, of_frame, of_entry, of_entries, of_queue, of_popped, of_row};
+ghost use Rattle.brc_runs.specs.Holding.{carries, if_so, holders_of};
 ghost use Rattle.brc_runs.specs.Lists.{names};
-ghost use Rattle.brc_runs.specs.Heap.{frame_at, entries_at};
-ghost use Rattle.brc_runs.specs.Holding.{each, if_so, has_reference, carries};
 
-use crate::tables::Tables;
 use crate::world::World;
 use brc_model::Holder;
-use brc_runs::{Hand, Phase};
+use brc_runs::{Hand, Role};
 use brc_words::Fault;
 use std::alloc::{AllocError, Allocator};
+
+/// A part of the world in which holders stand, at places that are numbered from 0.
+#[derive(Clone, Copy, Debug, PartialEq, Eq)]
+pub(crate) enum Part {
+    /// The frame of this thread.
+    Frame(u32),
+    /// The entries of this cell.
+    Entries(u32),
+    /// The merge queues: the cell's bit of each thread.
+    Queues,
+    /// What threads have popped: the cell's bit of each.
+    Popped,
+    /// The hand of each thread.
+    Hands,
+}
 
 /// Whether a place has this cell.
 fn names(cell: u32, held: Option<u32>) -> bool
@@ -26,32 +39,43 @@ fn names(cell: u32, held: Option<u32>) -> bool
     }
 }
 
-/// Whether a hand in this phase has a reference of its own.
-fn has_reference(phase: Phase) -> bool
-    ensures { result ≡ has_reference phase }
-{
-    match phase {
-        Phase::Claimed => false,
-        Phase::Counted => false,
-        Phase::Ready => false,
-        Phase::Zero => false,
-        Phase::Over => false,
-        Phase::Untied => false,
-        Phase::Asked => true,
-        Phase::Shut => true,
-        Phase::Taking => true,
-        Phase::Held => true,
-        Phase::Popping => false,
-    }
-}
-
 /// Whether the hand has a reference to this cell.
 fn carries(cell: u32, hand: Hand) -> bool
     ensures { result ≡ carries cell hand }
 {
     match hand {
         Hand::Free => false,
-        Hand::Busy(phase, there) => has_reference(phase) && there == cell,
+        Hand::Busy(phase, there) => {
+            matches!(phase.role(), Role::Carries | Role::Adopts) && there == cell
+        }
+    }
+}
+
+/// The holder of the cell at this number of the part.
+fn holder_in(part: Part, cell: u32, number: u32) -> Holder
+    ensures { result ≡ holder_in part cell number }
+{
+    match part {
+        Part::Frame(thread) => Holder::Frame {
+            thread,
+            place: number,
+        },
+        Part::Entries(at) => Holder::Entry {
+            cell: at,
+            index: number,
+        },
+        Part::Queues => Holder::Queue {
+            thread: number,
+            cell,
+        },
+        Part::Popped => Holder::Popped {
+            thread: number,
+            cell,
+        },
+        Part::Hands => Holder::Hand {
+            thread: number,
+            cell,
+        },
     }
 }
 
@@ -69,138 +93,100 @@ fn put_if<B: Allocator>(
     Ok(())
 }
 
-impl<A: Allocator + Copy> Tables<A> {
-    /// The places of one frame.
-    fn places_holding<B: Allocator>(
-        &self,
-        found: &mut Vec<Holder, B>,
-        thread: u32,
-        cell: u32,
-    ) -> Result<(), AllocError>
-        requires { length (frame_at self.now thread) ≤ 65536 }
-
-        ensures { OnOk result
-            (found.new.items ≡ found.old.items ++ of_frame cell thread (frame_at self.now thread)) }
-    {
-        for place in 0..self.frame_len(thread) as u32 {
-            let holds = names(cell, self.place(thread, place));
-            put_if(found, holds, Holder::Frame { thread, place })?;
-        }
-        Ok(())
-    }
-
-    /// The places of all frames.
-    fn frames_holding<B: Allocator>(
-        &self,
-        found: &mut Vec<Holder, B>,
-        cell: u32,
-    ) -> Result<(), AllocError>
-        requires threads { length self.now.frames ≤ 65 }
-        requires places { (t : ℕ) → length (frame_at self.now t) ≤ 65536 }
-
-        ensures { OnOk result
-            (found.new.items ≡ found.old.items ++ each (of_frame cell) 0 self.now.frames) }
-    {
-        for thread in 0..self.frames.len() as u32 {
-            self.places_holding(found, thread, cell)?;
-        }
-        Ok(())
-    }
-
-    /// The entries of one cell.
-    fn entries_holding<B: Allocator>(
-        &self,
-        found: &mut Vec<Holder, B>,
-        at: u32,
-        cell: u32,
-    ) -> Result<(), AllocError>
-        requires { length (entries_at self.now at) ≤ 1048576 }
-
-        ensures { OnOk result
-            (found.new.items ≡ found.old.items ++ of_entries cell at (entries_at self.now at)) }
-    {
-        let entries = self.entries(at);
-        for index in 0..entries.len() as u32 {
-            let holds = entries[index as usize] == cell;
-            put_if(found, holds, Holder::Entry { cell: at, index })?;
-        }
-        Ok(())
-    }
-
-    /// The entries of all cells.
-    fn cells_holding<B: Allocator>(
-        &self,
-        found: &mut Vec<Holder, B>,
-        cell: u32,
-    ) -> Result<(), AllocError>
-        requires cells { length self.now.entries ≤ 65536 }
-        requires entries { (c : ℕ) → length (entries_at self.now c) ≤ 1048576 }
-
-        ensures { OnOk result
-            (found.new.items ≡ found.old.items ++ each (of_entries cell) 0 self.now.entries) }
-    {
-        for at in 0..self.entries.len() as u32 {
-            self.entries_holding(found, at, cell)?;
-        }
-        Ok(())
-    }
-
-    /// The merge queues.
-    fn queues_holding<B: Allocator>(
-        &self,
-        found: &mut Vec<Holder, B>,
-        cell: u32,
-    ) -> Result<(), AllocError>
-        requires { length self.now.queues ≤ 65 }
-
-        ensures { OnOk result
-            (found.new.items ≡ found.old.items ++ each (of_queue cell) 0 self.now.queues) }
-    {
-        for thread in 0..self.queues.len() as u32 {
-            let holds = self.is_queued(thread, cell);
-            put_if(found, holds, Holder::Queue { thread, cell })?;
-        }
-        Ok(())
-    }
-
-    /// What threads have popped.
-    fn popped_holding<B: Allocator>(
-        &self,
-        found: &mut Vec<Holder, B>,
-        cell: u32,
-    ) -> Result<(), AllocError>
-        requires { length self.now.popped ≤ 65 }
-
-        ensures { OnOk result
-            (found.new.items ≡ found.old.items ++ each (of_popped cell) 0 self.now.popped) }
-    {
-        for thread in 0..self.popped.len() as u32 {
-            let holds = self.is_popped(thread, cell);
-            put_if(found, holds, Holder::Popped { thread, cell })?;
-        }
-        Ok(())
-    }
-
-    /// The hands.
-    fn hands_holding<B: Allocator>(
-        &self,
-        found: &mut Vec<Holder, B>,
-        cell: u32,
-    ) -> Result<(), AllocError>
-        requires { length self.now.rows ≤ 65 }
-
-        ensures { OnOk result
-            (found.new.items ≡ found.old.items ++ each (of_row cell) 0 self.now.rows) }
-    {
-        for thread in 0..self.rows.len() as u32 {
-            let holds = carries(cell, self.row(thread).hand);
-            put_if(found, holds, Holder::Hand { thread, cell })?;
-        }
-        Ok(())
-    }
-}
-
 impl<A: Allocator + Copy> World<A> {
+    /// How many threads have rows, the root's counted.
+    #[tactic(auto, using(crate::proofs::Bounds::threads_fit))]
+    fn threads(&self) -> u32
+        ensures { result ≡ length self.now.rows }
+    {
+        self.tables.row_count() as u32
+    }
+
+    /// How many places the part has.
+    #[tactic(auto, using(crate::proofs::Bounds::entries_fit))]
+    fn count_in(&self, part: Part) -> u32
+        ensures { result ≡ count_in self.now part }
+    {
+        match part {
+            Part::Frame(thread) => self.places(thread),
+            Part::Entries(at) => self.tables.entries(at).len() as u32,
+            Part::Queues => self.threads(),
+            Part::Popped => self.threads(),
+            Part::Hands => self.threads(),
+        }
+    }
+
+    /// Whether the part's place with this number holds the cell.
+    fn holds(&self, part: Part, cell: u32, number: u32) -> bool
+        ensures { result ≡ holds self.now part cell number }
+    {
+        match part {
+            Part::Frame(thread) => names(cell, self.place(thread, number)),
+            Part::Entries(at) => names(cell, self.entry(at, number)),
+            Part::Queues => self.queued(number, cell),
+            Part::Popped => self.popped(number, cell),
+            Part::Hands => carries(cell, self.tables.row(number).hand),
+        }
+    }
+
+    /// Puts the holders of the cell that stand in one part.
+    fn put_part<B: Allocator>(
+        &self,
+        found: &mut Vec<Holder, B>,
+        part: Part,
+        cell: u32,
+    ) -> Result<(), AllocError>
+        ensures { OnOk result (found.new.items ≡ found.old.items ++ in_part self.now part cell) }
+    {
+        for number in 0..self.count_in(part) {
+            let holds = self.holds(part, cell, number);
+            put_if(found, holds, holder_in(part, cell, number))?;
+        }
+        Ok(())
+    }
+
+    /// Puts those that stand in frames.
+    fn put_frames<B: Allocator>(
+        &self,
+        found: &mut Vec<Holder, B>,
+        cell: u32,
+    ) -> Result<(), AllocError>
+        ensures { OnOk result (found.new.items ≡ found.old.items ++ in_frames self.now cell) }
+    {
+        for thread in 0..self.threads() {
+            self.put_part(found, Part::Frame(thread), cell)?;
+        }
+        Ok(())
+    }
+
+    /// Puts those that stand among entries.
+    fn put_entries<B: Allocator>(
+        &self,
+        found: &mut Vec<Holder, B>,
+        cell: u32,
+    ) -> Result<(), AllocError>
+        ensures { OnOk result (found.new.items ≡ found.old.items ++ in_entries self.now cell) }
+    {
+        for at in 0..self.cells() {
+            self.put_part(found, Part::Entries(at), cell)?;
+        }
+        Ok(())
+    }
+
+    /// Puts all: frame places, entries, queue bits, popped bits, hands.
+    fn put_all<B: Allocator>(&self, found: &mut Vec<Holder, B>, cell: u32) -> Result<(), AllocError>
+        ensures { OnOk result (found.new.items ≡ found.old.items ++ holders_of self.now cell) }
+    {
+        // What keeps the lists as long as one another is known of the tables.
+        let _ = &self.tables;
+        self.put_frames(found, cell)?;
+        self.put_entries(found, cell)?;
+        self.put_part(found, Part::Queues, cell)?;
+        self.put_part(found, Part::Popped, cell)?;
+        self.put_part(found, Part::Hands, cell)?;
+        Ok(())
+    }
+
     /// The holders of a live mortal object: frame places, entries, queue bits, popped bits, hands,
     /// each by rising numbers.
     pub fn holders<B: Allocator>(&self, alloc: B, cell: u32) -> Result<Vec<Holder, B>, Fault>
@@ -208,12 +194,8 @@ impl<A: Allocator + Copy> World<A> {
         ensures refused { IfErr result (λ fault. fault ≡ Fault.OutOfMemory) }
     {
         let mut found = Vec::new(alloc);
-        if self.tables.is_live(cell) {
-            self.tables.frames_holding(&mut found, cell)?;
-            self.tables.cells_holding(&mut found, cell)?;
-            self.tables.queues_holding(&mut found, cell)?;
-            self.tables.popped_holding(&mut found, cell)?;
-            self.tables.hands_holding(&mut found, cell)?;
+        if self.is_live(cell) {
+            self.put_all(&mut found, cell)?;
         }
         Ok(found)
     }

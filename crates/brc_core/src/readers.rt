@@ -4,7 +4,6 @@ ghost use Rattle.std.specs.Prelude.{◌≡◌, ◌-◌, ◌==◌, nat_lt, length
 ghost use Rattle.brc_core.specs.Readings.{only_if, status_at, has_object, counts_locally};
 ghost use Rattle.brc_runs.specs.Lists.{bit_of, place_at, is_marked};
 ghost use Rattle.brc_runs.specs.Heap.{cell_at, entries_at, row_at, frame_at, popped_at, worklist_at, queue_at, is_registered};
-ghost use Rattle.brc_runs.specs.Holding.{lives};
 
 use crate::world::World;
 use brc_runs::{Hand, Stage, is_immortal};
@@ -24,18 +23,6 @@ pub enum Status {
     Gathered,
 }
 
-/// Whether an object is in a cell with this owner.
-pub(crate) fn lives(owner: Owner) -> bool
-    ensures { result ≡ lives owner }
-{
-    match owner {
-        Owner::Nobody => true,
-        Owner::Thread(_) => true,
-        Owner::Claimed(_) => false,
-        Owner::Free => false,
-    }
-}
-
 impl<A: Allocator + Copy> World<A> {
     /// How many cells the heap has.
     #[tactic(auto, using(crate::proofs::Bounds::cells_fit))]
@@ -49,7 +36,7 @@ impl<A: Allocator + Copy> World<A> {
     pub fn local_limit(&self) -> u32
         ensures { result ≡ self.now.limit }
     {
-        self.tables.local_limit
+        self.tables.local_limit()
     }
 
     /// How many threads were registered; they have the numbers from 1 on.

@@ -1,64 +1,47 @@
-//! One whole life, a refusal of each kind, refused growths, and every reader once.
-
-mod steps;
+//! Each call once on its way, and each growth refused. Whole runs are replayed by `brc_trace`, as texts.
 
 use crate::{
-    Dropped, Event, Hand, Ledger, Phase, ReplayFault, Source, Status, Step, StepFault, World,
-    replay,
+    Change, Dropped, Event, Hand, Ledger, Phase, Refusal, ReplayFault, Source, Status, Step,
+    StepFault, World, replay,
 };
 use brc_model::Holder;
 use brc_words::{Fault, Kind, Owner, State};
 use linked_list_allocator::LocalHeap;
-use std::alloc::Global;
+use std::alloc::{Allocator, Global};
 
-const LIMIT: u32 = 4_294_967_294;
+/// One step, by its thread.
+fn make<A: Allocator + Copy>(
+    world: &mut World<A>,
+    thread: u32,
+    step: Step,
+) -> Result<(), StepFault> {
+    world.step(&Event { thread, step })
+}
 
-/// The events of thread 1's list in cell 266, from its birth at place 0 to its end.
-const LIFE: [Event; 8] = [
-    Event {
-        thread: 0,
-        step: Step::Register(1),
-    },
-    Event {
-        thread: 1,
-        step: Step::Claim(266),
-    },
-    Event {
-        thread: 1,
-        step: Step::InitLocal(266),
-    },
-    Event {
-        thread: 1,
-        step: Step::InitShared(266),
-    },
-    Event {
-        thread: 1,
-        step: Step::Birth {
-            cell: 266,
-            kind: Kind::List,
-            place: 0,
-        },
-    },
-    Event {
-        thread: 1,
-        step: Step::LocalDown(Dropped::Frame(0)),
-    },
-    Event {
-        thread: 1,
-        step: Step::SeeZero(266),
-    },
-    Event {
-        thread: 1,
-        step: Step::Free(266),
-    },
-];
+/// Thread 1 makes a list in a free cell, up to its birth.
+fn prepare<A: Allocator + Copy>(world: &mut World<A>, cell: u32) -> Result<(), StepFault> {
+    make(world, 1, Step::Claim(cell))?;
+    make(world, 1, Step::InitLocal(cell))?;
+    make(world, 1, Step::InitShared(cell))
+}
 
-#[test]
-fn a_new_world_registers_a_thread(rt: HostRuntime) -> Result<(), Fault> {
-    let mut world = World::new(rt.alloc(), 512, LIMIT)?;
-    assert_eq!(rt; world.step(&LIFE[0]), Ok(()));
-    assert_eq!(rt; world.step(&LIFE[0]), Err(StepFault::NotEnabled));
-    Ok(())
+/// The list is born into a place of the frame.
+fn born(cell: u32, place: u32) -> Step {
+    let kind = Kind::List;
+    Step::Birth { cell, kind, place }
+}
+
+/// A world with thread 1 and its list in cell 266, which place 0 holds.
+fn with_a_list(alloc: Global) -> Result<World<Global>, Fault> {
+    let mut world = World::new(alloc, 512, 7)?;
+    let born = make(&mut world, 0, Step::Register(1)).is_ok()
+        && prepare(&mut world, 266).is_ok()
+        && make(&mut world, 1, born(266, 0)).is_ok();
+    if born {
+        Ok(world)
+    } else {
+        Err(Fault::OutOfMemory)
+    }
 }
 
 #[test]
@@ -78,148 +61,175 @@ fn sizes_of_no_heap_are_refused(rt: HostRuntime) {
 }
 
 #[test]
-fn one_life_leaves_nothing(rt: HostRuntime) -> Result<(), Fault> {
-    let Ok(world) = replay(rt.alloc(), &LIFE, 512, LIMIT) else {
-        return Err(Fault::OutOfMemory);
+fn an_event_is_made_or_refused(rt: HostRuntime) -> Result<(), Fault> {
+    let mut world = World::new(rt.alloc(), 512, 7)?;
+    let event = Event {
+        thread: 0,
+        step: Step::Register(1),
     };
-    let both = Ledger {
-        allocs: 1,
-        frees: 1,
-    };
-    assert_eq!(rt; world.ledger(1), Some(both));
-    assert_eq!(rt; world.ledgers(), both);
-    assert_eq!(rt; world.live(), 0);
-    assert_eq!(rt; world.total(266), None);
-    assert_eq!(rt; world.holders(rt.alloc(), 266)?.len(), 0);
-    assert_eq!(rt; world.owner(266), Some(Owner::Free));
+    assert_eq!(rt; world.refusal(&event), None);
+    assert_eq!(rt; world.step(&event), Ok(()));
+    assert_eq!(rt; world.refusal(&event), Some(Refusal::NotNext));
+    assert_eq!(rt; world.step(&event), Err(StepFault::NotEnabled));
     Ok(())
 }
 
 #[test]
-fn a_free_comes_after_the_look_at_the_shared_word(rt: HostRuntime) {
-    let early = [
-        LIFE[0], LIFE[1], LIFE[2], LIFE[3], LIFE[4], LIFE[5], LIFE[7],
+fn a_replay_answers_a_world_or_a_fault(rt: HostRuntime) {
+    let events = [
+        Event {
+            thread: 0,
+            step: Step::Register(1),
+        },
+        Event {
+            thread: 1,
+            step: Step::Wake,
+        },
     ];
-    match replay(rt.alloc(), &early, 512, LIMIT) {
-        Ok(_) => assert!(rt; false),
-        Err(fault) => assert_eq!(rt; fault, ReplayFault::NotEnabled { at: 6 }),
+    match replay(rt.alloc(), &events, 512, 7) {
+        Ok(world) => assert_eq!(rt; world.registered(), 1),
+        Err(_) => assert!(rt; false),
     }
-    match replay(rt.alloc(), &LIFE, 511, LIMIT) {
+    match replay(rt.alloc(), &events[1..], 512, 7) {
+        Ok(_) => assert!(rt; false),
+        Err(fault) => assert_eq!(rt; fault, ReplayFault::NotEnabled { at: 0 }),
+    }
+    match replay(rt.alloc(), &events, 511, 7) {
         Ok(_) => assert!(rt; false),
         Err(fault) => assert_eq!(rt; fault, ReplayFault::Options),
     }
 }
 
 #[test]
-fn readers_show_a_living_object(rt: HostRuntime) -> Result<(), Fault> {
-    let mut world = World::new(rt.alloc(), 512, 7)?;
-    for event in LIFE[..5].iter() {
-        assert_eq!(rt; world.step(event), Ok(()));
-    }
-    let again = Event {
-        thread: 1,
-        step: Step::LocalUp {
-            source: Source::Frame(0),
-            place: 3,
-        },
-    };
-    assert_eq!(rt; world.step(&again), Ok(()));
-
-    assert_eq!(rt; world.cells(), 512);
-    assert_eq!(rt; world.local_limit(), 7);
+fn readers_of_a_thread(rt: HostRuntime) -> Result<(), Fault> {
+    let world = with_a_list(rt.alloc())?;
     assert_eq!(rt; world.registered(), 1);
-
     assert_eq!(rt; world.status(0), None);
     assert_eq!(rt; world.status(1), Some(Status::Active));
     assert_eq!(rt; world.hand(1), Some(Hand::Free));
     assert_eq!(rt; world.locked(1), None);
-    assert_eq!(rt; world.places(1), 4);
+    assert_eq!(rt; world.places(1), 1);
     assert_eq!(rt; world.place(1, 0), Some(266));
     assert_eq!(rt; world.place(1, 1), None);
     assert_eq!(rt; world.queued(1, 266), false);
     assert_eq!(rt; world.popped(1, 266), false);
     assert_eq!(rt; world.on_worklist(1, 266), false);
+    Ok(())
+}
 
+#[test]
+fn readers_of_a_cell(rt: HostRuntime) -> Result<(), Fault> {
+    let world = with_a_list(rt.alloc())?;
+    assert_eq!(rt; world.cells(), 512);
+    assert_eq!(rt; world.local_limit(), 7);
     assert_eq!(rt; world.is_live(266), true);
     assert_eq!(rt; world.owner(266), Some(Owner::Thread(1)));
     assert_eq!(rt; world.kind(266), Some(Kind::List));
     assert_eq!(rt; world.kind(13), Some(Kind::Int));
-    assert_eq!(rt; world.kind(267), None);
-    assert_eq!(rt; world.local(266), Some(2));
+    assert_eq!(rt; world.local(266), Some(1));
     assert_eq!(rt; world.count(266), Some(0));
     assert_eq!(rt; world.state(266), Some(State::Default));
     assert_eq!(rt; world.entries(266).len(), 0);
     assert_eq!(rt; world.entry(265, 0), None);
-
-    assert_eq!(rt; world.total(266), Some(2));
+    assert_eq!(rt; world.total(266), Some(1));
     assert_eq!(rt; world.live(), 1);
     let holders = world.holders(rt.alloc(), 266)?;
-    let wanted = [
-        Holder::Frame {
-            thread: 1,
-            place: 0,
-        },
-        Holder::Frame {
-            thread: 1,
-            place: 3,
-        },
-    ];
+    let wanted = [Holder::Frame {
+        thread: 1,
+        place: 0,
+    }];
     assert!(rt; holders.as_slice() == &wanted[..]);
     Ok(())
 }
 
 #[test]
-fn a_dead_object_is_in_a_hand_and_then_on_a_worklist(rt: HostRuntime) -> Result<(), Fault> {
-    let mut world = World::new(rt.alloc(), 512, LIMIT)?;
-    for event in LIFE[..6].iter() {
-        assert_eq!(rt; world.step(event), Ok(()));
-    }
+fn an_object_dies(rt: HostRuntime) -> Result<(), Fault> {
+    let mut world = with_a_list(rt.alloc())?;
+    let down = Step::LocalDown(Dropped::Frame(0));
+    assert_eq!(rt; make(&mut world, 1, down), Ok(()));
     assert_eq!(rt; world.hand(1), Some(Hand::Busy(Phase::Zero, 266)));
-    assert_eq!(rt; world.step(&LIFE[6]), Ok(()));
-    assert_eq!(rt; world.hand(1), Some(Hand::Free));
+    assert_eq!(rt; make(&mut world, 1, Step::SeeZero(266)), Ok(()));
     assert_eq!(rt; world.on_worklist(1, 266), true);
-    assert_eq!(rt; world.total(266), Some(0));
+    assert_eq!(rt; make(&mut world, 1, Step::Free(266)), Ok(()));
+    let ledger = Ledger {
+        allocs: 1,
+        frees: 1,
+    };
+    assert_eq!(rt; world.ledger(1), Some(ledger));
+    assert_eq!(rt; world.ledgers(), ledger);
+    assert_eq!(rt; world.live(), 0);
+    assert_eq!(rt; world.total(266), None);
     Ok(())
 }
 
-/// Each size of memory in turn: what is refused leaves the world as it was, and is memory.
+/// What is read of a world on both sides of a step.
+type Seen = (u32, Option<Hand>, Option<u32>, Option<i64>, Option<u32>);
+
+fn seen<A: Allocator + Copy>(world: &World<A>) -> Seen {
+    (
+        world.registered(),
+        world.hand(1),
+        world.local(266),
+        world.count(266),
+        world.locked(1),
+    )
+}
+
+/// Whether memory is refused for the step, and the world is then as it was.
+fn is_refused<A: Allocator + Copy>(world: &mut World<A>, thread: u32, step: Step) -> bool {
+    let before = seen(world);
+    make(world, thread, step) == Err(StepFault::Memory) && seen(world) == before
+}
+
+/// Steps that need more memory, one after the other: how many are made before one is refused.
+fn growths<A: Allocator + Copy>(world: &mut World<A>) -> Result<u32, StepFault> {
+    if is_refused(world, 0, Step::Register(1)) {
+        return Ok(0);
+    }
+    prepare(world, 266)?;
+    if is_refused(world, 1, born(266, 0)) {
+        return Ok(1);
+    }
+    prepare(world, 267)?;
+    make(world, 1, born(267, 1))?;
+    make(world, 1, Step::Lock(0))?;
+    if is_refused(world, 1, Step::Unlock(Change::Put(1))) {
+        return Ok(2);
+    }
+    make(world, 1, Step::Lock(0))?;
+    Ok(farther_growths(world))
+}
+
+/// The same with steps that fill places farther and farther away.
+fn farther_growths<A: Allocator + Copy>(world: &mut World<A>) -> u32 {
+    let (index, place) = (0, 20);
+    if is_refused(world, 1, Step::Unlock(Change::Take { index, place })) {
+        return 3;
+    }
+    let (source, place) = (Source::Frame(0), 90);
+    if is_refused(world, 1, Step::LocalUp { source, place }) {
+        return 4;
+    }
+    let place = 400;
+    if is_refused(world, 1, Step::SharedUp { source, place }) {
+        return 5;
+    }
+    6
+}
+
+/// Each size of memory in turn: every growth is refused at some of them.
 #[test]
 fn refused_growths_change_nothing(rt: HostRuntime) -> Result<(), Fault> {
-    let mut refused_worlds = 0u32;
-    let mut refused_threads = 0u32;
-    let mut refused_births = 0u32;
-    let mut whole = 0u32;
-    for size in 1_000..2_000usize {
-        let heap = LocalHeap::new(rt.alloc(), size * 32)?;
-        let Ok(mut world) = World::new(&heap, 512, LIMIT) else {
-            refused_worlds = refused_worlds.saturating_add(1);
+    let mut next = 0u32;
+    for size in 4_000..5_500usize {
+        let heap = LocalHeap::new(rt.alloc(), size * 8)?;
+        let Ok(mut world) = World::new(&heap, 512, 2) else {
             continue;
         };
-        if world.step(&LIFE[0]) == Err(StepFault::Memory) {
-            assert_eq!(rt; world.registered(), 0);
-            assert_eq!(rt; world.status(1), None);
-            refused_threads = refused_threads.saturating_add(1);
-            continue;
+        if growths(&mut world) == Ok(next) {
+            next = next.saturating_add(1);
         }
-        for event in LIFE[1..4].iter() {
-            assert_eq!(rt; world.step(event), Ok(()));
-        }
-        if world.step(&LIFE[4]) == Err(StepFault::Memory) {
-            assert_eq!(rt; world.hand(1), Some(Hand::Busy(Phase::Ready, 266)));
-            assert_eq!(rt; world.owner(266), Some(Owner::Claimed(1)));
-            assert_eq!(rt; world.places(1), 0);
-            refused_births = refused_births.saturating_add(1);
-            continue;
-        }
-        for event in LIFE[5..].iter() {
-            assert_eq!(rt; world.step(event), Ok(()));
-        }
-        assert_eq!(rt; world.live(), 0);
-        whole = whole.saturating_add(1);
     }
-    assert!(rt; 0 < refused_worlds);
-    assert!(rt; 0 < refused_threads);
-    assert!(rt; 0 < refused_births);
-    assert!(rt; 0 < whole);
+    assert_eq!(rt; next, 7);
     Ok(())
 }

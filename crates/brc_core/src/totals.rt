@@ -1,15 +1,14 @@
 //! The numbers of a world: a cell's total count, the ledgers, and how many objects live.
 
-ghost use Rattle.std.specs.Prelude.{◌≡◌, ◌+◌, ◌<◌, ◌^◌, pos, negsuc, ◌≤ℤ◌, ◌<ℤ◌, length, drop, sum_by, count_by, IfSome};
+ghost use Rattle.std.specs.Prelude.{◌≡◌, ◌+◌, ◌<◌, ◌^◌, pos, length, drop, sum_by, count_by, IfSome};
 ghost use Rattle.brc_core.specs.Readings.{only_if, ledger_of, ledgers_of};
 ghost use Rattle.brc_runs.specs.Heap.{cell_at, row_at, is_registered};
 ghost use Rattle.brc_runs.specs.Holding.{lives, lives_at, total_of, holders_of, live_count};
+ghost use Rattle.brc_words.specs.Shared.{CountFits};
 
-use crate::readers::lives;
-use crate::tables::Tables;
 use crate::world::World;
-use brc_runs::{Cell, is_immortal};
-use brc_words::State;
+use brc_runs::{Cell, Row, is_immortal};
+use brc_words::{FIRST_MORTAL, Owner, State};
 use std::alloc::Allocator;
 
 /// How many objects a thread has made, and how many blocks it has given back.
@@ -19,10 +18,21 @@ pub struct Ledger {
     pub frees: u64,
 }
 
+/// Whether an object is in a cell with this owner.
+fn lives(owner: Owner) -> bool
+    ensures { result ≡ lives owner }
+{
+    match owner {
+        Owner::Nobody => true,
+        Owner::Thread(_) => true,
+        Owner::Claimed(_) => false,
+        Owner::Free => false,
+    }
+}
+
 /// Once merged the shared count is the count, before that local and shared count together.
 fn total_of(found: Cell) -> i64
-    requires low { negsuc 1099511627775 ≤ℤ found.count }
-    requires high { found.count <ℤ pos 1099511627776 }
+    requires { CountFits found.count }
 
     ensures { result ≡ total_of found }
 {
@@ -33,43 +43,33 @@ fn total_of(found: Cell) -> i64
     }
 }
 
-impl<A: Allocator + Copy> Tables<A> {
-    /// Whether a mortal object lives in the cell.
-    pub(crate) fn is_live(&self, cell: u32) -> bool
-        ensures { result ≡ lives_at self.now cell }
-    {
-        !is_immortal(cell) && lives(self.cell(cell).owner)
-    }
+/// The births of all rows.
+fn allocs(rows: &[Row]) -> u64
+    requires { sum_by (λ row. row.allocs) rows.now < 2 ^ 64 }
 
-    /// All births.
-    fn allocs(&self) -> u64
-        requires { sum_by (λ row. row.allocs) self.now.rows < 2 ^ 64 }
+    ensures { result ≡ sum_by (λ row. row.allocs) rows.now }
+{
+    rows.iter().map(|row| row.allocs).sum()
+}
 
-        ensures { result ≡ sum_by (λ row. row.allocs) self.now.rows }
-    {
-        self.rows.as_slice().iter().map(|row| row.allocs).sum()
-    }
+/// The frees of all rows.
+fn frees(rows: &[Row]) -> u64
+    requires { sum_by (λ row. row.frees) rows.now < 2 ^ 64 }
 
-    /// All frees.
-    fn frees(&self) -> u64
-        requires { sum_by (λ row. row.frees) self.now.rows < 2 ^ 64 }
+    ensures { result ≡ sum_by (λ row. row.frees) rows.now }
+{
+    rows.iter().map(|row| row.frees).sum()
+}
 
-        ensures { result ≡ sum_by (λ row. row.frees) self.now.rows }
-    {
-        self.rows.as_slice().iter().map(|row| row.frees).sum()
-    }
-
-    /// How many mortal objects live.
-    fn live(&self) -> usize
-        ensures { result ≡ count_by (λ x. lives x.owner) (drop 266 self.now.cells) }
-    {
-        self.cells
-            .as_slice()
-            .iter()
-            .skip(266)
-            .filter(|found| lives(found.owner))
-            .count()
-    }
+/// How many of the cells have a mortal object that lives.
+fn live(cells: &[Cell]) -> usize
+    ensures { result ≡ count_by (λ x. lives x.owner) (drop FIRST_MORTAL cells.now) }
+{
+    cells
+        .iter()
+        .skip(FIRST_MORTAL as usize)
+        .filter(|found| lives(found.owner))
+        .count()
 }
 
 impl<A: Allocator + Copy> World<A> {
@@ -77,7 +77,7 @@ impl<A: Allocator + Copy> World<A> {
     pub fn is_live(&self, cell: u32) -> bool
         ensures { result ≡ lives_at self.now cell }
     {
-        self.tables.is_live(cell)
+        !is_immortal(cell) && lives(self.tables.cell(cell).owner)
     }
 
     /// The total count of a live mortal object (PEP 703): its references.
@@ -87,7 +87,7 @@ impl<A: Allocator + Copy> World<A> {
         ensures references { IfSome result
             (λ total. total ≡ pos (length (holders_of self.now cell))) }
     {
-        if !self.tables.is_live(cell) {
+        if !self.is_live(cell) {
             return None;
         }
         Some(total_of(self.tables.cell(cell)))
@@ -113,8 +113,8 @@ impl<A: Allocator + Copy> World<A> {
         ensures { result ≡ ledgers_of self.now }
     {
         Ledger {
-            allocs: self.tables.allocs(),
-            frees: self.tables.frees(),
+            allocs: allocs(self.tables.rows()),
+            frees: frees(self.tables.rows()),
         }
     }
 
@@ -123,6 +123,6 @@ impl<A: Allocator + Copy> World<A> {
         ensures live { result ≡ live_count self.now }
         ensures ledger { (ledgers_of self.now).allocs ≡ (ledgers_of self.now).frees + result }
     {
-        self.tables.live() as u32
+        live(self.tables.cells()) as u32
     }
 }

@@ -1,14 +1,14 @@
 //! The world of the heap: made open, and changed by one event at a time.
 
-ghost use Rattle.std.specs.Prelude.{◌≡◌, ◌↔◌, ◌⊎◌, true, false, Err, IfOk, IfErr, OnOk, OnErr};
-ghost use Rattle.brc_core.specs.Memory.{needs_memory};
+ghost use Rattle.std.specs.Prelude.{◌≡◌, ◌↔◌, ◌⊎◌, true, false, None, Err, IfOk, IfErr, OnOk, OnErr};
 ghost use Rattle.brc_core.specs.Moves.{MovesOn};
 ghost use Rattle.brc_runs.specs.Heap.{AreOptions, opening};
 ghost use Rattle.brc_runs.specs.Steps.{enabled, after};
+ghost use Rattle.brc_tables.specs.Memory.{needs_memory};
+ghost use Rattle.brc_tables.specs.Refusals.{refusal_of};
 
-use crate::opening::are_options;
-use crate::tables::Tables;
 use brc_runs::Event;
+use brc_tables::{Refusal, Tables, are_options};
 use brc_words::Fault;
 use std::alloc::Allocator;
 use std::marker::Model;
@@ -69,12 +69,21 @@ impl<A: Allocator + Copy> World<A> {
         ensures memory { (result ≡ Err StepFault.Memory) → needs_memory event.now.step ≡ true }
         ensures unchanged { OnErr result (self.new ≡ self.old) }
     {
-        if !self.tables.enabled(event) {
+        let means = self.tables.target(event.thread, event.step);
+        if !self.tables.enabled(event, means) {
             return Err(StepFault::NotEnabled);
         }
-        match self.tables.apply(event) {
+        match self.tables.apply(event, means) {
             Ok(()) => Ok(()),
             Err(_) => Err(StepFault::Memory),
         }
+    }
+
+    /// Which condition the event fails first, if it isn't enabled. No memory is taken.
+    pub fn refusal(&self, event: &Event) -> Option<Refusal>
+        ensures which { result ≡ refusal_of self.now event.now }
+        ensures none { (result ≡ None) ↔ (enabled self.now event.now ≡ true) }
+    {
+        self.tables.refusal(event)
     }
 }

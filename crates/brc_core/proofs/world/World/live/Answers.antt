@@ -1,4 +1,5 @@
 use Rattle.std.proofs.Common.{◌≡◌, ◌+◌, ◌∙◌, drop, sum_by, subst, arith}
+use Rattle.brc_words.specs.declared.limits.TheConstants.{FIRST_MORTAL}
 use Rattle.brc_runs.proofs.Reached.{reached_headline}
 use Rattle.brc_core.proofs.Bounds.{live_fits, live-count_by}
 use Rattle.brc_runs.specs.Heap.{Heap}
@@ -6,14 +7,16 @@ use Rattle.brc_runs.specs.Holding.{live_count}
 use Rattle.brc_core.proofs.world.World.live.Goals as goal
 
 pub overflow_cast-result : goal.overflow_cast-result
-overflow_cast-result g c = omega (arith, c.live.ensures, live_fits _ c.self.invariant)
+overflow_cast-result g c = let counted = rw c.cells.ensures at c.live.ensures in omega (arith, live_fits _ c.self.invariant)
 
 pub returns-clause-live : goal.returns-clause-live
 returns-clause-live g c =
     let P : Heap → Type 0 = λ h. c.live.result ≡ live_count h in
-    subst P c.self.view_is (c.live.ensures ∙ live-count_by (drop 266 c.self.inside.tables.cells))
+    let counted = rw c.cells.ensures at c.live.ensures in
+    subst P c.self.view_is (counted ∙ live-count_by (drop FIRST_MORTAL c.self.inside.tables.cells))
 
 pub returns-clause-ledger : goal.returns-clause-ledger
 returns-clause-ledger g c =
     let P : Heap → Type 0 = λ h. sum_by (λ row. row.allocs) h.rows ≡ sum_by (λ row. row.frees) h.rows + c.live.result in
-    subst P c.self.view_is (rw (c.live.ensures, live-count_by (drop 266 c.self.inside.tables.cells)) ((reached_headline _ c.self.invariant).ledger))
+    let counted = rw c.cells.ensures at c.live.ensures in
+    subst P c.self.view_is (rw (counted, live-count_by (drop FIRST_MORTAL c.self.inside.tables.cells)) ((reached_headline _ c.self.invariant).ledger))

@@ -1,0 +1,3 @@
+pub mod Enabling
+pub mod Parting
+pub mod Refused

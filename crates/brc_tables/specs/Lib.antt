@@ -1,0 +1,4 @@
+pub mod Changes
+pub mod Memory
+pub mod Parts
+pub mod Refusals

@@ -1,0 +1,28 @@
+//! The tables of a world as a program: whether an event is enabled, which condition it fails, and what it does.
+//!
+//! What an event is and does is `brc_runs`, `specs/Steps.antt`. Here each test is proved to be the one that is defined
+//! there, and each step, a few writes to tables, to lead where it says. No table keeps an invariant: what a step needs to
+//! index or to add is asked of the caller, `brc_core`, whose worlds are reached by runs.
+#![tactic(auto)]
+
+mod apply;
+mod cell_conditions;
+mod cell_steps;
+mod conditions;
+mod effects;
+mod entries;
+mod frames;
+mod marks;
+mod opening;
+mod own_part;
+mod refusing;
+mod root_steps;
+mod tables;
+mod tally;
+mod unlocking;
+mod word_steps;
+mod words;
+
+pub use opening::are_options;
+pub use refusing::Refusal;
+pub use tables::Tables;

@@ -1,0 +1,82 @@
+//! The opening world: the immortals, all other cells free, and no thread but the root.
+
+ghost use Rattle.std.specs.Prelude.{◌≡◌, ◌↔◌, [], replicate, IfOk, IsTrue};
+ghost use Rattle.brc_runs.specs.Heap.{AreOptions, opening_cells, opening};
+
+use crate::entries::Entries;
+use crate::frames::Frame;
+use crate::marks::Marks;
+use crate::tables::Tables;
+use crate::words::Words;
+use brc_runs::{Cell, no_row, opening_cell};
+use brc_words::{FEWEST_CELLS, MOST_CELLS, MOST_LOCAL};
+use std::alloc::{AllocError, Allocator};
+
+/// Whether a heap may have these sizes.
+pub fn are_options(cells: u32, local_limit: u32) -> bool
+    ensures { IsTrue result ↔ AreOptions cells local_limit }
+{
+    FEWEST_CELLS <= cells && cells <= MOST_CELLS && 1 <= local_limit && local_limit <= MOST_LOCAL
+}
+
+/// All cells as the heap opens.
+fn opening_cells<A: Allocator>(alloc: A, cells: u32) -> Result<Vec<Cell, A>, AllocError>
+    ensures { IfOk result (λ made. made.items ≡ opening_cells cells) }
+{
+    let mut made = Vec::with_capacity(alloc, cells as usize)?;
+    for cell in 0..cells {
+        made.push(opening_cell(cell))?;
+    }
+    Ok(made)
+}
+
+/// No entries, for each cell.
+fn opening_entries<A: Allocator + Copy>(
+    alloc: A,
+    cells: u32,
+) -> Result<Vec<Entries<A>, A>, AllocError>
+    ensures { IfOk result (λ made. made.items ≡ replicate cells []) }
+{
+    let mut made = Vec::with_capacity(alloc, cells as usize)?;
+    for cell in 0..cells {
+        made.push(Entries::new(alloc))?;
+    }
+    Ok(made)
+}
+
+impl<A: Allocator + Copy> Tables<A> {
+    /// The tables as the heap opens.
+    pub fn opening(alloc: A, cells: u32, local_limit: u32) -> Result<Self, AllocError>
+        ensures { IfOk result (λ made. made ≡ opening cells local_limit) }
+    {
+        let cells_made = opening_cells(alloc, cells)?;
+        let entries = opening_entries(alloc, cells)?;
+        let mut rows = Vec::new(alloc);
+        rows.push(no_row())?;
+        let mut frames = Vec::new(alloc);
+        frames.push(Frame::new(alloc))?;
+        let mut popped = Vec::new(alloc);
+        popped.push(Words::zeros(alloc, 0)?)?;
+        let mut worklists = Vec::new(alloc);
+        worklists.push(Marks::unset(alloc, 0)?)?;
+        let mut queues = Vec::new(alloc);
+        queues.push(Words::zeros(alloc, 0)?)?;
+        let mut notify_words = Vec::new(alloc);
+        notify_words.push(0)?;
+        let mut gathered = Vec::new(alloc);
+        gathered.push(false)?;
+        Ok(Tables {
+            alloc,
+            local_limit,
+            cells: cells_made,
+            entries,
+            rows,
+            frames,
+            popped,
+            worklists,
+            queues,
+            notify_words,
+            gathered,
+        })
+    }
+}

@@ -1,0 +1,206 @@
+//! Whether an event is enabled, and if not, which of its conditions fails first.
+
+ghost use Rattle.std.specs.Prelude.{◌≡◌, ◌↔◌, true, None};
+ghost use Rattle.brc_runs.specs.Steps.{needs_no_cell, others_ok, target_at, enabled};
+ghost use Rattle.brc_tables.specs.Refusals.{is_roots, root_refusal, cell_refusal, thread_refusal, refusal_of};
+
+use crate::cell_conditions::cell_ok;
+use crate::conditions::{hand_ok, is_free_hand, is_left, lock_ok, stage_ok};
+use crate::tables::Tables;
+use brc_runs::{Event, Step, words_for};
+use brc_words::MOST_THREADS;
+use std::alloc::Allocator;
+
+/// Which condition of an event fails, of those of `docs/HEAP.md`, section 3, in the order in which they are looked at.
+#[derive(Clone, Copy, Debug, PartialEq, Eq)]
+pub enum Refusal {
+    /// The root makes `register` and `gather`, and threads make all else.
+    NotItsOwn,
+    /// `register` names another number than the next, or one above 64.
+    NotNext,
+    /// General: the thread isn't registered. Of `gather` it is the thread that is named.
+    NotRegistered,
+    /// General: the thread is gathered. Of `gather` it is the thread that is named.
+    Gathered,
+    /// General: what a thread that is closing or has left may do. Of `gather`: the thread has left.
+    Stage,
+    /// General: what a thread does while it has an object locked, and what it does then alone.
+    Lock,
+    /// The hand is free, or is the one of the event's row. Of `gather`: the hand is free.
+    Hand,
+    /// The event's row, where it speaks of births, kinds, worklists, popped bits or queue words; the place that is filled is
+    /// vacant; what an unlock's change asks of places and entries. Of `gather`: nothing is popped or on the worklist.
+    OwnPart,
+    /// `nudge`: the thread that is told is registered, and has the queue word.
+    Told,
+    /// General: the event means a cell of the heap.
+    NoCell,
+    /// The event's row, where it speaks of the cell that is meant.
+    Cell,
+}
+
+/// Whether the step is the root's.
+fn is_roots(step: Step) -> bool
+    ensures { result ≡ is_roots step }
+{
+    matches!(step, Step::Register(_) | Step::Gather(_))
+}
+
+/// Whether the step is on words that are no cell's.
+fn needs_no_cell(step: Step) -> bool
+    ensures { result ≡ needs_no_cell step }
+{
+    matches!(
+        step,
+        Step::Drain(_) | Step::Close(_) | Step::Nudge { .. } | Step::Wake
+    )
+}
+
+impl<A: Allocator + Copy> Tables<A> {
+    /// Whether a thread that is told something is registered, and has the queue word.
+    fn others_ok(&self, step: Step) -> bool
+        ensures { result ≡ others_ok self.now step }
+    {
+        match step {
+            Step::Nudge { thread, word } => {
+                self.is_registered(thread) && (word as usize) < words_for(self.cells.len())
+            }
+            _ => true,
+        }
+    }
+
+    /// What the cell that is meant fails: to be one of the heap, and as it must be.
+    fn cell_refusal(&self, thread: u32, step: Step, means: Option<u32>) -> Option<Refusal>
+        ensures { result ≡ cell_refusal self.now thread step means }
+    {
+        let Some(cell) = means else {
+            return if needs_no_cell(step) {
+                None
+            } else {
+                Some(Refusal::NoCell)
+            };
+        };
+        if self.cells.len() <= cell as usize {
+            return Some(Refusal::NoCell);
+        }
+        let found = self.cell(cell);
+        if cell_ok(
+            self.local_limit,
+            thread,
+            self.row(thread),
+            step,
+            cell,
+            found,
+        ) {
+            None
+        } else {
+            Some(Refusal::Cell)
+        }
+    }
+
+    /// What a thread's step fails, where its cell is this one.
+    fn thread_refusal(&self, thread: u32, step: Step, means: Option<u32>) -> Option<Refusal>
+        requires { means ≡ target_at self.now thread step }
+
+        ensures { result ≡ thread_refusal self.now thread step }
+    {
+        let row = self.row(thread);
+        if is_roots(step) {
+            return Some(Refusal::NotItsOwn);
+        }
+        if !self.is_registered(thread) {
+            return Some(Refusal::NotRegistered);
+        }
+        if self.is_gathered(thread) {
+            return Some(Refusal::Gathered);
+        }
+        if !stage_ok(row.stage, step) {
+            return Some(Refusal::Stage);
+        }
+        if !lock_ok(row.locked, step) {
+            return Some(Refusal::Lock);
+        }
+        if !hand_ok(row.hand, step) {
+            return Some(Refusal::Hand);
+        }
+        if !self.own_ok(thread, step) {
+            return Some(Refusal::OwnPart);
+        }
+        if !self.others_ok(step) {
+            return Some(Refusal::Told);
+        }
+        self.cell_refusal(thread, step, means)
+    }
+
+    /// What the gathering of a thread fails.
+    fn gather_refusal(&self, thread: u32) -> Option<Refusal>
+        ensures { result ≡ root_refusal self.now (Step.Gather thread) }
+    {
+        let row = self.row(thread);
+        if !self.is_registered(thread) {
+            return Some(Refusal::NotRegistered);
+        }
+        if self.is_gathered(thread) {
+            return Some(Refusal::Gathered);
+        }
+        if !is_left(row.stage) {
+            return Some(Refusal::Stage);
+        }
+        if !is_free_hand(row.hand) {
+            return Some(Refusal::Hand);
+        }
+        if self.has_popped_nothing(thread) && self.is_unmarked(thread) {
+            None
+        } else {
+            Some(Refusal::OwnPart)
+        }
+    }
+
+    /// What the root's step fails.
+    fn root_refusal(&self, step: Step) -> Option<Refusal>
+        ensures { result ≡ root_refusal self.now step }
+    {
+        match step {
+            Step::Register(thread) => {
+                if thread as usize == self.rows.len() && thread <= MOST_THREADS {
+                    None
+                } else {
+                    Some(Refusal::NotNext)
+                }
+            }
+            Step::Gather(thread) => self.gather_refusal(thread),
+            _ => Some(Refusal::NotItsOwn),
+        }
+    }
+
+    /// Which condition the event fails first, where it means this cell.
+    fn refusal_at(&self, event: &Event, means: Option<u32>) -> Option<Refusal>
+        requires { means ≡ target_at self.now event.now.thread event.now.step }
+
+        ensures { result ≡ refusal_of self.now event.now }
+    {
+        if event.thread == 0 {
+            self.root_refusal(event.step)
+        } else {
+            self.thread_refusal(event.thread, event.step, means)
+        }
+    }
+
+    /// Which condition the event fails first, if it isn't enabled.
+    #[tactic(auto, using(crate::proofs::Refused::unrefused_enabled))]
+    pub fn refusal(&self, event: &Event) -> Option<Refusal>
+        ensures which { result ≡ refusal_of self.now event.now }
+        ensures none { (result ≡ None) ↔ (enabled self.now event.now ≡ true) }
+    {
+        self.refusal_at(event, self.target(event.thread, event.step))
+    }
+
+    /// Whether the event is enabled, where it means this cell.
+    pub fn enabled(&self, event: &Event, means: Option<u32>) -> bool
+        requires { means ≡ target_at self.now event.now.thread event.now.step }
+
+        ensures { result ≡ enabled self.now event.now }
+    {
+        self.refusal_at(event, means).is_none()
+    }
+}
