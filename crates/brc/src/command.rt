@@ -52,15 +52,15 @@ further line is an event, of the root (0) or of a thread T:
     T nudge U W            T tells U to drain word W
     T wake                 T takes what it was told
     T lock K               T locks the object in place K
-    T unlock keep          and unlocks it, or with one of these in place of keep:
+    T unlock keep          and unlocks it; or, in place of keep, one of
              put K         the cell of place K is now the last entry
              take I K      entry I is now in place K
              swap I K      entry I and the cell of place K change places
 
-    C is a cell, K a place of T's frame, U a thread, KIND one of int, text, list,
-    dict, mailbox. S is f<place>, e<entry of the locked object> or i<immortal>.
-    D is f<place> or w<cell on T's worklist>; for last also q<popped cell> or h,
-    the hand.
+    C is a cell, K a place of T's frame, U a thread; KIND is int, text, list,
+    dict or mailbox. S is f<place>, e<entry of the locked object> or
+    i<immortal>. D is f<place> or w<cell on T's worklist>; for last also
+    q<popped cell> or h, the hand.
 
 A line is words with one space between them, ended by a line feed. Blank lines,
 comments, carriage returns and leading zeros are not in the grammar. Bad is the
