@@ -1,4 +1,4 @@
+pub mod Holders
 pub mod Moves
-pub mod Places
 pub mod Readings
 pub mod Replays

@@ -3,7 +3,7 @@
 //! They are read off frames, entries, queues and hands, and never off a count.
 
 ghost use Rattle.std.specs.Prelude.{◌≡◌, ◌++◌, length, IfOk, IfErr, OnOk};
-ghost use Rattle.brc_core.specs.Places.{count_in, holds, holder_in, in_part, in_frames, in_entries};
+ghost use Rattle.brc_core.specs.Holders.{count_in, holds, holder_in, in_part, in_frames, in_entries};
 ghost use Rattle.brc_core.specs.Readings.{mortal_holders};
 ghost use Rattle.brc_runs.specs.Holding.{carries, if_so, holders_of};
 ghost use Rattle.brc_runs.specs.Lists.{names};

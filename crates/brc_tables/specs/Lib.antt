@@ -1,4 +1,4 @@
-pub mod Changes
+pub mod Effects
 pub mod Memory
-pub mod Parts
+pub mod OwnPart
 pub mod Refusals

@@ -8,7 +8,8 @@ ghost use Rattle.brc_words.specs.Shared.{CountFits};
 
 use crate::conditions::is_closed;
 use crate::effects::{
-    born_cell, change, filled_place, gone, is_enqueue, is_free_step, settled_cell, takes_block,
+    born_cell, filled_place, gone, is_enqueue, is_free_step, settled_cell, takes_block,
+    write_cell_and_row,
 };
 use crate::entries::change_entries;
 use crate::frames::change_frame;
@@ -54,7 +55,7 @@ impl<A: Allocator + Copy> Tables<A> {
         let out = gone(step, found);
         // The one growth comes first, so that a refusal leaves all as it was.
         change_frame(&mut self.frames, thread, filled_place(step), out, cell)?;
-        change(
+        write_cell_and_row(
             &mut self.cells[cell as usize],
             &mut self.rows[thread as usize],
             self.local_limit,

@@ -39,7 +39,7 @@ fn added_hand(cell: u32, hand: Hand) -> Hand
 
 /// What the step does to its cell and to the row of its thread. `shut` says that the queue word into which the cell would
 /// go is closed.
-pub(crate) fn change(
+pub(crate) fn write_cell_and_row(
     found: &mut Cell,
     row: &mut Row,
     limit: u32,

@@ -4,7 +4,7 @@ ghost use Rattle.std.specs.Prelude.{◌≡◌, ◌<◌, true, is_some, length, s
 ghost use Rattle.brc_runs.specs.Lists.{number_in, place_at};
 ghost use Rattle.brc_runs.specs.Heap.{entries_at, frame_at, row_at};
 ghost use Rattle.brc_runs.specs.Steps.{change_ok, stepped};
-ghost use Rattle.brc_tables.specs.Changes.{exchanged};
+ghost use Rattle.brc_tables.specs.Effects.{exchanged};
 ghost use Rattle.brc_tables.specs.Memory.{moves_one};
 
 use crate::entries::{add_entry, remove_entry, set_entry};

@@ -4,10 +4,9 @@ use Rattle.brc_runs.specs.declared.event.Change.{Change}
 use Rattle.brc_runs.specs.declared.event.Source.{Source}
 use Rattle.brc_runs.specs.declared.event.Dropped.{Dropped}
 use Rattle.brc_runs.specs.declared.event.LastDropped.{LastDropped}
-use Rattle.brc_runs.specs.declared.event.Step.{Step}
 use Rattle.brc_runs.specs.Lists.{is_bare, is_unmarked}
 use Rattle.brc_runs.specs.Heap.{Heap, entries_at, row_at, frame_at, popped_at, worklist_at, words_for}
-use Rattle.brc_runs.specs.Steps.{locked_cell, source_cell, dropped_cell, last_cell, locked_entries, change_ok, closes_next, may_begin_closing, target_ok, target_at}
+use Rattle.brc_runs.specs.Steps.{locked_cell, source_cell, dropped_cell, last_cell, locked_entries, change_ok, closes_next, may_begin_closing}
 
 -- the cell that the thread has locked, and its entries
 abbrev pub locked_at : Heap → ℕ → Option ℕ
@@ -36,7 +35,3 @@ close_ok_at h t k =
 -- whether the change fits the thread's frame and the entries of the object that it has locked
 abbrev pub change_ok_at : Heap → ℕ → Change → Bool
 change_ok_at h t = change_ok (row_at h t).locked (frame_at h t) (locked_entries_at h t)
-
--- whether the cell that the step means is as the step wants it
-abbrev pub cell_ok_at : Heap → ℕ → Step → Bool
-cell_ok_at h t s = target_ok h t (row_at h t) s (target_at h t s)
