@@ -8,10 +8,12 @@ use Rattle.std.proofs.lemmas.List.Elements.{All-more}
 module _ {X Y : Type 0} (f : X → Y) where
   pub slice_get-map_read : (xs : List X) (i : ℕ) (d : X) → i < length xs
       → slice_get (map f xs) i ≡ Some (f (get_or xs i d))
-  slice_get-map_read xs i d within = slice_get-map f xs i ∙ ap (option_map f) (slice_get-get_or xs i d within)
+  slice_get-map_read xs i d within =
+      slice_get-map f xs i ∙ ap (option_map f) (slice_get-get_or xs i d within)
 
   pub slice_get-map_past : (xs : List X) (i : ℕ) → length xs ≤ i → slice_get (map f xs) i ≡ None
-  slice_get-map_past xs i past = slice_get-map f xs i ∙ ap (option_map f) (slice_get_past xs i past)
+  slice_get-map_past xs i past =
+      slice_get-map f xs i ∙ ap (option_map f) (slice_get_past xs i past)
 
   -- what holds of the first i holds of one more, where it holds of that one
   pub All-map_more : (P : Y → Type 0) (xs : List X) (i : ℕ) (d : X) → i < length xs

@@ -20,7 +20,10 @@ impl<A: Allocator> Model for Cells<A> {
 
     ghost Value = { Row ℕ };
 
-    ghost view = { λ c. record { items = c.list.items; spare = vec_capacity c.list - vec_len c.list } };
+    ghost view = { λ c. record {
+      items = c.list.items;
+      spare = vec_capacity c.list - vec_len c.list;
+    } };
 }
 
 impl<A: Allocator> Cells<A> {

@@ -8,6 +8,9 @@ use std::alloc::{AllocError, Allocator};
 use std::collections::VecDeque;
 use std::marker::Model;
 
+/// How many entries the first growth makes room for.
+const FEWEST: usize = 4;
+
 /// The entries of a mailbox, as cells: the first put in is the first taken out.
 #[derive(Drop)]
 pub struct Letters<A: Allocator> {
@@ -21,7 +24,10 @@ impl<A: Allocator> Model for Letters<A> {
 
     ghost Value = { Row ℕ };
 
-    ghost view = { λ l. record { items = deque_items l.queue; spare = deque_capacity l.queue - deque_len l.queue } };
+    ghost view = { λ l. record {
+      items = deque_items l.queue;
+      spare = deque_capacity l.queue - deque_len l.queue;
+    } };
 }
 
 impl<A: Allocator> Letters<A> {
@@ -60,7 +66,8 @@ impl<A: Allocator> Letters<A> {
         if len < self.queue.capacity() {
             return Ok(());
         }
-        // The capacity doubles, so that few of many puts ask for memory; this call says that a refusal keeps it.
+        // The capacity doubles, so that few of many puts ask for memory. Of this growth, unlike `reserve`'s, the
+        // contract says that a refusal leaves the capacity as it was.
         self.queue.reserve_exact(len.max(FEWEST))
     }
 
@@ -129,6 +136,3 @@ impl<A: Allocator> Letters<A> {
         self.queue.pop_back()
     }
 }
-
-/// The entries that the first growth makes room for.
-const FEWEST: usize = 4;

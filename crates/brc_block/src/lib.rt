@@ -1,6 +1,8 @@
 //! The memory of objects: blocks, each one allocation with its own link, and lists of blocks.
 //!
-//! A block is made once and given back once; it can be neither copied nor forgotten.
+//! A block is made once and given back once; it can be neither copied nor forgotten. What it holds is read and edited
+//! by index, and `specs/Payload.antt` shows it as plain data: kind, entries and keys. Room for an entry can be made
+//! beforehand, so that the put itself neither fails nor takes memory.
 #![tactic(auto)]
 
 mod block;

@@ -23,7 +23,10 @@ impl<A: Allocator> Model for Pairs<A> {
 
     ghost Value = { Row (Key A × ℕ) };
 
-    ghost view = { λ p. record { items = p.list.items; spare = vec_capacity p.list - vec_len p.list } };
+    ghost view = { λ p. record {
+      items = p.list.items;
+      spare = vec_capacity p.list - vec_len p.list;
+    } };
 }
 
 impl<A: Allocator> Pairs<A> {
@@ -62,8 +65,10 @@ impl<A: Allocator> Pairs<A> {
 
     /// The index of the first pair that has the key.
     pub fn find(&self, key: &Key<A>) -> Option<usize>
-        ensures found { IfSome result (λ index. slice_get (keys_in self.now.items) index ≡ Some key.now) }
-        ensures first { IfSome result (λ index. All (λ other. other ≢ key.now) (take index (keys_in self.now.items))) }
+        ensures found { IfSome result
+            (λ index. slice_get (keys_in self.now.items) index ≡ Some key.now) }
+        ensures first { IfSome result
+            (λ index. All (λ other. other ≢ key.now) (take index (keys_in self.now.items))) }
         ensures none { IfNone result (All (λ other. other ≢ key.now) (keys_in self.now.items)) }
     {
         let pairs = self.as_slice();

@@ -13,8 +13,12 @@ returns-in-Dict-clause-taken g c =
 
 pub returns-in-Dict-clause-left : goal.returns-in-Dict-clause-left
 returns-in-Dict-clause-left g c =
-    rw c.in-Dict.is (ap cells_in c.remove-key.ensures.left ∙ map-remove (λ pair. pair.1) c.in-Dict.pairs.items c.args.index)
+    rw c.in-Dict.is
+    (ap cells_in c.remove-key.ensures.left
+    ∙ map-remove (λ pair. pair.1) c.in-Dict.pairs.items c.args.index)
 
 pub returns-in-Dict-clause-keys : goal.returns-in-Dict-clause-keys
 returns-in-Dict-clause-keys g c =
-    rw c.in-Dict.is (ap keys_in c.remove-key.ensures.left ∙ map-remove (λ pair. pair.0) c.in-Dict.pairs.items c.args.index)
+    rw c.in-Dict.is
+    (ap keys_in c.remove-key.ensures.left
+    ∙ map-remove (λ pair. pair.0) c.in-Dict.pairs.items c.args.index)
