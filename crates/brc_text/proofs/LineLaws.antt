@@ -16,16 +16,12 @@ use Rattle.brc_text.specs.declared.token.Token.{Token}
 use Rattle.brc_text.specs.declared.token.Token.TheVariants as tokens
 use Rattle.brc_text.specs.Keywords.{keyword}
 use Rattle.brc_text.specs.Tokens.{◌>>=◌, token, token_at, letter, IsRead}
-use Rattle.brc_text.specs.Lines.{cut, tokens_at, words_from, spaced, before_line, pieces}
+use Rattle.brc_text.specs.Lines.{cut, lacks, end_of, IsWord, first_line, tokens_at, words_from, spaced, before_line, pieces}
 use Rattle.brc_text.proofs.NumberLaws.{numerals}
-use Rattle.brc_text.proofs.TokenLaws.{token_again, token_takes, some_bind, same_some}
+use Rattle.brc_text.proofs.KeywordLaws.{same_some}
+use Rattle.brc_text.proofs.TokenLaws.{token_again, token_takes, some_bind}
 
 -- ---- cutting
-
--- the mark is not among the bytes
-abbrev pub lacks : ℕ → List ℕ → Bool
-lacks mark [] = true
-lacks mark (byte ∷ bytes) = not (eqb byte mark) && lacks mark bytes
 
 pub lacks-append : (mark : ℕ) (xs ys : List ℕ) → lacks mark xs ≡ true → lacks mark ys ≡ true → lacks mark (xs ++ ys) ≡ true
 lacks-append mark [] ys p q = q
@@ -91,31 +87,89 @@ cut_parts mark (byte ∷ bytes) = cut_first mark byte bytes (cut mark bytes) (eq
 
 -- ---- the words of a line
 
--- what was read, before what is still to be read
-abbrev pub after : List Token → Option (List Token) → Option (List Token)
-after front read = option_map (λ ts. front ++ ts) read
+-- cutting goes past bytes without the mark
+pub cut_past : (mark : ℕ) (front back : List ℕ) → lacks mark front ≡ true → cut mark (front ++ back) ≡ (front ++ (cut mark back).0, (cut mark back).1)
+unfolding cut
+cut_past mark [] back h = refl
+cut_past mark (byte ∷ front) back h =
+    let both = and_parts _ _ h in
+    rw (not_true (eqb byte mark) both.0, cut_past mark front back both.1) refl
 
-pub no_word : (most : ℕ) (front : List Token) (rest : List ℕ) → token_at (cut 32 rest).0 ≡ None → after front (tokens_at (suc most) rest) ≡ None
-unfolding tokens_at
-no_word most front rest h = rw h refl
+-- the words that were read, before those that are still to be read
+abbrev pub after : List Token → Option (List Token × List ℕ) → Option (List Token × List ℕ)
+after front read = option_map (λ line. (front ++ line.0, line.1)) read
 
-pub last_word : (most : ℕ) (front : List Token) (rest : List ℕ) (word : Token) → token_at (cut 32 rest).0 ≡ Some word → (cut 32 rest).1 ≡ None
-    → after front (tokens_at (suc most) rest) ≡ Some (front ++ (word ∷ []))
-unfolding tokens_at
-last_word most front rest word h none = rw (h, none) refl
+no_feed : (most : ℕ) (text : List ℕ) → lacks 10 text ≡ true → first_line most text ≡ None
+unfolding first_line
+no_feed most text h = rw (cut_whole 10 text h) refl
 
-pub next_word : (most : ℕ) (front : List Token) (rest left : List ℕ) (word : Token) → token_at (cut 32 rest).0 ≡ Some word → (cut 32 rest).1 ≡ Some left
-    → after front (tokens_at (suc most) rest) ≡ after (front ++ (word ∷ [])) (tokens_at most left)
-unfolding tokens_at
-next_word most front rest left word h some = rw (h, some) (joined (tokens_at most left))
+pub no_end : (most : ℕ) (front : List Token) (text : List ℕ) → lacks 10 text ≡ true → after front (first_line most text) ≡ None
+no_end most front text h = rw (no_feed most text h) refl
+
+abbrev alone : List ℕ → Token → Option (List Token × List ℕ)
+alone rest token = Some (token ∷ [], rest)
+
+abbrev with_rest : List ℕ → List Token → Option (List Token × List ℕ)
+with_rest rest words = Some (words, rest)
+
+-- a word that a line feed ends
+last_line : (most : ℕ) (text word rest : List ℕ) → IsWord text word true rest
+    → first_line (suc most) text ≡ (token_at word >>= alone rest)
+unfolding first_line tokens_at
+last_line most text word rest is =
+    ap (first_line (suc most)) is.whole
+    ∙ rw (cut_until 10 word rest is.no_feed, cut_whole 32 word is.no_space) (by_token (token_at word))
   where
-    joined : (read : Option (List Token)) → after front (read >>= λ others. Some (word ∷ others)) ≡ after (front ++ (word ∷ [])) read
-    joined None = refl
-    joined (Some others) = ap (λ (l : List Token). Some l) (sym (append_assoc front (word ∷ []) others))
+    by_token : (o : Option Token) → ((o >>= λ token. Some (token ∷ [])) >>= with_rest rest) ≡ (o >>= alone rest)
+    by_token None = refl
+    by_token (Some token) = refl
 
-pub no_more : (front : List Token) (rest : List ℕ) → after front (tokens_at 0 rest) ≡ None
-unfolding tokens_at
-no_more front rest = refl
+-- a word that a space ends, before the others
+longer_line : (most : ℕ) (text word rest : List ℕ) → IsWord text word false rest
+    → first_line (suc most) text ≡ (token_at word >>= λ token. after (token ∷ []) (first_line most rest))
+unfolding first_line tokens_at
+longer_line most text word rest is =
+    ap (first_line (suc most)) is.whole
+    ∙ rw (cut_past 10 word (32 ∷ rest) is.no_feed, behind_space rest, cut_until 32 word (cut 10 rest).0 is.no_space)
+    (by_parts (token_at word) (cut 10 rest).1 (tokens_at most (cut 10 rest).0))
+  where
+    behind_space : (rest : List ℕ) → cut 10 (32 ∷ rest) ≡ (32 ∷ (cut 10 rest).0, (cut 10 rest).1)
+    behind_space rest = cut_past 10 (32 ∷ []) rest refl
+    by_parts : (o : Option Token) (back : Option (List ℕ)) (words : Option (List Token))
+        → (back >>= λ left. (o >>= λ token. (words >>= λ others. Some (token ∷ others))) >>= with_rest left)
+        ≡ (o >>= λ token. after (token ∷ []) (back >>= λ left. words >>= with_rest left))
+    by_parts None None words = refl
+    by_parts None (Some left) words = refl
+    by_parts (Some token) None words = refl
+    by_parts (Some token) (Some left) None = refl
+    by_parts (Some token) (Some left) (Some ws) = refl
+
+after_after : (front : List Token) (token : Token) (read : Option (List Token × List ℕ)) → after front (after (token ∷ []) read) ≡ after (front ++ (token ∷ [])) read
+after_after front token None = refl
+after_after front token (Some line) = ap (λ (l : List Token). Some (l, line.1)) (sym (append_assoc front (token ∷ []) line.0))
+
+pub no_token : (most : ℕ) (front : List Token) (text word rest : List ℕ) (last : Bool) → IsWord text word last rest → token_at word ≡ None
+    → after front (first_line (suc most) text) ≡ None
+no_token most front text word rest true is none = rw (last_line most text word rest is, none) refl
+no_token most front text word rest false is none = rw (longer_line most text word rest is, none) refl
+
+pub last_word : (most : ℕ) (front : List Token) (text word rest : List ℕ) (last : Bool) (token : Token) → IsWord text word last rest → last ≡ true → token_at word ≡ Some token
+    → after front (first_line (suc most) text) ≡ Some (front ++ (token ∷ []), rest)
+last_word most front text word rest true token is ends some = rw (last_line most text word rest is, some) refl
+last_word most front text word rest false token is ends some = absurd cc
+
+pub next_word : (most : ℕ) (front : List Token) (text word rest : List ℕ) (last : Bool) (token : Token) → IsWord text word last rest → last ≡ false → token_at word ≡ Some token
+    → after front (first_line (suc most) text) ≡ after (front ++ (token ∷ [])) (first_line most rest)
+next_word most front text word rest true token is ends some = absurd cc
+next_word most front text word rest false token is ends some = rw (longer_line most text word rest is, some) (after_after front token (first_line most rest))
+
+pub no_more : (front : List Token) (text : List ℕ) → after front (first_line 0 text) ≡ None
+unfolding first_line tokens_at
+no_more front text = by_back (cut 10 text).1
+  where
+    by_back : (back : Option (List ℕ)) → after front (back >>= λ rest. None) ≡ None
+    by_back None = refl
+    by_back (Some rest) = refl
 
 digits_lack : (mark : ℕ) (ds : List ℕ) → mark < 48 → AllDigits 10 ds → lacks mark ds ≡ true
 digits_lack mark [] low all = refl

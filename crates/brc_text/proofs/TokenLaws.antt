@@ -1,10 +1,12 @@
 -- A token is read as it was spelled, and only so.
-use Rattle.std.proofs.Common.{◌≡◌, ℕ, Bool, true, false, eqb, List, [], ◌∷◌, Option, Some, None, refl, sym, ap, subst, ◌∙◌, decimal, arith, cond}
+use Rattle.std.proofs.Common.{◌≡◌, ℕ, ◌<◌, ◌≤◌, get_or, Bool, true, false, true≢false, eqb, leb, List, [], ◌∷◌, Option, Some, None, refl, sym, ap, subst, ◌∙◌, decimal, arith, cond}
 use Rattle.std.specs.List.{find}
 use Rattle.std.specs.Str.{bytes_eq}
 use Rattle.std.specs.Fmt.{digits}
+use Rattle.std.specs.Int.{IsInRange}
+use Rattle.std.specs.Char.{is_ascii_digit}
 use Rattle.std.proofs.lemmas.Option.{same_Some}
-use Rattle.std.proofs.lemmas.Bool.{eqb-true}
+use Rattle.std.proofs.lemmas.Bool.{eqb-true, leb-true, le-leb, and_parts, and_from}
 use Rattle.std.proofs.lemmas.Slice.Eq.{bytes_eq-Decides}
 use Rattle.brc_text.specs.declared.keyword.Keyword.{Keyword}
 use Rattle.brc_text.specs.declared.keyword.Keyword.TheVariants as words
@@ -15,35 +17,13 @@ use Rattle.brc_text.specs.declared.token.Token.TheVariants as tokens
 use Rattle.brc_text.specs.Numbers.{number_at}
 use Rattle.brc_text.specs.Keywords.{keyword, keyword_at}
 use Rattle.brc_text.specs.Tokens.{◌>>=◌, or_else, letter, letter_at, token, place_at, token_at, IsRead}
-use Rattle.brc_text.proofs.NumberLaws.{number_again, number_takes, not_a_digit}
-
-pub same_some : {A : Type 0} {x y : A} → Some x ≡ Some y → x ≡ y
-same_some {x = x} {y = y} e = same_Some x y e
+use Rattle.brc_text.proofs.NumberLaws.{number_again, number_takes, not_a_digit, no_bytes}
+use Rattle.brc_text.proofs.KeywordLaws.{same_some, keyword_again, keyword_takes, no_keyword}
 
 -- the value of a reading that gave one
 pub some_bind : {A B : Type 0} (o : Option A) (f : A → Option B) (y : B) → (o >>= f) ≡ Some y → (x : A) × (o ≡ Some x) × (f x ≡ Some y)
 some_bind None f y e = absurd cc
 some_bind (Some x) f y e = (x, refl, e)
-
--- ---- keywords
-
-keyword_again : (k : Keyword) → keyword_at (keyword k) ≡ Some k
-unfolding keyword_at
-keyword_again words.Heap = refl
-keyword_again _ = refl
-
-found_first : {X : Type 0} (p : X → Bool) (y x : X) (b : Bool) (later : Option X) → p y ≡ b → (later ≡ Some x → p x ≡ true)
-    → cond b (Some y) later ≡ Some x → p x ≡ true
-found_first p y x true later h others e = subst (λ z. p z ≡ true) (same_some e) h
-found_first p y x false later h others e = others e
-
-find_holds : {X : Type 0} (p : X → Bool) (xs : List X) (x : X) → find p xs ≡ Some x → p x ≡ true
-find_holds p [] x e = absurd cc
-find_holds p (y ∷ ys) x e = found_first p y x (p y) (find p ys) refl (find_holds p ys x) e
-
-keyword_takes : (bytes : List ℕ) (k : Keyword) → keyword_at bytes ≡ Some k → bytes ≡ keyword k
-unfolding keyword_at
-keyword_takes bytes k e = sym ((bytes_eq-Decides (keyword k) bytes).0 (find_holds (λ word. bytes_eq (keyword word) bytes) _ k e))
 
 -- ---- letters
 
@@ -111,3 +91,79 @@ token_takes bytes t e = by_kind (number_at bytes) (place_at bytes) (keyword_at b
     by_kind None (Some u) k hn hp hk e = place_takes bytes t (hp ∙ e)
     by_kind None None (Some w) hn hp hk e = subst (λ (u : Token). IsRead u × (bytes ≡ token u)) (same_some e) (tt, keyword_takes bytes w hk)
     by_kind None None None hn hp hk e = absurd cc
+
+-- ---- its first two bytes say what a word can be
+
+-- a letter is no digit
+letter_is_high : (l : Letter) → 57 < letter l
+letter_is_high letters.Frame = omega arith
+letter_is_high _ = omega arith
+
+keyword_begins : (k : Keyword) → IsInRange 48 57 (get_or (keyword k) 0 0) → ⊥
+keyword_begins words.Heap r = omega (arith, r.0, r.1)
+keyword_begins _ r = omega (arith, r.0, r.1)
+
+keyword_goes_on : (k : Keyword) → IsInRange 48 57 (get_or (keyword k) 1 0) → ⊥
+keyword_goes_on words.Heap r = omega (arith, r.0, r.1)
+keyword_goes_on _ r = omega (arith, r.0, r.1)
+
+none_from : {A : Type 0} (o : Option A) → ((x : A) → o ≡ Some x → ⊥) → o ≡ None
+none_from None h = refl
+none_from (Some x) h = absurd (h x refl)
+
+none_some : {A : Type 0} {x : A} → None ≡ Some x → ⊥
+none_some e = absurd cc
+
+or_none : (o : Option Token) → or_else o None ≡ o
+or_none None = refl
+or_none (Some t) = refl
+
+letter_at_none : (byte : ℕ) (ds : List ℕ) → byte ≤ 57 → place_at (byte ∷ ds) ≡ None
+unfolding place_at
+letter_at_none byte ds low = none_from (place_at (byte ∷ ds)) (λ t e.
+    let l = some_bind (letter_at byte) _ t e in omega (arith, low, letter_is_high l.0, letter_takes byte l.0 l.1))
+
+no_place_begins : (bytes : List ℕ) → get_or bytes 0 0 ≤ 57 → place_at bytes ≡ None
+unfolding place_at
+no_place_begins [] low = refl
+no_place_begins (byte ∷ ds) low = letter_at_none byte ds low
+
+digit_in : (byte : ℕ) → is_ascii_digit byte ≡ true → IsInRange 48 57 byte
+digit_in byte e = let both = and_parts (leb 48 byte) (leb byte 57) e in (leb-true 48 byte both.0, leb-true byte 57 both.1)
+
+digit_out : (byte : ℕ) → is_ascii_digit byte ≡ false → IsInRange 48 57 byte → ⊥
+digit_out byte e r = true≢false (sym (and_from _ _ (le-leb 48 byte r.0) (le-leb byte 57 r.1)) ∙ e)
+
+-- a word that begins with a digit is a number or nothing
+pub digit_first : (bytes : List ℕ) → is_ascii_digit (get_or bytes 0 0) ≡ true → token_at bytes ≡ (number_at bytes >>= λ n. Some (tokens.Number n))
+unfolding token_at
+digit_first bytes digit =
+    let range = digit_in _ digit in
+    rw (no_place_begins bytes range.1, no_keyword bytes (λ k e. keyword_begins k (subst (λ (b : List ℕ). IsInRange 48 57 (get_or b 0 0)) e range)))
+    (or_none (number_at bytes >>= λ n. Some (tokens.Number n)))
+
+no_digit_first : (bytes : List ℕ) → is_ascii_digit (get_or bytes 0 0) ≡ false → number_at bytes ≡ None
+no_digit_first [] first = no_bytes [] refl
+no_digit_first (byte ∷ ds) first = not_a_digit (byte ∷ ds) 0 (omega arith) (digit_out byte first)
+
+-- one whose second byte alone is a digit is a place or nothing
+pub digit_second : (bytes : List ℕ) → is_ascii_digit (get_or bytes 0 0) ≡ false → is_ascii_digit (get_or bytes 1 0) ≡ true → token_at bytes ≡ place_at bytes
+unfolding token_at
+digit_second bytes other digit =
+    let range = digit_in _ digit in
+    rw (no_digit_first bytes other, no_keyword bytes (λ k e. keyword_goes_on k (subst (λ (b : List ℕ). IsInRange 48 57 (get_or b 1 0)) e range)))
+    (or_none (place_at bytes))
+
+no_digit_second : (bytes : List ℕ) → is_ascii_digit (get_or bytes 1 0) ≡ false → place_at bytes ≡ None
+unfolding place_at
+no_digit_second [] second = refl
+no_digit_second (byte ∷ ds) second = none_from (place_at (byte ∷ ds)) (λ t e.
+    let l = some_bind (letter_at byte) _ t e in
+    let n = some_bind (number_at ds) _ t l.2 in
+    none_some (sym (no_digit_first ds second) ∙ n.1))
+
+-- any other is a keyword or nothing
+pub digit_neither : (bytes : List ℕ) → is_ascii_digit (get_or bytes 0 0) ≡ false → is_ascii_digit (get_or bytes 1 0) ≡ false
+    → token_at bytes ≡ (keyword_at bytes >>= λ k. Some (tokens.Word k))
+unfolding token_at
+digit_neither bytes first second = rw (no_digit_first bytes first, no_digit_second bytes second) refl

@@ -1,7 +1,7 @@
 //! Keywords: the fixed words of the trace and of the world text.
 
-ghost use Rattle.std.specs.Prelude.{◌≡◌};
-ghost use Rattle.brc_text.specs.Keywords.{keyword, candidates_at, keyword_at};
+ghost use Rattle.std.specs.Prelude.{◌≡◌, ◌≤◌, ◌==◌, ◌&&◌, length, find};
+ghost use Rattle.brc_text.specs.Keywords.{keyword, packed, candidates_at, keyword_at};
 
 /// A fixed word.
 #[derive(Clone, Copy, Debug, PartialEq, Eq)]
@@ -159,6 +159,90 @@ impl Keyword {
             Keyword::Dash => b"-",
         }
     }
+
+    /// The word's bytes as one number.
+    fn key(self) -> u64
+        ensures { result ≡ packed 0 (keyword self) }
+    {
+        match self {
+            Keyword::Heap => u64::from_be_bytes(*b"\0\0\0\0heap"),
+            Keyword::Register => u64::from_be_bytes(*b"register"),
+            Keyword::Claim => u64::from_be_bytes(*b"\0\0\0claim"),
+            Keyword::Local => u64::from_be_bytes(*b"\0\0\0local"),
+            Keyword::Shared => u64::from_be_bytes(*b"\0\0shared"),
+            Keyword::Born => u64::from_be_bytes(*b"\0\0\0\0born"),
+            Keyword::Up => u64::from_be_bytes(*b"\0\0\0\0\0\0up"),
+            Keyword::Down => u64::from_be_bytes(*b"\0\0\0\0down"),
+            Keyword::See => u64::from_be_bytes(*b"\0\0\0\0\0see"),
+            Keyword::Free => u64::from_be_bytes(*b"\0\0\0\0free"),
+            Keyword::Untie => u64::from_be_bytes(*b"\0\0\0untie"),
+            Keyword::Shup => u64::from_be_bytes(*b"\0\0\0\0shup"),
+            Keyword::Shdown => u64::from_be_bytes(*b"\0\0shdown"),
+            Keyword::Ask => u64::from_be_bytes(*b"\0\0\0\0\0ask"),
+            Keyword::Last => u64::from_be_bytes(*b"\0\0\0\0last"),
+            Keyword::Enq => u64::from_be_bytes(*b"\0\0\0\0\0enq"),
+            Keyword::Drain => u64::from_be_bytes(*b"\0\0\0drain"),
+            Keyword::Add => u64::from_be_bytes(*b"\0\0\0\0\0add"),
+            Keyword::Close => u64::from_be_bytes(*b"\0\0\0close"),
+            Keyword::Nudge => u64::from_be_bytes(*b"\0\0\0nudge"),
+            Keyword::Wake => u64::from_be_bytes(*b"\0\0\0\0wake"),
+            Keyword::Lock => u64::from_be_bytes(*b"\0\0\0\0lock"),
+            Keyword::Unlock => u64::from_be_bytes(*b"\0\0unlock"),
+            Keyword::Gather => u64::from_be_bytes(*b"\0\0gather"),
+            Keyword::InHand => u64::from_be_bytes(*b"\0\0\0\0\0\0\0h"),
+            Keyword::Keep => u64::from_be_bytes(*b"\0\0\0\0keep"),
+            Keyword::Put => u64::from_be_bytes(*b"\0\0\0\0\0put"),
+            Keyword::Take => u64::from_be_bytes(*b"\0\0\0\0take"),
+            Keyword::Swap => u64::from_be_bytes(*b"\0\0\0\0swap"),
+            Keyword::Int => u64::from_be_bytes(*b"\0\0\0\0\0int"),
+            Keyword::Text => u64::from_be_bytes(*b"\0\0\0\0text"),
+            Keyword::List => u64::from_be_bytes(*b"\0\0\0\0list"),
+            Keyword::Dict => u64::from_be_bytes(*b"\0\0\0\0dict"),
+            Keyword::Mailbox => u64::from_be_bytes(*b"\0mailbox"),
+            Keyword::World => u64::from_be_bytes(*b"\0\0\0world"),
+            Keyword::Thread => u64::from_be_bytes(*b"\0\0thread"),
+            Keyword::Hand => u64::from_be_bytes(*b"\0\0\0\0hand"),
+            Keyword::Locked => u64::from_be_bytes(*b"\0\0locked"),
+            Keyword::Frame => u64::from_be_bytes(*b"\0\0\0frame"),
+            Keyword::Queued => u64::from_be_bytes(*b"\0\0queued"),
+            Keyword::Popped => u64::from_be_bytes(*b"\0\0popped"),
+            Keyword::Work => u64::from_be_bytes(*b"\0\0\0\0work"),
+            Keyword::Entry => u64::from_be_bytes(*b"\0\0\0entry"),
+            Keyword::Object => u64::from_be_bytes(*b"\0\0object"),
+            Keyword::Ledger => u64::from_be_bytes(*b"\0\0ledger"),
+            Keyword::Active => u64::from_be_bytes(*b"\0\0active"),
+            Keyword::Closing => u64::from_be_bytes(*b"\0closing"),
+            Keyword::Left => u64::from_be_bytes(*b"\0\0\0\0left"),
+            Keyword::Gathered => u64::from_be_bytes(*b"gathered"),
+            Keyword::Claimed => u64::from_be_bytes(*b"\0claimed"),
+            Keyword::Counted => u64::from_be_bytes(*b"\0counted"),
+            Keyword::Ready => u64::from_be_bytes(*b"\0\0\0ready"),
+            Keyword::Zero => u64::from_be_bytes(*b"\0\0\0\0zero"),
+            Keyword::Over => u64::from_be_bytes(*b"\0\0\0\0over"),
+            Keyword::Untied => u64::from_be_bytes(*b"\0\0untied"),
+            Keyword::Asked => u64::from_be_bytes(*b"\0\0\0asked"),
+            Keyword::Shut => u64::from_be_bytes(*b"\0\0\0\0shut"),
+            Keyword::Taking => u64::from_be_bytes(*b"\0\0taking"),
+            Keyword::Held => u64::from_be_bytes(*b"\0\0\0\0held"),
+            Keyword::Popping => u64::from_be_bytes(*b"\0popping"),
+            Keyword::Default => u64::from_be_bytes(*b"\0default"),
+            Keyword::Merged => u64::from_be_bytes(*b"\0\0merged"),
+            Keyword::Dash => u64::from_be_bytes(*b"\0\0\0\0\0\0\0-"),
+        }
+    }
+}
+
+/// The bytes as one number, by which two words of one length are compared at once.
+fn key_of(bytes: &[u8]) -> u64
+    requires { length bytes.now ≤ 8 }
+
+    ensures { result ≡ packed 0 bytes.now }
+{
+    let mut key: u64 = 0;
+    for byte in bytes {
+        key = key * 256 + *byte as u64;
+    }
+    key
 }
 
 /// The words that begin with this byte, the ones of a trace first.
@@ -229,16 +313,23 @@ fn candidates(first: u8) -> &'static [Keyword]
     }
 }
 
+/// The keyword of this first byte, length and number.
+fn keyword_packed(first: u8, len: usize, key: u64) -> Option<Keyword>
+    ensures { result ≡ find (λ word. length (keyword word) == len && packed 0 (keyword word) == key) (candidates_at first) }
+{
+    candidates(first)
+        .iter()
+        .copied()
+        .find(|word| word.text().len() == len && word.key() == key)
+}
+
 /// The keyword that the bytes spell, all of them; none where they spell none.
-#[tactic(auto, unfolding(crate::specs::Keywords::keyword_at))]
 pub fn keyword_of(bytes: &[u8]) -> Option<Keyword>
     ensures { result ≡ keyword_at bytes.now }
 {
-    match bytes {
-        [] => None,
-        [first, ..] => candidates(*first)
-            .iter()
-            .copied()
-            .find(|word| word.text() == bytes),
+    // None is longer than 8 bytes, so its number fits.
+    if bytes.is_empty() || bytes.len() > 8 {
+        return None;
     }
+    keyword_packed(bytes[0], bytes.len(), key_of(bytes))
 }

@@ -12,7 +12,7 @@ mod putting;
 mod token;
 
 pub use keyword::{Keyword, keyword_of};
-pub use line::{cut_at, tokens_of};
+pub use line::Words;
 pub use number::number_of;
 pub use putting::{put_bytes, put_line};
 pub use token::{Letter, Token, token_of};

@@ -1,6 +1,7 @@
 //! Tokens: what one word of a line means.
 
-ghost use Rattle.std.specs.Prelude.{◌≡◌};
+ghost use Rattle.std.specs.Prelude.{◌≡◌, slice_index};
+ghost use Rattle.std.specs.Char.{is_ascii_digit};
 ghost use Rattle.brc_text.specs.Tokens.{letter_at, place_at, token_at};
 
 use crate::keyword::{Keyword, keyword_of};
@@ -66,19 +67,26 @@ fn place_of(bytes: &[u8]) -> Option<Token>
     }
 }
 
+/// Whether a digit stands there.
+fn has_digit(bytes: &[u8], at: usize) -> bool
+    ensures { result ≡ is_ascii_digit (slice_index bytes.now at) }
+{
+    match bytes.get(at) {
+        Some(byte) => byte.is_ascii_digit(),
+        None => false,
+    }
+}
+
 /// What the bytes of one word mean; none where they are no word of a text.
-#[tactic(auto, unfolding(crate::specs::Tokens::token_at))]
 pub fn token_of(bytes: &[u8]) -> Option<Token>
     ensures { result ≡ token_at bytes.now }
 {
-    if let Some(number) = number_of(bytes) {
-        return Some(Token::Number(number));
-    }
-    if let Some(place) = place_of(bytes) {
-        return Some(place);
-    }
-    match keyword_of(bytes) {
-        Some(word) => Some(Token::Word(word)),
-        None => None,
+    // The first two bytes say which of the three a word can be.
+    if has_digit(bytes, 0) {
+        Some(Token::Number(number_of(bytes)?))
+    } else if has_digit(bytes, 1) {
+        place_of(bytes)
+    } else {
+        Some(Token::Word(keyword_of(bytes)?))
     }
 }
