@@ -1,8 +1,3 @@
-pub mod Reasons
-pub mod Lasting
-pub mod Telling
-pub mod Standing
-pub mod Progress
 pub mod Reached
 pub mod Sizes
 pub mod Changes
@@ -26,12 +21,3 @@ pub mod Registering
 pub mod Beginning
 pub mod Headlines
 pub mod Lifetimes
-pub mod Moving
-pub mod Handing
-pub mod Exchanging
-pub mod Allowing
-pub mod Items_Told
-pub mod Items_Queues
-pub mod Items_Own
-pub mod Items_Law
-pub mod Items_Numbers

@@ -11,14 +11,13 @@ use Rattle.brc_runs.specs.Lists.{one}
 use Rattle.brc_runs.specs.Heap.{Heap, opening, cell_at, row_at, no_row, AreOptions}
 use Rattle.brc_runs.specs.Steps.{enabled, after, after_target, root_after, root_may, thread_may, target_at}
 use Rattle.brc_runs.specs.Runs.{IsRun, IsReached, world_after}
-use Rattle.brc_runs.specs.Holding.{Headline, Histories, lives, lives_at, lives_since, is_birth, is_free_step, MakesMoves, map_of, moves_by}
+use Rattle.brc_runs.specs.Holding.{Headline, Histories, lives, lives_at, lives_since, is_birth, is_free_step}
 use Rattle.brc_runs.specs.Sound.{IsSound}
 use Rattle.brc_runs.proofs.Beginning.{opening_sound, free_cell}
 use Rattle.brc_runs.proofs.Registering.{registered_sound}
 use Rattle.brc_runs.proofs.Resting.{gathered_sound}
 use Rattle.brc_runs.proofs.Preserving.{step_sound}
 use Rattle.brc_runs.proofs.Headlines.{sound_headline, allocs_fit, frees_fit}
-use Rattle.brc_runs.proofs.Allowing.{event_moves}
 use Rattle.brc_runs.proofs.Lifetimes.{Turns, event_turns, event_dies}
 
 -- ---- every reached world is sound
@@ -54,10 +53,6 @@ reached_sound h reached = subst IsSound reached.leads_here (run_sound reached.ce
 -- counts are references, nothing is lost, and the ledger is exact
 pub reached_headline : (h : Heap) → IsReached h → Headline h
 reached_headline h reached = sound_headline h (reached_sound h reached)
-
--- an event makes its moves, each allowed where it is made
-pub reached_moves : (A : Type 0) (h : Heap) (e : Event) → IsReached h → enabled h e ≡ true → MakesMoves {A = A} (map_of h) (moves_by h e) (map_of (after h e))
-reached_moves A h e reached may = event_moves A h e (reached_sound h reached) may
 
 -- in the opening world no mortal object lives
 opening_lives : (cells limit q : ℕ) → lives_at (opening cells limit) q ≡ false

@@ -4,6 +4,3 @@ pub mod Steps
 pub mod Runs
 pub mod Holding
 pub mod Sound
-pub mod Staying
-pub mod Progress
-pub mod Items

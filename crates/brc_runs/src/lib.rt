@@ -12,11 +12,6 @@ mod row;
 
 pub use cell::Cell;
 pub use event::{Change, Dropped, Event, LastDropped, Source, Step};
-pub use laws::{
-    counts_are_references, dead_blocks_are_unlocked, events_make_their_moves,
-    gathered_threads_hold_nothing, hands_tell, held_words_last, lives_are_told_by_the_run,
-    no_thread_is_stuck, numbers_fit, own_items_tell_the_part, own_parts_last, owners_last,
-    worlds_are_sound,
-};
+pub use laws::{counts_are_references, lives_are_told_by_the_run, worlds_are_sound};
 pub use opening::{is_immortal, new_row, no_cell, no_row, opening_cell, words_for};
 pub use row::{Hand, Phase, Row, Stage};

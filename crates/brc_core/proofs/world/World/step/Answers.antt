@@ -3,8 +3,9 @@ use Rattle.brc_runs.specs.declared.event.Event.{Event}
 use Rattle.brc_runs.specs.Heap.{Heap}
 use Rattle.brc_runs.specs.Steps.{enabled, after}
 use Rattle.brc_runs.specs.Runs.{IsReached}
-use Rattle.brc_runs.specs.Holding.{MakesMoves, map_of, moves_by}
-use Rattle.brc_runs.proofs.Reached.{reached_allocs, reached_frees, reached_moves}
+use Rattle.brc_moves.specs.Moves.{MakesMoves, map_of, moves_by}
+use Rattle.brc_moves.proofs.Allowing.{reached_moves}
+use Rattle.brc_runs.proofs.Reached.{reached_allocs, reached_frees}
 use Rattle.brc_runs.proofs.Sizes.{reached_count_range}
 use Rattle.brc_core.proofs.Bounds.{cells_fit}
 use Rattle.brc_core.proofs.Reaching.{reached_after}

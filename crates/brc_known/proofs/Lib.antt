@@ -1,0 +1,10 @@
+pub mod Reasons
+pub mod Lasting
+pub mod Telling
+pub mod Standing
+pub mod Progress
+pub mod Items_Told
+pub mod Items_Queues
+pub mod Items_Own
+pub mod Items_Law
+pub mod Items_Numbers

@@ -1,0 +1,242 @@
+-- What a thread has in its hand it can go on with, and what it holds it can give up: the conditions of the steps are met.
+use Rattle.std.proofs.Common.{◌≡◌, ◌≢◌, ℕ, ◌<◌, ◌≤◌, ◌==◌, ◌&&◌, ◌||◌, not, Bool, true, false, if◌then◌else◌, List, [], length, Option, Some, None, refl, sym, ◌∙◌, ap, subst, inl, inr, ◌⊎◌, arith}
+use Rattle.std.proofs.lemmas.List.{get_or_past}
+use Rattle.std.proofs.lemmas.Bool.{cases_lt, cases_Bool, eq-eqb, ne_eqb, and_parts, ltb-true, lt-ltb, true≢false}
+use Rattle.brc_words.specs.declared.owner.Owner.TheVariants as owners
+use Rattle.brc_words.specs.declared.kind.Kind.{Kind}
+use Rattle.brc_words.specs.Kinds.{is_mortal}
+use Rattle.brc_runs.specs.declared.cell.Cell.{Cell}
+use Rattle.brc_runs.specs.declared.event.Step.{Step}
+use Rattle.brc_runs.specs.declared.event.Step.TheVariants.{InitLocal, InitShared, Birth, LocalDown, SeeZero, Free, Untie, MergeZero, Ask, LastDown, Enqueue, MergeAdd}
+use Rattle.brc_runs.specs.declared.event.Dropped.{Dropped}
+use Rattle.brc_runs.specs.declared.event.LastDropped.TheVariants as lasts
+use Rattle.brc_runs.specs.declared.row.Hand.{Hand}
+use Rattle.brc_runs.specs.declared.row.Hand.TheVariants as hands
+use Rattle.brc_runs.specs.declared.row.Phase.{Phase}
+use Rattle.brc_runs.specs.declared.row.Phase.TheVariants as phases
+use Rattle.brc_runs.specs.declared.row.Stage.{Stage}
+use Rattle.brc_runs.specs.declared.row.Stage.TheVariants as stages
+use Rattle.brc_runs.specs.Lists.{is_marked, bit_of}
+use Rattle.brc_runs.specs.Heap.{Heap, cell_at, entries_at, row_at, frame_at, popped_at, worklist_at, no_cell, is_immortal}
+use Rattle.brc_runs.specs.Steps.{enabled, root_may, thread_may, stage_ok, lock_ok, hand_ok, own_ok_at, others_ok, target_at, target_ok, cell_ok, dropped_cell, may_after_leaving, needs_lock, is_at, is_active, is_vacant, is_mine, is_default, is_merged, is_nobody, is_queued, is_owned_by, cell_in_hand, untie_ok, untied_ok, ends_ok}
+use Rattle.brc_runs.specs.Runs.{IsReached}
+use Rattle.brc_runs.specs.Sound.{IsSound, is_active_phase, held}
+use Rattle.brc_known.specs.Staying.{Tells, PoppedTells}
+use Rattle.brc_known.specs.Progress.{Stands, IsAtRest, next_step, release_step, popped_step}
+use Rattle.brc_runs.proofs.Naming.{busy_carrier}
+use Rattle.brc_runs.proofs.Merging.{active_now, held_owner, popped_held, carried_held}
+use Rattle.brc_runs.proofs.Dropping.{dropped_held}
+use Rattle.brc_known.proofs.Lasting.{held_live, live_owner}
+use Rattle.brc_known.proofs.Telling.{hand_tells, popped_tells}
+use Rattle.brc_runs.proofs.Reached.{reached_sound}
+
+-- ---- tests put together
+
+and_both : (a b : Bool) → a ≡ true → b ≡ true → (a && b) ≡ true
+and_both true b x y = y
+and_both false b x y = absurd (true≢false (sym x))
+
+-- a cell that isn't free is one of the heap
+inside : (h : Heap) (c : ℕ) → (cell_at h c).owner ≢ owners.Free → c < length h.cells
+inside h c taken = elim (cases_lt c (length h.cells)) [
+  | inl low ↦ low
+  | inr past ↦ absurd (taken (ap (λ (x : Cell). x.owner) (get_or_past h.cells c no_cell past)))
+]
+
+-- a thread that isn't closing may make a step that runs on after leaving, and any step while it is active
+stage_fits : (stage : Stage) (s : Step) → ((n : ℕ) → stage ≢ stages.Closing n) → (is_active stage ≡ true) ⊎ (may_after_leaving s ≡ true) → stage_ok stage s ≡ true
+stage_fits stages.Active s apart ok = refl
+stage_fits (stages.Closing n) s apart ok = absurd (apart n refl)
+stage_fits stages.Left s apart ok = elim ok [ inl active ↦ absurd (true≢false (sym active)) | inr may ↦ may ]
+
+-- what a thread's step on a cell asks, one test a field
+record Asks (h : Heap) (t : ℕ) (s : Step) (c : ℕ) : Type 0 where
+  stands : Stands h t
+  unlocked : (row_at h t).locked ≡ None
+  not_closing : (n : ℕ) → (row_at h t).stage ≢ stages.Closing n
+  stage : (is_active (row_at h t).stage ≡ true) ⊎ (may_after_leaving s ≡ true)
+  no_lock : needs_lock s ≡ false
+  hand : hand_ok (row_at h t).hand s ≡ true
+  own : own_ok_at h t s ≡ true
+  others : others_ok h s ≡ true
+  named : target_at h t s ≡ Some c
+  taken : (cell_at h c).owner ≢ owners.Free
+  cell : cell_ok h.limit t (row_at h t) s c (cell_at h c) ≡ true
+
+is_enabled : (h : Heap) (t : ℕ) (s : Step) (c : ℕ) → Asks h t s c → enabled h (record { thread = t; step = s }) ≡ true
+is_enabled h t s c asks =
+    let number = and_parts _ _ asks.stands.registered in
+    let low : 0 < t = ltb-true 0 t number.0 in
+    let thread : (t == 0) ≡ false = ne_eqb t 0 (λ e. omega (arith, low, e)) in
+    let lock : lock_ok (row_at h t).locked s ≡ true = ap (λ o. lock_ok o s) asks.unlocked ∙ ap not asks.no_lock in
+    let target : target_ok h t (row_at h t) s (target_at h t s) ≡ true =
+    ap (target_ok h t (row_at h t) s) asks.named ∙ and_both _ _ (lt-ltb c (length h.cells) (inside h c asks.taken)) asks.cell in
+    ap (λ b. if b then root_may h s else thread_may h t s) thread
+    ∙ and_both _ _ (and_both _ _ (and_both _ _ (and_both _ _ (and_both _ _ (and_both _ _ (and_both _ _ asks.stands.registered (ap not asks.stands.here))
+    (stage_fits (row_at h t).stage s asks.not_closing asks.stage)) lock) asks.hand) asks.own) asks.others) target
+
+-- ---- a hand goes on
+
+-- a busy hand is no closing thread's, and its thread has no lock
+busy_thread : (h : Heap) (t c : ℕ) (p : Phase) → IsSound h → (row_at h t).hand ≡ hands.Busy p c → ((n : ℕ) → (row_at h t).stage ≢ stages.Closing n) × ((row_at h t).locked ≡ None)
+busy_thread h t c p sound busy = (
+  λ n closing. let bad : hands.Free ≡ hands.Busy p c = sym ((sound.threads t).closing n closing).2 ∙ busy in cc,
+  unlocked (row_at h t).locked refl,
+)
+  where
+    unlocked : (o : Option ℕ) → (row_at h t).locked ≡ o → o ≡ None
+    unlocked None is = refl
+    unlocked (Some k) is = absurd (let bad : hands.Free ≡ hands.Busy p c = sym ((sound.threads t).locked_hand k is) ∙ busy in cc)
+
+at_phase : (p : Phase) (c : ℕ) (hand : Hand) → hand ≡ hands.Busy p c → is_at p c hand ≡ true
+at_phase p c hand busy = ap (is_at p c) busy ∙ and_both _ _ (eq-eqb _ _ refl) (eq-eqb c c refl)
+
+-- whoever is named by a hand isn't free
+hand_taken : (h : Heap) (t c : ℕ) (p : Phase) → IsReached h → (row_at h t).hand ≡ hands.Busy p c → (cell_at h c).owner ≢ owners.Free
+hand_taken h t c p reached busy = by_phase p busy (hand_tells h t c p reached busy).1
+  where
+    live : 266 ≤ c → 1 ≤ held h c → (cell_at h c).owner ≢ owners.Free
+    live mortal some = live_owner _ (held_owner h c (reached_sound h reached) mortal some)
+
+    by_phase : (q : Phase) → (row_at h t).hand ≡ hands.Busy q c → Tells t q (cell_at h c) → (cell_at h c).owner ≢ owners.Free
+    by_phase phases.Claimed at tells free = let bad : owners.Claimed t ≡ owners.Free = sym tells ∙ free in cc
+    by_phase phases.Counted at tells free = let bad : owners.Claimed t ≡ owners.Free = sym tells.0 ∙ free in cc
+    by_phase phases.Ready at tells free = let bad : owners.Claimed t ≡ owners.Free = sym tells.0 ∙ free in cc
+    by_phase phases.Zero at tells free = let bad : owners.Thread t ≡ owners.Free = sym tells.0 ∙ free in cc
+    by_phase phases.Over at tells free = let bad : owners.Thread t ≡ owners.Free = sym tells.0 ∙ free in cc
+    by_phase phases.Untied at tells free = let bad : owners.Nobody ≡ owners.Free = sym tells.0 ∙ free in cc
+    by_phase phases.Asked at tells free = live (hand_tells h t c phases.Asked reached at).0 (carried_held h t c (busy_carrier phases.Asked c _ refl at)) free
+    by_phase phases.Shut at tells free = live (hand_tells h t c phases.Shut reached at).0 (carried_held h t c (busy_carrier phases.Shut c _ refl at)) free
+    by_phase phases.Taking at tells free = let bad : owners.Nobody ≡ owners.Free = sym tells.0 ∙ free in cc
+    by_phase phases.Held at tells free = let bad : owners.Nobody ≡ owners.Free = sym tells.0 ∙ free in cc
+    by_phase phases.Popping at tells free = let bad : owners.Nobody ≡ owners.Free = sym tells.0 ∙ free in cc
+
+-- what is common to all phases
+goes_on : (h : Heap) (t c : ℕ) (p : Phase) (s : Step) → IsReached h → Stands h t → (row_at h t).hand ≡ hands.Busy p c → (is_active_phase p ≡ true) ⊎ (may_after_leaving s ≡ true) → needs_lock s ≡ false
+    → hand_ok (hands.Busy p c) s ≡ true → own_ok_at h t s ≡ true → others_ok h s ≡ true → target_at h t s ≡ Some c → cell_ok h.limit t (row_at h t) s c (cell_at h c) ≡ true
+    → enabled h (record { thread = t; step = s }) ≡ true
+goes_on h t c p s reached stands busy stage plain hand own others named cell =
+    let sound : IsSound h = reached_sound h reached in
+    let thread = busy_thread h t c p sound busy in
+    is_enabled h t s c (record {
+      stands = stands;
+      unlocked = thread.1;
+      not_closing = thread.0;
+      stage = elim stage [ inl active ↦ inl (active_now h t c p sound busy active) | inr may ↦ inr may ];
+      no_lock = plain;
+      hand = ap (λ g. hand_ok g s) busy ∙ hand;
+      own = own;
+      others = others;
+      named = named;
+      taken = hand_taken h t c p reached busy;
+      cell = cell;
+    })
+
+here : (c : ℕ) → (c == c) ≡ true
+here c = eq-eqb c c refl
+
+-- an untying hand passes the test on popped entries, and one of the other two as well
+untie_hand : (b : Bool) → b ≡ true → (b || false || false) ≡ true
+untie_hand true e = refl
+untie_hand false e = absurd (true≢false (sym e))
+
+-- the next step of a hand is enabled; a ready object may be born in any vacant place
+pub hands_go_on : (h : Heap) (t c : ℕ) (p : Phase) → IsReached h → Stands h t → (row_at h t).hand ≡ hands.Busy p c → p ≢ phases.Ready
+    → enabled h (record { thread = t; step = next_step p c (cell_at h c) }) ≡ true
+hands_go_on h t c phases.Claimed reached stands busy other = goes_on h t c phases.Claimed (InitLocal c) reached stands busy (inl refl) refl (here c) refl refl refl refl
+hands_go_on h t c phases.Counted reached stands busy other = goes_on h t c phases.Counted (InitShared c) reached stands busy (inl refl) refl (here c) refl refl refl refl
+hands_go_on h t c phases.Ready reached stands busy other = absurd (other refl)
+hands_go_on h t c phases.Zero reached stands busy other = goes_on h t c phases.Zero (SeeZero c) reached stands busy (inl refl) refl (here c) refl refl refl refl
+hands_go_on h t c phases.Over reached stands busy other =
+    goes_on h t c phases.Over (Untie c) reached stands busy (inr refl) refl (untie_hand (c == c) (here c)) (ap (λ g. untie_ok g (popped_at h t) c) busy) refl refl (ap (λ g. untied_ok t g (cell_at h c)) busy)
+hands_go_on h t c phases.Untied reached stands busy other = goes_on h t c phases.Untied (MergeZero c) reached stands busy (inl refl) refl (here c) refl refl refl refl
+hands_go_on h t c phases.Asked reached stands busy other = goes_on h t c phases.Asked (Enqueue c) reached stands busy (inr refl) refl (here c) refl refl refl refl
+hands_go_on h t c phases.Shut reached stands busy other =
+    let tells : Tells t phases.Shut (cell_at h c) = (hand_tells h t c phases.Shut reached busy).1 in
+    elim tells [
+      | inl nobodys ↦ subst (λ b. enabled h (record { thread = t; step = if b then LastDown lasts.Hand else Untie c }) ≡ true) (sym (ap is_nobody nobodys.0))
+          (goes_on h t c phases.Shut (LastDown lasts.Hand) reached stands busy (inr refl) refl refl refl refl (ap cell_in_hand busy)
+          (and_both _ _ (ap (λ s. not (is_default s)) nobodys.1) (ap (λ g. ends_ok g (cell_at h c)) busy ∙ ap is_nobody nobodys.0)))
+      | inr owned ↦ subst (λ b. enabled h (record { thread = t; step = if b then LastDown lasts.Hand else Untie c }) ≡ true) (sym (ap is_nobody owned.1))
+          (goes_on h t c phases.Shut (Untie c) reached stands busy (inr refl) refl (shut_hand (c == c) (here c)) (ap (λ g. untie_ok g (popped_at h t) c) busy) refl refl
+          (ap (λ g. untied_ok t g (cell_at h c)) busy ∙ ap (λ o. not (is_nobody o)) owned.1))
+    ]
+  where
+    shut_hand : (b : Bool) → b ≡ true → (false || b || false) ≡ true
+    shut_hand true e = refl
+    shut_hand false e = absurd (true≢false (sym e))
+hands_go_on h t c phases.Taking reached stands busy other = goes_on h t c phases.Taking (MergeAdd c) reached stands busy (inr refl) refl (add_hand (c == c) (here c)) refl refl refl refl
+  where
+    add_hand : (b : Bool) → b ≡ true → (b || false) ≡ true
+    add_hand true e = refl
+    add_hand false e = absurd (true≢false (sym e))
+hands_go_on h t c phases.Held reached stands busy other =
+    let tells : Tells t phases.Held (cell_at h c) = (hand_tells h t c phases.Held reached busy).1 in
+    goes_on h t c phases.Held (LastDown lasts.Hand) reached stands busy (inr refl) refl refl refl refl (ap cell_in_hand busy)
+    (and_both _ _ (ap (λ s. not (is_default s)) tells.1) (ap (λ g. ends_ok g (cell_at h c)) busy))
+hands_go_on h t c phases.Popping reached stands busy other = goes_on h t c phases.Popping (MergeAdd c) reached stands busy (inr refl) refl (here c) refl refl refl refl
+
+pub births_go_on : (h : Heap) (t c k : ℕ) (kind : Kind) → IsReached h → Stands h t → (row_at h t).hand ≡ hands.Busy phases.Ready c → is_mortal kind ≡ true → is_vacant (frame_at h t) k ≡ true
+    → enabled h (record { thread = t; step = Birth c kind k }) ≡ true
+births_go_on h t c k kind reached stands busy mortal vacant =
+    goes_on h t c phases.Ready (Birth c kind k) reached stands busy (inl refl) refl (here c) (and_both _ _ mortal vacant) refl refl refl
+
+-- ---- what a thread holds it can give up
+
+at_rest : (h : Heap) (t c : ℕ) (s : Step) → IsAtRest h t → may_after_leaving s ≡ true → needs_lock s ≡ false → hand_ok hands.Free s ≡ true → own_ok_at h t s ≡ true → others_ok h s ≡ true
+    → target_at h t s ≡ Some c → (cell_at h c).owner ≢ owners.Free → cell_ok h.limit t (row_at h t) s c (cell_at h c) ≡ true → enabled h (record { thread = t; step = s }) ≡ true
+at_rest h t c s rest may plain hand own others named taken cell = is_enabled h t s c (record {
+  stands = rest.stands;
+  unlocked = rest.unlocked;
+  not_closing = rest.not_closing;
+  stage = inr may;
+  no_lock = plain;
+  hand = ap (λ g. hand_ok g s) rest.hand ∙ hand;
+  own = own;
+  others = others;
+  named = named;
+  taken = taken;
+  cell = cell;
+})
+
+pub references_go : (h : Heap) (t c : ℕ) (drop : Dropped) → IsReached h → IsAtRest h t → dropped_cell (frame_at h t) (worklist_at h t) (entries_at h) drop ≡ Some c
+    → enabled h (record { thread = t; step = release_step t (row_at h t).stage c (cell_at h c) drop }) ≡ true
+references_go h t c drop reached rest named =
+    let sound : IsSound h = reached_sound h reached in
+    let taken : (cell_at h c).owner ≢ owners.Free = live_owner _ (held_live h c sound (dropped_held h t c drop named)) in
+    let P : Bool → Type 0 = λ b. enabled h (record { thread = t; step = if b then LocalDown drop else (if is_default (cell_at h c).state then Ask drop else LastDown (lasts.Dropped drop)) }) ≡ true in
+    elim (cases_Bool (is_immortal c || is_mine t (row_at h t).stage (cell_at h c))) [
+      | inl owns ↦ subst P (sym owns) (at_rest h t c (LocalDown drop) rest refl refl refl refl refl named taken owns)
+      | inr apart ↦
+          let others : (not (is_immortal c) && not (is_mine t (row_at h t).stage (cell_at h c))) ≡ true = neither (is_immortal c) (is_mine t (row_at h t).stage (cell_at h c)) apart in
+          subst P (sym apart) (elim (cases_Bool (is_default (cell_at h c).state)) [
+            | inl default ↦ subst (λ b. enabled h (record { thread = t; step = if b then Ask drop else LastDown (lasts.Dropped drop) }) ≡ true) (sym default)
+                (at_rest h t c (Ask drop) rest refl refl refl refl refl named taken others)
+            | inr asked ↦ subst (λ b. enabled h (record { thread = t; step = if b then Ask drop else LastDown (lasts.Dropped drop) }) ≡ true) (sym asked)
+                (at_rest h t c (LastDown (lasts.Dropped drop)) rest refl refl refl refl refl named taken (and_both _ _ (ap not asked) others))
+          ])
+    ]
+  where
+    neither : (a b : Bool) → (a || b) ≡ false → (not a && not b) ≡ true
+    neither true b off = absurd (true≢false off)
+    neither false true off = absurd (true≢false off)
+    neither false false off = refl
+
+pub popped_go : (h : Heap) (t c : ℕ) → IsReached h → IsAtRest h t → bit_of (popped_at h t) c ≡ 1 → enabled h (record { thread = t; step = popped_step c (cell_at h c) }) ≡ true
+popped_go h t c reached rest popped =
+    let sound : IsSound h = reached_sound h reached in
+    let tells : PoppedTells t (cell_at h c) = popped_tells h t c reached rest.hand popped in
+    let taken : (cell_at h c).owner ≢ owners.Free = live_owner _ (held_live h c sound (popped_held h t c popped)) in
+    let bit : (bit_of (popped_at h t) c == 1) ≡ true = eq-eqb _ _ popped in
+    elim tells [
+      | inl merged ↦ subst (λ b. enabled h (record { thread = t; step = if b then LastDown (lasts.Popped c) else Untie c }) ≡ true) (sym (ap is_merged merged))
+          (at_rest h t c (LastDown (lasts.Popped c)) rest refl refl refl bit refl refl taken (and_both _ _ (ap (λ s. not (is_default s)) merged) (ap is_merged merged)))
+      | inr own ↦ subst (λ b. enabled h (record { thread = t; step = if b then LastDown (lasts.Popped c) else Untie c }) ≡ true) (sym (ap is_merged own.1))
+          (at_rest h t c (Untie c) rest refl refl refl (ap (λ g. untie_ok g (popped_at h t) c) rest.hand ∙ bit) refl refl taken
+          (ap (λ g. untied_ok t g (cell_at h c)) rest.hand ∙ and_both _ _ (ap (is_owned_by t) own.0 ∙ here t) (ap is_queued own.1)))
+    ]
+
+pub blocks_go : (h : Heap) (t c : ℕ) → IsReached h → IsAtRest h t → is_marked (worklist_at h t) c ≡ true → entries_at h c ≡ [] → enabled h (record { thread = t; step = Free c }) ≡ true
+blocks_go h t c reached rest marked empty =
+    let sound : IsSound h = reached_sound h reached in
+    at_rest h t c (Free c) rest refl refl refl (and_both _ _ marked (ap (λ (xs : List ℕ). length xs == 0) empty)) refl refl (live_owner _ (sound.worklists t c marked).lives) refl

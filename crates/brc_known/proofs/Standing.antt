@@ -1,0 +1,137 @@
+-- What stands of a run: facts that last over others' events, blocks that nobody has locked, and threads that hold nothing.
+use Rattle.std.proofs.Common.{◌≡◌, ◌≢◌, ℕ, ◌/◌, ◌%◌, ◌<◌, ◌==◌, Bool, true, false, if◌then◌else◌, List, [], ◌∷◌, ◌++◌, length, get_or, set, Option, Some, None, refl, sym, ◌∙◌, ap, subst, inl, inr, arith}
+use Rattle.std.proofs.lemmas.List.{get_or-set_same, get_or_past}
+use Rattle.std.proofs.lemmas.Bool.{cases_eq, cases_lt, cases_Bool, ne_eqb, and_parts, eqb-true, true≢false}
+use Rattle.std.proofs.lemmas.Nat.Bits.{bit_at-zero}
+use Rattle.std.specs.Int.{bit_at}
+use Rattle.brc_runs.specs.declared.cell.Cell.{Cell}
+use Rattle.brc_runs.specs.declared.event.Event.{Event}
+use Rattle.brc_runs.specs.declared.event.Step.{Step}
+use Rattle.brc_runs.specs.declared.event.Step.TheVariants.{SeeZero, Free, MergeZero, LastDown, Enqueue, Register, Gather}
+use Rattle.brc_runs.specs.declared.row.Stage.TheVariants as stages
+use Rattle.brc_runs.specs.Lists.{is_marked, bit_of, with_bit}
+use Rattle.brc_runs.specs.Heap.{Heap, opening, cell_at, row_at, worklist_at, queue_at, is_gathered, no_cell, AreOptions}
+use Rattle.brc_runs.specs.Steps.{enabled, after, after_target, root_after, root_may, thread_may, target_at, cell_after, worklist_after, takes_block, is_active, is_closed, is_shut, queues_after, target_ok}
+use Rattle.brc_runs.specs.Runs.{IsRun, IsReached, world_after}
+use Rattle.brc_runs.specs.Sound.{IsSound}
+use Rattle.brc_known.specs.Staying.{is_about, AreAnothers, Lasts, HoldsNothing}
+use Rattle.brc_runs.proofs.Bitwise.{bit_inside, with_bit_here, with_bit_else}
+use Rattle.brc_runs.proofs.Changes.{read_here, read_there}
+use Rattle.brc_runs.proofs.Counting.{marked_unheld}
+use Rattle.brc_runs.proofs.Registering.{push_else}
+use Rattle.brc_runs.proofs.Asking.{May, may_parts, on_cell}
+use Rattle.brc_runs.proofs.Naming.{no_bit}
+use Rattle.brc_known.proofs.Lasting.{unheld_unlocked, other_number}
+use Rattle.brc_runs.proofs.Reached.{event_sound, reached_sound}
+
+-- ---- over a run
+
+-- each world of a run is reached
+pub run_reached : (cells limit : ℕ) (run : List Event) → AreOptions cells limit → IsRun (opening cells limit) run → IsReached (world_after (opening cells limit) run)
+run_reached cells limit run options is_run = record { cells = cells; limit = limit; options = options; run = run; is_run = is_run; leads_here = refl }
+
+-- what lasts over one event of another's lasts over any number of them
+pub lasts_over : (t : ℕ) (P : Heap → Type 0) → Lasts t P → (cells limit : ℕ) (later earlier : List Event) → AreOptions cells limit → AreAnothers t later → IsRun (opening cells limit) (later ++ earlier)
+    → P (world_after (opening cells limit) earlier) → P (world_after (opening cells limit) (later ++ earlier))
+lasts_over t P lasts cells limit [] earlier options others is_run holds = holds
+lasts_over t P lasts cells limit (e ∷ later) earlier options others is_run holds =
+    lasts (world_after (opening cells limit) (later ++ earlier)) e (run_reached cells limit (later ++ earlier) options is_run.0) is_run.1 others.0
+    (lasts_over t P lasts cells limit later earlier options others.1 is_run.0 holds)
+
+-- ---- blocks
+
+-- a step that takes a block leaves the mutex alone, and puts the cell on the worklist
+taken_mutex : (t : ℕ) (s : Step) (c : ℕ) (x : Cell) → takes_block s x ≡ true → (cell_after t s c x).mutex ≡ x.mutex
+taken_mutex t (SeeZero d) c x takes = refl
+taken_mutex t (MergeZero d) c x takes = refl
+taken_mutex t (LastDown last) c x takes = refl
+taken_mutex t _ c x takes = absurd (true≢false (sym takes))
+
+taken_work : (s : Step) (c : ℕ) (x : Cell) (worklist : List Bool) → takes_block s x ≡ true → worklist_after s c x worklist ≡ set worklist c true
+taken_work (Free d) c x worklist takes = absurd (true≢false (sym takes))
+taken_work (SeeZero d) c x worklist takes = ap (λ b. if b then set worklist c true else worklist) takes
+taken_work (MergeZero d) c x worklist takes = ap (λ b. if b then set worklist c true else worklist) takes
+taken_work (LastDown last) c x worklist takes = ap (λ b. if b then set worklist c true else worklist) takes
+taken_work _ c x worklist takes = absurd (true≢false (sym takes))
+
+-- at the step that takes a block nobody has locked it
+pub taken_unlocked : (h : Heap) (e : Event) (c : ℕ) → IsReached h → enabled h e ≡ true → e.thread ≢ 0 → target_at h e.thread e.step ≡ Some c → takes_block e.step (cell_at h c) ≡ true → (cell_at h c).mutex ≡ 0
+taken_unlocked h e c reached ok thread named takes =
+    let sound : IsSound h = reached_sound h reached in
+    let moved : Heap = after_target h e.thread e.step (target_at h e.thread e.step) in
+    let off : (e.thread == 0) ≡ false = ne_eqb e.thread 0 thread in
+    let may : May h e.thread e.step = may_parts h e.thread e.step (subst (λ b. (if b then root_may h e.step else thread_may h e.thread e.step) ≡ true) off ok) in
+    let is : after h e ≡ after_target h e.thread e.step (Some c) = ap (λ b. if b then root_after h e.step else moved) off ∙ ap (after_target h e.thread e.step) named in
+    let new : IsSound (after_target h e.thread e.step (Some c)) = subst IsSound is (event_sound h e sound ok) in
+    let inside : c < length h.cells = (on_cell h e.thread e.step c (subst (λ o. target_ok h e.thread (row_at h e.thread) e.step o ≡ true) named may.on_target)).inside in
+    let within : c < length (worklist_at h e.thread) = omega (arith, sound.shaped.marks e.thread may.some_thread may.inside, inside) in
+    let at_works : e.thread < length h.worklists = omega (arith, sound.shaped.worklists, may.inside) in
+    let marked : is_marked (worklist_at (after_target h e.thread e.step (Some c)) e.thread) c ≡ true =
+    ap (λ marks. is_marked marks c) (read_here h.worklists e.thread _ [] at_works ∙ taken_work e.step c (cell_at h c) (worklist_at h e.thread) takes) ∙ get_or-set_same (worklist_at h e.thread) c true false within in
+    sym (ap (λ (x : Cell). x.mutex) (read_here h.cells c (cell_after e.thread e.step c (cell_at h c)) no_cell inside) ∙ taken_mutex e.thread e.step c (cell_at h c) takes)
+    ∙ unheld_unlocked (after_target h e.thread e.step (Some c)) c new (marked_unheld (after_target h e.thread e.step (Some c)) e.thread c new marked)
+
+-- ---- a thread's merge queue
+
+-- a bit of a thread's queue stays until the thread takes it
+set_stays : (words : List ℕ) (c q : ℕ) → bit_of words q ≡ 1 → bit_of (with_bit words c) q ≡ 1
+set_stays words c q on = elim (cases_eq q c) [
+  | inl same ↦ ap (λ i. bit_of (with_bit words c) i) same ∙ with_bit_here words c (subst (λ i. i / 32 < length words) same (bit_inside words q (omega (arith, on))))
+  | inr other ↦ with_bit_else words c q other ∙ on
+]
+
+pub queued_lasts : (t q : ℕ) → Lasts t (λ h. bit_of (queue_at h t) q ≡ 1)
+queued_lasts t q h e reached ok others on =
+    let sound : IsSound h = reached_sound h reached in
+    let moved : Heap = after_target h e.thread e.step (target_at h e.thread e.step) in
+    elim (cases_Bool (e.thread == 0)) [
+      | inl root ↦ subst (λ b. bit_of (queue_at (if b then root_after h e.step else moved) t) q ≡ 1) (sym root)
+          (by_root e.step (subst (λ b. (if b then root_may h e.step else thread_may h e.thread e.step) ≡ true) root ok) others.apart sound)
+      | inr thread ↦ subst (λ b. bit_of (queue_at (if b then root_after h e.step else moved) t) q ≡ 1) (sym thread) (by_thread e.thread e.step (target_at h e.thread e.step) others.other)
+    ]
+  where
+    by_root : (s : Step) → root_may h s ≡ true → is_about t s ≡ false → IsSound h → bit_of (queue_at (root_after h s) t) q ≡ 1
+    by_root (Register u) ok apart sound =
+        let next : u ≡ length h.rows = eqb-true u (length h.rows) (and_parts _ _ ok).0 in
+        ap (λ ws. bit_of ws q) (push_else h.queues _ [] t (λ same. other_number u t apart (same ∙ sound.shaped.queues ∙ sym next))) ∙ on
+    by_root (Gather u) ok apart sound = on
+    by_root _ ok apart sound = on
+
+    by_step : (u : ℕ) (s : Step) (c : ℕ) → bit_of (get_or (queues_after h s c) t []) q ≡ 1
+    by_step u (Enqueue d) c = elim (cases_Bool (is_shut h c)) [
+      | inl shut ↦ ap (λ b. let queues : List (List ℕ) = if b then h.queues else set h.queues (cell_at h c).bearer (with_bit (queue_at h (cell_at h c).bearer) c) in bit_of (get_or queues t []) q) shut ∙ on
+      | inr apart ↦ ap (λ b. let queues : List (List ℕ) = if b then h.queues else set h.queues (cell_at h c).bearer (with_bit (queue_at h (cell_at h c).bearer) c) in bit_of (get_or queues t []) q) apart
+          ∙ elim (cases_eq t (cell_at h c).bearer) [
+            | inr other ↦ ap (λ (ws : List ℕ). bit_of ws q) (read_there h.queues (cell_at h c).bearer t _ [] other) ∙ on
+            | inl same ↦ elim (cases_lt (cell_at h c).bearer (length h.queues)) [
+              | inl inside ↦ ap (λ j. bit_of (get_or (set h.queues (cell_at h c).bearer (with_bit (queue_at h (cell_at h c).bearer) c)) j []) q) same
+                  ∙ ap (λ (ws : List ℕ). bit_of ws q) (read_here h.queues (cell_at h c).bearer _ [] inside)
+                  ∙ set_stays (queue_at h (cell_at h c).bearer) c q (ap (λ j. bit_of (queue_at h j) q) (sym same) ∙ on)
+              | inr past ↦ absurd (omega (arith, on, ap (λ (ws : List ℕ). bit_of ws q) (ap (queue_at h) same ∙ get_or_past h.queues (cell_at h c).bearer [] past), no_bit q))
+            ]
+          ]
+    ]
+    by_step u _ c = on
+
+    by_thread : (u : ℕ) (s : Step) (o : Option ℕ) → u ≢ t → bit_of (queue_at (after_target h u s o) t) q ≡ 1
+    by_thread u s None other = ap (λ (ws : List ℕ). bit_of ws q) (read_there h.queues u t _ [] (λ same. other (sym same))) ∙ on
+    by_thread u s (Some c) other = by_step u s c
+
+-- ---- threads that are gathered
+
+-- a gathered thread holds nothing: no place, no popped entry, no queued one, no dead block, no lock
+pub gathered_hold_nothing : (h : Heap) (t : ℕ) → IsReached h → is_gathered h t ≡ true → HoldsNothing h t
+gathered_hold_nothing h t reached gathered =
+    let sound : IsSound h = reached_sound h reached in
+    let fits = sound.threads t in
+    let left : (row_at h t).stage ≡ stages.Left = fits.gathered_left gathered in
+    let idle : is_active (row_at h t).stage ≡ false = ap is_active left in
+    record {
+      left = left;
+      hand = fits.gathered_hand gathered;
+      unlocked = fits.inactive_lock idle;
+      frame = fits.inactive_frame idle;
+      popped = λ q. (fits.gathered_work gathered q).1;
+      queue = λ q. ap (λ w. bit_at w (q % 32)) (fits.closed (q / 32) (ap (λ g. is_closed g (q / 32)) left)) ∙ bit_at-zero (q % 32);
+      worklist = λ q. (fits.gathered_work gathered q).0;
+    }

@@ -1,0 +1,4 @@
+pub mod Moving
+pub mod Handing
+pub mod Exchanging
+pub mod Allowing
