@@ -1,15 +1,18 @@
 -- A keyword is read as it was spelled, and only so; words of one length are told apart by their bytes as one number.
-use Rattle.std.proofs.Common.{◌≡◌, ℕ, suc, ◌+◌, ◌*◌, ◌^◌, ◌<◌, ◌≤◌, rules, Bool, true, false, eqb, ◌&&◌, List, [], ◌∷◌, length, get_or, drop, Option, Some, None, refl, sym, ap, subst, ◌∙◌, cond, arith, add-one}
+use Rattle.std.proofs.Common.{◌≡◌, ℕ, zero, suc, ◌+◌, ◌*◌, ◌^◌, ◌<◌, ◌≤◌, rules, Bool, true, false, eqb, ◌&&◌, List, [], ◌∷◌, ◌++◌, length, get_or, take, drop, inl, inr, Option, Some, None, refl, sym, ap, subst, ◌∙◌, cond, arith, add-one}
 use Rattle.std.specs.List.{find}
 use Rattle.std.specs.Str.{bytes_eq}
 use Rattle.std.proofs.Math.Nat.{pow-suc, pow-le-pow_right}
-use Rattle.std.proofs.Math.Seq.{drop-cons}
+use Rattle.std.proofs.Math.Seq.{take-append_seam, drop-append_seam}
+use Rattle.std.proofs.lemmas.List.{take_more, length-take-le, get_or-take}
 use Rattle.std.proofs.lemmas.Option.{same_Some}
-use Rattle.std.proofs.lemmas.Bool.{eqb-true, eq-eqb, and_parts, and_from}
+use Rattle.std.proofs.lemmas.Bool.{cases_lt, eqb-true, eq-eqb, and_parts, and_from}
 use Rattle.std.proofs.lemmas.Slice.Eq.{bytes_eq-Decides}
 use Rattle.brc_text.specs.declared.keyword.Keyword.{Keyword}
 use Rattle.brc_text.specs.declared.keyword.Keyword.TheVariants as words
 use Rattle.brc_text.specs.Keywords.{keyword, packed, candidates_at, keyword_at}
+use Rattle.brc_text.specs.Words.{AreLetters, EndsWord}
+use Rattle.brc_text.proofs.NumberLaws.{front_byte, next_byte}
 
 pub same_some : {A : Type 0} {x y : A} → Some x ≡ Some y → x ≡ y
 same_some {x = x} {y = y} e = same_Some x y e
@@ -50,12 +53,6 @@ pub keyword_short : (k : Keyword) → length (keyword k) ≤ 8
 keyword_short words.Heap = omega arith
 keyword_short _ = omega arith
 
-pub empty_is_none : (bytes : List ℕ) → length bytes ≡ 0 → keyword_at bytes ≡ None
-empty_is_none bytes none = no_keyword bytes (λ k e. omega (arith, keyword_some k, ap length e, none))
-
-pub long_is_none : (bytes : List ℕ) → 8 < length bytes → keyword_at bytes ≡ None
-long_is_none bytes long = no_keyword bytes (λ k e. omega (arith, keyword_short k, ap length e, long))
-
 -- ---- bytes as one number
 
 -- each number fits a byte
@@ -67,19 +64,29 @@ pub are_bytes : (bytes : List ℕ) → ((i : ℕ) → get_or bytes i 0 < 256) �
 are_bytes [] each = tt
 are_bytes (byte ∷ bytes) each = (each 0, are_bytes bytes (λ i. each (suc i)))
 
+bytes_taken : (count : ℕ) (bytes : List ℕ) → AreBytes bytes → AreBytes (take count bytes)
+bytes_taken zero bytes all = tt
+bytes_taken (suc count) [] all = tt
+bytes_taken (suc count) (byte ∷ bytes) all = (all.0, bytes_taken count bytes all.1)
+
 keyword_bytes : (k : Keyword) → AreBytes (keyword k)
 keyword_bytes words.Heap = search rules
 keyword_bytes _ = search rules
 
--- what is packed is one more byte and what is packed behind it
-pub packed_more : (key : ℕ) (bytes : List ℕ) (i : ℕ) → i < length bytes
-    → packed key (drop i bytes) ≡ packed (key * 256 + get_or bytes i 0) (drop (i + 1) bytes)
-packed_more key bytes i within = ap (packed key) (drop-cons bytes i 0 within) ∙ ap (λ (n : ℕ). packed (key * 256 + get_or bytes i 0) (drop n bytes)) (sym (add-one i))
+-- one more byte is packed behind the others
+packed_last : (before : ℕ) (bytes : List ℕ) (byte : ℕ) → packed before (bytes ++ (byte ∷ [])) ≡ packed before bytes * 256 + byte
+packed_last before [] byte = refl
+packed_last before (first ∷ bytes) byte = packed_last (before * 256 + first) bytes byte
 
--- the bytes so far are a number below 256 for each of them
-pub record HasPacked (bytes : List ℕ) (i key : ℕ) : Type 0 where
-  pub so_far : packed key (drop i bytes) ≡ packed 0 bytes
+pub packed_more : (text : List ℕ) (i key : ℕ) → i < length text → key ≡ packed 0 (take i text) → key * 256 + get_or text i 0 ≡ packed 0 (take (i + 1) text)
+packed_more text i key within is =
+    ap (λ (n : ℕ). n * 256 + get_or text i 0) is ∙ sym (packed_last 0 (take i text) (get_or text i 0)) ∙ ap (packed 0) (sym (take_more text i 0 within))
+
+-- the letters so far, as a number below 256 for each of them
+pub record HasPacked (text : List ℕ) (i key : ℕ) : Type 0 where
+  pub so_far : key ≡ packed 0 (take i text)
   pub fits : key < 256 ^ i
+  pub high : (k : ℕ) → k < i → 32 < get_or text k 0
 
 pub one_fits : (i key byte : ℕ) → i < 8 → key < 256 ^ i → byte < 256 → key * 256 + byte < 256 ^ (i + 1)
 one_fits i key byte few fits small = let next : 256 ^ (i + 1) ≡ 256 ^ i * 256 = ap (λ (n : ℕ). 256 ^ n) (add-one i) ∙ pow-suc 256 i in omega (arith, next, fits, small)
@@ -127,3 +134,64 @@ find_alike p q (x ∷ xs) same = rw (same x, find_alike p q xs same) refl
 pub found_packed : (bytes : List ℕ) → AreBytes bytes → find (is_packed bytes) (candidates_at (get_or bytes 0 0)) ≡ keyword_at bytes
 unfolding keyword_at
 found_packed bytes all = find_alike (is_packed bytes) (λ word. bytes_eq (keyword word) bytes) (candidates_at (get_or bytes 0 0)) (λ word. is_spelled bytes word all)
+
+-- ---- the keyword with which a text begins
+
+-- each byte is above the space
+abbrev pub AreHigh : List ℕ → Type 0
+AreHigh [] = Unit {0}
+AreHigh (byte ∷ bytes) = (32 < byte) × AreHigh bytes
+
+keyword_high : (k : Keyword) → AreHigh (keyword k)
+keyword_high words.Heap = search rules
+keyword_high _ = search rules
+
+high_at : (bytes : List ℕ) (i : ℕ) → AreHigh bytes → i < length bytes → 32 < get_or bytes i 0
+high_at [] i high within = absurd (omega arith)
+high_at (byte ∷ bytes) zero high within = high.0
+high_at (byte ∷ bytes) (suc i) high within = high_at bytes i high.1 (omega (arith, within))
+
+-- the letters of a text that begins with a keyword are this keyword's
+pub letters_are : (text word rest : List ℕ) (k : Keyword) (count key : ℕ) → AreLetters text count key → text ≡ word ++ rest → EndsWord rest → keyword_at word ≡ Some k
+    → count ≡ length word
+letters_are text word rest k count key are whole ends spells =
+    let spelled = keyword_takes word k spells in
+    let high : (i : ℕ) → i < length word → 32 < get_or word i 0 = λ i within.
+        subst (λ (b : List ℕ). 32 < get_or b i 0) (sym spelled) (high_at (keyword k) i (keyword_high k) (subst (λ (b : List ℕ). i < length b) spelled within)) in
+    let short : length word ≤ 8 = subst (λ (b : List ℕ). length b ≤ 8) (sym spelled) (keyword_short k) in
+    elim (cases_lt count (length word)) [
+      | inl less ↦
+        let above = subst (λ (b : ℕ). 32 < b) (sym (front_byte text word rest count whole less)) (high count less) in
+        absurd (omega (arith, above, are.ended (omega (arith, less, short))))
+      | inr not_less ↦ elim (cases_lt (length word) count) [
+        | inl more ↦
+          let above = subst (λ (b : ℕ). 32 < b) (next_byte text word rest whole) (are.high (length word) more) in
+          absurd (omega (arith, above, ends))
+        | inr not_more ↦ omega (arith, not_less, not_more)
+      ]
+    ]
+
+-- what the letters spell is a keyword's first part
+pub letters_found : (text : List ℕ) (count key : ℕ) (found : Option Keyword) → AreLetters text count key → AreBytes text → 0 < count
+    → found ≡ find (λ word. eqb (length (keyword word)) count && eqb (packed 0 (keyword word)) key) (candidates_at (get_or text 0 0)) → found ≡ keyword_at (take count text)
+letters_found text count key found are bytes some is =
+    let front = take count text in
+    let long : length front ≡ count = length-take-le count text are.within in
+    let first : get_or text 0 0 ≡ get_or front 0 0 = sym (get_or-take count text 0 0 some) in
+    let look : ℕ → ℕ → ℕ → Option Keyword = λ c n b. find (λ word. eqb (length (keyword word)) c && eqb (packed 0 (keyword word)) n) (candidates_at b) in
+    is ∙ ap (λ (c : ℕ). look c key (get_or text 0 0)) (sym long) ∙ ap (λ (n : ℕ). look (length front) n (get_or text 0 0)) are.key_is
+    ∙ ap (λ (b : ℕ). look (length front) (packed 0 front) b) first ∙ found_packed front (bytes_taken count text bytes)
+
+pub no_letters : (text word rest : List ℕ) (k : Keyword) (count key : ℕ) → AreLetters text count key → text ≡ word ++ rest → EndsWord rest → keyword_at word ≡ Some k
+    → count ≡ 0 → ⊥
+no_letters text word rest k count key are whole ends spells none =
+    let spelled = keyword_takes word k spells in
+    omega (arith, keyword_some k, ap length spelled, letters_are text word rest k count key are whole ends spells, none)
+
+-- the word that is a keyword is what the letters are
+pub letters_spell : (text word rest : List ℕ) (k : Keyword) (count key : ℕ) → AreLetters text count key → text ≡ word ++ rest → EndsWord rest → keyword_at word ≡ Some k
+    → (keyword_at (take count text) ≡ Some k) × (drop count text ≡ rest)
+letters_spell text word rest k count key are whole ends spells =
+    let at = letters_are text word rest k count key are whole ends spells in
+    let same : take count text ≡ word = ap (λ (i : ℕ). take i text) at ∙ ap (take (length word)) whole ∙ take-append_seam word rest in
+    (ap keyword_at same ∙ spells, ap (λ (i : ℕ). drop i text) at ∙ ap (drop (length word)) whole ∙ drop-append_seam word rest)

@@ -1,5 +1,6 @@
 -- Lines and their words are read as they were spelled, and only so.
-use Rattle.std.proofs.Common.{◌≡◌, ℕ, zero, suc, ◌+◌, ◌<◌, ◌≤◌, Bool, true, false, not, cond, eqb, ◌&&◌, List, [], ◌∷◌, ◌++◌, length, get_or, take, drop, Option, Some, None, refl, sym, ap, subst, ◌∙◌, append_assoc, append-nil, decimal, arith}
+use Rattle.std.proofs.Common.{◌≡◌, ℕ, zero, suc, ◌+◌, ◌<◌, ◌≤◌, Bool, true, false, not, cond, eqb, ◌&&◌, List, [], ◌∷◌, ◌++◌, length, get_or, take, drop, Option, Some, None, refl, sym, ap, subst, inl, inr, ◌∙◌, append_assoc, append-nil, decimal, arith}
+use Rattle.std.specs.Prelude.{◌⊎◌}
 use Rattle.std.specs.List.{flat_map, AllByRecursion}
 use Rattle.std.specs.Option.{option_map}
 use Rattle.std.specs.Str.Parse.{AllDigits}
@@ -17,6 +18,7 @@ use Rattle.brc_text.specs.declared.token.Token.TheVariants as tokens
 use Rattle.brc_text.specs.Keywords.{keyword}
 use Rattle.brc_text.specs.Tokens.{◌>>=◌, token, token_at, letter, IsRead}
 use Rattle.brc_text.specs.Lines.{cut, lacks, end_of, IsWord, first_line, tokens_at, words_from, spaced, before_line, pieces}
+use Rattle.brc_text.specs.Words.{Begins}
 use Rattle.brc_text.proofs.NumberLaws.{numerals}
 use Rattle.brc_text.proofs.KeywordLaws.{same_some}
 use Rattle.brc_text.proofs.TokenLaws.{token_again, token_takes, some_bind}
@@ -64,13 +66,13 @@ cut_here mark bytes i within front here =
     ap (cut mark) parts ∙ cut_until mark (take i bytes) (drop (i + 1) bytes) front
 
 -- the mark and what stands behind it
-abbrev pub behind : ℕ → Option (List ℕ) → List ℕ
-behind mark None = []
-behind mark (Some rest) = mark ∷ rest
+abbrev pub behind_mark : ℕ → Option (List ℕ) → List ℕ
+behind_mark mark None = []
+behind_mark mark (Some rest) = mark ∷ rest
 
 pub record IsCut (mark : ℕ) (bytes : List ℕ) (parts : List ℕ × Option (List ℕ)) : Type 0 where
   pub lack : lacks mark parts.0 ≡ true
-  pub joined : bytes ≡ parts.0 ++ behind mark parts.1
+  pub joined : bytes ≡ parts.0 ++ behind_mark mark parts.1
 
 cut_first : (mark byte : ℕ) (bytes : List ℕ) (parts : List ℕ × Option (List ℕ)) (b : Bool) → eqb byte mark ≡ b → IsCut mark bytes parts
     → IsCut mark (byte ∷ bytes) (cond b ([], Some bytes) (byte ∷ parts.0, parts.1))
@@ -84,6 +86,40 @@ pub cut_parts : (mark : ℕ) (bytes : List ℕ) → IsCut mark bytes (cut mark b
 unfolding cut
 cut_parts mark [] = record { lack = refl; joined = refl }
 cut_parts mark (byte ∷ bytes) = cut_first mark byte bytes (cut mark bytes) (eqb byte mark) refl (cut_parts mark bytes)
+
+digits_lack : (mark : ℕ) (ds : List ℕ) → mark < 48 → AllDigits 10 ds → lacks mark ds ≡ true
+digits_lack mark [] low all = refl
+digits_lack mark (d ∷ ds) low all =
+    let range = digit_from_value d all.0 in
+    rw (ne_eqb d mark (λ e. omega (arith, range.0, e))) (digits_lack mark ds low all.1)
+
+keyword_lacks_space : (k : Keyword) → lacks 32 (keyword k) ≡ true
+keyword_lacks_space words.Heap = refl
+keyword_lacks_space _ = refl
+
+keyword_lacks_feed : (k : Keyword) → lacks 10 (keyword k) ≡ true
+keyword_lacks_feed words.Heap = refl
+keyword_lacks_feed _ = refl
+
+letter_lacks_space : (l : Letter) → lacks 32 (letter l ∷ []) ≡ true
+letter_lacks_space letters.Frame = refl
+letter_lacks_space _ = refl
+
+letter_lacks_feed : (l : Letter) → lacks 10 (letter l ∷ []) ≡ true
+letter_lacks_feed letters.Frame = refl
+letter_lacks_feed _ = refl
+
+pub token_lacks_space : (t : Token) → IsRead t → lacks 32 (token t) ≡ true
+token_lacks_space (tokens.Number n) h = digits_lack 32 (decimal n) (omega arith) (digits_decimal numerals n h)
+token_lacks_space (tokens.Negative n) h = absurd h
+token_lacks_space (tokens.Place l n) h = lacks-append 32 (letter l ∷ []) (decimal n) (letter_lacks_space l) (digits_lack 32 (decimal n) (omega arith) (digits_decimal numerals n h))
+token_lacks_space (tokens.Word k) h = keyword_lacks_space k
+
+pub token_lacks_feed : (t : Token) → IsRead t → lacks 10 (token t) ≡ true
+token_lacks_feed (tokens.Number n) h = digits_lack 10 (decimal n) (omega arith) (digits_decimal numerals n h)
+token_lacks_feed (tokens.Negative n) h = absurd h
+token_lacks_feed (tokens.Place l n) h = lacks-append 10 (letter l ∷ []) (decimal n) (letter_lacks_feed l) (digits_lack 10 (decimal n) (omega arith) (digits_decimal numerals n h))
+token_lacks_feed (tokens.Word k) h = keyword_lacks_feed k
 
 -- ---- the words of a line
 
@@ -102,9 +138,6 @@ after front read = option_map (λ line. (front ++ line.0, line.1)) read
 no_feed : (most : ℕ) (text : List ℕ) → lacks 10 text ≡ true → first_line most text ≡ None
 unfolding first_line
 no_feed most text h = rw (cut_whole 10 text h) refl
-
-pub no_end : (most : ℕ) (front : List Token) (text : List ℕ) → lacks 10 text ≡ true → after front (first_line most text) ≡ None
-no_end most front text h = rw (no_feed most text h) refl
 
 abbrev alone : List ℕ → Token → Option (List Token × List ℕ)
 alone rest token = Some (token ∷ [], rest)
@@ -148,10 +181,50 @@ after_after : (front : List Token) (token : Token) (read : Option (List Token ×
 after_after front token None = refl
 after_after front token (Some line) = ap (λ (l : List Token). Some (l, line.1)) (sym (append_assoc front (token ∷ []) line.0))
 
-pub no_token : (most : ℕ) (front : List Token) (text word rest : List ℕ) (last : Bool) → IsWord text word last rest → token_at word ≡ None
-    → after front (first_line (suc most) text) ≡ None
-no_token most front text word rest true is none = rw (last_line most text word rest is, none) refl
-no_token most front text word rest false is none = rw (longer_line most text word rest is, none) refl
+-- a space or a line feed stands first
+abbrev pub IsEnd : List ℕ → Type 0
+IsEnd rest = (get_or rest 0 0 ≡ 32) ⊎ (get_or rest 0 0 ≡ 10)
+
+-- where no word ends before a space or a line feed that is a token, there is no line
+pub no_token : (most : ℕ) (front : List Token) (text : List ℕ)
+    → ((word rest : List ℕ) (t : Token) → text ≡ word ++ rest → IsEnd rest → token_at word ≡ Some t → ⊥) → after front (first_line (suc most) text) ≡ None
+unfolding first_line tokens_at
+no_token most front text none = ap (after front) (by_line (cut 10 text).1 refl)
+  where
+    by_word : (behind : List ℕ) (o : Option Token) → (cut 10 text).1 ≡ Some behind → token_at (cut 32 (cut 10 text).0).0 ≡ o → o ≡ None
+    by_word behind None ended word = refl
+    by_word behind (Some t) ended word = absurd (by_space (cut 32 (cut 10 text).0).1 refl)
+      where
+        joined : text ≡ (cut 10 text).0 ++ (10 ∷ behind)
+        joined = (cut_parts 10 text).joined ∙ ap (λ (o : Option (List ℕ)). (cut 10 text).0 ++ behind_mark 10 o) ended
+        first : List ℕ
+        first = (cut 32 (cut 10 text).0).0
+        whole : (back : Option (List ℕ)) → (cut 32 (cut 10 text).0).1 ≡ back → text ≡ first ++ (behind_mark 32 back ++ (10 ∷ behind))
+        whole back is =
+            joined ∙ ap (λ (l : List ℕ). l ++ (10 ∷ behind)) ((cut_parts 32 (cut 10 text).0).joined ∙ ap (λ (o : Option (List ℕ)). first ++ behind_mark 32 o) is)
+            ∙ append_assoc first (behind_mark 32 back) (10 ∷ behind)
+        by_space : (back : Option (List ℕ)) → (cut 32 (cut 10 text).0).1 ≡ back → ⊥
+        by_space None is = none first (10 ∷ behind) t (whole None is) (inr refl) word
+        by_space (Some rest) is = none first ((32 ∷ rest) ++ (10 ∷ behind)) t (whole (Some rest) is) (inl refl) word
+    by_line : (behind : Option (List ℕ)) → (cut 10 text).1 ≡ behind → first_line (suc most) text ≡ None
+    by_line None open_end = rw open_end refl
+    by_line (Some behind) ended = rw (ended, by_word behind (token_at (cut 32 (cut 10 text).0).0) ended refl) refl
+
+-- what stands first, and the rest
+pub first_and_rest : (left : List ℕ) (byte : ℕ) → 0 < length left → get_or left 0 0 ≡ byte → left ≡ byte ∷ drop 1 left
+first_and_rest [] byte some is = absurd (omega arith)
+first_and_rest (first ∷ left) byte some is = ap (λ (b : ℕ). b ∷ left) is
+
+-- a token that was found, and the space or line feed behind it
+pub word_found : (text rest left : List ℕ) (token : Token) (last : Bool) → Begins token_at text token left → left ≡ end_of last ∷ rest
+    → (word : List ℕ) × IsWord text word last rest × (token_at word ≡ Some token)
+word_found text rest left token last begins ends =
+    let is = token_takes begins.word token begins.reads in
+    (begins.word, record {
+      no_space = ap (lacks 32) is.1 ∙ token_lacks_space token is.0;
+      no_feed = ap (lacks 10) is.1 ∙ token_lacks_feed token is.0;
+      whole = begins.whole ∙ ap (λ (l : List ℕ). begins.word ++ l) ends;
+    }, begins.reads)
 
 pub last_word : (most : ℕ) (front : List Token) (text word rest : List ℕ) (last : Bool) (token : Token) → IsWord text word last rest → last ≡ true → token_at word ≡ Some token
     → after front (first_line (suc most) text) ≡ Some (front ++ (token ∷ []), rest)
@@ -170,40 +243,6 @@ no_more front text = by_back (cut 10 text).1
     by_back : (back : Option (List ℕ)) → after front (back >>= λ rest. None) ≡ None
     by_back None = refl
     by_back (Some rest) = refl
-
-digits_lack : (mark : ℕ) (ds : List ℕ) → mark < 48 → AllDigits 10 ds → lacks mark ds ≡ true
-digits_lack mark [] low all = refl
-digits_lack mark (d ∷ ds) low all =
-    let range = digit_from_value d all.0 in
-    rw (ne_eqb d mark (λ e. omega (arith, range.0, e))) (digits_lack mark ds low all.1)
-
-keyword_lacks_space : (k : Keyword) → lacks 32 (keyword k) ≡ true
-keyword_lacks_space words.Heap = refl
-keyword_lacks_space _ = refl
-
-keyword_lacks_feed : (k : Keyword) → lacks 10 (keyword k) ≡ true
-keyword_lacks_feed words.Heap = refl
-keyword_lacks_feed _ = refl
-
-letter_lacks_space : (l : Letter) → lacks 32 (letter l ∷ []) ≡ true
-letter_lacks_space letters.Frame = refl
-letter_lacks_space _ = refl
-
-letter_lacks_feed : (l : Letter) → lacks 10 (letter l ∷ []) ≡ true
-letter_lacks_feed letters.Frame = refl
-letter_lacks_feed _ = refl
-
-pub token_lacks_space : (t : Token) → IsRead t → lacks 32 (token t) ≡ true
-token_lacks_space (tokens.Number n) h = digits_lack 32 (decimal n) (omega arith) (digits_decimal numerals n h)
-token_lacks_space (tokens.Negative n) h = absurd h
-token_lacks_space (tokens.Place l n) h = lacks-append 32 (letter l ∷ []) (decimal n) (letter_lacks_space l) (digits_lack 32 (decimal n) (omega arith) (digits_decimal numerals n h))
-token_lacks_space (tokens.Word k) h = keyword_lacks_space k
-
-pub token_lacks_feed : (t : Token) → IsRead t → lacks 10 (token t) ≡ true
-token_lacks_feed (tokens.Number n) h = digits_lack 10 (decimal n) (omega arith) (digits_decimal numerals n h)
-token_lacks_feed (tokens.Negative n) h = absurd h
-token_lacks_feed (tokens.Place l n) h = lacks-append 10 (letter l ∷ []) (decimal n) (letter_lacks_feed l) (digits_lack 10 (decimal n) (omega arith) (digits_decimal numerals n h))
-token_lacks_feed (tokens.Word k) h = keyword_lacks_feed k
 
 others_lack_feed : (ts : List Token) → AllByRecursion IsRead ts → lacks 10 (flat_map (λ word. 32 ∷ token word) ts) ≡ true
 others_lack_feed [] h = refl
@@ -243,7 +282,7 @@ spaced_more word (u ∷ us) some = refl
 
 rest_takes : (most : ℕ) (bytes front : List ℕ) (back : Option (List ℕ)) (word : Token) (ts : List Token)
     → ((rest : List ℕ) (us : List Token) → tokens_at most rest ≡ Some us → AreWords most rest us)
-    → IsRead word → bytes ≡ front ++ behind 32 back → front ≡ token word
+    → IsRead word → bytes ≡ front ++ behind_mark 32 back → front ≡ token word
     → words_from word (tokens_at most) back ≡ Some ts → AreWords (suc most) bytes ts
 rest_takes most bytes front None word ts again fits parts first e =
     subst (AreWords (suc most) bytes) (same_some e) (record {
@@ -310,7 +349,7 @@ pieces_joined (byte ∷ bytes) = whole_first byte bytes (pieces bytes) (eqb byte
 pub pieces_ended : (bytes rest : List ℕ) → (cut 10 bytes).1 ≡ Some rest → pieces bytes ≡ ((cut 10 bytes).0, true) ∷ pieces rest
 pieces_ended bytes rest h =
     let parts = cut_parts 10 bytes in
-    let joined : bytes ≡ (cut 10 bytes).0 ++ (10 ∷ rest) = parts.joined ∙ ap (λ (o : Option (List ℕ)). (cut 10 bytes).0 ++ behind 10 o) h in
+    let joined : bytes ≡ (cut 10 bytes).0 ++ (10 ∷ rest) = parts.joined ∙ ap (λ (o : Option (List ℕ)). (cut 10 bytes).0 ++ behind_mark 10 o) h in
     ap pieces joined ∙ pieces_line (cut 10 bytes).0 rest parts.lack
 
 -- a text without a line feed is one line that none ends
@@ -319,12 +358,12 @@ pieces_open [] some h = absurd (omega arith)
 pieces_open (byte ∷ bytes) some h =
     let parts = cut_parts 10 (byte ∷ bytes) in
     let joined : byte ∷ bytes ≡ (cut 10 (byte ∷ bytes)).0 =
-    parts.joined ∙ ap (λ (o : Option (List ℕ)). (cut 10 (byte ∷ bytes)).0 ++ behind 10 o) h ∙ append-nil (cut 10 (byte ∷ bytes)).0 in
+    parts.joined ∙ ap (λ (o : Option (List ℕ)). (cut 10 (byte ∷ bytes)).0 ++ behind_mark 10 o) h ∙ append-nil (cut 10 (byte ∷ bytes)).0 in
     pieces_last byte bytes (ap (lacks 10) joined ∙ parts.lack)
 
 -- what stands behind a mark is shorter than the whole
 pub cut_shorter : (mark : ℕ) (bytes rest : List ℕ) → (cut mark bytes).1 ≡ Some rest → length rest < length bytes
 cut_shorter mark bytes rest h =
     let joined : bytes ≡ (cut mark bytes).0 ++ (mark ∷ rest) =
-    (cut_parts mark bytes).joined ∙ ap (λ (o : Option (List ℕ)). (cut mark bytes).0 ++ behind mark o) h in
+    (cut_parts mark bytes).joined ∙ ap (λ (o : Option (List ℕ)). (cut mark bytes).0 ++ behind_mark mark o) h in
     omega (arith, ap length joined, length-append (cut mark bytes).0 (mark ∷ rest))

@@ -1,12 +1,14 @@
 -- A token is read as it was spelled, and only so.
-use Rattle.std.proofs.Common.{◌≡◌, ℕ, ◌<◌, ◌≤◌, get_or, Bool, true, false, true≢false, eqb, leb, List, [], ◌∷◌, Option, Some, None, refl, sym, ap, subst, ◌∙◌, decimal, arith, cond}
+use Rattle.std.proofs.Common.{◌≡◌, ℕ, ◌<◌, ◌≤◌, length, get_or, drop, ◌++◌, inl, inr, Bool, true, false, true≢false, eqb, leb, List, [], ◌∷◌, Option, Some, None, refl, sym, ap, subst, ◌∙◌, decimal, arith, cond}
+use Rattle.std.specs.Prelude.{IfSome}
 use Rattle.std.specs.List.{find}
 use Rattle.std.specs.Str.{bytes_eq}
 use Rattle.std.specs.Fmt.{digits}
 use Rattle.std.specs.Int.{IsInRange}
 use Rattle.std.specs.Char.{is_ascii_digit}
-use Rattle.std.proofs.lemmas.Option.{same_Some}
-use Rattle.std.proofs.lemmas.Bool.{eqb-true, leb-true, le-leb, and_parts, and_from}
+use Rattle.std.proofs.lemmas.List.{get_or_past}
+use Rattle.std.proofs.lemmas.Fmt.{decimal_nonempty}
+use Rattle.std.proofs.lemmas.Bool.{cases_lt, eqb-true, leb-true, le-leb, and_parts, and_from}
 use Rattle.std.proofs.lemmas.Slice.Eq.{bytes_eq-Decides}
 use Rattle.brc_text.specs.declared.keyword.Keyword.{Keyword}
 use Rattle.brc_text.specs.declared.keyword.Keyword.TheVariants as words
@@ -17,8 +19,9 @@ use Rattle.brc_text.specs.declared.token.Token.TheVariants as tokens
 use Rattle.brc_text.specs.Numbers.{number_at}
 use Rattle.brc_text.specs.Keywords.{keyword, keyword_at}
 use Rattle.brc_text.specs.Tokens.{◌>>=◌, or_else, letter, letter_at, token, place_at, token_at, IsRead}
-use Rattle.brc_text.proofs.NumberLaws.{number_again, number_takes, not_a_digit, no_bytes}
-use Rattle.brc_text.proofs.KeywordLaws.{same_some, keyword_again, keyword_takes, no_keyword}
+use Rattle.brc_text.specs.Words.{EndsWord, Begins}
+use Rattle.brc_text.proofs.NumberLaws.{number_again, number_takes, not_a_digit, no_bytes, digit_in, digit_out, low_is_no_digit, front_byte, next_byte}
+use Rattle.brc_text.proofs.KeywordLaws.{same_some, keyword_some, keyword_again, keyword_takes, no_keyword}
 
 -- the value of a reading that gave one
 pub some_bind : {A B : Type 0} (o : Option A) (f : A → Option B) (y : B) → (o >>= f) ≡ Some y → (x : A) × (o ≡ Some x) × (f x ≡ Some y)
@@ -128,12 +131,6 @@ unfolding place_at
 no_place_begins [] low = refl
 no_place_begins (byte ∷ ds) low = letter_at_none byte ds low
 
-digit_in : (byte : ℕ) → is_ascii_digit byte ≡ true → IsInRange 48 57 byte
-digit_in byte e = let both = and_parts (leb 48 byte) (leb byte 57) e in (leb-true 48 byte both.0, leb-true byte 57 both.1)
-
-digit_out : (byte : ℕ) → is_ascii_digit byte ≡ false → IsInRange 48 57 byte → ⊥
-digit_out byte e r = true≢false (sym (and_from _ _ (le-leb 48 byte r.0) (le-leb byte 57 r.1)) ∙ e)
-
 -- a word that begins with a digit is a number or nothing
 pub digit_first : (bytes : List ℕ) → is_ascii_digit (get_or bytes 0 0) ≡ true → token_at bytes ≡ (number_at bytes >>= λ n. Some (tokens.Number n))
 unfolding token_at
@@ -167,3 +164,120 @@ pub digit_neither : (bytes : List ℕ) → is_ascii_digit (get_or bytes 0 0) ≡
     → token_at bytes ≡ (keyword_at bytes >>= λ k. Some (tokens.Word k))
 unfolding token_at
 digit_neither bytes first second = rw (no_digit_first bytes first, no_digit_second bytes second) refl
+
+-- ---- the word with which a text begins
+
+pub token_some : (word : List ℕ) (t : Token) → token_at word ≡ Some t → 0 < length word
+token_some word t e =
+    let is = token_takes word t e in
+    subst (λ (l : List ℕ). 0 < length l) (sym is.1) (spelled_some t is.0)
+  where
+    spelled_some : (t : Token) → IsRead t → 0 < length (token t)
+    spelled_some (tokens.Number n) h = decimal_nonempty n h
+    spelled_some (tokens.Negative n) h = absurd h
+    spelled_some (tokens.Place l n) h = omega arith
+    spelled_some (tokens.Word k) h = keyword_some k
+
+-- the bytes of the text are those of the word
+pub first_alike : (text word rest : List ℕ) (t : Token) (b : Bool) → text ≡ word ++ rest → token_at word ≡ Some t
+    → is_ascii_digit (get_or text 0 0) ≡ b → is_ascii_digit (get_or word 0 0) ≡ b
+first_alike text word rest t b whole e is = ap is_ascii_digit (sym (front_byte text word rest 0 whole (token_some word t e))) ∙ is
+
+not_digit : (byte : ℕ) → byte ≤ 32 → is_ascii_digit byte ≡ false
+not_digit byte low = by_test (is_ascii_digit byte) refl
+  where
+    by_test : (b : Bool) → is_ascii_digit byte ≡ b → is_ascii_digit byte ≡ false
+    by_test true e = absurd (low_is_no_digit byte low (digit_in byte e))
+    by_test false e = e
+
+pub second_alike : (text word rest : List ℕ) (t : Token) (b : Bool) → text ≡ word ++ rest → EndsWord rest → token_at word ≡ Some t
+    → is_ascii_digit (get_or text 1 0) ≡ b → is_ascii_digit (get_or word 1 0) ≡ b
+second_alike text word rest t b whole ends e is = elim (cases_lt 1 (length word)) [
+  | inl long ↦ ap is_ascii_digit (sym (front_byte text word rest 1 whole long)) ∙ is
+  | inr short ↦
+    let one : length word ≡ 1 = omega (arith, short, token_some word t e) in
+    let here : get_or text 1 0 ≡ get_or rest 0 0 = ap (λ (i : ℕ). get_or text i 0) (sym one) ∙ next_byte text word rest whole in
+    let none : get_or word 1 0 ≡ 0 = get_or_past word 1 0 (omega (arith, one)) in
+    ap is_ascii_digit none ∙ sym (not_digit _ ends) ∙ ap is_ascii_digit (sym here) ∙ is
+]
+
+-- what is found is a token
+pub number_begins_token : (text rest : List ℕ) (n : ℕ) → Begins number_at text n rest → Begins token_at text (tokens.Number n) rest
+number_begins_token text rest n begins =
+    let is = number_takes begins.word n begins.reads in
+    record { word = begins.word; whole = begins.whole; reads = ap token_at is.1 ∙ token_again (tokens.Number n) is.0 }
+
+place_begins_token : (text rest : List ℕ) (t : Token) → Begins place_at text t rest → Begins token_at text t rest
+place_begins_token text rest t begins =
+    let is = place_takes begins.word t begins.reads in
+    record { word = begins.word; whole = begins.whole; reads = ap token_at is.1 ∙ token_again t is.0 }
+
+pub place_found : {B : Type 0} (found : Option (Token × B)) (now : B → List ℕ) (text : List ℕ) → IfSome found (λ f. Begins place_at text f.0 (now f.1))
+    → IfSome found (λ f. Begins token_at text f.0 (now f.1))
+place_found None now text h = tt
+place_found (Some f) now text h = place_begins_token text (now f.1) f.0 h
+
+pub keyword_begins_token : (text rest : List ℕ) (k : Keyword) → Begins keyword_at text k rest → Begins token_at text (tokens.Word k) rest
+keyword_begins_token text rest k begins =
+    let is = keyword_takes begins.word k begins.reads in
+    record { word = begins.word; whole = begins.whole; reads = ap token_at is ∙ token_again (tokens.Word k) tt }
+
+-- a token is a number, a place or a keyword by the text's first two bytes
+pub number_first : (text word rest : List ℕ) (t : Token) → text ≡ word ++ rest → token_at word ≡ Some t → is_ascii_digit (get_or text 0 0) ≡ true
+    → (n : ℕ) × (number_at word ≡ Some n) × (tokens.Number n ≡ t)
+number_first text word rest t whole e digit =
+    let read = some_bind (number_at word) (λ n. Some (tokens.Number n)) t (sym (digit_first word (first_alike text word rest t true whole e digit)) ∙ e) in
+    (read.0, read.1, same_some read.2)
+
+pub place_second : (text word rest : List ℕ) (t : Token) → text ≡ word ++ rest → EndsWord rest → token_at word ≡ Some t → is_ascii_digit (get_or text 0 0) ≡ false
+    → is_ascii_digit (get_or text 1 0) ≡ true → place_at word ≡ Some t
+place_second text word rest t whole ends e first second =
+    sym (digit_second word (first_alike text word rest t false whole e first) (second_alike text word rest t true whole ends e second)) ∙ e
+
+pub keyword_else : (text word rest : List ℕ) (t : Token) → text ≡ word ++ rest → EndsWord rest → token_at word ≡ Some t → is_ascii_digit (get_or text 0 0) ≡ false
+    → is_ascii_digit (get_or text 1 0) ≡ false → (k : Keyword) × (keyword_at word ≡ Some k) × (tokens.Word k ≡ t)
+keyword_else text word rest t whole ends e first second =
+    let read = some_bind (keyword_at word) (λ k. Some (tokens.Word k)) t
+    (sym (digit_neither word (first_alike text word rest t false whole e first) (second_alike text word rest t false whole ends e second)) ∙ e) in
+    (read.0, read.1, same_some read.2)
+
+-- ---- the place with which a text begins
+
+pub place_begins : (text rest : List ℕ) (l : Letter) (n : ℕ) → 0 < length text → letter_at (get_or text 0 0) ≡ Some l → Begins number_at (drop 1 text) n rest
+    → Begins place_at text (tokens.Place l n) rest
+unfolding place_at
+place_begins [] rest l n some letter begins = absurd (omega arith)
+place_begins (byte ∷ text) rest l n some letter begins = record {
+  word = byte ∷ begins.word;
+  whole = ap (λ (b : List ℕ). byte ∷ b) begins.whole;
+  reads = rw (letter, begins.reads) refl;
+}
+
+-- its letter, and the number behind that
+pub record IsPlaceAhead (text rest : List ℕ) (t : Token) : Type 0 where
+  pub letter_is : Letter
+  pub number : ℕ
+  pub digits_are : List ℕ
+  pub some : 0 < length text
+  pub first : letter_at (get_or text 0 0) ≡ Some letter_is
+  pub reads : number_at digits_are ≡ Some number
+  pub behind : drop 1 text ≡ digits_are ++ rest
+  pub is : tokens.Place letter_is number ≡ t
+
+pub place_parts : (text word rest : List ℕ) (t : Token) → text ≡ word ++ rest → place_at word ≡ Some t → IsPlaceAhead text rest t
+unfolding place_at
+place_parts text [] rest t whole e = absurd cc
+place_parts text (byte ∷ ds) rest t whole e =
+    let l = some_bind (letter_at byte) _ t e in
+    let n = some_bind (number_at ds) _ t l.2 in
+    let P : List ℕ → Type 0 = λ b. IsPlaceAhead b rest t in
+    subst P (sym whole) (record {
+      letter_is = l.0;
+      number = n.0;
+      digits_are = ds;
+      some = omega arith;
+      first = l.1;
+      reads = n.1;
+      behind = refl;
+      is = same_some n.2;
+    })

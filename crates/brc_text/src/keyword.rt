@@ -1,7 +1,9 @@
 //! Keywords: the fixed words of the trace and of the world text.
 
-ghost use Rattle.std.specs.Prelude.{◌≡◌, ◌≤◌, ◌==◌, ◌&&◌, length, find};
+ghost use Rattle.std.specs.Prelude.{◌≡◌, ◌==◌, ◌&&◌, ℕ, List, ◌++◌, Some, IfSome, IsSomeAnd, length, find};
+ghost use Rattle.brc_text.specs.declared.keyword.Keyword.{Keyword as TheKeyword};
 ghost use Rattle.brc_text.specs.Keywords.{keyword, packed, candidates_at, keyword_at};
+ghost use Rattle.brc_text.specs.Words.{AreLetters, Begins, EndsWord};
 
 /// A fixed word.
 #[derive(Clone, Copy, Debug, PartialEq, Eq)]
@@ -90,6 +92,7 @@ pub enum Keyword {
 
 impl Keyword {
     /// The word as it stands in a text.
+    #[inline(always)]
     pub fn text(self) -> &'static [u8]
         ensures { result.now ≡ keyword self }
     {
@@ -232,19 +235,6 @@ impl Keyword {
     }
 }
 
-/// The bytes as one number, by which two words of one length are compared at once.
-fn key_of(bytes: &[u8]) -> u64
-    requires { length bytes.now ≤ 8 }
-
-    ensures { result ≡ packed 0 bytes.now }
-{
-    let mut key: u64 = 0;
-    for byte in bytes {
-        key = key * 256 + *byte as u64;
-    }
-    key
-}
-
 /// The words that begin with this byte, the ones of a trace first.
 fn candidates(first: u8) -> &'static [Keyword]
     ensures { result.now ≡ candidates_at first }
@@ -313,7 +303,26 @@ fn candidates(first: u8) -> &'static [Keyword]
     }
 }
 
+/// How many letters the text begins with, 8 at most, and their bytes as one number. Any byte above the space counts as a
+/// letter.
+#[inline(always)]
+fn letters_ahead(text: &[u8]) -> (usize, u64)
+    ensures { AreLetters text.now result.0 result.1 }
+{
+    let most = text.len().min(8);
+    let mut key: u64 = 0;
+    for at in 0..most {
+        let byte = text[at];
+        if byte <= b' ' {
+            return (at, key);
+        }
+        key = key * 256 + byte as u64;
+    }
+    (most, key)
+}
+
 /// The keyword of this first byte, length and number.
+#[inline(always)]
 fn keyword_packed(first: u8, len: usize, key: u64) -> Option<Keyword>
     ensures { result ≡ find (λ word. length (keyword word) == len && packed 0 (keyword word) == key) (candidates_at first) }
 {
@@ -323,13 +332,19 @@ fn keyword_packed(first: u8, len: usize, key: u64) -> Option<Keyword>
         .find(|word| word.text().len() == len && word.key() == key)
 }
 
-/// The keyword that the bytes spell, all of them; none where they spell none.
-pub fn keyword_of(bytes: &[u8]) -> Option<Keyword>
-    ensures { result ≡ keyword_at bytes.now }
+/// The keyword with which the text begins, and what stands behind it; none where it begins with none.
+#[inline(always)]
+pub(crate) fn keyword_ahead(text: &[u8]) -> Option<(Keyword, &[u8])>
+    ensures found { IfSome result (λ f. Begins keyword_at text.now f.0 f.1.now) }
+    ensures only { (word rest : List ℕ) (k : TheKeyword) → text.now ≡ word ++ rest → EndsWord rest → keyword_at word ≡ Some k →
+        IsSomeAnd result (λ f. (f.0 ≡ k) × (f.1.now ≡ rest)) }
 {
-    // None is longer than 8 bytes, so its number fits.
-    if bytes.is_empty() || bytes.len() > 8 {
+    let (count, key) = letters_ahead(text);
+    if count == 0 {
         return None;
     }
-    keyword_packed(bytes[0], bytes.len(), key_of(bytes))
+    match keyword_packed(text[0], count, key) {
+        Some(word) => Some((word, &text[count..])),
+        None => None,
+    }
 }

@@ -1,31 +1,10 @@
 //! Lines and their words.
 
-ghost use Rattle.std.specs.Prelude.{◌≡◌, ◌<◌, ◌+◌, true, [], ◌∷◌, ◌++◌, Some, None, MatchOption, length};
-ghost use Rattle.brc_text.specs.Lines.{lacks, IsWord, first_line};
+ghost use Rattle.std.specs.Prelude.{◌≡◌, ◌<◌, ◌+◌, [], ◌∷◌, ◌++◌, Some, None, MatchOption, length};
+ghost use Rattle.brc_text.specs.Lines.{first_line};
 
-use crate::token::{Token, token_of};
+use crate::token::{Token, token_ahead};
 use std::marker::Model;
-
-/// The word with which the text begins, whether a line feed ends it, and what stands behind that or behind the space
-/// that ends it; none where neither does.
-#[inline(always)]
-fn first_word(text: &[u8]) -> Option<(&[u8], bool, &[u8])>
-    ensures { MatchOption result (lacks 10 text.now ≡ true)
-        (λ found. IsWord text.now found.0.now found.1 found.2.now) }
-{
-    for (at, byte) in text.iter().enumerate() {
-        // Hardly a byte of a word is so low, so one test a byte is enough.
-        if *byte <= b' ' {
-            if *byte == b' ' {
-                return Some((&text[..at], false, &text[at + 1..]));
-            }
-            if *byte == b'\n' {
-                return Some((&text[..at], true, &text[at + 1..]));
-            }
-        }
-    }
-    None
-}
 
 /// The words of the line that was read last. Its room is used again for the next line.
 #[derive(Drop)]
@@ -81,6 +60,9 @@ impl Words {
 
     /// Reads the first line of the text: 1 to 8 words with one space between them, and a line feed. Answers what
     /// stands behind it; none where the text begins with no such line.
+    // Inlined, like its one caller in each loop over lines, since an answer that goes through memory costs more than the
+    // reading of a word.
+    #[inline(always)]
     pub fn read<'t>(&mut self, text: &'t [u8]) -> Option<&'t [u8]>
         ensures { MatchOption result (first_line 8 text.now ≡ None)
             (λ rest. first_line 8 text.now ≡ Some (self.new, rest.now)) }
@@ -88,17 +70,21 @@ impl Words {
         self.clear();
         let mut rest = text;
         for _ in 0..8u32 {
-            let Some((word, ends, behind)) = first_word(rest) else {
-                return None;
-            };
-            let Some(token) = token_of(word) else {
+            let Some((token, behind)) = token_ahead(rest) else {
                 return None;
             };
             self.push(token);
-            if ends {
-                return Some(behind);
+            if behind.is_empty() {
+                return None;
             }
-            rest = behind;
+            let below = &behind[1..];
+            if behind[0] == b'\n' {
+                return Some(below);
+            }
+            if behind[0] != b' ' {
+                return None;
+            }
+            rest = below;
         }
         None
     }

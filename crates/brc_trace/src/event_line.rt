@@ -133,6 +133,7 @@ fn event_of_words(words: &[Token]) -> Option<Event>
 
 /// Reads the event of the text's first line, and answers what stands behind that line; none where it is no line of an
 /// event.
+#[inline(always)]
 pub(crate) fn read_event<'t>(words: &mut Words, text: &'t [u8]) -> Option<(Event, &'t [u8])>
     ensures { MatchOption result (by_line event_at text.now ≡ None)
         (λ found. by_line event_at text.now ≡ Some (found.0, found.1.now)) }
