@@ -131,6 +131,10 @@ find_alike : {X : Type 0} (p q : X → Bool) (xs : List X) → ((x : X) → p x 
 find_alike p q [] same = refl
 find_alike p q (x ∷ xs) same = rw (same x, find_alike p q xs same) refl
 
+-- a keyword of this length and number
+abbrev pub has_key : ℕ → ℕ → Keyword → Bool
+has_key len key word = eqb (length (keyword word)) len && eqb (packed 0 (keyword word)) key
+
 pub found_packed : (bytes : List ℕ) → AreBytes bytes → find (is_packed bytes) (candidates_at (get_or bytes 0 0)) ≡ keyword_at bytes
 unfolding keyword_at
 found_packed bytes all = find_alike (is_packed bytes) (λ word. bytes_eq (keyword word) bytes) (candidates_at (get_or bytes 0 0)) (λ word. is_spelled bytes word all)

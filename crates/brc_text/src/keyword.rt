@@ -236,6 +236,7 @@ impl Keyword {
 }
 
 /// The words that begin with this byte, the ones of a trace first.
+#[inline(always)]
 fn candidates(first: u8) -> &'static [Keyword]
     ensures { result.now ≡ candidates_at first }
 {
@@ -326,10 +327,13 @@ fn letters_ahead(text: &[u8]) -> (usize, u64)
 fn keyword_packed(first: u8, len: usize, key: u64) -> Option<Keyword>
     ensures { result ≡ find (λ word. length (keyword word) == len && packed 0 (keyword word) == key) (candidates_at first) }
 {
-    candidates(first)
-        .iter()
-        .copied()
-        .find(|word| word.text().len() == len && word.key() == key)
+    let words = candidates(first);
+    for word in words {
+        if word.text().len() == len && word.key() == key {
+            return Some(*word);
+        }
+    }
+    None
 }
 
 /// The keyword with which the text begins, and what stands behind it; none where it begins with none.

@@ -120,6 +120,7 @@ fn made_by(thread: u64, step: Step) -> Option<Event>
 }
 
 /// The event that the words spell; none where they spell none.
+#[inline(always)]
 fn event_of_words(words: &[Token]) -> Option<Event>
     ensures { result ≡ event_at words.now }
 {
