@@ -1,4 +1,5 @@
 pub mod NumberLaws
+pub mod KeywordLaws
 pub mod TokenLaws
 pub mod LineLaws
 pub mod PutLaws

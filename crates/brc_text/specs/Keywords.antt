@@ -1,4 +1,4 @@
-use Rattle.std.specs.Prelude.{ℕ, List, [], ◌∷◌, Option, ◌==◌, if◌then◌else◌, codes, find, slice_index}
+use Rattle.std.specs.Prelude.{ℕ, ◌+◌, ◌*◌, List, [], ◌∷◌, Option, ◌==◌, if◌then◌else◌, codes, find, slice_index}
 use Rattle.std.specs.Str.{bytes_eq}
 use Rattle.brc_text.specs.declared.keyword.Keyword.{Keyword}
 use Rattle.brc_text.specs.declared.keyword.Keyword.TheVariants as words
@@ -68,6 +68,11 @@ keyword words.Popping = codes "popping"
 keyword words.Default = codes "default"
 keyword words.Merged = codes "merged"
 keyword words.Dash = codes "-"
+
+-- bytes as one number, the first one highest, behind the number that was packed before
+abbrev pub packed : ℕ → List ℕ → ℕ
+packed before [] = before
+packed before (byte ∷ bytes) = packed (before * 256 + byte) bytes
 
 -- the keywords by their first byte
 abbrev pub candidates_at : ℕ → List Keyword

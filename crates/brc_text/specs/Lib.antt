@@ -1,5 +1,6 @@
 pub mod Numbers
 pub mod Keywords
+pub mod Words
 pub mod Tokens
 pub mod Lines
 pub mod Puts

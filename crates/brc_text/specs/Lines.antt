@@ -1,4 +1,4 @@
-use Rattle.std.specs.Prelude.{ℕ, zero, suc, List, [], ◌∷◌, ◌++◌, Option, Some, None, Bool, true, false, ◌==◌, if◌then◌else◌}
+use Rattle.std.specs.Prelude.{◌≡◌, ◌&&◌, not, ℕ, zero, suc, List, [], ◌∷◌, ◌++◌, Option, Some, None, Bool, true, false, ◌==◌, if◌then◌else◌}
 use Rattle.std.specs.List.{flat_map}
 use Rattle.brc_text.specs.declared.token.Token.{Token}
 use Rattle.brc_text.specs.Tokens.{◌>>=◌, token, token_at}
@@ -7,6 +7,21 @@ use Rattle.brc_text.specs.Tokens.{◌>>=◌, token, token_at}
 unfoldable pub cut : ℕ → List ℕ → List ℕ × Option (List ℕ)
 cut mark [] = ([], None)
 cut mark (byte ∷ bytes) = if byte == mark then ([], Some bytes) else (byte ∷ (cut mark bytes).0, (cut mark bytes).1)
+
+-- the mark is not among the bytes
+abbrev pub lacks : ℕ → List ℕ → Bool
+lacks mark [] = true
+lacks mark (byte ∷ bytes) = not (byte == mark) && lacks mark bytes
+
+-- what ends a word: a line feed where it is the last of its line, and else a space
+abbrev pub end_of : Bool → ℕ
+end_of last = if last then 10 else 32
+
+-- the text begins with the word, what ends it, and the rest
+pub record IsWord (text word : List ℕ) (last : Bool) (rest : List ℕ) : Type 0 where
+  pub no_space : lacks 32 word ≡ true
+  pub no_feed : lacks 10 word ≡ true
+  pub whole : text ≡ word ++ (end_of last ∷ rest)
 
 -- the last word, or one word and those that are read behind the space
 abbrev pub words_from : Token → (List ℕ → Option (List Token)) → Option (List ℕ) → Option (List Token)
@@ -19,6 +34,13 @@ tokens_at zero bytes = None
 tokens_at (suc most) bytes = do
   word ← token_at (cut 32 bytes).0
   words_from word (tokens_at most) (cut 32 bytes).1
+
+-- the words of the text's first line, which a line feed ends, and the text behind it
+unfoldable pub first_line : ℕ → List ℕ → Option (List Token × List ℕ)
+first_line most text = do
+  rest ← (cut 10 text).1
+  words ← tokens_at most (cut 10 text).0
+  Some (words, rest)
 
 -- the words of a line, with a space before each but the first
 abbrev pub spaced : List Token → List ℕ

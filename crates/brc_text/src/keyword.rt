@@ -1,7 +1,9 @@
 //! Keywords: the fixed words of the trace and of the world text.
 
-ghost use Rattle.std.specs.Prelude.{◌≡◌};
-ghost use Rattle.brc_text.specs.Keywords.{keyword, candidates_at, keyword_at};
+ghost use Rattle.std.specs.Prelude.{◌≡◌, ◌==◌, ◌&&◌, ℕ, List, ◌++◌, Some, IfSome, IsSomeAnd, length, find};
+ghost use Rattle.brc_text.specs.declared.keyword.Keyword.{Keyword as TheKeyword};
+ghost use Rattle.brc_text.specs.Keywords.{keyword, packed, candidates_at, keyword_at};
+ghost use Rattle.brc_text.specs.Words.{AreLetters, Begins, EndsWord};
 
 /// A fixed word.
 #[derive(Clone, Copy, Debug, PartialEq, Eq)]
@@ -90,6 +92,7 @@ pub enum Keyword {
 
 impl Keyword {
     /// The word as it stands in a text.
+    #[inline(always)]
     pub fn text(self) -> &'static [u8]
         ensures { result.now ≡ keyword self }
     {
@@ -159,9 +162,81 @@ impl Keyword {
             Keyword::Dash => b"-",
         }
     }
+
+    /// The word's bytes as one number.
+    fn key(self) -> u64
+        ensures { result ≡ packed 0 (keyword self) }
+    {
+        match self {
+            Keyword::Heap => u64::from_be_bytes(*b"\0\0\0\0heap"),
+            Keyword::Register => u64::from_be_bytes(*b"register"),
+            Keyword::Claim => u64::from_be_bytes(*b"\0\0\0claim"),
+            Keyword::Local => u64::from_be_bytes(*b"\0\0\0local"),
+            Keyword::Shared => u64::from_be_bytes(*b"\0\0shared"),
+            Keyword::Born => u64::from_be_bytes(*b"\0\0\0\0born"),
+            Keyword::Up => u64::from_be_bytes(*b"\0\0\0\0\0\0up"),
+            Keyword::Down => u64::from_be_bytes(*b"\0\0\0\0down"),
+            Keyword::See => u64::from_be_bytes(*b"\0\0\0\0\0see"),
+            Keyword::Free => u64::from_be_bytes(*b"\0\0\0\0free"),
+            Keyword::Untie => u64::from_be_bytes(*b"\0\0\0untie"),
+            Keyword::Shup => u64::from_be_bytes(*b"\0\0\0\0shup"),
+            Keyword::Shdown => u64::from_be_bytes(*b"\0\0shdown"),
+            Keyword::Ask => u64::from_be_bytes(*b"\0\0\0\0\0ask"),
+            Keyword::Last => u64::from_be_bytes(*b"\0\0\0\0last"),
+            Keyword::Enq => u64::from_be_bytes(*b"\0\0\0\0\0enq"),
+            Keyword::Drain => u64::from_be_bytes(*b"\0\0\0drain"),
+            Keyword::Add => u64::from_be_bytes(*b"\0\0\0\0\0add"),
+            Keyword::Close => u64::from_be_bytes(*b"\0\0\0close"),
+            Keyword::Nudge => u64::from_be_bytes(*b"\0\0\0nudge"),
+            Keyword::Wake => u64::from_be_bytes(*b"\0\0\0\0wake"),
+            Keyword::Lock => u64::from_be_bytes(*b"\0\0\0\0lock"),
+            Keyword::Unlock => u64::from_be_bytes(*b"\0\0unlock"),
+            Keyword::Gather => u64::from_be_bytes(*b"\0\0gather"),
+            Keyword::InHand => u64::from_be_bytes(*b"\0\0\0\0\0\0\0h"),
+            Keyword::Keep => u64::from_be_bytes(*b"\0\0\0\0keep"),
+            Keyword::Put => u64::from_be_bytes(*b"\0\0\0\0\0put"),
+            Keyword::Take => u64::from_be_bytes(*b"\0\0\0\0take"),
+            Keyword::Swap => u64::from_be_bytes(*b"\0\0\0\0swap"),
+            Keyword::Int => u64::from_be_bytes(*b"\0\0\0\0\0int"),
+            Keyword::Text => u64::from_be_bytes(*b"\0\0\0\0text"),
+            Keyword::List => u64::from_be_bytes(*b"\0\0\0\0list"),
+            Keyword::Dict => u64::from_be_bytes(*b"\0\0\0\0dict"),
+            Keyword::Mailbox => u64::from_be_bytes(*b"\0mailbox"),
+            Keyword::World => u64::from_be_bytes(*b"\0\0\0world"),
+            Keyword::Thread => u64::from_be_bytes(*b"\0\0thread"),
+            Keyword::Hand => u64::from_be_bytes(*b"\0\0\0\0hand"),
+            Keyword::Locked => u64::from_be_bytes(*b"\0\0locked"),
+            Keyword::Frame => u64::from_be_bytes(*b"\0\0\0frame"),
+            Keyword::Queued => u64::from_be_bytes(*b"\0\0queued"),
+            Keyword::Popped => u64::from_be_bytes(*b"\0\0popped"),
+            Keyword::Work => u64::from_be_bytes(*b"\0\0\0\0work"),
+            Keyword::Entry => u64::from_be_bytes(*b"\0\0\0entry"),
+            Keyword::Object => u64::from_be_bytes(*b"\0\0object"),
+            Keyword::Ledger => u64::from_be_bytes(*b"\0\0ledger"),
+            Keyword::Active => u64::from_be_bytes(*b"\0\0active"),
+            Keyword::Closing => u64::from_be_bytes(*b"\0closing"),
+            Keyword::Left => u64::from_be_bytes(*b"\0\0\0\0left"),
+            Keyword::Gathered => u64::from_be_bytes(*b"gathered"),
+            Keyword::Claimed => u64::from_be_bytes(*b"\0claimed"),
+            Keyword::Counted => u64::from_be_bytes(*b"\0counted"),
+            Keyword::Ready => u64::from_be_bytes(*b"\0\0\0ready"),
+            Keyword::Zero => u64::from_be_bytes(*b"\0\0\0\0zero"),
+            Keyword::Over => u64::from_be_bytes(*b"\0\0\0\0over"),
+            Keyword::Untied => u64::from_be_bytes(*b"\0\0untied"),
+            Keyword::Asked => u64::from_be_bytes(*b"\0\0\0asked"),
+            Keyword::Shut => u64::from_be_bytes(*b"\0\0\0\0shut"),
+            Keyword::Taking => u64::from_be_bytes(*b"\0\0taking"),
+            Keyword::Held => u64::from_be_bytes(*b"\0\0\0\0held"),
+            Keyword::Popping => u64::from_be_bytes(*b"\0popping"),
+            Keyword::Default => u64::from_be_bytes(*b"\0default"),
+            Keyword::Merged => u64::from_be_bytes(*b"\0\0merged"),
+            Keyword::Dash => u64::from_be_bytes(*b"\0\0\0\0\0\0\0-"),
+        }
+    }
 }
 
 /// The words that begin with this byte, the ones of a trace first.
+#[inline(always)]
 fn candidates(first: u8) -> &'static [Keyword]
     ensures { result.now ≡ candidates_at first }
 {
@@ -229,16 +304,51 @@ fn candidates(first: u8) -> &'static [Keyword]
     }
 }
 
-/// The keyword that the bytes spell, all of them; none where they spell none.
-#[tactic(auto, unfolding(crate::specs::Keywords::keyword_at))]
-pub fn keyword_of(bytes: &[u8]) -> Option<Keyword>
-    ensures { result ≡ keyword_at bytes.now }
+/// How many letters the text begins with, 8 at most, and their bytes as one number. Any byte above the space counts as a
+/// letter.
+#[inline(always)]
+fn letters_ahead(text: &[u8]) -> (usize, u64)
+    ensures { AreLetters text.now result.0 result.1 }
 {
-    match bytes {
-        [] => None,
-        [first, ..] => candidates(*first)
-            .iter()
-            .copied()
-            .find(|word| word.text() == bytes),
+    let most = text.len().min(8);
+    let mut key: u64 = 0;
+    for at in 0..most {
+        let byte = text[at];
+        if byte <= b' ' {
+            return (at, key);
+        }
+        key = key * 256 + byte as u64;
+    }
+    (most, key)
+}
+
+/// The keyword of this first byte, length and number.
+#[inline(always)]
+fn keyword_packed(first: u8, len: usize, key: u64) -> Option<Keyword>
+    ensures { result ≡ find (λ word. length (keyword word) == len && packed 0 (keyword word) == key) (candidates_at first) }
+{
+    let words = candidates(first);
+    for word in words {
+        if word.text().len() == len && word.key() == key {
+            return Some(*word);
+        }
+    }
+    None
+}
+
+/// The keyword with which the text begins, and what stands behind it; none where it begins with none.
+#[inline(always)]
+pub(crate) fn keyword_ahead(text: &[u8]) -> Option<(Keyword, &[u8])>
+    ensures found { IfSome result (λ f. Begins keyword_at text.now f.0 f.1.now) }
+    ensures only { (word rest : List ℕ) (k : TheKeyword) → text.now ≡ word ++ rest → EndsWord rest → keyword_at word ≡ Some k →
+        IsSomeAnd result (λ f. (f.0 ≡ k) × (f.1.now ≡ rest)) }
+{
+    let (count, key) = letters_ahead(text);
+    if count == 0 {
+        return None;
+    }
+    match keyword_packed(text[0], count, key) {
+        Some(word) => Some((word, &text[count..])),
+        None => None,
     }
 }

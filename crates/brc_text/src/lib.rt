@@ -11,11 +11,11 @@ mod number;
 mod putting;
 mod token;
 
-pub use keyword::{Keyword, keyword_of};
-pub use line::{cut_at, tokens_of};
+pub use keyword::Keyword;
+pub use line::Words;
 pub use number::number_of;
 pub use putting::{put_bytes, put_line};
-pub use token::{Letter, Token, token_of};
+pub use token::{Letter, Token};
 
 #[cfg(test)]
 mod tests;

@@ -1,10 +1,12 @@
 //! Tokens: what one word of a line means.
 
-ghost use Rattle.std.specs.Prelude.{◌≡◌};
+ghost use Rattle.std.specs.Prelude.{◌≡◌, ℕ, List, ◌++◌, Some, IfSome, IsSomeAnd};
+ghost use Rattle.brc_text.specs.declared.token.Token.{Token as TheToken};
 ghost use Rattle.brc_text.specs.Tokens.{letter_at, place_at, token_at};
+ghost use Rattle.brc_text.specs.Words.{Begins, EndsWord};
 
-use crate::keyword::{Keyword, keyword_of};
-use crate::number::number_of;
+use crate::keyword::{Keyword, keyword_ahead};
+use crate::number::{has_digit, number_ahead};
 
 /// The letter before a number: where a reference is.
 #[derive(Clone, Copy, Debug, PartialEq, Eq)]
@@ -51,34 +53,45 @@ fn letter_of(byte: u8) -> Option<Letter>
     }
 }
 
-/// A letter and a number behind it.
-#[tactic(auto, unfolding(crate::specs::Tokens::place_at))]
-fn place_of(bytes: &[u8]) -> Option<Token>
-    ensures { result ≡ place_at bytes.now }
+/// The place with which the text begins, a letter and a number, and what stands behind it; none where it begins with
+/// none.
+#[inline(always)]
+fn place_ahead(text: &[u8]) -> Option<(Token, &[u8])>
+    ensures found { IfSome result (λ f. Begins place_at text.now f.0 f.1.now) }
+    ensures only { (word rest : List ℕ) (t : TheToken) → text.now ≡ word ++ rest → EndsWord rest → place_at word ≡ Some t →
+        IsSomeAnd result (λ f. (f.0 ≡ t) × (f.1.now ≡ rest)) }
 {
-    match bytes {
-        [] => None,
-        [first, digits @ ..] => {
-            let letter = letter_of(*first)?;
-            let number = number_of(digits)?;
-            Some(Token::Place(letter, number))
-        }
+    let [first, digits @ ..] = text else {
+        return None;
+    };
+    let Some(letter) = letter_of(*first) else {
+        return None;
+    };
+    match number_ahead(digits) {
+        Some((number, rest)) => Some((Token::Place(letter, number), rest)),
+        None => None,
     }
 }
 
-/// What the bytes of one word mean; none where they are no word of a text.
-#[tactic(auto, unfolding(crate::specs::Tokens::token_at))]
-pub fn token_of(bytes: &[u8]) -> Option<Token>
-    ensures { result ≡ token_at bytes.now }
+/// What the word means with which the text begins, and what stands behind it; none where that is no word of a text.
+#[inline(always)]
+pub(crate) fn token_ahead(text: &[u8]) -> Option<(Token, &[u8])>
+    ensures found { IfSome result (λ f. Begins token_at text.now f.0 f.1.now) }
+    ensures only { (word rest : List ℕ) (t : TheToken) → text.now ≡ word ++ rest → EndsWord rest → token_at word ≡ Some t →
+        IsSomeAnd result (λ f. (f.0 ≡ t) × (f.1.now ≡ rest)) }
 {
-    if let Some(number) = number_of(bytes) {
-        return Some(Token::Number(number));
-    }
-    if let Some(place) = place_of(bytes) {
-        return Some(place);
-    }
-    match keyword_of(bytes) {
-        Some(word) => Some(Token::Word(word)),
-        None => None,
+    // The first two bytes say which of the three a word can be.
+    if has_digit(text, 0) {
+        match number_ahead(text) {
+            Some((number, rest)) => Some((Token::Number(number), rest)),
+            None => None,
+        }
+    } else if has_digit(text, 1) {
+        place_ahead(text)
+    } else {
+        match keyword_ahead(text) {
+            Some((word, rest)) => Some((Token::Word(word), rest)),
+            None => None,
+        }
     }
 }

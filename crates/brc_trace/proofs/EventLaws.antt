@@ -15,7 +15,8 @@ use Rattle.brc_text.specs.declared.keyword.Keyword.TheVariants as words
 use Rattle.brc_text.specs.declared.token.Token.{Token}
 use Rattle.brc_text.specs.declared.token.Token.TheVariants as tokens
 use Rattle.brc_text.specs.Tokens.{◌>>=◌, IsRead}
-use Rattle.brc_text.proofs.TokenLaws.{some_bind, same_some}
+use Rattle.brc_text.proofs.KeywordLaws.{same_some}
+use Rattle.brc_text.proofs.TokenLaws.{some_bind}
 use Rattle.brc_text.proofs.LineLaws.{IsLine}
 use Rattle.brc_trace.specs.Operands.{kind_token, source_token, fits_source, is_thread, is_cell, is_place, is_queue_word, number_at, kind_at, source_at, change_at, is_bare, one_of, two_of}
 use Rattle.brc_trace.specs.Events.{event_words, step_words, fits, fits_step, fits_thread, is_root_step, birth_at, step_at, made_by, event_at}

@@ -4,3 +4,4 @@ pub mod TextLaws
 pub mod ReadingLoop
 pub mod WorldLaws
 pub mod ReplayLaws
+pub mod SteppingLaws

@@ -20,7 +20,8 @@ use Rattle.brc_text.specs.declared.token.Letter.TheVariants as letters
 use Rattle.brc_text.specs.declared.token.Token.{Token}
 use Rattle.brc_text.specs.declared.token.Token.TheVariants as tokens
 use Rattle.brc_text.specs.Tokens.{◌>>=◌, IsRead}
-use Rattle.brc_text.proofs.TokenLaws.{some_bind, same_some}
+use Rattle.brc_text.proofs.KeywordLaws.{same_some}
+use Rattle.brc_text.proofs.TokenLaws.{some_bind}
 use Rattle.brc_trace.specs.Operands.{kind_word, kind_token, source_token, dropped_token, last_token, change_words, is_thread, is_cell, is_place, is_entry, is_queue_word, fits_source, fits_dropped, fits_last, fits_change, number_at, kind_named, kind_at, source_at, dropped_at, last_at, is_bare, only, both, one_of, two_of, change_named, change_at}
 
 -- what is in its range is written in one way, is read again from that, and from nothing else

@@ -1,4 +1,4 @@
--- How many lines a trace has, and the text that was read in place of the whole input.
+-- The text that was read in place of the whole input, and what the whole replay does.
 use Rattle.std.proofs.Common.{◌≡◌, ◌∙◌, ℕ, ◌+◌, ◌<◌, ◌≤◌, true, List, [], ◌∷◌, ◌++◌, length, take, Some, Ok, refl, sym, ap, subst, arith, ltb, leb, Bool, false, Option, None, length-append, append-nil}
 use Rattle.std.specs.Prelude.{IfSome}
 use Rattle.std.proofs.lemmas.Bool.{and_parts, leb-true, ltb-true, ltb-false}
@@ -25,24 +25,6 @@ use Rattle.brc_text.specs.Lines.{line, spaced}
 use Rattle.brc_trace.specs.Events.{event_words}
 use Rattle.brc_trace.specs.Traces.{Listing, trace_at, trace_text, is_size, is_limit, head_words}
 use Rattle.brc_trace.proofs.TextLaws.{trace_takes, events_text}
-
-each_a_byte : (events : List Event) → length events ≤ length (events_text events)
-each_a_byte [] = omega arith
-each_a_byte (event ∷ events) =
-    let words = spaced (event_words event) in
-    let first : length (line (event_words event)) ≡ length words + 1 = length-append words (10 ∷ []) in
-    let both : length (events_text (event ∷ events)) ≡ length (line (event_words event)) + length (events_text events) =
-    length-append (line (event_words event)) (events_text events) in
-    omega (arith, first, both, each_a_byte events)
-
-pub few_events : (text : List ℕ) (trace : Listing) → trace_at text ≡ Ok trace → length trace.events ≤ 16777216
-unfolding trace_text
-few_events text trace spelled =
-    let found = trace_takes text trace spelled in
-    let head = line (head_words trace.cells trace.local_limit) in
-    let parts : length text ≡ length head + length (events_text trace.events) =
-    ap (λ (l : List ℕ). length l) found.spelled ∙ length-append head (events_text trace.events) in
-    omega (arith, parts, found.short, each_a_byte trace.events)
 
 pub are_options : (cells limit : ℕ) → is_size cells ≡ true → is_limit limit ≡ true → AreOptions cells limit
 are_options cells limit size limited =
@@ -85,38 +67,6 @@ pub nothing_read : (old mid new : Option (List ℕ)) (bytes chunk : List ℕ) (c
 nothing_read old mid new bytes chunk count read last none =
     let empty : take count chunk ≡ [] = ap (λ (n : ℕ). take n chunk) none in
     subst (Consumes old new) (ap (λ (l : List ℕ). bytes ++ l) empty ∙ append-nil bytes) (Consumes-trans old mid new bytes (take count chunk) read last)
-
--- ---- the replay of a trace that was read
-
-pub replayed : (text bytes : List ℕ) (trace : Listing) (events : List Event) (world : Heap) → text ≡ bytes → trace_at text ≡ Ok trace → events ≡ trace.events
-    → IsRun (opening trace.cells trace.local_limit) (reverse events) → world ≡ world_after (opening trace.cells trace.local_limit) (reverse events)
-    → IsReplayed bytes world
-replayed text bytes trace events world same spelled these run leads =
-    let start = opening trace.cells trace.local_limit in
-    record {
-      trace = trace;
-      spelled = ap trace_at (sym same) ∙ spelled;
-      run = subst (λ (es : List Event). IsRun start (reverse es)) these run;
-      leads = leads ∙ ap (λ (es : List Event). world_after start (reverse es)) these;
-    }
-
-pub not_enabled : (text bytes : List ℕ) (trace : Listing) (events : List Event) (at : ℕ) → text ≡ bytes → trace_at text ≡ Ok trace → events ≡ trace.events
-    → IsFirstNotEnabled (opening trace.cells trace.local_limit) events at → IsNotEnabled bytes (at + 2)
-not_enabled text bytes trace events at same spelled these first =
-    record {
-      trace = trace;
-      spelled = ap trace_at (sym same) ∙ spelled;
-      at = at;
-      first = subst (λ (es : List Event). IsFirstNotEnabled (opening trace.cells trace.local_limit) es at) these first;
-      counted = refl;
-    }
-
-pub few_lines : (text : List ℕ) (trace : Listing) (events : List Event) (at : ℕ) → trace_at text ≡ Ok trace → events ≡ trace.events
-    → IsFirstNotEnabled (opening trace.cells trace.local_limit) events at → at < 16777216
-few_lines text trace events at spelled these first =
-    let within : at < length events = slice_get_within events at first.event first.there in
-    let same : length events ≡ length trace.events = ap (λ (es : List Event). length es) these in
-    omega (arith, within, same, few_events text trace spelled)
 
 -- ---- what the whole replay does
 

@@ -5,6 +5,7 @@ use Rattle.brc_words.specs.declared.fault.Fault.{Fault}
 use Rattle.brc_words.specs.declared.fault.Fault.TheVariants as faults
 use Rattle.brc_words.specs.declared.fault.Reason.{Reason}
 use Rattle.brc_words.specs.declared.fault.Reason.TheVariants as reasons
+use Rattle.brc_runs.specs.declared.event.Event.{Event}
 use Rattle.brc_runs.specs.Heap.{Heap, opening}
 use Rattle.brc_runs.specs.Runs.{IsRun, world_after}
 use Rattle.brc_runs.specs.Holding.{live_count}
@@ -26,6 +27,38 @@ pub record IsNotEnabled (bytes : List ℕ) (line : ℕ) : Type 0 where
   pub at : ℕ
   pub first : IsFirstNotEnabled (opening trace.cells trace.local_limit) trace.events at
   pub counted : line ≡ at + 2
+
+-- ---- from line to line
+
+-- the lines are read as events, these are a run from one world, and lead to another
+pub record AreMade (start : Heap) (read : Result (List Event) ℕ) (world : Heap) : Type 0 where
+  pub events : List Event
+  pub spelled : read ≡ Ok events
+  pub run : IsRun start (reverse events)
+  pub leads : world ≡ world_after start (reverse events)
+
+-- the lines are read as events, and the line is that of the first that isn't enabled
+pub record AreRefused (start : Heap) (read : Result (List Event) ℕ) (line : ℕ) : Type 0 where
+  pub events : List Event
+  pub spelled : read ≡ Ok events
+  pub at : ℕ
+  pub first : IsFirstNotEnabled start events at
+  pub counted : line ≡ at + 2
+
+-- what is told of an event that isn't enabled, by the lines behind it: a bad one is told before it
+abbrev pub told : ℕ → Result (List Event) ℕ → Fault
+told refused (Ok later) = faults.BadTrace refused reasons.NotEnabled
+told refused (Err bad) = faults.BadTrace bad reasons.NotALine
+
+-- what becomes of a world by lines of events, by the answer
+abbrev pub Steps : Result (Unit {0}) Fault → Heap → Heap → Result (List Event) ℕ → Type 0
+Steps (Ok u) old new read = AreMade old read new
+Steps (Err faults.OutOfMemory) old new read = Unit {0}
+Steps (Err (faults.BadTrace line reasons.NotALine)) old new read = read ≡ Err line
+Steps (Err (faults.BadTrace line reasons.NotEnabled)) old new read = AreRefused old read line
+Steps (Err _) old new read = ⊥
+
+-- ---- the whole
 
 -- why a line is bad
 abbrev pub IsBad : Reason → ℕ → List ℕ → Type 0

@@ -1,5 +1,5 @@
 -- What a trace is, its one spelling, and the trace that a text spells or else its first bad line.
-use Rattle.std.specs.Prelude.{◌≡◌, ℕ, ◌+◌, Bool, true, List, [], ◌∷◌, ◌++◌, length, Option, Some, None, Result, Ok, Err, nat_lt, nat_le, ◌&&◌, if◌then◌else◌}
+use Rattle.std.specs.Prelude.{◌≡◌, ◌<◌, ℕ, ◌+◌, Bool, true, List, [], ◌∷◌, ◌++◌, length, Option, Some, None, Result, Ok, Err, nat_lt, nat_le, ◌&&◌, if◌then◌else◌}
 use Rattle.std.specs.List.{flat_map}
 use Rattle.brc_words.specs.declared.fault.Fault.{Fault}
 use Rattle.brc_words.specs.declared.fault.Fault.TheVariants as faults
@@ -9,7 +9,7 @@ use Rattle.brc_text.specs.declared.keyword.Keyword.TheVariants as words
 use Rattle.brc_text.specs.declared.token.Token.{Token}
 use Rattle.brc_text.specs.declared.token.Token.TheVariants as tokens
 use Rattle.brc_text.specs.Tokens.{◌>>=◌}
-use Rattle.brc_text.specs.Lines.{tokens_at, line, pieces}
+use Rattle.brc_text.specs.Lines.{tokens_at, first_line, line, pieces}
 use Rattle.brc_trace.specs.Events.{event_words, event_at, fits}
 
 -- a trace without where it lies in memory
@@ -80,7 +80,27 @@ lines_at (piece ∷ others) = below_head (by_words head_at piece) (events_at 2 o
 unfoldable pub trace_at : List ℕ → Result Listing ℕ
 trace_at text = if nat_lt 16777216 (length text) then Err 0 else lines_at (pieces text)
 
+-- ---- line by line
+
+-- what the words of the text's first line are read as, and the text behind that line
+abbrev pub by_line : {A : Type 0} → (List Token → Option A) → List ℕ → Option (A × List ℕ)
+by_line read text = do
+  first ← first_line 8 text
+  x ← read first.0
+  Some (x, first.1)
+
+-- the text begins with the line of this head, and the rest are the lines of events
+pub record IsHead (text : List ℕ) (head : ℕ × ℕ) (rest : List ℕ) : Type 0 where
+  pub size : is_size head.0 ≡ true
+  pub limit : is_limit head.1 ≡ true
+  pub short : length rest < 16777216
+  pub read : trace_at text ≡ below_head (Some head) (events_at 2 (pieces rest))
+
 -- ---- what a reader answers
+
+-- a line that isn't one of a trace
+abbrev pub bad_line : ℕ → Fault
+bad_line line = faults.BadTrace line reasons.NotALine
 
 -- a bad line is told, and memory may run out; there is no other fault
 abbrev pub Refuses : {X : Type 0} → Fault → Result X ℕ → Type 0

@@ -1,19 +1,20 @@
 //! The line of one event: its words read and written.
 
-ghost use Rattle.std.specs.Prelude.{◌≡◌, ◌∷◌, [], option_and_then};
+ghost use Rattle.std.specs.Prelude.{◌≡◌, ◌∷◌, [], Some, None, MatchOption};
 ghost use Rattle.brc_text.specs.declared.token.Token.TheVariants as tokens;
-ghost use Rattle.brc_text.specs.Lines.{tokens_at, line as spelled};
+ghost use Rattle.brc_text.specs.Lines.{line as spelled};
 ghost use Rattle.brc_text.specs.Puts.{Puts};
 ghost use Rattle.brc_text.specs.declared.keyword.Keyword.TheVariants as words;
 ghost use Rattle.brc_trace.specs.Operands.{change_words};
 ghost use Rattle.brc_trace.specs.Events.{birth_at, step_at, is_root_step as is_of_the_root, made_by, event_at, event_words};
+ghost use Rattle.brc_trace.specs.Traces.{by_line};
 
 use crate::operands::{
     both, cell_of, change_of, dropped_of, dropped_token, is_bare, is_thread, kind_of, last_of,
     last_token, only, place_of, queue_word_of, source_of, source_token, thread_of, word_of_kind,
 };
 use brc_runs::{Change, Event, Step};
-use brc_text::{Keyword, Token, put_line, tokens_of};
+use brc_text::{Keyword, Token, Words, put_line};
 use brc_words::Fault;
 use std::io::Write;
 
@@ -119,6 +120,7 @@ fn made_by(thread: u64, step: Step) -> Option<Event>
 }
 
 /// The event that the words spell; none where they spell none.
+#[inline(always)]
 fn event_of_words(words: &[Token]) -> Option<Event>
     ensures { result ≡ event_at words.now }
 {
@@ -130,12 +132,20 @@ fn event_of_words(words: &[Token]) -> Option<Event>
     }
 }
 
-/// The event that a line spells; none where it is no line of a trace.
-pub fn event_of_line(line: &[u8]) -> Option<Event>
-    ensures { result ≡ option_and_then event_at (tokens_at 8 line.now) }
+/// Reads the event of the text's first line, and answers what stands behind that line; none where it is no line of an
+/// event.
+#[inline(always)]
+pub(crate) fn read_event<'t>(words: &mut Words, text: &'t [u8]) -> Option<(Event, &'t [u8])>
+    ensures { MatchOption result (by_line event_at text.now ≡ None)
+        (λ found. by_line event_at text.now ≡ Some (found.0, found.1.now)) }
 {
-    let words = tokens_of(line)?;
-    event_of_words(words.as_slice())
+    let Some(behind) = words.read(text) else {
+        return None;
+    };
+    let Some(event) = event_of_words(words.tokens()) else {
+        return None;
+    };
+    Some((event, behind))
 }
 
 // ---- writing

@@ -9,6 +9,7 @@ mod event_line;
 mod operands;
 mod reading;
 mod replaying;
+mod stepping;
 mod trace;
 mod world_text;
 mod world_thread;

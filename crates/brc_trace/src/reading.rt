@@ -1,32 +1,43 @@
 //! Reading a trace.
 
-ghost use Rattle.std.specs.Prelude.{◌≡◌, ◌≤◌, length, Ok, IfOk, option_and_then};
-ghost use Rattle.brc_text.specs.Lines.{tokens_at, pieces};
-ghost use Rattle.brc_trace.specs.Traces.{Listing, IsTrace, trace_text, head_at, events_at, trace_at, Gives, is_size as size_fits, is_limit as limit_fits};
+ghost use Rattle.std.specs.Prelude.{◌≡◌, ◌≤◌, length, Some, Ok, IfOk, MatchOption, MatchResult};
+ghost use Rattle.brc_text.specs.Lines.{pieces};
+ghost use Rattle.brc_trace.specs.Traces.{Listing, IsTrace, trace_text, head_at, events_at, trace_at, by_line, bad_line, IsHead, Refuses, Gives, is_size as size_fits, is_limit as limit_fits};
 ghost use Rattle.brc_trace.specs.View.{listing};
 
-use crate::event_line::event_of_line;
+use crate::event_line::read_event;
 use crate::trace::Trace;
 use brc_runs::Event;
-use brc_text::{Keyword, Token, cut_at, tokens_of};
-use brc_words::{Fault, Reason};
+use brc_text::{Keyword, Token, Words};
+use brc_words::{FEWEST_CELLS, Fault, MOST_CELLS, MOST_LOCAL, Reason};
 use std::alloc::Allocator;
 
 /// A trace text has at most this many bytes.
 const MOST_BYTES: usize = 16_777_216;
 
+/// The fault of a line that isn't one of a trace.
+pub(crate) fn not_a_line(line: u32) -> Fault
+    ensures { result ≡ bad_line line }
+{
+    Fault::BadTrace {
+        line,
+        reason: Reason::NotALine,
+    }
+}
+
 fn is_size(cells: u64) -> bool
     ensures { result ≡ size_fits cells }
 {
-    512 <= cells && cells <= 65_536
+    FEWEST_CELLS as u64 <= cells && cells <= MOST_CELLS as u64
 }
 
 fn is_limit(local_limit: u64) -> bool
     ensures { result ≡ limit_fits local_limit }
 {
-    1 <= local_limit && local_limit <= 4_294_967_294
+    1 <= local_limit && local_limit <= MOST_LOCAL as u64
 }
 
+/// The numbers of cells and the local limit that the first line asks for.
 fn head_of_words(words: &[Token]) -> Option<(u32, u32)>
     ensures { result ≡ head_at words.now }
 {
@@ -42,16 +53,33 @@ fn head_of_words(words: &[Token]) -> Option<(u32, u32)>
     }
 }
 
-/// The numbers of cells and the local limit that the first line asks for.
-fn head_of_line(line: &[u8]) -> Option<(u32, u32)>
-    ensures { result ≡ option_and_then head_at (tokens_at 8 line.now) }
+/// Reads the head, and answers what stands behind it: the lines of events. Refusals are line 0, for a text of more than
+/// 16,777,216 bytes, and line 1.
+pub(crate) fn read_head<'t>(
+    words: &mut Words,
+    text: &'t [u8],
+) -> Result<((u32, u32), &'t [u8]), Fault>
+    ensures { MatchResult result (λ found. IsHead text.now found.0 found.1.now)
+        (λ fault. Refuses fault (trace_at text.now)) }
 {
-    let words = tokens_of(line)?;
-    head_of_words(words.as_slice())
+    if text.len() > MOST_BYTES {
+        return Err(not_a_line(0));
+    }
+    let Some(behind) = words.read(text) else {
+        return Err(not_a_line(1));
+    };
+    let Some(head) = head_of_words(words.tokens()) else {
+        return Err(not_a_line(1));
+    };
+    Ok((head, behind))
 }
 
 /// The events of the lines behind the head, which is line 1.
-fn events_of<A: Allocator>(alloc: A, text: &[u8]) -> Result<Vec<Event, A>, Fault>
+fn events_of<A: Allocator>(
+    alloc: A,
+    words: &mut Words,
+    text: &[u8],
+) -> Result<Vec<Event, A>, Fault>
     requires { length text.now ≤ 16777216 }
 
     ensures { Gives (λ events. events.items) result (events_at 2 (pieces text.now)) }
@@ -60,18 +88,8 @@ fn events_of<A: Allocator>(alloc: A, text: &[u8]) -> Result<Vec<Event, A>, Fault
     let mut rest = text;
     let mut number: u32 = 2;
     while !rest.is_empty() {
-        let (line, back) = cut_at(rest, b'\n');
-        let Some(behind) = back else {
-            return Err(Fault::BadTrace {
-                line: number,
-                reason: Reason::NotALine,
-            });
-        };
-        let Some(event) = event_of_line(line) else {
-            return Err(Fault::BadTrace {
-                line: number,
-                reason: Reason::NotALine,
-            });
+        let Some((event, behind)) = read_event(words, rest) else {
+            return Err(not_a_line(number));
         };
         events.push(event)?;
         number += 1;
@@ -84,26 +102,9 @@ fn events_of<A: Allocator>(alloc: A, text: &[u8]) -> Result<Vec<Event, A>, Fault
 fn trace_of<A: Allocator>(alloc: A, text: &[u8]) -> Result<Trace<A>, Fault>
     ensures { Gives listing result (trace_at text.now) }
 {
-    if text.len() > MOST_BYTES {
-        return Err(Fault::BadTrace {
-            line: 0,
-            reason: Reason::NotALine,
-        });
-    }
-    let (line, back) = cut_at(text, b'\n');
-    let Some(behind) = back else {
-        return Err(Fault::BadTrace {
-            line: 1,
-            reason: Reason::NotALine,
-        });
-    };
-    let Some((cells, local_limit)) = head_of_line(line) else {
-        return Err(Fault::BadTrace {
-            line: 1,
-            reason: Reason::NotALine,
-        });
-    };
-    let events = events_of(alloc, behind)?;
+    let mut words = Words::new();
+    let ((cells, local_limit), behind) = read_head(&mut words, text)?;
+    let events = events_of(alloc, &mut words, behind)?;
     Ok(Trace {
         cells,
         local_limit,

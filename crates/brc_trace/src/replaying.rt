@@ -1,12 +1,11 @@
 //! A replay from bytes to bytes: a trace is read, replayed, and the text of its world written.
 
-ghost use Rattle.std.specs.Prelude.{◌≡◌, ◌⊎◌, take, IfOk, IfErr, IfSome, MatchResult};
-ghost use Rattle.brc_trace.specs.Replaying.{IsReplayed, LeadsNowhere, Replays};
+ghost use Rattle.std.specs.Prelude.{◌≡◌, ◌⊎◌, take, IfOk, IfErr, IfSome};
+ghost use Rattle.brc_trace.specs.Replaying.{Replays};
 
-use crate::reading::read_trace;
+use crate::stepping::world_of;
 use crate::world_text::write_world;
-use brc_core::{ReplayFault, World, replay};
-use brc_words::{Fault, Reason};
+use brc_words::Fault;
 use std::alloc::Allocator;
 use std::io::{Read, Write};
 
@@ -31,24 +30,6 @@ fn read_input<A: Allocator, R: Read>(alloc: A, reader: &mut R) -> Result<Vec<u8,
     Ok(bytes)
 }
 
-/// The world to which the input leads. The input's memory is free again before the replay.
-fn world_of<A: Allocator + Copy>(alloc: A, input: Vec<u8, A>) -> Result<World<A>, Fault>
-    ensures { MatchResult result (IsReplayed input.items) (λ fault. LeadsNowhere fault input.items) }
-{
-    let trace = read_trace(alloc, input.as_slice())?;
-    drop(input);
-    let events = trace.events.as_slice();
-    match replay(alloc, events, trace.cells, trace.local_limit) {
-        Ok(world) => Ok(world),
-        Err(ReplayFault::NotEnabled { at }) => Err(Fault::BadTrace {
-            line: at as u32 + 2,
-            reason: Reason::NotEnabled,
-        }),
-        Err(ReplayFault::Memory) => Err(Fault::OutOfMemory),
-        Err(ReplayFault::Options) => Err(Fault::BadOptions),
-    }
-}
-
 /// Reads a trace, replays it and writes the text of its world; answers whether a mortal object lives at the end.
 pub fn run_replay<A: Allocator + Copy, R: Read + Drop, W: Write>(
     alloc: A,
@@ -58,7 +39,7 @@ pub fn run_replay<A: Allocator + Copy, R: Read + Drop, W: Write>(
     ensures { Replays (R.remaining reader) (W.contents writer.old) (W.contents writer.new) result }
 {
     let input = read_input(alloc, &mut reader)?;
-    let world = world_of(alloc, input)?;
+    let world = world_of(alloc, input.as_slice())?;
     write_world(&world, writer)?;
     Ok(world.live() > 0)
 }

@@ -1,6 +1,0 @@
-use Rattle.std.proofs.Common.{◌≡◌, true, take}
-use Rattle.brc_text.proofs.LineLaws.{lacks}
-use Rattle.brc_text.proofs.line.cut_at.Given as goal
-
-abbrev pub invariant-loop-at : goal.invariant-loop-at
-invariant-loop-at l = lacks l.mark (take l.at l.bytes) ≡ true

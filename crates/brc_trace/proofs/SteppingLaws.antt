@@ -1,0 +1,157 @@
+-- Events that are made as their lines are read: one turn, and how it ends.
+use Rattle.std.proofs.Common.{◌≡◌, ◌∙◌, ℕ, ◌+◌, ◌<◌, ◌≤◌, true, false, List, [], ◌∷◌, ◌++◌, length, take, reverse, Option, Some, None, Result, Ok, Err, refl, sym, ap, subst, append-nil, length-append, arith}
+use Rattle.std.specs.Prelude.{slice_get, ◌⊎◌, ◌↔◌}
+use Rattle.std.proofs.Common.{inl, inr}
+use Rattle.std.proofs.lemmas.List.{reverse-append}
+use Rattle.std.proofs.Math.Seq.{take-append_seam}
+use Rattle.brc_words.specs.declared.fault.Fault.{Fault}
+use Rattle.brc_words.specs.declared.fault.Fault.TheVariants as faults
+use Rattle.brc_words.specs.declared.fault.Reason.{Reason}
+use Rattle.brc_words.specs.declared.fault.Reason.TheVariants as reasons
+use Rattle.brc_runs.specs.declared.event.Event.{Event}
+use Rattle.brc_runs.specs.Heap.{Heap, opening, AreOptions}
+use Rattle.brc_runs.specs.Steps.{enabled, after}
+use Rattle.brc_runs.specs.Runs.{IsRun, world_after}
+use Rattle.brc_core.specs.Replays.{IsFirstNotEnabled}
+use Rattle.brc_text.specs.Lines.{pieces}
+use Rattle.brc_trace.specs.Events.{event_at}
+use Rattle.brc_trace.specs.Traces.{Listing, by_line, before_others, events_at, below_head, trace_at, IsHead, Refuses}
+use Rattle.brc_trace.specs.Replaying.{AreMade, AreRefused, told, Steps, IsReplayed, IsNotEnabled, IsBad, LeadsNowhere}
+use Rattle.brc_trace.proofs.ReadingLoop.{with_front, bad_line, good_line, line_shorter, no_line, joined, nothing_before}
+use Rattle.brc_trace.proofs.ReplayLaws.{are_options}
+
+-- ---- behind an event that isn't enabled
+
+told_alike : (refused number : ℕ) (event : Event) (later : Result (List Event) ℕ) → told refused later ≡ told refused (before_others number (Some event) later)
+told_alike refused number event (Ok later) = refl
+told_alike refused number event (Err bad) = refl
+
+pub told_behind : (refused number : ℕ) (rest behind : List ℕ) (event : Event) → by_line event_at rest ≡ Some (event, behind)
+    → told refused (events_at (number + 1) (pieces behind)) ≡ told refused (events_at number (pieces rest))
+told_behind refused number rest behind event some =
+    told_alike refused number event (events_at (number + 1) (pieces behind)) ∙ ap (told refused) (sym (good_line number rest behind event some))
+
+-- ---- from line to line
+
+-- the events that were read were made: the lines behind are still to be read
+pub record SteppedTo (start : Heap) (text rest : List ℕ) (number : ℕ) (world : Heap) : Type 0 where
+  pub front : List Event
+  pub so_far : with_front front (events_at number (pieces rest)) ≡ events_at 2 (pieces text)
+  pub run : IsRun start (reverse front)
+  pub leads : world ≡ world_after start (reverse front)
+  pub counted : number ≡ length front + 2
+  pub short : number + length rest ≤ 16777218
+
+pub nothing_made : (start : Heap) (text : List ℕ) → length text ≤ 16777216 → SteppedTo start text text 2 start
+nothing_made start text short = record {
+  front = [];
+  so_far = nothing_before (events_at 2 (pieces text));
+  run = tt;
+  leads = refl;
+  counted = refl;
+  short = omega (arith, short);
+}
+
+-- the events, and one more that is enabled there
+one_made : (start old new : Heap) (front : List Event) (event : Event) → IsRun start (reverse front) → old ≡ world_after start (reverse front)
+    → enabled old event ≡ true → new ≡ after old event
+    → IsRun start (reverse (front ++ (event ∷ []))) × (new ≡ world_after start (reverse (front ++ (event ∷ []))))
+one_made start old new front event run leads may is =
+    let P : List Event → Type 0 = λ es. IsRun start es × (new ≡ world_after start es) in
+    let Q : Heap → Type 0 = λ h. enabled h event ≡ true in
+    subst P (sym (reverse-append front (event ∷ []))) ((run, subst Q leads may), is ∙ ap (λ (h : Heap). after h event) leads)
+
+pub step_made : (start old new : Heap) (text rest behind : List ℕ) (number : ℕ) (event : Event) → SteppedTo start text rest number old
+    → by_line event_at rest ≡ Some (event, behind) → enabled old event ≡ true → new ≡ after old event
+    → SteppedTo start text behind (number + 1) new
+step_made start old new text rest behind number event so some may is =
+    let made = one_made start old new so.front event so.run so.leads may is in
+    let later = events_at (number + 1) (pieces behind) in
+    let longer : length (so.front ++ (event ∷ [])) ≡ length so.front + 1 = length-append so.front (event ∷ []) in
+    record {
+      front = so.front ++ (event ∷ []);
+      so_far = sym (joined so.front event number later) ∙ ap (with_front so.front) (sym (good_line number rest behind event some)) ∙ so.so_far;
+      run = made.0;
+      leads = made.1;
+      counted = omega (arith, so.counted, longer);
+      short = omega (arith, so.short, line_shorter rest behind event some);
+    }
+
+pub all_made : (start world : Heap) (text rest : List ℕ) (number : ℕ) → SteppedTo start text rest number world → length rest ≡ 0
+    → AreMade start (events_at 2 (pieces text)) world
+all_made start world text rest number so none = record {
+  events = so.front;
+  spelled = sym so.so_far ∙ ap (with_front so.front) (no_line number rest none) ∙ ap (λ (es : List Event). Ok es) (append-nil so.front);
+  run = so.run;
+  leads = so.leads;
+}
+
+pub line_is_bad : (start world : Heap) (text rest : List ℕ) (number : ℕ) → SteppedTo start text rest number world → 0 < length rest → by_line event_at rest ≡ None
+    → events_at 2 (pieces text) ≡ Err number
+line_is_bad start world text rest number so some none = sym so.so_far ∙ ap (with_front so.front) (bad_line number rest some none)
+
+-- an event stands behind those before it
+stands_behind : (front : List Event) (event : Event) (later : List Event) → slice_get (front ++ (event ∷ later)) (length front) ≡ Some event
+stands_behind [] event later = refl
+stands_behind (first ∷ front) event later = stands_behind front event later
+
+refused_by : (start world new : Heap) (text rest behind : List ℕ) (number : ℕ) (event : Event) (later : Result (List Event) ℕ)
+    → SteppedTo start text rest number world → events_at number (pieces rest) ≡ before_others number (Some event) later → enabled world event ≡ false
+    → Steps (Err (told number later)) start new (events_at 2 (pieces text))
+refused_by start world new text rest behind number event (Err bad) so here refused = sym so.so_far ∙ ap (with_front so.front) here
+refused_by start world new text rest behind number event (Ok later) so here refused =
+    let P : List Event → Type 0 = λ es. IsRun start (reverse es) in
+    let Q : List Event → Type 0 = λ es. enabled (world_after start (reverse es)) event ≡ false in
+    let R : Heap → Type 0 = λ h. enabled h event ≡ false in
+    let before : so.front ≡ take (length so.front) (so.front ++ (event ∷ later)) = sym (take-append_seam so.front (event ∷ later)) in
+    record {
+      events = so.front ++ (event ∷ later);
+      spelled = sym so.so_far ∙ ap (with_front so.front) here;
+      at = length so.front;
+      first = record { event = event; there = stands_behind so.front event later; earlier = subst P before so.run; refused = subst Q before (subst R so.leads refused) };
+      counted = so.counted;
+    }
+
+pub line_is_refused : (start world new : Heap) (text rest behind : List ℕ) (number : ℕ) (event : Event) (fault : Fault)
+    → SteppedTo start text rest number world → by_line event_at rest ≡ Some (event, behind) → enabled world event ≡ false
+    → fault ≡ told number (events_at (number + 1) (pieces behind)) → Steps (Err fault) start new (events_at 2 (pieces text))
+line_is_refused start world new text rest behind number event fault so some refused is =
+    let P : Fault → Type 0 = λ f. Steps (Err f) start new (events_at 2 (pieces text)) in
+    subst P (sym is) (refused_by start world new text rest behind number event (events_at (number + 1) (pieces behind)) so (good_line number rest behind event some) refused)
+
+-- ---- the whole text
+
+pub head_refused : (text : List ℕ) (fault : Fault) → Refuses fault (trace_at text) → LeadsNowhere fault text
+head_refused text faults.OutOfMemory h = tt
+head_refused text (faults.BadTrace line reasons.NotALine) h = h
+head_refused text (faults.BadTrace line reasons.NotEnabled) h = absurd h
+head_refused text _ h = absurd h
+
+-- a head's sizes are those of a heap, so that only memory can be wanting
+pub only_memory : (text rest : List ℕ) (cells limit : ℕ) (fault : Fault) → IsHead text (cells, limit) rest → (fault ≡ faults.BadOptions → ¬ (AreOptions cells limit))
+    → (fault ≡ faults.BadOptions) ⊎ (fault ≡ faults.OutOfMemory) → LeadsNowhere fault text
+only_memory text rest cells limit fault is bad (inl options) = absurd (bad options (are_options cells limit is.size is.limit))
+only_memory text rest cells limit fault is bad (inr memory) =
+    let P : Fault → Type 0 = λ f. LeadsNowhere f text in subst P (sym memory) tt
+
+pub lines_replayed : (text rest : List ℕ) (cells limit : ℕ) (world : Heap) → IsHead text (cells, limit) rest
+    → AreMade (opening cells limit) (events_at 2 (pieces rest)) world → IsReplayed text world
+lines_replayed text rest cells limit world is made = record {
+  trace = record { cells = cells; local_limit = limit; events = made.events };
+  spelled = is.read ∙ ap (below_head (Some (cells, limit))) made.spelled;
+  run = made.run;
+  leads = made.leads;
+}
+
+pub lines_refused : (text rest : List ℕ) (cells limit : ℕ) (new : Heap) (fault : Fault) → IsHead text (cells, limit) rest
+    → Steps (Err fault) (opening cells limit) new (events_at 2 (pieces rest)) → LeadsNowhere fault text
+lines_refused text rest cells limit new faults.OutOfMemory is h = tt
+lines_refused text rest cells limit new (faults.BadTrace line reasons.NotALine) is h = is.read ∙ ap (below_head (Some (cells, limit))) h
+lines_refused text rest cells limit new (faults.BadTrace line reasons.NotEnabled) is h = record {
+  trace = record { cells = cells; local_limit = limit; events = h.events };
+  spelled = is.read ∙ ap (below_head (Some (cells, limit))) h.spelled;
+  at = h.at;
+  first = h.first;
+  counted = h.counted;
+}
+lines_refused text rest cells limit new _ is h = absurd h

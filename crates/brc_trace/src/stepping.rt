@@ -1,0 +1,73 @@
+//! The world to which a text leads: each event is made as its line is read, so that no list of events is kept.
+
+ghost use Rattle.std.specs.Prelude.{◌≡◌, ◌+◌, ◌≤◌, length, MatchResult};
+ghost use Rattle.brc_text.specs.Lines.{pieces};
+ghost use Rattle.brc_trace.specs.Traces.{events_at};
+ghost use Rattle.brc_trace.specs.Replaying.{IsReplayed, LeadsNowhere, Steps, told};
+
+use crate::event_line::read_event;
+use crate::reading::{not_a_line, read_head};
+use brc_core::{StepFault, World};
+use brc_text::Words;
+use brc_words::{Fault, Reason};
+use std::alloc::Allocator;
+
+/// The fault of a trace whose event on this line isn't enabled. A bad line is told before it, so the lines behind are
+/// still read, and none of their events is made.
+fn fault_of_refused(words: &mut Words, behind: &[u8], refused: u32) -> Fault
+    requires { refused + length behind.now ≤ 16777217 }
+
+    ensures { result ≡ told refused (events_at (refused + 1) (pieces behind.now)) }
+{
+    let mut rest = behind;
+    let mut number = refused + 1;
+    while !rest.is_empty() {
+        let Some((_, later)) = read_event(words, rest) else {
+            return not_a_line(number);
+        };
+        number += 1;
+        rest = later;
+    }
+    Fault::BadTrace {
+        line: refused,
+        reason: Reason::NotEnabled,
+    }
+}
+
+/// Makes the events of the lines behind the head, which is line 1.
+fn step_lines<A: Allocator + Copy>(
+    world: &mut World<A>,
+    words: &mut Words,
+    text: &[u8],
+) -> Result<(), Fault>
+    requires { length text.now ≤ 16777216 }
+
+    ensures { Steps result world.old world.new (events_at 2 (pieces text.now)) }
+{
+    let mut rest = text;
+    let mut number: u32 = 2;
+    while !rest.is_empty() {
+        let Some((event, behind)) = read_event(words, rest) else {
+            return Err(not_a_line(number));
+        };
+        match world.step(&event) {
+            Ok(()) => {}
+            Err(StepFault::NotEnabled) => return Err(fault_of_refused(words, behind, number)),
+            Err(StepFault::Memory) => return Err(Fault::OutOfMemory),
+        }
+        number += 1;
+        rest = behind;
+    }
+    Ok(())
+}
+
+/// The world to which the text leads.
+pub(crate) fn world_of<A: Allocator + Copy>(alloc: A, text: &[u8]) -> Result<World<A>, Fault>
+    ensures { MatchResult result (IsReplayed text.now) (λ fault. LeadsNowhere fault text.now) }
+{
+    let mut words = Words::new();
+    let ((cells, local_limit), behind) = read_head(&mut words, text)?;
+    let mut world = World::new(alloc, cells, local_limit)?;
+    step_lines(&mut world, &mut words, behind)?;
+    Ok(world)
+}
