@@ -123,9 +123,9 @@ is_packed bytes word = eqb (length (keyword word)) (length bytes) && eqb (packed
 is_spelled : (bytes : List ℕ) (word : Keyword) → AreBytes bytes → is_packed bytes word ≡ bytes_eq (keyword word) bytes
 is_spelled bytes word all = same_bools _ _
     (λ e. let both = and_parts _ _ e in
-        (bytes_eq-Decides (keyword word) bytes).1 (packed_same 0 0 (keyword word) bytes (keyword_bytes word) all (eqb-true _ _ both.0) (eqb-true _ _ both.1)).words)
+    (bytes_eq-Decides (keyword word) bytes).1 (packed_same 0 0 (keyword word) bytes (keyword_bytes word) all (eqb-true _ _ both.0) (eqb-true _ _ both.1)).words)
     (λ e. let same = (bytes_eq-Decides (keyword word) bytes).0 e in
-        and_from _ _ (eq-eqb _ _ (ap length same)) (eq-eqb _ _ (ap (packed 0) same)))
+    and_from _ _ (eq-eqb _ _ (ap length same)) (eq-eqb _ _ (ap (packed 0) same)))
 
 find_alike : {X : Type 0} (p q : X → Bool) (xs : List X) → ((x : X) → p x ≡ q x) → find p xs ≡ find q xs
 find_alike p q [] same = refl
@@ -161,16 +161,16 @@ pub letters_are : (text word rest : List ℕ) (k : Keyword) (count key : ℕ) �
 letters_are text word rest k count key are whole ends spells =
     let spelled = keyword_takes word k spells in
     let high : (i : ℕ) → i < length word → 32 < get_or word i 0 = λ i within.
-        subst (λ (b : List ℕ). 32 < get_or b i 0) (sym spelled) (high_at (keyword k) i (keyword_high k) (subst (λ (b : List ℕ). i < length b) spelled within)) in
+    subst (λ (b : List ℕ). 32 < get_or b i 0) (sym spelled) (high_at (keyword k) i (keyword_high k) (subst (λ (b : List ℕ). i < length b) spelled within)) in
     let short : length word ≤ 8 = subst (λ (b : List ℕ). length b ≤ 8) (sym spelled) (keyword_short k) in
     elim (cases_lt count (length word)) [
       | inl less ↦
-        let above = subst (λ (b : ℕ). 32 < b) (sym (front_byte text word rest count whole less)) (high count less) in
-        absurd (omega (arith, above, are.ended (omega (arith, less, short))))
+          let above = subst (λ (b : ℕ). 32 < b) (sym (front_byte text word rest count whole less)) (high count less) in
+          absurd (omega (arith, above, are.ended (omega (arith, less, short))))
       | inr not_less ↦ elim (cases_lt (length word) count) [
         | inl more ↦
-          let above = subst (λ (b : ℕ). 32 < b) (next_byte text word rest whole) (are.high (length word) more) in
-          absurd (omega (arith, above, ends))
+            let above = subst (λ (b : ℕ). 32 < b) (next_byte text word rest whole) (are.high (length word) more) in
+            absurd (omega (arith, above, ends))
         | inr not_more ↦ omega (arith, not_less, not_more)
       ]
     ]

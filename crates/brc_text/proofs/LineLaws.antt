@@ -1,13 +1,12 @@
 -- Lines and their words are read as they were spelled, and only so.
-use Rattle.std.proofs.Common.{◌≡◌, ℕ, zero, suc, ◌+◌, ◌<◌, ◌≤◌, Bool, true, false, not, cond, eqb, ◌&&◌, List, [], ◌∷◌, ◌++◌, length, get_or, take, drop, Option, Some, None, refl, sym, ap, subst, inl, inr, ◌∙◌, append_assoc, append-nil, decimal, arith}
+use Rattle.std.proofs.Common.{◌≡◌, ℕ, zero, suc, ◌<◌, ◌≤◌, Bool, true, false, not, cond, eqb, List, [], ◌∷◌, ◌++◌, length, get_or, drop, Option, Some, None, refl, sym, ap, subst, inl, inr, ◌∙◌, append_assoc, append-nil, decimal, arith}
 use Rattle.std.specs.Prelude.{◌⊎◌}
 use Rattle.std.specs.List.{flat_map, AllByRecursion}
 use Rattle.std.specs.Option.{option_map}
 use Rattle.std.specs.Str.Parse.{AllDigits}
 use Rattle.std.proofs.lemmas.Bool.{eqb-true, eq-eqb, ne_eqb, and_parts, and_from}
-use Rattle.std.proofs.lemmas.List.{take_more, length-append}
+use Rattle.std.proofs.lemmas.List.{length-append}
 use Rattle.std.proofs.lemmas.Str.Parse.{digit_from_value}
-use Rattle.std.proofs.Math.Seq.{split_at}
 use Rattle.std.proofs.lemmas.Fmt.{digits_decimal}
 use Rattle.brc_text.specs.declared.keyword.Keyword.{Keyword}
 use Rattle.brc_text.specs.declared.keyword.Keyword.TheVariants as words
@@ -30,14 +29,6 @@ lacks-append mark [] ys p q = q
 lacks-append mark (x ∷ xs) ys p q =
     let both = and_parts _ _ p in and_from _ _ both.0 (lacks-append mark xs ys both.1 q)
 
-pub lacks_one : (mark byte : ℕ) → (byte ≡ mark → ⊥) → lacks mark (byte ∷ []) ≡ true
-lacks_one mark byte other = rw (ne_eqb byte mark other) refl
-
-pub lacks_more : (mark : ℕ) (bytes : List ℕ) (i : ℕ) → i < length bytes → lacks mark (take i bytes) ≡ true → (get_or bytes i 0 ≡ mark → ⊥)
-    → lacks mark (take (i + 1) bytes) ≡ true
-lacks_more mark bytes i within front other =
-    ap (lacks mark) (take_more bytes i 0 within) ∙ lacks-append mark (take i bytes) (get_or bytes i 0 ∷ []) front (lacks_one mark _ other)
-
 not_true : (b : Bool) → not b ≡ true → b ≡ false
 not_true true e = absurd cc
 not_true false e = refl
@@ -55,15 +46,6 @@ cut_whole mark [] h = refl
 cut_whole mark (byte ∷ bytes) h =
     let both = and_parts _ _ h in
     rw (not_true (eqb byte mark) both.0, cut_whole mark bytes both.1) refl
-
-pub cut_here : (mark : ℕ) (bytes : List ℕ) (i : ℕ) → i < length bytes → lacks mark (take i bytes) ≡ true → get_or bytes i 0 ≡ mark
-    → cut mark bytes ≡ (take i bytes, Some (drop (i + 1) bytes))
-cut_here mark bytes i within front here =
-    let next : suc i ≡ i + 1 = omega arith in
-    let parts : bytes ≡ take i bytes ++ (mark ∷ drop (i + 1) bytes) =
-    split_at bytes i 0 within ∙ ap (λ (b : ℕ). take i bytes ++ (b ∷ drop (suc i) bytes)) here
-    ∙ ap (λ (n : ℕ). take i bytes ++ (mark ∷ drop n bytes)) next in
-    ap (cut mark) parts ∙ cut_until mark (take i bytes) (drop (i + 1) bytes) front
 
 -- the mark and what stands behind it
 abbrev pub behind_mark : ℕ → Option (List ℕ) → List ℕ
@@ -168,6 +150,7 @@ longer_line most text word rest is =
   where
     behind_space : (rest : List ℕ) → cut 10 (32 ∷ rest) ≡ (32 ∷ (cut 10 rest).0, (cut 10 rest).1)
     behind_space rest = cut_past 10 (32 ∷ []) rest refl
+
     by_parts : (o : Option Token) (back : Option (List ℕ)) (words : Option (List Token))
         → (back >>= λ left. (o >>= λ token. (words >>= λ others. Some (token ∷ others))) >>= with_rest left)
         ≡ (o >>= λ token. after (token ∷ []) (back >>= λ left. words >>= with_rest left))
@@ -197,15 +180,19 @@ no_token most front text none = ap (after front) (by_line (cut 10 text).1 refl)
       where
         joined : text ≡ (cut 10 text).0 ++ (10 ∷ behind)
         joined = (cut_parts 10 text).joined ∙ ap (λ (o : Option (List ℕ)). (cut 10 text).0 ++ behind_mark 10 o) ended
+
         first : List ℕ
         first = (cut 32 (cut 10 text).0).0
+
         whole : (back : Option (List ℕ)) → (cut 32 (cut 10 text).0).1 ≡ back → text ≡ first ++ (behind_mark 32 back ++ (10 ∷ behind))
         whole back is =
             joined ∙ ap (λ (l : List ℕ). l ++ (10 ∷ behind)) ((cut_parts 32 (cut 10 text).0).joined ∙ ap (λ (o : Option (List ℕ)). first ++ behind_mark 32 o) is)
             ∙ append_assoc first (behind_mark 32 back) (10 ∷ behind)
+
         by_space : (back : Option (List ℕ)) → (cut 32 (cut 10 text).0).1 ≡ back → ⊥
         by_space None is = none first (10 ∷ behind) t (whole None is) (inr refl) word
         by_space (Some rest) is = none first ((32 ∷ rest) ++ (10 ∷ behind)) t (whole (Some rest) is) (inl refl) word
+
     by_line : (behind : Option (List ℕ)) → (cut 10 text).1 ≡ behind → first_line (suc most) text ≡ None
     by_line None open_end = rw open_end refl
     by_line (Some behind) ended = rw (ended, by_word behind (token_at (cut 32 (cut 10 text).0).0) ended refl) refl
@@ -219,12 +206,15 @@ first_and_rest (first ∷ left) byte some is = ap (λ (b : ℕ). b ∷ left) is
 pub word_found : (text rest left : List ℕ) (token : Token) (last : Bool) → Begins token_at text token left → left ≡ end_of last ∷ rest
     → (word : List ℕ) × IsWord text word last rest × (token_at word ≡ Some token)
 word_found text rest left token last begins ends =
-    let is = token_takes begins.word token begins.reads in
-    (begins.word, record {
-      no_space = ap (lacks 32) is.1 ∙ token_lacks_space token is.0;
-      no_feed = ap (lacks 10) is.1 ∙ token_lacks_feed token is.0;
-      whole = begins.whole ∙ ap (λ (l : List ℕ). begins.word ++ l) ends;
-    }, begins.reads)
+    let is = token_takes begins.word token begins.reads in (
+      begins.word,
+      record {
+        no_space = ap (lacks 32) is.1 ∙ token_lacks_space token is.0;
+        no_feed = ap (lacks 10) is.1 ∙ token_lacks_feed token is.0;
+        whole = begins.whole ∙ ap (λ (l : List ℕ). begins.word ++ l) ends;
+      },
+      begins.reads,
+    )
 
 pub last_word : (most : ℕ) (front : List Token) (text word rest : List ℕ) (last : Bool) (token : Token) → IsWord text word last rest → last ≡ true → token_at word ≡ Some token
     → after front (first_line (suc most) text) ≡ Some (front ++ (token ∷ []), rest)

@@ -164,18 +164,18 @@ pub no_zero_ahead : (text word rest : List ℕ) (n : ℕ) → IsAhead text word 
 no_zero_ahead text word rest n is first digit = elim (cases_lt 1 (length word)) [
   | inl long ↦ no_longer_none _ _ is.spells (leading_zero word long (sym (front_byte text word rest 0 is.whole (omega (arith, long))) ∙ first))
   | inr short ↦
-    let one : length word ≡ 1 = omega (arith, short, spelled_some word n is.spells) in
-    let here : get_or text 1 0 ≡ get_or rest 0 0 = ap (λ (i : ℕ). get_or text i 0) (sym one) ∙ next_byte text word rest is.whole in
-    low_is_no_digit _ is.ends (subst (IsInRange 48 57) here digit)
+      let one : length word ≡ 1 = omega (arith, short, spelled_some word n is.spells) in
+      let here : get_or text 1 0 ≡ get_or rest 0 0 = ap (λ (i : ℕ). get_or text i 0) (sym one) ∙ next_byte text word rest is.whole in
+      low_is_no_digit _ is.ends (subst (IsInRange 48 57) here digit)
 ]
 
 -- digits that were read are those of the word
 pub still_within : (text word rest : List ℕ) (n i number : ℕ) → IsAhead text word rest n → HasRead text i number → i ≤ length text → i ≤ length word
 still_within text word rest n i number is so_far inside = elim (cases_lt (length word) i) [
   | inl past ↦
-    let digit = digit_at (take i text) (length word) so_far.digits (omega (arith, length-take-le i text inside, past)) in
-    let here : get_or (take i text) (length word) 0 ≡ get_or rest 0 0 = get_or-take i text (length word) 0 past ∙ next_byte text word rest is.whole in
-    absurd (low_is_no_digit _ is.ends (subst (IsInRange 48 57) here digit))
+      let digit = digit_at (take i text) (length word) so_far.digits (omega (arith, length-take-le i text inside, past)) in
+      let here : get_or (take i text) (length word) 0 ≡ get_or rest 0 0 = get_or-take i text (length word) 0 past ∙ next_byte text word rest is.whole in
+      absurd (low_is_no_digit _ is.ends (subst (IsInRange 48 57) here digit))
   | inr within ↦ within
 ]
 
@@ -193,8 +193,8 @@ pub one_more_within : (text word rest : List ℕ) (n i number : ℕ) → IsAhead
 one_more_within text word rest n i number is so_far inside digit = elim (cases_lt i (length word)) [
   | inl within ↦ within
   | inr past ↦
-    let at : i ≡ length word = omega (arith, past, still_within text word rest n i number is so_far (omega (arith, inside))) in
-    absurd (low_is_no_digit _ is.ends (subst (IsInRange 48 57) (ap (λ (k : ℕ). get_or text k 0) at ∙ next_byte text word rest is.whole) digit))
+      let at : i ≡ length word = omega (arith, past, still_within text word rest n i number is so_far (omega (arith, inside))) in
+      absurd (low_is_no_digit _ is.ends (subst (IsInRange 48 57) (ap (λ (k : ℕ). get_or text k 0) at ∙ next_byte text word rest is.whole) digit))
 ]
 
 pub not_too_large : (text word rest : List ℕ) (n i number : ℕ) → IsAhead text word rest n → HasRead text i number → i < length text
@@ -216,8 +216,8 @@ number_found text word rest n i number is so_far inside no_digit =
     let within = still_within text word rest n i number is so_far inside in
     let at : i ≡ length word = elim (cases_lt i (length word)) [
       | inl less ↦
-        let longer : length text ≡ length word + length rest = ap length is.whole ∙ length-append word rest in
-        absurd (no_digit (omega (arith, less, longer)) (subst (IsInRange 48 57) (sym (front_byte text word rest i is.whole less)) (spelled_digit word n i is.spells less)))
+          let longer : length text ≡ length word + length rest = ap length is.whole ∙ length-append word rest in
+          absurd (no_digit (omega (arith, less, longer)) (subst (IsInRange 48 57) (sym (front_byte text word rest i is.whole less)) (spelled_digit word n i is.spells less)))
       | inr not_less ↦ omega (arith, not_less, within)
     ] in
     let read : HasRead word (length word) number = subst (λ (k : ℕ). HasRead word k number) at (of_the_word text word rest i number is.whole within so_far) in
@@ -241,8 +241,8 @@ number_begins text i number some inside so_far no_zero =
     let whole : take (length (take i text)) (take i text) ≡ take i text = take_all _ (take i text) (omega arith) in
     let plain : 1 < length (take i text) → get_or (take i text) 0 0 ≡ 48 → ⊥ =
     λ more first.
-        let second = digit_at (take i text) 1 so_far.digits more in
-        no_zero (sym (get_or-take i text 0 0 (omega (arith, some))) ∙ first) (subst (IsInRange 48 57) (get_or-take i text 1 0 (omega (arith, more, long))) second) in
+    let second = digit_at (take i text) 1 so_far.digits more in
+    no_zero (sym (get_or-take i text 0 0 (omega (arith, some))) ∙ first) (subst (IsInRange 48 57) (get_or-take i text 1 0 (omega (arith, more, long))) second) in
     record {
       word = take i text;
       whole = sym (take-append-drop i text);

@@ -1,15 +1,12 @@
 -- A token is read as it was spelled, and only so.
-use Rattle.std.proofs.Common.{◌≡◌, ℕ, ◌<◌, ◌≤◌, length, get_or, drop, ◌++◌, inl, inr, Bool, true, false, true≢false, eqb, leb, List, [], ◌∷◌, Option, Some, None, refl, sym, ap, subst, ◌∙◌, decimal, arith, cond}
+use Rattle.std.proofs.Common.{◌≡◌, ℕ, ◌<◌, ◌≤◌, length, get_or, drop, ◌++◌, inl, inr, Bool, true, false, eqb, List, [], ◌∷◌, Option, Some, None, refl, sym, ap, subst, ◌∙◌, decimal, arith, cond}
 use Rattle.std.specs.Prelude.{IfSome}
-use Rattle.std.specs.List.{find}
-use Rattle.std.specs.Str.{bytes_eq}
 use Rattle.std.specs.Fmt.{digits}
 use Rattle.std.specs.Int.{IsInRange}
 use Rattle.std.specs.Char.{is_ascii_digit}
 use Rattle.std.proofs.lemmas.List.{get_or_past}
 use Rattle.std.proofs.lemmas.Fmt.{decimal_nonempty}
-use Rattle.std.proofs.lemmas.Bool.{cases_lt, eqb-true, leb-true, le-leb, and_parts, and_from}
-use Rattle.std.proofs.lemmas.Slice.Eq.{bytes_eq-Decides}
+use Rattle.std.proofs.lemmas.Bool.{cases_lt, eqb-true}
 use Rattle.brc_text.specs.declared.keyword.Keyword.{Keyword}
 use Rattle.brc_text.specs.declared.keyword.Keyword.TheVariants as words
 use Rattle.brc_text.specs.declared.token.Letter.{Letter}
@@ -195,10 +192,10 @@ pub second_alike : (text word rest : List ℕ) (t : Token) (b : Bool) → text �
 second_alike text word rest t b whole ends e is = elim (cases_lt 1 (length word)) [
   | inl long ↦ ap is_ascii_digit (sym (front_byte text word rest 1 whole long)) ∙ is
   | inr short ↦
-    let one : length word ≡ 1 = omega (arith, short, token_some word t e) in
-    let here : get_or text 1 0 ≡ get_or rest 0 0 = ap (λ (i : ℕ). get_or text i 0) (sym one) ∙ next_byte text word rest whole in
-    let none : get_or word 1 0 ≡ 0 = get_or_past word 1 0 (omega (arith, one)) in
-    ap is_ascii_digit none ∙ sym (not_digit _ ends) ∙ ap is_ascii_digit (sym here) ∙ is
+      let one : length word ≡ 1 = omega (arith, short, token_some word t e) in
+      let here : get_or text 1 0 ≡ get_or rest 0 0 = ap (λ (i : ℕ). get_or text i 0) (sym one) ∙ next_byte text word rest whole in
+      let none : get_or word 1 0 ≡ 0 = get_or_past word 1 0 (omega (arith, one)) in
+      ap is_ascii_digit none ∙ sym (not_digit _ ends) ∙ ap is_ascii_digit (sym here) ∙ is
 ]
 
 -- what is found is a token

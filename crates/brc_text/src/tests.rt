@@ -25,26 +25,49 @@ fn numbers(rt: HostRuntime) {
 }
 
 #[test]
-fn tokens(rt: HostRuntime) {
-    let cases = [
-        ("a number", "266", Some(Token::Number(266))),
-        ("a place", "f12", Some(Token::Place(Letter::Frame, 12))),
-        (
-            "a popped cell",
-            "q266",
-            Some(Token::Place(Letter::Popped, 266)),
-        ),
-        ("the hand", "h", Some(Token::Word(Keyword::InHand))),
-        ("a keyword", "frame", Some(Token::Word(Keyword::Frame))),
-        ("its first letter", "f", None),
-        ("a letter of none", "g5", None),
-        ("nothing to be said", "-", Some(Token::Word(Keyword::Dash))),
-        ("below 0", "-5", None),
-        ("leading zero", "f07", None),
-        ("a keyword and more", "frames", None),
+fn words_of_lines(rt: HostRuntime) {
+    let mut words = Words::new();
+    let text = b"1 unlock take 0 f12 q266 h -\n2 wake\nno line";
+    let read = [
+        Token::Number(1),
+        Token::Word(Keyword::Unlock),
+        Token::Word(Keyword::Take),
+        Token::Number(0),
+        Token::Place(Letter::Frame, 12),
+        Token::Place(Letter::Popped, 266),
+        Token::Word(Keyword::InHand),
+        Token::Word(Keyword::Dash),
     ];
-    for (case, text, token) in cases {
-        assert_eq!(rt; token_of(text.as_bytes()), token, "{case}");
+    let behind = b"2 wake\nno line".as_slice();
+    assert_eq!(rt; words.read(text), Some(behind));
+    assert_eq!(rt; words.tokens(), read.as_slice());
+    let read = [Token::Number(2), Token::Word(Keyword::Wake)];
+    assert_eq!(rt; words.read(behind), Some(b"no line".as_slice()));
+    assert_eq!(rt; words.tokens(), read.as_slice());
+}
+
+#[test]
+fn no_lines(rt: HostRuntime) {
+    let cases = [
+        ("nothing", ""),
+        ("an empty line", "\n"),
+        ("no line feed", "1"),
+        ("a first letter alone", "f\n"),
+        ("a letter of none", "g5\n"),
+        ("below 0", "-5\n"),
+        ("leading zero", "f07\n"),
+        ("a keyword and more", "frames\n"),
+        ("a keyword and less", "fram\n"),
+        ("a keyword of nine letters", "registers\n"),
+        ("a tab", "1\twake\n"),
+        ("a carriage return", "1 wake\r\n"),
+        ("two spaces", "1  wake\n"),
+        ("a space behind", "1 wake \n"),
+        ("nine words", "1 1 1 1 1 1 1 1 1\n"),
+    ];
+    let mut words = Words::new();
+    for (case, text) in cases {
+        assert_eq!(rt; words.read(text.as_bytes()), None, "{case}");
     }
 }
 

@@ -121,19 +121,6 @@ line_is_refused start world new text rest behind number event fault so some refu
 
 -- ---- the whole text
 
-pub head_refused : (text : List ℕ) (fault : Fault) → Refuses fault (trace_at text) → LeadsNowhere fault text
-head_refused text faults.OutOfMemory h = tt
-head_refused text (faults.BadTrace line reasons.NotALine) h = h
-head_refused text (faults.BadTrace line reasons.NotEnabled) h = absurd h
-head_refused text _ h = absurd h
-
--- a head's sizes are those of a heap, so that only memory can be wanting
-pub only_memory : (text rest : List ℕ) (cells limit : ℕ) (fault : Fault) → IsHead text (cells, limit) rest → (fault ≡ faults.BadOptions → ¬ (AreOptions cells limit))
-    → (fault ≡ faults.BadOptions) ⊎ (fault ≡ faults.OutOfMemory) → LeadsNowhere fault text
-only_memory text rest cells limit fault is bad (inl options) = absurd (bad options (are_options cells limit is.size is.limit))
-only_memory text rest cells limit fault is bad (inr memory) =
-    let P : Fault → Type 0 = λ f. LeadsNowhere f text in subst P (sym memory) tt
-
 pub lines_replayed : (text rest : List ℕ) (cells limit : ℕ) (world : Heap) → IsHead text (cells, limit) rest
     → AreMade (opening cells limit) (events_at 2 (pieces rest)) world → IsReplayed text world
 lines_replayed text rest cells limit world is made = record {
@@ -142,16 +129,3 @@ lines_replayed text rest cells limit world is made = record {
   run = made.run;
   leads = made.leads;
 }
-
-pub lines_refused : (text rest : List ℕ) (cells limit : ℕ) (new : Heap) (fault : Fault) → IsHead text (cells, limit) rest
-    → Steps (Err fault) (opening cells limit) new (events_at 2 (pieces rest)) → LeadsNowhere fault text
-lines_refused text rest cells limit new faults.OutOfMemory is h = tt
-lines_refused text rest cells limit new (faults.BadTrace line reasons.NotALine) is h = is.read ∙ ap (below_head (Some (cells, limit))) h
-lines_refused text rest cells limit new (faults.BadTrace line reasons.NotEnabled) is h = record {
-  trace = record { cells = cells; local_limit = limit; events = h.events };
-  spelled = is.read ∙ ap (below_head (Some (cells, limit))) h.spelled;
-  at = h.at;
-  first = h.first;
-  counted = h.counted;
-}
-lines_refused text rest cells limit new _ is h = absurd h

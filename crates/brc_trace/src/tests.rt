@@ -12,6 +12,10 @@ use std::test::*;
 const LIFE: &str =
     "heap 512 100\n0 register 1\n1 claim 266\n1 local 266\n1 shared 266\n1 born 266 int 0\n1 up f0 1\n1 down f1\n1 down f0\n1 see 266\n1 free 266\n";
 
+/// A whole life in a heap whose owners count as far as they can.
+const SHORT_LIFE: &str =
+    "heap 512 4294967294\n0 register 1\n1 claim 266\n1 local 266\n1 shared 266\n1 born 266 list 0\n1 down f0\n1 see 266\n1 free 266\n";
+
 /// The fault, or none where the text is read.
 fn fault_of(rt: &HostRuntime, text: &str) -> Option<Fault> {
     match read_trace(rt.alloc(), text.as_bytes()) {
@@ -44,6 +48,7 @@ fn lines(rt: HostRuntime) {
         ("many cells", "heap 65537 1\n", Some(1)),
         ("no limit", "heap 512 0\n", Some(1)),
         ("large limit", "heap 512 4294967295\n", Some(1)),
+        ("leading zero in the head", "heap 512 01\n", Some(1)),
         ("head without its line feed", "heap 512 1", Some(1)),
         ("second format", "trace 2\nheap 512 1\n", Some(1)),
         ("an empty line", "heap 512 1\n\n0 register 1\n", Some(2)),
@@ -276,20 +281,23 @@ impl Write for Narrow {
 
 #[test]
 fn there_and_back(rt: HostRuntime) -> Result<(), Fail> {
-    let trace = read_trace(rt.alloc(), LIFE.as_bytes())
-        .ok()
-        .ok_or("a life is a trace")?;
-    assert_eq!(rt; trace.cells, 512);
-    assert_eq!(rt; trace.local_limit, 100);
-    assert_eq!(rt; trace.events.len(), 10);
-    let mut out = Narrow {
-        taken: Vec::new(rt.alloc()),
-        at_once: 7,
-        room: 1000,
-        fails: true,
-    };
-    assert!(rt; write_trace(&trace, &mut out).is_ok());
-    assert_eq!(rt; out.taken.as_slice(), LIFE.as_bytes());
+    let cases = [(LIFE, 100, 10), (SHORT_LIFE, 4_294_967_294, 8)];
+    for (text, local_limit, count) in cases {
+        let trace = read_trace(rt.alloc(), text.as_bytes())
+            .ok()
+            .ok_or("a life is a trace")?;
+        assert_eq!(rt; trace.cells, 512);
+        assert_eq!(rt; trace.local_limit, local_limit);
+        assert_eq!(rt; trace.events.len(), count);
+        let mut out = Narrow {
+            taken: Vec::new(rt.alloc()),
+            at_once: 7,
+            room: 1000,
+            fails: true,
+        };
+        assert!(rt; write_trace(&trace, &mut out).is_ok());
+        assert_eq!(rt; out.taken.as_slice(), text.as_bytes());
+    }
     Ok(())
 }
 
@@ -381,7 +389,7 @@ fn replays(rt: HostRuntime) -> Result<(), Fail> {
         ),
         (
             "a whole life",
-            "heap 512 4294967294\n0 register 1\n1 claim 266\n1 local 266\n1 shared 266\n1 born 266 list 0\n1 down f0\n1 see 266\n1 free 266\n",
+            SHORT_LIFE,
             Ok(false),
             "world 512 4294967294\nthread 1 active\nledger 1 1 0\n",
         ),
@@ -407,6 +415,21 @@ fn replays(rt: HostRuntime) -> Result<(), Fail> {
             "freed before it was seen",
             "heap 512 9\n0 register 1\n1 claim 266\n1 local 266\n1 shared 266\n1 born 266 int 0\n1 free 266\n",
             Err(Fault::BadTrace { line: 7, reason }),
+            "",
+        ),
+        (
+            "no line feed behind it",
+            "heap 512 9\n1 free 266\n0 register 1",
+            Err(Fault::BadTrace {
+                line: 3,
+                reason: Reason::NotALine,
+            }),
+            "",
+        ),
+        (
+            "another one behind it",
+            "heap 512 9\n1 free 266\n1 free 267\n0 register 1\n",
+            Err(Fault::BadTrace { line: 2, reason }),
             "",
         ),
         (

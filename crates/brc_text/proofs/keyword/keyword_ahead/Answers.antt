@@ -1,4 +1,4 @@
-use Rattle.std.proofs.Common.{◌≡◌, ◌∙◌, ◌<◌, ◌++◌, ℕ, List, take, sym, ap, arith, take-append-drop}
+use Rattle.std.proofs.Common.{◌∙◌, ◌<◌, ◌++◌, ℕ, List, take, sym, ap, arith, take-append-drop}
 use Rattle.std.proofs.lemmas.List.{take_rest}
 use Rattle.brc_text.proofs.NumberLaws.{no_longer_none}
 use Rattle.brc_text.proofs.KeywordLaws.{are_bytes, letters_found, no_letters, letters_spell, same_some}

@@ -1,6 +1,4 @@
-use Rattle.std.proofs.Common.{◌≡◌, ◌∙◌, ◌<◌, ◌+◌, ◌*◌, ◌-◌, ◌^◌, ℕ, List, [], true, true≢false, ◌&&◌, eqb, drop, length, get_or, ap, sym, subst, arith, inl, inr}
-use Rattle.std.specs.Int.{IsInRange}
-use Rattle.std.specs.Char.{is_ascii_digit}
+use Rattle.std.proofs.Common.{◌≡◌, ◌∙◌, ◌<◌, ◌+◌, ◌*◌, ◌-◌, ◌^◌, ℕ, true≢false, get_or, ap, sym, subst, arith, inl, inr}
 use Rattle.std.proofs.lemmas.Bool.{cases_lt, eqb-true, eq-eqb, and_parts, and_from}
 use Rattle.std.proofs.lemmas.List.{take_rest, drop_all}
 use Rattle.brc_text.specs.Numbers.{number_at}
@@ -14,10 +12,10 @@ returns-then-not-has_digit-clause-only c word rest n whole ends spells =
     let is : IsAhead c.args.text.now word rest n = record { whole = whole; ends = ends; spells = spells } in
     elim c.then-not-has_digit.branch [
       | then-not-has_digit-via-then-not-has_digit w ↦
-        digit_out _ (sym c.has_digit.ensures ∙ w.if-not-has_digit.true) (digit_ahead c.args.text.now word rest n is)
+          digit_out _ (sym c.has_digit.ensures ∙ w.if-not-has_digit.true) (digit_ahead c.args.text.now word rest n is)
       | then-not-has_digit-via-else-not-has_digit+then-has_leading_zero w ↦
-        let both = and_parts _ _ (sym w.has_leading_zero.ensures ∙ w.if-has_leading_zero.true) in
-        no_zero_ahead c.args.text.now word rest n is (eqb-true _ _ both.0) (digit_in _ both.1)
+          let both = and_parts _ _ (sym w.has_leading_zero.ensures ∙ w.if-has_leading_zero.true) in
+          no_zero_ahead c.args.text.now word rest n is (eqb-true _ _ both.0) (digit_in _ both.1)
     ]
 
 pub returns-then-not-is_ascii_digit-clause-found : goal.returns-then-not-is_ascii_digit-clause-found

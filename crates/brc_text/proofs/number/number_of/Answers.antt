@@ -13,5 +13,5 @@ returns-then-is_empty c =
 pub returns-else-is_empty : goal.returns-else-is_empty
 returns-else-is_empty c =
     sym (no_whole_number c.args.bytes.now (λ n spells.
-        let same = (c.in-Some.ensures.only c.args.bytes.now [] n (sym (append-nil c.args.bytes.now)) ends_nothing spells).1 in
-        omega (arith, ap length same, above_zero (length c.in-Some.rest.now) (sym c.is_empty.ensures ∙ c.if-is_empty.false))))
+    let same = (c.in-Some.ensures.only c.args.bytes.now [] n (sym (append-nil c.args.bytes.now)) ends_nothing spells).1 in
+    omega (arith, ap length same, above_zero (length c.in-Some.rest.now) (sym c.is_empty.ensures ∙ c.if-is_empty.false))))

@@ -4,7 +4,7 @@ use Rattle.brc_runs.specs.Heap.{Heap}
 use Rattle.brc_text.specs.Lines.{pieces}
 use Rattle.brc_trace.specs.Traces.{events_at}
 use Rattle.brc_trace.specs.Replaying.{AreMade}
-use Rattle.brc_trace.proofs.SteppingLaws.{head_refused, only_memory, lines_replayed, lines_refused}
+use Rattle.brc_trace.proofs.SteppingLaws.{lines_replayed}
 use Rattle.brc_trace.proofs.stepping.world_of.Goals as goal
 
 pub returns : goal.returns

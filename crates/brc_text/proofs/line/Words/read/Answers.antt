@@ -1,4 +1,4 @@
-use Rattle.std.proofs.Common.{◌≡◌, ◌∙◌, ◌+◌, ◌-◌, ◌<◌, ◌≤◌, ℕ, true, false, List, [], Option, Some, suc, drop, length, get_or, refl, ap, sym, subst, arith, inl, inr}
+use Rattle.std.proofs.Common.{◌≡◌, ◌∙◌, ◌+◌, ◌-◌, ◌≤◌, ℕ, true, false, List, Some, suc, drop, length, get_or, refl, ap, sym, arith, inl, inr}
 use Rattle.std.proofs.lemmas.Bool.{eqb-true}
 use Rattle.std.proofs.lemmas.List.{take_rest, get_or_past}
 use Rattle.brc_text.specs.declared.token.Token.{Token}
@@ -36,16 +36,16 @@ returns-then-is_empty c =
     let past : get_or c.in-Some.behind.now 0 0 ≡ 0 = get_or_past c.in-Some.behind.now 0 0 (omega (arith, none)) in
     sym c.loop.invariant.so_far ∙ ap (λ (n : ℕ). after c.loop.self (first_line n c.loop.rest.now)) turn
     ∙ no_token (8 - (c.loop.counter + 1)) c.loop.self c.loop.rest.now (λ word rest t whole ends reads.
-        no_end c.in-Some.behind.now rest (c.in-Some.ensures.only word rest t whole (low_end rest ends) reads).1
-        (λ e. omega (arith, past, e)) (λ e. omega (arith, past, e)) ends)
+    no_end c.in-Some.behind.now rest (c.in-Some.ensures.only word rest t whole (low_end rest ends) reads).1
+    (λ e. omega (arith, past, e)) (λ e. omega (arith, past, e)) ends)
 
 pub returns-then-behind-ne32 : goal.returns-then-behind-ne32
 returns-then-behind-ne32 c =
     let turn : 8 - c.loop.counter ≡ suc (8 - (c.loop.counter + 1)) = omega (arith, c.loop-test.true) in
     sym c.loop.invariant.so_far ∙ ap (λ (n : ℕ). after c.loop.self (first_line n c.loop.rest.now)) turn
     ∙ no_token (8 - (c.loop.counter + 1)) c.loop.self c.loop.rest.now (λ word rest t whole ends reads.
-        no_end c.in-Some.behind.now rest (c.in-Some.ensures.only word rest t whole (low_end rest ends) reads).1
-        c.if-behind-ne32.true c.if-behind-eq10.false ends)
+    no_end c.in-Some.behind.now rest (c.in-Some.ensures.only word rest t whole (low_end rest ends) reads).1
+    c.if-behind-ne32.true c.if-behind-eq10.false ends)
 
 pub returns-then-behind-eq10 : goal.returns-then-behind-eq10
 returns-then-behind-eq10 c =
