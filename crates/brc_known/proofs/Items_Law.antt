@@ -8,10 +8,10 @@ use Rattle.brc_runs.specs.declared.event.Step.{Step}
 use Rattle.brc_runs.specs.declared.row.Row.{Row}
 use Rattle.brc_runs.specs.Lists.{is_marked}
 use Rattle.brc_runs.specs.Heap.{Heap, opening, cell_at, row_at, frame_at, worklist_at, new_row, no_row, is_registered, AreOptions}
-use Rattle.brc_runs.specs.Steps.{enabled, after, after_target, target_at, locked_cell, registered, gathered_in}
+use Rattle.brc_runs.specs.Steps.{enabled, after, after_target, target_at, locked_cell, registered, gathered_in, locked_at}
 use Rattle.brc_runs.specs.Holding.{lives}
 use Rattle.brc_runs.specs.Sound.{IsSound, WorklistFits}
-use Rattle.brc_lasting.specs.Staying.{IsAnothers, SameOwn, locked_at}
+use Rattle.brc_lasting.specs.Staying.{IsAnothers, SameOwn}
 use Rattle.brc_known.specs.Items.{Did, ItemRun, world_of_items, AreItems, own, found, Part, new_part, part_after, part_of, IsPart, IsTold}
 use Rattle.brc_runs.proofs.Asking.{May}
 use Rattle.brc_runs.proofs.Naming.{one-true}

@@ -15,9 +15,8 @@ use Rattle.brc_runs.specs.declared.row.Stage.{Stage}
 use Rattle.brc_runs.specs.declared.row.Stage.TheVariants as stages
 use Rattle.brc_runs.specs.Lists.{place_at, filled, front_of, last_of, is_marked, word_at}
 use Rattle.brc_runs.specs.Heap.{Heap, cell_at, entries_at, row_at, frame_at, popped_at, worklist_at, queue_at, no_row, words_for}
-use Rattle.brc_runs.specs.Steps.{target, target_at, target_ok, after_target, kept_cells, stepped, locked_cell, entry_of, dropped_cell, lock_ok, stage_ok, closes_next, is_closed, is_shut, row_after, locked_after, allocs_after, frees_after, frame_after, frame_without, frame_changed, entries_after, entries_without, entries_changed, gone, takes_block, worklist_after, stage_after, drained_word, with_drained}
+use Rattle.brc_runs.specs.Steps.{target, target_at, target_ok, after_target, kept_cells, stepped, locked_cell, entry_of, dropped_cell, lock_ok, stage_ok, closes_next, is_closed, is_shut, row_after, locked_after, allocs_after, frees_after, frame_after, frame_without, frame_changed, entries_after, entries_without, entries_changed, gone, takes_block, worklist_after, stage_after, drained_word, with_drained, locked_at}
 use Rattle.brc_runs.specs.Sound.{IsSound, Locks}
-use Rattle.brc_lasting.specs.Staying.{locked_at}
 use Rattle.brc_known.specs.Items.{closing_bit, told_at, told_of, told_apart, finds, found_at, Part, cell_told, popped_told, put, has_found, has_without, has_after, part_by, part_after, IsPart, Did}
 use Rattle.brc_runs.proofs.Changes.{read_here}
 use Rattle.brc_runs.proofs.Asking.{May, on_cell, Vacant, vacant}

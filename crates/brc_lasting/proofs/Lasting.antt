@@ -17,11 +17,11 @@ use Rattle.brc_runs.specs.declared.row.Phase.{Phase}
 use Rattle.brc_runs.specs.declared.row.Phase.TheVariants as phases
 use Rattle.brc_runs.specs.Lists.{one, is_marked, place_at, bit_of}
 use Rattle.brc_runs.specs.Heap.{Heap, cell_at, entries_at, row_at, frame_at, worklist_at, no_row, new_row, is_immortal}
-use Rattle.brc_runs.specs.Steps.{enabled, after, after_target, root_after, root_may, thread_may, target_at, cell_after, locked_cell, is_at, is_default, target_ok}
+use Rattle.brc_runs.specs.Steps.{enabled, after, after_target, root_after, root_may, thread_may, target_at, cell_after, locked_cell, is_at, is_default, target_ok, locked_at}
 use Rattle.brc_runs.specs.Runs.{IsReached}
 use Rattle.brc_runs.specs.Holding.{carries, lives}
 use Rattle.brc_runs.specs.Sound.{IsSound, HandFits, WorklistFits, Locks, grips, held}
-use Rattle.brc_lasting.specs.Staying.{is_about, IsAnothers, Lasts, SameOwn, locked_at, Has, rank, Bears, Buries, Locked, Keeps, Foreign, OwnedOrNot, Nobodys}
+use Rattle.brc_lasting.specs.Staying.{is_about, IsAnothers, Lasts, SameOwn, Has, rank, Bears, Buries, Locked, Keeps, Foreign, OwnedOrNot, Nobodys}
 use Rattle.brc_runs.proofs.Naming.{free_owner, Ungripped, Unheld, dead_unheld, sole_grip, one-true, busy_hand}
 use Rattle.brc_runs.proofs.Asking.{May, OnCell, on_cell}
 use Rattle.brc_runs.proofs.Changes.{read_there}

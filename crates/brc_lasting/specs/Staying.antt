@@ -15,7 +15,7 @@ use Rattle.brc_runs.specs.declared.row.Hand.TheVariants as hands
 use Rattle.brc_runs.specs.declared.row.Stage.TheVariants as stages
 use Rattle.brc_runs.specs.Lists.{place_at, bit_of, is_marked}
 use Rattle.brc_runs.specs.Heap.{Heap, cell_at, entries_at, row_at, frame_at, popped_at, worklist_at, queue_at, is_gathered}
-use Rattle.brc_runs.specs.Steps.{enabled, after, is_active, is_default, is_merged, locked_cell}
+use Rattle.brc_runs.specs.Steps.{locked_at, enabled, after, is_active, is_default, is_merged, locked_cell}
 use Rattle.brc_runs.specs.Runs.{IsReached}
 use Rattle.brc_runs.specs.Holding.{carries, lives}
 
@@ -46,10 +46,6 @@ pub record SameOwn (t : ℕ) (old new : Heap) : Type 0 where
   pub popped : popped_at new t ≡ popped_at old t
   pub worklist : worklist_at new t ≡ worklist_at old t
   pub gathered : is_gathered new t ≡ is_gathered old t
-
--- the cell that the thread has locked
-abbrev pub locked_at : Heap → ℕ → Option ℕ
-locked_at h t = locked_cell (frame_at h t) (row_at h t).locked
 
 -- an entry of the cell that the thread has locked, or of a dead block on its worklist
 pub record HasEntry (h : Heap) (t c : ℕ) : Type 0 where

@@ -13,7 +13,8 @@ use Rattle.brc_model.specs.declared.moves.Exchange.{Exchange}
 use Rattle.brc_model.specs.declared.moves.Exchange.TheVariants.{Put, Take, Swap}
 use Rattle.brc_model.specs.declared.moves.Handover.{Handover}
 use Rattle.brc_model.specs.declared.fact.Fact.{Fact}
-use Rattle.brc_model.specs.Holders.{has, MayBeBorn, MayBeAdded, MayBeRemoved, MayBeHanded, IsNoEntry, IsLastOfDead, MayDie, MayBeChanged, IsContainer, Occupies, FitsIn, EntryFits, place_used, first_mortal, globals, is_number}
+use Rattle.brc_model.specs.Holders.{has, MayBeBorn, MayBeAdded, MayBeRemoved, MayBeHanded, IsNoEntry, IsLastOfDead, MayDie, MayBeChanged, IsContainer, Occupies, FitsIn, EntryFits, place_used, is_number}
+use Rattle.brc_words.specs.declared.limits.TheConstants.{FIRST_MORTAL, GLOBALS}
 use Rattle.brc_model.specs.Facts.{says_lives, entries_in, map_of}
 use Rattle.brc_model.specs.Tests.{names, is_no_entry, test_held, test_vacant, test_may_hold, test_born, test_add, test_last, test_remove, test_dies, test_occupies, test_container, test_entry, test_fits, test_change}
 use Rattle.brc_model.specs.Edits.{test_hand}
@@ -36,16 +37,16 @@ empty_from_length (x ∷ xs) h = absurd (omega arith)
 pub MayBeBorn-from_test : (facts : List Fact) (c : ℕ) (k : Kind) (h : Holder) → test_born facts c k h ≡ true → MayBeBorn (map_of facts) c k h
 MayBeBorn-from_test facts c k h e =
     let live = list_any (says_lives c) facts in
-    let p = and_parts (nat_le first_mortal c && not live && is_mortal k) (test_may_hold facts c h) e in
-    let q = and_parts (nat_le first_mortal c && not live) (is_mortal k) p.0 in
-    let r = and_parts (nat_le first_mortal c) (not live) q.0 in
-    record { mortal = leb-true first_mortal c r.0; new = not-true live r.1; kind_is_born = q.1; holder_is_new = MayHold-from_test facts c h p.1 }
+    let p = and_parts (nat_le FIRST_MORTAL c && not live && is_mortal k) (test_may_hold facts c h) e in
+    let q = and_parts (nat_le FIRST_MORTAL c && not live) (is_mortal k) p.0 in
+    let r = and_parts (nat_le FIRST_MORTAL c) (not live) q.0 in
+    record { mortal = leb-true FIRST_MORTAL c r.0; new = not-true live r.1; kind_is_born = q.1; holder_is_new = MayHold-from_test facts c h p.1 }
 
 pub test-from_MayBeBorn : (facts : List Fact) (c : ℕ) (k : Kind) (h : Holder) → MayBeBorn (map_of facts) c k h → test_born facts c k h ≡ true
 test-from_MayBeBorn facts c k h may =
     let live = list_any (says_lives c) facts in
-    and_from (nat_le first_mortal c && not live && is_mortal k) (test_may_hold facts c h)
-    (and_from (nat_le first_mortal c && not live) (is_mortal k) (and_from (nat_le first_mortal c) (not live) (le-leb first_mortal c may.mortal) (not_from_false live may.new)) may.kind_is_born)
+    and_from (nat_le FIRST_MORTAL c && not live && is_mortal k) (test_may_hold facts c h)
+    (and_from (nat_le FIRST_MORTAL c && not live) (is_mortal k) (and_from (nat_le FIRST_MORTAL c) (not live) (le-leb FIRST_MORTAL c may.mortal) (not_from_false live may.new)) may.kind_is_born)
     (test-from_MayHold facts c h may.holder_is_new)
 
 pub MayBeAdded-from_test : (facts : List Fact) (c : ℕ) (h : Holder) → test_add facts c h ≡ true → MayBeAdded (map_of facts) c h
@@ -145,24 +146,24 @@ test-from_MayBeHanded facts x may =
 
 Occupies-from_test : (facts : List Fact) (c thread place : ℕ) → test_occupies facts c thread place ≡ true → Occupies (map_of facts) c thread place
 Occupies-from_test facts c thread place e mortal =
-    elim (or_cases (nat_lt c first_mortal) (has (map_of facts) c (Frame thread place)) e) [
-      | inl low ↦ let below = ltb-true c first_mortal low in absurd (omega arith)
+    elim (or_cases (nat_lt c FIRST_MORTAL) (has (map_of facts) c (Frame thread place)) e) [
+      | inl low ↦ let below = ltb-true c FIRST_MORTAL low in absurd (omega arith)
       | inr held ↦ held
     ]
 
 test-from_Occupies : (facts : List Fact) (c thread place : ℕ) → Occupies (map_of facts) c thread place → test_occupies facts c thread place ≡ true
 test-from_Occupies facts c thread place may =
-    elim (nat_lt c first_mortal) as (λ t. nat_lt c first_mortal ≡ t → (t || has (map_of facts) c (Frame thread place)) ≡ true) [
+    elim (nat_lt c FIRST_MORTAL) as (λ t. nat_lt c FIRST_MORTAL ≡ t → (t || has (map_of facts) c (Frame thread place)) ≡ true) [
       | true ↦ (λ e. refl)
-      | false ↦ (λ e. may (ltb-false c first_mortal e))
+      | false ↦ (λ e. may (ltb-false c FIRST_MORTAL e))
     ] refl
 
 IsContainer-from_test : (facts : List Fact) (c : ℕ) → test_container facts c ≡ true → IsContainer (map_of facts) c
 IsContainer-from_test facts c e =
     let live = (map_of facts).live c in
     let contains = is_container ((map_of facts).kind c) in
-    elim (or_cases (c == globals) (live && contains) e) [
-      | inl own ↦ inl (eqb-true c globals own)
+    elim (or_cases (c == GLOBALS) (live && contains) e) [
+      | inl own ↦ inl (eqb-true c GLOBALS own)
       | inr both ↦ inr (and_parts live contains both)
     ]
 
@@ -171,8 +172,8 @@ test-from_IsContainer facts c may =
     let live = (map_of facts).live c in
     let contains = is_container ((map_of facts).kind c) in
     elim may [
-      | inl own ↦ or_left (c == globals) (live && contains) (eq-eqb c globals own)
-      | inr both ↦ or_right (c == globals) (live && contains) (and_from live contains both.0 both.1)
+      | inl own ↦ or_left (c == GLOBALS) (live && contains) (eq-eqb c GLOBALS own)
+      | inr both ↦ or_right (c == GLOBALS) (live && contains) (and_from live contains both.0 both.1)
     ]
 
 EntryFits-from_test : (facts : List Fact) (c : ℕ) (x : Exchange) → test_entry facts c x ≡ true → EntryFits (entries_in facts c) x
@@ -189,11 +190,11 @@ FitsIn-from_test : (facts : List Fact) (x : Exchange) (thread : ℕ) → test_fi
 FitsIn-from_test facts (Put place cell) thread e = Occupies-from_test facts cell thread place e
 FitsIn-from_test facts (Take index place cell) thread e = IsVacant-from_test facts thread place e
 FitsIn-from_test facts (Swap index place cell old) thread e =
-    let p = and_parts (test_occupies facts cell thread place) (nat_le first_mortal cell || test_vacant facts thread place) e in (
+    let p = and_parts (test_occupies facts cell thread place) (nat_le FIRST_MORTAL cell || test_vacant facts thread place) e in (
       Occupies-from_test facts cell thread place p.0,
       λ low.
-          elim (or_cases (nat_le first_mortal cell) (test_vacant facts thread place) p.1) [
-            | inl high ↦ let above = leb-true first_mortal cell high in absurd (omega arith)
+          elim (or_cases (nat_le FIRST_MORTAL cell) (test_vacant facts thread place) p.1) [
+            | inl high ↦ let above = leb-true FIRST_MORTAL cell high in absurd (omega arith)
             | inr free ↦ IsVacant-from_test facts thread place free
           ],
     )
@@ -202,11 +203,11 @@ test-from_FitsIn : (facts : List Fact) (x : Exchange) (thread : ℕ) → FitsIn 
 test-from_FitsIn facts (Put place cell) thread may = test-from_Occupies facts cell thread place may
 test-from_FitsIn facts (Take index place cell) thread may = test-from_IsVacant facts thread place may
 test-from_FitsIn facts (Swap index place cell old) thread may =
-    and_from (test_occupies facts cell thread place) (nat_le first_mortal cell || test_vacant facts thread place)
+    and_from (test_occupies facts cell thread place) (nat_le FIRST_MORTAL cell || test_vacant facts thread place)
     (test-from_Occupies facts cell thread place may.0)
-    (elim (nat_le first_mortal cell) as (λ t. nat_le first_mortal cell ≡ t → (t || test_vacant facts thread place) ≡ true) [
+    (elim (nat_le FIRST_MORTAL cell) as (λ t. nat_le FIRST_MORTAL cell ≡ t → (t || test_vacant facts thread place) ≡ true) [
       | true ↦ (λ e. refl)
-      | false ↦ (λ e. test-from_IsVacant facts thread place (may.1 (leb-false first_mortal cell e)))
+      | false ↦ (λ e. test-from_IsVacant facts thread place (may.1 (leb-false FIRST_MORTAL cell e)))
     ] refl)
 
 pub entry_from_test_change : (facts : List Fact) (c : ℕ) (s : Spot) (x : Exchange) → test_change facts c s x ≡ true → test_entry facts c x ≡ true

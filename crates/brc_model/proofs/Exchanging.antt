@@ -12,7 +12,8 @@ use Rattle.brc_model.specs.declared.holder.Holder.TheVariants.{Frame, Entry, Que
 use Rattle.brc_model.specs.declared.moves.Exchange.TheVariants.{Put, Take, Swap}
 use Rattle.brc_model.specs.declared.fact.Fact.{Fact}
 use Rattle.brc_model.specs.declared.fact.Fact.TheVariants.{Holds, Contains}
-use Rattle.brc_model.specs.Holders.{Map, Same, put, with_holder, without_holder, placed, unplaced, exchanged, let_go, first_mortal, is_number}
+use Rattle.brc_model.specs.Holders.{Map, Same, put, with_holder, without_holder, placed, unplaced, exchanged, let_go, is_number}
+use Rattle.brc_words.specs.declared.limits.TheConstants.{FIRST_MORTAL}
 use Rattle.brc_model.specs.Facts.{says_lives, says_held, entry_in, entries_in, kind_said, map_of}
 use Rattle.brc_model.specs.Tests.{IsEntryAt, test_last}
 use Rattle.brc_model.specs.Edits.{without_hold, left, come}
@@ -95,9 +96,9 @@ Same-let_go facts c (Queue thread cell) outside = Same-without_hold facts c (Que
 Same-let_go facts c (Popped thread cell) outside = Same-without_hold facts c (Popped thread cell)
 Same-let_go facts c (Hand thread cell) outside = Same-without_hold facts c (Hand thread cell)
 
-pub Same-take_immortal : (facts : List Fact) (c thread i to cell place : ℕ) → cell < first_mortal → IsEntryAt facts c i place
+pub Same-take_immortal : (facts : List Fact) (c thread i to cell place : ℕ) → cell < FIRST_MORTAL → IsEntryAt facts c i place
     → Same (map_of (remove facts place)) (exchanged (map_of facts) c thread (Take i to cell))
-Same-take_immortal facts c thread i to cell place low there = rw (lt-ltb cell first_mortal low) (Same-removed facts c i place there)
+Same-take_immortal facts c thread i to cell place low there = rw (lt-ltb cell FIRST_MORTAL low) (Same-removed facts c i place there)
 
 -- within the list, a set is a splice
 within_list : (facts : List Fact) (c i place : ℕ) → IsEntryAt facts c i place → place < length facts
@@ -106,34 +107,34 @@ within_list facts c i place there = fact_within facts place (Contains c there.ob
     fact_within : (xs : List Fact) (n : ℕ) (f : Fact) → slice_get xs n ≡ Some f → n < length xs
     fact_within xs n f e = slice_get_within xs n f e
 
-pub Same-take_mortal : (facts : List Fact) (c thread i to cell place : ℕ) → first_mortal ≤ cell → IsEntryAt facts c i place
+pub Same-take_mortal : (facts : List Fact) (c thread i to cell place : ℕ) → FIRST_MORTAL ≤ cell → IsEntryAt facts c i place
     → Same (map_of (slice_set facts place (Holds cell (Frame thread to)))) (exchanged (map_of facts) c thread (Take i to cell))
 Same-take_mortal facts c thread i to cell place high there =
-    rw (slice_set-splice facts place (Holds cell (Frame thread to)) (within_list facts c i place there), le-ltb cell first_mortal high)
+    rw (slice_set-splice facts place (Holds cell (Frame thread to)) (within_list facts c i place there), le-ltb cell FIRST_MORTAL high)
     (Same-taken facts c i place cell (Frame thread to) there)
 
 Same-left : (facts : List Fact) (cell : ℕ) (frame : Holder)
     → Same (map_of (left facts cell frame)) (record (map_of facts) { held = unplaced (map_of facts).held cell frame })
-Same-left facts cell frame = elim (nat_lt cell first_mortal) as (λ t. Same (map_of (if t then facts else without_hold facts cell frame)) (record (map_of facts) { held = if t then (map_of facts).held else without_holder (map_of facts).held cell frame })) [
+Same-left facts cell frame = elim (nat_lt cell FIRST_MORTAL) as (λ t. Same (map_of (if t then facts else without_hold facts cell frame)) (record (map_of facts) { held = if t then (map_of facts).held else without_holder (map_of facts).held cell frame })) [
   | true ↦ Same-refl (map_of facts)
   | false ↦ Same-without_hold facts cell frame
 ]
 
 Same-come : (facts : List Fact) (cell : ℕ) (frame : Holder)
     → Same (map_of (come facts cell frame)) (record (map_of facts) { held = placed (map_of facts).held cell frame })
-Same-come facts cell frame = elim (nat_lt cell first_mortal) as (λ t. Same (map_of (if t then facts else facts ++ Holds cell frame ∷ [])) (record (map_of facts) { held = if t then (map_of facts).held else with_holder (map_of facts).held cell frame })) [
+Same-come facts cell frame = elim (nat_lt cell FIRST_MORTAL) as (λ t. Same (map_of (if t then facts else facts ++ Holds cell frame ∷ [])) (record (map_of facts) { held = if t then (map_of facts).held else with_holder (map_of facts).held cell frame })) [
   | true ↦ Same-refl (map_of facts)
   | false ↦ Same-held_more facts cell frame
 ]
 
 Same-unplaced : (a b : Map) (c : ℕ) (h : Holder) → Same a b → Same (record a { held = unplaced a.held c h }) (record b { held = unplaced b.held c h })
-Same-unplaced a b c h s = elim (nat_lt c first_mortal) as (λ t. Same (record a { held = if t then a.held else without_holder a.held c h }) (record b { held = if t then b.held else without_holder b.held c h })) [
+Same-unplaced a b c h s = elim (nat_lt c FIRST_MORTAL) as (λ t. Same (record a { held = if t then a.held else without_holder a.held c h }) (record b { held = if t then b.held else without_holder b.held c h })) [
   | true ↦ record { live = s.live; kind = s.kind; entries = s.entries; held = s.held }
   | false ↦ Same-without a b c h s
 ]
 
 Same-placed : (a b : Map) (c : ℕ) (h : Holder) → Same a b → Same (record a { held = placed a.held c h }) (record b { held = placed b.held c h })
-Same-placed a b c h s = elim (nat_lt c first_mortal) as (λ t. Same (record a { held = if t then a.held else with_holder a.held c h }) (record b { held = if t then b.held else with_holder b.held c h })) [
+Same-placed a b c h s = elim (nat_lt c FIRST_MORTAL) as (λ t. Same (record a { held = if t then a.held else with_holder a.held c h }) (record b { held = if t then b.held else with_holder b.held c h })) [
   | true ↦ record { live = s.live; kind = s.kind; entries = s.entries; held = s.held }
   | false ↦ Same-with a b c h s
 ]

@@ -6,7 +6,8 @@ use Rattle.brc_model.specs.declared.holder.Holder.{Holder}
 use Rattle.brc_model.specs.declared.moves.Handover.{Handover}
 use Rattle.brc_model.specs.declared.fact.Fact.{Fact}
 use Rattle.brc_model.specs.declared.fact.Fact.TheVariants.{Lives, Holds, Contains}
-use Rattle.brc_model.specs.Holders.{has, first_mortal}
+use Rattle.brc_model.specs.Holders.{has}
+use Rattle.brc_words.specs.declared.limits.TheConstants.{FIRST_MORTAL}
 use Rattle.brc_model.specs.Facts.{says_lives, says_held, map_of}
 use Rattle.brc_model.specs.Tests.{is_no_entry, test_may_hold}
 
@@ -51,8 +52,8 @@ hand_all facts (x ∷ xs) = hand_all (map (handed_fact x) facts) xs
 
 -- the place of a frame no longer holds the cell, which it never did if that is immortal
 abbrev pub left : List Fact → ℕ → Holder → List Fact
-left facts cell frame = if nat_lt cell first_mortal then facts else without_hold facts cell frame
+left facts cell frame = if nat_lt cell FIRST_MORTAL then facts else without_hold facts cell frame
 
 -- the place of a frame holds the cell, which an immortal has no need of
 abbrev pub come : List Fact → ℕ → Holder → List Fact
-come facts cell frame = if nat_lt cell first_mortal then facts else facts ++ Holds cell frame ∷ []
+come facts cell frame = if nat_lt cell FIRST_MORTAL then facts else facts ++ Holds cell frame ∷ []

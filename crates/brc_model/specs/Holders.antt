@@ -2,6 +2,7 @@
 -- This is the plain meaning of "reference" in PEP 703 and in Choi, Shull and Torrellas, "Biased Reference Counting":
 -- sets of holders, with no count, owner, state or order of queues.
 use Rattle.std.specs.Prelude.{◌≡◌, ◌≢◌, ℕ, ◌+◌, ◌<◌, ◌≤◌, ◌==◌, nat_lt, ◌&&◌, ◌||◌, not, Bool, true, false, if◌then◌else◌, List, [], ◌∷◌, ◌++◌, length, take, Option, Some, None, slice_get, slice_set, remove, ◌⊎◌}
+use Rattle.brc_words.specs.declared.limits.TheConstants.{FIRST_MORTAL, GLOBALS}
 use Rattle.brc_words.specs.declared.kind.Kind.{Kind}
 use Rattle.brc_words.specs.Kinds.{is_mortal, is_container}
 use Rattle.brc_model.specs.declared.holder.Holder.{Holder}
@@ -27,14 +28,6 @@ pub record Same (a b : Map) : Type 0 where
   pub kind : (c : ℕ) → a.live c ≡ true → a.kind c ≡ b.kind c
   pub entries : (c : ℕ) → a.entries c ≡ b.entries c
   pub held : (c : ℕ) (h : Holder) → a.held c h ≡ b.held c h
-
--- the cell of the globals, an immortal dictionary
-abbrev pub globals : ℕ
-globals = 265
-
--- the first cell that is born and dies
-abbrev pub first_mortal : ℕ
-first_mortal = 266
 
 -- a holder as three numbers: its kind, its thread or cell, and its place, index or cell
 abbrev pub holder_code : Holder → ℕ × ℕ × ℕ
@@ -119,10 +112,10 @@ all_handed m (x ∷ xs) = all_handed (handed m x) xs
 
 -- a mortal cell holds; an immortal one is in no place of this map
 abbrev pub placed : (ℕ → Holder → Bool) → ℕ → Holder → ℕ → Holder → Bool
-placed held c h = if nat_lt c first_mortal then held else with_holder held c h
+placed held c h = if nat_lt c FIRST_MORTAL then held else with_holder held c h
 
 abbrev pub unplaced : (ℕ → Holder → Bool) → ℕ → Holder → ℕ → Holder → Bool
-unplaced held c h = if nat_lt c first_mortal then held else without_holder held c h
+unplaced held c h = if nat_lt c FIRST_MORTAL then held else without_holder held c h
 
 -- entries of the container and places of the frame change together
 abbrev pub exchanged : Map → ℕ → ℕ → Exchange → Map
@@ -155,7 +148,7 @@ moved m (Dies object) = record m { live = put m.live object false }
 
 -- an object comes to live in a mortal cell where none lives, of a kind that is born, with one holder
 pub record MayBeBorn (m : Map) (object : ℕ) (kind : Kind) (holder : Holder) : Type 0 where
-  pub mortal : first_mortal ≤ object
+  pub mortal : FIRST_MORTAL ≤ object
   pub new : m.live object ≡ false
   pub kind_is_born : is_mortal kind ≡ true
   pub holder_is_new : MayHold m object holder
@@ -194,13 +187,13 @@ MayAllBeHanded m (x ∷ xs) = MayBeHanded m x × MayAllBeHanded (handed m x) xs
 
 -- a mortal cell is in the place; of an immortal one nothing is asked, since it has no holders
 abbrev pub Occupies : Map → ℕ → ℕ → ℕ → Type 0
-Occupies m c thread place = first_mortal ≤ c → has m c (Frame thread place) ≡ true
+Occupies m c thread place = FIRST_MORTAL ≤ c → has m c (Frame thread place) ≡ true
 
 -- the place can take the cell that comes out, once the one that goes in has left it
 abbrev pub FitsIn : Map → Exchange → ℕ → Type 0
 FitsIn m (Put place cell) thread = Occupies m cell thread place
 FitsIn m (Take index place cell) thread = IsVacant m thread place
-FitsIn m (Swap index place cell old) thread = Occupies m cell thread place × (cell < first_mortal → IsVacant m thread place)
+FitsIn m (Swap index place cell old) thread = Occupies m cell thread place × (cell < FIRST_MORTAL → IsVacant m thread place)
 
 -- the place that the change uses
 abbrev pub place_used : Exchange → ℕ
@@ -216,7 +209,7 @@ EntryFits xs (Swap index place cell old) = slice_get xs index ≡ Some old
 
 -- the globals, or a live list, dictionary or mailbox
 abbrev pub IsContainer : Map → ℕ → Type 0
-IsContainer m c = (c ≡ globals) ⊎ ((m.live c ≡ true) × (is_container (m.kind c) ≡ true))
+IsContainer m c = (c ≡ GLOBALS) ⊎ ((m.live c ≡ true) × (is_container (m.kind c) ≡ true))
 
 -- the thread holds the container in one place and changes it with another
 pub record MayBeChanged (m : Map) (cell : ℕ) (place : Spot) (change : Exchange) : Type 0 where

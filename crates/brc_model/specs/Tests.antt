@@ -11,7 +11,8 @@ use Rattle.brc_model.specs.declared.moves.Exchange.{Exchange}
 use Rattle.brc_model.specs.declared.moves.Exchange.TheVariants.{Put, Take, Swap}
 use Rattle.brc_model.specs.declared.fact.Fact.{Fact}
 use Rattle.brc_model.specs.declared.fact.Fact.TheVariants.{Lives, Holds, Contains}
-use Rattle.brc_model.specs.Holders.{same_holder, has, is_number, first_mortal, globals, place_used}
+use Rattle.brc_model.specs.Holders.{same_holder, has, is_number, place_used}
+use Rattle.brc_words.specs.declared.limits.TheConstants.{FIRST_MORTAL, GLOBALS}
 use Rattle.brc_model.specs.Facts.{says_lives, entries_in, map_of}
 
 abbrev pub is_no_entry : Holder → Bool
@@ -50,7 +51,7 @@ test_may_hold facts c (Hand thread cell) = cell == c
 
 abbrev pub test_born : List Fact → ℕ → Kind → Holder → Bool
 test_born facts c kind h =
-    nat_le first_mortal c && not (list_any (says_lives c) facts) && is_mortal kind && test_may_hold facts c h
+    nat_le FIRST_MORTAL c && not (list_any (says_lives c) facts) && is_mortal kind && test_may_hold facts c h
 
 abbrev pub test_add : List Fact → ℕ → Holder → Bool
 test_add facts c h = test_held facts c && not (has (map_of facts) c h) && test_may_hold facts c h
@@ -84,10 +85,10 @@ pub record IsEntryAt (facts : List Fact) (cell index place : ℕ) : Type 0 where
 
 -- a mortal cell is in the place of the frame, or the cell is immortal
 abbrev pub test_occupies : List Fact → ℕ → ℕ → ℕ → Bool
-test_occupies facts c thread place = nat_lt c first_mortal || has (map_of facts) c (Frame thread place)
+test_occupies facts c thread place = nat_lt c FIRST_MORTAL || has (map_of facts) c (Frame thread place)
 
 abbrev pub test_container : List Fact → ℕ → Bool
-test_container facts c = (c == globals) || ((map_of facts).live c && is_container ((map_of facts).kind c))
+test_container facts c = (c == GLOBALS) || ((map_of facts).live c && is_container ((map_of facts).kind c))
 
 abbrev pub test_entry : List Fact → ℕ → Exchange → Bool
 test_entry facts c (Put place cell) = is_none (slice_get (entries_in facts c) 1048575)
@@ -98,7 +99,7 @@ abbrev pub test_fits : List Fact → Exchange → ℕ → Bool
 test_fits facts (Put place cell) thread = test_occupies facts cell thread place
 test_fits facts (Take index place cell) thread = test_vacant facts thread place
 test_fits facts (Swap index place cell old) thread =
-    test_occupies facts cell thread place && (nat_le first_mortal cell || test_vacant facts thread place)
+    test_occupies facts cell thread place && (nat_le FIRST_MORTAL cell || test_vacant facts thread place)
 
 abbrev pub test_change : List Fact → ℕ → Spot → Exchange → Bool
 test_change facts c spot change =

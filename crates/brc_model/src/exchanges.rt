@@ -3,7 +3,8 @@
 ghost use Rattle.std.specs.Prelude.{◌≡◌, ◌&&◌, ◌||◌, nat_le, ◌≤◌, ◌<◌, true, OnOk, OnErr, vec_len};
 ghost use Rattle.std.specs.Vec.{vec_capacity};
 ghost use Rattle.brc_model.specs.declared.moves.Exchange.TheVariants as exchange;
-ghost use Rattle.brc_model.specs.Holders.{Same, exchanged, first_mortal, place_used, let_go};
+ghost use Rattle.brc_model.specs.Holders.{Same, exchanged, place_used, let_go};
+ghost use Rattle.brc_words.specs.declared.limits.TheConstants.{FIRST_MORTAL};
 ghost use Rattle.brc_model.specs.Facts.{map_of};
 ghost use Rattle.brc_model.specs.Tests.{test_occupies, test_vacant, test_container, test_entry, test_fits, test_change, test_remove};
 ghost use Rattle.brc_model.specs.Edits.{left, come};
@@ -55,13 +56,13 @@ fn entry_fits(facts: &[Fact], cell: u32, change: &Exchange) -> bool
 
 /// Whether the place is free once a mortal cell has left it.
 fn leaves_free(facts: &[Fact], cell: u32, thread: u32, at: u32) -> bool
-    ensures { result ≡ (nat_le first_mortal cell || test_vacant facts.now thread at) }
+    ensures { result ≡ (nat_le FIRST_MORTAL cell || test_vacant facts.now thread at) }
 {
     FIRST_MORTAL <= cell || is_vacant(facts, thread, at)
 }
 
 fn swap_fits(facts: &[Fact], cell: u32, thread: u32, at: u32) -> bool
-    ensures { result ≡ (test_occupies facts.now cell thread at && (nat_le first_mortal cell || test_vacant facts.now thread at)) }
+    ensures { result ≡ (test_occupies facts.now cell thread at && (nat_le FIRST_MORTAL cell || test_vacant facts.now thread at)) }
 {
     occupies(facts, cell, thread, at) && leaves_free(facts, cell, thread, at)
 }

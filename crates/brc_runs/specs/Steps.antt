@@ -94,6 +94,9 @@ target row frame worklist has (Unlock change) = locked_cell frame row.locked
 target row frame worklist has (Register u) = None
 target row frame worklist has (Gather u) = None
 
+abbrev pub locked_at : Heap → ℕ → Option ℕ
+locked_at h t = locked_cell (frame_at h t) (row_at h t).locked
+
 -- a thread's steps on words that are no cell's: of its own merge queue, or a notify word
 abbrev pub needs_no_cell : Step → Bool
 needs_no_cell (Drain k) = true

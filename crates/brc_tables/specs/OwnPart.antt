@@ -6,12 +6,9 @@ use Rattle.brc_runs.specs.declared.event.Dropped.{Dropped}
 use Rattle.brc_runs.specs.declared.event.LastDropped.{LastDropped}
 use Rattle.brc_runs.specs.Lists.{is_bare, is_unmarked}
 use Rattle.brc_runs.specs.Heap.{Heap, entries_at, row_at, frame_at, popped_at, worklist_at, words_for}
-use Rattle.brc_runs.specs.Steps.{locked_cell, source_cell, dropped_cell, last_cell, locked_entries, change_ok, closes_next, may_begin_closing}
+use Rattle.brc_runs.specs.Steps.{locked_at, locked_cell, source_cell, dropped_cell, last_cell, locked_entries, change_ok, closes_next, may_begin_closing}
 
--- the cell that the thread has locked, and its entries
-abbrev pub locked_at : Heap → ℕ → Option ℕ
-locked_at h t = locked_cell (frame_at h t) (row_at h t).locked
-
+-- the entries of the object that the thread has locked
 abbrev pub locked_entries_at : Heap → ℕ → List ℕ
 locked_entries_at h t = locked_entries (entries_at h) (locked_at h t)
 
