@@ -1,6 +1,5 @@
 -- One turn of the reading of lines, and what the whole text then spells.
-use Rattle.std.proofs.Common.{◌≡◌, ◌∙◌, ℕ, ◌+◌, ◌<◌, ◌≤◌, Bool, true, false, List, [], ◌∷◌, ◌++◌, length, Option, Some, None, Result, Ok, Err, refl, sym, ap, subst, append_assoc, append-nil, arith}
-use Rattle.std.specs.Option.{option_and_then}
+use Rattle.std.proofs.Common.{◌≡◌, ◌∙◌, ℕ, ◌+◌, ◌<◌, ◌≤◌, Bool, true, false, List, [], ◌∷◌, ◌++◌, length, Option, Some, None, Result, Ok, Err, refl, sym, ap, subst, append_assoc, arith}
 use Rattle.std.proofs.lemmas.Bool.{lt-ltb, le-ltb}
 use Rattle.brc_words.specs.declared.fault.Fault.{Fault}
 use Rattle.brc_words.specs.declared.fault.Fault.TheVariants as faults
@@ -84,8 +83,12 @@ has_no_line read byte text e = by_end (cut 10 (byte ∷ text)).1 refl
     by_end : (behind : Option (List ℕ)) → (cut 10 (byte ∷ text)).1 ≡ behind
         → (first : List ℕ × Bool) × (later : List (List ℕ × Bool)) × (pieces (byte ∷ text) ≡ first ∷ later) × (by_words read first ≡ None)
     by_end None h = ((byte ∷ text, false), [], pieces_open (byte ∷ text) (omega arith) h, refl)
-    by_end (Some rest) h = (((cut 10 (byte ∷ text)).0, true), pieces rest, pieces_ended (byte ∷ text) rest h,
-        not_read read rest (tokens_at 8 (cut 10 (byte ∷ text)).0) (sym (ap (λ (o : Option (List ℕ)). (o >>= λ left. tokens_at 8 (cut 10 (byte ∷ text)).0 >>= before left) >>= read_first read) h) ∙ e))
+    by_end (Some rest) h = (
+      ((cut 10 (byte ∷ text)).0, true),
+      pieces rest,
+      pieces_ended (byte ∷ text) rest h,
+      not_read read rest (tokens_at 8 (cut 10 (byte ∷ text)).0) (sym (ap (λ (o : Option (List ℕ)). (o >>= λ left. tokens_at 8 (cut 10 (byte ∷ text)).0 >>= before left) >>= read_first read) h) ∙ e),
+    )
 
 -- ---- one turn
 

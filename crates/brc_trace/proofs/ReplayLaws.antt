@@ -1,30 +1,24 @@
 -- The text that was read in place of the whole input, and what the whole replay does.
-use Rattle.std.proofs.Common.{◌≡◌, ◌∙◌, ℕ, ◌+◌, ◌<◌, ◌≤◌, true, List, [], ◌∷◌, ◌++◌, length, take, Some, Ok, refl, sym, ap, subst, arith, ltb, leb, Bool, false, Option, None, length-append, append-nil}
+use Rattle.std.proofs.Common.{◌≡◌, ◌∙◌, ℕ, ◌≤◌, true, List, [], ◌++◌, length, take, Some, refl, sym, ap, subst, arith, ltb, leb, Bool, false, Option, None, append-nil}
 use Rattle.std.specs.Prelude.{IfSome}
 use Rattle.std.proofs.lemmas.Bool.{and_parts, leb-true, ltb-true, ltb-false}
 use Rattle.std.proofs.Math.Seq.{take-append_seam}
 use Rattle.std.proofs.lemmas.List.{take_all, length-take-le}
-use Rattle.std.specs.Prelude.{reverse, Err, ◌⊎◌, Bool}
+use Rattle.std.specs.Prelude.{Err, ◌⊎◌, Bool}
 use Rattle.std.proofs.Common.{inl, inr}
 use Rattle.std.specs.Io.KnownBytes.{Consumes, IsAtEnd}
 use Rattle.std.proofs.KnownBytes.{Consumes-whole, Consumes-trans, Appends-nil, Keeps-refl}
-use Rattle.std.proofs.lemmas.Option.{slice_get_within}
 use Rattle.brc_words.specs.declared.fault.Fault.{Fault}
 use Rattle.brc_words.specs.declared.fault.Fault.TheVariants as faults
 use Rattle.brc_words.specs.declared.fault.Reason.{Reason}
 use Rattle.brc_words.specs.declared.fault.Reason.TheVariants as reasons
-use Rattle.brc_runs.specs.Heap.{Heap, opening}
-use Rattle.brc_runs.specs.Runs.{IsRun, world_after}
-use Rattle.brc_core.specs.Replays.{IsFirstNotEnabled}
+use Rattle.brc_runs.specs.Heap.{Heap}
 use Rattle.brc_text.specs.Puts.{PutsUpTo}
 use Rattle.brc_trace.specs.Worlds.{world_text}
-use Rattle.brc_trace.specs.Replaying.{IsReplayed, IsNotEnabled, IsBad, LeadsNowhere, IsHalfWritten, Replays}
-use Rattle.brc_runs.specs.declared.event.Event.{Event}
+use Rattle.brc_trace.specs.Replaying.{IsReplayed, IsBad, LeadsNowhere, IsHalfWritten, Replays}
 use Rattle.brc_runs.specs.Heap.{AreOptions}
-use Rattle.brc_text.specs.Lines.{line, spaced}
-use Rattle.brc_trace.specs.Events.{event_words}
-use Rattle.brc_trace.specs.Traces.{Listing, trace_at, trace_text, is_size, is_limit, head_words}
-use Rattle.brc_trace.proofs.TextLaws.{trace_takes, events_text}
+use Rattle.brc_text.specs.Lines.{line}
+use Rattle.brc_trace.specs.Traces.{trace_at, is_size, is_limit}
 
 pub are_options : (cells limit : ℕ) → is_size cells ≡ true → is_limit limit ≡ true → AreOptions cells limit
 are_options cells limit size limited =

@@ -1,24 +1,18 @@
 -- Events that are made as their lines are read: one turn, and how it ends.
-use Rattle.std.proofs.Common.{◌≡◌, ◌∙◌, ℕ, ◌+◌, ◌<◌, ◌≤◌, true, false, List, [], ◌∷◌, ◌++◌, length, take, reverse, Option, Some, None, Result, Ok, Err, refl, sym, ap, subst, append-nil, length-append, arith}
-use Rattle.std.specs.Prelude.{slice_get, ◌⊎◌, ◌↔◌}
-use Rattle.std.proofs.Common.{inl, inr}
+use Rattle.std.proofs.Common.{◌≡◌, ◌∙◌, ℕ, ◌+◌, ◌<◌, ◌≤◌, true, false, List, [], ◌∷◌, ◌++◌, length, take, reverse, Some, None, Result, Ok, Err, refl, sym, ap, subst, append-nil, length-append, arith}
+use Rattle.std.specs.Prelude.{slice_get}
 use Rattle.std.proofs.lemmas.List.{reverse-append}
 use Rattle.std.proofs.Math.Seq.{take-append_seam}
 use Rattle.brc_words.specs.declared.fault.Fault.{Fault}
-use Rattle.brc_words.specs.declared.fault.Fault.TheVariants as faults
-use Rattle.brc_words.specs.declared.fault.Reason.{Reason}
-use Rattle.brc_words.specs.declared.fault.Reason.TheVariants as reasons
 use Rattle.brc_runs.specs.declared.event.Event.{Event}
-use Rattle.brc_runs.specs.Heap.{Heap, opening, AreOptions}
+use Rattle.brc_runs.specs.Heap.{Heap, opening}
 use Rattle.brc_runs.specs.Steps.{enabled, after}
 use Rattle.brc_runs.specs.Runs.{IsRun, world_after}
-use Rattle.brc_core.specs.Replays.{IsFirstNotEnabled}
 use Rattle.brc_text.specs.Lines.{pieces}
 use Rattle.brc_trace.specs.Events.{event_at}
-use Rattle.brc_trace.specs.Traces.{Listing, by_line, before_others, events_at, below_head, trace_at, IsHead, Refuses}
-use Rattle.brc_trace.specs.Replaying.{AreMade, AreRefused, told, Steps, IsReplayed, IsNotEnabled, IsBad, LeadsNowhere}
+use Rattle.brc_trace.specs.Traces.{by_line, before_others, events_at, below_head, IsHead}
+use Rattle.brc_trace.specs.Replaying.{AreMade, told, Steps, IsReplayed}
 use Rattle.brc_trace.proofs.ReadingLoop.{with_front, bad_line, good_line, line_shorter, no_line, joined, nothing_before}
-use Rattle.brc_trace.proofs.ReplayLaws.{are_options}
 
 -- ---- behind an event that isn't enabled
 

@@ -75,11 +75,7 @@ pub(crate) fn read_head<'t>(
 }
 
 /// The events of the lines behind the head, which is line 1.
-fn events_of<A: Allocator>(
-    alloc: A,
-    words: &mut Words,
-    text: &[u8],
-) -> Result<Vec<Event, A>, Fault>
+fn events_of<A: Allocator>(alloc: A, words: &mut Words, text: &[u8]) -> Result<Vec<Event, A>, Fault>
     requires { length text.now ≤ 16777216 }
 
     ensures { Gives (λ events. events.items) result (events_at 2 (pieces text.now)) }

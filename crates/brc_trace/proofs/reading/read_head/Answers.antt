@@ -1,5 +1,5 @@
-use Rattle.std.proofs.Common.{◌≡◌, ◌∙◌, Some, ap, sym, arith}
-use Rattle.brc_trace.specs.Traces.{by_line, head_at}
+use Rattle.std.proofs.Common.{◌∙◌, ap, sym, arith}
+use Rattle.brc_trace.specs.Traces.{head_at}
 use Rattle.brc_trace.proofs.TextLaws.{head_takes}
 use Rattle.brc_trace.proofs.ReadingLoop.{no_words, words_unread, words_read, has_line, long_text, short_text, bad_head, good_head}
 use Rattle.brc_trace.proofs.reading.read_head.Goals as goal

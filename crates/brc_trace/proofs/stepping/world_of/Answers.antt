@@ -1,5 +1,4 @@
-use Rattle.std.proofs.Common.{sym, subst}
-use Rattle.std.proofs.lemmas.Result.{err_from_is_err_and}
+use Rattle.std.proofs.Common.{subst}
 use Rattle.brc_runs.specs.Heap.{Heap}
 use Rattle.brc_text.specs.Lines.{pieces}
 use Rattle.brc_trace.specs.Traces.{events_at}
