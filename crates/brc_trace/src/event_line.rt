@@ -184,45 +184,54 @@ fn put_two<W: Write>(
     put_line(writer, &[number(thread), Token::Word(word), first, second])
 }
 
+/// A line of a thread, a word and three operands.
+fn put_three<W: Write>(
+    writer: &mut W,
+    thread: u32,
+    word: Keyword,
+    first: Token,
+    second: Token,
+    third: Token,
+) -> Result<(), Fault>
+    ensures { Puts (W.contents writer.old) (W.contents writer.new) result
+        (spelled (tokens.Number thread ∷ tokens.Word word ∷ first ∷ second ∷ third ∷ [])) }
+{
+    put_line(
+        writer,
+        &[number(thread), Token::Word(word), first, second, third],
+    )
+}
+
 /// Writes the line of an unlock.
 fn put_unlock<W: Write>(writer: &mut W, thread: u32, change: Change) -> Result<(), Fault>
     ensures { Puts (W.contents writer.old) (W.contents writer.new) result
         (spelled (tokens.Number thread ∷ tokens.Word words.Unlock ∷ change_words change)) }
 {
-    let unlock = Token::Word(Keyword::Unlock);
+    let unlock = Keyword::Unlock;
     match change {
-        Change::Keep => put_line(
+        Change::Keep => put_one(writer, thread, unlock, Token::Word(Keyword::Keep)),
+        Change::Put(place) => put_two(
             writer,
-            &[number(thread), unlock, Token::Word(Keyword::Keep)],
+            thread,
+            unlock,
+            Token::Word(Keyword::Put),
+            number(place),
         ),
-        Change::Put(place) => put_line(
+        Change::Take { index, place } => put_three(
             writer,
-            &[
-                number(thread),
-                unlock,
-                Token::Word(Keyword::Put),
-                number(place),
-            ],
+            thread,
+            unlock,
+            Token::Word(Keyword::Take),
+            number(index),
+            number(place),
         ),
-        Change::Take { index, place } => put_line(
+        Change::Swap { index, place } => put_three(
             writer,
-            &[
-                number(thread),
-                unlock,
-                Token::Word(Keyword::Take),
-                number(index),
-                number(place),
-            ],
-        ),
-        Change::Swap { index, place } => put_line(
-            writer,
-            &[
-                number(thread),
-                unlock,
-                Token::Word(Keyword::Swap),
-                number(index),
-                number(place),
-            ],
+            thread,
+            unlock,
+            Token::Word(Keyword::Swap),
+            number(index),
+            number(place),
         ),
     }
 }
@@ -236,15 +245,13 @@ pub fn put_event<W: Write>(writer: &mut W, event: Event) -> Result<(), Fault>
         Step::Claim(cell) => put_one(writer, thread, Keyword::Claim, number(cell)),
         Step::InitLocal(cell) => put_one(writer, thread, Keyword::Local, number(cell)),
         Step::InitShared(cell) => put_one(writer, thread, Keyword::Shared, number(cell)),
-        Step::Birth { cell, kind, place } => put_line(
+        Step::Birth { cell, kind, place } => put_three(
             writer,
-            &[
-                number(thread),
-                Token::Word(Keyword::Born),
-                number(cell),
-                Token::Word(word_of_kind(kind)),
-                number(place),
-            ],
+            thread,
+            Keyword::Born,
+            number(cell),
+            Token::Word(word_of_kind(kind)),
+            number(place),
         ),
         Step::LocalUp { source, place } => put_two(
             writer,
