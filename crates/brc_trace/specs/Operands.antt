@@ -1,5 +1,6 @@
 -- The operands of a line: how each is written, its range, and what words are read as one.
-use Rattle.std.specs.Prelude.{ℕ, Bool, true, false, List, [], ◌∷◌, Option, Some, None, nat_lt, nat_le, ◌&&◌, if◌then◌else◌}
+use Rattle.std.specs.Prelude.{ℕ, ◌/◌, Bool, true, false, List, [], ◌∷◌, Option, Some, None, nat_lt, nat_le, ◌&&◌, if◌then◌else◌}
+use Rattle.brc_words.specs.declared.limits.TheConstants.{MOST_THREADS, MOST_CELLS, MOST_PLACES, MOST_ENTRIES}
 use Rattle.brc_words.specs.declared.kind.Kind.{Kind}
 use Rattle.brc_words.specs.declared.kind.Kind.TheVariants as kinds
 use Rattle.brc_runs.specs.declared.event.Source.{Source}
@@ -56,21 +57,21 @@ change_words (changes.Swap i j) = tokens.Word words.Swap ∷ tokens.Number i ∷
 
 -- ---- their ranges
 
--- threads are 1 to 64; cells and places are below 65,536, entries below 1,048,576, words of a merge queue below 2,048
+-- threads count from 1, all else from 0; a word of a merge queue has 32 cells
 abbrev pub is_thread : ℕ → Bool
-is_thread number = nat_le 1 number && nat_le number 64
+is_thread number = nat_le 1 number && nat_le number MOST_THREADS
 
 abbrev pub is_cell : ℕ → Bool
-is_cell number = nat_lt number 65536
+is_cell number = nat_lt number MOST_CELLS
 
 abbrev pub is_place : ℕ → Bool
-is_place number = nat_lt number 65536
+is_place number = nat_lt number MOST_PLACES
 
 abbrev pub is_entry : ℕ → Bool
-is_entry number = nat_lt number 1048576
+is_entry number = nat_lt number MOST_ENTRIES
 
 abbrev pub is_queue_word : ℕ → Bool
-is_queue_word number = nat_lt number 2048
+is_queue_word number = nat_lt number (MOST_CELLS / 32)
 
 abbrev pub fits_source : Source → Bool
 fits_source (sources.Frame place) = is_place place

@@ -2,6 +2,7 @@
 use Rattle.std.specs.Prelude.{◌≡◌, ◌<◌, ℕ, ◌+◌, Bool, true, List, [], ◌∷◌, ◌++◌, length, Option, Some, None, Result, Ok, Err, nat_lt, nat_le, ◌&&◌, if◌then◌else◌}
 use Rattle.std.specs.List.{flat_map}
 use Rattle.brc_words.specs.declared.fault.Fault.{Fault}
+use Rattle.brc_words.specs.declared.limits.TheConstants.{FEWEST_CELLS, MOST_CELLS, MOST_LOCAL, MOST_INPUT}
 use Rattle.brc_words.specs.declared.fault.Fault.TheVariants as faults
 use Rattle.brc_words.specs.declared.fault.Reason.TheVariants as reasons
 use Rattle.brc_runs.specs.declared.event.Event.{Event}
@@ -22,10 +23,10 @@ pub record Listing : Type 0 where
 
 -- a heap has 512 to 65,536 cells and a local limit of 1 to 4,294,967,294
 abbrev pub is_size : ℕ → Bool
-is_size cells = nat_le 512 cells && nat_le cells 65536
+is_size cells = nat_le FEWEST_CELLS cells && nat_le cells MOST_CELLS
 
 abbrev pub is_limit : ℕ → Bool
-is_limit local_limit = nat_le 1 local_limit && nat_le local_limit 4294967294
+is_limit local_limit = nat_le 1 local_limit && nat_le local_limit MOST_LOCAL
 
 abbrev pub all_fit : List Event → Bool
 all_fit [] = true
@@ -78,7 +79,7 @@ lines_at (piece ∷ others) = below_head (by_words head_at piece) (events_at 2 o
 
 -- the trace that the text spells, or the number of its first bad line: 0 where it has more than 16,777,216 bytes
 unfoldable pub trace_at : List ℕ → Result Listing ℕ
-trace_at text = if nat_lt 16777216 (length text) then Err 0 else lines_at (pieces text)
+trace_at text = if nat_lt MOST_INPUT (length text) then Err 0 else lines_at (pieces text)
 
 -- ---- line by line
 
@@ -93,7 +94,7 @@ by_line read text = do
 pub record IsHead (text : List ℕ) (head : ℕ × ℕ) (rest : List ℕ) : Type 0 where
   pub size : is_size head.0 ≡ true
   pub limit : is_limit head.1 ≡ true
-  pub short : length rest < 16777216
+  pub short : length rest < MOST_INPUT
   pub read : trace_at text ≡ below_head (Some head) (events_at 2 (pieces rest))
 
 -- ---- what a reader answers

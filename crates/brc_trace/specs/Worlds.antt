@@ -1,5 +1,6 @@
 -- The text of a world: what is written where a replay ends.
 use Rattle.std.specs.Prelude.{ℕ, zero, suc, ◌+◌, ◌-◌, ◌==◌, Bool, true, false, if◌then◌else◌, ℤ, pos, negsuc, List, [], ◌∷◌, ◌++◌, length, Option, Some, None, slice_index}
+use Rattle.brc_words.specs.declared.limits.TheConstants.{GLOBALS}
 use Rattle.brc_words.specs.declared.owner.Owner.{Owner}
 use Rattle.brc_words.specs.declared.owner.Owner.TheVariants as owners
 use Rattle.brc_words.specs.declared.state.State.{State}
@@ -171,11 +172,11 @@ abbrev pub ledger_line : Ledger → ℕ → List ℕ
 ledger_line ledger live =
     line (tokens.Word words.Ledger ∷ tokens.Number ledger.allocs ∷ tokens.Number ledger.frees ∷ tokens.Number live ∷ [])
 
--- Threads have the numbers from 1 on; cell 265 has the globals.
+-- Threads have the numbers from 1 on.
 unfoldable pub world_text : Heap → List ℕ
 world_text h =
     world_line (length h.cells) h.limit
     ++ (over (thread_text h) 1 (length h.rows - 1)
-    ++ (entries_text 265 (entries_at h 265)
+    ++ (entries_text GLOBALS (entries_at h GLOBALS)
     ++ (over (object_text h) 0 (length h.cells)
     ++ ledger_line (ledgers_of h) (live_count h))))

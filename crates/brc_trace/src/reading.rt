@@ -9,11 +9,8 @@ use crate::event_line::read_event;
 use crate::trace::Trace;
 use brc_runs::Event;
 use brc_text::{Keyword, Token, Words};
-use brc_words::{FEWEST_CELLS, Fault, MOST_CELLS, MOST_LOCAL, Reason};
+use brc_words::{FEWEST_CELLS, Fault, MOST_CELLS, MOST_INPUT, MOST_LOCAL, Reason};
 use std::alloc::Allocator;
-
-/// A trace text has at most this many bytes.
-const MOST_BYTES: usize = 16_777_216;
 
 /// The fault of a line that isn't one of a trace.
 pub(crate) fn not_a_line(line: u32) -> Fault
@@ -62,7 +59,7 @@ pub(crate) fn read_head<'t>(
     ensures { MatchResult result (λ found. IsHead text.now found.0 found.1.now)
         (λ fault. Refuses fault (trace_at text.now)) }
 {
-    if text.len() > MOST_BYTES {
+    if text.len() > MOST_INPUT {
         return Err(not_a_line(0));
     }
     let Some(behind) = words.read(text) else {
@@ -76,7 +73,7 @@ pub(crate) fn read_head<'t>(
 
 /// The events of the lines behind the head, which is line 1.
 fn events_of<A: Allocator>(alloc: A, words: &mut Words, text: &[u8]) -> Result<Vec<Event, A>, Fault>
-    requires { length text.now ≤ 16777216 }
+    requires { length text.now ≤ MOST_INPUT }
 
     ensures { Gives (λ events. events.items) result (events_at 2 (pieces text.now)) }
 {
@@ -114,7 +111,7 @@ pub fn read_trace<A: Allocator>(alloc: A, text: &[u8]) -> Result<Trace<A>, Fault
     // What is read is spelled so.
     ensures found { IfOk result (λ trace. IsTrace (listing trace) × (text.now ≡ trace_text (listing trace))) }
     // What is spelled so is read, unless memory runs out.
-    ensures only { (trace : Listing) → IsTrace trace → length text.now ≤ 16777216 → text.now ≡ trace_text trace →
+    ensures only { (trace : Listing) → IsTrace trace → length text.now ≤ MOST_INPUT → text.now ≡ trace_text trace →
         Gives listing result (Ok trace) }
     // Which line is told.
     ensures exact { Gives listing result (trace_at text.now) }

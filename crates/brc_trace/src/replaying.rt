@@ -1,20 +1,20 @@
 //! A replay from bytes to bytes: a trace is read, replayed, and the text of its world written.
 
-ghost use Rattle.std.specs.Prelude.{◌≡◌, ◌⊎◌, take, IfOk, IfErr, IfSome};
+ghost use Rattle.std.specs.Prelude.{◌≡◌, ◌⊎◌, ◌+◌, take, IfOk, IfErr, IfSome};
 ghost use Rattle.brc_trace.specs.Replaying.{Replays};
 
 use crate::stepping::world_of;
 use crate::world_text::write_world;
-use brc_words::Fault;
+use brc_words::{Fault, MOST_INPUT};
 use std::alloc::Allocator;
 use std::io::{Read, Write};
 
 /// One byte more than a trace may have.
-const MOST_READ: usize = 16_777_217;
+const MOST_READ: usize = MOST_INPUT + 1;
 
 /// All that the reader gives, up to one byte more than a trace may have. Any error ends it.
 fn read_input<A: Allocator, R: Read>(alloc: A, reader: &mut R) -> Result<Vec<u8, A>, Fault>
-    ensures bytes { IfOk result (λ bytes. IfSome (R.remaining reader.old) (λ input. bytes.items ≡ take 16777217 input)) }
+    ensures bytes { IfOk result (λ bytes. IfSome (R.remaining reader.old) (λ input. bytes.items ≡ take (MOST_INPUT + 1) input)) }
     ensures refused { IfErr result (λ fault. (fault ≡ Fault.Io) ⊎ (fault ≡ Fault.OutOfMemory)) }
 {
     let mut bytes = Vec::new(alloc);

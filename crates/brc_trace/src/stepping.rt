@@ -9,13 +9,13 @@ use crate::event_line::read_event;
 use crate::reading::{not_a_line, read_head};
 use brc_core::{StepFault, World};
 use brc_text::Words;
-use brc_words::{Fault, Reason};
+use brc_words::{Fault, MOST_INPUT, Reason};
 use std::alloc::Allocator;
 
 /// The fault of a trace whose event on this line isn't enabled. A bad line is told before it, so the lines behind are
 /// still read, and none of their events is made.
 fn fault_of_refused(words: &mut Words, behind: &[u8], refused: u32) -> Fault
-    requires { refused + length behind.now ≤ 16777217 }
+    requires { refused + length behind.now ≤ MOST_INPUT + 1 }
 
     ensures { result ≡ told refused (events_at (refused + 1) (pieces behind.now)) }
 {
@@ -40,7 +40,7 @@ fn step_lines<A: Allocator + Copy>(
     words: &mut Words,
     text: &[u8],
 ) -> Result<(), Fault>
-    requires { length text.now ≤ 16777216 }
+    requires { length text.now ≤ MOST_INPUT }
 
     ensures { Steps result world.old world.new (events_at 2 (pieces text.now)) }
 {

@@ -16,6 +16,8 @@ pub const MOST_PLACES: u32 = 65_536;
 pub const MOST_ENTRIES: u32 = 1_048_576;
 /// The largest `local_limit`: at it the owner counts up on the shared word.
 pub const MOST_LOCAL: u32 = 4_294_967_294;
+/// A trace text has at most this many bytes.
+pub const MOST_INPUT: usize = 16_777_216;
 /// The local word of an immortal (PEP 703: `UINT32_MAX`).
 pub const IMMORTAL_LOCAL: u32 = 4_294_967_295;
 /// A thread bears at most this many objects.
