@@ -33,13 +33,6 @@ pub enum Token {
     Word(Keyword),
 }
 
-/// A word to fill a fixed row of tokens with, before any is read.
-impl Default for Token {
-    fn default() -> Token {
-        Token::Number(0)
-    }
-}
-
 fn letter_of(byte: u8) -> Option<Letter>
     ensures { result ≡ letter_at byte }
 {
