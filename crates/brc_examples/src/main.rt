@@ -42,13 +42,19 @@ fn run_example(rt: &HostRuntime, name: &str) -> io::Result<()> {
             } else {
                 "ANOTHER"
             };
-            let end = if lives { "an object lives" } else { "nothing lives" };
+            let end = if lives {
+                "an object lives"
+            } else {
+                "nothing lives"
+            };
             println!(rt; "{name}: its world is {text}, {end}")
         }
-        Err(Fault::BadTrace {
-            line,
-            reason: Reason::NotEnabled,
-        }) => println!(rt; "{name}: line {line} is not enabled"),
+        Err(
+            Fault::BadTrace {
+                line,
+                reason: Reason::NotEnabled,
+            },
+        ) => println!(rt; "{name}: line {line} is not enabled"),
         Err(_) => println!(rt; "{name}: NOT REPLAYED"),
     }
 }

@@ -37,10 +37,10 @@ others_phase s t row popped x g c p fits owner ne =
     elim (cases_Bool (is_gripping p)) [
       | inr off ↦ off
       | inl grip ↦ absurd (elim (gripping_owner s row popped x g c p fits grip) [
-          | inl claimed ↦ let e : owners.Thread t ≡ owners.Claimed s = sym owner ∙ claimed in cc
-          | inr (inl owned) ↦ let e : owners.Thread t ≡ owners.Thread s = sym owner ∙ owned in ne (cc)
-          | inr (inr nobody) ↦ let e : owners.Thread t ≡ owners.Nobody = sym owner ∙ nobody in cc
-        ])
+        | inl claimed ↦ let e : owners.Thread t ≡ owners.Claimed s = sym owner ∙ claimed in cc
+        | inr (inl owned) ↦ let e : owners.Thread t ≡ owners.Thread s = sym owner ∙ owned in ne (cc)
+        | inr (inr nobody) ↦ let e : owners.Thread t ≡ owners.Nobody = sym owner ∙ nobody in cc
+      ])
     ]
 
 -- it says the same of the cell with another local count
