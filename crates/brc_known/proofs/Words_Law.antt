@@ -84,7 +84,7 @@ apart_here h t s c f other = by_field f (field_of s) (λ same. other (ap (λ g. 
 
 -- ---- what one entry of a list is seen by stays, where the new entry is seen by the same
 
-kept_by : {A B : Type 0} (f : A → B) (xs : List A) (i : ℕ) (v d : A) → f v ≡ f (get_or xs i d) → (j : ℕ) → f (get_or (set xs i v) j d) ≡ f (get_or xs j d)
+pub kept_by : {A B : Type 0} (f : A → B) (xs : List A) (i : ℕ) (v d : A) → f v ≡ f (get_or xs i d) → (j : ℕ) → f (get_or (set xs i v) j d) ≡ f (get_or xs j d)
 kept_by {A} {B} f xs i v d same j = elim (cases_eq j i) [
   | inr other ↦ ap f (read_there xs i j v d other)
   | inl here ↦ subst (λ k. f (get_or (set xs i v) k d) ≡ f (get_or xs k d)) (sym here) (elim (cases_lt i (length xs)) [

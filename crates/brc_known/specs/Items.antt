@@ -18,21 +18,12 @@ use Rattle.brc_runs.specs.Lists.{front_of, word_at, is_marked, number_in}
 use Rattle.brc_runs.specs.Heap.{Heap, no_cell, new_row, cell_at, entries_at, row_at, frame_at, popped_at, worklist_at, queue_at, words_for, is_registered}
 use Rattle.brc_runs.specs.Steps.{enabled, target, target_at, cell_after, takes_block, is_closed, row_after, frame_after, popped_after, worklist_after, gone, entries_changed, stage_after, drained_word, is_shut, locked_at}
 use Rattle.brc_runs.specs.Runs.{world_after}
+pub use Rattle.brc_known.specs.declared.word.Field.{Field}
+pub use Rattle.brc_known.specs.declared.word.Field.TheVariants.{Owner, Local, Shared, Mutex}
+pub use Rattle.brc_known.specs.declared.word.Word.{Word}
+pub use Rattle.brc_known.specs.declared.word.Word.TheVariants.{Of, Queue, NotifyWord}
 
 -- ---- the numbers that words spell
-
--- the words of a cell
-pub data Field : Type 0 where
-  Owner : Field
-  Local : Field
-  Shared : Field
-  Mutex : Field
-
--- a word of the table: one of a cell, one of a thread's merge queue, or a thread's notify word
-pub data Word : Type 0 where
-  Of : Field → ℕ → Word
-  Queue : ℕ → ℕ → Word
-  NotifyWord : ℕ → Word
 
 -- a count, counted from -2^40
 abbrev pub raised : ℤ → ℕ

@@ -8,8 +8,10 @@
 #![tactic(auto)]
 
 mod laws;
+mod word;
 
 pub use laws::{
     a_step_changes_one_word, counts_say_who_counts, own_items_tell_the_blocks,
     own_items_tell_the_counts, own_items_tell_the_part, own_items_tell_what_has_risen,
 };
+pub use word::{Field, Word};

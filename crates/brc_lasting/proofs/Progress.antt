@@ -42,7 +42,7 @@ and_both true b x y = y
 and_both false b x y = absurd (true≢false (sym x))
 
 -- a cell that isn't free is one of the heap
-inside : (h : Heap) (c : ℕ) → (cell_at h c).owner ≢ owners.Free → c < length h.cells
+pub inside : (h : Heap) (c : ℕ) → (cell_at h c).owner ≢ owners.Free → c < length h.cells
 inside h c taken = elim (cases_lt c (length h.cells)) [
   | inl low ↦ low
   | inr past ↦ absurd (taken (ap (λ (x : Cell). x.owner) (get_or_past h.cells c no_cell past)))

@@ -1,0 +1,21 @@
+//! The words of the heap's table.
+
+/// The words of a cell.
+#[derive(Clone, Copy, Debug, PartialEq, Eq)]
+pub enum Field {
+    Owner,
+    Local,
+    Shared,
+    Mutex,
+}
+
+/// A word of the table.
+#[derive(Clone, Copy, Debug, PartialEq, Eq)]
+pub enum Word {
+    /// One of a cell.
+    Of(Field, u32),
+    /// One of the merge queue of this thread.
+    Queue(u32, u32),
+    /// The notify word of this thread.
+    NotifyWord(u32),
+}

@@ -1,0 +1,113 @@
+-- What a seat's log says is so in the world of the rule, and so its own part and the cell that it means decide whether a
+-- step is enabled.
+use Rattle.std.proofs.Common.{◌≡◌, ℕ, ◌<◌, ◌≤◌, nat_lt, ◌&&◌, Bool, true, false, if◌then◌else◌, List, [], ◌∷◌, length, Option, Some, None, refl, sym, ◌∙◌, ap, subst, arith}
+use Rattle.std.proofs.lemmas.Bool.{and_parts}
+use Rattle.std.specs.Cmp.Derive.{both_true}
+use mathlib.Core.Option.{some}
+use lib.ListN.{get_elem?}
+use Rattle.atomic_table.specs.Table.{State}
+use Rattle.brc_words.specs.declared.limits.TheConstants.{FIRST_MORTAL}
+use Rattle.brc_runs.specs.declared.row.Row.{Row}
+use Rattle.brc_runs.specs.declared.event.Dropped.{Dropped}
+use Rattle.brc_runs.specs.declared.event.Step.{Step}
+use Rattle.brc_runs.specs.declared.event.Step.TheVariants.{Free, Unlock}
+use Rattle.brc_runs.specs.Lists.{is_marked}
+use Rattle.brc_runs.specs.Heap.{Heap, opening, cell_at, entries_at, row_at, frame_at, popped_at, worklist_at, is_registered, is_gathered, words_for, AreOptions}
+use Rattle.brc_runs.specs.Steps.{thread_may, stage_ok, lock_ok, hand_ok, own_ok, own_ok_at, others_ok, target_ok, target_at, is_empty, change_ok, locked_entries, locked_cell, locked_at}
+use Rattle.brc_runs.specs.Runs.{IsReached}
+use Rattle.brc_known.specs.Items.{Part, part_of, IsPart, events_of, own, world_of_items}
+use Rattle.brc_known.specs.Counts.{own_count, counts_of}
+use Rattle.brc_lasting.proofs.Standing.{run_reached}
+use Rattle.brc_lasting.proofs.Ranges_Law.{run_limit}
+use Rattle.brc_known.proofs.Items_Queues.{run_queues, run_cells}
+use Rattle.brc_known.proofs.Items_Runs.{events_run}
+use Rattle.brc_known.proofs.Items_Told.{QueuesFit}
+use Rattle.brc_known.proofs.Items_Own.{Knows}
+use Rattle.brc_known.proofs.Items_Law.{parts_are_told}
+use Rattle.brc_known.proofs.Counts_Law.{part_target, counts_are_told}
+use Rattle.brc_rule.specs.declared.contents.Contents.{Contents}
+use Rattle.brc_rule.specs.declared.told.Told.{Told}
+use Rattle.brc_rule.specs.declared.view.View.{View}
+use Rattle.brc_rule.specs.Logs.{log_items, Run, items_of, own_of, world}
+use Rattle.brc_rule.specs.Rule.{stands, Fits, Kept}
+use Rattle.brc_rule.specs.Seen.{part_seen, counts_seen, means, own_may}
+use Rattle.brc_rule.proofs.Own_Logs.{own_items, stands_registered, stands_ungathered}
+
+-- what the log says, in the world
+pub record Known (n limit : ℕ) (h : Heap) (t : ℕ) (log : List Told) : Type 0 where
+  pub options : AreOptions n limit
+  pub reached : IsReached h
+  pub cells : length h.cells ≡ n
+  pub limit_is : h.limit ≡ limit
+  pub queues : QueuesFit h
+  pub stood : stands h t ≡ true
+  pub part : IsPart h t (part_seen n log)
+  pub counts : (c : ℕ) → FIRST_MORTAL ≤ c → own_count t (row_at h t).stage (cell_at h c) ≡ counts_seen n log c
+
+module _ {B : Type 0} (shows : B → ℕ × Contents) (first : ℕ → Contents) (n limit : ℕ) where
+  pub knows : (s : State (Option B) View) (r : Kept shows first n limit s) (id : ℕ) (v : View) → get_elem? s.views id ≡ some v → v.active ≡ true → 0 < v.thread
+      → Known n limit (world n limit r.run) v.thread v.log
+  knows s r id v at active some_thread =
+      let t : ℕ = v.thread in
+      let h : Heap = world n limit r.run in
+      let fits : Fits h r.run r.seat id v = r.each_seat id v at active in
+      let log : own t (items_of r.run) ≡ log_items v.log = own_items t r.run ∙ ap log_items fits.log in
+      let there : is_registered h t ≡ true = stands_registered h t fits.there some_thread in
+      record {
+        options = r.options;
+        reached = run_reached n limit (events_of (items_of r.run)) r.options (events_run (opening n limit) (items_of r.run) r.legal.items);
+        cells = run_cells n limit (events_of (items_of r.run));
+        limit_is = run_limit n limit (events_of (items_of r.run));
+        queues = run_queues n limit (events_of (items_of r.run));
+        stood = fits.there;
+        part = subst (λ items. IsPart h t (part_of n items)) log (parts_are_told n limit (items_of r.run) t r.options r.legal.items there);
+        counts = λ c mortal. counts_are_told n limit (items_of r.run) t c r.options r.legal.items there mortal ∙ ap (λ items. counts_of n items c) log;
+      }
+
+-- ---- the own part decides
+
+-- own conditions, with the entries that the world has
+own_ok_alike : (words : ℕ) (h : Heap) (t : ℕ) (has : ℕ → List ℕ) (s : Step) → Knows h t has
+    → own_ok words (row_at h t) (frame_at h t) (popped_at h t) (worklist_at h t) has s ≡ true
+    → own_ok words (row_at h t) (frame_at h t) (popped_at h t) (worklist_at h t) (entries_at h) s ≡ true
+own_ok_alike words h t has (Free c) knows ok =
+    let parts = and_parts (is_marked (worklist_at h t) c) (is_empty (has c)) ok in
+    subst (λ (es : List ℕ). (is_marked (worklist_at h t) c && is_empty es) ≡ true) (sym (knows.worklists c parts.0)) ok
+own_ok_alike words h t has (Unlock change) knows ok = by_lock (locked_at h t) refl ok
+  where
+    by_lock : (o : Option ℕ) → locked_at h t ≡ o → change_ok (row_at h t).locked (frame_at h t) (locked_entries has (locked_at h t)) change ≡ true
+        → change_ok (row_at h t).locked (frame_at h t) (locked_entries (entries_at h) (locked_at h t)) change ≡ true
+    by_lock None at ok = subst (λ l. change_ok (row_at h t).locked (frame_at h t) (locked_entries (entries_at h) l) change ≡ true) (sym at)
+        (subst (λ l. change_ok (row_at h t).locked (frame_at h t) (locked_entries has l) change ≡ true) at ok)
+    by_lock (Some c) at ok = subst (λ l. change_ok (row_at h t).locked (frame_at h t) (locked_entries (entries_at h) l) change ≡ true) (sym at)
+        (subst (λ (es : List ℕ). change_ok (row_at h t).locked (frame_at h t) es change ≡ true) (sym (knows.locked c at))
+        (subst (λ l. change_ok (row_at h t).locked (frame_at h t) (locked_entries has l) change ≡ true) at ok))
+own_ok_alike words h t has _ knows ok = ok
+
+-- what is told of a part, of the world's
+own_tests : (n : ℕ) (h : Heap) (t : ℕ) (part : Part) (s : Step) → IsPart h t part → own_may n part s ≡ true
+    → (stage_ok (row_at h t).stage s && lock_ok (row_at h t).locked s && hand_ok (row_at h t).hand s
+    && own_ok (words_for n) (row_at h t) (frame_at h t) (popped_at h t) (worklist_at h t) part.has s) ≡ true
+own_tests n h t part s is ok =
+    subst (λ (w : List Bool). (stage_ok (row_at h t).stage s && lock_ok (row_at h t).locked s && hand_ok (row_at h t).hand s && own_ok (words_for n) (row_at h t) (frame_at h t) (popped_at h t) w part.has s) ≡ true) (sym is.work_is)
+    (subst (λ (p : List ℕ). (stage_ok (row_at h t).stage s && lock_ok (row_at h t).locked s && hand_ok (row_at h t).hand s && own_ok (words_for n) (row_at h t) (frame_at h t) p part.worklist part.has s) ≡ true) (sym is.popped_is)
+    (subst (λ (f : List (Option ℕ)). (stage_ok (row_at h t).stage s && lock_ok (row_at h t).locked s && hand_ok (row_at h t).hand s && own_ok (words_for n) (row_at h t) f part.popped part.worklist part.has s) ≡ true) (sym is.frame_is)
+    (subst (λ (r : Row). (stage_ok r.stage s && lock_ok r.locked s && hand_ok r.hand s && own_ok (words_for n) r part.frame part.popped part.worklist part.has s) ≡ true) (sym is.row_is) ok)))
+
+-- the own part allows the step, and so do whom it tells and the cell that it means
+pub is_enabled : (n limit : ℕ) (h : Heap) (t : ℕ) (log : List Told) (s : Step) → 0 < t → Known n limit h t log → own_may n (part_seen n log) s ≡ true
+    → others_ok h s ≡ true → target_ok h t (row_at h t) s (target_at h t s) ≡ true → thread_may h t s ≡ true
+is_enabled n limit h t log s some_thread known own others target =
+    let part : Part = part_seen n log in
+    let all = own_tests n h t part s known.part own in
+    let a = and_parts _ _ all in
+    let b = and_parts _ _ a.0 in
+    let c = and_parts _ _ b.0 in
+    let mine : own_ok_at h t s ≡ true = subst (λ m. own_ok (words_for m) (row_at h t) (frame_at h t) (popped_at h t) (worklist_at h t) (entries_at h) s ≡ true) (sym known.cells)
+    (own_ok_alike (words_for n) h t part.has s (record { locked = known.part.locked_has; worklists = known.part.work_has }) a.1) in
+    let there = both_true (stands_registered h t known.stood some_thread) (ap Rattle.std.proofs.Common.not (stands_ungathered h t known.stood some_thread)) in
+    both_true (both_true (both_true (both_true (both_true (both_true there c.0) c.1) b.1) mine) others) target
+
+-- the cell that the log's part means is the world's
+pub meant : (n limit : ℕ) (h : Heap) (t : ℕ) (log : List Told) (s : Step) (o : Option ℕ) → Known n limit h t log → means (part_seen n log) s ≡ o → target_at h t s ≡ o
+meant n limit h t log s o known is = sym (part_target h t (part_seen n log) s known.part) ∙ is

@@ -1,0 +1,9 @@
+pub mod Spots
+pub mod Own_Logs
+pub mod Growing
+pub mod Looking
+pub mod Stepping
+pub mod Homing
+pub mod Knowing
+pub mod Plain_Steps
+pub mod Local_Steps

@@ -1,0 +1,6 @@
+pub mod Layout
+pub mod Logs
+pub mod Homes
+pub mod Rule
+pub mod Seen
+pub mod Owing

@@ -1,0 +1,142 @@
+-- Items with the contents that go with them, and the runs that they make.
+use Rattle.std.specs.Prelude.{◌≡◌, ℕ, ◌==◌, Bool, true, false, if◌then◌else◌, List, [], ◌∷◌, map, Option, Some, None}
+use Rattle.brc_words.specs.declared.kind.Kind.{Kind}
+use Rattle.brc_words.specs.declared.kind.Kind.TheVariants as kinds
+use Rattle.brc_runs.specs.declared.event.Step.{Step}
+use Rattle.brc_runs.specs.declared.event.Step.TheVariants.{Birth, Unlock}
+use Rattle.brc_runs.specs.declared.event.Change.{Change}
+use Rattle.brc_runs.specs.declared.event.Change.TheVariants as changes
+use Rattle.brc_runs.specs.Heap.{Heap, opening, cell_at, entries_at}
+use Rattle.brc_runs.specs.Steps.{after_target, target_at, locked_at}
+use Rattle.brc_known.specs.Items as items
+use Rattle.brc_known.specs.Items.{Item, ItemRun, AreItems, world_of_items, is_start, finds}
+use Rattle.brc_rule.specs.declared.contents.PlainKey.{PlainKey}
+use Rattle.brc_rule.specs.declared.contents.Contents.{Contents}
+use Rattle.brc_rule.specs.declared.contents.Contents.TheVariants.{Nothing, Truth, Int, Text, «List» as Cells, Dict, Mailbox}
+use Rattle.brc_rule.specs.declared.told.Moved.{Moved}
+use Rattle.brc_rule.specs.declared.told.Moved.TheVariants as moves
+use Rattle.brc_rule.specs.declared.told.Told.{Told}
+use Rattle.brc_rule.specs.declared.told.Told.TheVariants.{Did, Saw, Lost}
+
+-- ---- contents as the world has them
+
+abbrev pub kind_in : Contents → Kind
+kind_in Nothing = kinds.Nothing
+kind_in (Truth false) = kinds.False
+kind_in (Truth true) = kinds.True
+kind_in (Int number) = kinds.Int
+kind_in (Text text) = kinds.Text
+kind_in (Cells cells) = kinds.List
+kind_in (Dict pairs) = kinds.Dict
+kind_in (Mailbox letters) = kinds.Mailbox
+
+abbrev pub entries_in : Contents → List ℕ
+entries_in (Cells cells) = cells
+entries_in (Dict pairs) = map (λ (pair : PlainKey × ℕ). pair.1) pairs
+entries_in (Mailbox letters) = letters
+entries_in _ = []
+
+-- ---- items without their contents
+
+-- the entries that a step finds
+abbrev pub entries_found : Moved → List ℕ
+entries_found (moves.Found c contents) = entries_in contents
+entries_found _ = []
+
+abbrev pub item_of : Told → Item
+item_of (Did s number moved) = items.Did s number (entries_found moved)
+item_of (Saw word number) = items.Saw word number
+item_of (Lost word number) = items.Lost word number
+
+abbrev pub log_items : List Told → List Item
+log_items log = map item_of log
+
+-- ---- runs
+
+-- the items of all threads, newest first
+abbrev pub Run : Type 0
+Run = List (ℕ × Told)
+
+abbrev pub items_of : Run → ItemRun
+items_of [] = []
+items_of (x ∷ run) = (x.0, item_of x.1) ∷ items_of run
+
+-- a thread's own since it was registered, newest first
+abbrev pub own_of : ℕ → Run → List Told
+own_of t [] = []
+own_of t (x ∷ run) = if is_start t (item_of x.1) then [] else (if x.0 == t then x.1 ∷ own_of t run else own_of t run)
+
+-- the world that the run leads to
+abbrev pub world : ℕ → ℕ → Run → Heap
+world n limit run = world_of_items (opening n limit) (items_of run)
+
+-- ---- what was put home last
+
+abbrev pub put_by : Moved → ℕ → Contents → Contents
+put_by (moves.Put d contents) c before = if d == c then contents else before
+put_by _ c before = before
+
+abbrev pub put_in : Told → ℕ → Contents → Contents
+put_in (Did s number moved) c before = put_by moved c before
+put_in (Saw word number) c before = before
+put_in (Lost word number) c before = before
+
+-- what the last Birth or Unlock of the cell put home; before the first, what the heap was opened with
+abbrev pub contents_at : (ℕ → Contents) → Run → ℕ → Contents
+contents_at first [] c = first c
+contents_at first (x ∷ run) c = put_in x.1 c (contents_at first run c)
+
+-- ---- the contents that go with a step
+
+-- the cell whose block the step puts home
+abbrev pub puts : Heap → ℕ → Step → Option ℕ
+puts h t (Birth c kind k) = Some c
+puts h t (Unlock change) = locked_at h t
+puts h t _ = None
+
+-- the cell whose block the step finds: what it locks, or a dead object
+abbrev pub takes_of : Heap → Step → Option ℕ → Option ℕ
+takes_of h s None = None
+takes_of h s (Some c) = if finds s (cell_at h c) then Some c else None
+
+abbrev pub takes : Heap → ℕ → Step → Option ℕ
+takes h t s = takes_of h s (target_at h t s)
+
+-- an unlock that changes nothing puts home what was there
+abbrev pub keeps : Step → Bool
+keeps (Unlock changes.Keep) = true
+keeps _ = false
+
+-- what a step puts home is of the kind and has the entries that the cell has after it
+pub record PutsHome (first : ℕ → Contents) (h : Heap) (run : Run) (t : ℕ) (s : Step) (c : ℕ) (contents : Contents) : Type 0 where
+  pub cell : puts h t s ≡ Some c
+  pub finds_none : takes h t s ≡ None
+  pub kind : kind_in contents ≡ (cell_at (after_target h t s (target_at h t s)) c).kind
+  pub entries : entries_in contents ≡ entries_at (after_target h t s (target_at h t s)) c
+  pub kept : keeps s ≡ true → contents ≡ contents_at first run c
+
+-- what a step finds is what was put home last
+pub record FindsThere (first : ℕ → Contents) (h : Heap) (run : Run) (t : ℕ) (s : Step) (c : ℕ) (contents : Contents) : Type 0 where
+  pub puts_none : puts h t s ≡ None
+  pub cell : takes h t s ≡ Some c
+  pub there : contents ≡ contents_at first run c
+
+abbrev pub MovesWith : (ℕ → Contents) → Heap → Run → ℕ → Step → Moved → Type 0
+MovesWith first h run t s moves.Nothing = (puts h t s ≡ None) × (takes h t s ≡ None)
+MovesWith first h run t s (moves.Put c contents) = PutsHome first h run t s c contents
+MovesWith first h run t s (moves.Found c contents) = FindsThere first h run t s c contents
+
+abbrev pub IsMoved : (ℕ → Contents) → Heap → Run → ℕ → Told → Type 0
+IsMoved first h run t (Did s number moved) = MovesWith first h run t s moved
+IsMoved first h run t (Saw word number) = Unit {0}
+IsMoved first h run t (Lost word number) = Unit {0}
+
+-- the contents of all items are those that go with them
+abbrev pub AreMoved : (ℕ → Contents) → ℕ → ℕ → Run → Type 0
+AreMoved first n limit [] = Unit {0}
+AreMoved first n limit (x ∷ run) = AreMoved first n limit run × IsMoved first (world n limit run) run x.0 x.1
+
+-- a run of a heap with n cells that was opened with these contents
+pub record IsLegal (first : ℕ → Contents) (n limit : ℕ) (run : Run) : Type 0 where
+  pub items : AreItems (opening n limit) (items_of run)
+  pub moved : AreMoved first n limit run
