@@ -2,3 +2,4 @@ pub mod Items
 pub mod Counts
 pub mod Risen
 pub mod Taken
+pub mod Root

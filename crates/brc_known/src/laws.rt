@@ -7,9 +7,10 @@ ghost use Rattle.brc_runs.specs.declared.event.Dropped.{Dropped as dropped};
 ghost use Rattle.brc_runs.specs.declared.event.Step.{Step as step};
 ghost use Rattle.brc_runs.specs.declared.event.Event.{Event as event};
 ghost use Rattle.brc_runs.specs.Lists.{is_marked};
-ghost use Rattle.brc_runs.specs.Heap.{Heap, opening, cell_at, entries_at, row_at, worklist_at, is_registered, AreOptions};
+ghost use Rattle.brc_runs.specs.Heap.{Heap, opening, cell_at, entries_at, row_at, worklist_at, is_registered, is_gathered, AreOptions};
 ghost use Rattle.brc_runs.specs.Steps.{is_mine, thread_may, after_target, target_at};
 ghost use Rattle.brc_runs.specs.Runs.{IsRun, IsReached};
+ghost use Rattle.brc_known.specs.Root.{rows_of, gathered_of};
 ghost use Rattle.brc_known.specs.Counts.{own_count, counts_of};
 ghost use Rattle.brc_known.specs.Risen.{is_risen};
 ghost use Rattle.brc_known.specs.Taken.{listed_at, taken_of, entries_if};
@@ -31,6 +32,16 @@ pub fn own_items_tell_the_part()
         → AreItems (opening cells limit) items
         → is_registered (world_of_items (opening cells limit) items) t ≡ true
         → IsPart (world_of_items (opening cells limit) items) t (part_of cells (own t items)) }
+{}
+
+/// The threads of the world are told by the root's own items: how many rows it has, and which threads are gathered.
+pub fn root_items_tell_the_threads()
+    ensures rows { (cells limit : ℕ) (items : ItemRun) → AreOptions cells limit
+        → AreItems (opening cells limit) items
+        → length (world_of_items (opening cells limit) items).rows ≡ rows_of (own 0 items) }
+    ensures gathered { (cells limit : ℕ) (items : ItemRun) (u : ℕ) → AreOptions cells limit
+        → AreItems (opening cells limit) items
+        → is_gathered (world_of_items (opening cells limit) items) u ≡ gathered_of (own 0 items) u }
 {}
 
 /// The local count of each of a thread's own objects is a function of its own items, with the numbers that they were told:
