@@ -14,10 +14,10 @@ use Rattle.brc_runs.proofs.Asking.{May, may_parts}
 use Rattle.brc_runs.proofs.Registering.{length-push}
 use Rattle.brc_lasting.proofs.Standing.{run_reached}
 use Rattle.brc_lasting.proofs.Lasting.{other_number}
+use Rattle.brc_lasting.proofs.Ranges_Law.{same_rows}
 use Rattle.brc_known.proofs.Items_Told.{QueuesFit}
 use Rattle.brc_known.proofs.Items_Queues.{run_queues, run_cells}
 use Rattle.brc_known.proofs.Items_Runs.{events_run}
-use Rattle.brc_known.proofs.Words_Law.{same_rows}
 
 -- what is said of a thread's world and its items, newest first
 pub record Follows (t cells : ℕ) (P : Heap → List Item → Type 0) : Type 0 where

@@ -15,9 +15,9 @@ use Rattle.brc_runs.proofs.Changes.{read_here, read_there}
 use Rattle.brc_runs.proofs.Reached.{reached_sound}
 use Rattle.brc_runs.proofs.Registering.{length-push, push_else}
 use Rattle.brc_lasting.proofs.Standing.{run_reached}
+use Rattle.brc_lasting.proofs.Ranges_Law.{same_rows}
 use Rattle.brc_known.proofs.Items_Runs.{events_run}
 use Rattle.brc_known.proofs.Items_Tells.{with_item, not_mine, mine_too, no_start}
-use Rattle.brc_known.proofs.Words_Law.{same_rows}
 
 -- what the root's items say of a world
 abbrev RootSays : Heap → List Item → Type 0

@@ -1,6 +1,6 @@
 //! What a thread's own items tell it, each as the contract of a function with nothing to do.
 
-ghost use Rattle.std.specs.Prelude.{◌≡◌, ◌≢◌, ◌≤◌, ℕ, ◌<◌, List, true, false, length};
+ghost use Rattle.std.specs.Prelude.{◌≡◌, ◌≢◌, ◌≤◌, ℕ, ◌<◌, List, Some, None, true, false, length};
 ghost use Rattle.brc_runs.specs.declared.cell.Cell.{Cell as cell};
 ghost use Rattle.brc_runs.specs.declared.row.Hand.TheVariants as hands;
 ghost use Rattle.brc_runs.specs.declared.event.Dropped.{Dropped as dropped};
@@ -8,7 +8,7 @@ ghost use Rattle.brc_runs.specs.declared.event.Step.{Step as step};
 ghost use Rattle.brc_runs.specs.declared.event.Event.{Event as event};
 ghost use Rattle.brc_runs.specs.Lists.{is_marked};
 ghost use Rattle.brc_runs.specs.Heap.{Heap, opening, cell_at, entries_at, row_at, worklist_at, is_registered, is_gathered, AreOptions};
-ghost use Rattle.brc_runs.specs.Steps.{is_mine, thread_may, after_target, target_at};
+ghost use Rattle.brc_runs.specs.Steps.{is_mine, takes_block, thread_may, after_target, target_at};
 ghost use Rattle.brc_runs.specs.Runs.{IsRun, IsReached};
 ghost use Rattle.brc_known.specs.Root.{rows_of, gathered_of};
 ghost use Rattle.brc_known.specs.Counts.{own_count, counts_of};
@@ -18,11 +18,11 @@ ghost use Rattle.brc_runs.specs.Sound.{held};
 ghost use Rattle.brc_runs.specs.declared.row.Stage.{Stage as stage};
 ghost use Rattle.brc_words.specs.declared.limits.TheConstants.{FIRST_MORTAL};
 ghost use Rattle.brc_lasting.specs.Staying.{rank};
-ghost use Rattle.brc_known.specs.Items.{Word as word, IsWord, Shows, works_on, ItemRun, AreItems, IsPart, events_of, world_of_items, part_of, own};
+ghost use Rattle.brc_known.specs.Items.{Word as word, IsWord, Shows, works_on, Did, ItemRun, MayCome, AreItems, IsPart, events_of, world_of_items, part_of, meant, cell_told, own};
 
 /// Items are runs with what each step was told: the events of items are a run, and each run is the events of items. A
 /// thread's own part of the world, with the entries of what it has locked and of its worklist, is a function of its own
-/// items.
+/// items, and so is the cell that each of its steps means.
 pub fn own_items_tell_the_part()
     ensures run { (start : Heap) (items : ItemRun) → AreItems start items
         → IsRun start (events_of items) }
@@ -32,6 +32,11 @@ pub fn own_items_tell_the_part()
         → AreItems (opening cells limit) items
         → is_registered (world_of_items (opening cells limit) items) t ≡ true
         → IsPart (world_of_items (opening cells limit) items) t (part_of cells (own t items)) }
+    ensures meant { (cells limit : ℕ) (items : ItemRun) (t : ℕ) (s : step)
+        → AreOptions cells limit → AreItems (opening cells limit) items
+        → is_registered (world_of_items (opening cells limit) items) t ≡ true
+        → meant (part_of cells (own t items)) s
+        ≡ target_at (world_of_items (opening cells limit) items) t s }
 {}
 
 /// The threads of the world are told by the root's own items: how many rows it has, and which threads are gathered.
@@ -75,14 +80,20 @@ pub fn own_items_tell_what_has_risen()
 {}
 
 /// The dead blocks that a thread has taken, with the entries that they still have, are a function of its own items: they
-/// are those on its worklist.
+/// are those on its worklist. A block that a step takes, by the number that the step is told, isn't listed before.
 pub fn own_items_tell_the_blocks()
-    ensures { (cells limit : ℕ) (items : ItemRun) (t c : ℕ) → AreOptions cells limit
+    ensures listed { (cells limit : ℕ) (items : ItemRun) (t c : ℕ) → AreOptions cells limit
         → AreItems (opening cells limit) items
         → is_registered (world_of_items (opening cells limit) items) t ≡ true
         → listed_at (taken_of cells (own t items)) c
         ≡ entries_if (is_marked (worklist_at (world_of_items (opening cells limit) items) t) c)
         (entries_at (world_of_items (opening cells limit) items) c) }
+    ensures fresh { (cells limit : ℕ) (items : ItemRun) (t c : ℕ) (s : step) (number : ℕ)
+        (entries : List ℕ) → AreOptions cells limit → AreItems (opening cells limit) items
+        → MayCome (world_of_items (opening cells limit) items) t (Did s number entries) → t ≢ 0
+        → meant (part_of cells (own t items)) s ≡ Some c
+        → takes_block s (cell_told s number) ≡ true
+        → listed_at (taken_of cells (own t items)) c ≡ None }
 {}
 
 /// A thread's step works on one word, and every other word of the table shows what it showed.
