@@ -10,3 +10,4 @@ pub mod Counts_Law
 pub mod Risen_Law
 pub mod Taken_Law
 pub mod Root_Law
+pub mod Locked_Law

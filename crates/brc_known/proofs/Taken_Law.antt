@@ -272,7 +272,7 @@ unlisted_unmarked cells limit items t c options are there unlisted =
       | inl on ↦ let bad : None ≡ Some (entries_at h c) = sym unlisted ∙ taken_is_told cells limit items t c options are there ∙ ap (λ m. if m then Some (entries_at h c) else None) on in absurd (cc)
     ]
 
-unmarked_unlisted : (cells limit : ℕ) (items : ItemRun) (t c : ℕ) → AreOptions cells limit → AreItems (opening cells limit) items
+pub unmarked_unlisted : (cells limit : ℕ) (items : ItemRun) (t c : ℕ) → AreOptions cells limit → AreItems (opening cells limit) items
     → is_registered (world_of_items (opening cells limit) items) t ≡ true
     → is_marked (worklist_at (world_of_items (opening cells limit) items) t) c ≡ false → listed_at (taken_of cells (own t items)) c ≡ None
 unmarked_unlisted cells limit items t c options are there off =

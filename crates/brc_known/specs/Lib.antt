@@ -3,3 +3,4 @@ pub mod Counts
 pub mod Risen
 pub mod Taken
 pub mod Root
+pub mod Locked

@@ -10,6 +10,7 @@ ghost use Rattle.brc_runs.specs.Lists.{is_marked};
 ghost use Rattle.brc_runs.specs.Heap.{Heap, opening, cell_at, entries_at, row_at, worklist_at, is_registered, is_gathered, AreOptions};
 ghost use Rattle.brc_runs.specs.Steps.{is_mine, takes_block, thread_may, after_target, target_at};
 ghost use Rattle.brc_runs.specs.Runs.{IsRun, IsReached};
+ghost use Rattle.brc_known.specs.Locked.{locked_of, place_locked, HasLocked};
 ghost use Rattle.brc_known.specs.Root.{rows_of, gathered_of};
 ghost use Rattle.brc_known.specs.Counts.{own_count, counts_of};
 ghost use Rattle.brc_known.specs.Risen.{is_risen};
@@ -94,6 +95,21 @@ pub fn own_items_tell_the_blocks()
         → meant (part_of cells (own t items)) s ≡ Some c
         → takes_block s (cell_told s number) ≡ true
         → listed_at (taken_of cells (own t items)) c ≡ None }
+{}
+
+/// What a thread has locked, with the entries that it found there, is a function of its own items: the place of its frame,
+/// whose cell the world has locked and whose entries are those found, until it unlocks.
+pub fn own_items_tell_the_lock()
+    ensures place { (cells limit : ℕ) (items : ItemRun) (t : ℕ) → AreOptions cells limit
+        → AreItems (opening cells limit) items
+        → is_registered (world_of_items (opening cells limit) items) t ≡ true
+        → (part_of cells (own t items)).row.locked ≡ place_locked (locked_of (own t items)) }
+    ensures found { (cells limit : ℕ) (items : ItemRun) (t place : ℕ) (entries : List ℕ)
+        → AreOptions cells limit → AreItems (opening cells limit) items
+        → is_registered (world_of_items (opening cells limit) items) t ≡ true
+        → locked_of (own t items) ≡ Some (place, entries)
+        → HasLocked cells (world_of_items (opening cells limit) items) t (own t items) place
+        entries }
 {}
 
 /// A thread's step works on one word, and every other word of the table shows what it showed.
