@@ -11,3 +11,4 @@ pub mod Risen_Law
 pub mod Taken_Law
 pub mod Root_Law
 pub mod Locked_Law
+pub mod Going_On_Law

@@ -4,3 +4,4 @@ pub mod Risen
 pub mod Taken
 pub mod Root
 pub mod Locked
+pub mod Going_On

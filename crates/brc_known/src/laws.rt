@@ -8,8 +8,9 @@ ghost use Rattle.brc_runs.specs.declared.event.Step.{Step as step};
 ghost use Rattle.brc_runs.specs.declared.event.Event.{Event as event};
 ghost use Rattle.brc_runs.specs.Lists.{is_marked};
 ghost use Rattle.brc_runs.specs.Heap.{Heap, opening, cell_at, entries_at, row_at, worklist_at, is_registered, is_gathered, AreOptions};
-ghost use Rattle.brc_runs.specs.Steps.{is_mine, takes_block, thread_may, after_target, target_at};
+ghost use Rattle.brc_runs.specs.Steps.{is_mine, needs_no_cell, takes_block, thread_may, after_target, target_at};
 ghost use Rattle.brc_runs.specs.Runs.{IsRun, IsReached};
+ghost use Rattle.brc_known.specs.Going_On.{GoesOn, known_of, knows_after, knows_apart};
 ghost use Rattle.brc_known.specs.Locked.{locked_of, place_locked, HasLocked};
 ghost use Rattle.brc_known.specs.Root.{rows_of, gathered_of};
 ghost use Rattle.brc_known.specs.Counts.{own_count, counts_of};
@@ -19,7 +20,7 @@ ghost use Rattle.brc_runs.specs.Sound.{held};
 ghost use Rattle.brc_runs.specs.declared.row.Stage.{Stage as stage};
 ghost use Rattle.brc_words.specs.declared.limits.TheConstants.{FIRST_MORTAL};
 ghost use Rattle.brc_lasting.specs.Staying.{rank};
-ghost use Rattle.brc_known.specs.Items.{Word as word, IsWord, Shows, works_on, Did, ItemRun, MayCome, AreItems, IsPart, events_of, world_of_items, part_of, meant, cell_told, own};
+ghost use Rattle.brc_known.specs.Items.{Word as word, IsWord, Shows, works_on, Item, Did, Saw, Lost, ItemRun, MayCome, AreItems, IsPart, events_of, world_of_items, part_of, meant, cell_told, own};
 
 /// Items are runs with what each step was told: the events of items are a run, and each run is the events of items. A
 /// thread's own part of the world, with the entries of what it has locked and of its worklist, is a function of its own
@@ -110,6 +111,21 @@ pub fn own_items_tell_the_lock()
         → locked_of (own t items) ≡ Some (place, entries)
         → HasLocked cells (world_of_items (opening cells limit) items) t (own t items) place
         entries }
+{}
+
+/// What a thread knows goes on with each of its items as one table says, kind by kind of step; a note changes nothing of it.
+pub fn own_steps_go_on()
+    ensures meant { (cells : ℕ) (items : List Item) (s : step) (c number : ℕ) (entries : List ℕ)
+        → meant (part_of cells items) s ≡ Some c
+        → GoesOn cells items (Did s number entries)
+        (knows_after s c number entries (known_of cells items)) }
+    ensures apart { (cells : ℕ) (items : List Item) (s : step) (number : ℕ) (entries : List ℕ)
+        → needs_no_cell s ≡ true
+        → GoesOn cells items (Did s number entries) (knows_apart cells s number (known_of cells items)) }
+    ensures saw { (cells : ℕ) (items : List Item) (w : word) (number : ℕ)
+        → GoesOn cells items (Saw w number) (known_of cells items) }
+    ensures lost { (cells : ℕ) (items : List Item) (w : word) (number : ℕ)
+        → GoesOn cells items (Lost w number) (known_of cells items) }
 {}
 
 /// A thread's step works on one word, and every other word of the table shows what it showed.
