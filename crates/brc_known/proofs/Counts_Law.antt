@@ -21,7 +21,7 @@ use Rattle.brc_words.specs.declared.state.State.{State}
 use Rattle.brc_words.specs.declared.state.State.TheVariants as states
 use Rattle.brc_runs.specs.Sound.{IsSound, held, gripped, WorklistFits, asks_least, is_threads}
 use Rattle.brc_lasting.specs.Staying.{IsAnothers, SameOwn, Owns}
-use Rattle.brc_known.specs.Items.{Part, Local, word_in, told_at, Item, ItemRun, AreItems, world_of_items, own, part_of, IsPart, IsTold, told}
+use Rattle.brc_known.specs.Items.{Part, Local, word_in, told_at, Item, ItemRun, AreItems, world_of_items, own, part_of, meant, IsPart, IsTold, told}
 use Rattle.brc_known.specs.Counts.{own_count, counted_by, counted_apart, counts_by, counts_of}
 use Rattle.brc_runs.proofs.Asking.{May, OnCell, on_cell, Mine, mine}
 use Rattle.brc_runs.proofs.Changes.{read_there, read_here}
@@ -34,7 +34,7 @@ use Rattle.brc_lasting.proofs.Telling.{owns_lasts}
 use Rattle.brc_known.proofs.Items_Own.{target_alike}
 use Rattle.brc_runs.proofs.Birthing.{active_from}
 use Rattle.brc_runs.specs.Holding.{lives}
-use Rattle.brc_known.proofs.Items_Law.{part_follows}
+use Rattle.brc_known.proofs.Items_Law.{part_follows, part_target}
 use Rattle.brc_known.proofs.Items_Tells.{Follows, tells}
 
 -- ---- the count of one cell
@@ -237,14 +237,6 @@ step_count h t s (Some c) number d counts sound may named told mortal before =
     ]
 
 -- ---- the law
-
--- the part that the items tell means the cell that the world's does
-pub part_target : (h : Heap) (t : ℕ) (part : Part) (s : Step) → IsPart h t part → target part.row part.frame part.worklist part.has s ≡ target_at h t s
-part_target h t part s is =
-    ap (λ r. target r part.frame part.worklist part.has s) (sym is.row_is)
-    ∙ ap (λ f. target (row_at h t) f part.worklist part.has s) (sym is.frame_is)
-    ∙ ap (λ w. target (row_at h t) (frame_at h t) w part.has s) (sym is.work_is)
-    ∙ target_alike h t part.has s (record { locked = is.locked_has; worklists = is.work_has })
 
 -- a new thread owns nothing
 new_count : (h : Heap) (t c : ℕ) → IsSound h → t ≡ length h.rows → FIRST_MORTAL ≤ c → own_count t (row_at (registered h) t).stage (cell_at h c) ≡ 0

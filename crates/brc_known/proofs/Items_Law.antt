@@ -8,18 +8,18 @@ use Rattle.brc_runs.specs.declared.event.Step.{Step}
 use Rattle.brc_runs.specs.declared.row.Row.{Row}
 use Rattle.brc_runs.specs.Lists.{is_marked}
 use Rattle.brc_runs.specs.Heap.{Heap, opening, cell_at, row_at, frame_at, worklist_at, new_row, no_row, is_registered, AreOptions}
-use Rattle.brc_runs.specs.Steps.{enabled, after, after_target, target_at, locked_cell, registered, gathered_in, locked_at}
+use Rattle.brc_runs.specs.Steps.{enabled, after, after_target, target, target_at, locked_cell, registered, gathered_in, locked_at}
 use Rattle.brc_runs.specs.Holding.{lives}
 use Rattle.brc_runs.specs.Sound.{IsSound, WorklistFits}
 use Rattle.brc_lasting.specs.Staying.{IsAnothers, SameOwn}
-use Rattle.brc_known.specs.Items.{Did, ItemRun, world_of_items, AreItems, own, found, Part, new_part, part_after, part_of, IsPart, IsTold}
+use Rattle.brc_known.specs.Items.{Did, ItemRun, world_of_items, AreItems, own, found, Part, new_part, part_after, part_of, meant, IsPart, IsTold}
 use Rattle.brc_runs.proofs.Asking.{May}
 use Rattle.brc_runs.proofs.Naming.{one-true}
 use Rattle.brc_runs.proofs.Counting.{marked_unheld}
 use Rattle.brc_runs.proofs.Registering.{new_mark}
 use Rattle.brc_lasting.proofs.Lasting.{others_own, alone_stays, locked_stays}
 use Rattle.brc_known.proofs.Items_Told.{QueuesFit}
-use Rattle.brc_known.proofs.Items_Own.{Knows, now, own_step}
+use Rattle.brc_known.proofs.Items_Own.{Knows, now, own_step, target_alike}
 use Rattle.brc_runs.proofs.Reached.{reached_sound}
 use Rattle.brc_known.proofs.Items_Runs.{told_alike}
 use Rattle.brc_known.proofs.Items_Tells.{Follows, tells}
@@ -73,6 +73,14 @@ gathered_is h u t part is = record {
 
 -- ---- an own step
 
+-- the part that the items tell means the cell that the world's does
+pub part_target : (h : Heap) (t : ℕ) (part : Part) (s : Step) → IsPart h t part → meant part s ≡ target_at h t s
+part_target h t part s is =
+    ap (λ r. target r part.frame part.worklist part.has s) (sym is.row_is)
+    ∙ ap (λ f. target (row_at h t) f part.worklist part.has s) (sym is.frame_is)
+    ∙ ap (λ w. target (row_at h t) (frame_at h t) w part.has s) (sym is.work_is)
+    ∙ target_alike h t part.has s (record { locked = is.locked_has; worklists = is.work_has })
+
 -- a part is its world's, with what it knows
 now_is : (h : Heap) (t : ℕ) (part : Part) → IsPart h t part → now h t part.has ≡ part
 now_is h t part is =
@@ -108,3 +116,10 @@ part_follows t cells = record {
 pub parts_are_told : (cells limit : ℕ) (items : ItemRun) (t : ℕ) → AreOptions cells limit → AreItems (opening cells limit) items
     → is_registered (world_of_items (opening cells limit) items) t ≡ true → IsPart (world_of_items (opening cells limit) items) t (part_of cells (own t items))
 parts_are_told cells limit items t options are there = tells t cells (λ h log. IsPart h t (part_of cells log)) (part_follows t cells) limit items options are there
+
+-- the cell that a step means by the thread's own items is the one that it means in the world
+pub meant_is_told : (cells limit : ℕ) (items : ItemRun) (t : ℕ) (s : Step) → AreOptions cells limit → AreItems (opening cells limit) items
+    → is_registered (world_of_items (opening cells limit) items) t ≡ true
+    → meant (part_of cells (own t items)) s ≡ target_at (world_of_items (opening cells limit) items) t s
+meant_is_told cells limit items t s options are there =
+    part_target (world_of_items (opening cells limit) items) t (part_of cells (own t items)) s (parts_are_told cells limit items t options are there)

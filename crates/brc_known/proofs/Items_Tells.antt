@@ -14,10 +14,10 @@ use Rattle.brc_runs.proofs.Asking.{May, may_parts}
 use Rattle.brc_runs.proofs.Registering.{length-push}
 use Rattle.brc_lasting.proofs.Standing.{run_reached}
 use Rattle.brc_lasting.proofs.Lasting.{other_number}
+use Rattle.brc_lasting.proofs.Ranges_Law.{same_rows}
 use Rattle.brc_known.proofs.Items_Told.{QueuesFit}
 use Rattle.brc_known.proofs.Items_Queues.{run_queues, run_cells}
 use Rattle.brc_known.proofs.Items_Runs.{events_run}
-use Rattle.brc_known.proofs.Words_Law.{same_rows}
 
 -- what is said of a thread's world and its items, newest first
 pub record Follows (t cells : ℕ) (P : Heap → List Item → Type 0) : Type 0 where
@@ -33,14 +33,14 @@ pub record Follows (t cells : ℕ) (P : Heap → List Item → Type 0) : Type 0 
 abbrev pub with_item : ℕ → ℕ → Item → List Item → List Item
 with_item t u item log = if is_start t item then [] else (if u == t then item ∷ log else log)
 
-not_mine : (t u : ℕ) (item : Item) (log : List Item) → is_start t item ≡ false → (u == t) ≡ false → with_item t u item log ≡ log
+pub not_mine : (t u : ℕ) (item : Item) (log : List Item) → is_start t item ≡ false → (u == t) ≡ false → with_item t u item log ≡ log
 not_mine t u item log older apart = ap (λ b. if b then [] else (if u == t then item ∷ log else log)) older ∙ ap (λ b. if b then item ∷ log else log) apart
 
-mine_too : (t u : ℕ) (item : Item) (log : List Item) → is_start t item ≡ false → (u == t) ≡ true → with_item t u item log ≡ item ∷ log
+pub mine_too : (t u : ℕ) (item : Item) (log : List Item) → is_start t item ≡ false → (u == t) ≡ true → with_item t u item log ≡ item ∷ log
 mine_too t u item log older same = ap (λ b. if b then [] else (if u == t then item ∷ log else log)) older ∙ ap (λ b. if b then item ∷ log else log) same
 
 -- a thread neither registers nor gathers
-no_start : (h : Heap) (u : ℕ) (s : Step) (t number : ℕ) (entries : List ℕ) → May h u s → (is_start t (Did s number entries) ≡ false) × (is_about t s ≡ false)
+pub no_start : (h : Heap) (u : ℕ) (s : Step) (t number : ℕ) (entries : List ℕ) → May h u s → (is_start t (Did s number entries) ≡ false) × (is_about t s ≡ false)
 no_start h u (Register v) t number entries may = absurd (true≢false (sym may.hand))
 no_start h u (Gather v) t number entries may = absurd (true≢false (sym may.hand))
 no_start h u _ t number entries may = (refl, refl)

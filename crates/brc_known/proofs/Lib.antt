@@ -9,3 +9,6 @@ pub mod Items_Tells
 pub mod Counts_Law
 pub mod Risen_Law
 pub mod Taken_Law
+pub mod Root_Law
+pub mod Locked_Law
+pub mod Going_On_Law

@@ -12,11 +12,11 @@ use Rattle.brc_runs.specs.declared.event.Step.{Step}
 use Rattle.brc_runs.specs.declared.event.Step.TheVariants.{SharedUp, Ask}
 use Rattle.brc_runs.specs.Lists.{names}
 use Rattle.brc_runs.specs.Heap.{Heap, opening, cell_at, entries_at, frame_at, worklist_at, is_registered, AreOptions}
-use Rattle.brc_runs.specs.Steps.{enabled, after, after_target, target, target_at, dropped_cell}
+use Rattle.brc_runs.specs.Steps.{enabled, after, after_target, target_at, dropped_cell}
 use Rattle.brc_runs.specs.Runs.{IsReached}
 use Rattle.brc_runs.specs.Sound.{IsSound, held}
 use Rattle.brc_lasting.specs.Staying.{rank}
-use Rattle.brc_known.specs.Items.{Item, Did, Word, Of, Shared, ItemRun, AreItems, world_of_items, own, Part, part_of, IsPart, IsTold, Shows, shared_word, told_at}
+use Rattle.brc_known.specs.Items.{Item, Did, Word, Of, Shared, ItemRun, AreItems, world_of_items, own, Part, part_of, meant, IsPart, IsTold, Shows, shared_word, told_at}
 use Rattle.brc_known.specs.Risen.{drop_in, is_risen_word, is_shared_of, tells_risen, is_risen}
 use Rattle.brc_runs.proofs.Asking.{May}
 use Rattle.brc_runs.proofs.Dropping.{source_held, dropped_held}
@@ -24,9 +24,8 @@ use Rattle.brc_runs.proofs.Reached.{reached_sound}
 use Rattle.brc_lasting.proofs.Lasting.{event_keeps, live_step, held_live}
 use Rattle.brc_lasting.proofs.Reasons.{target_cell}
 use Rattle.brc_known.proofs.Items_Own.{drop_alike}
-use Rattle.brc_known.proofs.Items_Law.{part_follows}
+use Rattle.brc_known.proofs.Items_Law.{part_target, part_follows}
 use Rattle.brc_known.proofs.Items_Tells.{Follows, tells}
-use Rattle.brc_known.proofs.Counts_Law.{part_target}
 
 -- ---- the number of a shared word
 
@@ -92,12 +91,12 @@ told_risen : (h : Heap) (t : ℕ) (s : Step) (number : ℕ) (entries : List ℕ)
     → tells_risen part c (Did s number entries) ≡ true → (1 ≤ held h c) × (1 ≤ rank (cell_at h c).state)
 told_risen h t (SharedUp source k) number entries part c reached may told is mortal risen =
     let s : Step = SharedUp source k in
-    let parts = and_parts (names c (target part.row part.frame part.worklist part.has s)) (is_risen_word number) risen in
+    let parts = and_parts (names c (meant part s)) (is_risen_word number) risen in
     let named : target_at h t s ≡ Some c = sym (part_target h t part s is) ∙ named_cell c _ parts.0 in
     (source_held h t c source named mortal, risen_state (cell_at h c) number (told ∙ ap (told_at h t s) named) parts.1)
 told_risen h t (Ask drop) number entries part c reached may told is mortal risen =
     let s : Step = Ask drop in
-    let parts = and_parts (names c (target part.row part.frame part.worklist part.has s)) (is_risen_word number) risen in
+    let parts = and_parts (names c (meant part s)) (is_risen_word number) risen in
     let named : target_at h t s ≡ Some c = sym (part_target h t part s is) ∙ named_cell c _ parts.0 in
     (dropped_held h t c drop named, risen_state (cell_at h c) number (told ∙ ap (told_at h t s) named) parts.1)
 told_risen h t _ number entries part c reached may told is mortal risen = absurd (true≢false (sym risen))

@@ -1,7 +1,7 @@
 -- The blocks that a thread has taken are what its own items say.
-use Rattle.std.proofs.Common.{◌≡◌, ℕ, ◌<◌, ◌≤◌, ◌==◌, Bool, true, false, if◌then◌else◌, List, [], ◌∷◌, length, set, Option, Some, None, refl, sym, ◌∙◌, ap, subst, inl, inr, arith}
+use Rattle.std.proofs.Common.{◌≡◌, ◌≢◌, ℕ, ◌<◌, ◌≤◌, ◌==◌, ◌&&◌, nat_lt, Bool, true, false, if◌then◌else◌, List, [], ◌∷◌, length, set, Option, Some, None, refl, sym, ◌∙◌, ap, subst, inl, inr, arith}
 use Rattle.std.proofs.lemmas.List.{get_or_push}
-use Rattle.std.proofs.lemmas.Bool.{cases_eq, cases_Bool, eq-eqb, ne_eqb, true≢false}
+use Rattle.std.proofs.lemmas.Bool.{cases_eq, cases_Bool, eq-eqb, ne_eqb, lt-ltb, true≢false}
 use Rattle.brc_runs.specs.declared.event.Dropped.{Dropped}
 use Rattle.brc_runs.specs.declared.event.Dropped.TheVariants as dropped
 use Rattle.brc_runs.specs.declared.event.LastDropped.TheVariants as lasts
@@ -10,15 +10,15 @@ use Rattle.brc_runs.specs.declared.event.Step.{Step}
 use Rattle.brc_runs.specs.declared.event.Step.TheVariants.{Birth, SeeZero, MergeZero, LastDown, Enqueue, Unlock, Lock}
 use Rattle.brc_runs.specs.declared.cell.Cell.{Cell}
 use Rattle.brc_runs.specs.declared.row.Phase.TheVariants as phases
-use Rattle.brc_runs.specs.Lists.{is_marked, front_of}
+use Rattle.brc_runs.specs.Lists.{is_marked, is_unmarked, front_of}
 use Rattle.brc_runs.specs.Heap.{Heap, opening, cell_at, entries_at, row_at, frame_at, worklist_at, is_registered, AreOptions}
-use Rattle.brc_runs.specs.Steps.{enabled, after, after_target, stepped, target_at, target_ok, gone, takes_block, is_free_step, worklist_with}
+use Rattle.brc_runs.specs.Steps.{enabled, root_may, thread_may, after, after_target, stepped, target_at, target_ok, gone, takes_block, is_free_step, worklist_with}
 use Rattle.brc_runs.specs.Runs.{IsReached}
 use Rattle.brc_runs.specs.Sound.{IsSound, WorklistFits, held}
 use Rattle.brc_lasting.specs.Staying.{IsAnothers, SameOwn}
-use Rattle.brc_known.specs.Items.{Item, ItemRun, AreItems, world_of_items, own, part_of, IsPart, IsTold, found_at, finds, told, told_at, told_of, cell_told, has_without, has_after}
+use Rattle.brc_known.specs.Items.{Item, Did, ItemRun, MayCome, AreItems, events_of, world_of_items, own, part_of, meant, IsPart, IsTold, found_at, finds, told, told_at, told_of, cell_told, has_without, has_after}
 use Rattle.brc_known.specs.Taken.{Blocks, listed_at, cut, off, cut_by, taken_on, taken_by, taken_of}
-use Rattle.brc_runs.proofs.Asking.{May, on_cell}
+use Rattle.brc_runs.proofs.Asking.{May, may_parts, on_cell}
 use Rattle.brc_runs.proofs.Changes.{read_here, read_there}
 use Rattle.brc_runs.proofs.Counting.{marked_unheld, held_unmarked}
 use Rattle.brc_runs.proofs.Dropping.{dropped_held}
@@ -27,11 +27,14 @@ use Rattle.brc_runs.proofs.Reached.{reached_sound}
 use Rattle.brc_runs.proofs.Registering.{new_mark}
 use Rattle.brc_lasting.proofs.Lasting.{others_own, alone_stays, live_owner, locked_mutex, dead_unlocked}
 use Rattle.brc_lasting.proofs.Ranges_Law.{hand_unmarked}
+use Rattle.brc_lasting.proofs.Progress.{none_marked}
+use Rattle.brc_lasting.proofs.Standing.{run_reached, taken_unmarked}
 use Rattle.brc_known.proofs.Items_Told.{QueuesFit, Alike, alike}
 use Rattle.brc_known.proofs.Items_Own.{after_alike, put_else}
-use Rattle.brc_known.proofs.Items_Law.{part_follows}
+use Rattle.brc_known.proofs.Items_Law.{part_target, part_follows, meant_is_told}
+use Rattle.brc_known.proofs.Items_Queues.{run_queues}
+use Rattle.brc_known.proofs.Items_Runs.{events_run}
 use Rattle.brc_known.proofs.Items_Tells.{Follows, tells}
-use Rattle.brc_known.proofs.Counts_Law.{part_target}
 
 -- ---- lists of blocks
 
@@ -255,3 +258,45 @@ pub taken_is_told : (cells limit : ℕ) (items : ItemRun) (t c : ℕ) → AreOpt
     ≡ (if is_marked (worklist_at (world_of_items (opening cells limit) items) t) c then Some (entries_at (world_of_items (opening cells limit) items) c) else None)
 unfolding Taken
 taken_is_told cells limit items t c options are there = (tells t cells (Taken t cells) (taken_follows t cells) limit items options are there).1 c
+
+-- ---- what an empty place of the list says
+
+-- a block that isn't listed isn't marked, and the other way round
+pub unlisted_unmarked : (cells limit : ℕ) (items : ItemRun) (t c : ℕ) → AreOptions cells limit → AreItems (opening cells limit) items
+    → is_registered (world_of_items (opening cells limit) items) t ≡ true
+    → listed_at (taken_of cells (own t items)) c ≡ None → is_marked (worklist_at (world_of_items (opening cells limit) items) t) c ≡ false
+unlisted_unmarked cells limit items t c options are there unlisted =
+    let h : Heap = world_of_items (opening cells limit) items in
+    elim (cases_Bool (is_marked (worklist_at h t) c)) [
+      | inr off ↦ off
+      | inl on ↦ let bad : None ≡ Some (entries_at h c) = sym unlisted ∙ taken_is_told cells limit items t c options are there ∙ ap (λ m. if m then Some (entries_at h c) else None) on in absurd (cc)
+    ]
+
+pub unmarked_unlisted : (cells limit : ℕ) (items : ItemRun) (t c : ℕ) → AreOptions cells limit → AreItems (opening cells limit) items
+    → is_registered (world_of_items (opening cells limit) items) t ≡ true
+    → is_marked (worklist_at (world_of_items (opening cells limit) items) t) c ≡ false → listed_at (taken_of cells (own t items)) c ≡ None
+unmarked_unlisted cells limit items t c options are there off =
+    let h : Heap = world_of_items (opening cells limit) items in
+    taken_is_told cells limit items t c options are there ∙ ap (λ m. if m then Some (entries_at h c) else None) off
+
+-- who has taken nothing, or given all of it back, has nothing on its worklist
+pub none_taken : (cells limit : ℕ) (items : ItemRun) (t : ℕ) → AreOptions cells limit → AreItems (opening cells limit) items
+    → is_registered (world_of_items (opening cells limit) items) t ≡ true
+    → taken_of cells (own t items) ≡ [] → is_unmarked (worklist_at (world_of_items (opening cells limit) items) t) ≡ true
+none_taken cells limit items t options are there nothing =
+    none_marked (worklist_at (world_of_items (opening cells limit) items) t)
+    (λ c. unlisted_unmarked cells limit items t c options are there (ap (λ (blocks : Blocks). listed_at blocks c) nothing))
+
+-- the block that a step takes, by the number that it was told, isn't listed before
+pub fresh_is_told : (cells limit : ℕ) (items : ItemRun) (t c : ℕ) (s : Step) (number : ℕ) (entries : List ℕ) → AreOptions cells limit → AreItems (opening cells limit) items
+    → MayCome (world_of_items (opening cells limit) items) t (Did s number entries) → t ≢ 0
+    → meant (part_of cells (own t items)) s ≡ Some c → takes_block s (cell_told s number) ≡ true → listed_at (taken_of cells (own t items)) c ≡ None
+fresh_is_told cells limit items t c s number entries options are comes thread named takes =
+    let h : Heap = world_of_items (opening cells limit) items in
+    let run : List Event = events_of items in
+    let reached : IsReached h = run_reached cells limit run options (events_run (opening cells limit) items are) in
+    let may : May h t s = may_parts h t s (subst (λ b. (if b then root_may h s else thread_may h t s) ≡ true) (ne_eqb t 0 thread) comes.0) in
+    let there : is_registered h t ≡ true = ap (λ b. b && nat_lt t (length h.rows)) (lt-ltb 0 t may.some_thread) ∙ lt-ltb t (length h.rows) may.inside in
+    let at : target_at h t s ≡ Some c = sym (meant_is_told cells limit items t s options are there) ∙ named in
+    let same = (told_alike h t s c number (reached_sound h reached) (run_queues cells limit run) may at comes.1).1 in
+    unmarked_unlisted cells limit items t c options are there (taken_unmarked h t s c t reached may at (sym same ∙ takes))

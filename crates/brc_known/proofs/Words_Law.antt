@@ -13,6 +13,7 @@ use Rattle.brc_runs.specs.Heap.{Heap, cell_at, row_at, queue_at, no_cell, no_row
 use Rattle.brc_runs.specs.Steps.{cell_after, after_target, is_default, is_closed, is_shut, closed_more, closes_next, queues_with, own_ok_at}
 use Rattle.brc_known.specs.Items.{Field, Owner, Local, Shared, Mutex, Word, Of, Queue, NotifyWord, word_in, field_of, works_on, IsWord, Shows, ShowsQueue}
 use Rattle.brc_runs.proofs.Changes.{read_there}
+use Rattle.brc_lasting.proofs.Ranges_Law.{same_rows}
 
 -- ---- the words of the cell that is meant
 
@@ -163,10 +164,6 @@ notify_word h t Wake None u other = read_there h.notify_words t u 0 0 (λ e. oth
 notify_word h t _ None u other = refl
 
 -- ---- all together
-
-pub same_rows : (h : Heap) (t : ℕ) (s : Step) (o : Option ℕ) → length (after_target h t s o).rows ≡ length h.rows
-same_rows h t s None = length-set h.rows t _
-same_rows h t s (Some c) = length-set h.rows t _
 
 -- a step changes the number of one word, and every other word shows what it showed
 pub others_shown : (h : Heap) (t : ℕ) (s : Step) (o : Option ℕ) (w : Word) (number : ℕ) → own_ok_at h t s ≡ true → IsWord (length h.cells) w → w ≢ works_on h t s o

@@ -4,8 +4,8 @@ use Rattle.brc_runs.specs.declared.cell.Cell.{Cell}
 use Rattle.brc_runs.specs.declared.event.Step.{Step}
 use Rattle.brc_runs.specs.declared.event.Step.TheVariants.{Birth, LocalUp, LocalDown, Untie, Close}
 use Rattle.brc_runs.specs.declared.row.Stage.{Stage}
-use Rattle.brc_runs.specs.Steps.{is_mine, target}
-use Rattle.brc_known.specs.Items.{Item, Did, Saw, Lost, Part, part_of}
+use Rattle.brc_runs.specs.Steps.{is_mine}
+use Rattle.brc_known.specs.Items.{Item, Did, Saw, Lost, Part, part_of, meant}
 
 -- what the thread counts on the cell's local word: its count where the thread owns the cell and is active, else nothing
 abbrev pub own_count : ℕ → Stage → Cell → ℕ
@@ -29,7 +29,7 @@ counts_by s number None counts d = counted_apart s (counts d)
 counts_by s number (Some c) counts d = if d == c then counted_by s number (counts d) else counts d
 
 abbrev pub counts_after : Part → (ℕ → ℕ) → Item → ℕ → ℕ
-counts_after part counts (Did s number entries) = counts_by s number (target part.row part.frame part.worklist part.has s) counts
+counts_after part counts (Did s number entries) = counts_by s number (meant part s) counts
 counts_after part counts (Saw word number) = counts
 counts_after part counts (Lost word number) = counts
 

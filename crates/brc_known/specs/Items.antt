@@ -268,8 +268,12 @@ part_by cells part s number entries (Some c) = record {
   has = has_after s c (cell_told s number) part.frame (has_found (finds s (cell_told s number)) c entries part.has);
 }
 
+-- the cell that a step means, read off the part
+abbrev pub meant : Part → Step → Option ℕ
+meant part s = target part.row part.frame part.worklist part.has s
+
 abbrev pub part_after : ℕ → Part → Item → Part
-part_after cells part (Did s number entries) = part_by cells part s number entries (target part.row part.frame part.worklist part.has s)
+part_after cells part (Did s number entries) = part_by cells part s number entries (meant part s)
 part_after cells part (Saw word number) = part
 part_after cells part (Lost word number) = part
 

@@ -3,8 +3,8 @@ use Rattle.std.specs.Prelude.{ℕ, ◌%◌, ◌==◌, ◌&&◌, ◌||◌, not, B
 use Rattle.brc_runs.specs.declared.event.Dropped.{Dropped}
 use Rattle.brc_runs.specs.declared.event.Step.TheVariants.{SharedUp, Ask}
 use Rattle.brc_runs.specs.Lists.{names}
-use Rattle.brc_runs.specs.Steps.{dropped_cell, target}
-use Rattle.brc_known.specs.Items.{Item, Did, Saw, Lost, Word, Of, Shared, Part, part_of}
+use Rattle.brc_runs.specs.Steps.{dropped_cell}
+use Rattle.brc_known.specs.Items.{Item, Did, Saw, Lost, Word, Of, Shared, Part, part_of, meant}
 
 -- the cell that a place of the frame has, or the last entry of a block on the worklist
 abbrev pub drop_in : Part → Dropped → Option ℕ
@@ -20,8 +20,8 @@ is_shared_of c _ = false
 
 -- the item tells that the cell's state has risen: who counts up or asks is told its shared word, and so is who looks at it
 abbrev pub tells_risen : Part → ℕ → Item → Bool
-tells_risen part c (Did (SharedUp source k) number entries) = names c (target part.row part.frame part.worklist part.has (SharedUp source k)) && is_risen_word number
-tells_risen part c (Did (Ask drop) number entries) = names c (target part.row part.frame part.worklist part.has (Ask drop)) && is_risen_word number
+tells_risen part c (Did (SharedUp source k) number entries) = names c (meant part (SharedUp source k)) && is_risen_word number
+tells_risen part c (Did (Ask drop) number entries) = names c (meant part (Ask drop)) && is_risen_word number
 tells_risen part c (Did s number entries) = false
 tells_risen part c (Saw word number) = is_shared_of c word && is_risen_word number
 tells_risen part c (Lost word number) = is_shared_of c word && is_risen_word number

@@ -5,8 +5,8 @@ use Rattle.brc_runs.specs.declared.event.Dropped.{Dropped}
 use Rattle.brc_runs.specs.declared.event.Dropped.TheVariants as dropped
 use Rattle.brc_runs.specs.declared.event.Step.{Step}
 use Rattle.brc_runs.specs.Lists.{front_of}
-use Rattle.brc_runs.specs.Steps.{target, gone, takes_block, is_free_step}
-use Rattle.brc_known.specs.Items.{Item, Did, Saw, Lost, Part, part_of, cell_told}
+use Rattle.brc_runs.specs.Steps.{gone, takes_block, is_free_step}
+use Rattle.brc_known.specs.Items.{Item, Did, Saw, Lost, Part, part_of, meant, cell_told}
 
 -- a cell with the entries of its block
 abbrev pub Blocks : Type 0
@@ -45,7 +45,7 @@ taken_by s number entries None blocks = blocks
 taken_by s number entries (Some c) blocks = taken_on (is_free_step s) (takes_block s (cell_told s number)) c entries (cut_by (gone s (cell_told s number)) blocks)
 
 abbrev pub taken_after : Part → Blocks → Item → Blocks
-taken_after part blocks (Did s number entries) = taken_by s number entries (target part.row part.frame part.worklist part.has s) blocks
+taken_after part blocks (Did s number entries) = taken_by s number entries (meant part s) blocks
 taken_after part blocks (Saw word number) = blocks
 taken_after part blocks (Lost word number) = blocks
 

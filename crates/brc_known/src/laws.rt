@@ -1,15 +1,18 @@
 //! What a thread's own items tell it, each as the contract of a function with nothing to do.
 
-ghost use Rattle.std.specs.Prelude.{◌≡◌, ◌≢◌, ◌≤◌, ℕ, ◌<◌, List, true, false, length};
+ghost use Rattle.std.specs.Prelude.{◌≡◌, ◌≢◌, ◌≤◌, ℕ, ◌<◌, List, Some, None, true, false, length};
 ghost use Rattle.brc_runs.specs.declared.cell.Cell.{Cell as cell};
 ghost use Rattle.brc_runs.specs.declared.row.Hand.TheVariants as hands;
 ghost use Rattle.brc_runs.specs.declared.event.Dropped.{Dropped as dropped};
 ghost use Rattle.brc_runs.specs.declared.event.Step.{Step as step};
 ghost use Rattle.brc_runs.specs.declared.event.Event.{Event as event};
 ghost use Rattle.brc_runs.specs.Lists.{is_marked};
-ghost use Rattle.brc_runs.specs.Heap.{Heap, opening, cell_at, entries_at, row_at, worklist_at, is_registered, AreOptions};
-ghost use Rattle.brc_runs.specs.Steps.{is_mine, thread_may, after_target, target_at};
+ghost use Rattle.brc_runs.specs.Heap.{Heap, opening, cell_at, entries_at, row_at, worklist_at, is_registered, is_gathered, AreOptions};
+ghost use Rattle.brc_runs.specs.Steps.{is_mine, needs_no_cell, takes_block, thread_may, after_target, target_at};
 ghost use Rattle.brc_runs.specs.Runs.{IsRun, IsReached};
+ghost use Rattle.brc_known.specs.Going_On.{GoesOn, known_of, knows_after, knows_apart};
+ghost use Rattle.brc_known.specs.Locked.{locked_of, place_locked, HasLocked};
+ghost use Rattle.brc_known.specs.Root.{rows_of, gathered_of};
 ghost use Rattle.brc_known.specs.Counts.{own_count, counts_of};
 ghost use Rattle.brc_known.specs.Risen.{is_risen};
 ghost use Rattle.brc_known.specs.Taken.{listed_at, taken_of, entries_if};
@@ -17,11 +20,11 @@ ghost use Rattle.brc_runs.specs.Sound.{held};
 ghost use Rattle.brc_runs.specs.declared.row.Stage.{Stage as stage};
 ghost use Rattle.brc_words.specs.declared.limits.TheConstants.{FIRST_MORTAL};
 ghost use Rattle.brc_lasting.specs.Staying.{rank};
-ghost use Rattle.brc_known.specs.Items.{Word as word, IsWord, Shows, works_on, ItemRun, AreItems, IsPart, events_of, world_of_items, part_of, own};
+ghost use Rattle.brc_known.specs.Items.{Word as word, IsWord, Shows, works_on, Item, Did, Saw, Lost, ItemRun, MayCome, AreItems, IsPart, events_of, world_of_items, part_of, meant, cell_told, own};
 
 /// Items are runs with what each step was told: the events of items are a run, and each run is the events of items. A
 /// thread's own part of the world, with the entries of what it has locked and of its worklist, is a function of its own
-/// items.
+/// items, and so is the cell that each of its steps means.
 pub fn own_items_tell_the_part()
     ensures run { (start : Heap) (items : ItemRun) → AreItems start items
         → IsRun start (events_of items) }
@@ -31,6 +34,21 @@ pub fn own_items_tell_the_part()
         → AreItems (opening cells limit) items
         → is_registered (world_of_items (opening cells limit) items) t ≡ true
         → IsPart (world_of_items (opening cells limit) items) t (part_of cells (own t items)) }
+    ensures meant { (cells limit : ℕ) (items : ItemRun) (t : ℕ) (s : step)
+        → AreOptions cells limit → AreItems (opening cells limit) items
+        → is_registered (world_of_items (opening cells limit) items) t ≡ true
+        → meant (part_of cells (own t items)) s
+        ≡ target_at (world_of_items (opening cells limit) items) t s }
+{}
+
+/// The threads of the world are told by the root's own items: how many rows it has, and which threads are gathered.
+pub fn root_items_tell_the_threads()
+    ensures rows { (cells limit : ℕ) (items : ItemRun) → AreOptions cells limit
+        → AreItems (opening cells limit) items
+        → length (world_of_items (opening cells limit) items).rows ≡ rows_of (own 0 items) }
+    ensures gathered { (cells limit : ℕ) (items : ItemRun) (u : ℕ) → AreOptions cells limit
+        → AreItems (opening cells limit) items
+        → is_gathered (world_of_items (opening cells limit) items) u ≡ gathered_of (own 0 items) u }
 {}
 
 /// The local count of each of a thread's own objects is a function of its own items, with the numbers that they were told:
@@ -64,14 +82,50 @@ pub fn own_items_tell_what_has_risen()
 {}
 
 /// The dead blocks that a thread has taken, with the entries that they still have, are a function of its own items: they
-/// are those on its worklist.
+/// are those on its worklist. A block that a step takes, by the number that the step is told, isn't listed before.
 pub fn own_items_tell_the_blocks()
-    ensures { (cells limit : ℕ) (items : ItemRun) (t c : ℕ) → AreOptions cells limit
+    ensures listed { (cells limit : ℕ) (items : ItemRun) (t c : ℕ) → AreOptions cells limit
         → AreItems (opening cells limit) items
         → is_registered (world_of_items (opening cells limit) items) t ≡ true
         → listed_at (taken_of cells (own t items)) c
         ≡ entries_if (is_marked (worklist_at (world_of_items (opening cells limit) items) t) c)
         (entries_at (world_of_items (opening cells limit) items) c) }
+    ensures fresh { (cells limit : ℕ) (items : ItemRun) (t c : ℕ) (s : step) (number : ℕ)
+        (entries : List ℕ) → AreOptions cells limit → AreItems (opening cells limit) items
+        → MayCome (world_of_items (opening cells limit) items) t (Did s number entries) → t ≢ 0
+        → meant (part_of cells (own t items)) s ≡ Some c
+        → takes_block s (cell_told s number) ≡ true
+        → listed_at (taken_of cells (own t items)) c ≡ None }
+{}
+
+/// What a thread has locked, with the entries that it found there, is a function of its own items: the place of its frame,
+/// whose cell the world has locked and whose entries are those found, until it unlocks.
+pub fn own_items_tell_the_lock()
+    ensures place { (cells limit : ℕ) (items : ItemRun) (t : ℕ) → AreOptions cells limit
+        → AreItems (opening cells limit) items
+        → is_registered (world_of_items (opening cells limit) items) t ≡ true
+        → (part_of cells (own t items)).row.locked ≡ place_locked (locked_of (own t items)) }
+    ensures found { (cells limit : ℕ) (items : ItemRun) (t place : ℕ) (entries : List ℕ)
+        → AreOptions cells limit → AreItems (opening cells limit) items
+        → is_registered (world_of_items (opening cells limit) items) t ≡ true
+        → locked_of (own t items) ≡ Some (place, entries)
+        → HasLocked cells (world_of_items (opening cells limit) items) t (own t items) place
+        entries }
+{}
+
+/// What a thread knows goes on with each of its items as one table says, kind by kind of step; a note changes nothing of it.
+pub fn own_steps_go_on()
+    ensures meant { (cells : ℕ) (items : List Item) (s : step) (c number : ℕ) (entries : List ℕ)
+        → meant (part_of cells items) s ≡ Some c
+        → GoesOn cells items (Did s number entries)
+        (knows_after s c number entries (known_of cells items)) }
+    ensures apart { (cells : ℕ) (items : List Item) (s : step) (number : ℕ) (entries : List ℕ)
+        → needs_no_cell s ≡ true
+        → GoesOn cells items (Did s number entries) (knows_apart cells s number (known_of cells items)) }
+    ensures saw { (cells : ℕ) (items : List Item) (w : word) (number : ℕ)
+        → GoesOn cells items (Saw w number) (known_of cells items) }
+    ensures lost { (cells : ℕ) (items : List Item) (w : word) (number : ℕ)
+        → GoesOn cells items (Lost w number) (known_of cells items) }
 {}
 
 /// A thread's step works on one word, and every other word of the table shows what it showed.

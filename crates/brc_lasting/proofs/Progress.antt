@@ -19,7 +19,7 @@ use Rattle.brc_runs.specs.declared.row.Phase.{Phase}
 use Rattle.brc_runs.specs.declared.row.Phase.TheVariants as phases
 use Rattle.brc_runs.specs.declared.row.Stage.{Stage}
 use Rattle.brc_runs.specs.declared.row.Stage.TheVariants as stages
-use Rattle.brc_runs.specs.Lists.{is_marked, bit_of, is_bare, is_unmarked, place_at, is_blank}
+use Rattle.brc_runs.specs.Lists.{is_marked, bit_of, is_bare, is_unmarked, place_at, word_at, is_blank}
 use Rattle.brc_runs.specs.Heap.{Heap, cell_at, entries_at, row_at, frame_at, popped_at, worklist_at, no_cell, is_immortal, words_for}
 use Rattle.brc_runs.specs.Steps.{enabled, root_may, thread_may, stage_ok, lock_ok, hand_ok, own_ok_at, others_ok, target_at, target_ok, cell_ok, dropped_cell, may_after_leaving, needs_lock, is_at, is_active, is_vacant, is_mine, is_default, is_merged, is_nobody, is_queued, is_owned_by, cell_in_hand, untie_ok, untied_ok, ends_ok, is_free_hand, closes_next, is_left, locked_cell}
 use Rattle.brc_runs.specs.Runs.{IsReached}
@@ -252,6 +252,16 @@ blocks_go h t c reached rest marked empty =
 none_counted : {A : Type 0} (f : A → Bool) (xs : List A) (d : A) → ((i : ℕ) → f (get_or xs i d) ≡ false) → (count_by f xs == 0) ≡ true
 none_counted {A} f xs d none = eq-eqb _ 0 (sum_none (λ x. if f x then 1 else 0) xs d (λ i. ap (λ b. if b then 1 else 0) (none i)))
 
+-- a frame without a filled place, marks without a mark, words without a bit
+pub all_vacant : (frame : List (Option ℕ)) → ((k : ℕ) → place_at frame k ≡ None) → is_bare frame ≡ true
+all_vacant frame vacant = none_counted is_some frame None (λ k. ap is_some (vacant k))
+
+pub none_marked : (marks : List Bool) → ((c : ℕ) → is_marked marks c ≡ false) → is_unmarked marks ≡ true
+none_marked marks none = none_counted (λ b. b) marks false none
+
+pub all_blank : (words : List ℕ) → ((k : ℕ) → word_at words k ≡ 0) → is_blank words ≡ true
+all_blank words none = none_counted (λ w. not (w == 0)) words 0 (λ k. ap (λ w. not (w == 0)) (none k))
+
 -- what a thread's step on no cell asks
 record AsksNone (h : Heap) (t : ℕ) (s : Step) : Type 0 where
   stands : Stands h t
@@ -313,8 +323,8 @@ closings_go h t n reached stands closing =
       lock = ap (λ o. lock_ok o (Close n)) (fits.inactive_lock off);
       hand = ap is_free_hand closes.2;
       own = and_both _ _ (and_both _ _ (and_both _ _ (and_both _ _ (lt-ltb n _ closes.1) (ap (λ g. closes_next g n) closing ∙ eq-eqb n n refl))
-          (none_counted is_some (frame_at h t) None (λ i. ap is_some (fits.inactive_frame off i))))
-          (none_counted (λ b. b) (worklist_at h t) false (λ q. fits.closing_work n q closing)))
+          (all_vacant (frame_at h t) (fits.inactive_frame off)))
+          (none_marked (worklist_at h t) (λ q. fits.closing_work n q closing)))
           (first_of_two _ _ (lt-ltb 0 n closes.0));
       others = refl;
       target = refl;

@@ -1,7 +1,7 @@
 -- Numbers that a reached world holds are numbers of its own: owners are registered threads, entries are cells.
-use Rattle.std.proofs.Common.{◌≡◌, ℕ, ◌<◌, ◌≤◌, ◌==◌, Bool, true, false, if◌then◌else◌, List, [], ◌∷◌, length, Option, Some, None, refl, sym, ◌∙◌, ap, subst, inl, inr, arith, get_or-set_same, true≢false}
+use Rattle.std.proofs.Common.{◌≡◌, ℕ, ◌<◌, ◌≤◌, ◌==◌, ◌&&◌, nat_lt, Bool, true, false, if◌then◌else◌, List, [], ◌∷◌, length, Option, Some, None, refl, sym, ◌∙◌, ap, subst, inl, inr, arith, get_or-set_same, true≢false}
 use Rattle.std.proofs.lemmas.List.{length-set, get_or_past, get_or-set_same}
-use Rattle.std.proofs.lemmas.Bool.{cases_lt, cases_eq, cases_Bool}
+use Rattle.std.proofs.lemmas.Bool.{cases_lt, cases_eq, cases_Bool, and_parts, ltb-true, lt-ltb}
 use Rattle.std.specs.Prelude.{slice_get}
 use Rattle.brc_words.specs.declared.limits.TheConstants.{FIRST_MORTAL}
 use Rattle.brc_words.specs.declared.owner.Owner.{Owner}
@@ -16,7 +16,7 @@ use Rattle.brc_runs.specs.declared.row.Phase.{Phase}
 use Rattle.brc_runs.specs.declared.row.Role.{Role}
 use Rattle.brc_runs.specs.declared.row.Role.TheVariants as roles
 use Rattle.brc_runs.specs.Lists.{is_marked, one}
-use Rattle.brc_runs.specs.Heap.{Heap, opening, cell_at, entries_at, row_at, worklist_at, no_cell, is_immortal, new_row, AreOptions}
+use Rattle.brc_runs.specs.Heap.{Heap, opening, cell_at, entries_at, row_at, worklist_at, no_cell, is_immortal, is_registered, new_row, AreOptions}
 use Rattle.brc_runs.specs.Steps.{enabled, after, after_target, root_after, root_may, thread_may, target_at, cell_after, is_default}
 use Rattle.brc_runs.specs.Runs.{IsReached, IsRun, world_after}
 use Rattle.brc_runs.specs.Sound.{IsSound, held, grips}
@@ -58,7 +58,7 @@ step_owner threads t _ c x low inside fits = fits
 Owners : Heap → Type 0
 Owners h = (c : ℕ) → OwnerFits (length h.rows) (cell_at h c).owner
 
-same_rows : (h : Heap) (t : ℕ) (s : Step) (o : Option ℕ) → length (after_target h t s o).rows ≡ length h.rows
+pub same_rows : (h : Heap) (t : ℕ) (s : Step) (o : Option ℕ) → length (after_target h t s o).rows ≡ length h.rows
 same_rows h t s None = length-set h.rows t _
 same_rows h t s (Some c) = length-set h.rows t _
 
@@ -104,6 +104,35 @@ run_owners cells limit (e ∷ run) options is_run = event_owners (world_after (o
 pub reached_owners : (h : Heap) → IsReached h → (c : ℕ) → OwnerFits (length h.rows) (cell_at h c).owner
 unfolding Owners
 reached_owners h reached = subst (λ (w : Heap). (c : ℕ) → OwnerFits (length w.rows) (cell_at w c).owner) reached.leads_here (run_owners reached.cells reached.limit reached.run reached.options reached.is_run)
+
+-- ---- registered numbers
+
+root_rows : (h : Heap) (s : Step) → length h.rows ≤ length (root_after h s).rows
+root_rows h (Register u) = omega (arith, length-push h.rows new_row)
+root_rows h (Gather u) = omega arith
+root_rows h _ = omega arith
+
+-- no row goes
+pub event_rows : (h : Heap) (e : Event) → length h.rows ≤ length (after h e).rows
+event_rows h e =
+    let moved : Heap = after_target h e.thread e.step (target_at h e.thread e.step) in
+    elim (cases_Bool (e.thread == 0)) [
+      | inl root ↦ subst (λ b. length h.rows ≤ length (if b then root_after h e.step else moved).rows) (sym root) (root_rows h e.step)
+      | inr thread ↦ subst (λ b. length h.rows ≤ length (if b then root_after h e.step else moved).rows) (sym thread) (omega (arith, same_rows h e.thread e.step (target_at h e.thread e.step)))
+    ]
+
+-- so a number that is registered stays registered
+pub registered_stays : (h : Heap) (e : Event) (q : ℕ) → is_registered h q ≡ true → is_registered (after h e) q ≡ true
+registered_stays h e q there =
+    let parts = and_parts _ _ there in
+    let inside : q < length h.rows = ltb-true q (length h.rows) parts.1 in
+    ap (λ b. b && nat_lt q (length (after h e).rows)) parts.0 ∙ lt-ltb q (length (after h e).rows) (omega (arith, inside, event_rows h e))
+
+-- and who owns a cell is registered
+pub owner_registered : (h : Heap) (c q : ℕ) → IsReached h → (cell_at h c).owner ≡ owners.Thread q → is_registered h q ≡ true
+owner_registered h c q reached owned =
+    let fits : OwnerFits (length h.rows) (owners.Thread q) = subst (OwnerFits (length h.rows)) owned (reached_owners h reached c) in
+    ap (λ b. b && nat_lt q (length h.rows)) (lt-ltb 0 q fits.0) ∙ lt-ltb q (length h.rows) fits.1
 
 -- ---- entries
 

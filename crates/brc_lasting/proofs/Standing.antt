@@ -1,27 +1,35 @@
--- What stands of a run: facts that last over others' events, blocks that nobody has locked, and threads that hold nothing.
-use Rattle.std.proofs.Common.{◌≡◌, ◌≢◌, ℕ, ◌/◌, ◌%◌, ◌<◌, ◌==◌, Bool, true, false, if◌then◌else◌, List, [], ◌∷◌, ◌++◌, length, get_or, set, Option, Some, None, refl, sym, ◌∙◌, ap, subst, inl, inr, arith}
+-- What stands of a run: facts that last over others' events, blocks that nobody has locked and that are taken once, and
+-- threads that hold nothing.
+use Rattle.std.proofs.Common.{◌≡◌, ◌≢◌, ℕ, ◌/◌, ◌%◌, ◌<◌, ◌≤◌, ◌==◌, Bool, true, false, if◌then◌else◌, List, [], ◌∷◌, ◌++◌, length, get_or, set, Option, Some, None, refl, sym, ◌∙◌, ap, subst, inl, inr, arith}
 use Rattle.std.proofs.lemmas.List.{get_or-set_same, get_or_past}
 use Rattle.std.proofs.lemmas.Bool.{cases_eq, cases_lt, cases_Bool, ne_eqb, and_parts, eqb-true, true≢false}
 use Rattle.std.proofs.lemmas.Nat.Bits.{bit_at-zero}
 use Rattle.std.specs.Int.{bit_at}
+use Rattle.brc_words.specs.declared.kind.Kind.{Kind}
 use Rattle.brc_runs.specs.declared.cell.Cell.{Cell}
 use Rattle.brc_runs.specs.declared.event.Event.{Event}
 use Rattle.brc_runs.specs.declared.event.Step.{Step}
-use Rattle.brc_runs.specs.declared.event.Step.TheVariants.{SeeZero, Free, MergeZero, LastDown, Enqueue, Register, Gather}
+use Rattle.brc_runs.specs.declared.event.Step.TheVariants.{Birth, SeeZero, Free, MergeZero, LastDown, Enqueue, Register, Gather}
+use Rattle.brc_runs.specs.declared.event.LastDropped.TheVariants as lasts
+use Rattle.brc_runs.specs.declared.row.Phase.TheVariants as phases
 use Rattle.brc_runs.specs.declared.row.Stage.TheVariants as stages
 use Rattle.brc_runs.specs.Lists.{is_marked, bit_of, with_bit}
-use Rattle.brc_runs.specs.Heap.{Heap, opening, cell_at, row_at, worklist_at, queue_at, is_gathered, no_cell, AreOptions}
+use Rattle.brc_runs.specs.Heap.{Heap, opening, cell_at, row_at, popped_at, worklist_at, queue_at, is_gathered, no_cell, AreOptions}
 use Rattle.brc_runs.specs.Steps.{enabled, after, after_target, root_after, root_may, thread_may, target_at, cell_after, worklist_after, takes_block, is_active, is_closed, is_shut, queues_after, target_ok}
 use Rattle.brc_runs.specs.Runs.{IsRun, IsReached, world_after}
-use Rattle.brc_runs.specs.Sound.{IsSound}
+use Rattle.brc_runs.specs.Sound.{IsSound, held}
 use Rattle.brc_lasting.specs.Staying.{is_about, AreAnothers, Lasts, HoldsNothing}
 use Rattle.brc_runs.proofs.Bitwise.{bit_inside, with_bit_here, with_bit_else}
 use Rattle.brc_runs.proofs.Changes.{read_here, read_there}
-use Rattle.brc_runs.proofs.Counting.{marked_unheld}
+use Rattle.brc_runs.proofs.Counting.{marked_unheld, held_unmarked}
+use Rattle.brc_runs.proofs.Dropping.{dropped_held}
+use Rattle.brc_runs.proofs.Merging.{popped_held}
+use Rattle.brc_runs.proofs.Sharing.{ending_hand}
 use Rattle.brc_runs.proofs.Registering.{push_else}
 use Rattle.brc_runs.proofs.Asking.{May, may_parts, on_cell}
-use Rattle.brc_runs.proofs.Naming.{no_bit}
-use Rattle.brc_lasting.proofs.Lasting.{unheld_unlocked, other_number}
+use Rattle.brc_runs.proofs.Naming.{no_bit, busy_hand, one-false}
+use Rattle.brc_lasting.proofs.Lasting.{unheld_unlocked, other_number, not_bearing, held_live}
+use Rattle.brc_lasting.proofs.Ranges_Law.{hand_unmarked}
 use Rattle.brc_runs.proofs.Reached.{event_sound, reached_sound}
 
 -- ---- over a run
@@ -70,6 +78,54 @@ taken_unlocked h e c reached ok thread named takes =
     ap (λ marks. is_marked marks c) (read_here h.worklists e.thread _ [] at_works ∙ taken_work e.step c (cell_at h c) (worklist_at h e.thread) takes) ∙ get_or-set_same (worklist_at h e.thread) c true false within in
     sym (ap (λ (x : Cell). x.mutex) (read_here h.cells c (cell_after e.thread e.step c (cell_at h c)) no_cell inside) ∙ taken_mutex e.thread e.step c (cell_at h c) takes)
     ∙ unheld_unlocked (after_target h e.thread e.step (Some c)) c new (marked_unheld (after_target h e.thread e.step (Some c)) e.thread c new marked)
+
+-- The block that a step takes is on no worklist: what the step gives up is held, and what it has in its hand is nowhere
+-- else.
+pub taken_unmarked : (h : Heap) (t : ℕ) (s : Step) (c u : ℕ) → IsReached h → May h t s → target_at h t s ≡ Some c → takes_block s (cell_at h c) ≡ true → is_marked (worklist_at h u) c ≡ false
+taken_unmarked h t (SeeZero d) c u reached may named takes =
+    let e : d ≡ c = cc in
+    ap (is_marked (worklist_at h u)) (sym e) ∙ hand_unmarked h t u d phases.Zero reached (busy_hand phases.Zero d _ may.hand)
+taken_unmarked h t (MergeZero d) c u reached may named takes =
+    let e : d ≡ c = cc in
+    ap (is_marked (worklist_at h u)) (sym e) ∙ hand_unmarked h t u d phases.Untied reached (busy_hand phases.Untied d _ may.hand)
+taken_unmarked h t (LastDown (lasts.Dropped drop)) c u reached may named takes = one-false _ (held_unmarked h u c (reached_sound h reached) (dropped_held h t c drop named))
+taken_unmarked h t (LastDown (lasts.Popped d)) c u reached may named takes =
+    let e : d ≡ c = cc in
+    ap (is_marked (worklist_at h u)) (sym e) ∙ one-false _ (held_unmarked h u d (reached_sound h reached) (popped_held h t d (eqb-true (bit_of (popped_at h t) d) 1 may.own)))
+taken_unmarked h t (LastDown lasts.Hand) c u reached may named takes =
+    let hand = ending_hand (row_at h t).hand c may.hand named in
+    hand_unmarked h t u c hand.0 reached hand.1
+taken_unmarked h t _ c u reached may named takes = absurd (true≢false (sym takes))
+
+-- a thread's event, test by test
+event_may : (h : Heap) (t : ℕ) (s : Step) → enabled h (record { thread = t; step = s }) ≡ true → root_may h s ≡ false → May h t s
+event_may h t s ok not_root = elim (cases_Bool (t == 0)) [
+  | inl root ↦ absurd (true≢false (sym (subst (λ b. (if b then root_may h s else thread_may h t s) ≡ true) root ok) ∙ not_root))
+  | inr thread ↦ may_parts h t s (subst (λ b. (if b then root_may h s else thread_may h t s) ≡ true) thread ok)
+]
+
+-- no other step takes a block
+root_takes_none : (h : Heap) (s : Step) (x : Cell) → takes_block s x ≡ true → root_may h s ≡ false
+root_takes_none h (Register u) x takes = absurd (true≢false (sym takes))
+root_takes_none h (Gather u) x takes = absurd (true≢false (sym takes))
+root_takes_none h _ x takes = refl
+
+pub taken_once : (h : Heap) (e : Event) (c u : ℕ) → IsReached h → enabled h e ≡ true → target_at h e.thread e.step ≡ Some c → takes_block e.step (cell_at h c) ≡ true → is_marked (worklist_at h u) c ≡ false
+taken_once h e c u reached ok named takes = taken_unmarked h e.thread e.step c u reached (event_may h e.thread e.step ok (root_takes_none h e.step (cell_at h c) takes)) named takes
+
+-- what is held isn't freed: a block on a worklist is held by nobody
+pub held_not_freed : (h : Heap) (e : Event) (c : ℕ) → IsReached h → enabled h e ≡ true → 1 ≤ held h c → e.step ≢ Free c
+held_not_freed h e c reached ok some is =
+    let may : May h e.thread (Free c) = event_may h e.thread (Free c) (subst (λ s. enabled h (record { thread = e.thread; step = s }) ≡ true) is ok) refl in
+    omega (arith, some, marked_unheld h e.thread c (reached_sound h reached) (and_parts _ _ may.own).0)
+
+-- nor born anew: a cell in which an object is being made is held by nobody
+pub held_not_born : (h : Heap) (e : Event) (c : ℕ) (kind : Kind) (k : ℕ) → IsReached h → enabled h e ≡ true → 1 ≤ held h c → e.step ≢ Birth c kind k
+held_not_born h e c kind k reached ok some is =
+    let sound : IsSound h = reached_sound h reached in
+    let s : Step = Birth c kind k in
+    let may : May h e.thread s = event_may h e.thread s (subst (λ z. enabled h (record { thread = e.thread; step = z }) ≡ true) is ok) refl in
+    not_bearing h e.thread c c phases.Ready sound (inr (inr refl)) may.hand refl (held_live h c sound some)
 
 -- ---- a thread's merge queue
 

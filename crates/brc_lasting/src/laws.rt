@@ -16,11 +16,12 @@ ghost use Rattle.brc_runs.specs.declared.event.Change.TheVariants as changes;
 ghost use Rattle.brc_runs.specs.declared.row.Stage.TheVariants as stages;
 ghost use Rattle.brc_runs.specs.declared.event.Event.{Event as event};
 ghost use Rattle.brc_runs.specs.Lists.{bit_of, is_marked, is_bare, is_unmarked, is_blank};
-ghost use Rattle.brc_runs.specs.Heap.{Heap, opening, cell_at, entries_at, row_at, frame_at, popped_at, worklist_at, queue_at, is_gathered};
+ghost use Rattle.brc_runs.specs.Heap.{Heap, opening, cell_at, entries_at, row_at, frame_at, popped_at, worklist_at, queue_at, is_registered, is_gathered};
 ghost use Rattle.brc_words.specs.Kinds.{is_mortal};
 ghost use Rattle.brc_lasting.specs.Progress.{Stands, IsAtRest, next_step, release_step, popped_step};
 ghost use Rattle.brc_runs.specs.Steps.{dropped_cell, is_vacant, enabled, after, target_at, takes_block};
 ghost use Rattle.brc_runs.specs.Runs.{IsReached, world_after};
+ghost use Rattle.brc_runs.specs.Sound.{held};
 ghost use Rattle.brc_lasting.specs.Ranges.{OwnerFits};
 ghost use Rattle.brc_runs.specs.declared.row.Stage.{Stage as stage};
 ghost use Rattle.brc_words.specs.declared.limits.TheConstants.{FIRST_MORTAL};
@@ -75,16 +76,30 @@ pub fn dead_blocks_are_unlocked()
         → takes_block e.step (cell_at h c) ≡ true → (cell_at h c).mutex ≡ 0 }
 {}
 
+/// A block is taken once, and while it is held it is neither freed nor made anew: what a step takes is on no worklist, and a
+/// cell that is held is no step's to free or to bear.
+pub fn blocks_are_taken_once()
+    ensures taken { (h : Heap) (e : event) (c u : ℕ) → IsReached h → enabled h e ≡ true
+        → target_at h e.thread e.step ≡ Some c → takes_block e.step (cell_at h c) ≡ true
+        → is_marked (worklist_at h u) c ≡ false }
+    ensures freed { (h : Heap) (e : event) (c : ℕ) → IsReached h → enabled h e ≡ true
+        → 1 ≤ held h c → e.step ≢ steps.Free c }
+    ensures born { (h : Heap) (e : event) (c : ℕ) (of : kind) (k : ℕ) → IsReached h
+        → enabled h e ≡ true → 1 ≤ held h c → e.step ≢ steps.Birth c of k }
+{}
+
 /// A gathered thread holds nothing: no place, no reference in its hand, none queued or popped, no dead block, no lock.
 pub fn gathered_threads_hold_nothing()
     ensures { (h : Heap) (t : ℕ) → IsReached h → is_gathered h t ≡ true → HoldsNothing h t }
 {}
 
-/// Owners are registered threads, entries are cells of the heap, the cell in a hand is on no worklist, and the local limit
-/// stays as the heap was opened.
+/// Owners are registered threads, which stay so; entries are cells of the heap, the cell in a hand is on no worklist, and
+/// the local limit stays as the heap was opened.
 pub fn numbers_name_what_is_there()
     ensures owners { (h : Heap) (c : ℕ) → IsReached h
         → OwnerFits (length h.rows) (cell_at h c).owner }
+    ensures threads { (h : Heap) (e : event) (q : ℕ) → is_registered h q ≡ true
+        → is_registered (after h e) q ≡ true }
     ensures entries { (h : Heap) (d i c : ℕ) → IsReached h
         → slice_get (entries_at h d) i ≡ Some c → c < length h.cells }
     ensures hands { (h : Heap) (t s c : ℕ) (p : phase) → IsReached h

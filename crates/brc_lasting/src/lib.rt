@@ -8,6 +8,6 @@
 mod laws;
 
 pub use laws::{
-    dead_blocks_are_unlocked, gathered_threads_hold_nothing, hands_tell, held_words_last,
-    no_thread_is_stuck, numbers_name_what_is_there, own_parts_last, owners_last,
+    blocks_are_taken_once, dead_blocks_are_unlocked, gathered_threads_hold_nothing, hands_tell,
+    held_words_last, no_thread_is_stuck, numbers_name_what_is_there, own_parts_last, owners_last,
 };
