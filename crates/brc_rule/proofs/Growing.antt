@@ -29,19 +29,19 @@ pub record IsCalm (h new : Heap) (x : Told) : Type 0 where
   pub threads : SameThreads h new
   pub starts : (u : ℕ) → is_start u (item_of x) ≡ false
 
-module _ {B : Type 0} (shows : B → ℕ × Contents) (first : ℕ → Contents) (n limit : ℕ) where
+module _ {B : Type 0} (shows : B → ℕ × Contents) (n limit : ℕ) where
   abbrev pub Table : Type 0
   Table = State (Option B) View
 
   abbrev pub Rule : Table → Type 0
-  Rule = Kept shows first n limit
+  Rule = Kept shows n limit
 
   -- what words and homes show after the item
   pub record Showing (words : List ℕ) (homes : Homes B) (run : Run) : Type 0 where
     pub wide : length words ≡ extent n
     pub deep : length homes ≡ n
     pub each_word : (w : Word) → IsWord n w → Shows (world n limit run) w (get_or words (spot n w) 0)
-    pub each_home : (c : ℕ) → c < n → HomeShown shows first homes (world n limit run) run c
+    pub each_home : (c : ℕ) → c < n → HomeShown shows homes (world n limit run) run c
 
   -- the view of another seat, or of this one with one more item
   other_fits : (run : Run) (seat : ℕ → ℕ) (t j : ℕ) (u : View) (x : Told) → IsCalm (world n limit run) (world n limit ((t, x) ∷ run)) x
@@ -61,7 +61,7 @@ module _ {B : Type 0} (shows : B → ℕ × Contents) (first : ℕ → Contents)
           ∙ stands_ungathered (world n limit run) w (subst (λ u. stands (world n limit run) u ≡ true) e stood) some_thread)
 
   pub grows : (s : Table) (r : Rule s) (id : ℕ) (v : View) (x : Told) (words : List ℕ) (homes : Homes B) → get_elem? s.views id ≡ some v → v.active ≡ true
-      → IsCalm (world n limit r.run) (world n limit ((v.thread, x) ∷ r.run)) x → MayCome (world n limit r.run) v.thread (item_of x) → IsMoved first (world n limit r.run) r.run v.thread x
+      → IsCalm (world n limit r.run) (world n limit ((v.thread, x) ∷ r.run)) x → MayCome (world n limit r.run) v.thread (item_of x) → IsMoved (world n limit r.run) r.run v.thread x
       → Showing words homes ((v.thread, x) ∷ r.run) → Rule (record { words = words; homes = homes; views = set s.views id (with_told x v) })
   grows s r id v x words homes at active calm comes moved showing =
       let t : ℕ = v.thread in

@@ -15,7 +15,7 @@ use Rattle.brc_runs.specs.Lists.{is_marked}
 use Rattle.brc_runs.specs.Heap.{Heap, opening, cell_at, entries_at, row_at, frame_at, popped_at, worklist_at, is_registered, is_gathered, words_for, AreOptions}
 use Rattle.brc_runs.specs.Steps.{thread_may, stage_ok, lock_ok, hand_ok, own_ok, own_ok_at, others_ok, target_ok, target_at, is_empty, change_ok, locked_entries, locked_cell, locked_at}
 use Rattle.brc_runs.specs.Runs.{IsReached}
-use Rattle.brc_known.specs.Items.{Part, part_of, IsPart, events_of, own, world_of_items}
+use Rattle.brc_known.specs.Items.{Part, part_of, IsPart, meant, events_of, own, world_of_items}
 use Rattle.brc_known.specs.Counts.{own_count, counts_of}
 use Rattle.brc_lasting.proofs.Standing.{run_reached}
 use Rattle.brc_lasting.proofs.Ranges_Law.{run_limit}
@@ -23,14 +23,14 @@ use Rattle.brc_known.proofs.Items_Queues.{run_queues, run_cells}
 use Rattle.brc_known.proofs.Items_Runs.{events_run}
 use Rattle.brc_known.proofs.Items_Told.{QueuesFit}
 use Rattle.brc_known.proofs.Items_Own.{Knows}
-use Rattle.brc_known.proofs.Items_Law.{parts_are_told}
-use Rattle.brc_known.proofs.Counts_Law.{part_target, counts_are_told}
+use Rattle.brc_known.proofs.Items_Law.{parts_are_told, part_target}
+use Rattle.brc_known.proofs.Counts_Law.{counts_are_told}
 use Rattle.brc_rule.specs.declared.contents.Contents.{Contents}
 use Rattle.brc_rule.specs.declared.told.Told.{Told}
 use Rattle.brc_rule.specs.declared.view.View.{View}
 use Rattle.brc_rule.specs.Logs.{log_items, Run, items_of, own_of, world}
 use Rattle.brc_rule.specs.Rule.{stands, Fits, Kept}
-use Rattle.brc_rule.specs.Seen.{part_seen, counts_seen, means, own_may}
+use Rattle.brc_rule.specs.Seen.{part_seen, counts_seen, own_may}
 use Rattle.brc_rule.proofs.Own_Logs.{own_items, stands_registered, stands_ungathered}
 
 -- what the log says, in the world
@@ -44,8 +44,8 @@ pub record Known (n limit : ℕ) (h : Heap) (t : ℕ) (log : List Told) : Type 0
   pub part : IsPart h t (part_seen n log)
   pub counts : (c : ℕ) → FIRST_MORTAL ≤ c → own_count t (row_at h t).stage (cell_at h c) ≡ counts_seen n log c
 
-module _ {B : Type 0} (shows : B → ℕ × Contents) (first : ℕ → Contents) (n limit : ℕ) where
-  pub knows : (s : State (Option B) View) (r : Kept shows first n limit s) (id : ℕ) (v : View) → get_elem? s.views id ≡ some v → v.active ≡ true → 0 < v.thread
+module _ {B : Type 0} (shows : B → ℕ × Contents) (n limit : ℕ) where
+  pub knows : (s : State (Option B) View) (r : Kept shows n limit s) (id : ℕ) (v : View) → get_elem? s.views id ≡ some v → v.active ≡ true → 0 < v.thread
       → Known n limit (world n limit r.run) v.thread v.log
   knows s r id v at active some_thread =
       let t : ℕ = v.thread in
@@ -94,6 +94,10 @@ own_tests n h t part s is ok =
     (subst (λ (f : List (Option ℕ)). (stage_ok (row_at h t).stage s && lock_ok (row_at h t).locked s && hand_ok (row_at h t).hand s && own_ok (words_for n) (row_at h t) f part.popped part.worklist part.has s) ≡ true) (sym is.frame_is)
     (subst (λ (r : Row). (stage_ok r.stage s && lock_ok r.locked s && hand_ok r.hand s && own_ok (words_for n) r part.frame part.popped part.worklist part.has s) ≡ true) (sym is.row_is) ok)))
 
+-- the hand that the step needs
+pub hand_there : (n limit : ℕ) (h : Heap) (t : ℕ) (log : List Told) (s : Step) → Known n limit h t log → own_may n (part_seen n log) s ≡ true → hand_ok (row_at h t).hand s ≡ true
+hand_there n limit h t log s known own = (and_parts _ _ (and_parts _ _ (own_tests n h t (part_seen n log) s known.part own)).0).1
+
 -- the own part allows the step, and so do whom it tells and the cell that it means
 pub is_enabled : (n limit : ℕ) (h : Heap) (t : ℕ) (log : List Told) (s : Step) → 0 < t → Known n limit h t log → own_may n (part_seen n log) s ≡ true
     → others_ok h s ≡ true → target_ok h t (row_at h t) s (target_at h t s) ≡ true → thread_may h t s ≡ true
@@ -109,5 +113,5 @@ is_enabled n limit h t log s some_thread known own others target =
     both_true (both_true (both_true (both_true (both_true (both_true there c.0) c.1) b.1) mine) others) target
 
 -- the cell that the log's part means is the world's
-pub meant : (n limit : ℕ) (h : Heap) (t : ℕ) (log : List Told) (s : Step) (o : Option ℕ) → Known n limit h t log → means (part_seen n log) s ≡ o → target_at h t s ≡ o
-meant n limit h t log s o known is = sym (part_target h t (part_seen n log) s known.part) ∙ is
+pub meant_there : (n limit : ℕ) (h : Heap) (t : ℕ) (log : List Told) (s : Step) (o : Option ℕ) → Known n limit h t log → meant (part_seen n log) s ≡ o → target_at h t s ≡ o
+meant_there n limit h t log s o known is = sym (part_target h t (part_seen n log) s known.part) ∙ is

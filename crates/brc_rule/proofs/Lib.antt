@@ -7,3 +7,7 @@ pub mod Homing
 pub mod Knowing
 pub mod Plain_Steps
 pub mod Local_Steps
+pub mod Numbers
+pub mod Shared_Steps
+pub mod Contents_Law
+pub mod Taking_Steps

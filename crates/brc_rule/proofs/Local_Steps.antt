@@ -30,7 +30,7 @@ use Rattle.brc_rule.specs.Logs.{takes_of}
 use Rattle.brc_rule.specs.Rule.{with_told, Kept}
 use Rattle.brc_rule.specs.Seen.{counts_seen}
 use Rattle.brc_rule.specs.Owing.{Raises, RaisesImmortal, Lowers, LowersImmortal}
-use Rattle.brc_rule.proofs.Knowing.{Known, is_enabled, meant}
+use Rattle.brc_rule.proofs.Knowing.{Known, is_enabled, meant_there}
 use Rattle.brc_rule.proofs.Plain_Steps.{IsPlain, PlainOn, plain_on, same_owner, stays_on, plain_step}
 
 -- an object that the log counts
@@ -70,9 +70,9 @@ fits_cell n limit h t log s c known named low ok =
 pub read_cell : (h : Heap) (t : ℕ) (s : Step) (c : ℕ) → c < length h.cells → cell_at (stepped h t s c) c ≡ cell_after t s c (cell_at h c)
 read_cell h t s c low = read_here h.cells c (cell_after t s c (cell_at h c)) no_cell low
 
-module _ {B : Type 0} (shows : B → ℕ × Contents) (first : ℕ → Contents) (n limit : ℕ) where
+module _ {B : Type 0} (shows : B → ℕ × Contents) (n limit : ℕ) where
   abbrev Rule : State (Option B) View → Type 0
-  Rule = Kept shows first n limit
+  Rule = Kept shows n limit
 
   raised : (h : Heap) (t : ℕ) (log : List Told) (source : Source) (k c count : ℕ) → 0 < t → Known n limit h t log → Raises n limit log source k c count
       → IsPlain n h t (LocalUp source k) (Of Local c) (count + 1) (count + 1)
@@ -80,7 +80,7 @@ module _ {B : Type 0} (shows : B → ℕ × Contents) (first : ℕ → Contents)
       let s : Step = LocalUp source k in
       let x : Cell = cell_at h c in
       let is : Counted n limit h t log c count = counted_there n limit h t log c count known raises.mortal raises.counted raises.some_count in
-      let named : target_at h t s ≡ Some c = meant n limit h t log s (Some c) known raises.cell in
+      let named : target_at h t s ≡ Some c = meant_there n limit h t log s (Some c) known raises.cell in
       let after_is : (cell_after t s c x).local ≡ count + 1 = ap (λ b. (if b then x else record x { local = x.local + 1 }).local) (mortal_cell c raises.mortal) ∙ ap (λ m. m + 1) is.count_is in
       let same : (cell_after t s c x).owner ≡ x.owner = ap (λ b. (if b then x else record x { local = x.local + 1 }).owner) (mortal_cell c raises.mortal) in
       let unlocked : (cell_after t s c x).mutex ≡ x.mutex = ap (λ b. (if b then x else record x { local = x.local + 1 }).mutex) (mortal_cell c raises.mortal) in
@@ -102,7 +102,7 @@ module _ {B : Type 0} (shows : B → ℕ × Contents) (first : ℕ → Contents)
   pub counts_up : (id : ℕ) (v : View) (slots : List (ℕ × Option B)) (source : Source) (k c count : ℕ) → v.active ≡ true → 0 < v.thread → c < n → Raises n limit v.log source k c count
       → Allows Rule n id (v, slots) (spot n (Of Local c)) (λ there. count + 1) (λ there me. me ≡ (with_told (Did (LocalUp source k) (count + 1) moves.Nothing) v, slots))
   counts_up id v slots source k c count active some_thread low raises =
-      plain_step shows first n limit id v slots (LocalUp source k) (Of Local c) (λ there. count + 1) (λ there. count + 1) active some_thread low
+      plain_step shows n limit id v slots (LocalUp source k) (Of Local c) (λ there. count + 1) (λ there. count + 1) active some_thread low
       (λ h there known shown small. raised h v.thread v.log source k c count some_thread known raises)
 
   lowered : (h : Heap) (t : ℕ) (log : List Told) (drop : Dropped) (c count : ℕ) → 0 < t → Known n limit h t log → Lowers n log drop c count
@@ -111,7 +111,7 @@ module _ {B : Type 0} (shows : B → ℕ × Contents) (first : ℕ → Contents)
       let s : Step = LocalDown drop in
       let x : Cell = cell_at h c in
       let is : Counted n limit h t log c count = counted_there n limit h t log c count known lowers.mortal lowers.counted lowers.some_count in
-      let named : target_at h t s ≡ Some c = meant n limit h t log s (Some c) known lowers.cell in
+      let named : target_at h t s ≡ Some c = meant_there n limit h t log s (Some c) known lowers.cell in
       let after_is : (cell_after t s c x).local ≡ count - 1 = ap (λ b. (if b then x else record x { local = x.local - 1 }).local) (mortal_cell c lowers.mortal) ∙ ap (λ m. m - 1) is.count_is in
       let same : (cell_after t s c x).owner ≡ x.owner = ap (λ b. (if b then x else record x { local = x.local - 1 }).owner) (mortal_cell c lowers.mortal) in
       let unlocked : (cell_after t s c x).mutex ≡ x.mutex = ap (λ b. (if b then x else record x { local = x.local - 1 }).mutex) (mortal_cell c lowers.mortal) in
@@ -132,7 +132,7 @@ module _ {B : Type 0} (shows : B → ℕ × Contents) (first : ℕ → Contents)
   pub counts_down : (id : ℕ) (v : View) (slots : List (ℕ × Option B)) (drop : Dropped) (c count : ℕ) → v.active ≡ true → 0 < v.thread → c < n → Lowers n v.log drop c count
       → Allows Rule n id (v, slots) (spot n (Of Local c)) (λ there. count - 1) (λ there me. me ≡ (with_told (Did (LocalDown drop) (count - 1) moves.Nothing) v, slots))
   counts_down id v slots drop c count active some_thread low lowers =
-      plain_step shows first n limit id v slots (LocalDown drop) (Of Local c) (λ there. count - 1) (λ there. count - 1) active some_thread low
+      plain_step shows n limit id v slots (LocalDown drop) (Of Local c) (λ there. count - 1) (λ there. count - 1) active some_thread low
       (λ h there known shown small. lowered h v.thread v.log drop c count some_thread known lowers)
 
   -- ---- an immortal's count: its word is read, and says what it said
@@ -152,7 +152,7 @@ module _ {B : Type 0} (shows : B → ℕ × Contents) (first : ℕ → Contents)
       let x : Cell = cell_at h c in
       let low : c < length h.cells = immortal_low h t log c known raises.immortal in
       let fixed : is_immortal c ≡ true = lt-ltb _ _ raises.immortal in
-      let named : target_at h t s ≡ Some c = meant n limit h t log s (Some c) known raises.cell in
+      let named : target_at h t s ≡ Some c = meant_there n limit h t log s (Some c) known raises.cell in
       let same : cell_after t s c x ≡ x = ap (λ b. if b then x else record x { local = x.local + 1 }) fixed in
       plain_on n h t s c (Of Local c) there there (record {
         may = is_enabled n limit h t log s some_thread known raises.own refl (fits_cell n limit h t log s c known named low
@@ -170,7 +170,7 @@ module _ {B : Type 0} (shows : B → ℕ × Contents) (first : ℕ → Contents)
   pub counts_immortal_up : (id : ℕ) (v : View) (slots : List (ℕ × Option B)) (source : Source) (k c : ℕ) → v.active ≡ true → 0 < v.thread → c < n → RaisesImmortal n v.log source k c
       → Allows Rule n id (v, slots) (spot n (Of Local c)) (λ there. there) (λ there me. me ≡ (with_told (Did (LocalUp source k) there moves.Nothing) v, slots))
   counts_immortal_up id v slots source k c active some_thread low raises =
-      plain_step shows first n limit id v slots (LocalUp source k) (Of Local c) (λ there. there) (λ there. there) active some_thread low
+      plain_step shows n limit id v slots (LocalUp source k) (Of Local c) (λ there. there) (λ there. there) active some_thread low
       (λ h there known shown small. up_immortal h v.thread v.log source k c there some_thread known raises shown)
 
   down_immortal : (h : Heap) (t : ℕ) (log : List Told) (drop : Dropped) (c there : ℕ) → 0 < t → Known n limit h t log → LowersImmortal n log drop c → Shows h (Of Local c) there
@@ -180,7 +180,7 @@ module _ {B : Type 0} (shows : B → ℕ × Contents) (first : ℕ → Contents)
       let x : Cell = cell_at h c in
       let low : c < length h.cells = immortal_low h t log c known lowers.immortal in
       let fixed : is_immortal c ≡ true = lt-ltb _ _ lowers.immortal in
-      let named : target_at h t s ≡ Some c = meant n limit h t log s (Some c) known lowers.cell in
+      let named : target_at h t s ≡ Some c = meant_there n limit h t log s (Some c) known lowers.cell in
       let same : cell_after t s c x ≡ x = ap (λ b. if b then x else record x { local = x.local - 1 }) fixed in
       plain_on n h t s c (Of Local c) there there (record {
         may = is_enabled n limit h t log s some_thread known lowers.own refl (fits_cell n limit h t log s c known named low
@@ -198,5 +198,5 @@ module _ {B : Type 0} (shows : B → ℕ × Contents) (first : ℕ → Contents)
   pub counts_immortal_down : (id : ℕ) (v : View) (slots : List (ℕ × Option B)) (drop : Dropped) (c : ℕ) → v.active ≡ true → 0 < v.thread → c < n → LowersImmortal n v.log drop c
       → Allows Rule n id (v, slots) (spot n (Of Local c)) (λ there. there) (λ there me. me ≡ (with_told (Did (LocalDown drop) there moves.Nothing) v, slots))
   counts_immortal_down id v slots drop c active some_thread low lowers =
-      plain_step shows first n limit id v slots (LocalDown drop) (Of Local c) (λ there. there) (λ there. there) active some_thread low
+      plain_step shows n limit id v slots (LocalDown drop) (Of Local c) (λ there. there) (λ there. there) active some_thread low
       (λ h there known shown small. down_immortal h v.thread v.log drop c there some_thread known lowers shown)

@@ -16,12 +16,12 @@ use Rattle.brc_rule.specs.Rule.{with_told, Kept}
 use Rattle.brc_rule.proofs.Growing.{IsCalm, grows}
 use Rattle.brc_rule.proofs.Homing.{unchanged, home_stays}
 
-module _ {B : Type 0} (shows : B → ℕ × Contents) (first : ℕ → Contents) (n limit : ℕ) where
+module _ {B : Type 0} (shows : B → ℕ × Contents) (n limit : ℕ) where
   abbrev Table : Type 0
   Table = State (Option B) View
 
   abbrev Rule : Table → Type 0
-  Rule = Kept shows first n limit
+  Rule = Kept shows n limit
 
   -- whether the look was a load or a lost compare-exchange
   pub data Looks (w : Word) (number : ℕ) : Told → Type 0 where
@@ -30,12 +30,12 @@ module _ {B : Type 0} (shows : B → ℕ × Contents) (first : ℕ → Contents)
 
   noted : (s : Table) (r : Rule s) (id : ℕ) (v : View) (w : Word) (x : Told) → get_elem? s.views id ≡ some v → v.active ≡ true → IsWord n w
       → Looks w (get_or s.words (spot n w) 0) x → Rule (record { words = s.words; homes = s.homes; views = set s.views id (with_told x v) })
-  noted s r id v w _ at active is saw = grows shows first n limit s r id v (Saw w (get_or s.words (spot n w) 0)) s.words s.homes at active
+  noted s r id v w _ at active is saw = grows shows n limit s r id v (Saw w (get_or s.words (spot n w) 0)) s.words s.homes at active
       (record { threads = record { rows = refl; gathered = refl }; starts = λ u. refl }) (r.each_word w is) tt
-      (record { wide = r.wide; deep = r.deep; each_word = r.each_word; each_home = λ c low. home_stays shows first s.homes (world n limit r.run) (world n limit r.run) r.run _ c (unchanged (world n limit r.run) c) refl (r.each_home c low) })
-  noted s r id v w _ at active is lost = grows shows first n limit s r id v (Lost w (get_or s.words (spot n w) 0)) s.words s.homes at active
+      (record { wide = r.wide; deep = r.deep; each_word = r.each_word; each_home = λ c low. home_stays shows s.homes (world n limit r.run) (world n limit r.run) r.run _ c (unchanged (world n limit r.run) c) refl (r.each_home c low) })
+  noted s r id v w _ at active is lost = grows shows n limit s r id v (Lost w (get_or s.words (spot n w) 0)) s.words s.homes at active
       (record { threads = record { rows = refl; gathered = refl }; starts = λ u. refl }) (r.each_word w is) tt
-      (record { wide = r.wide; deep = r.deep; each_word = r.each_word; each_home = λ c low. home_stays shows first s.homes (world n limit r.run) (world n limit r.run) r.run _ c (unchanged (world n limit r.run) c) refl (r.each_home c low) })
+      (record { wide = r.wide; deep = r.deep; each_word = r.each_word; each_home = λ c low. home_stays shows s.homes (world n limit r.run) (world n limit r.run) r.run _ c (unchanged (world n limit r.run) c) refl (r.each_home c low) })
 
   -- the word is written with what it had
   pub unmoved : (s : Table) (r : Rule s) (id : ℕ) (v : View) (w : Word) (x : Told) → get_elem? s.views id ≡ some v → v.active ≡ true → IsWord n w

@@ -1,7 +1,8 @@
 -- Steps that move no block.
-use Rattle.std.proofs.Common.{◌≡◌, ◌≢◌, ℕ, ◌<◌, ◌^◌, true, false, List, [], ◌∷◌, length, set, get_or, Option, Some, None, refl, sym, ◌∙◌, ap, subst, inl, inr, arith}
-use Rattle.std.proofs.lemmas.Bool.{cases_eq}
+use Rattle.std.proofs.Common.{◌≡◌, ◌≢◌, ℕ, ◌<◌, ◌^◌, ◌==◌, true, false, if◌then◌else◌, List, [], ◌∷◌, length, set, get_or, Option, Some, None, refl, sym, ◌∙◌, ap, subst, inl, inr, arith}
+use Rattle.std.proofs.lemmas.Bool.{cases_eq, eq-eqb, ne_eqb}
 use mathlib.Core.Option.{some}
+use prog.Atomic.{either}
 use lib.ListN.{get_elem?}
 use Rattle.atomic_table.specs.Table.{State, Allows, keeps}
 use Rattle.brc_words.specs.declared.owner.Owner.TheVariants as owners
@@ -17,7 +18,7 @@ use Rattle.brc_known.specs.Items.{IsWord, Shows, ToldBy, IsTold, meets_closed, t
 use Rattle.brc_known.proofs.Words_Law.{kept_by}
 use Rattle.brc_rule.specs.declared.contents.Contents.{Contents}
 use Rattle.brc_rule.specs.declared.told.Moved.TheVariants as moves
-use Rattle.brc_rule.specs.declared.told.Told.TheVariants.{Did}
+use Rattle.brc_rule.specs.declared.told.Told.TheVariants.{Did, Lost}
 use Rattle.brc_rule.specs.declared.view.View.{View}
 use Rattle.brc_rule.specs.Layout.{spot}
 use Rattle.brc_rule.specs.Logs.{Run, world, puts, takes, takes_of}
@@ -25,6 +26,7 @@ use Rattle.brc_rule.specs.Homes.{HomeShown}
 use Rattle.brc_rule.specs.Rule.{with_told, Kept}
 use Rattle.brc_rule.proofs.Homing.{Stays, home_stays}
 use Rattle.brc_rule.proofs.Stepping.{moved_on, Does, does}
+use Rattle.brc_rule.proofs.Looking.{lost, unmoved}
 use Rattle.brc_rule.proofs.Knowing.{Known, knows}
 
 -- ---- blocks that stay where they are
@@ -103,17 +105,17 @@ plain_on n h t s c w written number on =
       stays = λ d low. subst (λ o. Stays h (after_target h t s o) d) back (on.stays d);
     }
 
-module _ {B : Type 0} (shows : B → ℕ × Contents) (first : ℕ → Contents) (n limit : ℕ) where
+module _ {B : Type 0} (shows : B → ℕ × Contents) (n limit : ℕ) where
   abbrev Table : Type 0
   Table = State (Option B) View
 
   abbrev Rule : Table → Type 0
-  Rule = Kept shows first n limit
+  Rule = Kept shows n limit
 
   pub plainly : (st : Table) (r : Rule st) (id : ℕ) (v : View) (s : Step) (w : Word) (written number : ℕ) → get_elem? st.views id ≡ some v → v.active ≡ true → 0 < v.thread → IsWord n w
       → IsPlain n (world n limit r.run) v.thread s w written number
       → Rule (record { words = set st.words (spot n w) written; homes = st.homes; views = set st.views id (with_told (Did s number moves.Nothing) v) })
-  plainly st r id v s w written number at active some_thread is plain = does shows first n limit st r id v s w written number moves.Nothing st.homes at active
+  plainly st r id v s w written number at active some_thread is plain = does shows n limit st r id v s w written number moves.Nothing st.homes at active
       (record {
         some_thread = some_thread;
         may = plain.may;
@@ -124,7 +126,7 @@ module _ {B : Type 0} (shows : B → ℕ × Contents) (first : ℕ → Contents)
         entries = sym plain.finds_none;
         moves = (plain.puts_none, plain.takes_none);
       }) r.deep
-      (λ d low. home_stays shows first st.homes (world n limit r.run) (moved_on (world n limit r.run) v.thread s) r.run ((v.thread, Did s number moves.Nothing) ∷ r.run) d (plain.stays d low) refl (r.each_home d low))
+      (λ d low. home_stays shows st.homes (world n limit r.run) (moved_on (world n limit r.run) v.thread s) r.run ((v.thread, Did s number moves.Nothing) ∷ r.run) d (plain.stays d low) refl (r.each_home d low))
 
   -- what the log says is enough for the event, whatever number is found
   pub plain_step : (id : ℕ) (v : View) (slots : List (ℕ × Option B)) (s : Step) (w : Word) (written number : ℕ → ℕ) → v.active ≡ true → 0 < v.thread → IsWord n w
@@ -134,4 +136,25 @@ module _ {B : Type 0} (shows : B → ℕ × Contents) (first : ℕ → Contents)
       let there : ℕ = get_or st.words (spot n w) 0 in
       (with_told (Did s (number there) moves.Nothing) v, keeps, tt,
       plainly st r id v s w (written there) (number there) at active some_thread is
-      (plain (world n limit r.run) there (knows shows first n limit st r id v at active some_thread) (r.each_word w is) small), refl)
+      (plain (world n limit r.run) there (knows shows n limit st r id v at active some_thread) (r.each_word w is) small), refl)
+
+  -- a compare-exchange: it makes the event where it finds the number that it expects, and else is a note
+  pub exchange_step : (id : ℕ) (v : View) (slots : List (ℕ × Option B)) (s : Step) (w : Word) (old new : ℕ) → v.active ≡ true → 0 < v.thread → IsWord n w
+      → ((h : Heap) → Known n limit h v.thread v.log → Shows h w old → IsPlain n h v.thread s w new old)
+      → Allows Rule n id (v, slots) (spot n w) (λ there. either (there == old) new there)
+      (λ there me. me ≡ ((if there == old then with_told (Did s old moves.Nothing) v else with_told (Lost w there) v), slots))
+  exchange_step id v slots s w old new active some_thread is plain st r deep at small =
+      let there : ℕ = get_or st.words (spot n w) 0 in
+      elim (cases_eq there old) [
+        | inl same ↦
+            (with_told (Did s old moves.Nothing) v, keeps, tt,
+            subst (λ b. Rule (record { words = set st.words (spot n w) (either b new there); homes = st.homes; views = set st.views id (with_told (Did s old moves.Nothing) v) })) (sym (eq-eqb there old same))
+            (plainly st r id v s w new old at active some_thread is
+            (plain (world n limit r.run) (knows shows n limit st r id v at active some_thread) (subst (Shows (world n limit r.run) w) same (r.each_word w is)))),
+            sym (ap (λ b. ((if b then with_told (Did s old moves.Nothing) v else with_told (Lost w there) v), slots)) (eq-eqb there old same)))
+        | inr other ↦
+            (with_told (Lost w there) v, keeps, tt,
+            subst (λ b. Rule (record { words = set st.words (spot n w) (either b new there); homes = st.homes; views = set st.views id (with_told (Lost w there) v) })) (sym (ne_eqb there old other))
+            (unmoved shows n limit st r id v w (Lost w there) at active is lost),
+            sym (ap (λ b. ((if b then with_told (Did s old moves.Nothing) v else with_told (Lost w there) v), slots)) (ne_eqb there old other)))
+      ]

@@ -16,7 +16,8 @@ use Rattle.brc_known.specs.Items.{IsWord, Shows, IsTold, found, works_on, is_sta
 use Rattle.brc_runs.proofs.Asking.{May, may_parts}
 use Rattle.brc_runs.proofs.Changes.{read_there}
 use Rattle.brc_known.proofs.Items_Queues.{run_cells}
-use Rattle.brc_known.proofs.Words_Law.{same_rows, others_shown}
+use Rattle.brc_lasting.proofs.Ranges_Law.{same_rows}
+use Rattle.brc_known.proofs.Words_Law.{others_shown}
 use Rattle.brc_rule.specs.declared.contents.Contents.{Contents}
 use Rattle.brc_rule.specs.declared.told.Moved.{Moved}
 use Rattle.brc_rule.specs.declared.told.Told.{Told}
@@ -34,10 +35,10 @@ use Rattle.brc_rule.proofs.Growing.{IsCalm, grows}
 abbrev pub moved_on : Heap → ℕ → Step → Heap
 moved_on h t s = after_target h t s (target_at h t s)
 
-thread_after : (h : Heap) (t : ℕ) (s : Step) → 0 < t → after h (record { thread = t; step = s }) ≡ moved_on h t s
+pub thread_after : (h : Heap) (t : ℕ) (s : Step) → 0 < t → after h (record { thread = t; step = s }) ≡ moved_on h t s
 thread_after h t s some_thread = ap (λ b. if b then root_after h s else moved_on h t s) (ne_eqb t 0 (λ same. omega (arith, same, some_thread)))
 
-thread_enabled : (h : Heap) (t : ℕ) (s : Step) → 0 < t → thread_may h t s ≡ true → enabled h (record { thread = t; step = s }) ≡ true
+pub thread_enabled : (h : Heap) (t : ℕ) (s : Step) → 0 < t → thread_may h t s ≡ true → enabled h (record { thread = t; step = s }) ≡ true
 thread_enabled h t s some_thread may = ap (λ b. if b then root_may h s else thread_may h t s) (ne_eqb t 0 (λ same. omega (arith, same, some_thread))) ∙ may
 
 same_threads : (h : Heap) (t : ℕ) (s : Step) (o : Option ℕ) → SameThreads h (after_target h t s o)
@@ -51,7 +52,7 @@ no_start h t (Gather w) number moved may u = absurd (true≢false (sym may.hand)
 no_start h t _ number moved may u = refl
 
 -- a thread's event, with what it was told, what it moved, and the word that it worked on
-pub record Does (first : ℕ → Contents) (n : ℕ) (h : Heap) (run : Run) (t : ℕ) (s : Step) (w : Word) (written number : ℕ) (moved : Moved) : Type 0 where
+pub record Does (n : ℕ) (h : Heap) (run : Run) (t : ℕ) (s : Step) (w : Word) (written number : ℕ) (moved : Moved) : Type 0 where
   pub some_thread : 0 < t
   pub may : thread_may h t s ≡ true
   pub word : works_on h t s (target_at h t s) ≡ w
@@ -59,18 +60,18 @@ pub record Does (first : ℕ → Contents) (n : ℕ) (h : Heap) (run : Run) (t :
   pub shown : Shows (moved_on h t s) w written
   pub told : IsTold h t s number
   pub entries : entries_found moved ≡ found h t s
-  pub moves : MovesWith first h run t s moved
+  pub moves : MovesWith h run t s moved
 
-module _ {B : Type 0} (shows : B → ℕ × Contents) (first : ℕ → Contents) (n limit : ℕ) where
+module _ {B : Type 0} (shows : B → ℕ × Contents) (n limit : ℕ) where
   abbrev Table : Type 0
   Table = State (Option B) View
 
   abbrev Rule : Table → Type 0
-  Rule = Kept shows first n limit
+  Rule = Kept shows n limit
 
   pub does : (st : Table) (r : Rule st) (id : ℕ) (v : View) (s : Step) (w : Word) (written number : ℕ) (moved : Moved) (homes : Homes B) → get_elem? st.views id ≡ some v → v.active ≡ true
-      → Does first n (world n limit r.run) r.run v.thread s w written number moved → length homes ≡ n
-      → ((c : ℕ) → c < n → HomeShown shows first homes (moved_on (world n limit r.run) v.thread s) ((v.thread, Did s number moved) ∷ r.run) c)
+      → Does n (world n limit r.run) r.run v.thread s w written number moved → length homes ≡ n
+      → ((c : ℕ) → c < n → HomeShown shows homes (moved_on (world n limit r.run) v.thread s) ((v.thread, Did s number moved) ∷ r.run) c)
       → Rule (record { words = set st.words (spot n w) written; homes = homes; views = set st.views id (with_told (Did s number moved) v) })
   does st r id v s w written number moved homes at active did deep each_home =
       let t : ℕ = v.thread in
@@ -78,17 +79,17 @@ module _ {B : Type 0} (shows : B → ℕ × Contents) (first : ℕ → Contents)
       let h : Heap = world n limit r.run in
       let may : May h t s = may_parts h t s did.may in
       let is : world n limit ((t, x) ∷ r.run) ≡ moved_on h t s = thread_after h t s did.some_thread in
-      grows shows first n limit st r id v x (set st.words (spot n w) written) homes at active
+      grows shows n limit st r id v x (set st.words (spot n w) written) homes at active
       (record { threads = subst (SameThreads h) (sym is) (same_threads h t s (target_at h t s)); starts = no_start h t s number moved may })
       (thread_enabled h t s did.some_thread did.may, did.told, did.entries) did.moves
       (record {
         wide = length-set st.words (spot n w) written ∙ r.wide;
         deep = deep;
         each_word = λ u there. subst (λ z. Shows z u (get_or (set st.words (spot n w) written) (spot n u) 0)) (sym is) (word_shown st r t s w u written number moved did may there);
-        each_home = λ c low. subst (λ z. HomeShown shows first homes z ((t, x) ∷ r.run) c) (sym is) (each_home c low);
+        each_home = λ c low. subst (λ z. HomeShown shows homes z ((t, x) ∷ r.run) c) (sym is) (each_home c low);
       })
     where
-      word_shown : (st : Table) (r : Rule st) (t : ℕ) (s : Step) (w u : Word) (written number : ℕ) (moved : Moved) → Does first n (world n limit r.run) r.run t s w written number moved
+      word_shown : (st : Table) (r : Rule st) (t : ℕ) (s : Step) (w u : Word) (written number : ℕ) (moved : Moved) → Does n (world n limit r.run) r.run t s w written number moved
           → May (world n limit r.run) t s → IsWord n u → Shows (moved_on (world n limit r.run) t s) u (get_or (set st.words (spot n w) written) (spot n u) 0)
       word_shown st r t s w u written number moved did may there = elim (cases_eq (spot n u) (spot n w)) [
         | inl same ↦

@@ -22,7 +22,7 @@ pub record LiesThere {B : Type 0} (shows : B → ℕ × Contents) (homes : Homes
   pub holds : (shows block).1 ≡ contents
 
 -- a free cell has no block; that of a live object which nobody has locked and which is on no worklist is at home
-pub record HomeShown {B : Type 0} (shows : B → ℕ × Contents) (first : ℕ → Contents) (homes : Homes B) (h : Heap) (run : Run) (c : ℕ) : Type 0 where
+pub record HomeShown {B : Type 0} (shows : B → ℕ × Contents) (homes : Homes B) (h : Heap) (run : Run) (c : ℕ) : Type 0 where
   pub bare : (cell_at h c).owner ≡ owners.Free → get_elem? homes c ≡ some (some None)
   pub lies : lives (cell_at h c).owner ≡ true → (cell_at h c).mutex ≡ 0 → ((t : ℕ) → is_marked (worklist_at h t) c ≡ false)
-      → LiesThere shows homes c (contents_at first run c)
+      → LiesThere shows homes c (contents_at run c)

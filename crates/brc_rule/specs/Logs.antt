@@ -1,5 +1,6 @@
 -- Items with the contents that go with them, and the runs that they make.
-use Rattle.std.specs.Prelude.{◌≡◌, ℕ, ◌==◌, Bool, true, false, if◌then◌else◌, List, [], ◌∷◌, map, Option, Some, None}
+use Rattle.std.specs.Prelude.{◌≡◌, ℕ, ◌==◌, Bool, true, false, if◌then◌else◌, ℤ, pos, ◌-ℤ◌, List, [], ◌∷◌, map, Option, Some, None}
+use Rattle.brc_words.specs.declared.limits.TheConstants.{GLOBALS}
 use Rattle.brc_words.specs.declared.kind.Kind.{Kind}
 use Rattle.brc_words.specs.declared.kind.Kind.TheVariants as kinds
 use Rattle.brc_runs.specs.declared.event.Step.{Step}
@@ -81,10 +82,14 @@ put_in (Did s number moved) c before = put_by moved c before
 put_in (Saw word number) c before = before
 put_in (Lost word number) c before = before
 
+-- the immortals, as the heap is opened: none, false, true, the integers from -5 to 256, and the empty globals
+abbrev pub opening_contents : ℕ → Contents
+opening_contents c = if c == 0 then Nothing else (if c == 1 then Truth false else (if c == 2 then Truth true else (if c == GLOBALS then Dict [] else Int (pos c -ℤ pos 8))))
+
 -- what the last Birth or Unlock of the cell put home; before the first, what the heap was opened with
-abbrev pub contents_at : (ℕ → Contents) → Run → ℕ → Contents
-contents_at first [] c = first c
-contents_at first (x ∷ run) c = put_in x.1 c (contents_at first run c)
+abbrev pub contents_at : Run → ℕ → Contents
+contents_at [] c = opening_contents c
+contents_at (x ∷ run) c = put_in x.1 c (contents_at run c)
 
 -- ---- the contents that go with a step
 
@@ -108,35 +113,35 @@ keeps (Unlock changes.Keep) = true
 keeps _ = false
 
 -- what a step puts home is of the kind and has the entries that the cell has after it
-pub record PutsHome (first : ℕ → Contents) (h : Heap) (run : Run) (t : ℕ) (s : Step) (c : ℕ) (contents : Contents) : Type 0 where
+pub record PutsHome (h : Heap) (run : Run) (t : ℕ) (s : Step) (c : ℕ) (contents : Contents) : Type 0 where
   pub cell : puts h t s ≡ Some c
   pub finds_none : takes h t s ≡ None
   pub kind : kind_in contents ≡ (cell_at (after_target h t s (target_at h t s)) c).kind
   pub entries : entries_in contents ≡ entries_at (after_target h t s (target_at h t s)) c
-  pub kept : keeps s ≡ true → contents ≡ contents_at first run c
+  pub kept : keeps s ≡ true → contents ≡ contents_at run c
 
 -- what a step finds is what was put home last
-pub record FindsThere (first : ℕ → Contents) (h : Heap) (run : Run) (t : ℕ) (s : Step) (c : ℕ) (contents : Contents) : Type 0 where
+pub record FindsThere (h : Heap) (run : Run) (t : ℕ) (s : Step) (c : ℕ) (contents : Contents) : Type 0 where
   pub puts_none : puts h t s ≡ None
   pub cell : takes h t s ≡ Some c
-  pub there : contents ≡ contents_at first run c
+  pub there : contents ≡ contents_at run c
 
-abbrev pub MovesWith : (ℕ → Contents) → Heap → Run → ℕ → Step → Moved → Type 0
-MovesWith first h run t s moves.Nothing = (puts h t s ≡ None) × (takes h t s ≡ None)
-MovesWith first h run t s (moves.Put c contents) = PutsHome first h run t s c contents
-MovesWith first h run t s (moves.Found c contents) = FindsThere first h run t s c contents
+abbrev pub MovesWith : Heap → Run → ℕ → Step → Moved → Type 0
+MovesWith h run t s moves.Nothing = (puts h t s ≡ None) × (takes h t s ≡ None)
+MovesWith h run t s (moves.Put c contents) = PutsHome h run t s c contents
+MovesWith h run t s (moves.Found c contents) = FindsThere h run t s c contents
 
-abbrev pub IsMoved : (ℕ → Contents) → Heap → Run → ℕ → Told → Type 0
-IsMoved first h run t (Did s number moved) = MovesWith first h run t s moved
-IsMoved first h run t (Saw word number) = Unit {0}
-IsMoved first h run t (Lost word number) = Unit {0}
+abbrev pub IsMoved : Heap → Run → ℕ → Told → Type 0
+IsMoved h run t (Did s number moved) = MovesWith h run t s moved
+IsMoved h run t (Saw word number) = Unit {0}
+IsMoved h run t (Lost word number) = Unit {0}
 
 -- the contents of all items are those that go with them
-abbrev pub AreMoved : (ℕ → Contents) → ℕ → ℕ → Run → Type 0
-AreMoved first n limit [] = Unit {0}
-AreMoved first n limit (x ∷ run) = AreMoved first n limit run × IsMoved first (world n limit run) run x.0 x.1
+abbrev pub AreMoved : ℕ → ℕ → Run → Type 0
+AreMoved n limit [] = Unit {0}
+AreMoved n limit (x ∷ run) = AreMoved n limit run × IsMoved (world n limit run) run x.0 x.1
 
--- a run of a heap with n cells that was opened with these contents
-pub record IsLegal (first : ℕ → Contents) (n limit : ℕ) (run : Run) : Type 0 where
+-- a run of a heap with n cells
+pub record IsLegal (n limit : ℕ) (run : Run) : Type 0 where
   pub items : AreItems (opening n limit) (items_of run)
-  pub moved : AreMoved first n limit run
+  pub moved : AreMoved n limit run

@@ -1,22 +1,18 @@
 -- What each kind of step asks of its seat's log, and of nothing else.
-use Rattle.std.specs.Prelude.{◌≡◌, ℕ, ◌<◌, ◌≤◌, true, List, Some}
+use Rattle.std.specs.Prelude.{◌≡◌, ◌⊎◌, ℕ, ◌<◌, ◌≤◌, true, List, Some}
 use Rattle.brc_words.specs.declared.limits.TheConstants.{FIRST_MORTAL}
 use Rattle.brc_runs.specs.declared.event.Source.{Source}
 use Rattle.brc_runs.specs.declared.event.Dropped.{Dropped}
 use Rattle.brc_runs.specs.declared.event.Step.{Step}
-use Rattle.brc_runs.specs.declared.event.Step.TheVariants.{LocalUp, LocalDown}
+use Rattle.brc_runs.specs.declared.event.Step.TheVariants.{LocalUp, LocalDown, SharedUp}
+use Rattle.brc_known.specs.Items.{meant}
 use Rattle.brc_rule.specs.declared.told.Told.{Told}
-use Rattle.brc_rule.specs.Seen.{part_seen, counts_seen, means, own_may}
-
--- the thread's own part allows the step, which means this cell
-pub record Means (n : ℕ) (log : List Told) (s : Step) (c : ℕ) : Type 0 where
-  pub own : own_may n (part_seen n log) s ≡ true
-  pub cell : means (part_seen n log) s ≡ Some c
+use Rattle.brc_rule.specs.Seen.{part_seen, counts_seen, own_may}
 
 -- an own object whose count may rise
 pub record Raises (n limit : ℕ) (log : List Told) (source : Source) (k c count : ℕ) : Type 0 where
   pub own : own_may n (part_seen n log) (LocalUp source k) ≡ true
-  pub cell : means (part_seen n log) (LocalUp source k) ≡ Some c
+  pub cell : meant (part_seen n log) (LocalUp source k) ≡ Some c
   pub mortal : FIRST_MORTAL ≤ c
   pub counted : counts_seen n log c ≡ count
   pub some_count : 0 < count
@@ -24,18 +20,32 @@ pub record Raises (n limit : ℕ) (log : List Told) (source : Source) (k c count
 
 pub record RaisesImmortal (n : ℕ) (log : List Told) (source : Source) (k c : ℕ) : Type 0 where
   pub own : own_may n (part_seen n log) (LocalUp source k) ≡ true
-  pub cell : means (part_seen n log) (LocalUp source k) ≡ Some c
+  pub cell : meant (part_seen n log) (LocalUp source k) ≡ Some c
   pub immortal : c < FIRST_MORTAL
 
 -- an own object
 pub record Lowers (n : ℕ) (log : List Told) (drop : Dropped) (c count : ℕ) : Type 0 where
   pub own : own_may n (part_seen n log) (LocalDown drop) ≡ true
-  pub cell : means (part_seen n log) (LocalDown drop) ≡ Some c
+  pub cell : meant (part_seen n log) (LocalDown drop) ≡ Some c
   pub mortal : FIRST_MORTAL ≤ c
   pub counted : counts_seen n log c ≡ count
   pub some_count : 0 < count
 
 pub record LowersImmortal (n : ℕ) (log : List Told) (drop : Dropped) (c : ℕ) : Type 0 where
   pub own : own_may n (part_seen n log) (LocalDown drop) ≡ true
-  pub cell : means (part_seen n log) (LocalDown drop) ≡ Some c
+  pub cell : meant (part_seen n log) (LocalDown drop) ≡ Some c
   pub immortal : c < FIRST_MORTAL
+
+-- an object on whose local word the thread doesn't count, or has counted up to the limit
+pub record RaisesShared (n limit : ℕ) (log : List Told) (source : Source) (k c : ℕ) : Type 0 where
+  pub own : own_may n (part_seen n log) (SharedUp source k) ≡ true
+  pub cell : meant (part_seen n log) (SharedUp source k) ≡ Some c
+  pub mortal : FIRST_MORTAL ≤ c
+  pub counted : (counts_seen n log c ≡ 0) ⊎ (limit ≤ counts_seen n log c)
+
+-- a reference to an object on whose local word the thread doesn't count
+pub record Releases (n : ℕ) (log : List Told) (s : Step) (c : ℕ) : Type 0 where
+  pub own : own_may n (part_seen n log) s ≡ true
+  pub cell : meant (part_seen n log) s ≡ Some c
+  pub mortal : FIRST_MORTAL ≤ c
+  pub counted : counts_seen n log c ≡ 0

@@ -43,14 +43,14 @@ pub record Seated (views : List View) (t j : ℕ) : Type 0 where
 
 -- The rule of a table with n cells: there is a run of which the own items of every thread are its seat's log, and no
 -- other items stand in it; each word shows what the run's world has there, and so do the blocks at home.
-pub record Kept {B : Type 0} (shows : B → ℕ × Contents) (first : ℕ → Contents) (n limit : ℕ) (s : State (Option B) View) : Type 0 where
+pub record Kept {B : Type 0} (shows : B → ℕ × Contents) (n limit : ℕ) (s : State (Option B) View) : Type 0 where
   pub run : Run
   pub seat : ℕ → ℕ
   pub options : AreOptions n limit
-  pub legal : IsLegal first n limit run
+  pub legal : IsLegal n limit run
   pub wide : length s.words ≡ extent n
   pub deep : length s.homes ≡ n
   pub each_word : (w : Word) → IsWord n w → Shows (world n limit run) w (slice_index s.words (spot n w))
-  pub each_home : (c : ℕ) → c < n → HomeShown shows first s.homes (world n limit run) run c
+  pub each_home : (c : ℕ) → c < n → HomeShown shows s.homes (world n limit run) run c
   pub each_seat : (j : ℕ) (v : View) → get_elem? s.views j ≡ some v → v.active ≡ true → Fits (world n limit run) run seat j v
   pub each_thread : (t : ℕ) → stands (world n limit run) t ≡ true → Seated s.views t (seat t)

@@ -1,9 +1,9 @@
 -- What a seat's log tells its thread, with no look at the world.
-use Rattle.std.specs.Prelude.{ℕ, ◌&&◌, Bool, List, Option}
+use Rattle.std.specs.Prelude.{ℕ, ◌&&◌, Bool, List}
 use Rattle.brc_runs.specs.declared.event.Dropped.{Dropped}
 use Rattle.brc_runs.specs.declared.event.Step.{Step}
 use Rattle.brc_runs.specs.Heap.{words_for}
-use Rattle.brc_runs.specs.Steps.{target, stage_ok, lock_ok, hand_ok, own_ok}
+use Rattle.brc_runs.specs.Steps.{stage_ok, lock_ok, hand_ok, own_ok}
 use Rattle.brc_known.specs.Items.{Part, part_of}
 use Rattle.brc_known.specs.Counts.{counts_of}
 use Rattle.brc_known.specs.Risen.{is_risen}
@@ -26,10 +26,6 @@ risen_seen n log = is_risen n (log_items log)
 -- the dead blocks that it has
 abbrev pub taken_seen : ℕ → List Told → Blocks
 taken_seen n log = taken_of n (log_items log)
-
--- the cell that a step means
-abbrev pub means : Part → Step → Option ℕ
-means part s = target part.row part.frame part.worklist part.has s
 
 -- the thread's own part allows the step
 abbrev pub own_may : ℕ → Part → Step → Bool

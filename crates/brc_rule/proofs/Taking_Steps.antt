@@ -1,0 +1,177 @@
+-- Steps that may take the block of a dead object: SeeZero, MergeZero, LastDown. The number found decides.
+use Rattle.std.proofs.Common.{◌≡◌, ◌≢◌, ℕ, ◌<◌, ◌^◌, ◌==◌, Bool, true, false, if◌then◌else◌, List, [], ◌∷◌, length, set, get_or, Option, Some, None, refl, sym, ◌∙◌, ap, subst, inl, inr, arith, length-set}
+use Rattle.std.proofs.lemmas.Bool.{cases_eq, cases_Bool, true≢false}
+use mathlib.Core.Option.{some, none}
+use lib.ListN.{get_elem?}
+use Rattle.atomic_table.specs.Table.{State, Allows, keeps, takes}
+use Rattle.brc_words.specs.declared.owner.Owner.TheVariants as owners
+use Rattle.brc_runs.specs.declared.cell.Cell.{Cell}
+use Rattle.brc_runs.specs.declared.event.Event.{Event}
+use Rattle.brc_runs.specs.declared.event.Step.{Step}
+use Rattle.brc_runs.specs.Lists.{is_marked}
+use Rattle.brc_runs.specs.Heap.{Heap, cell_at, entries_at, worklist_at, no_cell}
+use Rattle.brc_runs.specs.Holding.{lives}
+use Rattle.brc_runs.specs.Sound.{IsSound}
+use Rattle.brc_runs.specs.Steps.{thread_may, target_at, after_target, cell_after, stepped, is_free_step, takes_block, worklist_with}
+use Rattle.brc_runs.proofs.Asking.{May, may_parts}
+use Rattle.brc_runs.proofs.Changes.{read_here, read_there}
+use Rattle.brc_runs.proofs.Reached.{reached_sound}
+use Rattle.brc_lasting.proofs.Lasting.{live_owner}
+use Rattle.brc_lasting.proofs.Standing.{taken_unlocked}
+use Rattle.brc_known.specs.declared.word.Word.{Word}
+use Rattle.brc_known.specs.Items.{IsWord, Shows, ToldBy, meets_closed, told_at, found, found_at, finds, works_on, cell_told}
+use Rattle.brc_known.proofs.Words_Law.{kept_by}
+use Rattle.brc_rule.specs.declared.contents.Contents.{Contents}
+use Rattle.brc_rule.specs.declared.told.Moved.TheVariants as moves
+use Rattle.brc_rule.specs.declared.told.Told.TheVariants.{Did}
+use Rattle.brc_rule.specs.declared.view.View.{View}
+use Rattle.brc_rule.specs.Layout.{spot}
+use Rattle.brc_rule.specs.Logs.{Run, world, puts, takes_of, entries_in, contents_at}
+use Rattle.brc_rule.specs.Homes.{Homes, LiesThere, HomeShown}
+use Rattle.brc_rule.specs.Rule.{with_told, Kept}
+use Rattle.brc_rule.specs.Taking.{TookBlock, Ended}
+use Rattle.brc_rule.proofs.Homing.{Stays, home_stays, home_else, home_out}
+use Rattle.brc_rule.proofs.Stepping.{moved_on, thread_after, thread_enabled, Does, does}
+use Rattle.brc_rule.proofs.Knowing.{Known, knows}
+use Rattle.brc_rule.proofs.Plain_Steps.{PlainOn, plain_on, CellStays, stays_on, plainly}
+use Rattle.brc_rule.proofs.Contents_Law.{contents_fit}
+
+-- a thread's event that may take the block of its cell
+pub record EndsOn (h : Heap) (t : ℕ) (s : Step) (c : ℕ) (w : Word) (written number : ℕ) : Type 0 where
+  pub may : thread_may h t s ≡ true
+  pub target : target_at h t s ≡ Some c
+  pub low : c < length h.cells
+  pub word : works_on h t s (Some c) ≡ w
+  pub shown : Shows (stepped h t s c) w written
+  pub told : ToldBy (meets_closed h s) (told_at h t s (Some c)) number
+  pub puts_none : puts h t s ≡ None
+  pub finds_taken : finds s (cell_at h c) ≡ takes_block s (cell_at h c)
+  pub frees_none : is_free_step s ≡ false
+  pub number_tells : takes_block s (cell_told s number) ≡ takes_block s (cell_at h c)
+  pub stays : CellStays (cell_at h c) (cell_after t s c (cell_at h c))
+  pub live : lives (cell_at h c).owner ≡ true
+  pub same_owner : (cell_after t s c (cell_at h c)).owner ≡ (cell_at h c).owner
+  pub unmarked : (u : ℕ) → is_marked (worklist_at h u) c ≡ false
+
+-- nothing is found where nothing is taken
+not_taking : (h : Heap) (t : ℕ) (s : Step) (c : ℕ) (w : Word) (written number : ℕ) → EndsOn h t s c w written number → takes_block s (cell_at h c) ≡ false → PlainOn h t s c w written number
+not_taking h t s c w written number ends stays = record {
+  may = ends.may;
+  target = ends.target;
+  word = ends.word;
+  shown = ends.shown;
+  told = ends.told;
+  finds_none = ap (λ b. if b then entries_at h c else []) (ends.finds_taken ∙ stays);
+  puts_none = ends.puts_none;
+  takes_none = ap (λ b. if b then Some c else None) (ends.finds_taken ∙ stays);
+  stays = stays_on h t s c ends.low ends.frees_none stays ends.stays;
+}
+
+-- the cell is on the thread's worklist afterwards
+taken_mark : (h : Heap) (t : ℕ) (s : Step) (c : ℕ) → IsSound h → May h t s → c < length h.cells → is_free_step s ≡ false → takes_block s (cell_at h c) ≡ true
+    → is_marked (worklist_at (stepped h t s c) t) c ≡ true
+taken_mark h t s c sound may low frees takes_it =
+    ap (λ (w : List Bool). is_marked w c) (read_here h.worklists t (worklist_with (is_free_step s) (takes_block s (cell_at h c)) c (worklist_at h t)) [] (omega (arith, sound.shaped.worklists, may.inside)))
+    ∙ ap (λ b. is_marked (worklist_with b (takes_block s (cell_at h c)) c (worklist_at h t)) c) frees
+    ∙ ap (λ b. is_marked (worklist_with false b c (worklist_at h t)) c) takes_it
+    ∙ read_here (worklist_at h t) c true false (omega (arith, low, sound.shaped.marks t may.some_thread may.inside))
+
+-- marks of other cells stay
+other_marks : (h : Heap) (t : ℕ) (s : Step) (c d u : ℕ) → is_free_step s ≡ false → takes_block s (cell_at h c) ≡ true → d ≢ c
+    → is_marked (worklist_at (stepped h t s c) u) d ≡ is_marked (worklist_at h u) d
+other_marks h t s c d u frees takes_it other = kept_by (λ (w : List Bool). is_marked w d) h.worklists t _ []
+    (ap (λ b. is_marked (worklist_with b (takes_block s (cell_at h c)) c (worklist_at h t)) d) frees
+    ∙ ap (λ b. is_marked (worklist_with false b c (worklist_at h t)) d) takes_it
+    ∙ read_there (worklist_at h t) c d true false other) u
+
+-- another cell's block stays where it is
+other_stays : (h : Heap) (t : ℕ) (s : Step) (c d : ℕ) → is_free_step s ≡ false → takes_block s (cell_at h c) ≡ true → d ≢ c → Stays h (stepped h t s c) d
+other_stays h t s c d frees takes_it other =
+    let same : cell_at (stepped h t s c) d ≡ cell_at h d = read_there h.cells c d (cell_after t s c (cell_at h c)) no_cell other in
+    record {
+      free = λ is. sym (ap (λ (x : Cell). x.owner) same) ∙ is;
+      lives = λ is. sym (ap (λ (x : Cell). lives x.owner) same) ∙ is;
+      mutex = λ is. sym (ap (λ (x : Cell). x.mutex) same) ∙ is;
+      marks = λ off u. sym (other_marks h t s c d u frees takes_it other) ∙ off u;
+    }
+
+module _ {B : Type 0} (shows : B → ℕ × Contents) (n limit : ℕ) where
+  abbrev Table : Type 0
+  Table = State (Option B) View
+
+  abbrev Rule : Table → Type 0
+  Rule = Kept shows n limit
+
+  -- the homes after the block of c went out
+  pub homes_without : (st : Table) (r : Rule st) (h : Heap) (t : ℕ) (s : Step) (c : ℕ) (run later : Run) → IsSound h → May h t s → c < length h.cells → is_free_step s ≡ false → takes_block s (cell_at h c) ≡ true
+      → (cell_after t s c (cell_at h c)).owner ≢ owners.Free → ((d : ℕ) → contents_at later d ≡ contents_at run d)
+      → (d : ℕ) → HomeShown shows st.homes h run d → HomeShown shows (set st.homes c none) (stepped h t s c) later d
+  homes_without st r h t s c run later sound may low frees takes_it used same d shown = elim (cases_eq d c) [
+    | inr other ↦ home_else shows st.homes (stepped h t s c) later d c none other
+        (home_stays shows st.homes h (stepped h t s c) run later d (other_stays h t s c d frees takes_it other) (same d) shown)
+    | inl here ↦ subst (HomeShown shows (set st.homes c none) (stepped h t s c) later) (sym here)
+        (home_out shows (set st.homes c none) (stepped h t s c) later c
+        (λ free. used (sym (ap (λ (x : Cell). x.owner) (read_here h.cells c (cell_after t s c (cell_at h c)) no_cell low)) ∙ free))
+        (λ live unlocked off. true≢false (sym (taken_mark h t s c sound may low frees takes_it) ∙ off t)))
+  ]
+
+  -- the step takes the block
+  taking : (st : Table) (r : Rule st) (id : ℕ) (v : View) (s : Step) (c : ℕ) (w : Word) (written number : ℕ) → get_elem? st.views id ≡ some v → v.active ≡ true → 0 < v.thread → c < n → IsWord n w
+      → EndsOn (world n limit r.run) v.thread s c w written number → takes_block s (cell_at (world n limit r.run) c) ≡ true
+      → (lies : LiesThere shows st.homes c (contents_at r.run c))
+      → Rule (record { words = set st.words (spot n w) written; homes = set st.homes c none; views = set st.views id (with_told (Did s number (moves.Found c (shows lies.block).1)) v) })
+  taking st r id v s c w written number at active some_thread low is ends takes_it lies =
+      let t : ℕ = v.thread in
+      let h : Heap = world n limit r.run in
+      let known : Known n limit h t v.log = knows shows n limit st r id v at active some_thread in
+      let sound : IsSound h = reached_sound h known.reached in
+      let may : May h t s = may_parts h t s ends.may in
+      let back : Some c ≡ target_at h t s = sym ends.target in
+      does shows n limit st r id v s w written number (moves.Found c (shows lies.block).1) (set st.homes c none) at active
+      (record {
+        some_thread = some_thread;
+        may = ends.may;
+        word = ap (works_on h t s) ends.target ∙ ends.word;
+        is_word = is;
+        shown = subst (λ o. Shows (after_target h t s o) w written) back ends.shown;
+        told = subst (λ o. ToldBy (meets_closed h s) (told_at h t s o) number) back ends.told;
+        entries = ap entries_in lies.holds ∙ (contents_fit n limit r.run c r.options r.legal (record { live = ends.live; off = ends.unmarked })).entries
+            ∙ sym (ap (found_at h s) ends.target ∙ ap (λ b. if b then entries_at h c else []) (ends.finds_taken ∙ takes_it));
+        moves = record {
+          puts_none = ends.puts_none;
+          cell = ap (takes_of h s) ends.target ∙ ap (λ b. if b then Some c else None) (ends.finds_taken ∙ takes_it);
+          there = lies.holds;
+        };
+      }) (length-set st.homes c none ∙ r.deep)
+      (λ d inside. subst (λ o. HomeShown shows (set st.homes c none) (after_target h t s o) ((t, Did s number (moves.Found c (shows lies.block).1)) ∷ r.run) d) back
+        (homes_without st r h t s c r.run ((t, Did s number (moves.Found c (shows lies.block).1)) ∷ r.run) sound may ends.low ends.frees_none takes_it
+        (λ free. live_owner (cell_at h c).owner ends.live (sym ends.same_owner ∙ free)) (λ e. refl) d (r.each_home d inside)))
+
+  -- the number that is found decides whether the block is taken
+  pub end_step : (id : ℕ) (v : View) (slots : List (ℕ × Option B)) (s : Step) (c : ℕ) (w : Word) (written : ℕ → ℕ) → v.active ≡ true → 0 < v.thread → c < n → IsWord n w
+      → ((h : Heap) (there : ℕ) → Known n limit h v.thread v.log → Shows h w there → there < 2 ^ 64 → EndsOn h v.thread s c w (written there) there)
+      → Allows Rule n id (v, slots) (spot n w) written (λ there me. Ended shows v slots s c there (takes_block s (cell_told s there)) me)
+  end_step id v slots s c w written active some_thread low is ends st r deep at small =
+      let t : ℕ = v.thread in
+      let h : Heap = world n limit r.run in
+      let there : ℕ = get_or st.words (spot n w) 0 in
+      let known : Known n limit h t v.log = knows shows n limit st r id v at active some_thread in
+      let e : EndsOn h t s c w (written there) there = ends h there known (r.each_word w is) small in
+      elim (cases_Bool (takes_block s (cell_at h c))) [
+        | inr off ↦
+            (with_told (Did s there moves.Nothing) v, keeps, tt,
+            plainly shows n limit st r id v s w (written there) there at active some_thread is (plain_on n h t s c w (written there) there (not_taking h t s c w (written there) there e off)),
+            subst (λ b. Ended shows v slots s c there b (with_told (Did s there moves.Nothing) v, slots)) (sym (e.number_tells ∙ off)) refl)
+        | inl on ↦
+            let lies : LiesThere shows st.homes c (contents_at r.run c) = (r.each_home c low).lies e.live (unlocked h t s c known e on) e.unmarked in
+            (with_told (Did s there (moves.Found c (shows lies.block).1)) v, takes c (Some lies.block), lies.there,
+            taking st r id v s c w (written there) there at active some_thread low is e on lies,
+            subst (λ b. Ended shows v slots s c there b (with_told (Did s there (moves.Found c (shows lies.block).1)) v, (c, Some lies.block) ∷ slots)) (sym (e.number_tells ∙ on))
+            (record { block = lies.block; of_cell = lies.of_cell; after_is = refl }))
+      ]
+    where
+      unlocked : (h : Heap) (t : ℕ) (s : Step) (c : ℕ) → Known n limit h t v.log → EndsOn h t s c w (written (get_or st.words (spot n w) 0)) (get_or st.words (spot n w) 0)
+          → takes_block s (cell_at h c) ≡ true → (cell_at h c).mutex ≡ 0
+      unlocked h t s c known e on =
+          let may : May h t s = may_parts h t s e.may in
+          taken_unlocked h (record { thread = t; step = s }) c known.reached (thread_enabled h t s may.some_thread e.may) (λ zero. omega (arith, zero, may.some_thread)) e.target on

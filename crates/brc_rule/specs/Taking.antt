@@ -1,0 +1,19 @@
+-- What a step that may take a block tells its seat.
+use Rattle.std.specs.Prelude.{◌≡◌, ℕ, Bool, true, false, List, ◌∷◌, Option, Some}
+use Rattle.atomic_table.specs.Table.{Me}
+use Rattle.brc_runs.specs.declared.event.Step.{Step}
+use Rattle.brc_rule.specs.declared.contents.Contents.{Contents}
+use Rattle.brc_rule.specs.declared.told.Moved.TheVariants as moves
+use Rattle.brc_rule.specs.declared.told.Told.TheVariants.{Did}
+use Rattle.brc_rule.specs.declared.view.View.{View}
+use Rattle.brc_rule.specs.Rule.{with_told}
+
+-- the seat has the cell's block now, and its log the contents that were found in it
+pub record TookBlock {B : Type 0} (shows : B → ℕ × Contents) (v : View) (slots : List (ℕ × Option B)) (s : Step) (c number : ℕ) (me : Me (Option B) View) : Type 0 where
+  pub block : B
+  pub of_cell : (shows block).0 ≡ c
+  pub after_is : me ≡ (with_told (Did s number (moves.Found c (shows block).1)) v, (c, Some block) ∷ slots)
+
+abbrev pub Ended : {B : Type 0} → (B → ℕ × Contents) → View → List (ℕ × Option B) → Step → ℕ → ℕ → Bool → Me (Option B) View → Type 0
+Ended shows v slots s c number false me = me ≡ (with_told (Did s number moves.Nothing) v, slots)
+Ended shows v slots s c number true me = TookBlock shows v slots s c number me
