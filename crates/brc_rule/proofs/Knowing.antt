@@ -17,6 +17,8 @@ use Rattle.brc_runs.specs.Steps.{thread_may, stage_ok, lock_ok, hand_ok, own_ok,
 use Rattle.brc_runs.specs.Runs.{IsReached}
 use Rattle.brc_known.specs.Items.{Part, part_of, IsPart, meant, events_of, own, world_of_items}
 use Rattle.brc_known.specs.Counts.{own_count, counts_of}
+use Rattle.brc_known.specs.Risen.{is_risen}
+use Rattle.brc_lasting.specs.Staying.{rank}
 use Rattle.brc_lasting.proofs.Standing.{run_reached}
 use Rattle.brc_lasting.proofs.Ranges_Law.{run_limit}
 use Rattle.brc_known.proofs.Items_Queues.{run_queues, run_cells}
@@ -25,12 +27,13 @@ use Rattle.brc_known.proofs.Items_Told.{QueuesFit}
 use Rattle.brc_known.proofs.Items_Own.{Knows}
 use Rattle.brc_known.proofs.Items_Law.{parts_are_told, part_target}
 use Rattle.brc_known.proofs.Counts_Law.{counts_are_told}
+use Rattle.brc_known.proofs.Risen_Law.{risen_is_told}
 use Rattle.brc_rule.specs.declared.contents.Contents.{Contents}
 use Rattle.brc_rule.specs.declared.told.Told.{Told}
 use Rattle.brc_rule.specs.declared.view.View.{View}
 use Rattle.brc_rule.specs.Logs.{log_items, Run, items_of, own_of, world}
 use Rattle.brc_rule.specs.Rule.{stands, Fits, Kept}
-use Rattle.brc_rule.specs.Seen.{part_seen, counts_seen, own_may}
+use Rattle.brc_rule.specs.Seen.{part_seen, counts_seen, risen_seen, own_may}
 use Rattle.brc_rule.proofs.Own_Logs.{own_items, stands_registered, stands_ungathered}
 
 -- what the log says, in the world
@@ -43,6 +46,7 @@ pub record Known (n limit : ℕ) (h : Heap) (t : ℕ) (log : List Told) : Type 0
   pub stood : stands h t ≡ true
   pub part : IsPart h t (part_seen n log)
   pub counts : (c : ℕ) → FIRST_MORTAL ≤ c → own_count t (row_at h t).stage (cell_at h c) ≡ counts_seen n log c
+  pub risen : (drop : Dropped) (c : ℕ) → risen_seen n log drop c ≡ true → FIRST_MORTAL ≤ c → 1 ≤ rank (cell_at h c).state
 
 module _ {B : Type 0} (shows : B → ℕ × Contents) (n limit : ℕ) where
   pub knows : (s : State (Option B) View) (r : Kept shows n limit s) (id : ℕ) (v : View) → get_elem? s.views id ≡ some v → v.active ≡ true → 0 < v.thread
@@ -62,6 +66,7 @@ module _ {B : Type 0} (shows : B → ℕ × Contents) (n limit : ℕ) where
         stood = fits.there;
         part = subst (λ items. IsPart h t (part_of n items)) log (parts_are_told n limit (items_of r.run) t r.options r.legal.items there);
         counts = λ c mortal. counts_are_told n limit (items_of r.run) t c r.options r.legal.items there mortal ∙ ap (λ items. counts_of n items c) log;
+        risen = λ drop c seen mortal. risen_is_told n limit (items_of r.run) t c drop r.options r.legal.items there (ap (λ items. is_risen n items drop c) log ∙ seen) mortal;
       }
 
 -- ---- the own part decides

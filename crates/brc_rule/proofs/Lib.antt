@@ -11,3 +11,4 @@ pub mod Numbers
 pub mod Shared_Steps
 pub mod Contents_Law
 pub mod Taking_Steps
+pub mod Ending_Steps

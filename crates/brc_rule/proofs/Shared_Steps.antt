@@ -61,7 +61,7 @@ held_cell n limit h t log c known holds =
     record { held_is = holds; low = inside h c (live_owner _ live); live = live }
 
 -- an object that isn't counted by its log
-not_his : (n limit : ℕ) (h : Heap) (t : ℕ) (log : List Told) (c : ℕ) → Known n limit h t log → FIRST_MORTAL ≤ c → 1 ≤ held h c → (row_at h t).hand ≡ hands.Free
+pub not_his : (n limit : ℕ) (h : Heap) (t : ℕ) (log : List Told) (c : ℕ) → Known n limit h t log → FIRST_MORTAL ≤ c → 1 ≤ held h c → (row_at h t).hand ≡ hands.Free
     → counts_seen n log c ≡ 0 → is_mine t (row_at h t).stage (cell_at h c) ≡ false
 not_his n limit h t log c known mortal holds free says = uncounted h t c known.reached mortal holds free (known.counts c mortal ∙ says)
 

@@ -4,10 +4,11 @@ use Rattle.brc_words.specs.declared.limits.TheConstants.{FIRST_MORTAL}
 use Rattle.brc_runs.specs.declared.event.Source.{Source}
 use Rattle.brc_runs.specs.declared.event.Dropped.{Dropped}
 use Rattle.brc_runs.specs.declared.event.Step.{Step}
-use Rattle.brc_runs.specs.declared.event.Step.TheVariants.{LocalUp, LocalDown, SharedUp}
+use Rattle.brc_runs.specs.declared.event.Step.TheVariants.{LocalUp, LocalDown, SharedUp, LastDown}
+use Rattle.brc_runs.specs.declared.event.LastDropped.TheVariants as lasts
 use Rattle.brc_known.specs.Items.{meant}
 use Rattle.brc_rule.specs.declared.told.Told.{Told}
-use Rattle.brc_rule.specs.Seen.{part_seen, counts_seen, own_may}
+use Rattle.brc_rule.specs.Seen.{part_seen, counts_seen, risen_seen, own_may}
 
 -- an own object whose count may rise
 pub record Raises (n limit : ℕ) (log : List Told) (source : Source) (k c count : ℕ) : Type 0 where
@@ -49,3 +50,16 @@ pub record Releases (n : ℕ) (log : List Told) (s : Step) (c : ℕ) : Type 0 wh
   pub cell : meant (part_seen n log) s ≡ Some c
   pub mortal : FIRST_MORTAL ≤ c
   pub counted : counts_seen n log c ≡ 0
+
+-- the thread's own part allows a step on the cell in its hand, or on one that it names itself
+pub record Carries (n : ℕ) (log : List Told) (s : Step) (c : ℕ) : Type 0 where
+  pub own : own_may n (part_seen n log) s ≡ true
+  pub cell : meant (part_seen n log) s ≡ Some c
+
+-- a reference to an object that the thread has seen queued or merged
+pub record EndsRisen (n : ℕ) (log : List Told) (drop : Dropped) (c : ℕ) : Type 0 where
+  pub own : own_may n (part_seen n log) (LastDown (lasts.Dropped drop)) ≡ true
+  pub cell : meant (part_seen n log) (LastDown (lasts.Dropped drop)) ≡ Some c
+  pub mortal : FIRST_MORTAL ≤ c
+  pub counted : counts_seen n log c ≡ 0
+  pub risen : risen_seen n log drop c ≡ true
