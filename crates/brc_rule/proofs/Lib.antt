@@ -10,5 +10,7 @@ pub mod Local_Steps
 pub mod Numbers
 pub mod Shared_Steps
 pub mod Contents_Law
+pub mod Block_Steps
 pub mod Taking_Steps
 pub mod Ending_Steps
+pub mod Making_Steps

@@ -34,6 +34,7 @@ use Rattle.brc_rule.proofs.Homing.{Stays, home_stays, home_else, home_out}
 use Rattle.brc_rule.proofs.Stepping.{moved_on, thread_after, thread_enabled, Does, does}
 use Rattle.brc_rule.proofs.Knowing.{Known, knows}
 use Rattle.brc_rule.proofs.Plain_Steps.{PlainOn, plain_on, CellStays, stays_on, plainly}
+use Rattle.brc_rule.proofs.Block_Steps.{block_moved}
 use Rattle.brc_rule.proofs.Contents_Law.{contents_fit}
 
 -- a thread's event that may take the block of its cell
@@ -76,44 +77,12 @@ taken_mark h t s c sound may low frees takes_it =
     ∙ ap (λ b. is_marked (worklist_with false b c (worklist_at h t)) c) takes_it
     ∙ read_here (worklist_at h t) c true false (omega (arith, low, sound.shaped.marks t may.some_thread may.inside))
 
--- marks of other cells stay
-other_marks : (h : Heap) (t : ℕ) (s : Step) (c d u : ℕ) → is_free_step s ≡ false → takes_block s (cell_at h c) ≡ true → d ≢ c
-    → is_marked (worklist_at (stepped h t s c) u) d ≡ is_marked (worklist_at h u) d
-other_marks h t s c d u frees takes_it other = kept_by (λ (w : List Bool). is_marked w d) h.worklists t _ []
-    (ap (λ b. is_marked (worklist_with b (takes_block s (cell_at h c)) c (worklist_at h t)) d) frees
-    ∙ ap (λ b. is_marked (worklist_with false b c (worklist_at h t)) d) takes_it
-    ∙ read_there (worklist_at h t) c d true false other) u
-
--- another cell's block stays where it is
-other_stays : (h : Heap) (t : ℕ) (s : Step) (c d : ℕ) → is_free_step s ≡ false → takes_block s (cell_at h c) ≡ true → d ≢ c → Stays h (stepped h t s c) d
-other_stays h t s c d frees takes_it other =
-    let same : cell_at (stepped h t s c) d ≡ cell_at h d = read_there h.cells c d (cell_after t s c (cell_at h c)) no_cell other in
-    record {
-      free = λ is. sym (ap (λ (x : Cell). x.owner) same) ∙ is;
-      lives = λ is. sym (ap (λ (x : Cell). lives x.owner) same) ∙ is;
-      mutex = λ is. sym (ap (λ (x : Cell). x.mutex) same) ∙ is;
-      marks = λ off u. sym (other_marks h t s c d u frees takes_it other) ∙ off u;
-    }
-
 module _ {B : Type 0} (shows : B → ℕ × Contents) (n limit : ℕ) where
   abbrev Table : Type 0
   Table = State (Option B) View
 
   abbrev Rule : Table → Type 0
   Rule = Kept shows n limit
-
-  -- the homes after the block of c went out
-  pub homes_without : (st : Table) (r : Rule st) (h : Heap) (t : ℕ) (s : Step) (c : ℕ) (run later : Run) → IsSound h → May h t s → c < length h.cells → is_free_step s ≡ false → takes_block s (cell_at h c) ≡ true
-      → (cell_after t s c (cell_at h c)).owner ≢ owners.Free → ((d : ℕ) → contents_at later d ≡ contents_at run d)
-      → (d : ℕ) → HomeShown shows st.homes h run d → HomeShown shows (set st.homes c none) (stepped h t s c) later d
-  homes_without st r h t s c run later sound may low frees takes_it used same d shown = elim (cases_eq d c) [
-    | inr other ↦ home_else shows st.homes (stepped h t s c) later d c none other
-        (home_stays shows st.homes h (stepped h t s c) run later d (other_stays h t s c d frees takes_it other) (same d) shown)
-    | inl here ↦ subst (HomeShown shows (set st.homes c none) (stepped h t s c) later) (sym here)
-        (home_out shows (set st.homes c none) (stepped h t s c) later c
-        (λ free. used (sym (ap (λ (x : Cell). x.owner) (read_here h.cells c (cell_after t s c (cell_at h c)) no_cell low)) ∙ free))
-        (λ live unlocked off. true≢false (sym (taken_mark h t s c sound may low frees takes_it) ∙ off t)))
-  ]
 
   -- the step takes the block
   taking : (st : Table) (r : Rule st) (id : ℕ) (v : View) (s : Step) (c : ℕ) (w : Word) (written number : ℕ) → get_elem? st.views id ≡ some v → v.active ≡ true → 0 < v.thread → c < n → IsWord n w
@@ -124,28 +93,27 @@ module _ {B : Type 0} (shows : B → ℕ × Contents) (n limit : ℕ) where
       let t : ℕ = v.thread in
       let h : Heap = world n limit r.run in
       let known : Known n limit h t v.log = knows shows n limit st r id v at active some_thread in
-      let sound : IsSound h = reached_sound h known.reached in
-      let may : May h t s = may_parts h t s ends.may in
-      let back : Some c ≡ target_at h t s = sym ends.target in
-      does shows n limit st r id v s w written number (moves.Found c (shows lies.block).1) (set st.homes c none) at active
+      block_moved shows n limit st r id v s c w written number (moves.Found c (shows lies.block).1) none at active is
       (record {
         some_thread = some_thread;
         may = ends.may;
-        word = ap (works_on h t s) ends.target ∙ ends.word;
-        is_word = is;
-        shown = subst (λ o. Shows (after_target h t s o) w written) back ends.shown;
-        told = subst (λ o. ToldBy (meets_closed h s) (told_at h t s o) number) back ends.told;
+        target = ends.target;
+        low = ends.low;
+        word = ends.word;
+        shown = ends.shown;
+        told = ends.told;
         entries = ap entries_in lies.holds ∙ (contents_fit n limit r.run c r.options r.legal (record { live = ends.live; off = ends.unmarked })).entries
-            ∙ sym (ap (found_at h s) ends.target ∙ ap (λ b. if b then entries_at h c else []) (ends.finds_taken ∙ takes_it));
+            ∙ sym (ap (λ b. if b then entries_at h c else []) (ends.finds_taken ∙ takes_it));
         moves = record {
           puts_none = ends.puts_none;
           cell = ap (takes_of h s) ends.target ∙ ap (λ b. if b then Some c else None) (ends.finds_taken ∙ takes_it);
           there = lies.holds;
         };
-      }) (length-set st.homes c none ∙ r.deep)
-      (λ d inside. subst (λ o. HomeShown shows (set st.homes c none) (after_target h t s o) ((t, Did s number (moves.Found c (shows lies.block).1)) ∷ r.run) d) back
-        (homes_without st r h t s c r.run ((t, Did s number (moves.Found c (shows lies.block).1)) ∷ r.run) sound may ends.low ends.frees_none takes_it
-        (λ free. live_owner (cell_at h c).owner ends.live (sym ends.same_owner ∙ free)) (λ e. refl) d (r.each_home d inside)))
+        elsewhere = λ d other. refl;
+      })
+      (home_out shows (set st.homes c none) (stepped h t s c) ((t, Did s number (moves.Found c (shows lies.block).1)) ∷ r.run) c
+        (λ free. live_owner (cell_at h c).owner ends.live (sym (ap (λ (x : Cell). x.owner) (read_here h.cells c (cell_after t s c (cell_at h c)) no_cell ends.low) ∙ ends.same_owner) ∙ free))
+        (λ live unlocked off. true≢false (sym (taken_mark h t s c (reached_sound h known.reached) (may_parts h t s ends.may) ends.low ends.frees_none takes_it) ∙ off t)))
 
   -- the number that is found decides whether the block is taken
   pub end_step : (id : ℕ) (v : View) (slots : List (ℕ × Option B)) (s : Step) (c : ℕ) (w : Word) (written : ℕ → ℕ) → v.active ≡ true → 0 < v.thread → c < n → IsWord n w

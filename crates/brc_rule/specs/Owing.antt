@@ -1,13 +1,16 @@
 -- What each kind of step asks of its seat's log, and of nothing else.
-use Rattle.std.specs.Prelude.{◌≡◌, ◌⊎◌, ℕ, ◌<◌, ◌≤◌, true, List, Some}
+use Rattle.std.specs.Prelude.{◌≡◌, ◌⊎◌, ℕ, ◌<◌, ◌≤◌, true, List, [], Some}
 use Rattle.brc_words.specs.declared.limits.TheConstants.{FIRST_MORTAL}
 use Rattle.brc_runs.specs.declared.event.Source.{Source}
 use Rattle.brc_runs.specs.declared.event.Dropped.{Dropped}
 use Rattle.brc_runs.specs.declared.event.Step.{Step}
-use Rattle.brc_runs.specs.declared.event.Step.TheVariants.{LocalUp, LocalDown, SharedUp, LastDown}
+use Rattle.brc_runs.specs.declared.event.Step.TheVariants.{Claim, Birth, LocalUp, LocalDown, SharedUp, LastDown}
 use Rattle.brc_runs.specs.declared.event.LastDropped.TheVariants as lasts
 use Rattle.brc_known.specs.Items.{meant}
+use Rattle.brc_words.specs.declared.kind.Kind.{Kind}
+use Rattle.brc_rule.specs.declared.contents.Contents.{Contents}
 use Rattle.brc_rule.specs.declared.told.Told.{Told}
+use Rattle.brc_rule.specs.Logs.{kind_in, entries_in}
 use Rattle.brc_rule.specs.Seen.{part_seen, counts_seen, risen_seen, own_may}
 
 -- an own object whose count may rise
@@ -63,3 +66,15 @@ pub record EndsRisen (n : ℕ) (log : List Told) (drop : Dropped) (c : ℕ) : Ty
   pub mortal : FIRST_MORTAL ≤ c
   pub counted : counts_seen n log c ≡ 0
   pub risen : risen_seen n log drop c ≡ true
+
+-- a mortal cell to make an object in
+pub record Claims (n : ℕ) (log : List Told) (c : ℕ) : Type 0 where
+  pub own : own_may n (part_seen n log) (Claim c) ≡ true
+  pub mortal : FIRST_MORTAL ≤ c
+
+-- a block that is put home as a new object of the cell
+pub record Bears (n : ℕ) (log : List Told) (block : ℕ × Contents) (kind : Kind) (k c : ℕ) : Type 0 where
+  pub own : own_may n (part_seen n log) (Birth c kind k) ≡ true
+  pub of_cell : block.0 ≡ c
+  pub kind_is : kind_in block.1 ≡ kind
+  pub empty : entries_in block.1 ≡ []

@@ -1,10 +1,13 @@
 -- What a step that may take a block tells its seat.
-use Rattle.std.specs.Prelude.{◌≡◌, ℕ, Bool, true, false, List, ◌∷◌, Option, Some}
+use Rattle.std.specs.Prelude.{◌≡◌, ℕ, Bool, true, false, List, ◌∷◌, Option, Some, None, ◌^◌, ◌-◌}
 use Rattle.atomic_table.specs.Table.{Me}
 use Rattle.brc_runs.specs.declared.event.Step.{Step}
+use Rattle.brc_runs.specs.declared.event.Step.TheVariants.{Claim}
+use Rattle.brc_known.specs.declared.word.Field.TheVariants.{Owner as OwnerWord}
+use Rattle.brc_known.specs.declared.word.Word.TheVariants.{Of}
 use Rattle.brc_rule.specs.declared.contents.Contents.{Contents}
 use Rattle.brc_rule.specs.declared.told.Moved.TheVariants as moves
-use Rattle.brc_rule.specs.declared.told.Told.TheVariants.{Did}
+use Rattle.brc_rule.specs.declared.told.Told.TheVariants.{Did, Lost}
 use Rattle.brc_rule.specs.declared.view.View.{View}
 use Rattle.brc_rule.specs.Rule.{with_told}
 
@@ -17,3 +20,8 @@ pub record TookBlock {B : Type 0} (shows : B → ℕ × Contents) (v : View) (sl
 abbrev pub Ended : {B : Type 0} → (B → ℕ × Contents) → View → List (ℕ × Option B) → Step → ℕ → ℕ → Bool → Me (Option B) View → Type 0
 Ended shows v slots s c number false me = me ≡ (with_told (Did s number moves.Nothing) v, slots)
 Ended shows v slots s c number true me = TookBlock shows v slots s c number me
+
+-- The cell is the thread's to make an object in, and its empty slot is out with the seat; or it wasn't free.
+abbrev pub Claimed : {B : Type 0} → View → List (ℕ × Option B) → ℕ → ℕ → Bool → Me (Option B) View → Type 0
+Claimed v slots c number true me = me ≡ (with_told (Did (Claim c) (2 ^ 64 - 1) moves.Nothing) v, (c, None) ∷ slots)
+Claimed v slots c number false me = me ≡ (with_told (Lost (Of OwnerWord c) number) v, slots)

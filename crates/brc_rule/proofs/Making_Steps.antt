@@ -1,0 +1,277 @@
+-- The life of a cell's block: Claim, InitLocal, InitShared and Birth make an object, and Free gives its cell back.
+use Rattle.std.proofs.Common.{◌≡◌, ◌≢◌, ℕ, ◌+◌, ◌-◌, ◌<◌, ◌≤◌, ◌^◌, ◌==◌, nat_le, ◌&&◌, true, false, if◌then◌else◌, pos, List, [], ◌∷◌, length, set, get_or, Option, Some, None, refl, sym, ◌∙◌, ap, subst, inl, inr, arith}
+use Rattle.std.proofs.lemmas.Bool.{cases_eq, eq-eqb, ne_eqb, le-leb, and_parts, true≢false}
+use Rattle.std.proofs.lemmas.List.{get_or-set_same, get_or_past}
+use Rattle.std.specs.Cmp.Derive.{both_true}
+use mathlib.Core.Option.{some, none}
+use lib.ListN.{get_elem?}
+use prog.Atomic.{either}
+use Rattle.atomic_table.specs.Table.{State as Table, Allows, keeps, takes, gives}
+use Rattle.atomic_table.proofs.Lists.{set_here}
+use Rattle.brc_words.specs.declared.limits.TheConstants.{FIRST_MORTAL}
+use Rattle.brc_words.specs.declared.kind.Kind.{Kind}
+use Rattle.brc_words.specs.declared.owner.Owner.{Owner}
+use Rattle.brc_words.specs.declared.owner.Owner.TheVariants as owners
+use Rattle.brc_words.specs.declared.state.State.TheVariants as states
+use Rattle.brc_words.specs.Owners.{word_of}
+use Rattle.brc_runs.specs.declared.cell.Cell.{Cell}
+use Rattle.brc_runs.specs.declared.event.Step.{Step}
+use Rattle.brc_runs.specs.declared.event.Step.TheVariants.{Claim, InitLocal, InitShared, Birth, Free}
+use Rattle.brc_runs.specs.declared.row.Hand.TheVariants as hands
+use Rattle.brc_runs.specs.declared.row.Phase.TheVariants as phases
+use Rattle.brc_runs.specs.Lists.{is_marked}
+use Rattle.brc_runs.specs.Heap.{Heap, cell_at, entries_at, row_at, worklist_at, no_cell}
+use Rattle.brc_runs.specs.Holding.{lives}
+use Rattle.brc_runs.specs.Sound.{WorklistFits}
+use Rattle.brc_runs.specs.Steps.{thread_may, target_at, target_ok, cell_after, is_free, stepped}
+use Rattle.brc_runs.proofs.Asking.{May, may_parts}
+use Rattle.brc_runs.proofs.Changes.{read_here}
+use Rattle.brc_runs.proofs.Naming.{busy_hand}
+use Rattle.brc_runs.proofs.Reached.{reached_sound}
+use Rattle.brc_lasting.specs.Ranges.{OwnerFits}
+use Rattle.brc_lasting.specs.Staying.{Tells}
+use Rattle.brc_lasting.proofs.Lasting.{live_owner}
+use Rattle.brc_lasting.proofs.Progress.{inside}
+use Rattle.brc_lasting.proofs.Ranges_Law.{reached_owners}
+use Rattle.brc_lasting.proofs.Telling.{hand_tells}
+use Rattle.brc_known.specs.declared.word.Field.TheVariants.{Owner as OwnerWord, Local, Shared}
+use Rattle.brc_known.specs.declared.word.Word.TheVariants.{Of}
+use Rattle.brc_known.specs.Items.{IsWord, Shows, shared_word}
+use Rattle.brc_rule.specs.declared.contents.Contents.{Contents}
+use Rattle.brc_rule.specs.declared.told.Moved.TheVariants as moves
+use Rattle.brc_rule.specs.declared.told.Told.{Told}
+use Rattle.brc_rule.specs.declared.told.Told.TheVariants.{Did, Lost}
+use Rattle.brc_rule.specs.declared.view.View.{View}
+use Rattle.brc_rule.specs.Layout.{spot}
+use Rattle.brc_rule.specs.Logs.{kind_in, entries_in, Run, world, contents_at}
+use Rattle.brc_rule.specs.Homes.{HomeShown}
+use Rattle.brc_rule.specs.Rule.{with_told, Kept}
+use Rattle.brc_rule.specs.Seen.{part_seen, own_may}
+use Rattle.brc_rule.specs.Owing.{Carries, Claims, Bears}
+use Rattle.brc_rule.specs.Taking.{Claimed}
+use Rattle.brc_rule.proofs.Homing.{home_out}
+use Rattle.brc_rule.proofs.Knowing.{Known, knows, is_enabled, hand_there}
+use Rattle.brc_rule.proofs.Local_Steps.{fits_cell, read_cell}
+use Rattle.brc_rule.proofs.Looking.{lost, unmoved}
+use Rattle.brc_rule.proofs.Plain_Steps.{IsPlain, PlainOn, plain_on, same_owner, stays_on, plain_step}
+use Rattle.brc_rule.proofs.Block_Steps.{BlockMoves, block_moved}
+
+-- a cell that a thread is making an object in
+making_low : (h : Heap) (t c : ℕ) → (cell_at h c).owner ≡ owners.Claimed t → c < length h.cells
+making_low h t c is = inside h c (λ free. claimed_free (sym is ∙ free))
+  where
+    claimed_free : owners.Claimed t ≡ owners.Free → ⊥
+    claimed_free bad = absurd (cc)
+
+-- an owner word of all ones is a free cell's
+free_word : (threads : ℕ) (owner : Owner) → threads ≤ 65 → OwnerFits threads owner → 2 ^ 64 - 1 ≡ word_of owner → owner ≡ owners.Free
+free_word threads owners.Nobody few fits is = absurd (omega (arith, is))
+free_word threads (owners.Thread t) few fits is = absurd (omega (arith, is, few, fits.1))
+free_word threads (owners.Claimed t) few fits is = absurd (omega (arith, is, few, fits.1))
+free_word threads owners.Free few fits is = refl
+
+module _ {B : Type 0} (shows : B → ℕ × Contents) (n limit : ℕ) where
+  abbrev Rule : Table (Option B) View → Type 0
+  Rule = Kept shows n limit
+
+  -- ---- InitLocal and InitShared
+
+  inits_local : (h : Heap) (t : ℕ) (log : List Told) (c : ℕ) → 0 < t → Known n limit h t log → Carries n log (InitLocal c) c → IsPlain n h t (InitLocal c) (Of Local c) 1 1
+  inits_local h t log c some_thread known carries =
+      let s : Step = InitLocal c in
+      let x : Cell = cell_at h c in
+      let busy : (row_at h t).hand ≡ hands.Busy phases.Claimed c = busy_hand phases.Claimed c _ (hand_there n limit h t log s known carries.own) in
+      let low : c < length h.cells = making_low h t c (hand_tells h t c phases.Claimed known.reached busy).1 in
+      plain_on n h t s c (Of Local c) 1 1 (record {
+        may = is_enabled n limit h t log s some_thread known carries.own refl (fits_cell n limit h t log s c known refl low refl);
+        target = refl;
+        word = refl;
+        shown = sym (ap (λ (y : Cell). y.local) (read_cell h t s c low));
+        told = refl;
+        finds_none = refl;
+        puts_none = refl;
+        takes_none = refl;
+        stays = stays_on h t s c low refl refl (same_owner x (cell_after t s c x) refl refl);
+      })
+
+  pub sets_local : (id : ℕ) (v : View) (slots : List (ℕ × Option B)) (c : ℕ) → v.active ≡ true → 0 < v.thread → c < n → Carries n v.log (InitLocal c) c
+      → Allows Rule n id (v, slots) (spot n (Of Local c)) (λ there. 1) (λ there me. me ≡ (with_told (Did (InitLocal c) 1 moves.Nothing) v, slots))
+  sets_local id v slots c active some_thread low carries =
+      plain_step shows n limit id v slots (InitLocal c) (Of Local c) (λ there. 1) (λ there. 1) active some_thread low
+      (λ h there known shown small. inits_local h v.thread v.log c some_thread known carries)
+
+  inits_shared : (h : Heap) (t : ℕ) (log : List Told) (c : ℕ) → 0 < t → Known n limit h t log → Carries n log (InitShared c) c → IsPlain n h t (InitShared c) (Of Shared c) (2 ^ 42) (2 ^ 42)
+  inits_shared h t log c some_thread known carries =
+      let s : Step = InitShared c in
+      let x : Cell = cell_at h c in
+      let busy : (row_at h t).hand ≡ hands.Busy phases.Counted c = busy_hand phases.Counted c _ (hand_there n limit h t log s known carries.own) in
+      let low : c < length h.cells = making_low h t c (hand_tells h t c phases.Counted known.reached busy).1.0 in
+      plain_on n h t s c (Of Shared c) (2 ^ 42) (2 ^ 42) (record {
+        may = is_enabled n limit h t log s some_thread known carries.own refl (fits_cell n limit h t log s c known refl low refl);
+        target = refl;
+        word = refl;
+        shown = sym (ap (λ (y : Cell). shared_word y.count y.state) (read_cell h t s c low));
+        told = refl;
+        finds_none = refl;
+        puts_none = refl;
+        takes_none = refl;
+        stays = stays_on h t s c low refl refl (same_owner x (cell_after t s c x) refl refl);
+      })
+
+  pub sets_shared : (id : ℕ) (v : View) (slots : List (ℕ × Option B)) (c : ℕ) → v.active ≡ true → 0 < v.thread → c < n → Carries n v.log (InitShared c) c
+      → Allows Rule n id (v, slots) (spot n (Of Shared c)) (λ there. 2 ^ 42) (λ there me. me ≡ (with_told (Did (InitShared c) (2 ^ 42) moves.Nothing) v, slots))
+  sets_shared id v slots c active some_thread low carries =
+      plain_step shows n limit id v slots (InitShared c) (Of Shared c) (λ there. 2 ^ 42) (λ there. 2 ^ 42) active some_thread low
+      (λ h there known shown small. inits_shared h v.thread v.log c some_thread known carries)
+
+  -- ---- Claim
+
+  claiming : (st : Table (Option B) View) (r : Rule st) (id : ℕ) (v : View) (c : ℕ) → get_elem? st.views id ≡ some v → v.active ≡ true → 0 < v.thread → c < n → Claims n v.log c
+      → get_or st.words (spot n (Of OwnerWord c)) 0 ≡ 2 ^ 64 - 1
+      → (get_elem? st.homes c ≡ some (some None))
+      × Rule (record { words = set st.words (spot n (Of OwnerWord c)) (2 ^ 32 + v.thread); homes = set st.homes c none; views = set st.views id (with_told (Did (Claim c) (2 ^ 64 - 1) moves.Nothing) v) })
+  claiming st r id v c at active some_thread low claims found_free =
+      let t : ℕ = v.thread in
+      let s : Step = Claim c in
+      let h : Heap = world n limit r.run in
+      let x : Cell = cell_at h c in
+      let known : Known n limit h t v.log = knows shows n limit st r id v at active some_thread in
+      let inside_is : c < length h.cells = omega (arith, known.cells, low) in
+      let free : x.owner ≡ owners.Free = free_word (length h.rows) x.owner (omega (arith, (reached_sound h known.reached).shaped.threads)) (reached_owners h known.reached c)
+      (sym found_free ∙ r.each_word (Of OwnerWord c) low) in
+      let now : (cell_at (stepped h t s c) c).owner ≡ owners.Claimed t = ap (λ (y : Cell). y.owner) (read_cell h t s c inside_is) in
+      (
+        (r.each_home c low).bare free,
+        block_moved shows n limit st r id v s c (Of OwnerWord c) (2 ^ 32 + t) (2 ^ 64 - 1) moves.Nothing none at active low
+            (record {
+              some_thread = some_thread;
+              may = is_enabled n limit h t v.log s some_thread known claims.own refl
+                  (fits_cell n limit h t v.log s c known refl inside_is (both_true (le-leb _ _ claims.mortal) (ap is_free free)));
+              target = refl;
+              low = inside_is;
+              word = refl;
+              shown = sym (ap word_of now);
+              told = sym found_free ∙ r.each_word (Of OwnerWord c) low;
+              entries = refl;
+              moves = (refl, refl);
+              elsewhere = λ d other. refl;
+            })
+            (home_out shows (set st.homes c none) (stepped h t s c) ((t, Did s (2 ^ 64 - 1) moves.Nothing) ∷ r.run) c
+            (λ bad. claimed_free t (sym now ∙ bad)) (λ live unlocked off. true≢false (sym live ∙ ap lives now))),
+      )
+    where
+      claimed_free : (t : ℕ) → owners.Claimed t ≡ owners.Free → ⊥
+      claimed_free t bad = absurd (cc)
+
+  pub claims_cell : (id : ℕ) (v : View) (slots : List (ℕ × Option B)) (c : ℕ) → v.active ≡ true → 0 < v.thread → c < n → Claims n v.log c
+      → Allows Rule n id (v, slots) (spot n (Of OwnerWord c)) (λ there. either (there == 2 ^ 64 - 1) (2 ^ 32 + v.thread) there) (λ there me. Claimed v slots c there (there == 2 ^ 64 - 1) me)
+  claims_cell id v slots c active some_thread low claims st r deep at small =
+      let w = Of OwnerWord c in
+      let there : ℕ = get_or st.words (spot n w) 0 in
+      elim (cases_eq there (2 ^ 64 - 1)) [
+        | inl same ↦
+            let done = claiming st r id v c at active some_thread low claims same in
+            (with_told (Did (Claim c) (2 ^ 64 - 1) moves.Nothing) v, takes c None, done.0,
+            subst (λ b. Rule (record { words = set st.words (spot n w) (either b (2 ^ 32 + v.thread) there); homes = set st.homes c none; views = set st.views id (with_told (Did (Claim c) (2 ^ 64 - 1) moves.Nothing) v) }))
+            (sym (eq-eqb there (2 ^ 64 - 1) same)) done.1,
+            subst (λ b. Claimed v slots c there b (with_told (Did (Claim c) (2 ^ 64 - 1) moves.Nothing) v, (c, None) ∷ slots)) (sym (eq-eqb there (2 ^ 64 - 1) same)) refl)
+        | inr other ↦
+            (with_told (Lost w there) v, keeps, tt,
+            subst (λ b. Rule (record { words = set st.words (spot n w) (either b (2 ^ 32 + v.thread) there); homes = st.homes; views = set st.views id (with_told (Lost w there) v) })) (sym (ne_eqb there (2 ^ 64 - 1) other))
+            (unmoved shows n limit st r id v w (Lost w there) at active low lost),
+            subst (λ b. Claimed v slots c there b (with_told (Lost w there) v, slots)) (sym (ne_eqb there (2 ^ 64 - 1) other)) refl)
+      ]
+
+  -- ---- Birth
+
+  bearing : (st : Table (Option B) View) (r : Rule st) (id : ℕ) (v : View) (block : B) (kind : Kind) (k c : ℕ) → get_elem? st.views id ≡ some v → v.active ≡ true → 0 < v.thread → c < n
+      → Bears n v.log (shows block) kind k c
+      → Rule (record { words = set st.words (spot n (Of OwnerWord c)) v.thread; homes = set st.homes c (some (Some block)); views = set st.views id (with_told (Did (Birth c kind k) v.thread (moves.Put c (shows block).1)) v) })
+  bearing st r id v block kind k c at active some_thread low bears =
+      let t : ℕ = v.thread in
+      let s : Step = Birth c kind k in
+      let p : Contents = (shows block).1 in
+      let h : Heap = world n limit r.run in
+      let x : Cell = cell_at h c in
+      let later : Run = (t, Did s t (moves.Put c p)) ∷ r.run in
+      let known : Known n limit h t v.log = knows shows n limit st r id v at active some_thread in
+      let busy : (row_at h t).hand ≡ hands.Busy phases.Ready c = busy_hand phases.Ready c _ (hand_there n limit h t v.log s known bears.own) in
+      let inside_is : c < length h.cells = omega (arith, known.cells, low) in
+      let now : cell_at (stepped h t s c) c ≡ cell_after t s c x = read_cell h t s c inside_is in
+      let put_here : contents_at later c ≡ p = ap (λ b. if b then p else contents_at r.run c) (eq-eqb c c refl) in
+      block_moved shows n limit st r id v s c (Of OwnerWord c) t t (moves.Put c p) (some (Some block)) at active low
+      (record {
+        some_thread = some_thread;
+        may = is_enabled n limit h t v.log s some_thread known bears.own refl (fits_cell n limit h t v.log s c known refl inside_is refl);
+        target = refl;
+        low = inside_is;
+        word = refl;
+        shown = sym (ap (λ (y : Cell). word_of y.owner) now);
+        told = refl;
+        entries = refl;
+        moves = record {
+          cell = refl;
+          finds_none = refl;
+          kind = bears.kind_is ∙ sym (ap (λ (y : Cell). y.kind) now);
+          entries = bears.empty ∙ sym (set_empty h.entries c);
+          kept = λ bad. absurd (true≢false (sym bad));
+        };
+        elsewhere = λ d other. ap (λ b. if b then p else contents_at r.run d) (ne_eqb c d (λ e. other (sym e)));
+      })
+      (record {
+        bare = λ free. absurd (thread_free t (sym (ap (λ (y : Cell). y.owner) now) ∙ free));
+        lies = λ live unlocked off. record {
+          block = block;
+          there = set_here st.homes c (some (Some block)) (omega (arith, r.deep, low));
+          of_cell = bears.of_cell;
+          holds = sym put_here;
+        };
+      })
+    where
+      thread_free : (t : ℕ) → owners.Thread t ≡ owners.Free → ⊥
+      thread_free t bad = absurd (cc)
+
+      set_empty : (lists : List (List ℕ)) (c : ℕ) → get_or (set lists c []) c [] ≡ []
+      set_empty [] c = refl
+      set_empty (xs ∷ lists) Rattle.std.proofs.Common.zero = refl
+      set_empty (xs ∷ lists) (Rattle.std.proofs.Common.suc c) = set_empty lists c
+
+  pub bears_object : (id : ℕ) (v : View) (rest : List (ℕ × Option B)) (block : B) (kind : Kind) (k c : ℕ) → v.active ≡ true → 0 < v.thread → c < n → Bears n v.log (shows block) kind k c
+      → Allows Rule n id (v, (c, Some block) ∷ rest) (spot n (Of OwnerWord c)) (λ there. v.thread)
+      (λ there me. me ≡ (with_told (Did (Birth c kind k) v.thread (moves.Put c (shows block).1)) v, rest))
+  bears_object id v rest block kind k c active some_thread low bears st r deep at small =
+      (with_told (Did (Birth c kind k) v.thread (moves.Put c (shows block).1)) v, gives, tt, bearing st r id v block kind k c at active some_thread low bears, refl)
+
+  -- ---- Free
+
+  freeing : (st : Table (Option B) View) (r : Rule st) (id : ℕ) (v : View) (c : ℕ) → get_elem? st.views id ≡ some v → v.active ≡ true → 0 < v.thread → c < n → Carries n v.log (Free c) c
+      → Rule (record { words = set st.words (spot n (Of OwnerWord c)) (2 ^ 64 - 1); homes = set st.homes c (some None); views = set st.views id (with_told (Did (Free c) (2 ^ 64 - 1) moves.Nothing) v) })
+  freeing st r id v c at active some_thread low carries =
+      let t : ℕ = v.thread in
+      let s : Step = Free c in
+      let h : Heap = world n limit r.run in
+      let known : Known n limit h t v.log = knows shows n limit st r id v at active some_thread in
+      let inside_is : c < length h.cells = omega (arith, known.cells, low) in
+      let now : (cell_at (stepped h t s c) c).owner ≡ owners.Free = ap (λ (y : Cell). y.owner) (read_cell h t s c inside_is) in
+      block_moved shows n limit st r id v s c (Of OwnerWord c) (2 ^ 64 - 1) (2 ^ 64 - 1) moves.Nothing (some None) at active low
+      (record {
+        some_thread = some_thread;
+        may = is_enabled n limit h t v.log s some_thread known carries.own refl (fits_cell n limit h t v.log s c known refl inside_is refl);
+        target = refl;
+        low = inside_is;
+        word = refl;
+        shown = sym (ap word_of now);
+        told = refl;
+        entries = refl;
+        moves = (refl, refl);
+        elsewhere = λ d other. refl;
+      })
+      (record {
+        bare = λ free. set_here st.homes c (some None) (omega (arith, r.deep, low));
+        lies = λ live unlocked off. absurd (true≢false (sym live ∙ ap lives now));
+      })
+
+  pub frees_cell : (id : ℕ) (v : View) (rest : List (ℕ × Option B)) (c : ℕ) → v.active ≡ true → 0 < v.thread → c < n → Carries n v.log (Free c) c
+      → Allows Rule n id (v, (c, None) ∷ rest) (spot n (Of OwnerWord c)) (λ there. 2 ^ 64 - 1) (λ there me. me ≡ (with_told (Did (Free c) (2 ^ 64 - 1) moves.Nothing) v, rest))
+  frees_cell id v rest c active some_thread low carries st r deep at small =
+      (with_told (Did (Free c) (2 ^ 64 - 1) moves.Nothing) v, gives, tt, freeing st r id v c at active some_thread low carries, refl)
