@@ -12,3 +12,5 @@ pub mod Taken_Law
 pub mod Root_Law
 pub mod Locked_Law
 pub mod Going_On_Law
+pub mod Kept_Law
+pub mod Risen_Kept
