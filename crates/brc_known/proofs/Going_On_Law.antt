@@ -5,7 +5,7 @@ use Rattle.brc_words.specs.declared.limits.TheConstants.{FIRST_MORTAL}
 use Rattle.brc_runs.specs.declared.event.Dropped.{Dropped}
 use Rattle.brc_runs.specs.declared.event.LastDropped.TheVariants as lasts
 use Rattle.brc_runs.specs.declared.event.Step.{Step}
-use Rattle.brc_runs.specs.declared.event.Step.TheVariants.{Birth, LocalUp, LocalDown, SeeZero, Untie, MergeZero, Ask, LastDown, Enqueue, Drain, Close, Nudge, Wake}
+use Rattle.brc_runs.specs.declared.event.Step.TheVariants.{Birth, LocalUp, LocalDown, SeeZero, Untie, MergeZero, Ask, LastDown, Enqueue, Drain, Close, Nudge, Wake, Register, Gather}
 use Rattle.brc_runs.specs.declared.row.Hand.TheVariants as hands
 use Rattle.brc_runs.specs.declared.row.Phase.{Phase}
 use Rattle.brc_runs.specs.declared.row.Phase.TheVariants as phases
@@ -72,6 +72,13 @@ goes_apart cells items (Close k) number entries apart = record { part_is = refl;
 goes_apart cells items (Nudge u k) number entries apart = record { part_is = refl; counts_are = λ d. refl; blocks_are = refl; lock_is = refl }
 goes_apart cells items Wake number entries apart = record { part_is = refl; counts_are = λ d. refl; blocks_are = refl; lock_is = refl }
 goes_apart cells items _ number entries apart = absurd (true≢false (sym apart))
+
+-- the root's steps, which are its items alone
+pub register_goes : (cells : ℕ) (items : List Item) (u number : ℕ) (entries : List ℕ) → GoesOn cells items (Did (Register u) number entries) (known_of cells items)
+register_goes cells items u number entries = record { part_is = refl; counts_are = λ d. refl; blocks_are = refl; lock_is = refl }
+
+pub gather_goes : (cells : ℕ) (items : List Item) (u number : ℕ) (entries : List ℕ) → GoesOn cells items (Did (Gather u) number entries) (known_of cells items)
+gather_goes cells items u number entries = record { part_is = refl; counts_are = λ d. refl; blocks_are = refl; lock_is = refl }
 
 -- a note
 pub saw_goes : (cells : ℕ) (items : List Item) (word : Word) (number : ℕ) → GoesOn cells items (Saw word number) (known_of cells items)

@@ -14,3 +14,4 @@ pub mod Locked_Law
 pub mod Going_On_Law
 pub mod Kept_Law
 pub mod Risen_Kept
+pub mod Owners_Law

@@ -16,13 +16,14 @@ ghost use Rattle.brc_runs.specs.Steps.{is_mine, needs_no_cell, takes_block, thre
 ghost use Rattle.brc_runs.specs.Runs.{IsRun, IsReached};
 ghost use Rattle.brc_known.specs.Going_On.{GoesOn, known_of, knows_after, knows_apart, given_up, touched_place};
 ghost use Rattle.brc_known.specs.Locked.{locked_of, place_locked, HasLocked};
+ghost use Rattle.brc_known.specs.Owners_Seen.{has_seen_owner};
 ghost use Rattle.brc_known.specs.Root.{rows_of, gathered_of};
 ghost use Rattle.brc_known.specs.Counts.{own_count, counts_of};
 ghost use Rattle.brc_known.specs.Risen.{is_risen, is_risen_word, drop_in};
 ghost use Rattle.brc_known.specs.Taken.{listed_at, taken_of, entries_if};
 ghost use Rattle.brc_runs.specs.Sound.{held};
 ghost use Rattle.brc_runs.specs.declared.row.Stage.{Stage as stage};
-ghost use Rattle.brc_words.specs.declared.limits.TheConstants.{FIRST_MORTAL};
+ghost use Rattle.brc_words.specs.declared.limits.TheConstants.{FIRST_MORTAL, MOST_THREADS};
 ghost use Rattle.brc_lasting.specs.Staying.{rank};
 ghost use Rattle.brc_known.specs.Items.{Word as word, IsWord, Shows, works_on, Of, Shared, Item, Did, Saw, Lost, ItemRun, MayCome, AreItems, IsPart, events_of, world_of_items, part_of, meant, cell_told, own};
 
@@ -213,6 +214,15 @@ pub fn own_items_tell_what_is_left()
         → is_registered (world_of_items (opening cells limit) items) t ≡ true
         → ((k : ℕ) → word_at (part_of cells (own t items)).popped k ≡ 0)
         → is_blank (popped_at (world_of_items (opening cells limit) items) t) ≡ true }
+{}
+
+/// A thread's number that was found in an owner word is registered, then and ever after, so that thread can be told.
+pub fn own_looks_tell_the_owners()
+    ensures { (cells limit : ℕ) (items : ItemRun) (t q : ℕ) → AreOptions cells limit
+        → AreItems (opening cells limit) items
+        → is_registered (world_of_items (opening cells limit) items) t ≡ true
+        → has_seen_owner (own t items) q ≡ true → 0 < q → q ≤ MOST_THREADS
+        → is_registered (world_of_items (opening cells limit) items) q ≡ true }
 {}
 
 /// A thread's step works on one word, and every other word of the table shows what it showed.
