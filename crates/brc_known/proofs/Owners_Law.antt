@@ -1,6 +1,6 @@
 -- Who was found as an owner is registered, then and ever after.
-use Rattle.std.proofs.Common.{◌≡◌, ℕ, ◌+◌, ◌<◌, ◌≤◌, ◌==◌, ◌&&◌, nat_lt, true, List, refl, sym, ◌∙◌, ap, inl, inr, arith}
-use Rattle.std.proofs.lemmas.Bool.{and_parts, or_cases, eqb-true, true≢false}
+use Rattle.std.proofs.Common.{◌≡◌, ℕ, ◌<◌, ◌≤◌, ◌==◌, ◌&&◌, nat_lt, true, List, sym, ◌∙◌, ap, inl, inr, arith}
+use Rattle.std.proofs.lemmas.Bool.{or_cases, eqb-true, true≢false}
 use Rattle.brc_words.specs.declared.limits.TheConstants.{MOST_THREADS}
 use Rattle.brc_words.specs.declared.owner.Owner as owner
 use Rattle.brc_words.specs.declared.owner.Owner.TheVariants as owners
@@ -9,7 +9,7 @@ use Rattle.brc_runs.specs.Heap.{Heap, opening, cell_at, is_registered, AreOption
 use Rattle.brc_runs.specs.Steps.{target_at}
 use Rattle.brc_runs.specs.Runs.{IsReached}
 use Rattle.brc_known.specs.Items.{Item, Word, Of, Owner, ItemRun, AreItems, world_of_items, own, Shows}
-use Rattle.brc_known.specs.Owners_Seen.{is_owner_word, tells_owner, has_seen_owner}
+use Rattle.brc_known.specs.Owners_Seen.{is_owner_word, has_seen_owner}
 use Rattle.brc_lasting.proofs.Ranges_Law.{same_rows, registered_stays, owner_registered}
 use Rattle.brc_known.proofs.Items_Tells.{Follows, tells}
 

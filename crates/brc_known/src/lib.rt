@@ -6,8 +6,7 @@
 //! taken (`specs/Taken.antt`) and what it has locked (`specs/Locked.antt`). One induction says that all of it is so in
 //! the world (`proofs/Items_Tells.antt`), and one table what each further step makes of it (`specs/Going_On.antt`). The
 //! root's items tell which threads there are (`specs/Root.antt`), and looks at owner words tell of some
-//! (`specs/Owners_Seen.antt`). Nothing runs here; the running table and the frames
-//! above it cite these laws.
+//! (`specs/Owners_Seen.antt`). Nothing runs here; the running table and the frames above it cite these laws.
 #![tactic(auto)]
 
 mod laws;
