@@ -14,14 +14,14 @@ use Rattle.brc_runs.specs.declared.row.Phase.TheVariants as phases
 use Rattle.brc_runs.specs.declared.row.Stage.{Stage}
 use Rattle.brc_runs.specs.declared.row.Stage.TheVariants as stages
 use Rattle.brc_runs.specs.Lists.{is_marked, one}
-use Rattle.brc_runs.specs.Heap.{Heap, opening, frame_at, words_for, cell_at, row_at, worklist_at, no_cell, no_row, is_immortal, is_registered, AreOptions}
-use Rattle.brc_runs.specs.Steps.{target, closed_more, stage_after, enabled, after, after_target, target_at, target_ok, cell_after, is_mine, is_owned_by, is_active, is_default, counts_up_locally, registered, is_merged, is_queued}
+use Rattle.brc_runs.specs.Heap.{Heap, opening, words_for, cell_at, row_at, worklist_at, no_cell, no_row, is_immortal, is_registered, AreOptions}
+use Rattle.brc_runs.specs.Steps.{closed_more, stage_after, enabled, after, after_target, target_at, target_ok, cell_after, is_mine, is_owned_by, is_active, is_default, counts_up_locally, registered, is_merged, is_queued}
 use Rattle.brc_runs.specs.Runs.{IsReached}
 use Rattle.brc_words.specs.declared.state.State.{State}
 use Rattle.brc_words.specs.declared.state.State.TheVariants as states
 use Rattle.brc_runs.specs.Sound.{IsSound, held, gripped, WorklistFits, asks_least, is_threads}
 use Rattle.brc_lasting.specs.Staying.{IsAnothers, SameOwn, Owns}
-use Rattle.brc_known.specs.Items.{Part, Local, word_in, told_at, Item, ItemRun, AreItems, world_of_items, own, part_of, meant, IsPart, IsTold, told}
+use Rattle.brc_known.specs.Items.{Local, word_in, told_at, Item, ItemRun, AreItems, world_of_items, own, part_of, IsPart, IsTold, told}
 use Rattle.brc_known.specs.Counts.{own_count, counted_by, counted_apart, counts_by, counts_of}
 use Rattle.brc_runs.proofs.Asking.{May, OnCell, on_cell, Mine, mine}
 use Rattle.brc_runs.proofs.Changes.{read_there, read_here}
@@ -31,7 +31,6 @@ use Rattle.brc_runs.proofs.Reached.{reached_sound}
 use Rattle.brc_lasting.proofs.Lasting.{bearing, others_own, alone_stays, live_owner}
 use Rattle.brc_lasting.proofs.Reasons.{event_cell}
 use Rattle.brc_lasting.proofs.Telling.{owns_lasts}
-use Rattle.brc_known.proofs.Items_Own.{target_alike}
 use Rattle.brc_runs.proofs.Birthing.{active_from}
 use Rattle.brc_runs.specs.Holding.{lives}
 use Rattle.brc_known.proofs.Items_Law.{part_follows, part_target}

@@ -1,21 +1,21 @@
 -- What one more own item makes of what a thread knows, kind by kind.
-use Rattle.std.proofs.Common.{◌≡◌, ◌≢◌, ℕ, ◌+◌, ◌*◌, ◌/◌, ◌%◌, ◌<◌, ◌≤◌, ◌==◌, ◌&&◌, ◌||◌, not, Bool, true, false, if◌then◌else◌, List, [], ◌∷◌, Option, Some, None, refl, sym, ◌∙◌, ap, subst, arith, ◌^◌}
-use Rattle.std.proofs.lemmas.Bool.{le-ltb, lt-ltb, ne_eqb, eq-eqb, true≢false}
+use Rattle.std.proofs.Common.{◌≡◌, ℕ, ◌+◌, ◌<◌, ◌≤◌, ◌==◌, ◌&&◌, not, Bool, true, false, if◌then◌else◌, List, Some, refl, sym, ◌∙◌, ap, subst, arith}
+use Rattle.std.proofs.lemmas.Bool.{le-ltb, lt-ltb, ne_eqb, true≢false}
 use Rattle.brc_words.specs.declared.limits.TheConstants.{FIRST_MORTAL}
 use Rattle.brc_runs.specs.declared.event.Dropped.{Dropped}
 use Rattle.brc_runs.specs.declared.event.LastDropped.TheVariants as lasts
 use Rattle.brc_runs.specs.declared.event.Step.{Step}
-use Rattle.brc_runs.specs.declared.event.Step.TheVariants.{Claim, InitLocal, InitShared, Birth, LocalUp, LocalDown, SeeZero, Free, Untie, MergeZero, SharedUp, SharedDown, Ask, LastDown, Enqueue, Drain, MergeAdd, Close, Nudge, Wake, Lock, Unlock, Register, Gather}
+use Rattle.brc_runs.specs.declared.event.Step.TheVariants.{Birth, LocalUp, LocalDown, SeeZero, Untie, MergeZero, Ask, LastDown, Enqueue, Drain, Close, Nudge, Wake, Register, Gather}
 use Rattle.brc_runs.specs.declared.row.Hand.TheVariants as hands
 use Rattle.brc_runs.specs.declared.row.Phase.{Phase}
 use Rattle.brc_runs.specs.declared.row.Phase.TheVariants as phases
 use Rattle.brc_runs.specs.Heap.{is_immortal}
 use Rattle.brc_runs.specs.Steps.{needs_no_cell, takes_block, cell_in_hand, is_default}
-use Rattle.brc_known.specs.Items.{Item, Did, Saw, Lost, Word, Part, part_of, part_by, meant, cell_told, state_told, is_shut_word}
-use Rattle.brc_known.specs.Counts.{counts_of, counts_by, counted_by}
-use Rattle.brc_known.specs.Taken.{taken_of, taken_by}
-use Rattle.brc_known.specs.Locked.{locked_of, locked_on}
-use Rattle.brc_known.specs.Going_On.{Known, known_of, GoesOn, handing, filling, counting, giving_up, taking, counting_down, seeing_zero, asking, dropping_last, settling, knows_after, knows_apart}
+use Rattle.brc_known.specs.Items.{Item, Did, Saw, Lost, Word, part_of, part_by, meant, cell_told, state_told, is_shut_word}
+use Rattle.brc_known.specs.Counts.{counts_by}
+use Rattle.brc_known.specs.Taken.{taken_by}
+use Rattle.brc_known.specs.Locked.{locked_on}
+use Rattle.brc_known.specs.Going_On.{Known, known_of, GoesOn, handing, counting, giving_up, taking, counting_down, seeing_zero, asking, dropping_last, settling, knows_after, knows_apart}
 
 -- ---- the table says what the definitions over items say
 
@@ -73,9 +73,91 @@ goes_apart cells items (Nudge u k) number entries apart = record { part_is = ref
 goes_apart cells items Wake number entries apart = record { part_is = refl; counts_are = λ d. refl; blocks_are = refl; lock_is = refl }
 goes_apart cells items _ number entries apart = absurd (true≢false (sym apart))
 
+-- the root's steps, which are its items alone
+pub register_goes : (cells : ℕ) (items : List Item) (u number : ℕ) (entries : List ℕ) → GoesOn cells items (Did (Register u) number entries) (known_of cells items)
+register_goes cells items u number entries = record { part_is = refl; counts_are = λ d. refl; blocks_are = refl; lock_is = refl }
+
+pub gather_goes : (cells : ℕ) (items : List Item) (u number : ℕ) (entries : List ℕ) → GoesOn cells items (Did (Gather u) number entries) (known_of cells items)
+gather_goes cells items u number entries = record { part_is = refl; counts_are = λ d. refl; blocks_are = refl; lock_is = refl }
+
 -- a note
 pub saw_goes : (cells : ℕ) (items : List Item) (word : Word) (number : ℕ) → GoesOn cells items (Saw word number) (known_of cells items)
 saw_goes cells items word number = record { part_is = refl; counts_are = λ d. refl; blocks_are = refl; lock_is = refl }
 
 pub lost_goes : (cells : ℕ) (items : List Item) (word : Word) (number : ℕ) → GoesOn cells items (Lost word number) (known_of cells items)
 lost_goes cells items word number = record { part_is = refl; counts_are = λ d. refl; blocks_are = refl; lock_is = refl }
+
+-- ---- the kinds whose effect hangs on the number: by the answer to its test
+
+-- an owner counts down, to zero or not
+pub local_down_goes : (cells : ℕ) (items : List Item) (drop : Dropped) (c number : ℕ) (entries : List ℕ) (ends : Bool) → meant (part_of cells items) (LocalDown drop) ≡ Some c
+    → (not (is_immortal c) && (number + 1 == 1)) ≡ ends → GoesOn cells items (Did (LocalDown drop) number entries) (counting_down ends drop c number (known_of cells items))
+local_down_goes cells items drop c number entries ends named is =
+    subst (λ b. GoesOn cells items (Did (LocalDown drop) number entries) (counting_down b drop c number (known_of cells items))) is (goes_on cells items (LocalDown drop) c number entries named)
+
+-- of a mortal object the count that is stored says which
+pub local_down_more : (cells : ℕ) (items : List Item) (drop : Dropped) (c number : ℕ) (entries : List ℕ) → meant (part_of cells items) (LocalDown drop) ≡ Some c → 0 < number
+    → GoesOn cells items (Did (LocalDown drop) number entries) (giving_up (Some drop) (counting c number (known_of cells items)))
+local_down_more cells items drop c number entries named more =
+    local_down_goes cells items drop c number entries false named (ap (λ b. not (is_immortal c) && b) (ne_eqb (number + 1) 1 (λ e. omega (arith, e, more))) ∙ neither (not (is_immortal c)))
+  where
+    neither : (b : Bool) → (b && false) ≡ false
+    neither true = refl
+    neither false = refl
+
+pub local_down_ends : (cells : ℕ) (items : List Item) (drop : Dropped) (c : ℕ) (entries : List ℕ) → meant (part_of cells items) (LocalDown drop) ≡ Some c → FIRST_MORTAL ≤ c
+    → GoesOn cells items (Did (LocalDown drop) 0 entries) (handing (hands.Busy phases.Zero c) (giving_up (Some drop) (counting c 0 (known_of cells items))))
+local_down_ends cells items drop c entries named mortal =
+    local_down_goes cells items drop c 0 entries true named (ap (λ b. not b && (0 + 1 == 1)) (le-ltb c FIRST_MORTAL mortal))
+
+pub local_down_immortal : (cells : ℕ) (items : List Item) (drop : Dropped) (c number : ℕ) (entries : List ℕ) → meant (part_of cells items) (LocalDown drop) ≡ Some c → c < FIRST_MORTAL
+    → GoesOn cells items (Did (LocalDown drop) number entries) (giving_up (Some drop) (counting c number (known_of cells items)))
+local_down_immortal cells items drop c number entries named low =
+    local_down_goes cells items drop c number entries false named (ap (λ b. not b && (number + 1 == 1)) (lt-ltb c FIRST_MORTAL low))
+
+-- the shared word is looked at after the count was zero
+pub see_zero_goes : (cells : ℕ) (items : List Item) (c number : ℕ) (entries : List ℕ) (untouched : Bool) → takes_block (SeeZero c) (cell_told (SeeZero c) number) ≡ untouched
+    → GoesOn cells items (Did (SeeZero c) number entries) (seeing_zero untouched c entries (known_of cells items))
+see_zero_goes cells items c number entries untouched is =
+    subst (λ b. GoesOn cells items (Did (SeeZero c) number entries) (seeing_zero b c entries (known_of cells items))) is (goes_on cells items (SeeZero c) c number entries refl)
+
+-- the object is merged at zero, and dead or not
+pub merge_zero_goes : (cells : ℕ) (items : List Item) (c number : ℕ) (entries : List ℕ) (takes : Bool) → takes_block (MergeZero c) (cell_told (MergeZero c) number) ≡ takes
+    → GoesOn cells items (Did (MergeZero c) number entries) (handing hands.Free (taking takes c entries (known_of cells items)))
+merge_zero_goes cells items c number entries takes is =
+    subst (λ b. GoesOn cells items (Did (MergeZero c) number entries) (handing hands.Free (taking b c entries (known_of cells items)))) is (goes_on cells items (MergeZero c) c number entries refl)
+
+-- the state is turned, or was already
+pub ask_goes : (cells : ℕ) (items : List Item) (drop : Dropped) (c number : ℕ) (entries : List ℕ) (turns : Bool) → meant (part_of cells items) (Ask drop) ≡ Some c
+    → is_default (state_told number) ≡ turns → GoesOn cells items (Did (Ask drop) number entries) (asking turns drop c (known_of cells items))
+ask_goes cells items drop c number entries turns named is =
+    subst (λ b. GoesOn cells items (Did (Ask drop) number entries) (asking b drop c (known_of cells items))) is (goes_on cells items (Ask drop) c number entries named)
+
+-- the shared word alone counts down: a place or an entry, a popped entry, the hand
+pub last_dropped_goes : (cells : ℕ) (items : List Item) (drop : Dropped) (c number : ℕ) (entries : List ℕ) (takes : Bool) → meant (part_of cells items) (LastDown (lasts.Dropped drop)) ≡ Some c
+    → takes_block (LastDown (lasts.Dropped drop)) (cell_told (LastDown (lasts.Dropped drop)) number) ≡ takes
+    → GoesOn cells items (Did (LastDown (lasts.Dropped drop)) number entries) (dropping_last takes drop c entries (known_of cells items))
+last_dropped_goes cells items drop c number entries takes named is =
+    subst (λ b. GoesOn cells items (Did (LastDown (lasts.Dropped drop)) number entries) (dropping_last b drop c entries (known_of cells items))) is
+    (goes_on cells items (LastDown (lasts.Dropped drop)) c number entries named)
+
+pub last_popped_goes : (cells : ℕ) (items : List Item) (c number : ℕ) (entries : List ℕ) (takes : Bool)
+    → takes_block (LastDown (lasts.Popped c)) (cell_told (LastDown (lasts.Popped c)) number) ≡ takes
+    → GoesOn cells items (Did (LastDown (lasts.Popped c)) number entries) (settling c (taking takes c entries (known_of cells items)))
+last_popped_goes cells items c number entries takes is =
+    subst (λ b. GoesOn cells items (Did (LastDown (lasts.Popped c)) number entries) (settling c (taking b c entries (known_of cells items)))) is
+    (goes_on cells items (LastDown (lasts.Popped c)) c number entries refl)
+
+pub last_hand_goes : (cells : ℕ) (items : List Item) (p : Phase) (c number : ℕ) (entries : List ℕ) (takes : Bool) → (part_of cells items).row.hand ≡ hands.Busy p c
+    → takes_block (LastDown lasts.Hand) (cell_told (LastDown lasts.Hand) number) ≡ takes
+    → GoesOn cells items (Did (LastDown lasts.Hand) number entries) (handing hands.Free (taking takes c entries (known_of cells items)))
+last_hand_goes cells items p c number entries takes busy is =
+    subst (λ b. GoesOn cells items (Did (LastDown lasts.Hand) number entries) (handing hands.Free (taking b c entries (known_of cells items)))) is
+    (goes_on cells items (LastDown lasts.Hand) c number entries (ap cell_in_hand busy))
+
+-- the queue word is closed, or not
+pub enqueue_goes : (cells : ℕ) (items : List Item) (c number : ℕ) (entries : List ℕ) (shut : Bool) → is_shut_word number ≡ shut
+    → GoesOn cells items (Did (Enqueue c) number entries) (handing (if shut then hands.Busy phases.Shut c else hands.Free) (known_of cells items))
+enqueue_goes cells items c number entries shut is =
+    subst (λ b. GoesOn cells items (Did (Enqueue c) number entries) (handing (if b then hands.Busy phases.Shut c else hands.Free) (known_of cells items))) is
+    (goes_on cells items (Enqueue c) c number entries refl)

@@ -6,8 +6,8 @@ use Rattle.brc_words.specs.declared.owner.Owner.TheVariants as owners
 use Rattle.brc_runs.specs.declared.event.Event.{Event}
 use Rattle.brc_runs.specs.declared.event.Step.{Step}
 use Rattle.brc_runs.specs.declared.row.Row.{Row}
-use Rattle.brc_runs.specs.Lists.{is_marked}
-use Rattle.brc_runs.specs.Heap.{Heap, opening, cell_at, row_at, frame_at, worklist_at, new_row, no_row, is_registered, AreOptions}
+use Rattle.brc_runs.specs.Lists.{place_at, word_at, is_marked, is_bare, is_blank}
+use Rattle.brc_runs.specs.Heap.{Heap, opening, cell_at, row_at, frame_at, popped_at, worklist_at, new_row, no_row, is_registered, AreOptions}
 use Rattle.brc_runs.specs.Steps.{enabled, after, after_target, target, target_at, locked_cell, registered, gathered_in, locked_at}
 use Rattle.brc_runs.specs.Holding.{lives}
 use Rattle.brc_runs.specs.Sound.{IsSound, WorklistFits}
@@ -18,6 +18,7 @@ use Rattle.brc_runs.proofs.Naming.{one-true}
 use Rattle.brc_runs.proofs.Counting.{marked_unheld}
 use Rattle.brc_runs.proofs.Registering.{new_mark}
 use Rattle.brc_lasting.proofs.Lasting.{others_own, alone_stays, locked_stays}
+use Rattle.brc_lasting.proofs.Progress.{all_vacant, all_blank}
 use Rattle.brc_known.proofs.Items_Told.{QueuesFit}
 use Rattle.brc_known.proofs.Items_Own.{Knows, now, own_step, target_alike}
 use Rattle.brc_runs.proofs.Reached.{reached_sound}
@@ -123,3 +124,16 @@ pub meant_is_told : (cells limit : ℕ) (items : ItemRun) (t : ℕ) (s : Step) �
     → meant (part_of cells (own t items)) s ≡ target_at (world_of_items (opening cells limit) items) t s
 meant_is_told cells limit items t s options are there =
     part_target (world_of_items (opening cells limit) items) t (part_of cells (own t items)) s (parts_are_told cells limit items t options are there)
+
+-- a frame whose places are all vacant is bare in the world, and popped words without a bit are blank there
+pub bare_is_told : (cells limit : ℕ) (items : ItemRun) (t : ℕ) → AreOptions cells limit → AreItems (opening cells limit) items
+    → is_registered (world_of_items (opening cells limit) items) t ≡ true → ((k : ℕ) → place_at (part_of cells (own t items)).frame k ≡ None)
+    → is_bare (frame_at (world_of_items (opening cells limit) items) t) ≡ true
+bare_is_told cells limit items t options are there vacant =
+    all_vacant (frame_at (world_of_items (opening cells limit) items) t) (λ k. ap (λ f. place_at f k) (parts_are_told cells limit items t options are there).frame_is ∙ vacant k)
+
+pub blank_is_told : (cells limit : ℕ) (items : ItemRun) (t : ℕ) → AreOptions cells limit → AreItems (opening cells limit) items
+    → is_registered (world_of_items (opening cells limit) items) t ≡ true → ((k : ℕ) → word_at (part_of cells (own t items)).popped k ≡ 0)
+    → is_blank (popped_at (world_of_items (opening cells limit) items) t) ≡ true
+blank_is_told cells limit items t options are there none =
+    all_blank (popped_at (world_of_items (opening cells limit) items) t) (λ k. ap (λ (ws : List ℕ). word_at ws k) (parts_are_told cells limit items t options are there).popped_is ∙ none k)

@@ -12,3 +12,6 @@ pub mod Taken_Law
 pub mod Root_Law
 pub mod Locked_Law
 pub mod Going_On_Law
+pub mod Kept_Law
+pub mod Risen_Kept
+pub mod Owners_Law

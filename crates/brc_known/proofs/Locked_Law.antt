@@ -1,5 +1,5 @@
 -- What a thread has locked, and with which entries, is what its own items say.
-use Rattle.std.proofs.Common.{◌≡◌, ◌≢◌, ℕ, ◌<◌, Bool, true, false, List, [], ◌∷◌, length, Option, Some, None, refl, sym, ◌∙◌, ap, subst, inl, inr, arith}
+use Rattle.std.proofs.Common.{◌≡◌, ◌≢◌, ℕ, Bool, true, false, List, [], Option, Some, None, refl, sym, ◌∙◌, ap, subst, inl, inr, arith}
 use Rattle.std.proofs.lemmas.List.{get_or_push}
 use Rattle.std.proofs.lemmas.Bool.{cases_Bool, true≢false}
 use Rattle.brc_runs.specs.declared.event.Event.{Event}
@@ -13,9 +13,8 @@ use Rattle.brc_runs.specs.Steps.{enabled, after, after_target, stepped, target_a
 use Rattle.brc_runs.specs.Runs.{IsReached}
 use Rattle.brc_runs.specs.Sound.{IsSound}
 use Rattle.brc_lasting.specs.Staying.{IsAnothers, SameOwn}
-use Rattle.brc_known.specs.Items.{Item, Did, ItemRun, AreItems, events_of, world_of_items, own, found, found_at, Part, part_of, IsPart}
+use Rattle.brc_known.specs.Items.{Did, ItemRun, AreItems, events_of, world_of_items, own, found, found_at, part_of, IsPart}
 use Rattle.brc_known.specs.Locked.{locked_on, locked_of, place_locked, HasLocked}
-use Rattle.brc_known.specs.Taken.{listed_at, taken_of}
 use Rattle.brc_runs.proofs.Asking.{May, Vacant, vacant}
 use Rattle.brc_runs.proofs.Changes.{read_here}
 use Rattle.brc_runs.proofs.Framing.{place_at-filled_else}

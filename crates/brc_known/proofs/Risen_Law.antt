@@ -41,7 +41,7 @@ risen_state x number is risen = by_state x.state refl
 
 -- ---- a place that has a cell holds it, and its state doesn't fall
 
-named_cell : (c : ℕ) (o : Option ℕ) → names c o ≡ true → o ≡ Some c
+pub named_cell : (c : ℕ) (o : Option ℕ) → names c o ≡ true → o ≡ Some c
 named_cell c None is = absurd (true≢false (sym is))
 named_cell c (Some d) is = ap Some (eqb-true d c is)
 
@@ -69,7 +69,7 @@ own_risen h t s c reached may some risen =
 -- ---- the law
 
 -- what was seen risen is named by its place now
-risen_named : (cells : ℕ) (log : List Item) (drop : Dropped) (c : ℕ) → is_risen cells log drop c ≡ true → names c (drop_in (part_of cells log) drop) ≡ true
+pub risen_named : (cells : ℕ) (log : List Item) (drop : Dropped) (c : ℕ) → is_risen cells log drop c ≡ true → names c (drop_in (part_of cells log) drop) ≡ true
 risen_named cells [] drop c risen = absurd (true≢false (sym risen))
 risen_named cells (x ∷ items) drop c risen = (and_parts _ _ risen).0
 

@@ -2,7 +2,9 @@
 -- cites these, and needs neither the definitions that go over items nor the world.
 use Rattle.std.specs.Prelude.{◌≡◌, ℕ, ◌+◌, ◌==◌, ◌&&◌, not, Bool, true, false, if◌then◌else◌, List, [], ◌∷◌, Option, Some, None, slice_set}
 use Rattle.brc_runs.specs.declared.event.Change.{Change}
+use Rattle.brc_runs.specs.declared.event.Change.TheVariants as changes
 use Rattle.brc_runs.specs.declared.event.Dropped.{Dropped}
+use Rattle.brc_runs.specs.declared.event.Dropped.TheVariants as dropped
 use Rattle.brc_runs.specs.declared.event.LastDropped.TheVariants as lasts
 use Rattle.brc_runs.specs.declared.event.Step.{Step}
 use Rattle.brc_runs.specs.declared.event.Step.TheVariants.{Claim, InitLocal, InitShared, Birth, LocalUp, LocalDown, SeeZero, Free, Untie, MergeZero, SharedUp, SharedDown, Ask, LastDown, Enqueue, Drain, MergeAdd, Close, Lock, Unlock}
@@ -163,3 +165,32 @@ abbrev pub knows_apart : ℕ → Step → ℕ → Known → Known
 knows_apart cells (Drain k) number old = popping k number old
 knows_apart cells (Close k) number old = closing cells k (popping k number old)
 knows_apart cells _ number old = old
+
+-- ---- what a step leaves as it was
+
+-- the place or the entry that a release gives up
+abbrev pub given_up : Step → Option Dropped
+given_up (LocalDown drop) = Some drop
+given_up (SharedDown drop) = Some drop
+given_up (Ask drop) = Some drop
+given_up (LastDown (lasts.Dropped drop)) = Some drop
+given_up _ = None
+
+abbrev pub place_dropped : Option Dropped → Option ℕ
+place_dropped (Some (dropped.Frame k)) = Some k
+place_dropped _ = None
+
+-- the place that an unlocking changes
+abbrev pub place_changed : Change → Option ℕ
+place_changed changes.Keep = None
+place_changed (changes.Put j) = Some j
+place_changed (changes.Take i j) = Some j
+place_changed (changes.Swap i j) = Some j
+
+-- the one place of the frame that a step may change
+abbrev pub touched_place : Step → Option ℕ
+touched_place (Birth c kind k) = Some k
+touched_place (LocalUp source k) = Some k
+touched_place (SharedUp source k) = Some k
+touched_place (Unlock change) = place_changed change
+touched_place s = place_dropped (given_up s)

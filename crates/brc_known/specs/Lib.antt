@@ -5,3 +5,4 @@ pub mod Taken
 pub mod Root
 pub mod Locked
 pub mod Going_On
+pub mod Owners_Seen

@@ -1,26 +1,31 @@
 //! What a thread's own items tell it, each as the contract of a function with nothing to do.
 
-ghost use Rattle.std.specs.Prelude.{◌≡◌, ◌≢◌, ◌≤◌, ℕ, ◌<◌, List, Some, None, true, false, length};
+ghost use Rattle.std.specs.Prelude.{◌≡◌, ◌≢◌, ◌≤◌, ℕ, ◌<◌, ◌==◌, ◌&&◌, List, [], ◌∷◌, Some, None, true, false, length, slice_index_or};
 ghost use Rattle.brc_runs.specs.declared.cell.Cell.{Cell as cell};
 ghost use Rattle.brc_runs.specs.declared.row.Hand.TheVariants as hands;
 ghost use Rattle.brc_runs.specs.declared.event.Dropped.{Dropped as dropped};
+ghost use Rattle.brc_runs.specs.declared.event.Dropped.TheVariants as drops;
+ghost use Rattle.brc_runs.specs.declared.event.Change.TheVariants as changes;
+ghost use Rattle.brc_runs.specs.declared.event.Source.{Source as source};
 ghost use Rattle.brc_runs.specs.declared.event.Step.{Step as step};
+ghost use Rattle.brc_runs.specs.declared.event.Step.TheVariants as steps;
 ghost use Rattle.brc_runs.specs.declared.event.Event.{Event as event};
-ghost use Rattle.brc_runs.specs.Lists.{is_marked};
-ghost use Rattle.brc_runs.specs.Heap.{Heap, opening, cell_at, entries_at, row_at, worklist_at, is_registered, is_gathered, AreOptions};
+ghost use Rattle.brc_runs.specs.Lists.{names, place_at, word_at, is_marked, is_bare, is_unmarked, is_blank};
+ghost use Rattle.brc_runs.specs.Heap.{Heap, opening, cell_at, entries_at, row_at, frame_at, popped_at, worklist_at, is_registered, is_gathered, AreOptions};
 ghost use Rattle.brc_runs.specs.Steps.{is_mine, needs_no_cell, takes_block, thread_may, after_target, target_at};
 ghost use Rattle.brc_runs.specs.Runs.{IsRun, IsReached};
-ghost use Rattle.brc_known.specs.Going_On.{GoesOn, known_of, knows_after, knows_apart};
+ghost use Rattle.brc_known.specs.Going_On.{GoesOn, known_of, knows_after, knows_apart, given_up, touched_place};
 ghost use Rattle.brc_known.specs.Locked.{locked_of, place_locked, HasLocked};
+ghost use Rattle.brc_known.specs.Owners_Seen.{has_seen_owner};
 ghost use Rattle.brc_known.specs.Root.{rows_of, gathered_of};
 ghost use Rattle.brc_known.specs.Counts.{own_count, counts_of};
-ghost use Rattle.brc_known.specs.Risen.{is_risen};
+ghost use Rattle.brc_known.specs.Risen.{is_risen, is_risen_word, drop_in};
 ghost use Rattle.brc_known.specs.Taken.{listed_at, taken_of, entries_if};
 ghost use Rattle.brc_runs.specs.Sound.{held};
 ghost use Rattle.brc_runs.specs.declared.row.Stage.{Stage as stage};
-ghost use Rattle.brc_words.specs.declared.limits.TheConstants.{FIRST_MORTAL};
+ghost use Rattle.brc_words.specs.declared.limits.TheConstants.{FIRST_MORTAL, MOST_THREADS};
 ghost use Rattle.brc_lasting.specs.Staying.{rank};
-ghost use Rattle.brc_known.specs.Items.{Word as word, IsWord, Shows, works_on, Item, Did, Saw, Lost, ItemRun, MayCome, AreItems, IsPart, events_of, world_of_items, part_of, meant, cell_told, own};
+ghost use Rattle.brc_known.specs.Items.{Word as word, IsWord, Shows, works_on, Of, Shared, Item, Did, Saw, Lost, ItemRun, MayCome, AreItems, IsPart, events_of, world_of_items, part_of, meant, cell_told, own};
 
 /// Items are runs with what each step was told: the events of items are a run, and each run is the events of items. A
 /// thread's own part of the world, with the entries of what it has locked and of its worklist, is a function of its own
@@ -114,6 +119,8 @@ pub fn own_items_tell_the_lock()
 {}
 
 /// What a thread knows goes on with each of its items as one table says, kind by kind of step; a note changes nothing of it.
+/// A step leaves every place of the frame but the one that it may change, and the last entry of every block but the one that
+/// it means and the one that gives up its last.
 pub fn own_steps_go_on()
     ensures meant { (cells : ℕ) (items : List Item) (s : step) (c number : ℕ) (entries : List ℕ)
         → meant (part_of cells items) s ≡ Some c
@@ -122,10 +129,100 @@ pub fn own_steps_go_on()
     ensures apart { (cells : ℕ) (items : List Item) (s : step) (number : ℕ) (entries : List ℕ)
         → needs_no_cell s ≡ true
         → GoesOn cells items (Did s number entries) (knows_apart cells s number (known_of cells items)) }
+    ensures places { (cells : ℕ) (items : List Item) (s : step) (c number : ℕ) (entries : List ℕ)
+        (j : ℕ) → meant (part_of cells items) s ≡ Some c → touched_place s ≢ Some j
+        → place_at (part_of cells (Did s number entries ∷ items)).frame j
+        ≡ place_at (part_of cells items).frame j }
+    ensures entries { (cells : ℕ) (items : List Item) (s : step) (c number : ℕ) (entries : List ℕ)
+        (q : ℕ) → meant (part_of cells items) s ≡ Some c → q ≢ c
+        → given_up s ≢ Some (drops.Work q)
+        → drop_in (part_of cells (Did s number entries ∷ items)) (drops.Work q)
+        ≡ drop_in (part_of cells items) (drops.Work q) }
     ensures saw { (cells : ℕ) (items : List Item) (w : word) (number : ℕ)
         → GoesOn cells items (Saw w number) (known_of cells items) }
     ensures lost { (cells : ℕ) (items : List Item) (w : word) (number : ℕ)
         → GoesOn cells items (Lost w number) (known_of cells items) }
+{}
+
+/// What was seen risen of a place, or of a last entry, is still seen with one more item exactly where these have the cell
+/// still: not in a place whose cell was put into the locked object, nor in one that was vacant before, and in one whose
+/// cell was exchanged where the same cell came back. It is seen anew by who counts up, asks or looks.
+pub fn what_has_risen_stays_seen()
+    ensures kept { (cells : ℕ) (items : List Item) (x : Item) (drop : dropped) (c : ℕ)
+        → is_risen cells items drop c ≡ true → is_risen cells (x ∷ items) drop c
+        ≡ names c (drop_in (part_of cells (x ∷ items)) drop) }
+    ensures places { (cells : ℕ) (items : List Item) (s : step) (d number : ℕ) (entries : List ℕ)
+        (j c : ℕ) → meant (part_of cells items) s ≡ Some d → touched_place s ≢ Some j
+        → is_risen cells items (drops.Frame j) c ≡ true
+        → is_risen cells (Did s number entries ∷ items) (drops.Frame j) c ≡ true }
+    ensures entries { (cells : ℕ) (items : List Item) (s : step) (d number : ℕ) (entries : List ℕ)
+        (q c : ℕ) → meant (part_of cells items) s ≡ Some d → q ≢ d
+        → given_up s ≢ Some (drops.Work q) → is_risen cells items (drops.Work q) c ≡ true
+        → is_risen cells (Did s number entries ∷ items) (drops.Work q) c ≡ true }
+    ensures apart { (cells : ℕ) (items : List Item) (s : step) (number : ℕ) (entries : List ℕ)
+        (drop : dropped) (c : ℕ) → needs_no_cell s ≡ true → is_risen cells items drop c ≡ true
+        → is_risen cells (Did s number entries ∷ items) drop c ≡ true }
+
+    // The place that an unlocking changes.
+    ensures put { (cells : ℕ) (items : List Item) (j d number : ℕ) (entries : List ℕ) (c : ℕ)
+        → meant (part_of cells items) (steps.Unlock (changes.Put j)) ≡ Some d
+        → is_risen cells (Did (steps.Unlock (changes.Put j)) number entries ∷ items)
+        (drops.Frame j) c ≡ false }
+    ensures took { (cells : ℕ) (items : List Item) (i j number : ℕ) (entries : List ℕ) (c : ℕ)
+        → place_at (part_of cells items).frame j ≡ None
+        → is_risen cells (Did (steps.Unlock (changes.Take i j)) number entries ∷ items)
+        (drops.Frame j) c ≡ false }
+    ensures swapped { (cells : ℕ) (items : List Item) (i j d number : ℕ) (entries : List ℕ) (c : ℕ)
+        → meant (part_of cells items) (steps.Unlock (changes.Swap i j)) ≡ Some d
+        → is_risen cells (Did (steps.Unlock (changes.Swap i j)) number entries ∷ items)
+        (drops.Frame j) c ≡ ((slice_index_or ((part_of cells items).has d) i 0 == c)
+        && is_risen cells items (drops.Frame j) c) }
+
+    // What sees it anew.
+    ensures counted { (cells : ℕ) (items : List Item) (from : source) (k c number : ℕ)
+        (entries : List ℕ) → meant (part_of cells items) (steps.SharedUp from k) ≡ Some c
+        → is_risen_word number ≡ true
+        → is_risen cells (Did (steps.SharedUp from k) number entries ∷ items) (drops.Frame k) c
+        ≡ true }
+    ensures asked { (cells : ℕ) (items : List Item) (drop : dropped) (c number : ℕ)
+        (entries : List ℕ) → drop_in (part_of cells items) drop ≡ Some c
+        → is_risen_word number ≡ true
+        → is_risen cells (Did (steps.Ask drop) number entries ∷ items) drop c ≡ true }
+    ensures saw { (cells : ℕ) (items : List Item) (drop : dropped) (c number : ℕ)
+        → drop_in (part_of cells items) drop ≡ Some c → is_risen_word number ≡ true
+        → is_risen cells (Saw (Of Shared c) number ∷ items) drop c ≡ true }
+    ensures lost { (cells : ℕ) (items : List Item) (drop : dropped) (c number : ℕ)
+        → drop_in (part_of cells items) drop ≡ Some c → is_risen_word number ≡ true
+        → is_risen cells (Lost (Of Shared c) number ∷ items) drop c ≡ true }
+{}
+
+/// What a thread needs to know before it begins to leave: where it has no block and all places are vacant, its worklist
+/// has no mark and its frame no cell.
+pub fn own_items_tell_what_is_left()
+    ensures blocks { (cells limit : ℕ) (items : ItemRun) (t : ℕ) → AreOptions cells limit
+        → AreItems (opening cells limit) items
+        → is_registered (world_of_items (opening cells limit) items) t ≡ true
+        → taken_of cells (own t items) ≡ []
+        → is_unmarked (worklist_at (world_of_items (opening cells limit) items) t) ≡ true }
+    ensures places { (cells limit : ℕ) (items : ItemRun) (t : ℕ) → AreOptions cells limit
+        → AreItems (opening cells limit) items
+        → is_registered (world_of_items (opening cells limit) items) t ≡ true
+        → ((k : ℕ) → place_at (part_of cells (own t items)).frame k ≡ None)
+        → is_bare (frame_at (world_of_items (opening cells limit) items) t) ≡ true }
+    ensures popped { (cells limit : ℕ) (items : ItemRun) (t : ℕ) → AreOptions cells limit
+        → AreItems (opening cells limit) items
+        → is_registered (world_of_items (opening cells limit) items) t ≡ true
+        → ((k : ℕ) → word_at (part_of cells (own t items)).popped k ≡ 0)
+        → is_blank (popped_at (world_of_items (opening cells limit) items) t) ≡ true }
+{}
+
+/// A thread's number that was found in an owner word is registered, then and ever after, so that thread can be told.
+pub fn own_looks_tell_the_owners()
+    ensures { (cells limit : ℕ) (items : ItemRun) (t q : ℕ) → AreOptions cells limit
+        → AreItems (opening cells limit) items
+        → is_registered (world_of_items (opening cells limit) items) t ≡ true
+        → has_seen_owner (own t items) q ≡ true → 0 < q → q ≤ MOST_THREADS
+        → is_registered (world_of_items (opening cells limit) items) q ≡ true }
 {}
 
 /// A thread's step works on one word, and every other word of the table shows what it showed.

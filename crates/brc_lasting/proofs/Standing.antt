@@ -15,7 +15,7 @@ use Rattle.brc_runs.specs.declared.row.Phase.TheVariants as phases
 use Rattle.brc_runs.specs.declared.row.Stage.TheVariants as stages
 use Rattle.brc_runs.specs.Lists.{is_marked, bit_of, with_bit}
 use Rattle.brc_runs.specs.Heap.{Heap, opening, cell_at, row_at, popped_at, worklist_at, queue_at, is_gathered, no_cell, AreOptions}
-use Rattle.brc_runs.specs.Steps.{enabled, after, after_target, root_after, root_may, thread_may, target_at, cell_after, worklist_after, takes_block, is_active, is_closed, is_shut, queues_after, target_ok}
+use Rattle.brc_runs.specs.Steps.{enabled, after, after_target, root_after, root_may, thread_may, target_at, cell_after, worklist_after, takes_block, is_active, is_closed, is_shut, queues_after, target_ok, locked_at}
 use Rattle.brc_runs.specs.Runs.{IsRun, IsReached, world_after}
 use Rattle.brc_runs.specs.Sound.{IsSound, held}
 use Rattle.brc_lasting.specs.Staying.{is_about, AreAnothers, Lasts, HoldsNothing}
@@ -28,7 +28,7 @@ use Rattle.brc_runs.proofs.Sharing.{ending_hand}
 use Rattle.brc_runs.proofs.Registering.{push_else}
 use Rattle.brc_runs.proofs.Asking.{May, may_parts, on_cell}
 use Rattle.brc_runs.proofs.Naming.{no_bit, busy_hand, one-false}
-use Rattle.brc_lasting.proofs.Lasting.{unheld_unlocked, other_number, not_bearing, held_live}
+use Rattle.brc_lasting.proofs.Lasting.{unheld_unlocked, other_number, not_bearing, held_live, locked_mutex}
 use Rattle.brc_lasting.proofs.Ranges_Law.{hand_unmarked}
 use Rattle.brc_runs.proofs.Reached.{event_sound, reached_sound}
 
@@ -126,6 +126,16 @@ held_not_born h e c kind k reached ok some is =
     let s : Step = Birth c kind k in
     let may : May h e.thread s = event_may h e.thread s (subst (λ z. enabled h (record { thread = e.thread; step = z }) ≡ true) is ok) refl in
     not_bearing h e.thread c c phases.Ready sound (inr (inr refl)) may.hand refl (held_live h c sound some)
+
+-- ---- locks
+
+-- what a thread has locked is held, by the place that it is locked in
+pub locked_held : (h : Heap) (t c : ℕ) → IsReached h → locked_at h t ≡ Some c → 1 ≤ held h c
+locked_held h t c reached named = (locked_mutex h t c (reached_sound h reached) named).2
+
+-- and no other thread has locked it
+pub locked_by_one : (h : Heap) (s t c : ℕ) → IsReached h → locked_at h s ≡ Some c → locked_at h t ≡ Some c → s ≡ t
+locked_by_one h s t c reached his mine = sym (locked_mutex h s c (reached_sound h reached) his).1 ∙ (locked_mutex h t c (reached_sound h reached) mine).1
 
 -- ---- a thread's merge queue
 

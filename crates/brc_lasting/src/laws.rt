@@ -19,7 +19,7 @@ ghost use Rattle.brc_runs.specs.Lists.{bit_of, is_marked, is_bare, is_unmarked, 
 ghost use Rattle.brc_runs.specs.Heap.{Heap, opening, cell_at, entries_at, row_at, frame_at, popped_at, worklist_at, queue_at, is_registered, is_gathered};
 ghost use Rattle.brc_words.specs.Kinds.{is_mortal};
 ghost use Rattle.brc_lasting.specs.Progress.{Stands, IsAtRest, next_step, release_step, popped_step};
-ghost use Rattle.brc_runs.specs.Steps.{dropped_cell, is_vacant, enabled, after, target_at, takes_block};
+ghost use Rattle.brc_runs.specs.Steps.{locked_at, dropped_cell, is_vacant, enabled, after, target_at, takes_block};
 ghost use Rattle.brc_runs.specs.Runs.{IsReached, world_after};
 ghost use Rattle.brc_runs.specs.Sound.{held};
 ghost use Rattle.brc_lasting.specs.Ranges.{OwnerFits};
@@ -86,6 +86,13 @@ pub fn blocks_are_taken_once()
         → 1 ≤ held h c → e.step ≢ steps.Free c }
     ensures born { (h : Heap) (e : event) (c : ℕ) (of : kind) (k : ℕ) → IsReached h
         → enabled h e ≡ true → 1 ≤ held h c → e.step ≢ steps.Birth c of k }
+{}
+
+/// What a thread has locked is held, and no other thread has locked it: who unlocks it is the one that locked it.
+pub fn locks_are_exclusive()
+    ensures held { (h : Heap) (t c : ℕ) → IsReached h → locked_at h t ≡ Some c → 1 ≤ held h c }
+    ensures one { (h : Heap) (s t c : ℕ) → IsReached h → locked_at h s ≡ Some c
+        → locked_at h t ≡ Some c → s ≡ t }
 {}
 
 /// A gathered thread holds nothing: no place, no reference in its hand, none queued or popped, no dead block, no lock.

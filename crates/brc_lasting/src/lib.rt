@@ -9,5 +9,6 @@ mod laws;
 
 pub use laws::{
     blocks_are_taken_once, dead_blocks_are_unlocked, gathered_threads_hold_nothing, hands_tell,
-    held_words_last, no_thread_is_stuck, numbers_name_what_is_there, own_parts_last, owners_last,
+    held_words_last, locks_are_exclusive, no_thread_is_stuck, numbers_name_what_is_there,
+    own_parts_last, owners_last,
 };
