@@ -14,3 +14,4 @@ pub mod Block_Steps
 pub mod Taking_Steps
 pub mod Ending_Steps
 pub mod Making_Steps
+pub mod Locked_Contents

@@ -46,7 +46,7 @@ same_threads h t s None = record { rows = same_rows h t s None; gathered = refl 
 same_threads h t s (Some c) = record { rows = same_rows h t s (Some c); gathered = refl }
 
 -- a thread neither registers nor gathers
-no_start : (h : Heap) (t : ℕ) (s : Step) (number : ℕ) (moved : Moved) → May h t s → (u : ℕ) → is_start u (item_of (Did s number moved)) ≡ false
+pub no_start : (h : Heap) (t : ℕ) (s : Step) (number : ℕ) (moved : Moved) → May h t s → (u : ℕ) → is_start u (item_of (Did s number moved)) ≡ false
 no_start h t (Register w) number moved may u = absurd (true≢false (sym may.hand))
 no_start h t (Gather w) number moved may u = absurd (true≢false (sym may.hand))
 no_start h t _ number moved may u = refl

@@ -1,14 +1,18 @@
 -- What a seat's log tells its thread, with no look at the world.
-use Rattle.std.specs.Prelude.{ℕ, ◌&&◌, Bool, List}
+use Rattle.std.specs.Prelude.{ℕ, ◌&&◌, Bool, List, [], ◌∷◌, Option, Some, None}
 use Rattle.brc_runs.specs.declared.event.Dropped.{Dropped}
 use Rattle.brc_runs.specs.declared.event.Step.{Step}
+use Rattle.brc_runs.specs.declared.event.Step.TheVariants.{Lock, Unlock}
 use Rattle.brc_runs.specs.Heap.{words_for}
 use Rattle.brc_runs.specs.Steps.{stage_ok, lock_ok, hand_ok, own_ok}
 use Rattle.brc_known.specs.Items.{Part, part_of}
 use Rattle.brc_known.specs.Counts.{counts_of}
 use Rattle.brc_known.specs.Risen.{is_risen}
 use Rattle.brc_known.specs.Taken.{Blocks, taken_of}
+use Rattle.brc_rule.specs.declared.contents.Contents.{Contents}
+use Rattle.brc_rule.specs.declared.told.Moved.TheVariants as moves
 use Rattle.brc_rule.specs.declared.told.Told.{Told}
+use Rattle.brc_rule.specs.declared.told.Told.TheVariants.{Did}
 use Rattle.brc_rule.specs.Logs.{log_items}
 
 -- the thread's own part of the world
@@ -32,3 +36,13 @@ abbrev pub own_may : ℕ → Part → Step → Bool
 own_may n part s =
     stage_ok part.row.stage s && lock_ok part.row.locked s && hand_ok part.row.hand s
     && own_ok (words_for n) part.row part.frame part.popped part.worklist part.has s
+
+-- the contents of the object that the thread has locked, as its locking found them
+abbrev pub contents_on : Told → Option Contents → Option Contents
+contents_on (Did (Lock k) number (moves.Found c contents)) before = Some contents
+contents_on (Did (Unlock change) number moved) before = None
+contents_on x before = before
+
+abbrev pub contents_locked : List Told → Option Contents
+contents_locked [] = None
+contents_locked (x ∷ log) = contents_on x (contents_locked log)
