@@ -6,7 +6,7 @@ use Rattle.std.specs.Cmp.Derive.{both_true}
 use mathlib.Core.Option.{some}
 use lib.ListN.{get_elem?}
 use Rattle.atomic_table.specs.Table.{State}
-use Rattle.brc_words.specs.declared.limits.TheConstants.{FIRST_MORTAL}
+use Rattle.brc_words.specs.declared.limits.TheConstants.{FIRST_MORTAL, MOST_THREADS}
 use Rattle.brc_runs.specs.declared.row.Row.{Row}
 use Rattle.brc_runs.specs.declared.event.Dropped.{Dropped}
 use Rattle.brc_runs.specs.declared.event.Step.{Step}
@@ -18,6 +18,7 @@ use Rattle.brc_runs.specs.Runs.{IsReached}
 use Rattle.brc_known.specs.Items.{Part, part_of, IsPart, meant, events_of, own, world_of_items}
 use Rattle.brc_known.specs.Counts.{own_count, counts_of}
 use Rattle.brc_known.specs.Risen.{is_risen}
+use Rattle.brc_known.specs.Owners_Seen.{has_seen_owner}
 use Rattle.brc_lasting.specs.Staying.{rank}
 use Rattle.brc_lasting.proofs.Standing.{run_reached}
 use Rattle.brc_lasting.proofs.Ranges_Law.{run_limit}
@@ -28,6 +29,7 @@ use Rattle.brc_known.proofs.Items_Own.{Knows}
 use Rattle.brc_known.proofs.Items_Law.{parts_are_told, part_target}
 use Rattle.brc_known.proofs.Counts_Law.{counts_are_told}
 use Rattle.brc_known.proofs.Risen_Law.{risen_is_told}
+use Rattle.brc_known.proofs.Owners_Law.{owners_are_registered}
 use Rattle.brc_rule.specs.declared.contents.Contents.{Contents}
 use Rattle.brc_rule.specs.declared.told.Told.{Told}
 use Rattle.brc_rule.specs.declared.view.View.{View}
@@ -46,6 +48,7 @@ pub record Known (n limit : ℕ) (h : Heap) (t : ℕ) (log : List Told) : Type 0
   pub stood : stands h t ≡ true
   pub part : IsPart h t (part_seen n log)
   pub counts : (c : ℕ) → FIRST_MORTAL ≤ c → own_count t (row_at h t).stage (cell_at h c) ≡ counts_seen n log c
+  pub owners : (q : ℕ) → has_seen_owner (log_items log) q ≡ true → 0 < q → q ≤ MOST_THREADS → is_registered h q ≡ true
   pub risen : (drop : Dropped) (c : ℕ) → risen_seen n log drop c ≡ true → FIRST_MORTAL ≤ c → 1 ≤ rank (cell_at h c).state
 
 module _ {B : Type 0} (shows : B → ℕ × Contents) (n limit : ℕ) where
@@ -66,6 +69,7 @@ module _ {B : Type 0} (shows : B → ℕ × Contents) (n limit : ℕ) where
         stood = fits.there;
         part = subst (λ items. IsPart h t (part_of n items)) log (parts_are_told n limit (items_of r.run) t r.options r.legal.items there);
         counts = λ c mortal. counts_are_told n limit (items_of r.run) t c r.options r.legal.items there mortal ∙ ap (λ items. counts_of n items c) log;
+        owners = λ q seen low few. owners_are_registered n limit (items_of r.run) t q r.options r.legal.items there (ap (λ items. has_seen_owner items q) log ∙ seen) low few;
         risen = λ drop c seen mortal. risen_is_told n limit (items_of r.run) t c drop r.options r.legal.items there (ap (λ items. is_risen n items drop c) log ∙ seen) mortal;
       }
 

@@ -16,3 +16,4 @@ pub mod Ending_Steps
 pub mod Making_Steps
 pub mod Locked_Contents
 pub mod Locking_Steps
+pub mod Queue_Steps

@@ -8,9 +8,11 @@
 #![tactic(auto)]
 
 mod contents;
+mod laws;
 mod told;
 mod view;
 
+pub use laws::{looks_keep_the_rule, words_lie_apart};
 pub use contents::{Contents, PlainKey};
 pub use told::{Moved, Told};
 pub use view::View;
