@@ -107,7 +107,7 @@ freed_dead h t (Free x) d c low live frees same =
 freed_dead h t _ d c low live frees same = absurd (true≢false (sym frees))
 
 -- marks of the root's steps
-marks_of_root : (h : Heap) (s : Step) (c u : ℕ) → root_may h s ≡ true → is_marked (worklist_at (root_after h s) u) c ≡ false → is_marked (worklist_at h u) c ≡ false
+pub marks_of_root : (h : Heap) (s : Step) (c u : ℕ) → root_may h s ≡ true → is_marked (worklist_at (root_after h s) u) c ≡ false → is_marked (worklist_at h u) c ≡ false
 marks_of_root h (Register v) c u ok off = read_push (λ j (marks : List Bool). is_marked marks c ≡ false → is_marked (worklist_at h j) c ≡ false) h.worklists (replicate (length h.cells) false) []
     (λ none. ap (λ (w : List Bool). is_marked w c) (get_or_past h.worklists (length h.worklists) [] (omega arith))) (λ j other same. same) u off
 marks_of_root h (Gather v) c u ok off = off

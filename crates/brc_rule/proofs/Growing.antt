@@ -19,7 +19,7 @@ use Rattle.brc_rule.specs.Homes.{Homes, HomeShown}
 use Rattle.brc_rule.specs.Rule.{stands, with_told, log_in, Fits, Seated, Kept}
 use Rattle.brc_rule.proofs.Own_Logs.{own_more, own_same, stands_ungathered, SameThreads, same_stands, same_gathered}
 
-at_inside : {A : Type 0} (l : List A) (i : ℕ) (a : A) → get_elem? l i ≡ some a → i < length l
+pub at_inside : {A : Type 0} (l : List A) (i : ℕ) (a : A) → get_elem? l i ≡ some a → i < length l
 at_inside [] i a at = absurd (some-ne-none a (sym at))
 at_inside (x ∷ xs) Rattle.std.proofs.Common.zero a at = omega arith
 at_inside (x ∷ xs) (suc i) a at = omega (arith, at_inside xs i a at)

@@ -17,3 +17,4 @@ pub mod Making_Steps
 pub mod Locked_Contents
 pub mod Locking_Steps
 pub mod Queue_Steps
+pub mod Root_Steps

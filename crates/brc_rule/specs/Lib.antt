@@ -5,3 +5,4 @@ pub mod Rule
 pub mod Seen
 pub mod Owing
 pub mod Taking
+pub mod Joining
