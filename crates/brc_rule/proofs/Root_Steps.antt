@@ -265,3 +265,105 @@ module _ {B : Type 0} (shows : B → ℕ × Contents) (n limit : ℕ) where
                 }
             ])
       ]
+
+  -- Gather: the root's seat takes in that of a thread that has left
+  gather_may : (s : Table) (r : Rule s) (id : ℕ) (w : View) → get_elem? s.views id ≡ some w → Leaves n w → root_may (world n limit r.run) (Gather w.thread) ≡ true
+  gather_may s r id w at leaves =
+      let h : Heap = world n limit r.run in
+      let known : Known n limit h w.thread w.log = knows shows n limit s r id w at leaves.active leaves.some_thread in
+      let part = part_seen n w.log in
+      both_true (both_true (both_true (both_true (both_true (stands_registered h w.thread known.stood leaves.some_thread) (ap not (stands_ungathered h w.thread known.stood leaves.some_thread)))
+        (ap (λ (row : Row). is_left row.stage) known.part.row_is ∙ leaves.left))
+        (ap (λ (row : Row). is_free_hand row.hand) known.part.row_is ∙ leaves.hand))
+        (ap is_blank known.part.popped_is ∙ leaves.popped))
+        (ap is_unmarked known.part.work_is ∙ leaves.worklist)
+
+  pub joins : (id : ℕ) (v : View) (other : ℕ) (w : View) → v.active ≡ true → v.thread ≡ 0 → Leaves n w → Joins Rule id v other w (gathering v w) spent
+  joins id v other w active root leaves s r at apart_seats there_other =
+      let h : Heap = world n limit r.run in
+      let u : ℕ = w.thread in
+      let x : Told = Did (Gather u) 0 moves.Nothing in
+      let later : Run = (0, x) ∷ r.run in
+      let at_other : get_elem? s.views other ≡ some w = sym (set_else s.views id other (gathering v w) apart_seats) ∙ there_other in
+      let fits : Fits h r.run r.seat id v = r.each_seat id v at active in
+      let his : Fits h r.run r.seat other w = r.each_seat other w at_other leaves.active in
+      let sound : IsSound h = reached_sound h (reached s r) in
+      let low : u < length h.rows = ltb-true u (length h.rows) (and_parts (nat_lt 0 u) (nat_lt u (length h.rows)) (stands_registered h u his.there leaves.some_thread)).1 in
+      record {
+        run = later;
+        seat = r.seat;
+        options = r.options;
+        legal = record { items = (r.legal.items, (gather_may s r other w at_other leaves, refl, refl)); moved = (r.legal.moved, (refl, refl)) };
+        wide = r.wide;
+        deep = r.deep;
+        each_word = λ z inside. shown_gathered h u z (get_or s.words (spot n z) 0) (r.each_word z inside);
+        each_home = λ c inside. home_stays shows s.homes h (gathered_in h u) r.run later c (record { free = λ is. is; lives = λ is. is; mutex = λ is. is; marks = λ off. off }) refl (r.each_home c inside);
+        each_seat = λ j z there live. ⊎_elim
+            (λ (e : (j ≡ other) × (spent ≡ z)). absurd (true≢false (sym live ∙ ap (λ (y : View). y.active) (sym e.1))))
+            (λ (e : (j ≢ other) × (get_elem? (set s.views id (gathering v w)) j ≡ some z)). ⊎_elim
+            (λ (mine : (j ≡ id) × (gathering v w ≡ z)). subst (λ (y : ℕ × View). Fits (gathered_in h u) later r.seat y.0 y.1) (λ i. (sym mine.0 i, mine.1 i))
+            (root_joined s r id other v w root leaves.some_thread low sound fits his))
+            (λ (else_ : (j ≢ id) × (get_elem? s.views j ≡ some z)). thread_joined s r id other j z v w root fits his else_.0 e.0 (r.each_seat j z else_.1 live))
+            (at_set s.views id j (gathering v w) z e.1))
+            (at_set (set s.views id (gathering v w)) other j spent z there);
+        each_thread = λ t there. seated_joined s r id other v w t at at_other active root leaves.some_thread low sound his there;
+      }
+    where
+      root_joined : (s : Table) (r : Rule s) (id other : ℕ) (v w : View) → v.thread ≡ 0 → 0 < w.thread → w.thread < length (world n limit r.run).rows → IsSound (world n limit r.run)
+          → Fits (world n limit r.run) r.run r.seat id v → Fits (world n limit r.run) r.run r.seat other w
+          → Fits (gathered_in (world n limit r.run) w.thread) ((0, Did (Gather w.thread) 0 moves.Nothing) ∷ r.run) r.seat id (gathering v w)
+      root_joined s r id other v w root some_thread low sound fits his =
+          let h : Heap = world n limit r.run in
+          let u : ℕ = w.thread in
+          let x : Told = Did (Gather u) 0 moves.Nothing in
+          record {
+            here = fits.here;
+            there = same_stood h u v.thread (λ e. omega (arith, root, e, some_thread)) ∙ fits.there;
+            log = subst (λ t. own_of v.thread ((t, x) ∷ r.run) ≡ x ∷ v.log) root (own_more v.thread x r.run refl ∙ ap (λ log. x ∷ log) fits.log);
+            gathered = λ at_root q low_q out. elim (cases_eq u q) [
+              | inl same ↦ ap (λ b. if b then Some w.log else log_in v.gathered q) (eq-eqb u q same)
+                  ∙ ap Some (sym his.log ∙ ap (λ t. own_of t r.run) same ∙ sym (own_same 0 q x r.run refl (λ e. omega (arith, e, low_q))))
+              | inr apart ↦ ap (λ b. if b then Some w.log else log_in v.gathered q) (ne_eqb u q apart)
+                  ∙ fits.gathered root q low_q (sym (read_there h.gathered u q true false (λ e. apart (sym e))) ∙ out)
+                  ∙ ap Some (sym (own_same 0 q x r.run refl (λ e. omega (arith, e, low_q))))
+            ];
+          }
+
+      thread_joined : (s : Table) (r : Rule s) (id other j : ℕ) (z v w : View) → v.thread ≡ 0 → Fits (world n limit r.run) r.run r.seat id v → Fits (world n limit r.run) r.run r.seat other w → j ≢ id → j ≢ other
+          → Fits (world n limit r.run) r.run r.seat j z → Fits (gathered_in (world n limit r.run) w.thread) ((0, Did (Gather w.thread) 0 moves.Nothing) ∷ r.run) r.seat j z
+      thread_joined s r id other j z v w root fits his not_mine not_his thread =
+          let not_root : 0 ≢ z.thread = λ e. not_mine (sym thread.here ∙ ap r.seat (sym e ∙ sym root) ∙ fits.here) in
+          record {
+            here = thread.here;
+            there = same_stood (world n limit r.run) w.thread z.thread (λ e. not_his (sym thread.here ∙ ap r.seat e ∙ his.here)) ∙ thread.there;
+            log = own_same 0 z.thread (Did (Gather w.thread) 0 moves.Nothing) r.run refl not_root ∙ thread.log;
+            gathered = λ zero_is. absurd (not_root (sym zero_is));
+          }
+
+      gathered_now : (h : Heap) (u : ℕ) → 0 < u → u < length h.gathered → stands (gathered_in h u) u ≡ true → ⊥
+      gathered_now h u some_thread low stood =
+          true≢false (sym (read_here h.gathered u true false low) ∙ stands_ungathered (gathered_in h u) u stood some_thread)
+
+      seated_joined : (s : Table) (r : Rule s) (id other : ℕ) (v w : View) (t : ℕ) → get_elem? s.views id ≡ some v → get_elem? s.views other ≡ some w → v.active ≡ true → v.thread ≡ 0 → 0 < w.thread
+          → w.thread < length (world n limit r.run).rows → IsSound (world n limit r.run) → Fits (world n limit r.run) r.run r.seat other w
+          → stands (gathered_in (world n limit r.run) w.thread) t ≡ true → Seated (set (set s.views id (gathering v w)) other spent) t (r.seat t)
+      seated_joined s r id other v w t at at_other active root some_thread low sound his stood =
+          let h : Heap = world n limit r.run in
+          let apart : t ≢ w.thread = λ e. gathered_now h w.thread some_thread (omega (arith, low, sound.shaped.gathered)) (subst (λ q. stands (gathered_in h w.thread) q ≡ true) e stood) in
+          let before : Seated s.views t (r.seat t) = r.each_thread t (sym (same_stood h w.thread t apart) ∙ stood) in
+          let not_other : r.seat t ≢ other = λ e. apart (sym before.thread ∙ ap (λ (y : View). y.thread) (some-injective before.view w (sym before.there ∙ ap (get_elem? s.views) e ∙ at_other))) in
+          elim (cases_eq (r.seat t) id) [
+            | inl same ↦ record {
+                view = gathering v w;
+                there = set_else (set s.views id (gathering v w)) other (r.seat t) spent not_other
+                    ∙ ap (get_elem? (set s.views id (gathering v w))) same ∙ set_here s.views id (gathering v w) (at_inside s.views id v at);
+                active = active;
+                thread = ap (λ (y : View). y.thread) (some-injective v before.view (sym at ∙ sym (ap (get_elem? s.views) same) ∙ before.there)) ∙ before.thread;
+              }
+            | inr not_root ↦ record {
+                view = before.view;
+                there = set_else (set s.views id (gathering v w)) other (r.seat t) spent not_other ∙ set_else s.views id (r.seat t) (gathering v w) not_root ∙ before.there;
+                active = before.active;
+                thread = before.thread;
+              }
+          ]
