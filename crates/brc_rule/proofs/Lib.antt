@@ -18,3 +18,4 @@ pub mod Locked_Contents
 pub mod Locking_Steps
 pub mod Queue_Steps
 pub mod Root_Steps
+pub mod Opening_Law

@@ -6,3 +6,4 @@ pub mod Seen
 pub mod Owing
 pub mod Taking
 pub mod Joining
+pub mod Opening
