@@ -52,7 +52,7 @@ module _ {B : Type 0} (shows : B → ℕ × Contents) (n limit : ℕ) where
     options = options;
     legal = record { items = tt; moved = tt };
     wide = given.wide;
-    deep = length-map some slots ∙ given.deep;
+    deep = length-map slots some ∙ given.deep;
     each_word = given.each_word;
     each_home = λ c low. opening_home words slots c options given low;
     each_seat = λ j v there live. subst (λ (z : ℕ × View). Fits (opening n limit) [] (λ t. 0) z.0 z.1) (λ i. (sym (only_root j v there).0 i, (only_root j v there).1 i))
