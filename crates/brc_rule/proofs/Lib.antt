@@ -5,17 +5,6 @@ pub mod Looking
 pub mod Stepping
 pub mod Homing
 pub mod Knowing
-pub mod Plain_Steps
-pub mod Local_Steps
-pub mod Numbers
-pub mod Shared_Steps
 pub mod Contents_Law
-pub mod Block_Steps
-pub mod Taking_Steps
-pub mod Ending_Steps
-pub mod Making_Steps
 pub mod Locked_Contents
-pub mod Locking_Steps
-pub mod Queue_Steps
-pub mod Root_Steps
 pub mod Opening_Law

@@ -15,8 +15,7 @@ use Rattle.brc_rule.specs.declared.contents.Contents.{Contents}
 use Rattle.brc_rule.specs.declared.view.View.{View}
 use Rattle.brc_rule.specs.Homes.{HomeShown}
 use Rattle.brc_rule.specs.Rule.{stands, Fits, Seated, Kept}
-use Rattle.brc_rule.specs.Joining.{first_view}
-use Rattle.brc_rule.specs.Opening.{Opens}
+use Rattle.brc_rule.specs.Opening.{first_view, Opens}
 
 -- nobody is gathered yet, and nobody stands but the root
 none_gathered : (n limit u : ℕ) → is_gathered (opening n limit) u ≡ false

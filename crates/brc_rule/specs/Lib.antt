@@ -3,7 +3,4 @@ pub mod Logs
 pub mod Homes
 pub mod Rule
 pub mod Seen
-pub mod Owing
-pub mod Taking
-pub mod Joining
 pub mod Opening

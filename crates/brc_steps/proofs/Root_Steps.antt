@@ -37,7 +37,7 @@ use Rattle.brc_rule.specs.Logs.{item_of, log_items, Run, items_of, own_of, world
 use Rattle.brc_rule.specs.Homes.{HomeShown}
 use Rattle.brc_rule.specs.Rule.{stands, log_in, Fits, Seated, Kept}
 use Rattle.brc_rule.specs.Seen.{part_seen}
-use Rattle.brc_rule.specs.Joining.{next_thread, registering, starting, gathering, spent, Registers, Leaves}
+use Rattle.brc_steps.specs.Joining.{next_thread, registering, starting, gathering, spent, Registers, Leaves}
 use Rattle.brc_rule.proofs.Own_Logs.{own_items, own_more, own_same, stands_registered, stands_ungathered}
 use Rattle.brc_rule.proofs.Growing.{at_inside}
 use Rattle.brc_rule.proofs.Homing.{Stays, home_stays}

@@ -40,13 +40,13 @@ use Rattle.brc_rule.specs.Logs.{kind_in, entries_in, Run, own_of, world, content
 use Rattle.brc_rule.specs.Homes.{LiesThere, HomeShown}
 use Rattle.brc_rule.specs.Rule.{with_told, Kept}
 use Rattle.brc_rule.specs.Seen.{part_seen, contents_locked}
-use Rattle.brc_rule.specs.Owing.{Carries, Unlocks}
-use Rattle.brc_rule.specs.Taking.{TookBlock, Locked}
+use Rattle.brc_steps.specs.Owing.{Carries, Unlocks}
+use Rattle.brc_steps.specs.Taking.{TookBlock, Locked}
 use Rattle.brc_rule.proofs.Homing.{home_out}
 use Rattle.brc_rule.proofs.Knowing.{Known, knows, is_enabled, meant_there}
-use Rattle.brc_rule.proofs.Local_Steps.{fits_cell, read_cell}
+use Rattle.brc_steps.proofs.Local_Steps.{fits_cell, read_cell}
 use Rattle.brc_rule.proofs.Looking.{lost, unmoved}
-use Rattle.brc_rule.proofs.Block_Steps.{BlockMoves, block_moved}
+use Rattle.brc_steps.proofs.Block_Steps.{BlockMoves, block_moved}
 use Rattle.brc_rule.proofs.Contents_Law.{AtRest, ContentsFit, contents_fit}
 use Rattle.brc_rule.proofs.Locked_Contents.{locked_contents}
 

@@ -47,14 +47,14 @@ use Rattle.brc_rule.specs.Logs.{kind_in, entries_in, Run, world, contents_at}
 use Rattle.brc_rule.specs.Homes.{HomeShown}
 use Rattle.brc_rule.specs.Rule.{with_told, Kept}
 use Rattle.brc_rule.specs.Seen.{part_seen, own_may}
-use Rattle.brc_rule.specs.Owing.{Carries, Claims, Bears}
-use Rattle.brc_rule.specs.Taking.{Claimed}
+use Rattle.brc_steps.specs.Owing.{Carries, Claims, Bears}
+use Rattle.brc_steps.specs.Taking.{Claimed}
 use Rattle.brc_rule.proofs.Homing.{home_out}
 use Rattle.brc_rule.proofs.Knowing.{Known, knows, is_enabled, hand_there}
-use Rattle.brc_rule.proofs.Local_Steps.{fits_cell, read_cell}
+use Rattle.brc_steps.proofs.Local_Steps.{fits_cell, read_cell}
 use Rattle.brc_rule.proofs.Looking.{lost, unmoved}
-use Rattle.brc_rule.proofs.Plain_Steps.{IsPlain, PlainOn, plain_on, same_owner, stays_on, plain_step}
-use Rattle.brc_rule.proofs.Block_Steps.{BlockMoves, block_moved}
+use Rattle.brc_steps.proofs.Plain_Steps.{IsPlain, PlainOn, plain_on, same_owner, stays_on, plain_step}
+use Rattle.brc_steps.proofs.Block_Steps.{BlockMoves, block_moved}
 
 -- a cell that a thread is making an object in
 making_low : (h : Heap) (t c : ℕ) → (cell_at h c).owner ≡ owners.Claimed t → c < length h.cells

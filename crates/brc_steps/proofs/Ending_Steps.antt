@@ -44,14 +44,14 @@ use Rattle.brc_rule.specs.declared.told.Told.{Told}
 use Rattle.brc_rule.specs.declared.view.View.{View}
 use Rattle.brc_rule.specs.Layout.{spot}
 use Rattle.brc_rule.specs.Rule.{Kept}
-use Rattle.brc_rule.specs.Owing.{Carries, EndsRisen}
-use Rattle.brc_rule.specs.Taking.{Ended}
+use Rattle.brc_steps.specs.Owing.{Carries, EndsRisen}
+use Rattle.brc_steps.specs.Taking.{Ended}
 use Rattle.brc_rule.proofs.Knowing.{Known, is_enabled, meant_there, hand_there}
-use Rattle.brc_rule.proofs.Local_Steps.{mortal_cell, fits_cell, read_cell}
-use Rattle.brc_rule.proofs.Numbers.{word_taken, bits_three}
-use Rattle.brc_rule.proofs.Plain_Steps.{same_owner}
-use Rattle.brc_rule.proofs.Shared_Steps.{HeldCell, held_cell, not_his, count_after}
-use Rattle.brc_rule.proofs.Taking_Steps.{EndsOn, end_step}
+use Rattle.brc_steps.proofs.Local_Steps.{mortal_cell, fits_cell, read_cell}
+use Rattle.brc_steps.proofs.Numbers.{word_taken, bits_three}
+use Rattle.brc_steps.proofs.Plain_Steps.{same_owner}
+use Rattle.brc_steps.proofs.Shared_Steps.{HeldCell, held_cell, not_his, count_after}
+use Rattle.brc_steps.proofs.Taking_Steps.{EndsOn, end_step}
 
 -- the number that is found tells whether the block is taken
 tells : (n limit : ℕ) (h : Heap) (t : ℕ) (log : List Told) (s : Step) (c there : ℕ) → Known n limit h t log → May h t s → target_at h t s ≡ Some c → there ≡ told_of h t s c

@@ -46,7 +46,3 @@ pub record Leaves (n : ℕ) (w : View) : Type 0 where
   pub hand : is_free_hand (part_seen n w.log).row.hand ≡ true
   pub popped : is_blank (part_seen n w.log).popped ≡ true
   pub worklist : is_unmarked (part_seen n w.log).worklist ≡ true
-
--- the root's view as the heap opens
-abbrev pub first_view : View
-first_view = record { active = true; thread = 0; log = []; gathered = [] }

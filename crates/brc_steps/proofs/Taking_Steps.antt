@@ -29,12 +29,12 @@ use Rattle.brc_rule.specs.Layout.{spot}
 use Rattle.brc_rule.specs.Logs.{Run, world, puts, takes_of, entries_in, contents_at}
 use Rattle.brc_rule.specs.Homes.{Homes, LiesThere, HomeShown}
 use Rattle.brc_rule.specs.Rule.{with_told, Kept}
-use Rattle.brc_rule.specs.Taking.{TookBlock, Ended}
+use Rattle.brc_steps.specs.Taking.{TookBlock, Ended}
 use Rattle.brc_rule.proofs.Homing.{Stays, home_stays, home_else, home_out}
 use Rattle.brc_rule.proofs.Stepping.{moved_on, thread_after, thread_enabled, Does, does}
 use Rattle.brc_rule.proofs.Knowing.{Known, knows}
-use Rattle.brc_rule.proofs.Plain_Steps.{PlainOn, plain_on, CellStays, stays_on, plainly}
-use Rattle.brc_rule.proofs.Block_Steps.{block_moved}
+use Rattle.brc_steps.proofs.Plain_Steps.{PlainOn, plain_on, CellStays, stays_on, plainly}
+use Rattle.brc_steps.proofs.Block_Steps.{block_moved}
 use Rattle.brc_rule.proofs.Contents_Law.{contents_fit}
 
 -- a thread's event that may take the block of its cell

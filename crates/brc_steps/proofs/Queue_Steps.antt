@@ -31,10 +31,10 @@ use Rattle.brc_rule.specs.declared.view.View.{View}
 use Rattle.brc_rule.specs.Layout.{spot}
 use Rattle.brc_rule.specs.Logs.{puts, takes_of}
 use Rattle.brc_rule.specs.Rule.{with_told, Kept}
-use Rattle.brc_rule.specs.Owing.{Allowed, Tells}
+use Rattle.brc_steps.specs.Owing.{Allowed, Tells}
 use Rattle.brc_rule.proofs.Own_Logs.{stands_registered}
 use Rattle.brc_rule.proofs.Knowing.{Known, is_enabled}
-use Rattle.brc_rule.proofs.Plain_Steps.{IsPlain, stays_off, plain_step}
+use Rattle.brc_steps.proofs.Plain_Steps.{IsPlain, stays_off, plain_step}
 
 -- a thread's event on a word that is no cell's
 record PlainOff (h : Heap) (t : ℕ) (s : Step) (w : Word) (written number : ℕ) : Type 0 where
