@@ -33,17 +33,9 @@ use Rattle.brc_rule.specs.declared.told.Moved.{Moved}
 use Rattle.brc_rule.specs.declared.told.Moved.TheVariants as moves
 use Rattle.brc_rule.specs.declared.told.Told.{Told}
 use Rattle.brc_rule.specs.declared.told.Told.TheVariants.{Did, Saw, Lost}
+use Rattle.brc_rule.specs.Homes.{AtRest, ContentsFit}
 use Rattle.brc_rule.specs.Logs.{kind_in, entries_in, item_of, Run, items_of, world, opening_contents, contents_at, puts, PutsHome, MovesWith, IsMoved, IsLegal}
 use Rattle.brc_rule.proofs.Stepping.{thread_after}
-
--- the object lives, and is on no worklist
-pub record AtRest (h : Heap) (c : ℕ) : Type 0 where
-  pub live : lives (cell_at h c).owner ≡ true
-  pub off : (u : ℕ) → is_marked (worklist_at h u) c ≡ false
-
-pub record ContentsFit (h : Heap) (run : Run) (c : ℕ) : Type 0 where
-  pub kind : kind_in (contents_at run c) ≡ (cell_at h c).kind
-  pub entries : entries_in (contents_at run c) ≡ entries_at h c
 
 -- ---- a step that puts nothing home there
 

@@ -14,7 +14,9 @@ use Rattle.brc_runs.specs.declared.event.Step.TheVariants.{Free, Unlock}
 use Rattle.brc_runs.specs.Lists.{is_marked}
 use Rattle.brc_runs.specs.Heap.{Heap, opening, cell_at, entries_at, row_at, frame_at, popped_at, worklist_at, is_registered, is_gathered, words_for, AreOptions}
 use Rattle.brc_runs.specs.Steps.{thread_may, stage_ok, lock_ok, hand_ok, own_ok, own_ok_at, others_ok, target_ok, target_at, is_empty, change_ok, locked_entries, locked_cell, locked_at}
+use Rattle.brc_runs.specs.Holding.{Headline}
 use Rattle.brc_runs.specs.Runs.{IsReached}
+use Rattle.brc_runs.proofs.Reached.{reached_headline}
 use Rattle.brc_known.specs.Items.{Part, part_of, IsPart, meant, events_of, own, world_of_items}
 use Rattle.brc_known.specs.Counts.{own_count, counts_of}
 use Rattle.brc_known.specs.Risen.{is_risen}
@@ -124,3 +126,16 @@ is_enabled n limit h t log s some_thread known own others target =
 -- the cell that the log's part means is the world's
 pub meant_there : (n limit : ℕ) (h : Heap) (t : ℕ) (log : List Told) (s : Step) (o : Option ℕ) → Known n limit h t log → meant (part_seen n log) s ≡ o → target_at h t s ≡ o
 meant_there n limit h t log s o known is = sym (part_target h t (part_seen n log) s known.part) ∙ is
+
+-- ---- what stands in a table that keeps the rule
+
+module _ {B : Type 0} (shows : B → ℕ × Contents) (n limit : ℕ) where
+  pub kept_reached : (s : State (Option B) View) (r : Kept shows n limit s) → IsReached (world n limit r.run)
+  kept_reached s r = run_reached n limit (events_of (items_of r.run)) r.options (events_run (opening n limit) (items_of r.run) r.legal.items)
+
+  pub kept_headline : (s : State (Option B) View) (r : Kept shows n limit s) → Headline (world n limit r.run)
+  kept_headline s r = reached_headline (world n limit r.run) (kept_reached s r)
+
+  pub kept_part : (s : State (Option B) View) (r : Kept shows n limit s) (j : ℕ) (v : View) → get_elem? s.views j ≡ some v → v.active ≡ true → 0 < v.thread
+      → IsPart (world n limit r.run) v.thread (part_seen n v.log)
+  kept_part s r j v at active some_thread = (knows shows n limit s r j v at active some_thread).part

@@ -31,7 +31,7 @@ use Rattle.brc_rule.specs.declared.told.Moved.{Moved}
 use Rattle.brc_rule.specs.declared.told.Moved.TheVariants as moves
 use Rattle.brc_rule.specs.declared.told.Told.{Told}
 use Rattle.brc_rule.specs.declared.told.Told.TheVariants.{Did, Saw, Lost}
-use Rattle.brc_rule.specs.Logs.{item_of, Run, items_of, own_of, world, contents_at, put_by, puts, takes, takes_of, MovesWith, IsMoved, IsLegal}
+use Rattle.brc_rule.specs.Logs.{item_of, Run, items_of, own_of, world, contents_at, put_by, puts, takes, takes_of, MovesWith, IsMoved, IsLegal, keeps}
 use Rattle.brc_rule.specs.Seen.{contents_on, contents_locked}
 use Rattle.brc_rule.proofs.Own_Logs.{own_more, own_same}
 use Rattle.brc_rule.proofs.Stepping.{moved_on, thread_after, no_start}
@@ -264,3 +264,10 @@ module _ (n limit : ℕ) where
   pub locked_contents : (run : Run) (t c : ℕ) → AreOptions n limit → IsLegal n limit run → 0 < t → locked_at (world n limit run) t ≡ Some c → contents_locked (own_of t run) ≡ Some (contents_at run c)
   unfolding Says
   locked_contents run t c options legal some_thread named = says run t c options legal some_thread named
+
+-- what a step finds, and what an unlock keeps, is what was put home last
+pub found_is_put : (n limit : ℕ) (run : Run) (t : ℕ) (s : Step) (number c : ℕ) (p : Contents) → IsLegal n limit ((t, Did s number (moves.Found c p)) ∷ run) → p ≡ contents_at run c
+found_is_put n limit run t s number c p legal = legal.moved.1.there
+
+pub kept_is_put : (n limit : ℕ) (run : Run) (t : ℕ) (s : Step) (number c : ℕ) (p : Contents) → IsLegal n limit ((t, Did s number (moves.Put c p)) ∷ run) → keeps s ≡ true → p ≡ contents_at run c
+kept_is_put n limit run t s number c p legal keep = legal.moved.1.kept keep

@@ -47,7 +47,8 @@ use Rattle.brc_rule.proofs.Knowing.{Known, knows, is_enabled, meant_there}
 use Rattle.brc_steps.proofs.Local_Steps.{fits_cell, read_cell}
 use Rattle.brc_rule.proofs.Looking.{lost, unmoved}
 use Rattle.brc_steps.proofs.Block_Steps.{BlockMoves, block_moved}
-use Rattle.brc_rule.proofs.Contents_Law.{AtRest, ContentsFit, contents_fit}
+use Rattle.brc_rule.specs.Homes.{AtRest, ContentsFit}
+use Rattle.brc_rule.proofs.Contents_Law.{contents_fit}
 use Rattle.brc_rule.proofs.Locked_Contents.{locked_contents}
 
 -- what a place of a frame names is one of the heap's cells, alive, and on no worklist

@@ -4,3 +4,10 @@
 //! moves, in `specs/Taking.antt`; how seats are split and joined in `specs/Joining.antt`. Each law has the form that a
 //! step of `atomic_table` asks (`Allows`, `Splits`, `Joins`). Nothing runs here; `brc_table` makes the steps.
 #![tactic(auto)]
+
+mod laws;
+
+pub use laws::{
+    cells_are_used_again, objects_are_locked, objects_end, others_count, owners_count,
+    queues_are_drained, threads_come_and_go,
+};
