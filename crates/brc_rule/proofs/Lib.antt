@@ -15,3 +15,4 @@ pub mod Taking_Steps
 pub mod Ending_Steps
 pub mod Making_Steps
 pub mod Locked_Contents
+pub mod Since

@@ -3,5 +3,6 @@ pub mod Logs
 pub mod Homes
 pub mod Rule
 pub mod Seen
+pub mod Noted
 pub mod Owing
 pub mod Taking
