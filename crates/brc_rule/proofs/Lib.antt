@@ -16,3 +16,5 @@ pub mod Ending_Steps
 pub mod Making_Steps
 pub mod Locked_Contents
 pub mod Since
+pub mod Noting
+pub mod Last_Steps

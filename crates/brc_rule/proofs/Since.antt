@@ -1,5 +1,5 @@
 -- What lasts while others step, and was so as a note was made, is so now.
-use Rattle.std.proofs.Common.{◌≡◌, ◌≢◌, ℕ, ◌+◌, ◌<◌, ◌==◌, ◌&&◌, ◌||◌, not, nat_lt, Bool, true, false, if◌then◌else◌, List, [], ◌∷◌, length, set, get_or, Option, Some, None, refl, sym, ◌∙◌, ap, subst, inl, inr, arith}
+use Rattle.std.proofs.Common.{◌≡◌, ℕ, ◌<◌, ◌==◌, ◌&&◌, ◌||◌, not, nat_lt, true, false, if◌then◌else◌, List, [], ◌∷◌, length, Some, None, refl, sym, ◌∙◌, ap, subst, inl, inr, arith}
 use Rattle.std.proofs.lemmas.Bool.{cases_eq, cases_Bool, eq-eqb, ne_eqb, eqb-true, ltb-true, lt-ltb, and_parts, true≢false}
 use Rattle.std.proofs.lemmas.List.{get_or-set_same}
 use Rattle.std.specs.Cmp.Derive.{both_true}
@@ -31,7 +31,7 @@ use Rattle.brc_rule.specs.Logs.{item_of, Run, items_of, own_of, world, IsLegal}
 use Rattle.brc_rule.specs.Rule.{stands}
 use Rattle.brc_rule.specs.Seen.{part_seen}
 use Rattle.brc_rule.specs.Noted.{is_field, is_of, noted}
-use Rattle.brc_rule.proofs.Own_Logs.{stands_registered, stands_ungathered, own_same}
+use Rattle.brc_rule.proofs.Own_Logs.{stands_registered, stands_ungathered}
 use Rattle.brc_rule.proofs.Knowing.{Known, knows_run}
 
 -- ---- who stands after another's event stood before it

@@ -1,17 +1,21 @@
 -- What each kind of step asks of its seat's log, and of nothing else.
-use Rattle.std.specs.Prelude.{◌≡◌, ◌⊎◌, ℕ, ◌<◌, ◌≤◌, true, List, [], Some}
+use Rattle.std.specs.Prelude.{◌≡◌, ◌≢◌, ◌⊎◌, ℕ, ◌%◌, ◌<◌, ◌≤◌, true, List, [], Some}
 use Rattle.brc_words.specs.declared.limits.TheConstants.{FIRST_MORTAL}
 use Rattle.brc_runs.specs.declared.event.Source.{Source}
 use Rattle.brc_runs.specs.declared.event.Dropped.{Dropped}
 use Rattle.brc_runs.specs.declared.event.Step.{Step}
 use Rattle.brc_runs.specs.declared.event.Step.TheVariants.{Claim, Birth, LocalUp, LocalDown, SharedUp, LastDown}
+use Rattle.brc_runs.specs.declared.row.Hand.TheVariants as hands
+use Rattle.brc_runs.specs.declared.row.Phase.TheVariants as phases
 use Rattle.brc_runs.specs.declared.event.LastDropped.TheVariants as lasts
+use Rattle.brc_known.specs.declared.word.Field.TheVariants.{Owner, Shared}
 use Rattle.brc_known.specs.Items.{meant}
 use Rattle.brc_words.specs.declared.kind.Kind.{Kind}
 use Rattle.brc_rule.specs.declared.contents.Contents.{Contents}
 use Rattle.brc_rule.specs.declared.told.Told.{Told}
 use Rattle.brc_rule.specs.Logs.{kind_in, entries_in}
 use Rattle.brc_rule.specs.Seen.{part_seen, counts_seen, risen_seen, own_may}
+use Rattle.brc_rule.specs.Noted.{noted}
 
 -- an own object whose count may rise
 pub record Raises (n limit : ℕ) (log : List Told) (source : Source) (k c count : ℕ) : Type 0 where
@@ -78,3 +82,22 @@ pub record Bears (n : ℕ) (log : List Told) (block : ℕ × Contents) (kind : K
   pub of_cell : block.0 ≡ c
   pub kind_is : kind_in block.1 ≡ kind
   pub empty : entries_in block.1 ≡ []
+
+-- ---- steps by a note: a look at a word of the cell, and no step of the thread's own since
+
+-- a popped entry of an object that is noted as merged
+pub record EndsPopped (n : ℕ) (log : List Told) (c number : ℕ) : Type 0 where
+  pub own : own_may n (part_seen n log) (LastDown (lasts.Popped c)) ≡ true
+  pub found : noted Shared c log ≡ Some number
+  pub merged : number % 4 ≡ 3
+
+-- the reference in the hand, of an object that the thread has adopted
+pub record EndsHeld (n : ℕ) (log : List Told) (c : ℕ) : Type 0 where
+  pub own : own_may n (part_seen n log) (LastDown lasts.Hand) ≡ true
+  pub hand : (part_seen n log).row.hand ≡ hands.Busy phases.Held c
+
+-- a reference that was asked for, of an object that is noted as nobody's
+pub record EndsNobodys (n : ℕ) (log : List Told) (c : ℕ) : Type 0 where
+  pub own : own_may n (part_seen n log) (LastDown lasts.Hand) ≡ true
+  pub cell : meant (part_seen n log) (LastDown lasts.Hand) ≡ Some c
+  pub found : noted Owner c log ≡ Some 0
