@@ -18,3 +18,4 @@ pub mod Locked_Contents
 pub mod Since
 pub mod Noting
 pub mod Last_Steps
+pub mod Untying_Steps

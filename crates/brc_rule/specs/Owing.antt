@@ -4,7 +4,7 @@ use Rattle.brc_words.specs.declared.limits.TheConstants.{FIRST_MORTAL}
 use Rattle.brc_runs.specs.declared.event.Source.{Source}
 use Rattle.brc_runs.specs.declared.event.Dropped.{Dropped}
 use Rattle.brc_runs.specs.declared.event.Step.{Step}
-use Rattle.brc_runs.specs.declared.event.Step.TheVariants.{Claim, Birth, LocalUp, LocalDown, SharedUp, LastDown}
+use Rattle.brc_runs.specs.declared.event.Step.TheVariants.{Claim, Birth, LocalUp, LocalDown, SharedUp, LastDown, Untie}
 use Rattle.brc_runs.specs.declared.row.Hand.TheVariants as hands
 use Rattle.brc_runs.specs.declared.row.Phase.TheVariants as phases
 use Rattle.brc_runs.specs.declared.event.LastDropped.TheVariants as lasts
@@ -101,3 +101,22 @@ pub record EndsNobodys (n : ℕ) (log : List Told) (c : ℕ) : Type 0 where
   pub own : own_may n (part_seen n log) (LastDown lasts.Hand) ≡ true
   pub cell : meant (part_seen n log) (LastDown lasts.Hand) ≡ Some c
   pub found : noted Owner c log ≡ Some 0
+
+-- an own object whose count is 0, and which others counted or asked for
+pub record UntiesOver (n : ℕ) (log : List Told) (c : ℕ) : Type 0 where
+  pub own : own_may n (part_seen n log) (Untie c) ≡ true
+  pub hand : (part_seen n log).row.hand ≡ hands.Busy phases.Over c
+
+-- an object whose owner has left, and which is noted as not nobody's
+pub record UntiesShut (n : ℕ) (log : List Told) (c number : ℕ) : Type 0 where
+  pub own : own_may n (part_seen n log) (Untie c) ≡ true
+  pub hand : (part_seen n log).row.hand ≡ hands.Busy phases.Shut c
+  pub found : noted Owner c log ≡ Some number
+  pub owned : 0 < number
+
+-- a popped entry of an object that is noted as not merged
+pub record UntiesPopped (n : ℕ) (log : List Told) (c number : ℕ) : Type 0 where
+  pub own : own_may n (part_seen n log) (Untie c) ≡ true
+  pub hand : (part_seen n log).row.hand ≡ hands.Free
+  pub found : noted Shared c log ≡ Some number
+  pub unmerged : number % 4 ≢ 3
