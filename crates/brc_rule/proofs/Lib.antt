@@ -19,3 +19,4 @@ pub mod Since
 pub mod Noting
 pub mod Last_Steps
 pub mod Untying_Steps
+pub mod Adding_Steps

@@ -4,11 +4,11 @@ use Rattle.brc_words.specs.declared.limits.TheConstants.{FIRST_MORTAL}
 use Rattle.brc_runs.specs.declared.event.Source.{Source}
 use Rattle.brc_runs.specs.declared.event.Dropped.{Dropped}
 use Rattle.brc_runs.specs.declared.event.Step.{Step}
-use Rattle.brc_runs.specs.declared.event.Step.TheVariants.{Claim, Birth, LocalUp, LocalDown, SharedUp, LastDown, Untie}
+use Rattle.brc_runs.specs.declared.event.Step.TheVariants.{Claim, Birth, LocalUp, LocalDown, SharedUp, LastDown, Untie, MergeAdd}
 use Rattle.brc_runs.specs.declared.row.Hand.TheVariants as hands
 use Rattle.brc_runs.specs.declared.row.Phase.TheVariants as phases
 use Rattle.brc_runs.specs.declared.event.LastDropped.TheVariants as lasts
-use Rattle.brc_known.specs.declared.word.Field.TheVariants.{Owner, Shared}
+use Rattle.brc_known.specs.declared.word.Field.TheVariants.{Owner, Local, Shared}
 use Rattle.brc_known.specs.Items.{meant}
 use Rattle.brc_words.specs.declared.kind.Kind.{Kind}
 use Rattle.brc_rule.specs.declared.contents.Contents.{Contents}
@@ -120,3 +120,8 @@ pub record UntiesPopped (n : ℕ) (log : List Told) (c number : ℕ) : Type 0 wh
   pub hand : (part_seen n log).row.hand ≡ hands.Free
   pub found : noted Shared c log ≡ Some number
   pub unmerged : number % 4 ≢ 3
+
+-- an object that the thread has made nobody's, with its local count as it is noted
+pub record AddsLocal (n : ℕ) (log : List Told) (c local : ℕ) : Type 0 where
+  pub own : own_may n (part_seen n log) (MergeAdd c) ≡ true
+  pub found : noted Local c log ≡ Some local
