@@ -20,3 +20,4 @@ pub mod Noting
 pub mod Last_Steps
 pub mod Untying_Steps
 pub mod Adding_Steps
+pub mod Queueing_Steps

@@ -1,10 +1,10 @@
 -- What each kind of step asks of its seat's log, and of nothing else.
 use Rattle.std.specs.Prelude.{◌≡◌, ◌≢◌, ◌⊎◌, ℕ, ◌%◌, ◌<◌, ◌≤◌, true, List, [], Some}
-use Rattle.brc_words.specs.declared.limits.TheConstants.{FIRST_MORTAL}
+use Rattle.brc_words.specs.declared.limits.TheConstants.{FIRST_MORTAL, MOST_THREADS}
 use Rattle.brc_runs.specs.declared.event.Source.{Source}
 use Rattle.brc_runs.specs.declared.event.Dropped.{Dropped}
 use Rattle.brc_runs.specs.declared.event.Step.{Step}
-use Rattle.brc_runs.specs.declared.event.Step.TheVariants.{Claim, Birth, LocalUp, LocalDown, SharedUp, LastDown, Untie, MergeAdd}
+use Rattle.brc_runs.specs.declared.event.Step.TheVariants.{Claim, Birth, LocalUp, LocalDown, SharedUp, LastDown, Untie, MergeAdd, Enqueue}
 use Rattle.brc_runs.specs.declared.row.Hand.TheVariants as hands
 use Rattle.brc_runs.specs.declared.row.Phase.TheVariants as phases
 use Rattle.brc_runs.specs.declared.event.LastDropped.TheVariants as lasts
@@ -125,3 +125,10 @@ pub record UntiesPopped (n : ℕ) (log : List Told) (c number : ℕ) : Type 0 wh
 pub record AddsLocal (n : ℕ) (log : List Told) (c local : ℕ) : Type 0 where
   pub own : own_may n (part_seen n log) (MergeAdd c) ≡ true
   pub found : noted Local c log ≡ Some local
+
+-- an object that the thread has asked for, and that is noted as thread q's
+pub record Enqueues (n : ℕ) (log : List Told) (c q : ℕ) : Type 0 where
+  pub own : own_may n (part_seen n log) (Enqueue c) ≡ true
+  pub found : noted Owner c log ≡ Some q
+  pub owned : 0 < q
+  pub thread : q ≤ MOST_THREADS
