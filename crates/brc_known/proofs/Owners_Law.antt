@@ -14,7 +14,7 @@ use Rattle.brc_lasting.proofs.Ranges_Law.{same_rows, registered_stays, owner_reg
 use Rattle.brc_known.proofs.Items_Tells.{Follows, tells}
 
 -- a thread's number in an owner word is that of the thread that owns the cell
-thread_spelled : (o : owner.Owner) (q : ℕ) → q ≡ word_of o → 0 < q → q ≤ MOST_THREADS → o ≡ owners.Thread q
+pub thread_spelled : (o : owner.Owner) (q : ℕ) → q ≡ word_of o → 0 < q → q ≤ MOST_THREADS → o ≡ owners.Thread q
 thread_spelled owners.Nobody q is low few = absurd (omega (arith, is, low))
 thread_spelled (owners.Thread s) q is low few = ap owners.Thread (sym is)
 thread_spelled (owners.Claimed s) q is low few = absurd (omega (arith, is, few))

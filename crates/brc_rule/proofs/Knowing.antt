@@ -35,13 +35,17 @@ use Rattle.brc_known.proofs.Owners_Law.{owners_are_registered}
 use Rattle.brc_rule.specs.declared.contents.Contents.{Contents}
 use Rattle.brc_rule.specs.declared.told.Told.{Told}
 use Rattle.brc_rule.specs.declared.view.View.{View}
-use Rattle.brc_rule.specs.Logs.{log_items, Run, items_of, own_of, world}
+use Rattle.brc_rule.specs.Logs.{log_items, Run, items_of, own_of, world, IsLegal}
 use Rattle.brc_rule.specs.Rule.{stands, Fits, Kept}
 use Rattle.brc_rule.specs.Seen.{part_seen, counts_seen, risen_seen, own_may}
 use Rattle.brc_rule.proofs.Own_Logs.{own_items, stands_registered, stands_ungathered}
 
--- what the log says, in the world
+-- what the log says, in the world; and there is a run to it in which the log is all that the thread did
 pub record Known (n limit : ℕ) (h : Heap) (t : ℕ) (log : List Told) : Type 0 where
+  pub run : Run
+  pub legal : IsLegal n limit run
+  pub is_world : world n limit run ≡ h
+  pub is_own : own_of t run ≡ log
   pub options : AreOptions n limit
   pub reached : IsReached h
   pub cells : length h.cells ≡ n
@@ -53,27 +57,34 @@ pub record Known (n limit : ℕ) (h : Heap) (t : ℕ) (log : List Told) : Type 0
   pub owners : (q : ℕ) → has_seen_owner (log_items log) q ≡ true → 0 < q → q ≤ MOST_THREADS → is_registered h q ≡ true
   pub risen : (drop : Dropped) (c : ℕ) → risen_seen n log drop c ≡ true → FIRST_MORTAL ≤ c → 1 ≤ rank (cell_at h c).state
 
+pub knows_run : (n limit : ℕ) (run : Run) (t : ℕ) → AreOptions n limit → IsLegal n limit run → stands (world n limit run) t ≡ true → 0 < t → Known n limit (world n limit run) t (own_of t run)
+knows_run n limit run t options legal stood some_thread =
+    let h : Heap = world n limit run in
+    let log : own t (items_of run) ≡ log_items (own_of t run) = own_items t run in
+    let there : is_registered h t ≡ true = stands_registered h t stood some_thread in
+    record {
+      run = run;
+      legal = legal;
+      is_world = refl;
+      is_own = refl;
+      options = options;
+      reached = run_reached n limit (events_of (items_of run)) options (events_run (opening n limit) (items_of run) legal.items);
+      cells = run_cells n limit (events_of (items_of run));
+      limit_is = run_limit n limit (events_of (items_of run));
+      queues = run_queues n limit (events_of (items_of run));
+      stood = stood;
+      part = subst (λ items. IsPart h t (part_of n items)) log (parts_are_told n limit (items_of run) t options legal.items there);
+      counts = λ c mortal. counts_are_told n limit (items_of run) t c options legal.items there mortal ∙ ap (λ items. counts_of n items c) log;
+      owners = λ q seen low few. owners_are_registered n limit (items_of run) t q options legal.items there (ap (λ items. has_seen_owner items q) log ∙ seen) low few;
+      risen = λ drop c seen mortal. risen_is_told n limit (items_of run) t c drop options legal.items there (ap (λ items. is_risen n items drop c) log ∙ seen) mortal;
+    }
+
 module _ {B : Type 0} (shows : B → ℕ × Contents) (n limit : ℕ) where
   pub knows : (s : State (Option B) View) (r : Kept shows n limit s) (id : ℕ) (v : View) → get_elem? s.views id ≡ some v → v.active ≡ true → 0 < v.thread
       → Known n limit (world n limit r.run) v.thread v.log
   knows s r id v at active some_thread =
-      let t : ℕ = v.thread in
-      let h : Heap = world n limit r.run in
-      let fits : Fits h r.run r.seat id v = r.each_seat id v at active in
-      let log : own t (items_of r.run) ≡ log_items v.log = own_items t r.run ∙ ap log_items fits.log in
-      let there : is_registered h t ≡ true = stands_registered h t fits.there some_thread in
-      record {
-        options = r.options;
-        reached = run_reached n limit (events_of (items_of r.run)) r.options (events_run (opening n limit) (items_of r.run) r.legal.items);
-        cells = run_cells n limit (events_of (items_of r.run));
-        limit_is = run_limit n limit (events_of (items_of r.run));
-        queues = run_queues n limit (events_of (items_of r.run));
-        stood = fits.there;
-        part = subst (λ items. IsPart h t (part_of n items)) log (parts_are_told n limit (items_of r.run) t r.options r.legal.items there);
-        counts = λ c mortal. counts_are_told n limit (items_of r.run) t c r.options r.legal.items there mortal ∙ ap (λ items. counts_of n items c) log;
-        owners = λ q seen low few. owners_are_registered n limit (items_of r.run) t q r.options r.legal.items there (ap (λ items. has_seen_owner items q) log ∙ seen) low few;
-        risen = λ drop c seen mortal. risen_is_told n limit (items_of r.run) t c drop r.options r.legal.items there (ap (λ items. is_risen n items drop c) log ∙ seen) mortal;
-      }
+      let fits : Fits (world n limit r.run) r.run r.seat id v = r.each_seat id v at active in
+      subst (Known n limit (world n limit r.run) v.thread) fits.log (knows_run n limit r.run v.thread r.options r.legal fits.there some_thread)
 
 -- ---- the own part decides
 

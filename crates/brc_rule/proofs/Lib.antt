@@ -8,3 +8,5 @@ pub mod Knowing
 pub mod Contents_Law
 pub mod Locked_Contents
 pub mod Opening_Law
+pub mod Since
+pub mod Noting

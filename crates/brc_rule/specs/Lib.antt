@@ -4,3 +4,4 @@ pub mod Homes
 pub mod Rule
 pub mod Seen
 pub mod Opening
+pub mod Noted

@@ -1,15 +1,18 @@
 -- What each kind of step asks of its seat's log, and of nothing else.
-use Rattle.std.specs.Prelude.{◌≡◌, ◌⊎◌, ℕ, ◌<◌, ◌≤◌, ◌||◌, true, List, [], Some}
+use Rattle.std.specs.Prelude.{◌≡◌, ◌≢◌, ◌⊎◌, ℕ, ◌%◌, ◌<◌, ◌≤◌, ◌||◌, true, List, [], Some}
 use Rattle.brc_words.specs.declared.limits.TheConstants.{FIRST_MORTAL, MOST_THREADS}
 use Rattle.brc_runs.specs.declared.event.Source.{Source}
 use Rattle.brc_runs.specs.declared.event.Dropped.{Dropped}
 use Rattle.brc_runs.specs.declared.event.Change.{Change}
 use Rattle.brc_runs.specs.declared.event.Step.{Step}
-use Rattle.brc_runs.specs.declared.event.Step.TheVariants.{Claim, Birth, LocalUp, LocalDown, SharedUp, LastDown, Nudge, Unlock}
+use Rattle.brc_runs.specs.declared.event.Step.TheVariants.{Claim, Birth, LocalUp, LocalDown, SharedUp, LastDown, Untie, MergeAdd, Enqueue, Nudge, Unlock}
 use Rattle.brc_runs.specs.declared.event.LastDropped.TheVariants as lasts
 use Rattle.brc_words.specs.Kinds.{is_container}
 use Rattle.brc_runs.specs.Steps.{is_keep, entries_changed}
 use Rattle.brc_runs.specs.Heap.{words_for}
+use Rattle.brc_runs.specs.declared.row.Hand.TheVariants as hands
+use Rattle.brc_runs.specs.declared.row.Phase.TheVariants as phases
+use Rattle.brc_known.specs.declared.word.Field.TheVariants.{Owner, Local, Shared}
 use Rattle.brc_known.specs.Items.{meant}
 use Rattle.brc_known.specs.Owners_Seen.{has_seen_owner}
 use Rattle.brc_words.specs.declared.kind.Kind.{Kind}
@@ -17,6 +20,7 @@ use Rattle.brc_rule.specs.declared.contents.Contents.{Contents}
 use Rattle.brc_rule.specs.declared.told.Told.{Told}
 use Rattle.brc_rule.specs.Logs.{kind_in, entries_in, log_items}
 use Rattle.brc_rule.specs.Seen.{part_seen, counts_seen, risen_seen, contents_locked, own_may}
+use Rattle.brc_rule.specs.Noted.{noted}
 
 -- an own object whose count may rise
 pub record Raises (n limit : ℕ) (log : List Told) (source : Source) (k c count : ℕ) : Type 0 where
@@ -107,3 +111,53 @@ pub record Tells (n : ℕ) (log : List Told) (q k : ℕ) : Type 0 where
   pub some_thread : 0 < q
   pub few : q ≤ MOST_THREADS
   pub word : k < words_for n
+
+-- ---- steps by a note: a look at a word of the cell, and no step of the thread's own since
+
+-- a popped entry of an object that is noted as merged
+pub record EndsPopped (n : ℕ) (log : List Told) (c number : ℕ) : Type 0 where
+  pub own : own_may n (part_seen n log) (LastDown (lasts.Popped c)) ≡ true
+  pub found : noted Shared c log ≡ Some number
+  pub merged : number % 4 ≡ 3
+
+-- the reference in the hand, of an object that the thread has adopted
+pub record EndsHeld (n : ℕ) (log : List Told) (c : ℕ) : Type 0 where
+  pub own : own_may n (part_seen n log) (LastDown lasts.Hand) ≡ true
+  pub hand : (part_seen n log).row.hand ≡ hands.Busy phases.Held c
+
+-- a reference that was asked for, of an object that is noted as nobody's
+pub record EndsNobodys (n : ℕ) (log : List Told) (c : ℕ) : Type 0 where
+  pub own : own_may n (part_seen n log) (LastDown lasts.Hand) ≡ true
+  pub cell : meant (part_seen n log) (LastDown lasts.Hand) ≡ Some c
+  pub found : noted Owner c log ≡ Some 0
+
+-- an own object whose count is 0, and which others counted or asked for
+pub record UntiesOver (n : ℕ) (log : List Told) (c : ℕ) : Type 0 where
+  pub own : own_may n (part_seen n log) (Untie c) ≡ true
+  pub hand : (part_seen n log).row.hand ≡ hands.Busy phases.Over c
+
+-- an object whose owner has left, and which is noted as not nobody's
+pub record UntiesShut (n : ℕ) (log : List Told) (c number : ℕ) : Type 0 where
+  pub own : own_may n (part_seen n log) (Untie c) ≡ true
+  pub hand : (part_seen n log).row.hand ≡ hands.Busy phases.Shut c
+  pub found : noted Owner c log ≡ Some number
+  pub owned : 0 < number
+
+-- a popped entry of an object that is noted as not merged
+pub record UntiesPopped (n : ℕ) (log : List Told) (c number : ℕ) : Type 0 where
+  pub own : own_may n (part_seen n log) (Untie c) ≡ true
+  pub hand : (part_seen n log).row.hand ≡ hands.Free
+  pub found : noted Shared c log ≡ Some number
+  pub unmerged : number % 4 ≢ 3
+
+-- an object that the thread has made nobody's, with its local count as it is noted
+pub record AddsLocal (n : ℕ) (log : List Told) (c local : ℕ) : Type 0 where
+  pub own : own_may n (part_seen n log) (MergeAdd c) ≡ true
+  pub found : noted Local c log ≡ Some local
+
+-- an object that the thread has asked for, and that is noted as thread q's
+pub record Enqueues (n : ℕ) (log : List Told) (c q : ℕ) : Type 0 where
+  pub own : own_may n (part_seen n log) (Enqueue c) ≡ true
+  pub found : noted Owner c log ≡ Some q
+  pub owned : 0 < q
+  pub thread : q ≤ MOST_THREADS

@@ -1,0 +1,67 @@
+-- What a note tells of its cell, and what its thread's part says of hand and popped bits.
+use Rattle.std.proofs.Common.{◌≡◌, ◌≢◌, ℕ, ◌%◌, true, ℤ, List, refl, ◌∙◌, ap, inl, inr, arith}
+use Rattle.std.proofs.lemmas.Bool.{and_parts, eq-eqb}
+use Rattle.std.specs.Cmp.Derive.{both_true}
+use Rattle.brc_words.specs.declared.owner.Owner.{Owner}
+use Rattle.brc_words.specs.declared.owner.Owner.TheVariants as owners
+use Rattle.brc_words.specs.declared.state.State.{State}
+use Rattle.brc_words.specs.declared.state.State.TheVariants as states
+use Rattle.brc_words.specs.Owners.{word_of}
+use Rattle.brc_words.specs.Shared.{bits_of}
+use Rattle.brc_runs.specs.declared.event.Step.{Step}
+use Rattle.brc_runs.specs.declared.row.Hand.{Hand}
+use Rattle.brc_runs.specs.declared.row.Hand.TheVariants as hands
+use Rattle.brc_runs.specs.declared.row.Phase.{Phase}
+use Rattle.brc_runs.specs.declared.row.Row.{Row}
+use Rattle.brc_runs.specs.Lists.{bit_of}
+use Rattle.brc_runs.specs.Phases.{has_reference}
+use Rattle.brc_runs.specs.Heap.{Heap, row_at, popped_at, words_for}
+use Rattle.brc_runs.specs.Holding.{carries}
+use Rattle.brc_runs.specs.Steps.{hand_ok, own_ok}
+use Rattle.brc_lasting.specs.Ranges.{OwnerFits}
+use Rattle.brc_lasting.specs.Staying.{Has}
+use Rattle.brc_known.specs.Items.{Part, shared_word}
+use Rattle.brc_rule.specs.declared.told.Told.{Told}
+use Rattle.brc_rule.specs.Seen.{part_seen, own_may}
+use Rattle.brc_rule.proofs.Knowing.{Known}
+
+-- ---- numbers
+
+-- the shared word of a merged object ends in 3, and no other does
+pub merged_word : (count : ℤ) (state : State) (number : ℕ) → number ≡ shared_word count state → number % 4 ≡ 3 → state ≡ states.Merged
+merged_word count states.Default number is ends = absurd (omega (arith, is, ends))
+merged_word count states.Queued number is ends = absurd (omega (arith, is, ends))
+merged_word count states.Merged number is ends = refl
+
+pub unmerged_word : (count : ℤ) (state : State) (number : ℕ) → number ≡ shared_word count state → number % 4 ≢ 3 → state ≢ states.Merged
+unmerged_word count state number is other merged = other (omega (arith, is, ap bits_of merged))
+
+-- an owner word of 0 is nobody's
+pub nobodys_word : (threads : ℕ) (owner : Owner) → OwnerFits threads owner → 0 ≡ word_of owner → owner ≡ owners.Nobody
+nobodys_word threads owners.Nobody fits is = refl
+nobodys_word threads (owners.Thread s) fits is = absurd (omega (arith, is, fits.0))
+nobodys_word threads (owners.Claimed s) fits is = absurd (omega (arith, is))
+nobodys_word threads owners.Free fits is = absurd (omega (arith, is))
+
+-- ---- the own part
+
+pub part_hand : (n : ℕ) (part : Part) (s : Step) → own_may n part s ≡ true → hand_ok part.row.hand s ≡ true
+part_hand n part s own = (and_parts _ _ (and_parts _ _ own).0).1
+
+pub part_own : (n : ℕ) (part : Part) (s : Step) → own_may n part s ≡ true → own_ok (words_for n) part.row part.frame part.popped part.worklist part.has s ≡ true
+part_own n part s own = (and_parts _ _ own).1
+
+-- what the part of one log says is so in the world of another with the same part
+pub hand_in : (n limit : ℕ) (h : Heap) (t : ℕ) (log now : List Told) (hand : Hand) → Known n limit h t log → part_seen n log ≡ part_seen n now → (part_seen n now).row.hand ≡ hand → (row_at h t).hand ≡ hand
+hand_in n limit h t log now hand known same is = ap (λ (r : Row). r.hand) known.part.row_is ∙ ap (λ (p : Part). p.row.hand) same ∙ is
+
+pub bit_in : (n limit : ℕ) (h : Heap) (t : ℕ) (log now : List Told) (c : ℕ) → Known n limit h t log → part_seen n log ≡ part_seen n now → bit_of (part_seen n now).popped c ≡ 1 → bit_of (popped_at h t) c ≡ 1
+bit_in n limit h t log now c known same is = ap (λ (words : List ℕ). bit_of words c) known.part.popped_is ∙ ap (λ (p : Part). bit_of p.popped c) same ∙ is
+
+-- ---- what the thread has
+
+pub has_popped : (h : Heap) (t c : ℕ) → bit_of (popped_at h t) c ≡ 1 → Has h t c
+has_popped h t c bit = inr (inr (inl bit))
+
+pub has_in_hand : (h : Heap) (t c : ℕ) (p : Phase) → (row_at h t).hand ≡ hands.Busy p c → has_reference p ≡ true → Has h t c
+has_in_hand h t c p busy refers = inr (inl (ap (carries c) busy ∙ both_true refers (eq-eqb c c refl)))

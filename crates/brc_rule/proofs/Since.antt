@@ -1,0 +1,201 @@
+-- What lasts while others step, and was so as a note was made, is so now.
+use Rattle.std.proofs.Common.{◌≡◌, ℕ, ◌<◌, ◌==◌, ◌&&◌, ◌||◌, not, nat_lt, true, false, if◌then◌else◌, List, [], ◌∷◌, length, Some, None, refl, sym, ◌∙◌, ap, subst, inl, inr, arith}
+use Rattle.std.proofs.lemmas.Bool.{cases_eq, cases_Bool, eq-eqb, ne_eqb, eqb-true, ltb-true, lt-ltb, and_parts, true≢false}
+use Rattle.std.proofs.lemmas.List.{get_or-set_same}
+use Rattle.std.specs.Cmp.Derive.{both_true}
+use Rattle.brc_runs.specs.declared.event.Event.{Event}
+use Rattle.brc_runs.specs.declared.event.Step.{Step}
+use Rattle.brc_runs.specs.declared.event.Step.TheVariants.{Register, Gather}
+use Rattle.brc_runs.specs.Lists.{number_in}
+use Rattle.brc_runs.specs.Heap.{Heap, opening, new_row, is_registered, is_gathered, AreOptions}
+use Rattle.brc_runs.specs.Runs.{IsReached}
+use Rattle.brc_runs.specs.Sound.{IsSound}
+use Rattle.brc_runs.specs.Steps.{enabled, after, after_target, root_after, root_may, thread_may, target_at}
+use Rattle.brc_runs.proofs.Asking.{May, may_parts}
+use Rattle.brc_runs.proofs.Reached.{reached_sound}
+use Rattle.brc_runs.proofs.Registering.{length-push}
+use Rattle.brc_lasting.specs.Staying.{is_about, IsAnothers, Lasts}
+use Rattle.brc_lasting.proofs.Lasting.{other_number, others_own}
+use Rattle.brc_lasting.proofs.Ranges_Law.{same_rows}
+use Rattle.brc_lasting.proofs.Standing.{run_reached}
+use Rattle.brc_known.specs.declared.word.Field.{Field}
+use Rattle.brc_known.specs.declared.word.Field.TheVariants.{Owner, Local, Shared, Mutex}
+use Rattle.brc_known.specs.declared.word.Word.{Word}
+use Rattle.brc_known.specs.declared.word.Word.TheVariants.{Of, Queue, NotifyWord}
+use Rattle.brc_known.specs.Items.{Shows, MayCome, is_start, events_of}
+use Rattle.brc_known.proofs.Items_Runs.{events_run}
+use Rattle.brc_rule.specs.declared.told.Moved.{Moved}
+use Rattle.brc_rule.specs.declared.told.Told.{Told}
+use Rattle.brc_rule.specs.declared.told.Told.TheVariants.{Did, Saw, Lost}
+use Rattle.brc_rule.specs.Logs.{item_of, Run, items_of, own_of, world, IsLegal}
+use Rattle.brc_rule.specs.Rule.{stands}
+use Rattle.brc_rule.specs.Seen.{part_seen}
+use Rattle.brc_rule.specs.Noted.{is_field, is_of, noted}
+use Rattle.brc_rule.proofs.Own_Logs.{stands_registered, stands_ungathered}
+use Rattle.brc_rule.proofs.Knowing.{Known, knows_run}
+
+-- ---- who stands after another's event stood before it
+
+root_registered : (h : Heap) (s : Step) (t : ℕ) → root_may h s ≡ true → is_about t s ≡ false → t < length (root_after h s).rows → t < length h.rows
+root_registered h (Register v) t may apart low =
+    omega (arith, low, length-push h.rows new_row, eqb-true v (length h.rows) (and_parts _ _ may).0, other_number v t apart)
+root_registered h (Gather v) t may apart low = low
+root_registered h _ t may apart low = low
+
+registered_before : (h : Heap) (e : Event) (t : ℕ) → enabled h e ≡ true → IsAnothers t e → is_registered (after h e) t ≡ true → is_registered h t ≡ true
+registered_before h e t ok others there =
+    let moved : Heap = after_target h e.thread e.step (target_at h e.thread e.step) in
+    let low : t < length (after h e).rows = ltb-true t (length (after h e).rows) (and_parts (nat_lt 0 t) (nat_lt t (length (after h e).rows)) there).1 in
+    let was : t < length h.rows = elim (cases_Bool (e.thread == 0)) [
+      | inl root ↦ root_registered h e.step t (subst (λ b. (if b then root_may h e.step else thread_may h e.thread e.step) ≡ true) root ok) others.apart
+          (subst (λ b. t < length (if b then root_after h e.step else moved).rows) root low)
+      | inr thread ↦ omega (arith, same_rows h e.thread e.step (target_at h e.thread e.step), subst (λ b. t < length (if b then root_after h e.step else moved).rows) thread low)
+    ] in
+    both_true (and_parts _ _ there).0 (lt-ltb _ _ was)
+
+stood_before : (h : Heap) (e : Event) (t : ℕ) → IsSound h → enabled h e ≡ true → IsAnothers t e → 0 < t → stands (after h e) t ≡ true → stands h t ≡ true
+stood_before h e t sound ok others some_thread stood =
+    ap (λ b. b || (is_registered h t && not (is_gathered h t))) (ne_eqb t 0 (λ same. omega (arith, same, some_thread)))
+    ∙ both_true (registered_before h e t ok others (stands_registered (after h e) t stood some_thread))
+    (ap not (sym (others_own h e t sound ok others).gathered ∙ stands_ungathered (after h e) t stood some_thread))
+
+-- who still stands wasn't gathered just now
+gathered_now : (h : Heap) (v t : ℕ) → IsSound h → root_may h (Gather v) ≡ true → 0 < t → stands (root_after h (Gather v)) t ≡ true → v ≡ t → ⊥
+gathered_now h v t sound may some_thread stood same =
+    let there : is_registered h v ≡ true = (and_parts _ _ (and_parts _ _ (and_parts _ _ (and_parts _ _ (and_parts _ _ may).0).0).0).0).0 in
+    let low : v < length h.rows = ltb-true v (length h.rows) (and_parts (nat_lt 0 v) (nat_lt v (length h.rows)) there).1 in
+    let now : is_gathered (root_after h (Gather v)) v ≡ true = get_or-set_same h.gathered v true false (omega (arith, sound.shaped.gathered, low)) in
+    true≢false (sym now ∙ ap (is_gathered (root_after h (Gather v))) same ∙ stands_ungathered (root_after h (Gather v)) t stood some_thread)
+
+root_apart : (h : Heap) (s : Step) (number t : ℕ) (moved : Moved) → IsSound h → root_may h s ≡ true → 0 < t → stands (root_after h s) t ≡ true → is_start t (item_of (Did s number moved)) ≡ false → is_about t s ≡ false
+root_apart h (Register v) number t moved sound may some_thread stood older = older
+root_apart h (Gather v) number t moved sound may some_thread stood older = ne_eqb v t (λ same. gathered_now h v t sound may some_thread stood same)
+root_apart h _ number t moved sound may some_thread stood older = absurd (true≢false (sym may))
+
+thread_apart : (h : Heap) (u : ℕ) (s : Step) (t : ℕ) → May h u s → is_about t s ≡ false
+thread_apart h u (Register v) t may = absurd (true≢false (sym may.hand))
+thread_apart h u (Gather v) t may = absurd (true≢false (sym may.hand))
+thread_apart h u _ t may = refl
+
+-- an event that neither registers nor gathers the thread, which still stands
+is_apart : (h : Heap) (u : ℕ) (s : Step) (number t : ℕ) (moved : Moved) → IsSound h → enabled h (record { thread = u; step = s }) ≡ true → 0 < t
+    → stands (after h (record { thread = u; step = s })) t ≡ true → is_start t (item_of (Did s number moved)) ≡ false → is_about t s ≡ false
+is_apart h u s number t moved sound ok some_thread stood older =
+    let there : Heap = after_target h u s (target_at h u s) in
+    elim (cases_Bool (u == 0)) [
+      | inl root ↦ root_apart h s number t moved sound (subst (λ b. (if b then root_may h s else thread_may h u s) ≡ true) root ok) some_thread
+          (subst (λ b. stands (if b then root_after h s else there) t ≡ true) root stood) older
+      | inr thread ↦ thread_apart h u s t (may_parts h u s (subst (λ b. (if b then root_may h s else thread_may h u s) ≡ true) thread ok))
+    ]
+
+-- ---- words of cells
+
+field_is : (f g : Field) → is_field f g ≡ true → f ≡ g
+field_is Owner Owner is = refl
+field_is Local Local is = refl
+field_is Shared Shared is = refl
+field_is Mutex Mutex is = refl
+field_is Owner _ is = absurd (true≢false (sym is))
+field_is Local _ is = absurd (true≢false (sym is))
+field_is Shared _ is = absurd (true≢false (sym is))
+field_is Mutex _ is = absurd (true≢false (sym is))
+
+word_is : (f : Field) (c : ℕ) (word : Word) → is_of f c word ≡ true → word ≡ Of f c
+word_is f c (Of g d) is =
+    let parts = and_parts _ _ is in
+    ap (λ k. Of k d) (sym (field_is f g parts.0)) ∙ ap (Of f) (eqb-true d c parts.1)
+word_is f c (Queue u k) is = absurd (true≢false (sym is))
+word_is f c (NotifyWord u) is = absurd (true≢false (sym is))
+
+same_field : (f : Field) → is_field f f ≡ true
+same_field Owner = refl
+same_field Local = refl
+same_field Shared = refl
+same_field Mutex = refl
+
+-- a look is noted
+pub noted_now : (f : Field) (c number : ℕ) (log : List Told) → noted f c (Saw (Of f c) number ∷ log) ≡ Some number
+noted_now f c number log = ap (λ b. if b then Some number else noted f c log) (both_true (same_field f) (eq-eqb c c refl))
+
+nothing_noted : (number : ℕ) → None ≡ Some number → ⊥
+nothing_noted number bad = absurd (cc)
+
+-- ---- the law
+
+module _ (n limit t : ℕ) (P : Heap → Type 0) (lasts : Lasts t P) (options : AreOptions n limit) (some_thread : 0 < t) (f : Field) (c number : ℕ) where
+  -- where the number was found, and the thread's part was what this log says, it was so
+  abbrev pub Found : List Told → Type 0
+  Found log = (h : Heap) (before : List Told) → Known n limit h t before → part_seen n before ≡ part_seen n log → Shows h (Of f c) number → P h
+
+  -- what is so of a run
+  abbrev Since : Run → Type 0
+  Since run = stands (world n limit run) t ≡ true → noted f c (own_of t run) ≡ Some number → Found (own_of t run) → P (world n limit run)
+
+  own_note : (run : Run) (word : Word) (m : ℕ) → IsLegal n limit run → stands (world n limit run) t ≡ true → Shows (world n limit run) word m
+      → (if is_of f c word then Some m else noted f c (own_of t run)) ≡ Some number → Found (own_of t run) → Since run → P (world n limit run)
+  own_note run word m legal stood shown is found before = elim (cases_Bool (is_of f c word)) [
+    | inl here ↦
+        let same : m ≡ number = ap number_in (sym (ap (λ b. if b then Some m else noted f c (own_of t run)) here) ∙ is) in
+        found (world n limit run) (own_of t run) (knows_run n limit run t options legal stood some_thread) refl
+        (subst (Shows (world n limit run) (Of f c)) same (subst (λ w. Shows (world n limit run) w m) (word_is f c word here) shown))
+    | inr other ↦ before stood (sym (ap (λ b. if b then Some m else noted f c (own_of t run)) other) ∙ is) found
+  ]
+
+  -- a look of any thread
+  note_since : (run : Run) (u : ℕ) (x : Told) (word : Word) (m : ℕ) → is_start t (item_of x) ≡ false
+      → ((log : List Told) → noted f c (x ∷ log) ≡ (if is_of f c word then Some m else noted f c log)) → ((log : List Told) → part_seen n (x ∷ log) ≡ part_seen n log)
+      → IsLegal n limit run → stands (world n limit run) t ≡ true → Shows (world n limit run) word m
+      → noted f c (own_of t ((u, x) ∷ run)) ≡ Some number → Found (own_of t ((u, x) ∷ run)) → Since run → P (world n limit run)
+  note_since run u x word m older notes parts legal stood shown is found before =
+      let tested : own_of t ((u, x) ∷ run) ≡ (if u == t then x ∷ own_of t run else own_of t run) = ap (λ b. if b then [] else (if u == t then x ∷ own_of t run else own_of t run)) older in
+      elim (cases_eq u t) [
+        | inl mine ↦
+            let log : own_of t ((u, x) ∷ run) ≡ x ∷ own_of t run = tested ∙ ap (λ b. if b then x ∷ own_of t run else own_of t run) (eq-eqb u t mine) in
+            own_note run word m legal stood shown (sym (notes (own_of t run)) ∙ ap (noted f c) (sym log) ∙ is)
+            (λ h old known same shows. found h old known (same ∙ sym (parts (own_of t run)) ∙ ap (part_seen n) (sym log)) shows) before
+        | inr other ↦
+            let log : own_of t ((u, x) ∷ run) ≡ own_of t run = tested ∙ ap (λ b. if b then x ∷ own_of t run else own_of t run) (ne_eqb u t other) in
+            before stood (ap (noted f c) (sym log) ∙ is) (λ h old known same shows. found h old known (same ∙ ap (part_seen n) (sym log)) shows)
+      ]
+
+  -- a step of any thread; none of the thread's own stands after the note
+  step_since : (run : Run) (u : ℕ) (s : Step) (m : ℕ) (moved : Moved) → IsLegal n limit run → enabled (world n limit run) (record { thread = u; step = s }) ≡ true
+      → stands (world n limit ((u, Did s m moved) ∷ run)) t ≡ true → noted f c (own_of t ((u, Did s m moved) ∷ run)) ≡ Some number → Found (own_of t ((u, Did s m moved) ∷ run))
+      → Since run → P (world n limit ((u, Did s m moved) ∷ run))
+  step_since run u s m moved legal ok stood is found before =
+      let x : Told = Did s m moved in
+      let h : Heap = world n limit run in
+      let reached : IsReached h = run_reached n limit (events_of (items_of run)) options (events_run (opening n limit) (items_of run) legal.items) in
+      let sound : IsSound h = reached_sound h reached in
+      elim (cases_Bool (is_start t (item_of x))) [
+        | inl starts ↦ absurd (nothing_noted number (sym (ap (λ b. noted f c (if b then [] else (if u == t then x ∷ own_of t run else own_of t run))) starts) ∙ is))
+        | inr older ↦
+            let tested : own_of t ((u, x) ∷ run) ≡ (if u == t then x ∷ own_of t run else own_of t run) = ap (λ b. if b then [] else (if u == t then x ∷ own_of t run else own_of t run)) older in
+            elim (cases_eq u t) [
+              | inl mine ↦ absurd (nothing_noted number (sym (ap (noted f c) (tested ∙ ap (λ b. if b then x ∷ own_of t run else own_of t run) (eq-eqb u t mine))) ∙ is))
+              | inr other ↦
+                  let log : own_of t ((u, x) ∷ run) ≡ own_of t run = tested ∙ ap (λ b. if b then x ∷ own_of t run else own_of t run) (ne_eqb u t other) in
+                  let others : IsAnothers t (record { thread = u; step = s }) = record { other = other; apart = is_apart h u s m t moved sound ok some_thread stood older } in
+                  lasts h (record { thread = u; step = s }) reached ok others
+                  (before (stood_before h (record { thread = u; step = s }) t sound ok others some_thread stood) (ap (noted f c) (sym log) ∙ is)
+                  (λ w old known same shows. found w old known (same ∙ ap (part_seen n) (sym log)) shows))
+            ]
+      ]
+
+  item_since : (run : Run) (u : ℕ) (x : Told) → IsLegal n limit run → MayCome (world n limit run) u (item_of x) → Since run → Since ((u, x) ∷ run)
+  item_since run u (Did s m moved) legal comes before stood is found = step_since run u s m moved legal comes.0 stood is found before
+  item_since run u (Saw word m) legal comes before stood is found = note_since run u (Saw word m) word m refl (λ log. refl) (λ log. refl) legal stood comes is found before
+  item_since run u (Lost word m) legal comes before stood is found = note_since run u (Lost word m) word m refl (λ log. refl) (λ log. refl) legal stood comes is found before
+
+  pub since_run : (run : Run) → IsLegal n limit run → stands (world n limit run) t ≡ true → noted f c (own_of t run) ≡ Some number → Found (own_of t run) → P (world n limit run)
+  since_run [] legal stood is found = absurd (nothing_noted number is)
+  since_run (x ∷ run) legal stood is found =
+      let earlier : IsLegal n limit run = record { items = legal.items.0; moved = legal.moved.0 } in
+      item_since run x.0 x.1 earlier legal.items.1 (since_run run earlier) stood is found
+
+-- what lasts, and was so as the note was made
+pub since : (n limit : ℕ) (h : Heap) (t : ℕ) (log : List Told) (f : Field) (c number : ℕ) (P : Heap → Type 0) → 0 < t → Known n limit h t log → noted f c log ≡ Some number → Lasts t P
+    → ((old : Heap) (before : List Told) → Known n limit old t before → part_seen n before ≡ part_seen n log → Shows old (Of f c) number → P old) → P h
+since n limit h t log f c number P some_thread known is lasts found =
+    subst P known.is_world (since_run n limit t P lasts known.options some_thread f c number known.run known.legal (subst (λ z. stands z t ≡ true) (sym known.is_world) known.stood)
+    (ap (noted f c) known.is_own ∙ is) (λ old before knows same shows. found old before knows (same ∙ ap (part_seen n) known.is_own) shows))

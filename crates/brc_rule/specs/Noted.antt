@@ -1,0 +1,32 @@
+-- What a seat has noted since its last step. A look changes nothing, and so what it found may be used, where it stays while
+-- others step.
+use Rattle.std.specs.Prelude.{ℕ, ◌==◌, ◌&&◌, Bool, true, false, if◌then◌else◌, List, [], ◌∷◌, Option, Some, None}
+use Rattle.brc_known.specs.declared.word.Field.{Field}
+use Rattle.brc_known.specs.declared.word.Field.TheVariants.{Owner, Local, Shared, Mutex}
+use Rattle.brc_known.specs.declared.word.Word.{Word}
+use Rattle.brc_known.specs.declared.word.Word.TheVariants.{Of}
+use Rattle.brc_rule.specs.declared.told.Told.{Told}
+use Rattle.brc_rule.specs.declared.told.Told.TheVariants.{Did, Saw, Lost}
+
+abbrev pub is_field : Field → Field → Bool
+is_field Owner Owner = true
+is_field Local Local = true
+is_field Shared Shared = true
+is_field Mutex Mutex = true
+is_field _ _ = false
+
+-- this word of the cell
+abbrev pub is_of : Field → ℕ → Word → Bool
+is_of field c (Of other d) = is_field field other && (d == c)
+is_of field c _ = false
+
+-- a step of the thread's own ends what its notes tell
+abbrev pub noted_on : Field → ℕ → Told → Option ℕ → Option ℕ
+noted_on field c (Did s number moved) before = None
+noted_on field c (Saw word number) before = if is_of field c word then Some number else before
+noted_on field c (Lost word number) before = if is_of field c word then Some number else before
+
+-- the number that the newest look at this word of the cell found, where the thread has only looked since
+abbrev pub noted : Field → ℕ → List Told → Option ℕ
+noted field c [] = None
+noted field c (x ∷ log) = noted_on field c x (noted field c log)

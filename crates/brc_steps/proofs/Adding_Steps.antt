@@ -1,0 +1,117 @@
+-- MergeAdd: the local count joins the shared one, and the object is merged.
+use Rattle.std.proofs.Common.{◌≡◌, ◌⊎◌, ℕ, ◌+◌, ◌*◌, ◌<◌, ◌≤◌, ◌%◌, ◌^◌, ◌||◌, true, pos, ◌+ℤ◌, List, length, Option, refl, sym, ◌∙◌, ap, subst, inl, inr, arith}
+use Rattle.std.proofs.lemmas.Bool.{or_cases}
+use Rattle.atomic_table.specs.Table.{State as Table, Allows}
+use Rattle.brc_words.specs.declared.limits.TheConstants.{FIRST_MORTAL}
+use Rattle.brc_words.specs.declared.owner.Owner.TheVariants as owners
+use Rattle.brc_words.specs.declared.state.State.TheVariants as states
+use Rattle.brc_words.specs.Shared.{CountFits}
+use Rattle.brc_runs.specs.declared.cell.Cell.{Cell}
+use Rattle.brc_runs.specs.declared.event.Step.{Step}
+use Rattle.brc_runs.specs.declared.event.Step.TheVariants.{MergeAdd}
+use Rattle.brc_runs.specs.declared.row.Hand.{Hand}
+use Rattle.brc_runs.specs.declared.row.Hand.TheVariants as hands
+use Rattle.brc_runs.specs.declared.row.Phase.{Phase}
+use Rattle.brc_runs.specs.declared.row.Phase.TheVariants as phases
+use Rattle.brc_runs.specs.Heap.{Heap, cell_at, row_at}
+use Rattle.brc_runs.specs.Holding.{lives}
+use Rattle.brc_runs.specs.Runs.{IsReached}
+use Rattle.brc_runs.specs.Sound.{IsSound}
+use Rattle.brc_runs.specs.Steps.{thread_may, cell_after, is_at}
+use Rattle.brc_runs.proofs.Naming.{busy_hand}
+use Rattle.brc_runs.proofs.Reached.{reached_sound}
+use Rattle.brc_runs.proofs.Sizes.{reached_count_range}
+use Rattle.brc_lasting.specs.Staying.{Merges}
+use Rattle.brc_lasting.proofs.Lasting.{live_owner}
+use Rattle.brc_lasting.proofs.Progress.{inside}
+use Rattle.brc_lasting.proofs.Telling.{hand_tells, merging_lasts}
+use Rattle.brc_known.specs.declared.word.Field.TheVariants.{Local, Shared}
+use Rattle.brc_known.specs.declared.word.Word.TheVariants.{Of}
+use Rattle.brc_known.specs.Items.{Shows, shared_word}
+use Rattle.brc_rule.specs.declared.contents.Contents.{Contents}
+use Rattle.brc_rule.specs.declared.told.Moved.TheVariants as moves
+use Rattle.brc_rule.specs.declared.told.Told.{Told}
+use Rattle.brc_rule.specs.declared.told.Told.TheVariants.{Did}
+use Rattle.brc_rule.specs.declared.view.View.{View}
+use Rattle.brc_rule.specs.Layout.{spot}
+use Rattle.brc_rule.specs.Rule.{with_told, Kept}
+use Rattle.brc_rule.specs.Seen.{part_seen}
+use Rattle.brc_steps.specs.Owing.{AddsLocal}
+use Rattle.brc_rule.proofs.Knowing.{Known, is_enabled}
+use Rattle.brc_steps.proofs.Local_Steps.{fits_cell, read_cell}
+use Rattle.brc_steps.proofs.Numbers.{word_merged}
+use Rattle.brc_steps.proofs.Plain_Steps.{IsPlain, plain_on, same_owner, stays_on, plain_step}
+use Rattle.brc_steps.proofs.Shared_Steps.{count_after}
+use Rattle.brc_rule.proofs.Since.{since}
+use Rattle.brc_rule.proofs.Noting.{part_hand, hand_in}
+
+-- the object was the thread's, or one that it has adopted
+IsMerging : Phase → Type 0
+IsMerging p = (p ≡ phases.Taking) ⊎ (p ≡ phases.Popping)
+
+merging_hand : (hand : Hand) (c : ℕ) → (is_at phases.Taking c hand || is_at phases.Popping c hand) ≡ true → (p : Phase) × (hand ≡ hands.Busy p c) × IsMerging p
+unfolding IsMerging
+merging_hand hand c at = elim (or_cases _ _ at) [
+  | inl taking ↦ (phases.Taking, busy_hand phases.Taking c hand taking, inl refl)
+  | inr popping ↦ (phases.Popping, busy_hand phases.Popping c hand popping, inr refl)
+]
+
+merging_words : (h : Heap) (t c : ℕ) (p : Phase) → IsReached h → (row_at h t).hand ≡ hands.Busy p c → IsMerging p → ((cell_at h c).owner ≡ owners.Nobody) × ((cell_at h c).state ≡ states.Queued)
+unfolding IsMerging
+merging_words h t c p reached busy which = elim which [
+  | inl taking ↦ (hand_tells h t c phases.Taking reached (busy ∙ ap (λ q. hands.Busy q c) taking)).1
+  | inr popping ↦ (hand_tells h t c phases.Popping reached (busy ∙ ap (λ q. hands.Busy q c) popping)).1
+]
+
+noted_local : (h : Heap) (t c local : ℕ) (p : Phase) → IsReached h → (row_at h t).hand ≡ hands.Busy p c → IsMerging p → Shows h (Of Local c) local → Merges h t c local p
+unfolding IsMerging
+noted_local h t c local p reached busy which found =
+    let words = merging_words h t c p reached busy which in
+    record { hand = busy; phase = which; owner = words.0; state = words.1; count = sym found }
+
+-- the local count is the one that was noted, since nobody else writes it
+merges_now : (n limit : ℕ) (h : Heap) (t : ℕ) (log : List Told) (c local : ℕ) → 0 < t → Known n limit h t log → AddsLocal n log c local → (p : Phase) × Merges h t c local p
+merges_now n limit h t log c local some_thread known adds =
+    let hand = merging_hand (part_seen n log).row.hand c (part_hand n (part_seen n log) (MergeAdd c) adds.own) in (
+      hand.0,
+      since n limit h t log Local c local (λ z. Merges z t c local hand.0) some_thread known adds.found (merging_lasts t c local hand.0)
+          (λ old before was same found. noted_local old t c local hand.0 was.reached (hand_in n limit old t before log (hands.Busy hand.0 c) was same hand.1) hand.2 found),
+    )
+
+adds_up : (n limit : ℕ) (h : Heap) (t : ℕ) (log : List Told) (c local there : ℕ) → 0 < t → Known n limit h t log → AddsLocal n log c local → Shows h (Of Shared c) there
+    → IsPlain n h t (MergeAdd c) (Of Shared c) ((there + (local * 4 + 1)) % 2 ^ 64) there
+adds_up n limit h t log c local there some_thread known adds shown =
+    let s : Step = MergeAdd c in
+    let x : Cell = cell_at h c in
+    let sound : IsSound h = reached_sound h known.reached in
+    let merging = merges_now n limit h t log c local some_thread known adds in
+    let now : Merges h t c local merging.0 = merging.1 in
+    let live : lives x.owner ≡ true = ap lives now.owner in
+    let low : c < length h.cells = inside h c (live_owner _ live) in
+    let mortal : FIRST_MORTAL ≤ c = (hand_tells h t c merging.0 known.reached now.hand).0 in
+    let may : thread_may h t s ≡ true = is_enabled n limit h t log s some_thread known adds.own refl (fits_cell n limit h t log s c known refl low refl) in
+    let more : CountFits (x.count +ℤ pos local) = subst (λ m. CountFits (x.count +ℤ pos m)) now.count
+    (subst (λ (y : Cell). CountFits y.count) (read_cell h t s c low) (count_after h t s c c sound some_thread may refl)) in
+    let few : local < 2 ^ 33 = omega (arith, (sound.cells c mortal).limited live, now.count, known.limit_is, known.options.below_immortal) in
+    plain_on n h t s c (Of Shared c) ((there + (local * 4 + 1)) % 2 ^ 64) there (record {
+      may = may;
+      target = refl;
+      word = refl;
+      shown = ap (λ m. (m + (local * 4 + 1)) % 2 ^ 64) (shown ∙ ap (shared_word x.count) now.state) ∙ sym (word_merged x.count local (reached_count_range h known.reached c) more few)
+          ∙ ap (λ m. shared_word (x.count +ℤ pos m) states.Merged) (sym now.count) ∙ sym (ap (λ (y : Cell). shared_word y.count y.state) (read_cell h t s c low));
+      told = shown;
+      finds_none = refl;
+      puts_none = refl;
+      takes_none = refl;
+      stays = stays_on h t s c low refl refl (same_owner x (cell_after t s c x) refl refl);
+    })
+
+module _ {B : Type 0} (shows : B → ℕ × Contents) (n limit : ℕ) where
+  abbrev Rule : Table (Option B) View → Type 0
+  Rule = Kept shows n limit
+
+  pub adds_local : (id : ℕ) (v : View) (slots : List (ℕ × Option B)) (c local : ℕ) → v.active ≡ true → 0 < v.thread → c < n → AddsLocal n v.log c local
+      → Allows Rule n id (v, slots) (spot n (Of Shared c)) (λ there. (there + (local * 4 + 1)) % 2 ^ 64) (λ there me. me ≡ (with_told (Did (MergeAdd c) there moves.Nothing) v, slots))
+  adds_local id v slots c local active some_thread low adds =
+      plain_step shows n limit id v slots (MergeAdd c) (Of Shared c) (λ there. (there + (local * 4 + 1)) % 2 ^ 64) (λ there. there) active some_thread low
+      (λ h there known shown small. adds_up n limit h v.thread v.log c local there some_thread known adds shown)
