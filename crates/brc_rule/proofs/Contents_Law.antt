@@ -167,9 +167,9 @@ opening_fits : (n limit c : ℕ) → AreOptions n limit → lives (cell_at (open
 opening_fits n limit c options live = elim (cases_lt c FIRST_MORTAL) [
   | inr high ↦ absurd (true≢false (sym live ∙ ap (λ (x : Cell). lives x.owner) (free_cell n c high)))
   | inl low ↦ record {
-      kind = kinds_open (c == 0) (c == 1) (c == 2) (c == GLOBALS) ∙ sym (ap (λ (x : Cell). x.kind) (immortal_cell n c (omega (arith, options.enough)) low));
-      entries = none_open (c == 0) (c == 1) (c == 2) (c == GLOBALS) ∙ sym (no_entries n c []);
-    }
+    kind = kinds_open (c == 0) (c == 1) (c == 2) (c == GLOBALS) ∙ sym (ap (λ (x : Cell). x.kind) (immortal_cell n c (omega (arith, options.enough)) low));
+    entries = none_open (c == 0) (c == 1) (c == 2) (c == GLOBALS) ∙ sym (no_entries n c []);
+  }
 ]
   where
     kinds_open : (zero one two globals : Bool)

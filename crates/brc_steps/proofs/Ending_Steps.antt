@@ -150,7 +150,7 @@ module _ {B : Type 0} (shows : B → ℕ × Contents) (n limit : ℕ) where
       let x : Cell = cell_at h c in
       let cell : HeldCell h c = held_cell n limit h t log c known ends.holds in
       let may : thread_may h t s ≡ true = is_enabled n limit h t log s some_thread known ends.own refl
-          (fits_cell n limit h t log s c known ends.named cell.low (both_true (ap not ends.risen) ends.fits)) in
+      (fits_cell n limit h t log s c known ends.named cell.low (both_true (ap not ends.risen) ends.fits)) in
       let less : CountFits (x.count -ℤ pos 1) = subst (λ (y : Cell). CountFits y.count) (read_cell h t s c cell.low) (count_after h t s c c (reached_sound h known.reached) some_thread may ends.named) in
       record {
         may = may;

@@ -108,8 +108,8 @@ module _ {B : Type 0} (shows : B → ℕ × Contents) (n limit : ℕ) where
         elsewhere = λ d other. refl;
       })
       (home_out shows (set st.homes c none) (stepped h t s c) ((t, Did s 0 (moves.Found c (shows lies.block).1)) ∷ r.run) c
-        (λ bad. live_owner x.owner cell.rest.live (sym (ap (λ (y : Cell). y.owner) now) ∙ bad))
-        (λ live unlocked off. omega (arith, some_thread, sym (ap (λ (y : Cell). y.mutex) now) ∙ unlocked)))
+      (λ bad. live_owner x.owner cell.rest.live (sym (ap (λ (y : Cell). y.owner) now) ∙ bad))
+      (λ live unlocked off. omega (arith, some_thread, sym (ap (λ (y : Cell). y.mutex) now) ∙ unlocked)))
 
   pub locks_cell : (id : ℕ) (v : View) (slots : List (ℕ × Option B)) (k c : ℕ) → v.active ≡ true → 0 < v.thread → c < n → Carries n v.log (Lock k) c
       → Allows Rule n id (v, slots) (spot n (Of Mutex c)) (λ there. either (there == 0) v.thread there) (λ there me. Locked shows v slots k c there (there == 0) me)
@@ -118,17 +118,23 @@ module _ {B : Type 0} (shows : B → ℕ × Contents) (n limit : ℕ) where
       let there : ℕ = get_or st.words (spot n w) 0 in
       elim (cases_eq there 0) [
         | inl same ↦
-            let lies : LiesThere shows st.homes c (contents_at r.run c) = lies_there st r id v k c at active some_thread low carries same in
-            (with_told (Did (Lock k) 0 (moves.Found c (shows lies.block).1)) v, takes c (Some lies.block), lies.there,
-            subst (λ b. Rule (record { words = set st.words (spot n w) (either b v.thread there); homes = set st.homes c none; views = set st.views id (with_told (Did (Lock k) 0 (moves.Found c (shows lies.block).1)) v) }))
-            (sym (eq-eqb there 0 same)) (locking st r id v k c at active some_thread low carries same lies),
-            subst (λ b. Locked shows v slots k c there b (with_told (Did (Lock k) 0 (moves.Found c (shows lies.block).1)) v, (c, Some lies.block) ∷ slots)) (sym (eq-eqb there 0 same))
-            (record { block = lies.block; of_cell = lies.of_cell; after_is = refl }))
-        | inr other ↦
-            (with_told (Lost w there) v, keeps, tt,
-            subst (λ b. Rule (record { words = set st.words (spot n w) (either b v.thread there); homes = st.homes; views = set st.views id (with_told (Lost w there) v) })) (sym (ne_eqb there 0 other))
-            (unmoved shows n limit st r id v w (Lost w there) at active low lost),
-            subst (λ b. Locked shows v slots k c there b (with_told (Lost w there) v, slots)) (sym (ne_eqb there 0 other)) refl)
+            let lies : LiesThere shows st.homes c (contents_at r.run c) = lies_there st r id v k c at active some_thread low carries same in (
+              with_told (Did (Lock k) 0 (moves.Found c (shows lies.block).1)) v,
+              takes c (Some lies.block),
+              lies.there,
+              subst (λ b. Rule (record { words = set st.words (spot n w) (either b v.thread there); homes = set st.homes c none; views = set st.views id (with_told (Did (Lock k) 0 (moves.Found c (shows lies.block).1)) v) }))
+                  (sym (eq-eqb there 0 same)) (locking st r id v k c at active some_thread low carries same lies),
+              subst (λ b. Locked shows v slots k c there b (with_told (Did (Lock k) 0 (moves.Found c (shows lies.block).1)) v, (c, Some lies.block) ∷ slots)) (sym (eq-eqb there 0 same))
+                  (record { block = lies.block; of_cell = lies.of_cell; after_is = refl }),
+            )
+        | inr other ↦ (
+          with_told (Lost w there) v,
+          keeps,
+          tt,
+          subst (λ b. Rule (record { words = set st.words (spot n w) (either b v.thread there); homes = st.homes; views = set st.views id (with_told (Lost w there) v) })) (sym (ne_eqb there 0 other))
+              (unmoved shows n limit st r id v w (Lost w there) at active low lost),
+          subst (λ b. Locked shows v slots k c there b (with_told (Lost w there) v, slots)) (sym (ne_eqb there 0 other)) refl,
+        )
       ]
 
   -- ---- Unlock

@@ -251,18 +251,18 @@ module _ {B : Type 0} (shows : B → ℕ × Contents) (n limit : ℕ) where
             subst (λ j. Seated (set s.views id (registering v) ++ starting v ∷ []) t j) (sym (ap (λ b. if b then length s.views else r.seat t) (ne_eqb t u old)))
             (elim (cases_eq (r.seat t) id) [
               | inl same ↦ record {
-                  view = registering v;
-                  there = ap (get_elem? (set s.views id (registering v) ++ starting v ∷ [])) same
-                      ∙ at_longer (set s.views id (registering v)) (starting v ∷ []) id (registering v) (set_here s.views id (registering v) (at_inside s.views id v at));
-                  active = registers.active;
-                  thread = ap (λ (w : View). w.thread) (some-injective v before.view (sym at ∙ sym (ap (get_elem? s.views) same) ∙ before.there)) ∙ before.thread;
-                }
+                view = registering v;
+                there = ap (get_elem? (set s.views id (registering v) ++ starting v ∷ [])) same
+                    ∙ at_longer (set s.views id (registering v)) (starting v ∷ []) id (registering v) (set_here s.views id (registering v) (at_inside s.views id v at));
+                active = registers.active;
+                thread = ap (λ (w : View). w.thread) (some-injective v before.view (sym at ∙ sym (ap (get_elem? s.views) same) ∙ before.there)) ∙ before.thread;
+              }
               | inr other ↦ record {
-                  view = before.view;
-                  there = at_longer (set s.views id (registering v)) (starting v ∷ []) (r.seat t) before.view (set_else s.views id (r.seat t) (registering v) other ∙ before.there);
-                  active = before.active;
-                  thread = before.thread;
-                }
+                view = before.view;
+                there = at_longer (set s.views id (registering v)) (starting v ∷ []) (r.seat t) before.view (set_else s.views id (r.seat t) (registering v) other ∙ before.there);
+                active = before.active;
+                thread = before.thread;
+              }
             ])
       ]
 
@@ -273,10 +273,10 @@ module _ {B : Type 0} (shows : B → ℕ × Contents) (n limit : ℕ) where
       let known : Known n limit h w.thread w.log = knows shows n limit s r id w at leaves.active leaves.some_thread in
       let part = part_seen n w.log in
       both_true (both_true (both_true (both_true (both_true (stands_registered h w.thread known.stood leaves.some_thread) (ap not (stands_ungathered h w.thread known.stood leaves.some_thread)))
-        (ap (λ (row : Row). is_left row.stage) known.part.row_is ∙ leaves.left))
-        (ap (λ (row : Row). is_free_hand row.hand) known.part.row_is ∙ leaves.hand))
-        (ap is_blank known.part.popped_is ∙ leaves.popped))
-        (ap is_unmarked known.part.work_is ∙ leaves.worklist)
+      (ap (λ (row : Row). is_left row.stage) known.part.row_is ∙ leaves.left))
+      (ap (λ (row : Row). is_free_hand row.hand) known.part.row_is ∙ leaves.hand))
+      (ap is_blank known.part.popped_is ∙ leaves.popped))
+      (ap is_unmarked known.part.work_is ∙ leaves.worklist)
 
   pub joins : (id : ℕ) (v : View) (other : ℕ) (w : View) → v.active ≡ true → v.thread ≡ 0 → Leaves n w → Joins Rule id v other w (gathering v w) spent
   joins id v other w active root leaves s r at apart_seats there_other =
@@ -354,16 +354,16 @@ module _ {B : Type 0} (shows : B → ℕ × Contents) (n limit : ℕ) where
           let not_other : r.seat t ≢ other = λ e. apart (sym before.thread ∙ ap (λ (y : View). y.thread) (some-injective before.view w (sym before.there ∙ ap (get_elem? s.views) e ∙ at_other))) in
           elim (cases_eq (r.seat t) id) [
             | inl same ↦ record {
-                view = gathering v w;
-                there = set_else (set s.views id (gathering v w)) other (r.seat t) spent not_other
-                    ∙ ap (get_elem? (set s.views id (gathering v w))) same ∙ set_here s.views id (gathering v w) (at_inside s.views id v at);
-                active = active;
-                thread = ap (λ (y : View). y.thread) (some-injective v before.view (sym at ∙ sym (ap (get_elem? s.views) same) ∙ before.there)) ∙ before.thread;
-              }
+              view = gathering v w;
+              there = set_else (set s.views id (gathering v w)) other (r.seat t) spent not_other
+                  ∙ ap (get_elem? (set s.views id (gathering v w))) same ∙ set_here s.views id (gathering v w) (at_inside s.views id v at);
+              active = active;
+              thread = ap (λ (y : View). y.thread) (some-injective v before.view (sym at ∙ sym (ap (get_elem? s.views) same) ∙ before.there)) ∙ before.thread;
+            }
             | inr not_root ↦ record {
-                view = before.view;
-                there = set_else (set s.views id (gathering v w)) other (r.seat t) spent not_other ∙ set_else s.views id (r.seat t) (gathering v w) not_root ∙ before.there;
-                active = before.active;
-                thread = before.thread;
-              }
+              view = before.view;
+              there = set_else (set s.views id (gathering v w)) other (r.seat t) spent not_other ∙ set_else s.views id (r.seat t) (gathering v w) not_root ∙ before.there;
+              active = before.active;
+              thread = before.thread;
+            }
           ]

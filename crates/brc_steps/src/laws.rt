@@ -1,7 +1,7 @@
 //! Each kind of step keeps the rule: what it asks of its seat's log, the word that it works on and what becomes of it, and
 //! what its seat knows afterwards. In each clause `there` is the number that the word had.
 
-ghost use Rattle.std.specs.Prelude.{◌≡◌, ℕ, ◌+◌, ◌-◌, ◌/◌, ◌%◌, ◌^◌, ◌<◌, ◌≤◌, ◌==◌, if◌then◌else◌, List, ◌∷◌, Option, Some, None, true, bit_or};
+ghost use Rattle.std.specs.Prelude.{◌≡◌, ℕ, ◌+◌, ◌-◌, ◌*◌, ◌/◌, ◌%◌, ◌^◌, ◌<◌, ◌≤◌, ◌==◌, if◌then◌else◌, List, ◌∷◌, Option, Some, None, true, bit_or};
 ghost use prog.Atomic.{either};
 ghost use Rattle.atomic_table.specs.Table.{Allows, Splits, Joins};
 ghost use Rattle.brc_words.specs.declared.kind.Kind.{Kind as kind};
@@ -22,7 +22,7 @@ ghost use Rattle.brc_rule.specs.declared.told.Told.TheVariants as told;
 ghost use Rattle.brc_rule.specs.declared.view.View.{View as view};
 ghost use Rattle.brc_rule.specs.Layout.{spot};
 ghost use Rattle.brc_rule.specs.Rule.{with_told, Kept};
-ghost use Rattle.brc_steps.specs.Owing.{Raises, RaisesImmortal, Lowers, LowersImmortal, RaisesShared, Releases, Carries, EndsRisen, Claims, Bears, Unlocks, Allowed, Tells};
+ghost use Rattle.brc_steps.specs.Owing.{Raises, RaisesImmortal, Lowers, LowersImmortal, RaisesShared, Releases, Carries, EndsRisen, Claims, Bears, Unlocks, Allowed, Tells, EndsPopped, EndsHeld, EndsNobodys, UntiesOver, UntiesShut, UntiesPopped, AddsLocal, Enqueues};
 ghost use Rattle.brc_steps.specs.Taking.{Ended, Claimed, Locked};
 ghost use Rattle.brc_steps.specs.Joining.{registering, starting, gathering, spent, Registers, Leaves};
 
@@ -60,8 +60,11 @@ pub fn others_count<B>()
         → v.active ≡ true → 0 < v.thread → c < n → Releases n v.log (steps.SharedDown drop) c
         → old % 4 ≡ 0 → 2 ^ 42 + 4 ≤ old
         → Allows (Kept shows n limit) n id (v, slots) (spot n (words.Of fields.Shared c)) (λ there. either (there == old) (old - 4) there)
-        (λ there me. me ≡ ((if there == old then with_told (told.Did (steps.SharedDown drop) old moves.Nothing) v
-        else with_told (told.Lost (words.Of fields.Shared c) there) v), slots)) }
+        (λ there me. me ≡ (
+          (if there == old then with_told (told.Did (steps.SharedDown drop) old moves.Nothing) v
+              else with_told (told.Lost (words.Of fields.Shared c) there) v),
+          slots,
+        )) }
     ensures ask { (shows : B → ℕ × contents) (n limit id : ℕ) (v : view) (slots : List (ℕ × Option B)) (drop : dropped) (c : ℕ)
         → v.active ≡ true → 0 < v.thread → c < n → Releases n v.log (steps.Ask drop) c
         → Allows (Kept shows n limit) n id (v, slots) (spot n (words.Of fields.Shared c)) (λ there. bit_or there 2)
@@ -156,4 +159,56 @@ pub fn threads_come_and_go<B>()
     ensures gather { (shows : B → ℕ × contents) (n limit id : ℕ) (v : view) (other : ℕ) (w : view)
         → v.active ≡ true → v.thread ≡ 0 → Leaves n w
         → Joins (Kept shows n limit) id v other w (gathering v w) spent }
+{}
+
+/// The last reference that went through a merge queue goes: a popped bit of an object that was looked at and merged, the
+/// hand's after an adoption, or the hand's of an object that was looked at and is nobody's.
+#[tactic(auto, using(crate::proofs::Last_Steps::ends_popped, crate::proofs::Last_Steps::ends_held, crate::proofs::Last_Steps::ends_nobodys))]
+pub fn queued_references_end<B>()
+    ensures popped { (shows : B → ℕ × contents) (n limit id : ℕ) (v : view) (slots : List (ℕ × Option B)) (c number : ℕ)
+        → v.active ≡ true → 0 < v.thread → c < n → EndsPopped n v.log c number
+        → Allows (Kept shows n limit) n id (v, slots) (spot n (words.Of fields.Shared c)) (λ there. (there + (2 ^ 64 - 4)) % 2 ^ 64)
+        (λ there me. Ended shows v slots (steps.LastDown (lasts.Popped c)) c there
+        (takes_block (steps.LastDown (lasts.Popped c)) (cell_told (steps.LastDown (lasts.Popped c)) there)) me) }
+    ensures held { (shows : B → ℕ × contents) (n limit id : ℕ) (v : view) (slots : List (ℕ × Option B)) (c : ℕ)
+        → v.active ≡ true → 0 < v.thread → c < n → EndsHeld n v.log c
+        → Allows (Kept shows n limit) n id (v, slots) (spot n (words.Of fields.Shared c)) (λ there. (there + (2 ^ 64 - 4)) % 2 ^ 64)
+        (λ there me. Ended shows v slots (steps.LastDown lasts.Hand) c there
+        (takes_block (steps.LastDown lasts.Hand) (cell_told (steps.LastDown lasts.Hand) there)) me) }
+    ensures nobodys { (shows : B → ℕ × contents) (n limit id : ℕ) (v : view) (slots : List (ℕ × Option B)) (c : ℕ)
+        → v.active ≡ true → 0 < v.thread → c < n → EndsNobodys n v.log c
+        → Allows (Kept shows n limit) n id (v, slots) (spot n (words.Of fields.Shared c)) (λ there. (there + (2 ^ 64 - 4)) % 2 ^ 64)
+        (λ there me. Ended shows v slots (steps.LastDown lasts.Hand) c there
+        (takes_block (steps.LastDown lasts.Hand) (cell_told (steps.LastDown lasts.Hand) there)) me) }
+{}
+
+/// Who merges an object first stores that it is nobody's: at local count 0, in place of an owner that has left, or for a
+/// popped entry; and then adds the local count that it has looked at.
+#[tactic(auto, using(crate::proofs::Untying_Steps::unties_over, crate::proofs::Untying_Steps::unties_shut, crate::proofs::Untying_Steps::unties_popped, crate::proofs::Adding_Steps::adds_local))]
+pub fn objects_are_merged<B>()
+    ensures over { (shows : B → ℕ × contents) (n limit id : ℕ) (v : view) (slots : List (ℕ × Option B)) (c : ℕ)
+        → v.active ≡ true → 0 < v.thread → c < n → UntiesOver n v.log c
+        → Allows (Kept shows n limit) n id (v, slots) (spot n (words.Of fields.Owner c)) (λ there. 0)
+        (λ there me. me ≡ (with_told (told.Did (steps.Untie c) 0 moves.Nothing) v, slots)) }
+    ensures shut { (shows : B → ℕ × contents) (n limit id : ℕ) (v : view) (slots : List (ℕ × Option B)) (c number : ℕ)
+        → v.active ≡ true → 0 < v.thread → c < n → UntiesShut n v.log c number
+        → Allows (Kept shows n limit) n id (v, slots) (spot n (words.Of fields.Owner c)) (λ there. 0)
+        (λ there me. me ≡ (with_told (told.Did (steps.Untie c) 0 moves.Nothing) v, slots)) }
+    ensures popped { (shows : B → ℕ × contents) (n limit id : ℕ) (v : view) (slots : List (ℕ × Option B)) (c number : ℕ)
+        → v.active ≡ true → 0 < v.thread → c < n → UntiesPopped n v.log c number
+        → Allows (Kept shows n limit) n id (v, slots) (spot n (words.Of fields.Owner c)) (λ there. 0)
+        (λ there me. me ≡ (with_told (told.Did (steps.Untie c) 0 moves.Nothing) v, slots)) }
+    ensures add { (shows : B → ℕ × contents) (n limit id : ℕ) (v : view) (slots : List (ℕ × Option B)) (c local : ℕ)
+        → v.active ≡ true → 0 < v.thread → c < n → AddsLocal n v.log c local
+        → Allows (Kept shows n limit) n id (v, slots) (spot n (words.Of fields.Shared c)) (λ there. (there + (local * 4 + 1)) % 2 ^ 64)
+        (λ there me. me ≡ (with_told (told.Did (steps.MergeAdd c) there moves.Nothing) v, slots)) }
+{}
+
+/// An asked reference goes into the merge queue of the thread that was found as the owner, or meets a closed word.
+#[tactic(auto, using(crate::proofs::Queueing_Steps::enqueues))]
+pub fn asked_references_are_queued<B>()
+    ensures { (shows : B → ℕ × contents) (n limit id : ℕ) (v : view) (slots : List (ℕ × Option B)) (c q : ℕ)
+        → v.active ≡ true → 0 < v.thread → c < n → Enqueues n v.log c q
+        → Allows (Kept shows n limit) n id (v, slots) (spot n (words.Queue q (c / 32))) (λ there. bit_or there (2 ^ (c % 32)))
+        (λ there me. me ≡ (with_told (told.Did (steps.Enqueue c) there moves.Nothing) v, slots)) }
 {}
