@@ -1,5 +1,5 @@
 -- What a thread may rely on while others step: its own part, and the words of what it holds, locks, bears or buries.
-use Rattle.std.specs.Prelude.{◌≡◌, ◌≢◌, ℕ, ◌≤◌, ◌==◌, Bool, true, false, List, [], ◌∷◌, pos, Option, Some, None, slice_get, ◌⊎◌}
+use Rattle.std.specs.Prelude.{◌≡◌, ◌≢◌, ℕ, ◌≤◌, ◌==◌, Bool, true, false, List, [], ◌∷◌, pos, Some, None, slice_get, ◌⊎◌}
 use Rattle.brc_words.specs.declared.limits.TheConstants.{FIRST_MORTAL}
 use Rattle.brc_words.specs.declared.owner.Owner.TheVariants as owners
 use Rattle.brc_words.specs.declared.state.State.{State}
@@ -15,7 +15,7 @@ use Rattle.brc_runs.specs.declared.row.Hand.TheVariants as hands
 use Rattle.brc_runs.specs.declared.row.Stage.TheVariants as stages
 use Rattle.brc_runs.specs.Lists.{place_at, bit_of, is_marked}
 use Rattle.brc_runs.specs.Heap.{Heap, cell_at, entries_at, row_at, frame_at, popped_at, worklist_at, queue_at, is_gathered}
-use Rattle.brc_runs.specs.Steps.{locked_at, enabled, after, is_active, is_default, is_merged, locked_cell}
+use Rattle.brc_runs.specs.Steps.{locked_at, enabled, after, is_active, is_default, is_merged}
 use Rattle.brc_runs.specs.Runs.{IsReached}
 use Rattle.brc_runs.specs.Holding.{carries, lives}
 

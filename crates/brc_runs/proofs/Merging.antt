@@ -1,7 +1,7 @@
 -- Merging: the owner lets its object go, and the counts become one.
 use Rattle.std.proofs.Common.{◌≡◌, ◌≢◌, ℕ, ◌+◌, ◌/◌, ◌<◌, ◌≤◌, ◌==◌, ◌&&◌, not, Bool, true, false, if◌then◌else◌, ℤ, pos, ◌+ℤ◌, List, [], length, set, refl, sym, ◌∙◌, ap, subst, inl, inr, arith}
 use Rattle.std.proofs.lemmas.List.{get_or-set_same, get_or-set_other, length-set}
-use Rattle.std.proofs.lemmas.Bool.{cases_eq, cases_Bool, eq-eqb, ne_eqb, eqb-true, and_parts, not-true, true≢false}
+use Rattle.std.proofs.lemmas.Bool.{cases_eq, cases_Bool, eq-eqb, ne_eqb, true≢false}
 use Rattle.std.proofs.lemmas.Int.{ints}
 use Rattle.brc_words.specs.declared.limits.TheConstants.{FIRST_MORTAL}
 use Rattle.brc_words.specs.declared.owner.Owner.{Owner}
@@ -19,13 +19,13 @@ use Rattle.brc_runs.specs.declared.row.Stage.{Stage}
 use Rattle.brc_runs.specs.declared.row.Stage.TheVariants as stages
 use Rattle.brc_runs.specs.Lists.{one, bit_of, is_marked}
 use Rattle.brc_runs.specs.Heap.{Heap, cell_at, entries_at, row_at, frame_at, popped_at, worklist_at, no_row}
-use Rattle.brc_runs.specs.Steps.{thread_may, stepped, is_at, is_active, is_default, is_queued, is_merged, is_zero, is_closed, is_nobody, untied_hand, untied_ok, untie_ok, added_hand}
+use Rattle.brc_runs.specs.Steps.{thread_may, stepped, is_at, is_active, is_default, is_queued, is_merged, is_zero, is_closed, is_nobody, untied_hand, added_hand}
 use Rattle.brc_runs.specs.Holding.{lives, carries, count_of_state}
 use Rattle.brc_runs.specs.Sound.{IsSound, CellFits, PhaseFits, HandFits, Untied, counted_in, grips_of, grips_by_owner, grips, is_active_hand, gripped, held, asks_least}
-use Rattle.brc_runs.proofs.Naming.{second, third, merged_state, Ungripped, dead_unheld, ungripped, sole_grip, grips_once, no_mark, one-le, one-false, free_hand, busy_hand, busy_carrier, live_counts, zero_count, sum_one, no_bit, thread_owner}
+use Rattle.brc_runs.proofs.Naming.{second, merged_state, Ungripped, dead_unheld, ungripped, sole_grip, grips_once, no_mark, one-le, one-false, busy_hand, busy_carrier, live_counts, zero_count, sum_one, no_bit}
 use Rattle.brc_runs.proofs.Birthing.{busy_else, busy_grips, one_and}
 use Rattle.brc_runs.proofs.Counting.{owned_ungripped, total_unmerged}
-use Rattle.brc_runs.proofs.Asking.{May, OnCell, on_cell, may_parts}
+use Rattle.brc_runs.proofs.Asking.{May, OnCell, on_cell, may_parts, at_end, shut_out, from_queue, untie_way}
 use Rattle.brc_runs.proofs.Changes.{same_entries}
 use Rattle.brc_runs.proofs.Turning.{acts, Turn, turn_sound}
 
@@ -300,21 +300,10 @@ untie_sound h t c sound ok =
     }) in
     let done : (old new : Hand) → (row_at h t).hand ≡ old → untied_hand c old ≡ new → Unties h t c new → P (untied_hand c (row_at h t).hand) = λ old new is goes u.
     subst P (sym (ap (untied_hand c) is ∙ goes)) (turn_sound h t c x new (frame_at h t) (worklist_at h t) h.entries sound (unties_turn h t c new sound u)) in
-    elim (cases_Bool (is_at phases.Over c (row_at h t).hand)) [
-      | inl over ↦
-          let busy : (row_at h t).hand ≡ hands.Busy phases.Over c = busy_hand phases.Over c _ over in
-          done (hands.Busy phases.Over c) (hands.Busy phases.Untied c) busy refl (untie_over h t c sound may at_cell.inside busy)
-      | inr apart ↦ elim (cases_Bool (is_at phases.Shut c (row_at h t).hand)) [
-        | inl shut ↦
-            let busy : (row_at h t).hand ≡ hands.Busy phases.Shut c = busy_hand phases.Shut c _ shut in
-            let some : not (is_nobody (cell_at h c).owner) ≡ true = subst (λ g. untied_ok t g (cell_at h c) ≡ true) busy at_cell.fits in
-            done (hands.Busy phases.Shut c) (hands.Busy phases.Taking c) busy refl (untie_shut h t c sound may at_cell.inside busy (not-true _ some))
-        | inr off ↦
-            let free : (row_at h t).hand ≡ hands.Free = free_hand _ (third _ _ _ apart off may.hand) in
-            let on : (bit_of (popped_at h t) c == 1) ≡ true = subst (λ g. untie_ok g (popped_at h t) c ≡ true) free may.own in
-            let mine = and_parts _ _ (subst (λ g. untied_ok t g (cell_at h c) ≡ true) free at_cell.fits) in
-            done hands.Free (hands.Busy phases.Popping c) free refl (untie_popped h t c sound may at_cell.inside free (eqb-true _ _ on) (thread_owner t _ mine.0))
-      ]
+    elim (untie_way h t c sound may) [
+      | at_end busy owner ↦ done (hands.Busy phases.Over c) (hands.Busy phases.Untied c) busy refl (untie_over h t c sound may at_cell.inside busy)
+      | shut_out busy some ↦ done (hands.Busy phases.Shut c) (hands.Busy phases.Taking c) busy refl (untie_shut h t c sound may at_cell.inside busy some)
+      | from_queue free on owner ↦ done hands.Free (hands.Busy phases.Popping c) free refl (untie_popped h t c sound may at_cell.inside free on owner)
     ]
 
 -- ---- merging at local count 0
