@@ -95,6 +95,6 @@ untie_way h t c sound may =
         | inr off ↦
             let free = free_hand _ (third _ _ _ apart off may.hand) in
             from_queue free (eqb-true _ _ (subst (λ g. untie_ok g (popped_at h t) c ≡ true) free may.own))
-                (thread_owner t _ (and_parts _ _ (subst (λ g. untied_ok t g (cell_at h c) ≡ true) free at_cell.fits)).0)
+            (thread_owner t _ (and_parts _ _ (subst (λ g. untied_ok t g (cell_at h c) ≡ true) free at_cell.fits)).0)
       ]
     ]
