@@ -7,6 +7,7 @@
 
 mod block;
 mod cells;
+mod entries;
 mod letters;
 mod pairs;
 mod payload;
@@ -14,6 +15,7 @@ mod worklist;
 
 pub use block::Block;
 pub use cells::Cells;
+pub use entries::Entries;
 pub use letters::Letters;
 pub use pairs::Pairs;
 pub use payload::Payload;

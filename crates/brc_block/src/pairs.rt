@@ -110,6 +110,7 @@ impl<A: Allocator> Pairs<A> {
     /// One more entry, at the end, or its key back.
     pub fn put(&mut self, key: Key<A>, cell: u32) -> Result<(), Key<A>>
         ensures put { OnOk result (self.new.items ≡ self.old.items ++ (key, cell) ∷ []) }
+        ensures left { OnOk result (self.old.spare ≤ self.new.spare + 1) }
         ensures back { IfErr result (λ back. back ≡ key) }
         ensures needed { OnErr result (self.old.spare ≡ 0) }
         ensures unchanged { OnErr result (self.new ≡ self.old) }

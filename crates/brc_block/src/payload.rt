@@ -6,6 +6,7 @@ ghost use Rattle.brc_words.specs.Kinds.{is_container};
 ghost use Rattle.brc_words.specs.declared.kind.Kind.TheVariants as kinds;
 
 use crate::cells::Cells;
+use crate::entries::Entries;
 use crate::letters::Letters;
 use crate::pairs::Pairs;
 use brc_words::{Key, Kind, Text};

@@ -1,7 +1,10 @@
 -- What a replay says where it gives no world.
-use Rattle.std.specs.Prelude.{◌≡◌, ℕ, false, List, take, reverse, Some, slice_get}
+use Rattle.std.specs.Prelude.{◌≡◌, ℕ, ◌+◌, ◌-◌, ◌^◌, min, false, List, take, reverse, Some, slice_get}
 use Rattle.brc_core.specs.declared.replaying.ReplayFault.{ReplayFault}
 use Rattle.brc_core.specs.declared.replaying.ReplayFault.TheVariants as faults
+use Rattle.brc_words.specs.declared.fault.Fault.{Fault}
+use Rattle.brc_words.specs.declared.fault.Fault.TheVariants as words
+use Rattle.brc_words.specs.declared.fault.Reason.TheVariants as reasons
 use Rattle.brc_runs.specs.declared.event.Event.{Event}
 use Rattle.brc_runs.specs.Heap.{Heap, opening, AreOptions}
 use Rattle.brc_runs.specs.Steps.{enabled}
@@ -21,3 +24,13 @@ IsRight faults.Options cells limit events = ¬ (AreOptions cells limit)
 IsRight (faults.NotEnabled at) cells limit events =
     IsFirstNotEnabled (opening cells limit) events at
 IsRight faults.Memory cells limit events = AreOptions cells limit
+
+-- the line of a trace on which the event at this index stands, behind the head; lines are told up to this number
+abbrev pub line_of : ℕ → ℕ
+line_of at = min (at + 2) (2 ^ 32 - 1)
+
+-- the fault as the calls of all rooms answer it
+abbrev pub fault_of : ReplayFault → Fault
+fault_of faults.Options = words.BadOptions
+fault_of (faults.NotEnabled at) = words.BadTrace (line_of at) reasons.NotEnabled
+fault_of faults.Memory = words.OutOfMemory

@@ -1,14 +1,14 @@
 //! Replay: the world that a list of events leads to from the opening one.
 
 ghost use Rattle.std.specs.Prelude.{◌≡◌, ◌↔◌, Err, IfOk, IfErr, OnOk, reverse};
-ghost use Rattle.brc_core.specs.Replays.{IsRight};
+ghost use Rattle.brc_core.specs.Replays.{IsRight, line_of, fault_of};
 ghost use Rattle.brc_runs.specs.Heap.{AreOptions, opening};
 ghost use Rattle.brc_runs.specs.Runs.{IsRun, world_after};
 ghost use Rattle.brc_runs.specs.Holding.{Headline, Histories};
 
 use crate::world::{StepFault, World};
 use brc_runs::Event;
-use brc_words::Fault;
+use brc_words::{Fault, Reason};
 use std::alloc::Allocator;
 
 /// Why a replay gives no world.
@@ -20,6 +20,29 @@ pub enum ReplayFault {
     NotEnabled { at: usize },
     /// A growth was refused.
     Memory,
+}
+
+/// The line on which a trace has the event at this index: its head is line 1. Behind the last line that has a number,
+/// which is past all lines that a trace can have, it is that one.
+fn line_of(at: usize) -> u32
+    ensures { result ≡ line_of at }
+{
+    at.saturating_add(2).min(u32::MAX as usize) as u32
+}
+
+impl From<ReplayFault> for Fault {
+    ghost from_gives = { λ refused fault. fault ≡ fault_of refused };
+
+    fn from(refused: ReplayFault) -> Fault {
+        match refused {
+            ReplayFault::Options => Fault::BadOptions,
+            ReplayFault::NotEnabled { at } => Fault::BadTrace {
+                line: line_of(at),
+                reason: Reason::NotEnabled,
+            },
+            ReplayFault::Memory => Fault::OutOfMemory,
+        }
+    }
 }
 
 /// The world after these events, the oldest first.

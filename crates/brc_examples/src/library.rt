@@ -13,13 +13,8 @@ const HELD_TWICE: &[u8] =
 pub fn count_and_holders(alloc: Global) -> Result<(i64, usize), Fault> {
     let trace = read_trace(alloc, HELD_TWICE)?;
     let events = trace.events.as_slice();
-    match replay(alloc, events, trace.cells, trace.local_limit) {
-        // Its sizes are a heap's and each of its events is enabled, so only memory can be wanting.
-        Err(_) => Err(Fault::OutOfMemory),
-        Ok(world) => {
-            let total = world.total(266).unwrap_or(0);
-            let holders = world.holders(alloc, 266)?;
-            Ok((total, holders.len()))
-        }
-    }
+    let world = replay(alloc, events, trace.cells, trace.local_limit)?;
+    let total = world.total(266).unwrap_or(0);
+    let holders = world.holders(alloc, 266)?;
+    Ok((total, holders.len()))
 }

@@ -16,11 +16,11 @@ use Rattle.brc_runs.specs.declared.row.Hand.TheVariants as hands
 use Rattle.brc_runs.specs.declared.row.Phase.{Phase}
 use Rattle.brc_runs.specs.declared.row.Phase.TheVariants as phases
 use Rattle.brc_runs.specs.Lists.{one, is_marked}
-use Rattle.brc_runs.specs.Heap.{Heap, cell_at, entries_at, row_at, frame_at, popped_at, worklist_at, no_cell}
-use Rattle.brc_runs.specs.Steps.{enabled, after, after_target, root_after, thread_may, target_at, target_ok, cell_after, entries_without, entries_after, root_may, dropped_cell, locked_cell, is_at, is_default, untie_ok}
+use Rattle.brc_runs.specs.Heap.{Heap, cell_at, entries_at, row_at, frame_at, worklist_at, no_cell}
+use Rattle.brc_runs.specs.Steps.{enabled, after, after_target, root_after, thread_may, target_at, target_ok, cell_after, entries_without, entries_after, root_may, dropped_cell, locked_cell, is_at, is_default}
 use Rattle.brc_runs.specs.Sound.{IsSound, grips, held}
-use Rattle.brc_runs.proofs.Naming.{second, third, free_hand, busy_hand, busy_carrier, free_owner, one-true}
-use Rattle.brc_runs.proofs.Asking.{May, may_parts, OnCell, on_cell}
+use Rattle.brc_runs.proofs.Naming.{second, busy_hand, busy_carrier, free_owner, one-true}
+use Rattle.brc_runs.proofs.Asking.{May, may_parts, OnCell, on_cell, at_end, shut_out, from_queue, untie_way}
 use Rattle.brc_runs.proofs.Changes.{read_here, read_there}
 use Rattle.brc_runs.proofs.Merging.{hand_grips, carried_held, popped_held}
 use Rattle.brc_runs.proofs.Sharing.{ending_hand, ending_reference}
@@ -103,14 +103,10 @@ step_reason h u (Free d) c sound may named mortal =
     subst (Reason h u (Free d)) e (inr (inr (by_grip h u d (omega (arith, one-true (is_marked (worklist_at h u) d) (and_parts _ _ may.own).0)))))
 step_reason h u (Untie d) c sound may named mortal =
     let e : d ≡ c = cc in
-    subst (Reason h u (Untie d)) e (elim (cases_Bool (is_at phases.Over d (row_at h u).hand)) [
-      | inl over ↦ hand_reason h u d (Untie d) phases.Over over refl
-      | inr apart ↦ elim (cases_Bool (is_at phases.Shut d (row_at h u).hand)) [
-        | inl shut ↦ inr (inl (carried_held h u d (busy_carrier phases.Shut d _ refl (busy_hand phases.Shut d _ shut))))
-        | inr off ↦
-            let free : (row_at h u).hand ≡ hands.Free = free_hand _ (third _ _ _ apart off may.hand) in
-            inr (inl (popped_held h u d (eqb-true _ _ (subst (λ g. untie_ok g (popped_at h u) d ≡ true) free may.own))))
-      ]
+    subst (Reason h u (Untie d)) e (elim (untie_way h u d sound may) [
+      | at_end busy owner ↦ inr (inr (by_grip h u d (omega (arith, hand_grips h u d phases.Over busy refl))))
+      | shut_out busy some ↦ inr (inl (carried_held h u d (busy_carrier phases.Shut d _ refl busy)))
+      | from_queue free on owner ↦ inr (inl (popped_held h u d on))
     ])
 step_reason h u (MergeZero d) c sound may named mortal = let e : d ≡ c = cc in subst (Reason h u (MergeZero d)) e (hand_reason h u d (MergeZero d) phases.Untied may.hand refl)
 step_reason h u (SharedUp source k) c sound may named mortal = inr (inl (source_held h u c source named mortal))

@@ -1,6 +1,6 @@
 -- What a thread's hand, its popped bits and its own objects tell it, and that it stays so while others step.
 use Rattle.std.proofs.Common.{◌≡◌, ◌≢◌, ℕ, ◌/◌, ◌≤◌, ◌||◌, not, Bool, true, false, if◌then◌else◌, List, [], sum_by, Some, refl, sym, ◌∙◌, ap, subst, inl, inr, ◌⊎◌, arith}
-use Rattle.std.proofs.lemmas.Bool.{cases_Bool, eqb-true, and_parts, not-true, le-ltb, true≢false}
+use Rattle.std.proofs.lemmas.Bool.{cases_Bool, and_parts, le-ltb, true≢false}
 use Rattle.brc_words.specs.declared.limits.TheConstants.{FIRST_MORTAL}
 use Rattle.brc_words.specs.declared.owner.Owner.{Owner}
 use Rattle.brc_words.specs.declared.owner.Owner.TheVariants as owners
@@ -17,13 +17,13 @@ use Rattle.brc_runs.specs.declared.row.Phase.{Phase}
 use Rattle.brc_runs.specs.declared.row.Phase.TheVariants as phases
 use Rattle.brc_runs.specs.Lists.{one, is_marked, bit_of}
 use Rattle.brc_runs.specs.Heap.{Heap, cell_at, row_at, popped_at, worklist_at, no_row, is_immortal}
-use Rattle.brc_runs.specs.Steps.{enabled, after, target_at, cell_after, untie_ok, untied_ok, is_at, is_active, is_default, is_merged, is_mine, is_nobody, is_zero, counts_up_locally, target_ok}
+use Rattle.brc_runs.specs.Steps.{enabled, after, target_at, cell_after, is_at, is_active, is_default, is_merged, is_mine, is_nobody, is_zero, counts_up_locally, target_ok}
 use Rattle.brc_runs.specs.Runs.{IsReached}
 use Rattle.brc_runs.specs.Holding.{carries, lives}
 use Rattle.brc_runs.specs.Sound.{IsSound, HandFits, WorklistFits, Untied, grips, grips_by_owner, gripped, held, asks}
 use Rattle.brc_lasting.specs.Staying.{Lasts, SameOwn, Owns, Merges, Adopts, PoppedOwn, Tells, PoppedTells}
-use Rattle.brc_runs.proofs.Naming.{second, third, merged_state, nobody_owner, Ungripped, sole_grip, one-le, one-true, sum_one, sum_two, no_bit, busy_hand, busy_carrier, free_hand, free_owner, thread_owner}
-use Rattle.brc_runs.proofs.Asking.{May, OnCell, on_cell, Mine, mine}
+use Rattle.brc_runs.proofs.Naming.{second, merged_state, nobody_owner, Ungripped, sole_grip, one-le, one-true, sum_one, sum_two, no_bit, busy_hand, busy_carrier, free_owner}
+use Rattle.brc_runs.proofs.Asking.{May, OnCell, on_cell, Mine, mine, at_end, shut_out, from_queue, untie_way}
 use Rattle.brc_runs.proofs.Merging.{hand_grips, hand_gripped, gripped_local, gripped_unmerged, carried_held, popped_held, held_owner, closed_idle, active_now, live_thread}
 use Rattle.brc_lasting.proofs.Reasons.{event_cell}
 use Rattle.brc_lasting.proofs.Lasting.{others_own, not_bearing}
@@ -284,23 +284,8 @@ fixed_event h e c sound ok kept = elim (event_cell h e c ok) [
   | inr at ↦ subst (λ y. Fixed (cell_at h c) y) (sym at.1) (fixed_step h e.thread e.step c sound at.0.may at.0.named kept)
 ]
 
--- how a thread could untie an object: at count 0, shut out, or with a popped entry
-untie_ways : (h : Heap) (u c : ℕ) → IsSound h → May h u (Untie c)
-    → ((row_at h u).hand ≡ hands.Busy phases.Over c) ⊎ ((((row_at h u).hand ≡ hands.Busy phases.Shut c) × (is_nobody (cell_at h c).owner ≡ false))
-    ⊎ ((bit_of (popped_at h u) c ≡ 1) × ((cell_at h c).owner ≡ owners.Thread u)))
-untie_ways h u c sound may =
-    let at_cell : OnCell h u (Untie c) c = on_cell h u (Untie c) c may.on_target in
-    elim (cases_Bool (is_at phases.Over c (row_at h u).hand)) [
-      | inl over ↦ inl (busy_hand phases.Over c _ over)
-      | inr apart ↦ inr (elim (cases_Bool (is_at phases.Shut c (row_at h u).hand)) [
-        | inl shut ↦
-            let busy : (row_at h u).hand ≡ hands.Busy phases.Shut c = busy_hand phases.Shut c _ shut in
-            inl (busy, not-true _ (subst (λ g. untied_ok u g (cell_at h c) ≡ true) busy at_cell.fits))
-        | inr off ↦
-            let free : (row_at h u).hand ≡ hands.Free = free_hand _ (third _ _ _ apart off may.hand) in
-            inr (eqb-true _ _ (subst (λ g. untie_ok g (popped_at h u) c ≡ true) free may.own), thread_owner u _ (and_parts _ _ (subst (λ g. untied_ok u g (cell_at h c) ≡ true) free at_cell.fits)).0)
-      ])
-    ]
+one_owner : (h : Heap) (c : ℕ) {s t : ℕ} → (cell_at h c).owner ≡ owners.Thread s → (cell_at h c).owner ≡ owners.Thread t → s ≡ t
+one_owner h c {s} {t} his mine = let e : owners.Thread s ≡ owners.Thread t = sym his ∙ mine in cc
 
 -- who merges has made it nobody's
 merges_nobodys : (h : Heap) (u c : ℕ) → IsSound h → (May h u (MergeZero c)) ⊎ (May h u (MergeAdd c)) → (cell_at h c).owner ≡ owners.Nobody
@@ -351,14 +336,12 @@ owns_lasts t c local h e reached ok others owns =
     let sound : IsSound h = reached_sound h reached in
     let own : SameOwn t h (after h e) = others_own h e t sound ok others in
     let fixed : Fixed (cell_at h c) (cell_at (after h e) c) = fixed_event h e c sound ok (owned_kept h t e.thread c sound owns.mortal owns.owner others.other
-    (λ may. elim (untie_ways h e.thread c sound may) [
-      | inl over ↦ others.other (let e : owners.Thread e.thread ≡ owners.Thread t = sym (sound.hands e.thread c phases.Over over).fits ∙ owns.owner in cc)
-      | inr more ↦ elim more [
-        | inl shut ↦
-            let closed : is_active (row_at h (cell_at h c).bearer).stage ≡ false = closed_idle _ (c / 32) (sound.hands e.thread c phases.Shut shut.0).fits in
-            true≢false (sym owns.active ∙ ap (λ b. is_active (row_at h b).stage) (sym ((sound.cells c owns.mortal).owned_by_bearer t owns.owner)) ∙ closed)
-        | inr popped ↦ others.other (let e : owners.Thread e.thread ≡ owners.Thread t = sym popped.1 ∙ owns.owner in cc)
-      ]
+    (λ may. elim (untie_way h e.thread c sound may) [
+      | at_end busy owner ↦ others.other (one_owner h c owner owns.owner)
+      | shut_out busy some ↦
+          let closed : is_active (row_at h (cell_at h c).bearer).stage ≡ false = closed_idle _ (c / 32) (sound.hands e.thread c phases.Shut busy).fits in
+          true≢false (sym owns.active ∙ ap (λ b. is_active (row_at h b).stage) (sym ((sound.cells c owns.mortal).owned_by_bearer t owns.owner)) ∙ closed)
+      | from_queue free on owner ↦ others.other (one_owner h c owner owns.owner)
     ])) in
     record {
       active = ap (λ (row : Row). is_active row.stage) own.row ∙ owns.active;
@@ -376,14 +359,10 @@ adopting_lasts t c s local h e reached ok others adopts =
     let said : HandFits h t phases.Shut c = sound.hands t c phases.Shut adopts.hand in
     let carried : one (carries c (row_at h t).hand) ≡ 1 = busy_carrier phases.Shut c _ refl adopts.hand in
     let idle : is_active (row_at h s).stage ≡ false = subst (λ b. is_active (row_at h b).stage ≡ false) ((sound.cells c said.mortal).owned_by_bearer s adopts.owner) (closed_idle _ (c / 32) said.fits) in
-    let no_untie : May h e.thread (Untie c) → ⊥ = λ may. elim (untie_ways h e.thread c sound may) [
-      | inl over ↦
-          let same : e.thread ≡ s = let e : owners.Thread e.thread ≡ owners.Thread s = sym (sound.hands e.thread c phases.Over over).fits ∙ adopts.owner in cc in
-          true≢false (sym (active_now h e.thread c phases.Over sound over refl) ∙ ap (λ i. is_active (row_at h i).stage) same ∙ idle)
-      | inr more ↦ elim more [
-        | inl shut ↦ two_carry h t e.thread c sound said.mortal others.other carried (busy_carrier phases.Shut c _ refl shut.0)
-        | inr popped ↦ carry_popped h t e.thread c sound said.mortal carried popped.0
-      ]
+    let no_untie : May h e.thread (Untie c) → ⊥ = λ may. elim (untie_way h e.thread c sound may) [
+      | at_end busy owner ↦ true≢false (sym (active_now h e.thread c phases.Over sound busy refl) ∙ ap (λ i. is_active (row_at h i).stage) (one_owner h c owner adopts.owner) ∙ idle)
+      | shut_out busy some ↦ two_carry h t e.thread c sound said.mortal others.other carried (busy_carrier phases.Shut c _ refl busy)
+      | from_queue free on owner ↦ carry_popped h t e.thread c sound said.mortal carried on
     ] in
     let fixed : Fixed (cell_at h c) (cell_at (after h e) c) = fixed_event h e c sound ok (idle_kept h s e.thread c sound said.mortal adopts.owner idle (carried_held h t c carried) no_untie) in
     record {
@@ -402,12 +381,10 @@ merging_kept h t u c p sound mortal owner other busy gripping =
       mortal = mortal;
       live = ap lives owner;
       owner = λ his. let bad : owners.Nobody ≡ owners.Thread u = sym owner ∙ his.owner in cc;
-      untie = λ may. elim (untie_ways h u c sound may) [
-        | inl over ↦ let bad : owners.Nobody ≡ owners.Thread u = sym owner ∙ (sound.hands u c phases.Over over).fits in cc
-        | inr more ↦ elim more [
-          | inl shut ↦ true≢false (sym (ap is_nobody owner) ∙ shut.1)
-          | inr popped ↦ let bad : owners.Nobody ≡ owners.Thread u = sym owner ∙ popped.1 in cc
-        ]
+      untie = λ may. elim (untie_way h u c sound may) [
+        | at_end busy his ↦ let bad : owners.Nobody ≡ owners.Thread u = sym owner ∙ his in cc
+        | shut_out busy some ↦ true≢false (sym (ap is_nobody owner) ∙ some)
+        | from_queue free on his ↦ let bad : owners.Nobody ≡ owners.Thread u = sym owner ∙ his in cc
       ];
       zero = λ may. grips_not phases.Untied (busy_hand phases.Untied c _ may.hand) refl;
       add = λ may. elim (cases_Bool (is_at phases.Taking c (row_at h u).hand)) [
@@ -440,12 +417,10 @@ popped_lasts t c local h e reached ok others his =
     let own : SameOwn t h (after h e) = others_own h e t sound ok others in
     let mortal : FIRST_MORTAL ≤ c = (sound.bits t c (omega (arith, his.popped))).0 in
     let fixed : Fixed (cell_at h c) (cell_at (after h e) c) = fixed_event h e c sound ok (owned_kept h t e.thread c sound mortal his.owner others.other
-    (λ may. elim (untie_ways h e.thread c sound may) [
-      | inl over ↦ others.other (let e : owners.Thread e.thread ≡ owners.Thread t = sym (sound.hands e.thread c phases.Over over).fits ∙ his.owner in cc)
-      | inr more ↦ elim more [
-        | inl shut ↦ carry_popped h e.thread t c sound mortal (busy_carrier phases.Shut c _ refl shut.0) his.popped
-        | inr popped ↦ others.other (let e : owners.Thread e.thread ≡ owners.Thread t = sym popped.1 ∙ his.owner in cc)
-      ]
+    (λ may. elim (untie_way h e.thread c sound may) [
+      | at_end busy owner ↦ others.other (one_owner h c owner his.owner)
+      | shut_out busy some ↦ carry_popped h e.thread t c sound mortal (busy_carrier phases.Shut c _ refl busy) his.popped
+      | from_queue free on owner ↦ others.other (one_owner h c owner his.owner)
     ])) in
     record {
       popped = ap (λ ws. bit_of ws c) own.popped ∙ his.popped;

@@ -24,13 +24,13 @@ use Rattle.brc_runs.specs.declared.row.Hand.TheVariants as hands
 use Rattle.brc_runs.specs.declared.row.Phase.TheVariants as phases
 use Rattle.brc_runs.specs.Lists.{one, bit_of, is_marked, place_at, filled, last_of}
 use Rattle.brc_runs.specs.Heap.{Heap, cell_at, entries_at, row_at, frame_at, popped_at, worklist_at, queue_at, no_cell, no_row, new_row, is_immortal, words_for}
-use Rattle.brc_runs.specs.Steps.{enabled, after, after_target, stepped, kept_cells, registered, root_after, thread_may, root_may, target_at, source_cell, dropped_cell, locked_cell, entry_of, frame_without, entries_without, is_default, hand_ok, is_free_hand, is_at, untied_hand, added_hand, drained_word, with_drained, without_drained}
+use Rattle.brc_runs.specs.Steps.{enabled, after, after_target, stepped, kept_cells, registered, root_after, thread_may, root_may, target_at, source_cell, dropped_cell, locked_cell, entry_of, frame_without, entries_without, is_default, hand_ok, is_at, untied_hand, added_hand, drained_word, with_drained, without_drained}
 use Rattle.brc_runs.specs.Holding.{lives, lives_at, carries}
 use Rattle.brc_moves.specs.Moves.{moves_by, map_of, moves_of, of_mortal, removal, asking, MakesMoves}
 use Rattle.brc_runs.specs.Sound.{IsSound, held, HandFits, WorklistFits, Births}
 use Rattle.brc_runs.proofs.Naming.{no_bit, Unheld, unheld, dead_unheld, free_hand, busy_hand, busy_carrier}
 use Rattle.brc_runs.proofs.Bitwise.{without_bit_here, without_bit_else}
-use Rattle.brc_runs.proofs.Asking.{May, may_parts, on_cell, Vacant, vacant}
+use Rattle.brc_runs.proofs.Asking.{May, may_parts, on_cell, Vacant, vacant, at_end, shut_out, from_queue, untie_way}
 use Rattle.brc_runs.proofs.Changes.{read_by, read_here, read_there}
 use Rattle.brc_runs.proofs.Counting.{marked_unheld}
 use Rattle.brc_runs.proofs.Framing.{found_inside, place_at-filled_here}
@@ -319,14 +319,14 @@ hand_moves A h t c sound at =
 down_hand_carries : (b : Bool) (q c : ℕ) (hand : Hand) → hand ≡ hands.Free → carries q (if b then hands.Busy phases.Zero c else hand) ≡ carries q hand
 down_hand_carries b q c hand free = either_way (carries q) b (hands.Busy phases.Zero c) hand (carries q hand) (sym (ap (carries q) free)) refl
 
-untied_carries : (q c : ℕ) (hand : Hand) → hand_ok hand (Untie c) ≡ true → carries q (untied_hand c hand) ≡ carries q hand
-untied_carries q c hand ok = elim (or_cases (is_at phases.Over c hand || is_at phases.Shut c hand) (is_free_hand hand) ok) [
-  | inr free ↦ subst (λ x. carries q (untied_hand c x) ≡ carries q x) (sym (free_hand hand free)) refl
-  | inl busy ↦ elim (or_cases (is_at phases.Over c hand) (is_at phases.Shut c hand) busy) [
-    | inl over ↦ subst (λ x. carries q (untied_hand c x) ≡ carries q x) (sym (busy_hand phases.Over c hand over)) refl
-    | inr shut ↦ subst (λ x. carries q (untied_hand c x) ≡ carries q x) (sym (busy_hand phases.Shut c hand shut)) refl
-  ]
-]
+untied_carries : (h : Heap) (t c q : ℕ) → IsSound h → May h t (Untie c) → carries q (untied_hand c (row_at h t).hand) ≡ carries q (row_at h t).hand
+untied_carries h t c q sound may =
+    let P : Hand → Type 0 = λ hand. carries q (untied_hand c hand) ≡ carries q hand in
+    elim (untie_way h t c sound may) [
+      | at_end busy owner ↦ subst P (sym busy) refl
+      | shut_out busy some ↦ subst P (sym busy) refl
+      | from_queue free on owner ↦ subst P (sym free) refl
+    ]
 
 added_carries : (q c : ℕ) (hand : Hand) → hand_ok hand (MergeAdd c) ≡ true → carries q (added_hand c hand) ≡ carries q hand
 added_carries q c hand ok = elim (or_cases (is_at phases.Taking c hand) (is_at phases.Popping c hand) ok) [
@@ -370,7 +370,7 @@ step_moves A h t (SeeZero c) sound ok =
 step_moves A h t (Free c) sound ok = free_moves A h t c sound ok
 step_moves A h t (Untie c) sound ok =
     let at = at_named h t (Untie c) c refl sound ok refl in
-    quiet_step h t (Untie c) c at refl refl (λ q. untied_carries q c _ at.may.hand) refl (λ q. refl)
+    quiet_step h t (Untie c) c at refl refl (λ q. untied_carries h t c q sound at.may) refl (λ q. refl)
 step_moves A h t (MergeZero c) sound ok =
     let at = at_named h t (MergeZero c) c refl sound ok refl in
     quiet_step h t (MergeZero c) c at refl refl (λ q. sym (ap (carries q) (busy_hand phases.Untied c _ at.may.hand))) refl (λ q. refl)

@@ -65,29 +65,9 @@ not_taken h t k q p this kept word = elim (cases_eq (bit_of (queue_at h t) q) 1)
   | inl same ↦ absurd (true≢false (sym (and_from _ _ (and_from _ _ (eq-eqb (q / 32) k word) (eq-eqb _ 1 same)) this) ∙ kept))
 ]
 
-taken_elsewhere : (h h' : Heap) (t k : ℕ) → Taken h h' t k → Elsewhere h h' (is_taken h t k)
-taken_elsewhere h h' t k taken =
-    own_elsewhere h h' t (frame_at h t) (with_drained (Some k) (queue_at h t) (popped_at h t)) (row_at h t).hand (is_taken h t k) taken.own
-    (λ i q mortal kept. refl)
-    (λ q kept. elim (cases_eq (q / 32) k) [
-      | inr other ↦ taken_else k (queue_at h t) (popped_at h t) q other
-      | inl same ↦ omega (arith, taken_here k (queue_at h t) (popped_at h t) q taken.inside same, not_taken h t k q (holders.Popped t q) (either_second q (holders.Queue t q) q (holders.Popped t q)) kept same)
-    ])
-    (λ q kept. refl)
-    (λ j q. by_owner (λ n (words : List ℕ). is_taken h t k q (holders.Queue n q) ≡ false → bit_of words q ≡ bit_of (queue_at h n) q)
-    (queue_at h) (queue_at h') t (without_drained (Some k) (queue_at h t)) taken.queue taken.queues
-    (λ kept. elim (cases_eq (q / 32) k) [
-      | inr other ↦ untaken_else k (queue_at h t) q other
-      | inl same ↦ untaken_here k (queue_at h t) q same ∙ sym (not_taken h t k q (holders.Queue t q) (either_first q (holders.Queue t q) q (holders.Popped t q)) kept same)
-    ])
-    (λ n kept. refl) j)
-
--- the map when the cells of the word below a bit are popped
+-- the cells of the word below a bit
 abbrev pub is_before : ℕ → ℕ → ℕ → Bool
 is_before k i q = (q / 32 == k) && nat_lt (q % 32) i
-
-abbrev pub between : Heap → Heap → ℕ → ℕ → ℕ → Holder → Bool
-between h h' k i q p = if is_before k i q then (map_of h').held q p else (map_of h).held q p
 
 -- the cell of a bit
 word_of_cell : (k i : ℕ) → i < 32 → (k * 32 + i) / 32 ≡ k
@@ -122,21 +102,6 @@ Passes m list new = MayAllBeHanded m list × Same (all_handed m list) new
 abbrev pub popping_one : ℕ → ℕ → ℕ → Handover
 popping_one t k i = record { object = k * 32 + i; «from» = holders.Queue t (k * 32 + i); to = holders.Popped t (k * 32 + i) }
 
--- at the bit's cell the map turns from the old to the new
-between_old : (h h' : Heap) (k i : ℕ) (p : Holder) → i < 32 → between h h' k i (k * 32 + i) p ≡ (map_of h).held (k * 32 + i) p
-between_old h h' k i p low = ap (λ b. if b then (map_of h').held (k * 32 + i) p else (map_of h).held (k * 32 + i) p) (not_before k i low)
-
-between_new : (h h' : Heap) (k i : ℕ) (p : Holder) → i < 32 → between h h' k (suc i) (k * 32 + i) p ≡ (map_of h').held (k * 32 + i) p
-between_new h h' k i p low = ap (λ b. if b then (map_of h').held (k * 32 + i) p else (map_of h).held (k * 32 + i) p) (before_here k i low)
-
--- all other cells stay, and this one where both worlds show the same
-between_else : (h h' : Heap) (k i q : ℕ) (p : Holder) → i < 32 → (q ≡ k * 32 + i → (map_of h').held q p ≡ (map_of h).held q p) → between h h' k (suc i) q p ≡ between h h' k i q p
-between_else h h' k i q p low here = elim (cases_eq q (k * 32 + i)) [
-  | inl same ↦ subst (λ n. between h h' k (suc i) n p ≡ between h h' k i n p) (sym same)
-      (between_new h h' k i p low ∙ subst (λ n. (map_of h').held n p ≡ (map_of h).held n p) same (here same) ∙ sym (between_old h h' k i p low))
-  | inr other ↦ ap (λ b. if b then (map_of h').held q p else (map_of h).held q p) (before_else k i q low other)
-]
-
 -- a set bit's cell, before and after
 pub record Popped (h h' : Heap) (t c : ℕ) : Type 0 where
   pub live : lives_at h c ≡ true
@@ -145,70 +110,116 @@ pub record Popped (h h' : Heap) (t c : ℕ) : Type 0 where
   pub unqueued : (map_of h').held c (holders.Queue t c) ≡ false
   pub popped : (map_of h').held c (holders.Popped t c) ≡ true
 
-popped_one : (h h' : Heap) (t k c : ℕ) → IsSound h → Taken h h' t k → c / 32 ≡ k → bit_of (queue_at h t) c ≡ 1 → Popped h h' t c
-popped_one h h' t k c sound taken word on =
-    let mortal : FIRST_MORTAL ≤ c = (sound.bits t c (omega (arith, on))).0 in
-    let off : bit_of (popped_at h t) c ≡ 0 = omega (arith, on, bits_once h t c sound) in
-    record {
-      live = held_lives h c sound mortal (queued_held h t c on);
-      queued = queue_shows h t c mortal on;
-      unpopped = popped_hides h t c c off;
-      unqueued = queue_hides h' t c c (ap (λ words. bit_of words c) taken.queue ∙ untaken_here k (queue_at h t) c word);
-      popped = popped_shows h' t c mortal (ap (λ words. bit_of words c) taken.own.popped ∙ omega (arith, taken_here k (queue_at h t) (popped_at h t) c taken.inside word, on, off));
-    }
+module _ (h h' : Heap) (t k : ℕ) (sound : IsSound h) (taken : Taken h h' t k) where
+  abbrev old : ℕ → Holder → Bool
+  old = (map_of h).held
 
-pop_from : (h h' : Heap) (t k : ℕ) → IsSound h → Taken h h' t k → (more i : ℕ) → i + more ≡ 32 → (held : ℕ → Holder → Bool) → ((q : ℕ) (p : Holder) → held q p ≡ between h h' k i q p)
-    → Passes (record (map_of h) { held = held }) (each_bit (popping_one t k) (word_at (queue_at h t) k) i more) (map_of h')
-pop_from h h' t k sound taken zero i e held is = (
-  tt,
-  same_held h h' held taken.lasting taken.entries (λ q p. is q p ∙ elim (cases_eq (q / 32) k) [
-    | inl same ↦ ap (λ b. if b then (map_of h').held q p else (map_of h).held q p) (ap (λ n. is_before k n q) (omega (arith, e)) ∙ before_all k q same)
-    | inr other ↦ ap (λ b. if b && nat_lt (q % 32) i then (map_of h').held q p else (map_of h).held q p) (ne_eqb (q / 32) k other)
-        ∙ sym (elsewhere h h' (is_taken h t k) (taken_elsewhere h h' t k taken) q p (and_left _ _ (and_left _ _ (ne_eqb (q / 32) k other))))
-  ]),
-)
-pop_from h h' t k sound taken (suc more) i e held is =
-    let low : i < 32 = omega (arith, e) in
-    let next : suc i + more ≡ 32 = omega (arith, e) in
-    let c : ℕ = k * 32 + i in
-    let word : ℕ = word_at (queue_at h t) k in
-    let rest : List Handover = each_bit (popping_one t k) word (suc i) more in
-    let old : Holder = holders.Queue t c in
-    let new : Holder = holders.Popped t c in
-    let in_word : c / 32 ≡ k = word_of_cell k i low in
-    let same_bit : bit_of (queue_at h t) c ≡ bit_at word i =
-    ap (λ n. bit_at (word_at (queue_at h t) n) (c % 32)) in_word ∙ ap (bit_at word) (bit_of_cell k i low) in
-    let outside : (q : ℕ) (p : Holder) → is_taken h t k q p ≡ false → (map_of h').held q p ≡ (map_of h).held q p = elsewhere h h' (is_taken h t k) (taken_elsewhere h h' t k taken) in
-    elim (cases_Bool (bit_at word i == 1)) [
-      | inr unset ↦ subst (λ b. Passes (record (map_of h) { held = held }) (if b then (popping_one t k i ∷ rest) else rest) (map_of h')) (sym unset)
-          (pop_from h h' t k sound taken more (suc i) next held
-          (λ q p. is q p ∙ sym (between_else h h' k i q p low
-          (λ same. subst (λ n. (map_of h').held n p ≡ (map_of h).held n p) (sym same) (outside c p (and_left _ _ (and_right _ _ (ap (λ n. n == 1) same_bit ∙ unset))))))))
-      | inl set ↦
-          let one : Popped h h' t c = popped_one h h' t k c sound taken in_word (same_bit ∙ eqb-true _ 1 set) in
-          subst (λ b. Passes (record (map_of h) { held = held }) (if b then (popping_one t k i ∷ rest) else rest) (map_of h')) (sym set)
-          (let later : Passes (record (map_of h) { held = with_holder (without_holder held c old) c new }) rest (map_of h') =
-          pop_from h h' t k sound taken more (suc i) next (with_holder (without_holder held c old) c new)
-          (instead_as held (between h h' k (suc i)) c old c new (λ _. between_new h h' k i old low ∙ one.unqueued) (between_new h h' k i new low ∙ one.popped)
-          (λ q p none. between_else h h' k i q p low
-          (λ same. outside q p (and_right _ _ (subst (λ n. is_either n (holders.Queue t n) n (holders.Popped t n) q p ≡ false) (sym same) none))) ∙ sym (is q p))) in (
-            (
-              record {
-                from_no_entry = tt;
-                held = and_from _ _ one.live (is c old ∙ between_old h h' k i old low ∙ one.queued);
-                not_yet = and_right (lives_at h c) _ (is c new ∙ between_old h h' k i new low ∙ one.unpopped);
-                holder_is_new = refl;
-              },
-              later.0,
-            ),
-            later.1,
-          ))
-    ]
+  abbrev new : ℕ → Holder → Bool
+  new = (map_of h').held
 
--- all of a word's bits, one after the other
-pub pop_moves : (h h' : Heap) (t k : ℕ) → IsSound h → Taken h h' t k → Passes (map_of h) (popping t k (word_at (queue_at h t) k)) (map_of h')
-pop_moves h h' t k sound taken = pop_from h h' t k sound taken 32 0 refl (map_of h).held
-    (λ q p. sym (ap (λ b. if b then (map_of h').held q p else (map_of h).held q p) (and_right (q / 32 == k) (nat_lt (q % 32) 0) (le-ltb (q % 32) 0 (omega arith)))))
+  taken_elsewhere : Elsewhere h h' (is_taken h t k)
+  taken_elsewhere =
+      own_elsewhere h h' t (frame_at h t) (with_drained (Some k) (queue_at h t) (popped_at h t)) (row_at h t).hand (is_taken h t k) taken.own
+      (λ i q mortal kept. refl)
+      (λ q kept. elim (cases_eq (q / 32) k) [
+        | inr other ↦ taken_else k (queue_at h t) (popped_at h t) q other
+        | inl same ↦ omega (arith, taken_here k (queue_at h t) (popped_at h t) q taken.inside same, not_taken h t k q (holders.Popped t q) (either_second q (holders.Queue t q) q (holders.Popped t q)) kept same)
+      ])
+      (λ q kept. refl)
+      (λ j q. by_owner (λ n (words : List ℕ). is_taken h t k q (holders.Queue n q) ≡ false → bit_of words q ≡ bit_of (queue_at h n) q)
+      (queue_at h) (queue_at h') t (without_drained (Some k) (queue_at h t)) taken.queue taken.queues
+      (λ kept. elim (cases_eq (q / 32) k) [
+        | inr other ↦ untaken_else k (queue_at h t) q other
+        | inl same ↦ untaken_here k (queue_at h t) q same ∙ sym (not_taken h t k q (holders.Queue t q) (either_first q (holders.Queue t q) q (holders.Popped t q)) kept same)
+      ])
+      (λ n kept. refl) j)
+
+  outside : (q : ℕ) (p : Holder) → is_taken h t k q p ≡ false → new q p ≡ old q p
+  outside = elsewhere h h' (is_taken h t k) taken_elsewhere
+
+  -- which of the two maps tells of a cell, and what is told when the cells below a bit are popped
+  abbrev told : ℕ → Holder → Bool → Bool
+  told q p b = if b then new q p else old q p
+
+  abbrev between : ℕ → ℕ → Holder → Bool
+  between i q p = told q p (is_before k i q)
+
+  -- at the bit's cell the map turns from the old to the new
+  between_old : (i : ℕ) (p : Holder) → i < 32 → between i (k * 32 + i) p ≡ old (k * 32 + i) p
+  between_old i p low = ap (told (k * 32 + i) p) (not_before k i low)
+
+  between_new : (i : ℕ) (p : Holder) → i < 32 → between (suc i) (k * 32 + i) p ≡ new (k * 32 + i) p
+  between_new i p low = ap (told (k * 32 + i) p) (before_here k i low)
+
+  -- all other cells stay, and this one where both worlds show the same
+  between_else : (i q : ℕ) (p : Holder) → i < 32 → (q ≡ k * 32 + i → new q p ≡ old q p) → between (suc i) q p ≡ between i q p
+  between_else i q p low here = elim (cases_eq q (k * 32 + i)) [
+    | inl same ↦ subst (λ n. between (suc i) n p ≡ between i n p) (sym same)
+        (between_new i p low ∙ subst (λ n. new n p ≡ old n p) same (here same) ∙ sym (between_old i p low))
+    | inr other ↦ ap (told q p) (before_else k i q low other)
+  ]
+
+  popped_one : (c : ℕ) → c / 32 ≡ k → bit_of (queue_at h t) c ≡ 1 → Popped h h' t c
+  popped_one c word on =
+      let mortal : FIRST_MORTAL ≤ c = (sound.bits t c (omega (arith, on))).0 in
+      let off : bit_of (popped_at h t) c ≡ 0 = omega (arith, on, bits_once h t c sound) in
+      record {
+        live = held_lives h c sound mortal (queued_held h t c on);
+        queued = queue_shows h t c mortal on;
+        unpopped = popped_hides h t c c off;
+        unqueued = queue_hides h' t c c (ap (λ words. bit_of words c) taken.queue ∙ untaken_here k (queue_at h t) c word);
+        popped = popped_shows h' t c mortal (ap (λ words. bit_of words c) taken.own.popped ∙ omega (arith, taken_here k (queue_at h t) (popped_at h t) c taken.inside word, on, off));
+      }
+
+  pop_from : (more i : ℕ) → i + more ≡ 32 → (held : ℕ → Holder → Bool) → ((q : ℕ) (p : Holder) → held q p ≡ between i q p)
+      → Passes (record (map_of h) { held = held }) (each_bit (popping_one t k) (word_at (queue_at h t) k) i more) (map_of h')
+  pop_from zero i e held is = (
+    tt,
+    same_held h h' held taken.lasting taken.entries (λ q p. is q p ∙ elim (cases_eq (q / 32) k) [
+      | inl same ↦ ap (told q p) (ap (λ n. is_before k n q) (omega (arith, e)) ∙ before_all k q same)
+      | inr other ↦ ap (λ b. told q p (b && nat_lt (q % 32) i)) (ne_eqb (q / 32) k other) ∙ sym (outside q p (and_left _ _ (and_left _ _ (ne_eqb (q / 32) k other))))
+    ]),
+  )
+  pop_from (suc more) i e held is =
+      let low : i < 32 = omega (arith, e) in
+      let next : suc i + more ≡ 32 = omega (arith, e) in
+      let c : ℕ = k * 32 + i in
+      let word : ℕ = word_at (queue_at h t) k in
+      let rest : List Handover = each_bit (popping_one t k) word (suc i) more in
+      let from : Holder = holders.Queue t c in
+      let to : Holder = holders.Popped t c in
+      let in_word : c / 32 ≡ k = word_of_cell k i low in
+      let same_bit : bit_of (queue_at h t) c ≡ bit_at word i =
+      ap (λ n. bit_at (word_at (queue_at h t) n) (c % 32)) in_word ∙ ap (bit_at word) (bit_of_cell k i low) in
+      elim (cases_Bool (bit_at word i == 1)) [
+        | inr unset ↦ subst (λ b. Passes (record (map_of h) { held = held }) (if b then (popping_one t k i ∷ rest) else rest) (map_of h')) (sym unset)
+            (pop_from more (suc i) next held
+            (λ q p. is q p ∙ sym (between_else i q p low
+            (λ same. subst (λ n. new n p ≡ old n p) (sym same) (outside c p (and_left _ _ (and_right _ _ (ap (λ n. n == 1) same_bit ∙ unset))))))))
+        | inl set ↦
+            let one : Popped h h' t c = popped_one c in_word (same_bit ∙ eqb-true _ 1 set) in
+            subst (λ b. Passes (record (map_of h) { held = held }) (if b then (popping_one t k i ∷ rest) else rest) (map_of h')) (sym set)
+            (let later : Passes (record (map_of h) { held = with_holder (without_holder held c from) c to }) rest (map_of h') =
+            pop_from more (suc i) next (with_holder (without_holder held c from) c to)
+            (instead_as held (between (suc i)) c from c to (λ _. between_new i from low ∙ one.unqueued) (between_new i to low ∙ one.popped)
+            (λ q p none. between_else i q p low
+            (λ same. outside q p (and_right _ _ (subst (λ n. is_either n (holders.Queue t n) n (holders.Popped t n) q p ≡ false) (sym same) none))) ∙ sym (is q p))) in (
+              (
+                record {
+                  from_no_entry = tt;
+                  held = and_from _ _ one.live (is c from ∙ between_old i from low ∙ one.queued);
+                  not_yet = and_right (lives_at h c) _ (is c to ∙ between_old i to low ∙ one.unpopped);
+                  holder_is_new = refl;
+                },
+                later.0,
+              ),
+              later.1,
+            ))
+      ]
+
+  -- all of a word's bits, one after the other
+  pub pop_moves : Passes (map_of h) (popping t k (word_at (queue_at h t) k)) (map_of h')
+  pop_moves = pop_from 32 0 refl old (λ q p. sym (ap (told q p) (and_right (q / 32 == k) (nat_lt (q % 32) 0) (le-ltb (q % 32) 0 (omega arith)))))
 
 -- a thread's step that takes a word of its queue
 pub taken_by : (h : Heap) (t : ℕ) (s : Step) (k : ℕ) → IsSound h → May h t s → drained_word s ≡ Some k → k < words_for (length h.cells) → Lasting h (kept_cells h t s) → Taken h (kept_cells h t s) t k

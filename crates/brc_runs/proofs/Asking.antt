@@ -1,16 +1,20 @@
 -- What it means that a thread's step is enabled, test by test.
-use Rattle.std.proofs.Common.{◌≡◌, ℕ, ◌<◌, true, false, List, length, Option, Some, None, is_none, refl, sym}
-use Rattle.std.proofs.lemmas.Bool.{and_parts, not-true, ltb-true, true≢false}
+use Rattle.std.proofs.Common.{◌≡◌, ℕ, ◌<◌, true, false, List, length, Option, Some, None, is_none, refl, sym, subst, inl, inr}
+use Rattle.std.proofs.lemmas.Bool.{cases_Bool, and_parts, not-true, eqb-true, ltb-true, true≢false}
 use Rattle.brc_words.specs.declared.limits.TheConstants.{MOST_PLACES}
 use Rattle.brc_words.specs.declared.owner.Owner.TheVariants as owners
 use Rattle.brc_runs.specs.declared.cell.Cell.{Cell}
 use Rattle.brc_runs.specs.declared.event.Step.{Step}
+use Rattle.brc_runs.specs.declared.event.Step.TheVariants.{Untie}
+use Rattle.brc_runs.specs.declared.row.Hand.TheVariants as hands
+use Rattle.brc_runs.specs.declared.row.Phase.TheVariants as phases
 use Rattle.brc_runs.specs.declared.row.Stage.{Stage}
 use Rattle.brc_runs.specs.declared.row.Stage.TheVariants as stages
-use Rattle.brc_runs.specs.Lists.{place_at}
-use Rattle.brc_runs.specs.Heap.{Heap, cell_at, row_at, is_gathered}
-use Rattle.brc_runs.specs.Steps.{thread_may, stage_ok, lock_ok, hand_ok, own_ok_at, others_ok, target_ok, target_at, cell_ok, is_vacant, is_mine}
-use Rattle.brc_runs.proofs.Naming.{thread_owner, active_stage}
+use Rattle.brc_runs.specs.Lists.{place_at, bit_of}
+use Rattle.brc_runs.specs.Heap.{Heap, cell_at, row_at, popped_at, is_gathered}
+use Rattle.brc_runs.specs.Steps.{thread_may, stage_ok, lock_ok, hand_ok, own_ok_at, others_ok, target_ok, target_at, cell_ok, is_vacant, is_mine, is_at, is_nobody, untie_ok, untied_ok}
+use Rattle.brc_runs.specs.Sound.{IsSound}
+use Rattle.brc_runs.proofs.Naming.{third, busy_hand, free_hand, thread_owner, active_stage}
 
 -- the tests of a thread's step
 pub record May (h : Heap) (t : ℕ) (s : Step) : Type 0 where
@@ -73,3 +77,24 @@ pub record Mine (t : ℕ) (stage : Stage) (x : Cell) : Type 0 where
 
 pub mine : (t : ℕ) (stage : Stage) (x : Cell) → is_mine t stage x ≡ true → Mine t stage x
 mine t stage x h = let parts = and_parts _ _ h in record { owner = thread_owner t _ parts.0; active = active_stage _ parts.1 }
+
+-- how a thread lets an object go: its own at count 0, one whose owner closed its merge queue to the thread, or its own
+-- that it popped
+pub data UntieWay (h : Heap) (t c : ℕ) : Type 0 where
+  at_end : (row_at h t).hand ≡ hands.Busy phases.Over c → (cell_at h c).owner ≡ owners.Thread t → UntieWay h t c
+  shut_out : (row_at h t).hand ≡ hands.Busy phases.Shut c → is_nobody (cell_at h c).owner ≡ false → UntieWay h t c
+  from_queue : (row_at h t).hand ≡ hands.Free → bit_of (popped_at h t) c ≡ 1 → (cell_at h c).owner ≡ owners.Thread t → UntieWay h t c
+
+pub untie_way : (h : Heap) (t c : ℕ) → IsSound h → May h t (Untie c) → UntieWay h t c
+untie_way h t c sound may =
+    let at_cell : OnCell h t (Untie c) c = on_cell h t (Untie c) c may.on_target in
+    elim (cases_Bool (is_at phases.Over c (row_at h t).hand)) [
+      | inl over ↦ let busy = busy_hand phases.Over c _ over in at_end busy (sound.hands t c phases.Over busy).fits
+      | inr apart ↦ elim (cases_Bool (is_at phases.Shut c (row_at h t).hand)) [
+        | inl shut ↦ let busy = busy_hand phases.Shut c _ shut in shut_out busy (not-true _ (subst (λ g. untied_ok t g (cell_at h c) ≡ true) busy at_cell.fits))
+        | inr off ↦
+            let free = free_hand _ (third _ _ _ apart off may.hand) in
+            from_queue free (eqb-true _ _ (subst (λ g. untie_ok g (popped_at h t) c ≡ true) free may.own))
+            (thread_owner t _ (and_parts _ _ (subst (λ g. untied_ok t g (cell_at h c) ≡ true) free at_cell.fits)).0)
+      ]
+    ]

@@ -119,35 +119,6 @@ pub record Fits (h : Heap) (t c : ℕ) (n : New) : Type 0 where
   pub locks : LocksFit (changed h t c n)
   pub ledger : n.row.allocs + (row_at h t).frees + one (lives (cell_at h c).owner) ≡ (row_at h t).allocs + n.row.frees + one (lives n.cell.owner)
 
--- ---- the shape
-
-changed_shape : (h : Heap) (t c : ℕ) (n : New) → IsShaped h → Fits h t c n → IsShaped (changed h t c n)
-changed_shape h t c n shaped fits =
-    let cells : length (set h.cells c n.cell) ≡ length h.cells = length-set h.cells c n.cell in
-    let rows : length (set h.rows t n.row) ≡ length h.rows = length-set h.rows t n.row in
-    let frames : length (set h.frames t n.frame) ≡ length h.frames = length-set h.frames t n.frame in
-    let worklists : length (set h.worklists t n.worklist) ≡ length h.worklists = length-set h.worklists t n.worklist in
-    let popped : length (set h.popped t n.popped) ≡ length h.popped = length-set h.popped t n.popped in
-    let at_works : t < length h.worklists = omega (arith, shaped.worklists, fits.thread_inside) in
-    let at_popped : t < length h.popped = omega (arith, shaped.popped, fits.thread_inside) in
-    record {
-      options = subst (λ m. AreOptions m h.limit) (sym cells) shaped.options;
-      entries = fits.lists ∙ shaped.entries ∙ sym cells;
-      root = subst (λ m. 0 < m) (sym rows) shaped.root;
-      threads = subst (λ m. m ≤ MOST_THREADS + 1) (sym rows) shaped.threads;
-      frames = frames ∙ shaped.frames ∙ sym rows;
-      popped = popped ∙ shaped.popped ∙ sym rows;
-      worklists = worklists ∙ shaped.worklists ∙ sym rows;
-      queues = fits.queues ∙ shaped.queues ∙ sym rows;
-      notify_words = shaped.notify_words ∙ sym rows;
-      gathered = shaped.gathered ∙ sym rows;
-      marks = λ s low high. read_by (λ j marks. 0 < j → j < length h.rows → length marks ≡ length (set h.cells c n.cell)) h.worklists t n.worklist [] at_works
-          (λ a b. fits.marks ∙ shaped.marks t a b ∙ sym cells) (λ j ne a b. shaped.marks j a b ∙ sym cells) s low (subst (λ m. s < m) rows high);
-      popped_words = λ s low high. read_by (λ j words. 0 < j → j < length h.rows → length words ≡ words_for (length (set h.cells c n.cell))) h.popped t n.popped [] at_popped
-          (λ a b. fits.words ∙ shaped.popped_words t a b ∙ ap words_for (sym cells)) (λ j ne a b. shaped.popped_words j a b ∙ ap words_for (sym cells)) s low (subst (λ m. s < m) rows high);
-      queue_words = λ s low high. fits.queue_words s ∙ shaped.queue_words s low (subst (λ m. s < m) rows high) ∙ ap words_for (sym cells);
-    }
-
 -- ---- sums
 
 frames_sum : (h : Heap) (t q : ℕ) (f : List (Option ℕ)) → t < length h.frames
@@ -183,84 +154,17 @@ else_balance : (old : ℤ) (frames' popped' hands' queues' entries' frames poppe
     → old ≡ pos (frames' + popped' + hands' + queues' + entries')
 else_balance old frames' popped' hands' queues' entries' frames popped hands queues entries f f0 p p0 d d0 a b c e g = omega (arith, ints)
 
-changed_counted : (h : Heap) (t c : ℕ) (n : New) → IsSound h → Fits h t c n
-    → (q : ℕ) → FIRST_MORTAL ≤ q → counted_in (cell_at (changed h t c n) q) ≡ pos (held (changed h t c n) q)
-changed_counted h t c n sound fits =
-    let h' : Heap = changed h t c n in
-    let at_frames : t < length h.frames = omega (arith, sound.shaped.frames, fits.thread_inside) in
-    let at_popped : t < length h.popped = omega (arith, sound.shaped.popped, fits.thread_inside) in
-    read_by (λ q y. FIRST_MORTAL ≤ q → counted_in y ≡ pos (held h' q)) h.cells c n.cell no_cell fits.cell_inside
-    (λ mortal. here_balance _ _ (in_frames h' c) (in_popped h' c) (in_hands h' c) (in_queues h' c) (in_entries h' c) (in_frames h c) (in_popped h c) (in_hands h c) (in_queues h c) (in_entries h c) _ _ _ _ _ _
-    (frames_sum h t c n.frame at_frames) (popped_sum h t c n.popped at_popped) (hands_sum h t c n.row fits.thread_inside) (sound.counted c mortal) (fits.counted_here mortal))
-    (λ q ne mortal. else_balance _ (in_frames h' q) (in_popped h' q) (in_hands h' q) (in_queues h' q) (in_entries h' q) (in_frames h q) (in_popped h q) (in_hands h q) (in_queues h q) (in_entries h q) _ _ _ _ _ _
-    (frames_sum h t q n.frame at_frames) (popped_sum h t q n.popped at_popped) (hands_sum h t q n.row fits.thread_inside) (sound.counted q mortal) (fits.counted_else q mortal ne))
+-- ---- what hands, cells and threads keep where something else changes
 
-changed_gripped : (h : Heap) (t c : ℕ) (n : New) → IsSound h → Fits h t c n
-    → (q : ℕ) → FIRST_MORTAL ≤ q → gripped (changed h t c n) q ≡ grips_of (cell_at (changed h t c n) q)
-changed_gripped h t c n sound fits =
-    let h' : Heap = changed h t c n in
-    let inside : t < length h.worklists = omega (arith, sound.shaped.worklists, fits.thread_inside) in
-    read_by (λ q y. FIRST_MORTAL ≤ q → gripped h' q ≡ grips_of y) h.cells c n.cell no_cell fits.cell_inside
-    (λ mortal. omega (arith, marks_sum h t c n.worklist inside, grips_sum h t c n.row fits.thread_inside, sound.gripped c mortal, fits.gripped_here mortal))
-    (λ q ne mortal. omega (arith, marks_sum h t q n.worklist inside, grips_sum h t q n.row fits.thread_inside, sound.gripped q mortal, fits.gripped_else q mortal ne))
-
-changed_most : (h : Heap) (t c : ℕ) (n : New) → IsSound h → Fits h t c n
-    → (q : ℕ) → FIRST_MORTAL ≤ q → asks (changed h t c n) q ≤ asks_most (cell_at (changed h t c n) q)
-changed_most h t c n sound fits =
-    let h' : Heap = changed h t c n in
-    let at_popped : t < length h.popped = omega (arith, sound.shaped.popped, fits.thread_inside) in
-    read_by (λ q y. FIRST_MORTAL ≤ q → asks h' q ≤ asks_most y) h.cells c n.cell no_cell fits.cell_inside
-    (λ mortal. omega (arith, hands_sum h t c n.row fits.thread_inside, popped_sum h t c n.popped at_popped, fits.most_here mortal))
-    (λ q ne mortal. omega (arith, hands_sum h t q n.row fits.thread_inside, popped_sum h t q n.popped at_popped, fits.asks_else q mortal ne, sound.most q mortal))
-
-changed_least : (h : Heap) (t c : ℕ) (n : New) → IsSound h → Fits h t c n
-    → (q : ℕ) → FIRST_MORTAL ≤ q → asks_least (cell_at (changed h t c n) q) ≤ asks (changed h t c n) q
-changed_least h t c n sound fits =
-    let h' : Heap = changed h t c n in
-    let at_popped : t < length h.popped = omega (arith, sound.shaped.popped, fits.thread_inside) in
-    read_by (λ q y. FIRST_MORTAL ≤ q → asks_least y ≤ asks h' q) h.cells c n.cell no_cell fits.cell_inside
-    (λ mortal. omega (arith, hands_sum h t c n.row fits.thread_inside, popped_sum h t c n.popped at_popped, fits.least_here mortal))
-    (λ q ne mortal. omega (arith, hands_sum h t q n.row fits.thread_inside, popped_sum h t q n.popped at_popped, fits.asks_else q mortal ne, sound.least q mortal))
-
--- ---- hands, cells, worklists
+-- what a hand says of a cell, whichever row and cell are read
+PhaseHolds : Heap → ℕ → Row → List ℕ → ℕ → Phase → Cell → Type 0
+PhaseHolds h' s row popped d p y = (FIRST_MORTAL ≤ d) × PhaseFits s row popped y (row_at h' y.bearer).stage d p
 
 -- only a shut hand looks at the bearer's stage, and closed words stay closed
 pub other_bearer : (t : ℕ) (row : Row) (popped : List ℕ) (x : Cell) (old new : Stage) (d : ℕ) (p : Phase)
     → (p ≡ phases.Shut → is_closed old (d / 32) ≡ true → is_closed new (d / 32) ≡ true) → PhaseFits t row popped x old d p → PhaseFits t row popped x new d p
 other_bearer t row popped x old new d phases.Shut same fits = same refl fits
 other_bearer t row popped x old new d _ same fits = fits
-
-stays_closed : (h : Heap) (t c : ℕ) (n : New) → Fits h t c n
-    → (j k : ℕ) → is_closed (row_at h j).stage k ≡ true → is_closed (row_at (changed h t c n) j).stage k ≡ true
-stays_closed h t c n fits j k = read_by (λ i row. is_closed (row_at h i).stage k ≡ true → is_closed row.stage k ≡ true) h.rows t n.row no_row fits.thread_inside (fits.closes k) (λ i _ closed. closed) j
-
--- what a hand says of a cell, whichever row and cell are read
-PhaseHolds : Heap → ℕ → Row → List ℕ → ℕ → Phase → Cell → Type 0
-PhaseHolds h' s row popped d p y = (FIRST_MORTAL ≤ d) × PhaseFits s row popped y (row_at h' y.bearer).stage d p
-
-changed_hands : (h : Heap) (t c : ℕ) (n : New) → IsSound h → Fits h t c n
-    → (s d : ℕ) (p : Phase) → (row_at (changed h t c n) s).hand ≡ hands.Busy p d → HandFits (changed h t c n) s p d
-unfolding PhaseHolds
-changed_hands h t c n sound fits s d p busy =
-    let h' : Heap = changed h t c n in
-    let at_popped : t < length h.popped = omega (arith, sound.shaped.popped, fits.thread_inside) in
-    let bearer : (j : ℕ) (row : Row) (popped : List ℕ) (y : Cell) (e : ℕ) → PhaseFits j row popped y (row_at h y.bearer).stage e p → PhaseFits j row popped y (row_at h' y.bearer).stage e p =
-    λ j row popped y e. other_bearer j row popped y (row_at h y.bearer).stage (row_at h' y.bearer).stage e p (λ _. stays_closed h t c n fits y.bearer (e / 32)) in
-    let own : n.row.hand ≡ hands.Busy p d → PhaseHolds h' t n.row (popped_at h' t) d p (cell_at h' d) = λ busy.
-    let said : (d ≡ c) × (FIRST_MORTAL ≤ c) × PhaseFits t n.row n.popped n.cell (row_at h n.cell.bearer).stage c p = fits.hand p d busy in
-    subst (λ e. PhaseHolds h' t n.row (popped_at h' t) e p (cell_at h' e)) (sym said.0)
-    (subst (λ words. PhaseHolds h' t n.row words c p (cell_at h' c)) (sym (read_here h.popped t n.popped [] at_popped))
-    (subst (λ y. PhaseHolds h' t n.row n.popped c p y) (sym (read_here h.cells c n.cell no_cell fits.cell_inside))
-    (said.1, bearer t n.row n.popped n.cell c said.2))) in
-    let others : (j : ℕ) → j ≢ t → (row_at h j).hand ≡ hands.Busy p d → PhaseHolds h' j (row_at h j) (popped_at h' j) d p (cell_at h' d) = λ j ne busy.
-    subst (λ words. PhaseHolds h' j (row_at h j) words d p (cell_at h' d)) (sym (read_there h.popped t j n.popped [] ne))
-    (read_by (λ e y. (row_at h j).hand ≡ hands.Busy p e → PhaseHolds h' j (row_at h j) (popped_at h j) e p y) h.cells c n.cell no_cell fits.cell_inside
-    (λ at_c. ((sound.hands j c p at_c).mortal, bearer j (row_at h j) (popped_at h j) n.cell c (fits.hands_else j p ne at_c)))
-    (λ e _ at_e. ((sound.hands j e p at_e).mortal, bearer j (row_at h j) (popped_at h j) (cell_at h e) e (sound.hands j e p at_e).fits))
-    d busy) in
-    let holds : PhaseHolds h' s (row_at h' s) (popped_at h' s) d p (cell_at h' d) =
-    read_by (λ j row. row.hand ≡ hands.Busy p d → PhaseHolds h' j row (popped_at h' j) d p (cell_at h' d)) h.rows t n.row no_row fits.thread_inside own others s busy in
-    record { mortal = holds.0; fits = holds.1 }
 
 -- fewer entries break nothing that a cell says
 other_entries : (threads limit : ℕ) (y : Cell) (old new : List ℕ) → Fewer old new → CellFits threads limit y old → CellFits threads limit y new
@@ -287,36 +191,6 @@ immortal_entries c y old new fewer fits = record {
   few = omega (arith, fits.few, fewer.few);
 }
 
-changed_cells : (h : Heap) (t c : ℕ) (n : New) → IsSound h → Fits h t c n
-    → (q : ℕ) → FIRST_MORTAL ≤ q → CellFits (length (set h.rows t n.row)) h.limit (cell_at (changed h t c n) q) (get_or n.entries q [])
-changed_cells h t c n sound fits q mortal =
-    subst (λ m. CellFits m h.limit (cell_at (changed h t c n) q) (get_or n.entries q [])) (sym (length-set h.rows t n.row))
-    (read_by (λ j y. FIRST_MORTAL ≤ j → CellFits (length h.rows) h.limit y (get_or n.entries j [])) h.cells c n.cell no_cell fits.cell_inside
-    fits.cell
-    (λ j ne mortal. other_entries (length h.rows) h.limit (cell_at h j) (entries_at h j) (get_or n.entries j []) (fits.fewer j ne) (sound.cells j mortal))
-    q mortal)
-
-changed_immortals : (h : Heap) (t c : ℕ) (n : New) → IsSound h → Fits h t c n
-    → (q : ℕ) → q < FIRST_MORTAL → ImmortalFits q (cell_at (changed h t c n) q) (get_or n.entries q [])
-changed_immortals h t c n sound fits =
-    read_by (λ j y. j < FIRST_MORTAL → ImmortalFits j y (get_or n.entries j [])) h.cells c n.cell no_cell fits.cell_inside
-    fits.immortal
-    (λ j ne low. immortal_entries j (cell_at h j) (entries_at h j) (get_or n.entries j []) (fits.fewer j ne) (sound.immortals j low))
-
-changed_works : (h : Heap) (t c : ℕ) (n : New) → IsSound h → Fits h t c n
-    → (s q : ℕ) → is_marked (worklist_at (changed h t c n) s) q ≡ true → WorklistFits s q (cell_at (changed h t c n) q)
-changed_works h t c n sound fits s q marked =
-    let h' : Heap = changed h t c n in
-    let inside : t < length h.worklists = omega (arith, sound.shaped.worklists, fits.thread_inside) in
-    read_by (λ j marks. is_marked marks q ≡ true → WorklistFits j q (cell_at h' q)) h.worklists t n.worklist [] inside
-    (λ on. read_by (λ e y. is_marked n.worklist e ≡ true → WorklistFits t e y) h.cells c n.cell no_cell fits.cell_inside
-    fits.works_here (λ e ne on. sound.worklists t e (fits.works_own e ne on)) q on)
-    (λ j ne on. read_by (λ e y. is_marked (worklist_at h j) e ≡ true → WorklistFits j e y) h.cells c n.cell no_cell fits.cell_inside
-    (fits.works_else j ne) (λ e _ on. sound.worklists j e on) q on)
-    s marked
-
--- ---- threads
-
 -- another thread's queue may change, where its closed words stay empty
 pub other_queue : (words : ℕ) (row : Row) (frame : List (Option ℕ)) (popped : List ℕ) (worklist : List Bool) (old new : List ℕ) (gathered : Bool)
     → ((k : ℕ) → is_closed row.stage k ≡ true → word_at new k ≡ 0) → ThreadFits words row frame popped worklist old gathered → ThreadFits words row frame popped worklist new gathered
@@ -334,30 +208,6 @@ other_queue words row frame popped worklist old new gathered empty fits = record
   births = fits.births;
   places = fits.places;
 }
-
-changed_threads : (h : Heap) (t c : ℕ) (n : New) → IsSound h → Fits h t c n
-    → (s : ℕ)
-    → ThreadFits (words_for (length (set h.cells c n.cell))) (row_at (changed h t c n) s) (frame_at (changed h t c n) s) (popped_at (changed h t c n) s) (worklist_at (changed h t c n) s) (get_or n.queues s []) (is_gathered h s)
-changed_threads h t c n sound fits s =
-    let h' : Heap = changed h t c n in
-    let m : ℕ = words_for (length h.cells) in
-    let at_works : t < length h.worklists = omega (arith, sound.shaped.worklists, fits.thread_inside) in
-    let at_frames : t < length h.frames = omega (arith, sound.shaped.frames, fits.thread_inside) in
-    let at_popped : t < length h.popped = omega (arith, sound.shaped.popped, fits.thread_inside) in
-    subst (λ i. ThreadFits (words_for i) (row_at h' s) (frame_at h' s) (popped_at h' s) (worklist_at h' s) (get_or n.queues s []) (is_gathered h s)) (sym (length-set h.cells c n.cell))
-    (elim (cases_eq s t) [
-      | inl same ↦ subst (λ j. ThreadFits m (row_at h' j) (frame_at h' j) (popped_at h' j) (worklist_at h' j) (get_or n.queues j []) (is_gathered h j)) (sym same)
-          (subst (λ row. ThreadFits m row (frame_at h' t) (popped_at h' t) (worklist_at h' t) (get_or n.queues t []) (is_gathered h t)) (sym (read_here h.rows t n.row no_row fits.thread_inside))
-          (subst (λ frame. ThreadFits m n.row frame (popped_at h' t) (worklist_at h' t) (get_or n.queues t []) (is_gathered h t)) (sym (read_here h.frames t n.frame [] at_frames))
-          (subst (λ words. ThreadFits m n.row n.frame words (worklist_at h' t) (get_or n.queues t []) (is_gathered h t)) (sym (read_here h.popped t n.popped [] at_popped))
-          (subst (λ worklist. ThreadFits m n.row n.frame n.popped worklist (get_or n.queues t []) (is_gathered h t)) (sym (read_here h.worklists t n.worklist [] at_works)) fits.own))))
-      | inr other ↦
-          (subst (λ row. ThreadFits m row (frame_at h' s) (popped_at h' s) (worklist_at h' s) (get_or n.queues s []) (is_gathered h s)) (sym (read_there h.rows t s n.row no_row other))
-          (subst (λ frame. ThreadFits m (row_at h s) frame (popped_at h' s) (worklist_at h' s) (get_or n.queues s []) (is_gathered h s)) (sym (read_there h.frames t s n.frame [] other))
-          (subst (λ words. ThreadFits m (row_at h s) (frame_at h s) words (worklist_at h' s) (get_or n.queues s []) (is_gathered h s)) (sym (read_there h.popped t s n.popped [] other))
-          (subst (λ worklist. ThreadFits m (row_at h s) (frame_at h s) (popped_at h s) worklist (get_or n.queues s []) (is_gathered h s)) (sym (read_there h.worklists t s n.worklist [] other))
-          (other_queue m (row_at h s) (frame_at h s) (popped_at h s) (worklist_at h s) (queue_at h s) (get_or n.queues s []) (is_gathered h s) (λ k. fits.queues_else s k other) (sound.threads s))))))
-    ])
 
 -- ---- the ledger
 
@@ -378,33 +228,162 @@ live_sum cells c x inside same =
           read (sum_by-set (λ z. one (lives z.owner)) (drop FIRST_MORTAL cells) (c - FIRST_MORTAL) x no_cell within))
     ]
 
-changed_ledger : (h : Heap) (t c : ℕ) (n : New) → IsSound h → Fits h t c n
-    → sum_by (λ row. row.allocs) (set h.rows t n.row) ≡ sum_by (λ row. row.frees) (set h.rows t n.row) + live_count (changed h t c n)
-changed_ledger h t c n sound fits =
-    let allocs = sum_by-set (λ (row : Row). row.allocs) h.rows t n.row no_row fits.thread_inside in
-    let frees = sum_by-set (λ (row : Row). row.frees) h.rows t n.row no_row fits.thread_inside in
-    let live = live_sum h.cells c n.cell fits.cell_inside (λ low. ap lives ((fits.immortal low).owner ∙ sym (sound.immortals c low).owner)) in
-    omega (arith, allocs, frees, live, fits.ledger, sound.ledger)
+-- ---- the whole, clause by clause
 
--- ---- all of it
+module _ (h : Heap) (t c : ℕ) (n : New) (sound : IsSound h) (fits : Fits h t c n) where
+  abbrev h' : Heap
+  h' = changed h t c n
 
-pub changed_sound : (h : Heap) (t c : ℕ) (n : New) → IsSound h → Fits h t c n → IsSound (changed h t c n)
-changed_sound h t c n sound fits = record {
-  shaped = changed_shape h t c n sound.shaped fits;
-  counted = changed_counted h t c n sound fits;
-  gripped = changed_gripped h t c n sound fits;
-  most = changed_most h t c n sound fits;
-  least = changed_least h t c n sound fits;
-  hands = changed_hands h t c n sound fits;
-  cells = changed_cells h t c n sound fits;
-  immortals = changed_immortals h t c n sound fits;
-  worklists = changed_works h t c n sound fits;
-  threads = changed_threads h t c n sound fits;
-  bits = fits.bits;
-  locks = fits.locks.locks;
-  mutexes = fits.locks.mutexes;
-  ledger = changed_ledger h t c n sound fits;
-}
+  at_frames : t < length h.frames
+  at_frames = omega (arith, sound.shaped.frames, fits.thread_inside)
+
+  at_popped : t < length h.popped
+  at_popped = omega (arith, sound.shaped.popped, fits.thread_inside)
+
+  at_works : t < length h.worklists
+  at_works = omega (arith, sound.shaped.worklists, fits.thread_inside)
+
+  changed_shape : IsShaped h'
+  changed_shape =
+      let cells : length (set h.cells c n.cell) ≡ length h.cells = length-set h.cells c n.cell in
+      let rows : length (set h.rows t n.row) ≡ length h.rows = length-set h.rows t n.row in
+      let frames : length (set h.frames t n.frame) ≡ length h.frames = length-set h.frames t n.frame in
+      let worklists : length (set h.worklists t n.worklist) ≡ length h.worklists = length-set h.worklists t n.worklist in
+      let popped : length (set h.popped t n.popped) ≡ length h.popped = length-set h.popped t n.popped in
+      record {
+        options = subst (λ m. AreOptions m h.limit) (sym cells) sound.shaped.options;
+        entries = fits.lists ∙ sound.shaped.entries ∙ sym cells;
+        root = subst (λ m. 0 < m) (sym rows) sound.shaped.root;
+        threads = subst (λ m. m ≤ MOST_THREADS + 1) (sym rows) sound.shaped.threads;
+        frames = frames ∙ sound.shaped.frames ∙ sym rows;
+        popped = popped ∙ sound.shaped.popped ∙ sym rows;
+        worklists = worklists ∙ sound.shaped.worklists ∙ sym rows;
+        queues = fits.queues ∙ sound.shaped.queues ∙ sym rows;
+        notify_words = sound.shaped.notify_words ∙ sym rows;
+        gathered = sound.shaped.gathered ∙ sym rows;
+        marks = λ s low high. read_by (λ j marks. 0 < j → j < length h.rows → length marks ≡ length (set h.cells c n.cell)) h.worklists t n.worklist [] at_works
+            (λ a b. fits.marks ∙ sound.shaped.marks t a b ∙ sym cells) (λ j ne a b. sound.shaped.marks j a b ∙ sym cells) s low (subst (λ m. s < m) rows high);
+        popped_words = λ s low high. read_by (λ j words. 0 < j → j < length h.rows → length words ≡ words_for (length (set h.cells c n.cell))) h.popped t n.popped [] at_popped
+            (λ a b. fits.words ∙ sound.shaped.popped_words t a b ∙ ap words_for (sym cells)) (λ j ne a b. sound.shaped.popped_words j a b ∙ ap words_for (sym cells)) s low (subst (λ m. s < m) rows high);
+        queue_words = λ s low high. fits.queue_words s ∙ sound.shaped.queue_words s low (subst (λ m. s < m) rows high) ∙ ap words_for (sym cells);
+      }
+
+  changed_counted : (q : ℕ) → FIRST_MORTAL ≤ q → counted_in (cell_at h' q) ≡ pos (held h' q)
+  changed_counted =
+      read_by (λ q y. FIRST_MORTAL ≤ q → counted_in y ≡ pos (held h' q)) h.cells c n.cell no_cell fits.cell_inside
+      (λ mortal. here_balance _ _ (in_frames h' c) (in_popped h' c) (in_hands h' c) (in_queues h' c) (in_entries h' c) (in_frames h c) (in_popped h c) (in_hands h c) (in_queues h c) (in_entries h c) _ _ _ _ _ _
+      (frames_sum h t c n.frame at_frames) (popped_sum h t c n.popped at_popped) (hands_sum h t c n.row fits.thread_inside) (sound.counted c mortal) (fits.counted_here mortal))
+      (λ q ne mortal. else_balance _ (in_frames h' q) (in_popped h' q) (in_hands h' q) (in_queues h' q) (in_entries h' q) (in_frames h q) (in_popped h q) (in_hands h q) (in_queues h q) (in_entries h q) _ _ _ _ _ _
+      (frames_sum h t q n.frame at_frames) (popped_sum h t q n.popped at_popped) (hands_sum h t q n.row fits.thread_inside) (sound.counted q mortal) (fits.counted_else q mortal ne))
+
+  changed_gripped : (q : ℕ) → FIRST_MORTAL ≤ q → gripped h' q ≡ grips_of (cell_at h' q)
+  changed_gripped =
+      read_by (λ q y. FIRST_MORTAL ≤ q → gripped h' q ≡ grips_of y) h.cells c n.cell no_cell fits.cell_inside
+      (λ mortal. omega (arith, marks_sum h t c n.worklist at_works, grips_sum h t c n.row fits.thread_inside, sound.gripped c mortal, fits.gripped_here mortal))
+      (λ q ne mortal. omega (arith, marks_sum h t q n.worklist at_works, grips_sum h t q n.row fits.thread_inside, sound.gripped q mortal, fits.gripped_else q mortal ne))
+
+  changed_most : (q : ℕ) → FIRST_MORTAL ≤ q → asks h' q ≤ asks_most (cell_at h' q)
+  changed_most =
+      read_by (λ q y. FIRST_MORTAL ≤ q → asks h' q ≤ asks_most y) h.cells c n.cell no_cell fits.cell_inside
+      (λ mortal. omega (arith, hands_sum h t c n.row fits.thread_inside, popped_sum h t c n.popped at_popped, fits.most_here mortal))
+      (λ q ne mortal. omega (arith, hands_sum h t q n.row fits.thread_inside, popped_sum h t q n.popped at_popped, fits.asks_else q mortal ne, sound.most q mortal))
+
+  changed_least : (q : ℕ) → FIRST_MORTAL ≤ q → asks_least (cell_at h' q) ≤ asks h' q
+  changed_least =
+      read_by (λ q y. FIRST_MORTAL ≤ q → asks_least y ≤ asks h' q) h.cells c n.cell no_cell fits.cell_inside
+      (λ mortal. omega (arith, hands_sum h t c n.row fits.thread_inside, popped_sum h t c n.popped at_popped, fits.least_here mortal))
+      (λ q ne mortal. omega (arith, hands_sum h t q n.row fits.thread_inside, popped_sum h t q n.popped at_popped, fits.asks_else q mortal ne, sound.least q mortal))
+
+  stays_closed : (j k : ℕ) → is_closed (row_at h j).stage k ≡ true → is_closed (row_at h' j).stage k ≡ true
+  stays_closed j k = read_by (λ i row. is_closed (row_at h i).stage k ≡ true → is_closed row.stage k ≡ true) h.rows t n.row no_row fits.thread_inside (fits.closes k) (λ i _ closed. closed) j
+
+  changed_hands : (s d : ℕ) (p : Phase) → (row_at h' s).hand ≡ hands.Busy p d → HandFits h' s p d
+  unfolding PhaseHolds
+  changed_hands s d p busy =
+      let bearer : (j : ℕ) (row : Row) (popped : List ℕ) (y : Cell) (e : ℕ) → PhaseFits j row popped y (row_at h y.bearer).stage e p → PhaseFits j row popped y (row_at h' y.bearer).stage e p =
+      λ j row popped y e. other_bearer j row popped y (row_at h y.bearer).stage (row_at h' y.bearer).stage e p (λ _. stays_closed y.bearer (e / 32)) in
+      let own : n.row.hand ≡ hands.Busy p d → PhaseHolds h' t n.row (popped_at h' t) d p (cell_at h' d) = λ busy.
+      let said : (d ≡ c) × (FIRST_MORTAL ≤ c) × PhaseFits t n.row n.popped n.cell (row_at h n.cell.bearer).stage c p = fits.hand p d busy in
+      subst (λ e. PhaseHolds h' t n.row (popped_at h' t) e p (cell_at h' e)) (sym said.0)
+      (subst (λ words. PhaseHolds h' t n.row words c p (cell_at h' c)) (sym (read_here h.popped t n.popped [] at_popped))
+      (subst (λ y. PhaseHolds h' t n.row n.popped c p y) (sym (read_here h.cells c n.cell no_cell fits.cell_inside))
+      (said.1, bearer t n.row n.popped n.cell c said.2))) in
+      let others : (j : ℕ) → j ≢ t → (row_at h j).hand ≡ hands.Busy p d → PhaseHolds h' j (row_at h j) (popped_at h' j) d p (cell_at h' d) = λ j ne busy.
+      subst (λ words. PhaseHolds h' j (row_at h j) words d p (cell_at h' d)) (sym (read_there h.popped t j n.popped [] ne))
+      (read_by (λ e y. (row_at h j).hand ≡ hands.Busy p e → PhaseHolds h' j (row_at h j) (popped_at h j) e p y) h.cells c n.cell no_cell fits.cell_inside
+      (λ at_c. ((sound.hands j c p at_c).mortal, bearer j (row_at h j) (popped_at h j) n.cell c (fits.hands_else j p ne at_c)))
+      (λ e _ at_e. ((sound.hands j e p at_e).mortal, bearer j (row_at h j) (popped_at h j) (cell_at h e) e (sound.hands j e p at_e).fits))
+      d busy) in
+      let holds : PhaseHolds h' s (row_at h' s) (popped_at h' s) d p (cell_at h' d) =
+      read_by (λ j row. row.hand ≡ hands.Busy p d → PhaseHolds h' j row (popped_at h' j) d p (cell_at h' d)) h.rows t n.row no_row fits.thread_inside own others s busy in
+      record { mortal = holds.0; fits = holds.1 }
+
+  changed_cells : (q : ℕ) → FIRST_MORTAL ≤ q → CellFits (length (set h.rows t n.row)) h.limit (cell_at h' q) (get_or n.entries q [])
+  changed_cells q mortal =
+      subst (λ m. CellFits m h.limit (cell_at h' q) (get_or n.entries q [])) (sym (length-set h.rows t n.row))
+      (read_by (λ j y. FIRST_MORTAL ≤ j → CellFits (length h.rows) h.limit y (get_or n.entries j [])) h.cells c n.cell no_cell fits.cell_inside
+      fits.cell
+      (λ j ne mortal. other_entries (length h.rows) h.limit (cell_at h j) (entries_at h j) (get_or n.entries j []) (fits.fewer j ne) (sound.cells j mortal))
+      q mortal)
+
+  changed_immortals : (q : ℕ) → q < FIRST_MORTAL → ImmortalFits q (cell_at h' q) (get_or n.entries q [])
+  changed_immortals =
+      read_by (λ j y. j < FIRST_MORTAL → ImmortalFits j y (get_or n.entries j [])) h.cells c n.cell no_cell fits.cell_inside
+      fits.immortal
+      (λ j ne low. immortal_entries j (cell_at h j) (entries_at h j) (get_or n.entries j []) (fits.fewer j ne) (sound.immortals j low))
+
+  changed_works : (s q : ℕ) → is_marked (worklist_at h' s) q ≡ true → WorklistFits s q (cell_at h' q)
+  changed_works s q marked =
+      read_by (λ j marks. is_marked marks q ≡ true → WorklistFits j q (cell_at h' q)) h.worklists t n.worklist [] at_works
+      (λ on. read_by (λ e y. is_marked n.worklist e ≡ true → WorklistFits t e y) h.cells c n.cell no_cell fits.cell_inside
+      fits.works_here (λ e ne on. sound.worklists t e (fits.works_own e ne on)) q on)
+      (λ j ne on. read_by (λ e y. is_marked (worklist_at h j) e ≡ true → WorklistFits j e y) h.cells c n.cell no_cell fits.cell_inside
+      (fits.works_else j ne) (λ e _ on. sound.worklists j e on) q on)
+      s marked
+
+  changed_threads : (s : ℕ)
+      → ThreadFits (words_for (length (set h.cells c n.cell))) (row_at h' s) (frame_at h' s) (popped_at h' s) (worklist_at h' s) (get_or n.queues s []) (is_gathered h s)
+  changed_threads s =
+      let m : ℕ = words_for (length h.cells) in
+      subst (λ i. ThreadFits (words_for i) (row_at h' s) (frame_at h' s) (popped_at h' s) (worklist_at h' s) (get_or n.queues s []) (is_gathered h s)) (sym (length-set h.cells c n.cell))
+      (elim (cases_eq s t) [
+        | inl same ↦ subst (λ j. ThreadFits m (row_at h' j) (frame_at h' j) (popped_at h' j) (worklist_at h' j) (get_or n.queues j []) (is_gathered h j)) (sym same)
+            (subst (λ row. ThreadFits m row (frame_at h' t) (popped_at h' t) (worklist_at h' t) (get_or n.queues t []) (is_gathered h t)) (sym (read_here h.rows t n.row no_row fits.thread_inside))
+            (subst (λ frame. ThreadFits m n.row frame (popped_at h' t) (worklist_at h' t) (get_or n.queues t []) (is_gathered h t)) (sym (read_here h.frames t n.frame [] at_frames))
+            (subst (λ words. ThreadFits m n.row n.frame words (worklist_at h' t) (get_or n.queues t []) (is_gathered h t)) (sym (read_here h.popped t n.popped [] at_popped))
+            (subst (λ worklist. ThreadFits m n.row n.frame n.popped worklist (get_or n.queues t []) (is_gathered h t)) (sym (read_here h.worklists t n.worklist [] at_works)) fits.own))))
+        | inr other ↦
+            (subst (λ row. ThreadFits m row (frame_at h' s) (popped_at h' s) (worklist_at h' s) (get_or n.queues s []) (is_gathered h s)) (sym (read_there h.rows t s n.row no_row other))
+            (subst (λ frame. ThreadFits m (row_at h s) frame (popped_at h' s) (worklist_at h' s) (get_or n.queues s []) (is_gathered h s)) (sym (read_there h.frames t s n.frame [] other))
+            (subst (λ words. ThreadFits m (row_at h s) (frame_at h s) words (worklist_at h' s) (get_or n.queues s []) (is_gathered h s)) (sym (read_there h.popped t s n.popped [] other))
+            (subst (λ worklist. ThreadFits m (row_at h s) (frame_at h s) (popped_at h s) worklist (get_or n.queues s []) (is_gathered h s)) (sym (read_there h.worklists t s n.worklist [] other))
+            (other_queue m (row_at h s) (frame_at h s) (popped_at h s) (worklist_at h s) (queue_at h s) (get_or n.queues s []) (is_gathered h s) (λ k. fits.queues_else s k other) (sound.threads s))))))
+      ])
+
+  changed_ledger : sum_by (λ row. row.allocs) (set h.rows t n.row) ≡ sum_by (λ row. row.frees) (set h.rows t n.row) + live_count h'
+  changed_ledger =
+      let allocs = sum_by-set (λ (row : Row). row.allocs) h.rows t n.row no_row fits.thread_inside in
+      let frees = sum_by-set (λ (row : Row). row.frees) h.rows t n.row no_row fits.thread_inside in
+      let live = live_sum h.cells c n.cell fits.cell_inside (λ low. ap lives ((fits.immortal low).owner ∙ sym (sound.immortals c low).owner)) in
+      omega (arith, allocs, frees, live, fits.ledger, sound.ledger)
+
+  pub changed_sound : IsSound h'
+  changed_sound = record {
+    shaped = changed_shape;
+    counted = changed_counted;
+    gripped = changed_gripped;
+    most = changed_most;
+    least = changed_least;
+    hands = changed_hands;
+    cells = changed_cells;
+    immortals = changed_immortals;
+    worklists = changed_works;
+    threads = changed_threads;
+    bits = fits.bits;
+    locks = fits.locks.locks;
+    mutexes = fits.locks.mutexes;
+    ledger = changed_ledger;
+  }
 
 -- ---- what most steps leave alone
 

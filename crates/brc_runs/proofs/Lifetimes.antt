@@ -1,25 +1,23 @@
 -- Lives, births and frees: what each event does to them, so that the run alone tells them.
 use Rattle.std.proofs.Common.{◌≡◌, ℕ, ◌+◌, ◌<◌, ◌≤◌, ◌==◌, ◌&&◌, ◌||◌, not, Bool, true, false, if◌then◌else◌, List, length, get_or, set, Option, Some, None, refl, sym, ◌∙◌, ap, subst, inl, inr, ◌⊎◌, arith}
 use Rattle.std.proofs.lemmas.List.{get_or_past}
-use Rattle.std.proofs.lemmas.Bool.{cases_Bool, or_cases, eq-eqb, ne_eqb, eqb-true, and_parts, and_right, or_parts, le-ltb, true≢false}
+use Rattle.std.proofs.lemmas.Bool.{cases_Bool, eq-eqb, ne_eqb, eqb-true, and_parts, and_right, or_parts, le-ltb, true≢false}
 use Rattle.brc_words.specs.declared.limits.TheConstants.{FIRST_MORTAL}
 use Rattle.brc_runs.specs.declared.cell.Cell.{Cell}
 use Rattle.brc_runs.specs.declared.event.Event.{Event}
 use Rattle.brc_runs.specs.declared.event.Step.{Step}
 use Rattle.brc_runs.specs.declared.event.Step.TheVariants.{Claim, Birth, LocalUp, LocalDown, Free, Untie, Ask, Register}
 use Rattle.brc_runs.specs.declared.row.Row.{Row}
-use Rattle.brc_runs.specs.declared.row.Hand.{Hand}
-use Rattle.brc_runs.specs.declared.row.Hand.TheVariants as hands
 use Rattle.brc_runs.specs.declared.row.Phase.TheVariants as phases
 use Rattle.brc_runs.specs.declared.row.Stage.{Stage}
 use Rattle.brc_runs.specs.Lists.{one, is_marked}
 use Rattle.brc_runs.specs.Heap.{Heap, cell_at, row_at, worklist_at, no_cell, no_row, new_row, is_immortal, words_for}
-use Rattle.brc_runs.specs.Steps.{enabled, after, after_target, root_after, needs_no_cell, hand_ok, untied_ok, cell_after, row_after, is_shut, thread_may, root_may, target_at, target_ok, allocs_after, frees_after, stage_after}
+use Rattle.brc_runs.specs.Steps.{enabled, after, after_target, root_after, needs_no_cell, cell_after, row_after, is_shut, thread_may, root_may, target_at, target_ok, allocs_after, frees_after, stage_after}
 use Rattle.brc_runs.specs.Holding.{lives, lives_at, lives_since, lives_by, is_birth, holders_of, DiesUnheld}
 use Rattle.brc_runs.specs.Steps.{is_free_step}
 use Rattle.brc_runs.specs.Sound.{IsSound, HandFits, WorklistFits, Births, held}
-use Rattle.brc_runs.proofs.Naming.{busy_hand, busy_carrier, free_owner, thread_owner}
-use Rattle.brc_runs.proofs.Asking.{May, may_parts, on_cell, OnCell}
+use Rattle.brc_runs.proofs.Naming.{busy_hand, busy_carrier, free_owner}
+use Rattle.brc_runs.proofs.Asking.{May, may_parts, on_cell, OnCell, at_end, shut_out, from_queue, untie_way}
 use Rattle.brc_runs.proofs.Changes.{read_by}
 use Rattle.brc_runs.proofs.Registering.{read_push}
 use Rattle.brc_runs.proofs.Counting.{marked_unheld}
@@ -82,21 +80,12 @@ kept_lives h t s (Some c) q plain ok =
     lives_same h c q (cell_after t s c (cell_at h c)) (on_cell h t s c ok).inside (ap lives (owner_kept t s c (cell_at h c) plain))
 
 -- a thread's object is let go while it lives
-untied_alive : (h : Heap) (t c : ℕ) (hand : Hand) → IsSound h → (row_at h t).hand ≡ hand → hand_ok hand (Untie c) ≡ true → untied_ok t hand (cell_at h c) ≡ true
-    → lives (cell_at h c).owner ≡ true
-untied_alive h t c hands.Free sound busy ok fits = ap lives (thread_owner t _ (and_parts _ _ fits).0)
-untied_alive h t c (hands.Busy p d) sound busy ok fits =
-    elim (or_cases _ _ ok) [
-      | inr free ↦ absurd (true≢false (sym free))
-      | inl at ↦ elim (or_cases _ _ at) [
-        | inl over ↦
-            let said : HandFits h t phases.Over c = sound.hands t c phases.Over (busy ∙ busy_hand phases.Over c _ over) in
-            ap lives said.fits
-        | inr shut ↦
-            let is : (row_at h t).hand ≡ hands.Busy phases.Shut c = busy ∙ busy_hand phases.Shut c _ shut in
-            held_owner h c sound (sound.hands t c phases.Shut is).mortal (carried_held h t c (busy_carrier phases.Shut c _ refl is))
-      ]
-    ]
+untied_alive : (h : Heap) (t c : ℕ) → IsSound h → May h t (Untie c) → lives (cell_at h c).owner ≡ true
+untied_alive h t c sound may = elim (untie_way h t c sound may) [
+  | at_end busy owner ↦ ap lives owner
+  | shut_out busy some ↦ held_owner h c sound (sound.hands t c phases.Shut busy).mortal (carried_held h t c (busy_carrier phases.Shut c _ refl busy))
+  | from_queue free on owner ↦ ap lives owner
+]
 
 pub step_lives : (h : Heap) (t : ℕ) (s : Step) (q : ℕ) → IsSound h → thread_may h t s ≡ true
     → lives_at (after_target h t s (target_at h t s)) q ≡ lives_since s q (lives_at h q)
@@ -115,7 +104,7 @@ step_lives h t (Free c) q sound ok =
 step_lives h t (Untie c) q sound ok =
     let may : May h t (Untie c) = may_parts h t (Untie c) ok in
     let at_cell : OnCell h t (Untie c) c = on_cell h t (Untie c) c may.on_target in
-    lives_same h c q (cell_after t (Untie c) c (cell_at h c)) at_cell.inside (sym (untied_alive h t c _ sound refl may.hand at_cell.fits))
+    lives_same h c q (cell_after t (Untie c) c (cell_at h c)) at_cell.inside (sym (untied_alive h t c sound may))
 step_lives h t s q sound ok = kept_lives h t s (target_at h t s) q refl (may_parts h t s ok).on_target
 
 -- ---- births and frees of each thread

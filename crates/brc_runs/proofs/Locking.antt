@@ -16,15 +16,12 @@ use Rattle.brc_runs.specs.declared.event.Step.{Step}
 use Rattle.brc_runs.specs.declared.event.Step.TheVariants.{Lock, Unlock}
 use Rattle.brc_runs.specs.declared.row.Row.{Row}
 use Rattle.brc_runs.specs.declared.row.Hand.TheVariants as hands
-use Rattle.brc_runs.specs.declared.row.Phase.{Phase}
-use Rattle.brc_runs.specs.declared.row.Phase.TheVariants as phases
-use Rattle.brc_runs.specs.declared.row.Stage.{Stage}
 use Rattle.brc_runs.specs.declared.row.Stage.TheVariants as stages
 use Rattle.brc_runs.specs.Lists.{one, times, names, entry_times, place_at, filled, reaching, number_in}
 use Rattle.brc_runs.specs.Heap.{Heap, cell_at, entries_at, row_at, frame_at, popped_at, worklist_at, no_cell, no_row, is_gathered, immortal_kind}
 use Rattle.brc_runs.specs.Steps.{after_target, target_ok, locked_cell, change_ok, locked_entries, is_keep, frame_changed, entries_changed}
 use Rattle.brc_runs.specs.Holding.{lives}
-use Rattle.brc_runs.specs.Sound.{IsSound, CellFits, ImmortalFits, PhaseFits, WorklistFits, Locks, in_entries}
+use Rattle.brc_runs.specs.Sound.{IsSound, CellFits, ImmortalFits, WorklistFits, Locks, in_entries}
 use Rattle.brc_runs.proofs.Naming.{some_there, free_hand, same_phase}
 use Rattle.brc_runs.proofs.Framing.{times-filled, times-vacated, length-filled, length-vacated}
 use Rattle.brc_runs.proofs.Asking.{May, OnCell, on_cell, Vacant, vacant}

@@ -1,7 +1,7 @@
 -- Merging: the owner lets its object go, and the counts become one.
 use Rattle.std.proofs.Common.{◌≡◌, ◌≢◌, ℕ, ◌+◌, ◌/◌, ◌<◌, ◌≤◌, ◌==◌, ◌&&◌, not, Bool, true, false, if◌then◌else◌, ℤ, pos, ◌+ℤ◌, List, [], length, set, refl, sym, ◌∙◌, ap, subst, inl, inr, arith}
 use Rattle.std.proofs.lemmas.List.{get_or-set_same, get_or-set_other, length-set}
-use Rattle.std.proofs.lemmas.Bool.{cases_eq, cases_Bool, eq-eqb, ne_eqb, eqb-true, and_parts, not-true, true≢false}
+use Rattle.std.proofs.lemmas.Bool.{cases_eq, cases_Bool, eq-eqb, ne_eqb, true≢false}
 use Rattle.std.proofs.lemmas.Int.{ints}
 use Rattle.brc_words.specs.declared.limits.TheConstants.{FIRST_MORTAL}
 use Rattle.brc_words.specs.declared.owner.Owner.{Owner}
@@ -19,13 +19,13 @@ use Rattle.brc_runs.specs.declared.row.Stage.{Stage}
 use Rattle.brc_runs.specs.declared.row.Stage.TheVariants as stages
 use Rattle.brc_runs.specs.Lists.{one, bit_of, is_marked}
 use Rattle.brc_runs.specs.Heap.{Heap, cell_at, entries_at, row_at, frame_at, popped_at, worklist_at, no_row}
-use Rattle.brc_runs.specs.Steps.{thread_may, stepped, is_at, is_active, is_default, is_queued, is_merged, is_zero, is_closed, is_nobody, untied_hand, untied_ok, untie_ok, added_hand}
+use Rattle.brc_runs.specs.Steps.{thread_may, stepped, is_at, is_active, is_default, is_queued, is_merged, is_zero, is_closed, is_nobody, untied_hand, added_hand}
 use Rattle.brc_runs.specs.Holding.{lives, carries, count_of_state}
 use Rattle.brc_runs.specs.Sound.{IsSound, CellFits, PhaseFits, HandFits, Untied, counted_in, grips_of, grips_by_owner, grips, is_active_hand, gripped, held, asks_least}
-use Rattle.brc_runs.proofs.Naming.{second, third, merged_state, Ungripped, dead_unheld, ungripped, sole_grip, grips_once, no_mark, one-le, one-false, free_hand, busy_hand, busy_carrier, live_counts, zero_count, sum_one, no_bit, thread_owner}
+use Rattle.brc_runs.proofs.Naming.{second, merged_state, Ungripped, dead_unheld, ungripped, sole_grip, grips_once, no_mark, one-le, one-false, busy_hand, busy_carrier, live_counts, zero_count, sum_one, no_bit}
 use Rattle.brc_runs.proofs.Birthing.{busy_else, busy_grips, one_and}
 use Rattle.brc_runs.proofs.Counting.{owned_ungripped, total_unmerged}
-use Rattle.brc_runs.proofs.Asking.{May, OnCell, on_cell, may_parts}
+use Rattle.brc_runs.proofs.Asking.{May, on_cell, may_parts, at_end, shut_out, from_queue, untie_way}
 use Rattle.brc_runs.proofs.Changes.{same_entries}
 use Rattle.brc_runs.proofs.Turning.{acts, Turn, turn_sound}
 
@@ -125,80 +125,9 @@ record Unties (h : Heap) (t c : ℕ) (hand : Hand) : Type 0 where
   after : (p : Phase) (d : ℕ) → hand ≡ hands.Busy p d → (d ≡ c) × PhaseFits t (record (row_at h t) { hand = hand }) (popped_at h t) (record (cell_at h c) { owner = owners.Nobody }) (row_at h (cell_at h c).bearer).stage c p
   idle : is_active (row_at h t).stage ≡ false → is_active_hand hand ≡ false
 
-unties_turn : (h : Heap) (t c : ℕ) (hand : Hand) → IsSound h → Unties h t c hand
-    → Turn h t c (record (cell_at h c) { owner = owners.Nobody }) hand (frame_at h t) (worklist_at h t) h.entries
-unties_turn h t c hand sound u =
-    let x : Cell = record (cell_at h c) { owner = owners.Nobody } in
-    let grip : grips_of x ≡ 1 = ap (λ b. if b then one (is_zero (cell_at h c).count) else 1) u.unmerged in
-    let asked : asks_least x ≡ 0 = one_and (is_queued (cell_at h c).state) false refl in
-    record {
-      acts = acts h t (Untie c) u.may refl refl;
-      cell_inside = u.inside;
-      mortal = u.mortal;
-      mutex = refl;
-      bearer = refl;
-      live = sym u.live;
-      vacant = λ j none. none;
-      places = (sound.threads t).places;
-      marks = refl;
-      lists = refl;
-      counted_here = omega (arith, ints, live_counts (cell_at h c) u.live, u.carried);
-      part_else = λ q _. refl;
-      gripped_here = omega (arith, grip, u.grip);
-      most_here = omega (arith, sound.most c u.mortal, u.carried);
-      least_here = omega (arith, asked, u.carried);
-      before = u.before;
-      after = u.after;
-      idle = u.idle;
-      hands_else = hands_kept h t c x sound refl (λ e. e) u.others;
-      cell = untied_cell _ _ (cell_at h c) (entries_at h c) u.live (sound.cells c u.mortal);
-      fewer = λ q _. same_entries _;
-      works_here = λ on. absurd (no_mark _ (u.unmarked t) on);
-      marks_else = λ q _. refl;
-      works_else = λ s _ on. absurd (no_mark _ (u.unmarked s) on);
-    }
-
 -- the one phase that a hand has
 pub busy_same : (p : Phase) (c : ℕ) (hand : Hand) → hand ≡ hands.Busy p c → (q : Phase) (d : ℕ) → hand ≡ hands.Busy q d → (d ≡ c) × (q ≡ p)
 busy_same p c hand is q d busy = let e : hands.Busy p c ≡ hands.Busy q d = sym is ∙ busy in (cc, cc)
-
--- at count 0: the thread goes on to merge
-untie_over : (h : Heap) (t c : ℕ) → IsSound h → May h t (Untie c) → c < length h.cells → (row_at h t).hand ≡ hands.Busy phases.Over c → Unties h t c (hands.Busy phases.Untied c)
-untie_over h t c sound may inside busy =
-    let said : HandFits h t phases.Over c = sound.hands t c phases.Over busy in
-    let owner : (cell_at h c).owner ≡ owners.Thread t = said.fits in
-    let grip : one (grips c (row_at h t).hand) ≡ 1 = hand_grips h t c phases.Over busy refl in
-    let local : (cell_at h c).local ≡ 0 = gripped_local h t c sound said.mortal owner (hand_gripped h t c grip) in
-    let alone : (s : ℕ) → s ≢ t → Ungripped h c s = sole_grip h c t sound said.mortal (omega (arith, grip)) in
-    let unmerged : is_merged (cell_at h c).state ≡ false = (sound.cells c said.mortal).owned_unmerged t owner in
-    record {
-      may = may;
-      inside = inside;
-      mortal = said.mortal;
-      live = ap lives owner;
-      unmerged = unmerged;
-      unmarked = λ s. elim (cases_eq s t) [
-        | inl same ↦ ap (λ j. one (is_marked (worklist_at h j) c)) same ∙ omega (arith, grips_once h c t sound said.mortal, grip)
-        | inr other ↦ (alone s other).mark
-      ];
-      others = λ s ne. (alone s ne).hand;
-      carried = sym (ap (λ z. one (carries c z)) busy);
-      grip = omega (
-        arith,
-        grip,
-        busy_grips phases.Untied c refl,
-        ap (λ o. grips_by_owner o (cell_at h c).state (cell_at h c).local (cell_at h c).count) owner,
-        ap one (eq-eqb (cell_at h c).local 0 local),
-      );
-      before = λ p d e. (busy_same phases.Over c (row_at h t).hand busy p d e).0;
-      after = λ p d e.
-          let same = busy_same phases.Untied c (hands.Busy phases.Untied c) refl p d e in (
-            same.0,
-            subst (λ z. PhaseFits t (record (row_at h t) { hand = hands.Busy phases.Untied c }) (popped_at h t) (record (cell_at h c) { owner = owners.Nobody }) (row_at h (cell_at h c).bearer).stage c z) (sym same.1)
-                (record { owner = refl; local = local; not_merged = unmerged; bearer = (sound.cells c said.mortal).owned_by_bearer t owner }),
-          );
-      idle = never_idle h t (hands.Busy phases.Untied c) (active_now h t c phases.Over sound busy refl);
-    }
 
 -- a thread that isn't active grips nothing that has an owner
 pub idle_apart : (h : Heap) (s c : ℕ) (hand : Hand) → IsSound h → is_active (row_at h s).stage ≡ false → (cell_at h c).owner ≡ owners.Thread s → (row_at h s).hand ≡ hand → one (grips c hand) ≡ 0
@@ -231,91 +160,144 @@ live_thread (owners.Thread s) live some = (s, refl)
 live_thread (owners.Claimed s) live some = absurd (true≢false (sym live))
 live_thread owners.Free live some = absurd (true≢false (sym live))
 
--- an object whose owner has left is adopted: its merge queue was closed to the thread that asked
-untie_shut : (h : Heap) (t c : ℕ) → IsSound h → May h t (Untie c) → c < length h.cells → (row_at h t).hand ≡ hands.Busy phases.Shut c → is_nobody (cell_at h c).owner ≡ false
-    → Unties h t c (hands.Busy phases.Taking c)
-untie_shut h t c sound may inside busy some =
-    let said : HandFits h t phases.Shut c = sound.hands t c phases.Shut busy in
-    let carried : one (carries c (row_at h t).hand) ≡ 1 = busy_carrier phases.Shut c (row_at h t).hand refl busy in
-    let live : lives (cell_at h c).owner ≡ true = held_owner h c sound said.mortal (carried_held h t c carried) in
-    let owned : (s : ℕ) × ((cell_at h c).owner ≡ owners.Thread s) = live_thread (cell_at h c).owner live some in
-    let bearer : (cell_at h c).bearer ≡ owned.0 = (sound.cells c said.mortal).owned_by_bearer owned.0 owned.1 in
-    let off : is_active (row_at h owned.0).stage ≡ false = subst (λ b. is_active (row_at h b).stage ≡ false) bearer (closed_idle _ (c / 32) said.fits) in
-    let none : gripped h c ≡ 0 = owned_ungripped h owned.0 c sound said.mortal owned.1 (carried_held h t c carried) (idle_apart h owned.0 c (row_at h owned.0).hand sound off owned.1 refl) in
-    let alone : (s : ℕ) → Ungripped h c s = ungripped h c none in
-    record {
-      may = may;
-      inside = inside;
-      mortal = said.mortal;
-      live = live;
-      unmerged = (sound.cells c said.mortal).owned_unmerged owned.0 owned.1;
-      unmarked = λ s. (alone s).mark;
-      others = λ s _. (alone s).hand;
-      carried = ap one (eq-eqb c c refl) ∙ sym carried;
-      grip = omega (arith, (alone t).hand, busy_grips phases.Taking c refl, sound.gripped c said.mortal, none);
-      before = λ p d e. (busy_same phases.Shut c (row_at h t).hand busy p d e).0;
-      after = λ p d e.
-          let same = busy_same phases.Taking c (hands.Busy phases.Taking c) refl p d e in
-          (same.0, subst (λ z. PhaseFits t (record (row_at h t) { hand = hands.Busy phases.Taking c }) (popped_at h t) (record (cell_at h c) { owner = owners.Nobody }) (row_at h (cell_at h c).bearer).stage c z) (sym same.1) refl);
-      idle = λ _. refl;
-    }
+module _ (h : Heap) (t c : ℕ) (sound : IsSound h) where
+  -- the object, when it has been let go
+  abbrev let_go : Cell
+  let_go = record (cell_at h c) { owner = owners.Nobody }
 
--- the owner deals with a popped entry
-untie_popped : (h : Heap) (t c : ℕ) → IsSound h → May h t (Untie c) → c < length h.cells → (row_at h t).hand ≡ hands.Free → bit_of (popped_at h t) c ≡ 1
-    → (cell_at h c).owner ≡ owners.Thread t → Unties h t c (hands.Busy phases.Popping c)
-untie_popped h t c sound may inside free on owner =
-    let mortal : FIRST_MORTAL ≤ c = (sound.bits t c (omega (arith, on))).0 in
-    let none : gripped h c ≡ 0 = owned_ungripped h t c sound mortal owner (popped_held h t c on) (ap (λ z. one (grips c z)) free) in
-    let alone : (s : ℕ) → Ungripped h c s = ungripped h c none in
-    record {
-      may = may;
-      inside = inside;
-      mortal = mortal;
-      live = ap lives owner;
-      unmerged = (sound.cells c mortal).owned_unmerged t owner;
-      unmarked = λ s. (alone s).mark;
-      others = λ s _. (alone s).hand;
-      carried = sym (ap (λ z. one (carries c z)) free);
-      grip = omega (arith, (alone t).hand, busy_grips phases.Popping c refl, sound.gripped c mortal, none);
-      before = λ p d e. let bad : hands.Free ≡ hands.Busy p d = sym free ∙ e in absurd (cc);
-      after = λ p d e.
-          let same = busy_same phases.Popping c (hands.Busy phases.Popping c) refl p d e in
-          (same.0, subst (λ z. PhaseFits t (record (row_at h t) { hand = hands.Busy phases.Popping c }) (popped_at h t) (record (cell_at h c) { owner = owners.Nobody }) (row_at h (cell_at h c).bearer).stage c z) (sym same.1) (refl, on));
-      idle = λ _. refl;
-    }
+  unties_turn : (hand : Hand) → Unties h t c hand → Turn h t c let_go hand (frame_at h t) (worklist_at h t) h.entries
+  unties_turn hand u =
+      let grip : grips_of let_go ≡ 1 = ap (λ b. if b then one (is_zero (cell_at h c).count) else 1) u.unmerged in
+      let asked : asks_least let_go ≡ 0 = one_and (is_queued (cell_at h c).state) false refl in
+      record {
+        acts = acts h t (Untie c) u.may refl refl;
+        cell_inside = u.inside;
+        mortal = u.mortal;
+        mutex = refl;
+        bearer = refl;
+        live = sym u.live;
+        vacant = λ j none. none;
+        places = (sound.threads t).places;
+        marks = refl;
+        lists = refl;
+        counted_here = omega (arith, ints, live_counts (cell_at h c) u.live, u.carried);
+        part_else = λ q _. refl;
+        gripped_here = omega (arith, grip, u.grip);
+        most_here = omega (arith, sound.most c u.mortal, u.carried);
+        least_here = omega (arith, asked, u.carried);
+        before = u.before;
+        after = u.after;
+        idle = u.idle;
+        hands_else = hands_kept h t c let_go sound refl (λ e. e) u.others;
+        cell = untied_cell _ _ (cell_at h c) (entries_at h c) u.live (sound.cells c u.mortal);
+        fewer = λ q _. same_entries _;
+        works_here = λ on. absurd (no_mark _ (u.unmarked t) on);
+        marks_else = λ q _. refl;
+        works_else = λ s _ on. absurd (no_mark _ (u.unmarked s) on);
+      }
 
--- ---- the step
+  -- what a hand in the one phase says of it in the other
+  abbrev Says : Phase → Phase → Type 0
+  Says p q = PhaseFits t (record (row_at h t) { hand = hands.Busy p c }) (popped_at h t) let_go (row_at h (cell_at h c).bearer).stage c q
 
-pub untie_sound : (h : Heap) (t c : ℕ) → IsSound h → thread_may h t (Untie c) ≡ true → IsSound (stepped h t (Untie c) c)
-untie_sound h t c sound ok =
-    let may : May h t (Untie c) = may_parts h t (Untie c) ok in
-    let at_cell : OnCell h t (Untie c) c = on_cell h t (Untie c) c may.on_target in
-    let x : Cell = record (cell_at h c) { owner = owners.Nobody } in
-    let P : Hand → Type 0 = λ hand. IsSound (record h {
-      cells = set h.cells c x;
-      rows = set h.rows t (record (row_at h t) { hand = hand });
-      frames = set h.frames t (frame_at h t);
-      popped = set h.popped t (popped_at h t);
-      worklists = set h.worklists t (worklist_at h t);
-    }) in
-    let done : (old new : Hand) → (row_at h t).hand ≡ old → untied_hand c old ≡ new → Unties h t c new → P (untied_hand c (row_at h t).hand) = λ old new is goes u.
-    subst P (sym (ap (untied_hand c) is ∙ goes)) (turn_sound h t c x new (frame_at h t) (worklist_at h t) h.entries sound (unties_turn h t c new sound u)) in
-    elim (cases_Bool (is_at phases.Over c (row_at h t).hand)) [
-      | inl over ↦
-          let busy : (row_at h t).hand ≡ hands.Busy phases.Over c = busy_hand phases.Over c _ over in
-          done (hands.Busy phases.Over c) (hands.Busy phases.Untied c) busy refl (untie_over h t c sound may at_cell.inside busy)
-      | inr apart ↦ elim (cases_Bool (is_at phases.Shut c (row_at h t).hand)) [
-        | inl shut ↦
-            let busy : (row_at h t).hand ≡ hands.Busy phases.Shut c = busy_hand phases.Shut c _ shut in
-            let some : not (is_nobody (cell_at h c).owner) ≡ true = subst (λ g. untied_ok t g (cell_at h c) ≡ true) busy at_cell.fits in
-            done (hands.Busy phases.Shut c) (hands.Busy phases.Taking c) busy refl (untie_shut h t c sound may at_cell.inside busy (not-true _ some))
-        | inr off ↦
-            let free : (row_at h t).hand ≡ hands.Free = free_hand _ (third _ _ _ apart off may.hand) in
-            let on : (bit_of (popped_at h t) c == 1) ≡ true = subst (λ g. untie_ok g (popped_at h t) c ≡ true) free may.own in
-            let mine = and_parts _ _ (subst (λ g. untied_ok t g (cell_at h c) ≡ true) free at_cell.fits) in
-            done hands.Free (hands.Busy phases.Popping c) free refl (untie_popped h t c sound may at_cell.inside free (eqb-true _ _ on) (thread_owner t _ mine.0))
+  says : (p : Phase) → Says p p → (q : Phase) (d : ℕ) → hands.Busy p c ≡ hands.Busy q d → (d ≡ c) × Says p q
+  says p fits q d e = let same = busy_same p c (hands.Busy p c) refl q d e in (same.0, subst (Says p) (sym same.1) fits)
+
+  module _ (may : May h t (Untie c)) (inside : c < length h.cells) where
+    -- at count 0: the thread goes on to merge
+    untie_over : (row_at h t).hand ≡ hands.Busy phases.Over c → Unties h t c (hands.Busy phases.Untied c)
+    untie_over busy =
+        let said : HandFits h t phases.Over c = sound.hands t c phases.Over busy in
+        let owner : (cell_at h c).owner ≡ owners.Thread t = said.fits in
+        let grip : one (grips c (row_at h t).hand) ≡ 1 = hand_grips h t c phases.Over busy refl in
+        let local : (cell_at h c).local ≡ 0 = gripped_local h t c sound said.mortal owner (hand_gripped h t c grip) in
+        let alone : (s : ℕ) → s ≢ t → Ungripped h c s = sole_grip h c t sound said.mortal (omega (arith, grip)) in
+        let unmerged : is_merged (cell_at h c).state ≡ false = (sound.cells c said.mortal).owned_unmerged t owner in
+        record {
+          may = may;
+          inside = inside;
+          mortal = said.mortal;
+          live = ap lives owner;
+          unmerged = unmerged;
+          unmarked = λ s. elim (cases_eq s t) [
+            | inl same ↦ ap (λ j. one (is_marked (worklist_at h j) c)) same ∙ omega (arith, grips_once h c t sound said.mortal, grip)
+            | inr other ↦ (alone s other).mark
+          ];
+          others = λ s ne. (alone s ne).hand;
+          carried = sym (ap (λ z. one (carries c z)) busy);
+          grip = omega (
+            arith,
+            grip,
+            busy_grips phases.Untied c refl,
+            ap (λ o. grips_by_owner o (cell_at h c).state (cell_at h c).local (cell_at h c).count) owner,
+            ap one (eq-eqb (cell_at h c).local 0 local),
+          );
+          before = λ p d e. (busy_same phases.Over c (row_at h t).hand busy p d e).0;
+          after = says phases.Untied (record { owner = refl; local = local; not_merged = unmerged; bearer = (sound.cells c said.mortal).owned_by_bearer t owner });
+          idle = never_idle h t (hands.Busy phases.Untied c) (active_now h t c phases.Over sound busy refl);
+        }
+
+    -- an object that nobody grips, by whoever grips it then
+    untie_ungripped : (p : Phase) → FIRST_MORTAL ≤ c → lives (cell_at h c).owner ≡ true → is_merged (cell_at h c).state ≡ false → gripped h c ≡ 0 → is_gripping p ≡ true → is_active_phase p ≡ false
+        → one (carries c (hands.Busy p c)) ≡ one (carries c (row_at h t).hand) → ((q : Phase) (d : ℕ) → (row_at h t).hand ≡ hands.Busy q d → d ≡ c) → Says p p → Unties h t c (hands.Busy p c)
+    untie_ungripped p mortal live unmerged none gripping idle carried before fits =
+        let alone : (s : ℕ) → Ungripped h c s = ungripped h c none in
+        record {
+          may = may;
+          inside = inside;
+          mortal = mortal;
+          live = live;
+          unmerged = unmerged;
+          unmarked = λ s. (alone s).mark;
+          others = λ s _. (alone s).hand;
+          carried = carried;
+          grip = omega (arith, (alone t).hand, busy_grips p c gripping, sound.gripped c mortal, none);
+          before = before;
+          after = says p fits;
+          idle = λ _. idle;
+        }
+
+    -- an object whose owner has left is adopted: its merge queue was closed to the thread that asked
+    untie_shut : (row_at h t).hand ≡ hands.Busy phases.Shut c → is_nobody (cell_at h c).owner ≡ false → Unties h t c (hands.Busy phases.Taking c)
+    untie_shut busy some =
+        let said : HandFits h t phases.Shut c = sound.hands t c phases.Shut busy in
+        let carried : one (carries c (row_at h t).hand) ≡ 1 = busy_carrier phases.Shut c (row_at h t).hand refl busy in
+        let live : lives (cell_at h c).owner ≡ true = held_owner h c sound said.mortal (carried_held h t c carried) in
+        let owned : (s : ℕ) × ((cell_at h c).owner ≡ owners.Thread s) = live_thread (cell_at h c).owner live some in
+        let bearer : (cell_at h c).bearer ≡ owned.0 = (sound.cells c said.mortal).owned_by_bearer owned.0 owned.1 in
+        let off : is_active (row_at h owned.0).stage ≡ false = subst (λ b. is_active (row_at h b).stage ≡ false) bearer (closed_idle _ (c / 32) said.fits) in
+        let none : gripped h c ≡ 0 = owned_ungripped h owned.0 c sound said.mortal owned.1 (carried_held h t c carried) (idle_apart h owned.0 c (row_at h owned.0).hand sound off owned.1 refl) in
+        untie_ungripped phases.Taking said.mortal live ((sound.cells c said.mortal).owned_unmerged owned.0 owned.1) none refl refl
+        (ap one (eq-eqb c c refl) ∙ sym carried) (λ p d e. (busy_same phases.Shut c (row_at h t).hand busy p d e).0) refl
+
+    -- the owner deals with a popped entry
+    untie_popped : (row_at h t).hand ≡ hands.Free → bit_of (popped_at h t) c ≡ 1 → (cell_at h c).owner ≡ owners.Thread t → Unties h t c (hands.Busy phases.Popping c)
+    untie_popped free on owner =
+        let mortal : FIRST_MORTAL ≤ c = (sound.bits t c (omega (arith, on))).0 in
+        let none : gripped h c ≡ 0 = owned_ungripped h t c sound mortal owner (popped_held h t c on) (ap (λ z. one (grips c z)) free) in
+        untie_ungripped phases.Popping mortal (ap lives owner) ((sound.cells c mortal).owned_unmerged t owner) none refl refl
+        (sym (ap (λ z. one (carries c z)) free)) (λ p d e. let bad : hands.Free ≡ hands.Busy p d = sym free ∙ e in absurd (cc)) (refl, on)
+
+  -- ---- the step
+
+  pub untie_sound : thread_may h t (Untie c) ≡ true → IsSound (stepped h t (Untie c) c)
+  untie_sound ok =
+      let may : May h t (Untie c) = may_parts h t (Untie c) ok in
+      let inside : c < length h.cells = (on_cell h t (Untie c) c may.on_target).inside in
+      let P : Hand → Type 0 = λ hand. IsSound (record h {
+        cells = set h.cells c let_go;
+        rows = set h.rows t (record (row_at h t) { hand = hand });
+        frames = set h.frames t (frame_at h t);
+        popped = set h.popped t (popped_at h t);
+        worklists = set h.worklists t (worklist_at h t);
+      }) in
+      let done : (old new : Hand) → (row_at h t).hand ≡ old → untied_hand c old ≡ new → Unties h t c new → P (untied_hand c (row_at h t).hand) = λ old new is goes u.
+      subst P (sym (ap (untied_hand c) is ∙ goes)) (turn_sound h t c let_go new (frame_at h t) (worklist_at h t) h.entries sound (unties_turn new u)) in
+      elim (untie_way h t c sound may) [
+        | at_end busy owner ↦ done (hands.Busy phases.Over c) (hands.Busy phases.Untied c) busy refl (untie_over may inside busy)
+        | shut_out busy some ↦ done (hands.Busy phases.Shut c) (hands.Busy phases.Taking c) busy refl (untie_shut may inside busy some)
+        | from_queue free on owner ↦ done hands.Free (hands.Busy phases.Popping c) free refl (untie_popped may inside free on owner)
       ]
-    ]
 
 -- ---- merging at local count 0
 
@@ -430,11 +412,11 @@ gripped_unmerged h c sound mortal owner grip some =
           absurd (omega (arith, grip, sound.gripped c mortal, grips, ap one (nonzero x.count (held h c) count some)))
     ]
 
-add_turn : (h : Heap) (t c : ℕ) (old new : Phase) (hand : Hand) → IsSound h → thread_may h t (MergeAdd c) ≡ true → (row_at h t).hand ≡ hands.Busy old c → is_gripping old ≡ true
+add_turn : (h : Heap) (t c : ℕ) (old : Phase) (hand : Hand) → IsSound h → thread_may h t (MergeAdd c) ≡ true → (row_at h t).hand ≡ hands.Busy old c → is_gripping old ≡ true
     → (cell_at h c).owner ≡ owners.Nobody → 1 ≤ held h c → one (carries c hand) ≡ one (carries c (hands.Busy old c)) → one (grips c hand) ≡ 0
     → ((p : Phase) (d : ℕ) → hand ≡ hands.Busy p d → (d ≡ c) × (p ≡ phases.Held))
     → Turn h t c (record (cell_at h c) { count = (cell_at h c).count +ℤ pos (cell_at h c).local; state = states.Merged }) hand (frame_at h t) (worklist_at h t) h.entries
-add_turn h t c old new hand sound ok busy gripping owner some carried let_go held_now =
+add_turn h t c old hand sound ok busy gripping owner some carried let_go held_now =
     let may : May h t (MergeAdd c) = may_parts h t (MergeAdd c) ok in
     let x : Cell = cell_at h c in
     let n : ℤ = x.count +ℤ pos x.local in
@@ -496,12 +478,12 @@ merge_add_sound h t c sound ok =
           let said : HandFits h t phases.Taking c = sound.hands t c phases.Taking busy in
           let carried : one (carries c (row_at h t).hand) ≡ 1 = busy_carrier phases.Taking c (row_at h t).hand refl busy in
           done (hands.Busy phases.Taking c) (hands.Busy phases.Held c) busy refl
-          (add_turn h t c phases.Taking phases.Held (hands.Busy phases.Held c) sound ok busy refl said.fits (carried_held h t c carried) refl refl
+          (add_turn h t c phases.Taking (hands.Busy phases.Held c) sound ok busy refl said.fits (carried_held h t c carried) refl refl
           (busy_same phases.Held c (hands.Busy phases.Held c) refl))
       | inr off ↦
           let busy : (row_at h t).hand ≡ hands.Busy phases.Popping c = busy_hand phases.Popping c _ (second _ _ off may.hand) in
           let said : HandFits h t phases.Popping c = sound.hands t c phases.Popping busy in
           done (hands.Busy phases.Popping c) hands.Free busy refl
-          (add_turn h t c phases.Popping phases.Held hands.Free sound ok busy refl said.fits.0 (popped_held h t c said.fits.1) refl refl
+          (add_turn h t c phases.Popping hands.Free sound ok busy refl said.fits.0 (popped_held h t c said.fits.1) refl refl
           (λ p d e. let bad : hands.Free ≡ hands.Busy p d = e in absurd (cc)))
     ]

@@ -57,200 +57,205 @@ new_mark n q = elim (cases_lt q n) [
 
 -- ---- clause by clause
 
-shape : (h : Heap) → IsShaped h → length h.rows ≤ MOST_THREADS → IsShaped (registered h)
-shape h shaped room =
-    let n : ℕ = length h.cells in
-    record {
-      options = shaped.options;
-      entries = shaped.entries;
-      root = omega (arith, length-push h.rows new_row);
-      threads = omega (arith, length-push h.rows new_row, room);
-      frames = length-push h.frames [] ∙ ap (λ m. m + 1) shaped.frames ∙ sym (length-push h.rows new_row);
-      popped = length-push h.popped _ ∙ ap (λ m. m + 1) shaped.popped ∙ sym (length-push h.rows new_row);
-      worklists = length-push h.worklists _ ∙ ap (λ m. m + 1) shaped.worklists ∙ sym (length-push h.rows new_row);
-      queues = length-push h.queues _ ∙ ap (λ m. m + 1) shaped.queues ∙ sym (length-push h.rows new_row);
-      notify_words = length-push h.notify_words 0 ∙ ap (λ m. m + 1) shaped.notify_words ∙ sym (length-push h.rows new_row);
-      gathered = length-push h.gathered false ∙ ap (λ m. m + 1) shaped.gathered ∙ sym (length-push h.rows new_row);
-      marks = λ s low high. read_push (λ j (marks : List Bool). 0 < j → j < length h.rows + 1 → length marks ≡ n) h.worklists (replicate n false) []
-          (λ _ _. length-replicate n false) (λ j other a b. shaped.marks j a (omega (arith, shaped.worklists, other, b))) s low (subst (λ m. s < m) (length-push h.rows new_row) high);
-      popped_words = λ s low high. read_push (λ j (words : List ℕ). 0 < j → j < length h.rows + 1 → length words ≡ words_for n) h.popped (replicate (words_for n) 0) []
-          (λ _ _. length-replicate (words_for n) 0) (λ j other a b. shaped.popped_words j a (omega (arith, shaped.popped, other, b))) s low (subst (λ m. s < m) (length-push h.rows new_row) high);
-      queue_words = λ s low high. read_push (λ j (words : List ℕ). 0 < j → j < length h.rows + 1 → length words ≡ words_for n) h.queues (replicate (words_for n) 0) []
-          (λ _ _. length-replicate (words_for n) 0) (λ j other a b. shaped.queue_words j a (omega (arith, shaped.queues, other, b))) s low (subst (λ m. s < m) (length-push h.rows new_row) high);
-    }
+module _ (h : Heap) (sound : IsSound h) where
+  abbrev h' : Heap
+  h' = registered h
 
--- the new thread adds nothing to any sum
-same_held : (h : Heap) (q : ℕ) → held (registered h) q ≡ held h q
-same_held h q =
-    let n : ℕ = words_for (length h.cells) in
-    omega (
-      arith,
-      sum_by_push (times q) h.frames [],
-      sum_by_push (λ (words : List ℕ). bit_of words q) h.popped (replicate n 0),
-      sum_by_push (λ (words : List ℕ). bit_of words q) h.queues (replicate n 0),
-      sum_by_push (λ (row : Row). one (carries q row.hand)) h.rows new_row,
-      new_bit n q,
-    )
+  one_more : length h'.rows ≡ length h.rows + 1
+  one_more = length-push h.rows new_row
 
-same_asks : (h : Heap) (q : ℕ) → asks (registered h) q ≡ asks h q
-same_asks h q =
-    let n : ℕ = words_for (length h.cells) in
-    omega (
-      arith,
-      sum_by_push (λ (words : List ℕ). bit_of words q) h.popped (replicate n 0),
-      sum_by_push (λ (words : List ℕ). bit_of words q) h.queues (replicate n 0),
-      sum_by_push (λ (row : Row). one (carries q row.hand)) h.rows new_row,
-      new_bit n q,
-    )
+  shape : length h.rows ≤ MOST_THREADS → IsShaped h'
+  shape room =
+      let n : ℕ = length h.cells in
+      record {
+        options = sound.shaped.options;
+        entries = sound.shaped.entries;
+        root = omega (arith, one_more);
+        threads = omega (arith, one_more, room);
+        frames = length-push h.frames [] ∙ ap (λ m. m + 1) sound.shaped.frames ∙ sym (one_more);
+        popped = length-push h.popped _ ∙ ap (λ m. m + 1) sound.shaped.popped ∙ sym (one_more);
+        worklists = length-push h.worklists _ ∙ ap (λ m. m + 1) sound.shaped.worklists ∙ sym (one_more);
+        queues = length-push h.queues _ ∙ ap (λ m. m + 1) sound.shaped.queues ∙ sym (one_more);
+        notify_words = length-push h.notify_words 0 ∙ ap (λ m. m + 1) sound.shaped.notify_words ∙ sym (one_more);
+        gathered = length-push h.gathered false ∙ ap (λ m. m + 1) sound.shaped.gathered ∙ sym (one_more);
+        marks = λ s low high. read_push (λ j (marks : List Bool). 0 < j → j < length h.rows + 1 → length marks ≡ n) h.worklists (replicate n false) []
+            (λ _ _. length-replicate n false) (λ j other a b. sound.shaped.marks j a (omega (arith, sound.shaped.worklists, other, b))) s low (subst (λ m. s < m) (one_more) high);
+        popped_words = λ s low high. read_push (λ j (words : List ℕ). 0 < j → j < length h.rows + 1 → length words ≡ words_for n) h.popped (replicate (words_for n) 0) []
+            (λ _ _. length-replicate (words_for n) 0) (λ j other a b. sound.shaped.popped_words j a (omega (arith, sound.shaped.popped, other, b))) s low (subst (λ m. s < m) (one_more) high);
+        queue_words = λ s low high. read_push (λ j (words : List ℕ). 0 < j → j < length h.rows + 1 → length words ≡ words_for n) h.queues (replicate (words_for n) 0) []
+            (λ _ _. length-replicate (words_for n) 0) (λ j other a b. sound.shaped.queue_words j a (omega (arith, sound.shaped.queues, other, b))) s low (subst (λ m. s < m) (one_more) high);
+      }
 
-same_gripped : (h : Heap) (q : ℕ) → gripped (registered h) q ≡ gripped h q
-same_gripped h q =
-    omega (
-      arith,
-      sum_by_push (λ (marks : List Bool). one (is_marked marks q)) h.worklists (replicate (length h.cells) false),
-      sum_by_push (λ (row : Row). one (grips q row.hand)) h.rows new_row,
-      ap one (new_mark (length h.cells) q),
-    )
-
--- the bearer of an object that a hand refers to is registered
-shut_bearer : (h : Heap) (s d : ℕ) → IsSound h → (row_at h s).hand ≡ hands.Busy phases.Shut d → FIRST_MORTAL ≤ d → (cell_at h d).bearer ≢ length h.rows
-shut_bearer h s d sound busy mortal e =
-    elim (cases_Bool (lives (cell_at h d).owner)) [
-      | inl live ↦ omega (arith, ((sound.cells d mortal).born live).1, e)
-      | inr dead ↦
-          let none : Unheld h d = dead_unheld h d sound mortal dead in
-          omega (arith, none.hands s, busy_carrier phases.Shut d (row_at h s).hand refl busy)
-    ]
-
-hands_fit : (h : Heap) → IsSound h → (s d : ℕ) (p : Phase) → (row_at (registered h) s).hand ≡ hands.Busy p d → HandFits (registered h) s p d
-hands_fit h sound s d p busy =
-    let h' : Heap = registered h in
-    let bearer : (j : ℕ) → (row_at h j).hand ≡ hands.Busy p d → p ≡ phases.Shut → (row_at h (cell_at h d).bearer).stage ≡ (row_at h' (cell_at h d).bearer).stage =
-    λ j at_d shut. ap (λ (row : Row). row.stage) (sym (push_else h.rows new_row no_row (cell_at h d).bearer
-    (shut_bearer h j d sound (at_d ∙ ap (λ z. hands.Busy z d) shut) (sound.hands j d p at_d).mortal))) in
-    let old : (j : ℕ) → j ≢ length h.rows → (row_at h j).hand ≡ hands.Busy p d
-    → (FIRST_MORTAL ≤ d) × PhaseFits j (row_at h j) (popped_at h' j) (cell_at h d) (row_at h' (cell_at h d).bearer).stage d p =
-    λ j other at_d.
-    let fits : HandFits h j p d = sound.hands j d p at_d in (
-      fits.mortal,
-      other_bearer j (row_at h j) (popped_at h' j) (cell_at h d) (row_at h (cell_at h d).bearer).stage (row_at h' (cell_at h d).bearer).stage d p (λ shut closed. subst (λ g. is_closed g (d / 32) ≡ true) (bearer j at_d shut) closed)
-          (subst (λ popped. PhaseFits j (row_at h j) popped (cell_at h d) (row_at h (cell_at h d).bearer).stage d p)
-          (sym (push_else h.popped _ [] j (λ e. other (e ∙ sound.shaped.popped)))) fits.fits),
-    ) in
-    let said : (FIRST_MORTAL ≤ d) × PhaseFits s (row_at h' s) (popped_at h' s) (cell_at h d) (row_at h' (cell_at h d).bearer).stage d p =
-    read_push (λ j (row : Row). row.hand ≡ hands.Busy p d → (FIRST_MORTAL ≤ d) × PhaseFits j row (popped_at h' j) (cell_at h d) (row_at h' (cell_at h d).bearer).stage d p) h.rows new_row no_row
-    (λ bad. absurd (let e : hands.Free ≡ hands.Busy p d = bad in cc)) old s busy in
-    record { mortal = said.0; fits = said.1 }
-
-cells_fit : (h : Heap) → IsSound h → (q : ℕ) → FIRST_MORTAL ≤ q → CellFits (length (registered h).rows) h.limit (cell_at h q) (entries_at h q)
-cells_fit h sound q mortal =
-    let fits : CellFits (length h.rows) h.limit (cell_at h q) (entries_at h q) = sound.cells q mortal in
-    record {
-      default = fits.default;
-      owned_unmerged = fits.owned_unmerged;
-      owned_by_bearer = fits.owned_by_bearer;
-      dead_empty = fits.dead_empty;
-      dead_count = fits.dead_count;
-      born = λ live. ((fits.born live).0, omega (arith, (fits.born live).1, length-push h.rows new_row));
-      limited = fits.limited;
-      plain = fits.plain;
-      few = fits.few;
-    }
-
-threads_fit : (h : Heap) → IsSound h → (s : ℕ)
-    → ThreadFits (words_for (length h.cells)) (row_at (registered h) s) (frame_at (registered h) s) (popped_at (registered h) s) (worklist_at (registered h) s) (queue_at (registered h) s) (is_gathered (registered h) s)
-threads_fit h sound s =
-    let n : ℕ = words_for (length h.cells) in
-    let m : ℕ = length h.cells in
-    let h' : Heap = registered h in
-    elim (cases_eq s (length h.rows)) [
-      | inl same ↦
-          let at_frames : s ≡ length h.frames = same ∙ sym sound.shaped.frames in
-          let at_popped : s ≡ length h.popped = same ∙ sym sound.shaped.popped in
-          let at_works : s ≡ length h.worklists = same ∙ sym sound.shaped.worklists in
-          let at_queues : s ≡ length h.queues = same ∙ sym sound.shaped.queues in
-          let at_gathered : s ≡ length h.gathered = same ∙ sym sound.shaped.gathered in
-          subst (λ row. ThreadFits n row (frame_at h' s) (popped_at h' s) (worklist_at h' s) (queue_at h' s) (is_gathered h' s)) (sym (get_or_push h.rows new_row no_row s (sym same)))
-          (subst (λ frame. ThreadFits n new_row frame (popped_at h' s) (worklist_at h' s) (queue_at h' s) (is_gathered h' s)) (sym (get_or_push h.frames [] [] s (sym at_frames)))
-          (active_fits n new_row new_row [] [] (popped_at h' s) (worklist_at h' s) (worklist_at h' s) (queue_at h' s) (is_gathered h' s) refl
-          (get_or_push h.gathered false false s (sym at_gathered)) refl (λ k _. refl) (omega arith) (omega arith)))
-      | inr other ↦
-          let not_frames : s ≢ length h.frames = λ e. other (e ∙ sound.shaped.frames) in
-          let not_popped : s ≢ length h.popped = λ e. other (e ∙ sound.shaped.popped) in
-          let not_works : s ≢ length h.worklists = λ e. other (e ∙ sound.shaped.worklists) in
-          let not_queues : s ≢ length h.queues = λ e. other (e ∙ sound.shaped.queues) in
-          let not_gathered : s ≢ length h.gathered = λ e. other (e ∙ sound.shaped.gathered) in
-          subst (λ row. ThreadFits n row (frame_at h' s) (popped_at h' s) (worklist_at h' s) (queue_at h' s) (is_gathered h' s)) (sym (push_else h.rows new_row no_row s other))
-          (subst (λ frame. ThreadFits n (row_at h s) frame (popped_at h' s) (worklist_at h' s) (queue_at h' s) (is_gathered h' s)) (sym (push_else h.frames [] [] s not_frames))
-          (subst (λ popped. ThreadFits n (row_at h s) (frame_at h s) popped (worklist_at h' s) (queue_at h' s) (is_gathered h' s)) (sym (push_else h.popped _ [] s not_popped))
-          (subst (λ worklist. ThreadFits n (row_at h s) (frame_at h s) (popped_at h s) worklist (queue_at h' s) (is_gathered h' s)) (sym (push_else h.worklists _ [] s not_works))
-          (subst (λ queue. ThreadFits n (row_at h s) (frame_at h s) (popped_at h s) (worklist_at h s) queue (is_gathered h' s)) (sym (push_else h.queues _ [] s not_queues))
-          (subst (λ gathered. ThreadFits n (row_at h s) (frame_at h s) (popped_at h s) (worklist_at h s) (queue_at h s) gathered) (sym (push_else h.gathered false false s not_gathered))
-          (sound.threads s))))))
-    ]
-
-works_fit : (h : Heap) → IsSound h → (s q : ℕ) → is_marked (worklist_at (registered h) s) q ≡ true → WorklistFits s q (cell_at h q)
-works_fit h sound s q = read_push (λ j (marks : List Bool). is_marked marks q ≡ true → WorklistFits j q (cell_at h q)) h.worklists (replicate (length h.cells) false) []
-    (λ on. absurd (true≢false (sym on ∙ new_mark (length h.cells) q))) (λ j _ on. sound.worklists j q on) s
-
-bits_fit : (h : Heap) → IsSound h → (s q : ℕ) → 0 < bit_of (queue_at (registered h) s) q + bit_of (popped_at (registered h) s) q → (FIRST_MORTAL ≤ q) × ((cell_at h q).bearer ≡ s)
-bits_fit h sound s q some =
-    let n : ℕ = words_for (length h.cells) in
-    elim (cases_eq s (length h.rows)) [
-      | inl same ↦ absurd (omega (
+  -- the new thread adds nothing to any sum
+  same_held : (q : ℕ) → held h' q ≡ held h q
+  same_held q =
+      let n : ℕ = words_for (length h.cells) in
+      omega (
         arith,
-        some,
+        sum_by_push (times q) h.frames [],
+        sum_by_push (λ (words : List ℕ). bit_of words q) h.popped (replicate n 0),
+        sum_by_push (λ (words : List ℕ). bit_of words q) h.queues (replicate n 0),
+        sum_by_push (λ (row : Row). one (carries q row.hand)) h.rows new_row,
         new_bit n q,
-        ap (λ words. bit_of words q) (get_or_push h.queues (replicate n 0) [] s (sound.shaped.queues ∙ sym same)),
-        ap (λ words. bit_of words q) (get_or_push h.popped (replicate n 0) [] s (sound.shaped.popped ∙ sym same)),
-      ))
-      | inr other ↦ sound.bits s q (omega (
+      )
+
+  same_asks : (q : ℕ) → asks h' q ≡ asks h q
+  same_asks q =
+      let n : ℕ = words_for (length h.cells) in
+      omega (
         arith,
-        some,
-        ap (λ words. bit_of words q) (push_else h.queues (replicate n 0) [] s (λ e. other (e ∙ sound.shaped.queues))),
-        ap (λ words. bit_of words q) (push_else h.popped (replicate n 0) [] s (λ e. other (e ∙ sound.shaped.popped))),
-      ))
-    ]
+        sum_by_push (λ (words : List ℕ). bit_of words q) h.popped (replicate n 0),
+        sum_by_push (λ (words : List ℕ). bit_of words q) h.queues (replicate n 0),
+        sum_by_push (λ (row : Row). one (carries q row.hand)) h.rows new_row,
+        new_bit n q,
+      )
 
--- a lock of a thread that was there
-old_lock : (h : Heap) → IsSound h → (s k q : ℕ) → s ≢ length h.rows → Locks h s k q → Locks (registered h) s k q
-old_lock h sound s k q other lock = record {
-  thread = lock.thread;
-  place = ap (λ (row : Row). row.locked) (push_else h.rows new_row no_row s other) ∙ lock.place;
-  names = ap (λ frame. place_at frame k) (push_else h.frames [] [] s (λ e. other (e ∙ sound.shaped.frames))) ∙ lock.names;
-}
+  same_gripped : (q : ℕ) → gripped h' q ≡ gripped h q
+  same_gripped q =
+      omega (
+        arith,
+        sum_by_push (λ (marks : List Bool). one (is_marked marks q)) h.worklists (replicate (length h.cells) false),
+        sum_by_push (λ (row : Row). one (grips q row.hand)) h.rows new_row,
+        ap one (new_mark (length h.cells) q),
+      )
 
-locks_fit : (h : Heap) → IsSound h → (s k : ℕ) → (row_at (registered h) s).locked ≡ Some k → (q : ℕ) × Locks (registered h) s k q × ((cell_at h q).mutex ≡ s)
-locks_fit h sound s k locked =
-    elim (cases_eq s (length h.rows)) [
-      | inl same ↦ absurd (let e : None ≡ Some k = sym (ap (λ (row : Row). row.locked) (get_or_push h.rows new_row no_row s (sym same))) ∙ locked in cc)
-      | inr other ↦
-          let old : (q : ℕ) × Locks h s k q × ((cell_at h q).mutex ≡ s) = sound.locks s k (sym (ap (λ (row : Row). row.locked) (push_else h.rows new_row no_row s other)) ∙ locked) in
-          (old.0, old_lock h sound s k old.0 other old.1, old.2)
-    ]
+  -- the bearer of an object that a hand refers to is registered
+  shut_bearer : (s d : ℕ) → (row_at h s).hand ≡ hands.Busy phases.Shut d → FIRST_MORTAL ≤ d → (cell_at h d).bearer ≢ length h.rows
+  shut_bearer s d busy mortal e =
+      elim (cases_Bool (lives (cell_at h d).owner)) [
+        | inl live ↦ omega (arith, ((sound.cells d mortal).born live).1, e)
+        | inr dead ↦
+            let none : Unheld h d = dead_unheld h d sound mortal dead in
+            omega (arith, none.hands s, busy_carrier phases.Shut d (row_at h s).hand refl busy)
+      ]
 
-mutexes_fit : (h : Heap) → IsSound h → (s q : ℕ) → 0 < s → (cell_at h q).mutex ≡ s → (k : ℕ) × Locks (registered h) s k q
-mutexes_fit h sound s q some mutex =
-    let old : (k : ℕ) × Locks h s k q = sound.mutexes s q some mutex in (
-      old.0,
-      old_lock h sound s old.0 q (λ same.
-          let e : None ≡ Some old.0 = sym (ap (λ (row : Row). row.locked) (get_or_past h.rows s no_row (omega (arith, same)))) ∙ old.1.place in absurd (cc)) old.1,
-    )
+  hands_fit : (s d : ℕ) (p : Phase) → (row_at h' s).hand ≡ hands.Busy p d → HandFits h' s p d
+  hands_fit s d p busy =
+      let bearer : (j : ℕ) → (row_at h j).hand ≡ hands.Busy p d → p ≡ phases.Shut → (row_at h (cell_at h d).bearer).stage ≡ (row_at h' (cell_at h d).bearer).stage =
+      λ j at_d shut. ap (λ (row : Row). row.stage) (sym (push_else h.rows new_row no_row (cell_at h d).bearer
+      (shut_bearer j d (at_d ∙ ap (λ z. hands.Busy z d) shut) (sound.hands j d p at_d).mortal))) in
+      let old : (j : ℕ) → j ≢ length h.rows → (row_at h j).hand ≡ hands.Busy p d
+      → (FIRST_MORTAL ≤ d) × PhaseFits j (row_at h j) (popped_at h' j) (cell_at h d) (row_at h' (cell_at h d).bearer).stage d p =
+      λ j other at_d.
+      let fits : HandFits h j p d = sound.hands j d p at_d in (
+        fits.mortal,
+        other_bearer j (row_at h j) (popped_at h' j) (cell_at h d) (row_at h (cell_at h d).bearer).stage (row_at h' (cell_at h d).bearer).stage d p (λ shut closed. subst (λ g. is_closed g (d / 32) ≡ true) (bearer j at_d shut) closed)
+            (subst (λ popped. PhaseFits j (row_at h j) popped (cell_at h d) (row_at h (cell_at h d).bearer).stage d p)
+            (sym (push_else h.popped _ [] j (λ e. other (e ∙ sound.shaped.popped)))) fits.fits),
+      ) in
+      let said : (FIRST_MORTAL ≤ d) × PhaseFits s (row_at h' s) (popped_at h' s) (cell_at h d) (row_at h' (cell_at h d).bearer).stage d p =
+      read_push (λ j (row : Row). row.hand ≡ hands.Busy p d → (FIRST_MORTAL ≤ d) × PhaseFits j row (popped_at h' j) (cell_at h d) (row_at h' (cell_at h d).bearer).stage d p) h.rows new_row no_row
+      (λ bad. absurd (let e : hands.Free ≡ hands.Busy p d = bad in cc)) old s busy in
+      record { mortal = said.0; fits = said.1 }
 
-pub registered_sound : (h : Heap) → IsSound h → length h.rows ≤ MOST_THREADS → IsSound (registered h)
-registered_sound h sound room = record {
-  shaped = shape h sound.shaped room;
-  counted = λ q mortal. sound.counted q mortal ∙ ap pos (sym (same_held h q));
-  gripped = λ q mortal. same_gripped h q ∙ sound.gripped q mortal;
-  most = λ q mortal. omega (arith, sound.most q mortal, same_asks h q);
-  least = λ q mortal. omega (arith, sound.least q mortal, same_asks h q);
-  hands = hands_fit h sound;
-  cells = cells_fit h sound;
-  immortals = sound.immortals;
-  worklists = works_fit h sound;
-  threads = threads_fit h sound;
-  bits = bits_fit h sound;
-  locks = locks_fit h sound;
-  mutexes = mutexes_fit h sound;
-  ledger = omega (arith, sound.ledger, sum_by_push (λ (row : Row). row.allocs) h.rows new_row, sum_by_push (λ (row : Row). row.frees) h.rows new_row);
-}
+  cells_fit : (q : ℕ) → FIRST_MORTAL ≤ q → CellFits (length h'.rows) h.limit (cell_at h q) (entries_at h q)
+  cells_fit q mortal =
+      let fits : CellFits (length h.rows) h.limit (cell_at h q) (entries_at h q) = sound.cells q mortal in
+      record {
+        default = fits.default;
+        owned_unmerged = fits.owned_unmerged;
+        owned_by_bearer = fits.owned_by_bearer;
+        dead_empty = fits.dead_empty;
+        dead_count = fits.dead_count;
+        born = λ live. ((fits.born live).0, omega (arith, (fits.born live).1, one_more));
+        limited = fits.limited;
+        plain = fits.plain;
+        few = fits.few;
+      }
+
+  threads_fit : (s : ℕ)
+      → ThreadFits (words_for (length h.cells)) (row_at h' s) (frame_at h' s) (popped_at h' s) (worklist_at h' s) (queue_at h' s) (is_gathered h' s)
+  threads_fit s =
+      let n : ℕ = words_for (length h.cells) in
+      let m : ℕ = length h.cells in
+      elim (cases_eq s (length h.rows)) [
+        | inl same ↦
+            let at_frames : s ≡ length h.frames = same ∙ sym sound.shaped.frames in
+            let at_popped : s ≡ length h.popped = same ∙ sym sound.shaped.popped in
+            let at_works : s ≡ length h.worklists = same ∙ sym sound.shaped.worklists in
+            let at_queues : s ≡ length h.queues = same ∙ sym sound.shaped.queues in
+            let at_gathered : s ≡ length h.gathered = same ∙ sym sound.shaped.gathered in
+            subst (λ row. ThreadFits n row (frame_at h' s) (popped_at h' s) (worklist_at h' s) (queue_at h' s) (is_gathered h' s)) (sym (get_or_push h.rows new_row no_row s (sym same)))
+            (subst (λ frame. ThreadFits n new_row frame (popped_at h' s) (worklist_at h' s) (queue_at h' s) (is_gathered h' s)) (sym (get_or_push h.frames [] [] s (sym at_frames)))
+            (active_fits n new_row new_row [] [] (popped_at h' s) (worklist_at h' s) (worklist_at h' s) (queue_at h' s) (is_gathered h' s) refl
+            (get_or_push h.gathered false false s (sym at_gathered)) refl (λ k _. refl) (omega arith) (omega arith)))
+        | inr other ↦
+            let not_frames : s ≢ length h.frames = λ e. other (e ∙ sound.shaped.frames) in
+            let not_popped : s ≢ length h.popped = λ e. other (e ∙ sound.shaped.popped) in
+            let not_works : s ≢ length h.worklists = λ e. other (e ∙ sound.shaped.worklists) in
+            let not_queues : s ≢ length h.queues = λ e. other (e ∙ sound.shaped.queues) in
+            let not_gathered : s ≢ length h.gathered = λ e. other (e ∙ sound.shaped.gathered) in
+            subst (λ row. ThreadFits n row (frame_at h' s) (popped_at h' s) (worklist_at h' s) (queue_at h' s) (is_gathered h' s)) (sym (push_else h.rows new_row no_row s other))
+            (subst (λ frame. ThreadFits n (row_at h s) frame (popped_at h' s) (worklist_at h' s) (queue_at h' s) (is_gathered h' s)) (sym (push_else h.frames [] [] s not_frames))
+            (subst (λ popped. ThreadFits n (row_at h s) (frame_at h s) popped (worklist_at h' s) (queue_at h' s) (is_gathered h' s)) (sym (push_else h.popped _ [] s not_popped))
+            (subst (λ worklist. ThreadFits n (row_at h s) (frame_at h s) (popped_at h s) worklist (queue_at h' s) (is_gathered h' s)) (sym (push_else h.worklists _ [] s not_works))
+            (subst (λ queue. ThreadFits n (row_at h s) (frame_at h s) (popped_at h s) (worklist_at h s) queue (is_gathered h' s)) (sym (push_else h.queues _ [] s not_queues))
+            (subst (λ gathered. ThreadFits n (row_at h s) (frame_at h s) (popped_at h s) (worklist_at h s) (queue_at h s) gathered) (sym (push_else h.gathered false false s not_gathered))
+            (sound.threads s))))))
+      ]
+
+  works_fit : (s q : ℕ) → is_marked (worklist_at h' s) q ≡ true → WorklistFits s q (cell_at h q)
+  works_fit s q = read_push (λ j (marks : List Bool). is_marked marks q ≡ true → WorklistFits j q (cell_at h q)) h.worklists (replicate (length h.cells) false) []
+      (λ on. absurd (true≢false (sym on ∙ new_mark (length h.cells) q))) (λ j _ on. sound.worklists j q on) s
+
+  bits_fit : (s q : ℕ) → 0 < bit_of (queue_at h' s) q + bit_of (popped_at h' s) q → (FIRST_MORTAL ≤ q) × ((cell_at h q).bearer ≡ s)
+  bits_fit s q some =
+      let n : ℕ = words_for (length h.cells) in
+      elim (cases_eq s (length h.rows)) [
+        | inl same ↦ absurd (omega (
+          arith,
+          some,
+          new_bit n q,
+          ap (λ words. bit_of words q) (get_or_push h.queues (replicate n 0) [] s (sound.shaped.queues ∙ sym same)),
+          ap (λ words. bit_of words q) (get_or_push h.popped (replicate n 0) [] s (sound.shaped.popped ∙ sym same)),
+        ))
+        | inr other ↦ sound.bits s q (omega (
+          arith,
+          some,
+          ap (λ words. bit_of words q) (push_else h.queues (replicate n 0) [] s (λ e. other (e ∙ sound.shaped.queues))),
+          ap (λ words. bit_of words q) (push_else h.popped (replicate n 0) [] s (λ e. other (e ∙ sound.shaped.popped))),
+        ))
+      ]
+
+  -- a lock of a thread that was there
+  old_lock : (s k q : ℕ) → s ≢ length h.rows → Locks h s k q → Locks h' s k q
+  old_lock s k q other lock = record {
+    thread = lock.thread;
+    place = ap (λ (row : Row). row.locked) (push_else h.rows new_row no_row s other) ∙ lock.place;
+    names = ap (λ frame. place_at frame k) (push_else h.frames [] [] s (λ e. other (e ∙ sound.shaped.frames))) ∙ lock.names;
+  }
+
+  locks_fit : (s k : ℕ) → (row_at h' s).locked ≡ Some k → (q : ℕ) × Locks h' s k q × ((cell_at h q).mutex ≡ s)
+  locks_fit s k locked =
+      elim (cases_eq s (length h.rows)) [
+        | inl same ↦ absurd (let e : None ≡ Some k = sym (ap (λ (row : Row). row.locked) (get_or_push h.rows new_row no_row s (sym same))) ∙ locked in cc)
+        | inr other ↦
+            let old : (q : ℕ) × Locks h s k q × ((cell_at h q).mutex ≡ s) = sound.locks s k (sym (ap (λ (row : Row). row.locked) (push_else h.rows new_row no_row s other)) ∙ locked) in
+            (old.0, old_lock s k old.0 other old.1, old.2)
+      ]
+
+  mutexes_fit : (s q : ℕ) → 0 < s → (cell_at h q).mutex ≡ s → (k : ℕ) × Locks h' s k q
+  mutexes_fit s q some mutex =
+      let old : (k : ℕ) × Locks h s k q = sound.mutexes s q some mutex in (
+        old.0,
+        old_lock s old.0 q (λ same.
+            let e : None ≡ Some old.0 = sym (ap (λ (row : Row). row.locked) (get_or_past h.rows s no_row (omega (arith, same)))) ∙ old.1.place in absurd (cc)) old.1,
+      )
+
+  pub registered_sound : length h.rows ≤ MOST_THREADS → IsSound h'
+  registered_sound room = record {
+    shaped = shape room;
+    counted = λ q mortal. sound.counted q mortal ∙ ap pos (sym (same_held q));
+    gripped = λ q mortal. same_gripped q ∙ sound.gripped q mortal;
+    most = λ q mortal. omega (arith, sound.most q mortal, same_asks q);
+    least = λ q mortal. omega (arith, sound.least q mortal, same_asks q);
+    hands = hands_fit;
+    cells = cells_fit;
+    immortals = sound.immortals;
+    worklists = works_fit;
+    threads = threads_fit;
+    bits = bits_fit;
+    locks = locks_fit;
+    mutexes = mutexes_fit;
+    ledger = omega (arith, sound.ledger, sum_by_push (λ (row : Row). row.allocs) h.rows new_row, sum_by_push (λ (row : Row). row.frees) h.rows new_row);
+  }

@@ -22,18 +22,17 @@ use Rattle.brc_runs.specs.declared.row.Hand.TheVariants as hands
 use Rattle.brc_runs.specs.declared.row.Phase.{Phase}
 use Rattle.brc_runs.specs.declared.row.Phase.TheVariants as phases
 use Rattle.brc_runs.specs.declared.row.Stage.{Stage}
-use Rattle.brc_runs.specs.Lists.{one, is_marked, filled}
+use Rattle.brc_runs.specs.Lists.{one, is_marked}
 use Rattle.brc_runs.specs.Heap.{Heap, cell_at, entries_at, row_at, frame_at, popped_at, worklist_at, is_immortal, no_row}
 use Rattle.brc_runs.specs.Steps.{after_target, target_ok, source_cell, dropped_cell, cell_in_hand, frame_without, entries_without, is_default, is_queued, is_merged, is_zero, is_positive, is_nobody, is_ending_hand, ends_ok}
 use Rattle.brc_runs.specs.Holding.{lives, carries, count_of_state}
 use Rattle.brc_runs.specs.Sound.{IsSound, CellFits, PhaseFits, WorklistFits, counted_in, grips_of, grips_by_owner, grips, is_active_hand, held, asks, asks_least, asks_most, is_threads}
 use Rattle.brc_runs.proofs.Naming.{merged_state, no_mark, one-le, free_hand, busy_carrier, live_counts, zero_count, default_state, grips_free, carries_free, sum_one, same_phase}
-use Rattle.brc_runs.proofs.Framing.{times-filled, length-filled}
 use Rattle.brc_runs.proofs.Asking.{May, OnCell, on_cell, vacant}
-use Rattle.brc_runs.proofs.Birthing.{active_from, active_fits, one_and}
-use Rattle.brc_runs.proofs.Counting.{Ups, Raises, up_fits, Downs, held_unmarked}
+use Rattle.brc_runs.proofs.Birthing.{active_from, one_and}
+use Rattle.brc_runs.proofs.Counting.{Raises, up_fits, Downs, held_unmarked}
 use Rattle.brc_runs.proofs.Changes.{same_entries}
-use Rattle.brc_runs.proofs.Plainly.{Plain, plain_sound}
+use Rattle.brc_runs.proofs.Plainly.{plain_sound}
 use Rattle.brc_runs.proofs.Turning.{Acts, acts, Turn, turn_sound}
 use Rattle.brc_runs.proofs.Merging.{held_owner, carried_held, taken_marks, marked_so, nonzero, busy_same}
 use Rattle.brc_runs.proofs.Dropping.{source_held, dropped_held, drop_downs}

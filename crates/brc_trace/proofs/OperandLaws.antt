@@ -1,11 +1,12 @@
 -- Each operand is read as it was written, and only so.
-use Rattle.std.proofs.Common.{◌≡◌, ℕ, ◌^◌, ◌<◌, Bool, true, ◌&&◌, if◌then◌else◌, List, [], ◌∷◌, ◌++◌, Option, Some, None, refl, sym, ap, subst, ◌∙◌, arith, leb}
+use Rattle.std.proofs.Common.{◌≡◌, ℕ, ◌/◌, ◌^◌, ◌<◌, Bool, true, ◌&&◌, if◌then◌else◌, List, [], ◌∷◌, ◌++◌, Option, Some, None, refl, sym, ap, subst, ◌∙◌, arith, leb}
 use Rattle.std.specs.List.{AllByRecursion}
 use Rattle.std.proofs.lemmas.Option.{cond_some}
 use Rattle.std.proofs.lemmas.Bool.{and_parts, and_from, leb-true, ltb-true}
 use Rattle.brc_words.specs.declared.kind.Kind.{Kind}
 use Rattle.brc_words.specs.declared.kind.Kind.TheVariants as kinds
 use Rattle.brc_words.specs.Kinds.{is_mortal}
+use Rattle.brc_words.specs.declared.limits.TheConstants.{MOST_THREADS, MOST_CELLS, MOST_ENTRIES}
 use Rattle.brc_runs.specs.declared.event.Source.{Source}
 use Rattle.brc_runs.specs.declared.event.Source.TheVariants as sources
 use Rattle.brc_runs.specs.declared.event.Dropped.{Dropped}
@@ -51,13 +52,13 @@ numbers fits small = record {
 }
 
 pub threads : Form tokens.Number is_thread (number_at is_thread)
-threads = numbers is_thread (λ t h. omega (arith, leb-true t 64 (and_parts (leb 1 t) (leb t 64) h).1))
+threads = numbers is_thread (λ t h. omega (arith, leb-true t MOST_THREADS (and_parts (leb 1 t) (leb t MOST_THREADS) h).1))
 
 cell_small : (c : ℕ) → is_cell c ≡ true → c < 2 ^ 64
-cell_small c h = omega (arith, ltb-true c 65536 h)
+cell_small c h = omega (arith, ltb-true c MOST_CELLS h)
 
 entry_small : (i : ℕ) → is_entry i ≡ true → i < 2 ^ 64
-entry_small i h = omega (arith, ltb-true i 1048576 h)
+entry_small i h = omega (arith, ltb-true i MOST_ENTRIES h)
 
 pub cells : Form tokens.Number is_cell (number_at is_cell)
 cells = numbers is_cell cell_small
@@ -69,7 +70,7 @@ pub entries : Form tokens.Number is_entry (number_at is_entry)
 entries = numbers is_entry entry_small
 
 pub queue_words : Form tokens.Number is_queue_word (number_at is_queue_word)
-queue_words = numbers is_queue_word (λ k h. omega (arith, ltb-true k 2048 h))
+queue_words = numbers is_queue_word (λ k h. omega (arith, ltb-true k (MOST_CELLS / 32) h))
 
 -- ---- kinds
 

@@ -4,6 +4,7 @@ use Rattle.std.proofs.lemmas.Bool.{lt-ltb, le-ltb}
 use Rattle.brc_words.specs.declared.fault.Fault.{Fault}
 use Rattle.brc_words.specs.declared.fault.Fault.TheVariants as faults
 use Rattle.brc_words.specs.declared.fault.Reason.TheVariants as reasons
+use Rattle.brc_words.specs.declared.limits.TheConstants.{MOST_INPUT}
 use Rattle.brc_runs.specs.declared.event.Event.{Event}
 use Rattle.brc_text.specs.declared.token.Token.{Token}
 use Rattle.brc_text.specs.Tokens.{◌>>=◌}
@@ -131,13 +132,13 @@ nothing_before (Err bad) = refl
 
 -- ---- the whole text
 
-pub long_text : (text : List ℕ) → 16777216 < length text → trace_at text ≡ Err 0
+pub long_text : (text : List ℕ) → MOST_INPUT < length text → trace_at text ≡ Err 0
 unfolding trace_at
-long_text text long = rw (lt-ltb 16777216 (length text) long) refl
+long_text text long = rw (lt-ltb MOST_INPUT (length text) long) refl
 
-pub short_text : (text : List ℕ) → length text ≤ 16777216 → trace_at text ≡ lines_at (pieces text)
+pub short_text : (text : List ℕ) → length text ≤ MOST_INPUT → trace_at text ≡ lines_at (pieces text)
 unfolding trace_at
-short_text text short = rw (le-ltb 16777216 (length text) short) refl
+short_text text short = rw (le-ltb MOST_INPUT (length text) short) refl
 
 pub bad_head : (text : List ℕ) → by_line head_at text ≡ None → lines_at (pieces text) ≡ Err 1
 unfolding lines_at pieces

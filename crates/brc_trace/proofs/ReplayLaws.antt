@@ -1,5 +1,5 @@
 -- The text that was read in place of the whole input, and what the whole replay does.
-use Rattle.std.proofs.Common.{◌≡◌, ◌∙◌, ℕ, ◌≤◌, true, List, [], ◌++◌, length, take, Some, refl, sym, ap, subst, arith, ltb, leb, Bool, false, Option, None, append-nil}
+use Rattle.std.proofs.Common.{◌≡◌, ◌∙◌, ℕ, ◌+◌, ◌≤◌, true, List, [], ◌++◌, length, take, Some, refl, sym, ap, subst, arith, ltb, leb, Bool, false, Option, None, append-nil}
 use Rattle.std.specs.Prelude.{IfSome}
 use Rattle.std.proofs.lemmas.Bool.{and_parts, leb-true, ltb-true, ltb-false}
 use Rattle.std.proofs.Math.Seq.{take-append_seam}
@@ -12,6 +12,7 @@ use Rattle.brc_words.specs.declared.fault.Fault.{Fault}
 use Rattle.brc_words.specs.declared.fault.Fault.TheVariants as faults
 use Rattle.brc_words.specs.declared.fault.Reason.{Reason}
 use Rattle.brc_words.specs.declared.fault.Reason.TheVariants as reasons
+use Rattle.brc_words.specs.declared.limits.TheConstants.{FEWEST_CELLS, MOST_CELLS, MOST_LOCAL, MOST_INPUT}
 use Rattle.brc_runs.specs.Heap.{Heap}
 use Rattle.brc_text.specs.Puts.{PutsUpTo}
 use Rattle.brc_trace.specs.Worlds.{world_text}
@@ -22,39 +23,39 @@ use Rattle.brc_trace.specs.Traces.{trace_at, is_size, is_limit}
 
 pub are_options : (cells limit : ℕ) → is_size cells ≡ true → is_limit limit ≡ true → AreOptions cells limit
 are_options cells limit size limited =
-    let sizes = and_parts (leb 512 cells) (leb cells 65536) size in
-    let limits = and_parts (leb 1 limit) (leb limit 4294967294) limited in
+    let sizes = and_parts (leb FEWEST_CELLS cells) (leb cells MOST_CELLS) size in
+    let limits = and_parts (leb 1 limit) (leb limit MOST_LOCAL) limited in
     record {
-      enough = leb-true 512 cells sizes.0;
-      few_enough = leb-true cells 65536 sizes.1;
+      enough = leb-true FEWEST_CELLS cells sizes.0;
+      few_enough = leb-true cells MOST_CELLS sizes.1;
       counts = leb-true 1 limit limits.0;
-      below_immortal = leb-true limit 4294967294 limits.1;
+      below_immortal = leb-true limit MOST_LOCAL limits.1;
     }
 
-front_or_whole : (input : List ℕ) (long : Bool) → ltb 16777216 (length input) ≡ long → trace_at (take 16777217 input) ≡ trace_at input
+front_or_whole : (input : List ℕ) (long : Bool) → ltb MOST_INPUT (length input) ≡ long → trace_at (take (MOST_INPUT + 1) input) ≡ trace_at input
 unfolding trace_at
 front_or_whole input true long =
-    let over = ltb-true 16777216 (length input) long in
-    let kept : length (take 16777217 input) ≡ 16777217 = length-take-le 16777217 input (omega (arith, over)) in
+    let over = ltb-true MOST_INPUT (length input) long in
+    let kept : length (take (MOST_INPUT + 1) input) ≡ (MOST_INPUT + 1) = length-take-le (MOST_INPUT + 1) input (omega (arith, over)) in
     rw (kept, long) refl
-front_or_whole input false long = ap trace_at (take_all 16777217 input (omega (arith, ltb-false 16777216 (length input) long)))
+front_or_whole input false long = ap trace_at (take_all (MOST_INPUT + 1) input (omega (arith, ltb-false MOST_INPUT (length input) long)))
 
 -- what is behind the limit doesn't matter
-pub trace_of_front : (input : List ℕ) → trace_at (take 16777217 input) ≡ trace_at input
-trace_of_front input = front_or_whole input (ltb 16777216 (length input)) refl
+pub trace_of_front : (input : List ℕ) → trace_at (take (MOST_INPUT + 1) input) ≡ trace_at input
+trace_of_front input = front_or_whole input (ltb MOST_INPUT (length input)) refl
 
 -- ---- the input as it was read
 
-pub whole_input : (old new : Option (List ℕ)) (bytes : List ℕ) → Consumes old new bytes → IsAtEnd new → length bytes ≤ 16777217
-    → IfSome old (λ input. bytes ≡ take 16777217 input)
-whole_input old new bytes read end short = Consumes-whole old new bytes (λ input. bytes ≡ take 16777217 input) read end (sym (take_all 16777217 bytes short))
+pub whole_input : (old new : Option (List ℕ)) (bytes : List ℕ) → Consumes old new bytes → IsAtEnd new → length bytes ≤ MOST_INPUT + 1
+    → IfSome old (λ input. bytes ≡ take (MOST_INPUT + 1) input)
+whole_input old new bytes read end short = Consumes-whole old new bytes (λ input. bytes ≡ take (MOST_INPUT + 1) input) read end (sym (take_all (MOST_INPUT + 1) bytes short))
 
-pub front_of_input : (old new : Option (List ℕ)) (bytes : List ℕ) → Consumes old new bytes → length bytes ≡ 16777217
-    → IfSome old (λ input. bytes ≡ take 16777217 input)
+pub front_of_input : (old new : Option (List ℕ)) (bytes : List ℕ) → Consumes old new bytes → length bytes ≡ (MOST_INPUT + 1)
+    → IfSome old (λ input. bytes ≡ take (MOST_INPUT + 1) input)
 front_of_input None new bytes read full = tt
 front_of_input (Some input) None bytes read full = absurd read
 front_of_input (Some input) (Some rest) bytes read full =
-    sym (take-append_seam bytes rest) ∙ ap (λ (n : ℕ). take n (bytes ++ rest)) full ∙ ap (take 16777217) (sym read)
+    sym (take-append_seam bytes rest) ∙ ap (λ (n : ℕ). take n (bytes ++ rest)) full ∙ ap (take (MOST_INPUT + 1)) (sym read)
 
 pub nothing_read : (old mid new : Option (List ℕ)) (bytes chunk : List ℕ) (count : ℕ) → Consumes old mid bytes → Consumes mid new (take count chunk) → count ≡ 0
     → Consumes old new bytes
@@ -65,22 +66,22 @@ nothing_read old mid new bytes chunk count read last none =
 -- ---- what the whole replay does
 
 -- what was read spells what the whole input does
-same_trace : (bytes input : List ℕ) → bytes ≡ take 16777217 input → trace_at input ≡ trace_at bytes
+same_trace : (bytes input : List ℕ) → bytes ≡ take (MOST_INPUT + 1) input → trace_at input ≡ trace_at bytes
 same_trace bytes input is = sym (trace_of_front input) ∙ ap trace_at (sym is)
 
-pub carried : (input : Option (List ℕ)) (bytes : List ℕ) (world : Heap) → IfSome input (λ all. bytes ≡ take 16777217 all) → IsReplayed bytes world
+pub carried : (input : Option (List ℕ)) (bytes : List ℕ) (world : Heap) → IfSome input (λ all. bytes ≡ take (MOST_INPUT + 1) all) → IsReplayed bytes world
     → IfSome input (λ all. IsReplayed all world)
 carried None bytes world is h = tt
 carried (Some all) bytes world is h = record { trace = h.trace; spelled = same_trace bytes all is ∙ h.spelled; run = h.run; leads = h.leads }
 
-bad : (input : Option (List ℕ)) (bytes : List ℕ) (line : ℕ) (reason : Reason) → IfSome input (λ all. bytes ≡ take 16777217 all) → IsBad reason line bytes
+bad : (input : Option (List ℕ)) (bytes : List ℕ) (line : ℕ) (reason : Reason) → IfSome input (λ all. bytes ≡ take (MOST_INPUT + 1) all) → IsBad reason line bytes
     → IfSome input (IsBad reason line)
 bad None bytes line reason is h = tt
 bad (Some all) bytes line reasons.NotALine is h = same_trace bytes all is ∙ h
 bad (Some all) bytes line reasons.NotEnabled is h =
     record { trace = h.trace; spelled = same_trace bytes all is ∙ h.spelled; at = h.at; first = h.first; counted = h.counted }
 
-pub stopped : (input old : Option (List ℕ)) (bytes : List ℕ) (fault : Fault) → IfSome input (λ all. bytes ≡ take 16777217 all) → LeadsNowhere fault bytes
+pub stopped : (input old : Option (List ℕ)) (bytes : List ℕ) (fault : Fault) → IfSome input (λ all. bytes ≡ take (MOST_INPUT + 1) all) → LeadsNowhere fault bytes
     → Replays input old old (Err fault)
 stopped input old bytes faults.OutOfMemory is h = Keeps-refl old
 stopped input old bytes (faults.BadTrace line reason) is h = (Keeps-refl old, bad input bytes line reason is h)
@@ -94,7 +95,7 @@ not_read input old fault (inr memory) =
     let P : Fault → Type 0 = λ f. Replays input old old (Err f) in
     subst P (sym memory) (Keeps-refl old)
 
-pub not_written : (input old new : Option (List ℕ)) (bytes left : List ℕ) (world : Heap) (fault : Fault) → IfSome input (λ all. bytes ≡ take 16777217 all)
+pub not_written : (input old new : Option (List ℕ)) (bytes left : List ℕ) (world : Heap) (fault : Fault) → IfSome input (λ all. bytes ≡ take (MOST_INPUT + 1) all)
     → IsReplayed bytes world → fault ≡ faults.Io → PutsUpTo old new (world_text world) left → Replays input old new (Err fault)
 not_written input old new bytes left world fault is h io put =
     let P : Fault → Type 0 = λ f. Replays input old new (Err f) in

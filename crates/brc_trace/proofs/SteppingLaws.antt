@@ -4,6 +4,7 @@ use Rattle.std.specs.Prelude.{slice_get}
 use Rattle.std.proofs.lemmas.List.{reverse-append}
 use Rattle.std.proofs.Math.Seq.{take-append_seam}
 use Rattle.brc_words.specs.declared.fault.Fault.{Fault}
+use Rattle.brc_words.specs.declared.limits.TheConstants.{MOST_INPUT}
 use Rattle.brc_runs.specs.declared.event.Event.{Event}
 use Rattle.brc_runs.specs.Heap.{Heap, opening}
 use Rattle.brc_runs.specs.Steps.{enabled, after}
@@ -34,9 +35,9 @@ pub record SteppedTo (start : Heap) (text rest : List ℕ) (number : ℕ) (world
   pub run : IsRun start (reverse front)
   pub leads : world ≡ world_after start (reverse front)
   pub counted : number ≡ length front + 2
-  pub short : number + length rest ≤ 16777218
+  pub short : number + length rest ≤ MOST_INPUT + 2
 
-pub nothing_made : (start : Heap) (text : List ℕ) → length text ≤ 16777216 → SteppedTo start text text 2 start
+pub nothing_made : (start : Heap) (text : List ℕ) → length text ≤ MOST_INPUT → SteppedTo start text text 2 start
 nothing_made start text short = record {
   front = [];
   so_far = nothing_before (events_at 2 (pieces text));

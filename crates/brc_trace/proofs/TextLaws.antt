@@ -3,6 +3,7 @@ use Rattle.std.proofs.Common.{◌≡◌, ℕ, ◌+◌, ◌≤◌, Bool, true, fa
 use Rattle.std.specs.List.{flat_map}
 use Rattle.std.proofs.lemmas.Option.{cond_some}
 use Rattle.std.proofs.lemmas.Bool.{and_parts, and_from, leb-true, ltb-false, le-ltb}
+use Rattle.brc_words.specs.declared.limits.TheConstants.{FEWEST_CELLS, MOST_CELLS, MOST_LOCAL, MOST_INPUT}
 use Rattle.brc_runs.specs.declared.event.Event.{Event}
 use Rattle.brc_text.specs.declared.keyword.Keyword.TheVariants as words
 use Rattle.brc_text.specs.declared.token.Token.{Token}
@@ -94,8 +95,8 @@ head_line cells local_limit size limit = record {
   read = (
     tt,
     (
-      omega (arith, leb-true cells 65536 (and_parts (leb 512 cells) (leb cells 65536) size).1),
-      (omega (arith, leb-true local_limit 4294967294 (and_parts (leb 1 local_limit) (leb local_limit 4294967294) limit).1), tt),
+      omega (arith, leb-true cells MOST_CELLS (and_parts (leb FEWEST_CELLS cells) (leb cells MOST_CELLS) size).1),
+      (omega (arith, leb-true local_limit MOST_LOCAL (and_parts (leb 1 local_limit) (leb local_limit MOST_LOCAL) limit).1), tt),
     ),
   );
   some = omega arith;
@@ -123,22 +124,22 @@ head_takes _ head e = absurd cc
 
 pub record IsSpelled (text : List ℕ) (trace : Listing) : Type 0 where
   pub is : IsTrace trace
-  pub short : length text ≤ 16777216
+  pub short : length text ≤ MOST_INPUT
   pub spelled : text ≡ trace_text trace
 
 -- what was spelled is read
-pub trace_again : (trace : Listing) → IsTrace trace → length (trace_text trace) ≤ 16777216 → trace_at (trace_text trace) ≡ Ok trace
+pub trace_again : (trace : Listing) → IsTrace trace → length (trace_text trace) ≤ MOST_INPUT → trace_at (trace_text trace) ≡ Ok trace
 unfolding trace_at lines_at trace_text
 trace_again trace is short =
     let fit = head_line trace.cells trace.local_limit is.size is.limit in
     let head = line_again head_at (head_words trace.cells trace.local_limit) (trace.cells, trace.local_limit) fit (head_again trace.cells trace.local_limit is.size is.limit) in
     let first = line_first (head_words trace.cells trace.local_limit) (events_text trace.events) fit in
-    ap (λ (b : Bool). cond b (Err 0) (lines_at (pieces (trace_text trace)))) (le-ltb 16777216 (length (trace_text trace)) short)
+    ap (λ (b : Bool). cond b (Err 0) (lines_at (pieces (trace_text trace)))) (le-ltb MOST_INPUT (length (trace_text trace)) short)
     ∙ ap lines_at first ∙ rw (head, events_again 2 trace.events is.events) refl
 
 head_first : (piece : List ℕ × Bool) (ps : List (List ℕ × Bool)) (head : Option (ℕ × ℕ)) (events : Result (List Event) ℕ) (text : List ℕ) (trace : Listing)
     → ((n : ℕ × ℕ) → head ≡ Some n → IsRead head_at piece n) → ((es : List Event) → events ≡ Ok es → AreEvents ps es)
-    → whole piece ++ flat_map whole ps ≡ text → length text ≤ 16777216 → below_head head events ≡ Ok trace → IsSpelled text trace
+    → whole piece ++ flat_map whole ps ≡ text → length text ≤ MOST_INPUT → below_head head events ≡ Ok trace → IsSpelled text trace
 unfolding trace_text
 head_first piece ps None events text trace here there joined short e = absurd cc
 head_first piece ps (Some n) (Err bad) text trace here there joined short e = absurd cc
@@ -153,7 +154,7 @@ head_first piece ps (Some n) (Ok es) text trace here there joined short e =
           ∙ ap (λ (l : List ℕ). line (head_words n.0 n.1) ++ l) others.spelled;
     })
 
-lines_take : (ps : List (List ℕ × Bool)) (text : List ℕ) (trace : Listing) → flat_map whole ps ≡ text → length text ≤ 16777216
+lines_take : (ps : List (List ℕ × Bool)) (text : List ℕ) (trace : Listing) → flat_map whole ps ≡ text → length text ≤ MOST_INPUT
     → lines_at ps ≡ Ok trace → IsSpelled text trace
 unfolding lines_at
 lines_take [] text trace joined short e = absurd cc
@@ -161,12 +162,12 @@ lines_take (piece ∷ ps) text trace joined short e =
     head_first piece ps (by_words head_at piece) (events_at 2 ps) text trace
     (λ n h. line_takes head_at piece.0 piece.1 n h) (events_take 2 ps) joined short e
 
-short_text : (b : Bool) (text : List ℕ) (trace : Listing) → ltb 16777216 (length text) ≡ b → cond b (Err 0) (lines_at (pieces text)) ≡ Ok trace
+short_text : (b : Bool) (text : List ℕ) (trace : Listing) → ltb MOST_INPUT (length text) ≡ b → cond b (Err 0) (lines_at (pieces text)) ≡ Ok trace
     → IsSpelled text trace
 short_text true text trace h e = absurd cc
-short_text false text trace h e = lines_take (pieces text) text trace (pieces_joined text) (ltb-false 16777216 (length text) h) e
+short_text false text trace h e = lines_take (pieces text) text trace (pieces_joined text) (ltb-false MOST_INPUT (length text) h) e
 
 -- what is read was spelled
 pub trace_takes : (text : List ℕ) (trace : Listing) → trace_at text ≡ Ok trace → IsSpelled text trace
 unfolding trace_at
-trace_takes text trace e = short_text (ltb 16777216 (length text)) text trace refl e
+trace_takes text trace e = short_text (ltb MOST_INPUT (length text)) text trace refl e

@@ -1,4 +1,5 @@
 use Rattle.std.proofs.Common.{◌≡◌, ◌≤◌, ◌+◌, length}
+use Rattle.brc_words.specs.declared.limits.TheConstants.{MOST_INPUT}
 use Rattle.brc_text.specs.Lines.{pieces}
 use Rattle.brc_trace.specs.Traces.{events_at}
 use Rattle.brc_trace.proofs.ReadingLoop.{with_front}
@@ -7,7 +8,7 @@ use Rattle.brc_trace.proofs.reading.events_of.Given as goal
 abbrev pub invariant-loop-rest : goal.invariant-loop-rest
 invariant-loop-rest g l = record {
   so_far : with_front l.events.items (events_at l.number (pieces l.rest)) ≡ events_at 2 (pieces l.text);
-  counted : l.number + length l.rest ≤ 16777218;
+  counted : l.number + length l.rest ≤ MOST_INPUT + 2;
 }
 
 abbrev pub decreases-loop-rest : goal.decreases-loop-rest

@@ -1,6 +1,7 @@
 use Rattle.std.proofs.Common.{◌≡◌, ◌∙◌, ◌≤◌, ℕ, List, Result, Ok, Err, length, ap, subst}
 use Rattle.std.specs.Prelude.{IfOk}
 use Rattle.brc_words.specs.declared.fault.Fault.{Fault}
+use Rattle.brc_words.specs.declared.limits.TheConstants.{MOST_INPUT}
 use Rattle.brc_trace.specs.Traces.{Listing, IsTrace, trace_text, trace_at, Gives}
 use Rattle.brc_trace.specs.View.{listing}
 use Rattle.brc_trace.proofs.TextLaws.{trace_again, trace_takes}
@@ -17,4 +18,4 @@ returns-clause-found g c = read_is_spelled listing c.trace_of.result c.args.text
 pub returns-clause-only : goal.returns-clause-only
 returns-clause-only g c trace is short spelled =
     subst (Gives listing c.trace_of.result)
-    (ap trace_at spelled ∙ trace_again trace is (subst (λ (l : List ℕ). length l ≤ 16777216) spelled short)) c.trace_of.ensures
+    (ap trace_at spelled ∙ trace_again trace is (subst (λ (l : List ℕ). length l ≤ MOST_INPUT) spelled short)) c.trace_of.ensures

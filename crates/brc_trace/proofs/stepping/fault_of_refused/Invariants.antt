@@ -1,4 +1,5 @@
 use Rattle.std.proofs.Common.{◌≡◌, ◌≤◌, ◌+◌, length}
+use Rattle.brc_words.specs.declared.limits.TheConstants.{MOST_INPUT}
 use Rattle.brc_text.specs.Lines.{pieces}
 use Rattle.brc_trace.specs.Traces.{events_at}
 use Rattle.brc_trace.specs.Replaying.{told}
@@ -7,7 +8,7 @@ use Rattle.brc_trace.proofs.stepping.fault_of_refused.Given as goal
 abbrev pub invariant-loop-rest : goal.invariant-loop-rest
 invariant-loop-rest l = record {
   so_far : told l.refused (events_at l.number (pieces l.rest)) ≡ told l.refused (events_at (l.refused + 1) (pieces l.behind));
-  counted : l.number + length l.rest ≤ 16777218;
+  counted : l.number + length l.rest ≤ MOST_INPUT + 2;
 }
 
 abbrev pub decreases-loop-rest : goal.decreases-loop-rest
