@@ -1,6 +1,7 @@
 -- A keyword is read as it was spelled, and only so; words of one length are told apart by their bytes as one number.
-use Rattle.std.proofs.Common.{◌≡◌, ℕ, zero, suc, ◌+◌, ◌-◌, ◌*◌, ◌/◌, ◌^◌, ◌<◌, ◌≤◌, rules, Bool, true, false, List, [], ◌∷◌, ◌++◌, length, get_or, take, drop, inl, inr, Option, Some, None, refl, sym, ap, subst, ◌∙◌, cond, arith, add-one, take-append-drop, length-append}
+use Rattle.std.proofs.Common.{◌≡◌, ℕ, zero, suc, ◌+◌, ◌-◌, ◌*◌, ◌/◌, ◌^◌, ◌<◌, ◌≤◌, rules, Bool, true, false, List, [], ◌∷◌, ◌++◌, length, get_or, take, drop, inl, inr, Option, Some, None, refl, sym, ap, subst, ◌∙◌, cond, arith, add-one, take-append-drop, length-append, w64}
 use Rattle.std.specs.List.{find}
+use Rattle.std.specs.Int.{from_be_bytes}
 use Rattle.std.specs.Str.{bytes_eq}
 use Rattle.std.proofs.Math.Nat.{pow-suc, pow-le-pow_right, div-one, div-div-eq-div-mul}
 use Rattle.std.proofs.Math.Seq.{take-append_seam, drop-append_seam, drop-nil}
@@ -121,11 +122,27 @@ ahead_parts (suc whole) (suc count) others [] is =
 ahead_parts (suc whole) (suc count) others (byte ∷ bytes) is =
     ap (λ (l : List ℕ). byte ∷ l) (ahead_parts whole count others bytes (omega (arith, is)))
 
--- bytes that are there are all that counts
-pub ahead_taken : (count : ℕ) (text : List ℕ) → bytes_ahead count (take count text) ≡ bytes_ahead count text
-ahead_taken zero text = refl
-ahead_taken (suc count) [] = refl
-ahead_taken (suc count) (byte ∷ bytes) = ap (λ (l : List ℕ). byte ∷ l) (ahead_taken count bytes)
+eight_are : (text : List ℕ)
+    → bytes_ahead 8 text
+    ≡ get_or text 0 0 ∷ get_or text 1 0 ∷ get_or text 2 0 ∷ get_or text 3 0 ∷ get_or text 4 0 ∷ get_or text 5 0 ∷ get_or text 6 0 ∷ get_or text 7 0 ∷ []
+eight_are [] = refl
+eight_are (a ∷ []) = refl
+eight_are (a ∷ b ∷ []) = refl
+eight_are (a ∷ b ∷ c ∷ []) = refl
+eight_are (a ∷ b ∷ c ∷ d ∷ []) = refl
+eight_are (a ∷ b ∷ c ∷ d ∷ e ∷ []) = refl
+eight_are (a ∷ b ∷ c ∷ d ∷ e ∷ f ∷ []) = refl
+eight_are (a ∷ b ∷ c ∷ d ∷ e ∷ f ∷ g ∷ []) = refl
+eight_are (a ∷ b ∷ c ∷ d ∷ e ∷ f ∷ g ∷ h ∷ rest) = refl
+
+eight_as_one : (a b c d e f g h : ℕ) → from_be_bytes w64 (a ∷ b ∷ c ∷ d ∷ e ∷ f ∷ g ∷ h ∷ []) ≡ packed 0 (a ∷ b ∷ c ∷ d ∷ e ∷ f ∷ g ∷ h ∷ [])
+eight_as_one a b c d e f g h = omega arith
+
+-- eight bytes that are read at once
+pub eight_packed : (text : List ℕ)
+    → from_be_bytes w64 (get_or text 0 0 ∷ get_or text 1 0 ∷ get_or text 2 0 ∷ get_or text 3 0 ∷ get_or text 4 0 ∷ get_or text 5 0 ∷ get_or text 6 0 ∷ get_or text 7 0 ∷ [])
+    ≡ packed 0 (bytes_ahead 8 text)
+eight_packed text = eight_as_one _ _ _ _ _ _ _ _ ∙ ap (packed 0) (sym (eight_are text))
 
 ahead_whole : (word rest : List ℕ) → bytes_ahead (length word) (word ++ rest) ≡ word
 ahead_whole [] rest = refl

@@ -259,7 +259,8 @@ fn byte_ahead(text: &[u8], at: usize) -> u8
 }
 
 /// The text's first eight bytes as one number, with zeros behind the text's end.
-#[inline(always)]
+// Apart, since only a text's last word comes here.
+#[inline(never)]
 fn eight_ahead(text: &[u8]) -> u64
     ensures { result ≡ packed 0 (bytes_ahead 8 text.now) }
 {
@@ -273,14 +274,13 @@ fn eight_ahead(text: &[u8]) -> u64
 /// The same.
 // Eight bytes that are all there are read at once, without a look for the end between two of them.
 #[inline(always)]
-#[tactic(auto, using(crate::proofs::KeywordLaws::ahead_taken))]
+#[tactic(auto, using(crate::proofs::KeywordLaws::eight_packed))]
 fn front_of(text: &[u8]) -> u64
     ensures { result ≡ packed 0 (bytes_ahead 8 text.now) }
 {
-    if text.len() < 8 {
-        eight_ahead(text)
-    } else {
-        eight_ahead(&text[..8])
+    match text {
+        [a, b, c, d, e, f, g, h, ..] => u64::from_be_bytes([*a, *b, *c, *d, *e, *f, *g, *h]),
+        _ => eight_ahead(text),
     }
 }
 
