@@ -2,7 +2,7 @@
 
 ghost use Rattle.std.specs.Prelude.{◌≡◌, ◌-◌, ◌==◌, nat_lt, length, slice_get};
 ghost use Rattle.brc_core.specs.Readings.{only_if, status_at, has_object, counts_locally};
-ghost use Rattle.brc_runs.specs.Lists.{bit_of, place_at, is_marked};
+ghost use Rattle.brc_runs.specs.Lists.{bit_of, place_at, is_marked, is_blank, is_unmarked};
 ghost use Rattle.brc_runs.specs.Heap.{cell_at, entries_at, row_at, frame_at, popped_at, worklist_at, queue_at, is_registered};
 
 use crate::world::World;
@@ -118,6 +118,29 @@ impl<A: Allocator + Copy> World<A> {
         ensures { result ≡ is_marked (worklist_at self.now thread) cell }
     {
         self.tables.is_on_worklist(thread, cell)
+    }
+
+    // Whether a pile is empty is asked once, where each of its cells would be asked after one by one.
+
+    /// Whether no cell lies in the thread's merge queue.
+    pub fn has_nothing_queued(&self, thread: u32) -> bool
+        ensures { result ≡ is_blank (queue_at self.now thread) }
+    {
+        self.tables.has_nothing_queued(thread)
+    }
+
+    /// Whether the thread has dealt with each cell that it popped.
+    pub fn has_nothing_popped(&self, thread: u32) -> bool
+        ensures { result ≡ is_blank (popped_at self.now thread) }
+    {
+        self.tables.has_popped_nothing(thread)
+    }
+
+    /// Whether no cell is on the thread's worklist.
+    pub fn has_no_work(&self, thread: u32) -> bool
+        ensures { result ≡ is_unmarked (worklist_at self.now thread) }
+    {
+        self.tables.is_unmarked(thread)
     }
 
     // ---- a cell

@@ -157,6 +157,8 @@ impl<A: Allocator + Copy> Tables<A> {
     }
 
     /// What the root's step fails.
+    // Apart, since the root's steps are rare.
+    #[inline(never)]
     fn root_refusal(&self, step: Step) -> Option<Refusal>
         ensures { result ≡ root_refusal self.now step }
     {

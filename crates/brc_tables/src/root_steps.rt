@@ -61,6 +61,8 @@ impl<A: Allocator + Copy> Tables<A> {
     }
 
     /// What the root's step does. A refused growth changes nothing.
+    // Apart, as all that is rare is, so that it takes no registers from the steps that are not.
+    #[inline(never)]
     pub(crate) fn make_root_step(&mut self, step: Step) -> Result<(), AllocError>
         ensures ok { OnOk result (self.new ≡ root_after self.old step) }
         ensures err { OnErr result (self.new ≡ self.old) }

@@ -158,6 +158,16 @@ impl<A: Allocator + Copy> Tables<A> {
         }
     }
 
+    /// Whether the thread's merge queue has nothing.
+    pub fn has_nothing_queued(&self, thread: u32) -> bool
+        ensures { result ≡ is_blank (queue_at self.now thread) }
+    {
+        match self.queues.get(thread as usize) {
+            Some(words) => words.is_blank(),
+            None => true,
+        }
+    }
+
     /// Whether the cell's bit is set in the thread's merge queue.
     pub fn is_queued(&self, thread: u32, cell: u32) -> bool
         ensures { result ≡ (bit_of (queue_at self.now thread) cell == 1) }

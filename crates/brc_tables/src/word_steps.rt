@@ -71,6 +71,8 @@ fn change_notify_words<A: Allocator>(notify_words: &mut Vec<u64, A>, thread: u32
 
 impl<A: Allocator + Copy> Tables<A> {
     /// What a thread's step does that means no cell.
+    // Apart, since most steps mean a cell.
+    #[inline(never)]
     pub(crate) fn make_word_step(&mut self, thread: u32, step: Step)
         requires thread_there { thread < length self.old.rows }
         requires word { named_word step < MOST_CELLS / 32 }

@@ -1,4 +1,4 @@
-use Rattle.std.specs.Prelude.{ℕ, ◌+◌, ◌*◌, List, [], ◌∷◌, Option, ◌==◌, if◌then◌else◌, codes, find, slice_index}
+use Rattle.std.specs.Prelude.{ℕ, zero, suc, ◌+◌, ◌-◌, ◌*◌, ◌/◌, ◌^◌, nat_le, Bool, ◌&&◌, List, [], ◌∷◌, length, Option, ◌==◌, if◌then◌else◌, codes, find, slice_index}
 use Rattle.std.specs.Str.{bytes_eq}
 use Rattle.brc_text.specs.declared.keyword.Keyword.{Keyword}
 use Rattle.brc_text.specs.declared.keyword.Keyword.TheVariants as words
@@ -73,6 +73,18 @@ keyword words.Dash = codes "-"
 abbrev pub packed : ℕ → List ℕ → ℕ
 packed before [] = before
 packed before (byte ∷ bytes) = packed (before * 256 + byte) bytes
+
+-- so many bytes from the front of a text, zeros behind its end
+abbrev pub bytes_ahead : ℕ → List ℕ → List ℕ
+bytes_ahead zero text = []
+bytes_ahead (suc count) [] = 0 ∷ bytes_ahead count []
+bytes_ahead (suc count) (byte ∷ bytes) = byte ∷ bytes_ahead count bytes
+
+-- of the first eight bytes those of the word's length are the word, and no letter stands behind them
+abbrev pub stands_ahead : List ℕ → Keyword → Bool
+stands_ahead text word =
+    (packed 0 (bytes_ahead 8 text) / 2 ^ (64 - 8 * length (keyword word)) == packed 0 (keyword word))
+    && nat_le (slice_index text (length (keyword word))) 32
 
 -- the keywords by their first byte
 abbrev pub candidates_at : ℕ → List Keyword

@@ -1,6 +1,5 @@
 -- Reading the word with which a text begins.
-use Rattle.std.specs.Prelude.{◌≡◌, ◌<◌, ◌≤◌, ℕ, List, ◌++◌, length, take, Option, Some, slice_index}
-use Rattle.brc_text.specs.Keywords.{packed}
+use Rattle.std.specs.Prelude.{◌≡◌, ◌≤◌, ℕ, List, ◌++◌, Option, Some, slice_index}
 
 -- a word ends where the text does, and before a byte that no word has
 abbrev pub EndsWord : List ℕ → Type 0
@@ -11,11 +10,3 @@ pub record Begins {A : Type 0} (read : List ℕ → Option A) (text : List ℕ) 
   pub word : List ℕ
   pub whole : text ≡ word ++ rest
   pub reads : read word ≡ Some x
-
--- the text begins with so many bytes above the space, 8 at most, and these are packed to the key
-pub record AreLetters (text : List ℕ) (count key : ℕ) : Type 0 where
-  pub within : count ≤ length text
-  pub few : count ≤ 8
-  pub high : (i : ℕ) → i < count → 32 < slice_index text i
-  pub ended : count < 8 → slice_index text count ≤ 32
-  pub key_is : key ≡ packed 0 (take count text)

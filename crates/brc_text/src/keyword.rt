@@ -1,9 +1,9 @@
 //! Keywords: the fixed words of the trace and of the world text.
 
-ghost use Rattle.std.specs.Prelude.{◌≡◌, ◌==◌, ◌&&◌, ℕ, List, ◌++◌, Some, IfSome, IsSomeAnd, length, find};
+ghost use Rattle.std.specs.Prelude.{◌≡◌, ◌<◌, ◌-◌, ◌*◌, ℕ, List, ◌++◌, Some, IfSome, IsSomeAnd, length, find, slice_index, nat_le};
 ghost use Rattle.brc_text.specs.declared.keyword.Keyword.{Keyword as TheKeyword};
-ghost use Rattle.brc_text.specs.Keywords.{keyword, packed, candidates_at, keyword_at};
-ghost use Rattle.brc_text.specs.Words.{AreLetters, Begins, EndsWord};
+ghost use Rattle.brc_text.specs.Keywords.{keyword, packed, bytes_ahead, stands_ahead, candidates_at, keyword_at};
+ghost use Rattle.brc_text.specs.Words.{Begins, EndsWord};
 
 /// A fixed word.
 #[derive(Clone, Copy, Debug, PartialEq, Eq)]
@@ -164,6 +164,8 @@ impl Keyword {
     }
 
     /// The word's bytes as one number.
+    // Inlined, as the text is: of a word that is known where it is sought both are constants.
+    #[inline(always)]
     fn key(self) -> u64
         ensures { result ≡ packed 0 (keyword self) }
     {
@@ -233,107 +235,184 @@ impl Keyword {
             Keyword::Dash => u64::from_be_bytes(*b"\0\0\0\0\0\0\0-"),
         }
     }
-}
 
-/// The words that begin with this byte, the ones of a trace first.
-#[inline(always)]
-fn candidates(first: u8) -> &'static [Keyword]
-    ensures { result.now ≡ candidates_at first }
-{
-    match first {
-        b'-' => &[Keyword::Dash],
-        b'a' => &[Keyword::Ask, Keyword::Add, Keyword::Active, Keyword::Asked],
-        b'b' => &[Keyword::Born],
-        b'c' => &[
-            Keyword::Claim,
-            Keyword::Close,
-            Keyword::Closing,
-            Keyword::Claimed,
-            Keyword::Counted,
-        ],
-        b'd' => &[
-            Keyword::Down,
-            Keyword::Drain,
-            Keyword::Dict,
-            Keyword::Default,
-        ],
-        b'e' => &[Keyword::Enq, Keyword::Entry],
-        b'f' => &[Keyword::Free, Keyword::Frame],
-        b'g' => &[Keyword::Gather, Keyword::Gathered],
-        b'h' => &[Keyword::InHand, Keyword::Heap, Keyword::Hand, Keyword::Held],
-        b'i' => &[Keyword::Int],
-        b'k' => &[Keyword::Keep],
-        b'l' => &[
-            Keyword::Local,
-            Keyword::Last,
-            Keyword::Lock,
-            Keyword::List,
-            Keyword::Locked,
-            Keyword::Ledger,
-            Keyword::Left,
-        ],
-        b'm' => &[Keyword::Mailbox, Keyword::Merged],
-        b'n' => &[Keyword::Nudge],
-        b'o' => &[Keyword::Object, Keyword::Over],
-        b'p' => &[Keyword::Put, Keyword::Popped, Keyword::Popping],
-        b'q' => &[Keyword::Queued],
-        b'r' => &[Keyword::Register, Keyword::Ready],
-        b's' => &[
-            Keyword::Shared,
-            Keyword::See,
-            Keyword::Shup,
-            Keyword::Shdown,
-            Keyword::Swap,
-            Keyword::Shut,
-        ],
-        b't' => &[
-            Keyword::Take,
-            Keyword::Text,
-            Keyword::Thread,
-            Keyword::Taking,
-        ],
-        b'u' => &[
-            Keyword::Up,
-            Keyword::Unlock,
-            Keyword::Untie,
-            Keyword::Untied,
-        ],
-        b'w' => &[Keyword::Wake, Keyword::World, Keyword::Work],
-        b'z' => &[Keyword::Zero],
-        _ => &[],
+    /// By how much a text's first eight bytes, as one number, are shifted so that only those of this word's length are left.
+    #[inline(always)]
+    #[tactic(auto, using(crate::proofs::KeywordLaws::keyword_short, crate::proofs::KeywordLaws::keyword_some))]
+    fn shift(self) -> u32
+        ensures bits { result ≡ 64 - 8 * length (keyword self) }
+        ensures less { result < 64 }
+    {
+        64 - 8 * self.text().len() as u32
     }
 }
 
-/// How many letters the text begins with, 8 at most, and their bytes as one number. Any byte above the space counts as a
-/// letter.
+/// The byte that stands there, or 0 behind the text's end.
 #[inline(always)]
-fn letters_ahead(text: &[u8]) -> (usize, u64)
-    ensures { AreLetters text.now result.0 result.1 }
+fn byte_ahead(text: &[u8], at: usize) -> u8
+    ensures { result ≡ slice_index text.now at }
 {
-    let most = text.len().min(8);
+    match text.get(at) {
+        Some(byte) => *byte,
+        None => 0,
+    }
+}
+
+/// The text's first eight bytes as one number, with zeros behind the text's end.
+// Apart, since only a text's last word comes here.
+#[inline(never)]
+fn eight_ahead(text: &[u8]) -> u64
+    ensures { result ≡ packed 0 (bytes_ahead 8 text.now) }
+{
     let mut key: u64 = 0;
-    for at in 0..most {
-        let byte = text[at];
-        if byte <= b' ' {
-            return (at, key);
-        }
-        key = key * 256 + byte as u64;
+    for at in 0..8usize {
+        key = key * 256 + byte_ahead(text, at) as u64;
     }
-    (most, key)
+    key
 }
 
-/// The keyword of this first byte, length and number.
+/// The same.
+// Eight bytes that are all there are read at once, without a look for the end between two of them.
 #[inline(always)]
-fn keyword_packed(first: u8, len: usize, key: u64) -> Option<Keyword>
-    ensures { result ≡ find (λ word. length (keyword word) == len && packed 0 (keyword word) == key) (candidates_at first) }
+#[tactic(auto, using(crate::proofs::KeywordLaws::eight_packed))]
+fn front_of(text: &[u8]) -> u64
+    ensures { result ≡ packed 0 (bytes_ahead 8 text.now) }
 {
-    let words = candidates(first);
+    match text {
+        [a, b, c, d, e, f, g, h, ..] => u64::from_be_bytes([*a, *b, *c, *d, *e, *f, *g, *h]),
+        _ => eight_ahead(text),
+    }
+}
+
+/// Whether no letter stands there. Any byte above the space counts as a letter.
+#[inline(always)]
+fn ends_at(text: &[u8], at: usize) -> bool
+    ensures { result ≡ nat_le (slice_index text.now at) 32 }
+{
+    byte_ahead(text, at) <= b' '
+}
+
+/// The first of these words that is the text's first word.
+#[inline(always)]
+fn sought(text: &[u8], front: u64, words: &[Keyword]) -> Option<Keyword>
+    requires { front ≡ packed 0 (bytes_ahead 8 text.now) }
+
+    ensures { result ≡ find (stands_ahead text.now) words.now }
+{
     for word in words {
-        if word.text().len() == len && word.key() == key {
+        if front >> word.shift() == word.key() && ends_at(text, word.text().len()) {
             return Some(*word);
         }
     }
     None
+}
+
+/// The word that is the text's first word, among those that begin with this byte, the ones of a trace first.
+// Each list stands where it is sought through, so that each comparison is with a constant.
+#[inline(always)]
+fn sought_by(first: u8, text: &[u8], front: u64) -> Option<Keyword>
+    requires { front ≡ packed 0 (bytes_ahead 8 text.now) }
+
+    ensures { result ≡ find (stands_ahead text.now) (candidates_at first) }
+{
+    match first {
+        b'-' => sought(text, front, &[Keyword::Dash]),
+        b'a' => sought(
+            text,
+            front,
+            &[Keyword::Ask, Keyword::Add, Keyword::Active, Keyword::Asked],
+        ),
+        b'b' => sought(text, front, &[Keyword::Born]),
+        b'c' => sought(
+            text,
+            front,
+            &[
+                Keyword::Claim,
+                Keyword::Close,
+                Keyword::Closing,
+                Keyword::Claimed,
+                Keyword::Counted,
+            ],
+        ),
+        b'd' => sought(
+            text,
+            front,
+            &[
+                Keyword::Down,
+                Keyword::Drain,
+                Keyword::Dict,
+                Keyword::Default,
+            ],
+        ),
+        b'e' => sought(text, front, &[Keyword::Enq, Keyword::Entry]),
+        b'f' => sought(text, front, &[Keyword::Free, Keyword::Frame]),
+        b'g' => sought(text, front, &[Keyword::Gather, Keyword::Gathered]),
+        b'h' => sought(
+            text,
+            front,
+            &[Keyword::InHand, Keyword::Heap, Keyword::Hand, Keyword::Held],
+        ),
+        b'i' => sought(text, front, &[Keyword::Int]),
+        b'k' => sought(text, front, &[Keyword::Keep]),
+        b'l' => sought(
+            text,
+            front,
+            &[
+                Keyword::Local,
+                Keyword::Last,
+                Keyword::Lock,
+                Keyword::List,
+                Keyword::Locked,
+                Keyword::Ledger,
+                Keyword::Left,
+            ],
+        ),
+        b'm' => sought(text, front, &[Keyword::Mailbox, Keyword::Merged]),
+        b'n' => sought(text, front, &[Keyword::Nudge]),
+        b'o' => sought(text, front, &[Keyword::Object, Keyword::Over]),
+        b'p' => sought(
+            text,
+            front,
+            &[Keyword::Put, Keyword::Popped, Keyword::Popping],
+        ),
+        b'q' => sought(text, front, &[Keyword::Queued]),
+        b'r' => sought(text, front, &[Keyword::Register, Keyword::Ready]),
+        b's' => sought(
+            text,
+            front,
+            &[
+                Keyword::Shared,
+                Keyword::See,
+                Keyword::Shup,
+                Keyword::Shdown,
+                Keyword::Swap,
+                Keyword::Shut,
+            ],
+        ),
+        b't' => sought(
+            text,
+            front,
+            &[
+                Keyword::Take,
+                Keyword::Text,
+                Keyword::Thread,
+                Keyword::Taking,
+            ],
+        ),
+        b'u' => sought(
+            text,
+            front,
+            &[
+                Keyword::Up,
+                Keyword::Unlock,
+                Keyword::Untie,
+                Keyword::Untied,
+            ],
+        ),
+        b'w' => sought(text, front, &[Keyword::Wake, Keyword::World, Keyword::Work]),
+        b'z' => sought(text, front, &[Keyword::Zero]),
+        _ => None,
+    }
 }
 
 /// The keyword with which the text begins, and what stands behind it; none where it begins with none.
@@ -343,12 +422,11 @@ pub(crate) fn keyword_ahead(text: &[u8]) -> Option<(Keyword, &[u8])>
     ensures only { (word rest : List ℕ) (k : TheKeyword) → text.now ≡ word ++ rest → EndsWord rest → keyword_at word ≡ Some k →
         IsSomeAnd result (λ f. (f.0 ≡ k) × (f.1.now ≡ rest)) }
 {
-    let (count, key) = letters_ahead(text);
-    if count == 0 {
+    let [first, ..] = text else {
         return None;
-    }
-    match keyword_packed(text[0], count, key) {
-        Some(word) => Some((word, &text[count..])),
+    };
+    match sought_by(*first, text, front_of(text)) {
+        Some(word) => Some((word, &text[word.text().len()..])),
         None => None,
     }
 }

@@ -1,10 +1,17 @@
 -- Writing the texts of numbers one after the other: one turn of such a loop.
-use Rattle.std.proofs.Common.{◌≡◌, ◌∙◌, ℕ, suc, ◌+◌, ◌-◌, ◌<◌, ◌≤◌, List, [], ◌++◌, Option, Result, Ok, Err, refl, sym, ap, append-nil, arith}
+use Rattle.std.proofs.Common.{◌≡◌, ◌∙◌, ℕ, zero, suc, ◌+◌, ◌-◌, ◌<◌, ◌≤◌, ◌==◌, Bool, true, false, if◌then◌else◌, List, [], ◌∷◌, ◌++◌, length, Option, Result, Ok, Err, refl, sym, ap, append-nil, arith}
 use Rattle.std.specs.Io.KnownBytes.{Appends}
 use Rattle.brc_text.specs.Puts.{Puts, PutsUpTo}
 use Rattle.brc_words.specs.declared.fault.Fault.{Fault}
 use Rattle.brc_text.proofs.PutLaws.{starts, goes_on, fails, ends}
-use Rattle.brc_trace.specs.Worlds.{over}
+use Rattle.brc_runs.specs.Heap.{Heap, popped_at, worklist_at, queue_at}
+use Rattle.brc_runs.proofs.Bitwise.{blank_bits}
+use Rattle.brc_runs.proofs.Queueing.{no_marks}
+use Rattle.brc_text.specs.declared.token.Token.TheVariants as tokens
+use Rattle.brc_text.specs.Lines.{line}
+use Rattle.brc_trace.specs.declared.world_thread.Pile.{Pile}
+use Rattle.brc_trace.specs.declared.world_thread.Pile.TheVariants as piles
+use Rattle.brc_trace.specs.Worlds.{over, pile_word, lies_on, lying_text, is_empty_pile, pile_text}
 
 -- the text of this number, and of those behind it
 over_turn : (text : ℕ → List ℕ) (first count turns : ℕ) → turns < count
@@ -19,6 +26,29 @@ unfolding over
 over_none text first count turns past =
     let step : count - turns ≡ 0 = omega (arith, past) in
     rw step refl
+
+-- numbers without texts
+over_blank : (text : ℕ → List ℕ) (first count : ℕ) → ((n : ℕ) → text n ≡ []) → over text first count ≡ []
+unfolding over
+over_blank text first zero blank = refl
+over_blank text first (suc count) blank = cc (blank first, over_blank text (first + 1) count blank)
+
+-- an empty pile has no line
+pub empty_pile : (h : Heap) (t : ℕ) (pile : Pile) → is_empty_pile h t pile ≡ true → pile_text h t pile ≡ []
+empty_pile h t pile empty = over_blank (lying_text h t pile) 0 (length h.cells) (λ c. unlying h t pile c (lies_nowhere h t pile empty c))
+  where
+    lies_nowhere : (h : Heap) (t : ℕ) (pile : Pile) → is_empty_pile h t pile ≡ true → (c : ℕ) → lies_on h t pile c ≡ false
+    lies_nowhere h t piles.Queued empty c = ap (λ n. n == 1) (blank_bits (queue_at h t) empty c)
+    lies_nowhere h t piles.Popped empty c = ap (λ n. n == 1) (blank_bits (popped_at h t) empty c)
+    lies_nowhere h t piles.Work empty c = no_marks (worklist_at h t) empty c
+
+    unlying : (h : Heap) (t : ℕ) (pile : Pile) (c : ℕ) → lies_on h t pile c ≡ false → lying_text h t pile c ≡ []
+    unlying h t pile c nowhere =
+        ap (λ (b : Bool). if b then line (tokens.Word (pile_word pile) ∷ tokens.Number t ∷ tokens.Number c ∷ []) else []) nowhere
+
+-- a text without bytes is put by nothing
+pub nothing_puts : (old : Option (List ℕ)) {text : List ℕ} → text ≡ [] → Appends old old text
+nothing_puts old {text = text} none = ends (starts old text) none
 
 -- of so many numbers the texts of these many are put, and those from the first on are left
 pub record PutsOver (old new : Option (List ℕ)) (whole : List ℕ) (text : ℕ → List ℕ) (first count turns : ℕ) : Type 0 where

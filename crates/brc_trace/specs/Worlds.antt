@@ -10,7 +10,7 @@ use Rattle.brc_runs.specs.declared.row.Hand.{Hand}
 use Rattle.brc_runs.specs.declared.row.Hand.TheVariants as hands
 use Rattle.brc_runs.specs.declared.row.Phase.{Phase}
 use Rattle.brc_runs.specs.declared.row.Phase.TheVariants as phases
-use Rattle.brc_runs.specs.Lists.{bit_of, place_at, is_marked}
+use Rattle.brc_runs.specs.Lists.{bit_of, place_at, is_marked, is_blank, is_unmarked}
 use Rattle.brc_runs.specs.Heap.{Heap, cell_at, entries_at, row_at, frame_at, popped_at, worklist_at, queue_at, is_gathered}
 use Rattle.brc_runs.specs.Holding.{lives_at, total_of, live_count}
 use Rattle.brc_core.specs.declared.readers.Status.{Status}
@@ -107,6 +107,12 @@ abbrev pub lies_on : Heap → ℕ → Pile → ℕ → Bool
 lies_on h t piles.Queued c = bit_of (queue_at h t) c == 1
 lies_on h t piles.Popped c = bit_of (popped_at h t) c == 1
 lies_on h t piles.Work c = is_marked (worklist_at h t) c
+
+-- no cell lies on this pile of the thread
+abbrev pub is_empty_pile : Heap → ℕ → Pile → Bool
+is_empty_pile h t piles.Queued = is_blank (queue_at h t)
+is_empty_pile h t piles.Popped = is_blank (popped_at h t)
+is_empty_pile h t piles.Work = is_unmarked (worklist_at h t)
 
 abbrev pub lying_text : Heap → ℕ → Pile → ℕ → List ℕ
 lying_text h t pile c =

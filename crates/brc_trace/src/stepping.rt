@@ -14,6 +14,8 @@ use std::alloc::Allocator;
 
 /// The fault of a trace whose event on this line isn't enabled. A bad line is told before it, so the lines behind are
 /// still read, and none of their events is made.
+// Apart, since it is made once at most.
+#[inline(never)]
 fn fault_of_refused(words: &mut Words, behind: &[u8], refused: u32) -> Fault
     requires { refused + length behind.now ≤ MOST_INPUT + 1 }
 

@@ -3,7 +3,7 @@
 ghost use Rattle.std.specs.Prelude.{◌≡◌, length, true};
 ghost use Rattle.brc_runs.specs.Heap.{is_registered, row_at, frame_at};
 ghost use Rattle.brc_text.specs.Puts.{Puts};
-ghost use Rattle.brc_trace.specs.Worlds.{over, is_over, thread_line, status_word, phase_word, hand_text, place_text, frame_text, locked_text, pile_word, lies_on, lying_text, pile_text, holdings_text, thread_text};
+ghost use Rattle.brc_trace.specs.Worlds.{over, is_over, thread_line, status_word, phase_word, hand_text, place_text, frame_text, locked_text, pile_word, lies_on, lying_text, is_empty_pile, pile_text, holdings_text, thread_text};
 
 use brc_core::{Hand, Phase, Status, World};
 use brc_text::{Keyword, Token, put_line};
@@ -175,6 +175,17 @@ fn lies_on<A: Allocator + Copy>(world: &World<A>, thread: u32, pile: Pile, cell:
     }
 }
 
+/// Whether no cell lies on this pile of the thread.
+fn is_empty_pile<A: Allocator + Copy>(world: &World<A>, thread: u32, pile: Pile) -> bool
+    ensures { result ≡ is_empty_pile world.now thread pile }
+{
+    match pile {
+        Pile::Queued => world.has_nothing_queued(thread),
+        Pile::Popped => world.has_nothing_popped(thread),
+        Pile::Work => world.has_no_work(thread),
+    }
+}
+
 fn put_lying<A: Allocator + Copy, W: Write>(
     world: &World<A>,
     writer: &mut W,
@@ -205,6 +216,9 @@ fn put_pile<A: Allocator + Copy, W: Write>(
 ) -> Result<(), Fault>
     ensures { Puts (W.contents writer.old) (W.contents writer.new) result (pile_text world.now thread pile) }
 {
+    if is_empty_pile(world, thread, pile) {
+        return Ok(());
+    }
     for cell in 0..world.cells() {
         put_lying(world, writer, thread, pile, cell)?;
     }

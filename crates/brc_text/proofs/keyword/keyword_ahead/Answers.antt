@@ -1,39 +1,41 @@
-use Rattle.std.proofs.Common.{◌∙◌, ◌<◌, ◌++◌, ℕ, List, take, sym, ap, arith, take-append-drop}
+use Rattle.std.proofs.Common.{◌≡◌, ◌∙◌, ◌≤◌, length, get_or, drop, ap, sym, subst, arith}
 use Rattle.std.proofs.lemmas.List.{take_rest}
+use Rattle.brc_text.specs.Keywords.{keyword, keyword_at, candidates_at}
+use Rattle.brc_text.specs.Words.{Begins}
 use Rattle.brc_text.proofs.NumberLaws.{no_longer_none}
-use Rattle.brc_text.proofs.KeywordLaws.{are_bytes, letters_found, no_letters, letters_spell, same_some}
+use Rattle.brc_text.proofs.KeywordLaws.{are_bytes, sought_found, found_begins, found_within, behind_keyword, no_first_word, same_some}
 use Rattle.brc_text.proofs.keyword.keyword_ahead.Goals as goal
 
-pub returns-then-count-eq0-clause-only : goal.returns-then-count-eq0-clause-only
-returns-then-count-eq0-clause-only c word rest k whole ends spells =
-    no_letters c.args.text.now word rest k c.letters_ahead-count.result.0 c.letters_ahead-count.result.1 c.letters_ahead-count.ensures whole ends spells c.if-count-eq0.true
+pub returns-in_default-clause-only : goal.returns-in_default-clause-only
+returns-in_default-clause-only c word rest k whole ends spells = omega (arith, no_first_word c.args.text.now word rest k whole spells, c.in_default.len_below)
+
+within : (c : goal.After-text) → length c.text.result.now ≤ length c.args.text.now
+within c =
+    let bytes = are_bytes c.args.text.now (λ i. (c.type_inv.text i).fits) in
+    let within = found_within c.args.text.now (candidates_at (get_or c.args.text.now 0 0)) c.in-Some.word bytes (sym c.sought_by.ensures ∙ c.in-Some.is) in
+    omega (arith, within, ap length c.text.ensures)
+
+pub slice_bounds-result-count : goal.slice_bounds-result-count
+slice_bounds-result-count c = within c
+
+pub slice_bounds-result-start : goal.slice_bounds-result-start
+slice_bounds-result-start c = within c
 
 pub returns-in-Some-clause-found : goal.returns-in-Some-clause-found
 returns-in-Some-clause-found c =
-    let count = c.letters_ahead-count.result.0 in
-    let some : 0 < count = omega (arith, c.if-count-eq0.false) in
-    let found = letters_found c.args.text.now count c.letters_ahead-count.result.1 c.keyword_packed.result c.letters_ahead-count.ensures
-    (are_bytes c.args.text.now (λ i. (c.type_inv.text i).fits)) some c.keyword_packed.ensures in
-    record {
-      word = take count c.args.text.now;
-      whole = sym (take-append-drop count c.args.text.now) ∙ ap (λ (l : List ℕ). take count c.args.text.now ++ l) (sym (take_rest c.args.text.now count));
-      reads = sym found ∙ c.in-Some.is;
-    }
+    let bytes = are_bytes c.args.text.now (λ i. (c.type_inv.text i).fits) in
+    let begins = found_begins c.args.text.now (candidates_at (get_or c.args.text.now 0 0)) c.in-Some.word bytes (sym c.sought_by.ensures ∙ c.in-Some.is) in
+    let behind = take_rest c.args.text.now (length c.text.result.now) ∙ ap (λ l. drop (length l) c.args.text.now) c.text.ensures in
+    subst (Begins keyword_at c.args.text.now c.in-Some.word) (sym behind) begins
 
 pub returns-in-Some-clause-only : goal.returns-in-Some-clause-only
 returns-in-Some-clause-only c word rest k whole ends spells =
-    let count = c.letters_ahead-count.result.0 in
-    let some : 0 < count = omega (arith, c.if-count-eq0.false) in
-    let found = letters_found c.args.text.now count c.letters_ahead-count.result.1 c.keyword_packed.result c.letters_ahead-count.ensures
-    (are_bytes c.args.text.now (λ i. (c.type_inv.text i).fits)) some c.keyword_packed.ensures in
-    let is = letters_spell c.args.text.now word rest k count c.letters_ahead-count.result.1 c.letters_ahead-count.ensures whole ends spells in
-    (same_some (sym c.in-Some.is ∙ found ∙ is.0), take_rest c.args.text.now count ∙ is.1)
+    let bytes = are_bytes c.args.text.now (λ i. (c.type_inv.text i).fits) in
+    let same : c.in-Some.word ≡ k = same_some (sym c.in-Some.is ∙ c.sought_by.ensures ∙ sought_found c.args.text.now word rest k bytes whole ends spells) in
+    let behind = take_rest c.args.text.now (length c.text.result.now) ∙ ap (λ l. drop (length l) c.args.text.now) c.text.ensures in
+    (same, behind ∙ ap (λ word. drop (length (keyword word)) c.args.text.now) same ∙ behind_keyword c.args.text.now word rest k whole spells)
 
 pub returns-in-None-clause-only : goal.returns-in-None-clause-only
 returns-in-None-clause-only c word rest k whole ends spells =
-    let count = c.letters_ahead-count.result.0 in
-    let some : 0 < count = omega (arith, c.if-count-eq0.false) in
-    let found = letters_found c.args.text.now count c.letters_ahead-count.result.1 c.keyword_packed.result c.letters_ahead-count.ensures
-    (are_bytes c.args.text.now (λ i. (c.type_inv.text i).fits)) some c.keyword_packed.ensures in
-    let is = letters_spell c.args.text.now word rest k count c.letters_ahead-count.result.1 c.letters_ahead-count.ensures whole ends spells in
-    no_longer_none _ _ is.0 (sym found ∙ c.in-None.is)
+    let bytes = are_bytes c.args.text.now (λ i. (c.type_inv.text i).fits) in
+    no_longer_none _ _ (sought_found c.args.text.now word rest k bytes whole ends spells) (sym c.sought_by.ensures ∙ c.in-None.is)

@@ -1,8 +1,13 @@
-use Rattle.std.proofs.Common.{refl, arith, length}
+use Rattle.std.proofs.Common.{◌∙◌, refl, sym, arith, length}
 use Rattle.std.proofs.lemmas.Result.{err_from_is_err_and}
 use Rattle.brc_trace.specs.Worlds.{lying_text}
-use Rattle.brc_trace.proofs.WorldLaws.{turns_begin, turn_puts, turn_fails, turns_end}
+use Rattle.brc_trace.proofs.WorldLaws.{empty_pile, nothing_puts, turns_begin, turn_puts, turn_fails, turns_end}
 use Rattle.brc_trace.proofs.world_thread.put_pile.Goals as goal
+
+pub returns-then-is_empty_pile : goal.returns-then-is_empty_pile
+returns-then-is_empty_pile g c =
+    let empty = empty_pile c.args.world.now c.args.thread c.args.pile (sym c.is_empty_pile.ensures ∙ c.if-is_empty_pile.true) in
+    nothing_puts (g.W.Write.contents c.args.writer.now) empty
 
 pub loop-cell-init : goal.loop-cell-init
 loop-cell-init g c =
