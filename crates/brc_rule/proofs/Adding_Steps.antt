@@ -46,17 +46,17 @@ use Rattle.brc_rule.proofs.Since.{since}
 use Rattle.brc_rule.proofs.Noting.{part_hand, hand_in}
 
 -- the object was the thread's, or one that it has adopted
-IsMerging : Phase → Type 0
+pub IsMerging : Phase → Type 0
 IsMerging p = (p ≡ phases.Taking) ⊎ (p ≡ phases.Popping)
 
-merging_hand : (hand : Hand) (c : ℕ) → (is_at phases.Taking c hand || is_at phases.Popping c hand) ≡ true → (p : Phase) × (hand ≡ hands.Busy p c) × IsMerging p
+pub merging_hand : (hand : Hand) (c : ℕ) → (is_at phases.Taking c hand || is_at phases.Popping c hand) ≡ true → (p : Phase) × (hand ≡ hands.Busy p c) × IsMerging p
 unfolding IsMerging
 merging_hand hand c at = elim (or_cases _ _ at) [
   | inl taking ↦ (phases.Taking, busy_hand phases.Taking c hand taking, inl refl)
   | inr popping ↦ (phases.Popping, busy_hand phases.Popping c hand popping, inr refl)
 ]
 
-merging_words : (h : Heap) (t c : ℕ) (p : Phase) → IsReached h → (row_at h t).hand ≡ hands.Busy p c → IsMerging p → ((cell_at h c).owner ≡ owners.Nobody) × ((cell_at h c).state ≡ states.Queued)
+pub merging_words : (h : Heap) (t c : ℕ) (p : Phase) → IsReached h → (row_at h t).hand ≡ hands.Busy p c → IsMerging p → ((cell_at h c).owner ≡ owners.Nobody) × ((cell_at h c).state ≡ states.Queued)
 unfolding IsMerging
 merging_words h t c p reached busy which = elim which [
   | inl taking ↦ (hand_tells h t c phases.Taking reached (busy ∙ ap (λ q. hands.Busy q c) taking)).1

@@ -21,3 +21,4 @@ pub mod Last_Steps
 pub mod Untying_Steps
 pub mod Adding_Steps
 pub mod Queueing_Steps
+pub mod Small_Looks

@@ -113,9 +113,12 @@ same_field Local = refl
 same_field Shared = refl
 same_field Mutex = refl
 
--- a look is noted
+-- a look is noted, and so is a lost compare-exchange
 pub noted_now : (f : Field) (c number : ℕ) (log : List Told) → noted f c (Saw (Of f c) number ∷ log) ≡ Some number
 noted_now f c number log = ap (λ b. if b then Some number else noted f c log) (both_true (same_field f) (eq-eqb c c refl))
+
+pub noted_lost : (f : Field) (c number : ℕ) (log : List Told) → noted f c (Lost (Of f c) number ∷ log) ≡ Some number
+noted_lost f c number log = noted_now f c number log
 
 nothing_noted : (number : ℕ) → None ≡ Some number → ⊥
 nothing_noted number bad = absurd (cc)
