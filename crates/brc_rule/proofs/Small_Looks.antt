@@ -1,5 +1,5 @@
 -- Looks at the words of a cell in the hand: the owner is a thread's number or 0, and the local count is within the limit.
-use Rattle.std.proofs.Common.{◌≡◌, ℕ, ◌+◌, ◌<◌, ◌≤◌, ◌^◌, true, List, length, get_or, Option, refl, sym, ◌∙◌, ap, arith}
+use Rattle.std.proofs.Common.{◌≡◌, ℕ, ◌+◌, ◌<◌, ◌≤◌, true, List, length, get_or, Option, refl, sym, ◌∙◌, ap, arith}
 use Rattle.std.proofs.lemmas.Bool.{true≢false}
 use Rattle.atomic_table.specs.Table.{State as Table, Allows, keeps}
 use Rattle.brc_words.specs.declared.limits.TheConstants.{MOST_THREADS}
@@ -9,7 +9,6 @@ use Rattle.brc_words.specs.Owners.{word_of}
 use Rattle.brc_runs.specs.declared.event.Step.TheVariants.{MergeAdd}
 use Rattle.brc_runs.specs.declared.row.Row.{Row}
 use Rattle.brc_runs.specs.declared.row.Hand.TheVariants as hands
-use Rattle.brc_runs.specs.Lists.{one}
 use Rattle.brc_runs.specs.Heap.{Heap, cell_at, row_at}
 use Rattle.brc_runs.specs.Holding.{carries, lives}
 use Rattle.brc_runs.specs.Sound.{IsSound}
@@ -66,9 +65,13 @@ module _ {B : Type 0} (shows : B → ℕ × Contents) (n limit : ℕ) where
       → ((h : Heap) (there : ℕ) → Known n limit h v.thread v.log → Shows h w there → Says there)
       → Allows Rule n id (v, slots) (spot n w) (λ number. number) (λ number me. (me ≡ (with_told (Saw w number) v, slots)) × Says number)
   looks_and id v slots w Says active some_thread is says s r deep at small =
-      let there : ℕ = get_or s.words (spot n w) 0 in
-      (with_told (Saw w there) v, keeps, tt, unmoved shows n limit s r id v w (Saw w there) at active is saw,
-      (refl, says (world n limit r.run) there (knows shows n limit s r id v at active some_thread) (r.each_word w is)))
+      let there : ℕ = get_or s.words (spot n w) 0 in (
+        with_told (Saw w there) v,
+        keeps,
+        tt,
+        unmoved shows n limit s r id v w (Saw w there) at active is saw,
+        (refl, says (world n limit r.run) there (knows shows n limit s r id v at active some_thread) (r.each_word w is)),
+      )
 
   pub looks_owner : (id : ℕ) (v : View) (slots : List (ℕ × Option B)) (c : ℕ) → v.active ≡ true → 0 < v.thread → c < n → carries c (part_seen n v.log).row.hand ≡ true
       → Allows Rule n id (v, slots) (spot n (Of OwnerWord c)) (λ number. number) (λ number me. (me ≡ (with_told (Saw (Of OwnerWord c) number) v, slots)) × (number ≤ MOST_THREADS))
