@@ -211,12 +211,12 @@ stepped_part cells h t s c number entries has sound may named same are knows =
 
 -- ---- steps that mean no cell
 
-next_open : (stage : Stage) (k : ℕ) → closes_next stage k ≡ true → is_closed stage k ≡ false
+pub next_open : (stage : Stage) (k : ℕ) → closes_next stage k ≡ true → is_closed stage k ≡ false
 next_open stages.Active k next = refl
 next_open (stages.Closing n) k next = le-ltb k n (omega (arith, eqb-true k n next))
 next_open stages.Left k next = absurd (true≢false (sym next))
 
-drains_open : (stage : Stage) (k : ℕ) → stage_ok stage (Drain k) ≡ true → is_closed stage k ≡ false
+pub drains_open : (stage : Stage) (k : ℕ) → stage_ok stage (Drain k) ≡ true → is_closed stage k ≡ false
 drains_open stages.Active k ok = refl
 drains_open (stages.Closing n) k ok = absurd (true≢false (sym ok))
 drains_open stages.Left k ok = absurd (true≢false (sym ok))

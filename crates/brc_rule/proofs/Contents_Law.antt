@@ -33,17 +33,9 @@ use Rattle.brc_rule.specs.declared.told.Moved.{Moved}
 use Rattle.brc_rule.specs.declared.told.Moved.TheVariants as moves
 use Rattle.brc_rule.specs.declared.told.Told.{Told}
 use Rattle.brc_rule.specs.declared.told.Told.TheVariants.{Did, Saw, Lost}
+use Rattle.brc_rule.specs.Homes.{AtRest, ContentsFit}
 use Rattle.brc_rule.specs.Logs.{kind_in, entries_in, item_of, Run, items_of, world, opening_contents, contents_at, puts, PutsHome, MovesWith, IsMoved, IsLegal}
 use Rattle.brc_rule.proofs.Stepping.{thread_after}
-
--- the object lives, and is on no worklist
-pub record AtRest (h : Heap) (c : ℕ) : Type 0 where
-  pub live : lives (cell_at h c).owner ≡ true
-  pub off : (u : ℕ) → is_marked (worklist_at h u) c ≡ false
-
-pub record ContentsFit (h : Heap) (run : Run) (c : ℕ) : Type 0 where
-  pub kind : kind_in (contents_at run c) ≡ (cell_at h c).kind
-  pub entries : entries_in (contents_at run c) ≡ entries_at h c
 
 -- ---- a step that puts nothing home there
 
@@ -107,7 +99,7 @@ freed_dead h t (Free x) d c low live frees same =
 freed_dead h t _ d c low live frees same = absurd (true≢false (sym frees))
 
 -- marks of the root's steps
-marks_of_root : (h : Heap) (s : Step) (c u : ℕ) → root_may h s ≡ true → is_marked (worklist_at (root_after h s) u) c ≡ false → is_marked (worklist_at h u) c ≡ false
+pub marks_of_root : (h : Heap) (s : Step) (c u : ℕ) → root_may h s ≡ true → is_marked (worklist_at (root_after h s) u) c ≡ false → is_marked (worklist_at h u) c ≡ false
 marks_of_root h (Register v) c u ok off = read_push (λ j (marks : List Bool). is_marked marks c ≡ false → is_marked (worklist_at h j) c ≡ false) h.worklists (replicate (length h.cells) false) []
     (λ none. ap (λ (w : List Bool). is_marked w c) (get_or_past h.worklists (length h.worklists) [] (omega arith))) (λ j other same. same) u off
 marks_of_root h (Gather v) c u ok off = off
@@ -175,9 +167,9 @@ opening_fits : (n limit c : ℕ) → AreOptions n limit → lives (cell_at (open
 opening_fits n limit c options live = elim (cases_lt c FIRST_MORTAL) [
   | inr high ↦ absurd (true≢false (sym live ∙ ap (λ (x : Cell). lives x.owner) (free_cell n c high)))
   | inl low ↦ record {
-      kind = kinds_open (c == 0) (c == 1) (c == 2) (c == GLOBALS) ∙ sym (ap (λ (x : Cell). x.kind) (immortal_cell n c (omega (arith, options.enough)) low));
-      entries = none_open (c == 0) (c == 1) (c == 2) (c == GLOBALS) ∙ sym (no_entries n c []);
-    }
+    kind = kinds_open (c == 0) (c == 1) (c == 2) (c == GLOBALS) ∙ sym (ap (λ (x : Cell). x.kind) (immortal_cell n c (omega (arith, options.enough)) low));
+    entries = none_open (c == 0) (c == 1) (c == 2) (c == GLOBALS) ∙ sym (no_entries n c []);
+  }
 ]
   where
     kinds_open : (zero one two globals : Bool)

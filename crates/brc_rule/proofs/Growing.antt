@@ -19,7 +19,7 @@ use Rattle.brc_rule.specs.Homes.{Homes, HomeShown}
 use Rattle.brc_rule.specs.Rule.{stands, with_told, log_in, Fits, Seated, Kept}
 use Rattle.brc_rule.proofs.Own_Logs.{own_more, own_same, stands_ungathered, SameThreads, same_stands, same_gathered}
 
-at_inside : {A : Type 0} (l : List A) (i : ℕ) (a : A) → get_elem? l i ≡ some a → i < length l
+pub at_inside : {A : Type 0} (l : List A) (i : ℕ) (a : A) → get_elem? l i ≡ some a → i < length l
 at_inside [] i a at = absurd (some-ne-none a (sym at))
 at_inside (x ∷ xs) Rattle.std.proofs.Common.zero a at = omega arith
 at_inside (x ∷ xs) (suc i) a at = omega (arith, at_inside xs i a at)
@@ -98,15 +98,15 @@ module _ {B : Type 0} (shows : B → ℕ × Contents) (n limit : ℕ) where
           → Seated views u (seat u) → Seated (set views id (with_told x v)) u (seat u)
       seated_still seat views id v x u at active seated = elim (cases_eq (seat u) id) [
         | inl same ↦ record {
-            view = with_told x v;
-            there = ap (get_elem? (set views id (with_told x v))) same ∙ set_here views id (with_told x v) (at_inside views id v at);
-            active = active;
-            thread = ap (λ (w : View). w.thread) (some-injective v seated.view (sym at ∙ sym (ap (get_elem? views) same) ∙ seated.there)) ∙ seated.thread;
-          }
+          view = with_told x v;
+          there = ap (get_elem? (set views id (with_told x v))) same ∙ set_here views id (with_told x v) (at_inside views id v at);
+          active = active;
+          thread = ap (λ (w : View). w.thread) (some-injective v seated.view (sym at ∙ sym (ap (get_elem? views) same) ∙ seated.there)) ∙ seated.thread;
+        }
         | inr other ↦ record {
-            view = seated.view;
-            there = set_else views id (seat u) (with_told x v) other ∙ seated.there;
-            active = seated.active;
-            thread = seated.thread;
-          }
+          view = seated.view;
+          there = set_else views id (seat u) (with_told x v) other ∙ seated.there;
+          active = seated.active;
+          thread = seated.thread;
+        }
       ]

@@ -6,7 +6,7 @@ use Rattle.std.specs.Cmp.Derive.{both_true}
 use mathlib.Core.Option.{some}
 use lib.ListN.{get_elem?}
 use Rattle.atomic_table.specs.Table.{State}
-use Rattle.brc_words.specs.declared.limits.TheConstants.{FIRST_MORTAL}
+use Rattle.brc_words.specs.declared.limits.TheConstants.{FIRST_MORTAL, MOST_THREADS}
 use Rattle.brc_runs.specs.declared.row.Row.{Row}
 use Rattle.brc_runs.specs.declared.event.Dropped.{Dropped}
 use Rattle.brc_runs.specs.declared.event.Step.{Step}
@@ -14,10 +14,13 @@ use Rattle.brc_runs.specs.declared.event.Step.TheVariants.{Free, Unlock}
 use Rattle.brc_runs.specs.Lists.{is_marked}
 use Rattle.brc_runs.specs.Heap.{Heap, opening, cell_at, entries_at, row_at, frame_at, popped_at, worklist_at, is_registered, is_gathered, words_for, AreOptions}
 use Rattle.brc_runs.specs.Steps.{thread_may, stage_ok, lock_ok, hand_ok, own_ok, own_ok_at, others_ok, target_ok, target_at, is_empty, change_ok, locked_entries, locked_cell, locked_at}
+use Rattle.brc_runs.specs.Holding.{Headline}
 use Rattle.brc_runs.specs.Runs.{IsReached}
+use Rattle.brc_runs.proofs.Reached.{reached_headline}
 use Rattle.brc_known.specs.Items.{Part, part_of, IsPart, meant, events_of, own, world_of_items}
 use Rattle.brc_known.specs.Counts.{own_count, counts_of}
 use Rattle.brc_known.specs.Risen.{is_risen}
+use Rattle.brc_known.specs.Owners_Seen.{has_seen_owner}
 use Rattle.brc_lasting.specs.Staying.{rank}
 use Rattle.brc_lasting.proofs.Standing.{run_reached}
 use Rattle.brc_lasting.proofs.Ranges_Law.{run_limit}
@@ -28,6 +31,7 @@ use Rattle.brc_known.proofs.Items_Own.{Knows}
 use Rattle.brc_known.proofs.Items_Law.{parts_are_told, part_target}
 use Rattle.brc_known.proofs.Counts_Law.{counts_are_told}
 use Rattle.brc_known.proofs.Risen_Law.{risen_is_told}
+use Rattle.brc_known.proofs.Owners_Law.{owners_are_registered}
 use Rattle.brc_rule.specs.declared.contents.Contents.{Contents}
 use Rattle.brc_rule.specs.declared.told.Told.{Told}
 use Rattle.brc_rule.specs.declared.view.View.{View}
@@ -50,6 +54,7 @@ pub record Known (n limit : ℕ) (h : Heap) (t : ℕ) (log : List Told) : Type 0
   pub stood : stands h t ≡ true
   pub part : IsPart h t (part_seen n log)
   pub counts : (c : ℕ) → FIRST_MORTAL ≤ c → own_count t (row_at h t).stage (cell_at h c) ≡ counts_seen n log c
+  pub owners : (q : ℕ) → has_seen_owner (log_items log) q ≡ true → 0 < q → q ≤ MOST_THREADS → is_registered h q ≡ true
   pub risen : (drop : Dropped) (c : ℕ) → risen_seen n log drop c ≡ true → FIRST_MORTAL ≤ c → 1 ≤ rank (cell_at h c).state
 
 pub knows_run : (n limit : ℕ) (run : Run) (t : ℕ) → AreOptions n limit → IsLegal n limit run → stands (world n limit run) t ≡ true → 0 < t → Known n limit (world n limit run) t (own_of t run)
@@ -70,6 +75,7 @@ knows_run n limit run t options legal stood some_thread =
       stood = stood;
       part = subst (λ items. IsPart h t (part_of n items)) log (parts_are_told n limit (items_of run) t options legal.items there);
       counts = λ c mortal. counts_are_told n limit (items_of run) t c options legal.items there mortal ∙ ap (λ items. counts_of n items c) log;
+      owners = λ q seen low few. owners_are_registered n limit (items_of run) t q options legal.items there (ap (λ items. has_seen_owner items q) log ∙ seen) low few;
       risen = λ drop c seen mortal. risen_is_told n limit (items_of run) t c drop options legal.items there (ap (λ items. is_risen n items drop c) log ∙ seen) mortal;
     }
 
@@ -131,3 +137,16 @@ is_enabled n limit h t log s some_thread known own others target =
 -- the cell that the log's part means is the world's
 pub meant_there : (n limit : ℕ) (h : Heap) (t : ℕ) (log : List Told) (s : Step) (o : Option ℕ) → Known n limit h t log → meant (part_seen n log) s ≡ o → target_at h t s ≡ o
 meant_there n limit h t log s o known is = sym (part_target h t (part_seen n log) s known.part) ∙ is
+
+-- ---- what stands in a table that keeps the rule
+
+module _ {B : Type 0} (shows : B → ℕ × Contents) (n limit : ℕ) where
+  pub kept_reached : (s : State (Option B) View) (r : Kept shows n limit s) → IsReached (world n limit r.run)
+  kept_reached s r = run_reached n limit (events_of (items_of r.run)) r.options (events_run (opening n limit) (items_of r.run) r.legal.items)
+
+  pub kept_headline : (s : State (Option B) View) (r : Kept shows n limit s) → Headline (world n limit r.run)
+  kept_headline s r = reached_headline (world n limit r.run) (kept_reached s r)
+
+  pub kept_part : (s : State (Option B) View) (r : Kept shows n limit s) (j : ℕ) (v : View) → get_elem? s.views j ≡ some v → v.active ≡ true → 0 < v.thread
+      → IsPart (world n limit r.run) v.thread (part_seen n v.log)
+  kept_part s r j v at active some_thread = (knows shows n limit s r j v at active some_thread).part

@@ -31,7 +31,7 @@ use Rattle.brc_rule.specs.declared.told.Moved.{Moved}
 use Rattle.brc_rule.specs.declared.told.Moved.TheVariants as moves
 use Rattle.brc_rule.specs.declared.told.Told.{Told}
 use Rattle.brc_rule.specs.declared.told.Told.TheVariants.{Did, Saw, Lost}
-use Rattle.brc_rule.specs.Logs.{item_of, Run, items_of, own_of, world, contents_at, put_by, puts, takes, takes_of, MovesWith, IsMoved, IsLegal}
+use Rattle.brc_rule.specs.Logs.{item_of, Run, items_of, own_of, world, contents_at, put_by, puts, takes, takes_of, MovesWith, IsMoved, IsLegal, keeps}
 use Rattle.brc_rule.specs.Seen.{contents_on, contents_locked}
 use Rattle.brc_rule.proofs.Own_Logs.{own_more, own_same}
 use Rattle.brc_rule.proofs.Stepping.{moved_on, thread_after, no_start}
@@ -204,3 +204,70 @@ module _ (n limit : ℕ) where
         absurd (none_some c (sym (ap (λ (r : Row). locked_cell (frame_at (root_after h (Register v)) t) r.locked) row) ∙ now))
   ]
   root_says run t s number moved c sound ok on goes before now some_thread = absurd (true≢false (sym ok))
+
+  -- a note leaves all as it is
+  noted_says : (run : Run) (t u : ℕ) (x : Told) (c : ℕ) → ((v : ℕ) → is_start v (item_of x) ≡ false) → ((before : Option Contents) → contents_on x before ≡ before) → contents_at ((u, x) ∷ run) c ≡ contents_at run c
+      → Says run t c → Says ((u, x) ∷ run) t c
+  unfolding Says
+  noted_says run t u x c older same here before = elim (cases_eq u t) [
+    | inl mine ↦ subst (λ v. contents_locked (own_of t ((v, x) ∷ run)) ≡ Some (contents_at ((u, x) ∷ run) c)) (sym mine)
+        (ap contents_locked (own_more t x run (older t)) ∙ same (contents_locked (own_of t run)) ∙ before ∙ ap Some (sym here))
+    | inr other ↦ ap contents_locked (own_same u t x run (older t) other) ∙ before ∙ ap Some (sym here)
+  ]
+
+  step_says : (run : Run) (t u : ℕ) (s : Step) (number : ℕ) (moved : Moved) (c : ℕ) → IsSound (world n limit run) → enabled (world n limit run) (record { thread = u; step = s }) ≡ true
+      → MovesWith (world n limit run) run u s moved → 0 < t → (locked_at (world n limit run) t ≡ Some c → Says run t c)
+      → locked_at (after (world n limit run) (record { thread = u; step = s })) t ≡ Some c → Says ((u, Did s number moved) ∷ run) t c
+  step_says run t u s number moved c sound ok goes some_thread before now =
+      let h : Heap = world n limit run in
+      let walked : Heap = moved_on h u s in
+      elim (cases_Bool (u == 0)) [
+        | inl root ↦
+            let is : after h (record { thread = u; step = s }) ≡ root_after h s = ap (λ b. if b then root_after h s else walked) root in
+            let zero_is : u ≡ 0 = eqb-true u 0 root in
+            subst (λ v. Says ((v, Did s number moved) ∷ run) t c) (sym zero_is)
+            (root_says run t s number moved c sound (subst (λ b. (if b then root_may h s else thread_may h u s) ≡ true) root ok)
+            (subst (λ v. enabled h (record { thread = v; step = s }) ≡ true) zero_is ok) (subst (λ v. MovesWith h run v s moved) zero_is goes) before
+            (sym (ap (λ z. locked_at z t) is) ∙ now) some_thread)
+        | inr thread ↦
+            let is : after h (record { thread = u; step = s }) ≡ walked = ap (λ b. if b then root_after h s else walked) thread in
+            let may : May h u s = may_parts h u s (subst (λ b. (if b then root_may h s else thread_may h u s) ≡ true) thread ok) in
+            elim (cases_eq u t) [
+              | inl mine ↦ subst (λ v. Says ((v, Did s number moved) ∷ run) t c) (sym mine)
+                  (own_says run t s number moved c sound (subst (λ v. May h v s) mine may) (subst (λ v. MovesWith h run v s moved) mine goes) before
+                  (subst (λ v. locked_at (moved_on h v s) t ≡ Some c) mine (sym (ap (λ z. locked_at z t) is) ∙ now)))
+              | inr other ↦
+                  let same : SameOwn t h (after h (record { thread = u; step = s })) = others_own h (record { thread = u; step = s }) t sound ok (record { other = other; apart = no_about h u s t may }) in
+                  let named : locked_at h t ≡ Some c = still_named h (after h (record { thread = u; step = s })) t c same now in
+                  others_says run t u s number moved c other (no_start h u s number moved may t) goes (λ bad. other (only_unlocks h t u s c sound named may bad).0) (before named)
+            ]
+      ]
+
+  item_says : (run : Run) (t u : ℕ) (x : Told) (c : ℕ) → IsSound (world n limit run) → MayCome (world n limit run) u (item_of x) → IsMoved (world n limit run) run u x → 0 < t
+      → (locked_at (world n limit run) t ≡ Some c → Says run t c) → locked_at (world n limit ((u, x) ∷ run)) t ≡ Some c → Says ((u, x) ∷ run) t c
+  item_says run t u (Did s number moved) c sound comes goes some_thread before now = step_says run t u s number moved c sound comes.0 goes some_thread before now
+  item_says run t u (Saw word number) c sound comes goes some_thread before now = noted_says run t u (Saw word number) c (λ v. refl) (λ b. refl) refl (before now)
+  item_says run t u (Lost word number) c sound comes goes some_thread before now = noted_says run t u (Lost word number) c (λ v. refl) (λ b. refl) refl (before now)
+
+  says : (run : Run) (t c : ℕ) → AreOptions n limit → IsLegal n limit run → 0 < t → locked_at (world n limit run) t ≡ Some c → Says run t c
+  says [] t c options legal some_thread named = absurd (none_some c (sym (ap (λ (r : Row). locked_cell (frame_at (opening n limit) t) r.locked) (opening_row t)) ∙ named))
+    where
+      opening_row : (t : ℕ) → row_at (opening n limit) t ≡ no_row
+      opening_row Rattle.std.proofs.Common.zero = refl
+      opening_row (Rattle.std.proofs.Common.suc t) = refl
+  says (x ∷ run) t c options legal some_thread named =
+      let older : IsLegal n limit run = record { items = legal.items.0; moved = legal.moved.0 } in
+      let reached : IsReached (world n limit run) = run_reached n limit (events_of (items_of run)) options (events_run (opening n limit) (items_of run) older.items) in
+      item_says run t x.0 x.1 c (reached_sound (world n limit run) reached) legal.items.1 legal.moved.1 some_thread (says run t c options older some_thread) named
+
+  -- what the thread's locking found in the locked cell is what was put home there last
+  pub locked_contents : (run : Run) (t c : ℕ) → AreOptions n limit → IsLegal n limit run → 0 < t → locked_at (world n limit run) t ≡ Some c → contents_locked (own_of t run) ≡ Some (contents_at run c)
+  unfolding Says
+  locked_contents run t c options legal some_thread named = says run t c options legal some_thread named
+
+-- what a step finds, and what an unlock keeps, is what was put home last
+pub found_is_put : (n limit : ℕ) (run : Run) (t : ℕ) (s : Step) (number c : ℕ) (p : Contents) → IsLegal n limit ((t, Did s number (moves.Found c p)) ∷ run) → p ≡ contents_at run c
+found_is_put n limit run t s number c p legal = legal.moved.1.there
+
+pub kept_is_put : (n limit : ℕ) (run : Run) (t : ℕ) (s : Step) (number c : ℕ) (p : Contents) → IsLegal n limit ((t, Did s number (moves.Put c p)) ∷ run) → keeps s ≡ true → p ≡ contents_at run c
+kept_is_put n limit run t s number c p legal keep = legal.moved.1.kept keep

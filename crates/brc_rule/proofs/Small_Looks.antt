@@ -33,8 +33,7 @@ use Rattle.brc_rule.specs.Rule.{with_told, Kept}
 use Rattle.brc_rule.specs.Seen.{part_seen, own_may}
 use Rattle.brc_rule.proofs.Knowing.{Known, knows}
 use Rattle.brc_rule.proofs.Looking.{saw, unmoved}
-use Rattle.brc_rule.proofs.Noting.{part_hand, hand_in}
-use Rattle.brc_rule.proofs.Adding_Steps.{merging_hand, merging_words}
+use Rattle.brc_rule.proofs.Noting.{part_hand, hand_in, merging_hand, merging_words}
 
 -- the owner of an object that lives is a thread or nobody
 owner_small : (threads : ℕ) (owner : Owner) (number : ℕ) → threads ≤ MOST_THREADS + 1 → OwnerFits threads owner → lives owner ≡ true → number ≡ word_of owner → number ≤ MOST_THREADS

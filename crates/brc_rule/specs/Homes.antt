@@ -5,10 +5,10 @@ use mathlib.Core.Option.{some}
 use lib.ListN.{get_elem?}
 use Rattle.brc_words.specs.declared.owner.Owner.TheVariants as owners
 use Rattle.brc_runs.specs.Lists.{is_marked}
-use Rattle.brc_runs.specs.Heap.{Heap, cell_at, worklist_at}
+use Rattle.brc_runs.specs.Heap.{Heap, cell_at, entries_at, worklist_at}
 use Rattle.brc_runs.specs.Holding.{lives}
 use Rattle.brc_rule.specs.declared.contents.Contents.{Contents}
-use Rattle.brc_rule.specs.Logs.{Run, contents_at}
+use Rattle.brc_rule.specs.Logs.{Run, kind_in, entries_in, contents_at}
 
 -- the slots by cell: out with a seat, or at home, empty or with a block
 abbrev pub Homes : Type 0 → Type 0
@@ -26,3 +26,13 @@ pub record HomeShown {B : Type 0} (shows : B → ℕ × Contents) (homes : Homes
   pub bare : (cell_at h c).owner ≡ owners.Free → get_elem? homes c ≡ some (some None)
   pub lies : lives (cell_at h c).owner ≡ true → (cell_at h c).mutex ≡ 0 → ((t : ℕ) → is_marked (worklist_at h t) c ≡ false)
       → LiesThere shows homes c (contents_at run c)
+
+-- the object lives, and is on no worklist
+pub record AtRest (h : Heap) (c : ℕ) : Type 0 where
+  pub live : lives (cell_at h c).owner ≡ true
+  pub off : (u : ℕ) → is_marked (worklist_at h u) c ≡ false
+
+-- what was put home last is of the kind and has the entries that the cell has
+pub record ContentsFit (h : Heap) (run : Run) (c : ℕ) : Type 0 where
+  pub kind : kind_in (contents_at run c) ≡ (cell_at h c).kind
+  pub entries : entries_in (contents_at run c) ≡ entries_at h c

@@ -3,6 +3,5 @@ pub mod Logs
 pub mod Homes
 pub mod Rule
 pub mod Seen
+pub mod Opening
 pub mod Noted
-pub mod Owing
-pub mod Taking

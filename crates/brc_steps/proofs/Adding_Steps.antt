@@ -36,35 +36,16 @@ use Rattle.brc_rule.specs.declared.view.View.{View}
 use Rattle.brc_rule.specs.Layout.{spot}
 use Rattle.brc_rule.specs.Rule.{with_told, Kept}
 use Rattle.brc_rule.specs.Seen.{part_seen}
-use Rattle.brc_rule.specs.Owing.{AddsLocal}
+use Rattle.brc_steps.specs.Owing.{AddsLocal}
 use Rattle.brc_rule.proofs.Knowing.{Known, is_enabled}
-use Rattle.brc_rule.proofs.Local_Steps.{fits_cell, read_cell}
-use Rattle.brc_rule.proofs.Numbers.{word_merged}
-use Rattle.brc_rule.proofs.Plain_Steps.{IsPlain, plain_on, same_owner, stays_on, plain_step}
-use Rattle.brc_rule.proofs.Shared_Steps.{count_after}
+use Rattle.brc_steps.proofs.Local_Steps.{fits_cell, read_cell}
+use Rattle.brc_steps.proofs.Numbers.{word_merged}
+use Rattle.brc_steps.proofs.Plain_Steps.{IsPlain, plain_on, same_owner, stays_on, plain_step}
+use Rattle.brc_steps.proofs.Shared_Steps.{count_after}
 use Rattle.brc_rule.proofs.Since.{since}
-use Rattle.brc_rule.proofs.Noting.{part_hand, hand_in}
-
--- the object was the thread's, or one that it has adopted
-pub IsMerging : Phase → Type 0
-IsMerging p = (p ≡ phases.Taking) ⊎ (p ≡ phases.Popping)
-
-pub merging_hand : (hand : Hand) (c : ℕ) → (is_at phases.Taking c hand || is_at phases.Popping c hand) ≡ true → (p : Phase) × (hand ≡ hands.Busy p c) × IsMerging p
-unfolding IsMerging
-merging_hand hand c at = elim (or_cases _ _ at) [
-  | inl taking ↦ (phases.Taking, busy_hand phases.Taking c hand taking, inl refl)
-  | inr popping ↦ (phases.Popping, busy_hand phases.Popping c hand popping, inr refl)
-]
-
-pub merging_words : (h : Heap) (t c : ℕ) (p : Phase) → IsReached h → (row_at h t).hand ≡ hands.Busy p c → IsMerging p → ((cell_at h c).owner ≡ owners.Nobody) × ((cell_at h c).state ≡ states.Queued)
-unfolding IsMerging
-merging_words h t c p reached busy which = elim which [
-  | inl taking ↦ (hand_tells h t c phases.Taking reached (busy ∙ ap (λ q. hands.Busy q c) taking)).1
-  | inr popping ↦ (hand_tells h t c phases.Popping reached (busy ∙ ap (λ q. hands.Busy q c) popping)).1
-]
+use Rattle.brc_rule.proofs.Noting.{part_hand, hand_in, IsMerging, merging_hand, merging_words}
 
 noted_local : (h : Heap) (t c local : ℕ) (p : Phase) → IsReached h → (row_at h t).hand ≡ hands.Busy p c → IsMerging p → Shows h (Of Local c) local → Merges h t c local p
-unfolding IsMerging
 noted_local h t c local p reached busy which found =
     let words = merging_words h t c p reached busy which in
     record { hand = busy; phase = which; owner = words.0; state = words.1; count = sym found }

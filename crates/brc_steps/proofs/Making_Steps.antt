@@ -47,14 +47,14 @@ use Rattle.brc_rule.specs.Logs.{kind_in, entries_in, Run, world, contents_at}
 use Rattle.brc_rule.specs.Homes.{HomeShown}
 use Rattle.brc_rule.specs.Rule.{with_told, Kept}
 use Rattle.brc_rule.specs.Seen.{part_seen, own_may}
-use Rattle.brc_rule.specs.Owing.{Carries, Claims, Bears}
-use Rattle.brc_rule.specs.Taking.{Claimed}
+use Rattle.brc_steps.specs.Owing.{Carries, Claims, Bears}
+use Rattle.brc_steps.specs.Taking.{Claimed}
 use Rattle.brc_rule.proofs.Homing.{home_out}
 use Rattle.brc_rule.proofs.Knowing.{Known, knows, is_enabled, hand_there}
-use Rattle.brc_rule.proofs.Local_Steps.{fits_cell, read_cell}
+use Rattle.brc_steps.proofs.Local_Steps.{fits_cell, read_cell}
 use Rattle.brc_rule.proofs.Looking.{lost, unmoved}
-use Rattle.brc_rule.proofs.Plain_Steps.{IsPlain, PlainOn, plain_on, same_owner, stays_on, plain_step}
-use Rattle.brc_rule.proofs.Block_Steps.{BlockMoves, block_moved}
+use Rattle.brc_steps.proofs.Plain_Steps.{IsPlain, PlainOn, plain_on, same_owner, stays_on, plain_step}
+use Rattle.brc_steps.proofs.Block_Steps.{BlockMoves, block_moved}
 
 -- a cell that a thread is making an object in
 making_low : (h : Heap) (t c : ℕ) → (cell_at h c).owner ≡ owners.Claimed t → c < length h.cells
@@ -139,8 +139,7 @@ module _ {B : Type 0} (shows : B → ℕ × Contents) (n limit : ℕ) where
       let inside_is : c < length h.cells = omega (arith, known.cells, low) in
       let free : x.owner ≡ owners.Free = free_word (length h.rows) x.owner (omega (arith, (reached_sound h known.reached).shaped.threads)) (reached_owners h known.reached c)
       (sym found_free ∙ r.each_word (Of OwnerWord c) low) in
-      let now : (cell_at (stepped h t s c) c).owner ≡ owners.Claimed t = ap (λ (y : Cell). y.owner) (read_cell h t s c inside_is) in
-      (
+      let now : (cell_at (stepped h t s c) c).owner ≡ owners.Claimed t = ap (λ (y : Cell). y.owner) (read_cell h t s c inside_is) in (
         (r.each_home c low).bare free,
         block_moved shows n limit st r id v s c (Of OwnerWord c) (2 ^ 32 + t) (2 ^ 64 - 1) moves.Nothing none at active low
             (record {
@@ -170,16 +169,22 @@ module _ {B : Type 0} (shows : B → ℕ × Contents) (n limit : ℕ) where
       let there : ℕ = get_or st.words (spot n w) 0 in
       elim (cases_eq there (2 ^ 64 - 1)) [
         | inl same ↦
-            let done = claiming st r id v c at active some_thread low claims same in
-            (with_told (Did (Claim c) (2 ^ 64 - 1) moves.Nothing) v, takes c None, done.0,
-            subst (λ b. Rule (record { words = set st.words (spot n w) (either b (2 ^ 32 + v.thread) there); homes = set st.homes c none; views = set st.views id (with_told (Did (Claim c) (2 ^ 64 - 1) moves.Nothing) v) }))
-            (sym (eq-eqb there (2 ^ 64 - 1) same)) done.1,
-            subst (λ b. Claimed v slots c there b (with_told (Did (Claim c) (2 ^ 64 - 1) moves.Nothing) v, (c, None) ∷ slots)) (sym (eq-eqb there (2 ^ 64 - 1) same)) refl)
-        | inr other ↦
-            (with_told (Lost w there) v, keeps, tt,
-            subst (λ b. Rule (record { words = set st.words (spot n w) (either b (2 ^ 32 + v.thread) there); homes = st.homes; views = set st.views id (with_told (Lost w there) v) })) (sym (ne_eqb there (2 ^ 64 - 1) other))
-            (unmoved shows n limit st r id v w (Lost w there) at active low lost),
-            subst (λ b. Claimed v slots c there b (with_told (Lost w there) v, slots)) (sym (ne_eqb there (2 ^ 64 - 1) other)) refl)
+            let done = claiming st r id v c at active some_thread low claims same in (
+              with_told (Did (Claim c) (2 ^ 64 - 1) moves.Nothing) v,
+              takes c None,
+              done.0,
+              subst (λ b. Rule (record { words = set st.words (spot n w) (either b (2 ^ 32 + v.thread) there); homes = set st.homes c none; views = set st.views id (with_told (Did (Claim c) (2 ^ 64 - 1) moves.Nothing) v) }))
+                  (sym (eq-eqb there (2 ^ 64 - 1) same)) done.1,
+              subst (λ b. Claimed v slots c there b (with_told (Did (Claim c) (2 ^ 64 - 1) moves.Nothing) v, (c, None) ∷ slots)) (sym (eq-eqb there (2 ^ 64 - 1) same)) refl,
+            )
+        | inr other ↦ (
+          with_told (Lost w there) v,
+          keeps,
+          tt,
+          subst (λ b. Rule (record { words = set st.words (spot n w) (either b (2 ^ 32 + v.thread) there); homes = st.homes; views = set st.views id (with_told (Lost w there) v) })) (sym (ne_eqb there (2 ^ 64 - 1) other))
+              (unmoved shows n limit st r id v w (Lost w there) at active low lost),
+          subst (λ b. Claimed v slots c there b (with_told (Lost w there) v, slots)) (sym (ne_eqb there (2 ^ 64 - 1) other)) refl,
+        )
       ]
 
   -- ---- Birth

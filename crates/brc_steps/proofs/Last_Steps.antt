@@ -36,15 +36,15 @@ use Rattle.brc_rule.specs.declared.view.View.{View}
 use Rattle.brc_rule.specs.Layout.{spot}
 use Rattle.brc_rule.specs.Rule.{Kept}
 use Rattle.brc_rule.specs.Seen.{part_seen, own_may}
-use Rattle.brc_rule.specs.Owing.{EndsPopped, EndsAdded, EndsHeld, EndsNobodys}
-use Rattle.brc_rule.specs.Taking.{Ended}
+use Rattle.brc_steps.specs.Owing.{EndsPopped, EndsAdded, EndsHeld, EndsNobodys}
+use Rattle.brc_steps.specs.Taking.{Ended}
 use Rattle.brc_rule.proofs.Knowing.{Known}
-use Rattle.brc_rule.proofs.Local_Steps.{read_cell}
+use Rattle.brc_steps.proofs.Local_Steps.{read_cell}
 use Rattle.brc_rule.proofs.Stepping.{moved_on}
 use Rattle.brc_rule.proofs.Since.{since, since_step}
 use Rattle.brc_rule.proofs.Noting.{merged_word, nobodys_word, part_hand, part_own, hand_in, bit_in, has_popped, has_in_hand}
-use Rattle.brc_rule.proofs.Ending_Steps.{LastFits, last_down}
-use Rattle.brc_rule.proofs.Taking_Steps.{end_step}
+use Rattle.brc_steps.proofs.Ending_Steps.{LastFits, last_down}
+use Rattle.brc_steps.proofs.Taking_Steps.{end_step}
 
 -- ---- what lasts
 

@@ -29,9 +29,9 @@ use Rattle.brc_rule.specs.Layout.{spot}
 use Rattle.brc_rule.specs.Logs.{takes_of}
 use Rattle.brc_rule.specs.Rule.{with_told, Kept}
 use Rattle.brc_rule.specs.Seen.{counts_seen}
-use Rattle.brc_rule.specs.Owing.{Raises, RaisesImmortal, Lowers, LowersImmortal}
+use Rattle.brc_steps.specs.Owing.{Raises, RaisesImmortal, Lowers, LowersImmortal}
 use Rattle.brc_rule.proofs.Knowing.{Known, is_enabled, meant_there}
-use Rattle.brc_rule.proofs.Plain_Steps.{IsPlain, PlainOn, plain_on, same_owner, stays_on, plain_step}
+use Rattle.brc_steps.proofs.Plain_Steps.{IsPlain, PlainOn, plain_on, same_owner, stays_on, plain_step}
 
 -- an object that the log counts
 pub record Counted (n limit : ℕ) (h : Heap) (t : ℕ) (log : List Told) (c count : ℕ) : Type 0 where

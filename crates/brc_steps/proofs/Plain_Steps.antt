@@ -133,10 +133,14 @@ module _ {B : Type 0} (shows : B → ℕ × Contents) (n limit : ℕ) where
       → ((h : Heap) (there : ℕ) → Known n limit h v.thread v.log → Shows h w there → there < 2 ^ 64 → IsPlain n h v.thread s w (written there) (number there))
       → Allows Rule n id (v, slots) (spot n w) written (λ there me. me ≡ (with_told (Did s (number there) moves.Nothing) v, slots))
   plain_step id v slots s w written number active some_thread is plain st r deep at small =
-      let there : ℕ = get_or st.words (spot n w) 0 in
-      (with_told (Did s (number there) moves.Nothing) v, keeps, tt,
-      plainly st r id v s w (written there) (number there) at active some_thread is
-      (plain (world n limit r.run) there (knows shows n limit st r id v at active some_thread) (r.each_word w is) small), refl)
+      let there : ℕ = get_or st.words (spot n w) 0 in (
+        with_told (Did s (number there) moves.Nothing) v,
+        keeps,
+        tt,
+        plainly st r id v s w (written there) (number there) at active some_thread is
+            (plain (world n limit r.run) there (knows shows n limit st r id v at active some_thread) (r.each_word w is) small),
+        refl,
+      )
 
   -- a compare-exchange: it makes the event where it finds the number that it expects, and else is a note
   pub exchange_step : (id : ℕ) (v : View) (slots : List (ℕ × Option B)) (s : Step) (w : Word) (old new : ℕ) → v.active ≡ true → 0 < v.thread → IsWord n w
@@ -146,15 +150,21 @@ module _ {B : Type 0} (shows : B → ℕ × Contents) (n limit : ℕ) where
   exchange_step id v slots s w old new active some_thread is plain st r deep at small =
       let there : ℕ = get_or st.words (spot n w) 0 in
       elim (cases_eq there old) [
-        | inl same ↦
-            (with_told (Did s old moves.Nothing) v, keeps, tt,
-            subst (λ b. Rule (record { words = set st.words (spot n w) (either b new there); homes = st.homes; views = set st.views id (with_told (Did s old moves.Nothing) v) })) (sym (eq-eqb there old same))
-            (plainly st r id v s w new old at active some_thread is
-            (plain (world n limit r.run) (knows shows n limit st r id v at active some_thread) (subst (Shows (world n limit r.run) w) same (r.each_word w is)))),
-            sym (ap (λ b. ((if b then with_told (Did s old moves.Nothing) v else with_told (Lost w there) v), slots)) (eq-eqb there old same)))
-        | inr other ↦
-            (with_told (Lost w there) v, keeps, tt,
-            subst (λ b. Rule (record { words = set st.words (spot n w) (either b new there); homes = st.homes; views = set st.views id (with_told (Lost w there) v) })) (sym (ne_eqb there old other))
-            (unmoved shows n limit st r id v w (Lost w there) at active is lost),
-            sym (ap (λ b. ((if b then with_told (Did s old moves.Nothing) v else with_told (Lost w there) v), slots)) (ne_eqb there old other)))
+        | inl same ↦ (
+          with_told (Did s old moves.Nothing) v,
+          keeps,
+          tt,
+          subst (λ b. Rule (record { words = set st.words (spot n w) (either b new there); homes = st.homes; views = set st.views id (with_told (Did s old moves.Nothing) v) })) (sym (eq-eqb there old same))
+              (plainly st r id v s w new old at active some_thread is
+              (plain (world n limit r.run) (knows shows n limit st r id v at active some_thread) (subst (Shows (world n limit r.run) w) same (r.each_word w is)))),
+          sym (ap (λ b. ((if b then with_told (Did s old moves.Nothing) v else with_told (Lost w there) v), slots)) (eq-eqb there old same)),
+        )
+        | inr other ↦ (
+          with_told (Lost w there) v,
+          keeps,
+          tt,
+          subst (λ b. Rule (record { words = set st.words (spot n w) (either b new there); homes = st.homes; views = set st.views id (with_told (Lost w there) v) })) (sym (ne_eqb there old other))
+              (unmoved shows n limit st r id v w (Lost w there) at active is lost),
+          sym (ap (λ b. ((if b then with_told (Did s old moves.Nothing) v else with_told (Lost w there) v), slots)) (ne_eqb there old other)),
+        )
       ]

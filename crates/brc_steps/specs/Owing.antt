@@ -1,20 +1,25 @@
 -- What each kind of step asks of its seat's log, and of nothing else.
-use Rattle.std.specs.Prelude.{◌≡◌, ◌≢◌, ◌⊎◌, ℕ, ◌%◌, ◌<◌, ◌≤◌, true, List, [], Some}
+use Rattle.std.specs.Prelude.{◌≡◌, ◌≢◌, ◌⊎◌, ℕ, ◌%◌, ◌<◌, ◌≤◌, ◌||◌, true, List, [], Some}
 use Rattle.brc_words.specs.declared.limits.TheConstants.{FIRST_MORTAL, MOST_THREADS}
 use Rattle.brc_runs.specs.declared.event.Source.{Source}
 use Rattle.brc_runs.specs.declared.event.Dropped.{Dropped}
+use Rattle.brc_runs.specs.declared.event.Change.{Change}
 use Rattle.brc_runs.specs.declared.event.Step.{Step}
-use Rattle.brc_runs.specs.declared.event.Step.TheVariants.{Claim, Birth, LocalUp, LocalDown, SharedUp, LastDown, Untie, MergeAdd, Enqueue}
+use Rattle.brc_runs.specs.declared.event.Step.TheVariants.{Claim, Birth, LocalUp, LocalDown, SharedUp, LastDown, Untie, MergeAdd, Enqueue, Nudge, Unlock}
+use Rattle.brc_runs.specs.declared.event.LastDropped.TheVariants as lasts
+use Rattle.brc_words.specs.Kinds.{is_container}
+use Rattle.brc_runs.specs.Steps.{is_keep, entries_changed}
+use Rattle.brc_runs.specs.Heap.{words_for}
 use Rattle.brc_runs.specs.declared.row.Hand.TheVariants as hands
 use Rattle.brc_runs.specs.declared.row.Phase.TheVariants as phases
-use Rattle.brc_runs.specs.declared.event.LastDropped.TheVariants as lasts
 use Rattle.brc_known.specs.declared.word.Field.TheVariants.{Owner, Local, Shared}
 use Rattle.brc_known.specs.Items.{meant}
+use Rattle.brc_known.specs.Owners_Seen.{has_seen_owner}
 use Rattle.brc_words.specs.declared.kind.Kind.{Kind}
 use Rattle.brc_rule.specs.declared.contents.Contents.{Contents}
 use Rattle.brc_rule.specs.declared.told.Told.{Told}
-use Rattle.brc_rule.specs.Logs.{kind_in, entries_in}
-use Rattle.brc_rule.specs.Seen.{part_seen, counts_seen, risen_seen, own_may}
+use Rattle.brc_rule.specs.Logs.{kind_in, entries_in, log_items}
+use Rattle.brc_rule.specs.Seen.{part_seen, counts_seen, risen_seen, contents_locked, own_may}
 use Rattle.brc_rule.specs.Noted.{noted, newest_step}
 
 -- an own object whose count may rise
@@ -82,6 +87,30 @@ pub record Bears (n : ℕ) (log : List Told) (block : ℕ × Contents) (kind : K
   pub of_cell : block.0 ≡ c
   pub kind_is : kind_in block.1 ≡ kind
   pub empty : entries_in block.1 ≡ []
+
+-- The block of the locked object, changed as the unlock says: it is of the kind that the locking found, and has the
+-- entries that the change makes of those found; where nothing changes it is as it was found.
+pub record Unlocks (n : ℕ) (log : List Told) (block : ℕ × Contents) (found : Contents) (change : Change) (c : ℕ) : Type 0 where
+  pub own : own_may n (part_seen n log) (Unlock change) ≡ true
+  pub cell : meant (part_seen n log) (Unlock change) ≡ Some c
+  pub of_cell : block.0 ≡ c
+  pub was_found : contents_locked log ≡ Some found
+  pub container : (is_keep change || is_container (kind_in found)) ≡ true
+  pub same_kind : kind_in block.1 ≡ kind_in found
+  pub entries : entries_in block.1 ≡ entries_changed change (part_seen n log).frame (entries_in found)
+  pub kept : is_keep change ≡ true → block.1 ≡ found
+
+-- the thread's own part allows a step on a word that is no cell's
+pub record Allowed (n : ℕ) (log : List Told) (s : Step) : Type 0 where
+  pub own : own_may n (part_seen n log) s ≡ true
+
+-- a thread that was found as an owner, and one of its queue words
+pub record Tells (n : ℕ) (log : List Told) (q k : ℕ) : Type 0 where
+  pub own : own_may n (part_seen n log) (Nudge q k) ≡ true
+  pub seen : has_seen_owner (log_items log) q ≡ true
+  pub some_thread : 0 < q
+  pub few : q ≤ MOST_THREADS
+  pub word : k < words_for n
 
 -- ---- steps by a note: a look at a word of the cell, and no step of the thread's own since
 

@@ -40,12 +40,12 @@ use Rattle.brc_rule.specs.declared.view.View.{View}
 use Rattle.brc_rule.specs.Layout.{spot}
 use Rattle.brc_rule.specs.Rule.{with_told, Kept}
 use Rattle.brc_rule.specs.Seen.{part_seen, counts_seen, own_may}
-use Rattle.brc_rule.specs.Owing.{RaisesShared, Releases}
+use Rattle.brc_steps.specs.Owing.{RaisesShared, Releases}
 use Rattle.brc_rule.proofs.Knowing.{Known, is_enabled, meant_there, hand_there}
-use Rattle.brc_rule.proofs.Local_Steps.{mortal_cell, fits_cell, read_cell}
-use Rattle.brc_rule.proofs.Numbers.{word_up, word_down, bits_two}
+use Rattle.brc_steps.proofs.Local_Steps.{mortal_cell, fits_cell, read_cell}
+use Rattle.brc_steps.proofs.Numbers.{word_up, word_down, bits_two}
 use Rattle.brc_rule.proofs.Stepping.{thread_after, thread_enabled}
-use Rattle.brc_rule.proofs.Plain_Steps.{IsPlain, PlainOn, plain_on, same_owner, stays_on, plain_step, exchange_step}
+use Rattle.brc_steps.proofs.Plain_Steps.{IsPlain, PlainOn, plain_on, same_owner, stays_on, plain_step, exchange_step}
 
 -- ---- the cell of a reference that the thread has
 
@@ -95,7 +95,7 @@ module _ {B : Type 0} (shows : B → ℕ × Contents) (n limit : ℕ) where
       let cell : HeldCell h c = held_cell n limit h t log c known (source_held h t c source named raises.mortal) in
       let free = free_hand _ (hand_there n limit h t log s known raises.own) in
       let may : thread_may h t s ≡ true = is_enabled n limit h t log s some_thread known raises.own refl (fits_cell n limit h t log s c known named cell.low
-          (both_true (ap not (mortal_cell c raises.mortal)) (ap not (beyond h t log c known raises.mortal cell.held_is free raises.counted)))) in
+      (both_true (ap not (mortal_cell c raises.mortal)) (ap not (beyond h t log c known raises.mortal cell.held_is free raises.counted)))) in
       let more : CountFits (x.count +ℤ pos 1) = subst (λ (y : Cell). CountFits y.count) (read_cell h t s c cell.low) (count_after h t s c c (reached_sound h known.reached) some_thread may named) in
       plain_on n h t s c (Of Shared c) ((there + 4) % 2 ^ 64) there (record {
         may = may;
@@ -145,7 +145,7 @@ module _ {B : Type 0} (shows : B → ℕ × Contents) (n limit : ℕ) where
       let others : is_others t (row_at h t).stage c x ≡ true = both_true (ap not (mortal_cell c releases.mortal)) (ap not (not_his n limit h t log c known releases.mortal cell.held_is free releases.counted)) in
       let range : CountFits x.count = reached_count_range h known.reached c in
       let may : thread_may h t s ≡ true = is_enabled n limit h t log s some_thread known releases.own refl (fits_cell n limit h t log s c known named cell.low
-          (both_true (both_true others (default_there x old shown default)) (positive_there x old shown (Rattle.brc_rule.proofs.Numbers.bits_small x.state) high range))) in
+      (both_true (both_true others (default_there x old shown default)) (positive_there x old shown (Rattle.brc_steps.proofs.Numbers.bits_small x.state) high range))) in
       let less : CountFits (x.count -ℤ pos 1) = subst (λ (y : Cell). CountFits y.count) (read_cell h t s c cell.low) (count_after h t s c c (reached_sound h known.reached) some_thread may named) in
       plain_on n h t s c (Of Shared c) (old - 4) old (record {
         may = may;

@@ -29,12 +29,12 @@ use Rattle.brc_rule.specs.Layout.{spot}
 use Rattle.brc_rule.specs.Logs.{Run, world, puts, takes_of, entries_in, contents_at}
 use Rattle.brc_rule.specs.Homes.{Homes, LiesThere, HomeShown}
 use Rattle.brc_rule.specs.Rule.{with_told, Kept}
-use Rattle.brc_rule.specs.Taking.{TookBlock, Ended}
+use Rattle.brc_steps.specs.Taking.{TookBlock, Ended}
 use Rattle.brc_rule.proofs.Homing.{Stays, home_stays, home_else, home_out}
 use Rattle.brc_rule.proofs.Stepping.{moved_on, thread_after, thread_enabled, Does, does}
 use Rattle.brc_rule.proofs.Knowing.{Known, knows}
-use Rattle.brc_rule.proofs.Plain_Steps.{PlainOn, plain_on, CellStays, stays_on, plainly}
-use Rattle.brc_rule.proofs.Block_Steps.{block_moved}
+use Rattle.brc_steps.proofs.Plain_Steps.{PlainOn, plain_on, CellStays, stays_on, plainly}
+use Rattle.brc_steps.proofs.Block_Steps.{block_moved}
 use Rattle.brc_rule.proofs.Contents_Law.{contents_fit}
 
 -- a thread's event that may take the block of its cell
@@ -112,8 +112,8 @@ module _ {B : Type 0} (shows : B → ℕ × Contents) (n limit : ℕ) where
         elsewhere = λ d other. refl;
       })
       (home_out shows (set st.homes c none) (stepped h t s c) ((t, Did s number (moves.Found c (shows lies.block).1)) ∷ r.run) c
-        (λ free. live_owner (cell_at h c).owner ends.live (sym (ap (λ (x : Cell). x.owner) (read_here h.cells c (cell_after t s c (cell_at h c)) no_cell ends.low) ∙ ends.same_owner) ∙ free))
-        (λ live unlocked off. true≢false (sym (taken_mark h t s c (reached_sound h known.reached) (may_parts h t s ends.may) ends.low ends.frees_none takes_it) ∙ off t)))
+      (λ free. live_owner (cell_at h c).owner ends.live (sym (ap (λ (x : Cell). x.owner) (read_here h.cells c (cell_after t s c (cell_at h c)) no_cell ends.low) ∙ ends.same_owner) ∙ free))
+      (λ live unlocked off. true≢false (sym (taken_mark h t s c (reached_sound h known.reached) (may_parts h t s ends.may) ends.low ends.frees_none takes_it) ∙ off t)))
 
   -- the number that is found decides whether the block is taken
   pub end_step : (id : ℕ) (v : View) (slots : List (ℕ × Option B)) (s : Step) (c : ℕ) (w : Word) (written : ℕ → ℕ) → v.active ≡ true → 0 < v.thread → c < n → IsWord n w
@@ -126,16 +126,22 @@ module _ {B : Type 0} (shows : B → ℕ × Contents) (n limit : ℕ) where
       let known : Known n limit h t v.log = knows shows n limit st r id v at active some_thread in
       let e : EndsOn h t s c w (written there) there = ends h there known (r.each_word w is) small in
       elim (cases_Bool (takes_block s (cell_at h c))) [
-        | inr off ↦
-            (with_told (Did s there moves.Nothing) v, keeps, tt,
-            plainly shows n limit st r id v s w (written there) there at active some_thread is (plain_on n h t s c w (written there) there (not_taking h t s c w (written there) there e off)),
-            subst (λ b. Ended shows v slots s c there b (with_told (Did s there moves.Nothing) v, slots)) (sym (e.number_tells ∙ off)) refl)
+        | inr off ↦ (
+          with_told (Did s there moves.Nothing) v,
+          keeps,
+          tt,
+          plainly shows n limit st r id v s w (written there) there at active some_thread is (plain_on n h t s c w (written there) there (not_taking h t s c w (written there) there e off)),
+          subst (λ b. Ended shows v slots s c there b (with_told (Did s there moves.Nothing) v, slots)) (sym (e.number_tells ∙ off)) refl,
+        )
         | inl on ↦
-            let lies : LiesThere shows st.homes c (contents_at r.run c) = (r.each_home c low).lies e.live (unlocked h t s c known e on) e.unmarked in
-            (with_told (Did s there (moves.Found c (shows lies.block).1)) v, takes c (Some lies.block), lies.there,
-            taking st r id v s c w (written there) there at active some_thread low is e on lies,
-            subst (λ b. Ended shows v slots s c there b (with_told (Did s there (moves.Found c (shows lies.block).1)) v, (c, Some lies.block) ∷ slots)) (sym (e.number_tells ∙ on))
-            (record { block = lies.block; of_cell = lies.of_cell; after_is = refl }))
+            let lies : LiesThere shows st.homes c (contents_at r.run c) = (r.each_home c low).lies e.live (unlocked h t s c known e on) e.unmarked in (
+              with_told (Did s there (moves.Found c (shows lies.block).1)) v,
+              takes c (Some lies.block),
+              lies.there,
+              taking st r id v s c w (written there) there at active some_thread low is e on lies,
+              subst (λ b. Ended shows v slots s c there b (with_told (Did s there (moves.Found c (shows lies.block).1)) v, (c, Some lies.block) ∷ slots)) (sym (e.number_tells ∙ on))
+                  (record { block = lies.block; of_cell = lies.of_cell; after_is = refl }),
+            )
       ]
     where
       unlocked : (h : Heap) (t : ℕ) (s : Step) (c : ℕ) → Known n limit h t v.log → EndsOn h t s c w (written (get_or st.words (spot n w) 0)) (get_or st.words (spot n w) 0)

@@ -44,14 +44,14 @@ use Rattle.brc_rule.specs.declared.told.Told.{Told}
 use Rattle.brc_rule.specs.declared.view.View.{View}
 use Rattle.brc_rule.specs.Layout.{spot}
 use Rattle.brc_rule.specs.Rule.{Kept}
-use Rattle.brc_rule.specs.Owing.{Carries, EndsRisen}
-use Rattle.brc_rule.specs.Taking.{Ended}
+use Rattle.brc_steps.specs.Owing.{Carries, EndsRisen}
+use Rattle.brc_steps.specs.Taking.{Ended}
 use Rattle.brc_rule.proofs.Knowing.{Known, is_enabled, meant_there, hand_there}
-use Rattle.brc_rule.proofs.Local_Steps.{mortal_cell, fits_cell, read_cell}
-use Rattle.brc_rule.proofs.Numbers.{word_taken, bits_three}
-use Rattle.brc_rule.proofs.Plain_Steps.{same_owner}
-use Rattle.brc_rule.proofs.Shared_Steps.{HeldCell, held_cell, not_his, count_after}
-use Rattle.brc_rule.proofs.Taking_Steps.{EndsOn, end_step}
+use Rattle.brc_steps.proofs.Local_Steps.{mortal_cell, fits_cell, read_cell}
+use Rattle.brc_steps.proofs.Numbers.{word_taken, bits_three}
+use Rattle.brc_steps.proofs.Plain_Steps.{same_owner}
+use Rattle.brc_steps.proofs.Shared_Steps.{HeldCell, held_cell, not_his, count_after}
+use Rattle.brc_steps.proofs.Taking_Steps.{EndsOn, end_step}
 
 -- the number that is found tells whether the block is taken
 tells : (n limit : ℕ) (h : Heap) (t : ℕ) (log : List Told) (s : Step) (c there : ℕ) → Known n limit h t log → May h t s → target_at h t s ≡ Some c → there ≡ told_of h t s c
@@ -150,7 +150,7 @@ module _ {B : Type 0} (shows : B → ℕ × Contents) (n limit : ℕ) where
       let x : Cell = cell_at h c in
       let cell : HeldCell h c = held_cell n limit h t log c known ends.holds in
       let may : thread_may h t s ≡ true = is_enabled n limit h t log s some_thread known ends.own refl
-          (fits_cell n limit h t log s c known ends.named cell.low (both_true (ap not ends.risen) ends.fits)) in
+      (fits_cell n limit h t log s c known ends.named cell.low (both_true (ap not ends.risen) ends.fits)) in
       let less : CountFits (x.count -ℤ pos 1) = subst (λ (y : Cell). CountFits y.count) (read_cell h t s c cell.low) (count_after h t s c c (reached_sound h known.reached) some_thread may ends.named) in
       record {
         may = may;

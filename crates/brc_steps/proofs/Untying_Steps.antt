@@ -30,10 +30,10 @@ use Rattle.brc_rule.specs.declared.view.View.{View}
 use Rattle.brc_rule.specs.Layout.{spot}
 use Rattle.brc_rule.specs.Rule.{with_told, Kept}
 use Rattle.brc_rule.specs.Seen.{part_seen, own_may}
-use Rattle.brc_rule.specs.Owing.{UntiesOver, UntiesShut, UntiesPopped}
+use Rattle.brc_steps.specs.Owing.{UntiesOver, UntiesShut, UntiesPopped}
 use Rattle.brc_rule.proofs.Knowing.{Known, is_enabled}
-use Rattle.brc_rule.proofs.Local_Steps.{fits_cell, read_cell}
-use Rattle.brc_rule.proofs.Plain_Steps.{IsPlain, plain_on, stays_on, plain_step}
+use Rattle.brc_steps.proofs.Local_Steps.{fits_cell, read_cell}
+use Rattle.brc_steps.proofs.Plain_Steps.{IsPlain, plain_on, stays_on, plain_step}
 use Rattle.brc_rule.proofs.Since.{since}
 use Rattle.brc_rule.proofs.Noting.{unmerged_word, part_own, hand_in, bit_in}
 

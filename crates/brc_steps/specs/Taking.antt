@@ -2,8 +2,8 @@
 use Rattle.std.specs.Prelude.{◌≡◌, ℕ, Bool, true, false, List, ◌∷◌, Option, Some, None, ◌^◌, ◌-◌}
 use Rattle.atomic_table.specs.Table.{Me}
 use Rattle.brc_runs.specs.declared.event.Step.{Step}
-use Rattle.brc_runs.specs.declared.event.Step.TheVariants.{Claim}
-use Rattle.brc_known.specs.declared.word.Field.TheVariants.{Owner as OwnerWord}
+use Rattle.brc_runs.specs.declared.event.Step.TheVariants.{Claim, Lock}
+use Rattle.brc_known.specs.declared.word.Field.TheVariants.{Owner as OwnerWord, Mutex}
 use Rattle.brc_known.specs.declared.word.Word.TheVariants.{Of}
 use Rattle.brc_rule.specs.declared.contents.Contents.{Contents}
 use Rattle.brc_rule.specs.declared.told.Moved.TheVariants as moves
@@ -25,3 +25,8 @@ Ended shows v slots s c number true me = TookBlock shows v slots s c number me
 abbrev pub Claimed : {B : Type 0} → View → List (ℕ × Option B) → ℕ → ℕ → Bool → Me (Option B) View → Type 0
 Claimed v slots c number true me = me ≡ (with_told (Did (Claim c) (2 ^ 64 - 1) moves.Nothing) v, (c, None) ∷ slots)
 Claimed v slots c number false me = me ≡ (with_told (Lost (Of OwnerWord c) number) v, slots)
+
+-- The object is locked, and the seat has its block with the contents found; or its mutex wasn't 0.
+abbrev pub Locked : {B : Type 0} → (B → ℕ × Contents) → View → List (ℕ × Option B) → ℕ → ℕ → ℕ → Bool → Me (Option B) View → Type 0
+Locked shows v slots k c number true me = TookBlock shows v slots (Lock k) c 0 me
+Locked shows v slots k c number false me = me ≡ (with_told (Lost (Of Mutex c) number) v, slots)

@@ -40,10 +40,10 @@ use Rattle.brc_rule.specs.declared.view.View.{View}
 use Rattle.brc_rule.specs.Layout.{spot}
 use Rattle.brc_rule.specs.Rule.{with_told, Kept}
 use Rattle.brc_rule.specs.Seen.{part_seen}
-use Rattle.brc_rule.specs.Owing.{Enqueues}
+use Rattle.brc_steps.specs.Owing.{Enqueues}
 use Rattle.brc_rule.proofs.Knowing.{Known, is_enabled}
-use Rattle.brc_rule.proofs.Local_Steps.{fits_cell}
-use Rattle.brc_rule.proofs.Plain_Steps.{IsPlain, plain_on, same_owner, stays_on, plain_step}
+use Rattle.brc_steps.proofs.Local_Steps.{fits_cell}
+use Rattle.brc_steps.proofs.Plain_Steps.{IsPlain, plain_on, same_owner, stays_on, plain_step}
 use Rattle.brc_rule.proofs.Since.{since}
 use Rattle.brc_rule.proofs.Noting.{part_hand, hand_in, has_in_hand}
 

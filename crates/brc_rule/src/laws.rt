@@ -1,0 +1,96 @@
+//! The laws of the rule, each as the contract of a function with nothing to do. Its lemmas are in `proofs/`; that each kind
+//! of step keeps the rule is `brc_steps`.
+
+ghost use Rattle.std.specs.Prelude.{◌≡◌, ℕ, ◌<◌, ◌≤◌, List, ◌∷◌, Option, Some, true};
+ghost use mathlib.Core.Option.{some};
+ghost use lib.ListN.{get_elem?};
+ghost use Rattle.atomic_table.specs.Table.{State, Allows, opening as opens_with};
+ghost use Rattle.brc_words.specs.declared.limits.TheConstants.{MOST_THREADS};
+ghost use Rattle.brc_runs.specs.declared.event.Step.{Step as step};
+ghost use Rattle.brc_runs.specs.declared.event.Step.TheVariants as steps;
+ghost use Rattle.brc_runs.specs.Heap.{is_gathered, AreOptions};
+ghost use Rattle.brc_runs.specs.Holding.{carries, Headline};
+ghost use Rattle.brc_runs.specs.Runs.{IsReached};
+ghost use Rattle.brc_runs.specs.Steps.{locked_at};
+ghost use Rattle.brc_known.specs.declared.word.Field.TheVariants as fields;
+ghost use Rattle.brc_known.specs.declared.word.Word.{Word as word};
+ghost use Rattle.brc_known.specs.declared.word.Word.TheVariants as words;
+ghost use Rattle.brc_known.specs.Items.{IsWord, IsPart};
+ghost use Rattle.brc_rule.specs.declared.contents.Contents.{Contents as contents};
+ghost use Rattle.brc_rule.specs.declared.told.Moved.TheVariants as moves;
+ghost use Rattle.brc_rule.specs.declared.told.Told.TheVariants as told;
+ghost use Rattle.brc_rule.specs.declared.view.View.{View as view};
+ghost use Rattle.brc_rule.specs.Layout.{spot, extent};
+ghost use Rattle.brc_rule.specs.Logs.{Run, world, own_of, contents_at, keeps, IsLegal};
+ghost use Rattle.brc_rule.specs.Homes.{AtRest, ContentsFit};
+ghost use Rattle.brc_rule.specs.Rule.{log_in, with_told, Kept};
+ghost use Rattle.brc_rule.specs.Seen.{part_seen, contents_locked, own_may};
+ghost use Rattle.brc_rule.specs.Opening.{first_view, Opens};
+
+/// Each word of the table has a spot of its own.
+pub fn words_lie_apart()
+    ensures inside { (n : ℕ) (w : word) → IsWord n w → spot n w < extent n }
+    ensures apart { (n : ℕ) (w v : word) → IsWord n w → IsWord n v → spot n w ≡ spot n v → w ≡ v }
+{}
+
+/// A table whose words show the opening world, with a block for each immortal and no other, keeps the rule.
+#[tactic(auto, using(crate::proofs::Opening_Law::opens))]
+pub fn tables_open_by_the_rule<B>()
+    ensures { (shows : B → ℕ × contents) (n limit : ℕ) (words : List ℕ) (slots : List (Option B))
+        → AreOptions n limit → Opens shows n limit words slots
+        → Kept shows n limit (opens_with words slots first_view) }
+{}
+
+/// What stands in a table that keeps the rule is a reached world, so counts are references there; and each seat's part of
+/// it is what the seat's own log says.
+pub fn what_stands_here_is_one_run<B>()
+    ensures reached { (shows : B → ℕ × contents) (n limit : ℕ) (s : State (Option B) view)
+        (r : Kept shows n limit s) → IsReached (world n limit r.run) }
+    ensures headline { (shows : B → ℕ × contents) (n limit : ℕ) (s : State (Option B) view)
+        (r : Kept shows n limit s) → Headline (world n limit r.run) }
+    ensures own { (shows : B → ℕ × contents) (n limit : ℕ) (s : State (Option B) view)
+        (r : Kept shows n limit s) (j : ℕ) (v : view) → get_elem? s.views j ≡ some v → v.active ≡ true
+        → 0 < v.thread → IsPart (world n limit r.run) v.thread (part_seen n v.log) }
+{}
+
+/// A load of any word keeps the rule, and joins its seat's log as a note.
+#[tactic(auto, using(crate::proofs::Looking::looks))]
+pub fn looks_keep_the_rule<B>()
+    ensures { (shows : B → ℕ × contents) (n limit id : ℕ) (v : view) (slots : List (ℕ × Option B)) (w : word)
+        → v.active ≡ true → IsWord n w
+        → Allows (Kept shows n limit) n id (v, slots) (spot n w) (λ number. number)
+        (λ number me. me ≡ (with_told (told.Saw w number) v, slots)) }
+{}
+
+/// A look at the owner word of a cell that the thread carries finds a thread's number or 0, and one at the local word of an
+/// object that it merges a count within the limit.
+#[tactic(auto, using(crate::proofs::Small_Looks::looks_owner, crate::proofs::Small_Looks::looks_local))]
+pub fn looks_at_the_hands_cell_find_small_numbers<B>()
+    ensures owner { (shows : B → ℕ × contents) (n limit id : ℕ) (v : view) (slots : List (ℕ × Option B)) (c : ℕ)
+        → v.active ≡ true → 0 < v.thread → c < n → carries c (part_seen n v.log).row.hand ≡ true
+        → Allows (Kept shows n limit) n id (v, slots) (spot n (words.Of fields.Owner c)) (λ number. number)
+        (λ number me. (me ≡ (with_told (told.Saw (words.Of fields.Owner c) number) v, slots))
+        × (number ≤ MOST_THREADS)) }
+    ensures local { (shows : B → ℕ × contents) (n limit id : ℕ) (v : view) (slots : List (ℕ × Option B)) (c : ℕ)
+        → v.active ≡ true → 0 < v.thread → c < n → own_may n (part_seen n v.log) (steps.MergeAdd c) ≡ true
+        → Allows (Kept shows n limit) n id (v, slots) (spot n (words.Of fields.Local c)) (λ number. number)
+        (λ number me. (me ≡ (with_told (told.Saw (words.Of fields.Local c) number) v, slots))
+        × (number ≤ limit)) }
+{}
+
+/// What a locking finds is what the last birth or unlock of that cell put home, and so is what the taker of a dead block
+/// finds; an unlock that keeps puts home what its locking found. What was put home last is of the kind, and has the
+/// entries, that the world has there, but for a dead block, which loses its entries one by one.
+#[tactic(auto, using(crate::proofs::Locked_Contents::found_is_put, crate::proofs::Locked_Contents::kept_is_put, crate::proofs::Locked_Contents::locked_contents, crate::proofs::Contents_Law::contents_fit))]
+pub fn lockings_find_what_was_put_home()
+    ensures found { (n limit : ℕ) (run : Run) (t : ℕ) (s : step) (number c : ℕ) (p : contents)
+        → IsLegal n limit ((t, told.Did s number (moves.Found c p)) ∷ run) → p ≡ contents_at run c }
+    ensures kept { (n limit : ℕ) (run : Run) (t : ℕ) (s : step) (number c : ℕ) (p : contents)
+        → IsLegal n limit ((t, told.Did s number (moves.Put c p)) ∷ run) → keeps s ≡ true
+        → p ≡ contents_at run c }
+    ensures locked { (n limit : ℕ) (run : Run) (t c : ℕ) → AreOptions n limit → IsLegal n limit run
+        → 0 < t → locked_at (world n limit run) t ≡ Some c
+        → contents_locked (own_of t run) ≡ Some (contents_at run c) }
+    ensures fit { (n limit : ℕ) (run : Run) (c : ℕ) → AreOptions n limit → IsLegal n limit run
+        → AtRest (world n limit run) c → ContentsFit (world n limit run) run c }
+{}

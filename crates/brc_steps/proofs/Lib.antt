@@ -1,0 +1,15 @@
+pub mod Numbers
+pub mod Plain_Steps
+pub mod Block_Steps
+pub mod Taking_Steps
+pub mod Local_Steps
+pub mod Shared_Steps
+pub mod Ending_Steps
+pub mod Making_Steps
+pub mod Locking_Steps
+pub mod Queue_Steps
+pub mod Root_Steps
+pub mod Last_Steps
+pub mod Untying_Steps
+pub mod Adding_Steps
+pub mod Queueing_Steps

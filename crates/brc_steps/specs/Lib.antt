@@ -1,0 +1,3 @@
+pub mod Owing
+pub mod Taking
+pub mod Joining
