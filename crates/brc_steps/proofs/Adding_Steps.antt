@@ -1,24 +1,19 @@
 -- MergeAdd: the local count joins the shared one, and the object is merged.
-use Rattle.std.proofs.Common.{◌≡◌, ◌⊎◌, ℕ, ◌+◌, ◌*◌, ◌<◌, ◌≤◌, ◌%◌, ◌^◌, ◌||◌, true, pos, ◌+ℤ◌, List, length, Option, refl, sym, ◌∙◌, ap, subst, inl, inr, arith}
-use Rattle.std.proofs.lemmas.Bool.{or_cases}
+use Rattle.std.proofs.Common.{◌≡◌, ℕ, ◌+◌, ◌*◌, ◌<◌, ◌≤◌, ◌%◌, ◌^◌, true, pos, ◌+ℤ◌, List, length, Option, refl, sym, ◌∙◌, ap, subst, arith}
 use Rattle.atomic_table.specs.Table.{State as Table, Allows}
 use Rattle.brc_words.specs.declared.limits.TheConstants.{FIRST_MORTAL}
-use Rattle.brc_words.specs.declared.owner.Owner.TheVariants as owners
 use Rattle.brc_words.specs.declared.state.State.TheVariants as states
 use Rattle.brc_words.specs.Shared.{CountFits}
 use Rattle.brc_runs.specs.declared.cell.Cell.{Cell}
 use Rattle.brc_runs.specs.declared.event.Step.{Step}
 use Rattle.brc_runs.specs.declared.event.Step.TheVariants.{MergeAdd}
-use Rattle.brc_runs.specs.declared.row.Hand.{Hand}
 use Rattle.brc_runs.specs.declared.row.Hand.TheVariants as hands
 use Rattle.brc_runs.specs.declared.row.Phase.{Phase}
-use Rattle.brc_runs.specs.declared.row.Phase.TheVariants as phases
 use Rattle.brc_runs.specs.Heap.{Heap, cell_at, row_at}
 use Rattle.brc_runs.specs.Holding.{lives}
 use Rattle.brc_runs.specs.Runs.{IsReached}
 use Rattle.brc_runs.specs.Sound.{IsSound}
-use Rattle.brc_runs.specs.Steps.{thread_may, cell_after, is_at}
-use Rattle.brc_runs.proofs.Naming.{busy_hand}
+use Rattle.brc_runs.specs.Steps.{thread_may, cell_after}
 use Rattle.brc_runs.proofs.Reached.{reached_sound}
 use Rattle.brc_runs.proofs.Sizes.{reached_count_range}
 use Rattle.brc_lasting.specs.Staying.{Merges}
