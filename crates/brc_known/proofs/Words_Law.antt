@@ -11,18 +11,11 @@ use Rattle.brc_runs.specs.declared.row.Stage.TheVariants as stages
 use Rattle.brc_runs.specs.Lists.{word_at}
 use Rattle.brc_runs.specs.Heap.{Heap, cell_at, row_at, queue_at, no_cell, no_row, is_registered, is_immortal, words_for}
 use Rattle.brc_runs.specs.Steps.{cell_after, after_target, is_default, is_closed, is_shut, closed_more, closes_next, queues_with, own_ok_at}
-use Rattle.brc_known.specs.Items.{Field, Owner, Local, Shared, Mutex, Word, Of, Queue, NotifyWord, word_in, field_of, works_on, IsWord, Shows, ShowsQueue}
+use Rattle.brc_known.specs.Items.{Field, Owner, Local, Shared, Mutex, Word, Of, Queue, NotifyWord, word_in, field_of, same_field, works_on, IsWord, Shows, ShowsQueue}
 use Rattle.brc_runs.proofs.Changes.{read_there}
 use Rattle.brc_lasting.proofs.Ranges_Law.{same_rows}
 
 -- ---- the words of the cell that is meant
-
-abbrev pub same_field : Field → Field → Bool
-same_field Owner Owner = true
-same_field Local Local = true
-same_field Shared Shared = true
-same_field Mutex Mutex = true
-same_field _ _ = false
 
 -- whether the step works on this word of its cell
 abbrev pub works_here : Step → Field → Bool

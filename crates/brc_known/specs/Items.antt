@@ -65,6 +65,14 @@ field_of (Lock k) = Mutex
 field_of (Unlock change) = Mutex
 field_of _ = Shared
 
+-- the same word of a cell
+abbrev pub same_field : Field → Field → Bool
+same_field Owner Owner = true
+same_field Local Local = true
+same_field Shared Shared = true
+same_field Mutex Mutex = true
+same_field _ _ = false
+
 -- a store is told what it stores, every other step what it finds
 abbrev pub is_store : Step → Bool
 is_store (InitLocal c) = true

@@ -1,40 +1,37 @@
 -- What was put home last is what the cell has, kind and entries, but while it is on a worklist: a dead block loses its
 -- entries one by one.
-use Rattle.std.proofs.Common.{◌≡◌, ◌≢◌, ℕ, zero, suc, ◌<◌, ◌≤◌, ◌==◌, Bool, true, false, not, ◌&&◌, if◌then◌else◌, ℤ, pos, ◌-ℤ◌, List, [], ◌∷◌, length, set, get_or, replicate, Option, Some, None, refl, sym, ◌∙◌, ap, subst, inl, inr, arith}
-use Rattle.std.proofs.lemmas.List.{get_or-set_same, get_or_past, get_or-replicate}
-use Rattle.std.proofs.lemmas.Bool.{cases_eq, cases_lt, cases_Bool, eq-eqb, ne_eqb, eqb-true, lt-ltb, le-ltb, true≢false, and_parts}
+use Rattle.std.proofs.Common.{◌≡◌, ◌≢◌, ℕ, zero, suc, ◌<◌, ◌==◌, Bool, true, false, not, if◌then◌else◌, pos, ◌-ℤ◌, List, [], ◌∷◌, length, set, replicate, Option, Some, None, refl, sym, ◌∙◌, ap, subst, inl, inr, arith}
+use Rattle.std.proofs.lemmas.List.{get_or-set_same, get_or_past}
+use Rattle.std.proofs.lemmas.Bool.{cases_eq, cases_lt, cases_Bool, eq-eqb, ne_eqb, le-ltb, true≢false, and_parts}
 use Rattle.std.specs.Cmp.Derive.{both_true}
 use Rattle.brc_words.specs.declared.limits.TheConstants.{FIRST_MORTAL, GLOBALS}
-use Rattle.brc_words.specs.declared.owner.Owner.TheVariants as owners
 use Rattle.brc_runs.specs.declared.cell.Cell.{Cell}
 use Rattle.brc_runs.specs.declared.event.Event.{Event}
 use Rattle.brc_runs.specs.declared.event.Step.{Step}
-use Rattle.brc_runs.specs.declared.event.Step.TheVariants.{Birth, Free, Unlock, Register, Gather}
+use Rattle.brc_runs.specs.declared.event.Step.TheVariants.{Birth, Free, Register, Gather}
 use Rattle.brc_runs.specs.Lists.{is_marked}
-use Rattle.brc_runs.specs.Heap.{Heap, opening, opening_cell, cell_at, entries_at, row_at, worklist_at, no_cell, is_immortal, immortal_kind, AreOptions}
+use Rattle.brc_runs.specs.Heap.{Heap, opening, cell_at, entries_at, row_at, worklist_at, no_cell, is_immortal, AreOptions}
 use Rattle.brc_runs.specs.Holding.{lives, lives_at, lives_by, lives_since, is_birth}
-use Rattle.brc_runs.specs.Runs.{IsReached, IsRun, world_after}
-use Rattle.brc_runs.specs.Sound.{IsSound}
+use Rattle.brc_runs.specs.Runs.{IsRun, world_after}
 use Rattle.brc_runs.specs.Steps.{enabled, after, after_target, root_after, root_may, thread_may, target_at, target_ok, cell_after, stepped, is_free_step, takes_block, worklist_with}
-use Rattle.brc_runs.proofs.Asking.{May, may_parts, on_cell}
+use Rattle.brc_runs.proofs.Asking.{may_parts, on_cell}
 use Rattle.brc_runs.proofs.Changes.{read_here, read_there}
 use Rattle.brc_runs.proofs.Reached.{reached_sound, run_histories}
 use Rattle.brc_runs.proofs.Beginning.{free_cell, immortal_cell, no_entries}
 use Rattle.brc_runs.proofs.Registering.{read_push}
 use Rattle.brc_moves.proofs.Moving.{kind_kept}
-use Rattle.brc_lasting.proofs.Reasons.{At, Meddles, event_cell, event_entries}
+use Rattle.brc_lasting.proofs.Reasons.{event_cell, event_entries}
 use Rattle.brc_lasting.proofs.Standing.{run_reached}
-use Rattle.brc_known.specs.Items.{AreItems, MayCome, events_of}
+use Rattle.brc_known.specs.Items.{MayCome, events_of}
 use Rattle.brc_known.proofs.Items_Runs.{events_run}
 use Rattle.brc_words.specs.declared.kind.Kind.TheVariants as kinds
-use Rattle.brc_rule.specs.declared.contents.Contents.{Contents}
 use Rattle.brc_rule.specs.declared.contents.Contents.TheVariants.{Nothing, Truth, Int, Dict}
 use Rattle.brc_rule.specs.declared.told.Moved.{Moved}
 use Rattle.brc_rule.specs.declared.told.Moved.TheVariants as moves
 use Rattle.brc_rule.specs.declared.told.Told.{Told}
 use Rattle.brc_rule.specs.declared.told.Told.TheVariants.{Did, Saw, Lost}
 use Rattle.brc_rule.specs.Homes.{AtRest, ContentsFit}
-use Rattle.brc_rule.specs.Logs.{kind_in, entries_in, item_of, Run, items_of, world, opening_contents, contents_at, puts, PutsHome, MovesWith, IsMoved, IsLegal}
+use Rattle.brc_rule.specs.Logs.{kind_in, entries_in, item_of, Run, items_of, world, contents_at, puts, MovesWith, IsMoved, IsLegal}
 use Rattle.brc_rule.proofs.Stepping.{thread_after}
 
 -- ---- a step that puts nothing home there

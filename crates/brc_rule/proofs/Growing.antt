@@ -1,7 +1,6 @@
 -- One more item of a seat keeps the rule, where words and homes show the world after it. Seats are dealt with here, once.
 use Rattle.std.proofs.Common.{◌≡◌, ◌≢◌, ℕ, suc, ◌<◌, true, false, List, [], ◌∷◌, length, set, get_or, Option, Some, None, refl, sym, ◌∙◌, ap, subst, inl, inr, ⊎_elim, arith, length-set}
 use Rattle.std.proofs.lemmas.Bool.{cases_eq}
-use lib.Seq.{set-get_or}
 use mathlib.Core.Option.{some, some-injective, some-ne-none}
 use lib.ListN.{get_elem?}
 use Rattle.atomic_table.specs.Table.{State}
@@ -11,12 +10,11 @@ use Rattle.brc_known.specs.declared.word.Word.{Word}
 use Rattle.brc_known.specs.Items.{IsWord, Shows, MayCome, is_start}
 use Rattle.brc_rule.specs.declared.contents.Contents.{Contents}
 use Rattle.brc_rule.specs.declared.told.Told.{Told}
-use Rattle.brc_rule.specs.declared.told.Told.TheVariants.{Saw, Lost}
 use Rattle.brc_rule.specs.declared.view.View.{View}
 use Rattle.brc_rule.specs.Layout.{spot, extent}
-use Rattle.brc_rule.specs.Logs.{item_of, Run, own_of, world, IsMoved, IsLegal}
+use Rattle.brc_rule.specs.Logs.{item_of, Run, world, IsMoved}
 use Rattle.brc_rule.specs.Homes.{Homes, HomeShown}
-use Rattle.brc_rule.specs.Rule.{stands, with_told, log_in, Fits, Seated, Kept}
+use Rattle.brc_rule.specs.Rule.{stands, with_told, Fits, Seated, Kept}
 use Rattle.brc_rule.proofs.Own_Logs.{own_more, own_same, stands_ungathered, SameThreads, same_stands, same_gathered}
 
 pub at_inside : {A : Type 0} (l : List A) (i : ℕ) (a : A) → get_elem? l i ≡ some a → i < length l

@@ -12,12 +12,12 @@ use Rattle.brc_runs.specs.declared.event.Dropped.{Dropped}
 use Rattle.brc_runs.specs.declared.event.Step.{Step}
 use Rattle.brc_runs.specs.declared.event.Step.TheVariants.{Free, Unlock}
 use Rattle.brc_runs.specs.Lists.{is_marked}
-use Rattle.brc_runs.specs.Heap.{Heap, opening, cell_at, entries_at, row_at, frame_at, popped_at, worklist_at, is_registered, is_gathered, words_for, AreOptions}
-use Rattle.brc_runs.specs.Steps.{thread_may, stage_ok, lock_ok, hand_ok, own_ok, own_ok_at, others_ok, target_ok, target_at, is_empty, change_ok, locked_entries, locked_cell, locked_at}
+use Rattle.brc_runs.specs.Heap.{Heap, opening, cell_at, entries_at, row_at, frame_at, popped_at, worklist_at, is_registered, words_for, AreOptions}
+use Rattle.brc_runs.specs.Steps.{thread_may, stage_ok, lock_ok, hand_ok, own_ok, own_ok_at, others_ok, target_ok, target_at, is_empty, change_ok, locked_entries, locked_at}
 use Rattle.brc_runs.specs.Holding.{Headline}
 use Rattle.brc_runs.specs.Runs.{IsReached}
 use Rattle.brc_runs.proofs.Reached.{reached_headline}
-use Rattle.brc_known.specs.Items.{Part, part_of, IsPart, meant, events_of, own, world_of_items}
+use Rattle.brc_known.specs.Items.{Part, part_of, IsPart, meant, events_of, own}
 use Rattle.brc_known.specs.Counts.{own_count, counts_of}
 use Rattle.brc_known.specs.Risen.{is_risen}
 use Rattle.brc_known.specs.Owners_Seen.{has_seen_owner}

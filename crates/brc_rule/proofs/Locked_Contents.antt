@@ -1,7 +1,7 @@
 -- What a thread's locking found is there until it unlocks: nobody else puts that cell's block home.
 use Rattle.std.proofs.Common.{◌≡◌, ◌≢◌, ◌⊎◌, ℕ, ◌<◌, ◌==◌, nat_lt, true, false, not, if◌then◌else◌, List, [], ◌∷◌, length, set, get_or, Option, Some, None, refl, sym, ◌∙◌, ap, subst, inl, inr, arith}
-use Rattle.std.proofs.lemmas.List.{get_or_past, get_or_push}
-use Rattle.std.proofs.lemmas.Bool.{cases_eq, cases_lt, cases_Bool, eq-eqb, ne_eqb, eqb-true, true≢false, and_parts, ltb-true}
+use Rattle.std.proofs.lemmas.List.{get_or_push}
+use Rattle.std.proofs.lemmas.Bool.{cases_eq, cases_Bool, ne_eqb, eqb-true, true≢false, and_parts}
 use Rattle.brc_runs.specs.declared.event.Change.{Change}
 use Rattle.brc_runs.specs.declared.event.Event.{Event}
 use Rattle.brc_runs.specs.declared.event.Source.TheVariants as sources
@@ -10,31 +10,28 @@ use Rattle.brc_runs.specs.declared.event.Step.TheVariants.{Birth, LocalUp, Share
 use Rattle.brc_runs.specs.declared.row.Row.{Row}
 use Rattle.brc_runs.specs.declared.row.Phase.TheVariants as phases
 use Rattle.brc_runs.specs.Lists.{place_at, filled}
-use Rattle.brc_runs.specs.Heap.{Heap, opening, cell_at, row_at, frame_at, no_row, new_row, is_registered, AreOptions}
-use Rattle.brc_runs.specs.Holding.{lives}
-use Rattle.brc_runs.specs.Sound.{IsSound, held}
-use Rattle.brc_runs.specs.Steps.{enabled, after, after_target, root_after, root_may, thread_may, target_at, target_ok, locked_at, locked_cell, lock_ok, needs_lock, stepped, kept_cells, row_after, frame_after, own_ok_at, is_vacant, is_shut}
+use Rattle.brc_runs.specs.Heap.{Heap, opening, cell_at, row_at, frame_at, no_row, new_row, AreOptions}
+use Rattle.brc_runs.specs.Sound.{IsSound}
+use Rattle.brc_runs.specs.Steps.{enabled, after, after_target, root_after, root_may, thread_may, target_at, locked_at, locked_cell, lock_ok, stepped, kept_cells, row_after, is_shut}
 use Rattle.brc_runs.specs.Runs.{IsReached}
-use Rattle.brc_runs.proofs.Asking.{May, may_parts, Vacant, vacant}
-use Rattle.brc_runs.proofs.Changes.{read_here, read_there}
+use Rattle.brc_runs.proofs.Asking.{May, may_parts, vacant}
+use Rattle.brc_runs.proofs.Changes.{read_here}
 use Rattle.brc_runs.proofs.Counting.{lock_stays}
 use Rattle.brc_runs.proofs.Reached.{reached_sound}
-use Rattle.brc_runs.proofs.Registering.{read_push}
-use Rattle.brc_lasting.specs.Staying.{IsAnothers, SameOwn, is_about}
+use Rattle.brc_lasting.specs.Staying.{SameOwn, is_about}
 use Rattle.brc_lasting.proofs.Lasting.{others_own, locked_mutex, held_live, not_bearing}
 use Rattle.brc_lasting.proofs.Standing.{run_reached}
-use Rattle.brc_known.specs.Items.{AreItems, MayCome, events_of, is_start}
+use Rattle.brc_known.specs.Items.{MayCome, events_of, is_start}
 use Rattle.brc_known.proofs.Items_Runs.{events_run}
-use Rattle.brc_known.proofs.Words_Law.{kept_by}
 use Rattle.brc_rule.specs.declared.contents.Contents.{Contents}
 use Rattle.brc_rule.specs.declared.told.Moved.{Moved}
 use Rattle.brc_rule.specs.declared.told.Moved.TheVariants as moves
 use Rattle.brc_rule.specs.declared.told.Told.{Told}
 use Rattle.brc_rule.specs.declared.told.Told.TheVariants.{Did, Saw, Lost}
-use Rattle.brc_rule.specs.Logs.{item_of, Run, items_of, own_of, world, contents_at, put_by, puts, takes, takes_of, MovesWith, IsMoved, IsLegal, keeps}
+use Rattle.brc_rule.specs.Logs.{item_of, Run, items_of, own_of, world, contents_at, puts, takes_of, MovesWith, IsMoved, IsLegal, keeps}
 use Rattle.brc_rule.specs.Seen.{contents_on, contents_locked}
 use Rattle.brc_rule.proofs.Own_Logs.{own_more, own_same}
-use Rattle.brc_rule.proofs.Stepping.{moved_on, thread_after, no_start}
+use Rattle.brc_rule.proofs.Stepping.{moved_on, no_start}
 
 none_some : {A : Type 0} (a : A) → None ≡ Some a → ⊥
 none_some a bad = absurd (cc)

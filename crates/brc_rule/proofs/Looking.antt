@@ -1,19 +1,19 @@
 -- A look at any word of the table keeps the rule: a note joins the seat's log, and nothing else changes.
-use Rattle.std.proofs.Common.{◌≡◌, ℕ, ◌<◌, true, List, [], ◌∷◌, length, set, get_or, Option, refl, sym, ◌∙◌, ap, subst}
+use Rattle.std.proofs.Common.{◌≡◌, ℕ, true, List, set, get_or, Option, refl, sym, subst}
 use lib.Seq.{set-get_or}
 use mathlib.Core.Option.{some}
 use lib.ListN.{get_elem?}
-use Rattle.atomic_table.specs.Table.{State, Allows, stepped, keeps}
+use Rattle.atomic_table.specs.Table.{State, Allows, keeps}
 use Rattle.brc_known.specs.declared.word.Word.{Word}
-use Rattle.brc_known.specs.Items.{IsWord, Shows}
+use Rattle.brc_known.specs.Items.{IsWord}
 use Rattle.brc_rule.specs.declared.contents.Contents.{Contents}
 use Rattle.brc_rule.specs.declared.told.Told.{Told}
 use Rattle.brc_rule.specs.declared.told.Told.TheVariants.{Saw, Lost}
 use Rattle.brc_rule.specs.declared.view.View.{View}
 use Rattle.brc_rule.specs.Layout.{spot}
-use Rattle.brc_rule.specs.Logs.{Run, world}
+use Rattle.brc_rule.specs.Logs.{world}
 use Rattle.brc_rule.specs.Rule.{with_told, Kept}
-use Rattle.brc_rule.proofs.Growing.{IsCalm, grows}
+use Rattle.brc_rule.proofs.Growing.{grows}
 use Rattle.brc_rule.proofs.Homing.{unchanged, home_stays}
 
 module _ {B : Type 0} (shows : B → ℕ × Contents) (n limit : ℕ) where

@@ -1,5 +1,5 @@
 -- A table that opens with the opening world's words and the immortals' blocks keeps the rule: the run is empty.
-use Rattle.std.proofs.Common.{◌≡◌, ℕ, zero, suc, ◌<◌, ◌≤◌, ◌==◌, nat_lt, not, true, false, List, [], ◌∷◌, map, length, Option, Some, None, refl, sym, ◌∙◌, ap, subst, inl, inr, arith}
+use Rattle.std.proofs.Common.{◌≡◌, ℕ, zero, suc, ◌<◌, ◌==◌, nat_lt, not, true, false, List, [], ◌∷◌, map, Option, refl, sym, ◌∙◌, ap, subst, inl, inr, arith}
 use Rattle.std.proofs.lemmas.Bool.{cases_lt, eqb-true, ltb-true, and_parts, or_cases, true≢false}
 use mathlib.Core.Option.{some, some-injective, some-ne-none}
 use lib.ListN.{get_elem?, length-map}
@@ -8,13 +8,13 @@ use Rattle.atomic_table.specs.Table as tables
 use Rattle.brc_words.specs.declared.limits.TheConstants.{FIRST_MORTAL}
 use Rattle.brc_words.specs.declared.owner.Owner.TheVariants as owners
 use Rattle.brc_runs.specs.declared.cell.Cell.{Cell}
-use Rattle.brc_runs.specs.Heap.{Heap, opening, cell_at, is_gathered, is_registered, AreOptions}
+use Rattle.brc_runs.specs.Heap.{opening, cell_at, is_gathered, is_registered, AreOptions}
 use Rattle.brc_runs.specs.Holding.{lives}
 use Rattle.brc_runs.proofs.Beginning.{free_cell, immortal_cell}
 use Rattle.brc_rule.specs.declared.contents.Contents.{Contents}
 use Rattle.brc_rule.specs.declared.view.View.{View}
 use Rattle.brc_rule.specs.Homes.{HomeShown}
-use Rattle.brc_rule.specs.Rule.{stands, Fits, Seated, Kept}
+use Rattle.brc_rule.specs.Rule.{stands, Fits, Kept}
 use Rattle.brc_rule.specs.Opening.{first_view, Opens}
 
 -- nobody is gathered yet, and nobody stands but the root

@@ -22,7 +22,7 @@ use Rattle.brc_known.specs.declared.word.Field.{Field}
 use Rattle.brc_known.specs.declared.word.Field.TheVariants.{Owner, Local, Shared, Mutex}
 use Rattle.brc_known.specs.declared.word.Word.{Word}
 use Rattle.brc_known.specs.declared.word.Word.TheVariants.{Of, Queue, NotifyWord}
-use Rattle.brc_known.specs.Items.{Shows, MayCome, is_start, events_of}
+use Rattle.brc_known.specs.Items.{Shows, MayCome, is_start, same_field, events_of}
 use Rattle.brc_known.proofs.Items_Runs.{events_run}
 use Rattle.brc_rule.specs.declared.told.Moved.{Moved}
 use Rattle.brc_rule.specs.declared.told.Told.{Told}
@@ -30,7 +30,7 @@ use Rattle.brc_rule.specs.declared.told.Told.TheVariants.{Did, Saw, Lost}
 use Rattle.brc_rule.specs.Logs.{item_of, Run, items_of, own_of, world, IsLegal}
 use Rattle.brc_rule.specs.Rule.{stands}
 use Rattle.brc_rule.specs.Seen.{part_seen}
-use Rattle.brc_rule.specs.Noted.{is_field, is_of, noted, newest_step}
+use Rattle.brc_rule.specs.Noted.{is_of, noted, newest_step}
 use Rattle.brc_rule.proofs.Own_Logs.{stands_registered, stands_ungathered, own_more}
 use Rattle.brc_rule.proofs.Knowing.{Known, knows_run}
 use Rattle.brc_rule.proofs.Stepping.{moved_on, thread_after, no_start}
@@ -91,7 +91,7 @@ is_apart h u s number t moved sound ok some_thread stood older =
 
 -- ---- words of cells
 
-field_is : (f g : Field) → is_field f g ≡ true → f ≡ g
+field_is : (f g : Field) → same_field f g ≡ true → f ≡ g
 field_is Owner Owner is = refl
 field_is Local Local is = refl
 field_is Shared Shared is = refl
@@ -108,15 +108,15 @@ word_is f c (Of g d) is =
 word_is f c (Queue u k) is = absurd (true≢false (sym is))
 word_is f c (NotifyWord u) is = absurd (true≢false (sym is))
 
-same_field : (f : Field) → is_field f f ≡ true
-same_field Owner = refl
-same_field Local = refl
-same_field Shared = refl
-same_field Mutex = refl
+field_again : (f : Field) → same_field f f ≡ true
+field_again Owner = refl
+field_again Local = refl
+field_again Shared = refl
+field_again Mutex = refl
 
 -- a look is noted, and so is a lost compare-exchange
 pub noted_now : (f : Field) (c number : ℕ) (log : List Told) → noted f c (Saw (Of f c) number ∷ log) ≡ Some number
-noted_now f c number log = ap (λ b. if b then Some number else noted f c log) (both_true (same_field f) (eq-eqb c c refl))
+noted_now f c number log = ap (λ b. if b then Some number else noted f c log) (both_true (field_again f) (eq-eqb c c refl))
 
 pub noted_lost : (f : Field) (c number : ℕ) (log : List Told) → noted f c (Lost (Of f c) number ∷ log) ≡ Some number
 noted_lost f c number log = noted_now f c number log

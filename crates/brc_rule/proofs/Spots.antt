@@ -1,12 +1,10 @@
 -- Each word of the table has a spot of its own.
-use Rattle.std.proofs.Common.{◌≡◌, ℕ, ◌+◌, ◌*◌, ◌/◌, ◌<◌, refl, ap, ◌∙◌, arith}
-use Rattle.brc_words.specs.declared.limits.TheConstants.{MOST_THREADS}
-use Rattle.brc_runs.specs.Heap.{words_for}
+use Rattle.std.proofs.Common.{◌≡◌, ℕ, ◌<◌, ap, ◌∙◌, arith}
 use Rattle.brc_known.specs.declared.word.Field.TheVariants.{Owner, Local, Shared, Mutex}
 use Rattle.brc_known.specs.declared.word.Word.{Word}
 use Rattle.brc_known.specs.declared.word.Word.TheVariants.{Of, Queue, NotifyWord}
 use Rattle.brc_known.specs.Items.{IsWord}
-use Rattle.brc_rule.specs.Layout.{counts_from, queues_from, notify_from, spot, extent}
+use Rattle.brc_rule.specs.Layout.{spot, extent}
 
 -- the word at the spot is one of the table's
 pub inside : (n : ℕ) (w : Word) → IsWord n w → spot n w < extent n

@@ -1,15 +1,14 @@
 -- Any event of a thread that works on one word keeps the rule, where the word becomes what the world after it shows and the
 -- homes show that world.
-use Rattle.std.proofs.Common.{◌≡◌, ◌≢◌, ℕ, ◌<◌, ◌==◌, true, false, if◌then◌else◌, List, [], ◌∷◌, length, set, get_or, Option, Some, None, refl, sym, ◌∙◌, ap, subst, inl, inr, arith, length-set}
+use Rattle.std.proofs.Common.{◌≡◌, ℕ, ◌<◌, true, false, if◌then◌else◌, ◌∷◌, length, set, get_or, Option, Some, None, refl, sym, ◌∙◌, ap, subst, inl, inr, arith, length-set}
 use Rattle.std.proofs.lemmas.List.{get_or-set_same}
 use Rattle.std.proofs.lemmas.Bool.{cases_eq, ne_eqb, true≢false}
 use mathlib.Core.Option.{some}
 use lib.ListN.{get_elem?}
 use Rattle.atomic_table.specs.Table.{State}
-use Rattle.brc_runs.specs.declared.event.Event.{Event}
 use Rattle.brc_runs.specs.declared.event.Step.{Step}
 use Rattle.brc_runs.specs.declared.event.Step.TheVariants.{Register, Gather}
-use Rattle.brc_runs.specs.Heap.{Heap, opening}
+use Rattle.brc_runs.specs.Heap.{Heap}
 use Rattle.brc_runs.specs.Steps.{enabled, after, after_target, root_after, root_may, thread_may, target_at}
 use Rattle.brc_known.specs.declared.word.Word.{Word}
 use Rattle.brc_known.specs.Items.{IsWord, Shows, IsTold, found, works_on, is_start, events_of}
@@ -23,13 +22,13 @@ use Rattle.brc_rule.specs.declared.told.Moved.{Moved}
 use Rattle.brc_rule.specs.declared.told.Told.{Told}
 use Rattle.brc_rule.specs.declared.told.Told.TheVariants.{Did}
 use Rattle.brc_rule.specs.declared.view.View.{View}
-use Rattle.brc_rule.specs.Layout.{spot, extent}
+use Rattle.brc_rule.specs.Layout.{spot}
 use Rattle.brc_rule.specs.Logs.{item_of, entries_found, Run, items_of, world, MovesWith}
 use Rattle.brc_rule.specs.Homes.{Homes, HomeShown}
 use Rattle.brc_rule.specs.Rule.{with_told, Kept}
 use Rattle.brc_rule.proofs.Spots.{inside, apart}
 use Rattle.brc_rule.proofs.Own_Logs.{SameThreads}
-use Rattle.brc_rule.proofs.Growing.{IsCalm, grows}
+use Rattle.brc_rule.proofs.Growing.{grows}
 
 -- the world after a thread's step
 abbrev pub moved_on : Heap → ℕ → Step → Heap

@@ -1,11 +1,10 @@
 -- Items with the contents that go with them, and the runs that they make.
-use Rattle.std.specs.Prelude.{◌≡◌, ℕ, ◌==◌, Bool, true, false, if◌then◌else◌, ℤ, pos, ◌-ℤ◌, List, [], ◌∷◌, map, Option, Some, None}
+use Rattle.std.specs.Prelude.{◌≡◌, ℕ, ◌==◌, Bool, true, false, if◌then◌else◌, pos, ◌-ℤ◌, List, [], ◌∷◌, map, Option, Some, None}
 use Rattle.brc_words.specs.declared.limits.TheConstants.{GLOBALS}
 use Rattle.brc_words.specs.declared.kind.Kind.{Kind}
 use Rattle.brc_words.specs.declared.kind.Kind.TheVariants as kinds
 use Rattle.brc_runs.specs.declared.event.Step.{Step}
 use Rattle.brc_runs.specs.declared.event.Step.TheVariants.{Birth, Unlock}
-use Rattle.brc_runs.specs.declared.event.Change.{Change}
 use Rattle.brc_runs.specs.declared.event.Change.TheVariants as changes
 use Rattle.brc_runs.specs.Heap.{Heap, opening, cell_at, entries_at}
 use Rattle.brc_runs.specs.Steps.{after_target, target_at, locked_at}

@@ -1,24 +1,17 @@
 -- What a seat has noted since its last step. A look changes nothing, and so what it found may be used, where it stays while
 -- others step.
-use Rattle.std.specs.Prelude.{ℕ, ◌==◌, ◌&&◌, Bool, true, false, if◌then◌else◌, List, [], ◌∷◌, Option, Some, None}
+use Rattle.std.specs.Prelude.{ℕ, ◌==◌, ◌&&◌, Bool, false, if◌then◌else◌, List, [], ◌∷◌, Option, Some, None}
 use Rattle.brc_runs.specs.declared.event.Step.{Step}
 use Rattle.brc_known.specs.declared.word.Field.{Field}
-use Rattle.brc_known.specs.declared.word.Field.TheVariants.{Owner, Local, Shared, Mutex}
 use Rattle.brc_known.specs.declared.word.Word.{Word}
 use Rattle.brc_known.specs.declared.word.Word.TheVariants.{Of}
+use Rattle.brc_known.specs.Items.{same_field}
 use Rattle.brc_rule.specs.declared.told.Told.{Told}
 use Rattle.brc_rule.specs.declared.told.Told.TheVariants.{Did, Saw, Lost}
 
-abbrev pub is_field : Field → Field → Bool
-is_field Owner Owner = true
-is_field Local Local = true
-is_field Shared Shared = true
-is_field Mutex Mutex = true
-is_field _ _ = false
-
 -- this word of the cell
 abbrev pub is_of : Field → ℕ → Word → Bool
-is_of field c (Of other d) = is_field field other && (d == c)
+is_of field c (Of other d) = same_field field other && (d == c)
 is_of field c _ = false
 
 -- a step of the thread's own ends what its notes tell

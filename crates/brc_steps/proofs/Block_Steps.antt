@@ -1,5 +1,5 @@
 -- Steps with which a block moves between its slot and a seat.
-use Rattle.std.proofs.Common.{◌≡◌, ◌≢◌, ℕ, ◌<◌, Bool, true, false, List, [], ◌∷◌, length, set, get_or, Option, Some, None, refl, sym, ◌∙◌, ap, subst, inl, inr, length-set}
+use Rattle.std.proofs.Common.{◌≡◌, ◌≢◌, ℕ, ◌<◌, Bool, true, false, List, [], ◌∷◌, length, set, Option, Some, refl, sym, ◌∙◌, ap, subst, inl, inr, length-set}
 use Rattle.std.proofs.lemmas.Bool.{cases_eq}
 use mathlib.Core.Option as maybe
 use mathlib.Core.Option.{some}
@@ -21,10 +21,10 @@ use Rattle.brc_rule.specs.declared.told.Told.TheVariants.{Did}
 use Rattle.brc_rule.specs.declared.view.View.{View}
 use Rattle.brc_rule.specs.Layout.{spot}
 use Rattle.brc_rule.specs.Logs.{Run, world, entries_found, contents_at, MovesWith}
-use Rattle.brc_rule.specs.Homes.{Homes, HomeShown}
+use Rattle.brc_rule.specs.Homes.{HomeShown}
 use Rattle.brc_rule.specs.Rule.{with_told, Kept}
 use Rattle.brc_rule.proofs.Homing.{Stays, home_stays, home_else}
-use Rattle.brc_rule.proofs.Stepping.{Does, does}
+use Rattle.brc_rule.proofs.Stepping.{does}
 
 -- marks of other cells stay
 other_mark : (frees takes : Bool) (c d : ℕ) (marks : List Bool) → d ≢ c → is_marked (worklist_with frees takes c marks) d ≡ is_marked marks d

@@ -1,14 +1,11 @@
 -- The ends of objects: SeeZero, MergeZero, and LastDown of a reference that is a place's, an entry's, or the hand's after
 -- an adoption.
-use Rattle.std.proofs.Common.{◌≡◌, ◌≢◌, ℕ, ◌+◌, ◌-◌, ◌*◌, ◌<◌, ◌≤◌, ◌^◌, ◌%◌, ◌&&◌, not, true, false, pos, ◌-ℤ◌, List, length, Option, Some, None, refl, sym, ◌∙◌, ap, subst, inl, inr, arith}
+use Rattle.std.proofs.Common.{◌≡◌, ℕ, ◌+◌, ◌-◌, ◌<◌, ◌≤◌, ◌^◌, ◌%◌, not, true, false, pos, ◌-ℤ◌, List, length, Option, Some, refl, sym, ◌∙◌, ap, subst, arith}
 use Rattle.std.specs.Int.RustNames.{bit_or}
-use Rattle.std.proofs.lemmas.Bool.{cases_Bool, true≢false}
 use Rattle.std.specs.Cmp.Derive.{both_true}
 use Rattle.atomic_table.specs.Table.{State as Table, Allows}
-use Rattle.brc_words.specs.declared.limits.TheConstants.{FIRST_MORTAL}
 use Rattle.brc_words.specs.declared.state.State.{State}
 use Rattle.brc_words.specs.declared.state.State.TheVariants as states
-use Rattle.brc_words.specs.declared.owner.Owner.TheVariants as owners
 use Rattle.brc_words.specs.Shared.{CountFits}
 use Rattle.brc_runs.specs.declared.cell.Cell.{Cell}
 use Rattle.brc_runs.specs.declared.event.Dropped.{Dropped}
@@ -16,14 +13,13 @@ use Rattle.brc_runs.specs.declared.event.LastDropped.{LastDropped}
 use Rattle.brc_runs.specs.declared.event.LastDropped.TheVariants as lasts
 use Rattle.brc_runs.specs.declared.event.Step.{Step}
 use Rattle.brc_runs.specs.declared.event.Step.TheVariants.{SeeZero, MergeZero, LastDown}
-use Rattle.brc_runs.specs.declared.row.Hand.{Hand}
 use Rattle.brc_runs.specs.declared.row.Hand.TheVariants as hands
 use Rattle.brc_runs.specs.declared.row.Phase.TheVariants as phases
 use Rattle.brc_runs.specs.Lists.{is_marked}
 use Rattle.brc_runs.specs.Heap.{Heap, cell_at, row_at, worklist_at}
 use Rattle.brc_runs.specs.Holding.{lives}
-use Rattle.brc_runs.specs.Sound.{IsSound, held}
-use Rattle.brc_runs.specs.Steps.{thread_may, target_at, target_ok, cell_after, is_others, is_default, is_merged, last_ok, takes_block, stepped, hand_ok}
+use Rattle.brc_runs.specs.Sound.{held}
+use Rattle.brc_runs.specs.Steps.{thread_may, target_at, cell_after, is_default, last_ok, takes_block}
 use Rattle.brc_runs.proofs.Asking.{May, may_parts}
 use Rattle.brc_runs.proofs.Counting.{held_unmarked}
 use Rattle.brc_runs.proofs.Dropping.{dropped_held}

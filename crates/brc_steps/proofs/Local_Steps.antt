@@ -1,6 +1,6 @@
 -- The owner's counting: LocalUp and LocalDown, with the number that the thread keeps and no look.
-use Rattle.std.proofs.Common.{◌≡◌, ◌≢◌, ℕ, ◌+◌, ◌-◌, ◌<◌, ◌≤◌, ◌^◌, ◌||◌, nat_lt, ◌&&◌, true, false, if◌then◌else◌, List, [], ◌∷◌, length, Option, Some, None, refl, sym, ◌∙◌, ap, subst, arith}
-use Rattle.std.proofs.lemmas.Bool.{lt-ltb, le-ltb, true≢false}
+use Rattle.std.proofs.Common.{◌≡◌, ℕ, ◌+◌, ◌-◌, ◌<◌, ◌≤◌, ◌||◌, true, false, if◌then◌else◌, List, length, Option, Some, refl, sym, ◌∙◌, ap, subst, arith}
+use Rattle.std.proofs.lemmas.Bool.{lt-ltb, le-ltb}
 use Rattle.std.specs.Cmp.Derive.{both_true}
 use Rattle.atomic_table.specs.Table.{State, Allows}
 use Rattle.brc_words.specs.declared.limits.TheConstants.{FIRST_MORTAL}
@@ -12,12 +12,12 @@ use Rattle.brc_runs.specs.declared.event.Step.{Step}
 use Rattle.brc_runs.specs.declared.event.Step.TheVariants.{LocalUp, LocalDown}
 use Rattle.brc_runs.specs.Heap.{Heap, cell_at, row_at, no_cell, is_immortal}
 use Rattle.brc_runs.specs.Steps.{target_at, target_ok, cell_ok, cell_after, is_mine, counts_up_locally, stepped}
-use Rattle.brc_runs.proofs.Asking.{Mine, mine}
+use Rattle.brc_runs.proofs.Asking.{mine}
 use Rattle.brc_runs.proofs.Changes.{read_here}
 use Rattle.brc_lasting.proofs.Progress.{inside}
 use Rattle.brc_known.specs.declared.word.Field.TheVariants.{Local}
 use Rattle.brc_known.specs.declared.word.Word.TheVariants.{Of}
-use Rattle.brc_known.specs.Items.{IsWord, Shows, IsTold, told_at, works_on, found_at}
+use Rattle.brc_known.specs.Items.{Shows}
 use Rattle.brc_known.specs.Counts.{own_count}
 use Rattle.brc_known.proofs.Counts_Law.{counted}
 use Rattle.brc_rule.specs.declared.contents.Contents.{Contents}
@@ -26,12 +26,11 @@ use Rattle.brc_rule.specs.declared.told.Told.{Told}
 use Rattle.brc_rule.specs.declared.told.Told.TheVariants.{Did}
 use Rattle.brc_rule.specs.declared.view.View.{View}
 use Rattle.brc_rule.specs.Layout.{spot}
-use Rattle.brc_rule.specs.Logs.{takes_of}
 use Rattle.brc_rule.specs.Rule.{with_told, Kept}
 use Rattle.brc_rule.specs.Seen.{counts_seen}
 use Rattle.brc_steps.specs.Owing.{Raises, RaisesImmortal, Lowers, LowersImmortal}
 use Rattle.brc_rule.proofs.Knowing.{Known, is_enabled, meant_there}
-use Rattle.brc_steps.proofs.Plain_Steps.{IsPlain, PlainOn, plain_on, same_owner, stays_on, plain_step}
+use Rattle.brc_steps.proofs.Plain_Steps.{IsPlain, plain_on, same_owner, stays_on, plain_step}
 
 -- an object that the log counts
 pub record Counted (n limit : ℕ) (h : Heap) (t : ℕ) (log : List Told) (c count : ℕ) : Type 0 where

@@ -1,25 +1,23 @@
 -- Lock takes the block of the cell, with the contents that were put home last; Unlock puts it home with those that the
 -- change makes of them.
-use Rattle.std.proofs.Common.{◌≡◌, ◌≢◌, ℕ, ◌<◌, ◌≤◌, ◌==◌, ◌||◌, true, false, if◌then◌else◌, List, [], ◌∷◌, length, set, get_or, Option, Some, None, refl, sym, ◌∙◌, ap, subst, inl, inr, arith}
-use Rattle.std.proofs.lemmas.Bool.{cases_eq, cases_lt, cases_Bool, eq-eqb, ne_eqb, true≢false}
+use Rattle.std.proofs.Common.{◌≡◌, ℕ, ◌<◌, ◌≤◌, ◌==◌, ◌||◌, true, if◌then◌else◌, List, [], ◌∷◌, length, set, get_or, Option, Some, refl, sym, ◌∙◌, ap, subst, inl, inr, arith}
+use Rattle.std.proofs.lemmas.Bool.{cases_eq, eq-eqb, ne_eqb, true≢false}
 use mathlib.Core.Option.{some, none}
 use lib.ListN.{get_elem?}
 use prog.Atomic.{either}
 use Rattle.atomic_table.specs.Table.{State as Table, Allows, keeps, takes, gives}
 use Rattle.atomic_table.proofs.Lists.{set_here}
-use Rattle.brc_words.specs.declared.limits.TheConstants.{FIRST_MORTAL}
-use Rattle.brc_words.specs.declared.owner.Owner.TheVariants as owners
 use Rattle.brc_words.specs.Kinds.{is_container}
 use Rattle.brc_runs.specs.declared.cell.Cell.{Cell}
 use Rattle.brc_runs.specs.declared.event.Change.{Change}
 use Rattle.brc_runs.specs.declared.event.Change.TheVariants as changes
 use Rattle.brc_runs.specs.declared.event.Step.{Step}
 use Rattle.brc_runs.specs.declared.event.Step.TheVariants.{Lock, Unlock}
-use Rattle.brc_runs.specs.Lists.{is_marked, place_at}
-use Rattle.brc_runs.specs.Heap.{Heap, cell_at, entries_at, row_at, frame_at, worklist_at, no_cell}
+use Rattle.brc_runs.specs.Lists.{is_marked}
+use Rattle.brc_runs.specs.Heap.{Heap, cell_at, entries_at, frame_at, worklist_at}
 use Rattle.brc_runs.specs.Holding.{lives}
 use Rattle.brc_runs.specs.Sound.{IsSound, held}
-use Rattle.brc_runs.specs.Steps.{thread_may, target_at, after_target, target_ok, cell_after, stepped, is_keep, entries_changed, entries_after, locked_at}
+use Rattle.brc_runs.specs.Steps.{target_at, after_target, cell_after, stepped, is_keep, entries_changed}
 use Rattle.brc_runs.proofs.Changes.{read_here}
 use Rattle.brc_runs.proofs.Counting.{held_unmarked}
 use Rattle.brc_runs.proofs.Dropping.{held_by_place}
@@ -29,7 +27,6 @@ use Rattle.brc_lasting.proofs.Lasting.{held_live, live_owner, locked_mutex}
 use Rattle.brc_lasting.proofs.Progress.{inside}
 use Rattle.brc_known.specs.declared.word.Field.TheVariants.{Mutex}
 use Rattle.brc_known.specs.declared.word.Word.TheVariants.{Of}
-use Rattle.brc_known.specs.Items.{Shows, IsPart}
 use Rattle.brc_rule.specs.declared.contents.Contents.{Contents}
 use Rattle.brc_rule.specs.declared.told.Moved.TheVariants as moves
 use Rattle.brc_rule.specs.declared.told.Told.{Told}
@@ -37,16 +34,16 @@ use Rattle.brc_rule.specs.declared.told.Told.TheVariants.{Did, Lost}
 use Rattle.brc_rule.specs.declared.view.View.{View}
 use Rattle.brc_rule.specs.Layout.{spot}
 use Rattle.brc_rule.specs.Logs.{kind_in, entries_in, Run, own_of, world, contents_at, takes_of}
-use Rattle.brc_rule.specs.Homes.{LiesThere, HomeShown}
+use Rattle.brc_rule.specs.Homes.{LiesThere}
 use Rattle.brc_rule.specs.Rule.{with_told, Kept}
-use Rattle.brc_rule.specs.Seen.{part_seen, contents_locked}
+use Rattle.brc_rule.specs.Seen.{contents_locked}
 use Rattle.brc_steps.specs.Owing.{Carries, Unlocks}
-use Rattle.brc_steps.specs.Taking.{TookBlock, Locked}
+use Rattle.brc_steps.specs.Taking.{Locked}
 use Rattle.brc_rule.proofs.Homing.{home_out}
 use Rattle.brc_rule.proofs.Knowing.{Known, knows, is_enabled, meant_there}
 use Rattle.brc_steps.proofs.Local_Steps.{fits_cell, read_cell}
 use Rattle.brc_rule.proofs.Looking.{lost, unmoved}
-use Rattle.brc_steps.proofs.Block_Steps.{BlockMoves, block_moved}
+use Rattle.brc_steps.proofs.Block_Steps.{block_moved}
 use Rattle.brc_rule.specs.Homes.{AtRest, ContentsFit}
 use Rattle.brc_rule.proofs.Contents_Law.{contents_fit}
 use Rattle.brc_rule.proofs.Locked_Contents.{locked_contents}

@@ -1,60 +1,49 @@
 -- The life of a cell's block: Claim, InitLocal, InitShared and Birth make an object, and Free gives its cell back.
 use Rattle.std.proofs.Common.{◌≡◌, ◌≢◌, ℕ, ◌+◌, ◌-◌, ◌<◌, ◌≤◌, ◌^◌, ◌==◌, nat_le, ◌&&◌, true, false, if◌then◌else◌, pos, List, [], ◌∷◌, length, set, get_or, Option, Some, None, refl, sym, ◌∙◌, ap, subst, inl, inr, arith}
-use Rattle.std.proofs.lemmas.Bool.{cases_eq, eq-eqb, ne_eqb, le-leb, and_parts, true≢false}
-use Rattle.std.proofs.lemmas.List.{get_or-set_same, get_or_past}
+use Rattle.std.proofs.lemmas.Bool.{cases_eq, eq-eqb, ne_eqb, le-leb, true≢false}
 use Rattle.std.specs.Cmp.Derive.{both_true}
 use mathlib.Core.Option.{some, none}
 use lib.ListN.{get_elem?}
 use prog.Atomic.{either}
 use Rattle.atomic_table.specs.Table.{State as Table, Allows, keeps, takes, gives}
 use Rattle.atomic_table.proofs.Lists.{set_here}
-use Rattle.brc_words.specs.declared.limits.TheConstants.{FIRST_MORTAL}
 use Rattle.brc_words.specs.declared.kind.Kind.{Kind}
 use Rattle.brc_words.specs.declared.owner.Owner.{Owner}
 use Rattle.brc_words.specs.declared.owner.Owner.TheVariants as owners
-use Rattle.brc_words.specs.declared.state.State.TheVariants as states
 use Rattle.brc_words.specs.Owners.{word_of}
 use Rattle.brc_runs.specs.declared.cell.Cell.{Cell}
 use Rattle.brc_runs.specs.declared.event.Step.{Step}
 use Rattle.brc_runs.specs.declared.event.Step.TheVariants.{Claim, InitLocal, InitShared, Birth, Free}
 use Rattle.brc_runs.specs.declared.row.Hand.TheVariants as hands
 use Rattle.brc_runs.specs.declared.row.Phase.TheVariants as phases
-use Rattle.brc_runs.specs.Lists.{is_marked}
-use Rattle.brc_runs.specs.Heap.{Heap, cell_at, entries_at, row_at, worklist_at, no_cell}
+use Rattle.brc_runs.specs.Heap.{Heap, cell_at, row_at}
 use Rattle.brc_runs.specs.Holding.{lives}
-use Rattle.brc_runs.specs.Sound.{WorklistFits}
-use Rattle.brc_runs.specs.Steps.{thread_may, target_at, target_ok, cell_after, is_free, stepped}
-use Rattle.brc_runs.proofs.Asking.{May, may_parts}
-use Rattle.brc_runs.proofs.Changes.{read_here}
+use Rattle.brc_runs.specs.Steps.{cell_after, is_free, stepped}
 use Rattle.brc_runs.proofs.Naming.{busy_hand}
 use Rattle.brc_runs.proofs.Reached.{reached_sound}
 use Rattle.brc_lasting.specs.Ranges.{OwnerFits}
-use Rattle.brc_lasting.specs.Staying.{Tells}
-use Rattle.brc_lasting.proofs.Lasting.{live_owner}
 use Rattle.brc_lasting.proofs.Progress.{inside}
 use Rattle.brc_lasting.proofs.Ranges_Law.{reached_owners}
 use Rattle.brc_lasting.proofs.Telling.{hand_tells}
 use Rattle.brc_known.specs.declared.word.Field.TheVariants.{Owner as OwnerWord, Local, Shared}
 use Rattle.brc_known.specs.declared.word.Word.TheVariants.{Of}
-use Rattle.brc_known.specs.Items.{IsWord, Shows, shared_word}
+use Rattle.brc_known.specs.Items.{shared_word}
 use Rattle.brc_rule.specs.declared.contents.Contents.{Contents}
 use Rattle.brc_rule.specs.declared.told.Moved.TheVariants as moves
 use Rattle.brc_rule.specs.declared.told.Told.{Told}
 use Rattle.brc_rule.specs.declared.told.Told.TheVariants.{Did, Lost}
 use Rattle.brc_rule.specs.declared.view.View.{View}
 use Rattle.brc_rule.specs.Layout.{spot}
-use Rattle.brc_rule.specs.Logs.{kind_in, entries_in, Run, world, contents_at}
-use Rattle.brc_rule.specs.Homes.{HomeShown}
+use Rattle.brc_rule.specs.Logs.{Run, world, contents_at}
 use Rattle.brc_rule.specs.Rule.{with_told, Kept}
-use Rattle.brc_rule.specs.Seen.{part_seen, own_may}
 use Rattle.brc_steps.specs.Owing.{Carries, Claims, Bears}
 use Rattle.brc_steps.specs.Taking.{Claimed}
 use Rattle.brc_rule.proofs.Homing.{home_out}
 use Rattle.brc_rule.proofs.Knowing.{Known, knows, is_enabled, hand_there}
 use Rattle.brc_steps.proofs.Local_Steps.{fits_cell, read_cell}
 use Rattle.brc_rule.proofs.Looking.{lost, unmoved}
-use Rattle.brc_steps.proofs.Plain_Steps.{IsPlain, PlainOn, plain_on, same_owner, stays_on, plain_step}
-use Rattle.brc_steps.proofs.Block_Steps.{BlockMoves, block_moved}
+use Rattle.brc_steps.proofs.Plain_Steps.{IsPlain, plain_on, same_owner, stays_on, plain_step}
+use Rattle.brc_steps.proofs.Block_Steps.{block_moved}
 
 -- a cell that a thread is making an object in
 making_low : (h : Heap) (t c : ℕ) → (cell_at h c).owner ≡ owners.Claimed t → c < length h.cells

@@ -21,11 +21,10 @@ use Rattle.brc_rule.specs.declared.told.Moved.TheVariants as moves
 use Rattle.brc_rule.specs.declared.told.Told.TheVariants.{Did, Lost}
 use Rattle.brc_rule.specs.declared.view.View.{View}
 use Rattle.brc_rule.specs.Layout.{spot}
-use Rattle.brc_rule.specs.Logs.{Run, world, puts, takes, takes_of}
-use Rattle.brc_rule.specs.Homes.{HomeShown}
+use Rattle.brc_rule.specs.Logs.{world, puts, takes, takes_of}
 use Rattle.brc_rule.specs.Rule.{with_told, Kept}
 use Rattle.brc_rule.proofs.Homing.{Stays, home_stays}
-use Rattle.brc_rule.proofs.Stepping.{moved_on, Does, does}
+use Rattle.brc_rule.proofs.Stepping.{moved_on, does}
 use Rattle.brc_rule.proofs.Looking.{lost, unmoved}
 use Rattle.brc_rule.proofs.Knowing.{Known, knows}
 

@@ -1,8 +1,8 @@
 -- Steps on words that are no cell's: Drain and Close take the bits of an own queue word, Nudge sets a bit of a notify word
 -- and Wake takes them all.
-use Rattle.std.proofs.Common.{◌≡◌, ◌≢◌, ℕ, ◌+◌, ◌-◌, ◌/◌, ◌<◌, ◌≤◌, ◌^◌, ◌==◌, nat_lt, ◌&&◌, Bool, true, false, if◌then◌else◌, List, [], length, set, get_or, Option, Some, None, refl, sym, ◌∙◌, ap, subst, inl, inr, arith}
+use Rattle.std.proofs.Common.{◌≡◌, ℕ, ◌+◌, ◌/◌, ◌<◌, ◌≤◌, ◌^◌, nat_lt, ◌&&◌, Bool, true, false, if◌then◌else◌, List, [], length, set, Option, None, refl, sym, ◌∙◌, ap, subst, inl, inr, arith}
 use Rattle.std.specs.Int.RustNames.{bit_or}
-use Rattle.std.proofs.lemmas.Bool.{cases_eq, eq-eqb, ne_eqb, eqb-true, lt-ltb, ltb-true, and_parts, true≢false}
+use Rattle.std.proofs.lemmas.Bool.{cases_eq, eq-eqb, ne_eqb, lt-ltb, ltb-true, and_parts}
 use Rattle.std.proofs.lemmas.Nat.{le_or_r}
 use Rattle.std.specs.Cmp.Derive.{both_true}
 use Rattle.atomic_table.specs.Table.{State as Table, Allows}
@@ -10,18 +10,17 @@ use Rattle.brc_words.specs.declared.limits.TheConstants.{MOST_THREADS}
 use Rattle.brc_runs.specs.declared.event.Step.{Step}
 use Rattle.brc_runs.specs.declared.event.Step.TheVariants.{Drain, Close, Nudge, Wake}
 use Rattle.brc_runs.specs.declared.row.Row.{Row}
-use Rattle.brc_runs.specs.declared.row.Stage.{Stage}
 use Rattle.brc_runs.specs.declared.row.Stage.TheVariants as stages
 use Rattle.brc_runs.specs.Lists.{word_at}
 use Rattle.brc_runs.specs.Heap.{Heap, row_at, queue_at, no_row, is_registered, words_for}
 use Rattle.brc_runs.specs.Sound.{IsSound}
-use Rattle.brc_runs.specs.Steps.{thread_may, target_at, after_target, kept_cells, stage_after, stage_ok, is_closed, closes_next, closed_more, own_ok_at}
+use Rattle.brc_runs.specs.Steps.{thread_may, target_at, after_target, kept_cells, stage_after, is_closed, closes_next, closed_more}
 use Rattle.brc_runs.proofs.Asking.{May, may_parts}
 use Rattle.brc_runs.proofs.Changes.{read_here}
 use Rattle.brc_runs.proofs.Reached.{reached_sound}
 use Rattle.brc_known.specs.declared.word.Word.{Word}
 use Rattle.brc_known.specs.declared.word.Word.TheVariants.{Queue, NotifyWord}
-use Rattle.brc_known.specs.Items.{IsWord, Shows, ShowsQueue, ToldBy, meets_closed, told_at, found_at, works_on, closing_bit}
+use Rattle.brc_known.specs.Items.{Shows, ShowsQueue, ToldBy, meets_closed, told_at, found_at, works_on, closing_bit}
 use Rattle.brc_known.proofs.Items_Own.{next_open, drains_open}
 use Rattle.brc_rule.specs.declared.contents.Contents.{Contents}
 use Rattle.brc_rule.specs.declared.told.Moved.TheVariants as moves

@@ -1,19 +1,16 @@
 -- Register splits the root's seat, and Gather joins a thread's to it.
-use Rattle.std.proofs.Common.{◌≡◌, ◌≢◌, ◌⊎◌, ℕ, zero, suc, ◌+◌, ◌<◌, ◌≤◌, ◌==◌, nat_lt, ◌&&◌, ◌||◌, not, Bool, true, false, if◌then◌else◌, List, [], ◌∷◌, ◌++◌, length, set, get_or, replicate, Option, Some, None, refl, sym, ◌∙◌, ap, subst, inl, inr, ⊎_elim, arith, length-set}
-use Rattle.std.proofs.lemmas.List.{get_or_past, get_or_push, get_or-set_same}
-use Rattle.std.proofs.lemmas.Bool.{cases_eq, cases_lt, cases_Bool, eq-eqb, ne_eqb, eqb-true, lt-ltb, le-ltb, le-leb, ltb-true, and_parts, or_cases, true≢false}
+use Rattle.std.proofs.Common.{◌≡◌, ◌≢◌, ◌⊎◌, ℕ, zero, suc, ◌<◌, ◌==◌, nat_lt, ◌&&◌, ◌||◌, not, Bool, true, false, if◌then◌else◌, List, [], ◌∷◌, ◌++◌, length, set, get_or, replicate, Option, Some, refl, sym, ◌∙◌, ap, subst, inl, inr, ⊎_elim, arith, length-set}
+use Rattle.std.proofs.lemmas.List.{get_or_past, get_or_push}
+use Rattle.std.proofs.lemmas.Bool.{cases_eq, cases_lt, eq-eqb, ne_eqb, eqb-true, lt-ltb, le-ltb, le-leb, ltb-true, and_parts, or_cases, true≢false}
 use Rattle.std.specs.Cmp.Derive.{both_true}
 use mathlib.Core.Option.{some, some-injective, some-ne-none}
 use lib.ListN.{get_elem?}
 use Rattle.atomic_table.specs.Table.{State, Splits, Joins}
 use Rattle.atomic_table.proofs.Lists.{at_set, set_here, set_else, at_longer, at_last}
-use Rattle.brc_words.specs.declared.limits.TheConstants.{MOST_THREADS}
-use Rattle.brc_runs.specs.declared.event.Event.{Event}
-use Rattle.brc_runs.specs.declared.event.Step.{Step}
 use Rattle.brc_runs.specs.declared.event.Step.TheVariants.{Register, Gather}
 use Rattle.brc_runs.specs.declared.row.Row.{Row}
 use Rattle.brc_runs.specs.Lists.{word_at, is_blank, is_unmarked}
-use Rattle.brc_runs.specs.Heap.{Heap, opening, row_at, popped_at, worklist_at, queue_at, new_row, no_row, is_registered, is_gathered, words_for}
+use Rattle.brc_runs.specs.Heap.{Heap, opening, row_at, queue_at, new_row, no_row, is_registered, is_gathered, words_for}
 use Rattle.brc_runs.specs.Runs.{IsReached}
 use Rattle.brc_runs.specs.Sound.{IsSound}
 use Rattle.brc_runs.specs.Steps.{root_may, registered, gathered_in, is_closed, is_left, is_free_hand}
@@ -23,7 +20,7 @@ use Rattle.brc_runs.proofs.Registering.{push_else, length-push, new_word}
 use Rattle.brc_lasting.proofs.Standing.{run_reached}
 use Rattle.brc_known.specs.declared.word.Word.{Word}
 use Rattle.brc_known.specs.declared.word.Word.TheVariants.{Of, Queue, NotifyWord}
-use Rattle.brc_known.specs.Items.{IsWord, Shows, ShowsQueue, ToldBy, MayCome, IsPart, own, events_of, is_start}
+use Rattle.brc_known.specs.Items.{Shows, ShowsQueue, events_of}
 use Rattle.brc_known.specs.Root.{rows_of}
 use Rattle.brc_known.proofs.Items_Runs.{events_run}
 use Rattle.brc_known.proofs.Root_Law.{rows_are_told}
@@ -33,8 +30,7 @@ use Rattle.brc_rule.specs.declared.told.Told.{Told}
 use Rattle.brc_rule.specs.declared.told.Told.TheVariants.{Did}
 use Rattle.brc_rule.specs.declared.view.View.{View}
 use Rattle.brc_rule.specs.Layout.{spot}
-use Rattle.brc_rule.specs.Logs.{item_of, log_items, Run, items_of, own_of, world}
-use Rattle.brc_rule.specs.Homes.{HomeShown}
+use Rattle.brc_rule.specs.Logs.{log_items, Run, items_of, own_of, world}
 use Rattle.brc_rule.specs.Rule.{stands, log_in, Fits, Seated, Kept}
 use Rattle.brc_rule.specs.Seen.{part_seen}
 use Rattle.brc_steps.specs.Joining.{next_thread, registering, starting, gathering, spent, Registers, Leaves}

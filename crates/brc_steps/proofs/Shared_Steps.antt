@@ -1,8 +1,7 @@
 -- Counting on the shared word: SharedUp, SharedDown, Ask.
 use Rattle.std.proofs.Common.{◌≡◌, ◌≢◌, ◌⊎◌, ℕ, ◌+◌, ◌-◌, ◌%◌, ◌/◌, ◌<◌, ◌≤◌, ◌^◌, ◌==◌, nat_lt, ◌&&◌, not, true, false, if◌then◌else◌, pos, ◌+ℤ◌, ◌-ℤ◌, List, length, Option, Some, None, refl, sym, ◌∙◌, ap, subst, inl, inr, arith}
 use Rattle.std.specs.Int.RustNames.{bit_or}
-use Rattle.std.proofs.lemmas.Bool.{lt-ltb, le-ltb, eq-eqb, cases_Bool, true≢false}
-use Rattle.std.proofs.lemmas.Int.{ints}
+use Rattle.std.proofs.lemmas.Bool.{lt-ltb, le-ltb}
 use Rattle.std.specs.Cmp.Derive.{both_true}
 use prog.Atomic.{either}
 use Rattle.atomic_table.specs.Table.{State as Table, Allows}
@@ -17,10 +16,10 @@ use Rattle.brc_runs.specs.declared.event.Dropped.{Dropped}
 use Rattle.brc_runs.specs.declared.event.Step.{Step}
 use Rattle.brc_runs.specs.declared.event.Step.TheVariants.{SharedUp, SharedDown, Ask}
 use Rattle.brc_runs.specs.declared.row.Hand.TheVariants as hands
-use Rattle.brc_runs.specs.Heap.{Heap, cell_at, row_at, is_immortal}
+use Rattle.brc_runs.specs.Heap.{Heap, cell_at, row_at}
 use Rattle.brc_runs.specs.Holding.{lives}
 use Rattle.brc_runs.specs.Sound.{IsSound, held}
-use Rattle.brc_runs.specs.Steps.{enabled, after, after_target, root_after, root_may, thread_may, target_at, target_ok, cell_ok, cell_after, is_mine, is_others, is_default, is_positive, counts_up_locally, stepped}
+use Rattle.brc_runs.specs.Steps.{after, after_target, thread_may, target_at, cell_after, is_mine, is_others, is_default, is_positive, counts_up_locally, stepped}
 use Rattle.brc_runs.proofs.Naming.{free_hand}
 use Rattle.brc_runs.proofs.Dropping.{source_held, dropped_held}
 use Rattle.brc_runs.proofs.Reached.{event_sound, reached_sound}
@@ -29,7 +28,7 @@ use Rattle.brc_lasting.proofs.Lasting.{held_live, live_owner}
 use Rattle.brc_lasting.proofs.Progress.{inside}
 use Rattle.brc_known.specs.declared.word.Field.TheVariants.{Shared}
 use Rattle.brc_known.specs.declared.word.Word.TheVariants.{Of}
-use Rattle.brc_known.specs.Items.{IsWord, Shows, shared_word, raised, count_told, state_told}
+use Rattle.brc_known.specs.Items.{Shows, shared_word, raised}
 use Rattle.brc_known.specs.Counts.{own_count}
 use Rattle.brc_known.proofs.Counts_Law.{uncounted, counted}
 use Rattle.brc_rule.specs.declared.contents.Contents.{Contents}
@@ -39,13 +38,13 @@ use Rattle.brc_rule.specs.declared.told.Told.TheVariants.{Did, Lost}
 use Rattle.brc_rule.specs.declared.view.View.{View}
 use Rattle.brc_rule.specs.Layout.{spot}
 use Rattle.brc_rule.specs.Rule.{with_told, Kept}
-use Rattle.brc_rule.specs.Seen.{part_seen, counts_seen, own_may}
+use Rattle.brc_rule.specs.Seen.{counts_seen}
 use Rattle.brc_steps.specs.Owing.{RaisesShared, Releases}
 use Rattle.brc_rule.proofs.Knowing.{Known, is_enabled, meant_there, hand_there}
 use Rattle.brc_steps.proofs.Local_Steps.{mortal_cell, fits_cell, read_cell}
 use Rattle.brc_steps.proofs.Numbers.{word_up, word_down, bits_two}
 use Rattle.brc_rule.proofs.Stepping.{thread_after, thread_enabled}
-use Rattle.brc_steps.proofs.Plain_Steps.{IsPlain, PlainOn, plain_on, same_owner, stays_on, plain_step, exchange_step}
+use Rattle.brc_steps.proofs.Plain_Steps.{IsPlain, plain_on, same_owner, stays_on, plain_step, exchange_step}
 
 -- ---- the cell of a reference that the thread has
 

@@ -1,37 +1,34 @@
 -- Steps that may take the block of a dead object: SeeZero, MergeZero, LastDown. The number found decides.
-use Rattle.std.proofs.Common.{◌≡◌, ◌≢◌, ℕ, ◌<◌, ◌^◌, ◌==◌, Bool, true, false, if◌then◌else◌, List, [], ◌∷◌, length, set, get_or, Option, Some, None, refl, sym, ◌∙◌, ap, subst, inl, inr, arith, length-set}
-use Rattle.std.proofs.lemmas.Bool.{cases_eq, cases_Bool, true≢false}
+use Rattle.std.proofs.Common.{◌≡◌, ℕ, ◌<◌, ◌^◌, Bool, true, false, if◌then◌else◌, List, [], ◌∷◌, length, set, get_or, Option, Some, None, refl, sym, ◌∙◌, ap, subst, inl, inr, arith}
+use Rattle.std.proofs.lemmas.Bool.{cases_Bool, true≢false}
 use mathlib.Core.Option.{some, none}
 use lib.ListN.{get_elem?}
 use Rattle.atomic_table.specs.Table.{State, Allows, keeps, takes}
-use Rattle.brc_words.specs.declared.owner.Owner.TheVariants as owners
 use Rattle.brc_runs.specs.declared.cell.Cell.{Cell}
-use Rattle.brc_runs.specs.declared.event.Event.{Event}
 use Rattle.brc_runs.specs.declared.event.Step.{Step}
 use Rattle.brc_runs.specs.Lists.{is_marked}
 use Rattle.brc_runs.specs.Heap.{Heap, cell_at, entries_at, worklist_at, no_cell}
 use Rattle.brc_runs.specs.Holding.{lives}
 use Rattle.brc_runs.specs.Sound.{IsSound}
-use Rattle.brc_runs.specs.Steps.{thread_may, target_at, after_target, cell_after, stepped, is_free_step, takes_block, worklist_with}
+use Rattle.brc_runs.specs.Steps.{thread_may, target_at, cell_after, stepped, is_free_step, takes_block, worklist_with}
 use Rattle.brc_runs.proofs.Asking.{May, may_parts}
-use Rattle.brc_runs.proofs.Changes.{read_here, read_there}
+use Rattle.brc_runs.proofs.Changes.{read_here}
 use Rattle.brc_runs.proofs.Reached.{reached_sound}
 use Rattle.brc_lasting.proofs.Lasting.{live_owner}
 use Rattle.brc_lasting.proofs.Standing.{taken_unlocked}
 use Rattle.brc_known.specs.declared.word.Word.{Word}
-use Rattle.brc_known.specs.Items.{IsWord, Shows, ToldBy, meets_closed, told_at, found, found_at, finds, works_on, cell_told}
-use Rattle.brc_known.proofs.Words_Law.{kept_by}
+use Rattle.brc_known.specs.Items.{IsWord, Shows, ToldBy, meets_closed, told_at, finds, works_on, cell_told}
 use Rattle.brc_rule.specs.declared.contents.Contents.{Contents}
 use Rattle.brc_rule.specs.declared.told.Moved.TheVariants as moves
 use Rattle.brc_rule.specs.declared.told.Told.TheVariants.{Did}
 use Rattle.brc_rule.specs.declared.view.View.{View}
 use Rattle.brc_rule.specs.Layout.{spot}
-use Rattle.brc_rule.specs.Logs.{Run, world, puts, takes_of, entries_in, contents_at}
-use Rattle.brc_rule.specs.Homes.{Homes, LiesThere, HomeShown}
+use Rattle.brc_rule.specs.Logs.{world, puts, takes_of, entries_in, contents_at}
+use Rattle.brc_rule.specs.Homes.{LiesThere}
 use Rattle.brc_rule.specs.Rule.{with_told, Kept}
-use Rattle.brc_steps.specs.Taking.{TookBlock, Ended}
-use Rattle.brc_rule.proofs.Homing.{Stays, home_stays, home_else, home_out}
-use Rattle.brc_rule.proofs.Stepping.{moved_on, thread_after, thread_enabled, Does, does}
+use Rattle.brc_steps.specs.Taking.{Ended}
+use Rattle.brc_rule.proofs.Homing.{home_out}
+use Rattle.brc_rule.proofs.Stepping.{thread_enabled}
 use Rattle.brc_rule.proofs.Knowing.{Known, knows}
 use Rattle.brc_steps.proofs.Plain_Steps.{PlainOn, plain_on, CellStays, stays_on, plainly}
 use Rattle.brc_steps.proofs.Block_Steps.{block_moved}
