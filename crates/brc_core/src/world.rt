@@ -7,7 +7,7 @@ ghost use Rattle.brc_runs.specs.Steps.{enabled, after};
 ghost use Rattle.brc_tables.specs.Memory.{needs_memory};
 ghost use Rattle.brc_tables.specs.Refusals.{refusal_of};
 
-use brc_runs::Event;
+use brc_runs::{Event, Step};
 use brc_tables::{Refusal, Tables, are_options};
 use brc_words::Fault;
 use std::alloc::Allocator;
@@ -39,6 +39,28 @@ pub enum StepFault {
     Memory,
 }
 
+/// Which copy of `World::make` a step is made by. The kinds that are most of a run have one each, so that one branch on
+/// the kind is made for a step and not ten, and a processor guesses wrong once and not at each; 0 is all others.
+#[inline(always)]
+fn copy_of(step: Step) -> u8 {
+    match step {
+        Step::Claim(_) => 1,
+        Step::InitLocal(_) => 2,
+        Step::InitShared(_) => 3,
+        Step::Birth { .. } => 4,
+        Step::LocalUp { .. } => 5,
+        Step::LocalDown(_) => 6,
+        Step::SeeZero(_) => 7,
+        Step::Free(_) => 8,
+        Step::SharedUp { .. } => 9,
+        Step::SharedDown(_) => 10,
+        Step::LastDown(_) => 11,
+        Step::Lock(_) => 12,
+        Step::Unlock(_) => 13,
+        _ => 0,
+    }
+}
+
 impl<A: Allocator + Copy> World<A> {
     /// The opening world of a heap with so many cells and this local limit.
     pub fn new(alloc: A, cells: u32, local_limit: u32) -> Result<World<A>, Fault>
@@ -58,7 +80,8 @@ impl<A: Allocator + Copy> World<A> {
     }
 
     /// Makes the event, if it is enabled.
-    pub fn step(&mut self, event: &Event) -> Result<(), StepFault>
+    #[inline(always)]
+    fn make(&mut self, event: &Event) -> Result<(), StepFault>
         ensures may { OnOk result (enabled self.old event.now ≡ true) }
         ensures ok { OnOk result (self.new ≡ after self.old event.now) }
         ensures moves { OnOk result (MovesOn self.old event.now self.new) }
@@ -76,6 +99,73 @@ impl<A: Allocator + Copy> World<A> {
         match self.tables.apply(event, means) {
             Ok(()) => Ok(()),
             Err(_) => Err(StepFault::Memory),
+        }
+    }
+
+    /// The same, of a step without a copy.
+    #[inline(never)]
+    fn make_other(&mut self, event: &Event) -> Result<(), StepFault>
+        ensures may { OnOk result (enabled self.old event.now ≡ true) }
+        ensures ok { OnOk result (self.new ≡ after self.old event.now) }
+        ensures moves { OnOk result (MovesOn self.old event.now self.new) }
+
+        // Whether it is enabled is looked at first.
+        ensures not_enabled { (result ≡ Err StepFault.NotEnabled) ↔
+            (enabled self.old event.now ≡ false) }
+        ensures memory { (result ≡ Err StepFault.Memory) → needs_memory event.now.step ≡ true }
+        ensures unchanged { OnErr result (self.new ≡ self.old) }
+    {
+        self.make(event)
+    }
+
+    /// The same, of the steps with this copy.
+    // Nothing but the test tells the compiler of which kind the step is; behind it no further look at the kind is left.
+    #[inline(never)]
+    fn make_one<const COPY: u8>(&mut self, event: &Event) -> Result<(), StepFault>
+        ensures may { OnOk result (enabled self.old event.now ≡ true) }
+        ensures ok { OnOk result (self.new ≡ after self.old event.now) }
+        ensures moves { OnOk result (MovesOn self.old event.now self.new) }
+
+        // Whether it is enabled is looked at first.
+        ensures not_enabled { (result ≡ Err StepFault.NotEnabled) ↔
+            (enabled self.old event.now ≡ false) }
+        ensures memory { (result ≡ Err StepFault.Memory) → needs_memory event.now.step ≡ true }
+        ensures unchanged { OnErr result (self.new ≡ self.old) }
+    {
+        if copy_of(event.step) == COPY {
+            self.make(event)
+        } else {
+            self.make_other(event)
+        }
+    }
+
+    /// Makes the event, if it is enabled.
+    pub fn step(&mut self, event: &Event) -> Result<(), StepFault>
+        ensures may { OnOk result (enabled self.old event.now ≡ true) }
+        ensures ok { OnOk result (self.new ≡ after self.old event.now) }
+        ensures moves { OnOk result (MovesOn self.old event.now self.new) }
+
+        // Whether it is enabled is looked at first.
+        ensures not_enabled { (result ≡ Err StepFault.NotEnabled) ↔
+            (enabled self.old event.now ≡ false) }
+        ensures memory { (result ≡ Err StepFault.Memory) → needs_memory event.now.step ≡ true }
+        ensures unchanged { OnErr result (self.new ≡ self.old) }
+    {
+        match event.step {
+            Step::Claim(_) => self.make_one::<1>(event),
+            Step::InitLocal(_) => self.make_one::<2>(event),
+            Step::InitShared(_) => self.make_one::<3>(event),
+            Step::Birth { .. } => self.make_one::<4>(event),
+            Step::LocalUp { .. } => self.make_one::<5>(event),
+            Step::LocalDown(_) => self.make_one::<6>(event),
+            Step::SeeZero(_) => self.make_one::<7>(event),
+            Step::Free(_) => self.make_one::<8>(event),
+            Step::SharedUp { .. } => self.make_one::<9>(event),
+            Step::SharedDown(_) => self.make_one::<10>(event),
+            Step::LastDown(_) => self.make_one::<11>(event),
+            Step::Lock(_) => self.make_one::<12>(event),
+            Step::Unlock(_) => self.make_one::<13>(event),
+            _ => self.make_other(event),
         }
     }
 

@@ -13,6 +13,7 @@ use std::alloc::{AllocError, Allocator};
 
 impl<A: Allocator + Copy> Tables<A> {
     /// A thread's step on this cell. A refused growth changes nothing.
+    #[inline(always)]
     #[tactic(auto, using(crate::proofs::Enabling::thread_there, crate::proofs::Enabling::cell_there, crate::proofs::Enabling::unlocked_change))]
     fn make_step(&mut self, thread: u32, step: Step, cell: u32) -> Result<(), AllocError>
         requires may { thread_may self.old thread step ≡ true }
@@ -32,6 +33,7 @@ impl<A: Allocator + Copy> Tables<A> {
     }
 
     /// Makes the event, which means this cell. A refused growth changes nothing.
+    #[inline(always)]
     #[tactic(auto, using(crate::proofs::Enabling::thread_there, crate::proofs::Enabling::named_word_fits))]
     pub fn apply(&mut self, event: &Event, means: Option<u32>) -> Result<(), AllocError>
         requires may { enabled self.old event.now ≡ true }

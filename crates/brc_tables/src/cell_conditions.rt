@@ -8,6 +8,7 @@ use brc_runs::{Cell, Change, Hand, LastDropped, Phase, Row, Stage, Step, is_immo
 use brc_words::{FIRST_MORTAL, Owner, State, is_container_kind};
 
 /// Whether the thread owns what has this owner.
+#[inline(always)]
 fn is_owned_by(thread: u32, owner: Owner) -> bool
     ensures { result ≡ is_owned_by thread owner }
 {
@@ -91,6 +92,7 @@ fn is_positive(count: i64) -> bool
 }
 
 /// Whether the thread counts on the cell's local word.
+#[inline(always)]
 fn is_mine(thread: u32, stage: Stage, found: Cell) -> bool
     ensures { result ≡ is_mine thread stage found }
 {
@@ -98,6 +100,7 @@ fn is_mine(thread: u32, stage: Stage, found: Cell) -> bool
 }
 
 /// Whether the thread may count up on the cell's local word.
+#[inline(always)]
 fn counts_up_locally(limit: u32, thread: u32, stage: Stage, found: Cell) -> bool
     ensures { result ≡ counts_up_locally limit thread stage found }
 {
@@ -105,6 +108,7 @@ fn counts_up_locally(limit: u32, thread: u32, stage: Stage, found: Cell) -> bool
 }
 
 /// Whether the cell is mortal and the thread counts on its shared word.
+#[inline(always)]
 fn is_others(thread: u32, stage: Stage, cell: u32, found: Cell) -> bool
     ensures { result ≡ is_others thread stage cell found }
 {
@@ -112,6 +116,7 @@ fn is_others(thread: u32, stage: Stage, cell: u32, found: Cell) -> bool
 }
 
 /// Whether the owner word may become nobody's: the owner's own, or in place of an owner that left.
+#[inline(always)]
 fn untied_ok(thread: u32, hand: Hand, found: Cell) -> bool
     ensures { result ≡ untied_ok thread hand found }
 {
@@ -123,6 +128,7 @@ fn untied_ok(thread: u32, hand: Hand, found: Cell) -> bool
 }
 
 /// Whether the reference in the hand may be counted down.
+#[inline(always)]
 fn ends_ok(hand: Hand, found: Cell) -> bool
     ensures { result ≡ ends_ok hand found }
 {
@@ -134,6 +140,7 @@ fn ends_ok(hand: Hand, found: Cell) -> bool
 }
 
 /// Whether the shared word alone may count this reference down.
+#[inline(always)]
 fn last_ok(thread: u32, row: Row, last: LastDropped, cell: u32, found: Cell) -> bool
     ensures { result ≡ last_ok thread row last cell found }
 {
@@ -157,6 +164,7 @@ fn is_keep(change: Change) -> bool
 }
 
 /// Whether the one cell that the step means is as it must be.
+#[inline(always)]
 pub(crate) fn cell_ok(limit: u32, thread: u32, row: Row, step: Step, cell: u32, found: Cell) -> bool
     ensures { result ≡ cell_ok limit thread row step cell found }
 {

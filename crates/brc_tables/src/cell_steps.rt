@@ -21,6 +21,7 @@ use std::alloc::{AllocError, Allocator};
 
 impl<A: Allocator + Copy> Tables<A> {
     /// Whether the queue word into which the cell would go is closed.
+    #[inline(always)]
     fn is_shut(&self, cell: u32) -> bool
         ensures { result ≡ is_shut self.now cell }
     {
@@ -29,6 +30,7 @@ impl<A: Allocator + Copy> Tables<A> {
 
     /// What a thread's step other than an unlock does, where its cell is this one. A refused growth
     /// changes nothing.
+    #[inline(always)]
     #[tactic(auto, using(crate::proofs::Parting::fills_by_memory, crate::proofs::Parting::frame_by_parts, crate::proofs::Parting::entries_by_parts))]
     pub(crate) fn make_cell_step(
         &mut self,

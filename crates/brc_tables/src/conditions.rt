@@ -7,6 +7,7 @@ ghost use Rattle.brc_runs.specs.Steps.{needs_lock, lock_ok, is_close, may_after_
 use brc_runs::{Hand, LastDropped, Phase, Role, Source, Stage, Step};
 
 /// Whether the step is one of those that are made while an object is locked.
+#[inline(always)]
 fn needs_lock(step: Step) -> bool
     ensures { result ≡ needs_lock step }
 {
@@ -25,6 +26,7 @@ fn needs_lock(step: Step) -> bool
 }
 
 /// Whether the step fits the lock that the thread has.
+#[inline(always)]
 pub(crate) fn lock_ok(locked: Option<u32>, step: Step) -> bool
     ensures { result ≡ lock_ok locked step }
 {
@@ -35,6 +37,7 @@ pub(crate) fn lock_ok(locked: Option<u32>, step: Step) -> bool
 }
 
 /// Whether the step closes a queue word.
+#[inline(always)]
 fn is_close(step: Step) -> bool
     ensures { result ≡ is_close step }
 {
@@ -42,6 +45,7 @@ fn is_close(step: Step) -> bool
 }
 
 /// Whether a thread that has left may still make the step.
+#[inline(always)]
 fn may_after_leaving(step: Step) -> bool
     ensures { result ≡ may_after_leaving step }
 {
@@ -60,6 +64,7 @@ fn may_after_leaving(step: Step) -> bool
 }
 
 /// Whether the step fits how far the thread's life is.
+#[inline(always)]
 pub(crate) fn stage_ok(stage: Stage, step: Step) -> bool
     ensures { result ≡ stage_ok stage step }
 {
@@ -71,6 +76,7 @@ pub(crate) fn stage_ok(stage: Stage, step: Step) -> bool
 }
 
 /// The phases by number, to compare them.
+#[inline(always)]
 fn phase_number(phase: Phase) -> u8
     ensures { result ≡ phase_number phase }
 {
@@ -90,6 +96,7 @@ fn phase_number(phase: Phase) -> u8
 }
 
 /// Whether the hand has nothing.
+#[inline(always)]
 pub(crate) fn is_free_hand(hand: Hand) -> bool
     ensures { result ≡ is_free_hand hand }
 {
@@ -100,6 +107,7 @@ pub(crate) fn is_free_hand(hand: Hand) -> bool
 }
 
 /// Whether the hand has this cell in this phase.
+#[inline(always)]
 fn is_at(wanted: Phase, cell: u32, hand: Hand) -> bool
     ensures { result ≡ is_at wanted cell hand }
 {
@@ -117,6 +125,7 @@ fn is_ending(phase: Phase) -> bool
 }
 
 /// Whether the hand has a reference that the shared word may count down.
+#[inline(always)]
 fn is_ending_hand(hand: Hand) -> bool
     ensures { result ≡ is_ending_hand hand }
 {
@@ -127,6 +136,7 @@ fn is_ending_hand(hand: Hand) -> bool
 }
 
 /// Whether the step fits what the thread carries.
+#[inline(always)]
 pub(crate) fn hand_ok(hand: Hand, step: Step) -> bool
     ensures { result ≡ hand_ok hand step }
 {

@@ -39,6 +39,7 @@ fn added_hand(cell: u32, hand: Hand) -> Hand
 
 /// What the step does to its cell and to the row of its thread. `shut` says that the queue word into which the cell would
 /// go is closed.
+#[inline(always)]
 pub(crate) fn write_cell_and_row(
     found: &mut Cell,
     row: &mut Row,
@@ -152,6 +153,7 @@ pub(crate) fn write_cell_and_row(
 }
 
 /// Whether the object is dead with this step.
+#[inline(always)]
 pub(crate) fn takes_block(step: Step, found: Cell) -> bool
     requires { CountFits found.count }
 
@@ -166,6 +168,7 @@ pub(crate) fn takes_block(step: Step, found: Cell) -> bool
 }
 
 /// The reference that goes from a place or from entries.
+#[inline(always)]
 pub(crate) fn gone(step: Step, found: Cell) -> Option<Dropped>
     ensures { result ≡ gone step found }
 {
@@ -185,6 +188,7 @@ pub(crate) fn gone(step: Step, found: Cell) -> Option<Dropped>
 }
 
 /// The place that is filled.
+#[inline(always)]
 pub(crate) fn filled_place(step: Step) -> Option<u32>
     ensures { result ≡ filled_place step }
 {
@@ -197,6 +201,7 @@ pub(crate) fn filled_place(step: Step) -> Option<u32>
 }
 
 /// The cell whose object is born.
+#[inline(always)]
 pub(crate) fn born_cell(step: Step) -> Option<u32>
     ensures { result ≡ born_cell step }
 {
@@ -207,6 +212,7 @@ pub(crate) fn born_cell(step: Step) -> Option<u32>
 }
 
 /// The popped entry that is dealt with.
+#[inline(always)]
 pub(crate) fn settled_cell(step: Step) -> Option<u32>
     ensures { result ≡ settled_cell step }
 {
@@ -217,6 +223,7 @@ pub(crate) fn settled_cell(step: Step) -> Option<u32>
 }
 
 /// Whether the cell goes into a merge queue.
+#[inline(always)]
 pub(crate) fn is_enqueue(step: Step) -> bool
     ensures { result ≡ is_enqueue step }
 {
@@ -224,6 +231,7 @@ pub(crate) fn is_enqueue(step: Step) -> bool
 }
 
 /// Whether a block is given back.
+#[inline(always)]
 pub(crate) fn is_free_step(step: Step) -> bool
     ensures { result ≡ is_free_step step }
 {

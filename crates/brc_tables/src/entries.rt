@@ -134,6 +134,7 @@ pub(crate) fn set_entry<A: Allocator>(
 }
 
 /// An object is born without entries, or the last entry of a dead one goes.
+#[inline(always)]
 pub(crate) fn change_entries<A: Allocator>(
     lists: &mut Vec<Entries<A>, A>,
     born: Option<u32>,

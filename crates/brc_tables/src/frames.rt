@@ -114,6 +114,7 @@ impl<A: Allocator> Frame<A> {
 // ---- one thread's frame among all
 
 /// A place of the thread's frame gets this cell. A refused growth changes nothing.
+#[inline(always)]
 pub(crate) fn fill_place<A: Allocator>(
     frames: &mut Vec<Frame<A>, A>,
     thread: u32,
@@ -148,6 +149,7 @@ pub(crate) fn refill_place<A: Allocator>(
 }
 
 /// A place of the thread's frame becomes vacant.
+#[inline(always)]
 pub(crate) fn vacate_place<A: Allocator>(frames: &mut Vec<Frame<A>, A>, thread: u32, place: u32)
     ensures { frames.new.items ≡ slice_set frames.old.items thread
         (vacated (slice_index_or frames.old.items thread []) place) }
@@ -159,6 +161,7 @@ pub(crate) fn vacate_place<A: Allocator>(frames: &mut Vec<Frame<A>, A>, thread: 
 
 /// A place of the thread's frame is filled with the cell, or a reference goes. A refused growth
 /// changes nothing.
+#[inline(always)]
 pub(crate) fn change_frame<A: Allocator>(
     frames: &mut Vec<Frame<A>, A>,
     thread: u32,

@@ -66,6 +66,7 @@ impl<A: Allocator> Marks<A> {
 // ---- one thread's worklist among all
 
 /// A block goes off the thread's worklist, or is taken onto it.
+#[inline(always)]
 pub(crate) fn change_marks<A: Allocator>(
     worklists: &mut Vec<Marks<A>, A>,
     thread: u32,

@@ -13,6 +13,7 @@ use brc_words::{MOST_BIRTHS, MOST_ENTRIES, MOST_PLACES, is_mortal_kind};
 use std::alloc::Allocator;
 
 /// The cell in the hand.
+#[inline(always)]
 fn cell_in_hand(hand: Hand) -> Option<u32>
     ensures { result ≡ cell_in_hand hand }
 {
@@ -23,6 +24,7 @@ fn cell_in_hand(hand: Hand) -> Option<u32>
 }
 
 /// Whether the place isn't the locked one.
+#[inline(always)]
 fn is_unlocked(locked: Option<u32>, place: u32) -> bool
     ensures { result ≡ is_unlocked locked place }
 {
@@ -36,6 +38,7 @@ impl<A: Allocator + Copy> Tables<A> {
     // ---- which cell a step means
 
     /// The cell that the thread has locked.
+    #[inline(always)]
     pub(crate) fn locked_cell(&self, thread: u32) -> Option<u32>
         ensures { result ≡ locked_at self.now thread }
     {
@@ -46,6 +49,7 @@ impl<A: Allocator + Copy> Tables<A> {
     }
 
     /// The cell that a source names.
+    #[inline(always)]
     fn source_cell(&self, thread: u32, source: Source) -> Option<u32>
         ensures { result ≡ source_at self.now thread source }
     {
@@ -60,6 +64,7 @@ impl<A: Allocator + Copy> Tables<A> {
     }
 
     /// The cell whose reference goes.
+    #[inline(always)]
     fn dropped_cell(&self, thread: u32, dropped: Dropped) -> Option<u32>
         ensures { result ≡ dropped_at self.now thread dropped }
     {
@@ -76,6 +81,7 @@ impl<A: Allocator + Copy> Tables<A> {
     }
 
     /// The cell whose reference the shared word alone counts down.
+    #[inline(always)]
     fn last_cell(&self, thread: u32, last: LastDropped) -> Option<u32>
         ensures { result ≡ last_at self.now thread last }
     {
@@ -87,6 +93,7 @@ impl<A: Allocator + Copy> Tables<A> {
     }
 
     /// The one cell that the step means.
+    #[inline(always)]
     pub fn target(&self, thread: u32, step: Step) -> Option<u32>
         ensures { result ≡ target_at self.now thread step }
     {
@@ -121,6 +128,7 @@ impl<A: Allocator + Copy> Tables<A> {
     // ---- whether a step fits
 
     /// Whether the place is one of a frame, and vacant.
+    #[inline(always)]
     fn is_vacant(&self, thread: u32, place: u32) -> bool
         ensures { result ≡ is_vacant (frame_at self.now thread) place }
     {
@@ -164,6 +172,7 @@ impl<A: Allocator + Copy> Tables<A> {
     }
 
     /// Whether a hand that is free has a popped entry to deal with.
+    #[inline(always)]
     fn untie_ok(&self, thread: u32, cell: u32) -> bool
         ensures { result ≡ untie_ok (row_at self.now thread).hand
             (popped_at self.now thread) cell }
@@ -194,6 +203,7 @@ impl<A: Allocator + Copy> Tables<A> {
     }
 
     /// What the thread's own part must be besides.
+    #[inline(always)]
     pub(crate) fn own_ok(&self, thread: u32, step: Step) -> bool
         ensures { result ≡ own_ok_at self.now thread step }
     {

@@ -40,6 +40,7 @@ pub enum Refusal {
 }
 
 /// Whether the step is the root's.
+#[inline(always)]
 fn is_roots(step: Step) -> bool
     ensures { result ≡ is_roots step }
 {
@@ -47,6 +48,7 @@ fn is_roots(step: Step) -> bool
 }
 
 /// Whether the step is on words that are no cell's.
+#[inline(always)]
 fn needs_no_cell(step: Step) -> bool
     ensures { result ≡ needs_no_cell step }
 {
@@ -58,6 +60,7 @@ fn needs_no_cell(step: Step) -> bool
 
 impl<A: Allocator + Copy> Tables<A> {
     /// Whether a thread that is told something is registered, and has the queue word.
+    #[inline(always)]
     fn others_ok(&self, step: Step) -> bool
         ensures { result ≡ others_ok self.now step }
     {
@@ -70,6 +73,7 @@ impl<A: Allocator + Copy> Tables<A> {
     }
 
     /// What the cell that is meant fails: to be one of the heap, and as it must be.
+    #[inline(always)]
     fn cell_refusal(&self, thread: u32, step: Step, means: Option<u32>) -> Option<Refusal>
         ensures { result ≡ cell_refusal self.now thread step means }
     {
@@ -99,6 +103,7 @@ impl<A: Allocator + Copy> Tables<A> {
     }
 
     /// What a thread's step fails, where its cell is this one.
+    #[inline(always)]
     fn thread_refusal(&self, thread: u32, step: Step, means: Option<u32>) -> Option<Refusal>
         requires { means ≡ target_at self.now thread step }
 
@@ -176,6 +181,7 @@ impl<A: Allocator + Copy> Tables<A> {
     }
 
     /// Which condition the event fails first, where it means this cell.
+    #[inline(always)]
     fn refusal_at(&self, event: &Event, means: Option<u32>) -> Option<Refusal>
         requires { means ≡ target_at self.now event.now.thread event.now.step }
 
@@ -198,6 +204,7 @@ impl<A: Allocator + Copy> Tables<A> {
     }
 
     /// Whether the event is enabled, where it means this cell.
+    #[inline(always)]
     pub fn enabled(&self, event: &Event, means: Option<u32>) -> bool
         requires { means ≡ target_at self.now event.now.thread event.now.step }
 

@@ -106,6 +106,7 @@ impl<A: Allocator> Words<A> {
 // ---- one thread's words among all
 
 /// A popped entry of the thread is dealt with.
+#[inline(always)]
 pub(crate) fn settle<A: Allocator>(popped: &mut Vec<Words<A>, A>, thread: u32, settled: Option<u32>)
     ensures { popped.new.items ≡ popped_without thread settled popped.old.items }
 {
@@ -118,6 +119,7 @@ pub(crate) fn settle<A: Allocator>(popped: &mut Vec<Words<A>, A>, thread: u32, s
 }
 
 /// The thread's merge queue gets the cell's bit, unless the word of it is shut.
+#[inline(always)]
 pub(crate) fn enqueue<A: Allocator>(
     queues: &mut Vec<Words<A>, A>,
     enqueues: bool,

@@ -9,8 +9,8 @@ use Rattle.brc_runs.proofs.Reached.{reached_allocs, reached_frees}
 use Rattle.brc_runs.proofs.Sizes.{reached_count_range}
 use Rattle.brc_core.proofs.Bounds.{cells_fit}
 use Rattle.brc_core.proofs.Reaching.{reached_after}
-use Rattle.brc_core.proofs.world.World.step.Goals as goal
-use Rattle.brc_core.proofs.world.World.step.Goals.{in-Ok, in-Err}
+use Rattle.brc_core.proofs.world.World.make.Goals as goal
+use Rattle.brc_core.proofs.world.World.make.Goals.{in-Ok, in-Err}
 
 -- the moves of an event, where the worlds before and after it go by other names
 made_moves : (inside old new : Heap) (e : Event) → inside ≡ old → new ≡ after inside e → IsReached inside → enabled inside e ≡ true → MakesMoves {A = Unit {0}} (map_of old) (moves_by old e) (map_of new)
