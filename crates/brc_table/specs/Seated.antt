@@ -1,0 +1,12 @@
+-- What contracts see of a thread's seat.
+use Rattle.std.specs.Prelude.{ℕ, List, Option}
+use Rattle.atomic_table.specs.Seated.{TableId}
+use Rattle.brc_block.specs.declared.payload.Payload.{Payload}
+use Rattle.brc_rule.specs.declared.told.Told.{Told}
+
+pub record SeatSeen (A : Type 0) : Type 0 where
+  pub table : TableId
+  pub id : ℕ
+  pub thread : ℕ
+  pub log : List Told
+  pub slots : List (ℕ × Option (ℕ × Payload A))

@@ -1,0 +1,12 @@
+//! The running table: the words and blocks of a heap that threads share, with one call for each event.
+#![tactic(auto)]
+
+mod layout;
+mod machine;
+mod rule;
+mod seats;
+mod table;
+
+pub use rule::{HeapRule, Sizes};
+pub use seats::ThreadSeat;
+pub use table::HeapTable;
