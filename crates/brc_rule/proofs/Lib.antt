@@ -10,3 +10,4 @@ pub mod Locked_Contents
 pub mod Opening_Law
 pub mod Since
 pub mod Noting
+pub mod Small_Looks

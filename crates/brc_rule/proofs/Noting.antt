@@ -1,6 +1,6 @@
 -- What a note tells of its cell, and what its thread's part says of hand and popped bits.
-use Rattle.std.proofs.Common.{◌≡◌, ◌≢◌, ℕ, ◌%◌, true, ℤ, List, refl, ◌∙◌, ap, inl, inr, arith}
-use Rattle.std.proofs.lemmas.Bool.{and_parts, eq-eqb}
+use Rattle.std.proofs.Common.{◌≡◌, ◌≢◌, ◌⊎◌, ℕ, ◌%◌, ◌||◌, true, ℤ, List, refl, ◌∙◌, ap, inl, inr, arith}
+use Rattle.std.proofs.lemmas.Bool.{and_parts, or_cases, eq-eqb}
 use Rattle.std.specs.Cmp.Derive.{both_true}
 use Rattle.brc_words.specs.declared.owner.Owner.{Owner}
 use Rattle.brc_words.specs.declared.owner.Owner.TheVariants as owners
@@ -12,14 +12,18 @@ use Rattle.brc_runs.specs.declared.event.Step.{Step}
 use Rattle.brc_runs.specs.declared.row.Hand.{Hand}
 use Rattle.brc_runs.specs.declared.row.Hand.TheVariants as hands
 use Rattle.brc_runs.specs.declared.row.Phase.{Phase}
+use Rattle.brc_runs.specs.declared.row.Phase.TheVariants as phases
 use Rattle.brc_runs.specs.declared.row.Row.{Row}
 use Rattle.brc_runs.specs.Lists.{bit_of}
 use Rattle.brc_runs.specs.Phases.{has_reference}
-use Rattle.brc_runs.specs.Heap.{Heap, row_at, popped_at, words_for}
+use Rattle.brc_runs.specs.Heap.{Heap, cell_at, row_at, popped_at, words_for}
 use Rattle.brc_runs.specs.Holding.{carries}
-use Rattle.brc_runs.specs.Steps.{hand_ok, own_ok}
+use Rattle.brc_runs.specs.Runs.{IsReached}
+use Rattle.brc_runs.specs.Steps.{hand_ok, own_ok, is_at}
+use Rattle.brc_runs.proofs.Naming.{busy_hand}
 use Rattle.brc_lasting.specs.Ranges.{OwnerFits}
 use Rattle.brc_lasting.specs.Staying.{Has}
+use Rattle.brc_lasting.proofs.Telling.{hand_tells}
 use Rattle.brc_known.specs.Items.{Part, shared_word}
 use Rattle.brc_rule.specs.declared.told.Told.{Told}
 use Rattle.brc_rule.specs.Seen.{part_seen, own_may}
@@ -65,3 +69,21 @@ has_popped h t c bit = inr (inr (inl bit))
 
 pub has_in_hand : (h : Heap) (t c : ℕ) (p : Phase) → (row_at h t).hand ≡ hands.Busy p c → has_reference p ≡ true → Has h t c
 has_in_hand h t c p busy refers = inr (inl (ap (carries c) busy ∙ both_true refers (eq-eqb c c refl)))
+
+-- ---- a merge by a note of the local count
+
+-- the object was the thread's, or one that it has adopted
+abbrev pub IsMerging : Phase → Type 0
+IsMerging p = (p ≡ phases.Taking) ⊎ (p ≡ phases.Popping)
+
+pub merging_hand : (hand : Hand) (c : ℕ) → (is_at phases.Taking c hand || is_at phases.Popping c hand) ≡ true → (p : Phase) × (hand ≡ hands.Busy p c) × IsMerging p
+merging_hand hand c at = elim (or_cases _ _ at) [
+  | inl taking ↦ (phases.Taking, busy_hand phases.Taking c hand taking, inl refl)
+  | inr popping ↦ (phases.Popping, busy_hand phases.Popping c hand popping, inr refl)
+]
+
+pub merging_words : (h : Heap) (t c : ℕ) (p : Phase) → IsReached h → (row_at h t).hand ≡ hands.Busy p c → IsMerging p → ((cell_at h c).owner ≡ owners.Nobody) × ((cell_at h c).state ≡ states.Queued)
+merging_words h t c p reached busy which = elim which [
+  | inl taking ↦ (hand_tells h t c phases.Taking reached (busy ∙ ap (λ q. hands.Busy q c) taking)).1
+  | inr popping ↦ (hand_tells h t c phases.Popping reached (busy ∙ ap (λ q. hands.Busy q c) popping)).1
+]

@@ -1,5 +1,5 @@
--- What lasts while others step, and was so as a note was made, is so now.
-use Rattle.std.proofs.Common.{◌≡◌, ℕ, ◌<◌, ◌==◌, ◌&&◌, ◌||◌, not, nat_lt, true, false, if◌then◌else◌, List, [], ◌∷◌, length, Some, None, refl, sym, ◌∙◌, ap, subst, inl, inr, arith}
+-- What lasts while others step, and was so as a note was made or after the newest step of the thread, is so now.
+use Rattle.std.proofs.Common.{◌≡◌, ◌≢◌, ℕ, ◌<◌, ◌==◌, ◌&&◌, ◌||◌, not, nat_lt, true, false, if◌then◌else◌, List, [], ◌∷◌, length, Some, None, refl, sym, ◌∙◌, ap, subst, inl, inr, arith}
 use Rattle.std.proofs.lemmas.Bool.{cases_eq, cases_Bool, eq-eqb, ne_eqb, eqb-true, ltb-true, lt-ltb, and_parts, true≢false}
 use Rattle.std.proofs.lemmas.List.{get_or-set_same}
 use Rattle.std.specs.Cmp.Derive.{both_true}
@@ -30,9 +30,10 @@ use Rattle.brc_rule.specs.declared.told.Told.TheVariants.{Did, Saw, Lost}
 use Rattle.brc_rule.specs.Logs.{item_of, Run, items_of, own_of, world, IsLegal}
 use Rattle.brc_rule.specs.Rule.{stands}
 use Rattle.brc_rule.specs.Seen.{part_seen}
-use Rattle.brc_rule.specs.Noted.{is_field, is_of, noted}
-use Rattle.brc_rule.proofs.Own_Logs.{stands_registered, stands_ungathered}
+use Rattle.brc_rule.specs.Noted.{is_field, is_of, noted, newest_step}
+use Rattle.brc_rule.proofs.Own_Logs.{stands_registered, stands_ungathered, own_more}
 use Rattle.brc_rule.proofs.Knowing.{Known, knows_run}
+use Rattle.brc_rule.proofs.Stepping.{moved_on, thread_after, no_start}
 
 -- ---- who stands after another's event stood before it
 
@@ -113,89 +114,137 @@ same_field Local = refl
 same_field Shared = refl
 same_field Mutex = refl
 
--- a look is noted
+-- a look is noted, and so is a lost compare-exchange
 pub noted_now : (f : Field) (c number : ℕ) (log : List Told) → noted f c (Saw (Of f c) number ∷ log) ≡ Some number
 noted_now f c number log = ap (λ b. if b then Some number else noted f c log) (both_true (same_field f) (eq-eqb c c refl))
+
+pub noted_lost : (f : Field) (c number : ℕ) (log : List Told) → noted f c (Lost (Of f c) number ∷ log) ≡ Some number
+noted_lost f c number log = noted_now f c number log
 
 nothing_noted : (number : ℕ) → None ≡ Some number → ⊥
 nothing_noted number bad = absurd (cc)
 
--- ---- the law
+-- ---- over a run
 
-module _ (n limit t : ℕ) (P : Heap → Type 0) (lasts : Lasts t P) (options : AreOptions n limit) (some_thread : 0 < t) (f : Field) (c number : ℕ) where
-  -- where the number was found, and the thread's part was what this log says, it was so
-  abbrev pub Found : List Told → Type 0
-  Found log = (h : Heap) (before : List Told) → Known n limit h t before → part_seen n before ≡ part_seen n log → Shows h (Of f c) number → P h
+-- What is so by the thread's own items is so now, where it lasts while others step: each own item has to make it so, or
+-- leave it so.
+module _ (n limit t : ℕ) (P : Heap → Type 0) (Tells : List Told → Type 0) (lasts : Lasts t P) (options : AreOptions n limit) (some_thread : 0 < t) (starts : Tells [] → ⊥)
+    (owns : (run : Run) (x : Told) → IsLegal n limit ((t, x) ∷ run) → stands (world n limit ((t, x) ∷ run)) t ≡ true → Tells (x ∷ own_of t run)
+    → (stands (world n limit run) t ≡ true → Tells (own_of t run) → P (world n limit run)) → P (world n limit ((t, x) ∷ run))) where
+  abbrev Told_So : Run → Type 0
+  Told_So run = stands (world n limit run) t ≡ true → Tells (own_of t run) → P (world n limit run)
 
-  -- what is so of a run
-  abbrev Since : Run → Type 0
-  Since run = stands (world n limit run) t ≡ true → noted f c (own_of t run) ≡ Some number → Found (own_of t run) → P (world n limit run)
-
-  own_note : (run : Run) (word : Word) (m : ℕ) → IsLegal n limit run → stands (world n limit run) t ≡ true → Shows (world n limit run) word m
-      → (if is_of f c word then Some m else noted f c (own_of t run)) ≡ Some number → Found (own_of t run) → Since run → P (world n limit run)
-  own_note run word m legal stood shown is found before = elim (cases_Bool (is_of f c word)) [
-    | inl here ↦
-        let same : m ≡ number = ap number_in (sym (ap (λ b. if b then Some m else noted f c (own_of t run)) here) ∙ is) in
-        found (world n limit run) (own_of t run) (knows_run n limit run t options legal stood some_thread) refl
-        (subst (Shows (world n limit run) (Of f c)) same (subst (λ w. Shows (world n limit run) w m) (word_is f c word here) shown))
-    | inr other ↦ before stood (sym (ap (λ b. if b then Some m else noted f c (own_of t run)) other) ∙ is) found
-  ]
-
-  -- a look of any thread
-  note_since : (run : Run) (u : ℕ) (x : Told) (word : Word) (m : ℕ) → is_start t (item_of x) ≡ false
-      → ((log : List Told) → noted f c (x ∷ log) ≡ (if is_of f c word then Some m else noted f c log)) → ((log : List Told) → part_seen n (x ∷ log) ≡ part_seen n log)
-      → IsLegal n limit run → stands (world n limit run) t ≡ true → Shows (world n limit run) word m
-      → noted f c (own_of t ((u, x) ∷ run)) ≡ Some number → Found (own_of t ((u, x) ∷ run)) → Since run → P (world n limit run)
-  note_since run u x word m older notes parts legal stood shown is found before =
-      let tested : own_of t ((u, x) ∷ run) ≡ (if u == t then x ∷ own_of t run else own_of t run) = ap (λ b. if b then [] else (if u == t then x ∷ own_of t run else own_of t run)) older in
-      elim (cases_eq u t) [
-        | inl mine ↦
-            let log : own_of t ((u, x) ∷ run) ≡ x ∷ own_of t run = tested ∙ ap (λ b. if b then x ∷ own_of t run else own_of t run) (eq-eqb u t mine) in
-            own_note run word m legal stood shown (sym (notes (own_of t run)) ∙ ap (noted f c) (sym log) ∙ is)
-            (λ h old known same shows. found h old known (same ∙ sym (parts (own_of t run)) ∙ ap (part_seen n) (sym log)) shows) before
-        | inr other ↦
-            let log : own_of t ((u, x) ∷ run) ≡ own_of t run = tested ∙ ap (λ b. if b then x ∷ own_of t run else own_of t run) (ne_eqb u t other) in
-            before stood (ap (noted f c) (sym log) ∙ is) (λ h old known same shows. found h old known (same ∙ ap (part_seen n) (sym log)) shows)
-      ]
-
-  -- a step of any thread; none of the thread's own stands after the note
-  step_since : (run : Run) (u : ℕ) (s : Step) (m : ℕ) (moved : Moved) → IsLegal n limit run → enabled (world n limit run) (record { thread = u; step = s }) ≡ true
-      → stands (world n limit ((u, Did s m moved) ∷ run)) t ≡ true → noted f c (own_of t ((u, Did s m moved) ∷ run)) ≡ Some number → Found (own_of t ((u, Did s m moved) ∷ run))
-      → Since run → P (world n limit ((u, Did s m moved) ∷ run))
-  step_since run u s m moved legal ok stood is found before =
-      let x : Told = Did s m moved in
+  others_step : (run : Run) (u : ℕ) (s : Step) (m : ℕ) (moved : Moved) → IsLegal n limit run → enabled (world n limit run) (record { thread = u; step = s }) ≡ true → u ≢ t
+      → is_start t (item_of (Did s m moved)) ≡ false → stands (world n limit ((u, Did s m moved) ∷ run)) t ≡ true → (stands (world n limit run) t ≡ true → P (world n limit run))
+      → P (world n limit ((u, Did s m moved) ∷ run))
+  others_step run u s m moved legal ok other older stood before =
       let h : Heap = world n limit run in
       let reached : IsReached h = run_reached n limit (events_of (items_of run)) options (events_run (opening n limit) (items_of run) legal.items) in
       let sound : IsSound h = reached_sound h reached in
+      let others : IsAnothers t (record { thread = u; step = s }) = record { other = other; apart = is_apart h u s m t moved sound ok some_thread stood older } in
+      lasts h (record { thread = u; step = s }) reached ok others (before (stood_before h (record { thread = u; step = s }) t sound ok others some_thread stood))
+
+  others_item : (run : Run) (u : ℕ) (x : Told) → IsLegal n limit run → MayCome (world n limit run) u (item_of x) → u ≢ t → is_start t (item_of x) ≡ false → stands (world n limit ((u, x) ∷ run)) t ≡ true
+      → (stands (world n limit run) t ≡ true → P (world n limit run)) → P (world n limit ((u, x) ∷ run))
+  others_item run u (Did s m moved) legal comes other older stood before = others_step run u s m moved legal comes.0 other older stood before
+  others_item run u (Saw word m) legal comes other older stood before = before stood
+  others_item run u (Lost word m) legal comes other older stood before = before stood
+
+  item_so : (run : Run) (u : ℕ) (x : Told) → IsLegal n limit ((u, x) ∷ run) → Told_So run → Told_So ((u, x) ∷ run)
+  item_so run u x legal before stood tells =
+      let earlier : IsLegal n limit run = record { items = legal.items.0; moved = legal.moved.0 } in
+      let mine : List Told = x ∷ own_of t run in
       elim (cases_Bool (is_start t (item_of x))) [
-        | inl starts ↦ absurd (nothing_noted number (sym (ap (λ b. noted f c (if b then [] else (if u == t then x ∷ own_of t run else own_of t run))) starts) ∙ is))
+        | inl begins ↦ absurd (starts (subst Tells (ap (λ b. if b then [] else (if u == t then mine else own_of t run)) begins) tells))
         | inr older ↦
-            let tested : own_of t ((u, x) ∷ run) ≡ (if u == t then x ∷ own_of t run else own_of t run) = ap (λ b. if b then [] else (if u == t then x ∷ own_of t run else own_of t run)) older in
+            let tested : own_of t ((u, x) ∷ run) ≡ (if u == t then mine else own_of t run) = ap (λ b. if b then [] else (if u == t then mine else own_of t run)) older in
             elim (cases_eq u t) [
-              | inl mine ↦ absurd (nothing_noted number (sym (ap (noted f c) (tested ∙ ap (λ b. if b then x ∷ own_of t run else own_of t run) (eq-eqb u t mine))) ∙ is))
+              | inl same ↦
+                  subst (λ v. P (world n limit ((v, x) ∷ run))) (sym same)
+                  (owns run x (subst (λ v. IsLegal n limit ((v, x) ∷ run)) same legal) (subst (λ v. stands (world n limit ((v, x) ∷ run)) t ≡ true) same stood)
+                  (subst Tells (tested ∙ ap (λ b. if b then mine else own_of t run) (eq-eqb u t same)) tells) before)
               | inr other ↦
-                  let log : own_of t ((u, x) ∷ run) ≡ own_of t run = tested ∙ ap (λ b. if b then x ∷ own_of t run else own_of t run) (ne_eqb u t other) in
-                  let others : IsAnothers t (record { thread = u; step = s }) = record { other = other; apart = is_apart h u s m t moved sound ok some_thread stood older } in
-                  lasts h (record { thread = u; step = s }) reached ok others
-                  (before (stood_before h (record { thread = u; step = s }) t sound ok others some_thread stood) (ap (noted f c) (sym log) ∙ is)
-                  (λ w old known same shows. found w old known (same ∙ ap (part_seen n) (sym log)) shows))
+                  others_item run u x earlier legal.items.1 other older stood
+                  (λ stands_there. before stands_there (subst Tells (tested ∙ ap (λ b. if b then mine else own_of t run) (ne_eqb u t other)) tells))
             ]
       ]
 
-  item_since : (run : Run) (u : ℕ) (x : Told) → IsLegal n limit run → MayCome (world n limit run) u (item_of x) → Since run → Since ((u, x) ∷ run)
-  item_since run u (Did s m moved) legal comes before stood is found = step_since run u s m moved legal comes.0 stood is found before
-  item_since run u (Saw word m) legal comes before stood is found = note_since run u (Saw word m) word m refl (λ log. refl) (λ log. refl) legal stood comes is found before
-  item_since run u (Lost word m) legal comes before stood is found = note_since run u (Lost word m) word m refl (λ log. refl) (λ log. refl) legal stood comes is found before
+  run_so : (run : Run) → IsLegal n limit run → Told_So run
+  run_so [] legal stood tells = absurd (starts tells)
+  run_so (x ∷ run) legal stood tells =
+      item_so run x.0 x.1 (record { items = legal.items; moved = legal.moved }) (run_so run (record { items = legal.items.0; moved = legal.moved.0 })) stood tells
 
-  pub since_run : (run : Run) → IsLegal n limit run → stands (world n limit run) t ≡ true → noted f c (own_of t run) ≡ Some number → Found (own_of t run) → P (world n limit run)
-  since_run [] legal stood is found = absurd (nothing_noted number is)
-  since_run (x ∷ run) legal stood is found =
-      let earlier : IsLegal n limit run = record { items = legal.items.0; moved = legal.moved.0 } in
-      item_since run x.0 x.1 earlier legal.items.1 (since_run run earlier) stood is found
+  told_so : (h : Heap) (log : List Told) → Known n limit h t log → Tells log → P h
+  told_so h log known tells =
+      subst P known.is_world (run_so known.run known.legal (subst (λ z. stands z t ≡ true) (sym known.is_world) known.stood) (subst Tells (sym known.is_own) tells))
+
+-- ---- since a note
+
+module _ (n limit t : ℕ) (now : List Told) (P : Heap → Type 0) (options : AreOptions n limit) (some_thread : 0 < t) (f : Field) (c number : ℕ)
+    (found : (h : Heap) (before : List Told) → Known n limit h t before → part_seen n before ≡ part_seen n now → Shows h (Of f c) number → P h) where
+  -- the note is there, and the thread's part is as it is now
+  abbrev NotedSo : List Told → Type 0
+  NotedSo log = (noted f c log ≡ Some number) × (part_seen n log ≡ part_seen n now)
+
+  own_note : (run : Run) (word : Word) (m : ℕ) → IsLegal n limit run → stands (world n limit run) t ≡ true → Shows (world n limit run) word m
+      → (if is_of f c word then Some m else noted f c (own_of t run)) ≡ Some number → part_seen n (own_of t run) ≡ part_seen n now
+      → (stands (world n limit run) t ≡ true → NotedSo (own_of t run) → P (world n limit run)) → P (world n limit run)
+  own_note run word m legal stood shown is same before = elim (cases_Bool (is_of f c word)) [
+    | inl here ↦
+        let this : m ≡ number = ap number_in (sym (ap (λ b. if b then Some m else noted f c (own_of t run)) here) ∙ is) in
+        found (world n limit run) (own_of t run) (knows_run n limit run t options legal stood some_thread) same
+        (subst (Shows (world n limit run) (Of f c)) this (subst (λ w. Shows (world n limit run) w m) (word_is f c word here) shown))
+    | inr other ↦ before stood (sym (ap (λ b. if b then Some m else noted f c (own_of t run)) other) ∙ is, same)
+  ]
+
+  noted_item : (run : Run) (x : Told) → IsLegal n limit ((t, x) ∷ run) → stands (world n limit ((t, x) ∷ run)) t ≡ true → NotedSo (x ∷ own_of t run)
+      → (stands (world n limit run) t ≡ true → NotedSo (own_of t run) → P (world n limit run)) → P (world n limit ((t, x) ∷ run))
+  noted_item run (Did s m moved) legal stood tells before = absurd (nothing_noted number tells.0)
+  noted_item run (Saw word m) legal stood tells before = own_note run word m (record { items = legal.items.0; moved = legal.moved.0 }) stood legal.items.1 tells.0 tells.1 before
+  noted_item run (Lost word m) legal stood tells before = own_note run word m (record { items = legal.items.0; moved = legal.moved.0 }) stood legal.items.1 tells.0 tells.1 before
 
 -- what lasts, and was so as the note was made
 pub since : (n limit : ℕ) (h : Heap) (t : ℕ) (log : List Told) (f : Field) (c number : ℕ) (P : Heap → Type 0) → 0 < t → Known n limit h t log → noted f c log ≡ Some number → Lasts t P
     → ((old : Heap) (before : List Told) → Known n limit old t before → part_seen n before ≡ part_seen n log → Shows old (Of f c) number → P old) → P h
 since n limit h t log f c number P some_thread known is lasts found =
-    subst P known.is_world (since_run n limit t P lasts known.options some_thread f c number known.run known.legal (subst (λ z. stands z t ≡ true) (sym known.is_world) known.stood)
-    (ap (noted f c) known.is_own ∙ is) (λ old before knows same shows. found old before knows (same ∙ ap (part_seen n) known.is_own) shows))
+    told_so n limit t P (λ now. (noted f c now ≡ Some number) × (part_seen n now ≡ part_seen n log)) lasts known.options some_thread (λ bad. nothing_noted number bad.0)
+    (noted_item n limit t log P known.options some_thread f c number found) h log known (is, refl)
+
+-- ---- since a step of the thread's own
+
+no_step : (s : Step) → None ≡ Some s → ⊥
+no_step s bad = absurd (cc)
+
+module _ (n limit t : ℕ) (now : List Told) (P : Heap → Type 0) (options : AreOptions n limit) (some_thread : 0 < t) (s : Step)
+    (done : (h : Heap) (later : List Told) → May h t s → Known n limit (moved_on h t s) t later → part_seen n later ≡ part_seen n now → P (moved_on h t s)) where
+  abbrev SteppedSo : List Told → Type 0
+  SteppedSo log = (newest_step log ≡ Some s) × (part_seen n log ≡ part_seen n now)
+
+  own_step : (run : Run) (m : ℕ) (moved : Moved) → IsLegal n limit ((t, Did s m moved) ∷ run) → stands (world n limit ((t, Did s m moved) ∷ run)) t ≡ true
+      → part_seen n (Did s m moved ∷ own_of t run) ≡ part_seen n now → P (world n limit ((t, Did s m moved) ∷ run))
+  own_step run m moved legal stood same =
+      let h : Heap = world n limit run in
+      let x : Told = Did s m moved in
+      let off : (t == 0) ≡ false = ne_eqb t 0 (λ zero. omega (arith, zero, some_thread)) in
+      let may : May h t s = may_parts h t s (subst (λ b. (if b then root_may h s else thread_may h t s) ≡ true) off legal.items.1.0) in
+      let is : world n limit ((t, x) ∷ run) ≡ moved_on h t s = thread_after h t s some_thread in
+      let log : own_of t ((t, x) ∷ run) ≡ x ∷ own_of t run = own_more t x run (no_start h t s m moved may t) in
+      subst P (sym is) (done h (own_of t ((t, x) ∷ run)) may
+      (subst (λ z. Known n limit z t (own_of t ((t, x) ∷ run))) is (knows_run n limit ((t, x) ∷ run) t options legal stood some_thread)) (ap (part_seen n) log ∙ same))
+
+  stepped_item : (run : Run) (x : Told) → IsLegal n limit ((t, x) ∷ run) → stands (world n limit ((t, x) ∷ run)) t ≡ true → SteppedSo (x ∷ own_of t run)
+      → (stands (world n limit run) t ≡ true → SteppedSo (own_of t run) → P (world n limit run)) → P (world n limit ((t, x) ∷ run))
+  stepped_item run (Did other m moved) legal stood tells before =
+      let is : Some other ≡ Some s = tells.0 in
+      let same : s ≡ other = cc in
+      subst (λ z. IsLegal n limit ((t, Did z m moved) ∷ run) → stands (world n limit ((t, Did z m moved) ∷ run)) t ≡ true
+      → part_seen n (Did z m moved ∷ own_of t run) ≡ part_seen n now → P (world n limit ((t, Did z m moved) ∷ run))) same (own_step run m moved) legal stood tells.1
+  stepped_item run (Saw word m) legal stood tells before = before stood tells
+  stepped_item run (Lost word m) legal stood tells before = before stood tells
+
+-- what lasts, and was so after the thread's newest step
+pub since_step : (n limit : ℕ) (h : Heap) (t : ℕ) (log : List Told) (s : Step) (P : Heap → Type 0) → 0 < t → Known n limit h t log → newest_step log ≡ Some s → Lasts t P
+    → ((old : Heap) (later : List Told) → May old t s → Known n limit (moved_on old t s) t later → part_seen n later ≡ part_seen n log → P (moved_on old t s)) → P h
+since_step n limit h t log s P some_thread known is lasts done =
+    told_so n limit t P (λ now. (newest_step now ≡ Some s) × (part_seen n now ≡ part_seen n log)) lasts known.options some_thread (λ bad. no_step s bad.0)
+    (stepped_item n limit t log P known.options some_thread s done) h log known (is, refl)

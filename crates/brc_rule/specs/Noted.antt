@@ -1,6 +1,7 @@
 -- What a seat has noted since its last step. A look changes nothing, and so what it found may be used, where it stays while
 -- others step.
 use Rattle.std.specs.Prelude.{ℕ, ◌==◌, ◌&&◌, Bool, true, false, if◌then◌else◌, List, [], ◌∷◌, Option, Some, None}
+use Rattle.brc_runs.specs.declared.event.Step.{Step}
 use Rattle.brc_known.specs.declared.word.Field.{Field}
 use Rattle.brc_known.specs.declared.word.Field.TheVariants.{Owner, Local, Shared, Mutex}
 use Rattle.brc_known.specs.declared.word.Word.{Word}
@@ -30,3 +31,13 @@ noted_on field c (Lost word number) before = if is_of field c word then Some num
 abbrev pub noted : Field → ℕ → List Told → Option ℕ
 noted field c [] = None
 noted field c (x ∷ log) = noted_on field c x (noted field c log)
+
+-- the newest of the thread's own steps
+abbrev pub newest_on : Told → Option Step → Option Step
+newest_on (Did s number moved) before = Some s
+newest_on (Saw word number) before = before
+newest_on (Lost word number) before = before
+
+abbrev pub newest_step : List Told → Option Step
+newest_step [] = None
+newest_step (x ∷ log) = newest_on x (newest_step log)

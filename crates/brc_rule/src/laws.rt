@@ -1,16 +1,20 @@
 //! The laws of the rule, each as the contract of a function with nothing to do. Its lemmas are in `proofs/`; that each kind
 //! of step keeps the rule is `brc_steps`.
 
-ghost use Rattle.std.specs.Prelude.{◌≡◌, ℕ, ◌<◌, List, ◌∷◌, Option, Some, true};
+ghost use Rattle.std.specs.Prelude.{◌≡◌, ℕ, ◌<◌, ◌≤◌, List, ◌∷◌, Option, Some, true};
 ghost use mathlib.Core.Option.{some};
 ghost use lib.ListN.{get_elem?};
 ghost use Rattle.atomic_table.specs.Table.{State, Allows, opening as opens_with};
+ghost use Rattle.brc_words.specs.declared.limits.TheConstants.{MOST_THREADS};
 ghost use Rattle.brc_runs.specs.declared.event.Step.{Step as step};
+ghost use Rattle.brc_runs.specs.declared.event.Step.TheVariants as steps;
 ghost use Rattle.brc_runs.specs.Heap.{is_gathered, AreOptions};
-ghost use Rattle.brc_runs.specs.Holding.{Headline};
+ghost use Rattle.brc_runs.specs.Holding.{carries, Headline};
 ghost use Rattle.brc_runs.specs.Runs.{IsReached};
 ghost use Rattle.brc_runs.specs.Steps.{locked_at};
+ghost use Rattle.brc_known.specs.declared.word.Field.TheVariants as fields;
 ghost use Rattle.brc_known.specs.declared.word.Word.{Word as word};
+ghost use Rattle.brc_known.specs.declared.word.Word.TheVariants as words;
 ghost use Rattle.brc_known.specs.Items.{IsWord, IsPart};
 ghost use Rattle.brc_rule.specs.declared.contents.Contents.{Contents as contents};
 ghost use Rattle.brc_rule.specs.declared.told.Moved.TheVariants as moves;
@@ -20,7 +24,7 @@ ghost use Rattle.brc_rule.specs.Layout.{spot, extent};
 ghost use Rattle.brc_rule.specs.Logs.{Run, world, own_of, contents_at, keeps, IsLegal};
 ghost use Rattle.brc_rule.specs.Homes.{AtRest, ContentsFit};
 ghost use Rattle.brc_rule.specs.Rule.{log_in, with_told, Kept};
-ghost use Rattle.brc_rule.specs.Seen.{part_seen, contents_locked};
+ghost use Rattle.brc_rule.specs.Seen.{part_seen, contents_locked, own_may};
 ghost use Rattle.brc_rule.specs.Opening.{first_view, Opens};
 
 /// Each word of the table has a spot of its own.
@@ -56,6 +60,22 @@ pub fn looks_keep_the_rule<B>()
         → v.active ≡ true → IsWord n w
         → Allows (Kept shows n limit) n id (v, slots) (spot n w) (λ number. number)
         (λ number me. me ≡ (with_told (told.Saw w number) v, slots)) }
+{}
+
+/// A look at the owner word of a cell that the thread carries finds a thread's number or 0, and one at the local word of an
+/// object that it merges a count within the limit.
+#[tactic(auto, using(crate::proofs::Small_Looks::looks_owner, crate::proofs::Small_Looks::looks_local))]
+pub fn looks_at_the_hands_cell_find_small_numbers<B>()
+    ensures owner { (shows : B → ℕ × contents) (n limit id : ℕ) (v : view) (slots : List (ℕ × Option B)) (c : ℕ)
+        → v.active ≡ true → 0 < v.thread → c < n → carries c (part_seen n v.log).row.hand ≡ true
+        → Allows (Kept shows n limit) n id (v, slots) (spot n (words.Of fields.Owner c)) (λ number. number)
+        (λ number me. (me ≡ (with_told (told.Saw (words.Of fields.Owner c) number) v, slots))
+        × (number ≤ MOST_THREADS)) }
+    ensures local { (shows : B → ℕ × contents) (n limit id : ℕ) (v : view) (slots : List (ℕ × Option B)) (c : ℕ)
+        → v.active ≡ true → 0 < v.thread → c < n → own_may n (part_seen n v.log) (steps.MergeAdd c) ≡ true
+        → Allows (Kept shows n limit) n id (v, slots) (spot n (words.Of fields.Local c)) (λ number. number)
+        (λ number me. (me ≡ (with_told (told.Saw (words.Of fields.Local c) number) v, slots))
+        × (number ≤ limit)) }
 {}
 
 /// What a locking finds is what the last birth or unlock of that cell put home, and so is what the taker of a dead block

@@ -1,24 +1,19 @@
 -- MergeAdd: the local count joins the shared one, and the object is merged.
-use Rattle.std.proofs.Common.{◌≡◌, ◌⊎◌, ℕ, ◌+◌, ◌*◌, ◌<◌, ◌≤◌, ◌%◌, ◌^◌, ◌||◌, true, pos, ◌+ℤ◌, List, length, Option, refl, sym, ◌∙◌, ap, subst, inl, inr, arith}
-use Rattle.std.proofs.lemmas.Bool.{or_cases}
+use Rattle.std.proofs.Common.{◌≡◌, ℕ, ◌+◌, ◌*◌, ◌<◌, ◌≤◌, ◌%◌, ◌^◌, true, pos, ◌+ℤ◌, List, length, Option, refl, sym, ◌∙◌, ap, subst, arith}
 use Rattle.atomic_table.specs.Table.{State as Table, Allows}
 use Rattle.brc_words.specs.declared.limits.TheConstants.{FIRST_MORTAL}
-use Rattle.brc_words.specs.declared.owner.Owner.TheVariants as owners
 use Rattle.brc_words.specs.declared.state.State.TheVariants as states
 use Rattle.brc_words.specs.Shared.{CountFits}
 use Rattle.brc_runs.specs.declared.cell.Cell.{Cell}
 use Rattle.brc_runs.specs.declared.event.Step.{Step}
 use Rattle.brc_runs.specs.declared.event.Step.TheVariants.{MergeAdd}
-use Rattle.brc_runs.specs.declared.row.Hand.{Hand}
 use Rattle.brc_runs.specs.declared.row.Hand.TheVariants as hands
 use Rattle.brc_runs.specs.declared.row.Phase.{Phase}
-use Rattle.brc_runs.specs.declared.row.Phase.TheVariants as phases
 use Rattle.brc_runs.specs.Heap.{Heap, cell_at, row_at}
 use Rattle.brc_runs.specs.Holding.{lives}
 use Rattle.brc_runs.specs.Runs.{IsReached}
 use Rattle.brc_runs.specs.Sound.{IsSound}
-use Rattle.brc_runs.specs.Steps.{thread_may, cell_after, is_at}
-use Rattle.brc_runs.proofs.Naming.{busy_hand}
+use Rattle.brc_runs.specs.Steps.{thread_may, cell_after}
 use Rattle.brc_runs.proofs.Reached.{reached_sound}
 use Rattle.brc_runs.proofs.Sizes.{reached_count_range}
 use Rattle.brc_lasting.specs.Staying.{Merges}
@@ -43,28 +38,9 @@ use Rattle.brc_steps.proofs.Numbers.{word_merged}
 use Rattle.brc_steps.proofs.Plain_Steps.{IsPlain, plain_on, same_owner, stays_on, plain_step}
 use Rattle.brc_steps.proofs.Shared_Steps.{count_after}
 use Rattle.brc_rule.proofs.Since.{since}
-use Rattle.brc_rule.proofs.Noting.{part_hand, hand_in}
-
--- the object was the thread's, or one that it has adopted
-IsMerging : Phase → Type 0
-IsMerging p = (p ≡ phases.Taking) ⊎ (p ≡ phases.Popping)
-
-merging_hand : (hand : Hand) (c : ℕ) → (is_at phases.Taking c hand || is_at phases.Popping c hand) ≡ true → (p : Phase) × (hand ≡ hands.Busy p c) × IsMerging p
-unfolding IsMerging
-merging_hand hand c at = elim (or_cases _ _ at) [
-  | inl taking ↦ (phases.Taking, busy_hand phases.Taking c hand taking, inl refl)
-  | inr popping ↦ (phases.Popping, busy_hand phases.Popping c hand popping, inr refl)
-]
-
-merging_words : (h : Heap) (t c : ℕ) (p : Phase) → IsReached h → (row_at h t).hand ≡ hands.Busy p c → IsMerging p → ((cell_at h c).owner ≡ owners.Nobody) × ((cell_at h c).state ≡ states.Queued)
-unfolding IsMerging
-merging_words h t c p reached busy which = elim which [
-  | inl taking ↦ (hand_tells h t c phases.Taking reached (busy ∙ ap (λ q. hands.Busy q c) taking)).1
-  | inr popping ↦ (hand_tells h t c phases.Popping reached (busy ∙ ap (λ q. hands.Busy q c) popping)).1
-]
+use Rattle.brc_rule.proofs.Noting.{part_hand, hand_in, IsMerging, merging_hand, merging_words}
 
 noted_local : (h : Heap) (t c local : ℕ) (p : Phase) → IsReached h → (row_at h t).hand ≡ hands.Busy p c → IsMerging p → Shows h (Of Local c) local → Merges h t c local p
-unfolding IsMerging
 noted_local h t c local p reached busy which found =
     let words = merging_words h t c p reached busy which in
     record { hand = busy; phase = which; owner = words.0; state = words.1; count = sym found }

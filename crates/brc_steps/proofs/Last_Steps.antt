@@ -8,7 +8,7 @@ use Rattle.brc_words.specs.declared.state.State.{State}
 use Rattle.brc_words.specs.declared.state.State.TheVariants as states
 use Rattle.brc_runs.specs.declared.cell.Cell.{Cell}
 use Rattle.brc_runs.specs.declared.event.LastDropped.TheVariants as lasts
-use Rattle.brc_runs.specs.declared.event.Step.TheVariants.{LastDown}
+use Rattle.brc_runs.specs.declared.event.Step.TheVariants.{LastDown, MergeAdd}
 use Rattle.brc_runs.specs.declared.row.Hand.TheVariants as hands
 use Rattle.brc_runs.specs.declared.row.Phase.{Phase}
 use Rattle.brc_runs.specs.declared.row.Phase.TheVariants as phases
@@ -18,6 +18,7 @@ use Rattle.brc_runs.specs.Heap.{Heap, cell_at, row_at, popped_at}
 use Rattle.brc_runs.specs.Runs.{IsReached}
 use Rattle.brc_runs.specs.Sound.{IsSound}
 use Rattle.brc_runs.specs.Steps.{cell_in_hand, is_default, is_merged, is_nobody, ends_ok, takes_block}
+use Rattle.brc_runs.proofs.Asking.{on_cell}
 use Rattle.brc_runs.proofs.Merging.{carried_held, popped_held, held_owner}
 use Rattle.brc_runs.proofs.Naming.{busy_carrier}
 use Rattle.brc_runs.proofs.Reached.{reached_sound}
@@ -35,10 +36,12 @@ use Rattle.brc_rule.specs.declared.view.View.{View}
 use Rattle.brc_rule.specs.Layout.{spot}
 use Rattle.brc_rule.specs.Rule.{Kept}
 use Rattle.brc_rule.specs.Seen.{part_seen, own_may}
-use Rattle.brc_steps.specs.Owing.{EndsPopped, EndsHeld, EndsNobodys}
+use Rattle.brc_steps.specs.Owing.{EndsPopped, EndsAdded, EndsHeld, EndsNobodys}
 use Rattle.brc_steps.specs.Taking.{Ended}
 use Rattle.brc_rule.proofs.Knowing.{Known}
-use Rattle.brc_rule.proofs.Since.{since}
+use Rattle.brc_steps.proofs.Local_Steps.{read_cell}
+use Rattle.brc_rule.proofs.Stepping.{moved_on}
+use Rattle.brc_rule.proofs.Since.{since, since_step}
 use Rattle.brc_rule.proofs.Noting.{merged_word, nobodys_word, part_hand, part_own, hand_in, bit_in, has_popped, has_in_hand}
 use Rattle.brc_steps.proofs.Ending_Steps.{LastFits, last_down}
 use Rattle.brc_steps.proofs.Taking_Steps.{end_step}
@@ -75,6 +78,10 @@ popped_stays h t c reached bit merged =
       };
     }
 
+-- the bit is set, as the step wants it
+popped_bit : (n : ℕ) (log : List Told) (c : ℕ) → own_may n (part_seen n log) (LastDown (lasts.Popped c)) ≡ true → bit_of (part_seen n log).popped c ≡ 1
+popped_bit n log c own = eqb-true (bit_of (part_seen n log).popped c) 1 (part_own n (part_seen n log) (LastDown (lasts.Popped c)) own)
+
 top_state : (state : State) → 2 ≤ rank state → state ≡ states.Merged
 top_state states.Default high = absurd (omega (arith, high))
 top_state states.Queued high = absurd (omega (arith, high))
@@ -103,27 +110,44 @@ module _ {B : Type 0} (shows : B → ℕ × Contents) (n limit : ℕ) where
 
   -- ---- a popped bit
 
-  popped_fits : (h : Heap) (t : ℕ) (log : List Told) (c number : ℕ) → 0 < t → Known n limit h t log → EndsPopped n log c number → LastFits shows n limit h t log (lasts.Popped c) c
-  popped_fits h t log c number some_thread known ends =
-      let bit : bit_of (part_seen n log).popped c ≡ 1 = eqb-true (bit_of (part_seen n log).popped c) 1 (part_own n (part_seen n log) (LastDown (lasts.Popped c)) ends.own) in
-      let now : Stays h t c 2 = since n limit h t log Shared c number (λ z. Stays z t c 2) some_thread known ends.found (stays_last t c 2)
-      (λ old before was same found. popped_stays old t c was.reached (bit_in n limit old t before log c was same bit)
-      (merged_word (cell_at old c).count (cell_at old c).state number found ends.merged)) in
+  popped_fits : (h : Heap) (t : ℕ) (log : List Told) (c : ℕ) → Known n limit h t log → own_may n (part_seen n log) (LastDown (lasts.Popped c)) ≡ true → Stays h t c 2
+      → LastFits shows n limit h t log (lasts.Popped c) c
+  popped_fits h t log c known own now =
       let merged : (cell_at h c).state ≡ states.Merged = top_state (cell_at h c).state now.keeps.state in
       record {
-        own = ends.own;
+        own = own;
         named = refl;
-        holds = popped_held h t c (bit_in n limit h t log log c known refl bit);
+        holds = popped_held h t c (bit_in n limit h t log log c known refl (popped_bit n log c own));
         risen = ap is_default merged;
         fits = ap is_merged merged;
       }
+
+  noted_merged : (h : Heap) (t : ℕ) (log : List Told) (c number : ℕ) → 0 < t → Known n limit h t log → EndsPopped n log c number → Stays h t c 2
+  noted_merged h t log c number some_thread known ends = since n limit h t log Shared c number (λ z. Stays z t c 2) some_thread known ends.found (stays_last t c 2)
+      (λ old before was same found. popped_stays old t c was.reached (bit_in n limit old t before log c was same (popped_bit n log c ends.own))
+      (merged_word (cell_at old c).count (cell_at old c).state number found ends.merged))
 
   pub ends_popped : (id : ℕ) (v : View) (slots : List (ℕ × Option B)) (c number : ℕ) → v.active ≡ true → 0 < v.thread → c < n → EndsPopped n v.log c number
       → Allows Rule n id (v, slots) (spot n (Of Shared c)) (λ there. (there + (2 ^ 64 - 4)) % 2 ^ 64)
       (λ there me. Ended shows v slots (LastDown (lasts.Popped c)) c there (takes_block (LastDown (lasts.Popped c)) (cell_told (LastDown (lasts.Popped c)) there)) me)
   ends_popped id v slots c number active some_thread low ends =
       end_step shows n limit id v slots (LastDown (lasts.Popped c)) c (Of Shared c) (λ there. (there + (2 ^ 64 - 4)) % 2 ^ 64) active some_thread low low
-      (λ h there known shown small. last_down shows n limit h v.thread v.log (lasts.Popped c) c there some_thread known (popped_fits h v.thread v.log c number some_thread known ends) shown)
+      (λ h there known shown small. last_down shows n limit h v.thread v.log (lasts.Popped c) c there some_thread known
+      (popped_fits h v.thread v.log c known ends.own (noted_merged h v.thread v.log c number some_thread known ends)) shown)
+
+  -- it has just been merged, by the thread's own hand
+  just_merged : (h : Heap) (t : ℕ) (log : List Told) (c : ℕ) → 0 < t → Known n limit h t log → EndsAdded n log c → Stays h t c 2
+  just_merged h t log c some_thread known ends = since_step n limit h t log (MergeAdd c) (λ z. Stays z t c 2) some_thread known ends.added (stays_last t c 2)
+      (λ old later may was same. popped_stays (moved_on old t (MergeAdd c)) t c was.reached (bit_in n limit (moved_on old t (MergeAdd c)) t later log c was same (popped_bit n log c ends.own))
+      (ap (λ (x : Cell). x.state) (read_cell old t (MergeAdd c) c (on_cell old t (MergeAdd c) c may.on_target).inside)))
+
+  pub ends_added : (id : ℕ) (v : View) (slots : List (ℕ × Option B)) (c : ℕ) → v.active ≡ true → 0 < v.thread → c < n → EndsAdded n v.log c
+      → Allows Rule n id (v, slots) (spot n (Of Shared c)) (λ there. (there + (2 ^ 64 - 4)) % 2 ^ 64)
+      (λ there me. Ended shows v slots (LastDown (lasts.Popped c)) c there (takes_block (LastDown (lasts.Popped c)) (cell_told (LastDown (lasts.Popped c)) there)) me)
+  ends_added id v slots c active some_thread low ends =
+      end_step shows n limit id v slots (LastDown (lasts.Popped c)) c (Of Shared c) (λ there. (there + (2 ^ 64 - 4)) % 2 ^ 64) active some_thread low low
+      (λ h there known shown small. last_down shows n limit h v.thread v.log (lasts.Popped c) c there some_thread known
+      (popped_fits h v.thread v.log c known ends.own (just_merged h v.thread v.log c some_thread known ends)) shown)
 
   -- ---- the hand
 

@@ -20,7 +20,7 @@ use Rattle.brc_rule.specs.declared.contents.Contents.{Contents}
 use Rattle.brc_rule.specs.declared.told.Told.{Told}
 use Rattle.brc_rule.specs.Logs.{kind_in, entries_in, log_items}
 use Rattle.brc_rule.specs.Seen.{part_seen, counts_seen, risen_seen, contents_locked, own_may}
-use Rattle.brc_rule.specs.Noted.{noted}
+use Rattle.brc_rule.specs.Noted.{noted, newest_step}
 
 -- an own object whose count may rise
 pub record Raises (n limit : ℕ) (log : List Told) (source : Source) (k c count : ℕ) : Type 0 where
@@ -119,6 +119,11 @@ pub record EndsPopped (n : ℕ) (log : List Told) (c number : ℕ) : Type 0 wher
   pub own : own_may n (part_seen n log) (LastDown (lasts.Popped c)) ≡ true
   pub found : noted Shared c log ≡ Some number
   pub merged : number % 4 ≡ 3
+
+-- a popped entry of an object that the thread has just merged
+pub record EndsAdded (n : ℕ) (log : List Told) (c : ℕ) : Type 0 where
+  pub own : own_may n (part_seen n log) (LastDown (lasts.Popped c)) ≡ true
+  pub added : newest_step log ≡ Some (MergeAdd c)
 
 -- the reference in the hand, of an object that the thread has adopted
 pub record EndsHeld (n : ℕ) (log : List Told) (c : ℕ) : Type 0 where

@@ -22,7 +22,7 @@ ghost use Rattle.brc_rule.specs.declared.told.Told.TheVariants as told;
 ghost use Rattle.brc_rule.specs.declared.view.View.{View as view};
 ghost use Rattle.brc_rule.specs.Layout.{spot};
 ghost use Rattle.brc_rule.specs.Rule.{with_told, Kept};
-ghost use Rattle.brc_steps.specs.Owing.{Raises, RaisesImmortal, Lowers, LowersImmortal, RaisesShared, Releases, Carries, EndsRisen, Claims, Bears, Unlocks, Allowed, Tells, EndsPopped, EndsHeld, EndsNobodys, UntiesOver, UntiesShut, UntiesPopped, AddsLocal, Enqueues};
+ghost use Rattle.brc_steps.specs.Owing.{Raises, RaisesImmortal, Lowers, LowersImmortal, RaisesShared, Releases, Carries, EndsRisen, Claims, Bears, Unlocks, Allowed, Tells, EndsPopped, EndsAdded, EndsHeld, EndsNobodys, UntiesOver, UntiesShut, UntiesPopped, AddsLocal, Enqueues};
 ghost use Rattle.brc_steps.specs.Taking.{Ended, Claimed, Locked};
 ghost use Rattle.brc_steps.specs.Joining.{registering, starting, gathering, spent, Registers, Leaves};
 
@@ -161,12 +161,18 @@ pub fn threads_come_and_go<B>()
         → Joins (Kept shows n limit) id v other w (gathering v w) spent }
 {}
 
-/// The last reference that went through a merge queue goes: a popped bit of an object that was looked at and merged, the
-/// hand's after an adoption, or the hand's of an object that was looked at and is nobody's.
-#[tactic(auto, using(crate::proofs::Last_Steps::ends_popped, crate::proofs::Last_Steps::ends_held, crate::proofs::Last_Steps::ends_nobodys))]
+/// The last reference that went through a merge queue goes: a popped bit of an object that was looked at and merged, or
+/// that the thread has just merged itself; the hand's after an adoption, or the hand's of an object that was looked at and
+/// is nobody's.
+#[tactic(auto, using(crate::proofs::Last_Steps::ends_popped, crate::proofs::Last_Steps::ends_added, crate::proofs::Last_Steps::ends_held, crate::proofs::Last_Steps::ends_nobodys))]
 pub fn queued_references_end<B>()
     ensures popped { (shows : B → ℕ × contents) (n limit id : ℕ) (v : view) (slots : List (ℕ × Option B)) (c number : ℕ)
         → v.active ≡ true → 0 < v.thread → c < n → EndsPopped n v.log c number
+        → Allows (Kept shows n limit) n id (v, slots) (spot n (words.Of fields.Shared c)) (λ there. (there + (2 ^ 64 - 4)) % 2 ^ 64)
+        (λ there me. Ended shows v slots (steps.LastDown (lasts.Popped c)) c there
+        (takes_block (steps.LastDown (lasts.Popped c)) (cell_told (steps.LastDown (lasts.Popped c)) there)) me) }
+    ensures added { (shows : B → ℕ × contents) (n limit id : ℕ) (v : view) (slots : List (ℕ × Option B)) (c : ℕ)
+        → v.active ≡ true → 0 < v.thread → c < n → EndsAdded n v.log c
         → Allows (Kept shows n limit) n id (v, slots) (spot n (words.Of fields.Shared c)) (λ there. (there + (2 ^ 64 - 4)) % 2 ^ 64)
         (λ there me. Ended shows v slots (steps.LastDown (lasts.Popped c)) c there
         (takes_block (steps.LastDown (lasts.Popped c)) (cell_told (steps.LastDown (lasts.Popped c)) there)) me) }
