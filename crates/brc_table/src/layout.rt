@@ -30,7 +30,7 @@ fn notify_from(cells: u32) -> usize
     requires { cells ≤ MOST_CELLS }
     ensures { result ≡ notify_begin cells }
 {
-    queues_from(cells) + words_for(cells) as usize * 65
+    queues_from(cells) + words_for(cells as usize) * 65
 }
 
 /// Where a word lies.

@@ -46,6 +46,6 @@ impl<A: Allocator> HeapTable<A> {
         ensures seat { (seat.new.table ≡ seat.old.table) × (seat.new.thread ≡ seat.old.thread) × (seat.new.slots ≡ seat.old.slots) }
     {
         let word = Word::Of(Field::Local, cell);
-        store(self, &mut seat.place, word, u64::from(count) + 1, Step::LocalUp(source, place));
+        store(self, &mut seat.place, word, u64::from(count) + 1, Step::LocalUp { source, place });
     }
 }
