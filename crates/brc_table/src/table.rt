@@ -13,8 +13,8 @@ use crate::rule::{HeapRule, Sizes};
 use crate::seats::ThreadSeat;
 use atomic_table::Table;
 use brc_block::Block;
-use brc_rule::View;
 use brc_known::{Field, Word};
+use brc_rule::View;
 use brc_runs::{Source, Step};
 use std::alloc::Allocator;
 
@@ -46,6 +46,12 @@ impl<A: Allocator> HeapTable<A> {
         ensures seat { (seat.new.table ≡ seat.old.table) × (seat.new.thread ≡ seat.old.thread) × (seat.new.slots ≡ seat.old.slots) }
     {
         let word = Word::Of(Field::Local, cell);
-        store(self, &mut seat.place, word, u64::from(count) + 1, Step::LocalUp { source, place });
+        store(
+            self,
+            &mut seat.place,
+            word,
+            u64::from(count) + 1,
+            Step::LocalUp { source, place },
+        );
     }
 }
