@@ -3,6 +3,7 @@ use Rattle.std.specs.Prelude.{ℕ, List, Option}
 use Rattle.atomic_table.specs.Seated.{TableId}
 use Rattle.brc_block.specs.declared.payload.Payload.{Payload}
 use Rattle.brc_rule.specs.declared.told.Told.{Told}
+use Rattle.brc_rule.specs.declared.view.View.{View}
 
 pub record SeatSeen (A : Type 0) : Type 0 where
   pub table : TableId
@@ -10,3 +11,9 @@ pub record SeatSeen (A : Type 0) : Type 0 where
   pub thread : ℕ
   pub log : List Told
   pub slots : List (ℕ × Option (ℕ × Payload A))
+
+-- what they see of the root's
+pub record RootSeen : Type 0 where
+  pub table : TableId
+  pub id : ℕ
+  pub view : View

@@ -4,13 +4,13 @@ ghost use Rattle.std.specs.Prelude.{◌≡◌, ◌<◌, ◌≤◌};
 ghost use Rattle.brc_words.specs.declared.limits.TheConstants.{MOST_CELLS};
 ghost use Rattle.brc_runs.specs.Heap.{words_for as queue_words};
 ghost use Rattle.brc_known.specs.Items.{IsWord};
-ghost use Rattle.brc_rule.specs.Layout.{counts_from as counts_begin, queues_from as queues_begin, notify_from as notify_begin, spot};
+ghost use Rattle.brc_rule.specs.Layout.{counts_from as counts_begin, queues_from as queues_begin, notify_from as notify_begin, extent as extent_of, spot};
 
 use brc_known::{Field, Word};
 use brc_runs::words_for;
 
 /// The first word after the owner words that begins a line.
-fn counts_from(cells: u32) -> usize
+pub(crate) fn counts_from(cells: u32) -> usize
     requires { cells ≤ MOST_CELLS }
     ensures { result ≡ counts_begin cells }
 {
@@ -18,7 +18,7 @@ fn counts_from(cells: u32) -> usize
 }
 
 /// The first word after the counts.
-fn queues_from(cells: u32) -> usize
+pub(crate) fn queues_from(cells: u32) -> usize
     requires { cells ≤ MOST_CELLS }
     ensures { result ≡ queues_begin cells }
 {
@@ -31,6 +31,14 @@ fn notify_from(cells: u32) -> usize
     ensures { result ≡ notify_begin cells }
 {
     queues_from(cells) + words_for(cells as usize) * 65
+}
+
+/// How many words the table has.
+pub(crate) fn extent(cells: u32) -> usize
+    requires { cells ≤ MOST_CELLS }
+    ensures { result ≡ extent_of cells }
+{
+    notify_from(cells) + 65 * 8
 }
 
 /// Where a word lies.

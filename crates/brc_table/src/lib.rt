@@ -3,10 +3,13 @@
 
 mod layout;
 mod machine;
+mod opening;
+mod root;
 mod rule;
 mod seats;
 mod table;
 
+pub use root::RootSeat;
 pub use rule::{HeapRule, Sizes};
 pub use seats::ThreadSeat;
 pub use table::HeapTable;
