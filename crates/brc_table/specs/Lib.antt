@@ -1,3 +1,4 @@
 pub mod Shown
 pub mod Seated
 pub mod Opening
+pub mod Machine

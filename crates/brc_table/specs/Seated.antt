@@ -1,5 +1,5 @@
 -- What contracts see of a thread's seat.
-use Rattle.std.specs.Prelude.{ℕ, List, Option}
+use Rattle.std.specs.Prelude.{◌≡◌, ℕ, true, List, [], Option}
 use Rattle.atomic_table.specs.Seated.{TableId}
 use Rattle.brc_block.specs.declared.payload.Payload.{Payload}
 use Rattle.brc_rule.specs.declared.told.Told.{Told}
@@ -17,3 +17,12 @@ pub record RootSeen : Type 0 where
   pub table : TableId
   pub id : ℕ
   pub view : View
+
+module _ {A : Type 0} where
+  -- the same seat; its log is another matter
+  abbrev pub Stays : SeatSeen A → SeatSeen A → Type 0
+  Stays old new = (new.table ≡ old.table) × (new.thread ≡ old.thread) × (new.slots ≡ old.slots)
+
+  -- its view, as the root takes it in
+  abbrev pub view_of : SeatSeen A → View
+  view_of s = record { active = true; thread = s.thread; log = s.log; gathered = [] }

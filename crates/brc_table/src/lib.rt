@@ -1,7 +1,9 @@
 //! The running table: the words and blocks of a heap that threads share, with one call for each event.
 #![tactic(auto)]
 
+mod counting;
 mod layout;
+mod looks;
 mod machine;
 mod opening;
 mod root;

@@ -1,26 +1,18 @@
-//! The table, and its calls.
+//! The table, and how it opens.
 
-ghost use Rattle.std.specs.Prelude.{◌≡◌, ◌↔◌, ◌⊎◌, Err, IfOk, IfErr, ◌+◌, ◌<◌, ◌≤◌, ◌∷◌};
+ghost use Rattle.std.specs.Prelude.{◌≡◌, ◌↔◌, ◌⊎◌, ◌≤◌, Err, IfOk, IfErr};
 ghost use Rattle.brc_words.specs.declared.limits.TheConstants.{MOST_CELLS, MOST_LOCAL};
 ghost use Rattle.brc_words.specs.declared.fault.Fault.TheVariants as faults;
 ghost use Rattle.brc_runs.specs.Heap.{AreOptions};
 ghost use Rattle.brc_rule.specs.Opening.{first_view};
-ghost use Rattle.brc_runs.specs.declared.event.Step.TheVariants as steps;
-ghost use Rattle.brc_rule.specs.declared.told.Moved.TheVariants as moves;
-ghost use Rattle.brc_rule.specs.declared.told.Told.TheVariants as told;
 ghost use Rattle.brc_rule.specs.Layout.{extent};
-ghost use Rattle.brc_steps.specs.Owing.{Raises};
 
-use crate::machine::store;
 use crate::opening::{are_options, give_all_back, opening_slots, opening_words};
 use crate::root::RootSeat;
 use crate::rule::{HeapRule, Sizes};
-use crate::seats::ThreadSeat;
 use atomic_table::{Refused, Table};
 use brc_block::Block;
-use brc_known::{Field, Word};
 use brc_rule::View;
-use brc_runs::{Source, Step};
 use brc_words::Fault;
 use std::alloc::Allocator;
 
@@ -59,7 +51,7 @@ impl<A: Allocator + Copy> HeapTable<A> {
                     cells,
                     local_limit,
                 },
-                RootSeat { place },
+                RootSeat { place, next: 1 },
             )),
             Err(refused) => {
                 let Refused { slots } = refused;
@@ -67,33 +59,5 @@ impl<A: Allocator + Copy> HeapTable<A> {
                 Err(Fault::OutOfMemory)
             }
         }
-    }
-}
-
-impl<A: Allocator> HeapTable<A> {
-    #[tactic(auto, using(brc_steps::proofs::Local_Steps::counts_up))]
-    /// LocalUp: the owner of the cell counts up, by the count that its log tells.
-    pub fn local_up(
-        &self,
-        seat: &mut ThreadSeat<A>,
-        source: Source,
-        place: u32,
-        cell: u32,
-        count: u32,
-    )
-        requires table { seat.old.table ≡ self.now.table.shared.table_id }
-        requires inside { cell < self.now.cells }
-        requires raises { Raises self.now.cells self.now.local_limit seat.old.log source place cell count }
-        ensures told { seat.new.log ≡ told.Did (steps.LocalUp source place) (count + 1) moves.Nothing ∷ seat.old.log }
-        ensures seat { (seat.new.table ≡ seat.old.table) × (seat.new.thread ≡ seat.old.thread) × (seat.new.slots ≡ seat.old.slots) }
-    {
-        let word = Word::Of(Field::Local, cell);
-        store(
-            self,
-            &mut seat.place,
-            word,
-            u64::from(count) + 1,
-            Step::LocalUp { source, place },
-        );
     }
 }
