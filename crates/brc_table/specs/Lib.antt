@@ -2,3 +2,4 @@ pub mod Shown
 pub mod Seated
 pub mod Opening
 pub mod Machine
+pub mod Rest

@@ -6,12 +6,17 @@ mod layout;
 mod looks;
 mod machine;
 mod opening;
+mod rest;
 mod root;
 mod rule;
 mod seats;
 mod table;
 
+pub use rest::Rest;
 pub use root::RootSeat;
 pub use rule::{HeapRule, Sizes};
 pub use seats::ThreadSeat;
 pub use table::HeapTable;
+
+#[cfg(test)]
+mod tests;

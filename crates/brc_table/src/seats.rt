@@ -8,6 +8,7 @@ use std::alloc::Allocator;
 use std::marker::Model;
 
 /// What a thread steps with. It has no bytes but its thread's number.
+#[derive(Drop)]
 pub struct ThreadSeat<A: Allocator> {
     pub(crate) place: Place<A>,
     pub(crate) thread: u32,
