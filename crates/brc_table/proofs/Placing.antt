@@ -1,10 +1,13 @@
 -- What a table says of itself, its key and its sizes, is what its rule asks: so a step that the rule allows at the sizes is
 -- one that the table allows.
-use Rattle.std.proofs.Common.{◌≡◌, ℕ, ◌<◌, ◌≤◌, ◌==◌, true, Option, sym, subst, arith}
+use Rattle.std.proofs.Common.{◌≡◌, ℕ, ◌<◌, ◌≤◌, ◌==◌, ◌/◌, true, List, Option, sym, subst, arith}
 use prog.Atomic.{either}
 use Rattle.atomic_table.specs.Table.{Me, Allows, Splits, Joins}
 use Rattle.brc_known.specs.declared.word.Word.{Word}
+use Rattle.brc_known.specs.declared.word.Word.TheVariants.{Queue, NotifyWord}
 use Rattle.brc_known.specs.Items.{IsWord}
+use Rattle.brc_runs.specs.Heap.{words_for}
+use Rattle.brc_steps.specs.Owing.{Tells}
 use Rattle.brc_rule.specs.declared.contents.Contents.{Contents}
 use Rattle.brc_rule.specs.declared.view.View.{View}
 use Rattle.brc_rule.specs.Layout.{spot, extent}
@@ -13,7 +16,7 @@ use Rattle.brc_rule.specs.Rule.{with_told, Kept}
 use Rattle.brc_rule.specs.Seen.{part_seen}
 use Rattle.brc_runs.specs.Lists.{is_blank, is_unmarked}
 use Rattle.brc_runs.specs.Steps.{is_left, is_free_hand}
-use Rattle.brc_words.specs.declared.limits.TheConstants.{MOST_THREADS}
+use Rattle.brc_words.specs.declared.limits.TheConstants.{MOST_CELLS, MOST_THREADS}
 use Rattle.brc_steps.specs.Joining.{next_thread, registering, starting, gathering, spent, Leaves}
 use Rattle.brc_steps.proofs.Root_Steps.{splits, joins}
 use Rattle.brc_table.specs.Machine.{exchanged, MayTell, MayExchange}
@@ -67,3 +70,17 @@ leaves_so n v w active same_thread same_log leaves = record {
   popped = subst (λ l. is_blank (part_seen n l).popped ≡ true) (sym same_log) leaves.popped;
   worklist = subst (λ l. is_unmarked (part_seen n l).worklist ≡ true) (sym same_log) leaves.worklist;
 }
+
+-- the queue words of a cell, and of a seat's own thread
+pub queue_inside : (n cell owner : ℕ) → cell < n → owner ≤ MOST_THREADS → IsWord n (Queue owner (cell / 32))
+queue_inside n cell owner low few = (omega (arith, few), omega (arith, low))
+
+pub own_queue_inside : (n thread word : ℕ) → thread ≤ MOST_THREADS → word < words_for n → IsWord n (Queue thread word)
+own_queue_inside n thread word few low = (omega (arith, few), low)
+
+-- who is told has a notify word, and each of its queue words has a bit there
+pub told_inside : (n : ℕ) (log : List Told) (thread word : ℕ) → Tells n log thread word → IsWord n (NotifyWord thread)
+told_inside n log thread word tells = omega (arith, tells.few)
+
+pub notify_bit : (n : ℕ) (log : List Told) (thread word : ℕ) → n ≤ MOST_CELLS → Tells n log thread word → word / 32 < 64
+notify_bit n log thread word few tells = omega (arith, few, tells.word)

@@ -1,6 +1,6 @@
 //! Where the words lie.
 
-ghost use Rattle.std.specs.Prelude.{◌≡◌, ◌<◌, ◌≤◌};
+ghost use Rattle.std.specs.Prelude.{◌^◌, ◌≡◌, ◌<◌, ◌≤◌};
 ghost use Rattle.brc_words.specs.declared.limits.TheConstants.{MOST_CELLS};
 ghost use Rattle.brc_runs.specs.Heap.{words_for as queue_words};
 ghost use Rattle.brc_known.specs.Items.{IsWord};
@@ -55,4 +55,12 @@ pub(crate) fn spot_of(cells: u32, word: Word) -> usize
         Word::Queue(thread, k) => queues_from(cells) + k as usize * 65 + thread as usize,
         Word::NotifyWord(thread) => notify_from(cells) + thread as usize * 8,
     }
+}
+
+/// The number with this bit alone.
+pub(crate) fn bit(at: u32) -> u64
+    requires { at < 64 }
+    ensures { result ≡ 2 ^ at }
+{
+    1 << at
 }
