@@ -1,0 +1,188 @@
+-- Words and slots that open as they should show the opening world, and keep the rule.
+use Rattle.std.proofs.Common.{◌≡◌, ℕ, zero, suc, ◌+◌, ◌-◌, ◌*◌, ◌/◌, ◌%◌, ◌^◌, ◌<◌, ◌≤◌, nat_lt, ◌&&◌, Bool, true, false, if◌then◌else◌, List, [], ◌∷◌, ◌++◌, map, length, get_or, Option, Some, None, refl, sym, ◌∙◌, ap, subst, inl, inr, arith}
+use Rattle.std.proofs.lemmas.Bool.{cases_lt, lt-ltb, le-ltb}
+use Rattle.std.proofs.lemmas.List.{length-map, map-append}
+use mathlib.Core.Option.{some}
+use lib.ListN.{get_elem?}
+use Rattle.atomic_table.specs.Table as tables
+use Rattle.brc_words.specs.declared.limits.TheConstants.{FIRST_MORTAL, IMMORTAL_LOCAL}
+use Rattle.brc_runs.specs.Lists.{word_at}
+use Rattle.brc_runs.specs.Heap.{opening, immortal, no_cell, cell_at, row_at, queue_at, is_registered, AreOptions}
+use Rattle.brc_runs.specs.Steps.{is_closed}
+use Rattle.brc_runs.proofs.Beginning.{free_cell, immortal_cell}
+use Rattle.brc_runs.proofs.Registering.{length-push, read_push}
+use Rattle.brc_known.specs.declared.word.Field.{Field}
+use Rattle.brc_known.specs.declared.word.Field.TheVariants.{Owner, Local, Shared, Mutex}
+use Rattle.brc_known.specs.declared.word.Word.{Word}
+use Rattle.brc_known.specs.declared.word.Word.TheVariants.{Of, Queue, NotifyWord}
+use Rattle.brc_known.specs.Items.{IsWord, Shows, ShowsQueue, word_in}
+use Rattle.brc_block.specs.declared.payload.Payload.{Payload}
+use Rattle.brc_rule.specs.declared.contents.Contents.{Contents}
+use Rattle.brc_rule.specs.Layout.{counts_from, queues_from, spot, extent}
+use Rattle.brc_rule.specs.Logs.{opening_contents}
+use Rattle.brc_rule.specs.Homes.{LiesThere}
+use Rattle.brc_rule.specs.Rule.{Kept}
+use Rattle.brc_rule.specs.Opening.{first_view, Opens}
+use Rattle.brc_rule.proofs.Spots.{inside}
+use Rattle.brc_rule.proofs.Opening_Law.{opens}
+use Rattle.brc_table.specs.Shown.{shows}
+use Rattle.brc_table.specs.Opening.{opening_owner, opening_count, opening_word, opening_words, slot_shows, opening_slot, opening_slots}
+
+if_so : {A : Type 0} (b : Bool) (x y : A) → b ≡ true → (if b then x else y) ≡ x
+if_so b x y is = ap (λ z. if z then x else y) is
+
+if_not : {A : Type 0} (b : Bool) (x y : A) → b ≡ false → (if b then x else y) ≡ y
+if_not b x y is = ap (λ z. if z then x else y) is
+
+-- ---- words, by where they lie
+
+among_owners : (n at : ℕ) → at < n → opening_word n at ≡ opening_owner at
+among_owners n at low = ap (λ z. if z then opening_owner at else (if nat_lt at (counts_from n) then 0 else (if nat_lt at (queues_from n) then opening_count ((at - counts_from n) / 16) ((at - counts_from n) % 16) else 0))) (lt-ltb at n low)
+
+past_gap : (n at : ℕ) → counts_from n ≤ at → opening_word n at ≡ (if nat_lt at (queues_from n) then opening_count ((at - counts_from n) / 16) ((at - counts_from n) % 16) else 0)
+past_gap n at high =
+    let past : n ≤ at = omega (arith, high) in
+    ap (λ z. if z then opening_owner at else (if nat_lt at (counts_from n) then 0 else (if nat_lt at (queues_from n) then opening_count ((at - counts_from n) / 16) ((at - counts_from n) % 16) else 0))) (le-ltb at n past)
+    ∙ ap (λ z. if z then 0 else (if nat_lt at (queues_from n) then opening_count ((at - counts_from n) / 16) ((at - counts_from n) % 16) else 0)) (le-ltb at (counts_from n) high)
+
+among_counts : (n at c part : ℕ) → c < n → part < 16 → at ≡ counts_from n + c * 16 + part → opening_word n at ≡ opening_count c part
+among_counts n at c part low small there =
+    let cell : (at - counts_from n) / 16 ≡ c = omega (arith, small, there) in
+    let of_it : (at - counts_from n) % 16 ≡ part = omega (arith, small, there) in
+    past_gap n at (omega (arith, there))
+    ∙ ap (λ z. if z then opening_count ((at - counts_from n) / 16) ((at - counts_from n) % 16) else 0) (lt-ltb at (queues_from n) (omega (arith, low, small, there)))
+    ∙ (λ i. opening_count (cell i) (of_it i))
+
+past_counts : (n at : ℕ) → queues_from n ≤ at → opening_word n at ≡ 0
+past_counts n at high =
+    past_gap n at (omega (arith, high))
+    ∙ ap (λ z. if z then opening_count ((at - counts_from n) / 16) ((at - counts_from n) % 16) else 0) (le-ltb at (queues_from n) high)
+
+-- ---- the opening world's words
+
+-- a cell's word is an immortal's, or a free cell's
+by_cell : (n limit : ℕ) (field : Field) (c number : ℕ) → FIRST_MORTAL ≤ n
+    → (c < FIRST_MORTAL → number ≡ word_in field (immortal c)) → (FIRST_MORTAL ≤ c → number ≡ word_in field no_cell)
+    → number ≡ word_in field (cell_at (opening n limit) c)
+by_cell n limit field c number enough fixed mortal = elim (cases_lt c FIRST_MORTAL) [
+  | inl low ↦ fixed low ∙ sym (ap (word_in field) (immortal_cell n c enough low))
+  | inr high ↦ mortal high ∙ sym (ap (word_in field) (free_cell n c high))
+]
+
+lone : (t : ℕ) → word_at (0 ∷ []) t ≡ 0
+lone zero = refl
+lone (suc t) = refl
+
+left_false : (a b : Bool) → a ≡ false → (a && b) ≡ false
+left_false a b is = ap (λ z. z && b) is
+
+right_false : (a b : Bool) → b ≡ false → (a && b) ≡ false
+right_false true b is = is
+right_false false b is = refl
+
+none_registered : (n limit t : ℕ) → is_registered (opening n limit) t ≡ false
+none_registered n limit t = elim (cases_lt 0 t) [
+  | inl low ↦ right_false (nat_lt 0 t) (nat_lt t 1) (le-ltb t 1 low)
+  | inr high ↦ left_false (nat_lt 0 t) (nat_lt t 1) (le-ltb 0 t high)
+]
+
+opens_word : (n limit : ℕ) (w : Word) → FIRST_MORTAL ≤ n → IsWord n w → Shows (opening n limit) w (opening_word n (spot n w))
+opens_word n limit (Of Owner c) enough is = among_owners n c is ∙ by_cell n limit Owner c (opening_owner c) enough
+    (λ low. ap (λ z. if z then 0 else 2 ^ 64 - 1) (lt-ltb c FIRST_MORTAL low)) (λ high. ap (λ z. if z then 0 else 2 ^ 64 - 1) (le-ltb c FIRST_MORTAL high))
+opens_word n limit (Of Local c) enough is = among_counts n (spot n (Of Local c)) c 0 is (omega arith) (omega arith) ∙ by_cell n limit Local c (opening_count c 0) enough
+    (λ low. ap (λ z. if z then IMMORTAL_LOCAL else 0) (lt-ltb c FIRST_MORTAL low)) (λ high. ap (λ z. if z then IMMORTAL_LOCAL else 0) (le-ltb c FIRST_MORTAL high))
+opens_word n limit (Of Shared c) enough is = among_counts n (spot n (Of Shared c)) c 8 is (omega arith) refl ∙ by_cell n limit Shared c (2 ^ 42) enough (λ low. refl) (λ high. refl)
+opens_word n limit (Of Mutex c) enough is = among_counts n (spot n (Of Mutex c)) c 9 is (omega arith) refl ∙ by_cell n limit Mutex c 0 enough (λ low. refl) (λ high. refl)
+opens_word n limit (Queue t k) enough is =
+    subst (λ b. ShowsQueue b (is_closed (row_at (opening n limit) t).stage k) (word_at (queue_at (opening n limit) t) k) (opening_word n (spot n (Queue t k)))) (sym (none_registered n limit t))
+    (past_counts n (spot n (Queue t k)) (omega arith))
+opens_word n limit (NotifyWord t) enough is = past_counts n (spot n (NotifyWord t)) (omega arith) ∙ sym (lone t)
+
+-- ---- lists
+
+length-opening_words : (n k : ℕ) → length (opening_words n k) ≡ k
+length-opening_words n zero = refl
+length-opening_words n (suc k) = omega (arith, length-push (opening_words n k) (opening_word n k), length-opening_words n k)
+
+pub wide_of : (n k : ℕ) (words : List ℕ) → words ≡ opening_words n k → length words ≡ k
+wide_of n k words are = ap length are ∙ length-opening_words n k
+
+read_word : (n k at : ℕ) → at < k → get_or (opening_words n k) at 0 ≡ opening_word n at
+read_word n zero at low = absurd (omega arith)
+read_word n (suc k) at low = read_push (λ j x. j < suc k → x ≡ opening_word n j) (opening_words n k) (opening_word n k) 0
+    (λ _. ap (opening_word n) (sym (length-opening_words n k)))
+    (λ j other below. read_word n k j (omega (arith, other, below, length-opening_words n k))) at low
+
+length-opening_slots : (k : ℕ) → length (opening_slots k) ≡ k
+length-opening_slots zero = refl
+length-opening_slots (suc k) = omega (arith, length-push (opening_slots k) (opening_slot k), length-opening_slots k)
+
+read_slot : (k c : ℕ) → c < k → get_or (opening_slots k) c None ≡ opening_slot c
+read_slot zero c low = absurd (omega arith)
+read_slot (suc k) c low = read_push (λ j (x : Option (ℕ × Contents)). j < suc k → x ≡ opening_slot j) (opening_slots k) (opening_slot k) None
+    (λ _. ap opening_slot (sym (length-opening_slots k)))
+    (λ j other below. read_slot k j (omega (arith, other, below, length-opening_slots k))) c low
+
+-- ---- slots
+
+held : ℕ × Contents → Option (ℕ × Contents) → ℕ × Contents
+held x None = x
+held x (Some y) = y
+
+module _ {A : Type 0} where
+  -- a slot of the list, at home
+  record SlotThere (slots : List (Option (ℕ × Payload A))) (c : ℕ) : Type 0 where
+    slot : Option (ℕ × Payload A)
+    there : get_elem? (map some slots) c ≡ some (some slot)
+    shown : get_or (map slot_shows slots) c None ≡ slot_shows slot
+
+  slot_there : (slots : List (Option (ℕ × Payload A))) (c : ℕ) → c < length slots → SlotThere slots c
+  slot_there [] c low = absurd (omega arith)
+  slot_there (x ∷ xs) zero low = record { slot = x; there = refl; shown = refl }
+  slot_there (x ∷ xs) (suc c) low = let t = slot_there xs c (omega (arith, low)) in record { slot = t.slot; there = t.there; shown = t.shown }
+
+  lies : (slots : List (Option (ℕ × Payload A))) (c : ℕ) (contents : Contents) (slot : Option (ℕ × Payload A)) → get_elem? (map some slots) c ≡ some (some slot) → slot_shows slot ≡ Some (c, contents)
+      → LiesThere shows (map some slots) c contents
+  unfolding held
+  lies slots c contents None there shown = absurd (cc)
+  lies slots c contents (Some block) there shown =
+      let is : shows block ≡ (c, contents) = ap (held (c, contents)) shown in
+      record { block = block; there = there; of_cell = ap (λ z. z.0) is; holds = ap (λ z. z.1) is }
+
+  bare : (slots : List (Option (ℕ × Payload A))) (c : ℕ) (slot : Option (ℕ × Payload A)) → get_elem? (map some slots) c ≡ some (some slot) → slot_shows slot ≡ None
+      → get_elem? (map some slots) c ≡ some (some None)
+  bare slots c None there shown = there
+  bare slots c (Some block) there shown = absurd (cc)
+
+  slot_opens : (n : ℕ) (slots : List (Option (ℕ × Payload A))) (c : ℕ) → map slot_shows slots ≡ opening_slots n → c < n → (t : SlotThere slots c) → slot_shows t.slot ≡ opening_slot c
+  slot_opens n slots c made low t = sym t.shown ∙ ap (λ z. get_or z c None) made ∙ read_slot n c low
+
+  pub deep_of : (n : ℕ) (slots : List (Option (ℕ × Payload A))) → map slot_shows slots ≡ opening_slots n → length slots ≡ n
+  deep_of n slots made = sym (length-map slots slot_shows) ∙ ap length made ∙ length-opening_slots n
+
+  opens_so : (n limit : ℕ) (slots : List (Option (ℕ × Payload A))) → AreOptions n limit → map slot_shows slots ≡ opening_slots n → Opens shows n limit (opening_words n (extent n)) slots
+  opens_so n limit slots options made = record {
+    wide = length-opening_words n (extent n);
+    deep = deep_of n slots made;
+    each_word = λ w is. subst (Shows (opening n limit) w) (sym (read_word n (extent n) (spot n w) (inside n w is))) (opens_word n limit w (omega (arith, options.enough)) is);
+    immortals = λ c fixed.
+        let low : c < n = omega (arith, fixed, options.enough) in
+        let t = slot_there slots c (subst (λ m. c < m) (sym (deep_of n slots made)) low) in
+        lies slots c (opening_contents c) t.slot t.there (slot_opens n slots c made low t ∙ if_so (nat_lt c FIRST_MORTAL) (Some (c, opening_contents c)) None (lt-ltb c FIRST_MORTAL fixed));
+    mortals = λ c mortal low.
+        let t = slot_there slots c (subst (λ m. c < m) (sym (deep_of n slots made)) low) in
+        bare slots c t.slot t.there (slot_opens n slots c made low t ∙ if_not (nat_lt c FIRST_MORTAL) (Some (c, opening_contents c)) None (le-ltb c FIRST_MORTAL mortal));
+  }
+
+  -- one more slot
+  pub one_more_slot : (c : ℕ) (before after : List (Option (ℕ × Payload A))) (slot : Option (ℕ × Payload A)) → after ≡ before ++ slot ∷ [] → map slot_shows before ≡ opening_slots c → slot_shows slot ≡ opening_slot c
+      → map slot_shows after ≡ opening_slots (c + 1)
+  one_more_slot c before after slot pushed made shown =
+      let next : suc c ≡ c + 1 = omega arith in
+      ap (map slot_shows) pushed ∙ map-append slot_shows before (slot ∷ []) ∙ (λ i. made i ++ shown i ∷ []) ∙ ap opening_slots next
+
+  -- so the table keeps the rule as it opens
+  pub opened : (n limit : ℕ) (words : List ℕ) (slots : List (Option (ℕ × Payload A))) → AreOptions n limit → words ≡ opening_words n (extent n) → map slot_shows slots ≡ opening_slots n
+      → Kept shows n limit (tables.opening words slots first_view)
+  opened n limit words slots options words_are made =
+      subst (λ z. Kept shows n limit (tables.opening z slots first_view)) (sym words_are) (opens shows n limit (opening_words n (extent n)) slots options (opens_so n limit slots options made))

@@ -1,0 +1,86 @@
+-- What a table says of itself, its key and its sizes, is what its rule asks: so a step that the rule allows at the sizes is
+-- one that the table allows.
+use Rattle.std.proofs.Common.{◌≡◌, ℕ, ◌<◌, ◌≤◌, ◌==◌, ◌/◌, true, List, Option, sym, subst, arith}
+use prog.Atomic.{either}
+use Rattle.atomic_table.specs.Table.{Me, Allows, Splits, Joins}
+use Rattle.brc_known.specs.declared.word.Word.{Word}
+use Rattle.brc_known.specs.declared.word.Word.TheVariants.{Queue, NotifyWord}
+use Rattle.brc_known.specs.Items.{IsWord}
+use Rattle.brc_runs.specs.Heap.{words_for}
+use Rattle.brc_steps.specs.Owing.{Tells}
+use Rattle.brc_rule.specs.declared.contents.Contents.{Contents}
+use Rattle.brc_rule.specs.declared.view.View.{View}
+use Rattle.brc_rule.specs.Layout.{spot, extent}
+use Rattle.brc_rule.specs.declared.told.Told.{Told}
+use Rattle.brc_rule.specs.Rule.{with_told, Kept}
+use Rattle.brc_rule.specs.Seen.{part_seen}
+use Rattle.brc_runs.specs.Lists.{is_blank, is_unmarked}
+use Rattle.brc_runs.specs.Steps.{is_left, is_free_hand}
+use Rattle.brc_words.specs.declared.limits.TheConstants.{MOST_CELLS, MOST_THREADS}
+use Rattle.brc_steps.specs.Joining.{next_thread, registering, starting, gathering, spent, Leaves}
+use Rattle.brc_steps.proofs.Root_Steps.{splits, joins}
+use Rattle.brc_table.specs.Machine.{exchanged, MayTell, MayExchange}
+use Rattle.brc_rule.proofs.Spots.{inside}
+
+-- a word's spot is one of the table's
+pub spot_inside : (n at wide : ℕ) (w : Word) → IsWord n w → at ≡ spot n w → wide ≡ extent n → at < wide
+spot_inside n at wide w is there size = subst (λ (z : ℕ × ℕ). z.0 < z.1) (λ i. (sym there i, sym size i)) (inside n w is)
+
+module _ {B : Type 0} (shows : B → ℕ × Contents) where
+  -- a step that the rule allows at the table's sizes
+  pub step_allowed : (n limit cells most slots at id : ℕ) (me : Me (Option B) View) (f : ℕ → ℕ) (told : ℕ → Me (Option B) View → Type 0) (w : Word)
+      → cells ≡ n → most ≡ limit → slots ≡ n → at ≡ spot n w
+      → Allows (Kept shows n limit) n id me (spot n w) f told
+      → Allows (Kept shows cells most) slots id me at f told
+  step_allowed n limit cells most slots at id me f told w same_cells same_most same_slots there allowed =
+      subst (λ (z : ℕ × (ℕ × (ℕ × ℕ))). Allows (Kept shows z.0 z.1.0) z.1.1.0 id me z.1.1.1 f told)
+      (λ i. (sym same_cells i, (sym same_most i, (sym same_slots i, sym there i)))) allowed
+
+  pub step_told : (n limit cells most slots at id : ℕ) (me : Me (Option B) View) (f : ℕ → ℕ) (item : ℕ → Told) (w : Word)
+      → cells ≡ n → most ≡ limit → slots ≡ n → at ≡ spot n w
+      → MayTell shows n limit id me w f item
+      → Allows (Kept shows cells most) slots id me at f (λ there after. after ≡ (with_told (item there) me.0, me.1))
+  step_told n limit cells most slots at id me f item w = step_allowed n limit cells most slots at id me f (λ there after. after ≡ (with_told (item there) me.0, me.1)) w
+
+  pub step_exchanged : (n limit cells most slots at id : ℕ) (me : Me (Option B) View) (noted : Word) (old new : ℕ) (won : Told) (w : Word)
+      → cells ≡ n → most ≡ limit → slots ≡ n → at ≡ spot n w
+      → MayExchange shows n limit id me w noted old new won
+      → Allows (Kept shows cells most) slots id me at (λ there. either (there == old) new there) (λ there after. after ≡ (exchanged noted old won there me.0, me.1))
+  step_exchanged n limit cells most slots at id me noted old new won w =
+      step_allowed n limit cells most slots at id me (λ there. either (there == old) new there) (λ there after. after ≡ (exchanged noted old won there me.0, me.1)) w
+
+  -- a thread's seat is split off, and one that has left is joined
+  pub split_allowed : (cells most id : ℕ) (v : View) → v.active ≡ true → v.thread ≡ 0 → next_thread v ≤ MOST_THREADS → Splits (Kept shows cells most) id v (registering v) (starting v)
+  split_allowed cells most id v active root few = splits shows cells most id v (record { active = active; root = root; few = few })
+
+  pub join_allowed : (n cells most id : ℕ) (v : View) (other : ℕ) (w : View) → cells ≡ n → v.active ≡ true → v.thread ≡ 0 → Leaves n w → Joins (Kept shows cells most) id v other w (gathering v w) spent
+  join_allowed n cells most id v other w same active root leaves = joins shows cells most id v other w active root (subst (λ m. Leaves m w) (sym same) leaves)
+
+-- the table has some words
+pub some_words : (n wide : ℕ) → wide ≡ extent n → 0 < wide
+some_words n wide size = omega (arith, size)
+
+-- a view that the seat's thread and log make up
+pub leaves_so : (n : ℕ) (v w : View) → w.active ≡ true → w.thread ≡ v.thread → w.log ≡ v.log → Leaves n v → Leaves n w
+leaves_so n v w active same_thread same_log leaves = record {
+  active = active;
+  some_thread = subst (λ u. 0 < u) (sym same_thread) leaves.some_thread;
+  left = subst (λ l. is_left (part_seen n l).row.stage ≡ true) (sym same_log) leaves.left;
+  hand = subst (λ l. is_free_hand (part_seen n l).row.hand ≡ true) (sym same_log) leaves.hand;
+  popped = subst (λ l. is_blank (part_seen n l).popped ≡ true) (sym same_log) leaves.popped;
+  worklist = subst (λ l. is_unmarked (part_seen n l).worklist ≡ true) (sym same_log) leaves.worklist;
+}
+
+-- the queue words of a cell, and of a seat's own thread
+pub queue_inside : (n cell owner : ℕ) → cell < n → owner ≤ MOST_THREADS → IsWord n (Queue owner (cell / 32))
+queue_inside n cell owner low few = (omega (arith, few), omega (arith, low))
+
+pub own_queue_inside : (n thread word : ℕ) → thread ≤ MOST_THREADS → word < words_for n → IsWord n (Queue thread word)
+own_queue_inside n thread word few low = (omega (arith, few), low)
+
+-- who is told has a notify word, and each of its queue words has a bit there
+pub told_inside : (n : ℕ) (log : List Told) (thread word : ℕ) → Tells n log thread word → IsWord n (NotifyWord thread)
+told_inside n log thread word tells = omega (arith, tells.few)
+
+pub notify_bit : (n : ℕ) (log : List Told) (thread word : ℕ) → n ≤ MOST_CELLS → Tells n log thread word → word / 32 < 64
+notify_bit n log thread word few tells = omega (arith, few, tells.word)

@@ -1,0 +1,6 @@
+use Rattle.brc_rule.specs.declared.told.Moved.TheVariants.{Nothing}
+use Rattle.brc_rule.specs.declared.told.Told.TheVariants.{Did}
+use Rattle.brc_table.proofs.machine.add.Given as goal
+
+abbrev pub ghosts-add_as : goal.ghosts-add_as
+ghosts-add_as g a = record { item = λ number. Did a.step number Nothing }

@@ -1,0 +1,6 @@
+use Rattle.brc_rule.specs.declared.told.Moved.TheVariants.{Nothing}
+use Rattle.brc_rule.specs.declared.told.Told.TheVariants.{Did}
+use Rattle.brc_table.proofs.machine.exchange.Given as goal
+
+abbrev pub ghosts-exchange_as : goal.ghosts-exchange_as
+ghosts-exchange_as g a = record { item = Did a.step a.old Nothing; word = a.word }

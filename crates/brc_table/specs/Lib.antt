@@ -1,0 +1,5 @@
+pub mod Shown
+pub mod Seated
+pub mod Opening
+pub mod Machine
+pub mod Rest

@@ -1,0 +1,24 @@
+-- What an operation on a word may be.
+use Rattle.std.specs.Prelude.{◌≡◌, ℕ, ◌==◌, if◌then◌else◌, Option}
+use prog.Atomic.{either}
+use Rattle.atomic_table.specs.Table.{Me, Allows}
+use Rattle.brc_known.specs.declared.word.Word.{Word}
+use Rattle.brc_rule.specs.declared.contents.Contents.{Contents}
+use Rattle.brc_rule.specs.declared.told.Told.{Told}
+use Rattle.brc_rule.specs.declared.told.Told.TheVariants.{Lost}
+use Rattle.brc_rule.specs.declared.view.View.{View}
+use Rattle.brc_rule.specs.Layout.{spot}
+use Rattle.brc_rule.specs.Rule.{with_told, Kept}
+
+-- the view after a compare-exchange that found this number: the item where it was the one expected, else a note
+abbrev pub exchanged : Word → ℕ → Told → ℕ → View → View
+exchanged w old won there v = if there == old then with_told won v else with_told (Lost w there) v
+
+module _ {B : Type 0} (shows : B → ℕ × Contents) (n limit id : ℕ) (me : Me (Option B) View) (w : Word) where
+  -- the rule allows that the word becomes f of what it was, as the item of the number that was there
+  abbrev pub MayTell : (ℕ → ℕ) → (ℕ → Told) → Type 0
+  MayTell f item = Allows (Kept shows n limit) n id me (spot n w) f (λ there after. after ≡ (with_told (item there) me.0, me.1))
+
+  -- the rule allows that the word becomes the new number where it is the old one, as the item; else as a note of the word
+  abbrev pub MayExchange : Word → ℕ → ℕ → Told → Type 0
+  MayExchange noted old new won = Allows (Kept shows n limit) n id me (spot n w) (λ there. either (there == old) new there) (λ there after. after ≡ (exchanged noted old won there me.0, me.1))

@@ -1,0 +1,28 @@
+-- What contracts see of a thread's seat.
+use Rattle.std.specs.Prelude.{◌≡◌, ℕ, true, List, [], Option}
+use Rattle.atomic_table.specs.Seated.{TableId}
+use Rattle.brc_block.specs.declared.payload.Payload.{Payload}
+use Rattle.brc_rule.specs.declared.told.Told.{Told}
+use Rattle.brc_rule.specs.declared.view.View.{View}
+
+pub record SeatSeen (A : Type 0) : Type 0 where
+  pub table : TableId
+  pub id : ℕ
+  pub thread : ℕ
+  pub log : List Told
+  pub slots : List (ℕ × Option (ℕ × Payload A))
+
+-- what they see of the root's
+pub record RootSeen : Type 0 where
+  pub table : TableId
+  pub id : ℕ
+  pub view : View
+
+module _ {A : Type 0} where
+  -- the same seat; its log is another matter
+  abbrev pub Stays : SeatSeen A → SeatSeen A → Type 0
+  Stays old new = (new.table ≡ old.table) × (new.thread ≡ old.thread) × (new.slots ≡ old.slots)
+
+  -- its view, as the root takes it in
+  abbrev pub view_of : SeatSeen A → View
+  view_of s = record { active = true; thread = s.thread; log = s.log; gathered = [] }

@@ -1,0 +1,138 @@
+//! Counting: by the owner on the local word, and by all others on the shared one.
+
+ghost use Rattle.std.specs.Prelude.{◌≡◌, ◌+◌, ◌-◌, ◌%◌, ◌^◌, ◌<◌, ◌≤◌, ◌∷◌, OnOk, IfErr};
+ghost use Rattle.brc_runs.specs.declared.event.Step.TheVariants as steps;
+ghost use Rattle.brc_known.specs.declared.word.Field.TheVariants as fields;
+ghost use Rattle.brc_known.specs.declared.word.Word.TheVariants as words;
+ghost use Rattle.brc_rule.specs.declared.told.Moved.TheVariants as moves;
+ghost use Rattle.brc_rule.specs.declared.told.Told.TheVariants as told;
+ghost use Rattle.brc_steps.specs.Owing.{Raises, RaisesImmortal, Lowers, LowersImmortal, RaisesShared, Releases};
+ghost use Rattle.brc_table.specs.Seated.{Stays};
+
+use crate::machine::{add, exchange, load, or, store};
+use crate::seats::ThreadSeat;
+use crate::table::HeapTable;
+use brc_known::{Field, Word};
+use brc_runs::{Dropped, Source, Step};
+use std::alloc::Allocator;
+
+impl<A: Allocator> HeapTable<A> {
+    #[tactic(auto, using(brc_steps::proofs::Local_Steps::counts_up))]
+    /// LocalUp: the owner of the cell counts up, by the count that its log tells.
+    pub fn local_up(
+        &self,
+        seat: &mut ThreadSeat<A>,
+        source: Source,
+        place: u32,
+        cell: u32,
+        count: u32,
+    )
+        requires table { seat.old.table ≡ self.now.table.shared.table_id }
+        requires inside { cell < self.now.cells }
+        requires raises { Raises self.now.cells self.now.local_limit seat.old.log source place cell count }
+        ensures told { seat.new.log ≡ told.Did (steps.LocalUp source place) (count + 1) moves.Nothing ∷ seat.old.log }
+        ensures seat { Stays seat.old seat.new }
+    {
+        let word = Word::Of(Field::Local, cell);
+        let step = Step::LocalUp { source, place };
+        store(self, &mut seat.place, word, u64::from(count) + 1, step);
+    }
+
+    #[tactic(auto, using(brc_steps::proofs::Local_Steps::counts_down))]
+    /// LocalDown: it counts down.
+    pub fn local_down(&self, seat: &mut ThreadSeat<A>, drop: Dropped, cell: u32, count: u32)
+        requires table { seat.old.table ≡ self.now.table.shared.table_id }
+        requires inside { cell < self.now.cells }
+        requires lowers { Lowers self.now.cells seat.old.log drop cell count }
+        ensures told { seat.new.log ≡ told.Did (steps.LocalDown drop) (count - 1) moves.Nothing ∷ seat.old.log }
+        ensures seat { Stays seat.old seat.new }
+    {
+        let word = Word::Of(Field::Local, cell);
+        let step = Step::LocalDown(drop);
+        store(self, &mut seat.place, word, u64::from(count) - 1, step);
+    }
+
+    #[tactic(auto, using(brc_steps::proofs::Local_Steps::counts_immortal_up))]
+    /// LocalUp of an immortal, which only looks at its word.
+    pub fn immortal_up(
+        &self,
+        seat: &mut ThreadSeat<A>,
+        source: Source,
+        place: u32,
+        cell: u32,
+    ) -> u64
+        requires table { seat.old.table ≡ self.now.table.shared.table_id }
+        requires inside { cell < self.now.cells }
+        requires raises { RaisesImmortal self.now.cells seat.old.log source place cell }
+        ensures told { seat.new.log ≡ told.Did (steps.LocalUp source place) result moves.Nothing ∷ seat.old.log }
+        ensures seat { Stays seat.old seat.new }
+    {
+        let word = Word::Of(Field::Local, cell);
+        let step = Step::LocalUp { source, place };
+        load(self, &mut seat.place, word, step)
+    }
+
+    #[tactic(auto, using(brc_steps::proofs::Local_Steps::counts_immortal_down))]
+    /// LocalDown of an immortal.
+    pub fn immortal_down(&self, seat: &mut ThreadSeat<A>, drop: Dropped, cell: u32) -> u64
+        requires table { seat.old.table ≡ self.now.table.shared.table_id }
+        requires inside { cell < self.now.cells }
+        requires lowers { LowersImmortal self.now.cells seat.old.log drop cell }
+        ensures told { seat.new.log ≡ told.Did (steps.LocalDown drop) result moves.Nothing ∷ seat.old.log }
+        ensures seat { Stays seat.old seat.new }
+    {
+        let word = Word::Of(Field::Local, cell);
+        load(self, &mut seat.place, word, Step::LocalDown(drop))
+    }
+
+    #[tactic(auto, using(brc_steps::proofs::Shared_Steps::counts_up_shared))]
+    /// SharedUp: anyone else counts up, and the owner at its limit.
+    pub fn shared_up(&self, seat: &mut ThreadSeat<A>, source: Source, place: u32, cell: u32) -> u64
+        requires table { seat.old.table ≡ self.now.table.shared.table_id }
+        requires inside { cell < self.now.cells }
+        requires raises { RaisesShared self.now.cells self.now.local_limit seat.old.log source place cell }
+        ensures told { seat.new.log ≡ told.Did (steps.SharedUp source place) result moves.Nothing ∷ seat.old.log }
+        ensures seat { Stays seat.old seat.new }
+    {
+        let word = Word::Of(Field::Shared, cell);
+        let step = Step::SharedUp { source, place };
+        add(self, &mut seat.place, word, 4, step)
+    }
+
+    #[tactic(auto, using(brc_steps::proofs::Shared_Steps::asks))]
+    /// Ask: the reference is to be merged, and is in the hand now where nobody had asked.
+    pub fn ask(&self, seat: &mut ThreadSeat<A>, drop: Dropped, cell: u32) -> u64
+        requires table { seat.old.table ≡ self.now.table.shared.table_id }
+        requires inside { cell < self.now.cells }
+        requires releases { Releases self.now.cells seat.old.log (steps.Ask drop) cell }
+        ensures told { seat.new.log ≡ told.Did (steps.Ask drop) result moves.Nothing ∷ seat.old.log }
+        ensures seat { Stays seat.old seat.new }
+    {
+        let word = Word::Of(Field::Shared, cell);
+        or(self, &mut seat.place, word, 2, Step::Ask(drop))
+    }
+
+    #[tactic(auto, using(brc_steps::proofs::Shared_Steps::counts_down_shared))]
+    /// SharedDown: anyone else counts down, where the word is still the one expected; or the word that was found.
+    pub fn shared_down(
+        &self,
+        seat: &mut ThreadSeat<A>,
+        drop: Dropped,
+        cell: u32,
+        old: u64,
+    ) -> Result<(), u64>
+        requires table { seat.old.table ≡ self.now.table.shared.table_id }
+        requires inside { cell < self.now.cells }
+        requires releases { Releases self.now.cells seat.old.log (steps.SharedDown drop) cell }
+        requires default { old % 4 ≡ 0 }
+        requires some_count { 2 ^ 42 + 4 ≤ old }
+        ensures won { OnOk result (seat.new.log ≡ told.Did (steps.SharedDown drop) old moves.Nothing ∷ seat.old.log) }
+        ensures lost { IfErr result (λ found. seat.new.log ≡ told.Lost (words.Of fields.Shared cell) found ∷ seat.old.log) }
+        ensures seat { Stays seat.old seat.new }
+    {
+        let word = Word::Of(Field::Shared, cell);
+        let step = Step::SharedDown(drop);
+        let found = exchange(self, &mut seat.place, word, old, old - 4, step);
+        if found == old { Ok(()) } else { Err(found) }
+    }
+}

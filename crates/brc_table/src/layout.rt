@@ -1,0 +1,66 @@
+//! Where the words lie.
+
+ghost use Rattle.std.specs.Prelude.{◌^◌, ◌≡◌, ◌<◌, ◌≤◌};
+ghost use Rattle.brc_words.specs.declared.limits.TheConstants.{MOST_CELLS};
+ghost use Rattle.brc_runs.specs.Heap.{words_for as queue_words};
+ghost use Rattle.brc_known.specs.Items.{IsWord};
+ghost use Rattle.brc_rule.specs.Layout.{counts_from as counts_begin, queues_from as queues_begin, notify_from as notify_begin, extent as extent_of, spot};
+
+use brc_known::{Field, Word};
+use brc_runs::words_for;
+
+/// The first word after the owner words that begins a line.
+pub(crate) fn counts_from(cells: u32) -> usize
+    requires { cells ≤ MOST_CELLS }
+    ensures { result ≡ counts_begin cells }
+{
+    (cells as usize + 7) / 8 * 8
+}
+
+/// The first word after the counts.
+pub(crate) fn queues_from(cells: u32) -> usize
+    requires { cells ≤ MOST_CELLS }
+    ensures { result ≡ queues_begin cells }
+{
+    counts_from(cells) + cells as usize * 16
+}
+
+/// The first word after the queue words.
+fn notify_from(cells: u32) -> usize
+    requires { cells ≤ MOST_CELLS }
+    ensures { result ≡ notify_begin cells }
+{
+    queues_from(cells) + words_for(cells as usize) * 65
+}
+
+/// How many words the table has.
+pub(crate) fn extent(cells: u32) -> usize
+    requires { cells ≤ MOST_CELLS }
+    ensures { result ≡ extent_of cells }
+{
+    notify_from(cells) + 65 * 8
+}
+
+/// Where a word lies.
+pub(crate) fn spot_of(cells: u32, word: Word) -> usize
+    requires few { cells ≤ MOST_CELLS }
+    requires inside { IsWord cells word }
+    ensures { result ≡ spot cells word }
+{
+    match word {
+        Word::Of(Field::Owner, cell) => cell as usize,
+        Word::Of(Field::Local, cell) => counts_from(cells) + cell as usize * 16,
+        Word::Of(Field::Shared, cell) => counts_from(cells) + cell as usize * 16 + 8,
+        Word::Of(Field::Mutex, cell) => counts_from(cells) + cell as usize * 16 + 9,
+        Word::Queue(thread, k) => queues_from(cells) + k as usize * 65 + thread as usize,
+        Word::NotifyWord(thread) => notify_from(cells) + thread as usize * 8,
+    }
+}
+
+/// The number with this bit alone.
+pub(crate) fn bit(at: u32) -> u64
+    requires { at < 64 }
+    ensures { result ≡ 2 ^ at }
+{
+    1 << at
+}

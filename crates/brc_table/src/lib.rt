@@ -1,0 +1,30 @@
+//! The running table: the words and blocks of a heap that threads share, with one call for each event that moves no block.
+//!
+//! It keeps that what stands in it is the world of one run (`brc_rule`, `specs/Rule.antt`). A call asks what `brc_steps`
+//! asks of its seat's log (`specs/Owing.antt`), makes one operation on one word, and puts its event with the number found on
+//! the log. `src/machine.rt` has one function for each operation, which takes the event as its argument; that the rule
+//! allows it is a law of `brc_steps`. How it opens is `specs/Opening.antt`, what it leaves `specs/Rest.antt`.
+#![tactic(auto)]
+
+mod counting;
+mod layout;
+mod looks;
+mod machine;
+mod making;
+mod merging;
+mod opening;
+mod queues;
+mod rest;
+mod root;
+mod rule;
+mod seats;
+mod table;
+
+pub use rest::Rest;
+pub use root::RootSeat;
+pub use rule::{HeapRule, Sizes};
+pub use seats::ThreadSeat;
+pub use table::HeapTable;
+
+#[cfg(test)]
+mod tests;

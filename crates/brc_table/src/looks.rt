@@ -1,0 +1,65 @@
+//! Looks: loads that join the seat's log as notes.
+
+ghost use Rattle.std.specs.Prelude.{◌≡◌, ◌<◌, ◌∷◌};
+ghost use Rattle.brc_known.specs.declared.word.Field.TheVariants as fields;
+ghost use Rattle.brc_known.specs.declared.word.Word.TheVariants as words;
+ghost use Rattle.brc_rule.specs.declared.told.Told.TheVariants as told;
+ghost use Rattle.brc_table.specs.Seated.{Stays};
+
+use crate::machine::look;
+use crate::seats::ThreadSeat;
+use crate::table::HeapTable;
+use brc_known::{Field, Word};
+use std::alloc::Allocator;
+
+impl<A: Allocator> HeapTable<A> {
+    /// Who owns the cell, as a word.
+    pub fn load_owner(&self, seat: &mut ThreadSeat<A>, cell: u32) -> u64
+        requires table { seat.old.table ≡ self.now.table.shared.table_id }
+        requires inside { cell < self.now.cells }
+        ensures told { seat.new.log ≡ told.Saw (words.Of fields.Owner cell) result ∷ seat.old.log }
+        ensures seat { Stays seat.old seat.new }
+    {
+        look(self, &mut seat.place, Word::Of(Field::Owner, cell))
+    }
+
+    /// The owner's count.
+    pub fn load_local(&self, seat: &mut ThreadSeat<A>, cell: u32) -> u64
+        requires table { seat.old.table ≡ self.now.table.shared.table_id }
+        requires inside { cell < self.now.cells }
+        ensures told { seat.new.log ≡ told.Saw (words.Of fields.Local cell) result ∷ seat.old.log }
+        ensures seat { Stays seat.old seat.new }
+    {
+        look(self, &mut seat.place, Word::Of(Field::Local, cell))
+    }
+
+    /// The count of all others, above the state bits.
+    pub fn load_shared(&self, seat: &mut ThreadSeat<A>, cell: u32) -> u64
+        requires table { seat.old.table ≡ self.now.table.shared.table_id }
+        requires inside { cell < self.now.cells }
+        ensures told { seat.new.log ≡ told.Saw (words.Of fields.Shared cell) result ∷ seat.old.log }
+        ensures seat { Stays seat.old seat.new }
+    {
+        look(self, &mut seat.place, Word::Of(Field::Shared, cell))
+    }
+
+    /// Who has locked the object, or 0.
+    pub fn load_mutex(&self, seat: &mut ThreadSeat<A>, cell: u32) -> u64
+        requires table { seat.old.table ≡ self.now.table.shared.table_id }
+        requires inside { cell < self.now.cells }
+        ensures told { seat.new.log ≡ told.Saw (words.Of fields.Mutex cell) result ∷ seat.old.log }
+        ensures seat { Stays seat.old seat.new }
+    {
+        look(self, &mut seat.place, Word::Of(Field::Mutex, cell))
+    }
+
+    /// What the thread was told to drain.
+    pub fn load_notify(&self, seat: &mut ThreadSeat<A>) -> u64
+        requires table { seat.old.table ≡ self.now.table.shared.table_id }
+        ensures told { seat.new.log ≡ told.Saw (words.NotifyWord seat.old.thread) result ∷ seat.old.log }
+        ensures seat { Stays seat.old seat.new }
+    {
+        let word = Word::NotifyWord(seat.thread);
+        look(self, &mut seat.place, word)
+    }
+}

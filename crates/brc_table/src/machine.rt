@@ -1,0 +1,309 @@
+//! One function for each operation on a word. The caller says which event or look it is, and owes that the operation is
+//! allowed as that; the seat's log then has it.
+
+ghost use Rattle.std.specs.Prelude.{◌≡◌, ◌+◌, ◌%◌, ◌^◌, ◌==◌, ◌<◌, ℕ, true, if◌then◌else◌, bit_or};
+ghost use prog.Atomic.{either};
+ghost use Rattle.brc_known.specs.declared.word.Word.{Word as word_data};
+ghost use Rattle.brc_known.specs.declared.word.Word.TheVariants as words;
+ghost use Rattle.brc_known.specs.Items.{IsWord};
+ghost use Rattle.brc_rule.specs.declared.told.Moved.TheVariants as moves;
+ghost use Rattle.brc_rule.specs.declared.told.Told.{Told as told_data};
+ghost use Rattle.brc_rule.specs.declared.told.Told.TheVariants as told;
+ghost use Rattle.brc_rule.specs.Rule.{with_told};
+ghost use Rattle.brc_table.specs.Machine.{MayTell, MayExchange, exchanged};
+ghost use Rattle.brc_table.specs.Shown.{shows};
+
+use crate::layout::spot_of;
+use crate::table::HeapTable;
+use atomic_table::{Play, Seat};
+use brc_block::Block;
+use brc_known::Word;
+use brc_rule::View;
+use brc_runs::Step;
+use std::alloc::Allocator;
+use std::marker::{Brand, PhantomData};
+
+/// Which item an operation is, by the number that it is told. A caller's proof picks it.
+pub(crate) trait Item {
+    ghost item: { ℕ → told_data };
+}
+
+impl Item for Brand {
+    ghost item = { λ number. told.Saw (words.NotifyWord 0) number };
+}
+
+/// The seat's log has the item, and its slots stay.
+pub(crate) struct Tells<M> {
+    marker: PhantomData<M>,
+}
+
+impl<S, M: Item> Play<S, View> for Tells<M> {
+    ghost then = { λ step me number after. after ≡ (with_told (M.item number) me.0, me.1) };
+}
+
+/// Which item a compare-exchange is that wins, and which word it is made on.
+pub(crate) trait Won {
+    ghost item: { told_data };
+
+    ghost word: { word_data };
+}
+
+impl Won for Brand {
+    ghost item = { told.Saw (words.NotifyWord 0) 0 };
+
+    ghost word = { words.NotifyWord 0 };
+}
+
+/// The seat's log has the item where the number found was the one expected, and else a note of it.
+pub(crate) struct Exchanges<M> {
+    marker: PhantomData<M>,
+}
+
+impl<S, M: Won> Play<S, View> for Exchanges<M> {
+    ghost then = { λ step me number after. after ≡ (exchanged M.word step.first M.item number me.0, me.1) };
+}
+
+pub(crate) type Place<A> = Seat<Option<Block<A>>, View>;
+
+/// A load, as an item.
+fn load_as<A: Allocator, M: Item>(
+    table: &HeapTable<A>,
+    seat: &mut Place<A>,
+    word: Word,
+    step: Step,
+) -> u64
+    requires same { seat.old.table_id ≡ table.now.table.shared.table_id }
+    requires inside { IsWord table.now.cells word }
+    requires allowed { MayTell shows table.now.cells table.now.local_limit seat.old.id seat.old.me word (λ there. there) (M.item) }
+    ensures same { (seat.new.table_id ≡ seat.old.table_id) × (seat.new.id ≡ seat.old.id) }
+    ensures told { seat.new.me ≡ (with_told (M.item result) seat.old.me.0, seat.old.me.1) }
+{
+    let _step = step;
+    let at = spot_of(table.cells, word);
+    table.table.shared.load::<Tells<M>>(seat, at)
+}
+
+/// A load, as an event.
+pub(crate) fn load<A: Allocator>(
+    table: &HeapTable<A>,
+    seat: &mut Place<A>,
+    word: Word,
+    step: Step,
+) -> u64
+    requires same { seat.old.table_id ≡ table.now.table.shared.table_id }
+    requires inside { IsWord table.now.cells word }
+    requires allowed { MayTell shows table.now.cells table.now.local_limit seat.old.id seat.old.me word (λ there. there) (λ there. told.Did step there moves.Nothing) }
+    ensures same { (seat.new.table_id ≡ seat.old.table_id) × (seat.new.id ≡ seat.old.id) }
+    ensures told { seat.new.me ≡ (with_told (told.Did step result moves.Nothing) seat.old.me.0, seat.old.me.1) }
+{
+    load_as::<A, Brand>(table, seat, word, step)
+}
+
+/// A plain store, as an item.
+fn store_as<A: Allocator, M: Item>(
+    table: &HeapTable<A>,
+    seat: &mut Place<A>,
+    word: Word,
+    new: u64,
+    step: Step,
+)
+    requires same { seat.old.table_id ≡ table.now.table.shared.table_id }
+    requires inside { IsWord table.now.cells word }
+    requires allowed { MayTell shows table.now.cells table.now.local_limit seat.old.id seat.old.me word (λ _. new) (λ _. M.item new) }
+    ensures same { (seat.new.table_id ≡ seat.old.table_id) × (seat.new.id ≡ seat.old.id) }
+    ensures told { seat.new.me ≡ (with_told (M.item new) seat.old.me.0, seat.old.me.1) }
+{
+    let _step = step;
+    let at = spot_of(table.cells, word);
+    table.table.shared.store::<Tells<M>>(seat, at, new)
+}
+
+/// A plain store, as an event.
+pub(crate) fn store<A: Allocator>(
+    table: &HeapTable<A>,
+    seat: &mut Place<A>,
+    word: Word,
+    new: u64,
+    step: Step,
+)
+    requires same { seat.old.table_id ≡ table.now.table.shared.table_id }
+    requires inside { IsWord table.now.cells word }
+    requires allowed { MayTell shows table.now.cells table.now.local_limit seat.old.id seat.old.me word (λ _. new) (λ _. told.Did step new moves.Nothing) }
+    ensures same { (seat.new.table_id ≡ seat.old.table_id) × (seat.new.id ≡ seat.old.id) }
+    ensures told { seat.new.me ≡ (with_told (told.Did step new moves.Nothing) seat.old.me.0, seat.old.me.1) }
+{
+    store_as::<A, Brand>(table, seat, word, new, step)
+}
+
+/// A swap, as an item.
+fn swap_as<A: Allocator, M: Item>(
+    table: &HeapTable<A>,
+    seat: &mut Place<A>,
+    word: Word,
+    new: u64,
+    step: Step,
+) -> u64
+    requires same { seat.old.table_id ≡ table.now.table.shared.table_id }
+    requires inside { IsWord table.now.cells word }
+    requires allowed { MayTell shows table.now.cells table.now.local_limit seat.old.id seat.old.me word (λ _. new) (M.item) }
+    ensures same { (seat.new.table_id ≡ seat.old.table_id) × (seat.new.id ≡ seat.old.id) }
+    ensures told { seat.new.me ≡ (with_told (M.item result) seat.old.me.0, seat.old.me.1) }
+{
+    let _step = step;
+    let at = spot_of(table.cells, word);
+    table.table.shared.swap::<Tells<M>>(seat, at, new)
+}
+
+/// A swap, as an event.
+pub(crate) fn swap<A: Allocator>(
+    table: &HeapTable<A>,
+    seat: &mut Place<A>,
+    word: Word,
+    new: u64,
+    step: Step,
+) -> u64
+    requires same { seat.old.table_id ≡ table.now.table.shared.table_id }
+    requires inside { IsWord table.now.cells word }
+    requires allowed { MayTell shows table.now.cells table.now.local_limit seat.old.id seat.old.me word (λ _. new) (λ there. told.Did step there moves.Nothing) }
+    ensures same { (seat.new.table_id ≡ seat.old.table_id) × (seat.new.id ≡ seat.old.id) }
+    ensures told { seat.new.me ≡ (with_told (told.Did step result moves.Nothing) seat.old.me.0, seat.old.me.1) }
+{
+    swap_as::<A, Brand>(table, seat, word, new, step)
+}
+
+/// An addition, as an item.
+fn add_as<A: Allocator, M: Item>(
+    table: &HeapTable<A>,
+    seat: &mut Place<A>,
+    word: Word,
+    more: u64,
+    step: Step,
+) -> u64
+    requires same { seat.old.table_id ≡ table.now.table.shared.table_id }
+    requires inside { IsWord table.now.cells word }
+    requires allowed { MayTell shows table.now.cells table.now.local_limit seat.old.id seat.old.me word (λ there. (there + more) % 2 ^ 64) (M.item) }
+    ensures same { (seat.new.table_id ≡ seat.old.table_id) × (seat.new.id ≡ seat.old.id) }
+    ensures told { seat.new.me ≡ (with_told (M.item result) seat.old.me.0, seat.old.me.1) }
+{
+    let _step = step;
+    let at = spot_of(table.cells, word);
+    table.table.shared.fetch_add::<Tells<M>>(seat, at, more)
+}
+
+/// An addition, as an event.
+pub(crate) fn add<A: Allocator>(
+    table: &HeapTable<A>,
+    seat: &mut Place<A>,
+    word: Word,
+    more: u64,
+    step: Step,
+) -> u64
+    requires same { seat.old.table_id ≡ table.now.table.shared.table_id }
+    requires inside { IsWord table.now.cells word }
+    requires allowed { MayTell shows table.now.cells table.now.local_limit seat.old.id seat.old.me word (λ there. (there + more) % 2 ^ 64) (λ there. told.Did step there moves.Nothing) }
+    ensures same { (seat.new.table_id ≡ seat.old.table_id) × (seat.new.id ≡ seat.old.id) }
+    ensures told { seat.new.me ≡ (with_told (told.Did step result moves.Nothing) seat.old.me.0, seat.old.me.1) }
+{
+    add_as::<A, Brand>(table, seat, word, more, step)
+}
+
+/// A setting of bits, as an item.
+fn or_as<A: Allocator, M: Item>(
+    table: &HeapTable<A>,
+    seat: &mut Place<A>,
+    word: Word,
+    bits: u64,
+    step: Step,
+) -> u64
+    requires same { seat.old.table_id ≡ table.now.table.shared.table_id }
+    requires inside { IsWord table.now.cells word }
+    requires allowed { MayTell shows table.now.cells table.now.local_limit seat.old.id seat.old.me word (λ there. bit_or there bits) (M.item) }
+    ensures same { (seat.new.table_id ≡ seat.old.table_id) × (seat.new.id ≡ seat.old.id) }
+    ensures told { seat.new.me ≡ (with_told (M.item result) seat.old.me.0, seat.old.me.1) }
+{
+    let _step = step;
+    let at = spot_of(table.cells, word);
+    table.table.shared.fetch_or::<Tells<M>>(seat, at, bits)
+}
+
+/// A setting of bits, as an event.
+pub(crate) fn or<A: Allocator>(
+    table: &HeapTable<A>,
+    seat: &mut Place<A>,
+    word: Word,
+    bits: u64,
+    step: Step,
+) -> u64
+    requires same { seat.old.table_id ≡ table.now.table.shared.table_id }
+    requires inside { IsWord table.now.cells word }
+    requires allowed { MayTell shows table.now.cells table.now.local_limit seat.old.id seat.old.me word (λ there. bit_or there bits) (λ there. told.Did step there moves.Nothing) }
+    ensures same { (seat.new.table_id ≡ seat.old.table_id) × (seat.new.id ≡ seat.old.id) }
+    ensures told { seat.new.me ≡ (with_told (told.Did step result moves.Nothing) seat.old.me.0, seat.old.me.1) }
+{
+    or_as::<A, Brand>(table, seat, word, bits, step)
+}
+
+/// A load, as an item of its word.
+fn look_as<A: Allocator, M: Item>(table: &HeapTable<A>, seat: &mut Place<A>, word: Word) -> u64
+    requires same { seat.old.table_id ≡ table.now.table.shared.table_id }
+    requires inside { IsWord table.now.cells word }
+    requires allowed { MayTell shows table.now.cells table.now.local_limit seat.old.id seat.old.me word (λ there. there) M.item }
+    ensures same { (seat.new.table_id ≡ seat.old.table_id) × (seat.new.id ≡ seat.old.id) }
+    ensures told { seat.new.me ≡ (with_told (M.item result) seat.old.me.0, seat.old.me.1) }
+{
+    let at = spot_of(table.cells, word);
+    table.table.shared.load::<Tells<M>>(seat, at)
+}
+
+#[tactic(auto, using(brc_rule::proofs::Looking::looks))]
+/// A load, as a look, which is always allowed.
+pub(crate) fn look<A: Allocator>(table: &HeapTable<A>, seat: &mut Place<A>, word: Word) -> u64
+    requires same { seat.old.table_id ≡ table.now.table.shared.table_id }
+    requires inside { IsWord table.now.cells word }
+    requires active { seat.old.me.0.active ≡ true }
+    ensures same { (seat.new.table_id ≡ seat.old.table_id) × (seat.new.id ≡ seat.old.id) }
+    ensures told { seat.new.me ≡ (with_told (told.Saw word result) seat.old.me.0, seat.old.me.1) }
+{
+    look_as::<A, Brand>(table, seat, word)
+}
+
+/// A compare-exchange, as an item or a note.
+fn exchange_as<A: Allocator, M: Won>(
+    table: &HeapTable<A>,
+    seat: &mut Place<A>,
+    word: Word,
+    old: u64,
+    new: u64,
+    step: Step,
+) -> u64
+    requires same { seat.old.table_id ≡ table.now.table.shared.table_id }
+    requires inside { IsWord table.now.cells word }
+    requires allowed { MayExchange shows table.now.cells table.now.local_limit seat.old.id seat.old.me word M.word old new M.item }
+    ensures same { (seat.new.table_id ≡ seat.old.table_id) × (seat.new.id ≡ seat.old.id) }
+    ensures told { seat.new.me ≡ (exchanged M.word old M.item result seat.old.me.0, seat.old.me.1) }
+{
+    let _step = step;
+    let at = spot_of(table.cells, word);
+    table
+        .table
+        .shared
+        .compare_exchange::<Exchanges<M>>(seat, at, old, new)
+}
+
+/// A compare-exchange, as an event told the number expected, or a note of the number found.
+pub(crate) fn exchange<A: Allocator>(
+    table: &HeapTable<A>,
+    seat: &mut Place<A>,
+    word: Word,
+    old: u64,
+    new: u64,
+    step: Step,
+) -> u64
+    requires same { seat.old.table_id ≡ table.now.table.shared.table_id }
+    requires inside { IsWord table.now.cells word }
+    requires allowed { MayExchange shows table.now.cells table.now.local_limit seat.old.id seat.old.me word word old new (told.Did step old moves.Nothing) }
+    ensures same { (seat.new.table_id ≡ seat.old.table_id) × (seat.new.id ≡ seat.old.id) }
+    ensures told { seat.new.me ≡ (exchanged word old (told.Did step old moves.Nothing) result seat.old.me.0, seat.old.me.1) }
+{
+    exchange_as::<A, Brand>(table, seat, word, old, new, step)
+}

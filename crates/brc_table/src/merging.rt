@@ -1,0 +1,86 @@
+//! Merging: an object is made nobody's, and its local count joins the shared one; who has asked for it puts it into a queue.
+
+ghost use Rattle.std.specs.Prelude.{◌≡◌, ◌<◌, ◌≤◌, ◌∷◌};
+ghost use Rattle.brc_words.specs.declared.limits.TheConstants.{MOST_THREADS};
+ghost use Rattle.brc_runs.specs.declared.event.Step.TheVariants as steps;
+ghost use Rattle.brc_rule.specs.declared.told.Moved.TheVariants as moves;
+ghost use Rattle.brc_rule.specs.declared.told.Told.TheVariants as told;
+ghost use Rattle.brc_steps.specs.Owing.{UntiesOver, UntiesShut, UntiesPopped, AddsLocal, Enqueues};
+ghost use Rattle.brc_table.specs.Seated.{Stays};
+
+use crate::layout::bit;
+use crate::machine::{add, or, store};
+use crate::seats::ThreadSeat;
+use crate::table::HeapTable;
+use brc_known::{Field, Word};
+use brc_runs::Step;
+use std::alloc::Allocator;
+
+impl<A: Allocator> HeapTable<A> {
+    #[tactic(auto, using(brc_steps::proofs::Untying_Steps::unties_over))]
+    /// Untie of an own object whose count is 0, and which others counted or asked for.
+    pub fn untie_over(&self, seat: &mut ThreadSeat<A>, cell: u32)
+        requires table { seat.old.table ≡ self.now.table.shared.table_id }
+        requires inside { cell < self.now.cells }
+        requires unties { UntiesOver self.now.cells seat.old.log cell }
+        ensures told { seat.new.log ≡ told.Did (steps.Untie cell) 0 moves.Nothing ∷ seat.old.log }
+        ensures seat { Stays seat.old seat.new }
+    {
+        let word = Word::Of(Field::Owner, cell);
+        store(self, &mut seat.place, word, 0, Step::Untie(cell));
+    }
+
+    /// Untie of an object whose owner has left, as it was found.
+    pub fn untie_shut(&self, seat: &mut ThreadSeat<A>, cell: u32, owner: u64)
+        requires table { seat.old.table ≡ self.now.table.shared.table_id }
+        requires inside { cell < self.now.cells }
+        requires unties { UntiesShut self.now.cells seat.old.log cell owner }
+        ensures told { seat.new.log ≡ told.Did (steps.Untie cell) 0 moves.Nothing ∷ seat.old.log }
+        ensures seat { Stays seat.old seat.new }
+    {
+        let _owner = owner;
+        let word = Word::Of(Field::Owner, cell);
+        store(self, &mut seat.place, word, 0, Step::Untie(cell));
+    }
+
+    /// Untie of a popped entry that was found not merged.
+    pub fn untie_popped(&self, seat: &mut ThreadSeat<A>, cell: u32, shared: u64)
+        requires table { seat.old.table ≡ self.now.table.shared.table_id }
+        requires inside { cell < self.now.cells }
+        requires unties { UntiesPopped self.now.cells seat.old.log cell shared }
+        ensures told { seat.new.log ≡ told.Did (steps.Untie cell) 0 moves.Nothing ∷ seat.old.log }
+        ensures seat { Stays seat.old seat.new }
+    {
+        let _shared = shared;
+        let word = Word::Of(Field::Owner, cell);
+        store(self, &mut seat.place, word, 0, Step::Untie(cell));
+    }
+
+    #[tactic(auto, using(brc_steps::proofs::Adding_Steps::adds_local))]
+    /// MergeAdd: the local count, as it was looked at, joins the shared one.
+    pub fn merge_add(&self, seat: &mut ThreadSeat<A>, cell: u32, local: u32) -> u64
+        requires table { seat.old.table ≡ self.now.table.shared.table_id }
+        requires inside { cell < self.now.cells }
+        requires adds { AddsLocal self.now.cells seat.old.log cell local }
+        ensures told { seat.new.log ≡ told.Did (steps.MergeAdd cell) result moves.Nothing ∷ seat.old.log }
+        ensures seat { Stays seat.old seat.new }
+    {
+        let word = Word::Of(Field::Shared, cell);
+        let more = u64::from(local) * 4 + 1;
+        add(self, &mut seat.place, word, more, Step::MergeAdd(cell))
+    }
+
+    #[tactic(auto, using(crate::proofs::Placing::queue_inside))]
+    /// Enqueue: the reference in the hand goes into the queue of the owner that was found.
+    pub fn enqueue(&self, seat: &mut ThreadSeat<A>, cell: u32, owner: u32) -> u64
+        requires table { seat.old.table ≡ self.now.table.shared.table_id }
+        requires inside { cell < self.now.cells }
+        requires enqueues { Enqueues self.now.cells seat.old.log cell owner }
+        ensures told { seat.new.log ≡ told.Did (steps.Enqueue cell) result moves.Nothing ∷ seat.old.log }
+        ensures seat { Stays seat.old seat.new }
+    {
+        let word = Word::Queue(owner, cell / 32);
+        let bits = bit(cell % 32);
+        or(self, &mut seat.place, word, bits, Step::Enqueue(cell))
+    }
+}

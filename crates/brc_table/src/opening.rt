@@ -1,0 +1,161 @@
+//! What a table opens with: its words and its blocks.
+
+ghost use Rattle.std.specs.Prelude.{◌≡◌, ◌↔◌, ◌<◌, ◌≤◌, map, IfOk, IfErr, IsTrue};
+ghost use Rattle.brc_words.specs.declared.fault.Fault.TheVariants as fault;
+ghost use Rattle.brc_words.specs.declared.limits.TheConstants.{FIRST_MORTAL, MOST_CELLS};
+ghost use Rattle.brc_runs.specs.Heap.{AreOptions};
+ghost use Rattle.brc_rule.specs.Layout.{extent as extent_of};
+ghost use Rattle.brc_rule.specs.Logs.{opening_contents};
+ghost use Rattle.brc_table.specs.Opening.{opening_owner, opening_count, opening_word, opening_words, slot_shows, opening_slot, opening_slots};
+ghost use Rattle.brc_table.specs.Shown.{contents_of};
+
+use crate::layout::{counts_from, extent, queues_from};
+use brc_block::{Block, Pairs, Payload};
+use brc_words::{
+    FEWEST_CELLS, FIRST_MORTAL, Fault, GLOBALS, IMMORTAL_LOCAL, MOST_CELLS, MOST_LOCAL,
+};
+use std::alloc::{AllocError, AllocFailed, Allocator};
+
+/// Whether a heap may have these sizes.
+pub(crate) fn are_options(cells: u32, local_limit: u32) -> bool
+    ensures { IsTrue result ↔ AreOptions cells local_limit }
+{
+    FEWEST_CELLS <= cells && cells <= MOST_CELLS && 1 <= local_limit && local_limit <= MOST_LOCAL
+}
+
+/// The owner word of a cell.
+fn opening_owner(cell: usize) -> u64
+    ensures { result ≡ opening_owner cell }
+{
+    if cell < FIRST_MORTAL as usize {
+        0
+    } else {
+        u64::MAX
+    }
+}
+
+/// A word among the counts of a cell.
+fn opening_count(cell: usize, part: usize) -> u64
+    ensures { result ≡ opening_count cell part }
+{
+    if part == 0 {
+        if cell < FIRST_MORTAL as usize {
+            u64::from(IMMORTAL_LOCAL)
+        } else {
+            0
+        }
+    } else if part == 8 {
+        1 << 42
+    } else {
+        0
+    }
+}
+
+/// The word at a spot.
+fn opening_word(cells: u32, at: usize) -> u64
+    requires { cells ≤ MOST_CELLS }
+    ensures { result ≡ opening_word cells at }
+{
+    if at < cells as usize {
+        opening_owner(at)
+    } else if at < counts_from(cells) {
+        0
+    } else if at < queues_from(cells) {
+        let at = at - counts_from(cells);
+        opening_count(at / 16, at % 16)
+    } else {
+        0
+    }
+}
+
+/// All words.
+pub(crate) fn opening_words<A: Allocator>(alloc: A, cells: u32) -> Result<Vec<u64, A>, AllocError>
+    requires { cells ≤ MOST_CELLS }
+    ensures { IfOk result (λ made. made.items ≡ opening_words cells (extent_of cells)) }
+{
+    let wide = extent(cells);
+    let mut made = Vec::with_capacity(alloc, wide)?;
+    for at in 0..wide {
+        made.push(opening_word(cells, at))?;
+    }
+    Ok(made)
+}
+
+/// What an immortal is.
+fn opening_payload<A: Allocator>(alloc: A, cell: u32) -> Payload<A>
+    requires { cell < FIRST_MORTAL }
+    ensures { contents_of result ≡ opening_contents cell }
+{
+    if cell == 0 {
+        Payload::Nothing
+    } else if cell == 1 {
+        Payload::Truth(false)
+    } else if cell == 2 {
+        Payload::Truth(true)
+    } else if cell == GLOBALS {
+        Payload::Dict(Pairs::new(Vec::new(alloc)))
+    } else {
+        Payload::Int(i64::from(cell) - 8)
+    }
+}
+
+/// The slot of a cell.
+fn opening_slot<A: Allocator + Copy>(alloc: A, cell: u32) -> Result<Option<Block<A>>, Fault>
+    ensures made { IfOk result (λ made. slot_shows made ≡ opening_slot cell) }
+    ensures refused { IfErr result (λ told. told ≡ fault.OutOfMemory) }
+{
+    if cell >= FIRST_MORTAL {
+        return Ok(None);
+    }
+    match Block::new(alloc, cell, opening_payload(alloc, cell)) {
+        Ok(block) => Ok(Some(block)),
+        Err((fault, _payload)) => Err(fault),
+    }
+}
+
+/// Gives a block's memory back.
+fn give_back<A: Allocator>(slot: Option<Block<A>>) {
+    match slot {
+        None => {}
+        Some(block) => {
+            let _payload = block.into_payload();
+        }
+    }
+}
+
+/// Gives all blocks' memory back.
+pub(crate) fn give_all_back<A: Allocator, B: Allocator>(slots: Vec<Option<Block<A>>, B>) {
+    let mut slots = slots;
+    while let Some(slot) = slots.pop() {
+        give_back(slot);
+    }
+    slots.destroy_empty();
+}
+
+/// All slots. A refused growth gives back what was made.
+pub(crate) fn opening_slots<A: Allocator + Copy>(
+    alloc: A,
+    cells: u32,
+) -> Result<Vec<Option<Block<A>>, A>, Fault>
+    ensures made { IfOk result (λ made. map slot_shows made.items ≡ opening_slots cells) }
+    ensures refused { IfErr result (λ told. told ≡ fault.OutOfMemory) }
+{
+    let mut made = Vec::with_capacity(alloc, cells as usize)?;
+    for cell in 0..cells {
+        match opening_slot(alloc, cell) {
+            Ok(slot) => {
+                if let Err(failed) = made.push(slot) {
+                    let AllocFailed { value, .. } = failed;
+                    give_back(value);
+                    give_all_back(made);
+                    return Err(Fault::OutOfMemory);
+                }
+            }
+            Err(fault) => {
+                give_all_back(made);
+                return Err(fault);
+            }
+        }
+    }
+    Ok(made)
+}

@@ -1,0 +1,74 @@
+//! Queues: a thread takes what was put into its own, and tells others to do so.
+
+ghost use Rattle.std.specs.Prelude.{◌≡◌, ◌<◌, ◌≤◌, ◌∷◌};
+ghost use Rattle.brc_runs.specs.Heap.{words_for};
+ghost use Rattle.brc_runs.specs.declared.event.Step.TheVariants as steps;
+ghost use Rattle.brc_rule.specs.declared.told.Moved.TheVariants as moves;
+ghost use Rattle.brc_rule.specs.declared.told.Told.TheVariants as told;
+ghost use Rattle.brc_steps.specs.Owing.{Allowed, Tells};
+ghost use Rattle.brc_table.specs.Seated.{Stays};
+
+use crate::layout::bit;
+use crate::machine::{or, swap};
+use crate::seats::ThreadSeat;
+use crate::table::HeapTable;
+use brc_known::Word;
+use brc_runs::Step;
+use std::alloc::Allocator;
+
+impl<A: Allocator> HeapTable<A> {
+    #[tactic(auto, using(crate::proofs::Placing::own_queue_inside))]
+    /// Drain: the bits of one of its queue words are popped.
+    pub fn drain(&self, seat: &mut ThreadSeat<A>, word: u32) -> u64
+        requires table { seat.old.table ≡ self.now.table.shared.table_id }
+        requires inside { word < words_for self.now.cells }
+        requires allowed { Allowed self.now.cells seat.old.log (steps.Drain word) }
+        ensures told { seat.new.log ≡ told.Did (steps.Drain word) result moves.Nothing ∷ seat.old.log }
+        ensures seat { Stays seat.old seat.new }
+    {
+        let at = Word::Queue(seat.thread, word);
+        swap(self, &mut seat.place, at, 0, Step::Drain(word))
+    }
+
+    #[tactic(auto, using(crate::proofs::Placing::own_queue_inside))]
+    /// Close: one of its queue words takes nothing any more, and its bits are popped.
+    pub fn close(&self, seat: &mut ThreadSeat<A>, word: u32) -> u64
+        requires table { seat.old.table ≡ self.now.table.shared.table_id }
+        requires inside { word < words_for self.now.cells }
+        requires allowed { Allowed self.now.cells seat.old.log (steps.Close word) }
+        ensures told { seat.new.log ≡ told.Did (steps.Close word) result moves.Nothing ∷ seat.old.log }
+        ensures seat { Stays seat.old seat.new }
+    {
+        let at = Word::Queue(seat.thread, word);
+        or(self, &mut seat.place, at, 1 << 63, Step::Close(word))
+    }
+
+    /// Nudge: a thread is told that this one of its queue words has something, or a word beside it.
+    pub fn nudge(&self, seat: &mut ThreadSeat<A>, thread: u32, word: u32) -> u64
+        requires table { seat.old.table ≡ self.now.table.shared.table_id }
+        requires tells { Tells self.now.cells seat.old.log thread word }
+        ensures told { seat.new.log ≡ told.Did (steps.Nudge thread word) result moves.Nothing ∷ seat.old.log }
+        ensures seat { Stays seat.old seat.new }
+    {
+        let at = Word::NotifyWord(thread);
+        let bits = bit(word / 32);
+        or(
+            self,
+            &mut seat.place,
+            at,
+            bits,
+            Step::Nudge { thread, word },
+        )
+    }
+
+    /// Wake: the thread takes what it was told.
+    pub fn wake(&self, seat: &mut ThreadSeat<A>) -> u64
+        requires table { seat.old.table ≡ self.now.table.shared.table_id }
+        requires allowed { Allowed self.now.cells seat.old.log steps.Wake }
+        ensures told { seat.new.log ≡ told.Did steps.Wake result moves.Nothing ∷ seat.old.log }
+        ensures seat { Stays seat.old seat.new }
+    {
+        let at = Word::NotifyWord(seat.thread);
+        swap(self, &mut seat.place, at, 0, Step::Wake)
+    }
+}

@@ -1,0 +1,63 @@
+//! The table, and how it opens.
+
+ghost use Rattle.std.specs.Prelude.{◌≡◌, ◌↔◌, ◌⊎◌, ◌≤◌, Err, IfOk, IfErr};
+ghost use Rattle.brc_words.specs.declared.limits.TheConstants.{MOST_CELLS, MOST_LOCAL};
+ghost use Rattle.brc_words.specs.declared.fault.Fault.TheVariants as faults;
+ghost use Rattle.brc_runs.specs.Heap.{AreOptions};
+ghost use Rattle.brc_rule.specs.Opening.{first_view};
+ghost use Rattle.brc_rule.specs.Layout.{extent};
+
+use crate::opening::{are_options, give_all_back, opening_slots, opening_words};
+use crate::root::RootSeat;
+use crate::rule::{HeapRule, Sizes};
+use atomic_table::{Refused, Table};
+use brc_block::Block;
+use brc_rule::View;
+use brc_words::Fault;
+use std::alloc::Allocator;
+
+/// The words and blocks of one heap.
+pub struct HeapTable<A: Allocator> {
+    pub(crate) table: Table<Option<Block<A>>, View, Sizes, HeapRule<A>, A>,
+    pub(crate) cells: u32,
+    pub(crate) local_limit: u32,
+    ghost sizes: { (table.shared.key.cells ≡ cells) × (table.shared.key.local_limit ≡ local_limit) },
+    ghost room: { (table.shared.table_id.words ≡ extent cells) × (table.shared.table_id.slots ≡ cells) },
+    ghost limits: { (cells ≤ MOST_CELLS) × (local_limit ≤ MOST_LOCAL) },
+}
+
+impl<A: Allocator + Copy> HeapTable<A> {
+    #[tactic(auto, using(crate::proofs::Opened::opened, crate::proofs::Opened::wide_of, crate::proofs::Opened::deep_of))]
+    /// A table of so many cells, which opens with the immortals, and the root's seat.
+    pub fn new(alloc: A, cells: u32, local_limit: u32) -> Result<(HeapTable<A>, RootSeat<A>), Fault>
+        ensures sizes { IfOk result (λ made. (made.0.cells ≡ cells) × (made.0.local_limit ≡ local_limit)) }
+        ensures seat { IfOk result (λ made. made.1.table ≡ made.0.table.shared.table_id) }
+        ensures view { IfOk result (λ made. made.1.view ≡ first_view) }
+
+        // Sizes are looked at before memory is asked for.
+        ensures options { (result ≡ Err faults.BadOptions) ↔ ¬ (AreOptions cells local_limit) }
+        ensures refused { IfErr result (λ fault. (fault ≡ faults.BadOptions) ⊎ (fault ≡ faults.OutOfMemory)) }
+    {
+        if !are_options(cells, local_limit) {
+            return Err(Fault::BadOptions);
+        }
+        let words = opening_words(alloc, cells)?;
+        let slots = opening_slots(alloc, cells)?;
+        let sizes = Sizes { cells, local_limit };
+        match Table::new(alloc, words.as_slice(), slots, &sizes) {
+            Ok((table, place)) => Ok((
+                HeapTable {
+                    table,
+                    cells,
+                    local_limit,
+                },
+                RootSeat { place, next: 1 },
+            )),
+            Err(refused) => {
+                let Refused { slots } = refused;
+                give_all_back(slots);
+                Err(Fault::OutOfMemory)
+            }
+        }
+    }
+}

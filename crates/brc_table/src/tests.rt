@@ -1,0 +1,97 @@
+//! A table that opens, counts an immortal and is taken apart, with ample memory and with none.
+
+use crate::{HeapTable, Rest};
+use brc_block::Payload;
+use brc_runs::{Dropped, Source};
+use brc_words::{Fault, Kind};
+use std::alloc::Allocator;
+use std::process::Abort;
+
+/// Gives all blocks back, and answers how many there were; each is of the next cell.
+fn end_all<A: Allocator>(rt: &impl Abort, rest: Rest<A>) -> u32 {
+    let mut rest = rest;
+    for cell in 0..1_000 {
+        match rest.next() {
+            None => return cell,
+            Some((block, left)) => {
+                assert!(rt; block.cell() == cell);
+                let _payload = block.into_payload();
+                rest = left;
+            }
+        }
+    }
+    panic!(rt; "blocks without end")
+}
+
+#[test]
+fn an_immortal_is_counted_up_and_down(rt: HostRuntime) {
+    match HeapTable::new(rt.alloc(), 512, 10) {
+        Err(_) => panic!(rt; "memory"),
+        Ok((table, root)) => {
+            let mut root = root;
+            let mut seat = table.split(&mut root);
+            let found = table.immortal_up(&mut seat, Source::Immortal(2), 0, 2);
+            assert_eq!(rt; found, 4_294_967_295);
+            let found = table.immortal_down(&mut seat, Dropped::Frame(0), 2);
+            assert_eq!(rt; found, 4_294_967_295);
+            assert_eq!(rt; table.load_shared(&mut seat, 2), 4_398_046_511_104);
+            assert_eq!(rt;
+                table.load_owner(&mut seat, 300),
+                18_446_744_073_709_551_615
+            );
+            assert_eq!(rt; table.load_mutex(&mut seat, 300), 0);
+            assert_eq!(rt; table.load_notify(&mut seat), 0);
+            assert_eq!(rt; root.next(), 2);
+            drop(seat);
+            assert_eq!(rt; end_all(&rt, table.take_apart(root)), 266);
+        }
+    }
+}
+
+#[test]
+fn immortals_open_as_they_are(rt: HostRuntime) {
+    match HeapTable::new(rt.alloc(), 512, 10) {
+        Err(_) => panic!(rt; "memory"),
+        Ok((table, root)) => {
+            let mut rest = table.take_apart(root);
+            let mut sum = 0i64;
+            for cell in 0..266 {
+                match rest.next() {
+                    None => panic!(rt; "a block is missing"),
+                    Some((block, left)) => {
+                        rest = left;
+                        match block.into_payload() {
+                            Payload::Nothing => assert_eq!(rt; cell, 0),
+                            Payload::Truth(truth) => assert!(rt; cell == if truth { 2 } else { 1 }),
+                            Payload::Int(number) => sum = sum.wrapping_add(number),
+                            payload => assert!(rt;
+                                cell == 265 && payload.kind() == Kind::Dict && payload.len() == 0
+                            ),
+                        }
+                    }
+                }
+            }
+            assert_eq!(rt; sum, 32_881);
+            assert_eq!(rt; end_all(&rt, rest), 0);
+        }
+    }
+}
+
+#[test]
+fn sizes_of_no_heap_are_refused(rt: HostRuntime) {
+    let cases = [
+        ("too few cells", 511, 10),
+        ("too many cells", 65_537, 10),
+        ("no count", 512, 0),
+        ("as immortals have it", 512, 4_294_967_295),
+    ];
+    for (case, cells, local_limit) in cases {
+        match HeapTable::new(rt.alloc(), cells, local_limit) {
+            Err(fault) => assert_eq!(rt; fault, Fault::BadOptions, "{case}"),
+            Ok((table, root)) => {
+                let _blocks = end_all(&rt, table.take_apart(root));
+                panic!(rt; "{case}")
+            }
+        }
+    }
+}
