@@ -3,7 +3,7 @@
 //! Each `World` is reached by some run of events from an opening one: that is the invariant of its
 //! type, so counts are references in every world that a caller has. What an event is and does is
 //! `brc_runs`, `specs/Steps.antt`, and the argument is its `proofs/Reached.antt`. The steps
-//! themselves, a few writes to tables each, are `brc_tables`.
+//! themselves, a few writes to tables each, are `brc_state`.
 #![tactic(auto)]
 
 mod holders;
@@ -16,7 +16,7 @@ mod world;
 
 // What callers write and read.
 pub use brc_runs::{Cell, Change, Dropped, Event, Hand, LastDropped, Phase, Source, Step};
-pub use brc_tables::Refusal;
+pub use brc_state::Refusal;
 pub use readers::Status;
 pub use replaying::{ReplayFault, replay};
 pub use totals::Ledger;

@@ -4,11 +4,11 @@ ghost use Rattle.std.specs.Prelude.{◌≡◌, ◌↔◌, ◌⊎◌, true, false
 ghost use Rattle.brc_core.specs.Moves.{MovesOn};
 ghost use Rattle.brc_runs.specs.Heap.{AreOptions, opening};
 ghost use Rattle.brc_runs.specs.Steps.{enabled, after};
-ghost use Rattle.brc_tables.specs.Memory.{needs_memory};
-ghost use Rattle.brc_tables.specs.Refusals.{refusal_of};
+ghost use Rattle.brc_state.specs.Memory.{needs_memory};
+ghost use Rattle.brc_state.specs.Refusals.{refusal_of};
 
 use brc_runs::{Event, Step};
-use brc_tables::{Refusal, Tables, are_options};
+use brc_state::{Refusal, Tables, are_options};
 use brc_words::Fault;
 use std::alloc::Allocator;
 use std::marker::Model;

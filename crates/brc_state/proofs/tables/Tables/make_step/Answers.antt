@@ -1,6 +1,6 @@
-use Rattle.brc_tables.proofs.Enabling.{thread_there, cell_there, thread_cell}
-use Rattle.brc_tables.proofs.Parting.{plain_step}
-use Rattle.brc_tables.proofs.tables.Tables.make_step.Goals as goal
+use Rattle.brc_state.proofs.Enabling.{thread_there, cell_there, thread_cell}
+use Rattle.brc_state.proofs.Parting.{plain_step}
+use Rattle.brc_state.proofs.tables.Tables.make_step.Goals as goal
 
 pub make_cell_step-requires : goal.make_cell_step-requires
 make_cell_step-requires g c = record {

@@ -3,7 +3,7 @@
 ghost use Rattle.std.specs.Prelude.{◌≡◌, ◌==◌, ◌^◌, ◌%◌, ◌<◌, replicate, slice_set, bit_or, IfOk};
 ghost use Rattle.brc_runs.specs.Lists.{bit_of, word_at, with_bit, without_bit, is_blank};
 ghost use Rattle.brc_runs.specs.Steps.{queues_with};
-ghost use Rattle.brc_tables.specs.Effects.{popped_without, popped_with, queues_without};
+ghost use Rattle.brc_state.specs.Effects.{popped_without, popped_with, queues_without};
 
 use std::alloc::{AllocError, Allocator};
 use std::marker::Model;

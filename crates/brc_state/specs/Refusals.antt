@@ -7,8 +7,8 @@ use Rattle.brc_runs.specs.declared.event.Step.TheVariants.{Register, Gather}
 use Rattle.brc_runs.specs.Heap.{Heap, cell_at, row_at, popped_at, worklist_at, is_registered, is_gathered}
 use Rattle.brc_runs.specs.Lists.{is_blank, is_unmarked}
 use Rattle.brc_runs.specs.Steps.{stage_ok, lock_ok, hand_ok, own_ok_at, others_ok, needs_no_cell, cell_ok, target_at, is_left, is_free_hand}
-use Rattle.brc_tables.specs.declared.refusing.Refusal.{Refusal}
-use Rattle.brc_tables.specs.declared.refusing.Refusal.TheVariants as refusals
+use Rattle.brc_state.specs.declared.refusing.Refusal.{Refusal}
+use Rattle.brc_state.specs.declared.refusing.Refusal.TheVariants as refusals
 
 -- this refusal, where the test fails; else the next, if any
 abbrev pub unless : Bool → Refusal → Option Refusal → Option Refusal

@@ -2,7 +2,7 @@
 
 ghost use Rattle.std.specs.Prelude.{◌≡◌, ◌↔◌, true, None};
 ghost use Rattle.brc_runs.specs.Steps.{needs_no_cell, others_ok, target_at, enabled};
-ghost use Rattle.brc_tables.specs.Refusals.{is_roots, root_refusal, cell_refusal, thread_refusal, refusal_of};
+ghost use Rattle.brc_state.specs.Refusals.{is_roots, root_refusal, cell_refusal, thread_refusal, refusal_of};
 
 use crate::cell_conditions::cell_ok;
 use crate::conditions::{hand_ok, is_free_hand, is_left, lock_ok, stage_ok};

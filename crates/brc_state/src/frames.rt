@@ -2,7 +2,7 @@
 
 ghost use Rattle.std.specs.Prelude.{◌≡◌, [], true, is_some, slice_index_or, slice_set, OnOk, OnErr};
 ghost use Rattle.brc_runs.specs.Lists.{place_at, reaching, filled, vacated, is_bare};
-ghost use Rattle.brc_tables.specs.Effects.{frames_with};
+ghost use Rattle.brc_state.specs.Effects.{frames_with};
 
 use crate::tally::recount;
 use brc_runs::Dropped;

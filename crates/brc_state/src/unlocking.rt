@@ -4,8 +4,8 @@ ghost use Rattle.std.specs.Prelude.{◌≡◌, ◌<◌, true, is_some, length, s
 ghost use Rattle.brc_runs.specs.Lists.{number_in, place_at};
 ghost use Rattle.brc_runs.specs.Heap.{entries_at, frame_at, row_at};
 ghost use Rattle.brc_runs.specs.Steps.{change_ok, stepped};
-ghost use Rattle.brc_tables.specs.Effects.{exchanged};
-ghost use Rattle.brc_tables.specs.Memory.{moves_one};
+ghost use Rattle.brc_state.specs.Effects.{exchanged};
+ghost use Rattle.brc_state.specs.Memory.{moves_one};
 
 use crate::entries::{add_entry, remove_entry, set_entry};
 use crate::frames::{fill_place, refill_place, vacate_place};

@@ -3,7 +3,7 @@
 ghost use Rattle.std.specs.Prelude.{◌≡◌, ◌+◌, ◌<◌, ◌^◌, true, false, OnOk, OnErr, length};
 ghost use Rattle.brc_runs.specs.Heap.{cell_at, row_at};
 ghost use Rattle.brc_runs.specs.Steps.{cell_ok, is_shut, is_unlock, stepped};
-ghost use Rattle.brc_tables.specs.Memory.{needs_memory};
+ghost use Rattle.brc_state.specs.Memory.{needs_memory};
 ghost use Rattle.brc_words.specs.Shared.{CountFits};
 
 use crate::conditions::is_closed;

@@ -3,7 +3,7 @@
 
 ghost use Rattle.std.specs.Prelude.{◌≡◌, ◌/◌, ◌<◌, length};
 ghost use Rattle.brc_runs.specs.Steps.{closed_more, stage_after, drained_word, notify_words_after, kept_cells};
-ghost use Rattle.brc_tables.specs.Effects.{named_word};
+ghost use Rattle.brc_state.specs.Effects.{named_word};
 
 use crate::tables::Tables;
 use crate::words::{empty_drained, only_bit, pop_drained};

@@ -3,7 +3,7 @@
 ghost use Rattle.std.specs.Prelude.{◌≡◌, ◌<◌, [], ◌∷◌, ◌++◌, true, OnOk, OnErr, vec_len, vec_capacity};
 ghost use Rattle.brc_runs.specs.Heap.{new_row, words_for};
 ghost use Rattle.brc_runs.specs.Steps.{registered, gathered_in, root_after};
-ghost use Rattle.brc_tables.specs.Memory.{needs_memory};
+ghost use Rattle.brc_state.specs.Memory.{needs_memory};
 
 use crate::frames::Frame;
 use crate::marks::Marks;

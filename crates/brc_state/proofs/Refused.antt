@@ -6,8 +6,8 @@ use Rattle.brc_runs.specs.declared.event.Step.{Step}
 use Rattle.brc_runs.specs.declared.event.Step.TheVariants.{Register, Gather}
 use Rattle.brc_runs.specs.Heap.{Heap, row_at}
 use Rattle.brc_runs.specs.Steps.{target_ok, thread_may, root_may, enabled}
-use Rattle.brc_tables.specs.declared.refusing.Refusal.{Refusal}
-use Rattle.brc_tables.specs.Refusals.{unless, is_roots, cell_refusal, thread_refusal, root_refusal, refusal_of}
+use Rattle.brc_state.specs.declared.refusing.Refusal.{Refusal}
+use Rattle.brc_state.specs.Refusals.{unless, is_roots, cell_refusal, thread_refusal, root_refusal, refusal_of}
 
 and_assoc : (a b c : Bool) → (a && b && c) ≡ (a && (b && c))
 and_assoc true b c = refl

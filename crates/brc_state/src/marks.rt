@@ -2,7 +2,7 @@
 
 ghost use Rattle.std.specs.Prelude.{◌≡◌, false, replicate, slice_set, IfOk};
 ghost use Rattle.brc_runs.specs.Lists.{is_marked, is_unmarked};
-ghost use Rattle.brc_tables.specs.Effects.{worklists_with};
+ghost use Rattle.brc_state.specs.Effects.{worklists_with};
 
 use crate::tally::recount;
 use std::alloc::{AllocError, Allocator};

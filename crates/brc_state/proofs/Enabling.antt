@@ -9,7 +9,7 @@ use Rattle.brc_runs.specs.declared.event.Step.{Step}
 use Rattle.brc_runs.specs.declared.event.Step.TheVariants.{Close, Nudge, Unlock}
 use Rattle.brc_runs.specs.Heap.{Heap, cell_at, entries_at, row_at, frame_at, words_for}
 use Rattle.brc_runs.specs.Steps.{target_at, target_ok, cell_ok, change_ok, locked_entries, thread_may}
-use Rattle.brc_tables.specs.Effects.{named_word}
+use Rattle.brc_state.specs.Effects.{named_word}
 
 -- the thread has a row
 pub thread_there : (h : Heap) (t : ℕ) (s : Step) → thread_may h t s ≡ true → t < length h.rows

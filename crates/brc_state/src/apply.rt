@@ -3,7 +3,7 @@
 ghost use Rattle.std.specs.Prelude.{◌≡◌, ◌+◌, ◌<◌, ◌≤◌, ◌^◌, ℕ, true, OnOk, OnErr, length};
 ghost use Rattle.brc_runs.specs.Heap.{cell_at, row_at};
 ghost use Rattle.brc_runs.specs.Steps.{enabled, thread_may, target_at, stepped, after};
-ghost use Rattle.brc_tables.specs.Memory.{needs_memory};
+ghost use Rattle.brc_state.specs.Memory.{needs_memory};
 ghost use Rattle.brc_words.specs.Shared.{CountFits};
 
 use crate::tables::Tables;

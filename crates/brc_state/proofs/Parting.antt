@@ -6,7 +6,7 @@ use Rattle.brc_runs.specs.declared.event.Change.{Change}
 use Rattle.brc_runs.specs.declared.event.Step.{Step}
 use Rattle.brc_runs.specs.declared.event.Step.TheVariants.{Birth, LocalUp, SharedUp, Unlock}
 use Rattle.brc_runs.specs.Steps.{is_unlock, filled_place, gone, born_cell, frame_with, entries_with, frame_after, entries_after}
-use Rattle.brc_tables.specs.Memory.{needs_memory}
+use Rattle.brc_state.specs.Memory.{needs_memory}
 
 pub frame_by_parts : (s : Step) (c : ℕ) (x : Cell) (entries : List ℕ) (frame : List (Option ℕ)) → is_unlock s ≡ false
     → frame_with (filled_place s) (gone s x) c frame ≡ frame_after s c x entries frame
