@@ -31,4 +31,6 @@ pub use seats::ThreadSeat;
 pub use table::HeapTable;
 
 #[cfg(test)]
+mod life;
+#[cfg(test)]
 mod tests;
