@@ -34,3 +34,5 @@ pub use table::HeapTable;
 mod life;
 #[cfg(test)]
 mod tests;
+#[cfg(test)]
+mod worked_runs;
