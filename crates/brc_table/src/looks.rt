@@ -4,6 +4,7 @@ ghost use Rattle.std.specs.Prelude.{◌≡◌, ◌<◌, ◌∷◌};
 ghost use Rattle.brc_known.specs.declared.word.Field.TheVariants as fields;
 ghost use Rattle.brc_known.specs.declared.word.Word.TheVariants as words;
 ghost use Rattle.brc_rule.specs.declared.told.Told.TheVariants as told;
+ghost use Rattle.brc_table.specs.Knowing.{known_seen, Knows, Keeps, SeesRisen};
 ghost use Rattle.brc_table.specs.Seated.{Stays};
 
 use crate::machine::look;
@@ -19,6 +20,8 @@ impl<A: Allocator> HeapTable<A> {
         requires inside { cell < self.now.cells }
         ensures told { seat.new.log ≡ told.Saw (words.Of fields.Owner cell) result ∷ seat.old.log }
         ensures seat { Stays seat.old seat.new }
+        ensures knows { Knows self.now.cells seat.new.log (known_seen self.now.cells seat.old.log) }
+        ensures keeps { Keeps self.now.cells seat.old.log seat.new.log }
     {
         look(self, &mut seat.place, Word::Of(Field::Owner, cell))
     }
@@ -29,6 +32,8 @@ impl<A: Allocator> HeapTable<A> {
         requires inside { cell < self.now.cells }
         ensures told { seat.new.log ≡ told.Saw (words.Of fields.Local cell) result ∷ seat.old.log }
         ensures seat { Stays seat.old seat.new }
+        ensures knows { Knows self.now.cells seat.new.log (known_seen self.now.cells seat.old.log) }
+        ensures keeps { Keeps self.now.cells seat.old.log seat.new.log }
     {
         look(self, &mut seat.place, Word::Of(Field::Local, cell))
     }
@@ -39,6 +44,9 @@ impl<A: Allocator> HeapTable<A> {
         requires inside { cell < self.now.cells }
         ensures told { seat.new.log ≡ told.Saw (words.Of fields.Shared cell) result ∷ seat.old.log }
         ensures seat { Stays seat.old seat.new }
+        ensures knows { Knows self.now.cells seat.new.log (known_seen self.now.cells seat.old.log) }
+        ensures keeps { Keeps self.now.cells seat.old.log seat.new.log }
+        ensures sees { SeesRisen self.now.cells seat.old.log cell result seat.new.log }
     {
         look(self, &mut seat.place, Word::Of(Field::Shared, cell))
     }
@@ -49,6 +57,8 @@ impl<A: Allocator> HeapTable<A> {
         requires inside { cell < self.now.cells }
         ensures told { seat.new.log ≡ told.Saw (words.Of fields.Mutex cell) result ∷ seat.old.log }
         ensures seat { Stays seat.old seat.new }
+        ensures knows { Knows self.now.cells seat.new.log (known_seen self.now.cells seat.old.log) }
+        ensures keeps { Keeps self.now.cells seat.old.log seat.new.log }
     {
         look(self, &mut seat.place, Word::Of(Field::Mutex, cell))
     }
@@ -58,6 +68,8 @@ impl<A: Allocator> HeapTable<A> {
         requires table { seat.old.table ≡ self.now.table.shared.table_id }
         ensures told { seat.new.log ≡ told.Saw (words.NotifyWord seat.old.thread) result ∷ seat.old.log }
         ensures seat { Stays seat.old seat.new }
+        ensures knows { Knows self.now.cells seat.new.log (known_seen self.now.cells seat.old.log) }
+        ensures keeps { Keeps self.now.cells seat.old.log seat.new.log }
     {
         let word = Word::NotifyWord(seat.thread);
         look(self, &mut seat.place, word)
