@@ -9,8 +9,8 @@ ghost use Rattle.brc_known.specs.Going_On.{filling, counting, counting_down, giv
 ghost use Rattle.brc_rule.specs.declared.told.Moved.TheVariants as moves;
 ghost use Rattle.brc_rule.specs.declared.told.Told.TheVariants as told;
 ghost use Rattle.brc_steps.specs.Owing.{Raises, RaisesImmortal, Lowers, LowersImmortal, RaisesShared, Releases};
-ghost use Rattle.brc_rule.specs.Seen.{risen_seen};
-ghost use Rattle.brc_table.specs.Knowing.{known_seen, Knows, Keeps, SeesRisen};
+ghost use Rattle.brc_rule.specs.Seen.{risen_seen, contents_locked};
+ghost use Rattle.brc_table.specs.Knowing.{known_seen, Knows, Keeps, SeesRisen, Notes};
 ghost use Rattle.brc_table.specs.Seated.{Stays};
 
 use crate::machine::{add, exchange, load, or, store};
@@ -38,6 +38,7 @@ impl<A: Allocator> HeapTable<A> {
         ensures seat { Stays seat.old seat.new }
         ensures knows { Knows self.now.cells seat.new.log (filling place cell (counting cell (count + 1) (known_seen self.now.cells seat.old.log))) }
         ensures keeps { Keeps self.now.cells seat.old.log seat.new.log }
+        ensures found { contents_locked seat.new.log ≡ contents_locked seat.old.log }
     {
         let word = Word::Of(Field::Local, cell);
         let step = Step::LocalUp { source, place };
@@ -76,6 +77,7 @@ impl<A: Allocator> HeapTable<A> {
         ensures seat { Stays seat.old seat.new }
         ensures knows { Knows self.now.cells seat.new.log (filling place cell (counting cell result (known_seen self.now.cells seat.old.log))) }
         ensures keeps { Keeps self.now.cells seat.old.log seat.new.log }
+        ensures found { contents_locked seat.new.log ≡ contents_locked seat.old.log }
     {
         let word = Word::Of(Field::Local, cell);
         let step = Step::LocalUp { source, place };
@@ -107,6 +109,7 @@ impl<A: Allocator> HeapTable<A> {
         ensures seat { Stays seat.old seat.new }
         ensures knows { Knows self.now.cells seat.new.log (filling place cell (known_seen self.now.cells seat.old.log)) }
         ensures keeps { Keeps self.now.cells seat.old.log seat.new.log }
+        ensures found { contents_locked seat.new.log ≡ contents_locked seat.old.log }
         ensures risen { result % 4 ≢ 0 → risen_seen self.now.cells seat.new.log (drops.Frame place) cell ≡ true }
     {
         let word = Word::Of(Field::Shared, cell);
@@ -151,6 +154,7 @@ impl<A: Allocator> HeapTable<A> {
         ensures lost_knows { OnErr result (Knows self.now.cells seat.new.log (known_seen self.now.cells seat.old.log)) }
         ensures keeps { Keeps self.now.cells seat.old.log seat.new.log }
         ensures lost_sees { IfErr result (λ found. SeesRisen self.now.cells seat.old.log cell found seat.new.log) }
+        ensures lost_notes { IfErr result (λ found. Notes fields.Shared cell found seat.old.log seat.new.log) }
     {
         let word = Word::Of(Field::Shared, cell);
         let step = Step::SharedDown(drop);

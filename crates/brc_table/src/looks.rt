@@ -6,9 +6,11 @@ ghost use Rattle.brc_runs.specs.declared.event.Step.TheVariants as steps;
 ghost use Rattle.brc_runs.specs.Holding.{carries};
 ghost use Rattle.brc_known.specs.declared.word.Field.TheVariants as fields;
 ghost use Rattle.brc_known.specs.declared.word.Word.TheVariants as words;
+ghost use Rattle.brc_known.specs.Owners_Seen.{has_seen_owner};
 ghost use Rattle.brc_rule.specs.declared.told.Told.TheVariants as told;
-ghost use Rattle.brc_rule.specs.Seen.{part_seen, own_may};
-ghost use Rattle.brc_table.specs.Knowing.{known_seen, Knows, Keeps, SeesRisen};
+ghost use Rattle.brc_rule.specs.Logs.{log_items};
+ghost use Rattle.brc_rule.specs.Seen.{part_seen, own_may, contents_locked};
+ghost use Rattle.brc_table.specs.Knowing.{known_seen, Knows, Keeps, SeesRisen, Notes};
 ghost use Rattle.brc_table.specs.Seated.{Stays};
 
 use crate::machine::{look, look_within};
@@ -27,6 +29,9 @@ impl<A: Allocator> HeapTable<A> {
         ensures seat { Stays seat.old seat.new }
         ensures knows { Knows self.now.cells seat.new.log (known_seen self.now.cells seat.old.log) }
         ensures keeps { Keeps self.now.cells seat.old.log seat.new.log }
+        ensures found { contents_locked seat.new.log ≡ contents_locked seat.old.log }
+        ensures notes { Notes fields.Owner cell result seat.old.log seat.new.log }
+        ensures seen { has_seen_owner (log_items seat.new.log) result ≡ true }
         ensures within { carries cell (part_seen self.now.cells seat.old.log).row.hand ≡ true → result ≤ MOST_THREADS }
     {
         look_within::<A, Brand>(self, &mut seat.place, Word::Of(Field::Owner, cell))
@@ -40,6 +45,8 @@ impl<A: Allocator> HeapTable<A> {
         ensures seat { Stays seat.old seat.new }
         ensures knows { Knows self.now.cells seat.new.log (known_seen self.now.cells seat.old.log) }
         ensures keeps { Keeps self.now.cells seat.old.log seat.new.log }
+        ensures found { contents_locked seat.new.log ≡ contents_locked seat.old.log }
+        ensures notes { Notes fields.Local cell result seat.old.log seat.new.log }
         ensures within { own_may self.now.cells (part_seen self.now.cells seat.old.log) (steps.MergeAdd cell) ≡ true → result ≤ self.now.local_limit }
     {
         look_within::<A, Brand>(self, &mut seat.place, Word::Of(Field::Local, cell))
@@ -53,6 +60,8 @@ impl<A: Allocator> HeapTable<A> {
         ensures seat { Stays seat.old seat.new }
         ensures knows { Knows self.now.cells seat.new.log (known_seen self.now.cells seat.old.log) }
         ensures keeps { Keeps self.now.cells seat.old.log seat.new.log }
+        ensures found { contents_locked seat.new.log ≡ contents_locked seat.old.log }
+        ensures notes { Notes fields.Shared cell result seat.old.log seat.new.log }
         ensures sees { SeesRisen self.now.cells seat.old.log cell result seat.new.log }
     {
         look(self, &mut seat.place, Word::Of(Field::Shared, cell))
@@ -66,6 +75,8 @@ impl<A: Allocator> HeapTable<A> {
         ensures seat { Stays seat.old seat.new }
         ensures knows { Knows self.now.cells seat.new.log (known_seen self.now.cells seat.old.log) }
         ensures keeps { Keeps self.now.cells seat.old.log seat.new.log }
+        ensures found { contents_locked seat.new.log ≡ contents_locked seat.old.log }
+        ensures notes { Notes fields.Mutex cell result seat.old.log seat.new.log }
     {
         look(self, &mut seat.place, Word::Of(Field::Mutex, cell))
     }
@@ -77,6 +88,7 @@ impl<A: Allocator> HeapTable<A> {
         ensures seat { Stays seat.old seat.new }
         ensures knows { Knows self.now.cells seat.new.log (known_seen self.now.cells seat.old.log) }
         ensures keeps { Keeps self.now.cells seat.old.log seat.new.log }
+        ensures found { contents_locked seat.new.log ≡ contents_locked seat.old.log }
     {
         let word = Word::NotifyWord(seat.thread);
         look(self, &mut seat.place, word)

@@ -1,6 +1,6 @@
 //! Merging: an object is made nobody's, and its local count joins the shared one; who has asked for it puts it into a queue.
 
-ghost use Rattle.std.specs.Prelude.{◌≡◌, ◌<◌, ◌≤◌, ◌∷◌, if◌then◌else◌};
+ghost use Rattle.std.specs.Prelude.{◌≡◌, ◌<◌, ◌≤◌, ◌∷◌, if◌then◌else◌, Some};
 ghost use Rattle.brc_words.specs.declared.limits.TheConstants.{MOST_THREADS};
 ghost use Rattle.brc_runs.specs.declared.event.Step.TheVariants as steps;
 ghost use Rattle.brc_runs.specs.declared.row.Hand.TheVariants as hands;
@@ -11,6 +11,7 @@ ghost use Rattle.brc_known.specs.Going_On.{handing, counting};
 ghost use Rattle.brc_rule.specs.declared.told.Moved.TheVariants as moves;
 ghost use Rattle.brc_rule.specs.declared.told.Told.TheVariants as told;
 ghost use Rattle.brc_steps.specs.Owing.{UntiesOver, UntiesShut, UntiesPopped, AddsLocal, Enqueues};
+ghost use Rattle.brc_rule.specs.Noted.{newest_step};
 ghost use Rattle.brc_rule.specs.Seen.{part_seen};
 ghost use Rattle.brc_table.specs.Knowing.{known_seen, Knows, Keeps};
 ghost use Rattle.brc_table.specs.Seated.{Stays};
@@ -79,6 +80,7 @@ impl<A: Allocator> HeapTable<A> {
         ensures seat { Stays seat.old seat.new }
         ensures knows { Knows self.now.cells seat.new.log (handing (added_hand cell (part_seen self.now.cells seat.old.log).row.hand) (known_seen self.now.cells seat.old.log)) }
         ensures keeps { Keeps self.now.cells seat.old.log seat.new.log }
+        ensures newest { newest_step seat.new.log ≡ Some (steps.MergeAdd cell) }
     {
         let word = Word::Of(Field::Shared, cell);
         let more = u64::from(local) * 4 + 1;
