@@ -1,5 +1,6 @@
 -- What a seat knows by its log, and what a call makes of it: so nobody above unfolds a log.
-use Rattle.std.specs.Prelude.{◌≡◌, ◌≢◌, ℕ, ◌%◌, true, false, List, Some}
+use Rattle.std.specs.Prelude.{◌≡◌, ◌≢◌, ℕ, ◌%◌, true, false, List, [], Option, Some, None}
+use Rattle.brc_block.specs.declared.payload.Payload.{Payload}
 use Rattle.brc_runs.specs.declared.event.Dropped.{Dropped}
 use Rattle.brc_runs.specs.Lists.{names}
 use Rattle.brc_known.specs.declared.word.Field.{Field}
@@ -9,9 +10,10 @@ use Rattle.brc_known.specs.Risen.{drop_in}
 use Rattle.brc_known.specs.Locked.{locked_of}
 use Rattle.brc_known.specs.Going_On.{Known, known_of}
 use Rattle.brc_rule.specs.declared.told.Told.{Told}
-use Rattle.brc_rule.specs.Logs.{log_items}
+use Rattle.brc_rule.specs.Logs.{log_items, entries_in}
 use Rattle.brc_rule.specs.Noted.{is_of, noted, newest_step}
 use Rattle.brc_rule.specs.Seen.{part_seen, counts_seen, risen_seen, taken_seen}
+use Rattle.brc_table.specs.Shown.{contents_of}
 
 -- the thread's part of the world, the counts of its own objects, the dead blocks that it has, and what it has locked
 abbrev pub known_seen : ℕ → List Told → Known
@@ -39,3 +41,9 @@ pub record Notes (field : Field) (c number : ℕ) (before log : List Told) : Typ
   pub here : noted field c log ≡ Some number
   pub others : (other : Field) (d : ℕ) → is_of other d (Of field c) ≡ false → noted other d log ≡ noted other d before
   pub newest : newest_step log ≡ newest_step before
+
+module _ {A : Type 0} where
+  -- the entries of the block that a call answers
+  abbrev pub entries_of : Option (ℕ × Payload A) → List ℕ
+  entries_of None = []
+  entries_of (Some block) = entries_in (contents_of block.1)
