@@ -32,4 +32,6 @@ pub use seats::ThreadSeat;
 pub use table::HeapTable;
 
 #[cfg(test)]
+mod life;
+#[cfg(test)]
 mod tests;
