@@ -1,3 +1,4 @@
 pub mod Placing
 pub mod Opened
 pub mod Remaining
+pub mod Bounding
