@@ -1,15 +1,18 @@
 //! The ends of objects: where the number found says that the object is dead, the call answers its block, with the contents
 //! as they were put home last.
 
-ghost use Rattle.std.specs.Prelude.{◌≡◌, ◌<◌, ◌≤◌, ◌∷◌, IfSome};
+ghost use Rattle.std.specs.Prelude.{◌≡◌, ◌<◌, ◌≤◌, ◌∷◌, None, IfSome};
 ghost use Rattle.brc_runs.specs.declared.event.LastDropped.TheVariants as lasts;
 ghost use Rattle.brc_runs.specs.declared.event.Step.TheVariants as steps;
 ghost use Rattle.brc_runs.specs.declared.row.Hand.TheVariants as hands;
 ghost use Rattle.brc_runs.specs.Steps.{takes_block};
 ghost use Rattle.brc_known.specs.Going_On.{handing, taking, seeing_zero, dropping_last, settling};
 ghost use Rattle.brc_known.specs.Items.{cell_told};
+ghost use Rattle.brc_known.specs.Taken.{listed_at};
 ghost use Rattle.brc_rule.specs.declared.told.Told.TheVariants as told;
+ghost use Rattle.brc_rule.specs.Seen.{taken_seen};
 ghost use Rattle.brc_steps.specs.Owing.{Carries, EndsRisen, EndsPopped, EndsAdded, EndsHeld, EndsNobodys};
+ghost use Rattle.brc_steps.specs.Taking.{AreCells};
 ghost use Rattle.brc_table.specs.Knowing.{known_seen, entries_of, Knows, Keeps};
 ghost use Rattle.brc_table.specs.Moving.{is_there, found_in, out_with};
 ghost use Rattle.brc_table.specs.Seated.{Continues};
@@ -28,6 +31,8 @@ impl<A: Allocator> HeapTable<A> {
         requires inside { cell < self.now.cells }
         requires carries { Carries self.now.cells seat.old.log (steps.SeeZero cell) cell }
         ensures of_cell { IfSome result.block (λ block. block.0 ≡ cell) }
+        ensures fresh { IfSome result.block (λ block. listed_at (taken_seen self.now.cells seat.old.log) cell ≡ None) }
+        ensures entries { AreCells self.now.cells (entries_of result.block) }
         ensures dead { is_there result.block ≡ takes_block (steps.SeeZero cell) (cell_told (steps.SeeZero cell) result.number) }
         ensures told { seat.new.log ≡ told.Did (steps.SeeZero cell) result.number (found_in cell result.block) ∷ seat.old.log }
         ensures out { seat.new.slots ≡ out_with cell result.block seat.old.slots }
@@ -46,6 +51,8 @@ impl<A: Allocator> HeapTable<A> {
         requires inside { cell < self.now.cells }
         requires carries { Carries self.now.cells seat.old.log (steps.MergeZero cell) cell }
         ensures of_cell { IfSome result.block (λ block. block.0 ≡ cell) }
+        ensures fresh { IfSome result.block (λ block. listed_at (taken_seen self.now.cells seat.old.log) cell ≡ None) }
+        ensures entries { AreCells self.now.cells (entries_of result.block) }
         ensures dead { is_there result.block ≡ takes_block (steps.MergeZero cell) (cell_told (steps.MergeZero cell) result.number) }
         ensures told { seat.new.log ≡ told.Did (steps.MergeZero cell) result.number (found_in cell result.block) ∷ seat.old.log }
         ensures out { seat.new.slots ≡ out_with cell result.block seat.old.slots }
@@ -64,6 +71,8 @@ impl<A: Allocator> HeapTable<A> {
         requires inside { cell < self.now.cells }
         requires ends { EndsRisen self.now.cells seat.old.log drop cell }
         ensures of_cell { IfSome result.block (λ block. block.0 ≡ cell) }
+        ensures fresh { IfSome result.block (λ block. listed_at (taken_seen self.now.cells seat.old.log) cell ≡ None) }
+        ensures entries { AreCells self.now.cells (entries_of result.block) }
         ensures dead { is_there result.block ≡ takes_block (steps.LastDown (lasts.Dropped drop)) (cell_told (steps.LastDown (lasts.Dropped drop)) result.number) }
         ensures told { seat.new.log ≡ told.Did (steps.LastDown (lasts.Dropped drop)) result.number (found_in cell result.block) ∷ seat.old.log }
         ensures out { seat.new.slots ≡ out_with cell result.block seat.old.slots }
@@ -82,6 +91,8 @@ impl<A: Allocator> HeapTable<A> {
         requires inside { cell < self.now.cells }
         requires ends { EndsPopped self.now.cells seat.old.log cell shared }
         ensures of_cell { IfSome result.block (λ block. block.0 ≡ cell) }
+        ensures fresh { IfSome result.block (λ block. listed_at (taken_seen self.now.cells seat.old.log) cell ≡ None) }
+        ensures entries { AreCells self.now.cells (entries_of result.block) }
         ensures dead { is_there result.block ≡ takes_block (steps.LastDown (lasts.Popped cell)) (cell_told (steps.LastDown (lasts.Popped cell)) result.number) }
         ensures told { seat.new.log ≡ told.Did (steps.LastDown (lasts.Popped cell)) result.number (found_in cell result.block) ∷ seat.old.log }
         ensures out { seat.new.slots ≡ out_with cell result.block seat.old.slots }
@@ -101,6 +112,8 @@ impl<A: Allocator> HeapTable<A> {
         requires inside { cell < self.now.cells }
         requires ends { EndsAdded self.now.cells seat.old.log cell }
         ensures of_cell { IfSome result.block (λ block. block.0 ≡ cell) }
+        ensures fresh { IfSome result.block (λ block. listed_at (taken_seen self.now.cells seat.old.log) cell ≡ None) }
+        ensures entries { AreCells self.now.cells (entries_of result.block) }
         ensures dead { is_there result.block ≡ takes_block (steps.LastDown (lasts.Popped cell)) (cell_told (steps.LastDown (lasts.Popped cell)) result.number) }
         ensures told { seat.new.log ≡ told.Did (steps.LastDown (lasts.Popped cell)) result.number (found_in cell result.block) ∷ seat.old.log }
         ensures out { seat.new.slots ≡ out_with cell result.block seat.old.slots }
@@ -119,6 +132,8 @@ impl<A: Allocator> HeapTable<A> {
         requires inside { cell < self.now.cells }
         requires ends { EndsHeld self.now.cells seat.old.log cell }
         ensures of_cell { IfSome result.block (λ block. block.0 ≡ cell) }
+        ensures fresh { IfSome result.block (λ block. listed_at (taken_seen self.now.cells seat.old.log) cell ≡ None) }
+        ensures entries { AreCells self.now.cells (entries_of result.block) }
         ensures dead { is_there result.block ≡ takes_block (steps.LastDown lasts.Hand) (cell_told (steps.LastDown lasts.Hand) result.number) }
         ensures told { seat.new.log ≡ told.Did (steps.LastDown lasts.Hand) result.number (found_in cell result.block) ∷ seat.old.log }
         ensures out { seat.new.slots ≡ out_with cell result.block seat.old.slots }
@@ -137,6 +152,8 @@ impl<A: Allocator> HeapTable<A> {
         requires inside { cell < self.now.cells }
         requires ends { EndsNobodys self.now.cells seat.old.log cell }
         ensures of_cell { IfSome result.block (λ block. block.0 ≡ cell) }
+        ensures fresh { IfSome result.block (λ block. listed_at (taken_seen self.now.cells seat.old.log) cell ≡ None) }
+        ensures entries { AreCells self.now.cells (entries_of result.block) }
         ensures dead { is_there result.block ≡ takes_block (steps.LastDown lasts.Hand) (cell_told (steps.LastDown lasts.Hand) result.number) }
         ensures told { seat.new.log ≡ told.Did (steps.LastDown lasts.Hand) result.number (found_in cell result.block) ∷ seat.old.log }
         ensures out { seat.new.slots ≡ out_with cell result.block seat.old.slots }

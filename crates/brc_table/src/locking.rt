@@ -11,6 +11,7 @@ ghost use Rattle.brc_rule.specs.declared.told.Told.TheVariants as told;
 ghost use Rattle.brc_rule.specs.Logs.{entries_in};
 ghost use Rattle.brc_rule.specs.Seen.{contents_locked};
 ghost use Rattle.brc_steps.specs.Owing.{Carries, Unlocks};
+ghost use Rattle.brc_steps.specs.Taking.{AreCells};
 ghost use Rattle.brc_table.specs.Knowing.{known_seen, Knows, Keeps};
 ghost use Rattle.brc_table.specs.Moving.{found_locked};
 ghost use Rattle.brc_table.specs.Seated.{Continues};
@@ -31,6 +32,7 @@ impl<A: Allocator> HeapTable<A> {
         requires inside { cell < self.now.cells }
         requires carries { Carries self.now.cells seat.old.log (steps.Lock place) cell }
         ensures of_cell { IfOk result (λ block. block.0 ≡ cell) }
+        ensures entries { IfOk result (λ block. AreCells self.now.cells (entries_in (contents_of block.1))) }
         ensures won { IfOk result (λ block. seat.new.log ≡ told.Did (steps.Lock place) 0 (moves.Found cell (contents_of block.1)) ∷ seat.old.log) }
         ensures out { IfOk result (λ block. seat.new.slots ≡ (cell, None) ∷ seat.old.slots) }
         ensures lost { IfErr result (λ found. seat.new.log ≡ told.Lost (words.Of fields.Mutex cell) found ∷ seat.old.log) }

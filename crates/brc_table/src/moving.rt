@@ -9,12 +9,15 @@ ghost use Rattle.brc_runs.specs.Steps.{takes_block};
 ghost use Rattle.brc_known.specs.declared.word.Field.TheVariants as fields;
 ghost use Rattle.brc_known.specs.declared.word.Word.TheVariants as words;
 ghost use Rattle.brc_known.specs.Items.{IsWord, cell_told};
+ghost use Rattle.brc_known.specs.Taken.{listed_at};
 ghost use Rattle.brc_rule.specs.declared.told.Moved.TheVariants as moves;
 ghost use Rattle.brc_rule.specs.declared.told.Told.{Told as told_data};
 ghost use Rattle.brc_rule.specs.declared.told.Told.TheVariants as told;
 ghost use Rattle.brc_rule.specs.Layout.{spot};
 ghost use Rattle.brc_rule.specs.Rule.{with_told, Kept};
-ghost use Rattle.brc_steps.specs.Taking.{Ended, Claimed, Locked};
+ghost use Rattle.brc_rule.specs.Seen.{taken_seen};
+ghost use Rattle.brc_steps.specs.Taking.{AreCells, Ended, Claimed, Locked};
+ghost use Rattle.brc_table.specs.Knowing.{entries_of};
 ghost use Rattle.brc_table.specs.Moving.{MayEnd, MayClaim, MayLock, MayGive, found_in, out_with, emptied, put_home, is_there, HasBlock};
 ghost use Rattle.brc_table.specs.Shown.{shows, contents_of};
 
@@ -37,14 +40,18 @@ pub struct Found<A: Allocator> {
 
 // ---- steps that end an object where the number found says so
 
-/// Which step it is, and on which cell. A caller's proof picks it.
+/// Of how many cells the heap is, which step it is, and on which cell. A caller's proof picks it.
 pub(crate) trait Ending {
+    ghost cells: { ℕ };
+
     ghost step: { step_data };
 
     ghost cell: { ℕ };
 }
 
 impl Ending for Brand {
+    ghost cells = { 0 };
+
     ghost step = { steps.Wake };
 
     ghost cell = { 0 };
@@ -56,7 +63,7 @@ pub(crate) struct Ends<M> {
 }
 
 impl<A: Allocator, M: Ending> Play<Option<Block<A>>, View> for Ends<M> {
-    ghost then = { λ step me number after. Ended shows me.0 me.1 M.step M.cell number (takes_block M.step (cell_told M.step number)) after };
+    ghost then = { λ step me number after. Ended shows M.cells me.0 me.1 M.step M.cell number (takes_block M.step (cell_told M.step number)) after };
 }
 
 /// A load.
@@ -68,9 +75,9 @@ fn load_ends<A: Allocator, M: Ending>(
 ) -> u64
     requires same { seat.old.table_id ≡ table.now.table.shared.table_id }
     requires inside { cell < table.now.cells }
-    requires allowed { MayEnd table.now.cells table.now.local_limit seat.old.id seat.old.me cell (λ there. there) M.step M.cell }
+    requires allowed { MayEnd table.now.cells table.now.local_limit seat.old.id seat.old.me cell (λ there. there) M.cells M.step M.cell }
     ensures same { (seat.new.table_id ≡ seat.old.table_id) × (seat.new.id ≡ seat.old.id) }
-    ensures ended { Ended shows seat.old.me.0 seat.old.me.1 M.step M.cell result (takes_block M.step (cell_told M.step result)) seat.new.me }
+    ensures ended { Ended shows M.cells seat.old.me.0 seat.old.me.1 M.step M.cell result (takes_block M.step (cell_told M.step result)) seat.new.me }
 {
     let _step = step;
     let at = spot_of(table.cells, Word::Of(Field::Shared, cell));
@@ -87,9 +94,9 @@ fn or_ends<A: Allocator, M: Ending>(
 ) -> u64
     requires same { seat.old.table_id ≡ table.now.table.shared.table_id }
     requires inside { cell < table.now.cells }
-    requires allowed { MayEnd table.now.cells table.now.local_limit seat.old.id seat.old.me cell (λ there. bit_or there bits) M.step M.cell }
+    requires allowed { MayEnd table.now.cells table.now.local_limit seat.old.id seat.old.me cell (λ there. bit_or there bits) M.cells M.step M.cell }
     ensures same { (seat.new.table_id ≡ seat.old.table_id) × (seat.new.id ≡ seat.old.id) }
-    ensures ended { Ended shows seat.old.me.0 seat.old.me.1 M.step M.cell result (takes_block M.step (cell_told M.step result)) seat.new.me }
+    ensures ended { Ended shows M.cells seat.old.me.0 seat.old.me.1 M.step M.cell result (takes_block M.step (cell_told M.step result)) seat.new.me }
 {
     let _step = step;
     let at = spot_of(table.cells, Word::Of(Field::Shared, cell));
@@ -106,9 +113,9 @@ fn sub_ends<A: Allocator, M: Ending>(
 ) -> u64
     requires same { seat.old.table_id ≡ table.now.table.shared.table_id }
     requires inside { cell < table.now.cells }
-    requires allowed { MayEnd table.now.cells table.now.local_limit seat.old.id seat.old.me cell (λ there. (there + (2 ^ 64 - less)) % 2 ^ 64) M.step M.cell }
+    requires allowed { MayEnd table.now.cells table.now.local_limit seat.old.id seat.old.me cell (λ there. (there + (2 ^ 64 - less)) % 2 ^ 64) M.cells M.step M.cell }
     ensures same { (seat.new.table_id ≡ seat.old.table_id) × (seat.new.id ≡ seat.old.id) }
-    ensures ended { Ended shows seat.old.me.0 seat.old.me.1 M.step M.cell result (takes_block M.step (cell_told M.step result)) seat.new.me }
+    ensures ended { Ended shows M.cells seat.old.me.0 seat.old.me.1 M.step M.cell result (takes_block M.step (cell_told M.step result)) seat.new.me }
 {
     let _step = step;
     let at = spot_of(table.cells, Word::Of(Field::Shared, cell));
@@ -158,9 +165,11 @@ pub(crate) fn end_by_load<A: Allocator>(
 ) -> Found<A>
     requires same { seat.old.table_id ≡ table.now.table.shared.table_id }
     requires inside { cell < table.now.cells }
-    requires allowed { MayEnd table.now.cells table.now.local_limit seat.old.id seat.old.me cell (λ there. there) step cell }
+    requires allowed { MayEnd table.now.cells table.now.local_limit seat.old.id seat.old.me cell (λ there. there) table.now.cells step cell }
     ensures same { (seat.new.table_id ≡ seat.old.table_id) × (seat.new.id ≡ seat.old.id) }
     ensures of_cell { IfSome result.block (λ block. block.0 ≡ cell) }
+    ensures fresh { IfSome result.block (λ block. listed_at (taken_seen table.now.cells seat.old.me.0.log) cell ≡ None) }
+    ensures entries { AreCells table.now.cells (entries_of result.block) }
     ensures when { is_there result.block ≡ takes_block step (cell_told step result.number) }
     ensures told { seat.new.me ≡ (with_told (told.Did step result.number (found_in cell result.block)) seat.old.me.0, out_with cell result.block seat.old.me.1) }
 {
@@ -179,9 +188,11 @@ pub(crate) fn end_by_or<A: Allocator>(
 ) -> Found<A>
     requires same { seat.old.table_id ≡ table.now.table.shared.table_id }
     requires inside { cell < table.now.cells }
-    requires allowed { MayEnd table.now.cells table.now.local_limit seat.old.id seat.old.me cell (λ there. bit_or there bits) step cell }
+    requires allowed { MayEnd table.now.cells table.now.local_limit seat.old.id seat.old.me cell (λ there. bit_or there bits) table.now.cells step cell }
     ensures same { (seat.new.table_id ≡ seat.old.table_id) × (seat.new.id ≡ seat.old.id) }
     ensures of_cell { IfSome result.block (λ block. block.0 ≡ cell) }
+    ensures fresh { IfSome result.block (λ block. listed_at (taken_seen table.now.cells seat.old.me.0.log) cell ≡ None) }
+    ensures entries { AreCells table.now.cells (entries_of result.block) }
     ensures when { is_there result.block ≡ takes_block step (cell_told step result.number) }
     ensures told { seat.new.me ≡ (with_told (told.Did step result.number (found_in cell result.block)) seat.old.me.0, out_with cell result.block seat.old.me.1) }
 {
@@ -200,9 +211,11 @@ pub(crate) fn end_by_sub<A: Allocator>(
 ) -> Found<A>
     requires same { seat.old.table_id ≡ table.now.table.shared.table_id }
     requires inside { cell < table.now.cells }
-    requires allowed { MayEnd table.now.cells table.now.local_limit seat.old.id seat.old.me cell (λ there. (there + (2 ^ 64 - less)) % 2 ^ 64) step cell }
+    requires allowed { MayEnd table.now.cells table.now.local_limit seat.old.id seat.old.me cell (λ there. (there + (2 ^ 64 - less)) % 2 ^ 64) table.now.cells step cell }
     ensures same { (seat.new.table_id ≡ seat.old.table_id) × (seat.new.id ≡ seat.old.id) }
     ensures of_cell { IfSome result.block (λ block. block.0 ≡ cell) }
+    ensures fresh { IfSome result.block (λ block. listed_at (taken_seen table.now.cells seat.old.me.0.log) cell ≡ None) }
+    ensures entries { AreCells table.now.cells (entries_of result.block) }
     ensures when { is_there result.block ≡ takes_block step (cell_told step result.number) }
     ensures told { seat.new.me ≡ (with_told (told.Did step result.number (found_in cell result.block)) seat.old.me.0, out_with cell result.block seat.old.me.1) }
 {
@@ -213,14 +226,19 @@ pub(crate) fn end_by_sub<A: Allocator>(
 
 // ---- a compare-exchange that takes a slot
 
-/// Which cell it is on, and for a locking which place of the frame has it. A caller's proof picks it.
+/// Of how many cells the heap is, on which cell it is, and for a locking which place of the frame has it. A caller's proof
+/// picks it.
 pub(crate) trait Winning {
+    ghost cells: { ℕ };
+
     ghost cell: { ℕ };
 
     ghost place: { ℕ };
 }
 
 impl Winning for Brand {
+    ghost cells = { 0 };
+
     ghost cell = { 0 };
 
     ghost place = { 0 };
@@ -241,7 +259,7 @@ pub(crate) struct Locks<M> {
 }
 
 impl<A: Allocator, M: Winning> Play<Option<Block<A>>, View> for Locks<M> {
-    ghost then = { λ step me number after. Locked shows me.0 me.1 M.place M.cell number (number == 0) after };
+    ghost then = { λ step me number after. Locked shows M.cells me.0 me.1 M.place M.cell number (number == 0) after };
 }
 
 fn claim_as<A: Allocator, M: Winning>(
@@ -288,9 +306,9 @@ fn lock_as<A: Allocator, M: Winning>(
 ) -> u64
     requires same { seat.old.table_id ≡ table.now.table.shared.table_id }
     requires inside { cell < table.now.cells }
-    requires allowed { MayLock table.now.cells table.now.local_limit seat.old.id seat.old.me cell new M.place M.cell }
+    requires allowed { MayLock table.now.cells table.now.local_limit seat.old.id seat.old.me cell new M.cells M.place M.cell }
     ensures same { (seat.new.table_id ≡ seat.old.table_id) × (seat.new.id ≡ seat.old.id) }
-    ensures locked { Locked shows seat.old.me.0 seat.old.me.1 M.place M.cell result (result == 0) seat.new.me }
+    ensures locked { Locked shows M.cells seat.old.me.0 seat.old.me.1 M.place M.cell result (result == 0) seat.new.me }
 {
     let _place = place;
     let at = spot_of(table.cells, Word::Of(Field::Mutex, cell));
@@ -310,9 +328,9 @@ pub(crate) fn lock_by<A: Allocator>(
 ) -> u64
     requires same { seat.old.table_id ≡ table.now.table.shared.table_id }
     requires inside { cell < table.now.cells }
-    requires allowed { MayLock table.now.cells table.now.local_limit seat.old.id seat.old.me cell new place cell }
+    requires allowed { MayLock table.now.cells table.now.local_limit seat.old.id seat.old.me cell new table.now.cells place cell }
     ensures same { (seat.new.table_id ≡ seat.old.table_id) × (seat.new.id ≡ seat.old.id) }
-    ensures locked { Locked shows seat.old.me.0 seat.old.me.1 place cell result (result == 0) seat.new.me }
+    ensures locked { Locked shows table.now.cells seat.old.me.0 seat.old.me.1 place cell result (result == 0) seat.new.me }
 {
     lock_as::<A, Brand>(table, seat, place, cell, new)
 }
