@@ -27,7 +27,7 @@ impl<A: Allocator> HeapTable<A> {
     #[tactic(auto, using(brc_steps::proofs::Ending_Steps::ends_at_zero))]
     /// SeeZero: an own object whose count is 0 is dead where nobody else counted or asked.
     pub fn see_zero(&self, seat: &mut ThreadSeat<A>, cell: u32) -> Found<A>
-        requires table { seat.old.table ≡ self.now.table.shared.table_id }
+        requires table { seat.old.table ≡ self.now.table }
         requires inside { cell < self.now.cells }
         requires carries { Carries self.now.cells seat.old.log (steps.SeeZero cell) cell }
         ensures of_cell { IfSome result.block (λ block. block.0 ≡ cell) }
@@ -47,7 +47,7 @@ impl<A: Allocator> HeapTable<A> {
     #[tactic(auto, using(brc_steps::proofs::Ending_Steps::merges_at_zero))]
     /// MergeZero: the state is merged, and the object is dead where its count is 0.
     pub fn merge_zero(&self, seat: &mut ThreadSeat<A>, cell: u32) -> Found<A>
-        requires table { seat.old.table ≡ self.now.table.shared.table_id }
+        requires table { seat.old.table ≡ self.now.table }
         requires inside { cell < self.now.cells }
         requires carries { Carries self.now.cells seat.old.log (steps.MergeZero cell) cell }
         ensures of_cell { IfSome result.block (λ block. block.0 ≡ cell) }
@@ -67,7 +67,7 @@ impl<A: Allocator> HeapTable<A> {
     #[tactic(auto, using(brc_steps::proofs::Ending_Steps::counts_last))]
     /// LastDown of a reference to an object that the thread has seen queued or merged.
     pub fn last_down(&self, seat: &mut ThreadSeat<A>, drop: Dropped, cell: u32) -> Found<A>
-        requires table { seat.old.table ≡ self.now.table.shared.table_id }
+        requires table { seat.old.table ≡ self.now.table }
         requires inside { cell < self.now.cells }
         requires ends { EndsRisen self.now.cells seat.old.log drop cell }
         ensures of_cell { IfSome result.block (λ block. block.0 ≡ cell) }
@@ -87,7 +87,7 @@ impl<A: Allocator> HeapTable<A> {
     #[tactic(auto, using(brc_steps::proofs::Last_Steps::ends_popped))]
     /// LastDown of a popped entry that was found merged.
     pub fn last_popped(&self, seat: &mut ThreadSeat<A>, cell: u32, shared: u64) -> Found<A>
-        requires table { seat.old.table ≡ self.now.table.shared.table_id }
+        requires table { seat.old.table ≡ self.now.table }
         requires inside { cell < self.now.cells }
         requires ends { EndsPopped self.now.cells seat.old.log cell shared }
         ensures of_cell { IfSome result.block (λ block. block.0 ≡ cell) }
@@ -108,7 +108,7 @@ impl<A: Allocator> HeapTable<A> {
     #[tactic(auto, using(brc_steps::proofs::Last_Steps::ends_added))]
     /// LastDown of a popped entry that the thread has just merged.
     pub fn last_added(&self, seat: &mut ThreadSeat<A>, cell: u32) -> Found<A>
-        requires table { seat.old.table ≡ self.now.table.shared.table_id }
+        requires table { seat.old.table ≡ self.now.table }
         requires inside { cell < self.now.cells }
         requires ends { EndsAdded self.now.cells seat.old.log cell }
         ensures of_cell { IfSome result.block (λ block. block.0 ≡ cell) }
@@ -128,7 +128,7 @@ impl<A: Allocator> HeapTable<A> {
     #[tactic(auto, using(brc_steps::proofs::Last_Steps::ends_held))]
     /// LastDown of the reference in the hand, of an object that the thread has adopted.
     pub fn last_held(&self, seat: &mut ThreadSeat<A>, cell: u32) -> Found<A>
-        requires table { seat.old.table ≡ self.now.table.shared.table_id }
+        requires table { seat.old.table ≡ self.now.table }
         requires inside { cell < self.now.cells }
         requires ends { EndsHeld self.now.cells seat.old.log cell }
         ensures of_cell { IfSome result.block (λ block. block.0 ≡ cell) }
@@ -148,7 +148,7 @@ impl<A: Allocator> HeapTable<A> {
     #[tactic(auto, using(brc_steps::proofs::Last_Steps::ends_nobodys))]
     /// LastDown of the reference in the hand, of an object that was found nobody's.
     pub fn last_nobodys(&self, seat: &mut ThreadSeat<A>, cell: u32) -> Found<A>
-        requires table { seat.old.table ≡ self.now.table.shared.table_id }
+        requires table { seat.old.table ≡ self.now.table }
         requires inside { cell < self.now.cells }
         requires ends { EndsNobodys self.now.cells seat.old.log cell }
         ensures of_cell { IfSome result.block (λ block. block.0 ≡ cell) }

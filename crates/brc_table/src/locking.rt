@@ -28,7 +28,7 @@ use std::alloc::Allocator;
 impl<A: Allocator> HeapTable<A> {
     /// Lock: the block of an object that nobody had locked, with the contents that were put home last; or who has it locked.
     pub fn lock(&self, seat: &mut ThreadSeat<A>, place: u32, cell: u32) -> Result<Block<A>, u64>
-        requires table { seat.old.table ≡ self.now.table.shared.table_id }
+        requires table { seat.old.table ≡ self.now.table }
         requires inside { cell < self.now.cells }
         requires carries { Carries self.now.cells seat.old.log (steps.Lock place) cell }
         ensures of_cell { IfOk result (λ block. block.0 ≡ cell) }
@@ -55,7 +55,7 @@ impl<A: Allocator> HeapTable<A> {
 
     /// Unlock: the block goes home, with the entries that the change makes of those found.
     pub fn unlock(&self, seat: &mut ThreadSeat<A>, block: Block<A>, change: Change)
-        requires table { seat.old.table ≡ self.now.table.shared.table_id }
+        requires table { seat.old.table ≡ self.now.table }
         requires inside { block.0 < self.now.cells }
         requires slot { seat.old.slots ≡ (block.0, None) ∷ rest seat.old.slots }
         requires unlocks { Unlocks self.now.cells seat.old.log (shows block) (found_locked seat.old.log) change block.0 }

@@ -73,7 +73,7 @@ fn load_ends<A: Allocator, M: Ending>(
     cell: u32,
     step: Step,
 ) -> u64
-    requires same { seat.old.table_id ≡ table.now.table.shared.table_id }
+    requires same { seat.old.table_id ≡ table.now.table }
     requires inside { cell < table.now.cells }
     requires allowed { MayEnd table.now.cells table.now.local_limit seat.old.id seat.old.me cell (λ there. there) M.cells M.step M.cell }
     ensures same { (seat.new.table_id ≡ seat.old.table_id) × (seat.new.id ≡ seat.old.id) }
@@ -92,7 +92,7 @@ fn or_ends<A: Allocator, M: Ending>(
     bits: u64,
     step: Step,
 ) -> u64
-    requires same { seat.old.table_id ≡ table.now.table.shared.table_id }
+    requires same { seat.old.table_id ≡ table.now.table }
     requires inside { cell < table.now.cells }
     requires allowed { MayEnd table.now.cells table.now.local_limit seat.old.id seat.old.me cell (λ there. bit_or there bits) M.cells M.step M.cell }
     ensures same { (seat.new.table_id ≡ seat.old.table_id) × (seat.new.id ≡ seat.old.id) }
@@ -111,7 +111,7 @@ fn sub_ends<A: Allocator, M: Ending>(
     less: u64,
     step: Step,
 ) -> u64
-    requires same { seat.old.table_id ≡ table.now.table.shared.table_id }
+    requires same { seat.old.table_id ≡ table.now.table }
     requires inside { cell < table.now.cells }
     requires allowed { MayEnd table.now.cells table.now.local_limit seat.old.id seat.old.me cell (λ there. (there + (2 ^ 64 - less)) % 2 ^ 64) M.cells M.step M.cell }
     ensures same { (seat.new.table_id ≡ seat.old.table_id) × (seat.new.id ≡ seat.old.id) }
@@ -142,7 +142,7 @@ fn take_if<A: Allocator>(
     step: Step,
     number: u64,
 ) -> Option<Block<A>>
-    requires same { seat.old.table_id ≡ table.now.table.shared.table_id }
+    requires same { seat.old.table_id ≡ table.now.table }
     requires there { takes_block step (cell_told step number) ≡ true → HasBlock cell seat.old.me.1 }
     ensures same { (seat.new.table_id ≡ seat.old.table_id) × (seat.new.id ≡ seat.old.id) }
     ensures when { is_there result ≡ takes_block step (cell_told step number) }
@@ -163,7 +163,7 @@ pub(crate) fn end_by_load<A: Allocator>(
     cell: u32,
     step: Step,
 ) -> Found<A>
-    requires same { seat.old.table_id ≡ table.now.table.shared.table_id }
+    requires same { seat.old.table_id ≡ table.now.table }
     requires inside { cell < table.now.cells }
     requires allowed { MayEnd table.now.cells table.now.local_limit seat.old.id seat.old.me cell (λ there. there) table.now.cells step cell }
     ensures same { (seat.new.table_id ≡ seat.old.table_id) × (seat.new.id ≡ seat.old.id) }
@@ -186,7 +186,7 @@ pub(crate) fn end_by_or<A: Allocator>(
     bits: u64,
     step: Step,
 ) -> Found<A>
-    requires same { seat.old.table_id ≡ table.now.table.shared.table_id }
+    requires same { seat.old.table_id ≡ table.now.table }
     requires inside { cell < table.now.cells }
     requires allowed { MayEnd table.now.cells table.now.local_limit seat.old.id seat.old.me cell (λ there. bit_or there bits) table.now.cells step cell }
     ensures same { (seat.new.table_id ≡ seat.old.table_id) × (seat.new.id ≡ seat.old.id) }
@@ -209,7 +209,7 @@ pub(crate) fn end_by_sub<A: Allocator>(
     less: u64,
     step: Step,
 ) -> Found<A>
-    requires same { seat.old.table_id ≡ table.now.table.shared.table_id }
+    requires same { seat.old.table_id ≡ table.now.table }
     requires inside { cell < table.now.cells }
     requires allowed { MayEnd table.now.cells table.now.local_limit seat.old.id seat.old.me cell (λ there. (there + (2 ^ 64 - less)) % 2 ^ 64) table.now.cells step cell }
     ensures same { (seat.new.table_id ≡ seat.old.table_id) × (seat.new.id ≡ seat.old.id) }
@@ -268,7 +268,7 @@ fn claim_as<A: Allocator, M: Winning>(
     cell: u32,
     new: u64,
 ) -> u64
-    requires same { seat.old.table_id ≡ table.now.table.shared.table_id }
+    requires same { seat.old.table_id ≡ table.now.table }
     requires inside { cell < table.now.cells }
     requires allowed { MayClaim table.now.cells table.now.local_limit seat.old.id seat.old.me cell new M.cell }
     ensures same { (seat.new.table_id ≡ seat.old.table_id) × (seat.new.id ≡ seat.old.id) }
@@ -288,7 +288,7 @@ pub(crate) fn claim_by<A: Allocator>(
     cell: u32,
     new: u64,
 ) -> u64
-    requires same { seat.old.table_id ≡ table.now.table.shared.table_id }
+    requires same { seat.old.table_id ≡ table.now.table }
     requires inside { cell < table.now.cells }
     requires allowed { MayClaim table.now.cells table.now.local_limit seat.old.id seat.old.me cell new cell }
     ensures same { (seat.new.table_id ≡ seat.old.table_id) × (seat.new.id ≡ seat.old.id) }
@@ -304,7 +304,7 @@ fn lock_as<A: Allocator, M: Winning>(
     cell: u32,
     new: u64,
 ) -> u64
-    requires same { seat.old.table_id ≡ table.now.table.shared.table_id }
+    requires same { seat.old.table_id ≡ table.now.table }
     requires inside { cell < table.now.cells }
     requires allowed { MayLock table.now.cells table.now.local_limit seat.old.id seat.old.me cell new M.cells M.place M.cell }
     ensures same { (seat.new.table_id ≡ seat.old.table_id) × (seat.new.id ≡ seat.old.id) }
@@ -326,7 +326,7 @@ pub(crate) fn lock_by<A: Allocator>(
     cell: u32,
     new: u64,
 ) -> u64
-    requires same { seat.old.table_id ≡ table.now.table.shared.table_id }
+    requires same { seat.old.table_id ≡ table.now.table }
     requires inside { cell < table.now.cells }
     requires allowed { MayLock table.now.cells table.now.local_limit seat.old.id seat.old.me cell new table.now.cells place cell }
     ensures same { (seat.new.table_id ≡ seat.old.table_id) × (seat.new.id ≡ seat.old.id) }
@@ -341,7 +341,7 @@ pub(crate) fn take_out<A: Allocator>(
     seat: &mut Place<A>,
     cell: u32,
 ) -> Block<A>
-    requires same { seat.old.table_id ≡ table.now.table.shared.table_id }
+    requires same { seat.old.table_id ≡ table.now.table }
     requires there { HasBlock cell seat.old.me.1 }
     ensures same { (seat.new.table_id ≡ seat.old.table_id) × (seat.new.id ≡ seat.old.id) }
     ensures was { seat.old.me.1 ≡ (cell, Some result) ∷ rest seat.old.me.1 }
@@ -372,7 +372,7 @@ fn give_as<A: Allocator, M: Item>(
     new: u64,
     step: Step,
 )
-    requires same { seat.old.table_id ≡ table.now.table.shared.table_id }
+    requires same { seat.old.table_id ≡ table.now.table }
     requires inside { IsWord table.now.cells word }
     requires allowed { MayGive table.now.cells table.now.local_limit seat.old.id seat.old.me word new (M.item new) }
     ensures same { (seat.new.table_id ≡ seat.old.table_id) × (seat.new.id ≡ seat.old.id) }
@@ -391,7 +391,7 @@ pub(crate) fn give<A: Allocator>(
     new: u64,
     step: Step,
 )
-    requires same { seat.old.table_id ≡ table.now.table.shared.table_id }
+    requires same { seat.old.table_id ≡ table.now.table }
     requires inside { IsWord table.now.cells word }
     requires allowed { MayGive table.now.cells table.now.local_limit seat.old.id seat.old.me word new (told.Did step new (put_home seat.old.me.1)) }
     ensures same { (seat.new.table_id ≡ seat.old.table_id) × (seat.new.id ≡ seat.old.id) }
@@ -407,7 +407,7 @@ pub(crate) fn put_in<A: Allocator>(
     cell: u32,
     block: Block<A>,
 )
-    requires same { seat.old.table_id ≡ table.now.table.shared.table_id }
+    requires same { seat.old.table_id ≡ table.now.table }
     requires empty { seat.old.me.1 ≡ (cell, None) ∷ rest seat.old.me.1 }
     ensures same { (seat.new.table_id ≡ seat.old.table_id) × (seat.new.id ≡ seat.old.id) }
     ensures now { seat.new.me ≡ (seat.old.me.0, (cell, Some block) ∷ rest seat.old.me.1) }
