@@ -1,13 +1,17 @@
 //! The worked runs of the examples, as calls on the seats of two threads that one test holds. Each call answers what the
 //! trace's step finds.
 
-ghost use Rattle.std.specs.Prelude.{◌≡◌, ◌+◌, ◌<◌, ◌++◌, [], ◌∷◌, None, Some, IsTrue, pos};
+ghost use Rattle.std.specs.Prelude.{◌≡◌, ◌+◌, ◌<◌, ◌++◌, [], ◌∷◌, None, Some, IfSome, IsTrue, pos, true};
 ghost use Rattle.brc_runs.specs.declared.event.Step.TheVariants as steps;
 ghost use Rattle.brc_rule.specs.declared.contents.Contents.TheVariants as contents;
 ghost use Rattle.brc_rule.specs.declared.contents.PlainKey.TheVariants as plain;
 ghost use Rattle.brc_rule.specs.Opening.{first_view};
 ghost use Rattle.brc_rule.specs.declared.told.Moved.TheVariants as moves;
 ghost use Rattle.brc_rule.specs.declared.told.Told.TheVariants as told;
+ghost use Rattle.brc_rule.specs.Logs.{entries_in};
+ghost use Rattle.brc_rule.specs.Seen.{part_seen};
+ghost use Rattle.brc_runs.specs.Lists.{is_marked};
+ghost use Rattle.brc_runs.specs.Steps.{is_free_hand, stage_ok, lock_ok};
 ghost use Rattle.brc_steps.specs.Owing.{Carries, Claims};
 ghost use Rattle.brc_table.specs.Seated.{Continues};
 ghost use Rattle.brc_table.specs.Shown.{contents_of};
@@ -177,14 +181,34 @@ fn alive<A: Allocator>(rt: &impl Abort, block: Option<Block<A>>)
     }
 }
 
-/// The block was of a list without entries; its memory goes back.
-fn was_bare_list<A: Allocator>(rt: &impl Abort, block: Block<A>)
-    ensures { contents_of block.1 ≡ contents.«List» [] }
+/// The object is dead, and was a list without entries: its memory goes back, and its cell is free.
+fn gone<A: Allocator>(
+    rt: &impl Abort,
+    table: &HeapTable<A>,
+    seat: &mut ThreadSeat<A>,
+    block: Option<Block<A>>,
+    cell: u32,
+)
+    requires table { seat.old.table ≡ table.now.table.shared.table_id }
+    requires inside { cell < table.now.cells }
+    requires slot { IfSome block (λ there. seat.old.slots ≡ (cell, None) ∷ []) }
+    requires entries { IfSome block (λ there. (part_seen table.now.cells seat.old.log).has cell ≡ entries_in (contents_of there.1)) }
+    requires marked { IfSome block (λ there. is_marked (part_seen table.now.cells seat.old.log).worklist cell ≡ true) }
+    requires hand { is_free_hand (part_seen table.now.cells seat.old.log).row.hand ≡ true }
+    requires stage { stage_ok (part_seen table.now.cells seat.old.log).row.stage (steps.Free cell) ≡ true }
+    requires lock { lock_ok (part_seen table.now.cells seat.old.log).row.locked (steps.Free cell) ≡ true }
+    ensures told { seat.new.log ≡ told.Did (steps.Free cell) 18446744073709551615 moves.Nothing ∷ seat.old.log }
+    ensures slots { seat.new.slots ≡ [] }
+    ensures seat { Continues seat.old seat.new }
 {
+    let Some(block) = block else {
+        panic!(rt; "the object isn't dead")
+    };
     match block.into_payload() {
         Payload::List(cells) => assert!(rt; cells.len() == 0),
         _ => panic!(rt; "another payload comes back"),
     }
+    table.free(seat, cell);
 }
 
 /// A thread that has done nothing makes a list at cell 266, and has it in place 0.
@@ -258,11 +282,7 @@ fn objects_merge_at_zero(rt: HostRuntime) {
     assert_eq!(rt; table.load_shared(&mut two, 266), 4_398_046_511_111);
     let Found { number, block } = table.last_down(&mut two, Dropped::Frame(1), 266);
     assert_eq!(rt; number, 4_398_046_511_111);
-    let Some(block) = block else {
-        panic!(rt; "the object isn't dead")
-    };
-    was_bare_list(&rt, block);
-    table.free(&mut two, 266);
+    gone(&rt, &table, &mut two, block, 266);
     assert_eq!(rt; table.load_owner(&mut one, 266), u64::MAX);
     drop(one);
     drop(two);
@@ -310,11 +330,7 @@ fn asked_object_is_drained(rt: HostRuntime) {
     assert_eq!(rt; table.load_shared(&mut one, 266), 4_398_046_511_111);
     let Found { number, block } = table.last_down(&mut one, Dropped::Frame(0), 266);
     assert_eq!(rt; number, 4_398_046_511_111);
-    let Some(block) = block else {
-        panic!(rt; "the object isn't dead")
-    };
-    was_bare_list(&rt, block);
-    table.free(&mut one, 266);
+    gone(&rt, &table, &mut one, block, 266);
     drop(one);
     drop(two);
     ends(&rt, table, root);
@@ -360,11 +376,7 @@ fn asker_enqueues_late(rt: HostRuntime) {
     assert_eq!(rt; table.load_shared(&mut one, 266), 4_398_046_511_111);
     let Found { number, block } = table.last_popped(&mut one, 266, 4_398_046_511_111);
     assert_eq!(rt; number, 4_398_046_511_111);
-    let Some(block) = block else {
-        panic!(rt; "the object isn't dead")
-    };
-    was_bare_list(&rt, block);
-    table.free(&mut one, 266);
+    gone(&rt, &table, &mut one, block, 266);
     drop(one);
     drop(two);
     ends(&rt, table, root);
@@ -418,13 +430,85 @@ fn orphan_is_adopted(rt: HostRuntime) {
     assert_eq!(rt; table.merge_add(&mut two, 266, 1), 4_398_046_511_106);
     let Found { number, block } = table.last_held(&mut two, 266);
     assert_eq!(rt; number, 4_398_046_511_111);
-    let Some(block) = block else {
-        panic!(rt; "the object isn't dead")
-    };
-    was_bare_list(&rt, block);
-    table.free(&mut two, 266);
+    gone(&rt, &table, &mut two, block, 266);
     table.join(&mut root, one);
     drop(two);
+    ends(&rt, table, root);
+}
+
+#[test]
+fn leaver_deals_with_its_queue(rt: HostRuntime) {
+    let (table, root) = opened(&rt, rt.alloc(), 4_294_967_294);
+    let mut root = root;
+    let mut one = table.split(&mut root);
+    let mut two = table.split(&mut root);
+    makes_a_list(&rt, rt.alloc(), &table, &mut one);
+    let _found = table.immortal_up(&mut one, Source::Immortal(265), 1, 265);
+    let globals = locked_bare(&rt, &table, &mut one, 1);
+    let globals = with_one(&rt, rt.alloc(), globals, 266);
+    table.unlock(&mut one, globals, Change::Put(0));
+    let _found = table.immortal_up(&mut two, Source::Immortal(265), 0, 265);
+    let globals = locked_with(&rt, &table, &mut two, 0, 266);
+    let globals = bare(rt.alloc(), globals);
+    table.unlock(&mut two, globals, Change::Take { index: 0, place: 1 });
+    let _found = table.immortal_down(&mut one, Dropped::Frame(1), 265);
+    assert_eq!(rt;
+        table.ask(&mut two, Dropped::Frame(1), 266),
+        4_398_046_511_104
+    );
+    assert_eq!(rt; table.load_owner(&mut two, 266), 1);
+    assert_eq!(rt; table.enqueue(&mut two, 266, 1), 0);
+
+    // As it leaves, the owner pops what was put into its queue.
+    assert_eq!(rt; table.close(&mut one, 0), 0);
+    assert_eq!(rt; table.close(&mut one, 1), 0);
+    assert_eq!(rt; table.close(&mut one, 2), 0);
+    assert_eq!(rt; table.close(&mut one, 3), 0);
+    assert_eq!(rt; table.close(&mut one, 4), 0);
+    assert_eq!(rt; table.close(&mut one, 5), 0);
+    assert_eq!(rt; table.close(&mut one, 6), 0);
+    assert_eq!(rt; table.close(&mut one, 7), 0);
+    assert_eq!(rt; table.close(&mut one, 8), 1_024);
+    assert_eq!(rt; table.close(&mut one, 9), 0);
+    assert_eq!(rt; table.close(&mut one, 10), 0);
+    assert_eq!(rt; table.close(&mut one, 11), 0);
+    assert_eq!(rt; table.close(&mut one, 12), 0);
+    assert_eq!(rt; table.close(&mut one, 13), 0);
+    assert_eq!(rt; table.close(&mut one, 14), 0);
+    assert_eq!(rt; table.close(&mut one, 15), 0);
+    assert_eq!(rt; table.load_shared(&mut one, 266), 4_398_046_511_106);
+    table.untie_popped(&mut one, 266, 4_398_046_511_106);
+    assert_eq!(rt; table.load_local(&mut one, 266), 1);
+    assert_eq!(rt; table.merge_add(&mut one, 266, 1), 4_398_046_511_106);
+    let Found { number, block } = table.last_added(&mut one, 266);
+    assert_eq!(rt; number, 4_398_046_511_111);
+    gone(&rt, &table, &mut one, block, 266);
+    table.join(&mut root, one);
+    drop(two);
+    ends(&rt, table, root);
+}
+
+#[test]
+fn owner_counts_as_others_do_at_its_limit(rt: HostRuntime) {
+    let (table, root) = opened(&rt, rt.alloc(), 1);
+    let mut root = root;
+    let mut one = table.split(&mut root);
+    makes_a_list(&rt, rt.alloc(), &table, &mut one);
+    let found = table.shared_up(&mut one, Source::Frame(0), 1, 266);
+    assert_eq!(rt; found, 4_398_046_511_104);
+    table.local_down(&mut one, Dropped::Frame(1), 266, 1);
+    let Found { number, block } = table.see_zero(&mut one, 266);
+    assert_eq!(rt; number, 4_398_046_511_108);
+    alive(&rt, block);
+    table.untie_over(&mut one, 266);
+    let Found { number, block } = table.merge_zero(&mut one, 266);
+    assert_eq!(rt; number, 4_398_046_511_108);
+    alive(&rt, block);
+    assert_eq!(rt; table.load_shared(&mut one, 266), 4_398_046_511_111);
+    let Found { number, block } = table.last_down(&mut one, Dropped::Frame(0), 266);
+    assert_eq!(rt; number, 4_398_046_511_111);
+    gone(&rt, &table, &mut one, block, 266);
+    drop(one);
     ends(&rt, table, root);
 }
 
@@ -444,9 +528,9 @@ fn an_exchange_is_lost(rt: HostRuntime) {
     let globals = locked_with(&rt, &table, &mut two, 0, 266);
     let found = table.shared_up(&mut two, Source::Entry(0), 1, 266);
     assert_eq!(rt; found, 4_398_046_511_104);
+    table.unlock(&mut two, globals, Change::Keep);
     let found = table.shared_up(&mut two, Source::Frame(1), 2, 266);
     assert_eq!(rt; found, 4_398_046_511_108);
-    table.unlock(&mut two, globals, Change::Keep);
 
     // An exchange that expects an older word is lost, and tells the number that is there; a new one is won.
     assert!(rt;
