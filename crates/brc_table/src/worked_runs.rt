@@ -189,7 +189,7 @@ fn gone<A: Allocator>(
     block: Option<Block<A>>,
     cell: u32,
 )
-    requires table { seat.old.table ≡ table.now.table.shared.table_id }
+    requires table { seat.old.table ≡ table.now.table }
     requires inside { cell < table.now.cells }
     requires slot { IfSome block (λ there. seat.old.slots ≡ (cell, None) ∷ []) }
     requires entries { IfSome block (λ there. (part_seen table.now.cells seat.old.log).has cell ≡ entries_in (contents_of there.1)) }
