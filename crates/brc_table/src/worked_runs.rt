@@ -35,7 +35,7 @@ fn opened<A: Allocator + Copy>(
     local_limit: u32,
 ) -> (HeapTable<A>, RootSeat<A>)
     ensures sizes { (result.0.cells ≡ 512) × (result.0.local_limit ≡ local_limit) }
-    ensures table { result.1.table ≡ result.0.table.shared.table_id }
+    ensures table { result.1.table ≡ result.0.table }
     ensures view { result.1.view ≡ first_view }
 {
     match HeapTable::new(alloc, 512, local_limit) {
@@ -60,7 +60,7 @@ fn a_list<A: Allocator + Copy>(rt: &impl Abort, alloc: A, cell: u32) -> Block<A>
 
 /// The cell is free, and claimed.
 fn claimed<A: Allocator>(rt: &impl Abort, table: &HeapTable<A>, seat: &mut ThreadSeat<A>, cell: u32)
-    requires table { seat.old.table ≡ table.now.table.shared.table_id }
+    requires table { seat.old.table ≡ table.now.table }
     requires inside { cell < table.now.cells }
     requires claims { Claims table.now.cells seat.old.log cell }
     ensures told { seat.new.log ≡ told.Did (steps.Claim cell) 18446744073709551615 moves.Nothing ∷ seat.old.log }
@@ -102,7 +102,7 @@ fn locked_bare<A: Allocator>(
     seat: &mut ThreadSeat<A>,
     place: u32,
 ) -> Block<A>
-    requires table { seat.old.table ≡ table.now.table.shared.table_id }
+    requires table { seat.old.table ≡ table.now.table }
     requires inside { 265 < table.now.cells }
     requires carries { Carries table.now.cells seat.old.log (steps.Lock place) 265 }
     ensures of_cell { result.0 ≡ 265 }
@@ -128,7 +128,7 @@ fn locked_with<A: Allocator>(
     place: u32,
     cell: u32,
 ) -> Block<A>
-    requires table { seat.old.table ≡ table.now.table.shared.table_id }
+    requires table { seat.old.table ≡ table.now.table }
     requires inside { 265 < table.now.cells }
     requires carries { Carries table.now.cells seat.old.log (steps.Lock place) 265 }
     ensures of_cell { result.0 ≡ 265 }
@@ -189,7 +189,7 @@ fn gone<A: Allocator>(
     block: Option<Block<A>>,
     cell: u32,
 )
-    requires table { seat.old.table ≡ table.now.table.shared.table_id }
+    requires table { seat.old.table ≡ table.now.table }
     requires inside { cell < table.now.cells }
     requires slot { IfSome block (λ there. seat.old.slots ≡ (cell, None) ∷ []) }
     requires entries { IfSome block (λ there. (part_seen table.now.cells seat.old.log).has cell ≡ entries_in (contents_of there.1)) }
@@ -218,7 +218,7 @@ fn makes_a_list<A: Allocator + Copy>(
     table: &HeapTable<A>,
     seat: &mut ThreadSeat<A>,
 )
-    requires table { seat.old.table ≡ table.now.table.shared.table_id }
+    requires table { seat.old.table ≡ table.now.table }
     requires cells { table.now.cells ≡ 512 }
     requires new { (seat.old.log ≡ []) × (seat.old.slots ≡ []) }
     ensures told { seat.new.log ≡
@@ -238,7 +238,7 @@ fn makes_a_list<A: Allocator + Copy>(
 
 /// The memory of a dead list goes back, and its cell is free.
 fn ends<A: Allocator>(rt: &impl Abort, table: HeapTable<A>, root: RootSeat<A>)
-    requires table { root.table ≡ table.table.shared.table_id }
+    requires table { root.table ≡ table.table }
 {
     assert_eq!(rt; end_all(rt, table.take_apart(root)), 266);
 }
