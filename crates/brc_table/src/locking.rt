@@ -6,10 +6,11 @@ ghost use Rattle.brc_runs.specs.declared.event.Step.TheVariants as steps;
 ghost use Rattle.brc_known.specs.declared.word.Field.TheVariants as fields;
 ghost use Rattle.brc_known.specs.declared.word.Word.TheVariants as words;
 ghost use Rattle.brc_known.specs.Going_On.{locking, unlocking};
+ghost use Rattle.brc_known.specs.Taken.{listed_at};
 ghost use Rattle.brc_rule.specs.declared.told.Moved.TheVariants as moves;
 ghost use Rattle.brc_rule.specs.declared.told.Told.TheVariants as told;
 ghost use Rattle.brc_rule.specs.Logs.{entries_in};
-ghost use Rattle.brc_rule.specs.Seen.{contents_locked};
+ghost use Rattle.brc_rule.specs.Seen.{contents_locked, taken_seen};
 ghost use Rattle.brc_steps.specs.Owing.{Carries, Unlocks};
 ghost use Rattle.brc_steps.specs.Taking.{AreCells};
 ghost use Rattle.brc_table.specs.Knowing.{known_seen, Knows, Keeps};
@@ -32,6 +33,7 @@ impl<A: Allocator> HeapTable<A> {
         requires inside { cell < self.now.cells }
         requires carries { Carries self.now.cells seat.old.log (steps.Lock place) cell }
         ensures of_cell { IfOk result (λ block. block.0 ≡ cell) }
+        ensures fresh { IfOk result (λ block. listed_at (taken_seen self.now.cells seat.old.log) cell ≡ None) }
         ensures entries { IfOk result (λ block. AreCells self.now.cells (entries_in (contents_of block.1))) }
         ensures won { IfOk result (λ block. seat.new.log ≡ told.Did (steps.Lock place) 0 (moves.Found cell (contents_of block.1)) ∷ seat.old.log) }
         ensures out { IfOk result (λ block. seat.new.slots ≡ (cell, None) ∷ seat.old.slots) }
