@@ -1,0 +1,4 @@
+pub mod Remaining
+pub mod Membership
+pub mod Walks
+pub mod Searching

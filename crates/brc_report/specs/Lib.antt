@@ -1,0 +1,4 @@
+pub mod Tables
+pub mod Holding
+pub mod Cycles
+pub mod Walking
