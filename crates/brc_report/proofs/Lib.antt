@@ -2,3 +2,5 @@ pub mod Remaining
 pub mod Membership
 pub mod Walks
 pub mod Searching
+pub mod Unique
+pub mod Writing

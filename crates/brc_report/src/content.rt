@@ -1,6 +1,9 @@
 //! What a report is made of: cells with their contents, and what remains.
 
-ghost use Rattle.std.specs.Prelude.{◌≡◌, vec_len};
+ghost use Rattle.std.specs.Prelude.{◌≡◌, nat_eq};
+ghost use Rattle.std.specs.Cmp.{partial_equiv_from_equiv};
+ghost use Rattle.std.specs.Cmp.Lexicographic.{pointwise};
+ghost use Rattle.std.proofs.lemmas.Cmp.{nat_list_eq_equiv};
 
 use brc_words::Kind;
 use std::alloc::Allocator;
@@ -32,6 +35,20 @@ impl<A: Allocator> Cells<A> {
     {
         self.list.as_slice()
     }
+}
+
+impl<A: Allocator> PartialEq for Cells<A> {
+    ghost eq = { pointwise nat_eq };
+
+    ghost laws = { partial_equiv_from_equiv nat_list_eq_equiv };
+
+    fn eq(&self, other: &Self) -> bool {
+        self.as_slice() == other.as_slice()
+    }
+}
+
+impl<A: Allocator> Eq for Cells<A> {
+    ghost laws = { nat_list_eq_equiv };
 }
 
 /// What a live cell held as the heap was closed.

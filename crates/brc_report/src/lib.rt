@@ -4,14 +4,18 @@
 //! `specs/Cycles.antt` what a cycle is; the report's text is `specs/Texts.antt`.
 #![tactic(auto)]
 
+mod checking;
 mod content;
 mod cycles;
 mod holders;
+mod report;
 mod table;
 
+pub use checking::check_report;
 pub use content::{Cells, Content, Remain};
 pub use cycles::find_cycles;
 pub use holders::find_remains;
+pub use report::{Ledger, Report, write_report};
 
 #[cfg(test)]
 mod tests;
