@@ -1,5 +1,5 @@
 -- There is one list of cycles.
-use Rattle.std.proofs.Common.{◌≡◌, ◌<◌, ℕ, List, [], ◌∷◌, Bool, true, false, ◌==◌, Option, Some, None, ◌&&◌, rules, refl, sym, ◌∙◌, ap, subst, arith}
+use Rattle.std.proofs.Common.{◌++◌, ◌≤◌, inl, inr, length, ◌≡◌, ◌<◌, ℕ, List, [], ◌∷◌, Bool, true, false, ◌==◌, Option, Some, None, ◌&&◌, rules, refl, sym, ◌∙◌, ap, subst, arith}
 use denote.Enum.Bare.{sameb, same_true, true_same}
 use Rattle.std.specs.Bool.{Decides}
 use Rattle.std.proofs.lemmas.Bool.{eqb-true, eq-eqb}
@@ -7,8 +7,11 @@ use Rattle.brc_words.specs.declared.kind.Kind.{Kind}
 use Rattle.brc_words.specs.contracts.kind.Kind.{the_type}
 use Rattle.brc_report.specs.declared.content.Remain.{Remain}
 use Rattle.brc_report.specs.Holding.{has}
-use Rattle.brc_report.specs.Cycles.{Walk, IsCycle, CycleAt, CyclesAt, in_front}
-use Rattle.brc_report.proofs.Membership.{has_first, has_later}
+use Rattle.brc_report.specs.Cycles.{Walk, IsCycle, CycleAt, CyclesAt, in_front, holder_in}
+use Rattle.brc_report.specs.Walking.{times}
+use Rattle.brc_report.proofs.Membership.{has_first, has_later, uncounted}
+use Rattle.brc_report.proofs.Walks.{walk_rest}
+use Rattle.std.proofs.lemmas.Bool.{cases_Bool}
 
 and_both : (a b : Bool) → (a && b) ≡ true → (a ≡ true) × (b ≡ true)
 and_both true b h = (refl, h)
@@ -82,3 +85,61 @@ cycles_unique holder (remain ∷ remains) one other h k =
     let cycle : h.0 ≡ k.0 = at_unique holder remain.cell h.0 k.0 h.3 k.3 in
     let rest : h.1 ≡ k.1 = cycles_unique holder remains h.1 k.1 h.4 k.4 in
     h.2 ∙ (ap (λ (w : Option (List ℕ)). in_front w h.1) cycle ∙ (ap (λ (w : List (List ℕ)). in_front k.0 w) rest ∙ sym k.2))
+
+once_more : (first : ℕ) (cells : List ℕ) (cell : ℕ) → times cells cell ≤ 1 → (has cells first ≡ true → ⊥)
+    → times (first ∷ cells) cell ≤ 1
+once_more first cells cell once apart = elim (cases_Bool (has cells first)) [
+  | inl among ↦ absurd (apart among)
+  | inr none ↦ grind (arith, uncounted cells first none, once)
+]
+
+-- no cell stands twice on a walk to a cell below it
+once_on_walk : (holder : ℕ → Option ℕ) (first from : ℕ) (path : List ℕ) → Walk holder from path first
+    → ((cell : ℕ) → has path cell ≡ true → first < cell) → (cell : ℕ) → times path cell ≤ 1
+once_on_walk holder first from [] h low cell = omega arith
+once_on_walk holder first from (second ∷ path) h low cell =
+    let later : times path cell ≤ 1 =
+    once_on_walk holder first h.next path h.rest (λ w among. low w (has_later second path w among)) cell in
+    let apart : has path second ≡ true → ⊥ = λ among.
+    let rest = walk_rest holder h.next path first second h.rest among in
+    let same : second ∷ path ≡ rest.0 = walk_unique holder first second (second ∷ path) rest.0
+    (subst (λ w. Walk holder w (second ∷ path) first) (sym h.is) h) rest.1 low
+    (λ w k. low w (has_later second path w (rest.3 w k))) in
+    let long = ap length same in omega (arith, long, rest.2) in
+    once_more second path cell later apart
+
+-- no cell stands twice in a cycle
+pub cycle_apart : (holder : ℕ → Option ℕ) (first : ℕ) (others : List ℕ) → IsCycle holder first others
+    → (cell : ℕ) → times (first ∷ others) cell ≤ 1
+cycle_apart holder first others h cell =
+    once_more first others cell (once_on_walk holder first h.closed.next others h.closed.rest h.lowest cell)
+    (λ among. let below = h.lowest first among in absurd (omega (arith, below)))
+
+front_before : (cycle : Option (List ℕ)) (front back : List (List ℕ))
+    → in_front cycle (front ++ back) ≡ in_front cycle front ++ back
+front_before None front back = refl
+front_before (Some first) front back = refl
+
+-- a cycle that begins at one of the remains is among those that are listed
+pub cycle_listed : (holder : ℕ → Option ℕ) (remains : List Remain) (cycles : List (List ℕ)) (first next : ℕ)
+    (others : List ℕ) → CyclesAt holder remains cycles → holder_in remains first ≡ Some next
+    → IsCycle holder first others
+    → (front : List (List ℕ)) × (back : List (List ℕ)) × (cycles ≡ front ++ (first ∷ others) ∷ back)
+cycle_listed holder [] cycles first next others h held cycle = absurd (cc)
+cycle_listed holder (remain ∷ remains) cycles first next others h held cycle =
+    elim (cases_Bool (remain.cell == first)) [
+      | inl same ↦
+          let here : CycleAt holder first h.0 =
+          subst (λ w. CycleAt holder w h.0) (eqb-true remain.cell first same) h.3 in
+          let one : h.0 ≡ Some (first ∷ others) =
+          at_unique holder first h.0 (Some (first ∷ others)) here (others, refl, cycle) in
+          ([], h.1, h.2 ∙ ap (λ (w : Option (List ℕ)). in_front w h.1) one)
+      | inr other ↦
+          let later : holder_in remains first ≡ Some next = rw other at held in
+          let rest = cycle_listed holder remains h.1 first next others h.4 later cycle in (
+            in_front h.0 rest.0,
+            rest.1,
+            h.2 ∙ (ap (λ (w : List (List ℕ)). in_front h.0 w) rest.2
+                ∙ front_before h.0 rest.0 ((first ∷ others) ∷ rest.1)),
+          )
+    ]

@@ -1,5 +1,5 @@
 -- Walks along the holders, and what they can't leave.
-use Rattle.std.proofs.Common.{◌≡◌, ◌<◌, ◌++◌, ◌⊎◌, inl, inr, ℕ, zero, suc, List, [], ◌∷◌, true, Option, Some, refl, sym, ◌∙◌, ap, subst, arith, length, drop, slice_index}
+use Rattle.std.proofs.Common.{◌≤◌, ◌≡◌, ◌<◌, ◌++◌, ◌⊎◌, inl, inr, ℕ, zero, suc, List, [], ◌∷◌, true, Option, Some, refl, sym, ◌∙◌, ap, subst, arith, length, drop, slice_index}
 use Rattle.brc_report.specs.Holding.{has}
 use Rattle.brc_report.specs.Cycles.{Walk, IsCycle}
 use Rattle.brc_report.proofs.Membership.{is_first_or_later, has_first, has_later}
@@ -108,3 +108,14 @@ module _ (holder : ℕ → Option ℕ) where
   walk_from from (first ∷ path) to zero within h =
       subst (λ w. Walk holder w (first ∷ path) to) (sym h.is) h
   walk_from from (first ∷ path) to (suc place) within h = walk_from h.next path to place (omega arith) h.rest
+
+  -- a cell of a walk leads on to its end along some of the walk
+  pub walk_rest : (from : ℕ) (path : List ℕ) (to cell : ℕ) → Walk holder from path to → has path cell ≡ true
+      → (later : List ℕ) × Walk holder cell later to × (length later ≤ length path)
+      × ((other : ℕ) → has later other ≡ true → has path other ≡ true)
+  walk_rest from [] to cell h among = absurd (cc)
+  walk_rest from (first ∷ path) to cell h among = elim (is_first_or_later first path cell among) [
+    | inl same ↦ (first ∷ path, subst (λ w. Walk holder w (first ∷ path) to) (sym h.is ∙ same) h, omega arith, λ other k. k)
+    | inr later ↦ let rest = walk_rest h.next path to cell h.rest later in
+        (rest.0, rest.1, omega (arith, rest.2), λ other k. has_later first path other (rest.3 other k))
+  ]

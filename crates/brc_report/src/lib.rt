@@ -8,6 +8,7 @@ mod checking;
 mod content;
 mod cycles;
 mod holders;
+pub mod laws;
 mod report;
 mod table;
 

@@ -4,8 +4,8 @@ use crate::{
     Cells, Content, Ledger, Remain, Report, check_report, find_cycles, find_remains, write_report,
 };
 use brc_words::{Fault, Kind};
+use linked_list_allocator::LocalHeap;
 use std::alloc::Global;
-use std::io::Write;
 use std::process::Abort;
 
 /// The contents with one cell more.
@@ -237,4 +237,24 @@ fn a_million_entries_have_their_holders(rt: HostRuntime) {
         .expect(&rt, "held");
     assert_eq!(rt; remains.len(), 100);
     assert!(rt; remains[0].held_by == 265 && remains[99].held_by == 265);
+}
+
+#[test]
+fn a_refused_growth_is_told(rt: HostRuntime) {
+    let remains = [
+        Remain {
+            cell: 266,
+            kind: Kind::List,
+            held_by: 267,
+        },
+        Remain {
+            cell: 267,
+            kind: Kind::List,
+            held_by: 266,
+        },
+    ];
+    let heap = LocalHeap::new(rt.alloc(), 16).expect(&rt, "memory");
+    assert!(rt; matches!(find_cycles(&heap, &remains), Err(Fault::OutOfMemory)));
+    let ample = LocalHeap::new(rt.alloc(), 100_000).expect(&rt, "memory");
+    assert!(rt; find_cycles(&ample, &remains).is_ok());
 }
