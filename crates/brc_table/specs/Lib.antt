@@ -2,4 +2,5 @@ pub mod Shown
 pub mod Seated
 pub mod Opening
 pub mod Machine
+pub mod Moving
 pub mod Rest

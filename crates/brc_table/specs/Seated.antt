@@ -19,6 +19,10 @@ pub record RootSeen : Type 0 where
   pub view : View
 
 module _ {A : Type 0} where
+  -- the same thread's seat at the same table
+  abbrev pub Continues : SeatSeen A → SeatSeen A → Type 0
+  Continues old new = (new.table ≡ old.table) × (new.thread ≡ old.thread)
+
   -- the same seat; its log is another matter
   abbrev pub Stays : SeatSeen A → SeatSeen A → Type 0
   Stays old new = (new.table ≡ old.table) × (new.thread ≡ old.thread) × (new.slots ≡ old.slots)

@@ -1,4 +1,4 @@
-//! The running table: the words and blocks of a heap that threads share, with one call for each event that moves no block.
+//! The running table: the words and blocks of a heap that threads share, with one call for each event.
 //!
 //! It keeps that what stands in it is the world of one run (`brc_rule`, `specs/Rule.antt`). A call asks what `brc_steps`
 //! asks of its seat's log (`specs/Owing.antt`), makes one operation on one word, and puts its event with the number found on
@@ -7,11 +7,14 @@
 #![tactic(auto)]
 
 mod counting;
+mod ending;
 mod layout;
+mod locking;
 mod looks;
 mod machine;
 mod making;
 mod merging;
+mod moving;
 mod opening;
 mod queues;
 mod rest;
@@ -20,6 +23,7 @@ mod rule;
 mod seats;
 mod table;
 
+pub use moving::Found;
 pub use rest::Rest;
 pub use root::RootSeat;
 pub use rule::{HeapRule, Sizes};

@@ -1,20 +1,49 @@
-//! The words of a new object, which its claimer sets before it is born.
+//! Cells: one is claimed, its words are set, and an object is born in it; a dead one's cell is free again.
 
-ghost use Rattle.std.specs.Prelude.{◌≡◌, ◌<◌, ◌≤◌, ◌∷◌, ◌^◌};
+ghost use Rattle.std.specs.Prelude.{◌≡◌, ◌≢◌, ◌-◌, ◌<◌, ◌≤◌, ◌∷◌, ◌^◌, None, OnOk, IfErr};
+ghost use Rattle.atomic_table.specs.Table.{rest};
 ghost use Rattle.brc_runs.specs.declared.event.Step.TheVariants as steps;
+ghost use Rattle.brc_known.specs.declared.word.Field.TheVariants as fields;
+ghost use Rattle.brc_known.specs.declared.word.Word.TheVariants as words;
 ghost use Rattle.brc_rule.specs.declared.told.Moved.TheVariants as moves;
 ghost use Rattle.brc_rule.specs.declared.told.Told.TheVariants as told;
-ghost use Rattle.brc_steps.specs.Owing.{Carries};
-ghost use Rattle.brc_table.specs.Seated.{Stays};
+ghost use Rattle.brc_steps.specs.Owing.{Claims, Bears, Carries};
+ghost use Rattle.brc_table.specs.Seated.{Stays, Continues};
+ghost use Rattle.brc_table.specs.Shown.{shows, contents_of};
 
 use crate::machine::store;
+use crate::moving::{claim_by, give, put_in};
 use crate::seats::ThreadSeat;
 use crate::table::HeapTable;
+use brc_block::Block;
 use brc_known::{Field, Word};
 use brc_runs::Step;
+use brc_words::Kind;
 use std::alloc::Allocator;
 
 impl<A: Allocator> HeapTable<A> {
+    /// Claim: a free cell is the thread's to make an object in, and its empty slot is out with the seat; or the number of
+    /// its owner word.
+    pub fn claim(&self, seat: &mut ThreadSeat<A>, cell: u32) -> Result<(), u64>
+        requires table { seat.old.table ≡ self.now.table.shared.table_id }
+        requires inside { cell < self.now.cells }
+        requires claims { Claims self.now.cells seat.old.log cell }
+        ensures won { OnOk result (seat.new.log ≡ told.Did (steps.Claim cell) (2 ^ 64 - 1) moves.Nothing ∷ seat.old.log) }
+        ensures out { OnOk result (seat.new.slots ≡ (cell, None) ∷ seat.old.slots) }
+        ensures lost { IfErr result (λ found. seat.new.log ≡ told.Lost (words.Of fields.Owner cell) found ∷ seat.old.log) }
+        ensures still { IfErr result (λ found. seat.new.slots ≡ seat.old.slots) }
+        ensures taken { IfErr result (λ found. found ≢ 2 ^ 64 - 1) }
+        ensures seat { Continues seat.old seat.new }
+    {
+        let mine = (1 << 32) + u64::from(seat.thread);
+        let found = claim_by(self, &mut seat.place, cell, mine);
+        if found == u64::MAX {
+            Ok(())
+        } else {
+            Err(found)
+        }
+    }
+
     #[tactic(auto, using(brc_steps::proofs::Making_Steps::sets_local))]
     /// InitLocal: the first reference is counted.
     pub fn init_local(&self, seat: &mut ThreadSeat<A>, cell: u32)
@@ -40,5 +69,36 @@ impl<A: Allocator> HeapTable<A> {
         let word = Word::Of(Field::Shared, cell);
         let step = Step::InitShared(cell);
         store(self, &mut seat.place, word, 1 << 42, step);
+    }
+
+    /// Birth: the block is put home, and the place of the frame has the first reference to it.
+    pub fn birth(&self, seat: &mut ThreadSeat<A>, block: Block<A>, kind: Kind, place: u32)
+        requires table { seat.old.table ≡ self.now.table.shared.table_id }
+        requires inside { block.0 < self.now.cells }
+        requires slot { seat.old.slots ≡ (block.0, None) ∷ rest seat.old.slots }
+        requires bears { Bears self.now.cells seat.old.log (shows block) kind place block.0 }
+        ensures told { seat.new.log ≡ told.Did (steps.Birth block.0 kind place) seat.old.thread (moves.Put block.0 (contents_of block.1)) ∷ seat.old.log }
+        ensures home { seat.new.slots ≡ rest seat.old.slots }
+        ensures seat { Continues seat.old seat.new }
+    {
+        let cell = block.cell();
+        let word = Word::Of(Field::Owner, cell);
+        let step = Step::Birth { cell, kind, place };
+        put_in(self, &mut seat.place, cell, block);
+        give(self, &mut seat.place, word, u64::from(seat.thread), step);
+    }
+
+    /// Free: the cell of a dead object without entries is free again.
+    pub fn free(&self, seat: &mut ThreadSeat<A>, cell: u32)
+        requires table { seat.old.table ≡ self.now.table.shared.table_id }
+        requires inside { cell < self.now.cells }
+        requires slot { seat.old.slots ≡ (cell, None) ∷ rest seat.old.slots }
+        requires carries { Carries self.now.cells seat.old.log (steps.Free cell) cell }
+        ensures told { seat.new.log ≡ told.Did (steps.Free cell) (2 ^ 64 - 1) moves.Nothing ∷ seat.old.log }
+        ensures home { seat.new.slots ≡ rest seat.old.slots }
+        ensures seat { Continues seat.old seat.new }
+    {
+        let word = Word::Of(Field::Owner, cell);
+        give(self, &mut seat.place, word, u64::MAX, Step::Free(cell));
     }
 }

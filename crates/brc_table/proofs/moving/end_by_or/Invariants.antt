@@ -1,0 +1,4 @@
+use Rattle.brc_table.proofs.moving.end_by_or.Given as goal
+
+abbrev pub ghosts-or_ends : goal.ghosts-or_ends
+ghosts-or_ends g a = record { step = a.step; cell = a.cell }

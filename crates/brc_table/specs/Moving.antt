@@ -1,0 +1,82 @@
+-- Blocks that move: out of the table with a seat, and home.
+use Rattle.std.specs.Prelude.{◌≡◌, ℕ, ◌-◌, ◌^◌, ◌==◌, Bool, true, false, List, [], ◌∷◌, Option, Some, None}
+use prog.Atomic.{either}
+use Rattle.atomic_table.specs.Table.{Me, Allows, rest}
+use Rattle.brc_block.specs.declared.payload.Payload.{Payload}
+use Rattle.brc_runs.specs.declared.event.Step.{Step}
+use Rattle.brc_runs.specs.Steps.{takes_block}
+use Rattle.brc_known.specs.declared.word.Field.TheVariants.{Owner, Shared, Mutex}
+use Rattle.brc_known.specs.declared.word.Word.{Word}
+use Rattle.brc_known.specs.declared.word.Word.TheVariants.{Of}
+use Rattle.brc_known.specs.Items.{cell_told}
+use Rattle.brc_rule.specs.declared.contents.Contents.{Contents}
+use Rattle.brc_rule.specs.declared.contents.Contents.TheVariants.{Nothing}
+use Rattle.brc_rule.specs.declared.told.Moved.{Moved}
+use Rattle.brc_rule.specs.declared.told.Moved.TheVariants as moves
+use Rattle.brc_rule.specs.declared.told.Told.{Told}
+use Rattle.brc_rule.specs.declared.view.View.{View}
+use Rattle.brc_rule.specs.Layout.{spot}
+use Rattle.brc_rule.specs.Rule.{with_told, Kept}
+use Rattle.brc_rule.specs.Seen.{contents_locked}
+use Rattle.brc_steps.specs.Taking.{Ended, Claimed, Locked}
+use Rattle.brc_table.specs.Shown.{shows, contents_of}
+
+-- what the thread's newest locking found
+abbrev pub found_or : Contents → Option Contents → Contents
+found_or contents None = contents
+found_or contents (Some found) = found
+
+abbrev pub found_locked : List Told → Contents
+found_locked log = found_or Nothing (contents_locked log)
+
+module _ {A : Type 0} where
+  -- ---- what a step that may take a block answers
+
+  abbrev pub is_there : Option (ℕ × Payload A) → Bool
+  is_there None = false
+  is_there (Some block) = true
+
+  -- what goes with the step: the contents of the block that it found
+  abbrev pub found_in : ℕ → Option (ℕ × Payload A) → Moved
+  found_in c None = moves.Nothing
+  found_in c (Some block) = moves.Found c (contents_of block.1)
+
+  -- the slots that are out with the seat: that of the block is among them, and it is empty
+  abbrev pub out_with : ℕ → Option (ℕ × Payload A) → List (ℕ × Option (ℕ × Payload A)) → List (ℕ × Option (ℕ × Payload A))
+  out_with c None slots = slots
+  out_with c (Some block) slots = (c, None) ∷ slots
+
+  -- the slot that the seat took last is emptied
+  abbrev pub emptied : ℕ → Option (ℕ × Payload A) → List (ℕ × Option (ℕ × Payload A)) → List (ℕ × Option (ℕ × Payload A))
+  emptied c None slots = slots
+  emptied c (Some block) slots = (c, None) ∷ rest slots
+
+  -- the slot that the seat took last is the cell's, and has a block
+  pub record HasBlock (c : ℕ) (slots : List (ℕ × Option (ℕ × Payload A))) : Type 0 where
+    pub block : ℕ × Payload A
+    pub there : slots ≡ (c, Some block) ∷ rest slots
+
+  -- what a step puts home: the block in the slot that the seat took last
+  abbrev pub put_home : List (ℕ × Option (ℕ × Payload A)) → Moved
+  put_home [] = moves.Nothing
+  put_home ((c, None) ∷ slots) = moves.Nothing
+  put_home ((c, Some block) ∷ slots) = moves.Put c (contents_of block.1)
+
+  -- ---- what an operation may be
+
+  module _ (n limit id : ℕ) (me : Me (Option (ℕ × Payload A)) View) where
+    -- the shared word becomes f of what it was, as this step, and where the object is dead the seat has its block
+    abbrev pub MayEnd : ℕ → (ℕ → ℕ) → Step → ℕ → Type 0
+    MayEnd c f s d = Allows (Kept shows n limit) n id me (spot n (Of Shared c)) f (λ there after. Ended shows me.0 me.1 s d there (takes_block s (cell_told s there)) after)
+
+    -- a free cell's owner word becomes the new number, and the seat has its slot
+    abbrev pub MayClaim : ℕ → ℕ → ℕ → Type 0
+    MayClaim c new d = Allows (Kept shows n limit) n id me (spot n (Of Owner c)) (λ there. either (there == 2 ^ 64 - 1) new there) (λ there after. Claimed me.0 me.1 d there (there == 2 ^ 64 - 1) after)
+
+    -- an unlocked object's mutex word becomes the new number, and the seat has its block
+    abbrev pub MayLock : ℕ → ℕ → ℕ → ℕ → Type 0
+    MayLock c new k d = Allows (Kept shows n limit) n id me (spot n (Of Mutex c)) (λ there. either (there == 0) new there) (λ there after. Locked shows me.0 me.1 k d there (there == 0) after)
+
+    -- a word becomes the new number, as the item, and the slot that the seat took last is home
+    abbrev pub MayGive : Word → ℕ → Told → Type 0
+    MayGive w new item = Allows (Kept shows n limit) n id me (spot n w) (λ _. new) (λ _ after. after ≡ (with_told item me.0, rest me.1))

@@ -1,0 +1,60 @@
+//! Locks: an object's block goes out with the seat of the thread that locks it, and home with what the thread made of it.
+
+ghost use Rattle.std.specs.Prelude.{◌≡◌, ◌<◌, ◌≤◌, ◌∷◌, None, OnOk, IfOk, IfErr};
+ghost use Rattle.atomic_table.specs.Table.{rest};
+ghost use Rattle.brc_runs.specs.declared.event.Step.TheVariants as steps;
+ghost use Rattle.brc_known.specs.declared.word.Field.TheVariants as fields;
+ghost use Rattle.brc_known.specs.declared.word.Word.TheVariants as words;
+ghost use Rattle.brc_rule.specs.declared.told.Moved.TheVariants as moves;
+ghost use Rattle.brc_rule.specs.declared.told.Told.TheVariants as told;
+ghost use Rattle.brc_steps.specs.Owing.{Carries, Unlocks};
+ghost use Rattle.brc_table.specs.Moving.{found_locked};
+ghost use Rattle.brc_table.specs.Seated.{Continues};
+ghost use Rattle.brc_table.specs.Shown.{shows, contents_of};
+
+use crate::moving::{give, lock_by, put_in, take_out};
+use crate::seats::ThreadSeat;
+use crate::table::HeapTable;
+use brc_block::Block;
+use brc_known::{Field, Word};
+use brc_runs::{Change, Step};
+use std::alloc::Allocator;
+
+impl<A: Allocator> HeapTable<A> {
+    /// Lock: the block of an object that nobody had locked, with the contents that were put home last; or who has it locked.
+    pub fn lock(&self, seat: &mut ThreadSeat<A>, place: u32, cell: u32) -> Result<Block<A>, u64>
+        requires table { seat.old.table ≡ self.now.table.shared.table_id }
+        requires inside { cell < self.now.cells }
+        requires carries { Carries self.now.cells seat.old.log (steps.Lock place) cell }
+        ensures of_cell { IfOk result (λ block. block.0 ≡ cell) }
+        ensures won { IfOk result (λ block. seat.new.log ≡ told.Did (steps.Lock place) 0 (moves.Found cell (contents_of block.1)) ∷ seat.old.log) }
+        ensures out { IfOk result (λ block. seat.new.slots ≡ (cell, None) ∷ seat.old.slots) }
+        ensures lost { IfErr result (λ found. seat.new.log ≡ told.Lost (words.Of fields.Mutex cell) found ∷ seat.old.log) }
+        ensures still { IfErr result (λ found. seat.new.slots ≡ seat.old.slots) }
+        ensures locked { IfErr result (λ found. 0 < found) }
+        ensures seat { Continues seat.old seat.new }
+    {
+        let found = lock_by(self, &mut seat.place, place, cell, u64::from(seat.thread));
+        if found == 0 {
+            Ok(take_out(self, &mut seat.place, cell))
+        } else {
+            Err(found)
+        }
+    }
+
+    /// Unlock: the block goes home, with the entries that the change makes of those found.
+    pub fn unlock(&self, seat: &mut ThreadSeat<A>, block: Block<A>, change: Change)
+        requires table { seat.old.table ≡ self.now.table.shared.table_id }
+        requires inside { block.0 < self.now.cells }
+        requires slot { seat.old.slots ≡ (block.0, None) ∷ rest seat.old.slots }
+        requires unlocks { Unlocks self.now.cells seat.old.log (shows block) (found_locked seat.old.log) change block.0 }
+        ensures told { seat.new.log ≡ told.Did (steps.Unlock change) 0 (moves.Put block.0 (contents_of block.1)) ∷ seat.old.log }
+        ensures home { seat.new.slots ≡ rest seat.old.slots }
+        ensures seat { Continues seat.old seat.new }
+    {
+        let cell = block.cell();
+        let word = Word::Of(Field::Mutex, cell);
+        put_in(self, &mut seat.place, cell, block);
+        give(self, &mut seat.place, word, 0, Step::Unlock(change));
+    }
+}

@@ -1,0 +1,402 @@
+//! One function for each operation by which a block may move: out of the table with the seat, or home.
+
+ghost use Rattle.std.specs.Prelude.{◌≡◌, ◌+◌, ◌-◌, ◌%◌, ◌^◌, ◌==◌, ◌<◌, ◌∷◌, ℕ, Option, Some, None, true, false, IfSome, OnOk, IfErr, bit_or};
+ghost use prog.Atomic.{either};
+ghost use Rattle.atomic_table.specs.Table.{Allows, rest};
+ghost use Rattle.brc_runs.specs.declared.event.Step.{Step as step_data};
+ghost use Rattle.brc_runs.specs.declared.event.Step.TheVariants as steps;
+ghost use Rattle.brc_runs.specs.Steps.{takes_block};
+ghost use Rattle.brc_known.specs.declared.word.Field.TheVariants as fields;
+ghost use Rattle.brc_known.specs.declared.word.Word.TheVariants as words;
+ghost use Rattle.brc_known.specs.Items.{IsWord, cell_told};
+ghost use Rattle.brc_rule.specs.declared.told.Moved.TheVariants as moves;
+ghost use Rattle.brc_rule.specs.declared.told.Told.{Told as told_data};
+ghost use Rattle.brc_rule.specs.declared.told.Told.TheVariants as told;
+ghost use Rattle.brc_rule.specs.Layout.{spot};
+ghost use Rattle.brc_rule.specs.Rule.{with_told, Kept};
+ghost use Rattle.brc_steps.specs.Taking.{Ended, Claimed, Locked};
+ghost use Rattle.brc_table.specs.Moving.{MayEnd, MayClaim, MayLock, MayGive, found_in, out_with, emptied, put_home, is_there, HasBlock};
+ghost use Rattle.brc_table.specs.Shown.{shows, contents_of};
+
+use crate::layout::spot_of;
+use crate::machine::{Item, Place};
+use crate::table::HeapTable;
+use atomic_table::Play;
+use brc_block::Block;
+use brc_known::{Field, Word};
+use brc_rule::View;
+use brc_runs::Step;
+use std::alloc::Allocator;
+use std::marker::{Brand, PhantomData};
+
+/// What a step found that may end an object: the number of its shared word, and its block where it is dead.
+pub struct Found<A: Allocator> {
+    pub number: u64,
+    pub block: Option<Block<A>>,
+}
+
+// ---- steps that end an object where the number found says so
+
+/// Which step it is, and on which cell. A caller's proof picks it.
+pub(crate) trait Ending {
+    ghost step: { step_data };
+
+    ghost cell: { ℕ };
+}
+
+impl Ending for Brand {
+    ghost step = { steps.Wake };
+
+    ghost cell = { 0 };
+}
+
+/// The seat's log has the step, and where the object is dead the seat has its block.
+pub(crate) struct Ends<M> {
+    marker: PhantomData<M>,
+}
+
+impl<A: Allocator, M: Ending> Play<Option<Block<A>>, View> for Ends<M> {
+    ghost then = { λ step me number after. Ended shows me.0 me.1 M.step M.cell number (takes_block M.step (cell_told M.step number)) after };
+}
+
+/// A load.
+fn load_ends<A: Allocator, M: Ending>(
+    table: &HeapTable<A>,
+    seat: &mut Place<A>,
+    cell: u32,
+    step: Step,
+) -> u64
+    requires same { seat.old.table_id ≡ table.now.table.shared.table_id }
+    requires inside { cell < table.now.cells }
+    requires allowed { MayEnd table.now.cells table.now.local_limit seat.old.id seat.old.me cell (λ there. there) M.step M.cell }
+    ensures same { (seat.new.table_id ≡ seat.old.table_id) × (seat.new.id ≡ seat.old.id) }
+    ensures ended { Ended shows seat.old.me.0 seat.old.me.1 M.step M.cell result (takes_block M.step (cell_told M.step result)) seat.new.me }
+{
+    let _step = step;
+    let at = spot_of(table.cells, Word::Of(Field::Shared, cell));
+    table.table.shared.load::<Ends<M>>(seat, at)
+}
+
+/// A setting of bits.
+fn or_ends<A: Allocator, M: Ending>(
+    table: &HeapTable<A>,
+    seat: &mut Place<A>,
+    cell: u32,
+    bits: u64,
+    step: Step,
+) -> u64
+    requires same { seat.old.table_id ≡ table.now.table.shared.table_id }
+    requires inside { cell < table.now.cells }
+    requires allowed { MayEnd table.now.cells table.now.local_limit seat.old.id seat.old.me cell (λ there. bit_or there bits) M.step M.cell }
+    ensures same { (seat.new.table_id ≡ seat.old.table_id) × (seat.new.id ≡ seat.old.id) }
+    ensures ended { Ended shows seat.old.me.0 seat.old.me.1 M.step M.cell result (takes_block M.step (cell_told M.step result)) seat.new.me }
+{
+    let _step = step;
+    let at = spot_of(table.cells, Word::Of(Field::Shared, cell));
+    table.table.shared.fetch_or::<Ends<M>>(seat, at, bits)
+}
+
+/// A subtraction.
+fn sub_ends<A: Allocator, M: Ending>(
+    table: &HeapTable<A>,
+    seat: &mut Place<A>,
+    cell: u32,
+    less: u64,
+    step: Step,
+) -> u64
+    requires same { seat.old.table_id ≡ table.now.table.shared.table_id }
+    requires inside { cell < table.now.cells }
+    requires allowed { MayEnd table.now.cells table.now.local_limit seat.old.id seat.old.me cell (λ there. (there + (2 ^ 64 - less)) % 2 ^ 64) M.step M.cell }
+    ensures same { (seat.new.table_id ≡ seat.old.table_id) × (seat.new.id ≡ seat.old.id) }
+    ensures ended { Ended shows seat.old.me.0 seat.old.me.1 M.step M.cell result (takes_block M.step (cell_told M.step result)) seat.new.me }
+{
+    let _step = step;
+    let at = spot_of(table.cells, Word::Of(Field::Shared, cell));
+    table.table.shared.fetch_sub::<Ends<M>>(seat, at, less)
+}
+
+/// Whether the object is dead, by the number that the step found.
+fn takes(step: Step, number: u64) -> bool
+    ensures { result ≡ takes_block step (cell_told step number) }
+{
+    match step {
+        Step::SeeZero(_) => number == 1 << 42,
+        Step::MergeZero(_) => number / 4 == 1 << 40,
+        Step::LastDown(_) => number % 2 == 1 && number / 4 == (1 << 40) + 1,
+        _ => false,
+    }
+}
+
+/// The block of the slot that the seat took last, where the object is dead.
+fn take_if<A: Allocator>(
+    table: &HeapTable<A>,
+    seat: &mut Place<A>,
+    cell: u32,
+    step: Step,
+    number: u64,
+) -> Option<Block<A>>
+    requires same { seat.old.table_id ≡ table.now.table.shared.table_id }
+    requires there { takes_block step (cell_told step number) ≡ true → HasBlock cell seat.old.me.1 }
+    ensures same { (seat.new.table_id ≡ seat.old.table_id) × (seat.new.id ≡ seat.old.id) }
+    ensures when { is_there result ≡ takes_block step (cell_told step number) }
+    ensures was { IfSome result (λ block. seat.old.me.1 ≡ (cell, Some block) ∷ rest seat.old.me.1) }
+    ensures now { seat.new.me ≡ (seat.old.me.0, emptied cell result seat.old.me.1) }
+{
+    if takes(step, number) {
+        table.table.shared.exchange(seat, cell as usize, None)
+    } else {
+        None
+    }
+}
+
+/// A step that loads the shared word.
+pub(crate) fn end_by_load<A: Allocator>(
+    table: &HeapTable<A>,
+    seat: &mut Place<A>,
+    cell: u32,
+    step: Step,
+) -> Found<A>
+    requires same { seat.old.table_id ≡ table.now.table.shared.table_id }
+    requires inside { cell < table.now.cells }
+    requires allowed { MayEnd table.now.cells table.now.local_limit seat.old.id seat.old.me cell (λ there. there) step cell }
+    ensures same { (seat.new.table_id ≡ seat.old.table_id) × (seat.new.id ≡ seat.old.id) }
+    ensures of_cell { IfSome result.block (λ block. block.0 ≡ cell) }
+    ensures when { is_there result.block ≡ takes_block step (cell_told step result.number) }
+    ensures told { seat.new.me ≡ (with_told (told.Did step result.number (found_in cell result.block)) seat.old.me.0, out_with cell result.block seat.old.me.1) }
+{
+    let number = load_ends::<A, Brand>(table, seat, cell, step);
+    let block = take_if(table, seat, cell, step, number);
+    Found { number, block }
+}
+
+/// A step that sets bits of it.
+pub(crate) fn end_by_or<A: Allocator>(
+    table: &HeapTable<A>,
+    seat: &mut Place<A>,
+    cell: u32,
+    bits: u64,
+    step: Step,
+) -> Found<A>
+    requires same { seat.old.table_id ≡ table.now.table.shared.table_id }
+    requires inside { cell < table.now.cells }
+    requires allowed { MayEnd table.now.cells table.now.local_limit seat.old.id seat.old.me cell (λ there. bit_or there bits) step cell }
+    ensures same { (seat.new.table_id ≡ seat.old.table_id) × (seat.new.id ≡ seat.old.id) }
+    ensures of_cell { IfSome result.block (λ block. block.0 ≡ cell) }
+    ensures when { is_there result.block ≡ takes_block step (cell_told step result.number) }
+    ensures told { seat.new.me ≡ (with_told (told.Did step result.number (found_in cell result.block)) seat.old.me.0, out_with cell result.block seat.old.me.1) }
+{
+    let number = or_ends::<A, Brand>(table, seat, cell, bits, step);
+    let block = take_if(table, seat, cell, step, number);
+    Found { number, block }
+}
+
+/// A step that subtracts from it.
+pub(crate) fn end_by_sub<A: Allocator>(
+    table: &HeapTable<A>,
+    seat: &mut Place<A>,
+    cell: u32,
+    less: u64,
+    step: Step,
+) -> Found<A>
+    requires same { seat.old.table_id ≡ table.now.table.shared.table_id }
+    requires inside { cell < table.now.cells }
+    requires allowed { MayEnd table.now.cells table.now.local_limit seat.old.id seat.old.me cell (λ there. (there + (2 ^ 64 - less)) % 2 ^ 64) step cell }
+    ensures same { (seat.new.table_id ≡ seat.old.table_id) × (seat.new.id ≡ seat.old.id) }
+    ensures of_cell { IfSome result.block (λ block. block.0 ≡ cell) }
+    ensures when { is_there result.block ≡ takes_block step (cell_told step result.number) }
+    ensures told { seat.new.me ≡ (with_told (told.Did step result.number (found_in cell result.block)) seat.old.me.0, out_with cell result.block seat.old.me.1) }
+{
+    let number = sub_ends::<A, Brand>(table, seat, cell, less, step);
+    let block = take_if(table, seat, cell, step, number);
+    Found { number, block }
+}
+
+// ---- a compare-exchange that takes a slot
+
+/// Which cell it is on, and for a locking which place of the frame has it. A caller's proof picks it.
+pub(crate) trait Winning {
+    ghost cell: { ℕ };
+
+    ghost place: { ℕ };
+}
+
+impl Winning for Brand {
+    ghost cell = { 0 };
+
+    ghost place = { 0 };
+}
+
+/// The seat has the empty slot of a cell that was free.
+pub(crate) struct Claims<M> {
+    marker: PhantomData<M>,
+}
+
+impl<A: Allocator, M: Winning> Play<Option<Block<A>>, View> for Claims<M> {
+    ghost then = { λ step me number after. Claimed me.0 me.1 M.cell number (number == 2 ^ 64 - 1) after };
+}
+
+/// The seat has the block of an object that nobody had locked.
+pub(crate) struct Locks<M> {
+    marker: PhantomData<M>,
+}
+
+impl<A: Allocator, M: Winning> Play<Option<Block<A>>, View> for Locks<M> {
+    ghost then = { λ step me number after. Locked shows me.0 me.1 M.place M.cell number (number == 0) after };
+}
+
+fn claim_as<A: Allocator, M: Winning>(
+    table: &HeapTable<A>,
+    seat: &mut Place<A>,
+    cell: u32,
+    new: u64,
+) -> u64
+    requires same { seat.old.table_id ≡ table.now.table.shared.table_id }
+    requires inside { cell < table.now.cells }
+    requires allowed { MayClaim table.now.cells table.now.local_limit seat.old.id seat.old.me cell new M.cell }
+    ensures same { (seat.new.table_id ≡ seat.old.table_id) × (seat.new.id ≡ seat.old.id) }
+    ensures claimed { Claimed seat.old.me.0 seat.old.me.1 M.cell result (result == 2 ^ 64 - 1) seat.new.me }
+{
+    let at = spot_of(table.cells, Word::Of(Field::Owner, cell));
+    table
+        .table
+        .shared
+        .compare_exchange::<Claims<M>>(seat, at, u64::MAX, new)
+}
+
+/// The owner word of a free cell becomes this number, and the seat has the cell's empty slot.
+pub(crate) fn claim_by<A: Allocator>(
+    table: &HeapTable<A>,
+    seat: &mut Place<A>,
+    cell: u32,
+    new: u64,
+) -> u64
+    requires same { seat.old.table_id ≡ table.now.table.shared.table_id }
+    requires inside { cell < table.now.cells }
+    requires allowed { MayClaim table.now.cells table.now.local_limit seat.old.id seat.old.me cell new cell }
+    ensures same { (seat.new.table_id ≡ seat.old.table_id) × (seat.new.id ≡ seat.old.id) }
+    ensures claimed { Claimed seat.old.me.0 seat.old.me.1 cell result (result == 2 ^ 64 - 1) seat.new.me }
+{
+    claim_as::<A, Brand>(table, seat, cell, new)
+}
+
+fn lock_as<A: Allocator, M: Winning>(
+    table: &HeapTable<A>,
+    seat: &mut Place<A>,
+    place: u32,
+    cell: u32,
+    new: u64,
+) -> u64
+    requires same { seat.old.table_id ≡ table.now.table.shared.table_id }
+    requires inside { cell < table.now.cells }
+    requires allowed { MayLock table.now.cells table.now.local_limit seat.old.id seat.old.me cell new M.place M.cell }
+    ensures same { (seat.new.table_id ≡ seat.old.table_id) × (seat.new.id ≡ seat.old.id) }
+    ensures locked { Locked shows seat.old.me.0 seat.old.me.1 M.place M.cell result (result == 0) seat.new.me }
+{
+    let _place = place;
+    let at = spot_of(table.cells, Word::Of(Field::Mutex, cell));
+    table
+        .table
+        .shared
+        .compare_exchange::<Locks<M>>(seat, at, 0, new)
+}
+
+/// The mutex word of an object that nobody has locked becomes this number, and the seat has its block.
+pub(crate) fn lock_by<A: Allocator>(
+    table: &HeapTable<A>,
+    seat: &mut Place<A>,
+    place: u32,
+    cell: u32,
+    new: u64,
+) -> u64
+    requires same { seat.old.table_id ≡ table.now.table.shared.table_id }
+    requires inside { cell < table.now.cells }
+    requires allowed { MayLock table.now.cells table.now.local_limit seat.old.id seat.old.me cell new place cell }
+    ensures same { (seat.new.table_id ≡ seat.old.table_id) × (seat.new.id ≡ seat.old.id) }
+    ensures locked { Locked shows seat.old.me.0 seat.old.me.1 place cell result (result == 0) seat.new.me }
+{
+    lock_as::<A, Brand>(table, seat, place, cell, new)
+}
+
+/// The block of the slot that the seat took last.
+pub(crate) fn take_out<A: Allocator>(
+    table: &HeapTable<A>,
+    seat: &mut Place<A>,
+    cell: u32,
+) -> Block<A>
+    requires same { seat.old.table_id ≡ table.now.table.shared.table_id }
+    requires there { HasBlock cell seat.old.me.1 }
+    ensures same { (seat.new.table_id ≡ seat.old.table_id) × (seat.new.id ≡ seat.old.id) }
+    ensures was { seat.old.me.1 ≡ (cell, Some result) ∷ rest seat.old.me.1 }
+    ensures now { seat.new.me ≡ (seat.old.me.0, (cell, None) ∷ rest seat.old.me.1) }
+{
+    let slot = table.table.shared.exchange(seat, cell as usize, None);
+    match slot {
+        Some(block) => block,
+        None => unreachable!(),
+    }
+}
+
+// ---- a plain store that gives the slot that the seat took last back
+
+/// The seat's log has the item, and the slot that it took last is home.
+pub(crate) struct Gives<M> {
+    marker: PhantomData<M>,
+}
+
+impl<A: Allocator, M: Item> Play<Option<Block<A>>, View> for Gives<M> {
+    ghost then = { λ step me number after. after ≡ (with_told (M.item number) me.0, rest me.1) };
+}
+
+fn give_as<A: Allocator, M: Item>(
+    table: &HeapTable<A>,
+    seat: &mut Place<A>,
+    word: Word,
+    new: u64,
+    step: Step,
+)
+    requires same { seat.old.table_id ≡ table.now.table.shared.table_id }
+    requires inside { IsWord table.now.cells word }
+    requires allowed { MayGive table.now.cells table.now.local_limit seat.old.id seat.old.me word new (M.item new) }
+    ensures same { (seat.new.table_id ≡ seat.old.table_id) × (seat.new.id ≡ seat.old.id) }
+    ensures told { seat.new.me ≡ (with_told (M.item new) seat.old.me.0, rest seat.old.me.1) }
+{
+    let _step = step;
+    let at = spot_of(table.cells, word);
+    table.table.shared.store::<Gives<M>>(seat, at, new)
+}
+
+/// The slot that the seat took last goes home with what is in it.
+pub(crate) fn give<A: Allocator>(
+    table: &HeapTable<A>,
+    seat: &mut Place<A>,
+    word: Word,
+    new: u64,
+    step: Step,
+)
+    requires same { seat.old.table_id ≡ table.now.table.shared.table_id }
+    requires inside { IsWord table.now.cells word }
+    requires allowed { MayGive table.now.cells table.now.local_limit seat.old.id seat.old.me word new (told.Did step new (put_home seat.old.me.1)) }
+    ensures same { (seat.new.table_id ≡ seat.old.table_id) × (seat.new.id ≡ seat.old.id) }
+    ensures told { seat.new.me ≡ (with_told (told.Did step new (put_home seat.old.me.1)) seat.old.me.0, rest seat.old.me.1) }
+{
+    give_as::<A, Brand>(table, seat, word, new, step)
+}
+
+/// A block is put into the empty slot that the seat took last.
+pub(crate) fn put_in<A: Allocator>(
+    table: &HeapTable<A>,
+    seat: &mut Place<A>,
+    cell: u32,
+    block: Block<A>,
+)
+    requires same { seat.old.table_id ≡ table.now.table.shared.table_id }
+    requires empty { seat.old.me.1 ≡ (cell, None) ∷ rest seat.old.me.1 }
+    ensures same { (seat.new.table_id ≡ seat.old.table_id) × (seat.new.id ≡ seat.old.id) }
+    ensures now { seat.new.me ≡ (seat.old.me.0, (cell, Some block) ∷ rest seat.old.me.1) }
+{
+    let slot = table
+        .table
+        .shared
+        .exchange(seat, cell as usize, Some(block));
+    let None = slot else { unreachable!() };
+}
