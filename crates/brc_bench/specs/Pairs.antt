@@ -30,6 +30,6 @@ pub record HoldsTwice (n : ℕ) (log : List Told) (c count : ℕ) : Type 0 where
 
 -- how far a thread in this role counts on the local word while it holds its object once
 abbrev pub count_of : Role → ℕ
-count_of Owner = 1
+count_of (Owner count) = count
 count_of Foreign = 0
 count_of OneOfMany = 0

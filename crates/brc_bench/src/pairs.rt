@@ -10,24 +10,26 @@ use brc_table::{Found, HeapTable, ThreadSeat};
 use std::alloc::Allocator;
 
 #[tactic(auto, using(crate::proofs::Counting::raises, crate::proofs::Counting::raised, crate::proofs::Counting::lowers, crate::proofs::Counting::lowered))]
-/// So many pairs of the owner's, on the local word.
+/// So many pairs of the owner's, which counts so far on the local word.
 pub fn own_pairs<A: Allocator>(
     table: &HeapTable<A>,
     seat: &mut ThreadSeat<A>,
     cell: u32,
+    count: u32,
     pairs: u64,
 )
     requires table { seat.old.table ≡ table.now.table.shared.table_id }
     requires inside { cell < table.now.cells }
     requires mortal { FIRST_MORTAL ≤ cell }
-    requires room { 1 < table.now.local_limit }
-    requires holds { HoldsOnce table.now.cells seat.old.log cell 1 }
-    ensures holds { HoldsOnce table.now.cells seat.new.log cell 1 }
+    requires counts { 0 < count }
+    requires room { count < table.now.local_limit }
+    requires holds { HoldsOnce table.now.cells seat.old.log cell count }
+    ensures holds { HoldsOnce table.now.cells seat.new.log cell count }
     ensures seat { Stays seat.old seat.new }
 {
     for _ in 0..pairs {
-        table.local_up(seat, Source::Frame(0), 1, cell, 1);
-        table.local_down(seat, Dropped::Frame(1), cell, 2);
+        table.local_up(seat, Source::Frame(0), 1, cell, count);
+        table.local_down(seat, Dropped::Frame(1), cell, count + 1);
     }
 }
 

@@ -3,7 +3,7 @@
 ghost use Rattle.std.specs.Prelude.{◌≡◌, ◌<◌, ◌≤◌};
 ghost use Rattle.brc_words.specs.declared.limits.TheConstants.{MOST_THREADS};
 
-use crate::objects::make_object;
+use crate::objects::{SHARED, find_object, make_object, merge_object, share_object};
 use crate::request::Case;
 use crate::timing::{Done, Job, Role, Times, count, times_of};
 use brc_table::{HeapTable, Rest, RootSeat};
@@ -45,7 +45,7 @@ fn own_jobs<'a>(
 ) -> io::Result<Vec<Job<'a>>>
     requires table { root.old.table ≡ table.now.table.shared.table_id }
     requires wide { 1_000 ≤ table.now.cells }
-    requires room { 1 < table.now.local_limit }
+    requires room { 10 ≤ table.now.local_limit }
     requires few { threads ≤ MOST_THREADS }
     ensures root { root.new.table ≡ root.old.table }
 {
@@ -64,7 +64,76 @@ fn own_jobs<'a>(
             seat,
             cell,
             pairs,
-            role: Role::Owner,
+            role: Role::Owner(1),
+        })?;
+    }
+    Ok(jobs)
+}
+
+/// One object: of one thread alone, of its owner and another one, or merged and of many.
+fn shared_jobs<'a>(
+    alloc: Global,
+    table: &'a HeapTable<Global>,
+    root: &mut RootSeat<Global>,
+    threads: u32,
+    pairs: u64,
+) -> io::Result<Vec<Job<'a>>>
+    requires table { root.old.table ≡ table.now.table.shared.table_id }
+    requires wide { 1_000 ≤ table.now.cells }
+    requires room { 10 ≤ table.now.local_limit }
+    ensures root { root.new.table ≡ root.old.table }
+{
+    let mut jobs = Vec::new(alloc);
+    if root.next() > MOST_THREADS {
+        return Err(refused());
+    }
+    let mut owner = table.split(root);
+    if !share_object(table, &mut owner, alloc) {
+        return Err(refused());
+    }
+    if threads <= 2 {
+        jobs.push(Job {
+            table,
+            seat: owner,
+            cell: SHARED,
+            pairs,
+            role: Role::Owner(2),
+        })?;
+    } else {
+        if root.next() > MOST_THREADS {
+            return Err(refused());
+        }
+        let mut seat = table.split(root);
+        if !merge_object(table, &mut owner, &mut seat) {
+            return Err(refused());
+        }
+        jobs.push(Job {
+            table,
+            seat,
+            cell: SHARED,
+            pairs,
+            role: Role::OneOfMany,
+        })?;
+    }
+    for _ in 1..threads {
+        if root.next() > MOST_THREADS {
+            return Err(refused());
+        }
+        let mut seat = table.split(root);
+        if !find_object(table, &mut seat) {
+            return Err(refused());
+        }
+        let role = if threads <= 2 {
+            Role::Foreign
+        } else {
+            Role::OneOfMany
+        };
+        jobs.push(Job {
+            table,
+            seat,
+            cell: SHARED,
+            pairs,
+            role,
         })?;
     }
     Ok(jobs)
@@ -118,13 +187,13 @@ fn answer_on<R: Threads + Clock + CpuClock + Sync>(
 ) -> io::Result<Answer>
     requires table { root.old.table ≡ table.now.table.shared.table_id }
     requires wide { 1_000 ≤ table.now.cells }
-    requires room { 1 < table.now.local_limit }
+    requires room { 10 ≤ table.now.local_limit }
     requires few { threads ≤ MOST_THREADS }
     ensures root { root.new.table ≡ root.old.table }
 {
     let jobs = match case {
         Case::PairOwn => own_jobs(alloc, table, root, threads, pairs)?,
-        Case::PairShared => return Err(refused()),
+        Case::PairShared => shared_jobs(alloc, table, root, threads, pairs)?,
     };
     answer_of(rt, alloc, jobs)
 }

@@ -1,7 +1,8 @@
 //! Threads that count, and how long they take.
 
-ghost use Rattle.std.specs.Prelude.{◌≡◌, ◌<◌, ◌≤◌};
+ghost use Rattle.std.specs.Prelude.{◌≡◌, ◌≢◌, ◌<◌, ◌≤◌};
 ghost use Rattle.brc_words.specs.declared.limits.TheConstants.{FIRST_MORTAL};
+ghost use Rattle.brc_bench.specs.declared.timing.Role.TheVariants as roles;
 ghost use Rattle.brc_bench.specs.Pairs.{HoldsOnce, count_of};
 
 use crate::pairs::{foreign_pairs, own_pairs, risen_pairs};
@@ -14,8 +15,8 @@ use std::time::{CpuClock, Duration, Instant};
 /// How a thread counts its object.
 #[derive(Clone, Copy, Debug, PartialEq, Eq)]
 pub enum Role {
-    /// As its owner.
-    Owner,
+    /// As its owner, which counts so far on the local word.
+    Owner(u32),
     /// As the only other thread that does.
     Foreign,
     /// As one of many, once the object was asked for or merged.
@@ -33,7 +34,8 @@ pub struct Job<'a> {
     ghost same: { seat.table ≡ table.now.table.shared.table_id },
     ghost inside: { cell < table.now.cells },
     ghost mortal: { FIRST_MORTAL ≤ cell },
-    ghost room: { 1 < table.now.local_limit },
+    ghost room: { count_of role < table.now.local_limit },
+    ghost counts: { role ≢ roles.Owner 0 },
     ghost holds: { HoldsOnce table.now.cells seat.log cell (count_of role) },
 }
 
@@ -63,8 +65,8 @@ pub fn count<'a, R: Clock + CpuClock>(rt: &R, job: Job<'a>) -> io::Result<Done<'
     let started = Instant::now(rt)?;
     let before = rt.thread_cpu_time()?;
     let whole = match role {
-        Role::Owner => {
-            own_pairs(table, &mut seat, cell, pairs);
+        Role::Owner(count) => {
+            own_pairs(table, &mut seat, cell, count, pairs);
             true
         }
         Role::Foreign => foreign_pairs(table, &mut seat, cell, pairs),
