@@ -1,3 +1,5 @@
 pub mod Placing
 pub mod Opened
 pub mod Remaining
+pub mod Bounding
+pub mod Marks

@@ -1,6 +1,6 @@
 -- What a table says of itself, its key and its sizes, is what its rule asks: so a step that the rule allows at the sizes is
 -- one that the table allows.
-use Rattle.std.proofs.Common.{◌≡◌, ℕ, ◌<◌, ◌≤◌, ◌==◌, ◌/◌, true, List, Option, sym, subst, arith}
+use Rattle.std.proofs.Common.{◌≡◌, ℕ, ◌<◌, ◌≤◌, ◌==◌, ◌/◌, Bool, true, List, Option, sym, subst, arith}
 use prog.Atomic.{either}
 use Rattle.atomic_table.specs.Table.{Me, Allows, Splits, Joins}
 use Rattle.brc_known.specs.declared.word.Word.{Word}
@@ -12,6 +12,7 @@ use Rattle.brc_rule.specs.declared.contents.Contents.{Contents}
 use Rattle.brc_rule.specs.declared.view.View.{View}
 use Rattle.brc_rule.specs.Layout.{spot, extent}
 use Rattle.brc_rule.specs.declared.told.Told.{Told}
+use Rattle.brc_rule.specs.declared.told.Told.TheVariants.{Saw}
 use Rattle.brc_rule.specs.Rule.{with_told, Kept}
 use Rattle.brc_rule.specs.Seen.{part_seen}
 use Rattle.brc_runs.specs.Lists.{is_blank, is_unmarked}
@@ -19,7 +20,7 @@ use Rattle.brc_runs.specs.Steps.{is_left, is_free_hand}
 use Rattle.brc_words.specs.declared.limits.TheConstants.{MOST_CELLS, MOST_THREADS}
 use Rattle.brc_steps.specs.Joining.{next_thread, registering, starting, gathering, spent, Leaves}
 use Rattle.brc_steps.proofs.Root_Steps.{splits, joins}
-use Rattle.brc_table.specs.Machine.{exchanged, MayTell, MayExchange}
+use Rattle.brc_table.specs.Machine.{exchanged, MayTell, MayFind, MayExchange}
 use Rattle.brc_rule.proofs.Spots.{inside}
 
 -- a word's spot is one of the table's
@@ -48,6 +49,13 @@ module _ {B : Type 0} (shows : B → ℕ × Contents) where
       → Allows (Kept shows cells most) slots id me at (λ there. either (there == old) new there) (λ there after. after ≡ (exchanged noted old won there me.0, me.1))
   step_exchanged n limit cells most slots at id me noted old new won w =
       step_allowed n limit cells most slots at id me (λ there. either (there == old) new there) (λ there after. after ≡ (exchanged noted old won there me.0, me.1)) w
+
+  pub step_found : (n limit cells most slots at id : ℕ) (me : Me (Option B) View) (noted : Word) (known : Bool) (bound : ℕ) (w : Word)
+      → cells ≡ n → most ≡ limit → slots ≡ n → at ≡ spot n w
+      → MayFind shows n limit id me w noted known bound
+      → Allows (Kept shows cells most) slots id me at (λ there. there) (λ there after. (after ≡ (with_told (Saw noted there) me.0, me.1)) × (known ≡ true → there ≤ bound))
+  step_found n limit cells most slots at id me noted known bound w =
+      step_allowed n limit cells most slots at id me (λ there. there) (λ there after. (after ≡ (with_told (Saw noted there) me.0, me.1)) × (known ≡ true → there ≤ bound)) w
 
   -- a thread's seat is split off, and one that has left is joined
   pub split_allowed : (cells most id : ℕ) (v : View) → v.active ≡ true → v.thread ≡ 0 → next_thread v ≤ MOST_THREADS → Splits (Kept shows cells most) id v (registering v) (starting v)

@@ -3,4 +3,5 @@ pub mod Seated
 pub mod Opening
 pub mod Machine
 pub mod Moving
+pub mod Knowing
 pub mod Rest

@@ -1,11 +1,11 @@
 -- What an operation on a word may be.
-use Rattle.std.specs.Prelude.{◌≡◌, ℕ, ◌==◌, if◌then◌else◌, Option}
+use Rattle.std.specs.Prelude.{◌≡◌, ℕ, ◌==◌, ◌≤◌, Bool, true, if◌then◌else◌, Option}
 use prog.Atomic.{either}
 use Rattle.atomic_table.specs.Table.{Me, Allows}
 use Rattle.brc_known.specs.declared.word.Word.{Word}
 use Rattle.brc_rule.specs.declared.contents.Contents.{Contents}
 use Rattle.brc_rule.specs.declared.told.Told.{Told}
-use Rattle.brc_rule.specs.declared.told.Told.TheVariants.{Lost}
+use Rattle.brc_rule.specs.declared.told.Told.TheVariants.{Saw, Lost}
 use Rattle.brc_rule.specs.declared.view.View.{View}
 use Rattle.brc_rule.specs.Layout.{spot}
 use Rattle.brc_rule.specs.Rule.{with_told, Kept}
@@ -22,3 +22,7 @@ module _ {B : Type 0} (shows : B → ℕ × Contents) (n limit id : ℕ) (me : M
   -- the rule allows that the word becomes the new number where it is the old one, as the item; else as a note of the word
   abbrev pub MayExchange : Word → ℕ → ℕ → Told → Type 0
   MayExchange noted old new won = Allows (Kept shows n limit) n id me (spot n w) (λ there. either (there == old) new there) (λ there after. after ≡ (exchanged noted old won there me.0, me.1))
+
+  -- the rule allows a look, as a note of the word, and where the log tells a bound, the number found is within it
+  abbrev pub MayFind : Word → Bool → ℕ → Type 0
+  MayFind noted known most = Allows (Kept shows n limit) n id me (spot n w) (λ there. there) (λ there after. (after ≡ (with_told (Saw noted there) me.0, me.1)) × (known ≡ true → there ≤ most))

@@ -1,12 +1,16 @@
 //! Counting: by the owner on the local word, and by all others on the shared one.
 
-ghost use Rattle.std.specs.Prelude.{◌≡◌, ◌+◌, ◌-◌, ◌%◌, ◌^◌, ◌<◌, ◌≤◌, ◌∷◌, OnOk, IfErr};
+ghost use Rattle.std.specs.Prelude.{◌≡◌, ◌≢◌, ◌+◌, ◌-◌, ◌%◌, ◌^◌, ◌==◌, ◌<◌, ◌≤◌, ◌∷◌, true, Some, OnOk, OnErr, IfErr};
 ghost use Rattle.brc_runs.specs.declared.event.Step.TheVariants as steps;
+ghost use Rattle.brc_runs.specs.declared.event.Dropped.TheVariants as drops;
 ghost use Rattle.brc_known.specs.declared.word.Field.TheVariants as fields;
 ghost use Rattle.brc_known.specs.declared.word.Word.TheVariants as words;
+ghost use Rattle.brc_known.specs.Going_On.{filling, counting, counting_down, giving_up, asking};
 ghost use Rattle.brc_rule.specs.declared.told.Moved.TheVariants as moves;
 ghost use Rattle.brc_rule.specs.declared.told.Told.TheVariants as told;
 ghost use Rattle.brc_steps.specs.Owing.{Raises, RaisesImmortal, Lowers, LowersImmortal, RaisesShared, Releases};
+ghost use Rattle.brc_rule.specs.Seen.{risen_seen, contents_locked};
+ghost use Rattle.brc_table.specs.Knowing.{known_seen, Knows, Keeps, SeesRisen, Notes};
 ghost use Rattle.brc_table.specs.Seated.{Stays};
 
 use crate::machine::{add, exchange, load, or, store};
@@ -32,6 +36,9 @@ impl<A: Allocator> HeapTable<A> {
         requires raises { Raises self.now.cells self.now.local_limit seat.old.log source place cell count }
         ensures told { seat.new.log ≡ told.Did (steps.LocalUp source place) (count + 1) moves.Nothing ∷ seat.old.log }
         ensures seat { Stays seat.old seat.new }
+        ensures knows { Knows self.now.cells seat.new.log (filling place cell (counting cell (count + 1) (known_seen self.now.cells seat.old.log))) }
+        ensures keeps { Keeps self.now.cells seat.old.log seat.new.log }
+        ensures found { contents_locked seat.new.log ≡ contents_locked seat.old.log }
     {
         let word = Word::Of(Field::Local, cell);
         let step = Step::LocalUp { source, place };
@@ -46,6 +53,8 @@ impl<A: Allocator> HeapTable<A> {
         requires lowers { Lowers self.now.cells seat.old.log drop cell count }
         ensures told { seat.new.log ≡ told.Did (steps.LocalDown drop) (count - 1) moves.Nothing ∷ seat.old.log }
         ensures seat { Stays seat.old seat.new }
+        ensures knows { Knows self.now.cells seat.new.log (counting_down (count == 1) drop cell (count - 1) (known_seen self.now.cells seat.old.log)) }
+        ensures keeps { Keeps self.now.cells seat.old.log seat.new.log }
     {
         let word = Word::Of(Field::Local, cell);
         let step = Step::LocalDown(drop);
@@ -66,6 +75,9 @@ impl<A: Allocator> HeapTable<A> {
         requires raises { RaisesImmortal self.now.cells seat.old.log source place cell }
         ensures told { seat.new.log ≡ told.Did (steps.LocalUp source place) result moves.Nothing ∷ seat.old.log }
         ensures seat { Stays seat.old seat.new }
+        ensures knows { Knows self.now.cells seat.new.log (filling place cell (counting cell result (known_seen self.now.cells seat.old.log))) }
+        ensures keeps { Keeps self.now.cells seat.old.log seat.new.log }
+        ensures found { contents_locked seat.new.log ≡ contents_locked seat.old.log }
     {
         let word = Word::Of(Field::Local, cell);
         let step = Step::LocalUp { source, place };
@@ -80,6 +92,8 @@ impl<A: Allocator> HeapTable<A> {
         requires lowers { LowersImmortal self.now.cells seat.old.log drop cell }
         ensures told { seat.new.log ≡ told.Did (steps.LocalDown drop) result moves.Nothing ∷ seat.old.log }
         ensures seat { Stays seat.old seat.new }
+        ensures knows { Knows self.now.cells seat.new.log (giving_up (Some drop) (counting cell result (known_seen self.now.cells seat.old.log))) }
+        ensures keeps { Keeps self.now.cells seat.old.log seat.new.log }
     {
         let word = Word::Of(Field::Local, cell);
         load(self, &mut seat.place, word, Step::LocalDown(drop))
@@ -93,6 +107,10 @@ impl<A: Allocator> HeapTable<A> {
         requires raises { RaisesShared self.now.cells self.now.local_limit seat.old.log source place cell }
         ensures told { seat.new.log ≡ told.Did (steps.SharedUp source place) result moves.Nothing ∷ seat.old.log }
         ensures seat { Stays seat.old seat.new }
+        ensures knows { Knows self.now.cells seat.new.log (filling place cell (known_seen self.now.cells seat.old.log)) }
+        ensures keeps { Keeps self.now.cells seat.old.log seat.new.log }
+        ensures found { contents_locked seat.new.log ≡ contents_locked seat.old.log }
+        ensures risen { result % 4 ≢ 0 → risen_seen self.now.cells seat.new.log (drops.Frame place) cell ≡ true }
     {
         let word = Word::Of(Field::Shared, cell);
         let step = Step::SharedUp { source, place };
@@ -107,6 +125,9 @@ impl<A: Allocator> HeapTable<A> {
         requires releases { Releases self.now.cells seat.old.log (steps.Ask drop) cell }
         ensures told { seat.new.log ≡ told.Did (steps.Ask drop) result moves.Nothing ∷ seat.old.log }
         ensures seat { Stays seat.old seat.new }
+        ensures knows { Knows self.now.cells seat.new.log (asking (result % 4 == 0) drop cell (known_seen self.now.cells seat.old.log)) }
+        ensures keeps { Keeps self.now.cells seat.old.log seat.new.log }
+        ensures risen { result % 4 ≢ 0 → risen_seen self.now.cells seat.new.log drop cell ≡ true }
     {
         let word = Word::Of(Field::Shared, cell);
         or(self, &mut seat.place, word, 2, Step::Ask(drop))
@@ -129,6 +150,11 @@ impl<A: Allocator> HeapTable<A> {
         ensures won { OnOk result (seat.new.log ≡ told.Did (steps.SharedDown drop) old moves.Nothing ∷ seat.old.log) }
         ensures lost { IfErr result (λ found. seat.new.log ≡ told.Lost (words.Of fields.Shared cell) found ∷ seat.old.log) }
         ensures seat { Stays seat.old seat.new }
+        ensures won_knows { OnOk result (Knows self.now.cells seat.new.log (giving_up (Some drop) (known_seen self.now.cells seat.old.log))) }
+        ensures lost_knows { OnErr result (Knows self.now.cells seat.new.log (known_seen self.now.cells seat.old.log)) }
+        ensures keeps { Keeps self.now.cells seat.old.log seat.new.log }
+        ensures lost_sees { IfErr result (λ found. SeesRisen self.now.cells seat.old.log cell found seat.new.log) }
+        ensures lost_notes { IfErr result (λ found. Notes fields.Shared cell found seat.old.log seat.new.log) }
     {
         let word = Word::Of(Field::Shared, cell);
         let step = Step::SharedDown(drop);

@@ -4,10 +4,13 @@
 ghost use Rattle.std.specs.Prelude.{◌≡◌, ◌<◌, ◌≤◌, ◌∷◌, IfSome};
 ghost use Rattle.brc_runs.specs.declared.event.LastDropped.TheVariants as lasts;
 ghost use Rattle.brc_runs.specs.declared.event.Step.TheVariants as steps;
+ghost use Rattle.brc_runs.specs.declared.row.Hand.TheVariants as hands;
 ghost use Rattle.brc_runs.specs.Steps.{takes_block};
+ghost use Rattle.brc_known.specs.Going_On.{handing, taking, seeing_zero, dropping_last, settling};
 ghost use Rattle.brc_known.specs.Items.{cell_told};
 ghost use Rattle.brc_rule.specs.declared.told.Told.TheVariants as told;
 ghost use Rattle.brc_steps.specs.Owing.{Carries, EndsRisen, EndsPopped, EndsAdded, EndsHeld, EndsNobodys};
+ghost use Rattle.brc_table.specs.Knowing.{known_seen, entries_of, Knows, Keeps};
 ghost use Rattle.brc_table.specs.Moving.{is_there, found_in, out_with};
 ghost use Rattle.brc_table.specs.Seated.{Continues};
 
@@ -29,6 +32,8 @@ impl<A: Allocator> HeapTable<A> {
         ensures told { seat.new.log ≡ told.Did (steps.SeeZero cell) result.number (found_in cell result.block) ∷ seat.old.log }
         ensures out { seat.new.slots ≡ out_with cell result.block seat.old.slots }
         ensures seat { Continues seat.old seat.new }
+        ensures knows { Knows self.now.cells seat.new.log (seeing_zero (is_there result.block) cell (entries_of result.block) (known_seen self.now.cells seat.old.log)) }
+        ensures keeps { Keeps self.now.cells seat.old.log seat.new.log }
     {
         let step = Step::SeeZero(cell);
         end_by_load(self, &mut seat.place, cell, step)
@@ -45,6 +50,8 @@ impl<A: Allocator> HeapTable<A> {
         ensures told { seat.new.log ≡ told.Did (steps.MergeZero cell) result.number (found_in cell result.block) ∷ seat.old.log }
         ensures out { seat.new.slots ≡ out_with cell result.block seat.old.slots }
         ensures seat { Continues seat.old seat.new }
+        ensures knows { Knows self.now.cells seat.new.log (handing hands.Free (taking (is_there result.block) cell (entries_of result.block) (known_seen self.now.cells seat.old.log))) }
+        ensures keeps { Keeps self.now.cells seat.old.log seat.new.log }
     {
         let step = Step::MergeZero(cell);
         end_by_or(self, &mut seat.place, cell, 3, step)
@@ -61,6 +68,8 @@ impl<A: Allocator> HeapTable<A> {
         ensures told { seat.new.log ≡ told.Did (steps.LastDown (lasts.Dropped drop)) result.number (found_in cell result.block) ∷ seat.old.log }
         ensures out { seat.new.slots ≡ out_with cell result.block seat.old.slots }
         ensures seat { Continues seat.old seat.new }
+        ensures knows { Knows self.now.cells seat.new.log (dropping_last (is_there result.block) drop cell (entries_of result.block) (known_seen self.now.cells seat.old.log)) }
+        ensures keeps { Keeps self.now.cells seat.old.log seat.new.log }
     {
         let step = Step::LastDown(LastDropped::Dropped(drop));
         end_by_sub(self, &mut seat.place, cell, 4, step)
@@ -77,6 +86,8 @@ impl<A: Allocator> HeapTable<A> {
         ensures told { seat.new.log ≡ told.Did (steps.LastDown (lasts.Popped cell)) result.number (found_in cell result.block) ∷ seat.old.log }
         ensures out { seat.new.slots ≡ out_with cell result.block seat.old.slots }
         ensures seat { Continues seat.old seat.new }
+        ensures knows { Knows self.now.cells seat.new.log (settling cell (taking (is_there result.block) cell (entries_of result.block) (known_seen self.now.cells seat.old.log))) }
+        ensures keeps { Keeps self.now.cells seat.old.log seat.new.log }
     {
         let _shared = shared;
         let step = Step::LastDown(LastDropped::Popped(cell));
@@ -94,6 +105,8 @@ impl<A: Allocator> HeapTable<A> {
         ensures told { seat.new.log ≡ told.Did (steps.LastDown (lasts.Popped cell)) result.number (found_in cell result.block) ∷ seat.old.log }
         ensures out { seat.new.slots ≡ out_with cell result.block seat.old.slots }
         ensures seat { Continues seat.old seat.new }
+        ensures knows { Knows self.now.cells seat.new.log (settling cell (taking (is_there result.block) cell (entries_of result.block) (known_seen self.now.cells seat.old.log))) }
+        ensures keeps { Keeps self.now.cells seat.old.log seat.new.log }
     {
         let step = Step::LastDown(LastDropped::Popped(cell));
         end_by_sub(self, &mut seat.place, cell, 4, step)
@@ -110,6 +123,8 @@ impl<A: Allocator> HeapTable<A> {
         ensures told { seat.new.log ≡ told.Did (steps.LastDown lasts.Hand) result.number (found_in cell result.block) ∷ seat.old.log }
         ensures out { seat.new.slots ≡ out_with cell result.block seat.old.slots }
         ensures seat { Continues seat.old seat.new }
+        ensures knows { Knows self.now.cells seat.new.log (handing hands.Free (taking (is_there result.block) cell (entries_of result.block) (known_seen self.now.cells seat.old.log))) }
+        ensures keeps { Keeps self.now.cells seat.old.log seat.new.log }
     {
         let step = Step::LastDown(LastDropped::Hand);
         end_by_sub(self, &mut seat.place, cell, 4, step)
@@ -126,6 +141,8 @@ impl<A: Allocator> HeapTable<A> {
         ensures told { seat.new.log ≡ told.Did (steps.LastDown lasts.Hand) result.number (found_in cell result.block) ∷ seat.old.log }
         ensures out { seat.new.slots ≡ out_with cell result.block seat.old.slots }
         ensures seat { Continues seat.old seat.new }
+        ensures knows { Knows self.now.cells seat.new.log (handing hands.Free (taking (is_there result.block) cell (entries_of result.block) (known_seen self.now.cells seat.old.log))) }
+        ensures keeps { Keeps self.now.cells seat.old.log seat.new.log }
     {
         let step = Step::LastDown(LastDropped::Hand);
         end_by_sub(self, &mut seat.place, cell, 4, step)

@@ -1,13 +1,17 @@
 //! Locks: an object's block goes out with the seat of the thread that locks it, and home with what the thread made of it.
 
-ghost use Rattle.std.specs.Prelude.{◌≡◌, ◌<◌, ◌≤◌, ◌∷◌, None, OnOk, IfOk, IfErr};
+ghost use Rattle.std.specs.Prelude.{◌≡◌, ◌<◌, ◌≤◌, ◌∷◌, None, Some, OnOk, OnErr, IfOk, IfErr};
 ghost use Rattle.atomic_table.specs.Table.{rest};
 ghost use Rattle.brc_runs.specs.declared.event.Step.TheVariants as steps;
 ghost use Rattle.brc_known.specs.declared.word.Field.TheVariants as fields;
 ghost use Rattle.brc_known.specs.declared.word.Word.TheVariants as words;
+ghost use Rattle.brc_known.specs.Going_On.{locking, unlocking};
 ghost use Rattle.brc_rule.specs.declared.told.Moved.TheVariants as moves;
 ghost use Rattle.brc_rule.specs.declared.told.Told.TheVariants as told;
+ghost use Rattle.brc_rule.specs.Logs.{entries_in};
+ghost use Rattle.brc_rule.specs.Seen.{contents_locked};
 ghost use Rattle.brc_steps.specs.Owing.{Carries, Unlocks};
+ghost use Rattle.brc_table.specs.Knowing.{known_seen, Knows, Keeps};
 ghost use Rattle.brc_table.specs.Moving.{found_locked};
 ghost use Rattle.brc_table.specs.Seated.{Continues};
 ghost use Rattle.brc_table.specs.Shown.{shows, contents_of};
@@ -33,6 +37,11 @@ impl<A: Allocator> HeapTable<A> {
         ensures still { IfErr result (λ found. seat.new.slots ≡ seat.old.slots) }
         ensures locked { IfErr result (λ found. 0 < found) }
         ensures seat { Continues seat.old seat.new }
+        ensures won_knows { IfOk result (λ block. Knows self.now.cells seat.new.log (locking place cell (entries_in (contents_of block.1)) (known_seen self.now.cells seat.old.log))) }
+        ensures won_found { IfOk result (λ block. contents_locked seat.new.log ≡ Some (contents_of block.1)) }
+        ensures lost_knows { OnErr result (Knows self.now.cells seat.new.log (known_seen self.now.cells seat.old.log)) }
+        ensures lost_found { OnErr result (contents_locked seat.new.log ≡ contents_locked seat.old.log) }
+        ensures keeps { Keeps self.now.cells seat.old.log seat.new.log }
     {
         let found = lock_by(self, &mut seat.place, place, cell, u64::from(seat.thread));
         if found == 0 {
@@ -51,6 +60,9 @@ impl<A: Allocator> HeapTable<A> {
         ensures told { seat.new.log ≡ told.Did (steps.Unlock change) 0 (moves.Put block.0 (contents_of block.1)) ∷ seat.old.log }
         ensures home { seat.new.slots ≡ rest seat.old.slots }
         ensures seat { Continues seat.old seat.new }
+        ensures knows { Knows self.now.cells seat.new.log (unlocking change block.0 (known_seen self.now.cells seat.old.log)) }
+        ensures found { contents_locked seat.new.log ≡ None }
+        ensures keeps { Keeps self.now.cells seat.old.log seat.new.log }
     {
         let cell = block.cell();
         let word = Word::Of(Field::Mutex, cell);

@@ -1,36 +1,55 @@
 //! Looks: loads that join the seat's log as notes.
 
-ghost use Rattle.std.specs.Prelude.{◌≡◌, ◌<◌, ◌∷◌};
+ghost use Rattle.std.specs.Prelude.{◌≡◌, ◌<◌, ◌≤◌, ◌∷◌, true};
+ghost use Rattle.brc_words.specs.declared.limits.TheConstants.{MOST_THREADS};
+ghost use Rattle.brc_runs.specs.declared.event.Step.TheVariants as steps;
+ghost use Rattle.brc_runs.specs.Holding.{carries};
 ghost use Rattle.brc_known.specs.declared.word.Field.TheVariants as fields;
 ghost use Rattle.brc_known.specs.declared.word.Word.TheVariants as words;
+ghost use Rattle.brc_known.specs.Owners_Seen.{has_seen_owner};
 ghost use Rattle.brc_rule.specs.declared.told.Told.TheVariants as told;
+ghost use Rattle.brc_rule.specs.Logs.{log_items};
+ghost use Rattle.brc_rule.specs.Seen.{part_seen, own_may, contents_locked};
+ghost use Rattle.brc_table.specs.Knowing.{known_seen, Knows, Keeps, SeesRisen, Notes};
 ghost use Rattle.brc_table.specs.Seated.{Stays};
 
-use crate::machine::look;
+use crate::machine::{look, look_within};
 use crate::seats::ThreadSeat;
 use crate::table::HeapTable;
 use brc_known::{Field, Word};
 use std::alloc::Allocator;
+use std::marker::Brand;
 
 impl<A: Allocator> HeapTable<A> {
-    /// Who owns the cell, as a word.
+    /// Who owns the cell, as a word: of a cell in the hand a thread's number, or 0.
     pub fn load_owner(&self, seat: &mut ThreadSeat<A>, cell: u32) -> u64
         requires table { seat.old.table ≡ self.now.table.shared.table_id }
         requires inside { cell < self.now.cells }
         ensures told { seat.new.log ≡ told.Saw (words.Of fields.Owner cell) result ∷ seat.old.log }
         ensures seat { Stays seat.old seat.new }
+        ensures knows { Knows self.now.cells seat.new.log (known_seen self.now.cells seat.old.log) }
+        ensures keeps { Keeps self.now.cells seat.old.log seat.new.log }
+        ensures found { contents_locked seat.new.log ≡ contents_locked seat.old.log }
+        ensures notes { Notes fields.Owner cell result seat.old.log seat.new.log }
+        ensures seen { has_seen_owner (log_items seat.new.log) result ≡ true }
+        ensures within { carries cell (part_seen self.now.cells seat.old.log).row.hand ≡ true → result ≤ MOST_THREADS }
     {
-        look(self, &mut seat.place, Word::Of(Field::Owner, cell))
+        look_within::<A, Brand>(self, &mut seat.place, Word::Of(Field::Owner, cell))
     }
 
-    /// The owner's count.
+    /// The owner's count, which is within the limit where the thread is merging the object.
     pub fn load_local(&self, seat: &mut ThreadSeat<A>, cell: u32) -> u64
         requires table { seat.old.table ≡ self.now.table.shared.table_id }
         requires inside { cell < self.now.cells }
         ensures told { seat.new.log ≡ told.Saw (words.Of fields.Local cell) result ∷ seat.old.log }
         ensures seat { Stays seat.old seat.new }
+        ensures knows { Knows self.now.cells seat.new.log (known_seen self.now.cells seat.old.log) }
+        ensures keeps { Keeps self.now.cells seat.old.log seat.new.log }
+        ensures found { contents_locked seat.new.log ≡ contents_locked seat.old.log }
+        ensures notes { Notes fields.Local cell result seat.old.log seat.new.log }
+        ensures within { own_may self.now.cells (part_seen self.now.cells seat.old.log) (steps.MergeAdd cell) ≡ true → result ≤ self.now.local_limit }
     {
-        look(self, &mut seat.place, Word::Of(Field::Local, cell))
+        look_within::<A, Brand>(self, &mut seat.place, Word::Of(Field::Local, cell))
     }
 
     /// The count of all others, above the state bits.
@@ -39,6 +58,11 @@ impl<A: Allocator> HeapTable<A> {
         requires inside { cell < self.now.cells }
         ensures told { seat.new.log ≡ told.Saw (words.Of fields.Shared cell) result ∷ seat.old.log }
         ensures seat { Stays seat.old seat.new }
+        ensures knows { Knows self.now.cells seat.new.log (known_seen self.now.cells seat.old.log) }
+        ensures keeps { Keeps self.now.cells seat.old.log seat.new.log }
+        ensures found { contents_locked seat.new.log ≡ contents_locked seat.old.log }
+        ensures notes { Notes fields.Shared cell result seat.old.log seat.new.log }
+        ensures sees { SeesRisen self.now.cells seat.old.log cell result seat.new.log }
     {
         look(self, &mut seat.place, Word::Of(Field::Shared, cell))
     }
@@ -49,6 +73,10 @@ impl<A: Allocator> HeapTable<A> {
         requires inside { cell < self.now.cells }
         ensures told { seat.new.log ≡ told.Saw (words.Of fields.Mutex cell) result ∷ seat.old.log }
         ensures seat { Stays seat.old seat.new }
+        ensures knows { Knows self.now.cells seat.new.log (known_seen self.now.cells seat.old.log) }
+        ensures keeps { Keeps self.now.cells seat.old.log seat.new.log }
+        ensures found { contents_locked seat.new.log ≡ contents_locked seat.old.log }
+        ensures notes { Notes fields.Mutex cell result seat.old.log seat.new.log }
     {
         look(self, &mut seat.place, Word::Of(Field::Mutex, cell))
     }
@@ -58,6 +86,9 @@ impl<A: Allocator> HeapTable<A> {
         requires table { seat.old.table ≡ self.now.table.shared.table_id }
         ensures told { seat.new.log ≡ told.Saw (words.NotifyWord seat.old.thread) result ∷ seat.old.log }
         ensures seat { Stays seat.old seat.new }
+        ensures knows { Knows self.now.cells seat.new.log (known_seen self.now.cells seat.old.log) }
+        ensures keeps { Keeps self.now.cells seat.old.log seat.new.log }
+        ensures found { contents_locked seat.new.log ≡ contents_locked seat.old.log }
     {
         let word = Word::NotifyWord(seat.thread);
         look(self, &mut seat.place, word)

@@ -1,7 +1,7 @@
 //! One function for each operation on a word. The caller says which event or look it is, and owes that the operation is
 //! allowed as that; the seat's log then has it.
 
-ghost use Rattle.std.specs.Prelude.{◌≡◌, ◌+◌, ◌%◌, ◌^◌, ◌==◌, ◌<◌, ℕ, true, if◌then◌else◌, bit_or};
+ghost use Rattle.std.specs.Prelude.{◌≡◌, ◌+◌, ◌%◌, ◌^◌, ◌==◌, ◌<◌, ◌≤◌, ℕ, Bool, true, false, if◌then◌else◌, bit_or};
 ghost use prog.Atomic.{either};
 ghost use Rattle.brc_known.specs.declared.word.Word.{Word as word_data};
 ghost use Rattle.brc_known.specs.declared.word.Word.TheVariants as words;
@@ -10,7 +10,7 @@ ghost use Rattle.brc_rule.specs.declared.told.Moved.TheVariants as moves;
 ghost use Rattle.brc_rule.specs.declared.told.Told.{Told as told_data};
 ghost use Rattle.brc_rule.specs.declared.told.Told.TheVariants as told;
 ghost use Rattle.brc_rule.specs.Rule.{with_told};
-ghost use Rattle.brc_table.specs.Machine.{MayTell, MayExchange, exchanged};
+ghost use Rattle.brc_table.specs.Machine.{MayTell, MayFind, MayExchange, exchanged};
 ghost use Rattle.brc_table.specs.Shown.{shows};
 
 use crate::layout::spot_of;
@@ -306,4 +306,47 @@ pub(crate) fn exchange<A: Allocator>(
     ensures told { seat.new.me ≡ (exchanged word old (told.Did step old moves.Nothing) result seat.old.me.0, seat.old.me.1) }
 {
     exchange_as::<A, Brand>(table, seat, word, old, new, step)
+}
+
+/// At which word a look is made, and how large a number it finds there at most, where the seat's log says so.
+pub(crate) trait Bounded {
+    ghost word: { word_data };
+
+    ghost known: { Bool };
+
+    ghost most: { ℕ };
+}
+
+impl Bounded for Brand {
+    ghost word = { words.NotifyWord 0 };
+
+    ghost known = { false };
+
+    ghost most = { 0 };
+}
+
+/// The seat's log has the look, and the number is within its bound.
+pub(crate) struct Finds<M> {
+    marker: PhantomData<M>,
+}
+
+impl<S, M: Bounded> Play<S, View> for Finds<M> {
+    ghost then = { λ step me number after. (after ≡ (with_told (told.Saw M.word number) me.0, me.1)) × (M.known ≡ true → number ≤ M.most) };
+}
+
+/// A load, as a look at a word of which the log tells a bound.
+pub(crate) fn look_within<A: Allocator, M: Bounded>(
+    table: &HeapTable<A>,
+    seat: &mut Place<A>,
+    word: Word,
+) -> u64
+    requires same { seat.old.table_id ≡ table.now.table.shared.table_id }
+    requires inside { IsWord table.now.cells word }
+    requires allowed { MayFind shows table.now.cells table.now.local_limit seat.old.id seat.old.me word M.word M.known M.most }
+    ensures same { (seat.new.table_id ≡ seat.old.table_id) × (seat.new.id ≡ seat.old.id) }
+    ensures told { seat.new.me ≡ (with_told (told.Saw M.word result) seat.old.me.0, seat.old.me.1) }
+    ensures within { M.known ≡ true → result ≤ M.most }
+{
+    let at = spot_of(table.cells, word);
+    table.table.shared.load::<Finds<M>>(seat, at)
 }

@@ -1,13 +1,17 @@
 //! Cells: one is claimed, its words are set, and an object is born in it; a dead one's cell is free again.
 
-ghost use Rattle.std.specs.Prelude.{◌≡◌, ◌≢◌, ◌-◌, ◌<◌, ◌≤◌, ◌∷◌, ◌^◌, None, OnOk, IfErr};
+ghost use Rattle.std.specs.Prelude.{◌≡◌, ◌≢◌, ◌-◌, ◌<◌, ◌≤◌, ◌∷◌, ◌^◌, None, OnOk, OnErr, IfErr};
 ghost use Rattle.atomic_table.specs.Table.{rest};
 ghost use Rattle.brc_runs.specs.declared.event.Step.TheVariants as steps;
+ghost use Rattle.brc_runs.specs.declared.row.Hand.TheVariants as hands;
+ghost use Rattle.brc_runs.specs.declared.row.Phase.TheVariants as phases;
 ghost use Rattle.brc_known.specs.declared.word.Field.TheVariants as fields;
 ghost use Rattle.brc_known.specs.declared.word.Word.TheVariants as words;
+ghost use Rattle.brc_known.specs.Going_On.{handing, filling, counting, bearing, giving_back};
 ghost use Rattle.brc_rule.specs.declared.told.Moved.TheVariants as moves;
 ghost use Rattle.brc_rule.specs.declared.told.Told.TheVariants as told;
 ghost use Rattle.brc_steps.specs.Owing.{Claims, Bears, Carries};
+ghost use Rattle.brc_table.specs.Knowing.{known_seen, Knows, Keeps, Notes};
 ghost use Rattle.brc_table.specs.Seated.{Stays, Continues};
 ghost use Rattle.brc_table.specs.Shown.{shows, contents_of};
 
@@ -34,6 +38,10 @@ impl<A: Allocator> HeapTable<A> {
         ensures still { IfErr result (λ found. seat.new.slots ≡ seat.old.slots) }
         ensures taken { IfErr result (λ found. found ≢ 2 ^ 64 - 1) }
         ensures seat { Continues seat.old seat.new }
+        ensures won_knows { OnOk result (Knows self.now.cells seat.new.log (handing (hands.Busy phases.Claimed cell) (known_seen self.now.cells seat.old.log))) }
+        ensures lost_knows { OnErr result (Knows self.now.cells seat.new.log (known_seen self.now.cells seat.old.log)) }
+        ensures keeps { Keeps self.now.cells seat.old.log seat.new.log }
+        ensures lost_notes { IfErr result (λ found. Notes fields.Owner cell found seat.old.log seat.new.log) }
     {
         let mine = (1 << 32) + u64::from(seat.thread);
         let found = claim_by(self, &mut seat.place, cell, mine);
@@ -52,6 +60,8 @@ impl<A: Allocator> HeapTable<A> {
         requires carries { Carries self.now.cells seat.old.log (steps.InitLocal cell) cell }
         ensures told { seat.new.log ≡ told.Did (steps.InitLocal cell) 1 moves.Nothing ∷ seat.old.log }
         ensures seat { Stays seat.old seat.new }
+        ensures knows { Knows self.now.cells seat.new.log (handing (hands.Busy phases.Counted cell) (known_seen self.now.cells seat.old.log)) }
+        ensures keeps { Keeps self.now.cells seat.old.log seat.new.log }
     {
         let word = Word::Of(Field::Local, cell);
         store(self, &mut seat.place, word, 1, Step::InitLocal(cell));
@@ -65,6 +75,8 @@ impl<A: Allocator> HeapTable<A> {
         requires carries { Carries self.now.cells seat.old.log (steps.InitShared cell) cell }
         ensures told { seat.new.log ≡ told.Did (steps.InitShared cell) (2 ^ 42) moves.Nothing ∷ seat.old.log }
         ensures seat { Stays seat.old seat.new }
+        ensures knows { Knows self.now.cells seat.new.log (handing (hands.Busy phases.Ready cell) (known_seen self.now.cells seat.old.log)) }
+        ensures keeps { Keeps self.now.cells seat.old.log seat.new.log }
     {
         let word = Word::Of(Field::Shared, cell);
         let step = Step::InitShared(cell);
@@ -80,6 +92,8 @@ impl<A: Allocator> HeapTable<A> {
         ensures told { seat.new.log ≡ told.Did (steps.Birth block.0 kind place) seat.old.thread (moves.Put block.0 (contents_of block.1)) ∷ seat.old.log }
         ensures home { seat.new.slots ≡ rest seat.old.slots }
         ensures seat { Continues seat.old seat.new }
+        ensures knows { Knows self.now.cells seat.new.log (filling place block.0 (counting block.0 1 (bearing block.0 (known_seen self.now.cells seat.old.log)))) }
+        ensures keeps { Keeps self.now.cells seat.old.log seat.new.log }
     {
         let cell = block.cell();
         let word = Word::Of(Field::Owner, cell);
@@ -97,6 +111,8 @@ impl<A: Allocator> HeapTable<A> {
         ensures told { seat.new.log ≡ told.Did (steps.Free cell) (2 ^ 64 - 1) moves.Nothing ∷ seat.old.log }
         ensures home { seat.new.slots ≡ rest seat.old.slots }
         ensures seat { Continues seat.old seat.new }
+        ensures knows { Knows self.now.cells seat.new.log (giving_back cell (known_seen self.now.cells seat.old.log)) }
+        ensures keeps { Keeps self.now.cells seat.old.log seat.new.log }
     {
         let word = Word::Of(Field::Owner, cell);
         give(self, &mut seat.place, word, u64::MAX, Step::Free(cell));

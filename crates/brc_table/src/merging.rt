@@ -1,11 +1,19 @@
 //! Merging: an object is made nobody's, and its local count joins the shared one; who has asked for it puts it into a queue.
 
-ghost use Rattle.std.specs.Prelude.{◌≡◌, ◌<◌, ◌≤◌, ◌∷◌};
+ghost use Rattle.std.specs.Prelude.{◌≡◌, ◌<◌, ◌≤◌, ◌∷◌, if◌then◌else◌, Some};
 ghost use Rattle.brc_words.specs.declared.limits.TheConstants.{MOST_THREADS};
 ghost use Rattle.brc_runs.specs.declared.event.Step.TheVariants as steps;
+ghost use Rattle.brc_runs.specs.declared.row.Hand.TheVariants as hands;
+ghost use Rattle.brc_runs.specs.declared.row.Phase.TheVariants as phases;
+ghost use Rattle.brc_runs.specs.Steps.{added_hand};
+ghost use Rattle.brc_known.specs.Items.{is_shut_word};
+ghost use Rattle.brc_known.specs.Going_On.{handing, counting};
 ghost use Rattle.brc_rule.specs.declared.told.Moved.TheVariants as moves;
 ghost use Rattle.brc_rule.specs.declared.told.Told.TheVariants as told;
 ghost use Rattle.brc_steps.specs.Owing.{UntiesOver, UntiesShut, UntiesPopped, AddsLocal, Enqueues};
+ghost use Rattle.brc_rule.specs.Noted.{newest_step};
+ghost use Rattle.brc_rule.specs.Seen.{part_seen};
+ghost use Rattle.brc_table.specs.Knowing.{known_seen, Knows, Keeps};
 ghost use Rattle.brc_table.specs.Seated.{Stays};
 
 use crate::layout::bit;
@@ -25,6 +33,8 @@ impl<A: Allocator> HeapTable<A> {
         requires unties { UntiesOver self.now.cells seat.old.log cell }
         ensures told { seat.new.log ≡ told.Did (steps.Untie cell) 0 moves.Nothing ∷ seat.old.log }
         ensures seat { Stays seat.old seat.new }
+        ensures knows { Knows self.now.cells seat.new.log (handing (hands.Busy phases.Untied cell) (counting cell 0 (known_seen self.now.cells seat.old.log))) }
+        ensures keeps { Keeps self.now.cells seat.old.log seat.new.log }
     {
         let word = Word::Of(Field::Owner, cell);
         store(self, &mut seat.place, word, 0, Step::Untie(cell));
@@ -37,6 +47,8 @@ impl<A: Allocator> HeapTable<A> {
         requires unties { UntiesShut self.now.cells seat.old.log cell owner }
         ensures told { seat.new.log ≡ told.Did (steps.Untie cell) 0 moves.Nothing ∷ seat.old.log }
         ensures seat { Stays seat.old seat.new }
+        ensures knows { Knows self.now.cells seat.new.log (handing (hands.Busy phases.Taking cell) (counting cell 0 (known_seen self.now.cells seat.old.log))) }
+        ensures keeps { Keeps self.now.cells seat.old.log seat.new.log }
     {
         let _owner = owner;
         let word = Word::Of(Field::Owner, cell);
@@ -50,6 +62,8 @@ impl<A: Allocator> HeapTable<A> {
         requires unties { UntiesPopped self.now.cells seat.old.log cell shared }
         ensures told { seat.new.log ≡ told.Did (steps.Untie cell) 0 moves.Nothing ∷ seat.old.log }
         ensures seat { Stays seat.old seat.new }
+        ensures knows { Knows self.now.cells seat.new.log (handing (hands.Busy phases.Popping cell) (counting cell 0 (known_seen self.now.cells seat.old.log))) }
+        ensures keeps { Keeps self.now.cells seat.old.log seat.new.log }
     {
         let _shared = shared;
         let word = Word::Of(Field::Owner, cell);
@@ -64,6 +78,9 @@ impl<A: Allocator> HeapTable<A> {
         requires adds { AddsLocal self.now.cells seat.old.log cell local }
         ensures told { seat.new.log ≡ told.Did (steps.MergeAdd cell) result moves.Nothing ∷ seat.old.log }
         ensures seat { Stays seat.old seat.new }
+        ensures knows { Knows self.now.cells seat.new.log (handing (added_hand cell (part_seen self.now.cells seat.old.log).row.hand) (known_seen self.now.cells seat.old.log)) }
+        ensures keeps { Keeps self.now.cells seat.old.log seat.new.log }
+        ensures newest { newest_step seat.new.log ≡ Some (steps.MergeAdd cell) }
     {
         let word = Word::Of(Field::Shared, cell);
         let more = u64::from(local) * 4 + 1;
@@ -78,6 +95,8 @@ impl<A: Allocator> HeapTable<A> {
         requires enqueues { Enqueues self.now.cells seat.old.log cell owner }
         ensures told { seat.new.log ≡ told.Did (steps.Enqueue cell) result moves.Nothing ∷ seat.old.log }
         ensures seat { Stays seat.old seat.new }
+        ensures knows { Knows self.now.cells seat.new.log (handing (if is_shut_word result then hands.Busy phases.Shut cell else hands.Free) (known_seen self.now.cells seat.old.log)) }
+        ensures keeps { Keeps self.now.cells seat.old.log seat.new.log }
     {
         let word = Word::Queue(owner, cell / 32);
         let bits = bit(cell % 32);

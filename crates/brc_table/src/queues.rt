@@ -3,9 +3,11 @@
 ghost use Rattle.std.specs.Prelude.{◌≡◌, ◌<◌, ◌≤◌, ◌∷◌};
 ghost use Rattle.brc_runs.specs.Heap.{words_for};
 ghost use Rattle.brc_runs.specs.declared.event.Step.TheVariants as steps;
+ghost use Rattle.brc_known.specs.Going_On.{popping, closing};
 ghost use Rattle.brc_rule.specs.declared.told.Moved.TheVariants as moves;
 ghost use Rattle.brc_rule.specs.declared.told.Told.TheVariants as told;
 ghost use Rattle.brc_steps.specs.Owing.{Allowed, Tells};
+ghost use Rattle.brc_table.specs.Knowing.{known_seen, Knows, Keeps};
 ghost use Rattle.brc_table.specs.Seated.{Stays};
 
 use crate::layout::bit;
@@ -25,6 +27,8 @@ impl<A: Allocator> HeapTable<A> {
         requires allowed { Allowed self.now.cells seat.old.log (steps.Drain word) }
         ensures told { seat.new.log ≡ told.Did (steps.Drain word) result moves.Nothing ∷ seat.old.log }
         ensures seat { Stays seat.old seat.new }
+        ensures knows { Knows self.now.cells seat.new.log (popping word result (known_seen self.now.cells seat.old.log)) }
+        ensures keeps { Keeps self.now.cells seat.old.log seat.new.log }
     {
         let at = Word::Queue(seat.thread, word);
         swap(self, &mut seat.place, at, 0, Step::Drain(word))
@@ -38,6 +42,8 @@ impl<A: Allocator> HeapTable<A> {
         requires allowed { Allowed self.now.cells seat.old.log (steps.Close word) }
         ensures told { seat.new.log ≡ told.Did (steps.Close word) result moves.Nothing ∷ seat.old.log }
         ensures seat { Stays seat.old seat.new }
+        ensures knows { Knows self.now.cells seat.new.log (closing self.now.cells word (popping word result (known_seen self.now.cells seat.old.log))) }
+        ensures keeps { Keeps self.now.cells seat.old.log seat.new.log }
     {
         let at = Word::Queue(seat.thread, word);
         or(self, &mut seat.place, at, 1 << 63, Step::Close(word))
@@ -49,6 +55,8 @@ impl<A: Allocator> HeapTable<A> {
         requires tells { Tells self.now.cells seat.old.log thread word }
         ensures told { seat.new.log ≡ told.Did (steps.Nudge thread word) result moves.Nothing ∷ seat.old.log }
         ensures seat { Stays seat.old seat.new }
+        ensures knows { Knows self.now.cells seat.new.log (known_seen self.now.cells seat.old.log) }
+        ensures keeps { Keeps self.now.cells seat.old.log seat.new.log }
     {
         let at = Word::NotifyWord(thread);
         let bits = bit(word / 32);
@@ -67,6 +75,8 @@ impl<A: Allocator> HeapTable<A> {
         requires allowed { Allowed self.now.cells seat.old.log steps.Wake }
         ensures told { seat.new.log ≡ told.Did steps.Wake result moves.Nothing ∷ seat.old.log }
         ensures seat { Stays seat.old seat.new }
+        ensures knows { Knows self.now.cells seat.new.log (known_seen self.now.cells seat.old.log) }
+        ensures keeps { Keeps self.now.cells seat.old.log seat.new.log }
     {
         let at = Word::NotifyWord(seat.thread);
         swap(self, &mut seat.place, at, 0, Step::Wake)

@@ -4,11 +4,12 @@ use crate::{HeapTable, Rest};
 use brc_block::Payload;
 use brc_runs::{Dropped, Source};
 use brc_words::{Fault, Kind};
+use linked_list_allocator::LocalHeap;
 use std::alloc::Allocator;
 use std::process::Abort;
 
 /// Gives all blocks back, and answers how many there were; each is of the next cell.
-fn end_all<A: Allocator>(rt: &impl Abort, rest: Rest<A>) -> u32 {
+pub(crate) fn end_all<A: Allocator>(rt: &impl Abort, rest: Rest<A>) -> u32 {
     let mut rest = rest;
     for cell in 0..1_000 {
         match rest.next() {
@@ -94,4 +95,28 @@ fn sizes_of_no_heap_are_refused(rt: HostRuntime) {
             }
         }
     }
+}
+
+/// Each size of memory in turn: every growth of a table's opening is refused at some of them, and what was made goes back.
+#[test]
+fn refused_growths_open_no_table(rt: HostRuntime) -> Result<(), Fault> {
+    let mut refused = 0u32;
+    let mut opened = 0u32;
+    for size in 1_200..3_400usize {
+        let heap = LocalHeap::new(rt.alloc(), size * 64)?;
+        match HeapTable::new(&heap, 512, 10) {
+            Err(fault) => {
+                assert_eq!(rt; fault, Fault::OutOfMemory);
+                refused = refused.saturating_add(1);
+            }
+            Ok((table, root)) => {
+                assert_eq!(rt; end_all(&rt, table.take_apart(root)), 266);
+                opened = opened.saturating_add(1);
+            }
+        }
+        assert_eq!(rt; heap.used(), 0);
+    }
+    assert!(rt; refused > 300);
+    assert!(rt; opened > 10, "{refused} {opened}");
+    Ok(())
 }

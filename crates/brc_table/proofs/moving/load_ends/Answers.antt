@@ -1,4 +1,3 @@
-use Rattle.std.proofs.Common.{◌≡◌}
 use Rattle.brc_runs.specs.Steps.{takes_block}
 use Rattle.brc_known.specs.declared.word.Field.TheVariants.{Shared}
 use Rattle.brc_known.specs.declared.word.Word.TheVariants.{Of}

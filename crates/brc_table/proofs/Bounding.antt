@@ -1,0 +1,45 @@
+-- A look at a word of the cell in the hand, or at any word: where the log tells a bound, the number found is within it.
+use Rattle.std.proofs.Common.{◌≡◌, ℕ, ◌<◌, ◌≤◌, Bool, true, List, Option, sym, ◌∙◌, inl, inr}
+use Rattle.std.proofs.lemmas.Bool.{cases_Bool, true≢false}
+use Rattle.atomic_table.specs.Table.{Allows}
+use Rattle.brc_words.specs.declared.limits.TheConstants.{MOST_THREADS}
+use Rattle.brc_runs.specs.declared.event.Step.TheVariants.{MergeAdd}
+use Rattle.brc_runs.specs.Holding.{carries}
+use Rattle.brc_known.specs.declared.word.Field.TheVariants.{Owner, Local}
+use Rattle.brc_known.specs.declared.word.Word.{Word}
+use Rattle.brc_known.specs.declared.word.Word.TheVariants.{Of}
+use Rattle.brc_known.specs.Items.{IsWord}
+use Rattle.brc_rule.specs.declared.contents.Contents.{Contents}
+use Rattle.brc_rule.specs.declared.told.Told.TheVariants.{Saw}
+use Rattle.brc_rule.specs.declared.view.View.{View}
+use Rattle.brc_rule.specs.Layout.{spot}
+use Rattle.brc_rule.specs.Rule.{with_told, Kept}
+use Rattle.brc_rule.specs.Seen.{part_seen, own_may}
+use Rattle.brc_rule.proofs.Looking.{looks}
+use Rattle.brc_rule.proofs.Small_Looks.{looks_owner, looks_local}
+use Rattle.brc_table.specs.Machine.{MayFind}
+
+-- the cell whose word it is
+abbrev pub cell_of : Word → ℕ
+cell_of (Of field c) = c
+cell_of _ = 0
+
+module _ {B : Type 0} (shows : B → ℕ × Contents) (n limit : ℕ) where
+  -- a look keeps the rule whether or not the log tells a bound
+  within : (id : ℕ) (v : View) (slots : List (ℕ × Option B)) (w : Word) (known : Bool) (most : ℕ) → v.active ≡ true → IsWord n w
+      → (known ≡ true → Allows (Kept shows n limit) n id (v, slots) (spot n w) (λ number. number) (λ number me. (me ≡ (with_told (Saw w number) v, slots)) × (number ≤ most)))
+      → MayFind shows n limit id (v, slots) w w known most
+  within id v slots w known most active is bound s r deep at small = elim (cases_Bool known) [
+    | inl on ↦ let found = bound on s r deep at small in (found.0, found.1, found.2, found.3, (found.4.0, λ _. found.4.1))
+    | inr off ↦ let found = looks shows n limit id v slots w active is s r deep at small in (found.0, found.1, found.2, found.3, (found.4, λ on. absurd (true≢false (sym on ∙ off))))
+  ]
+
+  pub finds_owner : (id : ℕ) (v : View) (slots : List (ℕ × Option B)) (c : ℕ) → v.active ≡ true → 0 < v.thread → c < n
+      → MayFind shows n limit id (v, slots) (Of Owner c) (Of Owner c) (carries c (part_seen n v.log).row.hand) MOST_THREADS
+  finds_owner id v slots c active some_thread low =
+      within id v slots (Of Owner c) (carries c (part_seen n v.log).row.hand) MOST_THREADS active low (λ carried. looks_owner shows n limit id v slots c active some_thread low carried)
+
+  pub finds_local : (id : ℕ) (v : View) (slots : List (ℕ × Option B)) (c : ℕ) → v.active ≡ true → 0 < v.thread → c < n
+      → MayFind shows n limit id (v, slots) (Of Local c) (Of Local c) (own_may n (part_seen n v.log) (MergeAdd c)) limit
+  finds_local id v slots c active some_thread low =
+      within id v slots (Of Local c) (own_may n (part_seen n v.log) (MergeAdd c)) limit active low (λ own. looks_local shows n limit id v slots c active some_thread low own)
