@@ -1,11 +1,13 @@
--- What the calls on queue words tell of them.
-use Rattle.std.specs.Prelude.{◌≡◌, ℕ, if◌then◌else◌, List, ◌∷◌, Some}
+-- What an entry into a queue word tells.
+use Rattle.std.specs.Prelude.{◌≡◌, ℕ, if◌then◌else◌, List, ◌∷◌}
 use Rattle.brc_runs.specs.declared.event.Step.TheVariants.{Enqueue}
+use Rattle.brc_runs.specs.declared.row.Hand.{Hand}
+use Rattle.brc_runs.specs.declared.row.Hand.TheVariants as hands
+use Rattle.brc_runs.specs.declared.row.Phase.TheVariants as phases
 use Rattle.brc_rule.specs.declared.told.Moved.TheVariants.{Nothing}
 use Rattle.brc_rule.specs.declared.told.Told.{Told}
 use Rattle.brc_rule.specs.declared.told.Told.TheVariants.{Did}
-use Rattle.brc_rule.specs.Seen.{part_seen}
-use Rattle.brc_known.specs.Items.{is_shut_word, popped_told}
+use Rattle.brc_known.specs.Items.{is_shut_word}
 use Rattle.brc_queue.specs.declared.queue.Enqueued.{Enqueued}
 use Rattle.brc_queue.specs.declared.queue.Enqueued.TheVariants.{Accepted, Closed}
 
@@ -19,6 +21,7 @@ pub record PutIn (cell : ℕ) (answer : Enqueued) (old new : List Told) : Type 0
   pub told : new ≡ Did (Enqueue cell) found Nothing ∷ old
   pub answered : answer ≡ answer_of found
 
--- the thread's popped bits of the word are those that it had, and these
-abbrev pub Pops : ℕ → ℕ → ℕ → List Told → List Told → Type 0
-Pops n word bits old new = (part_seen n new).popped ≡ popped_told (Some word) bits (part_seen n old).popped
+-- what is in the hand then: nothing, or the reference still, which is to be merged in place of the owner
+abbrev pub hand_left : ℕ → Enqueued → Hand
+hand_left cell Accepted = hands.Free
+hand_left cell Closed = hands.Busy phases.Shut cell

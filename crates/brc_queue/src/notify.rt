@@ -5,6 +5,7 @@ ghost use Rattle.brc_runs.specs.declared.event.Step.TheVariants as steps;
 ghost use Rattle.brc_rule.specs.declared.told.Moved.TheVariants as moves;
 ghost use Rattle.brc_rule.specs.declared.told.Told.TheVariants as told;
 ghost use Rattle.brc_steps.specs.Owing.{Allowed, Tells};
+ghost use Rattle.brc_table.specs.Knowing.{known_seen, Knows, Keeps};
 ghost use Rattle.brc_table.specs.Seated.{Stays};
 
 use brc_table::{HeapTable, ThreadSeat};
@@ -21,6 +22,8 @@ pub fn nudge<A: Allocator>(
     requires tells { Tells table.now.cells seat.old.log thread word }
     ensures told { seat.new.log ≡ told.Did (steps.Nudge thread word) result moves.Nothing ∷ seat.old.log }
     ensures seat { Stays seat.old seat.new }
+    ensures knows { Knows table.now.cells seat.new.log (known_seen table.now.cells seat.old.log) }
+    ensures keeps { Keeps table.now.cells seat.old.log seat.new.log }
 {
     table.nudge(seat, thread, word)
 }
@@ -31,6 +34,8 @@ pub fn wake<A: Allocator>(table: &HeapTable<A>, seat: &mut ThreadSeat<A>) -> u64
     requires allowed { Allowed table.now.cells seat.old.log steps.Wake }
     ensures told { seat.new.log ≡ told.Did steps.Wake result moves.Nothing ∷ seat.old.log }
     ensures seat { Stays seat.old seat.new }
+    ensures knows { Knows table.now.cells seat.new.log (known_seen table.now.cells seat.old.log) }
+    ensures keeps { Keeps table.now.cells seat.old.log seat.new.log }
 {
     table.wake(seat)
 }

@@ -6,8 +6,10 @@ ghost use Rattle.brc_runs.specs.declared.event.Step.TheVariants as steps;
 ghost use Rattle.brc_rule.specs.declared.told.Moved.TheVariants as moves;
 ghost use Rattle.brc_rule.specs.declared.told.Told.TheVariants as told;
 ghost use Rattle.brc_steps.specs.Owing.{Allowed, Enqueues};
+ghost use Rattle.brc_known.specs.Going_On.{handing, popping, closing};
+ghost use Rattle.brc_table.specs.Knowing.{known_seen, Knows, Keeps};
 ghost use Rattle.brc_table.specs.Seated.{Stays};
-ghost use Rattle.brc_queue.specs.Queue.{PutIn, Pops};
+ghost use Rattle.brc_queue.specs.Queue.{PutIn, hand_left};
 
 use brc_table::{HeapTable, ThreadSeat};
 use std::alloc::Allocator;
@@ -33,6 +35,8 @@ pub fn enqueue<A: Allocator>(
     requires enqueues { Enqueues table.now.cells seat.old.log cell owner }
     ensures told { PutIn cell result seat.old.log seat.new.log }
     ensures seat { Stays seat.old seat.new }
+    ensures knows { Knows table.now.cells seat.new.log (handing (hand_left cell result) (known_seen table.now.cells seat.old.log)) }
+    ensures keeps { Keeps table.now.cells seat.old.log seat.new.log }
 {
     let found = table.enqueue(seat, cell, owner);
     if found >= 1 << 63 {
@@ -48,8 +52,9 @@ pub fn drain_word<A: Allocator>(table: &HeapTable<A>, seat: &mut ThreadSeat<A>, 
     requires inside { word < words_for table.now.cells }
     requires allowed { Allowed table.now.cells seat.old.log (steps.Drain word) }
     ensures told { seat.new.log ≡ told.Did (steps.Drain word) result moves.Nothing ∷ seat.old.log }
-    ensures popped { Pops table.now.cells word result seat.old.log seat.new.log }
     ensures seat { Stays seat.old seat.new }
+    ensures knows { Knows table.now.cells seat.new.log (popping word result (known_seen table.now.cells seat.old.log)) }
+    ensures keeps { Keeps table.now.cells seat.old.log seat.new.log }
 {
     table.drain(seat, word)
 }
@@ -60,8 +65,9 @@ pub fn close_word<A: Allocator>(table: &HeapTable<A>, seat: &mut ThreadSeat<A>, 
     requires inside { word < words_for table.now.cells }
     requires allowed { Allowed table.now.cells seat.old.log (steps.Close word) }
     ensures told { seat.new.log ≡ told.Did (steps.Close word) result moves.Nothing ∷ seat.old.log }
-    ensures popped { Pops table.now.cells word result seat.old.log seat.new.log }
     ensures seat { Stays seat.old seat.new }
+    ensures knows { Knows table.now.cells seat.new.log (closing table.now.cells word (popping word result (known_seen table.now.cells seat.old.log))) }
+    ensures keeps { Keeps table.now.cells seat.old.log seat.new.log }
 {
     table.close(seat, word)
 }
