@@ -1,0 +1,27 @@
+-- What an entry into a queue word tells.
+use Rattle.std.specs.Prelude.{◌≡◌, ℕ, if◌then◌else◌, List, ◌∷◌}
+use Rattle.brc_runs.specs.declared.event.Step.TheVariants.{Enqueue}
+use Rattle.brc_runs.specs.declared.row.Hand.{Hand}
+use Rattle.brc_runs.specs.declared.row.Hand.TheVariants as hands
+use Rattle.brc_runs.specs.declared.row.Phase.TheVariants as phases
+use Rattle.brc_rule.specs.declared.told.Moved.TheVariants.{Nothing}
+use Rattle.brc_rule.specs.declared.told.Told.{Told}
+use Rattle.brc_rule.specs.declared.told.Told.TheVariants.{Did}
+use Rattle.brc_known.specs.Items.{is_shut_word}
+use Rattle.brc_queue.specs.declared.queue.Enqueued.{Enqueued}
+use Rattle.brc_queue.specs.declared.queue.Enqueued.TheVariants.{Accepted, Closed}
+
+-- a queue word with bit 63 is closed, and takes nothing
+abbrev pub answer_of : ℕ → Enqueued
+answer_of number = if is_shut_word number then Closed else Accepted
+
+-- the cell was to go into a queue, and the answer is that of the number that was found there
+pub record PutIn (cell : ℕ) (answer : Enqueued) (old new : List Told) : Type 0 where
+  pub found : ℕ
+  pub told : new ≡ Did (Enqueue cell) found Nothing ∷ old
+  pub answered : answer ≡ answer_of found
+
+-- what is in the hand then: nothing, or the reference still, which is to be merged in place of the owner
+abbrev pub hand_left : ℕ → Enqueued → Hand
+hand_left cell Accepted = hands.Free
+hand_left cell Closed = hands.Busy phases.Shut cell

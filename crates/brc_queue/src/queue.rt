@@ -1,0 +1,73 @@
+//! Queue words: references go in, and their bits are popped.
+
+ghost use Rattle.std.specs.Prelude.{◌≡◌, ◌<◌, ◌∷◌};
+ghost use Rattle.brc_runs.specs.Heap.{words_for};
+ghost use Rattle.brc_runs.specs.declared.event.Step.TheVariants as steps;
+ghost use Rattle.brc_rule.specs.declared.told.Moved.TheVariants as moves;
+ghost use Rattle.brc_rule.specs.declared.told.Told.TheVariants as told;
+ghost use Rattle.brc_steps.specs.Owing.{Allowed, Enqueues};
+ghost use Rattle.brc_known.specs.Going_On.{handing, popping, closing};
+ghost use Rattle.brc_table.specs.Knowing.{known_seen, Knows, Keeps};
+ghost use Rattle.brc_table.specs.Seated.{Stays};
+ghost use Rattle.brc_queue.specs.Queue.{PutIn, hand_left};
+
+use brc_table::{HeapTable, ThreadSeat};
+use std::alloc::Allocator;
+
+/// What became of a reference that was to go into a queue.
+#[derive(Clone, Copy, Debug, PartialEq, Eq)]
+pub enum Enqueued {
+    /// The owner's queue has it.
+    Accepted,
+    /// The owner has closed this word of its queue: the reference is still in the hand.
+    Closed,
+}
+
+/// The reference in the hand goes into the queue of the owner that was found.
+pub fn enqueue<A: Allocator>(
+    table: &HeapTable<A>,
+    seat: &mut ThreadSeat<A>,
+    cell: u32,
+    owner: u32,
+) -> Enqueued
+    requires table { seat.old.table ≡ table.now.table.shared.table_id }
+    requires inside { cell < table.now.cells }
+    requires enqueues { Enqueues table.now.cells seat.old.log cell owner }
+    ensures told { PutIn cell result seat.old.log seat.new.log }
+    ensures seat { Stays seat.old seat.new }
+    ensures knows { Knows table.now.cells seat.new.log (handing (hand_left cell result) (known_seen table.now.cells seat.old.log)) }
+    ensures keeps { Keeps table.now.cells seat.old.log seat.new.log }
+{
+    let found = table.enqueue(seat, cell, owner);
+    if found >= 1 << 63 {
+        Enqueued::Closed
+    } else {
+        Enqueued::Accepted
+    }
+}
+
+/// Takes the bits of one of the thread's own queue words, which others may go on to fill.
+pub fn drain_word<A: Allocator>(table: &HeapTable<A>, seat: &mut ThreadSeat<A>, word: u32) -> u64
+    requires table { seat.old.table ≡ table.now.table.shared.table_id }
+    requires inside { word < words_for table.now.cells }
+    requires allowed { Allowed table.now.cells seat.old.log (steps.Drain word) }
+    ensures told { seat.new.log ≡ told.Did (steps.Drain word) result moves.Nothing ∷ seat.old.log }
+    ensures seat { Stays seat.old seat.new }
+    ensures knows { Knows table.now.cells seat.new.log (popping word result (known_seen table.now.cells seat.old.log)) }
+    ensures keeps { Keeps table.now.cells seat.old.log seat.new.log }
+{
+    table.drain(seat, word)
+}
+
+/// Closes one of the thread's own queue words, and takes its bits.
+pub fn close_word<A: Allocator>(table: &HeapTable<A>, seat: &mut ThreadSeat<A>, word: u32) -> u64
+    requires table { seat.old.table ≡ table.now.table.shared.table_id }
+    requires inside { word < words_for table.now.cells }
+    requires allowed { Allowed table.now.cells seat.old.log (steps.Close word) }
+    ensures told { seat.new.log ≡ told.Did (steps.Close word) result moves.Nothing ∷ seat.old.log }
+    ensures seat { Stays seat.old seat.new }
+    ensures knows { Knows table.now.cells seat.new.log (closing table.now.cells word (popping word result (known_seen table.now.cells seat.old.log))) }
+    ensures keeps { Keeps table.now.cells seat.old.log seat.new.log }
+{
+    table.close(seat, word)
+}

@@ -1,0 +1,38 @@
+//! Each call once, as far as one seat allows.
+
+use crate::{close_word, drain_word, wake};
+use brc_table::{HeapTable, Rest};
+use std::alloc::Allocator;
+use std::process::Abort;
+
+/// Gives all blocks back, and answers how many there were.
+fn end_all<A: Allocator>(rt: &impl Abort, rest: Rest<A>) -> u32 {
+    let mut rest = rest;
+    for count in 0..1_000 {
+        match rest.next() {
+            None => return count,
+            Some((block, left)) => {
+                let _payload = block.into_payload();
+                rest = left;
+            }
+        }
+    }
+    panic!(rt; "blocks without end")
+}
+
+#[test]
+fn a_thread_drains_and_leaves(rt: HostRuntime) {
+    match HeapTable::new(rt.alloc(), 512, 10) {
+        Err(_) => panic!(rt; "memory"),
+        Ok((table, root)) => {
+            let mut root = root;
+            let mut seat = table.split(&mut root);
+            assert_eq!(rt; wake(&table, &mut seat), 0);
+            assert_eq!(rt; drain_word(&table, &mut seat, 15), 0);
+            assert_eq!(rt; close_word(&table, &mut seat, 0), 0);
+            assert_eq!(rt; close_word(&table, &mut seat, 1), 0);
+            drop(seat);
+            assert_eq!(rt; end_all(&rt, table.take_apart(root)), 266);
+        }
+    }
+}
