@@ -2,4 +2,3 @@ pub mod Placing
 pub mod Opened
 pub mod Remaining
 pub mod Bounding
-pub mod Marks

@@ -32,8 +32,4 @@ pub use seats::ThreadSeat;
 pub use table::HeapTable;
 
 #[cfg(test)]
-mod life;
-#[cfg(test)]
 mod tests;
-#[cfg(test)]
-mod worked_runs;

@@ -9,7 +9,7 @@ use std::alloc::Allocator;
 use std::process::Abort;
 
 /// Gives all blocks back, and answers how many there were; each is of the next cell.
-pub(crate) fn end_all<A: Allocator>(rt: &impl Abort, rest: Rest<A>) -> u32 {
+fn end_all<A: Allocator>(rt: &impl Abort, rest: Rest<A>) -> u32 {
     let mut rest = rest;
     for cell in 0..1_000 {
         match rest.next() {

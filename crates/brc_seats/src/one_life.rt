@@ -1,8 +1,9 @@
 //! One object's whole life, as calls on one seat.
 
-use crate::{Found, HeapTable};
+use crate::ends::end_all;
 use brc_block::{Block, Payload};
 use brc_runs::Dropped;
+use brc_table::{Found, HeapTable};
 use brc_words::Kind;
 use std::process::Abort;
 
@@ -42,7 +43,7 @@ fn an_object_lives_its_whole_life(rt: HostRuntime) {
             assert_eq!(rt; table.load_owner(&mut seat, 266), u64::MAX);
             drop(seat);
             let rest = table.take_apart(root);
-            crate::tests::end_all(&rt, rest);
+            end_all(&rt, rest);
         }
     }
 }

@@ -17,10 +17,10 @@ ghost use Rattle.brc_table.specs.Seated.{Continues};
 ghost use Rattle.brc_table.specs.Shown.{contents_of};
 ghost use Rattle.brc_words.specs.declared.kind.Kind.TheVariants as kinds;
 
-use crate::tests::end_all;
-use crate::{Found, HeapTable, RootSeat, ThreadSeat};
+use crate::ends::end_all;
 use brc_block::{Block, Cells, Entries, Pairs, Payload};
 use brc_runs::{Change, Dropped, Source};
+use brc_table::{Found, HeapTable, RootSeat, ThreadSeat};
 use brc_words::{Key, Kind};
 use std::alloc::Allocator;
 use std::process::Abort;
