@@ -89,7 +89,7 @@ module _ {B : Type 0} (shows : B → ℕ × Contents) (n limit : ℕ) where
       }
 
   pub ends_at_zero : (id : ℕ) (v : View) (slots : List (ℕ × Option B)) (c : ℕ) → v.active ≡ true → 0 < v.thread → c < n → Carries n v.log (SeeZero c) c
-      → Allows Rule n id (v, slots) (spot n (Of Shared c)) (λ there. there) (λ there me. Ended shows v slots (SeeZero c) c there (takes_block (SeeZero c) (cell_told (SeeZero c) there)) me)
+      → Allows Rule n id (v, slots) (spot n (Of Shared c)) (λ there. there) (λ there me. Ended shows n v slots (SeeZero c) c there (takes_block (SeeZero c) (cell_told (SeeZero c) there)) me)
   ends_at_zero id v slots c active some_thread low carries =
       end_step shows n limit id v slots (SeeZero c) c (Of Shared c) (λ there. there) active some_thread low low
       (λ h there known shown small. sees_zero h v.thread v.log c there some_thread known carries shown)
@@ -124,7 +124,7 @@ module _ {B : Type 0} (shows : B → ℕ × Contents) (n limit : ℕ) where
       }
 
   pub merges_at_zero : (id : ℕ) (v : View) (slots : List (ℕ × Option B)) (c : ℕ) → v.active ≡ true → 0 < v.thread → c < n → Carries n v.log (MergeZero c) c
-      → Allows Rule n id (v, slots) (spot n (Of Shared c)) (λ there. bit_or there 3) (λ there me. Ended shows v slots (MergeZero c) c there (takes_block (MergeZero c) (cell_told (MergeZero c) there)) me)
+      → Allows Rule n id (v, slots) (spot n (Of Shared c)) (λ there. bit_or there 3) (λ there me. Ended shows n v slots (MergeZero c) c there (takes_block (MergeZero c) (cell_told (MergeZero c) there)) me)
   merges_at_zero id v slots c active some_thread low carries =
       end_step shows n limit id v slots (MergeZero c) c (Of Shared c) (λ there. bit_or there 3) active some_thread low low
       (λ h there known shown small. merged_zero h v.thread v.log c there some_thread known carries shown)
@@ -187,7 +187,7 @@ module _ {B : Type 0} (shows : B → ℕ × Contents) (n limit : ℕ) where
 
   pub counts_last : (id : ℕ) (v : View) (slots : List (ℕ × Option B)) (drop : Dropped) (c : ℕ) → v.active ≡ true → 0 < v.thread → c < n → EndsRisen n v.log drop c
       → Allows Rule n id (v, slots) (spot n (Of Shared c)) (λ there. (there + (2 ^ 64 - 4)) % 2 ^ 64)
-      (λ there me. Ended shows v slots (LastDown (lasts.Dropped drop)) c there (takes_block (LastDown (lasts.Dropped drop)) (cell_told (LastDown (lasts.Dropped drop)) there)) me)
+      (λ there me. Ended shows n v slots (LastDown (lasts.Dropped drop)) c there (takes_block (LastDown (lasts.Dropped drop)) (cell_told (LastDown (lasts.Dropped drop)) there)) me)
   counts_last id v slots drop c active some_thread low ends =
       end_step shows n limit id v slots (LastDown (lasts.Dropped drop)) c (Of Shared c) (λ there. (there + (2 ^ 64 - 4)) % 2 ^ 64) active some_thread low low
       (λ h there known shown small. last_down h v.thread v.log (lasts.Dropped drop) c there some_thread known (risen_last h v.thread v.log drop c known ends) shown)

@@ -129,7 +129,7 @@ module _ {B : Type 0} (shows : B → ℕ × Contents) (n limit : ℕ) where
 
   pub ends_popped : (id : ℕ) (v : View) (slots : List (ℕ × Option B)) (c number : ℕ) → v.active ≡ true → 0 < v.thread → c < n → EndsPopped n v.log c number
       → Allows Rule n id (v, slots) (spot n (Of Shared c)) (λ there. (there + (2 ^ 64 - 4)) % 2 ^ 64)
-      (λ there me. Ended shows v slots (LastDown (lasts.Popped c)) c there (takes_block (LastDown (lasts.Popped c)) (cell_told (LastDown (lasts.Popped c)) there)) me)
+      (λ there me. Ended shows n v slots (LastDown (lasts.Popped c)) c there (takes_block (LastDown (lasts.Popped c)) (cell_told (LastDown (lasts.Popped c)) there)) me)
   ends_popped id v slots c number active some_thread low ends =
       end_step shows n limit id v slots (LastDown (lasts.Popped c)) c (Of Shared c) (λ there. (there + (2 ^ 64 - 4)) % 2 ^ 64) active some_thread low low
       (λ h there known shown small. last_down shows n limit h v.thread v.log (lasts.Popped c) c there some_thread known
@@ -143,7 +143,7 @@ module _ {B : Type 0} (shows : B → ℕ × Contents) (n limit : ℕ) where
 
   pub ends_added : (id : ℕ) (v : View) (slots : List (ℕ × Option B)) (c : ℕ) → v.active ≡ true → 0 < v.thread → c < n → EndsAdded n v.log c
       → Allows Rule n id (v, slots) (spot n (Of Shared c)) (λ there. (there + (2 ^ 64 - 4)) % 2 ^ 64)
-      (λ there me. Ended shows v slots (LastDown (lasts.Popped c)) c there (takes_block (LastDown (lasts.Popped c)) (cell_told (LastDown (lasts.Popped c)) there)) me)
+      (λ there me. Ended shows n v slots (LastDown (lasts.Popped c)) c there (takes_block (LastDown (lasts.Popped c)) (cell_told (LastDown (lasts.Popped c)) there)) me)
   ends_added id v slots c active some_thread low ends =
       end_step shows n limit id v slots (LastDown (lasts.Popped c)) c (Of Shared c) (λ there. (there + (2 ^ 64 - 4)) % 2 ^ 64) active some_thread low low
       (λ h there known shown small. last_down shows n limit h v.thread v.log (lasts.Popped c) c there some_thread known
@@ -163,7 +163,7 @@ module _ {B : Type 0} (shows : B → ℕ × Contents) (n limit : ℕ) where
 
   pub ends_held : (id : ℕ) (v : View) (slots : List (ℕ × Option B)) (c : ℕ) → v.active ≡ true → 0 < v.thread → c < n → EndsHeld n v.log c
       → Allows Rule n id (v, slots) (spot n (Of Shared c)) (λ there. (there + (2 ^ 64 - 4)) % 2 ^ 64)
-      (λ there me. Ended shows v slots (LastDown lasts.Hand) c there (takes_block (LastDown lasts.Hand) (cell_told (LastDown lasts.Hand) there)) me)
+      (λ there me. Ended shows n v slots (LastDown lasts.Hand) c there (takes_block (LastDown lasts.Hand) (cell_told (LastDown lasts.Hand) there)) me)
   ends_held id v slots c active some_thread low ends =
       end_step shows n limit id v slots (LastDown lasts.Hand) c (Of Shared c) (λ there. (there + (2 ^ 64 - 4)) % 2 ^ 64) active some_thread low low
       (λ h there known shown small. last_down shows n limit h v.thread v.log lasts.Hand c there some_thread known
@@ -185,7 +185,7 @@ module _ {B : Type 0} (shows : B → ℕ × Contents) (n limit : ℕ) where
 
   pub ends_nobodys : (id : ℕ) (v : View) (slots : List (ℕ × Option B)) (c : ℕ) → v.active ≡ true → 0 < v.thread → c < n → EndsNobodys n v.log c
       → Allows Rule n id (v, slots) (spot n (Of Shared c)) (λ there. (there + (2 ^ 64 - 4)) % 2 ^ 64)
-      (λ there me. Ended shows v slots (LastDown lasts.Hand) c there (takes_block (LastDown lasts.Hand) (cell_told (LastDown lasts.Hand) there)) me)
+      (λ there me. Ended shows n v slots (LastDown lasts.Hand) c there (takes_block (LastDown lasts.Hand) (cell_told (LastDown lasts.Hand) there)) me)
   ends_nobodys id v slots c active some_thread low ends =
       end_step shows n limit id v slots (LastDown lasts.Hand) c (Of Shared c) (λ there. (there + (2 ^ 64 - 4)) % 2 ^ 64) active some_thread low low
       (λ h there known shown small. last_down shows n limit h v.thread v.log lasts.Hand c there some_thread known (nobodys_fits h v.thread v.log c some_thread known ends) shown)

@@ -44,6 +44,7 @@ use Rattle.brc_rule.proofs.Knowing.{Known, knows, is_enabled, meant_there}
 use Rattle.brc_steps.proofs.Local_Steps.{fits_cell, read_cell}
 use Rattle.brc_rule.proofs.Looking.{lost, unmoved}
 use Rattle.brc_steps.proofs.Block_Steps.{block_moved}
+use Rattle.brc_steps.proofs.Taking_Steps.{unlisted_seen, found_cells}
 use Rattle.brc_rule.specs.Homes.{AtRest, ContentsFit}
 use Rattle.brc_rule.proofs.Contents_Law.{contents_fit}
 use Rattle.brc_rule.proofs.Locked_Contents.{locked_contents}
@@ -109,20 +110,29 @@ module _ {B : Type 0} (shows : B → ℕ × Contents) (n limit : ℕ) where
       (λ live unlocked off. omega (arith, some_thread, sym (ap (λ (y : Cell). y.mutex) now) ∙ unlocked)))
 
   pub locks_cell : (id : ℕ) (v : View) (slots : List (ℕ × Option B)) (k c : ℕ) → v.active ≡ true → 0 < v.thread → c < n → Carries n v.log (Lock k) c
-      → Allows Rule n id (v, slots) (spot n (Of Mutex c)) (λ there. either (there == 0) v.thread there) (λ there me. Locked shows v slots k c there (there == 0) me)
+      → Allows Rule n id (v, slots) (spot n (Of Mutex c)) (λ there. either (there == 0) v.thread there) (λ there me. Locked shows n v slots k c there (there == 0) me)
   locks_cell id v slots k c active some_thread low carries st r deep at small =
       let w = Of Mutex c in
       let there : ℕ = get_or st.words (spot n w) 0 in
       elim (cases_eq there 0) [
         | inl same ↦
+            let h : Heap = world n limit r.run in
+            let known : Known n limit h v.thread v.log = knows shows n limit st r id v at active some_thread in
+            let cell : Named h c = named_rests n limit h v.thread v.log c known (held_by_place h v.thread k c (meant_there n limit h v.thread v.log (Lock k) (Some c) known carries.cell)) in
             let lies : LiesThere shows st.homes c (contents_at r.run c) = lies_there st r id v k c at active some_thread low carries same in (
               with_told (Did (Lock k) 0 (moves.Found c (shows lies.block).1)) v,
               takes c (Some lies.block),
               lies.there,
               subst (λ b. Rule (record { words = set st.words (spot n w) (either b v.thread there); homes = set st.homes c none; views = set st.views id (with_told (Did (Lock k) 0 (moves.Found c (shows lies.block).1)) v) }))
                   (sym (eq-eqb there 0 same)) (locking st r id v k c at active some_thread low carries same lies),
-              subst (λ b. Locked shows v slots k c there b (with_told (Did (Lock k) 0 (moves.Found c (shows lies.block).1)) v, (c, Some lies.block) ∷ slots)) (sym (eq-eqb there 0 same))
-                  (record { block = lies.block; of_cell = lies.of_cell; after_is = refl }),
+              subst (λ b. Locked shows n v slots k c there b (with_told (Did (Lock k) 0 (moves.Found c (shows lies.block).1)) v, (c, Some lies.block) ∷ slots)) (sym (eq-eqb there 0 same))
+                  (record {
+                    block = lies.block;
+                    of_cell = lies.of_cell;
+                    fresh = unlisted_seen n limit h v.thread v.log c known some_thread (cell.rest.off v.thread);
+                    entries = found_cells n limit h v.thread v.log c _ known (ap entries_in lies.holds ∙ (contents_fit n limit r.run c r.options r.legal cell.rest).entries);
+                    after_is = refl;
+                  }),
             )
         | inr other ↦ (
           with_told (Lost w there) v,
@@ -130,7 +140,7 @@ module _ {B : Type 0} (shows : B → ℕ × Contents) (n limit : ℕ) where
           tt,
           subst (λ b. Rule (record { words = set st.words (spot n w) (either b v.thread there); homes = st.homes; views = set st.views id (with_told (Lost w there) v) })) (sym (ne_eqb there 0 other))
               (unmoved shows n limit st r id v w (Lost w there) at active low lost),
-          subst (λ b. Locked shows v slots k c there b (with_told (Lost w there) v, slots)) (sym (ne_eqb there 0 other)) refl,
+          subst (λ b. Locked shows n v slots k c there b (with_told (Lost w there) v, slots)) (sym (ne_eqb there 0 other)) refl,
         )
       ]
 

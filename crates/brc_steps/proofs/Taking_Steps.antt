@@ -1,5 +1,6 @@
 -- Steps that may take the block of a dead object: SeeZero, MergeZero, LastDown. The number found decides.
 use Rattle.std.proofs.Common.{◌≡◌, ℕ, ◌<◌, ◌^◌, Bool, true, false, if◌then◌else◌, List, [], ◌∷◌, length, set, get_or, Option, Some, None, refl, sym, ◌∙◌, ap, subst, inl, inr, arith}
+use Rattle.std.specs.Prelude.{slice_get}
 use Rattle.std.proofs.lemmas.Bool.{cases_Bool, true≢false}
 use mathlib.Core.Option.{some, none}
 use lib.ListN.{get_elem?}
@@ -15,18 +16,24 @@ use Rattle.brc_runs.proofs.Asking.{May, may_parts}
 use Rattle.brc_runs.proofs.Changes.{read_here}
 use Rattle.brc_runs.proofs.Reached.{reached_sound}
 use Rattle.brc_lasting.proofs.Lasting.{live_owner}
+use Rattle.brc_lasting.proofs.Ranges_Law.{entries_inside}
 use Rattle.brc_lasting.proofs.Standing.{taken_unlocked}
 use Rattle.brc_known.specs.declared.word.Word.{Word}
 use Rattle.brc_known.specs.Items.{IsWord, Shows, ToldBy, meets_closed, told_at, finds, works_on, cell_told}
+use Rattle.brc_known.specs.Taken.{listed_at, taken_of}
+use Rattle.brc_known.proofs.Taken_Law.{unmarked_unlisted}
 use Rattle.brc_rule.specs.declared.contents.Contents.{Contents}
 use Rattle.brc_rule.specs.declared.told.Moved.TheVariants as moves
+use Rattle.brc_rule.specs.declared.told.Told.{Told}
 use Rattle.brc_rule.specs.declared.told.Told.TheVariants.{Did}
 use Rattle.brc_rule.specs.declared.view.View.{View}
 use Rattle.brc_rule.specs.Layout.{spot}
-use Rattle.brc_rule.specs.Logs.{world, puts, takes_of, entries_in, contents_at}
+use Rattle.brc_rule.specs.Logs.{log_items, Run, items_of, world, puts, takes_of, entries_in, contents_at}
 use Rattle.brc_rule.specs.Homes.{LiesThere}
-use Rattle.brc_rule.specs.Rule.{with_told, Kept}
-use Rattle.brc_steps.specs.Taking.{Ended}
+use Rattle.brc_rule.specs.Rule.{stands, with_told, Kept}
+use Rattle.brc_rule.specs.Seen.{taken_seen}
+use Rattle.brc_steps.specs.Taking.{AreCells, Ended}
+use Rattle.brc_rule.proofs.Own_Logs.{own_items, stands_registered}
 use Rattle.brc_rule.proofs.Homing.{home_out}
 use Rattle.brc_rule.proofs.Stepping.{thread_enabled}
 use Rattle.brc_rule.proofs.Knowing.{Known, knows}
@@ -74,6 +81,23 @@ taken_mark h t s c sound may low frees takes_it =
     ∙ ap (λ b. is_marked (worklist_with false b c (worklist_at h t)) c) takes_it
     ∙ read_here (worklist_at h t) c true false (omega (arith, low, sound.shaped.marks t may.some_thread may.inside))
 
+-- ---- what the block is to its seat
+
+-- a cell that isn't on the thread's worklist is none of the dead blocks that its log tells
+pub unlisted_seen : (n limit : ℕ) (h : Heap) (t : ℕ) (log : List Told) (c : ℕ) → Known n limit h t log → 0 < t → is_marked (worklist_at h t) c ≡ false → listed_at (taken_seen n log) c ≡ None
+unlisted_seen n limit h t log c known some_thread off =
+    let run : Run = known.run in
+    let of_run : world n limit run ≡ h = known.is_world in
+    sym (ap (λ items. listed_at (taken_of n items) c) (own_items t run ∙ ap log_items known.is_own))
+    ∙ unmarked_unlisted n limit (items_of run) t c known.options known.legal.items
+    (stands_registered (world n limit run) t (ap (λ (z : Heap). stands z t) of_run ∙ known.stood) some_thread)
+    (ap (λ (z : Heap). is_marked (worklist_at z t) c) of_run ∙ off)
+
+-- entries that a cell has are cells of the heap
+pub found_cells : (n limit : ℕ) (h : Heap) (t : ℕ) (log : List Told) (c : ℕ) (entries : List ℕ) → Known n limit h t log → entries ≡ entries_at h c → AreCells n entries
+found_cells n limit h t log c entries known are i d there =
+    subst (λ cells. d < cells) known.cells (entries_inside h c i d known.reached (ap (λ (xs : List ℕ). slice_get xs i) (sym are) ∙ there))
+
 module _ {B : Type 0} (shows : B → ℕ × Contents) (n limit : ℕ) where
   abbrev Table : Type 0
   Table = State (Option B) View
@@ -115,7 +139,7 @@ module _ {B : Type 0} (shows : B → ℕ × Contents) (n limit : ℕ) where
   -- the number that is found decides whether the block is taken
   pub end_step : (id : ℕ) (v : View) (slots : List (ℕ × Option B)) (s : Step) (c : ℕ) (w : Word) (written : ℕ → ℕ) → v.active ≡ true → 0 < v.thread → c < n → IsWord n w
       → ((h : Heap) (there : ℕ) → Known n limit h v.thread v.log → Shows h w there → there < 2 ^ 64 → EndsOn h v.thread s c w (written there) there)
-      → Allows Rule n id (v, slots) (spot n w) written (λ there me. Ended shows v slots s c there (takes_block s (cell_told s there)) me)
+      → Allows Rule n id (v, slots) (spot n w) written (λ there me. Ended shows n v slots s c there (takes_block s (cell_told s there)) me)
   end_step id v slots s c w written active some_thread low is ends st r deep at small =
       let t : ℕ = v.thread in
       let h : Heap = world n limit r.run in
@@ -128,7 +152,7 @@ module _ {B : Type 0} (shows : B → ℕ × Contents) (n limit : ℕ) where
           keeps,
           tt,
           plainly shows n limit st r id v s w (written there) there at active some_thread is (plain_on n h t s c w (written there) there (not_taking h t s c w (written there) there e off)),
-          subst (λ b. Ended shows v slots s c there b (with_told (Did s there moves.Nothing) v, slots)) (sym (e.number_tells ∙ off)) refl,
+          subst (λ b. Ended shows n v slots s c there b (with_told (Did s there moves.Nothing) v, slots)) (sym (e.number_tells ∙ off)) refl,
         )
         | inl on ↦
             let lies : LiesThere shows st.homes c (contents_at r.run c) = (r.each_home c low).lies e.live (unlocked h t s c known e on) e.unmarked in (
@@ -136,8 +160,14 @@ module _ {B : Type 0} (shows : B → ℕ × Contents) (n limit : ℕ) where
               takes c (Some lies.block),
               lies.there,
               taking st r id v s c w (written there) there at active some_thread low is e on lies,
-              subst (λ b. Ended shows v slots s c there b (with_told (Did s there (moves.Found c (shows lies.block).1)) v, (c, Some lies.block) ∷ slots)) (sym (e.number_tells ∙ on))
-                  (record { block = lies.block; of_cell = lies.of_cell; after_is = refl }),
+              subst (λ b. Ended shows n v slots s c there b (with_told (Did s there (moves.Found c (shows lies.block).1)) v, (c, Some lies.block) ∷ slots)) (sym (e.number_tells ∙ on))
+                  (record {
+                    block = lies.block;
+                    of_cell = lies.of_cell;
+                    fresh = unlisted_seen n limit h t v.log c known some_thread (e.unmarked t);
+                    entries = found_cells n limit h t v.log c _ known (ap entries_in lies.holds ∙ (contents_fit n limit r.run c r.options r.legal (record { live = e.live; off = e.unmarked })).entries);
+                    after_is = refl;
+                  }),
             )
       ]
     where

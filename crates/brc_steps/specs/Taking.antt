@@ -1,25 +1,35 @@
 -- What a step that may take a block tells its seat.
-use Rattle.std.specs.Prelude.{◌≡◌, ℕ, Bool, true, false, List, ◌∷◌, Option, Some, None, ◌^◌, ◌-◌}
+use Rattle.std.specs.Prelude.{◌≡◌, ℕ, ◌<◌, Bool, true, false, List, ◌∷◌, Option, Some, None, ◌^◌, ◌-◌, slice_get}
 use Rattle.atomic_table.specs.Table.{Me}
 use Rattle.brc_runs.specs.declared.event.Step.{Step}
 use Rattle.brc_runs.specs.declared.event.Step.TheVariants.{Claim, Lock}
+use Rattle.brc_known.specs.Taken.{listed_at}
 use Rattle.brc_known.specs.declared.word.Field.TheVariants.{Owner as OwnerWord, Mutex}
 use Rattle.brc_known.specs.declared.word.Word.TheVariants.{Of}
 use Rattle.brc_rule.specs.declared.contents.Contents.{Contents}
 use Rattle.brc_rule.specs.declared.told.Moved.TheVariants as moves
 use Rattle.brc_rule.specs.declared.told.Told.TheVariants.{Did, Lost}
 use Rattle.brc_rule.specs.declared.view.View.{View}
+use Rattle.brc_rule.specs.Logs.{entries_in}
 use Rattle.brc_rule.specs.Rule.{with_told}
+use Rattle.brc_rule.specs.Seen.{taken_seen}
 
--- the seat has the cell's block now, and its log the contents that were found in it
-pub record TookBlock {B : Type 0} (shows : B → ℕ × Contents) (v : View) (slots : List (ℕ × Option B)) (s : Step) (c number : ℕ) (me : Me (Option B) View) : Type 0 where
+-- each of the entries is one of so many cells
+abbrev pub AreCells : ℕ → List ℕ → Type 0
+AreCells n entries = (i c : ℕ) → slice_get entries i ≡ Some c → c < n
+
+-- The seat has the cell's block now, and its log the contents that were found in it. It was none of the dead blocks that
+-- the seat had, and its entries are cells of the heap.
+pub record TookBlock {B : Type 0} (shows : B → ℕ × Contents) (n : ℕ) (v : View) (slots : List (ℕ × Option B)) (s : Step) (c number : ℕ) (me : Me (Option B) View) : Type 0 where
   pub block : B
   pub of_cell : (shows block).0 ≡ c
+  pub fresh : listed_at (taken_seen n v.log) c ≡ None
+  pub entries : AreCells n (entries_in (shows block).1)
   pub after_is : me ≡ (with_told (Did s number (moves.Found c (shows block).1)) v, (c, Some block) ∷ slots)
 
-abbrev pub Ended : {B : Type 0} → (B → ℕ × Contents) → View → List (ℕ × Option B) → Step → ℕ → ℕ → Bool → Me (Option B) View → Type 0
-Ended shows v slots s c number false me = me ≡ (with_told (Did s number moves.Nothing) v, slots)
-Ended shows v slots s c number true me = TookBlock shows v slots s c number me
+abbrev pub Ended : {B : Type 0} → (B → ℕ × Contents) → ℕ → View → List (ℕ × Option B) → Step → ℕ → ℕ → Bool → Me (Option B) View → Type 0
+Ended shows n v slots s c number false me = me ≡ (with_told (Did s number moves.Nothing) v, slots)
+Ended shows n v slots s c number true me = TookBlock shows n v slots s c number me
 
 -- The cell is the thread's to make an object in, and its empty slot is out with the seat; or it wasn't free.
 abbrev pub Claimed : {B : Type 0} → View → List (ℕ × Option B) → ℕ → ℕ → Bool → Me (Option B) View → Type 0
@@ -27,6 +37,6 @@ Claimed v slots c number true me = me ≡ (with_told (Did (Claim c) (2 ^ 64 - 1)
 Claimed v slots c number false me = me ≡ (with_told (Lost (Of OwnerWord c) number) v, slots)
 
 -- The object is locked, and the seat has its block with the contents found; or its mutex wasn't 0.
-abbrev pub Locked : {B : Type 0} → (B → ℕ × Contents) → View → List (ℕ × Option B) → ℕ → ℕ → ℕ → Bool → Me (Option B) View → Type 0
-Locked shows v slots k c number true me = TookBlock shows v slots (Lock k) c 0 me
-Locked shows v slots k c number false me = me ≡ (with_told (Lost (Of Mutex c) number) v, slots)
+abbrev pub Locked : {B : Type 0} → (B → ℕ × Contents) → ℕ → View → List (ℕ × Option B) → ℕ → ℕ → ℕ → Bool → Me (Option B) View → Type 0
+Locked shows n v slots k c number true me = TookBlock shows n v slots (Lock k) c 0 me
+Locked shows n v slots k c number false me = me ≡ (with_told (Lost (Of Mutex c) number) v, slots)

@@ -77,15 +77,15 @@ pub fn objects_end<B>()
     ensures see_zero { (shows : B → ℕ × contents) (n limit id : ℕ) (v : view) (slots : List (ℕ × Option B)) (c : ℕ)
         → v.active ≡ true → 0 < v.thread → c < n → Carries n v.log (steps.SeeZero c) c
         → Allows (Kept shows n limit) n id (v, slots) (spot n (words.Of fields.Shared c)) (λ there. there)
-        (λ there me. Ended shows v slots (steps.SeeZero c) c there (takes_block (steps.SeeZero c) (cell_told (steps.SeeZero c) there)) me) }
+        (λ there me. Ended shows n v slots (steps.SeeZero c) c there (takes_block (steps.SeeZero c) (cell_told (steps.SeeZero c) there)) me) }
     ensures merge_zero { (shows : B → ℕ × contents) (n limit id : ℕ) (v : view) (slots : List (ℕ × Option B)) (c : ℕ)
         → v.active ≡ true → 0 < v.thread → c < n → Carries n v.log (steps.MergeZero c) c
         → Allows (Kept shows n limit) n id (v, slots) (spot n (words.Of fields.Shared c)) (λ there. bit_or there 3)
-        (λ there me. Ended shows v slots (steps.MergeZero c) c there (takes_block (steps.MergeZero c) (cell_told (steps.MergeZero c) there)) me) }
+        (λ there me. Ended shows n v slots (steps.MergeZero c) c there (takes_block (steps.MergeZero c) (cell_told (steps.MergeZero c) there)) me) }
     ensures last_down { (shows : B → ℕ × contents) (n limit id : ℕ) (v : view) (slots : List (ℕ × Option B)) (drop : dropped) (c : ℕ)
         → v.active ≡ true → 0 < v.thread → c < n → EndsRisen n v.log drop c
         → Allows (Kept shows n limit) n id (v, slots) (spot n (words.Of fields.Shared c)) (λ there. (there + (2 ^ 64 - 4)) % 2 ^ 64)
-        (λ there me. Ended shows v slots (steps.LastDown (lasts.Dropped drop)) c there
+        (λ there me. Ended shows n v slots (steps.LastDown (lasts.Dropped drop)) c there
         (takes_block (steps.LastDown (lasts.Dropped drop)) (cell_told (steps.LastDown (lasts.Dropped drop)) there)) me) }
 {}
 
@@ -122,7 +122,7 @@ pub fn objects_are_locked<B>()
     ensures lock { (shows : B → ℕ × contents) (n limit id : ℕ) (v : view) (slots : List (ℕ × Option B)) (k c : ℕ)
         → v.active ≡ true → 0 < v.thread → c < n → Carries n v.log (steps.Lock k) c
         → Allows (Kept shows n limit) n id (v, slots) (spot n (words.Of fields.Mutex c)) (λ there. either (there == 0) v.thread there)
-        (λ there me. Locked shows v slots k c there (there == 0) me) }
+        (λ there me. Locked shows n v slots k c there (there == 0) me) }
     ensures unlock { (shows : B → ℕ × contents) (n limit id : ℕ) (v : view) (rest : List (ℕ × Option B)) (block : B) (found : contents) (change : change) (c : ℕ)
         → v.active ≡ true → 0 < v.thread → c < n → Unlocks n v.log (shows block) found change c
         → Allows (Kept shows n limit) n id (v, (c, Some block) ∷ rest) (spot n (words.Of fields.Mutex c)) (λ there. 0)
@@ -169,22 +169,22 @@ pub fn queued_references_end<B>()
     ensures popped { (shows : B → ℕ × contents) (n limit id : ℕ) (v : view) (slots : List (ℕ × Option B)) (c number : ℕ)
         → v.active ≡ true → 0 < v.thread → c < n → EndsPopped n v.log c number
         → Allows (Kept shows n limit) n id (v, slots) (spot n (words.Of fields.Shared c)) (λ there. (there + (2 ^ 64 - 4)) % 2 ^ 64)
-        (λ there me. Ended shows v slots (steps.LastDown (lasts.Popped c)) c there
+        (λ there me. Ended shows n v slots (steps.LastDown (lasts.Popped c)) c there
         (takes_block (steps.LastDown (lasts.Popped c)) (cell_told (steps.LastDown (lasts.Popped c)) there)) me) }
     ensures added { (shows : B → ℕ × contents) (n limit id : ℕ) (v : view) (slots : List (ℕ × Option B)) (c : ℕ)
         → v.active ≡ true → 0 < v.thread → c < n → EndsAdded n v.log c
         → Allows (Kept shows n limit) n id (v, slots) (spot n (words.Of fields.Shared c)) (λ there. (there + (2 ^ 64 - 4)) % 2 ^ 64)
-        (λ there me. Ended shows v slots (steps.LastDown (lasts.Popped c)) c there
+        (λ there me. Ended shows n v slots (steps.LastDown (lasts.Popped c)) c there
         (takes_block (steps.LastDown (lasts.Popped c)) (cell_told (steps.LastDown (lasts.Popped c)) there)) me) }
     ensures held { (shows : B → ℕ × contents) (n limit id : ℕ) (v : view) (slots : List (ℕ × Option B)) (c : ℕ)
         → v.active ≡ true → 0 < v.thread → c < n → EndsHeld n v.log c
         → Allows (Kept shows n limit) n id (v, slots) (spot n (words.Of fields.Shared c)) (λ there. (there + (2 ^ 64 - 4)) % 2 ^ 64)
-        (λ there me. Ended shows v slots (steps.LastDown lasts.Hand) c there
+        (λ there me. Ended shows n v slots (steps.LastDown lasts.Hand) c there
         (takes_block (steps.LastDown lasts.Hand) (cell_told (steps.LastDown lasts.Hand) there)) me) }
     ensures nobodys { (shows : B → ℕ × contents) (n limit id : ℕ) (v : view) (slots : List (ℕ × Option B)) (c : ℕ)
         → v.active ≡ true → 0 < v.thread → c < n → EndsNobodys n v.log c
         → Allows (Kept shows n limit) n id (v, slots) (spot n (words.Of fields.Shared c)) (λ there. (there + (2 ^ 64 - 4)) % 2 ^ 64)
-        (λ there me. Ended shows v slots (steps.LastDown lasts.Hand) c there
+        (λ there me. Ended shows n v slots (steps.LastDown lasts.Hand) c there
         (takes_block (steps.LastDown lasts.Hand) (cell_told (steps.LastDown lasts.Hand) there)) me) }
 {}
 

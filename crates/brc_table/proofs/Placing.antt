@@ -2,6 +2,7 @@
 -- one that the table allows.
 use Rattle.std.proofs.Common.{◌≡◌, ℕ, ◌<◌, ◌≤◌, ◌==◌, ◌/◌, Bool, true, List, Option, sym, subst, arith}
 use prog.Atomic.{either}
+use Rattle.atomic_table.specs.Seated.{TableId}
 use Rattle.atomic_table.specs.Table.{Me, Allows, Splits, Joins}
 use Rattle.brc_known.specs.declared.word.Word.{Word}
 use Rattle.brc_known.specs.declared.word.Word.TheVariants.{Queue, NotifyWord}
@@ -20,7 +21,9 @@ use Rattle.brc_runs.specs.Steps.{is_left, is_free_hand}
 use Rattle.brc_words.specs.declared.limits.TheConstants.{MOST_CELLS, MOST_THREADS}
 use Rattle.brc_steps.specs.Joining.{next_thread, registering, starting, gathering, spent, Leaves}
 use Rattle.brc_steps.proofs.Root_Steps.{splits, joins}
+use Rattle.brc_table.specs.declared.rule.Sizes.{Sizes}
 use Rattle.brc_table.specs.Machine.{exchanged, MayTell, MayFind, MayExchange}
+use Rattle.brc_table.specs.Seated.{TableSeen, Sized}
 use Rattle.brc_rule.proofs.Spots.{inside}
 
 -- a word's spot is one of the table's
@@ -28,34 +31,50 @@ pub spot_inside : (n at wide : ℕ) (w : Word) → IsWord n w → at ≡ spot n 
 spot_inside n at wide w is there size = subst (λ (z : ℕ × ℕ). z.0 < z.1) (λ i. (sym there i, sym size i)) (inside n w is)
 
 module _ {B : Type 0} (shows : B → ℕ × Contents) where
-  -- a step that the rule allows at the table's sizes
-  pub step_allowed : (n limit cells most slots at id : ℕ) (me : Me (Option B) View) (f : ℕ → ℕ) (told : ℕ → Me (Option B) View → Type 0) (w : Word)
+  -- at the sizes of its rule's key and with its slots
+  keyed : (n limit cells most slots at id : ℕ) (me : Me (Option B) View) (f : ℕ → ℕ) (told : ℕ → Me (Option B) View → Type 0) (w : Word)
       → cells ≡ n → most ≡ limit → slots ≡ n → at ≡ spot n w
       → Allows (Kept shows n limit) n id me (spot n w) f told
       → Allows (Kept shows cells most) slots id me at f told
-  step_allowed n limit cells most slots at id me f told w same_cells same_most same_slots there allowed =
+  keyed n limit cells most slots at id me f told w same_cells same_most same_slots there allowed =
       subst (λ (z : ℕ × (ℕ × (ℕ × ℕ))). Allows (Kept shows z.0 z.1.0) z.1.1.0 id me z.1.1.1 f told)
       (λ i. (sym same_cells i, (sym same_most i, (sym same_slots i, sym there i)))) allowed
 
-  pub step_told : (n limit cells most slots at id : ℕ) (me : Me (Option B) View) (f : ℕ → ℕ) (item : ℕ → Told) (w : Word)
-      → cells ≡ n → most ≡ limit → slots ≡ n → at ≡ spot n w
-      → MayTell shows n limit id me w f item
-      → Allows (Kept shows cells most) slots id me at f (λ there after. after ≡ (with_told (item there) me.0, me.1))
-  step_told n limit cells most slots at id me f item w = step_allowed n limit cells most slots at id me f (λ there after. after ≡ (with_told (item there) me.0, me.1)) w
+  module _ {key : Sizes} {table seat_at : TableId} {n limit at id : ℕ} {seen : TableSeen} where
+    -- What an operation on a word asks of the table itself, by what contracts see of it: the seat is the table's, the spot is
+    -- one of its words, and its rule allows the step.
+    pub step_allowed : (me : Me (Option B) View) (f : ℕ → ℕ) (told : ℕ → Me (Option B) View → Type 0) (w : Word)
+        → Sized key table n limit → record { table = table; cells = n; local_limit = limit } ≡ seen → at ≡ spot n w
+        → seat_at ≡ seen.table → IsWord seen.cells w → Allows (Kept shows seen.cells seen.local_limit) seen.cells id me (spot seen.cells w) f told
+        → (seat_at ≡ table) × (at < table.words) × Allows (Kept shows key.cells key.local_limit) table.slots id me at f told
+    step_allowed me f told w sized is_seen there =
+        subst (λ (z : TableSeen). seat_at ≡ z.table → IsWord z.cells w → Allows (Kept shows z.cells z.local_limit) z.cells id me (spot z.cells w) f told
+        → (seat_at ≡ table) × (at < table.words) × Allows (Kept shows key.cells key.local_limit) table.slots id me at f told) is_seen
+        (λ same is allowed. (
+          same,
+          spot_inside n at table.words w is there sized.words,
+          keyed n limit key.cells key.local_limit table.slots at id me f told w sized.same_cells sized.same_limit sized.slots there allowed,
+        ))
 
-  pub step_exchanged : (n limit cells most slots at id : ℕ) (me : Me (Option B) View) (noted : Word) (old new : ℕ) (won : Told) (w : Word)
-      → cells ≡ n → most ≡ limit → slots ≡ n → at ≡ spot n w
-      → MayExchange shows n limit id me w noted old new won
-      → Allows (Kept shows cells most) slots id me at (λ there. either (there == old) new there) (λ there after. after ≡ (exchanged noted old won there me.0, me.1))
-  step_exchanged n limit cells most slots at id me noted old new won w =
-      step_allowed n limit cells most slots at id me (λ there. either (there == old) new there) (λ there after. after ≡ (exchanged noted old won there me.0, me.1)) w
+    pub step_told : (me : Me (Option B) View) (f : ℕ → ℕ) (item : ℕ → Told) (w : Word)
+        → Sized key table n limit → record { table = table; cells = n; local_limit = limit } ≡ seen → at ≡ spot n w
+        → seat_at ≡ seen.table → IsWord seen.cells w → MayTell shows seen.cells seen.local_limit id me w f item
+        → (seat_at ≡ table) × (at < table.words) × Allows (Kept shows key.cells key.local_limit) table.slots id me at f (λ there after. after ≡ (with_told (item there) me.0, me.1))
+    step_told me f item w = step_allowed me f (λ there after. after ≡ (with_told (item there) me.0, me.1)) w
 
-  pub step_found : (n limit cells most slots at id : ℕ) (me : Me (Option B) View) (noted : Word) (known : Bool) (bound : ℕ) (w : Word)
-      → cells ≡ n → most ≡ limit → slots ≡ n → at ≡ spot n w
-      → MayFind shows n limit id me w noted known bound
-      → Allows (Kept shows cells most) slots id me at (λ there. there) (λ there after. (after ≡ (with_told (Saw noted there) me.0, me.1)) × (known ≡ true → there ≤ bound))
-  step_found n limit cells most slots at id me noted known bound w =
-      step_allowed n limit cells most slots at id me (λ there. there) (λ there after. (after ≡ (with_told (Saw noted there) me.0, me.1)) × (known ≡ true → there ≤ bound)) w
+    pub step_exchanged : (me : Me (Option B) View) (noted : Word) (old new : ℕ) (won : Told) (w : Word)
+        → Sized key table n limit → record { table = table; cells = n; local_limit = limit } ≡ seen → at ≡ spot n w
+        → seat_at ≡ seen.table → IsWord seen.cells w → MayExchange shows seen.cells seen.local_limit id me w noted old new won
+        → (seat_at ≡ table) × (at < table.words)
+        × Allows (Kept shows key.cells key.local_limit) table.slots id me at (λ there. either (there == old) new there) (λ there after. after ≡ (exchanged noted old won there me.0, me.1))
+    step_exchanged me noted old new won w = step_allowed me (λ there. either (there == old) new there) (λ there after. after ≡ (exchanged noted old won there me.0, me.1)) w
+
+    pub step_found : (me : Me (Option B) View) (noted : Word) (known : Bool) (bound : ℕ) (w : Word)
+        → Sized key table n limit → record { table = table; cells = n; local_limit = limit } ≡ seen → at ≡ spot n w
+        → seat_at ≡ seen.table → IsWord seen.cells w → MayFind shows seen.cells seen.local_limit id me w noted known bound
+        → (seat_at ≡ table) × (at < table.words)
+        × Allows (Kept shows key.cells key.local_limit) table.slots id me at (λ there. there) (λ there after. (after ≡ (with_told (Saw noted there) me.0, me.1)) × (known ≡ true → there ≤ bound))
+    step_found me noted known bound w = step_allowed me (λ there. there) (λ there after. (after ≡ (with_told (Saw noted there) me.0, me.1)) × (known ≡ true → there ≤ bound)) w
 
   -- a thread's seat is split off, and one that has left is joined
   pub split_allowed : (cells most id : ℕ) (v : View) → v.active ≡ true → v.thread ≡ 0 → next_thread v ≤ MOST_THREADS → Splits (Kept shows cells most) id v (registering v) (starting v)

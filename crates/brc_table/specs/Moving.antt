@@ -65,17 +65,18 @@ module _ {A : Type 0} where
   -- ---- what an operation may be
 
   module _ (n limit id : ℕ) (me : Me (Option (ℕ × Payload A)) View) where
-    -- the shared word becomes f of what it was, as this step, and where the object is dead the seat has its block
-    abbrev pub MayEnd : ℕ → (ℕ → ℕ) → Step → ℕ → Type 0
-    MayEnd c f s d = Allows (Kept shows n limit) n id me (spot n (Of Shared c)) f (λ there after. Ended shows me.0 me.1 s d there (takes_block s (cell_told s there)) after)
+    -- The shared word becomes f of what it was, as this step, and where the object is dead the seat has its block. m and d are
+    -- n and c, as a ghost value gives them to what is told; so below.
+    abbrev pub MayEnd : ℕ → (ℕ → ℕ) → ℕ → Step → ℕ → Type 0
+    MayEnd c f m s d = Allows (Kept shows n limit) n id me (spot n (Of Shared c)) f (λ there after. Ended shows m me.0 me.1 s d there (takes_block s (cell_told s there)) after)
 
     -- a free cell's owner word becomes the new number, and the seat has its slot
     abbrev pub MayClaim : ℕ → ℕ → ℕ → Type 0
     MayClaim c new d = Allows (Kept shows n limit) n id me (spot n (Of Owner c)) (λ there. either (there == 2 ^ 64 - 1) new there) (λ there after. Claimed me.0 me.1 d there (there == 2 ^ 64 - 1) after)
 
     -- an unlocked object's mutex word becomes the new number, and the seat has its block
-    abbrev pub MayLock : ℕ → ℕ → ℕ → ℕ → Type 0
-    MayLock c new k d = Allows (Kept shows n limit) n id me (spot n (Of Mutex c)) (λ there. either (there == 0) new there) (λ there after. Locked shows me.0 me.1 k d there (there == 0) after)
+    abbrev pub MayLock : ℕ → ℕ → ℕ → ℕ → ℕ → Type 0
+    MayLock c new m k d = Allows (Kept shows n limit) n id me (spot n (Of Mutex c)) (λ there. either (there == 0) new there) (λ there after. Locked shows m me.0 me.1 k d there (there == 0) after)
 
     -- a word becomes the new number, as the item, and the slot that the seat took last is home
     abbrev pub MayGive : Word → ℕ → Told → Type 0

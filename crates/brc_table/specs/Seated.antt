@@ -1,10 +1,29 @@
--- What contracts see of a thread's seat.
-use Rattle.std.specs.Prelude.{◌≡◌, ℕ, true, List, [], Option}
+-- What contracts see of a table and of its seats.
+use Rattle.std.specs.Prelude.{◌≡◌, ◌≤◌, ℕ, true, List, [], Option}
 use Rattle.atomic_table.specs.Seated.{TableId}
 use Rattle.brc_block.specs.declared.payload.Payload.{Payload}
+use Rattle.brc_words.specs.declared.limits.TheConstants.{MOST_CELLS, MOST_LOCAL}
+use Rattle.brc_rule.specs.Layout.{extent}
+use Rattle.brc_table.specs.declared.rule.Sizes.{Sizes}
 use Rattle.brc_rule.specs.declared.told.Told.{Told}
 use Rattle.brc_rule.specs.declared.view.View.{View}
 
+-- which table it is, of how many cells, and how far an owner counts on its own
+pub record TableSeen : Type 0 where
+  pub table : TableId
+  pub cells : ℕ
+  pub local_limit : ℕ
+
+-- a table's rule is at its sizes, and it has the words and slots that they ask for
+pub record Sized (key : Sizes) (table : TableId) (cells local_limit : ℕ) : Type 0 where
+  pub same_cells : key.cells ≡ cells
+  pub same_limit : key.local_limit ≡ local_limit
+  pub words : table.words ≡ extent cells
+  pub slots : table.slots ≡ cells
+  pub few_cells : cells ≤ MOST_CELLS
+  pub low_limit : local_limit ≤ MOST_LOCAL
+
+-- what they see of a thread's seat
 pub record SeatSeen (A : Type 0) : Type 0 where
   pub table : TableId
   pub id : ℕ

@@ -31,7 +31,7 @@ impl<A: Allocator> HeapTable<A> {
         cell: u32,
         count: u32,
     )
-        requires table { seat.old.table ≡ self.now.table.shared.table_id }
+        requires table { seat.old.table ≡ self.now.table }
         requires inside { cell < self.now.cells }
         requires raises { Raises self.now.cells self.now.local_limit seat.old.log source place cell count }
         ensures told { seat.new.log ≡ told.Did (steps.LocalUp source place) (count + 1) moves.Nothing ∷ seat.old.log }
@@ -48,7 +48,7 @@ impl<A: Allocator> HeapTable<A> {
     #[tactic(auto, using(brc_steps::proofs::Local_Steps::counts_down))]
     /// LocalDown: it counts down.
     pub fn local_down(&self, seat: &mut ThreadSeat<A>, drop: Dropped, cell: u32, count: u32)
-        requires table { seat.old.table ≡ self.now.table.shared.table_id }
+        requires table { seat.old.table ≡ self.now.table }
         requires inside { cell < self.now.cells }
         requires lowers { Lowers self.now.cells seat.old.log drop cell count }
         ensures told { seat.new.log ≡ told.Did (steps.LocalDown drop) (count - 1) moves.Nothing ∷ seat.old.log }
@@ -70,7 +70,7 @@ impl<A: Allocator> HeapTable<A> {
         place: u32,
         cell: u32,
     ) -> u64
-        requires table { seat.old.table ≡ self.now.table.shared.table_id }
+        requires table { seat.old.table ≡ self.now.table }
         requires inside { cell < self.now.cells }
         requires raises { RaisesImmortal self.now.cells seat.old.log source place cell }
         ensures told { seat.new.log ≡ told.Did (steps.LocalUp source place) result moves.Nothing ∷ seat.old.log }
@@ -87,7 +87,7 @@ impl<A: Allocator> HeapTable<A> {
     #[tactic(auto, using(brc_steps::proofs::Local_Steps::counts_immortal_down))]
     /// LocalDown of an immortal.
     pub fn immortal_down(&self, seat: &mut ThreadSeat<A>, drop: Dropped, cell: u32) -> u64
-        requires table { seat.old.table ≡ self.now.table.shared.table_id }
+        requires table { seat.old.table ≡ self.now.table }
         requires inside { cell < self.now.cells }
         requires lowers { LowersImmortal self.now.cells seat.old.log drop cell }
         ensures told { seat.new.log ≡ told.Did (steps.LocalDown drop) result moves.Nothing ∷ seat.old.log }
@@ -102,7 +102,7 @@ impl<A: Allocator> HeapTable<A> {
     #[tactic(auto, using(brc_steps::proofs::Shared_Steps::counts_up_shared))]
     /// SharedUp: anyone else counts up, and the owner at its limit.
     pub fn shared_up(&self, seat: &mut ThreadSeat<A>, source: Source, place: u32, cell: u32) -> u64
-        requires table { seat.old.table ≡ self.now.table.shared.table_id }
+        requires table { seat.old.table ≡ self.now.table }
         requires inside { cell < self.now.cells }
         requires raises { RaisesShared self.now.cells self.now.local_limit seat.old.log source place cell }
         ensures told { seat.new.log ≡ told.Did (steps.SharedUp source place) result moves.Nothing ∷ seat.old.log }
@@ -120,7 +120,7 @@ impl<A: Allocator> HeapTable<A> {
     #[tactic(auto, using(brc_steps::proofs::Shared_Steps::asks))]
     /// Ask: the reference is to be merged, and is in the hand now where nobody had asked.
     pub fn ask(&self, seat: &mut ThreadSeat<A>, drop: Dropped, cell: u32) -> u64
-        requires table { seat.old.table ≡ self.now.table.shared.table_id }
+        requires table { seat.old.table ≡ self.now.table }
         requires inside { cell < self.now.cells }
         requires releases { Releases self.now.cells seat.old.log (steps.Ask drop) cell }
         ensures told { seat.new.log ≡ told.Did (steps.Ask drop) result moves.Nothing ∷ seat.old.log }
@@ -142,7 +142,7 @@ impl<A: Allocator> HeapTable<A> {
         cell: u32,
         old: u64,
     ) -> Result<(), u64>
-        requires table { seat.old.table ≡ self.now.table.shared.table_id }
+        requires table { seat.old.table ≡ self.now.table }
         requires inside { cell < self.now.cells }
         requires releases { Releases self.now.cells seat.old.log (steps.SharedDown drop) cell }
         requires default { old % 4 ≡ 0 }

@@ -1,15 +1,18 @@
 //! The ends of objects: where the number found says that the object is dead, the call answers its block, with the contents
 //! as they were put home last.
 
-ghost use Rattle.std.specs.Prelude.{◌≡◌, ◌<◌, ◌≤◌, ◌∷◌, IfSome};
+ghost use Rattle.std.specs.Prelude.{◌≡◌, ◌<◌, ◌≤◌, ◌∷◌, None, IfSome};
 ghost use Rattle.brc_runs.specs.declared.event.LastDropped.TheVariants as lasts;
 ghost use Rattle.brc_runs.specs.declared.event.Step.TheVariants as steps;
 ghost use Rattle.brc_runs.specs.declared.row.Hand.TheVariants as hands;
 ghost use Rattle.brc_runs.specs.Steps.{takes_block};
 ghost use Rattle.brc_known.specs.Going_On.{handing, taking, seeing_zero, dropping_last, settling};
 ghost use Rattle.brc_known.specs.Items.{cell_told};
+ghost use Rattle.brc_known.specs.Taken.{listed_at};
 ghost use Rattle.brc_rule.specs.declared.told.Told.TheVariants as told;
+ghost use Rattle.brc_rule.specs.Seen.{taken_seen};
 ghost use Rattle.brc_steps.specs.Owing.{Carries, EndsRisen, EndsPopped, EndsAdded, EndsHeld, EndsNobodys};
+ghost use Rattle.brc_steps.specs.Taking.{AreCells};
 ghost use Rattle.brc_table.specs.Knowing.{known_seen, entries_of, Knows, Keeps};
 ghost use Rattle.brc_table.specs.Moving.{is_there, found_in, out_with};
 ghost use Rattle.brc_table.specs.Seated.{Continues};
@@ -24,10 +27,12 @@ impl<A: Allocator> HeapTable<A> {
     #[tactic(auto, using(brc_steps::proofs::Ending_Steps::ends_at_zero))]
     /// SeeZero: an own object whose count is 0 is dead where nobody else counted or asked.
     pub fn see_zero(&self, seat: &mut ThreadSeat<A>, cell: u32) -> Found<A>
-        requires table { seat.old.table ≡ self.now.table.shared.table_id }
+        requires table { seat.old.table ≡ self.now.table }
         requires inside { cell < self.now.cells }
         requires carries { Carries self.now.cells seat.old.log (steps.SeeZero cell) cell }
         ensures of_cell { IfSome result.block (λ block. block.0 ≡ cell) }
+        ensures fresh { IfSome result.block (λ block. listed_at (taken_seen self.now.cells seat.old.log) cell ≡ None) }
+        ensures entries { AreCells self.now.cells (entries_of result.block) }
         ensures dead { is_there result.block ≡ takes_block (steps.SeeZero cell) (cell_told (steps.SeeZero cell) result.number) }
         ensures told { seat.new.log ≡ told.Did (steps.SeeZero cell) result.number (found_in cell result.block) ∷ seat.old.log }
         ensures out { seat.new.slots ≡ out_with cell result.block seat.old.slots }
@@ -42,10 +47,12 @@ impl<A: Allocator> HeapTable<A> {
     #[tactic(auto, using(brc_steps::proofs::Ending_Steps::merges_at_zero))]
     /// MergeZero: the state is merged, and the object is dead where its count is 0.
     pub fn merge_zero(&self, seat: &mut ThreadSeat<A>, cell: u32) -> Found<A>
-        requires table { seat.old.table ≡ self.now.table.shared.table_id }
+        requires table { seat.old.table ≡ self.now.table }
         requires inside { cell < self.now.cells }
         requires carries { Carries self.now.cells seat.old.log (steps.MergeZero cell) cell }
         ensures of_cell { IfSome result.block (λ block. block.0 ≡ cell) }
+        ensures fresh { IfSome result.block (λ block. listed_at (taken_seen self.now.cells seat.old.log) cell ≡ None) }
+        ensures entries { AreCells self.now.cells (entries_of result.block) }
         ensures dead { is_there result.block ≡ takes_block (steps.MergeZero cell) (cell_told (steps.MergeZero cell) result.number) }
         ensures told { seat.new.log ≡ told.Did (steps.MergeZero cell) result.number (found_in cell result.block) ∷ seat.old.log }
         ensures out { seat.new.slots ≡ out_with cell result.block seat.old.slots }
@@ -60,10 +67,12 @@ impl<A: Allocator> HeapTable<A> {
     #[tactic(auto, using(brc_steps::proofs::Ending_Steps::counts_last))]
     /// LastDown of a reference to an object that the thread has seen queued or merged.
     pub fn last_down(&self, seat: &mut ThreadSeat<A>, drop: Dropped, cell: u32) -> Found<A>
-        requires table { seat.old.table ≡ self.now.table.shared.table_id }
+        requires table { seat.old.table ≡ self.now.table }
         requires inside { cell < self.now.cells }
         requires ends { EndsRisen self.now.cells seat.old.log drop cell }
         ensures of_cell { IfSome result.block (λ block. block.0 ≡ cell) }
+        ensures fresh { IfSome result.block (λ block. listed_at (taken_seen self.now.cells seat.old.log) cell ≡ None) }
+        ensures entries { AreCells self.now.cells (entries_of result.block) }
         ensures dead { is_there result.block ≡ takes_block (steps.LastDown (lasts.Dropped drop)) (cell_told (steps.LastDown (lasts.Dropped drop)) result.number) }
         ensures told { seat.new.log ≡ told.Did (steps.LastDown (lasts.Dropped drop)) result.number (found_in cell result.block) ∷ seat.old.log }
         ensures out { seat.new.slots ≡ out_with cell result.block seat.old.slots }
@@ -78,10 +87,12 @@ impl<A: Allocator> HeapTable<A> {
     #[tactic(auto, using(brc_steps::proofs::Last_Steps::ends_popped))]
     /// LastDown of a popped entry that was found merged.
     pub fn last_popped(&self, seat: &mut ThreadSeat<A>, cell: u32, shared: u64) -> Found<A>
-        requires table { seat.old.table ≡ self.now.table.shared.table_id }
+        requires table { seat.old.table ≡ self.now.table }
         requires inside { cell < self.now.cells }
         requires ends { EndsPopped self.now.cells seat.old.log cell shared }
         ensures of_cell { IfSome result.block (λ block. block.0 ≡ cell) }
+        ensures fresh { IfSome result.block (λ block. listed_at (taken_seen self.now.cells seat.old.log) cell ≡ None) }
+        ensures entries { AreCells self.now.cells (entries_of result.block) }
         ensures dead { is_there result.block ≡ takes_block (steps.LastDown (lasts.Popped cell)) (cell_told (steps.LastDown (lasts.Popped cell)) result.number) }
         ensures told { seat.new.log ≡ told.Did (steps.LastDown (lasts.Popped cell)) result.number (found_in cell result.block) ∷ seat.old.log }
         ensures out { seat.new.slots ≡ out_with cell result.block seat.old.slots }
@@ -97,10 +108,12 @@ impl<A: Allocator> HeapTable<A> {
     #[tactic(auto, using(brc_steps::proofs::Last_Steps::ends_added))]
     /// LastDown of a popped entry that the thread has just merged.
     pub fn last_added(&self, seat: &mut ThreadSeat<A>, cell: u32) -> Found<A>
-        requires table { seat.old.table ≡ self.now.table.shared.table_id }
+        requires table { seat.old.table ≡ self.now.table }
         requires inside { cell < self.now.cells }
         requires ends { EndsAdded self.now.cells seat.old.log cell }
         ensures of_cell { IfSome result.block (λ block. block.0 ≡ cell) }
+        ensures fresh { IfSome result.block (λ block. listed_at (taken_seen self.now.cells seat.old.log) cell ≡ None) }
+        ensures entries { AreCells self.now.cells (entries_of result.block) }
         ensures dead { is_there result.block ≡ takes_block (steps.LastDown (lasts.Popped cell)) (cell_told (steps.LastDown (lasts.Popped cell)) result.number) }
         ensures told { seat.new.log ≡ told.Did (steps.LastDown (lasts.Popped cell)) result.number (found_in cell result.block) ∷ seat.old.log }
         ensures out { seat.new.slots ≡ out_with cell result.block seat.old.slots }
@@ -115,10 +128,12 @@ impl<A: Allocator> HeapTable<A> {
     #[tactic(auto, using(brc_steps::proofs::Last_Steps::ends_held))]
     /// LastDown of the reference in the hand, of an object that the thread has adopted.
     pub fn last_held(&self, seat: &mut ThreadSeat<A>, cell: u32) -> Found<A>
-        requires table { seat.old.table ≡ self.now.table.shared.table_id }
+        requires table { seat.old.table ≡ self.now.table }
         requires inside { cell < self.now.cells }
         requires ends { EndsHeld self.now.cells seat.old.log cell }
         ensures of_cell { IfSome result.block (λ block. block.0 ≡ cell) }
+        ensures fresh { IfSome result.block (λ block. listed_at (taken_seen self.now.cells seat.old.log) cell ≡ None) }
+        ensures entries { AreCells self.now.cells (entries_of result.block) }
         ensures dead { is_there result.block ≡ takes_block (steps.LastDown lasts.Hand) (cell_told (steps.LastDown lasts.Hand) result.number) }
         ensures told { seat.new.log ≡ told.Did (steps.LastDown lasts.Hand) result.number (found_in cell result.block) ∷ seat.old.log }
         ensures out { seat.new.slots ≡ out_with cell result.block seat.old.slots }
@@ -133,10 +148,12 @@ impl<A: Allocator> HeapTable<A> {
     #[tactic(auto, using(brc_steps::proofs::Last_Steps::ends_nobodys))]
     /// LastDown of the reference in the hand, of an object that was found nobody's.
     pub fn last_nobodys(&self, seat: &mut ThreadSeat<A>, cell: u32) -> Found<A>
-        requires table { seat.old.table ≡ self.now.table.shared.table_id }
+        requires table { seat.old.table ≡ self.now.table }
         requires inside { cell < self.now.cells }
         requires ends { EndsNobodys self.now.cells seat.old.log cell }
         ensures of_cell { IfSome result.block (λ block. block.0 ≡ cell) }
+        ensures fresh { IfSome result.block (λ block. listed_at (taken_seen self.now.cells seat.old.log) cell ≡ None) }
+        ensures entries { AreCells self.now.cells (entries_of result.block) }
         ensures dead { is_there result.block ≡ takes_block (steps.LastDown lasts.Hand) (cell_told (steps.LastDown lasts.Hand) result.number) }
         ensures told { seat.new.log ≡ told.Did (steps.LastDown lasts.Hand) result.number (found_in cell result.block) ∷ seat.old.log }
         ensures out { seat.new.slots ≡ out_with cell result.block seat.old.slots }

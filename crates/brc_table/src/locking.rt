@@ -6,11 +6,13 @@ ghost use Rattle.brc_runs.specs.declared.event.Step.TheVariants as steps;
 ghost use Rattle.brc_known.specs.declared.word.Field.TheVariants as fields;
 ghost use Rattle.brc_known.specs.declared.word.Word.TheVariants as words;
 ghost use Rattle.brc_known.specs.Going_On.{locking, unlocking};
+ghost use Rattle.brc_known.specs.Taken.{listed_at};
 ghost use Rattle.brc_rule.specs.declared.told.Moved.TheVariants as moves;
 ghost use Rattle.brc_rule.specs.declared.told.Told.TheVariants as told;
 ghost use Rattle.brc_rule.specs.Logs.{entries_in};
-ghost use Rattle.brc_rule.specs.Seen.{contents_locked};
+ghost use Rattle.brc_rule.specs.Seen.{contents_locked, taken_seen};
 ghost use Rattle.brc_steps.specs.Owing.{Carries, Unlocks};
+ghost use Rattle.brc_steps.specs.Taking.{AreCells};
 ghost use Rattle.brc_table.specs.Knowing.{known_seen, Knows, Keeps};
 ghost use Rattle.brc_table.specs.Moving.{found_locked};
 ghost use Rattle.brc_table.specs.Seated.{Continues};
@@ -27,10 +29,12 @@ use std::alloc::Allocator;
 impl<A: Allocator> HeapTable<A> {
     /// Lock: the block of an object that nobody had locked, with the contents that were put home last; or who has it locked.
     pub fn lock(&self, seat: &mut ThreadSeat<A>, place: u32, cell: u32) -> Result<Block<A>, u64>
-        requires table { seat.old.table ≡ self.now.table.shared.table_id }
+        requires table { seat.old.table ≡ self.now.table }
         requires inside { cell < self.now.cells }
         requires carries { Carries self.now.cells seat.old.log (steps.Lock place) cell }
         ensures of_cell { IfOk result (λ block. block.0 ≡ cell) }
+        ensures fresh { IfOk result (λ block. listed_at (taken_seen self.now.cells seat.old.log) cell ≡ None) }
+        ensures entries { IfOk result (λ block. AreCells self.now.cells (entries_in (contents_of block.1))) }
         ensures won { IfOk result (λ block. seat.new.log ≡ told.Did (steps.Lock place) 0 (moves.Found cell (contents_of block.1)) ∷ seat.old.log) }
         ensures out { IfOk result (λ block. seat.new.slots ≡ (cell, None) ∷ seat.old.slots) }
         ensures lost { IfErr result (λ found. seat.new.log ≡ told.Lost (words.Of fields.Mutex cell) found ∷ seat.old.log) }
@@ -53,7 +57,7 @@ impl<A: Allocator> HeapTable<A> {
 
     /// Unlock: the block goes home, with the entries that the change makes of those found.
     pub fn unlock(&self, seat: &mut ThreadSeat<A>, block: Block<A>, change: Change)
-        requires table { seat.old.table ≡ self.now.table.shared.table_id }
+        requires table { seat.old.table ≡ self.now.table }
         requires inside { block.0 < self.now.cells }
         requires slot { seat.old.slots ≡ (block.0, None) ∷ rest seat.old.slots }
         requires unlocks { Unlocks self.now.cells seat.old.log (shows block) (found_locked seat.old.log) change block.0 }

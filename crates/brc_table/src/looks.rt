@@ -23,7 +23,7 @@ use std::marker::Brand;
 impl<A: Allocator> HeapTable<A> {
     /// Who owns the cell, as a word: of a cell in the hand a thread's number, or 0.
     pub fn load_owner(&self, seat: &mut ThreadSeat<A>, cell: u32) -> u64
-        requires table { seat.old.table ≡ self.now.table.shared.table_id }
+        requires table { seat.old.table ≡ self.now.table }
         requires inside { cell < self.now.cells }
         ensures told { seat.new.log ≡ told.Saw (words.Of fields.Owner cell) result ∷ seat.old.log }
         ensures seat { Stays seat.old seat.new }
@@ -39,7 +39,7 @@ impl<A: Allocator> HeapTable<A> {
 
     /// The owner's count, which is within the limit where the thread is merging the object.
     pub fn load_local(&self, seat: &mut ThreadSeat<A>, cell: u32) -> u64
-        requires table { seat.old.table ≡ self.now.table.shared.table_id }
+        requires table { seat.old.table ≡ self.now.table }
         requires inside { cell < self.now.cells }
         ensures told { seat.new.log ≡ told.Saw (words.Of fields.Local cell) result ∷ seat.old.log }
         ensures seat { Stays seat.old seat.new }
@@ -54,7 +54,7 @@ impl<A: Allocator> HeapTable<A> {
 
     /// The count of all others, above the state bits.
     pub fn load_shared(&self, seat: &mut ThreadSeat<A>, cell: u32) -> u64
-        requires table { seat.old.table ≡ self.now.table.shared.table_id }
+        requires table { seat.old.table ≡ self.now.table }
         requires inside { cell < self.now.cells }
         ensures told { seat.new.log ≡ told.Saw (words.Of fields.Shared cell) result ∷ seat.old.log }
         ensures seat { Stays seat.old seat.new }
@@ -69,7 +69,7 @@ impl<A: Allocator> HeapTable<A> {
 
     /// Who has locked the object, or 0.
     pub fn load_mutex(&self, seat: &mut ThreadSeat<A>, cell: u32) -> u64
-        requires table { seat.old.table ≡ self.now.table.shared.table_id }
+        requires table { seat.old.table ≡ self.now.table }
         requires inside { cell < self.now.cells }
         ensures told { seat.new.log ≡ told.Saw (words.Of fields.Mutex cell) result ∷ seat.old.log }
         ensures seat { Stays seat.old seat.new }
@@ -83,7 +83,7 @@ impl<A: Allocator> HeapTable<A> {
 
     /// What the thread was told to drain.
     pub fn load_notify(&self, seat: &mut ThreadSeat<A>) -> u64
-        requires table { seat.old.table ≡ self.now.table.shared.table_id }
+        requires table { seat.old.table ≡ self.now.table }
         ensures told { seat.new.log ≡ told.Saw (words.NotifyWord seat.old.thread) result ∷ seat.old.log }
         ensures seat { Stays seat.old seat.new }
         ensures knows { Knows self.now.cells seat.new.log (known_seen self.now.cells seat.old.log) }

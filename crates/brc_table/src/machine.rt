@@ -72,7 +72,7 @@ fn load_as<A: Allocator, M: Item>(
     word: Word,
     step: Step,
 ) -> u64
-    requires same { seat.old.table_id ≡ table.now.table.shared.table_id }
+    requires same { seat.old.table_id ≡ table.now.table }
     requires inside { IsWord table.now.cells word }
     requires allowed { MayTell shows table.now.cells table.now.local_limit seat.old.id seat.old.me word (λ there. there) (M.item) }
     ensures same { (seat.new.table_id ≡ seat.old.table_id) × (seat.new.id ≡ seat.old.id) }
@@ -90,7 +90,7 @@ pub(crate) fn load<A: Allocator>(
     word: Word,
     step: Step,
 ) -> u64
-    requires same { seat.old.table_id ≡ table.now.table.shared.table_id }
+    requires same { seat.old.table_id ≡ table.now.table }
     requires inside { IsWord table.now.cells word }
     requires allowed { MayTell shows table.now.cells table.now.local_limit seat.old.id seat.old.me word (λ there. there) (λ there. told.Did step there moves.Nothing) }
     ensures same { (seat.new.table_id ≡ seat.old.table_id) × (seat.new.id ≡ seat.old.id) }
@@ -107,7 +107,7 @@ fn store_as<A: Allocator, M: Item>(
     new: u64,
     step: Step,
 )
-    requires same { seat.old.table_id ≡ table.now.table.shared.table_id }
+    requires same { seat.old.table_id ≡ table.now.table }
     requires inside { IsWord table.now.cells word }
     requires allowed { MayTell shows table.now.cells table.now.local_limit seat.old.id seat.old.me word (λ _. new) (λ _. M.item new) }
     ensures same { (seat.new.table_id ≡ seat.old.table_id) × (seat.new.id ≡ seat.old.id) }
@@ -126,7 +126,7 @@ pub(crate) fn store<A: Allocator>(
     new: u64,
     step: Step,
 )
-    requires same { seat.old.table_id ≡ table.now.table.shared.table_id }
+    requires same { seat.old.table_id ≡ table.now.table }
     requires inside { IsWord table.now.cells word }
     requires allowed { MayTell shows table.now.cells table.now.local_limit seat.old.id seat.old.me word (λ _. new) (λ _. told.Did step new moves.Nothing) }
     ensures same { (seat.new.table_id ≡ seat.old.table_id) × (seat.new.id ≡ seat.old.id) }
@@ -143,7 +143,7 @@ fn swap_as<A: Allocator, M: Item>(
     new: u64,
     step: Step,
 ) -> u64
-    requires same { seat.old.table_id ≡ table.now.table.shared.table_id }
+    requires same { seat.old.table_id ≡ table.now.table }
     requires inside { IsWord table.now.cells word }
     requires allowed { MayTell shows table.now.cells table.now.local_limit seat.old.id seat.old.me word (λ _. new) (M.item) }
     ensures same { (seat.new.table_id ≡ seat.old.table_id) × (seat.new.id ≡ seat.old.id) }
@@ -162,7 +162,7 @@ pub(crate) fn swap<A: Allocator>(
     new: u64,
     step: Step,
 ) -> u64
-    requires same { seat.old.table_id ≡ table.now.table.shared.table_id }
+    requires same { seat.old.table_id ≡ table.now.table }
     requires inside { IsWord table.now.cells word }
     requires allowed { MayTell shows table.now.cells table.now.local_limit seat.old.id seat.old.me word (λ _. new) (λ there. told.Did step there moves.Nothing) }
     ensures same { (seat.new.table_id ≡ seat.old.table_id) × (seat.new.id ≡ seat.old.id) }
@@ -179,7 +179,7 @@ fn add_as<A: Allocator, M: Item>(
     more: u64,
     step: Step,
 ) -> u64
-    requires same { seat.old.table_id ≡ table.now.table.shared.table_id }
+    requires same { seat.old.table_id ≡ table.now.table }
     requires inside { IsWord table.now.cells word }
     requires allowed { MayTell shows table.now.cells table.now.local_limit seat.old.id seat.old.me word (λ there. (there + more) % 2 ^ 64) (M.item) }
     ensures same { (seat.new.table_id ≡ seat.old.table_id) × (seat.new.id ≡ seat.old.id) }
@@ -198,7 +198,7 @@ pub(crate) fn add<A: Allocator>(
     more: u64,
     step: Step,
 ) -> u64
-    requires same { seat.old.table_id ≡ table.now.table.shared.table_id }
+    requires same { seat.old.table_id ≡ table.now.table }
     requires inside { IsWord table.now.cells word }
     requires allowed { MayTell shows table.now.cells table.now.local_limit seat.old.id seat.old.me word (λ there. (there + more) % 2 ^ 64) (λ there. told.Did step there moves.Nothing) }
     ensures same { (seat.new.table_id ≡ seat.old.table_id) × (seat.new.id ≡ seat.old.id) }
@@ -215,7 +215,7 @@ fn or_as<A: Allocator, M: Item>(
     bits: u64,
     step: Step,
 ) -> u64
-    requires same { seat.old.table_id ≡ table.now.table.shared.table_id }
+    requires same { seat.old.table_id ≡ table.now.table }
     requires inside { IsWord table.now.cells word }
     requires allowed { MayTell shows table.now.cells table.now.local_limit seat.old.id seat.old.me word (λ there. bit_or there bits) (M.item) }
     ensures same { (seat.new.table_id ≡ seat.old.table_id) × (seat.new.id ≡ seat.old.id) }
@@ -234,7 +234,7 @@ pub(crate) fn or<A: Allocator>(
     bits: u64,
     step: Step,
 ) -> u64
-    requires same { seat.old.table_id ≡ table.now.table.shared.table_id }
+    requires same { seat.old.table_id ≡ table.now.table }
     requires inside { IsWord table.now.cells word }
     requires allowed { MayTell shows table.now.cells table.now.local_limit seat.old.id seat.old.me word (λ there. bit_or there bits) (λ there. told.Did step there moves.Nothing) }
     ensures same { (seat.new.table_id ≡ seat.old.table_id) × (seat.new.id ≡ seat.old.id) }
@@ -245,7 +245,7 @@ pub(crate) fn or<A: Allocator>(
 
 /// A load, as an item of its word.
 fn look_as<A: Allocator, M: Item>(table: &HeapTable<A>, seat: &mut Place<A>, word: Word) -> u64
-    requires same { seat.old.table_id ≡ table.now.table.shared.table_id }
+    requires same { seat.old.table_id ≡ table.now.table }
     requires inside { IsWord table.now.cells word }
     requires allowed { MayTell shows table.now.cells table.now.local_limit seat.old.id seat.old.me word (λ there. there) M.item }
     ensures same { (seat.new.table_id ≡ seat.old.table_id) × (seat.new.id ≡ seat.old.id) }
@@ -258,7 +258,7 @@ fn look_as<A: Allocator, M: Item>(table: &HeapTable<A>, seat: &mut Place<A>, wor
 #[tactic(auto, using(brc_rule::proofs::Looking::looks))]
 /// A load, as a look, which is always allowed.
 pub(crate) fn look<A: Allocator>(table: &HeapTable<A>, seat: &mut Place<A>, word: Word) -> u64
-    requires same { seat.old.table_id ≡ table.now.table.shared.table_id }
+    requires same { seat.old.table_id ≡ table.now.table }
     requires inside { IsWord table.now.cells word }
     requires active { seat.old.me.0.active ≡ true }
     ensures same { (seat.new.table_id ≡ seat.old.table_id) × (seat.new.id ≡ seat.old.id) }
@@ -276,7 +276,7 @@ fn exchange_as<A: Allocator, M: Won>(
     new: u64,
     step: Step,
 ) -> u64
-    requires same { seat.old.table_id ≡ table.now.table.shared.table_id }
+    requires same { seat.old.table_id ≡ table.now.table }
     requires inside { IsWord table.now.cells word }
     requires allowed { MayExchange shows table.now.cells table.now.local_limit seat.old.id seat.old.me word M.word old new M.item }
     ensures same { (seat.new.table_id ≡ seat.old.table_id) × (seat.new.id ≡ seat.old.id) }
@@ -299,7 +299,7 @@ pub(crate) fn exchange<A: Allocator>(
     new: u64,
     step: Step,
 ) -> u64
-    requires same { seat.old.table_id ≡ table.now.table.shared.table_id }
+    requires same { seat.old.table_id ≡ table.now.table }
     requires inside { IsWord table.now.cells word }
     requires allowed { MayExchange shows table.now.cells table.now.local_limit seat.old.id seat.old.me word word old new (told.Did step old moves.Nothing) }
     ensures same { (seat.new.table_id ≡ seat.old.table_id) × (seat.new.id ≡ seat.old.id) }
@@ -340,7 +340,7 @@ pub(crate) fn look_within<A: Allocator, M: Bounded>(
     seat: &mut Place<A>,
     word: Word,
 ) -> u64
-    requires same { seat.old.table_id ≡ table.now.table.shared.table_id }
+    requires same { seat.old.table_id ≡ table.now.table }
     requires inside { IsWord table.now.cells word }
     requires allowed { MayFind shows table.now.cells table.now.local_limit seat.old.id seat.old.me word M.word M.known M.most }
     ensures same { (seat.new.table_id ≡ seat.old.table_id) × (seat.new.id ≡ seat.old.id) }

@@ -29,7 +29,7 @@ impl<A: Allocator> HeapTable<A> {
     /// Claim: a free cell is the thread's to make an object in, and its empty slot is out with the seat; or the number of
     /// its owner word.
     pub fn claim(&self, seat: &mut ThreadSeat<A>, cell: u32) -> Result<(), u64>
-        requires table { seat.old.table ≡ self.now.table.shared.table_id }
+        requires table { seat.old.table ≡ self.now.table }
         requires inside { cell < self.now.cells }
         requires claims { Claims self.now.cells seat.old.log cell }
         ensures won { OnOk result (seat.new.log ≡ told.Did (steps.Claim cell) (2 ^ 64 - 1) moves.Nothing ∷ seat.old.log) }
@@ -55,7 +55,7 @@ impl<A: Allocator> HeapTable<A> {
     #[tactic(auto, using(brc_steps::proofs::Making_Steps::sets_local))]
     /// InitLocal: the first reference is counted.
     pub fn init_local(&self, seat: &mut ThreadSeat<A>, cell: u32)
-        requires table { seat.old.table ≡ self.now.table.shared.table_id }
+        requires table { seat.old.table ≡ self.now.table }
         requires inside { cell < self.now.cells }
         requires carries { Carries self.now.cells seat.old.log (steps.InitLocal cell) cell }
         ensures told { seat.new.log ≡ told.Did (steps.InitLocal cell) 1 moves.Nothing ∷ seat.old.log }
@@ -70,7 +70,7 @@ impl<A: Allocator> HeapTable<A> {
     #[tactic(auto, using(brc_steps::proofs::Making_Steps::sets_shared))]
     /// InitShared: nobody else has counted.
     pub fn init_shared(&self, seat: &mut ThreadSeat<A>, cell: u32)
-        requires table { seat.old.table ≡ self.now.table.shared.table_id }
+        requires table { seat.old.table ≡ self.now.table }
         requires inside { cell < self.now.cells }
         requires carries { Carries self.now.cells seat.old.log (steps.InitShared cell) cell }
         ensures told { seat.new.log ≡ told.Did (steps.InitShared cell) (2 ^ 42) moves.Nothing ∷ seat.old.log }
@@ -85,7 +85,7 @@ impl<A: Allocator> HeapTable<A> {
 
     /// Birth: the block is put home, and the place of the frame has the first reference to it.
     pub fn birth(&self, seat: &mut ThreadSeat<A>, block: Block<A>, kind: Kind, place: u32)
-        requires table { seat.old.table ≡ self.now.table.shared.table_id }
+        requires table { seat.old.table ≡ self.now.table }
         requires inside { block.0 < self.now.cells }
         requires slot { seat.old.slots ≡ (block.0, None) ∷ rest seat.old.slots }
         requires bears { Bears self.now.cells seat.old.log (shows block) kind place block.0 }
@@ -104,7 +104,7 @@ impl<A: Allocator> HeapTable<A> {
 
     /// Free: the cell of a dead object without entries is free again.
     pub fn free(&self, seat: &mut ThreadSeat<A>, cell: u32)
-        requires table { seat.old.table ≡ self.now.table.shared.table_id }
+        requires table { seat.old.table ≡ self.now.table }
         requires inside { cell < self.now.cells }
         requires slot { seat.old.slots ≡ (cell, None) ∷ rest seat.old.slots }
         requires carries { Carries self.now.cells seat.old.log (steps.Free cell) cell }

@@ -28,7 +28,7 @@ impl<A: Allocator> HeapTable<A> {
     #[tactic(auto, using(brc_steps::proofs::Untying_Steps::unties_over))]
     /// Untie of an own object whose count is 0, and which others counted or asked for.
     pub fn untie_over(&self, seat: &mut ThreadSeat<A>, cell: u32)
-        requires table { seat.old.table ≡ self.now.table.shared.table_id }
+        requires table { seat.old.table ≡ self.now.table }
         requires inside { cell < self.now.cells }
         requires unties { UntiesOver self.now.cells seat.old.log cell }
         ensures told { seat.new.log ≡ told.Did (steps.Untie cell) 0 moves.Nothing ∷ seat.old.log }
@@ -42,7 +42,7 @@ impl<A: Allocator> HeapTable<A> {
 
     /// Untie of an object whose owner has left, as it was found.
     pub fn untie_shut(&self, seat: &mut ThreadSeat<A>, cell: u32, owner: u64)
-        requires table { seat.old.table ≡ self.now.table.shared.table_id }
+        requires table { seat.old.table ≡ self.now.table }
         requires inside { cell < self.now.cells }
         requires unties { UntiesShut self.now.cells seat.old.log cell owner }
         ensures told { seat.new.log ≡ told.Did (steps.Untie cell) 0 moves.Nothing ∷ seat.old.log }
@@ -57,7 +57,7 @@ impl<A: Allocator> HeapTable<A> {
 
     /// Untie of a popped entry that was found not merged.
     pub fn untie_popped(&self, seat: &mut ThreadSeat<A>, cell: u32, shared: u64)
-        requires table { seat.old.table ≡ self.now.table.shared.table_id }
+        requires table { seat.old.table ≡ self.now.table }
         requires inside { cell < self.now.cells }
         requires unties { UntiesPopped self.now.cells seat.old.log cell shared }
         ensures told { seat.new.log ≡ told.Did (steps.Untie cell) 0 moves.Nothing ∷ seat.old.log }
@@ -73,7 +73,7 @@ impl<A: Allocator> HeapTable<A> {
     #[tactic(auto, using(brc_steps::proofs::Adding_Steps::adds_local))]
     /// MergeAdd: the local count, as it was looked at, joins the shared one.
     pub fn merge_add(&self, seat: &mut ThreadSeat<A>, cell: u32, local: u32) -> u64
-        requires table { seat.old.table ≡ self.now.table.shared.table_id }
+        requires table { seat.old.table ≡ self.now.table }
         requires inside { cell < self.now.cells }
         requires adds { AddsLocal self.now.cells seat.old.log cell local }
         ensures told { seat.new.log ≡ told.Did (steps.MergeAdd cell) result moves.Nothing ∷ seat.old.log }
@@ -90,7 +90,7 @@ impl<A: Allocator> HeapTable<A> {
     #[tactic(auto, using(crate::proofs::Placing::queue_inside))]
     /// Enqueue: the reference in the hand goes into the queue of the owner that was found.
     pub fn enqueue(&self, seat: &mut ThreadSeat<A>, cell: u32, owner: u32) -> u64
-        requires table { seat.old.table ≡ self.now.table.shared.table_id }
+        requires table { seat.old.table ≡ self.now.table }
         requires inside { cell < self.now.cells }
         requires enqueues { Enqueues self.now.cells seat.old.log cell owner }
         ensures told { seat.new.log ≡ told.Did (steps.Enqueue cell) result moves.Nothing ∷ seat.old.log }

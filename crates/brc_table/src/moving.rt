@@ -9,12 +9,15 @@ ghost use Rattle.brc_runs.specs.Steps.{takes_block};
 ghost use Rattle.brc_known.specs.declared.word.Field.TheVariants as fields;
 ghost use Rattle.brc_known.specs.declared.word.Word.TheVariants as words;
 ghost use Rattle.brc_known.specs.Items.{IsWord, cell_told};
+ghost use Rattle.brc_known.specs.Taken.{listed_at};
 ghost use Rattle.brc_rule.specs.declared.told.Moved.TheVariants as moves;
 ghost use Rattle.brc_rule.specs.declared.told.Told.{Told as told_data};
 ghost use Rattle.brc_rule.specs.declared.told.Told.TheVariants as told;
 ghost use Rattle.brc_rule.specs.Layout.{spot};
 ghost use Rattle.brc_rule.specs.Rule.{with_told, Kept};
-ghost use Rattle.brc_steps.specs.Taking.{Ended, Claimed, Locked};
+ghost use Rattle.brc_rule.specs.Seen.{taken_seen};
+ghost use Rattle.brc_steps.specs.Taking.{AreCells, Ended, Claimed, Locked};
+ghost use Rattle.brc_table.specs.Knowing.{entries_of};
 ghost use Rattle.brc_table.specs.Moving.{MayEnd, MayClaim, MayLock, MayGive, found_in, out_with, emptied, put_home, is_there, HasBlock};
 ghost use Rattle.brc_table.specs.Shown.{shows, contents_of};
 
@@ -37,14 +40,18 @@ pub struct Found<A: Allocator> {
 
 // ---- steps that end an object where the number found says so
 
-/// Which step it is, and on which cell. A caller's proof picks it.
+/// Of how many cells the heap is, which step it is, and on which cell. A caller's proof picks it.
 pub(crate) trait Ending {
+    ghost cells: { ℕ };
+
     ghost step: { step_data };
 
     ghost cell: { ℕ };
 }
 
 impl Ending for Brand {
+    ghost cells = { 0 };
+
     ghost step = { steps.Wake };
 
     ghost cell = { 0 };
@@ -56,7 +63,7 @@ pub(crate) struct Ends<M> {
 }
 
 impl<A: Allocator, M: Ending> Play<Option<Block<A>>, View> for Ends<M> {
-    ghost then = { λ step me number after. Ended shows me.0 me.1 M.step M.cell number (takes_block M.step (cell_told M.step number)) after };
+    ghost then = { λ step me number after. Ended shows M.cells me.0 me.1 M.step M.cell number (takes_block M.step (cell_told M.step number)) after };
 }
 
 /// A load.
@@ -66,11 +73,11 @@ fn load_ends<A: Allocator, M: Ending>(
     cell: u32,
     step: Step,
 ) -> u64
-    requires same { seat.old.table_id ≡ table.now.table.shared.table_id }
+    requires same { seat.old.table_id ≡ table.now.table }
     requires inside { cell < table.now.cells }
-    requires allowed { MayEnd table.now.cells table.now.local_limit seat.old.id seat.old.me cell (λ there. there) M.step M.cell }
+    requires allowed { MayEnd table.now.cells table.now.local_limit seat.old.id seat.old.me cell (λ there. there) M.cells M.step M.cell }
     ensures same { (seat.new.table_id ≡ seat.old.table_id) × (seat.new.id ≡ seat.old.id) }
-    ensures ended { Ended shows seat.old.me.0 seat.old.me.1 M.step M.cell result (takes_block M.step (cell_told M.step result)) seat.new.me }
+    ensures ended { Ended shows M.cells seat.old.me.0 seat.old.me.1 M.step M.cell result (takes_block M.step (cell_told M.step result)) seat.new.me }
 {
     let _step = step;
     let at = spot_of(table.cells, Word::Of(Field::Shared, cell));
@@ -85,11 +92,11 @@ fn or_ends<A: Allocator, M: Ending>(
     bits: u64,
     step: Step,
 ) -> u64
-    requires same { seat.old.table_id ≡ table.now.table.shared.table_id }
+    requires same { seat.old.table_id ≡ table.now.table }
     requires inside { cell < table.now.cells }
-    requires allowed { MayEnd table.now.cells table.now.local_limit seat.old.id seat.old.me cell (λ there. bit_or there bits) M.step M.cell }
+    requires allowed { MayEnd table.now.cells table.now.local_limit seat.old.id seat.old.me cell (λ there. bit_or there bits) M.cells M.step M.cell }
     ensures same { (seat.new.table_id ≡ seat.old.table_id) × (seat.new.id ≡ seat.old.id) }
-    ensures ended { Ended shows seat.old.me.0 seat.old.me.1 M.step M.cell result (takes_block M.step (cell_told M.step result)) seat.new.me }
+    ensures ended { Ended shows M.cells seat.old.me.0 seat.old.me.1 M.step M.cell result (takes_block M.step (cell_told M.step result)) seat.new.me }
 {
     let _step = step;
     let at = spot_of(table.cells, Word::Of(Field::Shared, cell));
@@ -104,11 +111,11 @@ fn sub_ends<A: Allocator, M: Ending>(
     less: u64,
     step: Step,
 ) -> u64
-    requires same { seat.old.table_id ≡ table.now.table.shared.table_id }
+    requires same { seat.old.table_id ≡ table.now.table }
     requires inside { cell < table.now.cells }
-    requires allowed { MayEnd table.now.cells table.now.local_limit seat.old.id seat.old.me cell (λ there. (there + (2 ^ 64 - less)) % 2 ^ 64) M.step M.cell }
+    requires allowed { MayEnd table.now.cells table.now.local_limit seat.old.id seat.old.me cell (λ there. (there + (2 ^ 64 - less)) % 2 ^ 64) M.cells M.step M.cell }
     ensures same { (seat.new.table_id ≡ seat.old.table_id) × (seat.new.id ≡ seat.old.id) }
-    ensures ended { Ended shows seat.old.me.0 seat.old.me.1 M.step M.cell result (takes_block M.step (cell_told M.step result)) seat.new.me }
+    ensures ended { Ended shows M.cells seat.old.me.0 seat.old.me.1 M.step M.cell result (takes_block M.step (cell_told M.step result)) seat.new.me }
 {
     let _step = step;
     let at = spot_of(table.cells, Word::Of(Field::Shared, cell));
@@ -135,7 +142,7 @@ fn take_if<A: Allocator>(
     step: Step,
     number: u64,
 ) -> Option<Block<A>>
-    requires same { seat.old.table_id ≡ table.now.table.shared.table_id }
+    requires same { seat.old.table_id ≡ table.now.table }
     requires there { takes_block step (cell_told step number) ≡ true → HasBlock cell seat.old.me.1 }
     ensures same { (seat.new.table_id ≡ seat.old.table_id) × (seat.new.id ≡ seat.old.id) }
     ensures when { is_there result ≡ takes_block step (cell_told step number) }
@@ -156,11 +163,13 @@ pub(crate) fn end_by_load<A: Allocator>(
     cell: u32,
     step: Step,
 ) -> Found<A>
-    requires same { seat.old.table_id ≡ table.now.table.shared.table_id }
+    requires same { seat.old.table_id ≡ table.now.table }
     requires inside { cell < table.now.cells }
-    requires allowed { MayEnd table.now.cells table.now.local_limit seat.old.id seat.old.me cell (λ there. there) step cell }
+    requires allowed { MayEnd table.now.cells table.now.local_limit seat.old.id seat.old.me cell (λ there. there) table.now.cells step cell }
     ensures same { (seat.new.table_id ≡ seat.old.table_id) × (seat.new.id ≡ seat.old.id) }
     ensures of_cell { IfSome result.block (λ block. block.0 ≡ cell) }
+    ensures fresh { IfSome result.block (λ block. listed_at (taken_seen table.now.cells seat.old.me.0.log) cell ≡ None) }
+    ensures entries { AreCells table.now.cells (entries_of result.block) }
     ensures when { is_there result.block ≡ takes_block step (cell_told step result.number) }
     ensures told { seat.new.me ≡ (with_told (told.Did step result.number (found_in cell result.block)) seat.old.me.0, out_with cell result.block seat.old.me.1) }
 {
@@ -177,11 +186,13 @@ pub(crate) fn end_by_or<A: Allocator>(
     bits: u64,
     step: Step,
 ) -> Found<A>
-    requires same { seat.old.table_id ≡ table.now.table.shared.table_id }
+    requires same { seat.old.table_id ≡ table.now.table }
     requires inside { cell < table.now.cells }
-    requires allowed { MayEnd table.now.cells table.now.local_limit seat.old.id seat.old.me cell (λ there. bit_or there bits) step cell }
+    requires allowed { MayEnd table.now.cells table.now.local_limit seat.old.id seat.old.me cell (λ there. bit_or there bits) table.now.cells step cell }
     ensures same { (seat.new.table_id ≡ seat.old.table_id) × (seat.new.id ≡ seat.old.id) }
     ensures of_cell { IfSome result.block (λ block. block.0 ≡ cell) }
+    ensures fresh { IfSome result.block (λ block. listed_at (taken_seen table.now.cells seat.old.me.0.log) cell ≡ None) }
+    ensures entries { AreCells table.now.cells (entries_of result.block) }
     ensures when { is_there result.block ≡ takes_block step (cell_told step result.number) }
     ensures told { seat.new.me ≡ (with_told (told.Did step result.number (found_in cell result.block)) seat.old.me.0, out_with cell result.block seat.old.me.1) }
 {
@@ -198,11 +209,13 @@ pub(crate) fn end_by_sub<A: Allocator>(
     less: u64,
     step: Step,
 ) -> Found<A>
-    requires same { seat.old.table_id ≡ table.now.table.shared.table_id }
+    requires same { seat.old.table_id ≡ table.now.table }
     requires inside { cell < table.now.cells }
-    requires allowed { MayEnd table.now.cells table.now.local_limit seat.old.id seat.old.me cell (λ there. (there + (2 ^ 64 - less)) % 2 ^ 64) step cell }
+    requires allowed { MayEnd table.now.cells table.now.local_limit seat.old.id seat.old.me cell (λ there. (there + (2 ^ 64 - less)) % 2 ^ 64) table.now.cells step cell }
     ensures same { (seat.new.table_id ≡ seat.old.table_id) × (seat.new.id ≡ seat.old.id) }
     ensures of_cell { IfSome result.block (λ block. block.0 ≡ cell) }
+    ensures fresh { IfSome result.block (λ block. listed_at (taken_seen table.now.cells seat.old.me.0.log) cell ≡ None) }
+    ensures entries { AreCells table.now.cells (entries_of result.block) }
     ensures when { is_there result.block ≡ takes_block step (cell_told step result.number) }
     ensures told { seat.new.me ≡ (with_told (told.Did step result.number (found_in cell result.block)) seat.old.me.0, out_with cell result.block seat.old.me.1) }
 {
@@ -213,14 +226,19 @@ pub(crate) fn end_by_sub<A: Allocator>(
 
 // ---- a compare-exchange that takes a slot
 
-/// Which cell it is on, and for a locking which place of the frame has it. A caller's proof picks it.
+/// Of how many cells the heap is, on which cell it is, and for a locking which place of the frame has it. A caller's proof
+/// picks it.
 pub(crate) trait Winning {
+    ghost cells: { ℕ };
+
     ghost cell: { ℕ };
 
     ghost place: { ℕ };
 }
 
 impl Winning for Brand {
+    ghost cells = { 0 };
+
     ghost cell = { 0 };
 
     ghost place = { 0 };
@@ -241,7 +259,7 @@ pub(crate) struct Locks<M> {
 }
 
 impl<A: Allocator, M: Winning> Play<Option<Block<A>>, View> for Locks<M> {
-    ghost then = { λ step me number after. Locked shows me.0 me.1 M.place M.cell number (number == 0) after };
+    ghost then = { λ step me number after. Locked shows M.cells me.0 me.1 M.place M.cell number (number == 0) after };
 }
 
 fn claim_as<A: Allocator, M: Winning>(
@@ -250,7 +268,7 @@ fn claim_as<A: Allocator, M: Winning>(
     cell: u32,
     new: u64,
 ) -> u64
-    requires same { seat.old.table_id ≡ table.now.table.shared.table_id }
+    requires same { seat.old.table_id ≡ table.now.table }
     requires inside { cell < table.now.cells }
     requires allowed { MayClaim table.now.cells table.now.local_limit seat.old.id seat.old.me cell new M.cell }
     ensures same { (seat.new.table_id ≡ seat.old.table_id) × (seat.new.id ≡ seat.old.id) }
@@ -270,7 +288,7 @@ pub(crate) fn claim_by<A: Allocator>(
     cell: u32,
     new: u64,
 ) -> u64
-    requires same { seat.old.table_id ≡ table.now.table.shared.table_id }
+    requires same { seat.old.table_id ≡ table.now.table }
     requires inside { cell < table.now.cells }
     requires allowed { MayClaim table.now.cells table.now.local_limit seat.old.id seat.old.me cell new cell }
     ensures same { (seat.new.table_id ≡ seat.old.table_id) × (seat.new.id ≡ seat.old.id) }
@@ -286,11 +304,11 @@ fn lock_as<A: Allocator, M: Winning>(
     cell: u32,
     new: u64,
 ) -> u64
-    requires same { seat.old.table_id ≡ table.now.table.shared.table_id }
+    requires same { seat.old.table_id ≡ table.now.table }
     requires inside { cell < table.now.cells }
-    requires allowed { MayLock table.now.cells table.now.local_limit seat.old.id seat.old.me cell new M.place M.cell }
+    requires allowed { MayLock table.now.cells table.now.local_limit seat.old.id seat.old.me cell new M.cells M.place M.cell }
     ensures same { (seat.new.table_id ≡ seat.old.table_id) × (seat.new.id ≡ seat.old.id) }
-    ensures locked { Locked shows seat.old.me.0 seat.old.me.1 M.place M.cell result (result == 0) seat.new.me }
+    ensures locked { Locked shows M.cells seat.old.me.0 seat.old.me.1 M.place M.cell result (result == 0) seat.new.me }
 {
     let _place = place;
     let at = spot_of(table.cells, Word::Of(Field::Mutex, cell));
@@ -308,11 +326,11 @@ pub(crate) fn lock_by<A: Allocator>(
     cell: u32,
     new: u64,
 ) -> u64
-    requires same { seat.old.table_id ≡ table.now.table.shared.table_id }
+    requires same { seat.old.table_id ≡ table.now.table }
     requires inside { cell < table.now.cells }
-    requires allowed { MayLock table.now.cells table.now.local_limit seat.old.id seat.old.me cell new place cell }
+    requires allowed { MayLock table.now.cells table.now.local_limit seat.old.id seat.old.me cell new table.now.cells place cell }
     ensures same { (seat.new.table_id ≡ seat.old.table_id) × (seat.new.id ≡ seat.old.id) }
-    ensures locked { Locked shows seat.old.me.0 seat.old.me.1 place cell result (result == 0) seat.new.me }
+    ensures locked { Locked shows table.now.cells seat.old.me.0 seat.old.me.1 place cell result (result == 0) seat.new.me }
 {
     lock_as::<A, Brand>(table, seat, place, cell, new)
 }
@@ -323,7 +341,7 @@ pub(crate) fn take_out<A: Allocator>(
     seat: &mut Place<A>,
     cell: u32,
 ) -> Block<A>
-    requires same { seat.old.table_id ≡ table.now.table.shared.table_id }
+    requires same { seat.old.table_id ≡ table.now.table }
     requires there { HasBlock cell seat.old.me.1 }
     ensures same { (seat.new.table_id ≡ seat.old.table_id) × (seat.new.id ≡ seat.old.id) }
     ensures was { seat.old.me.1 ≡ (cell, Some result) ∷ rest seat.old.me.1 }
@@ -354,7 +372,7 @@ fn give_as<A: Allocator, M: Item>(
     new: u64,
     step: Step,
 )
-    requires same { seat.old.table_id ≡ table.now.table.shared.table_id }
+    requires same { seat.old.table_id ≡ table.now.table }
     requires inside { IsWord table.now.cells word }
     requires allowed { MayGive table.now.cells table.now.local_limit seat.old.id seat.old.me word new (M.item new) }
     ensures same { (seat.new.table_id ≡ seat.old.table_id) × (seat.new.id ≡ seat.old.id) }
@@ -373,7 +391,7 @@ pub(crate) fn give<A: Allocator>(
     new: u64,
     step: Step,
 )
-    requires same { seat.old.table_id ≡ table.now.table.shared.table_id }
+    requires same { seat.old.table_id ≡ table.now.table }
     requires inside { IsWord table.now.cells word }
     requires allowed { MayGive table.now.cells table.now.local_limit seat.old.id seat.old.me word new (told.Did step new (put_home seat.old.me.1)) }
     ensures same { (seat.new.table_id ≡ seat.old.table_id) × (seat.new.id ≡ seat.old.id) }
@@ -389,7 +407,7 @@ pub(crate) fn put_in<A: Allocator>(
     cell: u32,
     block: Block<A>,
 )
-    requires same { seat.old.table_id ≡ table.now.table.shared.table_id }
+    requires same { seat.old.table_id ≡ table.now.table }
     requires empty { seat.old.me.1 ≡ (cell, None) ∷ rest seat.old.me.1 }
     ensures same { (seat.new.table_id ≡ seat.old.table_id) × (seat.new.id ≡ seat.old.id) }
     ensures now { seat.new.me ≡ (seat.old.me.0, (cell, Some block) ∷ rest seat.old.me.1) }

@@ -22,7 +22,7 @@ impl<A: Allocator> HeapTable<A> {
     #[tactic(auto, using(crate::proofs::Placing::own_queue_inside))]
     /// Drain: the bits of one of its queue words are popped.
     pub fn drain(&self, seat: &mut ThreadSeat<A>, word: u32) -> u64
-        requires table { seat.old.table ≡ self.now.table.shared.table_id }
+        requires table { seat.old.table ≡ self.now.table }
         requires inside { word < words_for self.now.cells }
         requires allowed { Allowed self.now.cells seat.old.log (steps.Drain word) }
         ensures told { seat.new.log ≡ told.Did (steps.Drain word) result moves.Nothing ∷ seat.old.log }
@@ -37,7 +37,7 @@ impl<A: Allocator> HeapTable<A> {
     #[tactic(auto, using(crate::proofs::Placing::own_queue_inside))]
     /// Close: one of its queue words takes nothing any more, and its bits are popped.
     pub fn close(&self, seat: &mut ThreadSeat<A>, word: u32) -> u64
-        requires table { seat.old.table ≡ self.now.table.shared.table_id }
+        requires table { seat.old.table ≡ self.now.table }
         requires inside { word < words_for self.now.cells }
         requires allowed { Allowed self.now.cells seat.old.log (steps.Close word) }
         ensures told { seat.new.log ≡ told.Did (steps.Close word) result moves.Nothing ∷ seat.old.log }
@@ -51,13 +51,15 @@ impl<A: Allocator> HeapTable<A> {
 
     /// Nudge: a thread is told that this one of its queue words has something, or a word beside it.
     pub fn nudge(&self, seat: &mut ThreadSeat<A>, thread: u32, word: u32) -> u64
-        requires table { seat.old.table ≡ self.now.table.shared.table_id }
+        requires table { seat.old.table ≡ self.now.table }
         requires tells { Tells self.now.cells seat.old.log thread word }
         ensures told { seat.new.log ≡ told.Did (steps.Nudge thread word) result moves.Nothing ∷ seat.old.log }
         ensures seat { Stays seat.old seat.new }
         ensures knows { Knows self.now.cells seat.new.log (known_seen self.now.cells seat.old.log) }
         ensures keeps { Keeps self.now.cells seat.old.log seat.new.log }
     {
+        // The bit is one of the word's, since a table has few cells: its invariant says so.
+        let _cells = self.cells;
         let at = Word::NotifyWord(thread);
         let bits = bit(word / 32);
         or(
@@ -71,7 +73,7 @@ impl<A: Allocator> HeapTable<A> {
 
     /// Wake: the thread takes what it was told.
     pub fn wake(&self, seat: &mut ThreadSeat<A>) -> u64
-        requires table { seat.old.table ≡ self.now.table.shared.table_id }
+        requires table { seat.old.table ≡ self.now.table }
         requires allowed { Allowed self.now.cells seat.old.log steps.Wake }
         ensures told { seat.new.log ≡ told.Did steps.Wake result moves.Nothing ∷ seat.old.log }
         ensures seat { Stays seat.old seat.new }

@@ -55,7 +55,7 @@ impl<A: Allocator> Rest<A> {
 impl<A: Allocator> HeapTable<A> {
     /// Ends the table, which no thread shares any more.
     pub fn take_apart(self, root: RootSeat<A>) -> Rest<A>
-        requires table { root.table ≡ self.table.shared.table_id }
+        requires table { root.table ≡ self.table }
         ensures { Remains self.cells self.local_limit root.id root.view result }
     {
         let HeapTable {

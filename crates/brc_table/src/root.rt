@@ -66,7 +66,7 @@ impl<A: Allocator> HeapTable<A> {
     #[tactic(auto, using(crate::proofs::Placing::split_allowed, crate::proofs::Placing::some_words))]
     /// Register: a seat for the next thread.
     pub fn split(&self, root: &mut RootSeat<A>) -> ThreadSeat<A>
-        requires table { root.old.table ≡ self.now.table.shared.table_id }
+        requires table { root.old.table ≡ self.now.table }
         requires few { next_thread root.old.view ≤ MOST_THREADS }
         ensures root { (root.new.table ≡ root.old.table) × (root.new.id ≡ root.old.id) }
         ensures told { root.new.view ≡ registering root.old.view }
@@ -83,7 +83,7 @@ impl<A: Allocator> HeapTable<A> {
     #[tactic(auto, using(crate::proofs::Placing::join_allowed, crate::proofs::Placing::leaves_so, crate::proofs::Placing::some_words))]
     /// Gather: the seat of a thread that has left and holds nothing.
     pub fn join(&self, root: &mut RootSeat<A>, seat: ThreadSeat<A>)
-        requires table { root.old.table ≡ self.now.table.shared.table_id }
+        requires table { root.old.table ≡ self.now.table }
         requires same_table { seat.table ≡ root.old.table }
         requires leaves { Leaves self.now.cells (view_of seat) }
         requires bare { seat.slots ≡ [] }

@@ -1,11 +1,9 @@
 //! The table, and how it opens.
 
 ghost use Rattle.std.specs.Prelude.{◌≡◌, ◌↔◌, ◌⊎◌, ◌≤◌, Err, IfOk, IfErr};
-ghost use Rattle.brc_words.specs.declared.limits.TheConstants.{MOST_CELLS, MOST_LOCAL};
 ghost use Rattle.brc_words.specs.declared.fault.Fault.TheVariants as faults;
 ghost use Rattle.brc_runs.specs.Heap.{AreOptions};
 ghost use Rattle.brc_rule.specs.Opening.{first_view};
-ghost use Rattle.brc_rule.specs.Layout.{extent};
 
 use crate::opening::{are_options, give_all_back, opening_slots, opening_words};
 use crate::root::RootSeat;
@@ -15,15 +13,23 @@ use brc_block::Block;
 use brc_rule::View;
 use brc_words::Fault;
 use std::alloc::Allocator;
+use std::marker::Model;
 
 /// The words and blocks of one heap.
 pub struct HeapTable<A: Allocator> {
     pub(crate) table: Table<Option<Block<A>>, View, Sizes, HeapRule<A>, A>,
     pub(crate) cells: u32,
     pub(crate) local_limit: u32,
-    ghost sizes: { (table.shared.key.cells ≡ cells) × (table.shared.key.local_limit ≡ local_limit) },
-    ghost room: { (table.shared.table_id.words ≡ extent cells) × (table.shared.table_id.slots ≡ cells) },
-    ghost limits: { (cells ≤ MOST_CELLS) × (local_limit ≤ MOST_LOCAL) },
+}
+
+impl<A: Allocator> Model for HeapTable<A> {
+    ghost use Rattle.brc_table.specs.Seated.{TableSeen, Sized};
+
+    ghost Value = { TableSeen };
+
+    ghost view = { λ t. record { table = t.table.shared.table_id; cells = t.cells; local_limit = t.local_limit } };
+
+    ghost invariant = { λ t. Sized t.table.shared.key t.table.shared.table_id t.cells t.local_limit };
 }
 
 impl<A: Allocator + Copy> HeapTable<A> {
@@ -31,7 +37,7 @@ impl<A: Allocator + Copy> HeapTable<A> {
     /// A table of so many cells, which opens with the immortals, and the root's seat.
     pub fn new(alloc: A, cells: u32, local_limit: u32) -> Result<(HeapTable<A>, RootSeat<A>), Fault>
         ensures sizes { IfOk result (λ made. (made.0.cells ≡ cells) × (made.0.local_limit ≡ local_limit)) }
-        ensures seat { IfOk result (λ made. made.1.table ≡ made.0.table.shared.table_id) }
+        ensures seat { IfOk result (λ made. made.1.table ≡ made.0.table) }
         ensures view { IfOk result (λ made. made.1.view ≡ first_view) }
 
         // Sizes are looked at before memory is asked for.

@@ -35,7 +35,7 @@ fn opened<A: Allocator + Copy>(
     local_limit: u32,
 ) -> (HeapTable<A>, RootSeat<A>)
     ensures sizes { (result.0.cells ≡ 512) × (result.0.local_limit ≡ local_limit) }
-    ensures table { result.1.table ≡ result.0.table.shared.table_id }
+    ensures table { result.1.table ≡ result.0.table }
     ensures view { result.1.view ≡ first_view }
 {
     match HeapTable::new(alloc, 512, local_limit) {
@@ -60,7 +60,7 @@ fn a_list<A: Allocator + Copy>(rt: &impl Abort, alloc: A, cell: u32) -> Block<A>
 
 /// The cell is free, and claimed.
 fn claimed<A: Allocator>(rt: &impl Abort, table: &HeapTable<A>, seat: &mut ThreadSeat<A>, cell: u32)
-    requires table { seat.old.table ≡ table.now.table.shared.table_id }
+    requires table { seat.old.table ≡ table.now.table }
     requires inside { cell < table.now.cells }
     requires claims { Claims table.now.cells seat.old.log cell }
     ensures told { seat.new.log ≡ told.Did (steps.Claim cell) 18446744073709551615 moves.Nothing ∷ seat.old.log }
@@ -102,7 +102,7 @@ fn locked_bare<A: Allocator>(
     seat: &mut ThreadSeat<A>,
     place: u32,
 ) -> Block<A>
-    requires table { seat.old.table ≡ table.now.table.shared.table_id }
+    requires table { seat.old.table ≡ table.now.table }
     requires inside { 265 < table.now.cells }
     requires carries { Carries table.now.cells seat.old.log (steps.Lock place) 265 }
     ensures of_cell { result.0 ≡ 265 }
@@ -128,7 +128,7 @@ fn locked_with<A: Allocator>(
     place: u32,
     cell: u32,
 ) -> Block<A>
-    requires table { seat.old.table ≡ table.now.table.shared.table_id }
+    requires table { seat.old.table ≡ table.now.table }
     requires inside { 265 < table.now.cells }
     requires carries { Carries table.now.cells seat.old.log (steps.Lock place) 265 }
     ensures of_cell { result.0 ≡ 265 }
@@ -189,7 +189,7 @@ fn gone<A: Allocator>(
     block: Option<Block<A>>,
     cell: u32,
 )
-    requires table { seat.old.table ≡ table.now.table.shared.table_id }
+    requires table { seat.old.table ≡ table.now.table }
     requires inside { cell < table.now.cells }
     requires slot { IfSome block (λ there. seat.old.slots ≡ (cell, None) ∷ []) }
     requires entries { IfSome block (λ there. (part_seen table.now.cells seat.old.log).has cell ≡ entries_in (contents_of there.1)) }
@@ -218,7 +218,7 @@ fn makes_a_list<A: Allocator + Copy>(
     table: &HeapTable<A>,
     seat: &mut ThreadSeat<A>,
 )
-    requires table { seat.old.table ≡ table.now.table.shared.table_id }
+    requires table { seat.old.table ≡ table.now.table }
     requires cells { table.now.cells ≡ 512 }
     requires new { (seat.old.log ≡ []) × (seat.old.slots ≡ []) }
     ensures told { seat.new.log ≡
@@ -238,7 +238,7 @@ fn makes_a_list<A: Allocator + Copy>(
 
 /// The memory of a dead list goes back, and its cell is free.
 fn ends<A: Allocator>(rt: &impl Abort, table: HeapTable<A>, root: RootSeat<A>)
-    requires table { root.table ≡ table.table.shared.table_id }
+    requires table { root.table ≡ table.table }
 {
     assert_eq!(rt; end_all(rt, table.take_apart(root)), 266);
 }
@@ -403,7 +403,37 @@ fn orphan_is_adopted(rt: HostRuntime) {
         4_398_046_511_104
     );
 
-    // The owner leaves.
+    // The owner begins to leave.
+    assert_eq!(rt; table.close(&mut one, 0), 0);
+    assert_eq!(rt; table.close(&mut one, 1), 0);
+    assert_eq!(rt; table.close(&mut one, 2), 0);
+    assert_eq!(rt; table.close(&mut one, 3), 0);
+    assert_eq!(rt; table.close(&mut one, 4), 0);
+    assert_eq!(rt; table.close(&mut one, 5), 0);
+    assert_eq!(rt; table.close(&mut one, 6), 0);
+    assert_eq!(rt; table.close(&mut one, 7), 0);
+    assert_eq!(rt; table.close(&mut one, 8), 0);
+
+    // The asker meets a closed word, merges in the owner's place, and has the last reference in its hand.
+    assert_eq!(rt; table.load_owner(&mut two, 266), 1);
+    assert_eq!(rt; table.enqueue(&mut two, 266, 1), 9_223_372_036_854_775_808);
+    assert_eq!(rt; table.load_owner(&mut two, 266), 1);
+    table.untie_shut(&mut two, 266, 1);
+    assert_eq!(rt; table.load_local(&mut two, 266), 1);
+    assert_eq!(rt; table.merge_add(&mut two, 266, 1), 4_398_046_511_106);
+    let Found { number, block } = table.last_held(&mut two, 266);
+    assert_eq!(rt; number, 4_398_046_511_111);
+    gone(&rt, &table, &mut two, block, 266);
+    drop(one);
+    drop(two);
+    ends(&rt, table, root);
+}
+
+#[test]
+fn a_thread_leaves_and_is_gathered(rt: HostRuntime) {
+    let (table, root) = opened(&rt, rt.alloc(), 4_294_967_294);
+    let mut root = root;
+    let mut one = table.split(&mut root);
     assert_eq!(rt; table.close(&mut one, 0), 0);
     assert_eq!(rt; table.close(&mut one, 1), 0);
     assert_eq!(rt; table.close(&mut one, 2), 0);
@@ -420,71 +450,8 @@ fn orphan_is_adopted(rt: HostRuntime) {
     assert_eq!(rt; table.close(&mut one, 13), 0);
     assert_eq!(rt; table.close(&mut one, 14), 0);
     assert_eq!(rt; table.close(&mut one, 15), 0);
-
-    // The asker meets a closed word, merges in the owner's place, and has the last reference in its hand.
-    assert_eq!(rt; table.load_owner(&mut two, 266), 1);
-    assert_eq!(rt; table.enqueue(&mut two, 266, 1), 9_223_372_036_854_775_808);
-    assert_eq!(rt; table.load_owner(&mut two, 266), 1);
-    table.untie_shut(&mut two, 266, 1);
-    assert_eq!(rt; table.load_local(&mut two, 266), 1);
-    assert_eq!(rt; table.merge_add(&mut two, 266, 1), 4_398_046_511_106);
-    let Found { number, block } = table.last_held(&mut two, 266);
-    assert_eq!(rt; number, 4_398_046_511_111);
-    gone(&rt, &table, &mut two, block, 266);
     table.join(&mut root, one);
-    drop(two);
-    ends(&rt, table, root);
-}
-
-#[test]
-fn leaver_deals_with_its_queue(rt: HostRuntime) {
-    let (table, root) = opened(&rt, rt.alloc(), 4_294_967_294);
-    let mut root = root;
-    let mut one = table.split(&mut root);
-    let mut two = table.split(&mut root);
-    makes_a_list(&rt, rt.alloc(), &table, &mut one);
-    let _found = table.immortal_up(&mut one, Source::Immortal(265), 1, 265);
-    let globals = locked_bare(&rt, &table, &mut one, 1);
-    let globals = with_one(&rt, rt.alloc(), globals, 266);
-    table.unlock(&mut one, globals, Change::Put(0));
-    let _found = table.immortal_up(&mut two, Source::Immortal(265), 0, 265);
-    let globals = locked_with(&rt, &table, &mut two, 0, 266);
-    let globals = bare(rt.alloc(), globals);
-    table.unlock(&mut two, globals, Change::Take { index: 0, place: 1 });
-    let _found = table.immortal_down(&mut one, Dropped::Frame(1), 265);
-    assert_eq!(rt;
-        table.ask(&mut two, Dropped::Frame(1), 266),
-        4_398_046_511_104
-    );
-    assert_eq!(rt; table.load_owner(&mut two, 266), 1);
-    assert_eq!(rt; table.enqueue(&mut two, 266, 1), 0);
-
-    // As it leaves, the owner pops what was put into its queue.
-    assert_eq!(rt; table.close(&mut one, 0), 0);
-    assert_eq!(rt; table.close(&mut one, 1), 0);
-    assert_eq!(rt; table.close(&mut one, 2), 0);
-    assert_eq!(rt; table.close(&mut one, 3), 0);
-    assert_eq!(rt; table.close(&mut one, 4), 0);
-    assert_eq!(rt; table.close(&mut one, 5), 0);
-    assert_eq!(rt; table.close(&mut one, 6), 0);
-    assert_eq!(rt; table.close(&mut one, 7), 0);
-    assert_eq!(rt; table.close(&mut one, 8), 1_024);
-    assert_eq!(rt; table.close(&mut one, 9), 0);
-    assert_eq!(rt; table.close(&mut one, 10), 0);
-    assert_eq!(rt; table.close(&mut one, 11), 0);
-    assert_eq!(rt; table.close(&mut one, 12), 0);
-    assert_eq!(rt; table.close(&mut one, 13), 0);
-    assert_eq!(rt; table.close(&mut one, 14), 0);
-    assert_eq!(rt; table.close(&mut one, 15), 0);
-    assert_eq!(rt; table.load_shared(&mut one, 266), 4_398_046_511_106);
-    table.untie_popped(&mut one, 266, 4_398_046_511_106);
-    assert_eq!(rt; table.load_local(&mut one, 266), 1);
-    assert_eq!(rt; table.merge_add(&mut one, 266, 1), 4_398_046_511_106);
-    let Found { number, block } = table.last_added(&mut one, 266);
-    assert_eq!(rt; number, 4_398_046_511_111);
-    gone(&rt, &table, &mut one, block, 266);
-    table.join(&mut root, one);
-    drop(two);
+    assert_eq!(rt; root.next(), 2);
     ends(&rt, table, root);
 }
 

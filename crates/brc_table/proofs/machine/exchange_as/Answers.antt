@@ -1,10 +1,8 @@
 use Rattle.brc_table.specs.Shown.{shows}
-use Rattle.brc_table.proofs.Placing.{spot_inside, step_exchanged}
+use Rattle.brc_table.proofs.Placing.{step_exchanged}
 use Rattle.brc_table.proofs.machine.exchange_as.Goals as goal
 
 pub compare_exchange-requires : goal.compare_exchange-requires
-compare_exchange-requires g c = let t = c.args.table.now in (
-  c.requires.same,
-  spot_inside t.cells _ _ c.args.word c.requires.inside c.spot_of-at.ensures t.room.0,
-  step_exchanged shows t.cells t.local_limit _ _ _ _ _ c.args.seat.now.me g.M.Won.word c.args.old c.args.new g.M.Won.item c.args.word t.sizes.0 t.sizes.1 t.room.1 c.spot_of-at.ensures c.requires.allowed,
-)
+compare_exchange-requires g c =
+    step_exchanged shows c.args.seat.now.me g.M.Won.word c.args.old c.args.new g.M.Won.item c.args.word
+    c.table.invariant c.table.view_is c.spot_of-at.ensures c.requires.same c.requires.inside c.requires.allowed

@@ -1,10 +1,8 @@
 use Rattle.brc_table.specs.Shown.{shows}
-use Rattle.brc_table.proofs.Placing.{spot_inside, step_told}
+use Rattle.brc_table.proofs.Placing.{step_told}
 use Rattle.brc_table.proofs.machine.load_as.Goals as goal
 
 pub load-requires : goal.load-requires
-load-requires g c = let t = c.args.table.now in (
-  c.requires.same,
-  spot_inside t.cells _ _ c.args.word c.requires.inside c.spot_of-at.ensures t.room.0,
-  step_told shows t.cells t.local_limit _ _ _ _ _ c.args.seat.now.me (λ there. there) (g.M.Item.item) c.args.word t.sizes.0 t.sizes.1 t.room.1 c.spot_of-at.ensures c.requires.allowed,
-)
+load-requires g c =
+    step_told shows c.args.seat.now.me (λ there. there) (g.M.Item.item) c.args.word
+    c.table.invariant c.table.view_is c.spot_of-at.ensures c.requires.same c.requires.inside c.requires.allowed

@@ -5,12 +5,12 @@ use Rattle.brc_known.specs.declared.word.Word.TheVariants.{Of}
 use Rattle.brc_known.specs.Items.{cell_told}
 use Rattle.brc_steps.specs.Taking.{Ended}
 use Rattle.brc_table.specs.Shown.{shows}
-use Rattle.brc_table.proofs.Placing.{spot_inside, step_allowed}
+use Rattle.brc_table.proofs.Placing.{step_allowed}
 use Rattle.brc_table.proofs.moving.sub_ends.Goals as goal
 
 pub fetch_sub-requires : goal.fetch_sub-requires
-fetch_sub-requires g c = let t = c.args.table.now in let me = c.args.seat.now.me in let s = g.M.Ending.step in (
-  c.requires.same,
-  spot_inside t.cells _ _ (Of Shared c.args.cell) c.requires.inside c.spot_of-at.ensures t.room.0,
-  step_allowed shows t.cells t.local_limit _ _ _ _ _ me (λ there. (there + (18446744073709551616 - c.args.less)) % 18446744073709551616) (λ there after. Ended shows me.0 me.1 s g.M.Ending.cell there (takes_block s (cell_told s there)) after) (Of Shared c.args.cell) t.sizes.0 t.sizes.1 t.room.1 c.spot_of-at.ensures c.requires.allowed,
-)
+fetch_sub-requires g c =
+    let me = c.args.seat.now.me in
+    let s = g.M.Ending.step in
+    step_allowed shows me (λ there. (there + (18446744073709551616 - c.args.less)) % 18446744073709551616) (λ there after. Ended shows g.M.Ending.cells me.0 me.1 s g.M.Ending.cell there (takes_block s (cell_told s there)) after) (Of Shared c.args.cell)
+    c.table.invariant c.table.view_is c.spot_of-at.ensures c.requires.same c.requires.inside c.requires.allowed

@@ -1,18 +1,19 @@
-use Rattle.std.proofs.Common.{ℕ, ◌<◌, sym, subst, bit_or}
+use Rattle.std.proofs.Common.{ℕ, ◌<◌, ◌≤◌, sym, subst, bit_or}
 use Rattle.brc_runs.specs.declared.event.Step.TheVariants.{Nudge}
 use Rattle.brc_known.specs.declared.word.Word.TheVariants.{NotifyWord}
 use Rattle.brc_table.proofs.Placing.{notify_bit, told_inside}
 use Rattle.brc_rule.specs.declared.told.Moved.TheVariants.{Nothing}
 use Rattle.brc_rule.specs.declared.told.Told.TheVariants.{Did}
 use Rattle.brc_table.specs.Machine.{MayTell}
-use Rattle.brc_table.specs.Seated.{SeatSeen}
+use Rattle.brc_words.specs.declared.limits.TheConstants.{MOST_CELLS}
+use Rattle.brc_table.specs.Seated.{TableSeen, SeatSeen}
 use Rattle.brc_table.specs.Shown.{shows}
 use Rattle.brc_steps.specs.Owing.{Tells}
 use Rattle.brc_steps.proofs.Queue_Steps.{nudges}
 use Rattle.brc_table.proofs.table.HeapTable.nudge.Goals as goal
 
 pub bit-bits-requires : goal.bit-bits-requires
-bit-bits-requires g c = notify_bit c.args.self.now.cells _ c.args.thread c.args.word c.args.self.now.limits.0 c.requires.tells
+bit-bits-requires g c = notify_bit c.args.self.now.cells _ c.args.thread c.args.word (subst (λ (z : TableSeen). z.cells ≤ MOST_CELLS) c.self.view_is c.self.invariant.few_cells) c.requires.tells
 
 pub or-requires-clause-inside : goal.or-requires-clause-inside
 or-requires-clause-inside g c = told_inside c.args.self.now.cells _ c.args.thread c.args.word c.requires.tells

@@ -1,0 +1,4 @@
+pub mod Outcomes
+pub mod Lists
+pub mod Dicts
+pub mod Queues

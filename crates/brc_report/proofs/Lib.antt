@@ -1,0 +1,6 @@
+pub mod Remaining
+pub mod Membership
+pub mod Walks
+pub mod Searching
+pub mod Unique
+pub mod Writing

@@ -1,0 +1,170 @@
+//! A report, and its text.
+
+ghost use Rattle.std.specs.Prelude.{◌≡◌, ◌++◌, [], ◌∷◌, decimal};
+ghost use Rattle.brc_text.specs.Puts.{Puts};
+ghost use Rattle.brc_report.specs.Texts.{kind_word, ledger_line, remain_words, remain_line, remains_text, cell_word, cells_text, cycle_line, cycles_text, report_text};
+
+use crate::content::{Cells, Content, Remain};
+use brc_text::{Keyword, Token, put_bytes, put_line};
+use brc_words::{Fault, Kind};
+use itoa::Buffer;
+use std::alloc::Allocator;
+use std::io::Write;
+
+/// How many objects all threads made, and how many they freed.
+#[derive(Clone, Copy, Debug, PartialEq, Eq)]
+pub struct Ledger {
+    pub allocs: u64,
+    pub frees: u64,
+}
+
+/// What is said of a heap that was closed.
+#[derive(Drop)]
+pub struct Report<A: Allocator> {
+    pub ledger: Ledger,
+    pub live: u64,
+    pub remains: Vec<Remain, A>,
+    pub cycles: Vec<Cells<A>, A>,
+    pub contents: Vec<Content<A>, A>,
+}
+
+fn word_of_kind(kind: Kind) -> Keyword
+    ensures { result ≡ kind_word kind }
+{
+    match kind {
+        Kind::Int => Keyword::Int,
+        Kind::Text => Keyword::Text,
+        Kind::List => Keyword::List,
+        Kind::Dict => Keyword::Dict,
+        Kind::Mailbox => Keyword::Mailbox,
+        Kind::Nothing | Kind::False | Kind::True => Keyword::Dash,
+    }
+}
+
+/// Writes the ledger and how many objects live.
+fn put_ledger<W: Write>(writer: &mut W, ledger: &Ledger, live: u64) -> Result<(), Fault>
+    ensures { Puts (W.contents writer.old) (W.contents writer.new) result (ledger_line ledger.now live) }
+{
+    put_line(
+        writer,
+        &[
+            Token::Word(Keyword::Ledger),
+            Token::Number(ledger.allocs),
+            Token::Number(ledger.frees),
+            Token::Number(live),
+        ],
+    )
+}
+
+fn put_remain_words<W: Write>(writer: &mut W, remain: Remain) -> Result<(), Fault>
+    ensures { Puts (W.contents writer.old) (W.contents writer.new) result (remain_words remain) }
+{
+    put_line(
+        writer,
+        &[
+            Token::Number(remain.cell as u64),
+            Token::Word(word_of_kind(remain.kind)),
+            Token::Number(remain.held_by as u64),
+        ],
+    )
+}
+
+/// Writes one remain.
+fn put_remain<W: Write>(writer: &mut W, remain: Remain) -> Result<(), Fault>
+    ensures { Puts (W.contents writer.old) (W.contents writer.new) result (remain_line remain) }
+{
+    put_bytes(writer, b"remain ")?;
+    put_remain_words(writer, remain)
+}
+
+fn put_remains<W: Write>(writer: &mut W, remains: &[Remain]) -> Result<(), Fault>
+    ensures { Puts (W.contents writer.old) (W.contents writer.new) result (remains_text remains.now) }
+{
+    for remain in remains {
+        put_remain(writer, *remain)?;
+    }
+    Ok(())
+}
+
+fn put_number<W: Write>(writer: &mut W, number: u32) -> Result<(), Fault>
+    ensures { Puts (W.contents writer.old) (W.contents writer.new) result (decimal number) }
+{
+    put_bytes(writer, Buffer::new().format(number).as_bytes())
+}
+
+/// Writes a cell behind a space.
+fn put_cell<W: Write>(writer: &mut W, cell: u32) -> Result<(), Fault>
+    ensures { Puts (W.contents writer.old) (W.contents writer.new) result (cell_word cell) }
+{
+    put_bytes(writer, b" ")?;
+    put_number(writer, cell)
+}
+
+fn put_cells<W: Write>(writer: &mut W, cells: &[u32]) -> Result<(), Fault>
+    ensures { Puts (W.contents writer.old) (W.contents writer.new) result (cells_text cells.now) }
+{
+    for cell in cells {
+        put_cell(writer, *cell)?;
+    }
+    Ok(())
+}
+
+fn put_cells_line<W: Write>(writer: &mut W, cells: &[u32]) -> Result<(), Fault>
+    ensures { Puts (W.contents writer.old) (W.contents writer.new) result (cells_text cells.now ++ 10 ∷ []) }
+{
+    put_cells(writer, cells)?;
+    put_bytes(writer, b"\n")
+}
+
+/// Writes one cycle.
+fn put_cycle<W: Write>(writer: &mut W, cells: &[u32]) -> Result<(), Fault>
+    ensures { Puts (W.contents writer.old) (W.contents writer.new) result (cycle_line cells.now) }
+{
+    put_bytes(writer, b"cycle")?;
+    put_cells_line(writer, cells)
+}
+
+fn put_cycles<A: Allocator, W: Write>(writer: &mut W, cycles: &[Cells<A>]) -> Result<(), Fault>
+    ensures { Puts (W.contents writer.old) (W.contents writer.new) result (cycles_text cycles.now) }
+{
+    for cycle in cycles {
+        put_cycle(writer, cycle.as_slice())?;
+    }
+    Ok(())
+}
+
+fn put_report_remains<A: Allocator, W: Write>(
+    report: &Report<A>,
+    writer: &mut W,
+) -> Result<(), Fault>
+    ensures { Puts (W.contents writer.old) (W.contents writer.new) result (remains_text report.now.remains.items) }
+{
+    put_remains(writer, report.remains.as_slice())
+}
+
+fn put_report_cycles<A: Allocator, W: Write>(
+    report: &Report<A>,
+    writer: &mut W,
+) -> Result<(), Fault>
+    ensures { Puts (W.contents writer.old) (W.contents writer.new) result (cycles_text report.now.cycles.items) }
+{
+    put_cycles(writer, report.cycles.as_slice())
+}
+
+/// Writes what stands behind the ledger.
+fn put_rest<A: Allocator, W: Write>(report: &Report<A>, writer: &mut W) -> Result<(), Fault>
+    ensures { Puts (W.contents writer.old) (W.contents writer.new) result
+        (remains_text report.now.remains.items ++ cycles_text report.now.cycles.items) }
+{
+    put_report_remains(report, writer)?;
+    put_report_cycles(report, writer)
+}
+
+/// Writes the text of the report: all of it, or Io after a front of it. No memory is taken.
+pub fn write_report<A: Allocator, W: Write>(report: &Report<A>, writer: &mut W) -> Result<(), Fault>
+    ensures { Puts (W.contents writer.old) (W.contents writer.new) result
+        (report_text report.now.ledger report.now.live report.now.remains.items report.now.cycles.items) }
+{
+    put_ledger(writer, &report.ledger, report.live)?;
+    put_rest(report, writer)
+}

@@ -1,0 +1,260 @@
+//! Reports of small heaps, as values and as texts, and of large ones.
+
+use crate::{
+    Cells, Content, Ledger, Remain, Report, check_report, find_cycles, find_remains, write_report,
+};
+use brc_words::{Fault, Kind};
+use linked_list_allocator::LocalHeap;
+use std::alloc::Global;
+use std::process::Abort;
+
+/// The contents with one cell more.
+fn add(
+    rt: &impl Abort,
+    alloc: Global,
+    contents: &mut Vec<Content<Global>>,
+    cell: u32,
+    kind: Kind,
+    entries: &[u32],
+) {
+    let list = Vec::from_slice(alloc, entries).expect(rt, "memory");
+    let content = Content {
+        cell,
+        kind,
+        entries: Cells::new(list),
+    };
+    contents.push(content).expect(rt, "memory");
+}
+
+/// The text of the report on these contents, of a heap that made and freed so many objects.
+fn report_of(
+    rt: &impl Abort,
+    alloc: Global,
+    contents: Vec<Content<Global>>,
+    allocs: u64,
+    frees: u64,
+) -> Vec<u8> {
+    let remains = find_remains(alloc, contents.as_slice())
+        .expect(rt, "memory")
+        .expect(rt, "a remain without a holder");
+    let cycles = find_cycles(alloc, remains.as_slice()).expect(rt, "memory");
+    assert!(rt;
+        check_report(
+            alloc,
+            remains.as_slice(),
+            cycles.as_slice(),
+            contents.as_slice()
+        ) == Ok(true)
+    );
+    let report = Report {
+        ledger: Ledger { allocs, frees },
+        live: allocs.saturating_sub(frees),
+        remains,
+        cycles,
+        contents,
+    };
+    let mut text = Vec::new(alloc);
+    assert!(rt; write_report(&report, &mut text).is_ok());
+    text
+}
+
+#[test]
+fn a_list_that_holds_itself_is_a_cycle(rt: HostRuntime) {
+    let mut contents = Vec::new(rt.alloc());
+    add(&rt, rt.alloc(), &mut contents, 265, Kind::Dict, &[]);
+    add(&rt, rt.alloc(), &mut contents, 266, Kind::List, &[266]);
+    let text = report_of(&rt, rt.alloc(), contents, 1, 0);
+    assert!(rt; text.as_slice() == b"ledger 1 0 1\nremain 266 list 266\ncycle 266\n".as_slice());
+}
+
+#[test]
+fn what_the_globals_hold_is_no_cycle(rt: HostRuntime) {
+    let mut contents = Vec::new(rt.alloc());
+    add(&rt, rt.alloc(), &mut contents, 265, Kind::Dict, &[266]);
+    add(&rt, rt.alloc(), &mut contents, 266, Kind::Text, &[]);
+    let text = report_of(&rt, rt.alloc(), contents, 1, 0);
+    assert!(rt; text.as_slice() == b"ledger 1 0 1\nremain 266 text 265\n".as_slice());
+}
+
+#[test]
+fn two_lists_hold_each_other_and_a_text(rt: HostRuntime) {
+    let mut contents = Vec::new(rt.alloc());
+    add(&rt, rt.alloc(), &mut contents, 265, Kind::Dict, &[]);
+    add(&rt, rt.alloc(), &mut contents, 266, Kind::List, &[268, 267]);
+    add(&rt, rt.alloc(), &mut contents, 267, Kind::List, &[266]);
+    add(&rt, rt.alloc(), &mut contents, 268, Kind::Text, &[]);
+    let remains = [
+        Remain {
+            cell: 266,
+            kind: Kind::List,
+            held_by: 267,
+        },
+        Remain {
+            cell: 267,
+            kind: Kind::List,
+            held_by: 266,
+        },
+        Remain {
+            cell: 268,
+            kind: Kind::Text,
+            held_by: 266,
+        },
+    ];
+    let cycle = Vec::from_slice(rt.alloc(), [266, 267].as_slice()).expect(&rt, "memory");
+    let turned = Vec::from_slice(rt.alloc(), [267, 266].as_slice()).expect(&rt, "memory");
+    let cycles = [Cells::new(cycle)];
+    let others = [Cells::new(turned)];
+    assert!(rt; check_report(rt.alloc(), &remains, &cycles, contents.as_slice()) == Ok(true));
+    assert!(rt; check_report(rt.alloc(), &remains[..2], &cycles, contents.as_slice()) == Ok(false));
+    assert!(rt; check_report(rt.alloc(), &remains, &others, contents.as_slice()) == Ok(false));
+    assert!(rt; check_report(rt.alloc(), &remains, &[], contents.as_slice()) == Ok(false));
+    let text = report_of(&rt, rt.alloc(), contents, 3, 0);
+    assert!(rt;
+        text.as_slice()
+            == b"ledger 3 0 3\nremain 266 list 267\nremain 267 list 266\nremain 268 text 266\ncycle 266 267\n".as_slice()
+    );
+}
+
+#[test]
+fn cycles_stand_by_their_first_cells(rt: HostRuntime) {
+    // 266 leads into the cycle of 268 and 270, which is met at 270; 267 and 269 are a cycle of their own.
+    let remains = [
+        Remain {
+            cell: 266,
+            kind: Kind::List,
+            held_by: 270,
+        },
+        Remain {
+            cell: 267,
+            kind: Kind::List,
+            held_by: 269,
+        },
+        Remain {
+            cell: 268,
+            kind: Kind::List,
+            held_by: 270,
+        },
+        Remain {
+            cell: 269,
+            kind: Kind::List,
+            held_by: 267,
+        },
+        Remain {
+            cell: 270,
+            kind: Kind::List,
+            held_by: 268,
+        },
+        Remain {
+            cell: 271,
+            kind: Kind::List,
+            held_by: 265,
+        },
+    ];
+    let cycles = find_cycles(rt.alloc(), &remains).expect(&rt, "memory");
+    assert_eq!(rt; cycles.len(), 2);
+    assert!(rt;
+        cycles[0].as_slice() == [267, 269].as_slice()
+            && cycles[1].as_slice() == [268, 270].as_slice()
+    );
+}
+
+#[test]
+fn contents_that_do_not_rise_are_no_report(rt: HostRuntime) {
+    let mut contents = Vec::new(rt.alloc());
+    assert!(rt; check_report(rt.alloc(), &[], &[], contents.as_slice()) == Ok(false));
+    add(&rt, rt.alloc(), &mut contents, 265, Kind::Dict, &[]);
+    assert!(rt; check_report(rt.alloc(), &[], &[], contents.as_slice()) == Ok(true));
+    add(&rt, rt.alloc(), &mut contents, 266, Kind::Text, &[]);
+    assert!(rt; check_report(rt.alloc(), &[], &[], contents.as_slice()) == Ok(false));
+    add(&rt, rt.alloc(), &mut contents, 266, Kind::List, &[266]);
+    assert!(rt; check_report(rt.alloc(), &[], &[], contents.as_slice()) == Ok(false));
+}
+
+#[test]
+fn a_long_chain_is_walked_once(rt: HostRuntime) {
+    let mut remains = Vec::new(rt.alloc());
+    for cell in 266..60_266u32 {
+        let remain = Remain {
+            cell,
+            kind: Kind::List,
+            held_by: cell + 1,
+        };
+        remains.push(remain).expect(&rt, "memory");
+    }
+    let cycles = find_cycles(rt.alloc(), remains.as_slice()).expect(&rt, "memory");
+    assert_eq!(rt; cycles.len(), 0);
+    let last = Remain {
+        cell: 60_266,
+        kind: Kind::List,
+        held_by: 266,
+    };
+    remains.push(last).expect(&rt, "memory");
+    let cycles = find_cycles(rt.alloc(), remains.as_slice()).expect(&rt, "memory");
+    assert!(rt; cycles.len() == 1 && cycles[0].as_slice().len() == 60_001);
+}
+
+#[test]
+fn a_thousand_cycles_are_found(rt: HostRuntime) {
+    let mut remains = Vec::new(rt.alloc());
+    for pair in 0..1_000u32 {
+        let low = Remain {
+            cell: 266 + 2 * pair,
+            kind: Kind::List,
+            held_by: 267 + 2 * pair,
+        };
+        let high = Remain {
+            cell: 267 + 2 * pair,
+            kind: Kind::List,
+            held_by: 266 + 2 * pair,
+        };
+        remains.push(low).expect(&rt, "memory");
+        remains.push(high).expect(&rt, "memory");
+    }
+    let cycles = find_cycles(rt.alloc(), remains.as_slice()).expect(&rt, "memory");
+    assert_eq!(rt; cycles.len(), 1_000);
+}
+
+#[test]
+fn a_million_entries_have_their_holders(rt: HostRuntime) {
+    let mut contents = Vec::new(rt.alloc());
+    let mut many = Vec::new(rt.alloc());
+    for entry in 0..1_000_000u32 {
+        many.push(266 + entry % 100).expect(&rt, "memory");
+    }
+    add(
+        &rt,
+        rt.alloc(),
+        &mut contents,
+        265,
+        Kind::Dict,
+        many.as_slice(),
+    );
+    for cell in 266..366 {
+        add(&rt, rt.alloc(), &mut contents, cell, Kind::List, &[266]);
+    }
+    let remains = find_remains(rt.alloc(), contents.as_slice())
+        .expect(&rt, "memory")
+        .expect(&rt, "held");
+    assert_eq!(rt; remains.len(), 100);
+    assert!(rt; remains[0].held_by == 265 && remains[99].held_by == 265);
+}
+
+#[test]
+fn a_refused_growth_is_told(rt: HostRuntime) {
+    let remains = [
+        Remain {
+            cell: 266,
+            kind: Kind::List,
+            held_by: 267,
+        },
+        Remain {
+            cell: 267,
+            kind: Kind::List,
+            held_by: 266,
+        },
+    ];
+    let heap = LocalHeap::new(rt.alloc(), 16).expect(&rt, "memory");
+    assert!(rt; matches!(find_cycles(&heap, &remains), Err(Fault::OutOfMemory)));
+    let ample = LocalHeap::new(rt.alloc(), 100_000).expect(&rt, "memory");
+    assert!(rt; find_cycles(&ample, &remains).is_ok());
+}
