@@ -35,7 +35,7 @@ pub fn make_object<A: Allocator>(
     alloc: A,
     cell: u32,
 ) -> bool
-    requires table { seat.old.table ≡ table.now.table.shared.table_id }
+    requires table { seat.old.table ≡ table.now.table }
     requires inside { cell < table.now.cells }
     requires mortal { FIRST_MORTAL ≤ cell }
     requires begins { seat.old.log ≡ [] }
@@ -109,7 +109,7 @@ fn make_and_lock<A: Allocator + Copy>(
     seat: &mut ThreadSeat<A>,
     alloc: A,
 ) -> Option<Block<A>>
-    requires table { seat.old.table ≡ table.now.table.shared.table_id }
+    requires table { seat.old.table ≡ table.now.table }
     requires wide { 1_000 ≤ table.now.cells }
     requires room { 10 ≤ table.now.local_limit }
     requires begins { (seat.old.log ≡ []) × (seat.old.slots ≡ []) }
@@ -153,7 +153,7 @@ pub fn share_object<A: Allocator + Copy>(
     seat: &mut ThreadSeat<A>,
     alloc: A,
 ) -> bool
-    requires table { seat.old.table ≡ table.now.table.shared.table_id }
+    requires table { seat.old.table ≡ table.now.table }
     requires wide { 1_000 ≤ table.now.cells }
     requires room { 10 ≤ table.now.local_limit }
     requires begins { (seat.old.log ≡ []) × (seat.old.slots ≡ []) }
@@ -176,7 +176,7 @@ pub fn share_object<A: Allocator + Copy>(
 
 /// A thread that has done nothing yet finds the object in the globals, and counts it up: it holds it in place 0.
 pub fn find_object<A: Allocator>(table: &HeapTable<A>, seat: &mut ThreadSeat<A>) -> bool
-    requires table { seat.old.table ≡ table.now.table.shared.table_id }
+    requires table { seat.old.table ≡ table.now.table }
     requires wide { 1_000 ≤ table.now.cells }
     requires begins { (seat.old.log ≡ []) × (seat.old.slots ≡ []) }
     ensures holds { result ≡ true → HoldsOnce table.now.cells seat.new.log 300 0 }
@@ -205,8 +205,8 @@ pub fn merge_object<A: Allocator>(
     owner: &mut ThreadSeat<A>,
     seat: &mut ThreadSeat<A>,
 ) -> bool
-    requires owner_table { owner.old.table ≡ table.now.table.shared.table_id }
-    requires table { seat.old.table ≡ table.now.table.shared.table_id }
+    requires owner_table { owner.old.table ≡ table.now.table }
+    requires table { seat.old.table ≡ table.now.table }
     requires wide { 1_000 ≤ table.now.cells }
     requires shared { owner.old.log ≡ shared_log owner.old.thread }
     requires begins { (seat.old.log ≡ []) × (seat.old.slots ≡ []) }

@@ -1,6 +1,6 @@
 //! Pairs: one reference more to an object that the thread holds, and that one less.
 
-ghost use Rattle.std.specs.Prelude.{◌≡◌, ◌<◌, ◌≤◌};
+ghost use Rattle.std.specs.Prelude.{◌≡◌, ◌+◌, ◌^◌, ◌<◌, ◌≤◌};
 ghost use Rattle.brc_words.specs.declared.limits.TheConstants.{FIRST_MORTAL};
 ghost use Rattle.brc_table.specs.Seated.{Stays, Continues};
 ghost use Rattle.brc_bench.specs.Pairs.{HoldsOnce};
@@ -18,10 +18,11 @@ pub fn own_pairs<A: Allocator>(
     count: u32,
     pairs: u64,
 )
-    requires table { seat.old.table ≡ table.now.table.shared.table_id }
+    requires table { seat.old.table ≡ table.now.table }
     requires inside { cell < table.now.cells }
     requires mortal { FIRST_MORTAL ≤ cell }
     requires counts { 0 < count }
+    requires fits { count + 1 < 2 ^ 32 }
     requires room { count < table.now.local_limit }
     requires holds { HoldsOnce table.now.cells seat.old.log cell count }
     ensures holds { HoldsOnce table.now.cells seat.new.log cell count }
@@ -41,7 +42,7 @@ pub fn foreign_pairs<A: Allocator>(
     cell: u32,
     pairs: u64,
 ) -> bool
-    requires table { seat.old.table ≡ table.now.table.shared.table_id }
+    requires table { seat.old.table ≡ table.now.table }
     requires inside { cell < table.now.cells }
     requires mortal { FIRST_MORTAL ≤ cell }
     requires holds { HoldsOnce table.now.cells seat.old.log cell 0 }
@@ -68,7 +69,7 @@ pub fn risen_pairs<A: Allocator>(
     cell: u32,
     pairs: u64,
 ) -> bool
-    requires table { seat.old.table ≡ table.now.table.shared.table_id }
+    requires table { seat.old.table ≡ table.now.table }
     requires inside { cell < table.now.cells }
     requires mortal { FIRST_MORTAL ≤ cell }
     requires holds { HoldsOnce table.now.cells seat.old.log cell 0 }

@@ -43,7 +43,7 @@ fn own_jobs<'a>(
     threads: u32,
     pairs: u64,
 ) -> io::Result<Vec<Job<'a>>>
-    requires table { root.old.table ≡ table.now.table.shared.table_id }
+    requires table { root.old.table ≡ table.now.table }
     requires wide { 1_000 ≤ table.now.cells }
     requires room { 10 ≤ table.now.local_limit }
     requires few { threads ≤ MOST_THREADS }
@@ -78,7 +78,7 @@ fn shared_jobs<'a>(
     threads: u32,
     pairs: u64,
 ) -> io::Result<Vec<Job<'a>>>
-    requires table { root.old.table ≡ table.now.table.shared.table_id }
+    requires table { root.old.table ≡ table.now.table }
     requires wide { 1_000 ≤ table.now.cells }
     requires room { 10 ≤ table.now.local_limit }
     ensures root { root.new.table ≡ root.old.table }
@@ -185,7 +185,7 @@ fn answer_on<R: Threads + Clock + CpuClock + Sync>(
     threads: u32,
     pairs: u64,
 ) -> io::Result<Answer>
-    requires table { root.old.table ≡ table.now.table.shared.table_id }
+    requires table { root.old.table ≡ table.now.table }
     requires wide { 1_000 ≤ table.now.cells }
     requires room { 10 ≤ table.now.local_limit }
     requires few { threads ≤ MOST_THREADS }

@@ -1,6 +1,6 @@
 //! Threads that count, and how long they take.
 
-ghost use Rattle.std.specs.Prelude.{◌≡◌, ◌≢◌, ◌<◌, ◌≤◌};
+ghost use Rattle.std.specs.Prelude.{◌≡◌, ◌≢◌, ◌+◌, ◌^◌, ◌<◌, ◌≤◌};
 ghost use Rattle.brc_words.specs.declared.limits.TheConstants.{FIRST_MORTAL};
 ghost use Rattle.brc_bench.specs.declared.timing.Role.TheVariants as roles;
 ghost use Rattle.brc_bench.specs.Pairs.{HoldsOnce, count_of};
@@ -31,11 +31,12 @@ pub struct Job<'a> {
     pub cell: u32,
     pub pairs: u64,
     pub role: Role,
-    ghost same: { seat.table ≡ table.now.table.shared.table_id },
+    ghost same: { seat.table ≡ table.now.table },
     ghost inside: { cell < table.now.cells },
     ghost mortal: { FIRST_MORTAL ≤ cell },
     ghost room: { count_of role < table.now.local_limit },
     ghost counts: { role ≢ roles.Owner 0 },
+    ghost fits: { count_of role + 1 < 2 ^ 32 },
     ghost holds: { HoldsOnce table.now.cells seat.log cell (count_of role) },
 }
 
@@ -49,7 +50,7 @@ pub struct Done<'a> {
     started: Instant,
     ended: Instant,
     cpu: Duration,
-    ghost same: { seat.table ≡ table.now.table.shared.table_id },
+    ghost same: { seat.table ≡ table.now.table },
     ghost inside: { cell < table.now.cells },
 }
 

@@ -22,7 +22,7 @@ pub fn merge_add<A: Allocator>(
     cell: u32,
     local: u32,
 ) -> u64
-    requires table { seat.old.table ≡ table.now.table.shared.table_id }
+    requires table { seat.old.table ≡ table.now.table }
     requires inside { cell < table.now.cells }
     requires adds { AddsLocal table.now.cells seat.old.log cell local }
     ensures told { seat.new.log ≡ told.Did (steps.MergeAdd cell) result moves.Nothing ∷ seat.old.log }

@@ -18,7 +18,7 @@ pub fn nudge<A: Allocator>(
     thread: u32,
     word: u32,
 ) -> u64
-    requires table { seat.old.table ≡ table.now.table.shared.table_id }
+    requires table { seat.old.table ≡ table.now.table }
     requires tells { Tells table.now.cells seat.old.log thread word }
     ensures told { seat.new.log ≡ told.Did (steps.Nudge thread word) result moves.Nothing ∷ seat.old.log }
     ensures seat { Stays seat.old seat.new }
@@ -30,7 +30,7 @@ pub fn nudge<A: Allocator>(
 
 /// Takes what the thread was told: bit k says that something was put into one of its queue words from 32 k on.
 pub fn wake<A: Allocator>(table: &HeapTable<A>, seat: &mut ThreadSeat<A>) -> u64
-    requires table { seat.old.table ≡ table.now.table.shared.table_id }
+    requires table { seat.old.table ≡ table.now.table }
     requires allowed { Allowed table.now.cells seat.old.log steps.Wake }
     ensures told { seat.new.log ≡ told.Did steps.Wake result moves.Nothing ∷ seat.old.log }
     ensures seat { Stays seat.old seat.new }

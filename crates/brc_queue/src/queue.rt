@@ -30,7 +30,7 @@ pub fn enqueue<A: Allocator>(
     cell: u32,
     owner: u32,
 ) -> Enqueued
-    requires table { seat.old.table ≡ table.now.table.shared.table_id }
+    requires table { seat.old.table ≡ table.now.table }
     requires inside { cell < table.now.cells }
     requires enqueues { Enqueues table.now.cells seat.old.log cell owner }
     ensures told { PutIn cell result seat.old.log seat.new.log }
@@ -48,7 +48,7 @@ pub fn enqueue<A: Allocator>(
 
 /// Takes the bits of one of the thread's own queue words, which others may go on to fill.
 pub fn drain_word<A: Allocator>(table: &HeapTable<A>, seat: &mut ThreadSeat<A>, word: u32) -> u64
-    requires table { seat.old.table ≡ table.now.table.shared.table_id }
+    requires table { seat.old.table ≡ table.now.table }
     requires inside { word < words_for table.now.cells }
     requires allowed { Allowed table.now.cells seat.old.log (steps.Drain word) }
     ensures told { seat.new.log ≡ told.Did (steps.Drain word) result moves.Nothing ∷ seat.old.log }
@@ -61,7 +61,7 @@ pub fn drain_word<A: Allocator>(table: &HeapTable<A>, seat: &mut ThreadSeat<A>, 
 
 /// Closes one of the thread's own queue words, and takes its bits.
 pub fn close_word<A: Allocator>(table: &HeapTable<A>, seat: &mut ThreadSeat<A>, word: u32) -> u64
-    requires table { seat.old.table ≡ table.now.table.shared.table_id }
+    requires table { seat.old.table ≡ table.now.table }
     requires inside { word < words_for table.now.cells }
     requires allowed { Allowed table.now.cells seat.old.log (steps.Close word) }
     ensures told { seat.new.log ≡ told.Did (steps.Close word) result moves.Nothing ∷ seat.old.log }
