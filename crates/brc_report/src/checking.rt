@@ -1,6 +1,7 @@
 //! Whether a report is right.
 
-ghost use Rattle.std.specs.Prelude.{◌≡◌, ◌↔◌, IsTrue, IfOk};
+ghost use Rattle.std.specs.Prelude.{◌≡◌, ◌↔◌, IsTrue, IfOk, IfErr};
+ghost use Rattle.brc_words.specs.declared.fault.Fault.TheVariants.{OutOfMemory};
 ghost use Rattle.brc_report.specs.Reports.{rises, are_contents, IsReport};
 
 use crate::content::{Cells, Content, Remain};
@@ -47,7 +48,8 @@ pub fn check_report<A: Allocator + Copy>(
     cycles: &[Cells<A>],
     contents: &[Content<A>],
 ) -> Result<bool, Fault>
-    ensures { IfOk result (λ right. IsTrue right ↔ IsReport remains.now cycles.now contents.now) }
+    ensures right { IfOk result (λ right. IsTrue right ↔ IsReport remains.now cycles.now contents.now) }
+    ensures lacks { IfErr result (λ fault. fault ≡ OutOfMemory) }
 {
     if !is_contents(contents) {
         return Ok(false);

@@ -1,6 +1,7 @@
 //! The cycles among the remains, each found once by walks along the holders that stop where a walk has been.
 
-ghost use Rattle.std.specs.Prelude.{◌≡◌, ◌<◌, ℕ, IfOk, OnOk, length, get_or, position, ◌==◌};
+ghost use Rattle.std.specs.Prelude.{◌≡◌, ◌<◌, ℕ, IfOk, IfErr, OnOk, length, get_or, position, ◌==◌};
+ghost use Rattle.brc_words.specs.declared.fault.Fault.TheVariants.{OutOfMemory};
 ghost use Rattle.brc_report.specs.Tables.{at, sees};
 ghost use Rattle.brc_report.specs.Cycles.{holder_in, CycleAt, AreCycles};
 ghost use Rattle.brc_report.specs.Walking.{Walked, IsTurned, IsKept};
@@ -9,13 +10,13 @@ ghost use Rattle.brc_report.specs.declared.content.Remain.{Remain as TheRemain};
 use crate::content::{Cells, Remain};
 use crate::table::Table;
 use brc_words::Fault;
-use std::alloc::Allocator;
+use std::alloc::{AllocError, Allocator};
 
 /// The holder of each remain. They are gone through from behind, so that the first of one cell stays.
 fn holders_in_table<A: Allocator + Copy>(
     alloc: A,
     remains: &[Remain],
-) -> Result<Table<u32, A>, Fault>
+) -> Result<Table<u32, A>, AllocError>
     ensures { IfOk result (λ table. (q : ℕ) → at table q ≡ holder_in remains.now q) }
 {
     let mut table = Table::new(alloc);
@@ -35,7 +36,7 @@ fn walk<A: Allocator + Copy>(
     holders: &Table<u32, A>,
     seen: &mut Table<(), A>,
     from: u32,
-) -> Result<(Vec<u32, A>, u32), Fault>
+) -> Result<(Vec<u32, A>, u32), AllocError>
     requires { (q : ℕ) → at holders.now q ≡ holder_in remains.now q }
 
     ensures { IfOk result (λ walked.
@@ -55,7 +56,7 @@ fn walk<A: Allocator + Copy>(
 }
 
 /// The cells from their lowest on, and then those before it.
-fn from_lowest<A: Allocator + Copy>(alloc: A, cells: &[u32]) -> Result<Vec<u32, A>, Fault>
+fn from_lowest<A: Allocator + Copy>(alloc: A, cells: &[u32]) -> Result<Vec<u32, A>, AllocError>
     requires { 0 < length cells.now }
 
     ensures { IfOk result (λ turned. IsTurned cells.now turned.items) }
@@ -85,7 +86,7 @@ fn keep<A: Allocator + Copy>(
     found: &mut Table<Cells<A>, A>,
     path: &[u32],
     end: u32,
-) -> Result<(), Fault>
+) -> Result<(), AllocError>
     ensures { OnOk result (IsKept path.now end (at found.old) (at found.new)) }
 {
     let Some(place) = place_of(path, end) else {
@@ -101,7 +102,7 @@ fn all_found<A: Allocator + Copy>(
     alloc: A,
     remains: &[Remain],
     holders: &Table<u32, A>,
-) -> Result<Table<Cells<A>, A>, Fault>
+) -> Result<Table<Cells<A>, A>, AllocError>
     requires { (q : ℕ) → at holders.now q ≡ holder_in remains.now q }
 
     ensures { IfOk result (λ found. (k : ℕ) (d : TheRemain) → k < length remains.now
@@ -121,7 +122,8 @@ pub fn find_cycles<A: Allocator + Copy>(
     alloc: A,
     remains: &[Remain],
 ) -> Result<Vec<Cells<A>, A>, Fault>
-    ensures { IfOk result (λ cycles. AreCycles remains.now cycles.items) }
+    ensures cycles { IfOk result (λ cycles. AreCycles remains.now cycles.items) }
+    ensures lacks { IfErr result (λ fault. fault ≡ OutOfMemory) }
 {
     let holders = holders_in_table(alloc, remains)?;
     let found = all_found(alloc, remains, &holders)?;

@@ -1,6 +1,7 @@
 //! Who holds each cell, and what remains.
 
-ghost use Rattle.std.specs.Prelude.{◌≡◌, ℕ, Some, IfOk, OnOk, if◌then◌else◌};
+ghost use Rattle.std.specs.Prelude.{◌≡◌, ℕ, Some, IfOk, IfErr, OnOk, if◌then◌else◌};
+ghost use Rattle.brc_words.specs.declared.fault.Fault.TheVariants.{OutOfMemory};
 ghost use Rattle.std.specs.Option.{option_map};
 ghost use Rattle.brc_report.specs.Tables.{at};
 ghost use Rattle.brc_report.specs.Holding.{has, holder_of, remains_of};
@@ -8,14 +9,14 @@ ghost use Rattle.brc_report.specs.Holding.{has, holder_of, remains_of};
 use crate::content::{Content, Remain};
 use crate::table::Table;
 use brc_words::{FIRST_MORTAL, Fault};
-use std::alloc::Allocator;
+use std::alloc::{AllocError, Allocator};
 
 /// The cell holds each of its entries now, whoever held it before.
 fn mark<A: Allocator + Clone>(
     table: &mut Table<u32, A>,
     cell: u32,
     entries: &[u32],
-) -> Result<(), Fault>
+) -> Result<(), AllocError>
     ensures { OnOk result
         ((q : ℕ) → at table.new q ≡ (if has entries.now q then Some cell else at table.old q)) }
 {
@@ -26,7 +27,10 @@ fn mark<A: Allocator + Clone>(
 }
 
 /// The holder of each cell. The contents are gone through from behind, so that the first holder stays.
-fn holders<A: Allocator + Copy>(alloc: A, contents: &[Content<A>]) -> Result<Table<u32, A>, Fault>
+fn holders<A: Allocator + Copy>(
+    alloc: A,
+    contents: &[Content<A>],
+) -> Result<Table<u32, A>, AllocError>
     ensures { IfOk result (λ table. (q : ℕ) → at table q ≡ holder_of contents.now q) }
 {
     let mut table = Table::new(alloc);
@@ -44,7 +48,8 @@ pub fn find_remains<A: Allocator + Copy>(
     alloc: A,
     contents: &[Content<A>],
 ) -> Result<Option<Vec<Remain, A>>, Fault>
-    ensures { IfOk result (λ found. option_map (λ remains. remains.items) found ≡ remains_of contents.now) }
+    ensures remains { IfOk result (λ found. option_map (λ remains. remains.items) found ≡ remains_of contents.now) }
+    ensures lacks { IfErr result (λ fault. fault ≡ OutOfMemory) }
 {
     let holders = holders(alloc, contents)?;
     let mut remains = Vec::new(alloc);

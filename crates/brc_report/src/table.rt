@@ -4,8 +4,7 @@ ghost use Rattle.std.specs.Prelude.{◌≡◌, ℕ, Some, None, is_some, OnOk, i
 ghost use Rattle.std.specs.Option.{option_copied};
 ghost use Rattle.brc_report.specs.Tables.{at};
 
-use brc_words::Fault;
-use std::alloc::Allocator;
+use std::alloc::{AllocError, Allocator};
 use std::collections::HashMap;
 use std::hash::{BuildHasherDefault, FoldHasher};
 
@@ -38,13 +37,13 @@ impl<V: Drop, A: Allocator + Clone> Table<V, A> {
     }
 
     /// That value for the cell, whatever it had.
-    pub fn put(&mut self, cell: u32, value: V) -> Result<(), Fault>
+    pub fn put(&mut self, cell: u32, value: V) -> Result<(), AllocError>
         ensures { OnOk result
             ((other : ℕ) → at self.new other ≡ (if cell == other then Some value else at self.old other)) }
     {
         match self.map.insert(cell, value) {
             Ok(_old) => Ok(()),
-            Err(_refused) => Err(Fault::OutOfMemory),
+            Err(_refused) => Err(AllocError),
         }
     }
 }

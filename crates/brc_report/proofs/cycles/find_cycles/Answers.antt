@@ -30,8 +30,8 @@ loop-remain-preserved g c =
           (ap (λ v. v.items) w.cycles-is ∙ sym (append-nil c.loop-remain.cycles.items)) c.loop-remain.invariant
     ]
 
-pub returns : goal.returns
-returns g c =
+pub returns-clause-cycles : goal.returns-clause-cycles
+returns-clause-cycles g c =
     subst (CyclesAt (holder_in c.args.remains.now) c.args.remains.now) (append-nil c.loop-remain.cycles.items)
     (c.loop-remain.invariant []
     (subst (λ w. CyclesAt (holder_in c.args.remains.now) w [])

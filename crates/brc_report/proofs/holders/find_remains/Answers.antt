@@ -4,8 +4,8 @@ use Rattle.brc_report.proofs.Remaining.{skips, takes, fails}
 use Rattle.brc_report.proofs.holders.find_remains.Goals as goal
 use Rattle.brc_report.proofs.holders.find_remains.Goals.{then-content-ge-FIRST_MORTAL+in-Some+in_ok-push, else-content-ge-FIRST_MORTAL}
 
-pub returns-in_default : goal.returns-in_default
-returns-in_default g c =
+pub returns-in_default-clause-remains : goal.returns-in_default-clause-remains
+returns-in_default-clause-remains g c =
     fails c.args.contents.now c.loop-content.content-index c.content-item.result c.loop-content.remains.items _
     c.loop-content-test.true c.content-item.is c.if-content-ge-FIRST_MORTAL.true
     (sym (c.in_ok-holders.ensures c.content-item.result.cell) ∙ (sym c.get.ensures ∙ ap option_copied c.in_default.is))
