@@ -21,12 +21,9 @@ use crate::ends::end_all;
 use brc_block::{Block, Cells, Entries, Pairs, Payload};
 use brc_runs::{Change, Dropped, Source};
 use brc_table::{Found, HeapTable, RootSeat, ThreadSeat};
-use brc_words::{Key, Kind};
+use brc_words::{GLOBALS, Key, Kind};
 use std::alloc::Allocator;
 use std::process::Abort;
-
-/// The cell of the globals.
-const GLOBALS: u32 = 265;
 
 /// A table, or the end of the test.
 fn opened<A: Allocator + Copy>(
