@@ -24,7 +24,6 @@ use brc_runs::{Dropped, LastDropped, Step};
 use std::alloc::Allocator;
 
 impl<A: Allocator> HeapTable<A> {
-    #[tactic(auto, using(brc_steps::proofs::Ending_Steps::ends_at_zero))]
     /// SeeZero: an own object whose count is 0 is dead where nobody else counted or asked.
     pub fn see_zero(&self, seat: &mut ThreadSeat<A>, cell: u32) -> Found<A>
         requires table { seat.old.table ≡ self.now.table }
