@@ -18,6 +18,7 @@ ghost use Rattle.brc_table.specs.Shown.{contents_of};
 ghost use Rattle.brc_words.specs.declared.kind.Kind.TheVariants as kinds;
 
 use crate::ends::end_all;
+use crate::globals::{has_one, is_bare};
 use brc_block::{Block, Cells, Entries, Pairs, Payload};
 use brc_runs::{Change, Dropped, Source};
 use brc_table::{Found, HeapTable, RootSeat, ThreadSeat};
@@ -66,29 +67,6 @@ fn claimed<A: Allocator>(rt: &impl Abort, table: &HeapTable<A>, seat: &mut Threa
 {
     if table.claim(seat, cell).is_err() {
         panic!(rt; "the cell is taken")
-    }
-}
-
-/// Whether the block is of a dictionary without entries.
-fn is_bare<A: Allocator>(block: &Block<A>) -> bool
-    ensures { IsTrue result → contents_of block.now.1 ≡ contents.Dict [] }
-{
-    match block.payload() {
-        Payload::Dict(pairs) => pairs.len() == 0,
-        _ => false,
-    }
-}
-
-/// Whether it is of one whose only entry has the key 1, and this cell.
-fn has_one<A: Allocator>(block: &Block<A>, cell: u32) -> bool
-    ensures { IsTrue result → contents_of block.now.1 ≡ contents.Dict ((plain.Int (pos 1), cell) ∷ []) }
-{
-    match block.payload() {
-        Payload::Dict(pairs) => match pairs.as_slice() {
-            [(Key::Int(key), there)] => *key == 1 && *there == cell,
-            _ => false,
-        },
-        _ => false,
     }
 }
 
