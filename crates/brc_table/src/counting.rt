@@ -117,6 +117,7 @@ impl<A: Allocator> HeapTable<A> {
         add(self, &mut seat.place, word, 4, step)
     }
 
+    #[tactic(auto, using(brc_steps::proofs::Shared_Steps::asks))]
     /// Ask: the reference is to be merged, and is in the hand now where nobody had asked.
     pub fn ask(&self, seat: &mut ThreadSeat<A>, drop: Dropped, cell: u32) -> u64
         requires table { seat.old.table ≡ self.now.table }
