@@ -21,5 +21,3 @@ pub use pairs::Pairs;
 pub use payload::Payload;
 pub use worklist::Worklist;
 
-#[cfg(test)]
-mod tests;

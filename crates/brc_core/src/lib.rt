@@ -9,8 +9,6 @@
 mod holders;
 mod readers;
 mod replaying;
-#[cfg(test)]
-mod tests;
 mod totals;
 mod world;
 

@@ -2,6 +2,8 @@
 #![tactic(auto)]
 
 mod library;
+#[cfg(test)]
+mod tests;
 
 use brc_trace::run_replay;
 use brc_words::{Fault, Reason};

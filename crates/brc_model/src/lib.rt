@@ -17,5 +17,3 @@ pub use holder::Holder;
 pub use moves::{Exchange, Handover, Handovers, Move, Spot};
 pub use world::{HolderWorld, Refused};
 
-#[cfg(test)]
-mod tests;

@@ -13,5 +13,3 @@ pub use dict::PlainDict;
 pub use list::PlainList;
 pub use queue::PlainQueue;
 
-#[cfg(test)]
-mod tests;

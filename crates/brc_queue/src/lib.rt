@@ -13,5 +13,3 @@ pub use merging::merge_add;
 pub use notify::{nudge, wake};
 pub use queue::{Enqueued, close_word, drain_word, enqueue};
 
-#[cfg(test)]
-mod tests;

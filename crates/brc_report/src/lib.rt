@@ -18,5 +18,3 @@ pub use cycles::find_cycles;
 pub use holders::find_remains;
 pub use report::{Ledger, Report, write_report};
 
-#[cfg(test)]
-mod tests;

@@ -14,4 +14,6 @@ mod ends;
 #[cfg(test)]
 mod one_life;
 #[cfg(test)]
+mod tests;
+#[cfg(test)]
 mod worked_runs;

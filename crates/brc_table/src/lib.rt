@@ -31,5 +31,3 @@ pub use rule::{HeapRule, Sizes};
 pub use seats::ThreadSeat;
 pub use table::HeapTable;
 
-#[cfg(test)]
-mod tests;

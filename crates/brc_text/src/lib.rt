@@ -17,5 +17,3 @@ pub use number::number_of;
 pub use putting::{put_bytes, put_line};
 pub use token::{Letter, Token};
 
-#[cfg(test)]
-mod tests;

@@ -21,7 +21,4 @@ pub use trace::Trace;
 pub use world_text::write_world;
 pub use writing::write_trace;
 
-#[cfg(test)]
-mod tests;
-#[cfg(test)]
-mod worked_runs;
+

@@ -1,6 +1,6 @@
 //! Blocks, their lists and what they hold, with ample memory and with none.
 
-use crate::{Block, Cells, Entries, Letters, Pairs, Payload, Worklist};
+use brc_block::{Block, Cells, Entries, Letters, Pairs, Payload, Worklist};
 use brc_words::{Fault, Key, Kind, is_container_kind};
 use linked_list_allocator::LocalHeap;
 use std::alloc::{Allocator, Global};

@@ -1,6 +1,6 @@
 //! Reports of small heaps, as values and as texts, and of large ones.
 
-use crate::{
+use brc_report::{
     Cells, Content, Ledger, Remain, Report, check_report, find_cycles, find_remains, write_report,
 };
 use brc_words::{Fault, Kind};

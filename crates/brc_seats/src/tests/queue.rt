@@ -1,6 +1,6 @@
 //! Each call once, as far as one seat allows.
 
-use crate::{close_word, drain_word, wake};
+use brc_queue::{close_word, drain_word, wake};
 use brc_table::{HeapTable, Rest};
 use std::alloc::Allocator;
 use std::process::Abort;

@@ -1,5 +1,5 @@
 use Rattle.std.proofs.Common.{◌≡◌, [], length}
-use Rattle.brc_block.proofs.tests.a_list_of_blocks_takes_no_memory.Given as goal
+use Rattle.brc_seats.proofs.tests.block.a_list_of_blocks_takes_no_memory.Given as goal
 
 abbrev pub decreases-loop-block : goal.decreases-loop-block
 decreases-loop-block g l = length l.first

@@ -1,6 +1,6 @@
 //! Runs that were worked by hand: what a replay of each writes, and what it answers.
 
-use super::*;
+use brc_trace::*;
 use brc_words::{Fault, Reason};
 use std::alloc::AllocGlobal;
 use std::process::Abort;

@@ -1,6 +1,6 @@
 //! The names of faults as they are shown, and words worked by hand.
 
-use super::*;
+use brc_words::*;
 use std::alloc::{AllocError, Allocator, Global};
 use std::hash::{DefaultHasher, Hash, Hasher};
 use std::test::*;

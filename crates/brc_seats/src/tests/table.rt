@@ -1,6 +1,6 @@
 //! A table that opens, counts an immortal and is taken apart, with ample memory and with none.
 
-use crate::{HeapTable, Rest};
+use brc_table::{HeapTable, Rest};
 use brc_block::Payload;
 use brc_runs::{Dropped, Source};
 use brc_words::{Fault, Kind};

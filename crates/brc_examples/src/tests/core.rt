@@ -1,6 +1,6 @@
 //! Each call once on its way, and each growth refused. Whole runs are replayed by `brc_trace`, as texts.
 
-use crate::{
+use brc_core::{
     Change, Dropped, Event, Hand, Ledger, Phase, Refusal, ReplayFault, Source, Status, Step,
     StepFault, World, replay,
 };

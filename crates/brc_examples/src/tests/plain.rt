@@ -1,6 +1,6 @@
 //! Containers in use, at their limit, and without memory. What a call answers is its contract.
 
-use crate::{PlainDict, PlainList, PlainQueue};
+use brc_plain::{PlainDict, PlainList, PlainQueue};
 use brc_words::{Fault, Key, MOST_ENTRIES};
 use linked_list_allocator::LocalHeap;
 use std::alloc::{Allocator, Global};

@@ -1,0 +1,10 @@
+//! Tests of the crates below, which stand here so that those aren't proved twice: each by the public calls alone.
+
+mod core;
+mod model;
+mod plain;
+mod report;
+mod text;
+mod traces;
+mod words;
+mod worked_runs;

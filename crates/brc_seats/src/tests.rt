@@ -1,0 +1,5 @@
+//! Tests of the crates below, which stand here so that those aren't proved twice.
+
+mod block;
+mod queue;
+mod table;
