@@ -20,4 +20,3 @@ pub use limits::{
 };
 pub use owner::{Owner, OwnerWord};
 pub use state::{State, count_of, shared_word, state_of};
-

@@ -1,8 +1,8 @@
 //! Traces as texts: which lines are lines, and which step each is; a whole life there and back, streams and memory that
 //! fail.
 
-use brc_trace::*;
 use brc_runs::{Change, Dropped, Event, LastDropped, Source, Step};
+use brc_trace::*;
 use brc_words::{Fault, Reason};
 use linked_list_allocator::LocalHeap;
 use std::io::{self, Error, ErrorKind, Read, Write};

@@ -1,8 +1,8 @@
 //! A table that opens, counts an immortal and is taken apart, with ample memory and with none.
 
-use brc_table::{HeapTable, Rest};
 use brc_block::Payload;
 use brc_runs::{Dropped, Source};
+use brc_table::{HeapTable, Rest};
 use brc_words::{Fault, Kind};
 use linked_list_allocator::LocalHeap;
 use std::alloc::Allocator;
