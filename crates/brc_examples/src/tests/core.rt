@@ -1,4 +1,4 @@
-//! Each call once on its way, and each growth refused. Whole runs are replayed by `brc_trace`, as texts.
+//! Each call once on its way, and each growth refused. Whole runs are replayed as texts, in `worked_runs.rt`.
 
 use brc_core::{
     Change, Dropped, Event, Hand, Ledger, Phase, Refusal, ReplayFault, Source, Status, Step,
@@ -8,6 +8,7 @@ use brc_model::Holder;
 use brc_words::{Fault, Kind, Owner, State};
 use linked_list_allocator::LocalHeap;
 use std::alloc::{Allocator, Global};
+use std::process::Abort;
 
 /// One step, by its thread.
 fn make<A: Allocator + Copy>(
@@ -100,39 +101,55 @@ fn a_replay_answers_a_world_or_a_fault(rt: HostRuntime) {
     }
 }
 
-#[test]
-fn readers_of_a_thread(rt: HostRuntime) -> Result<(), Fault> {
-    let world = with_a_list(rt.alloc())?;
+/// What thread 1 has, who has made a list and holds it.
+fn stands_as_active(rt: &impl Abort, world: &World<Global>) {
     assert_eq!(rt; world.registered(), 1);
     assert_eq!(rt; world.status(0), None);
     assert_eq!(rt; world.status(1), Some(Status::Active));
     assert_eq!(rt; world.hand(1), Some(Hand::Free));
     assert_eq!(rt; world.locked(1), None);
+}
+
+fn has_one_place(rt: &impl Abort, world: &World<Global>) {
     assert_eq!(rt; world.places(1), 1);
     assert_eq!(rt; world.place(1, 0), Some(266));
     assert_eq!(rt; world.place(1, 1), None);
     assert_eq!(rt; world.queued(1, 266), false);
     assert_eq!(rt; world.popped(1, 266), false);
     assert_eq!(rt; world.on_worklist(1, 266), false);
-    Ok(())
 }
 
-#[test]
-fn readers_of_a_cell(rt: HostRuntime) -> Result<(), Fault> {
-    let world = with_a_list(rt.alloc())?;
-    assert_eq!(rt; world.cells(), 512);
-    assert_eq!(rt; world.local_limit(), 7);
+/// The list of thread 1, in cell 266.
+fn is_its_list(rt: &impl Abort, world: &World<Global>) {
     assert_eq!(rt; world.is_live(266), true);
     assert_eq!(rt; world.owner(266), Some(Owner::Thread(1)));
     assert_eq!(rt; world.kind(266), Some(Kind::List));
-    assert_eq!(rt; world.kind(13), Some(Kind::Int));
+    assert_eq!(rt; world.entries(266).len(), 0);
+    assert_eq!(rt; world.live(), 1);
+}
+
+fn is_counted_once(rt: &impl Abort, world: &World<Global>) {
     assert_eq!(rt; world.local(266), Some(1));
     assert_eq!(rt; world.count(266), Some(0));
     assert_eq!(rt; world.state(266), Some(State::Default));
-    assert_eq!(rt; world.entries(266).len(), 0);
-    assert_eq!(rt; world.entry(265, 0), None);
     assert_eq!(rt; world.total(266), Some(1));
-    assert_eq!(rt; world.live(), 1);
+}
+
+fn has_immortals(rt: &impl Abort, world: &World<Global>) {
+    assert_eq!(rt; world.cells(), 512);
+    assert_eq!(rt; world.local_limit(), 7);
+    assert_eq!(rt; world.kind(13), Some(Kind::Int));
+    assert_eq!(rt; world.entry(265, 0), None);
+}
+
+#[test]
+fn readers_of_a_world(rt: HostRuntime) -> Result<(), Fault> {
+    let world = with_a_list(rt.alloc())?;
+    stands_as_active(&rt, &world);
+    has_one_place(&rt, &world);
+    is_its_list(&rt, &world);
+    is_counted_once(&rt, &world);
+    has_immortals(&rt, &world);
     let holders = world.holders(rt.alloc(), 266)?;
     let wanted = [Holder::Frame {
         thread: 1,
