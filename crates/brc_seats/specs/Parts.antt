@@ -66,6 +66,17 @@ shared_twice_log thread =
     ∷ Did (LocalUp (sources.Frame 0) 1) 2 moves.Nothing
     ∷ born_log thread
 
+-- it has the globals in place 2, and has put both of its references into them
+abbrev pub shared_both_log : ℕ → List Told
+shared_both_log thread =
+    Did (Unlock (changes.Put 1)) 0 (moves.Put 265 (with_entries 266))
+    ∷ Did (Lock 2) 0 (moves.Found 265 (with_entry (pos 1) 266))
+    ∷ Did (Unlock (changes.Put 0)) 0 (moves.Put 265 (with_entry (pos 1) 266))
+    ∷ Did (Lock 2) 0 (moves.Found 265 bare_globals)
+    ∷ Did (LocalUp (sources.Immortal 265) 2) 4294967295 moves.Nothing
+    ∷ Did (LocalUp (sources.Frame 0) 1) 2 moves.Nothing
+    ∷ born_log thread
+
 -- ---- another thread, which has the globals in place 0
 
 -- it has found the list there, and has counted it up, in place 1
@@ -82,5 +93,13 @@ abbrev pub taken_log : ℤ → List Told
 taken_log key =
     Did (Unlock (changes.Take 0 1)) 0 (moves.Put 265 bare_globals)
     ∷ Did (Lock 0) 0 (moves.Found 265 (with_entry key 266))
+    ∷ Did (LocalUp (sources.Immortal 265) 0) 4294967295 moves.Nothing
+    ∷ []
+
+-- it has taken the first of two references out that were there, in place 1
+abbrev pub taken_first_log : List Told
+taken_first_log =
+    Did (Unlock (changes.Take 0 1)) 0 (moves.Put 265 (with_entry (pos 2) 266))
+    ∷ Did (Lock 0) 0 (moves.Found 265 (with_entries 266))
     ∷ Did (LocalUp (sources.Immortal 265) 0) 4294967295 moves.Nothing
     ∷ []

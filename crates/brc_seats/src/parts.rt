@@ -2,9 +2,11 @@
 
 ghost use Rattle.std.specs.Prelude.{◌≡◌, [], pos};
 ghost use Rattle.brc_table.specs.Seated.{Continues};
-ghost use Rattle.brc_seats.specs.Parts.{born_log, shared_log, taken_back_log, merged_log, shared_twice_log, counted_log, taken_log};
+ghost use Rattle.brc_seats.specs.Parts.{born_log, shared_log, taken_back_log, merged_log, shared_twice_log, shared_both_log, counted_log, taken_log, taken_first_log};
 
-use crate::helpers::{a_list, alive, bare, claimed, locked_bare, locked_with, with_one};
+use crate::helpers::{
+    a_list, alive, bare, claimed, locked_bare, locked_with, locked_with_two, with_one, with_two,
+};
 use brc_runs::{Change, Dropped, Source};
 use brc_table::{Found, HeapTable, ThreadSeat};
 use brc_words::Kind;
@@ -75,6 +77,33 @@ pub(crate) fn keeps_and_shares_a_list<A: Allocator + Copy>(
     assert_eq!(rt; found, 4_294_967_295);
     let globals = locked_bare(rt, table, seat, 2);
     let globals = with_one(rt, alloc, globals, 1, 266);
+    table.unlock(seat, globals, Change::Put(1));
+}
+
+/// It makes a list, and puts both of its references to it into the globals.
+pub(crate) fn shares_both_references<A: Allocator + Copy>(
+    rt: &impl Abort,
+    alloc: A,
+    table: &HeapTable<A>,
+    seat: &mut ThreadSeat<A>,
+)
+    requires table { seat.old.table ≡ table.now.table }
+    requires cells { table.now.cells ≡ 512 }
+    requires limit { table.now.local_limit ≡ 4294967294 }
+    requires new { (seat.old.log ≡ []) × (seat.old.slots ≡ []) }
+    ensures told { seat.new.log ≡ shared_both_log seat.old.thread }
+    ensures slots { seat.new.slots ≡ [] }
+    ensures seat { Continues seat.old seat.new }
+{
+    makes_a_list(rt, alloc, table, seat);
+    table.local_up(seat, Source::Frame(0), 1, 266, 1);
+    let found = table.immortal_up(seat, Source::Immortal(265), 2, 265);
+    assert_eq!(rt; found, 4_294_967_295);
+    let globals = locked_bare(rt, table, seat, 2);
+    let globals = with_one(rt, alloc, globals, 1, 266);
+    table.unlock(seat, globals, Change::Put(0));
+    let globals = locked_with(rt, table, seat, 2, 1, 266);
+    let globals = with_two(rt, alloc, globals, 266);
     table.unlock(seat, globals, Change::Put(1));
 }
 
@@ -161,5 +190,26 @@ pub(crate) fn takes_what_is_shared<A: Allocator>(
     assert_eq!(rt; found, 4_294_967_295);
     let globals = locked_with(rt, table, seat, 0, key, 266);
     let globals = bare(alloc, globals);
+    table.unlock(seat, globals, Change::Take { index: 0, place: 1 });
+}
+
+/// It takes the first of two references to the list out of the globals.
+pub(crate) fn takes_the_first<A: Allocator + Copy>(
+    rt: &impl Abort,
+    alloc: A,
+    table: &HeapTable<A>,
+    seat: &mut ThreadSeat<A>,
+)
+    requires table { seat.old.table ≡ table.now.table }
+    requires cells { table.now.cells ≡ 512 }
+    requires new { (seat.old.log ≡ []) × (seat.old.slots ≡ []) }
+    ensures told { seat.new.log ≡ taken_first_log }
+    ensures slots { seat.new.slots ≡ [] }
+    ensures seat { Continues seat.old seat.new }
+{
+    let found = table.immortal_up(seat, Source::Immortal(265), 0, 265);
+    assert_eq!(rt; found, 4_294_967_295);
+    let globals = locked_with_two(rt, table, seat, 0, 266);
+    let globals = with_one(rt, alloc, globals, 2, 266);
     table.unlock(seat, globals, Change::Take { index: 0, place: 1 });
 }

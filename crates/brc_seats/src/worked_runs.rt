@@ -2,13 +2,11 @@
 //! the trace's step finds.
 
 use crate::ends::end_all;
-use crate::helpers::{
-    alive, bare, ends, gone, locked_bare, locked_with, locked_with_two, opened, with_one, with_two,
-};
+use crate::helpers::{alive, bare, ends, gone, locked_bare, locked_with, opened, with_one};
 use crate::leaving::closes_all;
 use crate::parts::{
     counts_what_is_shared, keeps_and_shares_a_list, makes_a_list, merges_at_zero, shares_a_list,
-    takes_back, takes_what_is_shared,
+    shares_both_references, takes_back, takes_the_first, takes_what_is_shared,
 };
 use brc_runs::{Change, Dropped, Source};
 use brc_table::Found;
@@ -150,24 +148,9 @@ fn counts_go_below_zero(rt: HostRuntime) {
     let mut two = table.split(&mut root);
     let mut three = table.split(&mut root);
 
-    // The first puts both of its references into the globals.
-    makes_a_list(&rt, rt.alloc(), &table, &mut one);
-    table.local_up(&mut one, Source::Frame(0), 1, 266, 1);
-    let found = table.immortal_up(&mut one, Source::Immortal(265), 2, 265);
-    assert_eq!(rt; found, 4_294_967_295);
-    let globals = locked_bare(&rt, &table, &mut one, 2);
-    let globals = with_one(&rt, rt.alloc(), globals, 1, 266);
-    table.unlock(&mut one, globals, Change::Put(0));
-    let globals = locked_with(&rt, &table, &mut one, 2, 1, 266);
-    let globals = with_two(&rt, rt.alloc(), globals, 266);
-    table.unlock(&mut one, globals, Change::Put(1));
-
-    // The second and the third take one each.
-    let found = table.immortal_up(&mut two, Source::Immortal(265), 0, 265);
-    assert_eq!(rt; found, 4_294_967_295);
-    let globals = locked_with_two(&rt, &table, &mut two, 0, 266);
-    let globals = with_one(&rt, rt.alloc(), globals, 2, 266);
-    table.unlock(&mut two, globals, Change::Take { index: 0, place: 1 });
+    // The first puts both of its references into the globals; the second and the third take one each.
+    shares_both_references(&rt, rt.alloc(), &table, &mut one);
+    takes_the_first(&rt, rt.alloc(), &table, &mut two);
     takes_what_is_shared(&rt, rt.alloc(), &table, &mut three, 2);
 
     // The second asks; the third finds the list queued, and counts the shared word below 0.
