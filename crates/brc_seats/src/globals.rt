@@ -1,9 +1,8 @@
 //! What a block of the globals holds, as the worked runs look at it.
 
-ghost use Rattle.std.specs.Prelude.{◌≡◌, ◌↔◌, [], ◌∷◌, IsTrue, pos};
-ghost use Rattle.brc_rule.specs.declared.contents.Contents.TheVariants as contents;
-ghost use Rattle.brc_rule.specs.declared.contents.PlainKey.TheVariants as plain;
+ghost use Rattle.std.specs.Prelude.{◌≡◌, ◌↔◌, IsTrue};
 ghost use Rattle.brc_table.specs.Shown.{contents_of};
+ghost use Rattle.brc_seats.specs.Parts.{bare_globals, with_entry, with_entries};
 
 use brc_block::{Block, Payload};
 use brc_words::Key;
@@ -11,7 +10,7 @@ use std::alloc::Allocator;
 
 /// Whether the block is of a dictionary without entries.
 pub fn is_bare<A: Allocator>(block: &Block<A>) -> bool
-    ensures { IsTrue result ↔ contents_of block.now.1 ≡ contents.Dict [] }
+    ensures { IsTrue result ↔ contents_of block.now.1 ≡ bare_globals }
 {
     match block.payload() {
         Payload::Dict(pairs) => pairs.len() == 0,
@@ -19,13 +18,28 @@ pub fn is_bare<A: Allocator>(block: &Block<A>) -> bool
     }
 }
 
-/// Whether it is of one whose only entry has the key 1, and this cell.
-pub fn has_one<A: Allocator>(block: &Block<A>, cell: u32) -> bool
-    ensures { IsTrue result → contents_of block.now.1 ≡ contents.Dict ((plain.Int (pos 1), cell) ∷ []) }
+/// Whether it is of one whose only entry has this key, and this cell.
+pub fn has_one<A: Allocator>(block: &Block<A>, key: i64, cell: u32) -> bool
+    ensures { IsTrue result → contents_of block.now.1 ≡ with_entry key cell }
 {
     match block.payload() {
         Payload::Dict(pairs) => match pairs.as_slice() {
-            [(Key::Int(key), there)] => *key == 1 && *there == cell,
+            [(Key::Int(there), entry)] => *there == key && *entry == cell,
+            _ => false,
+        },
+        _ => false,
+    }
+}
+
+/// Whether it is of one with two entries, of the keys 1 and 2, which both have this cell.
+pub fn has_two<A: Allocator>(block: &Block<A>, cell: u32) -> bool
+    ensures { IsTrue result → contents_of block.now.1 ≡ with_entries cell }
+{
+    match block.payload() {
+        Payload::Dict(pairs) => match pairs.as_slice() {
+            [(Key::Int(first), one), (Key::Int(second), other)] => {
+                *first == 1 && *one == cell && *second == 2 && *other == cell
+            }
             _ => false,
         },
         _ => false,

@@ -1,5 +1,5 @@
 //! Worked runs of the heap as calls on the seats of its table, run by the gate: one object's whole life, merges, asks and
-//! drains, an adoption, a lost exchange, a thread that leaves.
+//! drains, counts below zero, an adoption, a lost exchange, threads that leave.
 //!
 //! Tests, and what they look at. Each call's conditions are shown from the contracts of `brc_table` alone, so this is also how
 //! a caller uses them; and each answer is compared with what the trace's step finds.
@@ -7,12 +7,18 @@
 
 mod globals;
 
-pub use globals::{has_one, is_bare};
+pub use globals::{has_one, has_two, is_bare};
 
 #[cfg(test)]
 mod ends;
 #[cfg(test)]
+mod helpers;
+#[cfg(test)]
+mod leaving;
+#[cfg(test)]
 mod one_life;
+#[cfg(test)]
+mod parts;
 #[cfg(test)]
 mod tests;
 #[cfg(test)]

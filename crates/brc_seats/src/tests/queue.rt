@@ -1,24 +1,8 @@
 //! Each call once, as far as one seat allows.
 
+use crate::ends::end_all;
 use brc_queue::{close_word, drain_word, wake};
-use brc_table::{HeapTable, Rest};
-use std::alloc::Allocator;
-use std::process::Abort;
-
-/// Gives all blocks back, and answers how many there were.
-fn end_all<A: Allocator>(rt: &impl Abort, rest: Rest<A>) -> u32 {
-    let mut rest = rest;
-    for count in 0..1_000 {
-        match rest.next() {
-            None => return count,
-            Some((block, left)) => {
-                let _payload = block.into_payload();
-                rest = left;
-            }
-        }
-    }
-    panic!(rt; "blocks without end")
-}
+use brc_table::HeapTable;
 
 #[test]
 fn a_thread_drains_and_leaves(rt: HostRuntime) {

@@ -1,28 +1,11 @@
 //! A table that opens, counts an immortal and is taken apart, with ample memory and with none.
 
+use crate::ends::end_all;
 use brc_block::Payload;
 use brc_runs::{Dropped, Source};
-use brc_table::{HeapTable, Rest};
+use brc_table::HeapTable;
 use brc_words::{Fault, Kind};
 use linked_list_allocator::LocalHeap;
-use std::alloc::Allocator;
-use std::process::Abort;
-
-/// Gives all blocks back, and answers how many there were; each is of the next cell.
-fn end_all<A: Allocator>(rt: &impl Abort, rest: Rest<A>) -> u32 {
-    let mut rest = rest;
-    for cell in 0..1_000 {
-        match rest.next() {
-            None => return cell,
-            Some((block, left)) => {
-                assert!(rt; block.cell() == cell);
-                let _payload = block.into_payload();
-                rest = left;
-            }
-        }
-    }
-    panic!(rt; "blocks without end")
-}
 
 #[test]
 fn an_immortal_is_counted_up_and_down(rt: HostRuntime) {
