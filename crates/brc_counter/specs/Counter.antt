@@ -1,6 +1,6 @@
 -- What contracts see of a counter, and what it keeps.
 use Rattle.std.specs.Prelude.{◌≡◌, ◌<◌, ◌≤◌, ℕ, nat_lt, if◌then◌else◌, true, List, length, slice_index}
-use Rattle.brc_words.specs.declared.limits.TheConstants.{FIRST_MORTAL, IMMORTAL_LOCAL, MOST_LOCAL}
+use Rattle.brc_words.specs.declared.limits.TheConstants.{FIRST_MORTAL, IMMORTAL_LOCAL}
 use Rattle.brc_runs.specs.Steps.{is_active}
 use Rattle.brc_rule.specs.declared.told.Told.{Told}
 use Rattle.brc_rule.specs.Seen.{part_seen, counts_seen}
@@ -17,7 +17,6 @@ pub record CountsFit (n : ℕ) (log : List Told) (counts : List ℕ) : Type 0 wh
   pub wide : length counts ≡ n
   pub immortal : (c : ℕ) → c < FIRST_MORTAL → c < n → slice_index counts c ≡ IMMORTAL_LOCAL
   pub mortal : (c : ℕ) → FIRST_MORTAL ≤ c → c < n → slice_index counts c ≡ counts_seen n log c
-  pub few : (c : ℕ) → FIRST_MORTAL ≤ c → c < n → counts_seen n log c ≤ MOST_LOCAL
   pub active : (c : ℕ) → FIRST_MORTAL ≤ c → c < n → 0 < counts_seen n log c → is_active (part_seen n log).row.stage ≡ true
 
 -- what a counter keeps

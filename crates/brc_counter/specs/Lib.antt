@@ -1,2 +1,4 @@
 pub mod Counter
 pub mod Up
+pub mod Standing
+pub mod Released

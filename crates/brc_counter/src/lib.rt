@@ -6,8 +6,14 @@
 //! or allocates.
 #![tactic(auto)]
 
+mod asked;
+mod cells;
 mod counter;
+mod give_up;
 mod home;
+mod own;
+mod popped;
+mod shared;
 mod up;
 
 pub use counter::Counter;
