@@ -1,0 +1,59 @@
+-- What contracts see of a frame and of its handles, and what a frame keeps.
+use Rattle.std.specs.Prelude.{◌≡◌, ◌<◌, ◌+◌, ℕ, Bool, true, false, List, map, Option, Some, None}
+use Rattle.slab.specs.Slab.{Slab, get, slab_len}
+use Rattle.brc_block.specs.declared.payload.Payload.{Payload}
+use Rattle.brc_runs.specs.declared.event.Dropped.TheVariants as drops
+use Rattle.brc_runs.specs.declared.row.Hand.TheVariants as hands
+use Rattle.brc_runs.specs.Lists.{place_at}
+use Rattle.brc_runs.specs.Steps.{is_active}
+use Rattle.brc_known.specs.Taken.{Blocks}
+use Rattle.brc_rule.specs.declared.told.Told.{Told}
+use Rattle.brc_rule.specs.Logs.{entries_in}
+use Rattle.brc_rule.specs.Seen.{part_seen, risen_seen, taken_seen}
+use Rattle.brc_table.specs.Seated.{TableSeen, SeatSeen}
+use Rattle.brc_table.specs.Shown.{contents_of}
+use Rattle.brc_counter.specs.Standing.{Stands}
+use Rattle.brc_count.specs.declared.held.Held.{Held}
+
+-- which thread's handle it is, and which place of that thread's frame has its reference
+pub record HandleSeen : Type 0 where
+  pub thread : ℕ
+  pub place : ℕ
+
+-- the cell to which a place of the frame has a reference, by the thread's log
+abbrev pub place_seen : ℕ → List Told → ℕ → Option ℕ
+place_seen n log k = place_at (part_seen n log).frame k
+
+-- the cell of what is held
+abbrev pub cell_held : Option Held → Option ℕ
+cell_held None = None
+cell_held (Some held) = Some held.cell
+
+module _ {A : Type 0} where
+  -- a dead block as its thread's log lists it, and its slot, which is out
+  abbrev pub block_listed : ℕ × Payload A → ℕ × List ℕ
+  block_listed block = (block.0, entries_in (contents_of block.1))
+
+  abbrev pub slot_out : ℕ × Payload A → ℕ × Option (ℕ × Payload A)
+  slot_out block = (block.0, None)
+
+-- The heap; the thread's seat at it, with the log of all that it did; how many handles there are, and which place the next
+-- one gets; and the dead blocks on the worklist, front first.
+pub record FrameSeen (A : Type 0) : Type 0 where
+  pub heap : TableSeen
+  pub seat : SeatSeen A
+  pub len : ℕ
+  pub next : ℕ
+  pub works : List (ℕ × Payload A)
+
+-- What a frame keeps: between calls its thread is active, has nothing in its hand and nothing locked; each place holds what
+-- the log says, and what is marked as risen was seen so; the worklist has the dead blocks that the log lists.
+pub record Framing (A : Type 0) (heap : TableSeen) (seat : SeatSeen A) (places : Slab Held) (works : List (ℕ × Payload A)) : Type 0 where
+  pub stands : Stands heap.cells seat.log hands.Free
+  pub active : is_active (part_seen heap.cells seat.log).row.stage ≡ true
+  pub placed : (k : ℕ) → place_seen heap.cells seat.log k ≡ cell_held (get places k)
+  pub risen : (k : ℕ) (held : Held) → get places k ≡ Some held → held.risen ≡ true
+      → risen_seen heap.cells seat.log (drops.Frame k) held.cell ≡ true
+  pub inside : (k : ℕ) (held : Held) → get places k ≡ Some held → held.cell < heap.cells
+  pub out : seat.slots ≡ map slot_out works
+  pub listed : taken_seen heap.cells seat.log ≡ map block_listed works
