@@ -62,4 +62,17 @@ impl<H: Home<A>, A: Allocator> Counter<H, A> {
     {
         &self.heap
     }
+
+    /// The heap and the seat; the counts' memory goes back.
+    pub fn into_parts(self) -> (H, ThreadSeat<A>)
+        ensures heap { H.seen result.0 ≡ self.heap }
+        ensures seat { result.1 ≡ self.seat }
+    {
+        let Counter {
+            heap,
+            seat,
+            counts: _counts,
+        } = self;
+        (heap, seat)
+    }
 }
