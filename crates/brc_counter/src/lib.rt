@@ -14,6 +14,7 @@ mod home;
 mod own;
 mod popped;
 mod shared;
+mod steps;
 mod up;
 
 pub use counter::Counter;
