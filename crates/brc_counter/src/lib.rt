@@ -8,6 +8,7 @@
 
 mod asked;
 mod cells;
+mod close;
 mod counter;
 mod give_up;
 mod home;
