@@ -18,5 +18,5 @@ mod shared;
 mod steps;
 mod up;
 
-pub use counter::Counter;
+pub use counter::{Counter, first_counts};
 pub use home::Home;
