@@ -2,3 +2,4 @@ pub mod Counter
 pub mod Up
 pub mod Standing
 pub mod Released
+pub mod Bounded

@@ -5,6 +5,7 @@ ghost use Rattle.brc_rule.specs.Seen.{risen_seen};
 ghost use Rattle.brc_table.specs.Knowing.{known_seen, entries_of};
 ghost use Rattle.brc_table.specs.Moving.{is_there};
 ghost use Rattle.brc_table.specs.Seated.{Continues};
+ghost use Rattle.brc_counter.specs.Bounded.{IsBounded};
 ghost use Rattle.brc_counter.specs.Released.{Answers, Released};
 ghost use Rattle.brc_counter.specs.Standing.{Holds, KeepsPlaces, released};
 ghost use Rattle.brc_counter.specs.Up.{IsKnown};
@@ -34,6 +35,7 @@ impl<H: Home<A>, A: Allocator> Counter<H, A> {
         // Which list of events it is, and what it answers.
         ensures told { Released self.old.heap.cells drop cell has_risen result
             self.old.seat.log self.new.seat.log }
+        ensures bounded { IsBounded self.old.seat.log self.new.seat.log }
         ensures block { Answers self.old.heap.cells cell result self.old.seat self.new.seat }
 
         // What the thread knows then: the reference is gone, and the block is its own.

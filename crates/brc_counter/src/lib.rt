@@ -8,13 +8,15 @@
 
 mod asked;
 mod cells;
+mod close;
 mod counter;
 mod give_up;
 mod home;
 mod own;
 mod popped;
 mod shared;
+mod steps;
 mod up;
 
-pub use counter::Counter;
+pub use counter::{Counter, first_counts};
 pub use home::Home;
