@@ -6,12 +6,15 @@ use Rattle.slab.specs.Slab.{Slab, get, Updates}
 use Rattle.brc_words.specs.declared.limits.TheConstants.{MOST_PLACES}
 use Rattle.brc_block.specs.declared.payload.Payload.{Payload}
 use Rattle.brc_runs.specs.declared.event.Dropped.TheVariants as drops
-use Rattle.brc_runs.specs.declared.event.Source.TheVariants as sources
-use Rattle.brc_runs.specs.declared.row.Row.{Row}
+use Rattle.brc_runs.specs.declared.event.Source.{Source}
+use Rattle.brc_runs.specs.declared.event.Step.{Step}
+use Rattle.brc_runs.specs.declared.event.Step.TheVariants.{LocalUp}
+use Rattle.brc_runs.specs.declared.row.Stage.{Stage}
+use Rattle.brc_runs.specs.declared.row.Stage.TheVariants as stages
 use Rattle.brc_runs.specs.Lists.{names, place_at, filled, vacated}
-use Rattle.brc_runs.specs.Steps.{is_active}
+use Rattle.brc_runs.specs.Steps.{is_active, stage_ok, needs_lock}
 use Rattle.brc_runs.proofs.Framing.{place_at-filled_here, place_at-filled_else, place_at-vacated_else}
-use Rattle.brc_known.specs.Items.{Part}
+use Rattle.brc_known.specs.Items.{Part, meant}
 use Rattle.brc_known.specs.Going_On.{filling}
 use Rattle.brc_known.specs.Taken.{taken_on}
 use Rattle.brc_rule.specs.Seen.{part_seen, risen_seen, taken_seen}
@@ -20,7 +23,7 @@ use Rattle.brc_table.specs.Moving.{is_there, out_with}
 use Rattle.brc_table.specs.Seated.{TableSeen, SeatSeen, Stays, Continues}
 use Rattle.brc_counter.specs.Standing.{KeepsPlaces, may_give_up, released}
 use Rattle.brc_counter.specs.Released.{Answers}
-use Rattle.brc_counter.specs.Up.{IsKnown}
+use Rattle.brc_counter.specs.Up.{IsKnown, Raising}
 use Rattle.brc_count.specs.declared.held.Held.{Held}
 use Rattle.brc_count.specs.Frames.{place_seen, cell_held, block_listed, slot_out, pushed, Framing}
 
@@ -38,6 +41,28 @@ same_cell same = cc
 
 none_held : {X : Type 0} {a : X} → None ≡ Some a → ⊥
 none_held same = cc
+
+active_may : (stage : Stage) (s : Step) → is_active stage ≡ true → stage_ok stage s ≡ true
+active_may stages.Active s is = refl
+active_may (stages.Closing words) s is = cc
+active_may stages.Left s is = cc
+
+-- a place that is vacant and below the limit may get a reference, without a lock
+pub raising : {A : Type 0} {heap : TableSeen} {seat : SeatSeen A} {places : Slab Held} {works : List (ℕ × Payload A)} {thread : ℕ} (source : Source) (k c : ℕ)
+    → Framing A heap seat places works thread → needs_lock (LocalUp source k) ≡ false
+    → meant (part_seen heap.cells seat.log) (LocalUp source k) ≡ Some c → k < MOST_PLACES → get places k ≡ None
+    → Raising heap.cells seat.log source k c
+raising {heap = heap} {seat = seat} source k c keeps free named low vacant = record {
+  own = rw (
+    active_may (part_seen heap.cells seat.log).row.stage (LocalUp source k) keeps.active,
+    keeps.stands.lock,
+    keeps.stands.hand_is,
+    free,
+    lt-ltb k MOST_PLACES low,
+    keeps.placed k ∙ ap cell_held vacant,
+  ) refl;
+  cell = named;
+}
 
 module _ {A : Type 0} where
   slots_pushed : (c : ℕ) (block : Option (ℕ × Payload A)) (works : List (ℕ × Payload A)) → IfSome block (λ there. there.0 ≡ c)

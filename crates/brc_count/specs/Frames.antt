@@ -1,7 +1,9 @@
 -- What contracts see of a frame and of its handles, and what a frame keeps.
 use Rattle.std.specs.Prelude.{◌≡◌, ◌≢◌, ◌<◌, ◌≤◌, ◌+◌, ℕ, Bool, true, false, List, ◌∷◌, map, Option, Some, None, is_some}
 use Rattle.slab.specs.Slab.{Slab, get, slab_len}
-use Rattle.brc_words.specs.declared.limits.TheConstants.{FIRST_MORTAL}
+use Rattle.brc_words.specs.declared.limits.TheConstants.{FIRST_MORTAL, MOST_PLACES}
+use Rattle.brc_words.specs.declared.fault.Fault.{Fault}
+use Rattle.brc_words.specs.declared.fault.Fault.TheVariants.{OutOfMemory, FrameFull}
 use Rattle.brc_block.specs.declared.payload.Payload.{Payload}
 use Rattle.brc_runs.specs.declared.event.Dropped.TheVariants as drops
 use Rattle.brc_runs.specs.declared.event.Source.{Source}
@@ -15,7 +17,7 @@ use Rattle.brc_rule.specs.declared.told.Told.{Told}
 use Rattle.brc_rule.specs.declared.told.Told.TheVariants.{Did}
 use Rattle.brc_rule.specs.Logs.{entries_in}
 use Rattle.brc_rule.specs.Seen.{part_seen, counts_seen, risen_seen, taken_seen}
-use Rattle.brc_table.specs.Seated.{TableSeen, SeatSeen}
+use Rattle.brc_table.specs.Seated.{TableSeen, SeatSeen, Stays}
 use Rattle.brc_table.specs.Shown.{contents_of}
 use Rattle.brc_counter.specs.Standing.{Stands}
 use Rattle.brc_counter.specs.Released.{Released}
@@ -78,17 +80,8 @@ pub record Owns {A : Type 0} (frame : FrameSeen A) (handle : HandleSeen) : Type 
 
 -- ---- what calls do
 
--- The new handle is of the same thread, in the place that was next, and has a reference to the same object; every other
--- place has what it had.
-pub record Retained {A : Type 0} (old new : FrameSeen A) (handle given : HandleSeen) : Type 0 where
-  pub thread : given.thread ≡ handle.thread
-  pub place : given.place ≡ old.next
-  pub vacant : place_seen old.heap.cells old.seat.log given.place ≡ None
-  pub same_cell : place_seen new.heap.cells new.seat.log given.place ≡ place_seen old.heap.cells old.seat.log handle.place
-  pub others : (k : ℕ) → k ≢ given.place → place_seen new.heap.cells new.seat.log k ≡ place_seen old.heap.cells old.seat.log k
-
--- The one event of a retain: a look, where the cell is immortal; on the local word, where the thread counts the cell there
--- and is below the limit; else on the shared word.
+-- The one event by which a reference is counted up: a look, where the cell is immortal; on the local word, where the thread
+-- counts the cell there and is below the limit; else on the shared word.
 pub record CountsUp {A : Type 0} (old new : FrameSeen A) (source : Source) (k c : ℕ) : Type 0 where
   pub immortal : c < FIRST_MORTAL → RaisedImmortal source k old.seat.log new.seat.log
   pub own : FIRST_MORTAL ≤ c → CountsHere old.heap.cells old.heap.local_limit old.seat.log c
@@ -96,6 +89,26 @@ pub record CountsUp {A : Type 0} (old new : FrameSeen A) (source : Source) (k c 
   pub risen : Bool
   pub shared : FIRST_MORTAL ≤ c → ¬ CountsHere old.heap.cells old.heap.local_limit old.seat.log c
       → RaisedShared source k old.seat.log new.seat.log risen
+
+-- A new handle is of the frame's thread, in the place that was next, and has a reference to the cell; every other place has
+-- what it had, and no block came or went.
+pub record Given {A : Type 0} (old new : FrameSeen A) (source : Source) (c : ℕ) (given : HandleSeen) : Type 0 where
+  pub thread : given.thread ≡ old.seat.thread
+  pub place : given.place ≡ old.next
+  pub room : given.place < MOST_PLACES
+  pub vacant : place_seen old.heap.cells old.seat.log given.place ≡ None
+  pub has : place_seen new.heap.cells new.seat.log given.place ≡ Some c
+  pub others : (k : ℕ) → k ≢ given.place → place_seen new.heap.cells new.seat.log k ≡ place_seen old.heap.cells old.seat.log k
+  pub counted : CountsUp old new source given.place c
+  pub seat : Stays old.seat new.seat
+  pub len : new.len ≡ old.len + 1
+  pub works : new.works ≡ old.works
+
+-- a handle is refused where the next place isn't below 65,536; or memory was missing
+abbrev pub Refused : {A : Type 0} → FrameSeen A → Fault → Type 0
+Refused old FrameFull = MOST_PLACES ≤ old.next
+Refused old OutOfMemory = old.next < MOST_PLACES
+Refused old _ = ⊥
 
 -- The events of a release are one of the lists of `brc_counter`, by which the object may end: then its block is on the front
 -- of the worklist. The place is vacant, and every other place has what it had.

@@ -1,11 +1,14 @@
 //! A frame: the references of one thread.
 
-ghost use Rattle.std.specs.Prelude.{◌≡◌, ◌+◌, ◌-◌, ◌<◌, ◌≤◌, ℕ, Some, None, IsTrue, IsFalse, IfOk, IfErr, OnOk, OnErr, ◌⊎◌, true};
-ghost use Rattle.brc_words.specs.declared.fault.Fault.TheVariants.{OutOfMemory, FrameFull};
-ghost use Rattle.brc_words.specs.declared.limits.TheConstants.{MOST_PLACES};
+ghost use Rattle.std.specs.Prelude.{◌≡◌, ◌+◌, ◌-◌, ◌<◌, ◌≤◌, ℕ, Some, None, IsTrue, IsFalse, IfOk, IfErr, OnErr, true, false};
+ghost use Rattle.brc_words.specs.declared.limits.TheConstants.{FIRST_MORTAL};
+ghost use Rattle.brc_runs.specs.declared.event.Step.TheVariants as steps;
+ghost use Rattle.brc_runs.specs.Steps.{needs_lock};
+ghost use Rattle.brc_known.specs.Items.{meant};
+ghost use Rattle.brc_rule.specs.Seen.{part_seen};
 ghost use Rattle.brc_runs.specs.declared.event.Source.TheVariants as sources;
-ghost use Rattle.brc_table.specs.Seated.{Stays, Continues};
-ghost use Rattle.brc_count.specs.Frames.{place_seen, Owns, Retained, CountsUp, ReleasedOf};
+ghost use Rattle.brc_table.specs.Seated.{Continues};
+ghost use Rattle.brc_count.specs.Frames.{place_seen, Owns, Given, Refused, ReleasedOf};
 
 use crate::handle::Handle;
 use crate::held::Held;
@@ -76,16 +79,36 @@ impl<H: Home<A>, A: Allocator> Frame<H, A> {
     pub fn retain(&mut self, handle: &Handle) -> Result<Handle, Fault>
         requires owned { Owns self.old handle.now }
         ensures heap { self.new.heap ≡ self.old.heap }
-        ensures given { IfOk result (λ given. Retained self.old self.new handle.now given) }
-        ensures counted { IfOk result (λ given. (c : ℕ) →
+        ensures given { IfOk result (λ given. (c : ℕ) →
             place_seen self.old.heap.cells self.old.seat.log handle.now.place ≡ Some c →
-            CountsUp self.old self.new (sources.Frame handle.now.place) given.place c) }
-        ensures seat { OnOk result (Stays self.old.seat self.new.seat) }
-        ensures len { OnOk result (self.new.len ≡ self.old.len + 1) }
-        ensures works { self.new.works ≡ self.old.works }
-        ensures refused { IfErr result (λ fault. (fault ≡ FrameFull) ⊎ (fault ≡ OutOfMemory)) }
-        ensures full { IfErr result (λ fault. fault ≡ FrameFull → MOST_PLACES ≤ self.old.next) }
-        ensures room { OnOk result (self.old.next < MOST_PLACES) }
+            Given self.old self.new (sources.Frame handle.now.place) c given) }
+        ensures refused { IfErr result (Refused self.old) }
+        ensures unchanged { OnErr result (self.new ≡ self.old) }
+    {
+        let cell = self.cell(handle);
+        self.hold(Source::Frame(handle.place), cell)
+    }
+
+    /// A handle to an immortal, cell 0 to 265, in one event that only looks. It is refused as `retain` is.
+    pub fn immortal(&mut self, cell: u32) -> Result<Handle, Fault>
+        requires immortal { cell < FIRST_MORTAL }
+        requires inside { cell < self.old.heap.cells }
+        ensures heap { self.new.heap ≡ self.old.heap }
+        ensures given { IfOk result (λ given. Given self.old self.new (sources.Immortal cell) cell given) }
+        ensures refused { IfErr result (Refused self.old) }
+        ensures unchanged { OnErr result (self.new ≡ self.old) }
+    {
+        self.hold(Source::Immortal(cell), cell)
+    }
+
+    /// The next place gets a reference to the source's cell.
+    fn hold(&mut self, source: Source, cell: u32) -> Result<Handle, Fault>
+        requires inside { cell < self.old.heap.cells }
+        requires free_source { (k : ℕ) → needs_lock (steps.LocalUp source k) ≡ false }
+        requires named { (k : ℕ) → meant (part_seen self.old.heap.cells self.old.seat.log) (steps.LocalUp source k) ≡ Some cell }
+        ensures heap { self.new.heap ≡ self.old.heap }
+        ensures given { IfOk result (λ given. Given self.old self.new source cell given) }
+        ensures refused { IfErr result (Refused self.old) }
         ensures unchanged { OnErr result (self.new ≡ self.old) }
     {
         let next = self.places.vacant_key();
@@ -95,9 +118,8 @@ impl<H: Home<A>, A: Allocator> Frame<H, A> {
         if self.places.reserve(1).is_err() {
             return Err(Fault::OutOfMemory);
         }
-        let cell = self.cell(handle);
         let place = next as u32;
-        let risen = self.counter.up(Source::Frame(handle.place), place, cell);
+        let risen = self.counter.up(source, place, cell);
         let _key = self.places.insert_reserved(Held { cell, risen });
         Ok(Handle {
             thread: self.thread,
