@@ -1,5 +1,5 @@
 -- What one call of the counter makes of what a frame keeps.
-use Rattle.std.proofs.Common.{◌≡◌, ◌≢◌, ℕ, ◌<◌, ◌==◌, Bool, true, false, length, arith, inl, inr, List, ◌∷◌, map, Option, Some, None, IfSome, IsTrue, refl, sym, ◌∙◌, ap, subst}
+use Rattle.std.proofs.Common.{◌≡◌, ◌≢◌, ℕ, ◌<◌, ◌==◌, Bool, true, false, length, arith, inl, inr, List, [], ◌∷◌, map, Option, Some, None, IfSome, IsTrue, refl, sym, ◌∙◌, ap, subst}
 use Rattle.std.proofs.lemmas.Bool.{eq-eqb, cases_eq, cases_lt, lt-ltb}
 use Rattle.std.proofs.lemmas.List.{length-set, get_or-set_same, get_or_past}
 use Rattle.slab.specs.Slab.{Slab, get, Updates}
@@ -62,6 +62,24 @@ raising {heap = heap} {seat = seat} source k c keeps free named low vacant = rec
     keeps.placed k ∙ ap cell_held vacant,
   ) refl;
   cell = named;
+}
+
+-- a thread that has done nothing yet, with no place filled
+pub opening : {A : Type 0} (heap : TableSeen) (seat : SeatSeen A) (places : Slab Held) → seat.log ≡ [] → seat.slots ≡ [] → places.slots ≡ []
+    → Framing A heap seat places [] seat.thread
+opening heap seat places log slots none = record {
+  same_thread = refl;
+  stands = record {
+    stage = rw log refl;
+    lock = rw log refl;
+    hand_is = rw log refl;
+  };
+  active = rw log refl;
+  placed = λ k. rw (log, none) refl;
+  risen = λ k held there. absurd (none_held (rw none at there));
+  inside = λ k held there. absurd (none_held (rw none at there));
+  out = slots;
+  listed = rw log refl;
 }
 
 module _ {A : Type 0} where

@@ -1,20 +1,23 @@
 //! A frame: the references of one thread.
 
-ghost use Rattle.std.specs.Prelude.{◌≡◌, ◌+◌, ◌-◌, ◌<◌, ◌≤◌, ℕ, Some, None, IsTrue, IsFalse, IfOk, IfErr, OnErr, true, false};
-ghost use Rattle.brc_words.specs.declared.limits.TheConstants.{FIRST_MORTAL};
+ghost use Rattle.std.specs.Prelude.{◌≡◌, ◌+◌, ◌-◌, ◌<◌, ◌≤◌, ℕ, Some, None, IsTrue, IsFalse, [], IfOk, IfErr, OnOk, OnErr, true, false};
+ghost use Rattle.brc_words.specs.declared.limits.TheConstants.{FIRST_MORTAL, MOST_THREADS};
+ghost use Rattle.brc_words.specs.declared.fault.Fault.TheVariants.{OutOfMemory};
 ghost use Rattle.brc_runs.specs.declared.event.Step.TheVariants as steps;
 ghost use Rattle.brc_runs.specs.Steps.{needs_lock};
 ghost use Rattle.brc_known.specs.Items.{meant};
 ghost use Rattle.brc_rule.specs.Seen.{part_seen};
 ghost use Rattle.brc_runs.specs.declared.event.Source.TheVariants as sources;
+ghost use Rattle.brc_steps.specs.Joining.{next_thread, registering};
 ghost use Rattle.brc_table.specs.Seated.{Continues};
 ghost use Rattle.brc_count.specs.Frames.{place_seen, Owns, Given, Refused, ReleasedOf};
 
 use crate::handle::Handle;
 use crate::held::Held;
 use brc_block::Worklist;
-use brc_counter::{Counter, Home};
+use brc_counter::{Counter, Home, first_counts};
 use brc_runs::{Dropped, Source};
+use brc_table::RootSeat;
 use brc_words::{Fault, MOST_PLACES};
 use slab::Slab;
 use std::alloc::Allocator;
@@ -37,6 +40,37 @@ impl<H: Home<A>, A: Allocator> Model for Frame<H, A> {
     ghost view = { λ f. record { heap = f.counter.heap; seat = f.counter.seat; len = slab_len f.places; next = f.places.vacant_key; works = f.works } };
 
     ghost invariant = { λ f. Framing A f.counter.heap f.counter.seat f.places f.works f.thread };
+}
+
+impl<H: Home<A> + Drop, A: Allocator + Copy> Frame<H, A> {
+    #[tactic(auto, using(crate::proofs::Changes::opening))]
+    /// The frame of the next thread, which is registered with it. All memory that its counts want is had before: where it is
+    /// missing the answer is OutOfMemory, and nothing changed.
+    pub fn enter(alloc: A, heap: H, root: &mut RootSeat<A>) -> Result<Frame<H, A>, Fault>
+        requires table { root.old.table ≡ (H.seen heap).table }
+        requires few { next_thread root.old.view ≤ MOST_THREADS }
+        ensures heap { IfOk result (λ frame. frame.heap ≡ H.seen heap) }
+        ensures thread { IfOk result (λ frame. frame.seat.thread ≡ next_thread root.old.view) }
+        ensures new { IfOk result (λ frame. frame.seat.log ≡ []) }
+        ensures bare { IfOk result (λ frame. (frame.len ≡ 0) × (frame.works ≡ [])) }
+        ensures root { OnOk result (root.new.view ≡ registering root.old.view) }
+        ensures same_root { (root.new.table ≡ root.old.table) × (root.new.id ≡ root.old.id) }
+        ensures refused { IfErr result (λ fault. fault ≡ OutOfMemory) }
+        ensures unchanged { OnErr result (root.new ≡ root.old) }
+    {
+        let cells = heap.table().cells();
+        let Ok(counts) = first_counts(alloc, cells) else {
+            return Err(Fault::OutOfMemory);
+        };
+        let thread = root.next();
+        let seat = heap.table().split(root);
+        Ok(Frame {
+            counter: Counter::new(heap, seat, counts),
+            places: Slab::new(alloc),
+            works: Worklist::new(),
+            thread,
+        })
+    }
 }
 
 impl<H: Home<A>, A: Allocator> Frame<H, A> {
