@@ -2,6 +2,7 @@
 
 ghost use Rattle.std.specs.Prelude.{◌≡◌, ◌↔◌, ◌⊎◌, ◌≤◌, Err, IfOk, IfErr};
 ghost use Rattle.brc_words.specs.declared.fault.Fault.TheVariants as faults;
+ghost use Rattle.brc_words.specs.declared.limits.TheConstants.{MOST_CELLS, MOST_LOCAL};
 ghost use Rattle.brc_runs.specs.Heap.{AreOptions};
 ghost use Rattle.brc_rule.specs.Opening.{first_view};
 
@@ -65,5 +66,23 @@ impl<A: Allocator + Copy> HeapTable<A> {
                 Err(Fault::OutOfMemory)
             }
         }
+    }
+}
+
+impl<A: Allocator> HeapTable<A> {
+    /// How many cells the heap has.
+    pub fn cells(&self) -> u32
+        ensures cells { result ≡ self.now.cells }
+        ensures few { result ≤ MOST_CELLS }
+    {
+        self.cells
+    }
+
+    /// How far an owner counts on its own.
+    pub fn local_limit(&self) -> u32
+        ensures limit { result ≡ self.now.local_limit }
+        ensures low { result ≤ MOST_LOCAL }
+    {
+        self.local_limit
     }
 }

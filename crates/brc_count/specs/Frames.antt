@@ -1,0 +1,121 @@
+-- What contracts see of a frame and of its handles, and what a frame keeps.
+use Rattle.std.specs.Prelude.{◌≡◌, ◌≢◌, ◌<◌, ◌≤◌, ◌+◌, ℕ, Bool, true, false, List, ◌∷◌, map, Option, Some, None, is_some}
+use Rattle.slab.specs.Slab.{Slab, get, slab_len}
+use Rattle.brc_words.specs.declared.limits.TheConstants.{FIRST_MORTAL, MOST_PLACES}
+use Rattle.brc_words.specs.declared.fault.Fault.{Fault}
+use Rattle.brc_words.specs.declared.fault.Fault.TheVariants.{OutOfMemory, FrameFull}
+use Rattle.brc_block.specs.declared.payload.Payload.{Payload}
+use Rattle.brc_runs.specs.declared.event.Dropped.TheVariants as drops
+use Rattle.brc_runs.specs.declared.event.Source.{Source}
+use Rattle.brc_runs.specs.declared.event.Step.TheVariants.{LocalUp}
+use Rattle.brc_runs.specs.declared.row.Hand.TheVariants as hands
+use Rattle.brc_runs.specs.Lists.{place_at}
+use Rattle.brc_runs.specs.Steps.{is_active}
+use Rattle.brc_known.specs.Taken.{Blocks}
+use Rattle.brc_rule.specs.declared.told.Moved.TheVariants.{Nothing}
+use Rattle.brc_rule.specs.declared.told.Told.{Told}
+use Rattle.brc_rule.specs.declared.told.Told.TheVariants.{Did}
+use Rattle.brc_rule.specs.Logs.{entries_in}
+use Rattle.brc_rule.specs.Seen.{part_seen, counts_seen, risen_seen, taken_seen}
+use Rattle.brc_table.specs.Seated.{TableSeen, SeatSeen, Stays}
+use Rattle.brc_table.specs.Shown.{contents_of}
+use Rattle.brc_counter.specs.Standing.{Stands}
+use Rattle.brc_counter.specs.Released.{Released}
+use Rattle.brc_counter.specs.Up.{CountsHere, RaisedImmortal, RaisedShared}
+use Rattle.brc_count.specs.declared.held.Held.{Held}
+
+-- which thread's handle it is, and which place of that thread's frame has its reference
+pub record HandleSeen : Type 0 where
+  pub thread : ℕ
+  pub place : ℕ
+
+-- the cell to which a place of the frame has a reference, by the thread's log
+abbrev pub place_seen : ℕ → List Told → ℕ → Option ℕ
+place_seen n log k = place_at (part_seen n log).frame k
+
+-- the cell of what is held
+abbrev pub cell_held : Option Held → Option ℕ
+cell_held None = None
+cell_held (Some held) = Some held.cell
+
+module _ {A : Type 0} where
+  -- a dead block as its thread's log lists it, and its slot, which is out
+  abbrev pub block_listed : ℕ × Payload A → ℕ × List ℕ
+  block_listed block = (block.0, entries_in (contents_of block.1))
+
+  abbrev pub slot_out : ℕ × Payload A → ℕ × Option (ℕ × Payload A)
+  slot_out block = (block.0, None)
+
+  -- the worklist with a block more on its front, where there is one
+  abbrev pub pushed : Option (ℕ × Payload A) → List (ℕ × Payload A) → List (ℕ × Payload A)
+  pushed None works = works
+  pushed (Some block) works = block ∷ works
+
+-- The heap; the thread's seat at it, with the log of all that it did; how many handles there are, and which place the next
+-- one gets; and the dead blocks on the worklist, front first.
+pub record FrameSeen (A : Type 0) : Type 0 where
+  pub heap : TableSeen
+  pub seat : SeatSeen A
+  pub len : ℕ
+  pub next : ℕ
+  pub works : List (ℕ × Payload A)
+
+-- What a frame keeps: between calls its thread is active, has nothing in its hand and nothing locked; each place holds what
+-- the log says, and what is marked as risen was seen so; the worklist has the dead blocks that the log lists.
+pub record Framing (A : Type 0) (heap : TableSeen) (seat : SeatSeen A) (places : Slab Held) (works : List (ℕ × Payload A)) (thread : ℕ) : Type 0 where
+  pub same_thread : seat.thread ≡ thread
+  pub stands : Stands heap.cells seat.log hands.Free
+  pub active : is_active (part_seen heap.cells seat.log).row.stage ≡ true
+  pub placed : (k : ℕ) → place_seen heap.cells seat.log k ≡ cell_held (get places k)
+  pub risen : (k : ℕ) (held : Held) → get places k ≡ Some held → held.risen ≡ true
+      → risen_seen heap.cells seat.log (drops.Frame k) held.cell ≡ true
+  pub inside : (k : ℕ) (held : Held) → get places k ≡ Some held → held.cell < heap.cells
+  pub out : seat.slots ≡ map slot_out works
+  pub listed : taken_seen heap.cells seat.log ≡ map block_listed works
+
+-- the handle is of the frame's thread, and its place has a reference
+pub record Owns {A : Type 0} (frame : FrameSeen A) (handle : HandleSeen) : Type 0 where
+  pub thread : handle.thread ≡ frame.seat.thread
+  pub filled : is_some (place_seen frame.heap.cells frame.seat.log handle.place) ≡ true
+
+-- ---- what calls do
+
+-- The one event by which a reference is counted up: a look, where the cell is immortal; on the local word, where the thread
+-- counts the cell there and is below the limit; else on the shared word.
+pub record CountsUp {A : Type 0} (old new : FrameSeen A) (source : Source) (k c : ℕ) : Type 0 where
+  pub immortal : c < FIRST_MORTAL → RaisedImmortal source k old.seat.log new.seat.log
+  pub own : FIRST_MORTAL ≤ c → CountsHere old.heap.cells old.heap.local_limit old.seat.log c
+      → new.seat.log ≡ Did (LocalUp source k) (counts_seen old.heap.cells old.seat.log c + 1) Nothing ∷ old.seat.log
+  pub risen : Bool
+  pub shared : FIRST_MORTAL ≤ c → ¬ CountsHere old.heap.cells old.heap.local_limit old.seat.log c
+      → RaisedShared source k old.seat.log new.seat.log risen
+
+-- A new handle is of the frame's thread, in the place that was next, and has a reference to the cell; every other place has
+-- what it had, and no block came or went.
+pub record Given {A : Type 0} (old new : FrameSeen A) (source : Source) (c : ℕ) (given : HandleSeen) : Type 0 where
+  pub thread : given.thread ≡ old.seat.thread
+  pub place : given.place ≡ old.next
+  pub room : given.place < MOST_PLACES
+  pub vacant : place_seen old.heap.cells old.seat.log given.place ≡ None
+  pub has : place_seen new.heap.cells new.seat.log given.place ≡ Some c
+  pub others : (k : ℕ) → k ≢ given.place → place_seen new.heap.cells new.seat.log k ≡ place_seen old.heap.cells old.seat.log k
+  pub counted : CountsUp old new source given.place c
+  pub seat : Stays old.seat new.seat
+  pub len : new.len ≡ old.len + 1
+  pub works : new.works ≡ old.works
+
+-- a handle is refused where the next place isn't below 65,536; or memory was missing
+abbrev pub Refused : {A : Type 0} → FrameSeen A → Fault → Type 0
+Refused old FrameFull = MOST_PLACES ≤ old.next
+Refused old OutOfMemory = old.next < MOST_PLACES
+Refused old _ = ⊥
+
+-- The events of a release are one of the lists of `brc_counter`, by which the object may end: then its block is on the front
+-- of the worklist. The place is vacant, and every other place has what it had.
+pub record ReleasedOf {A : Type 0} (old new : FrameSeen A) (k c : ℕ) : Type 0 where
+  pub seen : Bool
+  pub block : Option (ℕ × Payload A)
+  pub events : Released old.heap.cells (drops.Frame k) c seen block old.seat.log new.seat.log
+  pub works : new.works ≡ pushed block old.works
+  pub vacant : place_seen new.heap.cells new.seat.log k ≡ None
+  pub others : (j : ℕ) → j ≢ k → place_seen new.heap.cells new.seat.log j ≡ place_seen old.heap.cells old.seat.log j

@@ -1,0 +1,13 @@
+//! Frames and handles: what a thread of the runtime holds, counted up and down.
+//!
+//! A frame keeps each reference in a place, and a handle names its thread and place. Which events a call makes is the
+//! contract of `brc_counter`; here stand the places, and the worklist of dead blocks (`specs/Frames.antt`).
+#![tactic(auto)]
+
+mod frame;
+mod handle;
+mod held;
+
+pub use frame::Frame;
+pub use handle::Handle;
+pub use held::Held;

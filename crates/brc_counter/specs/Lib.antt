@@ -1,0 +1,5 @@
+pub mod Counter
+pub mod Up
+pub mod Standing
+pub mod Released
+pub mod Bounded
