@@ -1,5 +1,5 @@
 -- What one call of the counter makes of what a frame keeps.
-use Rattle.std.proofs.Common.{◌≡◌, ◌≢◌, ℕ, ◌<◌, ◌==◌, Bool, true, false, length, arith, inl, inr, List, [], ◌∷◌, map, Option, Some, None, IfSome, IsTrue, refl, sym, ◌∙◌, ap, subst}
+use Rattle.std.proofs.Common.{◌≡◌, ℕ, ◌<◌, Bool, true, false, length, arith, inl, inr, List, [], ◌∷◌, map, Option, Some, None, IfSome, IsTrue, refl, sym, ◌∙◌, ap, subst}
 use Rattle.std.proofs.lemmas.Bool.{eq-eqb, cases_eq, cases_lt, lt-ltb}
 use Rattle.std.proofs.lemmas.List.{length-set, get_or-set_same, get_or_past}
 use Rattle.slab.specs.Slab.{Slab, get, Updates}
@@ -17,7 +17,7 @@ use Rattle.brc_runs.proofs.Framing.{place_at-filled_here, place_at-filled_else, 
 use Rattle.brc_known.specs.Items.{Part, meant}
 use Rattle.brc_known.specs.Going_On.{filling}
 use Rattle.brc_known.specs.Taken.{taken_on}
-use Rattle.brc_rule.specs.Seen.{part_seen, risen_seen, taken_seen}
+use Rattle.brc_rule.specs.Seen.{part_seen, risen_seen}
 use Rattle.brc_table.specs.Knowing.{known_seen, entries_of, Keeps}
 use Rattle.brc_table.specs.Moving.{is_there, out_with}
 use Rattle.brc_table.specs.Seated.{TableSeen, SeatSeen, Stays, Continues}

@@ -1,4 +1,4 @@
-use Rattle.std.proofs.Common.{rules, ◌≡◌, ◌∙◌, sym, ap, refl}
+use Rattle.std.proofs.Common.{rules, ◌∙◌, sym, ap, refl}
 use Rattle.brc_count.specs.Frames.{cell_held}
 use Rattle.brc_count.proofs.Changes.{raising, after_up}
 use Rattle.brc_count.proofs.frame.Frame.hold.Goals as goal

@@ -1,4 +1,4 @@
-use Rattle.std.proofs.Common.{rules, ◌≡◌, ◌∙◌, refl, sym, ap}
+use Rattle.std.proofs.Common.{◌∙◌, sym, ap}
 use Rattle.brc_count.specs.Frames.{cell_held, pushed}
 use Rattle.brc_count.proofs.Changes.{after_release, same_cell}
 use Rattle.brc_count.proofs.frame.Frame.release.Goals as goal
