@@ -6,7 +6,7 @@ use Rattle.brc_runs.specs.declared.row.Hand.{Hand}
 use Rattle.brc_runs.specs.declared.row.Hand.TheVariants as hands
 use Rattle.brc_runs.specs.declared.row.Stage.{Stage}
 use Rattle.brc_runs.specs.declared.row.Stage.TheVariants as stages
-use Rattle.brc_runs.specs.Lists.{place_at}
+use Rattle.brc_runs.specs.Lists.{place_at, is_marked}
 use Rattle.brc_known.specs.Going_On.{Known, handing, giving_up, taking}
 use Rattle.brc_known.specs.Risen.{drop_in}
 use Rattle.brc_known.specs.Taken.{Blocks, listed_at}
@@ -53,3 +53,8 @@ ending takes c entries old = handing hands.Free (taking takes c entries old)
 -- the reference is gone, and where the object is dead its block is the thread's
 abbrev pub released : Bool → Dropped → ℕ → List ℕ → Known → Known
 released takes drop c entries old = taking takes c entries (giving_up (Some drop) old)
+
+-- the cell's block is one of the thread's, to be taken apart, and has these entries
+pub record HasDead (n : ℕ) (log : List Told) (c : ℕ) (entries : List ℕ) : Type 0 where
+  pub marked : is_marked (part_seen n log).worklist c ≡ true
+  pub has : (part_seen n log).has c ≡ entries

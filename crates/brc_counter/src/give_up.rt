@@ -1,13 +1,15 @@
 //! Counting down: a reference in a place of the frame goes, or the last entry of a dead block.
 
-ghost use Rattle.std.specs.Prelude.{◌≡◌, ◌<◌, IsTrue, true};
+ghost use Rattle.std.specs.Prelude.{◌≡◌, ◌<◌, IfSome, IsTrue, true};
+ghost use Rattle.brc_rule.specs.Logs.{entries_in};
 ghost use Rattle.brc_rule.specs.Seen.{risen_seen};
 ghost use Rattle.brc_table.specs.Knowing.{known_seen, entries_of};
 ghost use Rattle.brc_table.specs.Moving.{is_there};
 ghost use Rattle.brc_table.specs.Seated.{Continues};
+ghost use Rattle.brc_table.specs.Shown.{contents_of};
 ghost use Rattle.brc_counter.specs.Bounded.{IsBounded};
 ghost use Rattle.brc_counter.specs.Released.{Answers, Released};
-ghost use Rattle.brc_counter.specs.Standing.{Holds, KeepsPlaces, released};
+ghost use Rattle.brc_counter.specs.Standing.{HasDead, Holds, KeepsPlaces, released};
 ghost use Rattle.brc_counter.specs.Up.{IsKnown};
 
 use crate::counter::Counter;
@@ -39,6 +41,8 @@ impl<H: Home<A>, A: Allocator> Counter<H, A> {
         ensures block { Answers self.old.heap.cells cell result self.old.seat self.new.seat }
 
         // What the thread knows then: the reference is gone, and the block is its own.
+        ensures dead { IfSome result (λ there.
+            HasDead self.old.heap.cells self.new.seat.log cell (entries_in (contents_of there.1))) }
         ensures knows { IsKnown self.old.heap.cells self.new.seat.log
             (released (is_there result) drop cell (entries_of result)
             (known_seen self.old.heap.cells self.old.seat.log)) }

@@ -1,17 +1,19 @@
 //! A popped entry: a reference that went through the thread's merge queue, and is the thread's to deal with.
 
-ghost use Rattle.std.specs.Prelude.{◌≡◌, ◌<◌, ◌%◌, ◌≢◌, ◌==◌, ℕ, if◌then◌else◌, Some};
+ghost use Rattle.std.specs.Prelude.{◌≡◌, ◌<◌, ◌%◌, ◌≢◌, ◌==◌, ℕ, if◌then◌else◌, IfSome, Some};
 ghost use Rattle.brc_runs.specs.Lists.{bit_of};
 ghost use Rattle.brc_runs.specs.declared.row.Hand.TheVariants as hands;
 ghost use Rattle.brc_known.specs.declared.word.Field.TheVariants as fields;
 ghost use Rattle.brc_known.specs.Going_On.{settling, taking};
+ghost use Rattle.brc_rule.specs.Logs.{entries_in};
 ghost use Rattle.brc_rule.specs.Noted.{noted};
 ghost use Rattle.brc_rule.specs.Seen.{part_seen, counts_seen};
 ghost use Rattle.brc_table.specs.Knowing.{known_seen, entries_of};
 ghost use Rattle.brc_table.specs.Moving.{is_there};
 ghost use Rattle.brc_table.specs.Seated.{Continues};
+ghost use Rattle.brc_table.specs.Shown.{contents_of};
 ghost use Rattle.brc_counter.specs.Released.{Answers, Merges, Settled};
-ghost use Rattle.brc_counter.specs.Standing.{Stands, KeepsPlaces};
+ghost use Rattle.brc_counter.specs.Standing.{HasDead, Stands, KeepsPlaces};
 ghost use Rattle.brc_counter.specs.Up.{IsKnown};
 
 use crate::counter::Counter;
@@ -67,6 +69,8 @@ impl<H: Home<A>, A: Allocator> Counter<H, A> {
         ensures seat { Continues self.old.seat self.new.seat }
         ensures told { Settled cell result self.old.seat.log self.new.seat.log }
         ensures block { Answers self.old.heap.cells cell result self.old.seat self.new.seat }
+        ensures dead { IfSome result (λ there.
+            HasDead self.old.heap.cells self.new.seat.log cell (entries_in (contents_of there.1))) }
         ensures knows { IsKnown self.old.heap.cells self.new.seat.log
             (settling cell (taking (is_there result) cell (entries_of result)
             (known_seen self.old.heap.cells self.old.seat.log))) }

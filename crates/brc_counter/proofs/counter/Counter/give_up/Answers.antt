@@ -1,6 +1,7 @@
 use Rattle.std.proofs.Common.{rules, refl}
 use Rattle.brc_counter.specs.Released.{ReleaseImmortal, ReleaseOwn, ReleaseShared}
 use Rattle.brc_counter.proofs.Bounds.{bounded}
+use Rattle.brc_counter.proofs.Marking.{dead_released}
 use Rattle.brc_counter.proofs.counter.Counter.give_up.Goals as goal
 
 pub returns-then-cell-lt-FIRST_MORTAL-clause-told : goal.returns-then-cell-lt-FIRST_MORTAL-clause-told
@@ -23,3 +24,18 @@ returns-then-count-eq0-clause-bounded g c = bounded (returns-then-count-eq0-clau
 
 pub returns-clause-bounded : goal.returns-clause-bounded
 returns-clause-bounded g c = bounded (returns-clause-told g c)
+
+pub returns-then-has_risen-clause-dead : goal.returns-then-has_risen-clause-dead
+returns-then-has_risen-clause-dead g c =
+    let known = rw c.table-table.ensures at c.release_risen.ensures.knows.part in
+    rw (← c.self.view_is) (dead_released _ c.self.inside.seat.log c.release_risen.new.seat.log c.args.cell c.args.drop c.release_risen.result known (search rules))
+
+pub returns-then-count-eq0-clause-dead : goal.returns-then-count-eq0-clause-dead
+returns-then-count-eq0-clause-dead g c =
+    let known = rw c.table-table.ensures at c.release_shared.ensures.knows.part in
+    rw (← c.self.view_is) (dead_released _ c.self.inside.seat.log c.release_shared.new.seat.log c.args.cell c.args.drop c.release_shared.result known (search rules))
+
+pub returns-clause-dead : goal.returns-clause-dead
+returns-clause-dead g c =
+    let known = rw c.table-table.ensures at c.release_own-block.ensures.knows.part in
+    rw (← c.self.view_is) (dead_released _ c.self.inside.seat.log c.release_own-block.new.seat.log c.args.cell c.args.drop c.release_own-block.result known (search rules))
