@@ -1,0 +1,19 @@
+//! Scripts: sections of instructions, each for a thread of its own.
+//!
+//! `specs/Instructions.antt` and `specs/Scripts.antt` are what a script is as a plain value. The types keep that the
+//! registers of an instruction differ, that no `repeat` stands in another, and that a script has 1 to 63 sections.
+#![tactic(auto)]
+
+mod instruction;
+mod limits;
+mod private;
+mod register;
+mod script;
+mod sequence;
+
+pub use instruction::Instruction;
+pub use limits::{MOST_NAME, MOST_SECTION_NAME, MOST_SECTIONS, MOST_TEXT, MOST_TIMES, REGISTERS};
+pub use private::is_private;
+pub use register::Register;
+pub use script::{Line, Piece, Script, Section};
+pub use sequence::Sequence;
