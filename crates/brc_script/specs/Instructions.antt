@@ -1,5 +1,5 @@
 -- Instructions as plain values, and which of them have a line in a script.
-use Rattle.std.specs.Prelude.{ℕ, ◌^◌, ◌&&◌, not, ◌==◌, nat_le, nat_lt, ℤ, pos, negsuc, List, [], ◌∷◌, length, Bool, true, false}
+use Rattle.std.specs.Prelude.{◌≡◌, ℕ, ◌^◌, ◌&&◌, not, ◌==◌, nat_le, nat_lt, ℤ, pos, negsuc, List, [], ◌∷◌, length, Bool, true, false}
 use Rattle.std.specs.List.{list_all, list_any}
 use Rattle.brc_words.specs.declared.key.Key.{Key}
 use Rattle.brc_words.specs.declared.key.Key.TheVariants as keys
@@ -42,11 +42,10 @@ is_register register = nat_lt register REGISTERS
 abbrev pub is_index : ℕ → Bool
 is_index index = nat_lt index (2 ^ 32)
 
--- the registers are there, and no two are the same
+-- no two are the same
 abbrev pub all_differ : List ℕ → Bool
 all_differ [] = true
-all_differ (register ∷ registers) =
-    is_register register && (not (list_any (λ other. register == other) registers) && all_differ registers)
+all_differ (register ∷ registers) = not (list_any (λ other. register == other) registers) && all_differ registers
 
 module _ {A : Type 0} where
   abbrev pub is_key : Key A → Bool
@@ -78,6 +77,10 @@ module _ {A : Type 0} where
   registers_of (does.Add to first second) = to ∷ first ∷ second ∷ []
   registers_of (does.Print from) = from ∷ []
 
+  -- the registers of one instruction differ
+  unfoldable pub registers_differ : Instruction A → Bool
+  registers_differ instruction = all_differ (registers_of instruction)
+
   -- its numbers, texts, keys and names are in their limits
   abbrev pub operands_fit : Instruction A → Bool
   operands_fit (does.Int to number) = is_integer number
@@ -92,13 +95,11 @@ module _ {A : Type 0} where
   operands_fit (does.Unshare to name) = is_name name
   operands_fit _ = true
 
-  -- the registers of one instruction differ
-  abbrev pub registers_differ : Instruction A → Bool
-  registers_differ instruction = all_differ (registers_of instruction)
-
   -- the instructions that have a line in a script
-  abbrev pub fits : Instruction A → Bool
-  fits instruction = registers_differ instruction && operands_fit instruction
+  pub record HasLine (instruction : Instruction A) : Type 0 where
+    pub registers : list_all is_register (registers_of instruction) ≡ true
+    pub differ : registers_differ instruction ≡ true
+    pub operands : operands_fit instruction ≡ true
 
   -- it looks into the globals, or changes them
   abbrev pub is_shared : Instruction A → Bool

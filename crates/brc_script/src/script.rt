@@ -1,7 +1,7 @@
 //! Scripts, their sections, and the lines of these.
 
 ghost use Rattle.std.specs.Prelude.{◌≡◌, ◌≤◌, length, true};
-ghost use Rattle.brc_script.specs.Instructions.{fits};
+ghost use Rattle.brc_script.specs.Instructions.{registers_differ};
 
 use crate::instruction::Instruction;
 use crate::limits::MOST_SECTIONS;
@@ -10,7 +10,7 @@ use brc_words::Text;
 use std::alloc::Allocator;
 use std::marker::Model;
 
-/// An instruction, and the number of its line in the whole script, counted from 1.
+/// An instruction, whose registers differ, and the number of its line in the whole script, counted from 1.
 #[derive(Drop)]
 pub struct Line<A: Allocator> {
     number: u32,
@@ -19,19 +19,19 @@ pub struct Line<A: Allocator> {
 
 impl<A: Allocator> Model for Line<A> {
     ghost use Rattle.std.specs.Prelude.{◌≡◌, true};
-    ghost use Rattle.brc_script.specs.Instructions.{NumberedLine, fits};
+    ghost use Rattle.brc_script.specs.Instructions.{NumberedLine, registers_differ};
 
     ghost Value = { NumberedLine A };
 
     ghost view = { λ l. record { number = l.number; instruction = l.instruction } };
 
-    // Its registers differ, and its numbers, texts, keys and names are in their limits.
-    ghost invariant = { λ l. fits l.instruction ≡ true };
+    // No register stands twice in an instruction.
+    ghost invariant = { λ l. registers_differ l.instruction ≡ true };
 }
 
 impl<A: Allocator> Line<A> {
     pub fn new(number: u32, instruction: Instruction<A>) -> Self
-        requires { fits instruction ≡ true }
+        requires { registers_differ instruction ≡ true }
 
         ensures number { result.number ≡ number }
         ensures instruction { result.instruction ≡ instruction }
@@ -50,7 +50,7 @@ impl<A: Allocator> Line<A> {
 
     pub fn instruction(&self) -> &Instruction<A>
         ensures is { result.now ≡ self.now.instruction }
-        ensures fits { fits result.now ≡ true }
+        ensures differ { registers_differ result.now ≡ true }
     {
         &self.instruction
     }
