@@ -1,2 +1,5 @@
 pub mod Instructions
 pub mod Scripts
+pub mod FirstWords
+pub mod Operands
+pub mod Rows

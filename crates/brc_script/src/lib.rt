@@ -4,10 +4,16 @@
 //! registers of an instruction differ, that no `repeat` stands in another, and that a script has 1 to 63 sections.
 #![tactic(auto)]
 
+mod cutting;
+mod first_word;
 mod instruction;
+mod instruction_line;
 mod limits;
+mod operands;
 mod private;
+mod reading_line;
 mod register;
+mod row;
 mod script;
 mod sequence;
 
