@@ -1,2 +1,4 @@
 pub mod CutLaws
 pub mod Ascii
+pub mod LinesLaws
+pub mod WalkLaws

@@ -3,3 +3,4 @@ pub mod Scripts
 pub mod FirstWords
 pub mod Operands
 pub mod Rows
+pub mod Walks

@@ -93,6 +93,16 @@ impl<A: Allocator> Model for Script<A> {
 }
 
 impl<A: Allocator> Script<A> {
+    /// The script of these sections.
+    pub(crate) fn new(sections: Sequence<Section<A>, A>) -> Self
+        requires some { 1 ≤ length sections }
+        requires few { length sections ≤ MOST_SECTIONS }
+
+        ensures { result ≡ sections }
+    {
+        Script { sections }
+    }
+
     /// The sections in order.
     pub fn sections(&self) -> &[Section<A>]
         ensures are { result.now ≡ self.now }
