@@ -27,3 +27,6 @@ pub use private::is_private;
 pub use register::Register;
 pub use script::{Line, Piece, Script, Section};
 pub use sequence::Sequence;
+
+#[cfg(test)]
+mod tests;
