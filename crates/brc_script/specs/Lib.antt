@@ -4,3 +4,4 @@ pub mod FirstWords
 pub mod Operands
 pub mod Rows
 pub mod Walks
+pub mod Spellings
