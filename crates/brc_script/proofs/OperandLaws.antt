@@ -1,17 +1,17 @@
 -- Each operand is read as it is spelled, and only so.
-use Rattle.std.proofs.Common.{◌≡◌, ◌∙◌, ℕ, zero, suc, ◌+◌, ◌-◌, ◌^◌, ◌<◌, ◌≤◌, ◌==◌, ◌&&◌, ◌++◌, Bool, true, false, eqb, leb, ltb, cond, if◌then◌else◌, List, [], ◌∷◌, length, Option, Some, None, refl, sym, ap, subst, decimal, ℤ, pos, negsuc, arith}
-use Rattle.std.proofs.lemmas.Bool.{and_parts, and_from, eqb-true, leb-true, ltb-true, lt-ltb, le-leb}
+use Rattle.std.proofs.Common.{◌≡◌, ◌∙◌, ℕ, ◌+◌, ◌-◌, ◌^◌, ◌++◌, Bool, true, false, eqb, leb, cond, if◌then◌else◌, List, [], ◌∷◌, Option, Some, None, refl, sym, ap, subst, decimal, ℤ, pos, negsuc, arith}
+use Rattle.std.proofs.lemmas.Bool.{and_parts, eqb-true, leb-true, lt-ltb}
 use Rattle.std.proofs.lemmas.Option.{cond_some}
 use Rattle.brc_words.specs.declared.key.Key.{Key}
 use Rattle.brc_words.specs.declared.key.Key.TheVariants as keys
 use Rattle.brc_text.specs.Numbers.{number_at}
 use Rattle.brc_text.specs.Tokens.{◌>>=◌}
-use Rattle.brc_text.specs.Lines.{cut, lacks}
-use Rattle.brc_text.proofs.NumberLaws.{number_takes, number_again}
+use Rattle.brc_text.specs.Lines.{cut}
+use Rattle.brc_text.proofs.NumberLaws.{number_takes}
 use Rattle.brc_text.proofs.KeywordLaws.{same_some}
 use Rattle.brc_text.proofs.TokenLaws.{some_bind}
 use Rattle.brc_text.proofs.LineLaws.{cut_parts, behind_mark}
-use Rattle.brc_script.specs.Instructions.{is_register, is_index, is_integer, is_name, is_key}
+use Rattle.brc_script.specs.Instructions.{is_register, is_integer, is_name, is_key}
 use Rattle.brc_script.specs.Operands.{within, register_at, is_above, is_below, below_at, above_at, integer_at, if_it_is, ahead, key_at}
 use Rattle.brc_script.specs.Spellings.{spaced, register, integer, key}
 

@@ -1,6 +1,5 @@
 -- The one spelling of each instruction.
-use Rattle.std.specs.Prelude.{◌≡◌, ℕ, ◌+◌, ◌++◌, ℤ, pos, negsuc, true, List, [], ◌∷◌, decimal}
-use Rattle.std.specs.List.{list_all}
+use Rattle.std.specs.Prelude.{ℕ, ◌+◌, ◌++◌, ℤ, pos, negsuc, List, ◌∷◌, decimal}
 use Rattle.brc_words.specs.declared.key.Key.{Key}
 use Rattle.brc_words.specs.declared.key.Key.TheVariants as keys
 use Rattle.brc_script.specs.declared.first_word.FirstWord.{FirstWord}
