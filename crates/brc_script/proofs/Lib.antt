@@ -4,3 +4,6 @@ pub mod LinesLaws
 pub mod WalkLaws
 pub mod OperandLaws
 pub mod InstructionLaws
+pub mod RowLaws
+pub mod TextLaws
+pub mod RowAgain

@@ -5,3 +5,4 @@ pub mod Operands
 pub mod Rows
 pub mod Walks
 pub mod Spellings
+pub mod Texts

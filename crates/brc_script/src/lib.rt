@@ -8,6 +8,7 @@ mod cutting;
 mod first_word;
 mod instruction;
 mod instruction_line;
+mod laws;
 mod limits;
 mod lines;
 mod operands;
@@ -21,6 +22,7 @@ mod script;
 mod sequence;
 
 pub use instruction::Instruction;
+pub use laws::lines_are_read_as_spelled;
 pub use limits::{MOST_NAME, MOST_SECTION_NAME, MOST_SECTIONS, MOST_TEXT, MOST_TIMES, REGISTERS};
 pub use parsing::parse;
 pub use private::is_private;

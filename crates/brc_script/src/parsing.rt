@@ -2,6 +2,7 @@
 
 ghost use Rattle.std.specs.Prelude.{◌≡◌, ◌<◌, ◌≤◌, length, Ok, IfOk, IfErr};
 ghost use Rattle.brc_words.specs.declared.fault.Fault.TheVariants.{OutOfMemory};
+ghost use Rattle.brc_script.specs.Texts.{IsTextOf};
 ghost use Rattle.brc_script.specs.Walks.{lines_of, turn_at, walk, nothing, finished, script_at, Gives};
 
 use crate::limits::MOST_SECTIONS;
@@ -69,11 +70,9 @@ fn finish<A: Allocator + Copy>(progress: Progress<A>) -> Result<Script<A>, Fault
     Ok(Script::new(sections))
 }
 
-/// Reads a script: the whole text. Refusals are the first bad line, counted from 1 (0 for a text of more than
-/// 16,777,216 bytes, 1 for one in which no line begins with `section`), and want of memory. Memory grows with the script
-/// alone.
-pub fn parse<A: Allocator + Copy>(alloc: A, text: &[u8]) -> Result<Script<A>, Fault>
-    ensures exact { Gives result (script_at text.now) }
+/// The script that the text spells, or its first bad line.
+fn script_of<A: Allocator + Copy>(alloc: A, text: &[u8]) -> Result<Script<A>, Fault>
+    ensures { Gives result (script_at text.now) }
 {
     if text.len() > MOST_INPUT {
         return Err(Fault::BadScript { line: 0 });
@@ -83,4 +82,16 @@ pub fn parse<A: Allocator + Copy>(alloc: A, text: &[u8]) -> Result<Script<A>, Fa
     }
     let progress = progress_of(alloc, text)?;
     finish(progress)
+}
+
+/// Reads a script: the whole text. Refusals are the first bad line, counted from 1 (0 for a text of more than
+/// 16,777,216 bytes, 1 for one in which no line begins with `section`), and want of memory. Memory grows with the script
+/// alone.
+pub fn parse<A: Allocator + Copy>(alloc: A, text: &[u8]) -> Result<Script<A>, Fault>
+    // The lines of the text say what is answered, in order.
+    ensures found { IfOk result (λ script. IsTextOf text.now script) }
+    // Which line is told.
+    ensures exact { Gives result (script_at text.now) }
+{
+    script_of(alloc, text)
 }

@@ -1,25 +1,15 @@
-use Rattle.std.proofs.Common.{◌∙◌, ap, sym}
-use Rattle.std.proofs.lemmas.Result.{err_from_is_err_and}
-use Rattle.brc_script.specs.Walks.{finished}
-use Rattle.brc_script.proofs.WalkLaws.{long_text, no_sections, with_sections, refused_below, gives_same, refused_same}
+use Rattle.std.proofs.Common.{ℕ, List, Result, Ok, Err}
+use Rattle.std.specs.Prelude.{IfOk}
+use Rattle.brc_words.specs.declared.fault.Fault.{Fault}
+use Rattle.brc_script.specs.declared.script.Section.{Section}
+use Rattle.brc_script.specs.Walks.{script_at, Gives}
+use Rattle.brc_script.specs.Texts.{IsTextOf}
+use Rattle.brc_script.proofs.TextLaws.{text_takes}
 use Rattle.brc_script.proofs.parsing.parse.Goals as goal
 
-pub returns-then-text-gt-MOST_INPUT : goal.returns-then-text-gt-MOST_INPUT
-returns-then-text-gt-MOST_INPUT g c = record { exact = long_text c.args.text.now c.if-text-gt-MOST_INPUT.true }
+read_is_spelled : {A : Type 0} (r : Result (List (Section A)) Fault) (text : List ℕ) → Gives r (script_at text) → IfOk r (λ sections. IsTextOf text sections)
+read_is_spelled (Ok sections) text h = text_takes text sections h
+read_is_spelled (Err fault) text h = tt
 
-pub returns-then-not-has_section : goal.returns-then-not-has_section
-returns-then-not-has_section g c = record {
-  exact = no_sections c.args.text.now c.if-text-gt-MOST_INPUT.false (sym c.has_section.ensures ∙ c.if-not-has_section.true);
-}
-
-pub returns-in_err-progress : goal.returns-in_err-progress
-returns-in_err-progress g c =
-    let p = err_from_is_err_and c.from_residual.result c.from_residual.ensures.1 in
-    let fault = c.in_err-progress.field-0.0 in
-    let whole = with_sections c.args.text.now c.if-text-gt-MOST_INPUT.false (sym c.has_section.ensures ∙ c.if-not-has_section.false) in
-    rw (p.1, p.2) (record { exact = refused_same fault _ _ (sym whole) (refused_below fault _ c.in_err-progress.ensures.read) })
-
-pub returns : goal.returns
-returns g c =
-    let whole = with_sections c.args.text.now c.if-text-gt-MOST_INPUT.false (sym c.has_section.ensures ∙ c.if-not-has_section.false) in
-    record { exact = gives_same c.finish.result _ _ (sym (whole ∙ ap finished c.in_ok-progress.ensures.read)) c.finish.ensures }
+pub returns-clause-found : goal.returns-clause-found
+returns-clause-found g c = read_is_spelled c.script_of.result c.args.text.now c.script_of.ensures
