@@ -7,3 +7,4 @@ pub mod InstructionLaws
 pub mod RowLaws
 pub mod TextLaws
 pub mod RowAgain
+pub mod TextAgain

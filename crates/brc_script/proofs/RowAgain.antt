@@ -24,6 +24,7 @@ use Rattle.brc_script.specs.FirstWords.{first_word, first_word_at}
 use Rattle.brc_script.specs.Operands.{within, is_times, is_above, is_below, register_at, above_at, integer_at, if_it_is, ahead, key_at, two_at, three_at, with_integer_at, two_with_index_at, index_between_at}
 use Rattle.brc_script.specs.Rows.{is_idle, is_section_name, text_at, put_at, find_at, delete_at, share_at, fetch_at, unshare_at, instruction_at, line_at, row_by, row_at}
 use Rattle.brc_script.specs.Spellings.{spaced, register, integer, two, key, word_of, operands, spelled}
+use Rattle.brc_script.specs.Walks.{opening}
 use Rattle.brc_script.specs.Texts.{Says, IsNumbered}
 
 -- ---- numbers
@@ -254,3 +255,16 @@ module _ {A : Type 0} where
       (spaced_row number (word_of it.instruction) (operands it.instruction) ∙ row_by_word number it.instruction (operands it.instruction)
       ∙ ap (λ (o : Option (NumberedLine A)). o >>= λ l. Some (rows.Does l)) (line_again number it.instruction says.0)
       ∙ ap (λ (n : ℕ). Some (rows.Does (record { number = n; instruction = it.instruction }))) (sym same))
+
+-- ---- the word with which a line begins
+
+spaced_opening : (word : FirstWord) (rest : List ℕ) → opening (spaced (first_word word) rest) ≡ Some word
+unfolding opening
+spaced_opening word rest = rw (cut_until 32 (first_word word) rest (word_lacks word), word_again word) refl
+
+pub opens_section : (line name : List ℕ) → line ≡ spaced (first_word words.Section) name → opening line ≡ Some words.Section
+opens_section line name is = ap opening is ∙ spaced_opening words.Section name
+
+pub opens_end : (line : List ℕ) → line ≡ first_word words.End → opening line ≡ Some words.End
+unfolding opening
+opens_end line is = ap opening is ∙ rw (cut_whole 32 (first_word words.End) refl, word_again words.End) refl

@@ -1,7 +1,9 @@
 //! Reading a script.
 
-ghost use Rattle.std.specs.Prelude.{◌≡◌, ◌<◌, ◌≤◌, length, Ok, IfOk, IfErr};
+ghost use Rattle.std.specs.Prelude.{List, ◌≡◌, ◌<◌, ◌≤◌, length, Ok, IfOk, IfErr};
 ghost use Rattle.brc_words.specs.declared.fault.Fault.TheVariants.{OutOfMemory};
+ghost use Rattle.brc_script.specs.declared.script.Section.{Section as TheSection};
+ghost use Rattle.brc_script.specs.Scripts.{IsScript};
 ghost use Rattle.brc_script.specs.Texts.{IsTextOf};
 ghost use Rattle.brc_script.specs.Walks.{lines_of, turn_at, walk, nothing, finished, script_at, Gives};
 
@@ -84,12 +86,15 @@ fn script_of<A: Allocator + Copy>(alloc: A, text: &[u8]) -> Result<Script<A>, Fa
     finish(progress)
 }
 
-/// Reads a script: the whole text. Refusals are the first bad line, counted from 1 (0 for a text of more than
-/// 16,777,216 bytes, 1 for one in which no line begins with `section`), and want of memory. Memory grows with the script
-/// alone.
+/// Reads a script: the whole text, in which empty lines and comments say nothing. Refusals are the first bad line,
+/// counted from 1 (0 for a text of more than 16,777,216 bytes, 1 for one in which no line begins with `section`), and
+/// want of memory. Memory grows with the script alone.
 pub fn parse<A: Allocator + Copy>(alloc: A, text: &[u8]) -> Result<Script<A>, Fault>
     // The lines of the text say what is answered, in order.
     ensures found { IfOk result (λ script. IsTextOf text.now script) }
+    // A script of which the text is, is answered, unless memory runs out.
+    ensures only { (sections : List (TheSection A)) → IsTextOf text.now sections → IsScript sections →
+        Gives result (Ok sections) }
     // Which line is told.
     ensures exact { Gives result (script_at text.now) }
 {

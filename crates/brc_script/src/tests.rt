@@ -299,8 +299,9 @@ fn long_line(alloc: Global, front: &str, letters: usize) -> Result<Vec<u8>, Allo
     let mut text = Vec::new(alloc);
     text.extend_from_slice(b"section a\n")?;
     text.extend_from_slice(front.as_bytes())?;
-    let end = text.len() + letters;
-    text.resize(end, b'x')?;
+    for _ in 0..letters {
+        text.push(b'x')?;
+    }
     Ok(text)
 }
 
