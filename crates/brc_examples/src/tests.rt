@@ -4,6 +4,7 @@ mod core;
 mod model;
 mod plain;
 mod report;
+mod script;
 mod text;
 mod traces;
 mod words;

@@ -1,0 +1,10 @@
+pub mod CutLaws
+pub mod Ascii
+pub mod LinesLaws
+pub mod WalkLaws
+pub mod OperandLaws
+pub mod InstructionLaws
+pub mod RowLaws
+pub mod TextLaws
+pub mod RowAgain
+pub mod TextAgain
