@@ -20,4 +20,3 @@ pub use letters::Letters;
 pub use pairs::Pairs;
 pub use payload::Payload;
 pub use worklist::Worklist;
-

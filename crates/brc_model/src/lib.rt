@@ -16,4 +16,3 @@ pub use fact::Fact;
 pub use holder::Holder;
 pub use moves::{Exchange, Handover, Handovers, Move, Spot};
 pub use world::{HolderWorld, Refused};
-

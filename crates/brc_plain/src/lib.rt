@@ -12,4 +12,3 @@ mod queue;
 pub use dict::PlainDict;
 pub use list::PlainList;
 pub use queue::PlainQueue;
-

@@ -12,4 +12,3 @@ mod queue;
 pub use merging::merge_add;
 pub use notify::{nudge, wake};
 pub use queue::{Enqueued, close_word, drain_word, enqueue};
-

@@ -17,4 +17,3 @@ pub use content::{Cells, Content, Remain};
 pub use cycles::find_cycles;
 pub use holders::find_remains;
 pub use report::{Ledger, Report, write_report};
-

@@ -34,4 +34,3 @@ pub use private::is_private;
 pub use register::Register;
 pub use script::{Line, Piece, Script, Section};
 pub use sequence::Sequence;
-

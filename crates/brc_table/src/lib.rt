@@ -30,4 +30,3 @@ pub use root::RootSeat;
 pub use rule::{HeapRule, Sizes};
 pub use seats::ThreadSeat;
 pub use table::HeapTable;
-

@@ -16,4 +16,3 @@ pub use line::Words;
 pub use number::number_of;
 pub use putting::{put_bytes, put_line};
 pub use token::{Letter, Token};
-

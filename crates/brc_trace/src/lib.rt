@@ -20,5 +20,3 @@ pub use replaying::run_replay;
 pub use trace::Trace;
 pub use world_text::write_world;
 pub use writing::write_trace;
-
-
