@@ -1,1 +1,2 @@
+mod Buried
 mod Changes

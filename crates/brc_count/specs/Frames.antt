@@ -1,5 +1,5 @@
 -- What contracts see of a frame and of its handles, and what a frame keeps.
-use Rattle.std.specs.Prelude.{◌≡◌, ◌≢◌, ◌<◌, ◌≤◌, ◌+◌, ℕ, Bool, true, List, ◌∷◌, map, Option, Some, None, is_some}
+use Rattle.std.specs.Prelude.{◌≡◌, ◌≢◌, ◌<◌, ◌≤◌, ◌+◌, ℕ, Bool, true, List, [], ◌∷◌, map, Option, Some, None, is_some, is_none, ◌&&◌}
 use Rattle.slab.specs.Slab.{Slab, get}
 use Rattle.brc_words.specs.declared.limits.TheConstants.{FIRST_MORTAL, MOST_PLACES}
 use Rattle.brc_words.specs.declared.fault.Fault.{Fault}
@@ -9,13 +9,15 @@ use Rattle.brc_runs.specs.declared.event.Dropped.TheVariants as drops
 use Rattle.brc_runs.specs.declared.event.Source.{Source}
 use Rattle.brc_runs.specs.declared.event.Step.TheVariants.{LocalUp}
 use Rattle.brc_runs.specs.declared.row.Hand.TheVariants as hands
-use Rattle.brc_runs.specs.Lists.{place_at}
+use Rattle.brc_runs.specs.Lists.{place_at, is_marked}
 use Rattle.brc_runs.specs.Steps.{is_active}
+use Rattle.brc_known.specs.Taken.{Blocks, listed_at}
 use Rattle.brc_rule.specs.declared.told.Moved.TheVariants.{Nothing}
 use Rattle.brc_rule.specs.declared.told.Told.{Told}
 use Rattle.brc_rule.specs.declared.told.Told.TheVariants.{Did}
 use Rattle.brc_rule.specs.Logs.{entries_in}
 use Rattle.brc_rule.specs.Seen.{part_seen, counts_seen, risen_seen, taken_seen}
+use Rattle.brc_steps.specs.Taking.{AreCells}
 use Rattle.brc_table.specs.Seated.{TableSeen, SeatSeen, Stays}
 use Rattle.brc_table.specs.Shown.{contents_of}
 use Rattle.brc_counter.specs.Standing.{Stands}
@@ -50,6 +52,20 @@ module _ {A : Type 0} where
   pushed None works = works
   pushed (Some block) works = block ∷ works
 
+-- no cell is listed twice
+abbrev pub are_apart : Blocks → Bool
+are_apart [] = true
+are_apart (b ∷ blocks) = is_none (listed_at blocks b.0) && are_apart blocks
+
+-- The dead blocks that are listed: each is marked, its cell has the entries that are listed, and all of them are cells of the
+-- heap; none is listed twice.
+pub record Buried (n : ℕ) (marks : List Bool) (has : ℕ → List ℕ) (blocks : Blocks) : Type 0 where
+  pub marked : (c : ℕ) (entries : List ℕ) → listed_at blocks c ≡ Some entries → is_marked marks c ≡ true
+  pub has_them : (c : ℕ) (entries : List ℕ) → listed_at blocks c ≡ Some entries → has c ≡ entries
+  pub inside : (c : ℕ) (entries : List ℕ) → listed_at blocks c ≡ Some entries → c < n
+  pub are_cells : (c : ℕ) (entries : List ℕ) → listed_at blocks c ≡ Some entries → AreCells n entries
+  pub apart : are_apart blocks ≡ true
+
 -- The heap; the thread's seat at it, with the log of all that it did; how many handles there are, and which place the next
 -- one gets; and the dead blocks on the worklist, front first.
 pub record FrameSeen (A : Type 0) : Type 0 where
@@ -71,6 +87,7 @@ pub record Framing (A : Type 0) (heap : TableSeen) (seat : SeatSeen A) (places :
   pub inside : (k : ℕ) (held : Held) → get places k ≡ Some held → held.cell < heap.cells
   pub out : seat.slots ≡ map slot_out works
   pub listed : taken_seen heap.cells seat.log ≡ map block_listed works
+  pub buried : Buried heap.cells (part_seen heap.cells seat.log).worklist (part_seen heap.cells seat.log).has (taken_seen heap.cells seat.log)
 
 -- the handle is of the frame's thread, and its place has a reference
 pub record Owns {A : Type 0} (frame : FrameSeen A) (handle : HandleSeen) : Type 0 where
