@@ -1,13 +1,14 @@
 -- A thread's worklist has a mark for each cell; and that of a dead object whose block a release answers is set.
-use Rattle.std.proofs.Common.{◌≡◌, ℕ, ◌<◌, ◌==◌, Bool, true, false, if◌then◌else◌, List, [], ◌∷◌, length, set, Option, Some, None, IfSome, refl, sym, ◌∙◌, ap, subst}
-use Rattle.std.proofs.lemmas.Bool.{eq-eqb}
+use Rattle.std.proofs.Common.{◌≡◌, ◌≢◌, inl, inr, ℕ, ◌<◌, ◌==◌, Bool, true, false, if◌then◌else◌, List, [], ◌∷◌, length, set, Option, Some, None, IfSome, refl, sym, ◌∙◌, ap, subst}
+use Rattle.std.proofs.lemmas.Bool.{cases_eq, eq-eqb, ne_eqb}
 use Rattle.std.proofs.lemmas.List.{length-set, length-replicate}
 use Rattle.brc_block.specs.declared.payload.Payload.{Payload}
 use Rattle.brc_runs.specs.declared.event.Dropped.{Dropped}
-use Rattle.brc_runs.specs.Lists.{is_marked}
+use Rattle.brc_runs.specs.declared.event.Dropped.TheVariants as drops
+use Rattle.brc_runs.specs.Lists.{is_marked, front_of}
 use Rattle.brc_runs.specs.Steps.{is_free_step, takes_block, worklist_with}
-use Rattle.brc_runs.proofs.Changes.{read_here}
-use Rattle.brc_known.specs.Items.{Item, Did, Saw, Lost, Part, part_of, part_by, part_after, meant, cell_told, has_without}
+use Rattle.brc_runs.proofs.Changes.{read_here, read_there}
+use Rattle.brc_known.specs.Items.{Item, Did, Saw, Lost, Part, part_of, part_by, part_after, meant, cell_told, has_found, has_without}
 use Rattle.brc_known.specs.Going_On.{settling, taking}
 use Rattle.brc_rule.specs.declared.told.Told.{Told}
 use Rattle.brc_rule.specs.Logs.{log_items, entries_in}
@@ -15,7 +16,7 @@ use Rattle.brc_rule.specs.Seen.{part_seen}
 use Rattle.brc_table.specs.Knowing.{known_seen, entries_of}
 use Rattle.brc_table.specs.Moving.{is_there}
 use Rattle.brc_table.specs.Shown.{contents_of}
-use Rattle.brc_counter.specs.Standing.{HasDead, released}
+use Rattle.brc_counter.specs.Standing.{HasDead, entries_left, released}
 
 with_wide : (frees takes : Bool) (c : ℕ) (marks : List Bool) → length (worklist_with frees takes c marks) ≡ length marks
 with_wide true takes c marks = length-set marks c false
@@ -58,3 +59,29 @@ module _ {A : Type 0} (n : ℕ) (before log : List Told) (c : ℕ) where
   dead_settled None known low = tt
   dead_settled (Some there) known low =
       dead_now n before log c (entries_in (contents_of there.1)) (part_seen n before).has (ap (λ (p : Part). p.worklist) known) (ap (λ (p : Part). p.has) known) low
+
+-- a dead block that the thread had before a release is one still, and is another than the one that the release answers
+pub dead_stays : (n : ℕ) (before log : List Told) (c : ℕ) (drop : Dropped) (takes : Bool) (entries : List ℕ)
+    → part_seen n log ≡ (released takes drop c entries (known_seen n before)).part
+    → (q : ℕ) (left : List ℕ) → q ≢ c → HasDead n before q left → HasDead n log q (entries_left drop q left)
+dead_stays n before log c drop takes entries known q left other dead = record {
+  marked = ap (λ (p : Part). is_marked p.worklist q) known ∙ by_mark takes ∙ dead.marked;
+  has = ap (λ (p : Part). p.has q) known ∙ by_take takes ∙ by_drop drop;
+}
+  where
+    by_mark : (b : Bool) → is_marked (if b then set (part_seen n before).worklist c true else (part_seen n before).worklist) q ≡ is_marked (part_seen n before).worklist q
+    by_mark true = read_there (part_seen n before).worklist c q true false other
+    by_mark false = refl
+
+    by_take : (b : Bool) → has_found b c entries (has_without (Some drop) (part_seen n before).has) q ≡ has_without (Some drop) (part_seen n before).has q
+    by_take true = ap (λ (t : Bool). if t then entries else has_without (Some drop) (part_seen n before).has q) (ne_eqb q c other)
+    by_take false = refl
+
+    by_drop : (d : Dropped) → has_without (Some d) (part_seen n before).has q ≡ entries_left d q left
+    by_drop (drops.Frame k) = dead.has
+    by_drop (drops.Work d) = elim (cases_eq q d) [
+      | inl same ↦ ap (λ (t : Bool). if t then front_of ((part_seen n before).has d) else (part_seen n before).has q) (eq-eqb q d same)
+          ∙ ap front_of (ap (part_seen n before).has (sym same) ∙ dead.has) ∙ sym (ap (λ (t : Bool). if t then front_of left else left) (eq-eqb q d same))
+      | inr apart ↦ ap (λ (t : Bool). if t then front_of ((part_seen n before).has d) else (part_seen n before).has q) (ne_eqb q d apart)
+          ∙ dead.has ∙ sym (ap (λ (t : Bool). if t then front_of left else left) (ne_eqb q d apart))
+    ]

@@ -1,12 +1,12 @@
 -- Where a thread stands in a release, and what one leaves as it was.
-use Rattle.std.specs.Prelude.{◌≡◌, ℕ, Bool, true, false, List, Some, None, is_some}
+use Rattle.std.specs.Prelude.{◌≡◌, ℕ, ◌==◌, if◌then◌else◌, Bool, true, false, List, Some, None, is_some}
 use Rattle.brc_runs.specs.declared.event.Dropped.{Dropped}
 use Rattle.brc_runs.specs.declared.event.Dropped.TheVariants as drops
 use Rattle.brc_runs.specs.declared.row.Hand.{Hand}
 use Rattle.brc_runs.specs.declared.row.Hand.TheVariants as hands
 use Rattle.brc_runs.specs.declared.row.Stage.{Stage}
 use Rattle.brc_runs.specs.declared.row.Stage.TheVariants as stages
-use Rattle.brc_runs.specs.Lists.{place_at, is_marked}
+use Rattle.brc_runs.specs.Lists.{place_at, is_marked, front_of}
 use Rattle.brc_known.specs.Going_On.{Known, handing, giving_up, taking}
 use Rattle.brc_known.specs.Risen.{drop_in}
 use Rattle.brc_known.specs.Taken.{Blocks, listed_at}
@@ -58,3 +58,8 @@ released takes drop c entries old = taking takes c entries (giving_up (Some drop
 pub record HasDead (n : ℕ) (log : List Told) (c : ℕ) (entries : List ℕ) : Type 0 where
   pub marked : is_marked (part_seen n log).worklist c ≡ true
   pub has : (part_seen n log).has c ≡ entries
+
+-- the entries that a dead block has once a reference is gone: one less, where it was the block's last entry
+abbrev pub entries_left : Dropped → ℕ → List ℕ → List ℕ
+entries_left (drops.Frame k) q entries = entries
+entries_left (drops.Work d) q entries = if q == d then front_of entries else entries

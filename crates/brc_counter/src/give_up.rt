@@ -1,6 +1,7 @@
 //! Counting down: a reference in a place of the frame goes, or the last entry of a dead block.
 
-ghost use Rattle.std.specs.Prelude.{◌≡◌, ◌<◌, IfSome, IsTrue, true};
+ghost use Rattle.std.specs.Prelude.{◌≡◌, ◌≢◌, ◌<◌, ℕ, List, IfSome, IsTrue, true};
+ghost use Rattle.brc_runs.specs.declared.row.Hand.TheVariants as hands;
 ghost use Rattle.brc_rule.specs.Logs.{entries_in};
 ghost use Rattle.brc_rule.specs.Seen.{risen_seen};
 ghost use Rattle.brc_table.specs.Knowing.{known_seen, entries_of};
@@ -9,7 +10,7 @@ ghost use Rattle.brc_table.specs.Seated.{Continues};
 ghost use Rattle.brc_table.specs.Shown.{contents_of};
 ghost use Rattle.brc_counter.specs.Bounded.{IsBounded};
 ghost use Rattle.brc_counter.specs.Released.{Answers, Released};
-ghost use Rattle.brc_counter.specs.Standing.{HasDead, Holds, KeepsPlaces, released};
+ghost use Rattle.brc_counter.specs.Standing.{HasDead, Holds, KeepsPlaces, Stands, entries_left, released};
 ghost use Rattle.brc_counter.specs.Up.{IsKnown};
 
 use crate::counter::Counter;
@@ -43,9 +44,13 @@ impl<H: Home<A>, A: Allocator> Counter<H, A> {
         // What the thread knows then: the reference is gone, and the block is its own.
         ensures dead { IfSome result (λ there.
             HasDead self.old.heap.cells self.new.seat.log cell (entries_in (contents_of there.1))) }
+        ensures others { (q : ℕ) (entries : List ℕ) → q ≢ cell →
+            HasDead self.old.heap.cells self.old.seat.log q entries →
+            HasDead self.old.heap.cells self.new.seat.log q (entries_left drop q entries) }
         ensures knows { IsKnown self.old.heap.cells self.new.seat.log
             (released (is_there result) drop cell (entries_of result)
             (known_seen self.old.heap.cells self.old.seat.log)) }
+        ensures stands { Stands self.old.heap.cells self.new.seat.log hands.Free }
         ensures keeps { KeepsPlaces self.old.heap.cells self.old.seat.log self.new.seat.log }
     {
         let count = self.counts[cell as usize];

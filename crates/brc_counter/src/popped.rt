@@ -74,6 +74,7 @@ impl<H: Home<A>, A: Allocator> Counter<H, A> {
         ensures knows { IsKnown self.old.heap.cells self.new.seat.log
             (settling cell (taking (is_there result) cell (entries_of result)
             (known_seen self.old.heap.cells self.old.seat.log))) }
+        ensures stands { Stands self.old.heap.cells self.new.seat.log hands.Free }
         ensures keeps { KeepsPlaces self.old.heap.cells self.old.seat.log self.new.seat.log }
     {
         let table = self.heap.table();

@@ -1,6 +1,5 @@
 //! Tests of the crates below, which stand here so that those aren't proved twice: each by the public calls alone.
 
-mod core;
 mod model;
 mod plain;
 mod report;
@@ -9,3 +8,4 @@ mod text;
 mod traces;
 mod words;
 mod worked_runs;
+mod worlds;

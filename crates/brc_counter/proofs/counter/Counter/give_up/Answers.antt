@@ -1,7 +1,9 @@
-use Rattle.std.proofs.Common.{rules, refl}
+use Rattle.std.proofs.Common.{rules, refl, false, []}
+use Rattle.brc_table.specs.Knowing.{entries_of}
+use Rattle.brc_table.specs.Moving.{is_there}
 use Rattle.brc_counter.specs.Released.{ReleaseImmortal, ReleaseOwn, ReleaseShared}
 use Rattle.brc_counter.proofs.Bounds.{bounded}
-use Rattle.brc_counter.proofs.Marking.{dead_released}
+use Rattle.brc_counter.proofs.Marking.{dead_released, dead_stays}
 use Rattle.brc_counter.proofs.counter.Counter.give_up.Goals as goal
 
 pub returns-then-cell-lt-FIRST_MORTAL-clause-told : goal.returns-then-cell-lt-FIRST_MORTAL-clause-told
@@ -39,3 +41,23 @@ pub returns-clause-dead : goal.returns-clause-dead
 returns-clause-dead g c =
     let known = rw c.table-table.ensures at c.release_own-block.ensures.knows.part in
     rw (← c.self.view_is) (dead_released _ c.self.inside.seat.log c.release_own-block.new.seat.log c.args.cell c.args.drop c.release_own-block.result known (search rules))
+
+pub returns-then-cell-lt-FIRST_MORTAL-clause-others : goal.returns-then-cell-lt-FIRST_MORTAL-clause-others
+returns-then-cell-lt-FIRST_MORTAL-clause-others g c =
+    let known = rw c.table-table.ensures at c.immortal_down-found.ensures.knows.part in
+    rw (← c.self.view_is) (dead_stays _ c.self.inside.seat.log c.immortal_down-found.new.seat.log c.args.cell c.args.drop false [] known)
+
+pub returns-then-has_risen-clause-others : goal.returns-then-has_risen-clause-others
+returns-then-has_risen-clause-others g c =
+    let known = rw c.table-table.ensures at c.release_risen.ensures.knows.part in
+    rw (← c.self.view_is) (dead_stays _ c.self.inside.seat.log c.release_risen.new.seat.log c.args.cell c.args.drop (is_there c.release_risen.result) (entries_of c.release_risen.result) known)
+
+pub returns-then-count-eq0-clause-others : goal.returns-then-count-eq0-clause-others
+returns-then-count-eq0-clause-others g c =
+    let known = rw c.table-table.ensures at c.release_shared.ensures.knows.part in
+    rw (← c.self.view_is) (dead_stays _ c.self.inside.seat.log c.release_shared.new.seat.log c.args.cell c.args.drop (is_there c.release_shared.result) (entries_of c.release_shared.result) known)
+
+pub returns-clause-others : goal.returns-clause-others
+returns-clause-others g c =
+    let known = rw c.table-table.ensures at c.release_own-block.ensures.knows.part in
+    rw (← c.self.view_is) (dead_stays _ c.self.inside.seat.log c.release_own-block.new.seat.log c.args.cell c.args.drop (is_there c.release_own-block.result) (entries_of c.release_own-block.result) known)
