@@ -1,5 +1,5 @@
 -- What becomes of the dead blocks that a frame lists: one more is taken, the front one loses its last entry, or is given back.
-use Rattle.std.proofs.Common.{◌≡◌, ◌≢◌, ℕ, ◌+◌, ◌-◌, ◌<◌, ◌≤◌, ◌==◌, ◌&&◌, Bool, true, false, if◌then◌else◌, List, [], ◌∷◌, ◌++◌, length, take, set, map, Option, Some, None, is_none, inl, inr, refl, sym, ◌∙◌, ap, subst, arith, slice_get}
+use Rattle.std.proofs.Common.{◌≡◌, ◌≢◌, ℕ, ◌+◌, ◌-◌, ◌<◌, ◌≤◌, ◌==◌, ◌&&◌, Bool, true, false, if◌then◌else◌, List, [], ◌∷◌, ◌++◌, length, take, set, map, Option, Some, None, IfSome, is_none, inl, inr, refl, sym, ◌∙◌, ap, subst, arith, slice_get}
 use Rattle.std.proofs.Math.Seq.{take-append_seam, get_or-append_seam}
 use Rattle.std.proofs.lemmas.List.{length-append, get_or_append_left}
 use Rattle.std.proofs.lemmas.Option.{slice_get_within, slice_get-get_or, get_or_from_slice_get}
@@ -9,11 +9,13 @@ use Rattle.brc_block.specs.declared.payload.Payload.TheVariants as payloads
 use Rattle.brc_block.specs.Payload.{entries_of}
 use Rattle.brc_runs.specs.Lists.{is_marked, front_of, last_of}
 use Rattle.brc_runs.proofs.Changes.{read_here, read_there}
-use Rattle.brc_known.specs.Items.{put}
-use Rattle.brc_known.specs.Taken.{Blocks, listed_at, cut, off}
+use Rattle.brc_known.specs.Items.{put, has_found}
+use Rattle.brc_known.specs.Taken.{Blocks, listed_at, cut, off, taken_on}
 use Rattle.brc_rule.specs.Logs.{entries_in}
 use Rattle.brc_steps.specs.Taking.{AreCells}
-use Rattle.brc_table.specs.Shown.{contents_of}
+use Rattle.brc_table.specs.Knowing.{entries_of as answered}
+use Rattle.brc_table.specs.Moving.{is_there}
+use Rattle.brc_table.specs.Shown.{contents_of, plain_key}
 use Rattle.brc_count.specs.Frames.{are_apart, Buried}
 
 some_is : {X : Type 0} {a b : X} → Some a ≡ Some b → a ≡ b
@@ -24,7 +26,7 @@ none_is_none same = cc
 
 -- ---- lists of blocks
 
-listed_here : (c : ℕ) (es : List ℕ) (blocks : Blocks) → listed_at ((c, es) ∷ blocks) c ≡ Some es
+pub listed_here : (c : ℕ) (es : List ℕ) (blocks : Blocks) → listed_at ((c, es) ∷ blocks) c ≡ Some es
 listed_here c es blocks = ap (λ t. if t then Some es else listed_at blocks c) (eq-eqb c c refl)
 
 listed_else : (c : ℕ) (es : List ℕ) (blocks : Blocks) (q : ℕ) → q ≢ c → listed_at ((c, es) ∷ blocks) q ≡ listed_at blocks q
@@ -59,6 +61,23 @@ off_absent d (b ∷ blocks) is = elim (cases_eq b.0 d) [
   | inr other ↦ ap (λ t. if t then off d blocks else b ∷ off d blocks) (ne_eqb b.0 d other)
       ∙ ap (λ bs. b ∷ bs) (off_absent d blocks (sym (ap (λ t. if t then Some b.1 else listed_at blocks d) (ne_eqb b.0 d other)) ∙ is))
 ]
+
+-- a block that loses an entry is still the only one of its cell
+pub unlisted_front : (d : ℕ) (es fewer : List ℕ) (rest : Blocks) (c : ℕ) → listed_at ((d, es) ∷ rest) c ≡ None → listed_at ((d, fewer) ∷ rest) c ≡ None
+unlisted_front d es fewer rest c is = by_test (d == c) is
+  where
+    by_test : (t : Bool) → (if t then Some es else listed_at rest c) ≡ None → (if t then Some fewer else listed_at rest c) ≡ None
+    by_test true is = absurd (none_is_none (sym is))
+    by_test false is = is
+
+pub nothing_buried : (n : ℕ) (marks : List Bool) (has : ℕ → List ℕ) → Buried n marks has []
+nothing_buried n marks has = record {
+  marked = λ c es at. absurd (none_is_none at);
+  has_them = λ c es at. absurd (none_is_none at);
+  inside = λ c es at. absurd (none_is_none at);
+  are_cells = λ c es at. absurd (none_is_none at);
+  apart = refl;
+}
 
 module _ {n : ℕ} {marks : List Bool} {has : ℕ → List ℕ} where
   -- a block that wasn't listed joins, in front
@@ -134,9 +153,18 @@ module _ {n : ℕ} {marks : List Bool} {has : ℕ → List ℕ} where
       ap (λ t. if t then off d rest else (d, es) ∷ off d rest) (eq-eqb d d refl)
       ∙ off_absent d rest (unlisted (listed_at rest d) (are_apart rest) b.apart)
 
+-- the block that a release answers, if any, joins
+pub after_given : {A : Type 0} {n : ℕ} {marks : List Bool} {has : ℕ → List ℕ} {blocks : Blocks} (c : ℕ) (block : Option (ℕ × Payload A)) → Buried n marks has blocks
+    → IfSome block (λ there. listed_at blocks c ≡ None) → c < n → length marks ≡ n → AreCells n (answered block)
+    → Buried n (if is_there block then set marks c true else marks) (has_found (is_there block) c (answered block) has)
+    (taken_on false (is_there block) c (answered block) blocks)
+after_given c None b fresh low wide cells = b
+after_given c (Some there) b fresh low wide cells = after_take c (answered (Some there)) b fresh low wide cells
+
 -- ---- payloads and their contents
 
-values_of : {K L : Type 0} (f : K → L) (pairs : List (K × ℕ)) → map (λ p. p.1) (map (λ (pair : K × ℕ). (f pair.0, pair.1)) pairs) ≡ map (λ p. p.1) pairs
+values_of : {K L : Type 0} (f : K → L) (pairs : List (K × ℕ))
+    → map (λ (p : L × ℕ). p.1) (map (λ (pair : K × ℕ). (f pair.0, pair.1)) pairs) ≡ map (λ (p : K × ℕ). p.1) pairs
 values_of f [] = refl
 values_of f (pair ∷ pairs) = ap (λ xs. pair.1 ∷ xs) (values_of f pairs)
 
@@ -144,7 +172,7 @@ pub contents_have : {A : Type 0} (payload : Payload A) → entries_in (contents_
 contents_have (payloads.Int number) = refl
 contents_have (payloads.Text text) = refl
 contents_have (payloads.«List» cells) = refl
-contents_have (payloads.Dict pairs) = ?
+contents_have (payloads.Dict pairs) = values_of plain_key pairs.items
 contents_have (payloads.Mailbox letters) = refl
 contents_have payloads.Nothing = refl
 contents_have (payloads.Truth truth) = refl
@@ -170,7 +198,7 @@ pub cells_front : (n : ℕ) (xs : List ℕ) (x : ℕ) → AreCells n (xs ++ x �
 cells_front n xs x cells = λ i c there.
     let low : i < length xs = slice_get_within xs i c there in
     cells i c (slice_get-get_or (xs ++ x ∷ []) i c (more_than xs x i (omega (arith, low)))
-      ∙ ap Some (get_or_append_left xs (x ∷ []) c i low ∙ get_or_from_slice_get xs i c c there))
+    ∙ ap Some (get_or_append_left xs (x ∷ []) c i low ∙ get_or_from_slice_get xs i c c there))
 
 pub cells_last : (n : ℕ) (xs : List ℕ) (x : ℕ) → AreCells n (xs ++ x ∷ []) → x < n
 cells_last n xs x cells = cells (length xs) x (at_end xs x)

@@ -5,9 +5,11 @@ use Rattle.brc_words.specs.declared.limits.TheConstants.{FIRST_MORTAL, MOST_PLAC
 use Rattle.brc_words.specs.declared.fault.Fault.{Fault}
 use Rattle.brc_words.specs.declared.fault.Fault.TheVariants.{OutOfMemory, FrameFull}
 use Rattle.brc_block.specs.declared.payload.Payload.{Payload}
+use Rattle.brc_block.specs.Payload.{entries_of}
+use Rattle.brc_block.specs.Blocks.{PopsEntry}
 use Rattle.brc_runs.specs.declared.event.Dropped.TheVariants as drops
 use Rattle.brc_runs.specs.declared.event.Source.{Source}
-use Rattle.brc_runs.specs.declared.event.Step.TheVariants.{LocalUp}
+use Rattle.brc_runs.specs.declared.event.Step.TheVariants.{LocalUp, Free}
 use Rattle.brc_runs.specs.declared.row.Hand.TheVariants as hands
 use Rattle.brc_runs.specs.Lists.{place_at, is_marked}
 use Rattle.brc_runs.specs.Steps.{is_active}
@@ -135,3 +137,26 @@ pub record ReleasedOf {A : Type 0} (old new : FrameSeen A) (k c : ℕ) : Type 0 
   pub works : new.works ≡ pushed block old.works
   pub vacant : place_seen new.heap.cells new.seat.log k ≡ None
   pub others : (j : ℕ) → j ≢ k → place_seen new.heap.cells new.seat.log j ≡ place_seen old.heap.cells old.seat.log j
+
+-- A turn of the work on dead blocks. The front block's last entry is released, by one of the lists, and where that object
+-- ended its block is the new front; or the front block has no entries and its cell is given back; or no block is there, and
+-- nothing is done. Every place has what it had.
+pub data Turned {A : Type 0} (old new : FrameSeen A) : Type 0 where
+  EntryReleased : (entry : ℕ) (mid : List (ℕ × Payload A)) (pops : PopsEntry old.works mid entry) (seen : Bool) (block : Option (ℕ × Payload A))
+      → Released old.heap.cells (drops.Work pops.cell) entry seen block old.seat.log new.seat.log
+      → new.works ≡ pushed block mid → Turned old new
+  BlockFreed : (front : ℕ × Payload A) (found : ℕ) → old.works ≡ front ∷ new.works → entries_of front.1 ≡ []
+      → new.seat.log ≡ Did (Free front.0) found Nothing ∷ old.seat.log → Turned old new
+
+-- so many turns, one after the other
+pub data Turns {A : Type 0} (old : FrameSeen A) : ℕ → FrameSeen A → Type 0 where
+  NoTurn : Turns old 0 old
+  OneMore : (n : ℕ) (mid new : FrameSeen A) → Turns old n mid → Turned mid new → Turns old (n + 1) new
+
+-- what no turn touches
+pub record KeepsHandles {A : Type 0} (old new : FrameSeen A) : Type 0 where
+  pub heap : new.heap ≡ old.heap
+  pub thread : new.seat.thread ≡ old.seat.thread
+  pub len : new.len ≡ old.len
+  pub next : new.next ≡ old.next
+  pub places : (k : ℕ) → place_seen new.heap.cells new.seat.log k ≡ place_seen old.heap.cells old.seat.log k

@@ -1,6 +1,6 @@
 //! A frame: the references of one thread.
 
-ghost use Rattle.std.specs.Prelude.{◌≡◌, ◌+◌, ◌-◌, ◌<◌, ◌≤◌, ℕ, Some, None, IsTrue, IsFalse, [], IfOk, IfErr, OnOk, OnErr, true, false};
+ghost use Rattle.std.specs.Prelude.{◌≡◌, ◌+◌, ◌-◌, ◌<◌, ◌≤◌, ℕ, Some, None, IsTrue, IsFalse, [], length, ◌⊎◌, IfOk, IfErr, OnOk, OnErr, true, false};
 ghost use Rattle.brc_words.specs.declared.limits.TheConstants.{FIRST_MORTAL, MOST_THREADS};
 ghost use Rattle.brc_words.specs.declared.fault.Fault.TheVariants.{OutOfMemory};
 ghost use Rattle.brc_runs.specs.declared.event.Step.TheVariants as steps;
@@ -99,6 +99,14 @@ impl<H: Home<A>, A: Allocator> Frame<H, A> {
             Some(held) => held.cell,
             None => unreachable!(),
         }
+    }
+
+    /// Whether there is no handle, and no dead block to take apart.
+    pub fn is_idle(&self) -> bool
+        ensures idle { IsTrue result → (self.now.len ≡ 0) × (self.now.works ≡ []) }
+        ensures busy { IsFalse result → (0 < self.now.len) ⊎ (0 < length self.now.works) }
+    {
+        self.places.is_empty() && self.works.len() == 0
     }
 
     /// How many handles there are.

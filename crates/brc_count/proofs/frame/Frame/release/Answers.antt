@@ -7,14 +7,16 @@ pub invariant_of-self : goal.invariant_of-self
 invariant_of-self g c =
     let up = c.give_up.ensures in
     let all = after_release c.self.inside.counter.seat c.give_up.new.self.seat c.handle.inside.place c.in-Some.held c.give_up.result
-    c.self.invariant up.seat up.knows up.keeps up.block c.try_remove.ensures.updates in
+    c.self.invariant up.seat up.knows up.keeps up.block
+    (c.self.invariant.inside c.handle.inside.place c.in-Some.held (sym c.try_remove.ensures.value ∙ c.in-Some.is)) c.try_remove.ensures.updates in
     rw (up.heap, c.push.ensures) (rw c.in-Some-give_up.is at all)
 
 pub invariant_of-self-in_default-give_up : goal.invariant_of-self-in_default-give_up
 invariant_of-self-in_default-give_up g c =
     let up = c.give_up.ensures in
     let all = after_release c.self.inside.counter.seat c.give_up.new.self.seat c.handle.inside.place c.in-Some.held c.give_up.result
-    c.self.invariant up.seat up.knows up.keeps up.block c.try_remove.ensures.updates in
+    c.self.invariant up.seat up.knows up.keeps up.block
+    (c.self.invariant.inside c.handle.inside.place c.in-Some.held (sym c.try_remove.ensures.value ∙ c.in-Some.is)) c.try_remove.ensures.updates in
     rw up.heap (rw c.in_default-give_up.is at all)
 
 pub returns-in-Some-give_up-clause-released : goal.returns-in-Some-give_up-clause-released
@@ -23,7 +25,8 @@ returns-in-Some-give_up-clause-released g c = λ d there.
     let gone = c.try_remove.ensures.updates in
     let was = c.self.invariant.placed c.handle.inside.place ∙ ap cell_held (sym c.try_remove.ensures.value ∙ c.in-Some.is) in
     let all = after_release c.self.inside.counter.seat c.give_up.new.self.seat c.handle.inside.place c.in-Some.held c.give_up.result
-    c.self.invariant up.seat up.knows up.keeps up.block gone in
+    c.self.invariant up.seat up.knows up.keeps up.block
+    (c.self.invariant.inside c.handle.inside.place c.in-Some.held (sym c.try_remove.ensures.value ∙ c.in-Some.is)) gone in
     rw (← c.self.view_is, ← c.handle.view_is, up.heap, ← same_cell (sym was ∙ (rw (← c.self.view_is, ← c.handle.view_is) at there))) record {
       seen = c.in-Some.held.risen;
       block = c.give_up.result;

@@ -1,0 +1,56 @@
+//! Taking dead blocks apart, a turn at a time.
+
+ghost use Rattle.std.specs.Prelude.{◌≡◌, ◌-◌, ◌≤◌, ◌<◌, [], IsTrue, IsFalse};
+ghost use Rattle.brc_count.specs.Frames.{Turned, Turns, KeepsHandles};
+
+use crate::frame::Frame;
+use brc_counter::Home;
+use brc_runs::Dropped;
+use std::alloc::Allocator;
+
+impl<H: Home<A>, A: Allocator> Frame<H, A> {
+    /// One turn: the front block's last entry is released, or, if it has none, the block is given back; false where there
+    /// is no block.
+    fn turn(&mut self) -> bool
+        ensures keeps { KeepsHandles self.old self.new }
+        ensures turned { IsTrue result → Turned self.old self.new }
+        ensures idle { IsFalse result → self.new.works ≡ [] }
+        ensures unchanged { IsFalse result → self.new ≡ self.old }
+    {
+        if let Some(entry) = self.works.pop_entry() {
+            let Some(front) = self.works.front() else {
+                unreachable!()
+            };
+            let drop = Dropped::Work(front);
+            if let Some(block) = self.counter.give_up(drop, entry, false) {
+                self.works.push(block);
+            }
+            return true;
+        }
+        let Some(block) = self.works.pop() else {
+            return false;
+        };
+        self.counter.free(block.cell());
+        let _payload = block.into_payload();
+        true
+    }
+
+    /// Takes dead blocks apart, at most so many turns: in one, the front block's last entry is released, or, if it has
+    /// none, the block is given back. The answer is the number of turns that weren't needed: above 0 only where no block is
+    /// left. It takes no memory.
+    pub fn work(&mut self, budget: usize) -> usize
+        ensures keeps { KeepsHandles self.old self.new }
+        ensures few { result ≤ budget }
+        ensures turns { Turns self.old (budget - result) self.new }
+        ensures done { 0 < result → self.new.works ≡ [] }
+    {
+        let mut left = budget;
+        while 0 < left {
+            if !self.turn() {
+                return left;
+            }
+            left -= 1;
+        }
+        0
+    }
+}
