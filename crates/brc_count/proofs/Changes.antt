@@ -1,5 +1,5 @@
 -- What one call of the counter makes of what a frame keeps.
-use Rattle.std.proofs.Common.{◌≡◌, ℕ, ◌<◌, ◌≤◌, ◌-◌, Bool, true, false, length, arith, inl, inr, List, [], ◌∷◌, map, Option, Some, None, IfSome, IsTrue, is_some, if◌then◌else◌, ◌++◌, set, ◌==◌, refl, sym, ◌∙◌, ap, subst}
+use Rattle.std.proofs.Common.{◌≡◌, ℕ, ◌<◌, ◌≤◌, ◌-◌, Bool, true, false, length, arith, inl, inr, List, [], ◌∷◌, map, Option, Some, None, IfSome, IsTrue, is_some, if◌then◌else◌, ◌++◌, set, refl, sym, ◌∙◌, ap, subst}
 use Rattle.std.proofs.lemmas.Bool.{eq-eqb, cases_eq, cases_lt, lt-ltb}
 use Rattle.std.proofs.lemmas.List.{length-set, get_or-set_same, get_or_past}
 use Rattle.slab.specs.Slab.{Slab, get, Updates}

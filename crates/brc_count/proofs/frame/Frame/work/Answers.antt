@@ -1,4 +1,4 @@
-use Rattle.std.proofs.Common.{rules, ◌≡◌, ◌-◌, ◌≤◌, ◌<◌, arith, refl, sym, subst}
+use Rattle.std.proofs.Common.{rules, ◌≡◌, ◌-◌, ◌<◌, arith, subst}
 use Rattle.brc_count.specs.Frames.{Turns, NoTurn}
 use Rattle.brc_count.proofs.Changes.{kept, kept_on, one_more_turn}
 use Rattle.brc_count.proofs.frame.Frame.work.Goals as goal

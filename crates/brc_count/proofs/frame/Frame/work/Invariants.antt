@@ -1,4 +1,4 @@
-use Rattle.std.proofs.Common.{◌≡◌, ◌-◌, ◌≤◌, ℕ}
+use Rattle.std.proofs.Common.{◌-◌, ◌≤◌}
 use Rattle.brc_count.specs.Frames.{Turns, KeepsHandles}
 use Rattle.brc_count.proofs.frame.Frame.work.Given as goal
 
