@@ -1,0 +1,5 @@
+pub mod Outcomes
+pub mod Objects
+pub mod States
+pub mod Steps
+pub mod Sections

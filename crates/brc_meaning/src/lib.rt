@@ -1,0 +1,21 @@
+//! The plain meaning of a section: what it prints, the fault that ends it, and how many objects it makes, when it is run
+//! by itself over plain values. There are no cells here, no counts, no locks and no other section, and nothing dies.
+//!
+//! `specs/Steps.antt` says what each instruction does to the registers and the objects, by the definitions of the plain
+//! containers, and `specs/Sections.antt` what a section comes to; `plain_run` meets them. What a running section prints
+//! is stated against this.
+#![tactic(auto)]
+
+mod call;
+mod copying;
+mod object;
+mod objects;
+mod plain;
+mod printed;
+mod reference;
+mod registers;
+mod running;
+mod state;
+mod stepping;
+
+pub use plain::{Plain, plain_run};
