@@ -52,7 +52,7 @@ module _ {A : Type 0} where
   keyed_call key call (objects.Dict pairs) = dict_call key call pairs >>= λ done. Ok (done.0, objects.Dict done.1)
   keyed_call key call _ = Err faults.WrongKind
 
--- ---- what is read off an object
+  -- ---- what is read off an object
 
   -- the number of entries of a container
   abbrev pub entries_in : Object A → Result ℕ Fault

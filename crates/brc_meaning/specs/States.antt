@@ -26,7 +26,7 @@ abbrev pub holding : ℕ → Option Reference → List (Option Reference) → Li
 holding register reference registers = slice_set registers register reference
 
 module _ {A : Type 0} where
--- ---- objects
+  -- ---- objects
 
   -- the object that a reference means
   abbrev pub meant : Reference → List (Object A) → Option (Object A)
@@ -53,7 +53,7 @@ module _ {A : Type 0} where
   printing reference made printed =
       asked (λ object. Ok (text_in object)) reference made >>= λ text. Ok (printed ++ (text ++ 10 ∷ []))
 
--- ---- states
+  -- ---- states
 
   -- as a section starts
   abbrev pub start : State A

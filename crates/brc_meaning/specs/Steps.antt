@@ -26,14 +26,12 @@ module _ {A : Type 0} where
   after (does.List to) s = Ok (with_object (objects.List []) to s)
   after (does.Dict to) s = Ok (with_object (objects.Dict []) to s)
   after (does.Mailbox to) s = Ok (with_object (objects.Mailbox []) to s)
-
   after (does.Copy to from) s = do
     reference ← held from s.registers
     Ok (with_register to (Some reference) s)
   after (does.Drop from) s = do
     reference ← held from s.registers
     Ok (with_register from None s)
-
   -- what is moved into a container leaves its register
   after (does.Push list value) s = do
     given ← held value s.registers
@@ -47,19 +45,16 @@ module _ {A : Type 0} where
     reference ← held container s.registers
     entries ← asked entries_in reference s.objects
     Ok (with_integer (pos entries) to s)
-
   after (does.Put dict key value) s = do
     given ← held value s.registers
     called (keyed_call key (keyed.Put given)) dict value s
   after (does.Find to dict key) s = called (keyed_call key keyed.Find) dict to s
   after (does.Delete to dict key) s = called (keyed_call key keyed.Delete) dict to s
-
   -- no other section can send, so a mailbox without entries is no place to receive from
   after (does.Send mailbox value) s = do
     given ← held value s.registers
     called (object_call (calls.Send given)) mailbox value s
   after (does.Receive to mailbox) s = called (object_call calls.Receive) mailbox to s
-
   after (does.Add to first second) s = do
     one ← held first s.registers
     other ← held second s.registers
@@ -71,7 +66,6 @@ module _ {A : Type 0} where
     reference ← held from s.registers
     printed ← printing reference s.objects s.printed
     Ok (record { registers = s.registers; objects = s.objects; printed = printed })
-
   -- these don't stand in a private section
   after (does.Share name value) s = Ok s
   after (does.Fetch to name) s = Ok s

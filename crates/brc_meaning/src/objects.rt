@@ -58,7 +58,11 @@ impl<A: Allocator> Objects<A> {
     }
 
     /// A call on the list or mailbox that is meant.
-    pub(crate) fn call(&mut self, reference: Reference, call: Call) -> Result<Option<Reference>, Fault>
+    pub(crate) fn call(
+        &mut self,
+        reference: Reference,
+        call: Call,
+    ) -> Result<Option<Reference>, Fault>
         ensures { Goes result self.old self.new (calling (object_call call) reference self.old) }
     {
         let Reference::Object(place) = reference else {

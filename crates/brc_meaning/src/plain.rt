@@ -1,6 +1,6 @@
 //! Running a section by itself.
 
-ghost use Rattle.std.specs.Prelude.{◌≡◌, IfOk, IfErr, true};
+ghost use Rattle.std.specs.Prelude.{◌≡◌, ◌↔◌, IsTrue, length, IfOk, IfErr, true};
 ghost use Rattle.brc_words.specs.declared.fault.Fault.TheVariants.{OutOfMemory};
 ghost use Rattle.brc_script.specs.Scripts.{is_private};
 ghost use Rattle.brc_meaning.specs.Sections.{meaning};
@@ -22,6 +22,30 @@ pub struct Plain<A: Allocator> {
     pub made: u64,
 }
 
+fn is_want_of_memory(fault: Fault) -> bool
+    ensures { IsTrue result ↔ (fault ≡ OutOfMemory) }
+{
+    matches!(fault, Fault::OutOfMemory)
+}
+
+/// What is told of the state in which a section ended.
+fn told<A: Allocator>(state: State<A>, fault: Option<(u8, u32)>) -> Plain<A>
+    ensures lines { result.lines.items ≡ state.printed }
+    ensures fault { result.fault ≡ fault }
+    ensures made { result.made ≡ length state.objects }
+{
+    let State {
+        objects,
+        printed,
+        ..
+    } = state;
+    Plain {
+        lines: printed.into_bytes(),
+        fault,
+        made: objects.len() as u64,
+    }
+}
+
 /// Runs a private section over plain values: no cells, no counts, no other section, and nothing dies. The only refusal
 /// is want of memory; a fault of the section's own is part of the answer. Memory grows with what the section makes
 /// and prints, and not with the turns that it takes.
@@ -35,21 +59,13 @@ pub fn plain_run<A: Allocator + Copy>(alloc: A, section: &Section<A>) -> Result<
     ensures refused { IfErr result (λ fault. fault ≡ OutOfMemory) }
 {
     let mut state = State::start(alloc);
-    let fault = match run_pieces(alloc, &mut state, section.pieces.as_slice()) {
-        Ok(()) => None,
+    match run_pieces(alloc, &mut state, section.pieces.as_slice()) {
+        Ok(()) => Ok(told(state, None)),
         Err(halt) => {
-            if halt.fault == Fault::OutOfMemory {
+            if is_want_of_memory(halt.fault) {
                 return Err(Fault::OutOfMemory);
             }
-            Some((halt.fault.number(), halt.line))
+            Ok(told(state, Some((halt.fault.number(), halt.line))))
         }
-    };
-    let State {
-        objects, printed, ..
-    } = state;
-    Ok(Plain {
-        lines: printed.into_bytes(),
-        fault,
-        made: objects.len() as u64,
-    })
+    }
 }

@@ -16,11 +16,7 @@ pub(crate) struct Halt {
     pub(crate) line: u32,
 }
 
-fn run_line<A: Allocator + Copy>(
-    alloc: A,
-    state: &mut State<A>,
-    line: &Line<A>,
-) -> Result<(), Halt>
+fn run_line<A: Allocator + Copy>(alloc: A, state: &mut State<A>, line: &Line<A>) -> Result<(), Halt>
     ensures { Ends result state.new (line_after line.now state.old) }
 {
     match step(alloc, state, line.instruction()) {

@@ -60,7 +60,12 @@ impl<A: Allocator> State<A> {
     }
 
     /// A call on the list or mailbox that the register holds; the answer goes to the other register.
-    pub(crate) fn call(&mut self, container: Register, call: Call, to: Register) -> Result<(), Fault>
+    pub(crate) fn call(
+        &mut self,
+        container: Register,
+        call: Call,
+        to: Register,
+    ) -> Result<(), Fault>
         ensures { Steps result self.old self.new (called (object_call call) container to self.old) }
     {
         let reference = self.registers.held(container)?;

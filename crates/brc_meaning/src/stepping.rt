@@ -165,6 +165,8 @@ pub(crate) fn step<A: Allocator + Copy>(
         Instruction::Print { from } => print(state, *from),
 
         // These don't stand in a private section.
-        Instruction::Share { .. } | Instruction::Fetch { .. } | Instruction::Unshare { .. } => Ok(()),
+        Instruction::Share { .. } | Instruction::Fetch { .. } | Instruction::Unshare { .. } => Ok(
+            (),
+        ),
     }
 }

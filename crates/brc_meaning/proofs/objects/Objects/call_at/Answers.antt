@@ -1,0 +1,11 @@
+use Rattle.std.proofs.Common.{arith}
+use Rattle.brc_meaning.specs.Objects.{keyed_call}
+use Rattle.brc_meaning.proofs.Calling.{called_seen}
+use Rattle.brc_meaning.proofs.objects.Objects.call_at.Goals as goal
+
+pub returns : goal.returns
+returns g c =
+    rw c.in-Object.is
+    (called_seen (keyed_call c.args.key.now c.args.call) c.self.inside.made.items c.args.self.now c.in-Object.place
+    c.index_mut-object.result.now c.call_at.new.self c.call_at.result c.self.view_is (omega arith)
+    c.index_mut-object.ensures.value c.call_at.ensures)
