@@ -1,3 +1,4 @@
 pub mod Sums
 pub mod Calling
 pub mod Turns
+pub mod WrittenOut

@@ -1,5 +1,5 @@
 -- One more piece, and one more turn of a `repeat`.
-use Rattle.std.proofs.Common.{◌≡◌, ◌∙◌, ℕ, zero, suc, ◌+◌, ◌-◌, ◌<◌, List, length, get_or, drop, Result, Ok, Err, refl, ap, arith}
+use Rattle.std.proofs.Common.{◌≡◌, ◌∙◌, ℕ, suc, ◌+◌, ◌-◌, ◌<◌, List, length, get_or, drop, Ok, Err, refl, ap, arith}
 use Rattle.std.proofs.lemmas.List.{at_drop_more}
 use Rattle.brc_script.specs.declared.script.Piece.{Piece}
 use Rattle.brc_script.specs.declared.script.Section.{Section}

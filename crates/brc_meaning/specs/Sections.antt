@@ -1,5 +1,6 @@
 -- What a section comes to: its lines in order, and those of a `repeat` so many times, up to the first fault.
-use Rattle.std.specs.Prelude.{◌≡◌, ℕ, zero, suc, List, [], ◌∷◌, length, Option, Some, None, Result, Ok, Err, MatchResult}
+use Rattle.std.specs.Prelude.{◌≡◌, ℕ, zero, suc, List, [], ◌∷◌, ◌++◌, length, Option, Some, None, Result, Ok, Err, MatchResult}
+use Rattle.std.specs.List.{repeat}
 use Rattle.brc_words.specs.Faults.{number_of}
 use Rattle.brc_words.specs.declared.fault.Fault.{Fault}
 use Rattle.brc_script.specs.declared.script.Piece.{Piece}
@@ -48,6 +49,12 @@ module _ {A : Type 0} where
   abbrev pub pieces_after : List (Piece A) → State A → Result (State A) (Stop A)
   pieces_after [] s = Ok s
   pieces_after (piece ∷ later) s = piece_after piece s >>= λ next. pieces_after later next
+
+  -- all its lines in order, those of a `repeat` as often as it says
+  abbrev pub written_out : List (Piece A) → List (NumberedLine A)
+  written_out [] = []
+  written_out (pieces.One line ∷ later) = line ∷ written_out later
+  written_out (pieces.Repeat times lines ∷ later) = repeat times lines ++ written_out later
 
   -- the lines were run to what is meant; or to the fault that is meant, and its line
   abbrev pub Ends : Result (Unit {0}) Halt → State A → Result (State A) (Stop A) → Type 0

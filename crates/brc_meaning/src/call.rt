@@ -3,7 +3,7 @@
 use crate::reference::Reference;
 
 /// A call on a list or a mailbox.
-#[derive(Clone, Copy, Debug, PartialEq, Eq)]
+#[derive(Clone, Copy)]
 pub(crate) enum Call {
     // On a list.
     Push(Reference),
@@ -17,7 +17,7 @@ pub(crate) enum Call {
 }
 
 /// A call on a dictionary, at a key.
-#[derive(Clone, Copy, Debug, PartialEq, Eq)]
+#[derive(Clone, Copy)]
 pub(crate) enum KeyedCall {
     Put(Reference),
     Find,

@@ -8,6 +8,7 @@
 
 mod call;
 mod copying;
+mod laws;
 mod object;
 mod objects;
 mod plain;
@@ -18,4 +19,5 @@ mod running;
 mod state;
 mod stepping;
 
+pub use laws::repeats_are_written_out;
 pub use plain::{Plain, plain_run};

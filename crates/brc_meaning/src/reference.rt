@@ -9,7 +9,7 @@ const LEAST_SMALL: i64 = -5;
 const MOST_SMALL: i64 = 256;
 
 /// A reference to an integer that is there always, or to an object by its place in the list of all objects.
-#[derive(Clone, Copy, Debug, PartialEq, Eq)]
+#[derive(Clone, Copy)]
 pub(crate) enum Reference {
     Small(i64),
     Object(usize),

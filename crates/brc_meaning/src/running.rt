@@ -10,7 +10,7 @@ use brc_words::Fault;
 use std::alloc::Allocator;
 
 /// Why a section ended before its last line: the first fault, and the number of the line that met it.
-#[derive(Clone, Copy, Debug, PartialEq, Eq)]
+#[derive(Clone, Copy)]
 pub(crate) struct Halt {
     pub(crate) fault: Fault,
     pub(crate) line: u32,

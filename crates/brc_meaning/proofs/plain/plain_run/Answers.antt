@@ -1,4 +1,4 @@
-use Rattle.std.proofs.Common.{◌≡◌, ◌∙◌, ℕ, Some, sym, ap}
+use Rattle.std.proofs.Common.{◌∙◌, ℕ, Some, sym, ap}
 use Rattle.std.proofs.lemmas.Bool.{false≢true}
 use Rattle.brc_meaning.specs.Sections.{Meaning}
 use Rattle.brc_meaning.proofs.Turns.{stopped_so}
