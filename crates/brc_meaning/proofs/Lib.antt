@@ -2,3 +2,6 @@ pub mod Sums
 pub mod Calling
 pub mod Turns
 pub mod WrittenOut
+pub mod Oks
+pub mod WholeCalls
+pub mod WholeSteps

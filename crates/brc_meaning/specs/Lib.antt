@@ -3,3 +3,4 @@ pub mod Objects
 pub mod States
 pub mod Steps
 pub mod Sections
+pub mod Wholes

@@ -28,7 +28,7 @@ holding register reference registers = slice_set registers register reference
 module _ {A : Type 0} where
   -- ---- objects
 
-  -- the object that a reference means
+  -- the object that a reference means; there always is one (`references_mean_objects`)
   abbrev pub meant : Reference → List (Object A) → Option (Object A)
   meant (references.Small number) made = Some (objects.Int number)
   meant (references.Object place) made = slice_get made place

@@ -2,8 +2,8 @@
 //! by itself over plain values. There are no cells here, no counts, no locks and no other section, and nothing dies.
 //!
 //! `specs/Steps.antt` says what each instruction does to the registers and the objects, by the definitions of the plain
-//! containers, and `specs/Sections.antt` what a section comes to; `plain_run` meets them. What a running section prints
-//! is stated against this.
+//! containers, and `specs/Sections.antt` what a section comes to; `plain_run` meets them. `src/laws.rt` says what these
+//! definitions come to: a `repeat` is its lines written out, and no reference is ever without its object.
 #![tactic(auto)]
 
 mod call;
@@ -19,5 +19,5 @@ mod running;
 mod state;
 mod stepping;
 
-pub use laws::repeats_are_written_out;
+pub use laws::{references_mean_objects, repeats_are_written_out};
 pub use plain::{Plain, plain_run};

@@ -1,0 +1,35 @@
+-- Whole states: each of their references means an object that was made, or an integer that is there always.
+use Rattle.std.specs.Prelude.{ℕ, ◌<◌, length, Option, Result, Ok, Err, IfSome}
+use Rattle.std.specs.List.{All}
+use Rattle.brc_meaning.specs.declared.reference.Reference.{Reference}
+use Rattle.brc_meaning.specs.declared.reference.Reference.TheVariants as references
+use Rattle.brc_meaning.specs.declared.object.Object.{Object}
+use Rattle.brc_meaning.specs.declared.object.Object.TheVariants as objects
+use Rattle.brc_meaning.specs.declared.state.State.{State}
+use Rattle.brc_meaning.specs.Sections.{Stop}
+
+-- it means an integer that is there always, or one of so many objects
+abbrev pub IsThere : ℕ → Reference → Type 0
+IsThere made (references.Small number) = Unit {0}
+IsThere made (references.Object place) = place < made
+
+-- what a register holds, if it holds something, is there
+abbrev pub IsHeld : ℕ → Option Reference → Type 0
+IsHeld made held = IfSome held (IsThere made)
+
+module _ {A : Type 0} where
+  -- what an object refers to is there
+  abbrev pub IsSound : ℕ → Object A → Type 0
+  IsSound made (objects.List entries) = All (IsThere made) entries
+  IsSound made (objects.Dict pairs) = All (λ pair. IsThere made pair.1) pairs
+  IsSound made (objects.Mailbox entries) = All (IsThere made) entries
+  IsSound made _ = Unit {0}
+
+  pub record IsWhole (s : State A) : Type 0 where
+    pub held : All (IsHeld (length s.objects)) s.registers
+    pub sound : All (IsSound (length s.objects)) s.objects
+
+  -- where lines ended, at the last of them or at the first fault
+  abbrev pub ended : Result (State A) (Stop A) → State A
+  ended (Ok s) = s
+  ended (Err stop) = stop.state
