@@ -20,6 +20,7 @@ integer_sum first second =
     if is_integer (first +ℤ second) then Ok (first +ℤ second) else Err faults.Overflow
 
 module _ {A : Type 0} where
+  -- the state after an instruction, or the fault by which it is refused
   abbrev pub after : Instruction A → State A → Result (State A) Fault
   after (does.Int to number) s = Ok (with_integer number to s)
   after (does.Text to text) s = Ok (with_object (objects.Text text) to s)
@@ -58,9 +59,9 @@ module _ {A : Type 0} where
   after (does.Add to first second) s = do
     one ← held first s.registers
     other ← held second s.registers
-    one ← asked number_in one s.objects
-    other ← asked number_in other s.objects
-    sum ← integer_sum one other
+    number ← asked number_in one s.objects
+    more ← asked number_in other s.objects
+    sum ← integer_sum number more
     Ok (with_integer sum to s)
   after (does.Print from) s = do
     reference ← held from s.registers
