@@ -7,6 +7,7 @@
 mod frame;
 mod handle;
 mod held;
+mod holdings;
 mod work;
 
 pub use frame::Frame;

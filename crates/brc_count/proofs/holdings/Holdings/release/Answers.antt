@@ -1,7 +1,7 @@
 use Rattle.std.proofs.Common.{◌∙◌, sym, ap}
 use Rattle.brc_count.specs.Frames.{cell_held, pushed}
 use Rattle.brc_count.proofs.Changes.{after_release, same_cell}
-use Rattle.brc_count.proofs.frame.Frame.release.Goals as goal
+use Rattle.brc_count.proofs.holdings.Holdings.release.Goals as goal
 
 pub invariant_of-self : goal.invariant_of-self
 invariant_of-self g c =

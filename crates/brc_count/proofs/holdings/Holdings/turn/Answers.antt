@@ -4,7 +4,7 @@ use Rattle.brc_runs.specs.declared.event.Dropped.TheVariants as drops
 use Rattle.brc_counter.specs.Standing.{Holds}
 use Rattle.brc_count.specs.Frames.{pushed, EntryReleased, BlockFreed}
 use Rattle.brc_count.proofs.Changes.{same_cell, entry_inside, entry_held, after_entry, front_inside, free_carries, after_freeing}
-use Rattle.brc_count.proofs.frame.Frame.turn.Goals as goal
+use Rattle.brc_count.proofs.holdings.Holdings.turn.Goals as goal
 
 -- ---- an entry is released
 

@@ -1,7 +1,7 @@
 use Rattle.std.proofs.Common.{rules, ◌≡◌, ◌-◌, ◌<◌, arith, subst}
 use Rattle.brc_count.specs.Frames.{Turns, NoTurn}
 use Rattle.brc_count.proofs.Changes.{kept, kept_on, one_more_turn}
-use Rattle.brc_count.proofs.frame.Frame.work.Goals as goal
+use Rattle.brc_count.proofs.holdings.Holdings.work.Goals as goal
 
 pub loop-left-init : goal.loop-left-init
 loop-left-init g c =
