@@ -1,1 +1,3 @@
 pub mod Frames
+pub mod Polling
+pub mod Closing
