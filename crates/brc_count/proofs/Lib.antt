@@ -2,3 +2,4 @@ mod Buried
 mod Changes
 mod Framings
 mod Popping
+mod Leaving
