@@ -1,5 +1,5 @@
 -- What one call of the counter makes of what a frame keeps.
-use Rattle.std.proofs.Common.{◌≡◌, not, ◌==◌, ℕ, ◌<◌, ◌≤◌, ◌-◌, Bool, true, false, length, arith, inl, inr, List, [], ◌∷◌, map, Option, Some, None, IfSome, IsTrue, is_some, if◌then◌else◌, ◌++◌, set, refl, sym, ◌∙◌, ap, subst, replicate}
+use Rattle.std.proofs.Common.{◌≡◌, not, ◌==◌, ◌+◌, ℕ, ◌<◌, ◌≤◌, ◌-◌, Bool, true, false, length, arith, inl, inr, List, [], ◌∷◌, map, Option, Some, None, IfSome, IsTrue, is_some, if◌then◌else◌, ◌++◌, set, refl, sym, ◌∙◌, ap, subst, replicate}
 use Rattle.std.proofs.lemmas.Bool.{eq-eqb, cases_eq, cases_lt, lt-ltb}
 use Rattle.std.proofs.lemmas.List.{length-set, get_or-set_same, get_or_past, get_or-replicate, length-replicate}
 use Rattle.std.specs.Int.{bit_at}
@@ -40,6 +40,7 @@ use Rattle.brc_counter.specs.Released.{Answers}
 use Rattle.brc_counter.specs.Up.{IsKnown, Raising}
 use Rattle.brc_counter.proofs.Marking.{marks_wide}
 use Rattle.brc_count.specs.declared.held.Held.{Held}
+use Rattle.brc_count.specs.declared.ledger.Ledger.{Ledger}
 use Rattle.brc_rule.specs.declared.contents.Contents.TheVariants as contents
 use Rattle.brc_count.specs.Frames.{place_seen, locked_place, lock_seen, cell_held, block_listed, slot_out, slots_out, pushed, Buried, Holding, FrameSeen, KeepsHandles, Turned, Turns, OneMore}
 use Rattle.brc_count.proofs.Buried.{listed_here, unlisted_front, nothing_buried, after_cut, after_free, after_given, front_cut, front_off, contents_have, front_put, last_put, cells_front, cells_last}
@@ -81,8 +82,8 @@ giving_may (stages.Closing words) c is = cc
 giving_may stages.Left c is = refl
 
 -- a place that is vacant and below the limit may get a reference, from a source that fits what is locked
-pub raising : {A : Type 0} {heap : TableSeen} {seat : SeatSeen A} {places : Slab Held} {works : List (ℕ × Payload A)} {popped : List ℕ} (source : Source) (k c : ℕ)
-    → Holding A heap seat places works popped → is_active (part_seen heap.cells seat.log).row.stage ≡ true
+pub raising : {A : Type 0} {heap : TableSeen} {seat : SeatSeen A} {places : Slab Held} {works : List (ℕ × Payload A)} {popped : List ℕ} {ledger : Ledger} (source : Source) (k c : ℕ)
+    → Holding A heap seat places works popped ledger → is_active (part_seen heap.cells seat.log).row.stage ≡ true
     → lock_ok (locked_place heap.cells seat.log) (LocalUp source k) ≡ true
     → meant (part_seen heap.cells seat.log) (LocalUp source k) ≡ Some c → k < MOST_PLACES → get places k ≡ None
     → Raising heap.cells seat.log source k c
@@ -98,8 +99,8 @@ raising {heap = heap} {seat = seat} source k c keeps active fits named low vacan
 }
 
 -- the thread may give references up
-pub stands : {A : Type 0} {heap : TableSeen} {seat : SeatSeen A} {places : Slab Held} {works : List (ℕ × Payload A)} {popped : List ℕ}
-    → Holding A heap seat places works popped → may_give_up (part_seen heap.cells seat.log).row.stage ≡ true
+pub stands : {A : Type 0} {heap : TableSeen} {seat : SeatSeen A} {places : Slab Held} {works : List (ℕ × Payload A)} {popped : List ℕ} {ledger : Ledger}
+    → Holding A heap seat places works popped ledger → may_give_up (part_seen heap.cells seat.log).row.stage ≡ true
     → locked_place heap.cells seat.log ≡ None → Stands heap.cells seat.log hands.Free
 stands keeps stage unlocked = record { stage = stage; lock = unlocked; hand_is = keeps.hand_is }
 
@@ -119,7 +120,7 @@ no_marks_yet n c = elim (cases_lt c (length (replicate n false))) [
 
 -- a thread that has done nothing yet, with no place filled
 pub opening : {A : Type 0} (heap : TableSeen) (seat : SeatSeen A) (places : Slab Held) (popped : List ℕ) → seat.log ≡ [] → seat.slots ≡ [] → places.slots ≡ []
-    → popped ≡ replicate (words_for heap.cells) 0 → Holding A heap seat places [] popped
+    → popped ≡ replicate (words_for heap.cells) 0 → Holding A heap seat places [] popped (record { allocs = 0; frees = 0 })
 opening heap seat places popped log slots none blank = record {
   hand_is = rw log refl;
   placed = λ k. rw (log, none) refl;
@@ -132,6 +133,8 @@ opening heap seat places popped log slots none blank = record {
   buried = rw log (nothing_buried heap.cells (part_seen heap.cells []).worklist (part_seen heap.cells []).has (no_marks_yet heap.cells));
   popped_is = rw log blank;
   words = ap length blank ∙ length-replicate (words_for heap.cells) 0;
+  allocs = rw log refl;
+  frees = rw log refl;
   bits = λ k i is. absurd (no_bit (words_for heap.cells) k i (ap (λ ws. bit_at (word_at ws k) i) (sym blank) ∙ is));
 }
 
@@ -171,10 +174,10 @@ module _ (n : ℕ) (before log : List Told) where
     | inr other ↦ ap is_some (place_at-filled_else (part_seen n before).frame k c j other) ∙ there
   ]
 
-module _ {A : Type 0} {heap : TableSeen} (before seat : SeatSeen A) {old places : Slab Held} {works : List (ℕ × Payload A)} {popped : List ℕ} where
+module _ {A : Type 0} {heap : TableSeen} (before seat : SeatSeen A) {old places : Slab Held} {works : List (ℕ × Payload A)} {popped : List ℕ} {ledger : Ledger} where
   -- ---- a place that was vacant has a reference more
 
-  placed_up : (k c : ℕ) (risen : Bool) → Holding A heap before old works popped
+  placed_up : (k c : ℕ) (risen : Bool) → Holding A heap before old works popped ledger
       → IsKnown heap.cells seat.log (filling k c (known_seen heap.cells before.log))
       → Updates old places k (Some (record { cell = c; risen = risen })) → (j : ℕ)
       → place_seen heap.cells seat.log j ≡ cell_held (get places j)
@@ -185,14 +188,14 @@ module _ {A : Type 0} {heap : TableSeen} (before seat : SeatSeen A) {old places 
         ∙ keeps.placed j ∙ sym (ap cell_held (updates.others j other))
   ]
 
-  pub after_up : (k c : ℕ) (risen : Bool) → Holding A heap before old works popped → Stays before seat
+  pub after_up : (k c : ℕ) (risen : Bool) → Holding A heap before old works popped ledger → Stays before seat
       → IsKnown heap.cells seat.log (filling k c (known_seen heap.cells before.log))
       → Keeps heap.cells before.log seat.log
       → (IsTrue risen → risen_seen heap.cells seat.log (drops.Frame k) c ≡ true)
       → c < heap.cells
       → Updates old places k (Some (record { cell = c; risen = risen }))
       → get old k ≡ None → contents_locked seat.log ≡ contents_locked before.log
-      → Holding A heap seat places works popped
+      → Holding A heap seat places works popped ledger
   after_up k c risen keeps stays knows goes_on seen inside updates vacant found =
       let locks = lock_stays heap.cells before.log seat.log k c knows keeps.lock_filled (keeps.placed k ∙ ap cell_held vacant) in
       record {
@@ -221,11 +224,13 @@ module _ {A : Type 0} {heap : TableSeen} (before seat : SeatSeen A) {old places 
         popped_is = keeps.popped_is ∙ sym (ap (λ (p : Part). p.popped) knows.part);
         words = keeps.words;
         bits = keeps.bits;
+        allocs = keeps.allocs ∙ sym (ap (λ (p : Part). p.row.allocs) knows.part);
+        frees = keeps.frees ∙ sym (ap (λ (p : Part). p.row.frees) knows.part);
       }
 
   -- ---- a place's reference is gone, and the block of the object that it ended is on the worklist
 
-  placed_released : (k : ℕ) (held : Held) (block : Option (ℕ × Payload A)) → Holding A heap before old works popped
+  placed_released : (k : ℕ) (held : Held) (block : Option (ℕ × Payload A)) → Holding A heap before old works popped ledger
       → IsKnown heap.cells seat.log (released (is_there block) (drops.Frame k) held.cell (entries_answered block) (known_seen heap.cells before.log))
       → Updates old places k None → (j : ℕ)
       → place_seen heap.cells seat.log j ≡ cell_held (get places j)
@@ -236,7 +241,7 @@ module _ {A : Type 0} {heap : TableSeen} (before seat : SeatSeen A) {old places 
         ∙ keeps.placed j ∙ sym (ap cell_held (updates.others j other))
   ]
 
-  pub after_release : (k : ℕ) (held : Held) (block : Option (ℕ × Payload A)) → Holding A heap before old works popped
+  pub after_release : (k : ℕ) (held : Held) (block : Option (ℕ × Payload A)) → Holding A heap before old works popped ledger
       → Continues before seat
       → IsKnown heap.cells seat.log (released (is_there block) (drops.Frame k) held.cell (entries_answered block) (known_seen heap.cells before.log))
       → KeepsPlaces heap.cells before.log seat.log
@@ -244,7 +249,7 @@ module _ {A : Type 0} {heap : TableSeen} (before seat : SeatSeen A) {old places 
       → held.cell < heap.cells
       → Updates old places k None
       → locked_place heap.cells before.log ≡ None
-      → Holding A heap seat places (pushed block works) popped
+      → Holding A heap seat places (pushed block works) popped ledger
   after_release k held block keeps continues knows goes_on answers low updates unlocked = record {
     hand_is = ap (λ (p : Part). p.row.hand) knows.part ∙ keeps.hand_is;
     placed = placed_released k held block keeps knows updates;
@@ -269,27 +274,29 @@ module _ {A : Type 0} {heap : TableSeen} (before seat : SeatSeen A) {old places 
     popped_is = keeps.popped_is ∙ sym (ap (λ (p : Part). p.popped) knows.part);
     words = keeps.words;
     bits = keeps.bits;
+    allocs = keeps.allocs ∙ sym (ap (λ (p : Part). p.row.allocs) knows.part);
+    frees = keeps.frees ∙ sym (ap (λ (p : Part). p.row.frees) knows.part);
   }
 
 entries_front : {A : Type 0} {works : List (ℕ × Payload A)} (entry : ℕ) (mid : List (ℕ × Payload A)) (pops : PopsEntry works mid entry)
     → entries_in (contents_of pops.held) ≡ entries_of pops.left ++ entry ∷ []
 entries_front entry mid pops = contents_have pops.held ∙ pops.entries
 
-module _ {A : Type 0} {heap : TableSeen} (before seat : SeatSeen A) {places : Slab Held} {works : List (ℕ × Payload A)} {popped : List ℕ} where
+module _ {A : Type 0} {heap : TableSeen} (before seat : SeatSeen A) {places : Slab Held} {works : List (ℕ × Payload A)} {popped : List ℕ} {ledger : Ledger} where
   -- ---- the front block's last entry is released
 
-  listed_front : (entry : ℕ) (mid : List (ℕ × Payload A)) (pops : PopsEntry works mid entry) → Holding A heap before places works popped
+  listed_front : (entry : ℕ) (mid : List (ℕ × Payload A)) (pops : PopsEntry works mid entry) → Holding A heap before places works popped ledger
       → taken_seen heap.cells before.log ≡ (pops.cell, entries_in (contents_of pops.held)) ∷ map block_listed pops.below
   listed_front entry mid pops keeps = keeps.listed ∙ ap (map block_listed) pops.before
 
-  buried_front : (entry : ℕ) (mid : List (ℕ × Payload A)) (pops : PopsEntry works mid entry) → Holding A heap before places works popped
+  buried_front : (entry : ℕ) (mid : List (ℕ × Payload A)) (pops : PopsEntry works mid entry) → Holding A heap before places works popped ledger
       → Buried heap.cells (part_seen heap.cells before.log).worklist (part_seen heap.cells before.log).has
       ((pops.cell, entries_in (contents_of pops.held)) ∷ map block_listed pops.below)
   buried_front entry mid pops keeps =
       subst (Buried heap.cells (part_seen heap.cells before.log).worklist (part_seen heap.cells before.log).has) (listed_front entry mid pops keeps) keeps.buried
 
   -- the front block's entries are cells of the heap, and so are those that it keeps
-  pub entry_inside : (entry : ℕ) (mid : List (ℕ × Payload A)) (pops : PopsEntry works mid entry) → Holding A heap before places works popped
+  pub entry_inside : (entry : ℕ) (mid : List (ℕ × Payload A)) (pops : PopsEntry works mid entry) → Holding A heap before places works popped ledger
       → entry < heap.cells
   entry_inside entry mid pops keeps =
       cells_last heap.cells (entries_of pops.left) entry (subst (AreCells heap.cells) (entries_front entry mid pops)
@@ -297,7 +304,7 @@ module _ {A : Type 0} {heap : TableSeen} (before seat : SeatSeen A) {places : Sl
       (listed_here pops.cell (entries_in (contents_of pops.held)) (map block_listed pops.below))))
 
   -- the reference may go
-  pub entry_held : (entry : ℕ) (mid : List (ℕ × Payload A)) (pops : PopsEntry works mid entry) → Holding A heap before places works popped
+  pub entry_held : (entry : ℕ) (mid : List (ℕ × Payload A)) (pops : PopsEntry works mid entry) → Holding A heap before places works popped ledger
       → may_give_up (part_seen heap.cells before.log).row.stage ≡ true → locked_place heap.cells before.log ≡ None
       → Holds heap.cells before.log (drops.Work pops.cell) entry
   entry_held entry mid pops keeps stage unlocked =
@@ -312,12 +319,12 @@ module _ {A : Type 0} {heap : TableSeen} (before seat : SeatSeen A) {places : Sl
       }
 
   pub after_entry : (entry : ℕ) (mid : List (ℕ × Payload A)) (block : Option (ℕ × Payload A)) (pops : PopsEntry works mid entry)
-      → Holding A heap before places works popped → Continues before seat
+      → Holding A heap before places works popped ledger → Continues before seat
       → IsKnown heap.cells seat.log (released (is_there block) (drops.Work pops.cell) entry (entries_answered block) (known_seen heap.cells before.log))
       → KeepsPlaces heap.cells before.log seat.log
       → Answers heap.cells entry block before seat
       → locked_place heap.cells before.log ≡ None
-      → Holding A heap seat places (pushed block mid) popped
+      → Holding A heap seat places (pushed block mid) popped ledger
   after_entry entry mid block pops keeps continues knows goes_on answers unlocked =
       let es : List ℕ = entries_in (contents_of pops.held) in
       let fewer : List ℕ = entries_in (contents_of pops.left) in
@@ -353,17 +360,19 @@ module _ {A : Type 0} {heap : TableSeen} (before seat : SeatSeen A) {places : Sl
         popped_is = keeps.popped_is ∙ sym (ap (λ (p : Part). p.popped) knows.part);
         words = keeps.words;
         bits = keeps.bits;
+        allocs = keeps.allocs ∙ sym (ap (λ (p : Part). p.row.allocs) knows.part);
+        frees = keeps.frees ∙ sym (ap (λ (p : Part). p.row.frees) knows.part);
       }
 
   -- ---- the front block, without entries, is given back
 
-  pub front_inside : (d : ℕ) (payload : Payload A) (below : List (ℕ × Payload A)) → Holding A heap before places works popped
+  pub front_inside : (d : ℕ) (payload : Payload A) (below : List (ℕ × Payload A)) → Holding A heap before places works popped ledger
       → works ≡ (d, payload) ∷ below → d < heap.cells
   front_inside d payload below keeps front =
       keeps.buried.inside d (entries_in (contents_of payload)) (ap (λ bs. listed_at bs d) (keeps.listed ∙ ap (map block_listed) front)
       ∙ listed_here d (entries_in (contents_of payload)) (map block_listed below))
 
-  pub free_carries : (d : ℕ) (payload : Payload A) (below : List (ℕ × Payload A)) → Holding A heap before places works popped
+  pub free_carries : (d : ℕ) (payload : Payload A) (below : List (ℕ × Payload A)) → Holding A heap before places works popped ledger
       → may_give_up (part_seen heap.cells before.log).row.stage ≡ true → locked_place heap.cells before.log ≡ None
       → works ≡ (d, payload) ∷ below → entries_of payload ≡ [] → Carries heap.cells before.log (Free d) d
   free_carries d payload below keeps stage unlocked front none =
@@ -383,11 +392,11 @@ module _ {A : Type 0} {heap : TableSeen} (before seat : SeatSeen A) {places : Sl
         cell = refl;
       }
 
-  pub after_freeing : (d : ℕ) (payload : Payload A) (below : List (ℕ × Payload A)) → Holding A heap before places works popped
+  pub after_freeing : (d : ℕ) (payload : Payload A) (below : List (ℕ × Payload A)) → Holding A heap before places works popped ledger
       → locked_place heap.cells before.log ≡ None
       → works ≡ (d, payload) ∷ below → Continues before seat → seat.slots ≡ rest before.slots
       → IsKnown heap.cells seat.log (giving_back d (known_seen heap.cells before.log)) → Keeps heap.cells before.log seat.log
-      → Holding A heap seat places below popped
+      → Holding A heap seat places below popped (record ledger { frees = ledger.frees + 1 })
   after_freeing d payload below keeps unlocked front continues home knows goes_on =
       let es : List ℕ = entries_in (contents_of payload) in
       let listed : taken_seen heap.cells before.log ≡ (d, es) ∷ map block_listed below = keeps.listed ∙ ap (map block_listed) front in
@@ -410,6 +419,8 @@ module _ {A : Type 0} {heap : TableSeen} (before seat : SeatSeen A) {places : Sl
         popped_is = keeps.popped_is ∙ sym (ap (λ (p : Part). p.popped) knows.part);
         words = keeps.words;
         bits = keeps.bits;
+        allocs = keeps.allocs ∙ sym (ap (λ (p : Part). p.row.allocs) knows.part);
+        frees = ap (λ m. m + 1) keeps.frees ∙ sym (ap (λ (p : Part). p.row.frees) knows.part);
       }
 
 -- ---- turns leave all handles as they are

@@ -16,6 +16,7 @@ use Rattle.brc_rule.specs.Seen.{part_seen}
 use Rattle.brc_steps.specs.Owing.{Allowed}
 use Rattle.brc_table.specs.Seated.{TableSeen, SeatSeen}
 use Rattle.brc_count.specs.declared.held.Held.{Held}
+use Rattle.brc_count.specs.declared.ledger.Ledger.{Ledger}
 use Rattle.brc_count.specs.Frames.{FrameSeen, Holding, locked_place, cell_held}
 use Rattle.brc_count.specs.Closing.{stage_with, TurnedLeaving, TurnsLeaving, OneMore}
 
@@ -49,20 +50,20 @@ unmarked_from marks none = eq-eqb (marked_cells marks) 0 (count marks none)
         let first : ◌≡◌ {A = ℕ} (if x then 1 else 0) 0 = ap (λ (v : Bool). if v then 1 else 0) (empty 0) in
         omega (arith, sum_by-cons (λ (v : Bool). if v then 1 else 0) x xs, first, count xs (λ k. empty (suc k)))
 
-module _ {A : Type 0} {heap : TableSeen} {seat : SeatSeen A} {places : Slab Held} {popped : List ℕ} where
+module _ {A : Type 0} {heap : TableSeen} {seat : SeatSeen A} {places : Slab Held} {popped : List ℕ} {ledger : Ledger} where
   -- no place is filled
-  pub holds_bare : {works : List (ℕ × Payload A)} → Holding A heap seat places works popped → slab_len places ≡ 0
+  pub holds_bare : {works : List (ℕ × Payload A)} → Holding A heap seat places works popped ledger → slab_len places ≡ 0
       → is_bare (part_seen heap.cells seat.log).frame ≡ true
   holds_bare keeps none = bare_from (part_seen heap.cells seat.log).frame (λ k. keeps.placed k ∙ ap cell_held (none_filled places.slots none k))
 
   -- no block is left
-  pub holds_unmarked : Holding A heap seat places [] popped → is_unmarked (part_seen heap.cells seat.log).worklist ≡ true
+  pub holds_unmarked : Holding A heap seat places [] popped ledger → is_unmarked (part_seen heap.cells seat.log).worklist ≡ true
   holds_unmarked keeps = unmarked_from (part_seen heap.cells seat.log).worklist
       (λ c. keeps.buried.only c (ap (λ bs. listed_at bs c) keeps.listed))
 
   -- ---- the next word
 
-  pub may_close : (k : ℕ) → Holding A heap seat places [] popped → slab_len places ≡ 0 → locked_place heap.cells seat.log ≡ None
+  pub may_close : (k : ℕ) → Holding A heap seat places [] popped ledger → slab_len places ≡ 0 → locked_place heap.cells seat.log ≡ None
       → (part_seen heap.cells seat.log).row.stage ≡ stage_with (words_for heap.cells) k → k < words_for heap.cells
       → (k ≡ 0 → is_blank (part_seen heap.cells seat.log).popped ≡ true) → Allowed heap.cells seat.log (Close k)
   may_close k keeps none unlocked stage low blank = record {

@@ -27,6 +27,7 @@ use Rattle.brc_counter.specs.Standing.{KeepsPlaces}
 use Rattle.brc_counter.specs.Up.{IsKnown}
 use Rattle.brc_counter.proofs.Marking.{marks_wide}
 use Rattle.brc_count.specs.declared.held.Held.{Held}
+use Rattle.brc_count.specs.declared.ledger.Ledger.{Ledger}
 use Rattle.brc_count.specs.Polling.{DrainsNamed, NoWord, NotNamed}
 use Rattle.brc_count.specs.Frames.{AreBits, FrameSeen, Holding, locked_place, cell_held, pushed}
 use Rattle.brc_count.proofs.Buried.{after_given}
@@ -107,6 +108,8 @@ lowest_set n words k i v read low is fit =
 pub record Pops (n : ℕ) (before log : List Told) (k number : ℕ) : Type 0 where
   pub hand : (part_seen n log).row.hand ≡ (part_seen n before).row.hand
   pub locked : (part_seen n log).row.locked ≡ (part_seen n before).row.locked
+  pub allocs : (part_seen n log).row.allocs ≡ (part_seen n before).row.allocs
+  pub frees : (part_seen n log).row.frees ≡ (part_seen n before).row.frees
   pub frame : (part_seen n log).frame ≡ (part_seen n before).frame
   pub worklist : (part_seen n log).worklist ≡ (part_seen n before).worklist
   pub has : (part_seen n log).has ≡ (part_seen n before).has
@@ -117,6 +120,8 @@ pub drained_pops : (n : ℕ) (before log : List Told) (k number : ℕ) → IsKno
 drained_pops n before log k number knows = record {
   hand = ap (λ (p : Part). p.row.hand) knows.part;
   locked = ap (λ (p : Part). p.row.locked) knows.part;
+  allocs = ap (λ (p : Part). p.row.allocs) knows.part;
+  frees = ap (λ (p : Part). p.row.frees) knows.part;
   frame = ap (λ (p : Part). p.frame) knows.part;
   worklist = ap (λ (p : Part). p.worklist) knows.part;
   has = ap (λ (p : Part). p.has) knows.part;
@@ -128,6 +133,8 @@ pub closed_pops : (n : ℕ) (before log : List Told) (k number : ℕ) → IsKnow
 closed_pops n before log k number knows = record {
   hand = ap (λ (p : Part). p.row.hand) knows.part;
   locked = ap (λ (p : Part). p.row.locked) knows.part;
+  allocs = ap (λ (p : Part). p.row.allocs) knows.part;
+  frees = ap (λ (p : Part). p.row.frees) knows.part;
   frame = ap (λ (p : Part). p.frame) knows.part;
   worklist = ap (λ (p : Part). p.worklist) knows.part;
   has = ap (λ (p : Part). p.has) knows.part;
@@ -135,12 +142,12 @@ closed_pops n before log k number knows = record {
   popped = ap (λ (p : Part). p.popped) knows.part;
 }
 
-module _ {A : Type 0} {heap : TableSeen} (before seat : SeatSeen A) {places : Slab Held} {works : List (ℕ × Payload A)} {popped : List ℕ} where
+module _ {A : Type 0} {heap : TableSeen} (before seat : SeatSeen A) {places : Slab Held} {works : List (ℕ × Payload A)} {popped : List ℕ} {ledger : Ledger} where
   -- the bits of a queue word are popped, whether it is drained or closed
-  pub after_pops : (k number read : ℕ) → Holding A heap before places works popped → Stays before seat
+  pub after_pops : (k number read : ℕ) → Holding A heap before places works popped ledger → Stays before seat
       → Pops heap.cells before.log seat.log k number → Keeps heap.cells before.log seat.log
       → AreQueued heap.cells k number → k < words_for heap.cells → read ≡ word_at popped k → locked_place heap.cells before.log ≡ None
-      → Holding A heap seat places works (set popped k (bit_or read number))
+      → Holding A heap seat places works (set popped k (bit_or read number)) ledger
   after_pops k number read keeps stays pops goes_on queued low was unlocked =
       let gone : locked_place heap.cells seat.log ≡ None = pops.locked ∙ unlocked in
       let inside : k < length popped = subst (λ m. k < m) (sym keeps.words) low in
@@ -158,14 +165,16 @@ module _ {A : Type 0} {heap : TableSeen} (before seat : SeatSeen A) {places : Sl
         popped_is = ap (λ v. set popped k (bit_or v number)) was ∙ ap (λ ws. set ws k (bit_or (word_at ws k) number)) keeps.popped_is ∙ sym pops.popped;
         words = length-set popped k (bit_or read number) ∙ keeps.words;
         bits = subst (λ v. AreBits heap.cells (set popped k (bit_or v number))) (sym was) (bits_joined popped keeps.bits k number inside queued);
+        allocs = keeps.allocs ∙ sym pops.allocs;
+        frees = keeps.frees ∙ sym pops.frees;
       }
 
   -- an entry is dealt with, and the block of the object that it ended is on the worklist
-  pub after_settle : (c read : ℕ) (block : Option (ℕ × Payload A)) → Holding A heap before places works popped → Continues before seat
+  pub after_settle : (c read : ℕ) (block : Option (ℕ × Payload A)) → Holding A heap before places works popped ledger → Continues before seat
       → IsKnown heap.cells seat.log (settling c (taking (is_there block) c (entries_answered block) (known_seen heap.cells before.log)))
       → KeepsPlaces heap.cells before.log seat.log → Answers heap.cells c block before seat
       → bit_of popped c ≡ 1 → read ≡ word_at popped (c / 32) → locked_place heap.cells before.log ≡ None
-      → Holding A heap seat places (pushed block works) (set popped (c / 32) (bit_xor read (2 ^ (c % 32))))
+      → Holding A heap seat places (pushed block works) (set popped (c / 32) (bit_xor read (2 ^ (c % 32)))) ledger
   after_settle c read block keeps continues knows goes_on answers there was unlocked =
       let gone : locked_place heap.cells seat.log ≡ None = ap (λ (p : Part). p.row.locked) knows.part ∙ unlocked in
       record {
@@ -186,6 +195,8 @@ module _ {A : Type 0} {heap : TableSeen} (before seat : SeatSeen A) {places : Sl
             ∙ sym (ap (λ (p : Part). p.popped) knows.part);
         words = length-set popped (c / 32) (bit_xor read (2 ^ (c % 32))) ∙ keeps.words;
         bits = subst (λ v. AreBits heap.cells (set popped (c / 32) (bit_xor v (2 ^ (c % 32))))) (sym was) (bits_left popped keeps.bits c there);
+        allocs = keeps.allocs ∙ sym (ap (λ (p : Part). p.row.allocs) knows.part);
+        frees = keeps.frees ∙ sym (ap (λ (p : Part). p.row.frees) knows.part);
       }
 
 -- ---- each bit of a word is looked at

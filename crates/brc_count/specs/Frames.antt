@@ -30,6 +30,7 @@ use Rattle.brc_counter.specs.Standing.{may_give_up}
 use Rattle.brc_counter.specs.Released.{Released}
 use Rattle.brc_counter.specs.Up.{CountsHere, RaisedImmortal, RaisedShared}
 use Rattle.brc_count.specs.declared.held.Held.{Held}
+use Rattle.brc_count.specs.declared.ledger.Ledger.{Ledger}
 
 -- which thread's handle it is, and which place of that thread's frame has its reference
 pub record HandleSeen : Type 0 where
@@ -105,8 +106,9 @@ AreBits n words = (k i : ℕ) → bit_at (word_at words k) i ≡ 1 → (i < 32) 
 
 -- What a thread's holdings keep: nothing is in its hand; each place holds what the log says, and what is marked as risen was
 -- seen so; the popped words are the log's; the worklist has the dead blocks that the log lists, and no slot is out but theirs
--- and that of the object that is locked, if one is; that one stands in its place, with the entries that were found.
-pub record Holding (A : Type 0) (heap : TableSeen) (seat : SeatSeen A) (places : Slab Held) (works : List (ℕ × Payload A)) (popped : List ℕ) : Type 0 where
+-- and that of the object that is locked, if one is; that one stands in its place, with the entries that were found. Births and
+-- frees are counted.
+pub record Holding (A : Type 0) (heap : TableSeen) (seat : SeatSeen A) (places : Slab Held) (works : List (ℕ × Payload A)) (popped : List ℕ) (ledger : Ledger) : Type 0 where
   pub hand_is : (part_seen heap.cells seat.log).row.hand ≡ hands.Free
   pub placed : (k : ℕ) → place_seen heap.cells seat.log k ≡ cell_held (get places k)
   pub risen : (k : ℕ) (held : Held) → get places k ≡ Some held → held.risen ≡ true
@@ -120,6 +122,8 @@ pub record Holding (A : Type 0) (heap : TableSeen) (seat : SeatSeen A) (places :
   pub popped_is : popped ≡ (part_seen heap.cells seat.log).popped
   pub words : length popped ≡ words_for heap.cells
   pub bits : AreBits heap.cells popped
+  pub allocs : ledger.allocs ≡ (part_seen heap.cells seat.log).row.allocs
+  pub frees : ledger.frees ≡ (part_seen heap.cells seat.log).row.frees
 
 -- the handle is of the frame's thread, and its place has a reference
 pub record Owns {A : Type 0} (frame : FrameSeen A) (handle : HandleSeen) : Type 0 where
@@ -165,6 +169,13 @@ pub record Leaving {A : Type 0} (holdings : FrameSeen A) (thread next : ℕ) : T
 pub record KeepsRest {A : Type 0} (old new : FrameSeen A) : Type 0 where
   pub stage : (part_seen new.heap.cells new.seat.log).row.stage ≡ (part_seen old.heap.cells old.seat.log).row.stage
   pub lock : locked_place new.heap.cells new.seat.log ≡ locked_place old.heap.cells old.seat.log
+
+-- how many objects the thread has made, and how many cells it has given back
+abbrev pub ledger_seen : {A : Type 0} → FrameSeen A → Ledger
+ledger_seen frame = record {
+  allocs = (part_seen frame.heap.cells frame.seat.log).row.allocs;
+  frees = (part_seen frame.heap.cells frame.seat.log).row.frees;
+}
 
 -- nothing changed, but that more places may need no memory
 abbrev pub IsAsBefore : {A : Type 0} → FrameSeen A → FrameSeen A → Type 0

@@ -4,12 +4,13 @@ ghost use Rattle.std.specs.Prelude.{◌≡◌, ◌-◌, ◌<◌, ◌≤◌, ℕ,
 ghost use Rattle.brc_runs.specs.Lists.{word_at, is_blank, is_unmarked};
 ghost use Rattle.brc_runs.specs.Steps.{is_left, is_free_hand};
 ghost use Rattle.brc_rule.specs.Seen.{part_seen};
-ghost use Rattle.brc_count.specs.Frames.{KeepsHandles, popped_seen};
+ghost use Rattle.brc_count.specs.Frames.{KeepsHandles, ledger_seen, popped_seen};
 ghost use Rattle.brc_steps.specs.Joining.{Leaves};
 ghost use Rattle.brc_table.specs.Seated.{view_of};
 ghost use Rattle.brc_count.specs.Closing.{TurnedLeaving, TurnsLeaving};
 
 use crate::holdings::Holdings;
+use crate::ledger::Ledger;
 use brc_counter::Home;
 use brc_table::ThreadSeat;
 use std::alloc::Allocator;
@@ -39,6 +40,13 @@ impl<H: Home<A>, A: Allocator> ClosedFrame<H, A> {
         ensures { result ≡ self.now.seat.thread }
     {
         self.thread
+    }
+
+    /// How many objects the thread made, and how many cells it has given back, its own objects' and others'.
+    pub fn ledger(&self) -> Ledger
+        ensures { result ≡ ledger_seen self.now }
+    {
+        self.holdings.ledger()
     }
 
     /// Whether nothing is left to do: no popped entry, and no dead block.

@@ -73,6 +73,7 @@ impl<H: Home<A>, A: Allocator> Holdings<H, A> {
             places: _places,
             works,
             popped: _popped,
+            ledger: _ledger,
         } = self;
         works.end();
         let (_heap, seat) = counter.into_parts();

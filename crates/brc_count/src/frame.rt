@@ -8,13 +8,14 @@ ghost use Rattle.brc_runs.specs.Heap.{words_for};
 ghost use Rattle.brc_counter.specs.Bounded.{IsBounded};
 ghost use Rattle.brc_steps.specs.Joining.{next_thread, registering};
 ghost use Rattle.brc_table.specs.Seated.{Continues};
-ghost use Rattle.brc_count.specs.Frames.{place_seen, Owns, Given, Refused, ReleasedOf, IsAsBefore, IsUnlocked, Turns, KeepsHandles};
+ghost use Rattle.brc_count.specs.Frames.{place_seen, Owns, Given, Refused, ReleasedOf, IsAsBefore, IsUnlocked, Turns, KeepsHandles, ledger_seen};
 ghost use Rattle.brc_count.specs.Polling.{Polled};
 ghost use Rattle.brc_count.specs.Closing.{Closes};
 
 use crate::closed::ClosedFrame;
 use crate::handle::Handle;
 use crate::holdings::Holdings;
+use crate::ledger::Ledger;
 use brc_counter::{Counter, Home, first_counts};
 use brc_runs::Source;
 use brc_table::RootSeat;
@@ -106,6 +107,13 @@ impl<H: Home<A>, A: Allocator> Frame<H, A> {
             Some(cell) => cell,
             None => unreachable!(),
         }
+    }
+
+    /// How many objects the thread has made, and how many cells it has given back, its own objects' and others'.
+    pub fn ledger(&self) -> Ledger
+        ensures { result ≡ ledger_seen self.now }
+    {
+        self.holdings.ledger()
     }
 
     /// Whether there is no handle, and no dead block to take apart.

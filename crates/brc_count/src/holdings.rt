@@ -10,9 +10,10 @@ ghost use Rattle.brc_counter.specs.Bounded.{IsBounded};
 ghost use Rattle.brc_counter.specs.Standing.{may_give_up};
 ghost use Rattle.brc_rule.specs.Seen.{part_seen};
 ghost use Rattle.brc_table.specs.Seated.{Continues};
-ghost use Rattle.brc_count.specs.Frames.{IsActive, MayGiveUp, SourceFits, SourceNames, place_seen, locked_place, Given, Refused, ReleasedOf, IsAsBefore, KeepsRest, popped_seen, IsUnlocked};
+ghost use Rattle.brc_count.specs.Frames.{IsActive, MayGiveUp, SourceFits, SourceNames, place_seen, locked_place, Given, Refused, ReleasedOf, IsAsBefore, KeepsRest, ledger_seen, popped_seen, IsUnlocked};
 
 use crate::held::Held;
+use crate::ledger::Ledger;
 use brc_block::Worklist;
 use brc_counter::{Counter, Home};
 use brc_runs::{Dropped, Source};
@@ -28,6 +29,7 @@ pub(crate) struct Holdings<H: Home<A>, A: Allocator> {
     pub(crate) places: Slab<Held, A>,
     pub(crate) works: Worklist<A>,
     pub(crate) popped: Vec<u64, A>,
+    pub(crate) ledger: Ledger,
 }
 
 impl<H: Home<A>, A: Allocator> Model for Holdings<H, A> {
@@ -39,7 +41,7 @@ impl<H: Home<A>, A: Allocator> Model for Holdings<H, A> {
 
     ghost view = { λ f. record { heap = f.counter.heap; seat = f.counter.seat; len = slab_len f.places; spare = f.places.capacity - slab_len f.places; next = f.places.vacant_key; works = f.works } };
 
-    ghost invariant = { λ f. Holding A f.counter.heap f.counter.seat f.places f.works f.popped.items };
+    ghost invariant = { λ f. Holding A f.counter.heap f.counter.seat f.places f.works f.popped.items f.ledger };
 }
 
 impl<H: Home<A>, A: Allocator> Holdings<H, A> {
@@ -58,7 +60,18 @@ impl<H: Home<A>, A: Allocator> Holdings<H, A> {
             places: Slab::new(alloc),
             works: Worklist::new(),
             popped,
+            ledger: Ledger {
+                allocs: 0,
+                frees: 0,
+            },
         }
+    }
+
+    /// What the thread has made, and given back.
+    pub(crate) fn ledger(&self) -> Ledger
+        ensures { result ≡ ledger_seen self.now }
+    {
+        self.ledger
     }
 
     /// Whether no place is filled, and no block is to be taken apart.

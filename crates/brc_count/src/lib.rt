@@ -10,6 +10,7 @@ mod frame;
 mod handle;
 mod held;
 mod holdings;
+mod ledger;
 mod polling;
 mod work;
 
@@ -17,3 +18,4 @@ pub use closed::ClosedFrame;
 pub use frame::Frame;
 pub use handle::Handle;
 pub use held::Held;
+pub use ledger::Ledger;

@@ -36,6 +36,7 @@ impl<H: Home<A>, A: Allocator> Holdings<H, A> {
             return false;
         };
         self.counter.free(block.cell());
+        self.ledger.frees += 1;
         let _payload = block.into_payload();
         true
     }

@@ -11,7 +11,7 @@ use Rattle.brc_count.proofs.holdings.Holdings.close_word.Goals as goal
 pub close-bits-requires-clause-allowed : goal.close-bits-requires-clause-allowed
 close-bits-requires-clause-allowed g c =
     let none = rw (← c.self.view_is) at c.requires.idle in
-    let keeps = subst (λ w. Holding g.row.A.Denot c.self.inside.counter.heap c.self.inside.counter.seat c.self.inside.places w c.self.inside.popped.items) none.1 c.self.invariant in
+    let keeps = subst (λ w. Holding g.row.A.Denot c.self.inside.counter.heap c.self.inside.counter.seat c.self.inside.places w c.self.inside.popped.items c.self.inside.ledger) none.1 c.self.invariant in
     may_close c.args.word keeps none.0 (subst IsUnlocked (sym c.self.view_is) c.requires.unlocked)
     (subst (λ (f : FrameSeen g.row.A.Denot). (part_seen f.heap.cells f.seat.log).row.stage ≡ stage_with (words_for f.heap.cells) c.args.word) (sym c.self.view_is) c.requires.stage)
     (rw (← c.self.view_is) at c.requires.inside)
