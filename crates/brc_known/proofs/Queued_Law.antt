@@ -1,6 +1,6 @@
 -- What a queue word has is a reference of each cell whose bit is set, so these are cells of the heap; and how many objects a
 -- thread may have given back.
-use Rattle.std.proofs.Common.{◌≡◌, ℕ, ◌+◌, ◌*◌, ◌/◌, ◌%◌, ◌<◌, ◌≤◌, ◌^◌, true, List, [], length, refl, sym, ◌∙◌, ap, subst, inl, inr, arith}
+use Rattle.std.proofs.Common.{◌≡◌, ℕ, ◌+◌, ◌*◌, ◌/◌, ◌%◌, ◌<◌, ◌≤◌, ◌^◌, true, List, [], length, refl, ◌∙◌, ap, subst, inl, inr, arith}
 use Rattle.std.specs.Int.{bit_at}
 use Rattle.std.proofs.lemmas.Bool.{cases_lt}
 use Rattle.std.proofs.lemmas.List.{get_or_past}
@@ -8,7 +8,7 @@ use Rattle.std.proofs.lemmas.Nat.Bits.{bit_at-zero, bit_at_above}
 use Rattle.brc_runs.specs.declared.cell.Cell.{Cell}
 use Rattle.brc_runs.specs.declared.row.Row.{Row}
 use Rattle.brc_runs.specs.Lists.{bit_of, word_at}
-use Rattle.brc_runs.specs.Heap.{Heap, cell_at, row_at, queue_at, no_cell, no_row, opening, is_registered, AreOptions}
+use Rattle.brc_runs.specs.Heap.{Heap, row_at, queue_at, no_cell, no_row, opening, is_registered, AreOptions}
 use Rattle.brc_runs.specs.Runs.{IsReached}
 use Rattle.brc_runs.specs.Sound.{IsSound, held}
 use Rattle.brc_runs.proofs.Naming.{sum_one}
@@ -16,7 +16,7 @@ use Rattle.brc_runs.proofs.Reached.{reached_sound}
 use Rattle.brc_runs.proofs.Sizes.{reached_births}
 use Rattle.brc_lasting.proofs.Lasting.{held_live, live_owner}
 use Rattle.brc_lasting.proofs.Standing.{run_reached}
-use Rattle.brc_known.specs.Items.{ItemRun, AreItems, IsPart, events_of, world_of_items, part_of, own}
+use Rattle.brc_known.specs.Items.{ItemRun, AreItems, events_of, world_of_items, part_of, own}
 use Rattle.brc_known.proofs.Items_Told.{QueuesFit}
 use Rattle.brc_known.proofs.Items_Queues.{run_queues}
 use Rattle.brc_known.proofs.Items_Runs.{events_run}
