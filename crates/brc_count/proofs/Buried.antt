@@ -35,7 +35,7 @@ listed_else c es blocks q other = ap (λ t. if t then Some es else listed_at blo
 put_here : (c : ℕ) (es : List ℕ) (has : ℕ → List ℕ) → put c es has c ≡ es
 put_here c es has = ap (λ t. if t then es else has c) (eq-eqb c c refl)
 
-put_else : (c : ℕ) (es : List ℕ) (has : ℕ → List ℕ) (q : ℕ) → q ≢ c → put c es has q ≡ has q
+pub put_else : (c : ℕ) (es : List ℕ) (has : ℕ → List ℕ) (q : ℕ) → q ≢ c → put c es has q ≡ has q
 put_else c es has q other = ap (λ t. if t then es else has q) (ne_eqb q c other)
 
 unlisted : (o : Option (List ℕ)) (rest : Bool) → (is_none o && rest) ≡ true → o ≡ None

@@ -3,3 +3,4 @@ mod Changes
 mod Framings
 mod Popping
 mod Leaving
+mod Bearing

@@ -1,3 +1,4 @@
 pub mod Frames
 pub mod Polling
 pub mod Closing
+pub mod Making

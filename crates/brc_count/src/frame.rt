@@ -11,11 +11,16 @@ ghost use Rattle.brc_table.specs.Seated.{Continues};
 ghost use Rattle.brc_count.specs.Frames.{place_seen, Owns, Given, Refused, ReleasedOf, IsAsBefore, IsUnlocked, Turns, KeepsHandles, ledger_seen};
 ghost use Rattle.brc_count.specs.Polling.{Polled};
 ghost use Rattle.brc_count.specs.Closing.{Closes};
+ghost use Rattle.brc_count.specs.Making.{Made, RefusedMaking};
+ghost use Rattle.brc_words.specs.Kinds.{is_mortal};
+ghost use Rattle.brc_rule.specs.Logs.{kind_in, entries_in};
+ghost use Rattle.brc_table.specs.Shown.{contents_of};
 
 use crate::closed::ClosedFrame;
 use crate::handle::Handle;
 use crate::holdings::Holdings;
 use crate::ledger::Ledger;
+use brc_block::Payload;
 use brc_counter::{Counter, Home, first_counts};
 use brc_runs::Source;
 use brc_table::RootSeat;
@@ -164,6 +169,27 @@ impl<H: Home<A>, A: Allocator> Frame<H, A> {
     {
         self.holdings.reserve()?;
         let place = self.holdings.fill(Source::Immortal(cell), cell);
+        Ok(Handle {
+            thread: self.thread,
+            place,
+        })
+    }
+
+    /// A new object with this payload, and a handle to it: a cell is claimed, its words are set, and the block is put home
+    /// (PEP 703, "Biased Reference Counting": the thread that makes an object owns it, with a local count of 1). The faults
+    /// come in this order, and each hands the payload back: FrameFull where the next place isn't below 65,536; LedgerFull
+    /// where the thread has made 2^47 objects; OutOfMemory where the place or the block can't be had; HeapFull where all
+    /// mortal cells were found taken. A container's payload is empty.
+    pub fn born(&mut self, alloc: A, payload: Payload<A>) -> Result<Handle, (Fault, Payload<A>)>
+        requires unlocked { IsUnlocked self.old }
+        requires mortal { is_mortal (kind_in (contents_of payload)) ≡ true }
+        requires empty { entries_in (contents_of payload) ≡ [] }
+        ensures heap { self.new.heap ≡ self.old.heap }
+        ensures made { IfOk result (Made self.old self.new (contents_of payload)) }
+        ensures refused { IfErr result (λ back. RefusedMaking self.old self.new back.0) }
+        ensures back { IfErr result (λ back. back.1 ≡ payload) }
+    {
+        let place = self.holdings.born(alloc, payload)?;
         Ok(Handle {
             thread: self.thread,
             place,
