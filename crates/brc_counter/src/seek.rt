@@ -5,9 +5,10 @@ ghost use Rattle.brc_words.specs.declared.limits.TheConstants.{FIRST_MORTAL, MOS
 ghost use Rattle.brc_known.specs.declared.word.Field.TheVariants as fields;
 ghost use Rattle.brc_known.specs.declared.word.Word.TheVariants as words;
 ghost use Rattle.brc_known.specs.Going_On.{handing};
+ghost use Rattle.brc_known.specs.Taken.{listed_at};
 ghost use Rattle.brc_rule.specs.declared.told.Moved.TheVariants as moves;
 ghost use Rattle.brc_rule.specs.declared.told.Told.TheVariants as told;
-ghost use Rattle.brc_rule.specs.Seen.{part_seen};
+ghost use Rattle.brc_rule.specs.Seen.{part_seen, taken_seen};
 ghost use Rattle.brc_runs.specs.declared.event.Step.TheVariants as steps;
 ghost use Rattle.brc_runs.specs.declared.row.Hand.TheVariants as hands;
 ghost use Rattle.brc_runs.specs.declared.row.Phase.TheVariants as phases;
@@ -33,6 +34,8 @@ impl<H: Home<A>, A: Allocator> Counter<H, A> {
         requires more { (part_seen self.old.heap.cells self.old.seat.log).row.allocs < MOST_BIRTHS }
         ensures heap { self.new.heap ≡ self.old.heap }
         ensures seat { Continues self.old.seat self.new.seat }
+        ensures fresh { IsTrue result →
+            listed_at (taken_seen self.old.heap.cells self.old.seat.log) cell ≡ None }
         ensures claimed { IsTrue result → self.new.seat.log ≡ told.Did (steps.Claim cell) FREE moves.Nothing
             ∷ told.Saw (words.Of fields.Owner cell) FREE ∷ self.old.seat.log }
         ensures out { IsTrue result → self.new.seat.slots ≡ (cell, None) ∷ self.old.seat.slots }
@@ -64,9 +67,11 @@ impl<H: Home<A>, A: Allocator> Counter<H, A> {
         ensures heap { self.new.heap ≡ self.old.heap }
         ensures seat { Continues self.old.seat self.new.seat }
 
-        // A cell is claimed.
+        // A cell is claimed, and it is none of the thread's dead blocks.
         ensures mortal { IfSome result (λ cell. FIRST_MORTAL ≤ cell) }
         ensures inside { IfSome result (λ cell. cell < self.old.heap.cells) }
+        ensures fresh { IfSome result (λ cell.
+            listed_at (taken_seen self.old.heap.cells self.old.seat.log) cell ≡ None) }
         ensures claimed { IfSome result (λ cell. ClaimsFirst cell self.old.seat.log self.new.seat.log) }
         ensures out { IfSome result (λ cell. self.new.seat.slots ≡ (cell, None) ∷ self.old.seat.slots) }
         ensures claimed_knows { IfSome result (λ cell. IsKnown self.old.heap.cells self.new.seat.log

@@ -29,12 +29,15 @@ use brc_runs::Change;
 use std::alloc::Allocator;
 
 impl<H: Home<A>, A: Allocator> Counter<H, A> {
-    /// Claims a free cell to make an object in; or answers the number of its owner word.
+    /// Claims a free cell, which is none of the thread's dead blocks, to make an object in; or answers the number of its owner
+    /// word.
     pub fn claim(&mut self, cell: u32) -> Result<(), u64>
         requires inside { cell < self.old.heap.cells }
         requires claims { Claims self.old.heap.cells self.old.seat.log cell }
         ensures heap { self.new.heap ≡ self.old.heap }
         ensures seat { Continues self.old.seat self.new.seat }
+        ensures fresh { OnOk result
+            (listed_at (taken_seen self.old.heap.cells self.old.seat.log) cell ≡ None) }
         ensures won { OnOk result (self.new.seat.log ≡
             told.Did (steps.Claim cell) (2 ^ 64 - 1) moves.Nothing ∷ self.old.seat.log) }
         ensures out { OnOk result (self.new.seat.slots ≡ (cell, None) ∷ self.old.seat.slots) }

@@ -1,7 +1,6 @@
 -- What a step tells its seat besides its item: of the number found, what the world before the step says, and of the log, what
 -- the world after it says.
-use Rattle.std.proofs.Common.{◌≡◌, ℕ, ◌<◌, true, List, Option, set, get_or}
-use mathlib.Core.Option.{some}
+use Rattle.std.proofs.Common.{◌≡◌, ℕ, ◌<◌, true, List, Option, get_or}
 use Rattle.atomic_table.specs.Table.{Me, Allows}
 use Rattle.atomic_table.proofs.Lists.{set_here}
 use Rattle.brc_runs.specs.Heap.{Heap}

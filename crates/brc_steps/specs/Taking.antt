@@ -36,10 +36,15 @@ abbrev pub Ended : {B : Type 0} → (B → ℕ × Contents) → ℕ → View →
 Ended shows n v slots s c number false me = me ≡ (with_told (Did s number moves.Nothing) v, slots)
 Ended shows n v slots s c number true me = TookBlock shows n v slots s c number me
 
+-- The seat has the cell's empty slot now. The cell was none of the dead blocks that the seat had.
+pub record TookSlot {B : Type 0} (n : ℕ) (v : View) (slots : List (ℕ × Option B)) (c : ℕ) (me : Me (Option B) View) : Type 0 where
+  pub fresh : listed_at (taken_seen n v.log) c ≡ None
+  pub after_is : me ≡ (with_told (Did (Claim c) (2 ^ 64 - 1) moves.Nothing) v, (c, None) ∷ slots)
+
 -- The cell is the thread's to make an object in, and its empty slot is out with the seat; or it wasn't free.
-abbrev pub Claimed : {B : Type 0} → View → List (ℕ × Option B) → ℕ → ℕ → Bool → Me (Option B) View → Type 0
-Claimed v slots c number true me = me ≡ (with_told (Did (Claim c) (2 ^ 64 - 1) moves.Nothing) v, (c, None) ∷ slots)
-Claimed v slots c number false me = me ≡ (with_told (Lost (Of OwnerWord c) number) v, slots)
+abbrev pub Claimed : {B : Type 0} → ℕ → View → List (ℕ × Option B) → ℕ → ℕ → Bool → Me (Option B) View → Type 0
+Claimed n v slots c number true me = TookSlot n v slots c me
+Claimed n v slots c number false me = me ≡ (with_told (Lost (Of OwnerWord c) number) v, slots)
 
 -- The object is locked, and the seat has its block with the contents found; or its mutex wasn't 0.
 abbrev pub Locked : {B : Type 0} → (B → ℕ × Contents) → ℕ → View → List (ℕ × Option B) → ℕ → ℕ → ℕ → Bool → Me (Option B) View → Type 0

@@ -89,14 +89,14 @@ pub fn objects_end<B>()
         (takes_block (steps.LastDown (lasts.Dropped drop)) (cell_told (steps.LastDown (lasts.Dropped drop)) there)) me) }
 {}
 
-/// A free cell is claimed by a compare-exchange, its words are set by plain stores, and its birth puts the block home; its
-/// end gives the empty slot back.
+/// A free cell, which is none of the thread's dead blocks, is claimed by a compare-exchange, its words are set by plain
+/// stores, and its birth puts the block home; its end gives the empty slot back.
 #[tactic(auto, using(crate::proofs::Making_Steps::claims_cell, crate::proofs::Making_Steps::sets_local, crate::proofs::Making_Steps::sets_shared, crate::proofs::Making_Steps::bears_object, crate::proofs::Making_Steps::frees_cell))]
 pub fn cells_are_used_again<B>()
     ensures claim { (shows : B → ℕ × contents) (n limit id : ℕ) (v : view) (slots : List (ℕ × Option B)) (c : ℕ)
         → v.active ≡ true → 0 < v.thread → c < n → Claims n v.log c
         → Allows (Kept shows n limit) n id (v, slots) (spot n (words.Of fields.Owner c)) (λ there. either (there == 2 ^ 64 - 1) (2 ^ 32 + v.thread) there)
-        (λ there me. Claimed v slots c there (there == 2 ^ 64 - 1) me) }
+        (λ there me. Claimed n v slots c there (there == 2 ^ 64 - 1) me) }
     ensures init_local { (shows : B → ℕ × contents) (n limit id : ℕ) (v : view) (slots : List (ℕ × Option B)) (c : ℕ)
         → v.active ≡ true → 0 < v.thread → c < n → Carries n v.log (steps.InitLocal c) c
         → Allows (Kept shows n limit) n id (v, slots) (spot n (words.Of fields.Local c)) (λ there. 1)

@@ -75,8 +75,8 @@ module _ {A : Type 0} where
     MayEnd c f m s d = Allows (Kept shows n limit) n id me (spot n (Of Shared c)) f (λ there after. Ended shows m me.0 me.1 s d there (takes_block s (cell_told s there)) after)
 
     -- a free cell's owner word becomes the new number, and the seat has its slot
-    abbrev pub MayClaim : ℕ → ℕ → ℕ → Type 0
-    MayClaim c new d = Allows (Kept shows n limit) n id me (spot n (Of Owner c)) (λ there. either (there == 2 ^ 64 - 1) new there) (λ there after. Claimed me.0 me.1 d there (there == 2 ^ 64 - 1) after)
+    abbrev pub MayClaim : ℕ → ℕ → ℕ → ℕ → Type 0
+    MayClaim c new m d = Allows (Kept shows n limit) n id me (spot n (Of Owner c)) (λ there. either (there == 2 ^ 64 - 1) new there) (λ there after. Claimed m me.0 me.1 d there (there == 2 ^ 64 - 1) after)
 
     -- an unlocked object's mutex word becomes the new number, and the seat has its block
     abbrev pub MayLock : ℕ → ℕ → ℕ → ℕ → ℕ → Type 0

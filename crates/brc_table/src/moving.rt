@@ -250,7 +250,7 @@ pub(crate) struct Claims<M> {
 }
 
 impl<A: Allocator, M: Winning> Play<Option<Block<A>>, View> for Claims<M> {
-    ghost then = { λ step me number after. Claimed me.0 me.1 M.cell number (number == 2 ^ 64 - 1) after };
+    ghost then = { λ step me number after. Claimed M.cells me.0 me.1 M.cell number (number == 2 ^ 64 - 1) after };
 }
 
 /// The seat has the block of an object that nobody had locked.
@@ -270,9 +270,9 @@ fn claim_as<A: Allocator, M: Winning>(
 ) -> u64
     requires same { seat.old.table_id ≡ table.now.table }
     requires inside { cell < table.now.cells }
-    requires allowed { MayClaim table.now.cells table.now.local_limit seat.old.id seat.old.me cell new M.cell }
+    requires allowed { MayClaim table.now.cells table.now.local_limit seat.old.id seat.old.me cell new M.cells M.cell }
     ensures same { (seat.new.table_id ≡ seat.old.table_id) × (seat.new.id ≡ seat.old.id) }
-    ensures claimed { Claimed seat.old.me.0 seat.old.me.1 M.cell result (result == 2 ^ 64 - 1) seat.new.me }
+    ensures claimed { Claimed M.cells seat.old.me.0 seat.old.me.1 M.cell result (result == 2 ^ 64 - 1) seat.new.me }
 {
     let at = spot_of(table.cells, Word::Of(Field::Owner, cell));
     table
@@ -290,9 +290,9 @@ pub(crate) fn claim_by<A: Allocator>(
 ) -> u64
     requires same { seat.old.table_id ≡ table.now.table }
     requires inside { cell < table.now.cells }
-    requires allowed { MayClaim table.now.cells table.now.local_limit seat.old.id seat.old.me cell new cell }
+    requires allowed { MayClaim table.now.cells table.now.local_limit seat.old.id seat.old.me cell new table.now.cells cell }
     ensures same { (seat.new.table_id ≡ seat.old.table_id) × (seat.new.id ≡ seat.old.id) }
-    ensures claimed { Claimed seat.old.me.0 seat.old.me.1 cell result (result == 2 ^ 64 - 1) seat.new.me }
+    ensures claimed { Claimed table.now.cells seat.old.me.0 seat.old.me.1 cell result (result == 2 ^ 64 - 1) seat.new.me }
 {
     claim_as::<A, Brand>(table, seat, cell, new)
 }
