@@ -1,9 +1,13 @@
 -- What becomes of what a thread holds when an object is made.
-use Rattle.std.proofs.Common.{◌≡◌, ◌≢◌, ℕ, ◌+◌, ◌<◌, true, List, [], ◌∷◌, Option, Some, None, refl, sym, ◌∙◌, ap, subst, inl, inr}
+use Rattle.std.proofs.Common.{true≢false, ◌≡◌, ◌≢◌, ℕ, ◌+◌, ◌<◌, Bool, true, false, List, [], ◌∷◌, Option, Some, None, refl, sym, ◌∙◌, ap, subst, inl, inr}
 use Rattle.std.proofs.lemmas.Bool.{cases_eq, eq-eqb}
 use Rattle.slab.specs.Slab.{Slab, get, Updates}
 use Rattle.atomic_table.specs.Table.{rest}
 use Rattle.brc_block.specs.declared.payload.Payload.{Payload}
+use Rattle.brc_block.specs.declared.payload.Payload.TheVariants as payloads
+use Rattle.brc_block.specs.Payload.{kind_of}
+use Rattle.brc_rule.specs.Logs.{kind_in}
+use Rattle.brc_table.specs.Shown.{contents_of}
 use Rattle.brc_runs.specs.declared.event.Dropped.TheVariants as drops
 use Rattle.brc_runs.specs.declared.row.Hand.TheVariants as hands
 use Rattle.brc_runs.specs.declared.row.Phase.TheVariants as phases
@@ -12,6 +16,7 @@ use Rattle.brc_runs.proofs.Framing.{place_at-filled_here, place_at-filled_else}
 use Rattle.brc_known.specs.Items.{Part, put}
 use Rattle.brc_known.specs.Going_On.{filling, bearing, handing}
 use Rattle.brc_known.specs.Taken.{Blocks, listed_at}
+use Rattle.brc_rule.specs.declared.told.Told.{Told}
 use Rattle.brc_rule.specs.Seen.{part_seen, risen_seen, taken_seen}
 use Rattle.brc_table.specs.Knowing.{known_seen, Keeps}
 use Rattle.brc_table.specs.Seated.{TableSeen, SeatSeen, Continues}
@@ -21,6 +26,17 @@ use Rattle.brc_count.specs.declared.ledger.Ledger.{Ledger}
 use Rattle.brc_count.specs.Frames.{Buried, Holding, locked_place, place_seen, cell_held}
 use Rattle.brc_count.proofs.Buried.{put_else}
 use Rattle.brc_count.proofs.Changes.{none_held, nothing_locked, out_unlocked}
+
+-- a payload's kind is that of its contents
+pub contents_kind : {A : Type 0} (payload : Payload A) → kind_of payload ≡ kind_in (contents_of payload)
+contents_kind (payloads.Int number) = refl
+contents_kind (payloads.Text text) = refl
+contents_kind (payloads.«List» cells) = refl
+contents_kind (payloads.Dict pairs) = refl
+contents_kind (payloads.Mailbox letters) = refl
+contents_kind payloads.Nothing = refl
+contents_kind (payloads.Truth true) = refl
+contents_kind (payloads.Truth false) = refl
 
 none_listed : {X : Type 0} {o : Option X} {x : X} → o ≡ None → o ≡ Some x → ⊥
 none_listed none some = cc
@@ -40,17 +56,16 @@ buried_still {has = has} {blocks = blocks} c b fresh = record {
 same_held : {a b : Held} → Some a ≡ Some b → a ≡ b
 same_held same = cc
 
-module _ {A : Type 0} {heap : TableSeen} (before mid seat : SeatSeen A) {old places : Slab Held} {works : List (ℕ × Payload A)} {popped : List ℕ} {ledger : Ledger} where
-  -- what the log says of the thread's part, in one step
-  pub born_known : (k c : ℕ) → IsKnown heap.cells mid.log (handing (hands.Busy phases.Claimed c) (known_seen heap.cells before.log))
-      → IsKnown heap.cells seat.log (filling k c (bearing c (known_seen heap.cells mid.log)))
-      → part_seen heap.cells seat.log ≡ (filling k c (bearing c (known_seen heap.cells before.log))).part
-  born_known k c claimed born = born.part ∙ ap (λ (p : Part). record p {
-    row = record p.row { hand = hands.Free; allocs = p.row.allocs + 1 };
-    has = put c [] p.has;
-    frame = filled p.frame k c;
-  }) claimed.part
+-- what the log says of the thread's part, after a cell was claimed and an object born in it
+pub born_known : (n : ℕ) (before mid log : List Told) (k c : ℕ) → IsKnown n mid (handing (hands.Busy phases.Claimed c) (known_seen n before))
+    → IsKnown n log (filling k c (bearing c (known_seen n mid))) → part_seen n log ≡ (filling k c (bearing c (known_seen n before))).part
+born_known n before mid log k c claimed born = born.part ∙ ap (λ (p : Part). record p {
+  row = record p.row { hand = hands.Free; allocs = p.row.allocs + 1 };
+  has = put c [] p.has;
+  frame = filled p.frame k c;
+}) claimed.part
 
+module _ {A : Type 0} {heap : TableSeen} (before mid seat : SeatSeen A) {old places : Slab Held} {works : List (ℕ × Payload A)} {popped : List ℕ} {ledger : Ledger} where
   placed_born : (k c : ℕ) → Holding A heap before old works popped ledger
       → part_seen heap.cells seat.log ≡ (filling k c (bearing c (known_seen heap.cells before.log))).part
       → Updates old places k (Some (record { cell = c; risen = false })) → (j : ℕ) → place_seen heap.cells seat.log j ≡ cell_held (get places j)
@@ -73,7 +88,7 @@ module _ {A : Type 0} {heap : TableSeen} (before mid seat : SeatSeen A) {old pla
       → locked_place heap.cells before.log ≡ None
       → Holding A heap seat places works popped (record ledger { allocs = ledger.allocs + 1 })
   after_birth k c keeps claimed born first second out home fresh low updates vacant unlocked =
-      let part = born_known k c claimed born in
+      let part = born_known heap.cells before.log mid.log seat.log k c claimed born in
       let gone : locked_place heap.cells seat.log ≡ None = ap (λ (p : Part). p.row.locked) part ∙ unlocked in
       record {
         hand_is = ap (λ (p : Part). p.row.hand) part;
