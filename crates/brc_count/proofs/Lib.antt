@@ -1,2 +1,3 @@
 mod Buried
 mod Changes
+mod Locks

@@ -8,6 +8,7 @@ mod frame;
 mod handle;
 mod held;
 mod holdings;
+mod locking;
 mod work;
 
 pub use frame::Frame;

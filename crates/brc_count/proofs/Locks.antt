@@ -1,0 +1,277 @@
+-- What holds of a locked object while its entries are counted up, and what its unlocking makes of what a frame keeps.
+use Rattle.std.proofs.Common.{◌≡◌, ◌≢◌, ℕ, ◌<◌, ◌≤◌, ◌==◌, Bool, true, false, if◌then◌else◌, length, arith, inl, inr, List, [], ◌∷◌, map, Option, Some, None, is_some, set, refl, sym, ◌∙◌, ap, subst, slice_get, slice_index_or}
+use Rattle.std.proofs.lemmas.Bool.{eq-eqb, ne_eqb, cases_eq, cases_lt}
+use Rattle.std.proofs.lemmas.Option.{get_or_from_slice_get}
+use Rattle.std.proofs.lemmas.List.{length-set, get_or-set_same, get_or_past}
+use Rattle.slab.specs.Slab.{Slab, get, Updates}
+use Rattle.atomic_table.specs.Table.{rest}
+use Rattle.brc_words.specs.declared.limits.TheConstants.{FIRST_MORTAL}
+use Rattle.brc_block.specs.declared.payload.Payload.{Payload}
+use Rattle.brc_runs.specs.declared.event.Change.{Change}
+use Rattle.brc_runs.specs.declared.event.Change.TheVariants as changes
+use Rattle.brc_runs.specs.declared.event.Dropped.TheVariants as drops
+use Rattle.brc_runs.specs.declared.event.Source.{Source}
+use Rattle.brc_runs.specs.declared.event.Source.TheVariants as sources
+use Rattle.brc_runs.specs.declared.event.Step.TheVariants.{LocalUp, SharedUp}
+use Rattle.brc_runs.specs.Lists.{names, place_at, filled, vacated}
+use Rattle.brc_runs.specs.Steps.{locked_cell, lock_ok, entry_of, frame_changed}
+use Rattle.brc_runs.proofs.Framing.{place_at-filled_here, place_at-filled_else, place_at-vacated_else}
+use Rattle.brc_known.specs.Items.{Part, meant, put}
+use Rattle.brc_known.specs.Going_On.{unlocking}
+use Rattle.brc_known.specs.Taken.{Blocks, listed_at, taken_by}
+use Rattle.brc_rule.specs.declared.told.Moved.TheVariants.{Nothing}
+use Rattle.brc_rule.specs.declared.told.Told.{Told}
+use Rattle.brc_rule.specs.declared.told.Told.TheVariants.{Did}
+use Rattle.brc_rule.specs.Logs.{entries_in}
+use Rattle.brc_rule.specs.Seen.{part_seen, counts_seen, taken_seen, contents_locked}
+use Rattle.brc_steps.specs.Taking.{AreCells}
+use Rattle.brc_table.specs.Knowing.{known_seen, Keeps}
+use Rattle.brc_table.specs.Moving.{found_or, found_locked}
+use Rattle.brc_table.specs.Seated.{TableSeen, SeatSeen}
+use Rattle.brc_rule.specs.declared.contents.Contents.TheVariants as contents
+use Rattle.brc_counter.specs.Up.{IsKnown}
+use Rattle.brc_count.specs.declared.held.Held.{Held}
+use Rattle.brc_count.specs.Frames.{place_seen, locked_place, lock_seen, cell_held, slots_out, Buried, Holding, HandleSeen, FrameSeen, CountsUp, Given}
+use Rattle.brc_count.specs.Locking.{KnowsLock, KeepsLock, ChangesPlace, cell_in}
+
+-- ---- places
+
+nothing_there : {X : Type 0} {a : X} → None ≡ Some a → ⊥
+nothing_there same = cc
+
+same_there : {a b : Held} → Some a ≡ Some b → a ≡ b
+same_there same = cc
+
+not_both : {b : Bool} → b ≡ true → b ≡ false → ⊥
+not_both is isnt = cc
+
+vacant_here : (frame : List (Option ℕ)) (k : ℕ) → place_at (vacated frame k) k ≡ None
+vacant_here frame k = elim (cases_lt k (length frame)) [
+  | inl inside ↦ get_or-set_same frame k None None inside
+  | inr past ↦ get_or_past (vacated frame k) k None (omega (arith, past, length-set frame k None))
+]
+
+-- The places are those of this frame; what is marked as seen risen was there before, and all that is there are cells of
+-- the heap.
+pub record Refits (n : ℕ) (frame : List (Option ℕ)) (old places : Slab Held) : Type 0 where
+  pub placed : (j : ℕ) → place_at frame j ≡ cell_held (get places j)
+  pub risen : (j : ℕ) (held : Held) → get places j ≡ Some held → held.risen ≡ true → get old j ≡ Some held
+  pub inside : (j : ℕ) (held : Held) → get places j ≡ Some held → held.cell < n
+
+module _ (n : ℕ) (frame : List (Option ℕ)) {old places : Slab Held} where
+  -- a place's reference is gone
+  pub refits_vacated : (k : ℕ) → ((j : ℕ) → place_at frame j ≡ cell_held (get old j))
+      → ((j : ℕ) (held : Held) → get old j ≡ Some held → held.cell < n)
+      → Updates old places k None → Refits n (vacated frame k) old places
+  refits_vacated k placed inside updates = record {
+    placed = λ j. elim (cases_eq j k) [
+      | inl same ↦ ap (place_at (vacated frame k)) same ∙ vacant_here frame k ∙ sym (ap cell_held (ap (get places) same ∙ updates.changed))
+      | inr other ↦ place_at-vacated_else frame k j other ∙ placed j ∙ sym (ap cell_held (updates.others j other))
+    ];
+    risen = λ j held there is. elim (cases_eq j k) [
+      | inl same ↦ absurd (nothing_there (sym updates.changed ∙ ap (get places) (sym same) ∙ there))
+      | inr other ↦ sym (updates.others j other) ∙ there
+    ];
+    inside = λ j held there. elim (cases_eq j k) [
+      | inl same ↦ absurd (nothing_there (sym updates.changed ∙ ap (get places) (sym same) ∙ there))
+      | inr other ↦ inside j held (sym (updates.others j other) ∙ there)
+    ];
+  }
+
+  -- a place has a reference that wasn't seen risen
+  pub refits_filled : (k c : ℕ) → ((j : ℕ) → place_at frame j ≡ cell_held (get old j))
+      → ((j : ℕ) (held : Held) → get old j ≡ Some held → held.cell < n) → c < n
+      → Updates old places k (Some (record { cell = c; risen = false })) → Refits n (filled frame k c) old places
+  refits_filled k c placed inside low updates =
+      let here : (j : ℕ) (held : Held) → j ≡ k → get places j ≡ Some held → record { cell = c; risen = false } ≡ held =
+      λ j held same there. same_there (sym updates.changed ∙ ap (get places) (sym same) ∙ there) in
+      record {
+        placed = λ j. elim (cases_eq j k) [
+          | inl same ↦ ap (place_at (filled frame k c)) same ∙ place_at-filled_here frame k c ∙ sym (ap cell_held (ap (get places) same ∙ updates.changed))
+          | inr other ↦ place_at-filled_else frame k c j other ∙ placed j ∙ sym (ap cell_held (updates.others j other))
+        ];
+        risen = λ j held there is. elim (cases_eq j k) [
+          | inl same ↦ absurd (not_both is (ap (λ (x : Held). x.risen) (sym (here j held same there))))
+          | inr other ↦ sym (updates.others j other) ∙ there
+        ];
+        inside = λ j held there. elim (cases_eq j k) [
+          | inl same ↦ subst (λ (x : Held). x.cell < n) (here j held same there) low
+          | inr other ↦ inside j held (sym (updates.others j other) ∙ there)
+        ];
+      }
+
+-- ---- the unlocking
+
+-- the entries of a cell that isn't one of the dead blocks may be any
+after_put : {n : ℕ} {marks : List Bool} {has : ℕ → List ℕ} {blocks : Blocks} (c : ℕ) (es : List ℕ) → Buried n marks has blocks
+    → listed_at blocks c ≡ None → Buried n marks (put c es has) blocks
+after_put {has = has} {blocks = blocks} c es b none = record {
+  marked = b.marked;
+  has_them = λ q xs at. elim (cases_eq q c) [
+    | inl same ↦ absurd (nothing_there (sym none ∙ ap (listed_at blocks) (sym same) ∙ at))
+    | inr other ↦ ap (λ t. if t then es else has q) (ne_eqb q c other) ∙ b.has_them q xs at
+  ];
+  inside = b.inside;
+  are_cells = b.are_cells;
+  apart = b.apart;
+  only = b.only;
+}
+
+module _ {A : Type 0} {heap : TableSeen} (before seat : SeatSeen A) {old places : Slab Held} {works : List (ℕ × Payload A)} {popped : List ℕ} where
+  pub after_end : (change : Change) (c : ℕ) → Holding A heap before old works popped → KnowsLock heap.cells before.log
+      → lock_seen heap.cells before.log ≡ Some c → seat.slots ≡ rest before.slots
+      → IsKnown heap.cells seat.log (unlocking change c (known_seen heap.cells before.log)) → Keeps heap.cells before.log seat.log
+      → Refits heap.cells (frame_changed change (entries_in (found_locked before.log)) (part_seen heap.cells before.log).frame) old places
+      → Holding A heap seat places works popped
+  after_end change c keeps lock locked home knows goes_on fits =
+      let places_now : (j : ℕ) → place_seen heap.cells seat.log j ≡ cell_held (get places j) =
+      λ j. ap (λ (p : Part). place_at p.frame j) knows.part
+      ∙ ap (λ es. place_at (frame_changed change es (part_seen heap.cells before.log).frame) j) (keeps.lock_has c locked) ∙ fits.placed j in
+      let none_now : lock_seen heap.cells seat.log ≡ None = ap (λ (p : Part). locked_cell p.frame p.row.locked) knows.part in
+      record {
+        hand_is = ap (λ (p : Part). p.row.hand) knows.part ∙ keeps.hand_is;
+        placed = places_now;
+        risen = λ j held there is. goes_on.risen (drops.Frame j) held.cell (keeps.risen j held (fits.risen j held there is) is)
+            ∙ ap (names held.cell) (places_now j ∙ ap cell_held there) ∙ eq-eqb held.cell held.cell refl;
+        inside = fits.inside;
+        out = home ∙ ap rest (keeps.out ∙ ap (λ l. slots_out l works) locked) ∙ sym (ap (λ l. slots_out l works) none_now);
+        lock_filled = λ j is. absurd (nothing_there (sym (ap (λ (p : Part). p.row.locked) knows.part) ∙ is));
+        lock_has = λ d is. absurd (nothing_there (sym none_now ∙ is));
+        listed = knows.blocks ∙ keeps.listed;
+        buried = rw (knows.part, knows.blocks) (after_put c _ keeps.buried (lock.unlisted c locked));
+        popped_is = keeps.popped_is ∙ sym (ap (λ (p : Part). p.popped) knows.part);
+        words = keeps.words;
+        bits = keeps.bits;
+      }
+
+  -- an entry's reference is a place's: as the change fills the place
+  pub after_end_filled : (change : Change) (c i k d : ℕ) → Holding A heap before old works popped → KnowsLock heap.cells before.log
+      → lock_seen heap.cells before.log ≡ Some c → slice_get (entries_in (found_locked before.log)) i ≡ Some d
+      → ((frame : List (Option ℕ)) (es : List ℕ) → frame_changed change es frame ≡ filled frame k (slice_index_or es i 0))
+      → seat.slots ≡ rest before.slots
+      → IsKnown heap.cells seat.log (unlocking change c (known_seen heap.cells before.log)) → Keeps heap.cells before.log seat.log
+      → Updates old places k (Some (record { cell = d; risen = false }))
+      → Holding A heap seat places works popped
+  after_end_filled change c i k d keeps lock locked entry fills home knows goes_on updates =
+      let n = heap.cells in
+      let frame = (part_seen n before.log).frame in
+      let es = entries_in (found_locked before.log) in
+      let here : filled frame k d ≡ frame_changed change es frame =
+      ap (filled frame k) (sym (get_or_from_slice_get es i d 0 entry)) ∙ sym (fills frame es) in
+      after_end change c keeps lock locked home knows goes_on
+      (subst (λ f. Refits n f old places) here (refits_filled n frame k d keeps.placed keeps.inside (lock.cells i d entry) updates))
+
+  -- a place's reference is an entry's
+  pub after_end_put : (c k : ℕ) → Holding A heap before old works popped → KnowsLock heap.cells before.log
+      → lock_seen heap.cells before.log ≡ Some c → seat.slots ≡ rest before.slots
+      → IsKnown heap.cells seat.log (unlocking (changes.Put k) c (known_seen heap.cells before.log)) → Keeps heap.cells before.log seat.log
+      → Updates old places k None → Holding A heap seat places works popped
+  after_end_put c k keeps lock locked home knows goes_on updates =
+      after_end (changes.Put k) c keeps lock locked home knows goes_on
+      (refits_vacated heap.cells (part_seen heap.cells before.log).frame k keeps.placed keeps.inside updates)
+
+-- what the frame shows of a place that was changed
+pub changes_place : {A : Type 0} (old new : FrameSeen A) {before after : Slab Held} (k : ℕ) (slot : Option Held)
+    → ((j : ℕ) → cell_in old j ≡ cell_held (get before j)) → ((j : ℕ) → cell_in new j ≡ cell_held (get after j))
+    → Updates before after k slot → ChangesPlace old new k (cell_held slot)
+changes_place old new k slot placed now updates = record {
+  has = now k ∙ ap cell_held updates.changed;
+  others = λ j other. now j ∙ ap cell_held (updates.others j other) ∙ sym (placed j);
+}
+
+-- ---- an entry is counted up
+
+some_of : (o : Option ℕ) → is_some o ≡ true → (c : ℕ) × (o ≡ Some c)
+some_of None is = cc
+some_of (Some c) is = (c, refl)
+
+-- an entry is a source that fits what is locked, and is a reference to its cell
+pub entry_fits : (frame : List (Option ℕ)) (l : Option ℕ) (i k : ℕ) → is_some (locked_cell frame l) ≡ true
+    → lock_ok l (LocalUp (sources.Entry i) k) ≡ true
+entry_fits frame None i k is = cc
+entry_fits frame (Some j) i k is = refl
+
+pub entry_named : {A : Type 0} {heap : TableSeen} {seat : SeatSeen A} {places : Slab Held} {works : List (ℕ × Payload A)} {popped : List ℕ} (i k c : ℕ)
+    → Holding A heap seat places works popped → KnowsLock heap.cells seat.log
+    → slice_get (entries_in (found_locked seat.log)) i ≡ Some c
+    → meant (part_seen heap.cells seat.log) (LocalUp (sources.Entry i) k) ≡ Some c
+entry_named {heap = heap} {seat = seat} i k c keeps lock entry =
+    let (d, is) = some_of (lock_seen heap.cells seat.log) lock.somewhere in
+    ap (λ l. entry_of (part_seen heap.cells seat.log).has l i) is ∙ ap (λ es. slice_get es i) (keeps.lock_has d is) ∙ entry
+
+-- counting up is one step
+data OneUp (source : Source) (k : ℕ) (before log : List Told) : Type 0 where
+  OnLocal : (found : ℕ) → log ≡ Did (LocalUp source k) found Nothing ∷ before → OneUp source k before log
+  OnShared : (found : ℕ) → log ≡ Did (SharedUp source k) found Nothing ∷ before → OneUp source k before log
+
+one_up : {A : Type 0} (old new : FrameSeen A) (source : Source) (k c : ℕ) → CountsUp old new source k c → OneUp source k old.seat.log new.seat.log
+one_up old new source k c up = elim (cases_lt c FIRST_MORTAL) [
+  | inl low ↦ OnLocal (up.immortal low).found (up.immortal low).told
+  | inr mortal ↦ elim (cases_lt 0 (counts_seen old.heap.cells old.seat.log c)) [
+    | inl some ↦ elim (cases_lt (counts_seen old.heap.cells old.seat.log c) old.heap.local_limit) [
+      | inl below ↦ OnLocal _ (up.own mortal (record { some_count = some; below = below }))
+      | inr full ↦ let shared = up.shared mortal (λ here. absurd (omega (arith, here.below, full))) in OnShared shared.found shared.told
+    ]
+    | inr none ↦ let shared = up.shared mortal (λ here. absurd (omega (arith, here.some_count, none))) in OnShared shared.found shared.told
+  ]
+]
+
+contents_stay : (source : Source) (k : ℕ) (before log : List Told) → OneUp source k before log → contents_locked log ≡ contents_locked before
+contents_stay source k before log (OnLocal found told) = ap contents_locked told
+contents_stay source k before log (OnShared found told) = ap contents_locked told
+
+none_taken_local : (source : Source) (k found : ℕ) (o : Option ℕ) (blocks : Blocks) → taken_by (LocalUp source k) found [] o blocks ≡ blocks
+none_taken_local source k found None blocks = refl
+none_taken_local source k found (Some c) blocks = refl
+
+none_taken_shared : (source : Source) (k found : ℕ) (o : Option ℕ) (blocks : Blocks) → taken_by (SharedUp source k) found [] o blocks ≡ blocks
+none_taken_shared source k found None blocks = refl
+none_taken_shared source k found (Some c) blocks = refl
+
+blocks_stay : (n : ℕ) (source : Source) (k : ℕ) (before log : List Told) → OneUp source k before log → taken_seen n log ≡ taken_seen n before
+blocks_stay n source k before log (OnLocal found told) = ap (taken_seen n) told
+    ∙ none_taken_local source k found (meant (part_seen n before) (LocalUp source k)) (taken_seen n before)
+blocks_stay n source k before log (OnShared found told) = ap (taken_seen n) told
+    ∙ none_taken_shared source k found (meant (part_seen n before) (SharedUp source k)) (taken_seen n before)
+
+-- the locked place isn't the one that was vacant, so it has what it had
+same_cell_locked : (n : ℕ) (before log : List Told) (k : ℕ) → locked_place n log ≡ locked_place n before
+    → place_seen n before k ≡ None → ((j : ℕ) → j ≢ k → place_seen n log j ≡ place_seen n before j)
+    → is_some (lock_seen n before) ≡ true → lock_seen n log ≡ lock_seen n before
+same_cell_locked n before log k place vacant others there =
+    ap (locked_cell (part_seen n log).frame) place ∙ same (locked_place n before) there
+  where
+    vacant_one : (j : ℕ) → is_some (place_seen n before j) ≡ true → j ≡ k → ⊥
+    vacant_one j is same = not_both is (ap is_some (ap (place_seen n before) same ∙ vacant))
+
+    same : (l : Option ℕ) → is_some (locked_cell (part_seen n before).frame l) ≡ true
+        → locked_cell (part_seen n log).frame l ≡ locked_cell (part_seen n before).frame l
+    same None is = refl
+    same (Some j) is = others j (vacant_one j is)
+
+-- what is locked and found stays
+pub entry_up : {A : Type 0} (old new : FrameSeen A) (source : Source) (c : ℕ) (given : HandleSeen) → Given old new source c given
+    → new.heap ≡ old.heap → KnowsLock old.heap.cells old.seat.log → KeepsLock old new
+entry_up old new source c given all heap lock =
+    let up = one_up old new source given.place c all.counted in
+    let n = old.heap.cells in
+    let cells : new.heap.cells ≡ n = ap (λ (h : TableSeen). h.cells) heap in
+    let contents_same = contents_stay source given.place old.seat.log new.seat.log up in
+    let blocks_same = blocks_stay n source given.place old.seat.log new.seat.log up in
+    let found_same : found_locked new.seat.log ≡ found_locked old.seat.log = ap (found_or contents.Nothing) contents_same in
+    let place : locked_place n new.seat.log ≡ locked_place n old.seat.log = ap (λ m. locked_place m new.seat.log) (sym cells) ∙ all.rest.lock in
+    let others : (j : ℕ) → j ≢ given.place → place_seen n new.seat.log j ≡ place_seen n old.seat.log j =
+    λ j other. ap (λ m. place_seen m new.seat.log j) (sym cells) ∙ all.others j other in
+    let cell : lock_seen n new.seat.log ≡ lock_seen n old.seat.log = same_cell_locked n old.seat.log new.seat.log given.place place all.vacant others lock.somewhere in
+    let knows : KnowsLock n new.seat.log = record {
+      somewhere = ap is_some cell ∙ lock.somewhere;
+      found = contents_same ∙ lock.found ∙ ap Some (sym found_same);
+      cells = subst (λ f. AreCells n (entries_in f)) (sym found_same) lock.cells;
+      unlisted = λ d is. ap (λ bs. listed_at bs d) blocks_same ∙ lock.unlisted d (sym cell ∙ is);
+    } in
+    record {
+      locked = subst (λ m. KnowsLock m new.seat.log) (sym cells) knows;
+      place = all.rest.lock;
+      cell = ap (λ m. lock_seen m new.seat.log) cells ∙ cell;
+      contents = contents_same;
+    }
