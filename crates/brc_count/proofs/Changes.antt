@@ -1,5 +1,5 @@
 -- What one call of the counter makes of what a frame keeps.
-use Rattle.std.proofs.Common.{◌≡◌, ℕ, ◌<◌, ◌≤◌, ◌-◌, Bool, true, false, length, arith, inl, inr, List, [], ◌∷◌, map, Option, Some, None, IfSome, IsTrue, is_some, if◌then◌else◌, ◌++◌, set, refl, sym, ◌∙◌, ap, subst, replicate}
+use Rattle.std.proofs.Common.{◌≡◌, not, ◌==◌, ℕ, ◌<◌, ◌≤◌, ◌-◌, Bool, true, false, length, arith, inl, inr, List, [], ◌∷◌, map, Option, Some, None, IfSome, IsTrue, is_some, if◌then◌else◌, ◌++◌, set, refl, sym, ◌∙◌, ap, subst, replicate}
 use Rattle.std.proofs.lemmas.Bool.{eq-eqb, cases_eq, cases_lt, lt-ltb}
 use Rattle.std.proofs.lemmas.List.{length-set, get_or-set_same, get_or_past, get_or-replicate, length-replicate}
 use Rattle.std.specs.Int.{bit_at}
@@ -19,8 +19,10 @@ use Rattle.brc_runs.specs.declared.event.Step.TheVariants.{LocalUp, Free}
 use Rattle.brc_runs.specs.declared.row.Hand.TheVariants as hands
 use Rattle.brc_runs.specs.declared.row.Stage.{Stage}
 use Rattle.brc_runs.specs.declared.row.Stage.TheVariants as stages
-use Rattle.brc_runs.specs.Lists.{names, place_at, filled, vacated, front_of, last_of, is_marked, word_at}
+use Rattle.brc_runs.specs.Lists.{used_words, names, place_at, filled, vacated, front_of, last_of, is_marked, word_at}
 use Rattle.brc_runs.specs.Steps.{is_active, stage_ok, needs_lock, lock_ok, locked_cell}
+use Rattle.brc_runs.proofs.Bitwise.{blank_word}
+use Rattle.std.proofs.lemmas.List.Folds.{sum_by-replicate}
 use Rattle.brc_runs.proofs.Framing.{place_at-filled_here, place_at-filled_else, place_at-vacated_else}
 use Rattle.brc_known.specs.Items.{Part, meant, put}
 use Rattle.brc_known.specs.Going_On.{filling, giving_back}
@@ -58,11 +60,8 @@ not_there : {X : Type 0} (o : Option X) → is_some o ≡ true → o ≡ None �
 not_there None there none = cc
 not_there (Some x) there none = cc
 
-none_at : (m k : ℕ) → word_at (replicate m 0) k ≡ 0
-none_at m k = elim (cases_lt k (length (replicate m 0))) [
-  | inl inside ↦ get_or-replicate m k 0 0 (omega (arith, inside, length-replicate m 0))
-  | inr past ↦ get_or_past (replicate m 0) k 0 past
-]
+none_at : (m k : ℕ) → ◌≡◌ {A = ℕ} (word_at (replicate m 0) k) 0
+none_at m k = blank_word (replicate m 0) k (eq-eqb (used_words (replicate m 0)) 0 (sum_by-replicate (λ (w : ℕ). if not (w == 0) then 1 else 0) m 0 ∙ omega arith))
 
 no_bit : (m k i : ℕ) → bit_at (word_at (replicate m 0) k) i ≡ 1 → ⊥
 no_bit m k i is = absurd (omega (arith, is, ap (λ w. bit_at w i) (none_at m k), bit_at-zero i))
@@ -151,26 +150,25 @@ module _ {A : Type 0} where
   blocks_pushed c None works of_cell = refl
   blocks_pushed c (Some there) works of_cell = ap (λ (d : ℕ). (d, entries_answered (Some there)) ∷ map block_listed works) (sym of_cell)
 
-module _ {A : Type 0} {heap : TableSeen} (before seat : SeatSeen A) where
+module _ (n : ℕ) (before log : List Told) where
   -- the locked object is where it was: the place that is filled now was vacant
-  pub lock_stays : (k c : ℕ) → IsKnown heap.cells seat.log (filling k c (known_seen heap.cells before.log))
-      → ((j : ℕ) → locked_place heap.cells before.log ≡ Some j → is_some (place_seen heap.cells before.log j) ≡ true)
-      → place_seen heap.cells before.log k ≡ None → lock_seen heap.cells seat.log ≡ lock_seen heap.cells before.log
+  lock_stays : (k c : ℕ) → IsKnown n log (filling k c (known_seen n before))
+      → ((j : ℕ) → locked_place n before ≡ Some j → is_some (place_seen n before j) ≡ true)
+      → place_seen n before k ≡ None → lock_seen n log ≡ lock_seen n before
   lock_stays k c knows there vacant =
-      ap (λ (p : Part). locked_cell p.frame p.row.locked) knows.part ∙ same (locked_place heap.cells before.log) there
+      ap (λ (p : Part). locked_cell p.frame p.row.locked) knows.part ∙ same (locked_place n before) there
     where
-      same : (l : Option ℕ) → ((j : ℕ) → l ≡ Some j → is_some (place_seen heap.cells before.log j) ≡ true)
-          → locked_cell (filled (part_seen heap.cells before.log).frame k c) l ≡ locked_cell (part_seen heap.cells before.log).frame l
+      same : (l : Option ℕ) → ((j : ℕ) → l ≡ Some j → is_some (place_seen n before j) ≡ true)
+          → locked_cell (filled (part_seen n before).frame k c) l ≡ locked_cell (part_seen n before).frame l
       same None there = refl
-      same (Some j) there = place_at-filled_else (part_seen heap.cells before.log).frame k c j
-          (λ is. absurd (not_there (place_seen heap.cells before.log j) (there j refl) (ap (place_seen heap.cells before.log) is ∙ vacant)))
+      same (Some j) there = place_at-filled_else (part_seen n before).frame k c j
+          (λ is. absurd (not_there (place_seen n before j) (there j refl) (ap (place_seen n before) is ∙ vacant)))
 
-  still_filled : (k c : ℕ) → IsKnown heap.cells seat.log (filling k c (known_seen heap.cells before.log)) → (j : ℕ)
-      → is_some (place_seen heap.cells before.log j) ≡ true → is_some (place_seen heap.cells seat.log j) ≡ true
+  still_filled : (k c : ℕ) → IsKnown n log (filling k c (known_seen n before)) → (j : ℕ)
+      → is_some (place_seen n before j) ≡ true → is_some (place_seen n log j) ≡ true
   still_filled k c knows j there = ap (λ (p : Part). is_some (place_at p.frame j)) knows.part ∙ elim (cases_eq j k) [
-    | inl same ↦ ap is_some (ap (place_at (filled (part_seen heap.cells before.log).frame k c)) same
-        ∙ place_at-filled_here (part_seen heap.cells before.log).frame k c)
-    | inr other ↦ ap is_some (place_at-filled_else (part_seen heap.cells before.log).frame k c j other) ∙ there
+    | inl same ↦ ap is_some (ap (place_at (filled (part_seen n before).frame k c)) same ∙ place_at-filled_here (part_seen n before).frame k c)
+    | inr other ↦ ap is_some (place_at-filled_else (part_seen n before).frame k c j other) ∙ there
   ]
 
 module _ {A : Type 0} {heap : TableSeen} (before seat : SeatSeen A) {old places : Slab Held} {works : List (ℕ × Payload A)} {popped : List ℕ} where
@@ -196,7 +194,7 @@ module _ {A : Type 0} {heap : TableSeen} (before seat : SeatSeen A) {old places 
       → get old k ≡ None → contents_locked seat.log ≡ contents_locked before.log
       → Holding A heap seat places works popped
   after_up k c risen keeps stays knows goes_on seen inside updates vacant found =
-      let locks = lock_stays before seat k c knows keeps.lock_filled (keeps.placed k ∙ ap cell_held vacant) in
+      let locks = lock_stays heap.cells before.log seat.log k c knows keeps.lock_filled (keeps.placed k ∙ ap cell_held vacant) in
       record {
         hand_is = ap (λ (p : Part). p.row.hand) knows.part ∙ keeps.hand_is;
         placed = placed_up k c risen keeps knows updates;
@@ -216,7 +214,7 @@ module _ {A : Type 0} {heap : TableSeen} (before seat : SeatSeen A) {old places 
           | inr other ↦ keeps.inside j held (sym (updates.others j other) ∙ there)
         ];
         out = stays.2 ∙ keeps.out ∙ ap (λ l. slots_out l works) (sym locks);
-        lock_filled = λ j is. still_filled before seat k c knows j (keeps.lock_filled j (sym (ap (λ (p : Part). p.row.locked) knows.part) ∙ is));
+        lock_filled = λ j is. still_filled heap.cells before.log seat.log k c knows j (keeps.lock_filled j (sym (ap (λ (p : Part). p.row.locked) knows.part) ∙ is));
         lock_has = λ d is. ap (λ (p : Part). p.has d) knows.part ∙ keeps.lock_has d (sym locks ∙ is) ∙ ap (λ o. entries_in (found_or contents.Nothing o)) (sym found);
         listed = knows.blocks ∙ keeps.listed;
         buried = rw (knows.part, knows.blocks) keeps.buried;

@@ -1,3 +1,4 @@
 mod Buried
 mod Changes
+mod Framings
 mod Locks

@@ -14,7 +14,8 @@ use Rattle.brc_runs.specs.declared.row.Hand.TheVariants as hands
 use Rattle.std.specs.Int.{bit_at}
 use Rattle.brc_runs.specs.Heap.{words_for}
 use Rattle.brc_runs.specs.Lists.{place_at, is_marked, word_at, is_blank}
-use Rattle.brc_runs.specs.Steps.{is_active, is_left, locked_cell}
+use Rattle.brc_runs.specs.Steps.{is_active, is_left, locked_cell, lock_ok}
+use Rattle.brc_known.specs.Items.{meant}
 use Rattle.brc_known.specs.Taken.{Blocks, listed_at}
 use Rattle.brc_rule.specs.declared.told.Moved.TheVariants.{Nothing}
 use Rattle.brc_rule.specs.declared.told.Told.{Told}
@@ -25,6 +26,7 @@ use Rattle.brc_steps.specs.Taking.{AreCells}
 use Rattle.brc_table.specs.Seated.{TableSeen, SeatSeen, Stays}
 use Rattle.brc_table.specs.Moving.{found_locked}
 use Rattle.brc_table.specs.Shown.{contents_of}
+use Rattle.brc_counter.specs.Standing.{may_give_up}
 use Rattle.brc_counter.specs.Released.{Released}
 use Rattle.brc_counter.specs.Up.{CountsHere, RaisedImmortal, RaisedShared}
 use Rattle.brc_count.specs.declared.held.Held.{Held}
@@ -119,11 +121,34 @@ pub record Holding (A : Type 0) (heap : TableSeen) (seat : SeatSeen A) (places :
   pub words : length popped ≡ words_for heap.cells
   pub bits : AreBits heap.cells popped
 
+-- the handle is of the frame's thread, and its place has a reference
+pub record Owns {A : Type 0} (frame : FrameSeen A) (handle : HandleSeen) : Type 0 where
+  pub thread : handle.thread ≡ frame.seat.thread
+  pub filled : is_some (place_seen frame.heap.cells frame.seat.log handle.place) ≡ true
+
+-- the words of popped entries
+abbrev pub popped_seen : {A : Type 0} → FrameSeen A → List ℕ
+popped_seen frame = (part_seen frame.heap.cells frame.seat.log).popped
+
+-- the thread is active; the thread is active, or has left
+abbrev pub IsActive : {A : Type 0} → FrameSeen A → Type 0
+IsActive frame = is_active (part_seen frame.heap.cells frame.seat.log).row.stage ≡ true
+
+abbrev pub MayGiveUp : {A : Type 0} → FrameSeen A → Type 0
+MayGiveUp frame = may_give_up (part_seen frame.heap.cells frame.seat.log).row.stage ≡ true
+
+-- the source is one that may be had with what is locked, and it is a reference to the cell
+abbrev pub SourceFits : {A : Type 0} → Source → FrameSeen A → Type 0
+SourceFits source frame = lock_ok (locked_place frame.heap.cells frame.seat.log) (LocalUp source frame.next) ≡ true
+
+abbrev pub SourceNames : {A : Type 0} → Source → ℕ → FrameSeen A → Type 0
+SourceNames source c frame = meant (part_seen frame.heap.cells frame.seat.log) (LocalUp source frame.next) ≡ Some c
+
 -- What a frame keeps besides: between calls its thread is active, and nothing is popped.
 pub record Framing {A : Type 0} (holdings : FrameSeen A) (thread : ℕ) : Type 0 where
   pub same_thread : holdings.seat.thread ≡ thread
-  pub active : is_active (part_seen holdings.heap.cells holdings.seat.log).row.stage ≡ true
-  pub blank : is_blank (part_seen holdings.heap.cells holdings.seat.log).popped ≡ true
+  pub active : IsActive holdings
+  pub blank : is_blank (popped_seen holdings) ≡ true
 
 -- What a closed frame keeps: its thread has left, no place is filled, and nothing is locked.
 pub record Leaving {A : Type 0} (holdings : FrameSeen A) (thread : ℕ) : Type 0 where
@@ -131,21 +156,12 @@ pub record Leaving {A : Type 0} (holdings : FrameSeen A) (thread : ℕ) : Type 0
   pub left : is_left (part_seen holdings.heap.cells holdings.seat.log).row.stage ≡ true
   pub unlocked : IsUnlocked holdings
 
--- the handle is of the frame's thread, and its place has a reference
-pub record Owns {A : Type 0} (frame : FrameSeen A) (handle : HandleSeen) : Type 0 where
-  pub thread : handle.thread ≡ frame.seat.thread
-  pub filled : is_some (place_seen frame.heap.cells frame.seat.log handle.place) ≡ true
-
 -- ---- what calls do
 
 -- Counting leaves this as it is: whether the thread is active, and what it has locked.
 pub record KeepsRest {A : Type 0} (old new : FrameSeen A) : Type 0 where
   pub stage : (part_seen new.heap.cells new.seat.log).row.stage ≡ (part_seen old.heap.cells old.seat.log).row.stage
   pub lock : locked_place new.heap.cells new.seat.log ≡ locked_place old.heap.cells old.seat.log
-
--- the words of popped entries
-abbrev pub popped_seen : {A : Type 0} → FrameSeen A → List ℕ
-popped_seen frame = (part_seen frame.heap.cells frame.seat.log).popped
 
 -- nothing changed, but that more places may need no memory
 abbrev pub IsAsBefore : {A : Type 0} → FrameSeen A → FrameSeen A → Type 0

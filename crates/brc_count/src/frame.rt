@@ -133,8 +133,8 @@ impl<H: Home<A>, A: Allocator> Frame<H, A> {
         ensures unchanged { OnErr result (IsAsBefore self.old self.new) }
     {
         let cell = self.cell(handle);
-        let place = self.holdings.reserve()?;
-        self.holdings.fill(Source::Frame(handle.place), place, cell);
+        self.holdings.reserve()?;
+        let place = self.holdings.fill(Source::Frame(handle.place), cell);
         Ok(Handle {
             thread: self.thread,
             place,
@@ -151,8 +151,8 @@ impl<H: Home<A>, A: Allocator> Frame<H, A> {
         ensures refused { IfErr result (Refused self.old) }
         ensures unchanged { OnErr result (IsAsBefore self.old self.new) }
     {
-        let place = self.holdings.reserve()?;
-        self.holdings.fill(Source::Immortal(cell), place, cell);
+        self.holdings.reserve()?;
+        let place = self.holdings.fill(Source::Immortal(cell), cell);
         Ok(Handle {
             thread: self.thread,
             place,

@@ -10,7 +10,7 @@ ghost use Rattle.brc_counter.specs.Bounded.{IsBounded};
 ghost use Rattle.brc_counter.specs.Standing.{may_give_up};
 ghost use Rattle.brc_rule.specs.Seen.{part_seen};
 ghost use Rattle.brc_table.specs.Seated.{Continues};
-ghost use Rattle.brc_count.specs.Frames.{place_seen, locked_place, Given, Refused, ReleasedOf, IsAsBefore, popped_seen, IsUnlocked};
+ghost use Rattle.brc_count.specs.Frames.{IsActive, MayGiveUp, SourceFits, SourceNames, place_seen, locked_place, Given, Refused, ReleasedOf, IsAsBefore, KeepsRest, popped_seen, IsUnlocked};
 
 use crate::held::Held;
 use brc_block::Worklist;
@@ -82,10 +82,9 @@ impl<H: Home<A>, A: Allocator> Holdings<H, A> {
 
     /// Makes sure that the next place can be filled: FrameFull where it isn't below 65,536, looked at first; OutOfMemory where
     /// memory for it can't be had.
-    pub(crate) fn reserve(&mut self) -> Result<u32, Fault>
-        ensures room { IfOk result (λ place. 0 < self.new.spare) }
-        ensures next { IfOk result (λ place. place ≡ self.old.next) }
-        ensures low { IfOk result (λ place. place < MOST_PLACES) }
+    pub(crate) fn reserve(&mut self) -> Result<(), Fault>
+        ensures room { OnOk result (0 < self.new.spare) }
+        ensures low { OnOk result (self.old.next < MOST_PLACES) }
         ensures refused { IfErr result (Refused self.old) }
         ensures same { IsAsBefore self.old self.new }
     {
@@ -96,30 +95,31 @@ impl<H: Home<A>, A: Allocator> Holdings<H, A> {
         if self.places.reserve(1).is_err() {
             return Err(Fault::OutOfMemory);
         }
-        Ok(next as u32)
+        Ok(())
     }
 
-    /// The next place gets a reference to the source's cell.
-    pub(crate) fn fill(&mut self, source: Source, place: u32, cell: u32)
+    /// The next place gets a reference to the source's cell; the answer is that place.
+    pub(crate) fn fill(&mut self, source: Source, cell: u32) -> u32
         requires inside { cell < self.old.heap.cells }
-        requires next { place ≡ self.old.next }
-        requires low { place < MOST_PLACES }
+        requires low { self.old.next < MOST_PLACES }
         requires room { 0 < self.old.spare }
-        requires active { is_active (part_seen self.old.heap.cells self.old.seat.log).row.stage ≡ true }
-        requires fits { lock_ok (locked_place self.old.heap.cells self.old.seat.log) (steps.LocalUp source place) ≡ true }
-        requires named { meant (part_seen self.old.heap.cells self.old.seat.log) (steps.LocalUp source place) ≡ Some cell }
+        requires active { IsActive self.old }
+        requires fits { SourceFits source self.old }
+        requires named { SourceNames source cell self.old }
         ensures heap { self.new.heap ≡ self.old.heap }
-        ensures given { Given self.old self.new source cell (record { thread = self.old.seat.thread; place = place }) }
+        ensures given { Given self.old self.new source cell (record { thread = self.old.seat.thread; place = result }) }
         ensures popped { popped_seen self.new ≡ popped_seen self.old }
     {
+        let place = self.places.vacant_key() as u32;
         let risen = self.counter.up(source, place, cell);
         let _key = self.places.insert_reserved(Held { cell, risen });
+        place
     }
 
     /// A place's reference goes; where the object ends, its block is on the front of the worklist.
     pub(crate) fn release(&mut self, place: u32)
         requires filled { place_seen self.old.heap.cells self.old.seat.log place ≢ None }
-        requires stage { may_give_up (part_seen self.old.heap.cells self.old.seat.log).row.stage ≡ true }
+        requires stage { MayGiveUp self.old }
         requires unlocked { IsUnlocked self.old }
         ensures heap { self.new.heap ≡ self.old.heap }
         ensures released { (c : ℕ) → place_seen self.old.heap.cells self.old.seat.log place ≡ Some c →
@@ -127,6 +127,7 @@ impl<H: Home<A>, A: Allocator> Holdings<H, A> {
         ensures bounded { IsBounded self.old.seat.log self.new.seat.log }
         ensures seat { Continues self.old.seat self.new.seat }
         ensures len { self.new.len + 1 ≡ self.old.len }
+        ensures rest { KeepsRest self.old self.new }
         ensures popped { popped_seen self.new ≡ popped_seen self.old }
     {
         let Some(held) = self.places.try_remove(place as usize) else {

@@ -3,7 +3,7 @@
 ghost use Rattle.std.specs.Prelude.{◌≡◌, ◌-◌, ◌≤◌, ◌<◌, [], IsTrue, IsFalse, true};
 ghost use Rattle.brc_counter.specs.Standing.{may_give_up};
 ghost use Rattle.brc_rule.specs.Seen.{part_seen};
-ghost use Rattle.brc_count.specs.Frames.{Turned, Turns, KeepsHandles, popped_seen, IsUnlocked};
+ghost use Rattle.brc_count.specs.Frames.{MayGiveUp, Turned, Turns, KeepsHandles, popped_seen, IsUnlocked};
 
 use crate::holdings::Holdings;
 use brc_counter::Home;
@@ -14,7 +14,7 @@ impl<H: Home<A>, A: Allocator> Holdings<H, A> {
     /// One turn: the front block's last entry is released, or, if it has none, the block is given back; false where there
     /// is no block.
     pub(crate) fn turn(&mut self) -> bool
-        requires stage { may_give_up (part_seen self.old.heap.cells self.old.seat.log).row.stage ≡ true }
+        requires stage { MayGiveUp self.old }
         requires unlocked { IsUnlocked self.old }
         ensures keeps { KeepsHandles self.old self.new }
         ensures popped { popped_seen self.new ≡ popped_seen self.old }
@@ -42,7 +42,7 @@ impl<H: Home<A>, A: Allocator> Holdings<H, A> {
 
     /// At most so many turns; the answer is the number of turns that weren't needed.
     pub(crate) fn work(&mut self, budget: usize) -> usize
-        requires stage { may_give_up (part_seen self.old.heap.cells self.old.seat.log).row.stage ≡ true }
+        requires stage { MayGiveUp self.old }
         requires unlocked { IsUnlocked self.old }
         ensures keeps { KeepsHandles self.old self.new }
         ensures popped { popped_seen self.new ≡ popped_seen self.old }
