@@ -17,11 +17,12 @@ use Rattle.brc_table.specs.Moving.{found_locked}
 use Rattle.brc_table.specs.Shown.{contents_of}
 use Rattle.brc_count.specs.Frames.{FrameSeen, place_seen, locked_place, lock_seen, popped_seen, IsUnlocked}
 
--- What a thread knows of the object that it has locked: it stands in a place of the frame; what the locking found, of which
--- all entries are cells of the heap; and that its block is none of the dead ones.
+-- What a thread knows of the object that it has locked: it stands in a place of the frame; what the locking found, with the
+-- entries that the thread's own part has, all of them cells of the heap; and that its block is none of the dead ones.
 pub record KnowsLock (n : ℕ) (log : List Told) : Type 0 where
   pub somewhere : is_some (lock_seen n log) ≡ true
   pub found : contents_locked log ≡ Some (found_locked log)
+  pub has : (c : ℕ) → lock_seen n log ≡ Some c → (part_seen n log).has c ≡ entries_in (found_locked log)
   pub cells : AreCells n (entries_in (found_locked log))
   pub unlisted : (c : ℕ) → lock_seen n log ≡ Some c → listed_at (taken_seen n log) c ≡ None
 

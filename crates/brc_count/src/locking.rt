@@ -9,11 +9,9 @@ ghost use Rattle.brc_words.specs.Kinds.{is_container};
 ghost use Rattle.brc_words.specs.declared.limits.TheConstants.{MOST_ENTRIES, MOST_PLACES};
 ghost use Rattle.brc_runs.specs.declared.event.Change.TheVariants as changes;
 ghost use Rattle.brc_runs.specs.declared.event.Source.TheVariants as sources;
-ghost use Rattle.brc_runs.specs.Steps.{is_active};
 ghost use Rattle.brc_rule.specs.Logs.{entries_in, kind_in};
-ghost use Rattle.brc_rule.specs.Seen.{part_seen};
 ghost use Rattle.brc_table.specs.Shown.{contents_of};
-ghost use Rattle.brc_count.specs.Frames.{Owns, Given, Refused, IsAsBefore, IsUnlocked, popped_seen};
+ghost use Rattle.brc_count.specs.Frames.{Owns, IsActive, Given, Refused, IsAsBefore, IsUnlocked, popped_seen};
 ghost use Rattle.brc_count.specs.Locking.{IsLocked, cell_in, place_locked, cell_locked, contents_found, entries_found, KeepsThread, KeepsFrame, ChangesPlace, KeepsLock, Began, Busy, Ended};
 
 use crate::frame::Frame;
@@ -42,7 +40,7 @@ impl<H: Home<A>, A: Allocator> Holdings<H, A> {
     /// Locks the object in a place, and answers its block; None where it is found locked.
     pub(crate) fn begin(&mut self, place: u32) -> Option<Block<A>>
         requires filled { is_some (cell_in self.old place) ≡ true }
-        requires active { is_active (part_seen self.old.heap.cells self.old.seat.log).row.stage ≡ true }
+        requires active { IsActive self.old }
         requires unlocked { IsUnlocked self.old }
         ensures began { IfSome result (Began self.old self.new place) }
         ensures busy { IfNone result (Busy self.old self.new place) }
@@ -60,7 +58,7 @@ impl<H: Home<A>, A: Allocator> Holdings<H, A> {
 
     /// The next place gets a reference to an entry of the locked object; the answer is that place.
     pub(crate) fn up_entry(&mut self, index: u32, cell: u32) -> u32
-        requires active { is_active (part_seen self.old.heap.cells self.old.seat.log).row.stage ≡ true }
+        requires active { IsActive self.old }
         requires locked { IsLocked self.old }
         requires entry { slice_get (entries_found self.old) index ≡ Some cell }
         requires room { 0 < self.old.spare }
@@ -71,14 +69,12 @@ impl<H: Home<A>, A: Allocator> Holdings<H, A> {
         ensures popped { popped_seen self.new ≡ popped_seen self.old }
         ensures lock { KeepsLock self.old self.new }
     {
-        let place = self.places.vacant_key() as u32;
-        self.fill(Source::Entry(index), place, cell);
-        place
+        self.fill(Source::Entry(index), cell)
     }
 
     /// Unlocks, and changes nothing.
     pub(crate) fn end_keep(&mut self, block: Block<A>)
-        requires active { is_active (part_seen self.old.heap.cells self.old.seat.log).row.stage ≡ true }
+        requires active { IsActive self.old }
         requires locked { IsLocked self.old }
         requires of_cell { cell_locked self.old ≡ Some block.0 }
         requires same { contents_of block.1 ≡ contents_found self.old }
@@ -90,7 +86,7 @@ impl<H: Home<A>, A: Allocator> Holdings<H, A> {
 
     /// Unlocks, and a place's reference becomes the last entry.
     pub(crate) fn end_put(&mut self, block: Block<A>, place: u32)
-        requires active { is_active (part_seen self.old.heap.cells self.old.seat.log).row.stage ≡ true }
+        requires active { IsActive self.old }
         requires locked { IsLocked self.old }
         requires of_cell { cell_locked self.old ≡ Some block.0 }
         requires filled { is_some (cell_in self.old place) ≡ true }
@@ -110,7 +106,7 @@ impl<H: Home<A>, A: Allocator> Holdings<H, A> {
 
     /// Unlocks, and an entry's reference is the next place's; the answer is that place.
     pub(crate) fn end_take(&mut self, block: Block<A>, index: u32, cell: u32) -> u32
-        requires active { is_active (part_seen self.old.heap.cells self.old.seat.log).row.stage ≡ true }
+        requires active { IsActive self.old }
         requires locked { IsLocked self.old }
         requires of_cell { cell_locked self.old ≡ Some block.0 }
         requires entry { slice_get (entries_found self.old) index ≡ Some cell }
@@ -134,7 +130,7 @@ impl<H: Home<A>, A: Allocator> Holdings<H, A> {
 
     /// Unlocks, and an entry's reference and a place's are exchanged.
     pub(crate) fn end_swap(&mut self, block: Block<A>, index: u32, cell: u32, place: u32)
-        requires active { is_active (part_seen self.old.heap.cells self.old.seat.log).row.stage ≡ true }
+        requires active { IsActive self.old }
         requires locked { IsLocked self.old }
         requires of_cell { cell_locked self.old ≡ Some block.0 }
         requires entry { slice_get (entries_found self.old) index ≡ Some cell }

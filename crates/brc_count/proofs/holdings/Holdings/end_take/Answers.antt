@@ -1,4 +1,4 @@
-use Rattle.std.proofs.Common.{◌≡◌, Some, None, ◌∙◌, sym, ap, subst, refl, false}
+use Rattle.std.proofs.Common.{◌≡◌, Some, ◌∙◌, sym, subst, refl, false}
 use Rattle.slab.specs.Slab.{Updates}
 use Rattle.brc_runs.specs.declared.event.Change.TheVariants as changes
 use Rattle.brc_count.specs.Frames.{FrameSeen, lock_seen}
