@@ -1,32 +1,45 @@
--- What an unlocking makes of what a frame keeps, and which cell an entry of the locked object is.
-use Rattle.std.proofs.Common.{◌≡◌, ℕ, ◌<◌, Bool, true, false, if◌then◌else◌, length, arith, inl, inr, List, Option, Some, None, is_some, refl, sym, ◌∙◌, ap, subst, slice_get, slice_index_or}
-use Rattle.std.proofs.lemmas.Bool.{eq-eqb, ne_eqb, cases_eq, cases_lt}
-use Rattle.std.proofs.lemmas.Option.{get_or_from_slice_get}
+-- What locking, counting up an entry and unlocking make of what a frame keeps and knows of its lock, and that they may be made.
+use Rattle.std.proofs.Common.{◌≡◌, ◌≢◌, ℕ, ◌<◌, ◌≤◌, ◌==◌, ◌||◌, Bool, true, false, if◌then◌else◌, length, arith, inl, inr, List, [], ◌∷◌, map, Option, Some, None, is_some, refl, sym, ◌∙◌, ap, subst, set, remove, slice_get, slice_set, slice_index_or}
+use Rattle.std.proofs.lemmas.Bool.{eq-eqb, ne_eqb, lt-ltb, cases_eq, cases_lt}
+use Rattle.std.proofs.lemmas.Option.{get_or_from_slice_get, slice_get_within}
 use Rattle.std.proofs.lemmas.List.{length-set, get_or-set_same, get_or_past}
 use Rattle.slab.specs.Slab.{Slab, get, Updates}
 use Rattle.atomic_table.specs.Table.{rest}
+use Rattle.brc_words.specs.Kinds.{is_container}
+use Rattle.brc_words.specs.declared.limits.TheConstants.{FIRST_MORTAL, MOST_PLACES}
 use Rattle.brc_block.specs.declared.payload.Payload.{Payload}
 use Rattle.brc_runs.specs.declared.event.Change.{Change}
 use Rattle.brc_runs.specs.declared.event.Change.TheVariants as changes
 use Rattle.brc_runs.specs.declared.event.Dropped.TheVariants as drops
+use Rattle.brc_runs.specs.declared.event.Source.{Source}
 use Rattle.brc_runs.specs.declared.event.Source.TheVariants as sources
-use Rattle.brc_runs.specs.declared.event.Step.TheVariants.{LocalUp}
-use Rattle.brc_runs.specs.Lists.{names, place_at, filled, vacated}
-use Rattle.brc_runs.specs.Steps.{locked_cell, entry_of, frame_changed}
+use Rattle.brc_runs.specs.declared.event.Step.TheVariants.{LocalUp, SharedUp, Lock, Unlock}
+use Rattle.brc_runs.specs.declared.row.Hand.TheVariants as hands
+use Rattle.brc_runs.specs.declared.row.Stage.{Stage}
+use Rattle.brc_runs.specs.declared.row.Stage.TheVariants as stages
+use Rattle.brc_runs.specs.Lists.{names, number_in, place_at, filled, vacated}
+use Rattle.brc_runs.specs.Steps.{is_active, is_keep, stage_ok, locked_cell, entry_of, change_ok, frame_changed, entries_changed}
 use Rattle.brc_runs.proofs.Framing.{place_at-filled_here, place_at-filled_else, place_at-vacated_else}
-use Rattle.brc_known.specs.Items.{Part, meant, put}
-use Rattle.brc_known.specs.Going_On.{unlocking}
-use Rattle.brc_known.specs.Taken.{Blocks, listed_at}
+use Rattle.brc_known.specs.Items.{Part, part_by, meant, put}
+use Rattle.brc_known.specs.Going_On.{locking, unlocking}
+use Rattle.brc_known.specs.Taken.{Blocks, listed_at, taken_by}
+use Rattle.brc_rule.specs.declared.contents.Contents.{Contents}
+use Rattle.brc_rule.specs.declared.contents.Contents.TheVariants as contents
+use Rattle.brc_rule.specs.declared.told.Moved.TheVariants.{Nothing}
 use Rattle.brc_rule.specs.declared.told.Told.{Told}
-use Rattle.brc_rule.specs.Logs.{entries_in}
-use Rattle.brc_rule.specs.Seen.{part_seen}
+use Rattle.brc_rule.specs.declared.told.Told.TheVariants.{Did}
+use Rattle.brc_rule.specs.Logs.{entries_in, kind_in}
+use Rattle.brc_rule.specs.Seen.{part_seen, counts_seen, taken_seen, contents_locked}
+use Rattle.brc_steps.specs.Owing.{Carries, Unlocks}
+use Rattle.brc_steps.specs.Taking.{AreCells}
 use Rattle.brc_table.specs.Knowing.{known_seen, Keeps}
-use Rattle.brc_table.specs.Moving.{found_locked}
+use Rattle.brc_table.specs.Moving.{found_or, found_locked}
 use Rattle.brc_table.specs.Seated.{TableSeen, SeatSeen}
+use Rattle.brc_table.specs.Shown.{shows, contents_of}
 use Rattle.brc_counter.specs.Up.{IsKnown}
 use Rattle.brc_count.specs.declared.held.Held.{Held}
-use Rattle.brc_count.specs.Frames.{place_seen, lock_seen, cell_held, slots_out, Buried, Holding, FrameSeen}
-use Rattle.brc_count.specs.Locking.{KnowsLock, ChangesPlace, cell_in}
+use Rattle.brc_count.specs.Frames.{place_seen, locked_place, lock_seen, cell_held, slots_out, Buried, Holding, HandleSeen, FrameSeen, IsActive, CountsUp, Given}
+use Rattle.brc_count.specs.Locking.{KnowsLock, IsLocked, KeepsLock, ChangesPlace, cell_in, place_locked, cell_locked, contents_found, entries_found}
 
 -- ---- places
 
@@ -38,6 +51,27 @@ same_there same = cc
 
 not_both : {b : Bool} → b ≡ true → b ≡ false → ⊥
 not_both is isnt = cc
+
+same_number : {a b : ℕ} → Some a ≡ Some b → a ≡ b
+same_number same = cc
+
+may_lock : (stage : Stage) (k : ℕ) → is_active stage ≡ true → stage_ok stage (Lock k) ≡ true
+may_lock stages.Active k is = refl
+may_lock (stages.Closing words) k is = cc
+may_lock stages.Left k is = cc
+
+may_unlock : (stage : Stage) (change : Change) → is_active stage ≡ true → stage_ok stage (Unlock change) ≡ true
+may_unlock stages.Active change is = refl
+may_unlock (stages.Closing words) change is = cc
+may_unlock stages.Left change is = cc
+
+some_of : (o : Option ℕ) → is_some o ≡ true → (c : ℕ) × (o ≡ Some c)
+some_of None is = cc
+some_of (Some c) is = (c, refl)
+
+or_true : (b : Bool) → (b || true) ≡ true
+or_true true = refl
+or_true false = refl
 
 vacant_here : (frame : List (Option ℕ)) (k : ℕ) → place_at (vacated frame k) k ≡ None
 vacant_here frame k = elim (cases_lt k (length frame)) [
@@ -94,8 +128,6 @@ module _ (n : ℕ) (frame : List (Option ℕ)) {old places : Slab Held} where
         ];
       }
 
--- ---- the unlocking
-
 -- the entries of a cell that isn't one of the dead blocks may be any
 after_put : {n : ℕ} {marks : List Bool} {has : ℕ → List ℕ} {blocks : Blocks} (c : ℕ) (es : List ℕ) → Buried n marks has blocks
     → listed_at blocks c ≡ None → Buried n marks (put c es has) blocks
@@ -110,6 +142,74 @@ after_put {has = has} {blocks = blocks} c es b none = record {
   apart = b.apart;
   only = b.only;
 }
+
+-- ---- the locking
+
+module _ {A : Type 0} {heap : TableSeen} (before seat : SeatSeen A) {places : Slab Held} {works : List (ℕ × Payload A)} {popped : List ℕ} where
+  -- a place's object may be locked
+  pub lock_carries : (k c : ℕ) → Holding A heap before places works popped → is_active (part_seen heap.cells before.log).row.stage ≡ true
+      → locked_place heap.cells before.log ≡ None → place_seen heap.cells before.log k ≡ Some c → Carries heap.cells before.log (Lock k) c
+  lock_carries k c keeps active unlocked there = record {
+    own = rw (may_lock (part_seen heap.cells before.log).row.stage k active, unlocked, keeps.hand_is) refl;
+    cell = there;
+  }
+
+  pub after_lock : (k c : ℕ) (found : Contents) → Holding A heap before places works popped → locked_place heap.cells before.log ≡ None
+      → place_seen heap.cells before.log k ≡ Some c → seat.slots ≡ (c, None) ∷ before.slots
+      → IsKnown heap.cells seat.log (locking k c (entries_in found) (known_seen heap.cells before.log)) → Keeps heap.cells before.log seat.log
+      → listed_at (taken_seen heap.cells before.log) c ≡ None → contents_locked seat.log ≡ Some found
+      → Holding A heap seat places works popped
+  after_lock k c found keeps unlocked there out knows goes_on fresh found_now =
+      let places_now : (j : ℕ) → place_seen heap.cells seat.log j ≡ cell_held (get places j) =
+      λ j. ap (λ (p : Part). place_at p.frame j) knows.part ∙ keeps.placed j in
+      let place_now : locked_place heap.cells seat.log ≡ Some k = ap (λ (p : Part). p.row.locked) knows.part in
+      let cell_now : lock_seen heap.cells seat.log ≡ Some c = ap (λ (p : Part). locked_cell p.frame p.row.locked) knows.part ∙ there in
+      record {
+        hand_is = ap (λ (p : Part). p.row.hand) knows.part ∙ keeps.hand_is;
+        placed = places_now;
+        risen = λ j held is_there is. goes_on.risen (drops.Frame j) held.cell (keeps.risen j held is_there is)
+            ∙ ap (names held.cell) (places_now j ∙ ap cell_held is_there) ∙ eq-eqb held.cell held.cell refl;
+        inside = keeps.inside;
+        out = out ∙ ap (λ slots. (c, None) ∷ slots) (keeps.out ∙ ap (λ l. slots_out (locked_cell (part_seen heap.cells before.log).frame l) works) unlocked)
+            ∙ sym (ap (λ l. slots_out l works) cell_now);
+        lock_filled = λ j is. ap (λ (p : Part). is_some (place_at p.frame j)) knows.part
+            ∙ ap (λ i. is_some (place_seen heap.cells before.log i)) (sym (same_number (sym place_now ∙ is))) ∙ ap is_some there;
+        lock_has = λ d is. ap (λ (p : Part). p.has d) knows.part
+            ∙ ap (λ t. if t then entries_in found else (part_seen heap.cells before.log).has d) (eq-eqb d c (same_number (sym is ∙ cell_now)))
+            ∙ sym (ap (λ o. entries_in (found_or contents.Nothing o)) found_now);
+        listed = knows.blocks ∙ keeps.listed;
+        buried = rw (knows.part, knows.blocks) (after_put c (entries_in found) keeps.buried fresh);
+        popped_is = keeps.popped_is ∙ sym (ap (λ (p : Part). p.popped) knows.part);
+        words = keeps.words;
+        bits = keeps.bits;
+      }
+
+  -- the object is found locked, and nothing is known but that
+  pub after_busy : Holding A heap before places works popped → locked_place heap.cells before.log ≡ None → seat.slots ≡ before.slots
+      → IsKnown heap.cells seat.log (known_seen heap.cells before.log) → Keeps heap.cells before.log seat.log
+      → Holding A heap seat places works popped
+  after_busy keeps unlocked still knows goes_on =
+      let places_now : (j : ℕ) → place_seen heap.cells seat.log j ≡ cell_held (get places j) =
+      λ j. ap (λ (p : Part). place_at p.frame j) knows.part ∙ keeps.placed j in
+      let none_now : locked_place heap.cells seat.log ≡ None = ap (λ (p : Part). p.row.locked) knows.part ∙ unlocked in
+      let no_cell : lock_seen heap.cells seat.log ≡ None = ap (locked_cell (part_seen heap.cells seat.log).frame) none_now in
+      record {
+        hand_is = ap (λ (p : Part). p.row.hand) knows.part ∙ keeps.hand_is;
+        placed = places_now;
+        risen = λ j held is_there is. goes_on.risen (drops.Frame j) held.cell (keeps.risen j held is_there is)
+            ∙ ap (names held.cell) (places_now j ∙ ap cell_held is_there) ∙ eq-eqb held.cell held.cell refl;
+        inside = keeps.inside;
+        out = still ∙ keeps.out ∙ ap (λ (p : Part). slots_out (locked_cell p.frame p.row.locked) works) (sym knows.part);
+        lock_filled = λ j is. absurd (nothing_there (sym none_now ∙ is));
+        lock_has = λ d is. absurd (nothing_there (sym no_cell ∙ is));
+        listed = knows.blocks ∙ keeps.listed;
+        buried = rw (knows.part, knows.blocks) keeps.buried;
+        popped_is = keeps.popped_is ∙ sym (ap (λ (p : Part). p.popped) knows.part);
+        words = keeps.words;
+        bits = keeps.bits;
+      }
+
+-- ---- the unlocking
 
 module _ {A : Type 0} {heap : TableSeen} (before seat : SeatSeen A) {old places : Slab Held} {works : List (ℕ × Payload A)} {popped : List ℕ} where
   pub after_end : (change : Change) (c : ℕ) → Holding A heap before old works popped → KnowsLock heap.cells before.log
@@ -173,11 +273,73 @@ changes_place old new k slot placed now updates = record {
   others = λ j other. now j ∙ ap cell_held (updates.others j other) ∙ sym (placed j);
 }
 
--- ---- an entry is counted up
+-- ---- an unlocking may be made
 
-some_of : (o : Option ℕ) → is_some o ≡ true → (c : ℕ) × (o ≡ Some c)
-some_of None is = cc
-some_of (Some c) is = (c, refl)
+-- the locked cell stands in the locked place
+locked_there : (frame : List (Option ℕ)) (l : Option ℕ) (c : ℕ) → locked_cell frame l ≡ Some c → (k : ℕ) × (l ≡ Some k) × (place_at frame k ≡ Some c)
+locked_there frame None c is = absurd (nothing_there is)
+locked_there frame (Some k) c is = (k, refl, is)
+
+module _ {A : Type 0} (frame : FrameSeen A) (block : ℕ × Payload A) where
+  -- the block of a container, changed as is said, may go home
+  unlocks : (change : Change) → IsActive frame → (part_seen frame.heap.cells frame.seat.log).row.hand ≡ hands.Free → IsLocked frame
+      → cell_locked frame ≡ Some block.0 → is_container (kind_in (contents_found frame)) ≡ true
+      → kind_in (contents_of block.1) ≡ kind_in (contents_found frame)
+      → ((k : ℕ) → place_locked frame ≡ Some k → cell_in frame k ≡ Some block.0
+      → change_ok (Some k) (part_seen frame.heap.cells frame.seat.log).frame (entries_found frame) change ≡ true)
+      → entries_in (contents_of block.1) ≡ entries_changed change (part_seen frame.heap.cells frame.seat.log).frame (entries_found frame)
+      → is_keep change ≡ false
+      → Unlocks frame.heap.cells frame.seat.log (shows block) (found_locked frame.seat.log) change block.0
+  unlocks change active free lock locked container same_kind allowed entries changed =
+      let n = frame.heap.cells in
+      let log = frame.seat.log in
+      let (k, place, there) = locked_there (part_seen n log).frame (part_seen n log).row.locked block.0 locked in
+      record {
+        own = rw (may_unlock (part_seen n log).row.stage change active, place, free, there, lock.has block.0 locked) (allowed k place there);
+        cell = locked;
+        of_cell = refl;
+        was_found = lock.found;
+        container = ap (λ t. is_keep change || t) container ∙ or_true (is_keep change);
+        same_kind = same_kind;
+        entries = entries;
+        kept = λ is. absurd (not_both is changed);
+      }
+
+  -- an entry may go to a vacant place
+  pub unlocks_take : (i j c : ℕ) → IsActive frame → (part_seen frame.heap.cells frame.seat.log).row.hand ≡ hands.Free → IsLocked frame
+      → cell_locked frame ≡ Some block.0 → is_container (kind_in (contents_found frame)) ≡ true
+      → kind_in (contents_of block.1) ≡ kind_in (contents_found frame)
+      → slice_get (entries_found frame) i ≡ Some c → j < MOST_PLACES → cell_in frame j ≡ None
+      → entries_in (contents_of block.1) ≡ remove (entries_found frame) i
+      → Unlocks frame.heap.cells frame.seat.log (shows block) (found_locked frame.seat.log) (changes.Take i j) block.0
+  unlocks_take i j c active free lock locked container same_kind entry low vacant entries =
+      unlocks (changes.Take i j) active free lock locked container same_kind
+      (λ k place there. rw (
+        lt-ltb i (length (entries_found frame)) (slice_get_within (entries_found frame) i c entry),
+        lt-ltb j MOST_PLACES low,
+        vacant,
+        ne_eqb k j (λ same. nothing_there (sym vacant ∙ ap (cell_in frame) (sym same) ∙ there)),
+      ) refl)
+      entries refl
+
+  -- an entry and the reference of another place than the locked one may be exchanged
+  pub unlocks_swap : (i j c : ℕ) → IsActive frame → (part_seen frame.heap.cells frame.seat.log).row.hand ≡ hands.Free → IsLocked frame
+      → cell_locked frame ≡ Some block.0 → is_container (kind_in (contents_found frame)) ≡ true
+      → kind_in (contents_of block.1) ≡ kind_in (contents_found frame)
+      → slice_get (entries_found frame) i ≡ Some c → is_some (cell_in frame j) ≡ true → place_locked frame ≢ Some j
+      → ((d : ℕ) → cell_in frame j ≡ Some d → entries_in (contents_of block.1) ≡ slice_set (entries_found frame) i d)
+      → Unlocks frame.heap.cells frame.seat.log (shows block) (found_locked frame.seat.log) (changes.Swap i j) block.0
+  unlocks_swap i j c active free lock locked container same_kind entry filled apart entries =
+      let (d, is) = some_of (cell_in frame j) filled in
+      unlocks (changes.Swap i j) active free lock locked container same_kind
+      (λ k place there. rw (
+        lt-ltb i (length (entries_found frame)) (slice_get_within (entries_found frame) i c entry),
+        filled,
+        ne_eqb k j (λ same. apart (place ∙ ap Some same)),
+      ) refl)
+      (entries d is ∙ ap (λ o. slice_set (entries_found frame) i (number_in o)) (sym is)) refl
+
+-- ---- an entry is counted up
 
 -- an entry of the locked object is a reference to its cell
 pub entry_named : (n : ℕ) (log : List Told) (i k c : ℕ) → KnowsLock n log → slice_get (entries_in (found_locked log)) i ≡ Some c
@@ -185,3 +347,96 @@ pub entry_named : (n : ℕ) (log : List Told) (i k c : ℕ) → KnowsLock n log 
 entry_named n log i k c lock entry =
     let (d, is) = some_of (lock_seen n log) lock.somewhere in
     ap (λ l. entry_of (part_seen n log).has l i) is ∙ ap (λ es. slice_get es i) (lock.has d is) ∙ entry
+
+-- counting up is one step
+data OneUp (source : Source) (k : ℕ) (before log : List Told) : Type 0 where
+  OnLocal : (found : ℕ) → log ≡ Did (LocalUp source k) found Nothing ∷ before → OneUp source k before log
+  OnShared : (found : ℕ) → log ≡ Did (SharedUp source k) found Nothing ∷ before → OneUp source k before log
+
+one_up : {A : Type 0} (old new : FrameSeen A) (source : Source) (k c : ℕ) → CountsUp old new source k c → OneUp source k old.seat.log new.seat.log
+one_up old new source k c up = elim (cases_lt c FIRST_MORTAL) [
+  | inl low ↦ OnLocal (up.immortal low).found (up.immortal low).told
+  | inr mortal ↦ elim (cases_lt 0 (counts_seen old.heap.cells old.seat.log c)) [
+    | inl some ↦ elim (cases_lt (counts_seen old.heap.cells old.seat.log c) old.heap.local_limit) [
+      | inl below ↦ OnLocal _ (up.own mortal (record { some_count = some; below = below }))
+      | inr full ↦ let shared = up.shared mortal (λ here. absurd (omega (arith, here.below, full))) in OnShared shared.found shared.told
+    ]
+    | inr none ↦ let shared = up.shared mortal (λ here. absurd (omega (arith, here.some_count, none))) in OnShared shared.found shared.told
+  ]
+]
+
+contents_stay : (source : Source) (k : ℕ) (before log : List Told) → OneUp source k before log → contents_locked log ≡ contents_locked before
+contents_stay source k before log (OnLocal found told) = ap contents_locked told
+contents_stay source k before log (OnShared found told) = ap contents_locked told
+
+none_taken_local : (source : Source) (k found : ℕ) (o : Option ℕ) (blocks : Blocks) → taken_by (LocalUp source k) found [] o blocks ≡ blocks
+none_taken_local source k found None blocks = refl
+none_taken_local source k found (Some c) blocks = refl
+
+none_taken_shared : (source : Source) (k found : ℕ) (o : Option ℕ) (blocks : Blocks) → taken_by (SharedUp source k) found [] o blocks ≡ blocks
+none_taken_shared source k found None blocks = refl
+none_taken_shared source k found (Some c) blocks = refl
+
+blocks_stay : (n : ℕ) (source : Source) (k : ℕ) (before log : List Told) → OneUp source k before log → taken_seen n log ≡ taken_seen n before
+blocks_stay n source k before log (OnLocal found told) = ap (taken_seen n) told
+    ∙ none_taken_local source k found (meant (part_seen n before) (LocalUp source k)) (taken_seen n before)
+blocks_stay n source k before log (OnShared found told) = ap (taken_seen n) told
+    ∙ none_taken_shared source k found (meant (part_seen n before) (SharedUp source k)) (taken_seen n before)
+
+same_has_local : (n : ℕ) (source : Source) (k found : ℕ) (part : Part) (o : Option ℕ) → (part_by n part (LocalUp source k) found [] o).has ≡ part.has
+same_has_local n source k found part None = refl
+same_has_local n source k found part (Some c) = refl
+
+same_has_shared : (n : ℕ) (source : Source) (k found : ℕ) (part : Part) (o : Option ℕ) → (part_by n part (SharedUp source k) found [] o).has ≡ part.has
+same_has_shared n source k found part None = refl
+same_has_shared n source k found part (Some c) = refl
+
+has_stays : (n : ℕ) (source : Source) (k : ℕ) (before log : List Told) → OneUp source k before log
+    → (part_seen n log).has ≡ (part_seen n before).has
+has_stays n source k before log (OnLocal found told) = ap (λ l. (part_seen n l).has) told
+    ∙ same_has_local n source k found (part_seen n before) (meant (part_seen n before) (LocalUp source k))
+has_stays n source k before log (OnShared found told) = ap (λ l. (part_seen n l).has) told
+    ∙ same_has_shared n source k found (part_seen n before) (meant (part_seen n before) (SharedUp source k))
+
+-- the locked place isn't the one that was vacant, so it has what it had
+same_cell_locked : (n : ℕ) (before log : List Told) (k : ℕ) → locked_place n log ≡ locked_place n before
+    → place_seen n before k ≡ None → ((j : ℕ) → j ≢ k → place_seen n log j ≡ place_seen n before j)
+    → is_some (lock_seen n before) ≡ true → lock_seen n log ≡ lock_seen n before
+same_cell_locked n before log k place vacant others there =
+    ap (locked_cell (part_seen n log).frame) place ∙ same (locked_place n before) there
+  where
+    vacant_one : (j : ℕ) → is_some (place_seen n before j) ≡ true → j ≡ k → ⊥
+    vacant_one j is same = not_both is (ap is_some (ap (place_seen n before) same ∙ vacant))
+
+    same : (l : Option ℕ) → is_some (locked_cell (part_seen n before).frame l) ≡ true
+        → locked_cell (part_seen n log).frame l ≡ locked_cell (part_seen n before).frame l
+    same None is = refl
+    same (Some j) is = others j (vacant_one j is)
+
+-- what is locked and found stays
+pub entry_up : {A : Type 0} (old new : FrameSeen A) (source : Source) (c : ℕ) (given : HandleSeen) → Given old new source c given
+    → new.heap ≡ old.heap → KnowsLock old.heap.cells old.seat.log → KeepsLock old new
+entry_up old new source c given all heap lock =
+    let up = one_up old new source given.place c all.counted in
+    let n = old.heap.cells in
+    let cells : new.heap.cells ≡ n = ap (λ (h : TableSeen). h.cells) heap in
+    let contents_same = contents_stay source given.place old.seat.log new.seat.log up in
+    let blocks_same = blocks_stay n source given.place old.seat.log new.seat.log up in
+    let found_same : found_locked new.seat.log ≡ found_locked old.seat.log = ap (found_or contents.Nothing) contents_same in
+    let place : locked_place n new.seat.log ≡ locked_place n old.seat.log = ap (λ m. locked_place m new.seat.log) (sym cells) ∙ all.rest.lock in
+    let others : (j : ℕ) → j ≢ given.place → place_seen n new.seat.log j ≡ place_seen n old.seat.log j =
+    λ j other. ap (λ m. place_seen m new.seat.log j) (sym cells) ∙ all.others j other in
+    let cell : lock_seen n new.seat.log ≡ lock_seen n old.seat.log = same_cell_locked n old.seat.log new.seat.log given.place place all.vacant others lock.somewhere in
+    let knows : KnowsLock n new.seat.log = record {
+      somewhere = ap is_some cell ∙ lock.somewhere;
+      found = contents_same ∙ lock.found ∙ ap Some (sym found_same);
+      has = λ d is. ap (λ has. has d) (has_stays n source given.place old.seat.log new.seat.log up) ∙ lock.has d (sym cell ∙ is) ∙ ap entries_in (sym found_same);
+      cells = subst (λ f. AreCells n (entries_in f)) (sym found_same) lock.cells;
+      unlisted = λ d is. ap (λ bs. listed_at bs d) blocks_same ∙ lock.unlisted d (sym cell ∙ is);
+    } in
+    record {
+      locked = subst (λ m. KnowsLock m new.seat.log) (sym cells) knows;
+      place = all.rest.lock;
+      cell = ap (λ m. lock_seen m new.seat.log) cells ∙ cell;
+      contents = contents_same;
+    }

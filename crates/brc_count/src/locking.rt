@@ -50,10 +50,10 @@ impl<H: Home<A>, A: Allocator> Holdings<H, A> {
         let Some(cell) = self.cell(place) else {
             unreachable!()
         };
-        match self.counter.lock(place, cell) {
-            Ok(block) => Some(block),
-            Err(_found) => None,
-        }
+        let Ok(block) = self.counter.lock(place, cell) else {
+            return None;
+        };
+        Some(block)
     }
 
     /// The next place gets a reference to an entry of the locked object; the answer is that place.
