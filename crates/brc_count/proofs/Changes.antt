@@ -66,7 +66,7 @@ none_at m k = blank_word (replicate m 0) k (eq-eqb (used_words (replicate m 0)) 
 no_bit : (m k i : ℕ) → bit_at (word_at (replicate m 0) k) i ≡ 1 → ⊥
 no_bit m k i is = absurd (omega (arith, is, ap (λ w. bit_at w i) (none_at m k), bit_at-zero i))
 
-none_held : {X : Type 0} {a : X} → None ≡ Some a → ⊥
+pub none_held : {X : Type 0} {a : X} → None ≡ Some a → ⊥
 none_held same = cc
 
 active_may : (stage : Stage) (s : Step) → is_active stage ≡ true → stage_ok stage s ≡ true
@@ -103,11 +103,11 @@ pub stands : {A : Type 0} {heap : TableSeen} {seat : SeatSeen A} {places : Slab 
     → locked_place heap.cells seat.log ≡ None → Stands heap.cells seat.log hands.Free
 stands keeps stage unlocked = record { stage = stage; lock = unlocked; hand_is = keeps.hand_is }
 
-nothing_locked : (n : ℕ) (log : List Told) → locked_place n log ≡ None → lock_seen n log ≡ None
+pub nothing_locked : (n : ℕ) (log : List Told) → locked_place n log ≡ None → lock_seen n log ≡ None
 nothing_locked n log none = ap (locked_cell (part_seen n log).frame) none
 
 -- with nothing locked no slot is out but those of the worklist
-out_unlocked : {A : Type 0} (n : ℕ) (log : List Told) (works : List (ℕ × Payload A)) → locked_place n log ≡ None
+pub out_unlocked : {A : Type 0} (n : ℕ) (log : List Told) (works : List (ℕ × Payload A)) → locked_place n log ≡ None
     → slots_out (lock_seen n log) works ≡ map slot_out works
 out_unlocked n log works none = ap (λ l. slots_out (locked_cell (part_seen n log).frame l) works) none
 
@@ -140,12 +140,12 @@ if_some None f p = tt
 if_some (Some x) f p = f p
 
 module _ {A : Type 0} where
-  slots_pushed : (c : ℕ) (block : Option (ℕ × Payload A)) (works : List (ℕ × Payload A)) → IfSome block (λ there. there.0 ≡ c)
+  pub slots_pushed : (c : ℕ) (block : Option (ℕ × Payload A)) (works : List (ℕ × Payload A)) → IfSome block (λ there. there.0 ≡ c)
       → out_with c block (map slot_out works) ≡ map slot_out (pushed block works)
   slots_pushed c None works of_cell = refl
   slots_pushed c (Some there) works of_cell = ap (λ (d : ℕ). (d, None) ∷ map slot_out works) (sym of_cell)
 
-  blocks_pushed : (c : ℕ) (block : Option (ℕ × Payload A)) (works : List (ℕ × Payload A)) → IfSome block (λ there. there.0 ≡ c)
+  pub blocks_pushed : (c : ℕ) (block : Option (ℕ × Payload A)) (works : List (ℕ × Payload A)) → IfSome block (λ there. there.0 ≡ c)
       → taken_on false (is_there block) c (entries_answered block) (map block_listed works) ≡ map block_listed (pushed block works)
   blocks_pushed c None works of_cell = refl
   blocks_pushed c (Some there) works of_cell = ap (λ (d : ℕ). (d, entries_answered (Some there)) ∷ map block_listed works) (sym of_cell)

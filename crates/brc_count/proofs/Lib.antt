@@ -2,3 +2,4 @@ mod Buried
 mod Changes
 mod Framings
 mod Locks
+mod Popping

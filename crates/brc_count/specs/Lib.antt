@@ -1,2 +1,4 @@
 pub mod Frames
 pub mod Locking
+pub mod Polling
+pub mod Closing

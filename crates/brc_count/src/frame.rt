@@ -9,6 +9,7 @@ ghost use Rattle.brc_counter.specs.Bounded.{IsBounded};
 ghost use Rattle.brc_steps.specs.Joining.{next_thread, registering};
 ghost use Rattle.brc_table.specs.Seated.{Continues};
 ghost use Rattle.brc_count.specs.Frames.{place_seen, Owns, Given, Refused, ReleasedOf, IsAsBefore, IsUnlocked, Turns, KeepsHandles};
+ghost use Rattle.brc_count.specs.Polling.{Polled};
 
 use crate::handle::Handle;
 use crate::holdings::Holdings;
@@ -189,5 +190,16 @@ impl<H: Home<A>, A: Allocator> Frame<H, A> {
         ensures done { 0 < result → self.new.works ≡ [] }
     {
         self.holdings.work(budget)
+    }
+
+    /// Takes what the thread was told, drains the queue words that this names, and deals with each entry that was in them:
+    /// an object that isn't merged is merged, and the entry's reference counted down (PEP 703, "Biased Reference Counting").
+    /// The answer is what it was told, 0 where nobody put anything into the queue since the last poll. It takes no memory.
+    pub fn poll(&mut self) -> u64
+        requires unlocked { IsUnlocked self.old }
+        ensures keeps { KeepsHandles self.old self.new }
+        ensures polled { Polled self.old self.new result }
+    {
+        self.holdings.poll()
     }
 }

@@ -9,6 +9,7 @@ mod handle;
 mod held;
 mod holdings;
 mod locking;
+mod polling;
 mod work;
 
 pub use frame::Frame;

@@ -58,7 +58,7 @@ impl<H: Home<A>, A: Allocator> Counter<H, A> {
         self.counts[cell as usize] = 1;
     }
 
-    /// The cell of a dead object without entries is free again.
+    /// The cell of a dead object without entries is free again; 64 bits count what the thread has freed.
     pub fn free(&mut self, cell: u32)
         requires inside { cell < self.old.heap.cells }
         requires slot { self.old.seat.slots ≡ (cell, None) ∷ rest self.old.seat.slots }
@@ -71,6 +71,7 @@ impl<H: Home<A>, A: Allocator> Counter<H, A> {
         ensures knows { IsKnown self.old.heap.cells self.new.seat.log
             (giving_back cell (known_seen self.old.heap.cells self.old.seat.log)) }
         ensures keeps { Keeps self.old.heap.cells self.old.seat.log self.new.seat.log }
+        ensures few { (part_seen self.old.heap.cells self.new.seat.log).row.frees < 2 ^ 64 }
     {
         self.heap.table().free(&mut self.seat, cell);
     }

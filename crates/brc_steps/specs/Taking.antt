@@ -1,5 +1,6 @@
 -- What a step that may take a block tells its seat.
-use Rattle.std.specs.Prelude.{◌≡◌, ℕ, ◌<◌, Bool, true, false, List, ◌∷◌, Option, Some, None, ◌^◌, ◌-◌, slice_get}
+use Rattle.std.specs.Prelude.{◌≡◌, ℕ, ◌<◌, ◌+◌, ◌*◌, Bool, true, false, List, ◌∷◌, Option, Some, None, ◌^◌, ◌-◌, slice_get}
+use Rattle.std.specs.Int.{bit_at}
 use Rattle.atomic_table.specs.Table.{Me}
 use Rattle.brc_runs.specs.declared.event.Step.{Step}
 use Rattle.brc_runs.specs.declared.event.Step.TheVariants.{Claim, Lock}
@@ -17,6 +18,10 @@ use Rattle.brc_rule.specs.Seen.{taken_seen}
 -- each of the entries is one of so many cells
 abbrev pub AreCells : ℕ → List ℕ → Type 0
 AreCells n entries = (i c : ℕ) → slice_get entries i ≡ Some c → c < n
+
+-- Each bit that was found in this queue word is one of its 32 cells, and that is a cell of the heap: a bit is a reference.
+abbrev pub AreQueued : ℕ → ℕ → ℕ → Type 0
+AreQueued n k bits = (i : ℕ) → bit_at bits i ≡ 1 → (i < 32) × (k * 32 + i < n)
 
 -- The seat has the cell's block now, and its log the contents that were found in it. It was none of the dead blocks that
 -- the seat had, and its entries are cells of the heap.

@@ -10,6 +10,7 @@ ghost use Rattle.brc_known.specs.declared.word.Word.TheVariants as words;
 ghost use Rattle.brc_known.specs.Going_On.{handing, filling, counting, bearing, giving_back};
 ghost use Rattle.brc_rule.specs.declared.told.Moved.TheVariants as moves;
 ghost use Rattle.brc_rule.specs.declared.told.Told.TheVariants as told;
+ghost use Rattle.brc_rule.specs.Seen.{part_seen};
 ghost use Rattle.brc_steps.specs.Owing.{Claims, Bears, Carries};
 ghost use Rattle.brc_table.specs.Knowing.{known_seen, Knows, Keeps, Notes};
 ghost use Rattle.brc_table.specs.Seated.{Stays, Continues};
@@ -102,7 +103,8 @@ impl<A: Allocator> HeapTable<A> {
         give(self, &mut seat.place, word, u64::from(seat.thread), step);
     }
 
-    /// Free: the cell of a dead object without entries is free again.
+    /// Free: the cell of a dead object without entries is free again. Births less frees are the objects that live, so 64 bits
+    /// count what a thread has freed.
     pub fn free(&self, seat: &mut ThreadSeat<A>, cell: u32)
         requires table { seat.old.table ≡ self.now.table }
         requires inside { cell < self.now.cells }
@@ -113,6 +115,7 @@ impl<A: Allocator> HeapTable<A> {
         ensures seat { Continues seat.old seat.new }
         ensures knows { Knows self.now.cells seat.new.log (giving_back cell (known_seen self.now.cells seat.old.log)) }
         ensures keeps { Keeps self.now.cells seat.old.log seat.new.log }
+        ensures few { (part_seen self.now.cells seat.new.log).row.frees < 2 ^ 64 }
     {
         let word = Word::Of(Field::Owner, cell);
         give(self, &mut seat.place, word, u64::MAX, Step::Free(cell));
