@@ -1,6 +1,6 @@
 use Rattle.std.proofs.Common.{◌≡◌, Some, sym, subst}
 use Rattle.brc_runs.specs.declared.event.Change.TheVariants as changes
-use Rattle.brc_count.specs.Frames.{FrameSeen, lock_seen}
+use Rattle.brc_count.specs.Frames.{FrameSeen}
 use Rattle.brc_count.specs.Locking.{IsLocked, cell_locked}
 use Rattle.brc_count.proofs.Locks.{after_end}
 use Rattle.brc_count.proofs.holdings.Holdings.end_keep.Goals as goal

@@ -1,14 +1,12 @@
-use Rattle.std.proofs.Common.{◌≡◌, ◌<◌, Some, None, ◌∙◌, sym, ap, subst, refl, false}
-use Rattle.slab.specs.Slab.{Updates}
-use Rattle.brc_words.specs.declared.limits.TheConstants.{MOST_PLACES}
+use Rattle.std.proofs.Common.{◌≡◌, Some, sym, subst, refl, false}
 use Rattle.brc_runs.specs.declared.event.Change.TheVariants as changes
 use Rattle.brc_runs.specs.declared.row.Hand.TheVariants as hands
 use Rattle.brc_rule.specs.Seen.{part_seen}
 use Rattle.brc_steps.specs.Owing.{Unlocks}
 use Rattle.brc_table.specs.Moving.{found_locked}
 use Rattle.brc_table.specs.Shown.{shows}
-use Rattle.brc_count.specs.Frames.{FrameSeen, cell_held}
-use Rattle.brc_count.specs.Locking.{IsLocked, cell_in, cell_locked, entries_found}
+use Rattle.brc_count.specs.Frames.{FrameSeen}
+use Rattle.brc_count.specs.Locking.{IsLocked, cell_locked}
 use Rattle.brc_count.proofs.Locks.{unlocks_swap, after_end_filled, changes_place}
 use Rattle.brc_count.proofs.holdings.Holdings.end_swap.Goals as goal
 

@@ -8,7 +8,7 @@ use Rattle.brc_steps.specs.Owing.{Unlocks}
 use Rattle.brc_table.specs.Moving.{found_locked}
 use Rattle.brc_table.specs.Shown.{shows}
 use Rattle.brc_count.specs.Frames.{FrameSeen, cell_held}
-use Rattle.brc_count.specs.Locking.{IsLocked, cell_in, cell_locked, entries_found}
+use Rattle.brc_count.specs.Locking.{IsLocked, cell_in, cell_locked}
 use Rattle.brc_count.proofs.Locks.{unlocks_take, after_end_filled, changes_place}
 use Rattle.brc_count.proofs.holdings.Holdings.end_take.Goals as goal
 
