@@ -2,4 +2,5 @@ mod Buried
 mod Changes
 mod Framings
 mod Locks
+mod Locked_Entries
 mod Popping

@@ -123,7 +123,7 @@ impl<H: Home<A>, A: Allocator> Holdings<H, A> {
     {
         let place = self.places.vacant_key() as u32;
         self.counter.unlock(block, Change::Take { index, place });
-        // What was seen risen was seen of a reference of this thread's, which this one wasn't.
+        // Whether its state has risen wasn't looked at since the place has it, so its release will look.
         let _key = self.places.insert_reserved(Held { cell, risen: false });
         place
     }

@@ -1,5 +1,5 @@
 use Rattle.brc_runs.specs.declared.event.Source.TheVariants as sources
-use Rattle.brc_count.proofs.Locks.{entry_named, entry_up}
+use Rattle.brc_count.proofs.Locked_Entries.{entry_named, entry_up}
 use Rattle.brc_count.proofs.holdings.Holdings.up_entry.Goals as goal
 
 pub fill-requires-clause-named : goal.fill-requires-clause-named
