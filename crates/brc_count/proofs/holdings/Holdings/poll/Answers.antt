@@ -44,7 +44,7 @@ loop-word-preserved g c =
             }),
             kept_on inv.1 (kept_on drained.keeps dealt.keeps),
             still_blank word w.drain-bits.result (popped_seen c.loop-word.self) (popped_seen w.drain-bits.new.self) (popped_seen w.settle_word.new.self)
-                inv.2 drained.popped dealt.done dealt.others,
+            inv.2 drained.popped dealt.done dealt.others,
           )
       | else-names_word w ↦
           subst P (sym w.self-is) (
