@@ -20,7 +20,7 @@ use Rattle.brc_runs.specs.declared.row.Hand.TheVariants as hands
 use Rattle.brc_runs.specs.declared.row.Stage.{Stage}
 use Rattle.brc_runs.specs.declared.row.Stage.TheVariants as stages
 use Rattle.brc_runs.specs.Lists.{used_words, names, place_at, filled, vacated, front_of, last_of, is_marked, word_at}
-use Rattle.brc_runs.specs.Steps.{is_active, stage_ok, needs_lock, lock_ok, locked_cell}
+use Rattle.brc_runs.specs.Steps.{is_active, stage_ok, lock_ok, locked_cell}
 use Rattle.brc_runs.proofs.Bitwise.{blank_word}
 use Rattle.std.proofs.lemmas.List.Folds.{sum_by-replicate}
 use Rattle.brc_runs.proofs.Framing.{place_at-filled_here, place_at-filled_else, place_at-vacated_else}

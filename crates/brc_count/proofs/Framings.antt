@@ -1,6 +1,6 @@
 -- What a frame keeps, after its holdings changed.
 use Rattle.std.proofs.Common.{◌≡◌, ℕ, true, refl, ap, ◌∙◌}
-use Rattle.brc_runs.specs.Steps.{is_active}
+use Rattle.brc_runs.specs.Steps.{is_active, is_left}
 use Rattle.brc_runs.specs.Lists.{is_blank}
 use Rattle.brc_runs.specs.declared.row.Stage.{Stage}
 use Rattle.brc_runs.specs.declared.row.Stage.TheVariants as stages
@@ -13,6 +13,7 @@ pub framing_on : {A : Type 0} (old new : FrameSeen A) (thread : ℕ) → Framing
     → popped_seen new ≡ popped_seen old → Framing new thread
 framing_on old new thread keeps same rest popped = record {
   same_thread = same ∙ keeps.same_thread;
+  some_thread = keeps.some_thread;
   active = ap is_active rest.stage ∙ keeps.active;
   blank = ap is_blank popped ∙ keeps.blank;
 }
@@ -32,6 +33,14 @@ module _ {A : Type 0} where
   active_gives frame = may (part_seen frame.heap.cells frame.seat.log).row.stage
     where
       may : (stage : Stage) → is_active stage ≡ true → may_give_up stage ≡ true
+      may stages.Active is = refl
+      may (stages.Closing words) is = cc
+      may stages.Left is = refl
+
+  pub left_gives : (frame : FrameSeen A) → is_left (part_seen frame.heap.cells frame.seat.log).row.stage ≡ true → MayGiveUp frame
+  left_gives frame = may (part_seen frame.heap.cells frame.seat.log).row.stage
+    where
+      may : (stage : Stage) → is_left stage ≡ true → may_give_up stage ≡ true
       may stages.Active is = refl
       may (stages.Closing words) is = cc
       may stages.Left is = refl

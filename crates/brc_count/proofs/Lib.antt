@@ -4,3 +4,4 @@ mod Framings
 mod Locks
 mod Locked_Entries
 mod Popping
+mod Leaving

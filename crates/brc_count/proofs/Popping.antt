@@ -1,5 +1,5 @@
 -- What becomes of what a thread holds when entries are popped, and when one is dealt with.
-use Rattle.std.proofs.Common.{◌≡◌, ◌≢◌, ◌⊎◌, not, ℕ, ◌+◌, ◌*◌, ◌/◌, ◌%◌, ◌^◌, ◌<◌, ◌≤◌, ◌==◌, Bool, true, false, if◌then◌else◌, List, [], ◌∷◌, length, set, get_or, max, map, zero, suc, Option, Some, None, IfSome, refl, sym, ◌∙◌, ap, subst, arith, inl, inr}
+use Rattle.std.proofs.Common.{◌≡◌, ◌≢◌, ◌⊎◌, not, ℕ, ◌+◌, ◌*◌, ◌/◌, ◌%◌, ◌^◌, ◌<◌, ◌≤◌, ◌==◌, true, false, if◌then◌else◌, List, [], ◌∷◌, length, set, get_or, max, zero, suc, Option, Some, None, refl, sym, ◌∙◌, ap, subst, arith, inl, inr}
 use Rattle.std.specs.Int.{bit_at}
 use Rattle.std.specs.Int.RustNames.{bit_or, bit_xor}
 use Rattle.std.proofs.lemmas.Bool.{cases_eq, cases_lt, eq-eqb}
@@ -7,15 +7,16 @@ use Rattle.std.proofs.lemmas.List.{length-set, get_or-set_same, get_or-set_other
 use Rattle.std.proofs.lemmas.Option.{slice_get-get_or, get_or_from_slice_get}
 use Rattle.std.proofs.lemmas.List.Sums.{sum_by-cons}
 use Rattle.std.proofs.lemmas.Nat.Bits.{bit_at-zero, bit_at-lt, bit_at_or, bit_at_xor, bit_at-pow_same, bit_at-pow_other, same_from_bits}
-use Rattle.slab.specs.Slab.{Slab, get}
+use Rattle.slab.specs.Slab.{Slab}
 use Rattle.brc_block.specs.declared.payload.Payload.{Payload}
 use Rattle.brc_runs.specs.Heap.{words_for}
 use Rattle.brc_runs.specs.Lists.{names, place_at, bit_of, word_at, without_bit, is_blank, used_words}
 use Rattle.brc_runs.proofs.Bitwise.{bit_inside}
 use Rattle.brc_runs.specs.declared.event.Dropped.TheVariants as drops
 use Rattle.brc_known.specs.Items.{Part, popped_told}
-use Rattle.brc_known.specs.Going_On.{popping, settling, taking}
+use Rattle.brc_known.specs.Going_On.{popping, closing, settling, taking}
 use Rattle.brc_known.specs.Taken.{taken_on}
+use Rattle.brc_rule.specs.declared.told.Told.{Told}
 use Rattle.brc_rule.specs.Seen.{part_seen, taken_seen}
 use Rattle.brc_steps.specs.Taking.{AreQueued}
 use Rattle.brc_table.specs.Knowing.{known_seen, entries_of as entries_answered, Keeps}
@@ -27,7 +28,7 @@ use Rattle.brc_counter.specs.Up.{IsKnown}
 use Rattle.brc_counter.proofs.Marking.{marks_wide}
 use Rattle.brc_count.specs.declared.held.Held.{Held}
 use Rattle.brc_count.specs.Polling.{DrainsNamed, NoWord, NotNamed}
-use Rattle.brc_count.specs.Frames.{AreBits, FrameSeen, Holding, locked_place, lock_seen, cell_held, pushed}
+use Rattle.brc_count.specs.Frames.{AreBits, FrameSeen, Holding, locked_place, cell_held, pushed}
 use Rattle.brc_count.proofs.Buried.{after_given}
 use Rattle.brc_count.proofs.Changes.{none_held, nothing_locked, out_unlocked, slots_pushed, blocks_pushed}
 
@@ -89,30 +90,72 @@ blank_from words none = eq-eqb (used_words words) 0 (count words none)
 pub word_read : (words : List ℕ) (k v : ℕ) → v ≡ get_or words k v → k < length words → word_at words k ≡ v
 word_read words k v read low = get_or_from_slice_get words k v 0 (slice_get-get_or words k v low ∙ ap Some (sym read))
 
+-- The lowest bit of a word that isn't 0 is set, and its cell is one of the heap.
+pub record Lowest (n : ℕ) (words : List ℕ) (k i : ℕ) : Type 0 where
+  pub set : bit_at (word_at words k) i ≡ 1
+  pub low : i < 32
+  pub inside : k * 32 + i < n
+
+pub lowest_set : (n : ℕ) (words : List ℕ) (k i v : ℕ) → v ≡ get_or words k v → k < length words → bit_at v i ≡ 1 → AreBits n words → Lowest n words k i
+lowest_set n words k i v read low is fit =
+    let set : bit_at (word_at words k) i ≡ 1 = ap (λ w. bit_at w i) (word_read words k v read low) ∙ is in
+    record { set = set; low = (fit k i set).0; inside = (fit k i set).1 }
+
 -- ---- what is held
 
+-- what is the same after the bits of word k are popped, and the bits
+pub record Pops (n : ℕ) (before log : List Told) (k number : ℕ) : Type 0 where
+  pub hand : (part_seen n log).row.hand ≡ (part_seen n before).row.hand
+  pub locked : (part_seen n log).row.locked ≡ (part_seen n before).row.locked
+  pub frame : (part_seen n log).frame ≡ (part_seen n before).frame
+  pub worklist : (part_seen n log).worklist ≡ (part_seen n before).worklist
+  pub has : (part_seen n log).has ≡ (part_seen n before).has
+  pub blocks : taken_seen n log ≡ taken_seen n before
+  pub popped : (part_seen n log).popped ≡ popped_told (Some k) number (part_seen n before).popped
+
+pub drained_pops : (n : ℕ) (before log : List Told) (k number : ℕ) → IsKnown n log (popping k number (known_seen n before)) → Pops n before log k number
+drained_pops n before log k number knows = record {
+  hand = ap (λ (p : Part). p.row.hand) knows.part;
+  locked = ap (λ (p : Part). p.row.locked) knows.part;
+  frame = ap (λ (p : Part). p.frame) knows.part;
+  worklist = ap (λ (p : Part). p.worklist) knows.part;
+  has = ap (λ (p : Part). p.has) knows.part;
+  blocks = knows.blocks;
+  popped = ap (λ (p : Part). p.popped) knows.part;
+}
+
+pub closed_pops : (n : ℕ) (before log : List Told) (k number : ℕ) → IsKnown n log (closing n k (popping k number (known_seen n before))) → Pops n before log k number
+closed_pops n before log k number knows = record {
+  hand = ap (λ (p : Part). p.row.hand) knows.part;
+  locked = ap (λ (p : Part). p.row.locked) knows.part;
+  frame = ap (λ (p : Part). p.frame) knows.part;
+  worklist = ap (λ (p : Part). p.worklist) knows.part;
+  has = ap (λ (p : Part). p.has) knows.part;
+  blocks = knows.blocks;
+  popped = ap (λ (p : Part). p.popped) knows.part;
+}
+
 module _ {A : Type 0} {heap : TableSeen} (before seat : SeatSeen A) {places : Slab Held} {works : List (ℕ × Payload A)} {popped : List ℕ} where
-  -- the bits of a queue word are popped
-  pub after_drain : (k number read : ℕ) → Holding A heap before places works popped → Stays before seat
-      → IsKnown heap.cells seat.log (popping k number (known_seen heap.cells before.log)) → Keeps heap.cells before.log seat.log
+  -- the bits of a queue word are popped, whether it is drained or closed
+  pub after_pops : (k number read : ℕ) → Holding A heap before places works popped → Stays before seat
+      → Pops heap.cells before.log seat.log k number → Keeps heap.cells before.log seat.log
       → AreQueued heap.cells k number → k < words_for heap.cells → read ≡ word_at popped k → locked_place heap.cells before.log ≡ None
       → Holding A heap seat places works (set popped k (bit_or read number))
-  after_drain k number read keeps stays knows goes_on queued low was unlocked =
-      let gone : locked_place heap.cells seat.log ≡ None = ap (λ (p : Part). p.row.locked) knows.part ∙ unlocked in
+  after_pops k number read keeps stays pops goes_on queued low was unlocked =
+      let gone : locked_place heap.cells seat.log ≡ None = pops.locked ∙ unlocked in
       let inside : k < length popped = subst (λ m. k < m) (sym keeps.words) low in
       record {
-        hand_is = ap (λ (p : Part). p.row.hand) knows.part ∙ keeps.hand_is;
-        placed = λ j. ap (λ (p : Part). place_at p.frame j) knows.part ∙ keeps.placed j;
+        hand_is = pops.hand ∙ keeps.hand_is;
+        placed = λ j. ap (λ frame. place_at frame j) pops.frame ∙ keeps.placed j;
         risen = λ j there is_there is. goes_on.risen (drops.Frame j) there.cell (keeps.risen j there is_there is)
-            ∙ ap (names there.cell) (ap (λ (p : Part). place_at p.frame j) knows.part ∙ keeps.placed j ∙ ap cell_held is_there) ∙ eq-eqb there.cell there.cell refl;
+            ∙ ap (names there.cell) (ap (λ frame. place_at frame j) pops.frame ∙ keeps.placed j ∙ ap cell_held is_there) ∙ eq-eqb there.cell there.cell refl;
         inside = keeps.inside;
         out = stays.2 ∙ keeps.out ∙ out_unlocked heap.cells before.log works unlocked ∙ sym (out_unlocked heap.cells seat.log works gone);
         lock_filled = λ j is. absurd (none_held (sym gone ∙ is));
         lock_has = λ d is. absurd (none_held (sym (nothing_locked heap.cells seat.log gone) ∙ is));
-        listed = knows.blocks ∙ keeps.listed;
-        buried = rw (knows.part, knows.blocks) keeps.buried;
-        popped_is = ap (λ v. set popped k (bit_or v number)) was ∙ ap (λ ws. set ws k (bit_or (word_at ws k) number)) keeps.popped_is
-            ∙ sym (ap (λ (p : Part). p.popped) knows.part);
+        listed = pops.blocks ∙ keeps.listed;
+        buried = rw (pops.worklist, pops.has, pops.blocks) keeps.buried;
+        popped_is = ap (λ v. set popped k (bit_or v number)) was ∙ ap (λ ws. set ws k (bit_or (word_at ws k) number)) keeps.popped_is ∙ sym pops.popped;
         words = length-set popped k (bit_or read number) ∙ keeps.words;
         bits = subst (λ v. AreBits heap.cells (set popped k (bit_or v number))) (sym was) (bits_joined popped keeps.bits k number inside queued);
       }

@@ -147,14 +147,17 @@ SourceNames source c frame = meant (part_seen frame.heap.cells frame.seat.log) (
 -- What a frame keeps besides: between calls its thread is active, and nothing is popped.
 pub record Framing {A : Type 0} (holdings : FrameSeen A) (thread : ℕ) : Type 0 where
   pub same_thread : holdings.seat.thread ≡ thread
+  pub some_thread : 0 < thread
   pub active : IsActive holdings
   pub blank : is_blank (popped_seen holdings) ≡ true
 
--- What a closed frame keeps: its thread has left, no place is filled, and nothing is locked.
-pub record Leaving {A : Type 0} (holdings : FrameSeen A) (thread : ℕ) : Type 0 where
+-- What a closed frame keeps: its thread has left, nothing is locked, and the popped words below one are 0.
+pub record Leaving {A : Type 0} (holdings : FrameSeen A) (thread next : ℕ) : Type 0 where
   pub same_thread : holdings.seat.thread ≡ thread
+  pub some_thread : 0 < thread
   pub left : is_left (part_seen holdings.heap.cells holdings.seat.log).row.stage ≡ true
   pub unlocked : IsUnlocked holdings
+  pub done : (k : ℕ) → k < next → word_at (popped_seen holdings) k ≡ 0
 
 -- ---- what calls do
 

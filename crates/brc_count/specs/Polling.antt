@@ -1,5 +1,5 @@
 -- What a poll does: the thread takes its notify word, drains the queue words that it names, and deals with each entry.
-use Rattle.std.specs.Prelude.{◌≡◌, ℕ, ◌+◌, ◌*◌, ◌/◌, List, ◌∷◌, Option}
+use Rattle.std.specs.Prelude.{◌≡◌, ℕ, ◌+◌, ◌*◌, ◌/◌, ◌∷◌, Option}
 use Rattle.std.specs.Int.{bit_at}
 use Rattle.brc_block.specs.declared.payload.Payload.{Payload}
 use Rattle.brc_runs.specs.declared.event.Step.TheVariants.{Drain, Wake}

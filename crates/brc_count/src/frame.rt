@@ -10,7 +10,9 @@ ghost use Rattle.brc_steps.specs.Joining.{next_thread, registering};
 ghost use Rattle.brc_table.specs.Seated.{Continues};
 ghost use Rattle.brc_count.specs.Frames.{place_seen, Owns, Given, Refused, ReleasedOf, IsAsBefore, IsUnlocked, Turns, KeepsHandles};
 ghost use Rattle.brc_count.specs.Polling.{Polled};
+ghost use Rattle.brc_count.specs.Closing.{Closes};
 
+use crate::closed::ClosedFrame;
 use crate::handle::Handle;
 use crate::holdings::Holdings;
 use brc_counter::{Counter, Home, first_counts};
@@ -201,5 +203,33 @@ impl<H: Home<A>, A: Allocator> Frame<H, A> {
         ensures polled { Polled self.old self.new result }
     {
         self.holdings.poll()
+    }
+
+    /// Leaves: all of the thread's queue words are closed, by rising number, and it counts as any other thread does from
+    /// the first on. A frame with a handle or a dead block is answered as it was.
+    pub fn close(self) -> Result<ClosedFrame<H, A>, Frame<H, A>>
+        requires unlocked { IsUnlocked self }
+        ensures heap { IfOk result (λ closed. closed.heap ≡ self.heap) }
+        ensures thread { IfOk result (λ closed. closed.seat.thread ≡ self.seat.thread) }
+        ensures closes { IfOk result (λ closed. Closes self.seat.log (words_for self.heap.cells) closed.seat.log) }
+        ensures idle { OnOk result ((self.len ≡ 0) × (self.works ≡ [])) }
+        ensures refused { OnErr result ((0 < self.len) ⊎ (0 < length self.works)) }
+        ensures unchanged { IfErr result (λ same. same ≡ self) }
+    {
+        if !self.holdings.is_idle() {
+            return Err(self);
+        }
+        let Frame {
+            mut holdings,
+            thread,
+        } = self;
+        // There are some words to close: by the last one the thread has left.
+        let _words = holdings.words();
+        holdings.close_all();
+        Ok(ClosedFrame {
+            holdings,
+            thread,
+            next: 0,
+        })
     }
 }

@@ -4,6 +4,8 @@
 //! contract of `brc_counter`; here stand the places, and the worklist of dead blocks (`specs/Frames.antt`).
 #![tactic(auto)]
 
+mod closed;
+mod closing;
 mod frame;
 mod handle;
 mod held;
@@ -12,6 +14,7 @@ mod locking;
 mod polling;
 mod work;
 
+pub use closed::ClosedFrame;
 pub use frame::Frame;
 pub use handle::Handle;
 pub use held::Held;

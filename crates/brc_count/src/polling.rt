@@ -1,6 +1,6 @@
 //! The thread's merge queue: entries that others have put there are popped, and dealt with.
 
-ghost use Rattle.std.specs.Prelude.{◌≡◌, ◌≢◌, ◌+◌, ◌*◌, ◌<◌, ℕ, Some, true, ◌∷◌, ◌/◌, length, slice_set, bit_or, IsTrue, IsFalse, ◌≤◌};
+ghost use Rattle.std.specs.Prelude.{◌≡◌, ◌≢◌, ◌+◌, ◌*◌, ◌<◌, ℕ, Some, true, ◌∷◌, ◌/◌, length, slice_set, bit_or, IsTrue, IsFalse, ◌≤◌, IfSome, IfNone};
 ghost use Rattle.std.specs.Int.{bit_at};
 ghost use Rattle.brc_words.specs.declared.limits.TheConstants.{MOST_CELLS};
 ghost use Rattle.brc_runs.specs.declared.event.Step.TheVariants as steps;
@@ -31,6 +31,14 @@ fn strike<A: Allocator>(words: &mut Vec<u64, A>, cell: u32)
 {
     let at = (cell / 32) as usize;
     words[at] = words[at] ^ (1 << (cell % 32));
+}
+
+/// The place of a number's lowest bit.
+fn lowest(bits: u64) -> u32
+    requires { bits ≢ 0 }
+    ensures { bit_at bits result ≡ 1 }
+{
+    bits.trailing_zeros()
 }
 
 /// Whether what a thread was told names the word: each bit stands for 32 of them.
@@ -127,6 +135,54 @@ impl<H: Home<A>, A: Allocator> Holdings<H, A> {
             }
         }
         let _popped = &self.popped;
+    }
+
+    /// The first popped word with an entry, where those before this one have none.
+    pub(crate) fn first_popped(&self, from: usize) -> Option<u32>
+        requires done { (k : ℕ) → k < from → word_at (popped_seen self.now) k ≡ 0 }
+        ensures none { IfNone result (is_blank (popped_seen self.now) ≡ true) }
+        ensures some { IfSome result (λ word. word_at (popped_seen self.now) word ≢ 0) }
+        ensures inside { IfSome result (λ word. word < words_for self.now.heap.cells) }
+        ensures done { IfSome result (λ word. (k : ℕ) → k < word → word_at (popped_seen self.now) k ≡ 0) }
+    {
+        let words = self.words() as usize;
+        for word in from..words {
+            if self.popped[word] != 0 {
+                return Some(word as u32);
+            }
+        }
+        None
+    }
+
+    /// Deals with the entry of a popped word's lowest bit, and answers its cell.
+    pub(crate) fn settle_lowest(&mut self, word: u32) -> u32
+        requires inside { word < words_for self.old.heap.cells }
+        requires some { word_at (popped_seen self.old) word ≢ 0 }
+        requires stage { MayGiveUp self.old }
+        requires unlocked { IsUnlocked self.old }
+        ensures keeps { KeepsHandles self.old self.new }
+        ensures popped { bit_of (popped_seen self.old) result ≡ 1 }
+        ensures deals { Deals self.old self.new result }
+        ensures others { (k : ℕ) → k ≢ word → word_at (popped_seen self.new) k ≡ word_at (popped_seen self.old) k }
+    {
+        let bit = self.lowest_bit(word);
+        let cell = word * 32 + bit;
+        self.settle(cell);
+        cell
+    }
+
+    /// The lowest bit that is set in a popped word.
+    fn lowest_bit(&self, word: u32) -> u32
+        requires inside { word < words_for self.now.heap.cells }
+        requires some { word_at (popped_seen self.now) word ≢ 0 }
+        ensures low { result < 32 }
+        ensures set { bit_at (word_at (popped_seen self.now) word) result ≡ 1 }
+        ensures inside { word * 32 + result < self.now.heap.cells }
+        ensures few { self.now.heap.cells ≤ MOST_CELLS }
+    {
+        // A heap has few cells: its invariant says so.
+        let _cells = self.counter.home().table().cells();
+        lowest(self.popped[word as usize])
     }
 
     /// Takes what the thread was told, drains the words that this names, and deals with each of their entries. It answers

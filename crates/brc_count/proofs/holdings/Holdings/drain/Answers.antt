@@ -3,15 +3,16 @@ use Rattle.brc_known.specs.Items.{Part}
 use Rattle.brc_rule.specs.Seen.{part_seen}
 use Rattle.brc_table.specs.Seated.{TableSeen}
 use Rattle.brc_count.specs.Frames.{IsUnlocked, popped_seen}
-use Rattle.brc_count.proofs.Popping.{after_drain, drained_word}
+use Rattle.brc_count.proofs.Popping.{after_pops, drained_pops, drained_word}
 use Rattle.brc_runs.specs.Lists.{word_at}
 use Rattle.brc_count.proofs.holdings.Holdings.drain.Goals as goal
 
 pub invariant_of-self : goal.invariant_of-self
 invariant_of-self g c =
     let up = c.drain-bits.ensures in
-    rw (up.heap, c.join.ensures) (after_drain c.self.inside.counter.seat c.drain-bits.new.self.seat c.args.word c.drain-bits.result
-    (word_at c.self.inside.popped.items c.args.word) c.self.invariant up.seat up.knows up.keeps up.cells (rw (← c.self.view_is) at c.requires.inside) refl
+    rw (up.heap, c.join.ensures) (after_pops c.self.inside.counter.seat c.drain-bits.new.self.seat c.args.word c.drain-bits.result
+    (word_at c.self.inside.popped.items c.args.word) c.self.invariant up.seat
+    (drained_pops c.self.inside.counter.heap.cells c.self.inside.counter.seat.log c.drain-bits.new.self.seat.log c.args.word c.drain-bits.result up.knows) up.keeps up.cells (rw (← c.self.view_is) at c.requires.inside) refl
     (subst IsUnlocked (sym c.self.view_is) c.requires.unlocked))
 
 pub returns-clause-found : goal.returns-clause-found

@@ -1,4 +1,4 @@
-use Rattle.std.proofs.Common.{subst, rules, ◌∙◌, sym, ap, refl}
+use Rattle.std.proofs.Common.{subst, ◌∙◌, sym, ap, refl}
 use Rattle.brc_known.specs.Items.{Part}
 use Rattle.brc_count.specs.Frames.{IsActive, SourceFits, SourceNames, cell_held}
 use Rattle.brc_count.proofs.Changes.{raising, after_up}

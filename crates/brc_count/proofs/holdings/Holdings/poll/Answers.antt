@@ -1,4 +1,4 @@
-use Rattle.std.proofs.Common.{◌≡◌, ◌+◌, ℕ, sym, refl, ◌∙◌, ap, subst}
+use Rattle.std.proofs.Common.{◌≡◌, ◌+◌, ℕ, sym, ◌∙◌, ap, subst}
 use Rattle.brc_runs.specs.Heap.{words_for}
 use Rattle.brc_runs.specs.Lists.{word_at}
 use Rattle.brc_runs.proofs.Bitwise.{blank_word}
@@ -44,7 +44,7 @@ loop-word-preserved g c =
             }),
             kept_on inv.1 (kept_on drained.keeps dealt.keeps),
             still_blank word w.drain-bits.result (popped_seen c.loop-word.self) (popped_seen w.drain-bits.new.self) (popped_seen w.settle_word.new.self)
-            inv.2 drained.popped dealt.done dealt.others,
+                inv.2 drained.popped dealt.done dealt.others,
           )
       | else-names_word w ↦
           subst P (sym w.self-is) (

@@ -1,4 +1,4 @@
-use Rattle.std.proofs.Common.{rules, ◌≡◌, ◌+◌, ◌*◌, subst, sym, refl, ◌∙◌, ap, arith}
+use Rattle.std.proofs.Common.{◌+◌, subst, sym, ◌∙◌, arith}
 use Rattle.brc_runs.specs.Lists.{word_at}
 use Rattle.brc_count.specs.Frames.{AreBits, FrameSeen, popped_seen, KeepsHandles}
 use Rattle.brc_count.specs.Polling.{DealsBits, NoBit, NotSet, Dealt}
