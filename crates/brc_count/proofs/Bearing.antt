@@ -1,5 +1,5 @@
 -- What becomes of what a thread holds when an object is made.
-use Rattle.std.proofs.Common.{true≢false, ◌≡◌, ◌≢◌, ℕ, ◌+◌, ◌<◌, Bool, true, false, List, [], ◌∷◌, Option, Some, None, refl, sym, ◌∙◌, ap, subst, inl, inr}
+use Rattle.std.proofs.Common.{true≢false, ◌≡◌, ℕ, ◌+◌, ◌<◌, Bool, true, false, List, [], ◌∷◌, Option, Some, None, refl, sym, ◌∙◌, ap, subst, inl, inr}
 use Rattle.std.proofs.lemmas.Bool.{cases_eq, eq-eqb}
 use Rattle.slab.specs.Slab.{Slab, get, Updates}
 use Rattle.atomic_table.specs.Table.{rest}
@@ -11,7 +11,7 @@ use Rattle.brc_table.specs.Shown.{contents_of}
 use Rattle.brc_runs.specs.declared.event.Dropped.TheVariants as drops
 use Rattle.brc_runs.specs.declared.row.Hand.TheVariants as hands
 use Rattle.brc_runs.specs.declared.row.Phase.TheVariants as phases
-use Rattle.brc_runs.specs.Lists.{names, place_at, filled, is_marked}
+use Rattle.brc_runs.specs.Lists.{names, place_at, filled}
 use Rattle.brc_runs.proofs.Framing.{place_at-filled_here, place_at-filled_else}
 use Rattle.brc_known.specs.Items.{Part, put}
 use Rattle.brc_known.specs.Going_On.{filling, bearing, handing}
@@ -19,7 +19,7 @@ use Rattle.brc_known.specs.Taken.{Blocks, listed_at}
 use Rattle.brc_rule.specs.declared.told.Told.{Told}
 use Rattle.brc_rule.specs.Seen.{part_seen, risen_seen, taken_seen}
 use Rattle.brc_table.specs.Knowing.{known_seen, Keeps}
-use Rattle.brc_table.specs.Seated.{TableSeen, SeatSeen, Continues}
+use Rattle.brc_table.specs.Seated.{TableSeen, SeatSeen}
 use Rattle.brc_counter.specs.Up.{IsKnown}
 use Rattle.brc_count.specs.declared.held.Held.{Held}
 use Rattle.brc_count.specs.declared.ledger.Ledger.{Ledger}

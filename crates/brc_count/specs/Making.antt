@@ -2,7 +2,6 @@
 use Rattle.std.specs.Prelude.{◌≡◌, ◌≢◌, ◌<◌, ◌≤◌, ◌+◌, ◌^◌, ℕ, List, ◌∷◌, Some, None}
 use Rattle.brc_words.specs.declared.fault.Fault.{Fault}
 use Rattle.brc_words.specs.declared.fault.Fault.TheVariants.{OutOfMemory, HeapFull, FrameFull, LedgerFull}
-use Rattle.brc_words.specs.declared.kind.Kind.{Kind}
 use Rattle.brc_words.specs.declared.limits.TheConstants.{FIRST_MORTAL, MOST_PLACES, MOST_BIRTHS}
 use Rattle.brc_runs.specs.declared.event.Step.TheVariants.{InitLocal, InitShared, Birth}
 use Rattle.brc_rule.specs.declared.contents.Contents.{Contents}

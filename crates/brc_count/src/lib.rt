@@ -11,6 +11,7 @@ mod handle;
 mod held;
 mod holdings;
 mod ledger;
+mod locking;
 mod making;
 mod polling;
 mod work;

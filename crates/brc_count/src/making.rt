@@ -62,10 +62,7 @@ impl<H: Home<A>, A: Allocator> Holdings<H, A> {
         let mut block = block;
         block.set_cell(cell);
         self.counter.bear(block, kind, place);
-        let _key = self.places.insert_reserved(Held {
-            cell,
-            risen: false,
-        });
+        let _key = self.places.insert_reserved(Held { cell, risen: false });
         self.ledger.allocs += 1;
         Ok(place)
     }

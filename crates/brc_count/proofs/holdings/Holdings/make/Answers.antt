@@ -1,4 +1,4 @@
-use Rattle.std.proofs.Common.{◌≡◌, ◌^◌, refl, sym, subst, ap, ◌∙◌}
+use Rattle.std.proofs.Common.{refl, sym, subst, ap, ◌∙◌}
 use Rattle.brc_block.specs.Payload.{kind_of}
 use Rattle.brc_known.specs.Items.{Part}
 use Rattle.brc_count.specs.Frames.{IsUnlocked, cell_held}
