@@ -22,12 +22,13 @@ pub fn own_pairs<A: Allocator>(
     requires inside { cell < table.now.cells }
     requires mortal { FIRST_MORTAL ≤ cell }
     requires counts { 0 < count }
-    requires fits { count + 1 < 2 ^ 32 }
     requires room { count < table.now.local_limit }
     requires holds { HoldsOnce table.now.cells seat.old.log cell count }
     ensures holds { HoldsOnce table.now.cells seat.new.log cell count }
     ensures seat { Stays seat.old seat.new }
 {
+    // The count is below it, and so is a `u32` when it rises by one.
+    let _limit = table.local_limit();
     for _ in 0..pairs {
         table.local_up(seat, Source::Frame(0), 1, cell, count);
         table.local_down(seat, Dropped::Frame(1), cell, count + 1);

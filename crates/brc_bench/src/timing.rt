@@ -36,7 +36,6 @@ pub struct Job<'a> {
     ghost mortal: { FIRST_MORTAL ≤ cell },
     ghost room: { count_of role < table.now.local_limit },
     ghost counts: { role ≢ roles.Owner 0 },
-    ghost fits: { count_of role + 1 < 2 ^ 32 },
     ghost holds: { HoldsOnce table.now.cells seat.log cell (count_of role) },
 }
 

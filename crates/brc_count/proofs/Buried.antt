@@ -1,9 +1,9 @@
 -- What becomes of the dead blocks that a frame lists: one more is taken, the front one loses its last entry, or is given back.
 use Rattle.std.proofs.Common.{◌≡◌, ◌≢◌, ℕ, ◌-◌, ◌<◌, ◌≤◌, ◌==◌, ◌&&◌, Bool, true, false, if◌then◌else◌, List, [], ◌∷◌, ◌++◌, length, take, set, map, Option, Some, None, IfSome, is_none, inl, inr, refl, sym, ◌∙◌, ap, subst, arith, slice_get}
 use Rattle.std.proofs.Math.Seq.{take-append_seam, get_or-append_seam}
-use Rattle.std.proofs.lemmas.List.{length-append, get_or_append_left}
+use Rattle.std.proofs.lemmas.List.{length-append, get_or_append_left, length-set, get_or-set_same, get_or_past}
 use Rattle.std.proofs.lemmas.Option.{slice_get_within, slice_get-get_or, get_or_from_slice_get}
-use Rattle.std.proofs.lemmas.Bool.{cases_eq, eq-eqb, ne_eqb}
+use Rattle.std.proofs.lemmas.Bool.{cases_eq, cases_lt, eq-eqb, ne_eqb}
 use Rattle.brc_block.specs.declared.payload.Payload.{Payload}
 use Rattle.brc_block.specs.declared.payload.Payload.TheVariants as payloads
 use Rattle.brc_block.specs.Payload.{entries_of}
@@ -35,7 +35,7 @@ listed_else c es blocks q other = ap (λ t. if t then Some es else listed_at blo
 put_here : (c : ℕ) (es : List ℕ) (has : ℕ → List ℕ) → put c es has c ≡ es
 put_here c es has = ap (λ t. if t then es else has c) (eq-eqb c c refl)
 
-put_else : (c : ℕ) (es : List ℕ) (has : ℕ → List ℕ) (q : ℕ) → q ≢ c → put c es has q ≡ has q
+pub put_else : (c : ℕ) (es : List ℕ) (has : ℕ → List ℕ) (q : ℕ) → q ≢ c → put c es has q ≡ has q
 put_else c es has q other = ap (λ t. if t then es else has q) (ne_eqb q c other)
 
 unlisted : (o : Option (List ℕ)) (rest : Bool) → (is_none o && rest) ≡ true → o ≡ None
@@ -70,13 +70,20 @@ unlisted_front d es fewer rest c is = by_test (d == c) is
     by_test true is = absurd (none_is_none (sym is))
     by_test false is = is
 
-pub nothing_buried : (n : ℕ) (marks : List Bool) (has : ℕ → List ℕ) → Buried n marks has []
-nothing_buried n marks has = record {
+unmarked_here : (marks : List Bool) (d : ℕ) → is_marked (set marks d false) d ≡ false
+unmarked_here marks d = elim (cases_lt d (length marks)) [
+  | inl inside ↦ get_or-set_same marks d false false inside
+  | inr past ↦ get_or_past (set marks d false) d false (omega (arith, past, length-set marks d false))
+]
+
+pub nothing_buried : (n : ℕ) (marks : List Bool) (has : ℕ → List ℕ) → ((c : ℕ) → is_marked marks c ≡ false) → Buried n marks has []
+nothing_buried n marks has none = record {
   marked = λ c es at. absurd (none_is_none at);
   has_them = λ c es at. absurd (none_is_none at);
   inside = λ c es at. absurd (none_is_none at);
   are_cells = λ c es at. absurd (none_is_none at);
   apart = refl;
+  only = λ c at. none c;
 }
 
 module _ {n : ℕ} {marks : List Bool} {has : ℕ → List ℕ} where
@@ -102,6 +109,10 @@ module _ {n : ℕ} {marks : List Bool} {has : ℕ → List ℕ} where
       | inr other ↦ b.are_cells q xs (sym (listed_else c es blocks q other) ∙ at)
     ];
     apart = ap (λ o. is_none o && are_apart blocks) fresh ∙ b.apart;
+    only = λ q at. elim (cases_eq q c) [
+      | inl same ↦ absurd (none_is_none (sym at ∙ ap (listed_at ((c, es) ∷ blocks)) same ∙ listed_here c es blocks))
+      | inr other ↦ read_there marks c q true false other ∙ b.only q (sym (listed_else c es blocks q other) ∙ at)
+    ];
   }
 
   -- the front block loses its last entry
@@ -128,6 +139,7 @@ module _ {n : ℕ} {marks : List Bool} {has : ℕ → List ℕ} where
       | inr other ↦ b.are_cells q xs (listed_else d es rest q other ∙ sym (listed_else d fewer rest q other) ∙ at)
     ];
     apart = b.apart;
+    only = λ q at. b.only q (unlisted_front d fewer es rest q at);
   }
 
   -- the front block is given back
@@ -141,6 +153,10 @@ module _ {n : ℕ} {marks : List Bool} {has : ℕ → List ℕ} where
         inside = λ q xs at. b.inside q xs (listed_else d es rest q (apart q xs at) ∙ at);
         are_cells = λ q xs at. b.are_cells q xs (listed_else d es rest q (apart q xs at) ∙ at);
         apart = rest_apart (listed_at rest d) (are_apart rest) b.apart;
+        only = λ q at. elim (cases_eq q d) [
+          | inl same ↦ ap (is_marked (set marks d false)) same ∙ unmarked_here marks d
+          | inr other ↦ read_there marks d q false false other ∙ b.only q (listed_else d es rest q other ∙ at)
+        ];
       }
 
   pub front_cut : {rest : Blocks} (d : ℕ) (es : List ℕ) → Buried n marks has ((d, es) ∷ rest) → cut d ((d, es) ∷ rest) ≡ (d, front_of es) ∷ rest

@@ -1,2 +1,8 @@
 mod Buried
 mod Changes
+mod Framings
+mod Locks
+mod Locked_Entries
+mod Popping
+mod Leaving
+mod Bearing

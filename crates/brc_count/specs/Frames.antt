@@ -1,5 +1,5 @@
 -- What contracts see of a frame and of its handles, and what a frame keeps.
-use Rattle.std.specs.Prelude.{◌≡◌, ◌≢◌, ◌<◌, ◌≤◌, ◌+◌, ℕ, Bool, true, List, [], ◌∷◌, map, Option, Some, None, is_some, is_none, ◌&&◌}
+use Rattle.std.specs.Prelude.{◌≡◌, ◌≢◌, ◌<◌, ◌≤◌, ◌+◌, ℕ, Bool, true, List, [], ◌∷◌, map, Option, Some, None, is_some, is_none, ◌&&◌, ◌*◌, length, false}
 use Rattle.slab.specs.Slab.{Slab, get}
 use Rattle.brc_words.specs.declared.limits.TheConstants.{FIRST_MORTAL, MOST_PLACES}
 use Rattle.brc_words.specs.declared.fault.Fault.{Fault}
@@ -11,8 +11,11 @@ use Rattle.brc_runs.specs.declared.event.Dropped.TheVariants as drops
 use Rattle.brc_runs.specs.declared.event.Source.{Source}
 use Rattle.brc_runs.specs.declared.event.Step.TheVariants.{LocalUp, Free}
 use Rattle.brc_runs.specs.declared.row.Hand.TheVariants as hands
-use Rattle.brc_runs.specs.Lists.{place_at, is_marked}
-use Rattle.brc_runs.specs.Steps.{is_active}
+use Rattle.std.specs.Int.{bit_at}
+use Rattle.brc_runs.specs.Heap.{words_for}
+use Rattle.brc_runs.specs.Lists.{place_at, is_marked, word_at, is_blank}
+use Rattle.brc_runs.specs.Steps.{is_active, is_left, locked_cell, lock_ok}
+use Rattle.brc_known.specs.Items.{meant}
 use Rattle.brc_known.specs.Taken.{Blocks, listed_at}
 use Rattle.brc_rule.specs.declared.told.Moved.TheVariants.{Nothing}
 use Rattle.brc_rule.specs.declared.told.Told.{Told}
@@ -21,11 +24,13 @@ use Rattle.brc_rule.specs.Logs.{entries_in}
 use Rattle.brc_rule.specs.Seen.{part_seen, counts_seen, risen_seen, taken_seen}
 use Rattle.brc_steps.specs.Taking.{AreCells}
 use Rattle.brc_table.specs.Seated.{TableSeen, SeatSeen, Stays}
+use Rattle.brc_table.specs.Moving.{found_locked}
 use Rattle.brc_table.specs.Shown.{contents_of}
-use Rattle.brc_counter.specs.Standing.{Stands}
+use Rattle.brc_counter.specs.Standing.{may_give_up}
 use Rattle.brc_counter.specs.Released.{Released}
 use Rattle.brc_counter.specs.Up.{CountsHere, RaisedImmortal, RaisedShared}
 use Rattle.brc_count.specs.declared.held.Held.{Held}
+use Rattle.brc_count.specs.declared.ledger.Ledger.{Ledger}
 
 -- which thread's handle it is, and which place of that thread's frame has its reference
 pub record HandleSeen : Type 0 where
@@ -35,6 +40,13 @@ pub record HandleSeen : Type 0 where
 -- the cell to which a place of the frame has a reference, by the thread's log
 abbrev pub place_seen : ℕ → List Told → ℕ → Option ℕ
 place_seen n log k = place_at (part_seen n log).frame k
+
+-- the place that the thread has locked, if one, and its cell
+abbrev pub locked_place : ℕ → List Told → Option ℕ
+locked_place n log = (part_seen n log).row.locked
+
+abbrev pub lock_seen : ℕ → List Told → Option ℕ
+lock_seen n log = locked_cell (part_seen n log).frame (locked_place n log)
 
 -- the cell of what is held
 abbrev pub cell_held : Option Held → Option ℕ
@@ -49,6 +61,11 @@ module _ {A : Type 0} where
   abbrev pub slot_out : ℕ × Payload A → ℕ × Option (ℕ × Payload A)
   slot_out block = (block.0, None)
 
+  -- the slots that are out: that of the locked object, and those of the worklist
+  abbrev pub slots_out : Option ℕ → List (ℕ × Payload A) → List (ℕ × Option (ℕ × Payload A))
+  slots_out None works = map slot_out works
+  slots_out (Some c) works = (c, None) ∷ map slot_out works
+
   -- the worklist with a block more on its front, where there is one
   abbrev pub pushed : Option (ℕ × Payload A) → List (ℕ × Payload A) → List (ℕ × Payload A)
   pushed None works = works
@@ -59,44 +76,110 @@ abbrev pub are_apart : Blocks → Bool
 are_apart [] = true
 are_apart (b ∷ blocks) = is_none (listed_at blocks b.0) && are_apart blocks
 
--- The dead blocks that are listed: each is marked, its cell has the entries that are listed, and all of them are cells of the
--- heap; none is listed twice.
+-- The dead blocks that are listed: each is marked, and no other cell is; its cell has the entries that are listed, and all
+-- of them are cells of the heap; none is listed twice.
 pub record Buried (n : ℕ) (marks : List Bool) (has : ℕ → List ℕ) (blocks : Blocks) : Type 0 where
   pub marked : (c : ℕ) (entries : List ℕ) → listed_at blocks c ≡ Some entries → is_marked marks c ≡ true
   pub has_them : (c : ℕ) (entries : List ℕ) → listed_at blocks c ≡ Some entries → has c ≡ entries
   pub inside : (c : ℕ) (entries : List ℕ) → listed_at blocks c ≡ Some entries → c < n
   pub are_cells : (c : ℕ) (entries : List ℕ) → listed_at blocks c ≡ Some entries → AreCells n entries
   pub apart : are_apart blocks ≡ true
+  pub only : (c : ℕ) → listed_at blocks c ≡ None → is_marked marks c ≡ false
 
--- The heap; the thread's seat at it, with the log of all that it did; how many handles there are, and which place the next
--- one gets; and the dead blocks on the worklist, front first.
+-- The heap; the thread's seat at it, with the log of all that it did; how many handles there are, how many more need no
+-- memory, and which place the next one gets; and the dead blocks on the worklist, front first.
 pub record FrameSeen (A : Type 0) : Type 0 where
   pub heap : TableSeen
   pub seat : SeatSeen A
   pub len : ℕ
+  pub spare : ℕ
   pub next : ℕ
   pub works : List (ℕ × Payload A)
 
--- What a frame keeps: between calls its thread is active, has nothing in its hand and nothing locked; each place holds what
--- the log says, and what is marked as risen was seen so; the worklist has the dead blocks that the log lists.
-pub record Framing (A : Type 0) (heap : TableSeen) (seat : SeatSeen A) (places : Slab Held) (works : List (ℕ × Payload A)) (thread : ℕ) : Type 0 where
-  pub same_thread : seat.thread ≡ thread
-  pub stands : Stands heap.cells seat.log hands.Free
-  pub active : is_active (part_seen heap.cells seat.log).row.stage ≡ true
+-- the thread has nothing locked
+abbrev pub IsUnlocked : {A : Type 0} → FrameSeen A → Type 0
+IsUnlocked frame = locked_place frame.heap.cells frame.seat.log ≡ None
+
+-- The bits of popped words are cells of the heap: each word has those of 32.
+abbrev pub AreBits : ℕ → List ℕ → Type 0
+AreBits n words = (k i : ℕ) → bit_at (word_at words k) i ≡ 1 → (i < 32) × (k * 32 + i < n)
+
+-- What a thread's holdings keep: nothing is in its hand; each place holds what the log says, and what is marked as risen was
+-- seen so; the popped words are the log's; the worklist has the dead blocks that the log lists, and no slot is out but theirs
+-- and that of the object that is locked, if one is; that one stands in its place, with the entries that were found. Births and
+-- frees are counted.
+pub record Holding (A : Type 0) (heap : TableSeen) (seat : SeatSeen A) (places : Slab Held) (works : List (ℕ × Payload A)) (popped : List ℕ) (ledger : Ledger) : Type 0 where
+  pub hand_is : (part_seen heap.cells seat.log).row.hand ≡ hands.Free
   pub placed : (k : ℕ) → place_seen heap.cells seat.log k ≡ cell_held (get places k)
   pub risen : (k : ℕ) (held : Held) → get places k ≡ Some held → held.risen ≡ true
       → risen_seen heap.cells seat.log (drops.Frame k) held.cell ≡ true
   pub inside : (k : ℕ) (held : Held) → get places k ≡ Some held → held.cell < heap.cells
-  pub out : seat.slots ≡ map slot_out works
+  pub out : seat.slots ≡ slots_out (lock_seen heap.cells seat.log) works
+  pub lock_filled : (k : ℕ) → locked_place heap.cells seat.log ≡ Some k → is_some (place_seen heap.cells seat.log k) ≡ true
+  pub lock_has : (c : ℕ) → lock_seen heap.cells seat.log ≡ Some c → (part_seen heap.cells seat.log).has c ≡ entries_in (found_locked seat.log)
   pub listed : taken_seen heap.cells seat.log ≡ map block_listed works
   pub buried : Buried heap.cells (part_seen heap.cells seat.log).worklist (part_seen heap.cells seat.log).has (taken_seen heap.cells seat.log)
+  pub popped_is : popped ≡ (part_seen heap.cells seat.log).popped
+  pub words : length popped ≡ words_for heap.cells
+  pub bits : AreBits heap.cells popped
+  pub allocs : ledger.allocs ≡ (part_seen heap.cells seat.log).row.allocs
+  pub frees : ledger.frees ≡ (part_seen heap.cells seat.log).row.frees
 
 -- the handle is of the frame's thread, and its place has a reference
 pub record Owns {A : Type 0} (frame : FrameSeen A) (handle : HandleSeen) : Type 0 where
   pub thread : handle.thread ≡ frame.seat.thread
   pub filled : is_some (place_seen frame.heap.cells frame.seat.log handle.place) ≡ true
 
+-- the words of popped entries
+abbrev pub popped_seen : {A : Type 0} → FrameSeen A → List ℕ
+popped_seen frame = (part_seen frame.heap.cells frame.seat.log).popped
+
+-- the thread is active; the thread is active, or has left
+abbrev pub IsActive : {A : Type 0} → FrameSeen A → Type 0
+IsActive frame = is_active (part_seen frame.heap.cells frame.seat.log).row.stage ≡ true
+
+abbrev pub MayGiveUp : {A : Type 0} → FrameSeen A → Type 0
+MayGiveUp frame = may_give_up (part_seen frame.heap.cells frame.seat.log).row.stage ≡ true
+
+-- the source is one that may be had with what is locked, and it is a reference to the cell
+abbrev pub SourceFits : {A : Type 0} → Source → FrameSeen A → Type 0
+SourceFits source frame = lock_ok (locked_place frame.heap.cells frame.seat.log) (LocalUp source frame.next) ≡ true
+
+abbrev pub SourceNames : {A : Type 0} → Source → ℕ → FrameSeen A → Type 0
+SourceNames source c frame = meant (part_seen frame.heap.cells frame.seat.log) (LocalUp source frame.next) ≡ Some c
+
+-- What a frame keeps besides: between calls its thread is active, and nothing is popped.
+pub record Framing {A : Type 0} (holdings : FrameSeen A) (thread : ℕ) : Type 0 where
+  pub same_thread : holdings.seat.thread ≡ thread
+  pub some_thread : 0 < thread
+  pub active : IsActive holdings
+  pub blank : is_blank (popped_seen holdings) ≡ true
+
+-- What a closed frame keeps: its thread has left, nothing is locked, and the popped words below one are 0.
+pub record Leaving {A : Type 0} (holdings : FrameSeen A) (thread next : ℕ) : Type 0 where
+  pub same_thread : holdings.seat.thread ≡ thread
+  pub some_thread : 0 < thread
+  pub left : is_left (part_seen holdings.heap.cells holdings.seat.log).row.stage ≡ true
+  pub unlocked : IsUnlocked holdings
+  pub done : (k : ℕ) → k < next → word_at (popped_seen holdings) k ≡ 0
+
 -- ---- what calls do
+
+-- Counting leaves this as it is: whether the thread is active, and what it has locked.
+pub record KeepsRest {A : Type 0} (old new : FrameSeen A) : Type 0 where
+  pub stage : (part_seen new.heap.cells new.seat.log).row.stage ≡ (part_seen old.heap.cells old.seat.log).row.stage
+  pub lock : locked_place new.heap.cells new.seat.log ≡ locked_place old.heap.cells old.seat.log
+
+-- how many objects the thread has made, and how many cells it has given back
+abbrev pub ledger_seen : {A : Type 0} → FrameSeen A → Ledger
+ledger_seen frame = record {
+  allocs = (part_seen frame.heap.cells frame.seat.log).row.allocs;
+  frees = (part_seen frame.heap.cells frame.seat.log).row.frees;
+}
+
+-- nothing changed, but that more places may need no memory
+abbrev pub IsAsBefore : {A : Type 0} → FrameSeen A → FrameSeen A → Type 0
+IsAsBefore old new = new ≡ record old { spare = new.spare }
 
 -- The one event by which a reference is counted up: a look, where the cell is immortal; on the local word, where the thread
 -- counts the cell there and is below the limit; else on the shared word.
@@ -121,6 +204,7 @@ pub record Given {A : Type 0} (old new : FrameSeen A) (source : Source) (c : ℕ
   pub seat : Stays old.seat new.seat
   pub len : new.len ≡ old.len + 1
   pub works : new.works ≡ old.works
+  pub rest : KeepsRest old new
 
 -- a handle is refused where the next place isn't below 65,536; or memory was missing
 abbrev pub Refused : {A : Type 0} → FrameSeen A → Fault → Type 0
@@ -137,6 +221,7 @@ pub record ReleasedOf {A : Type 0} (old new : FrameSeen A) (k c : ℕ) : Type 0 
   pub works : new.works ≡ pushed block old.works
   pub vacant : place_seen new.heap.cells new.seat.log k ≡ None
   pub others : (j : ℕ) → j ≢ k → place_seen new.heap.cells new.seat.log j ≡ place_seen old.heap.cells old.seat.log j
+  pub rest : KeepsRest old new
 
 -- A turn of the work on dead blocks. The front block's last entry is released, by one of the lists, and where that object
 -- ended its block is the new front; or the front block has no entries and its cell is given back; or no block is there, and
@@ -160,3 +245,4 @@ pub record KeepsHandles {A : Type 0} (old new : FrameSeen A) : Type 0 where
   pub len : new.len ≡ old.len
   pub next : new.next ≡ old.next
   pub places : (k : ℕ) → place_seen new.heap.cells new.seat.log k ≡ place_seen old.heap.cells old.seat.log k
+  pub rest : KeepsRest old new

@@ -1,1 +1,5 @@
 pub mod Frames
+pub mod Locking
+pub mod Polling
+pub mod Closing
+pub mod Making

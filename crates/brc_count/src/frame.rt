@@ -1,51 +1,61 @@
-//! A frame: the references of one thread.
+//! A frame: the references of one thread that is there.
 
-ghost use Rattle.std.specs.Prelude.{◌≡◌, ◌+◌, ◌-◌, ◌<◌, ◌≤◌, ℕ, Some, None, IsTrue, IsFalse, [], length, ◌⊎◌, IfOk, IfErr, OnOk, OnErr, true, false};
+ghost use Rattle.std.specs.Prelude.{◌≡◌, ◌+◌, ◌-◌, ◌<◌, ◌≤◌, ℕ, Some, None, IsTrue, IsFalse, [], length, replicate, ◌⊎◌, IfOk, IfErr, OnOk, OnErr, true};
 ghost use Rattle.brc_words.specs.declared.limits.TheConstants.{FIRST_MORTAL, MOST_THREADS};
 ghost use Rattle.brc_words.specs.declared.fault.Fault.TheVariants.{OutOfMemory};
-ghost use Rattle.brc_runs.specs.declared.event.Step.TheVariants as steps;
-ghost use Rattle.brc_runs.specs.Steps.{needs_lock};
-ghost use Rattle.brc_known.specs.Items.{meant};
-ghost use Rattle.brc_rule.specs.Seen.{part_seen};
 ghost use Rattle.brc_runs.specs.declared.event.Source.TheVariants as sources;
+ghost use Rattle.brc_runs.specs.Heap.{words_for};
+ghost use Rattle.brc_counter.specs.Bounded.{IsBounded};
 ghost use Rattle.brc_steps.specs.Joining.{next_thread, registering};
 ghost use Rattle.brc_table.specs.Seated.{Continues};
-ghost use Rattle.brc_count.specs.Frames.{place_seen, Owns, Given, Refused, ReleasedOf};
+ghost use Rattle.brc_count.specs.Frames.{place_seen, Owns, Given, Refused, ReleasedOf, IsAsBefore, IsUnlocked, Turns, KeepsHandles, ledger_seen};
+ghost use Rattle.brc_count.specs.Polling.{Polled};
+ghost use Rattle.brc_count.specs.Closing.{Closes};
+ghost use Rattle.brc_count.specs.Making.{Made, RefusedMaking};
+ghost use Rattle.brc_words.specs.Kinds.{is_mortal};
+ghost use Rattle.brc_rule.specs.Logs.{kind_in, entries_in};
+ghost use Rattle.brc_table.specs.Shown.{contents_of};
 
+use crate::closed::ClosedFrame;
 use crate::handle::Handle;
-use crate::held::Held;
-use brc_block::Worklist;
+use crate::holdings::Holdings;
+use crate::ledger::Ledger;
+use brc_block::Payload;
 use brc_counter::{Counter, Home, first_counts};
-use brc_runs::{Dropped, Source};
+use brc_runs::Source;
 use brc_table::RootSeat;
-use brc_words::{Fault, MOST_PLACES};
-use slab::Slab;
-use std::alloc::Allocator;
+use brc_words::Fault;
+use std::alloc::{AllocError, Allocator};
 use std::marker::Model;
 
-/// The places of one thread with their references, the thread's counter, and the dead blocks that it has.
+/// What a thread that is active holds, and the thread's number.
 pub struct Frame<H: Home<A>, A: Allocator> {
-    pub(crate) counter: Counter<H, A>,
-    pub(crate) places: Slab<Held, A>,
-    pub(crate) works: Worklist<A>,
+    pub(crate) holdings: Holdings<H, A>,
     pub(crate) thread: u32,
 }
 
 impl<H: Home<A>, A: Allocator> Model for Frame<H, A> {
-    ghost use Rattle.slab.specs.Slab.{slab_len};
     ghost use Rattle.brc_count.specs.Frames.{FrameSeen, Framing};
 
     ghost Value = { FrameSeen A };
 
-    ghost view = { λ f. record { heap = f.counter.heap; seat = f.counter.seat; len = slab_len f.places; next = f.places.vacant_key; works = f.works } };
+    ghost view = { λ f. f.holdings };
 
-    ghost invariant = { λ f. Framing A f.counter.heap f.counter.seat f.places f.works f.thread };
+    ghost invariant = { λ f. Framing f.holdings f.thread };
+}
+
+/// A popped word for each queue word, without bits.
+fn no_bits<A: Allocator>(alloc: A, cells: u32) -> Result<Vec<u64, A>, AllocError>
+    ensures { IfOk result (λ words. words.items ≡ replicate (words_for cells) 0) }
+{
+    let mut words = Vec::new(alloc);
+    words.resize(cells.div_ceil(32) as usize, 0)?;
+    Ok(words)
 }
 
 impl<H: Home<A> + Drop, A: Allocator + Copy> Frame<H, A> {
-    #[tactic(auto, using(crate::proofs::Changes::opening))]
-    /// The frame of the next thread, which is registered with it. All memory that its counts want is had before: where it is
-    /// missing the answer is OutOfMemory, and nothing changed.
+    /// The frame of the next thread, which is registered with it. All memory that its counts and its popped entries want is
+    /// had before: where it is missing the answer is OutOfMemory, and nothing changed.
     pub fn enter(alloc: A, heap: H, root: &mut RootSeat<A>) -> Result<Frame<H, A>, Fault>
         requires table { root.old.table ≡ (H.seen heap).table }
         requires few { next_thread root.old.view ≤ MOST_THREADS }
@@ -53,6 +63,7 @@ impl<H: Home<A> + Drop, A: Allocator + Copy> Frame<H, A> {
         ensures thread { IfOk result (λ frame. frame.seat.thread ≡ next_thread root.old.view) }
         ensures new { IfOk result (λ frame. frame.seat.log ≡ []) }
         ensures bare { IfOk result (λ frame. (frame.len ≡ 0) × (frame.works ≡ [])) }
+        ensures unlocked { IfOk result (λ frame. IsUnlocked frame) }
         ensures root { OnOk result (root.new.view ≡ registering root.old.view) }
         ensures same_root { (root.new.table ≡ root.old.table) × (root.new.id ≡ root.old.id) }
         ensures refused { IfErr result (λ fault. fault ≡ OutOfMemory) }
@@ -62,12 +73,14 @@ impl<H: Home<A> + Drop, A: Allocator + Copy> Frame<H, A> {
         let Ok(counts) = first_counts(alloc, cells) else {
             return Err(Fault::OutOfMemory);
         };
+        let Ok(popped) = no_bits(alloc, cells) else {
+            return Err(Fault::OutOfMemory);
+        };
         let thread = root.next();
         let seat = heap.table().split(root);
+        let counter = Counter::new(heap, seat, counts);
         Ok(Frame {
-            counter: Counter::new(heap, seat, counts),
-            places: Slab::new(alloc),
-            works: Worklist::new(),
+            holdings: Holdings::new(alloc, counter, popped),
             thread,
         })
     }
@@ -86,7 +99,7 @@ impl<H: Home<A>, A: Allocator> Frame<H, A> {
         ensures owned { IsTrue result → Owns self.now handle.now }
         ensures foreign { IsFalse result → ¬ Owns self.now handle.now }
     {
-        handle.thread == self.thread && self.places.get(handle.place as usize).is_some()
+        handle.thread == self.thread && self.holdings.cell(handle.place).is_some()
     }
 
     /// The cell of the object that the handle is a reference to.
@@ -95,10 +108,17 @@ impl<H: Home<A>, A: Allocator> Frame<H, A> {
         ensures cell { place_seen self.now.heap.cells self.now.seat.log handle.now.place ≡ Some result }
         ensures inside { result < self.now.heap.cells }
     {
-        match self.places.get(handle.place as usize) {
-            Some(held) => held.cell,
+        match self.holdings.cell(handle.place) {
+            Some(cell) => cell,
             None => unreachable!(),
         }
+    }
+
+    /// How many objects the thread has made, and how many cells it has given back, its own objects' and others'.
+    pub fn ledger(&self) -> Ledger
+        ensures { result ≡ ledger_seen self.now }
+    {
+        self.holdings.ledger()
     }
 
     /// Whether there is no handle, and no dead block to take apart.
@@ -106,63 +126,70 @@ impl<H: Home<A>, A: Allocator> Frame<H, A> {
         ensures idle { IsTrue result → (self.now.len ≡ 0) × (self.now.works ≡ []) }
         ensures busy { IsFalse result → (0 < self.now.len) ⊎ (0 < length self.now.works) }
     {
-        self.places.is_empty() && self.works.len() == 0
+        self.holdings.is_idle()
     }
 
     /// How many handles there are.
     pub fn len(&self) -> usize
         ensures { result ≡ self.now.len }
     {
-        self.places.len()
+        self.holdings.places.len()
     }
 
     /// One handle more to the same object, in one event (PEP 703, "Biased Reference Counting"). FrameFull where the next
     /// place isn't below 65,536, looked at first; OutOfMemory where a place more can't be had. A refusal changes nothing.
     pub fn retain(&mut self, handle: &Handle) -> Result<Handle, Fault>
         requires owned { Owns self.old handle.now }
+        requires unlocked { IsUnlocked self.old }
         ensures heap { self.new.heap ≡ self.old.heap }
         ensures given { IfOk result (λ given. (c : ℕ) →
             place_seen self.old.heap.cells self.old.seat.log handle.now.place ≡ Some c →
             Given self.old self.new (sources.Frame handle.now.place) c given) }
         ensures refused { IfErr result (Refused self.old) }
-        ensures unchanged { OnErr result (self.new ≡ self.old) }
+        ensures unchanged { OnErr result (IsAsBefore self.old self.new) }
     {
         let cell = self.cell(handle);
-        self.hold(Source::Frame(handle.place), cell)
+        self.holdings.reserve()?;
+        let place = self.holdings.fill(Source::Frame(handle.place), cell);
+        Ok(Handle {
+            thread: self.thread,
+            place,
+        })
     }
 
     /// A handle to an immortal, cell 0 to 265, in one event that only looks. It is refused as `retain` is.
     pub fn immortal(&mut self, cell: u32) -> Result<Handle, Fault>
         requires immortal { cell < FIRST_MORTAL }
         requires inside { cell < self.old.heap.cells }
+        requires unlocked { IsUnlocked self.old }
         ensures heap { self.new.heap ≡ self.old.heap }
         ensures given { IfOk result (λ given. Given self.old self.new (sources.Immortal cell) cell given) }
         ensures refused { IfErr result (Refused self.old) }
-        ensures unchanged { OnErr result (self.new ≡ self.old) }
+        ensures unchanged { OnErr result (IsAsBefore self.old self.new) }
     {
-        self.hold(Source::Immortal(cell), cell)
+        self.holdings.reserve()?;
+        let place = self.holdings.fill(Source::Immortal(cell), cell);
+        Ok(Handle {
+            thread: self.thread,
+            place,
+        })
     }
 
-    /// The next place gets a reference to the source's cell.
-    fn hold(&mut self, source: Source, cell: u32) -> Result<Handle, Fault>
-        requires inside { cell < self.old.heap.cells }
-        requires free_source { (k : ℕ) → needs_lock (steps.LocalUp source k) ≡ false }
-        requires named { (k : ℕ) → meant (part_seen self.old.heap.cells self.old.seat.log) (steps.LocalUp source k) ≡ Some cell }
+    /// A new object with this payload, and a handle to it: a cell is claimed, its words are set, and the block is put home
+    /// (PEP 703, "Biased Reference Counting": the thread that makes an object owns it, with a local count of 1). The faults
+    /// come in this order, and each hands the payload back: FrameFull where the next place isn't below 65,536; LedgerFull
+    /// where the thread has made 2^47 objects; OutOfMemory where the place or the block can't be had; HeapFull where all
+    /// mortal cells were found taken. A container's payload is empty.
+    pub fn born(&mut self, alloc: A, payload: Payload<A>) -> Result<Handle, (Fault, Payload<A>)>
+        requires unlocked { IsUnlocked self.old }
+        requires mortal { is_mortal (kind_in (contents_of payload)) ≡ true }
+        requires empty { entries_in (contents_of payload) ≡ [] }
         ensures heap { self.new.heap ≡ self.old.heap }
-        ensures given { IfOk result (λ given. Given self.old self.new source cell given) }
-        ensures refused { IfErr result (Refused self.old) }
-        ensures unchanged { OnErr result (self.new ≡ self.old) }
+        ensures made { IfOk result (Made self.old self.new (contents_of payload)) }
+        ensures refused { IfErr result (λ back. RefusedMaking self.old self.new back.0) }
+        ensures back { IfErr result (λ back. back.1 ≡ payload) }
     {
-        let next = self.places.vacant_key();
-        if next >= MOST_PLACES as usize {
-            return Err(Fault::FrameFull);
-        }
-        if self.places.reserve(1).is_err() {
-            return Err(Fault::OutOfMemory);
-        }
-        let place = next as u32;
-        let risen = self.counter.up(source, place, cell);
-        let _key = self.places.insert_reserved(Held { cell, risen });
+        let place = self.holdings.born(alloc, payload)?;
         Ok(Handle {
             thread: self.thread,
             place,
@@ -173,9 +200,11 @@ impl<H: Home<A>, A: Allocator> Frame<H, A> {
     /// block is on the front of the worklist (PEP 703, "Biased Reference Counting").
     pub fn release(&mut self, handle: Handle)
         requires owned { Owns self.old handle }
+        requires unlocked { IsUnlocked self.old }
         ensures heap { self.new.heap ≡ self.old.heap }
         ensures released { (c : ℕ) → place_seen self.old.heap.cells self.old.seat.log handle.place ≡ Some c →
             ReleasedOf self.old self.new handle.place c }
+        ensures bounded { IsBounded self.old.seat.log self.new.seat.log }
         ensures seat { Continues self.old.seat self.new.seat }
         ensures len { self.new.len + 1 ≡ self.old.len }
     {
@@ -183,12 +212,58 @@ impl<H: Home<A>, A: Allocator> Frame<H, A> {
             thread: _thread,
             place,
         } = handle;
-        let Some(held) = self.places.try_remove(place as usize) else {
-            unreachable!()
-        };
-        let drop = Dropped::Frame(place);
-        if let Some(block) = self.counter.give_up(drop, held.cell, held.risen) {
-            self.works.push(block);
+        self.holdings.release(place);
+    }
+
+    /// Takes dead blocks apart, at most so many turns: in one, the front block's last entry is released, or, if it has
+    /// none, the block is given back. The answer is the number of turns that weren't needed: above 0 only where no block is
+    /// left. It takes no memory.
+    pub fn work(&mut self, budget: usize) -> usize
+        requires unlocked { IsUnlocked self.old }
+        ensures keeps { KeepsHandles self.old self.new }
+        ensures few { result ≤ budget }
+        ensures turns { Turns self.old (budget - result) self.new }
+        ensures done { 0 < result → self.new.works ≡ [] }
+    {
+        self.holdings.work(budget)
+    }
+
+    /// Takes what the thread was told, drains the queue words that this names, and deals with each entry that was in them:
+    /// an object that isn't merged is merged, and the entry's reference counted down (PEP 703, "Biased Reference Counting").
+    /// The answer is what it was told, 0 where nobody put anything into the queue since the last poll. It takes no memory.
+    pub fn poll(&mut self) -> u64
+        requires unlocked { IsUnlocked self.old }
+        ensures keeps { KeepsHandles self.old self.new }
+        ensures polled { Polled self.old self.new result }
+    {
+        self.holdings.poll()
+    }
+
+    /// Leaves: all of the thread's queue words are closed, by rising number, and it counts as any other thread does from
+    /// the first on. A frame with a handle or a dead block is answered as it was.
+    pub fn close(self) -> Result<ClosedFrame<H, A>, Frame<H, A>>
+        requires unlocked { IsUnlocked self }
+        ensures heap { IfOk result (λ closed. closed.heap ≡ self.heap) }
+        ensures thread { IfOk result (λ closed. closed.seat.thread ≡ self.seat.thread) }
+        ensures closes { IfOk result (λ closed. Closes self.seat.log (words_for self.heap.cells) closed.seat.log) }
+        ensures idle { OnOk result ((self.len ≡ 0) × (self.works ≡ [])) }
+        ensures refused { OnErr result ((0 < self.len) ⊎ (0 < length self.works)) }
+        ensures unchanged { IfErr result (λ same. same ≡ self) }
+    {
+        if !self.holdings.is_idle() {
+            return Err(self);
         }
+        let Frame {
+            mut holdings,
+            thread,
+        } = self;
+        // There are some words to close: by the last one the thread has left.
+        let _words = holdings.words();
+        holdings.close_all();
+        Ok(ClosedFrame {
+            holdings,
+            thread,
+            next: 0,
+        })
     }
 }

@@ -4,11 +4,20 @@
 //! contract of `brc_counter`; here stand the places, and the worklist of dead blocks (`specs/Frames.antt`).
 #![tactic(auto)]
 
+mod closed;
+mod closing;
 mod frame;
 mod handle;
 mod held;
+mod holdings;
+mod ledger;
+mod locking;
+mod making;
+mod polling;
 mod work;
 
+pub use closed::ClosedFrame;
 pub use frame::Frame;
 pub use handle::Handle;
 pub use held::Held;
+pub use ledger::Ledger;

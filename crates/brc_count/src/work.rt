@@ -1,18 +1,23 @@
 //! Taking dead blocks apart, a turn at a time.
 
-ghost use Rattle.std.specs.Prelude.{◌≡◌, ◌-◌, ◌≤◌, ◌<◌, [], IsTrue, IsFalse};
-ghost use Rattle.brc_count.specs.Frames.{Turned, Turns, KeepsHandles};
+ghost use Rattle.std.specs.Prelude.{◌≡◌, ◌-◌, ◌≤◌, ◌<◌, [], IsTrue, IsFalse, true};
+ghost use Rattle.brc_counter.specs.Standing.{may_give_up};
+ghost use Rattle.brc_rule.specs.Seen.{part_seen};
+ghost use Rattle.brc_count.specs.Frames.{MayGiveUp, Turned, Turns, KeepsHandles, popped_seen, IsUnlocked};
 
-use crate::frame::Frame;
+use crate::holdings::Holdings;
 use brc_counter::Home;
 use brc_runs::Dropped;
 use std::alloc::Allocator;
 
-impl<H: Home<A>, A: Allocator> Frame<H, A> {
+impl<H: Home<A>, A: Allocator> Holdings<H, A> {
     /// One turn: the front block's last entry is released, or, if it has none, the block is given back; false where there
     /// is no block.
-    fn turn(&mut self) -> bool
+    pub(crate) fn turn(&mut self) -> bool
+        requires stage { MayGiveUp self.old }
+        requires unlocked { IsUnlocked self.old }
         ensures keeps { KeepsHandles self.old self.new }
+        ensures popped { popped_seen self.new ≡ popped_seen self.old }
         ensures turned { IsTrue result → Turned self.old self.new }
         ensures idle { IsFalse result → self.new.works ≡ [] }
         ensures unchanged { IsFalse result → self.new ≡ self.old }
@@ -31,15 +36,17 @@ impl<H: Home<A>, A: Allocator> Frame<H, A> {
             return false;
         };
         self.counter.free(block.cell());
+        self.ledger.frees += 1;
         let _payload = block.into_payload();
         true
     }
 
-    /// Takes dead blocks apart, at most so many turns: in one, the front block's last entry is released, or, if it has
-    /// none, the block is given back. The answer is the number of turns that weren't needed: above 0 only where no block is
-    /// left. It takes no memory.
-    pub fn work(&mut self, budget: usize) -> usize
+    /// At most so many turns; the answer is the number of turns that weren't needed.
+    pub(crate) fn work(&mut self, budget: usize) -> usize
+        requires stage { MayGiveUp self.old }
+        requires unlocked { IsUnlocked self.old }
         ensures keeps { KeepsHandles self.old self.new }
+        ensures popped { popped_seen self.new ≡ popped_seen self.old }
         ensures few { result ≤ budget }
         ensures turns { Turns self.old (budget - result) self.new }
         ensures done { 0 < result → self.new.works ≡ [] }

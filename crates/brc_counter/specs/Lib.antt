@@ -3,3 +3,4 @@ pub mod Up
 pub mod Standing
 pub mod Released
 pub mod Bounded
+pub mod Seeking

@@ -1,6 +1,6 @@
 //! Cells: an object is born in one that the thread has claimed, and one that is dead and empty is given back.
 
-ghost use Rattle.std.specs.Prelude.{◌≡◌, ◌<◌, ◌≤◌, ◌-◌, ◌^◌, ◌∷◌, [], true, None};
+ghost use Rattle.std.specs.Prelude.{◌≡◌, ◌<◌, ◌≤◌, ◌-◌, ◌^◌, ◌∷◌, [], ℕ, true, None, Some};
 ghost use Rattle.atomic_table.specs.Table.{rest};
 ghost use Rattle.brc_words.specs.declared.limits.TheConstants.{FIRST_MORTAL};
 ghost use Rattle.brc_words.specs.Kinds.{is_mortal};
@@ -12,7 +12,9 @@ ghost use Rattle.brc_known.specs.Going_On.{filling, bearing, giving_back};
 ghost use Rattle.brc_rule.specs.declared.told.Moved.TheVariants as moves;
 ghost use Rattle.brc_rule.specs.declared.told.Told.TheVariants as told;
 ghost use Rattle.brc_rule.specs.Logs.{kind_in, entries_in};
-ghost use Rattle.brc_rule.specs.Seen.{part_seen};
+ghost use Rattle.brc_rule.specs.Seen.{part_seen, risen_seen};
+ghost use Rattle.brc_runs.specs.declared.event.Dropped.TheVariants as drops;
+ghost use Rattle.brc_runs.specs.Lists.{place_at};
 ghost use Rattle.brc_steps.specs.Owing.{Carries};
 ghost use Rattle.brc_table.specs.Knowing.{known_seen, Keeps};
 ghost use Rattle.brc_table.specs.Seated.{Continues};
@@ -49,6 +51,9 @@ impl<H: Home<A>, A: Allocator> Counter<H, A> {
         ensures home { self.new.seat.slots ≡ rest self.old.seat.slots }
         ensures knows { IsKnown self.old.heap.cells self.new.seat.log
             (filling place block.0 (bearing block.0 (known_seen self.old.heap.cells self.old.seat.log))) }
+        ensures risen { (k c : ℕ) → place_at (part_seen self.old.heap.cells self.old.seat.log).frame k ≡ Some c →
+            risen_seen self.old.heap.cells self.old.seat.log (drops.Frame k) c ≡ true →
+            risen_seen self.old.heap.cells self.new.seat.log (drops.Frame k) c ≡ true }
     {
         let cell = block.cell();
         let table = self.heap.table();
@@ -58,7 +63,7 @@ impl<H: Home<A>, A: Allocator> Counter<H, A> {
         self.counts[cell as usize] = 1;
     }
 
-    /// The cell of a dead object without entries is free again.
+    /// The cell of a dead object without entries is free again; 64 bits count what the thread has freed.
     pub fn free(&mut self, cell: u32)
         requires inside { cell < self.old.heap.cells }
         requires slot { self.old.seat.slots ≡ (cell, None) ∷ rest self.old.seat.slots }
@@ -71,6 +76,7 @@ impl<H: Home<A>, A: Allocator> Counter<H, A> {
         ensures knows { IsKnown self.old.heap.cells self.new.seat.log
             (giving_back cell (known_seen self.old.heap.cells self.old.seat.log)) }
         ensures keeps { Keeps self.old.heap.cells self.old.seat.log self.new.seat.log }
+        ensures few { (part_seen self.old.heap.cells self.new.seat.log).row.frees < 2 ^ 64 }
     {
         self.heap.table().free(&mut self.seat, cell);
     }

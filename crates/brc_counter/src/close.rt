@@ -8,6 +8,7 @@ ghost use Rattle.brc_known.specs.Going_On.{popping, closing};
 ghost use Rattle.brc_rule.specs.declared.told.Moved.TheVariants as moves;
 ghost use Rattle.brc_rule.specs.declared.told.Told.TheVariants as told;
 ghost use Rattle.brc_steps.specs.Owing.{Allowed};
+ghost use Rattle.brc_steps.specs.Taking.{AreQueued};
 ghost use Rattle.brc_table.specs.Knowing.{known_seen, Keeps};
 ghost use Rattle.brc_table.specs.Seated.{Stays};
 ghost use Rattle.brc_counter.specs.Up.{IsKnown};
@@ -29,7 +30,7 @@ pub(crate) fn forget(counts: &mut [u32])
 }
 
 impl<H: Home<A>, A: Allocator> Counter<H, A> {
-    /// Closes the next of the thread's queue words, and takes its bits. With the first one the thread's own objects are
+    /// Closes the next of the thread's queue words, and takes its bits, each a cell of the heap. With the first one the thread's own objects are
     /// everybody's: it counts on no local word any more.
     pub fn close(&mut self, word: u32) -> u64
         requires inside { word < words_for self.old.heap.cells }
@@ -40,6 +41,7 @@ impl<H: Home<A>, A: Allocator> Counter<H, A> {
         ensures knows { IsKnown self.old.heap.cells self.new.seat.log
             (closing self.old.heap.cells word (popping word result (known_seen self.old.heap.cells self.old.seat.log))) }
         ensures keeps { Keeps self.old.heap.cells self.old.seat.log self.new.seat.log }
+        ensures cells { AreQueued self.old.heap.cells word result }
     {
         let found = self.heap.table().close(&mut self.seat, word);
 

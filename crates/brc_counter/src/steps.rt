@@ -15,7 +15,7 @@ ghost use Rattle.brc_rule.specs.declared.told.Told.TheVariants as told;
 ghost use Rattle.brc_rule.specs.Logs.{entries_in};
 ghost use Rattle.brc_rule.specs.Seen.{contents_locked, taken_seen};
 ghost use Rattle.brc_steps.specs.Owing.{Allowed, Carries, Claims, Unlocks};
-ghost use Rattle.brc_steps.specs.Taking.{AreCells};
+ghost use Rattle.brc_steps.specs.Taking.{AreCells, AreQueued};
 ghost use Rattle.brc_table.specs.Knowing.{known_seen, Keeps};
 ghost use Rattle.brc_table.specs.Moving.{found_locked};
 ghost use Rattle.brc_table.specs.Seated.{Continues, Stays};
@@ -29,12 +29,15 @@ use brc_runs::Change;
 use std::alloc::Allocator;
 
 impl<H: Home<A>, A: Allocator> Counter<H, A> {
-    /// Claims a free cell to make an object in; or answers the number of its owner word.
+    /// Claims a free cell, which is none of the thread's dead blocks, to make an object in; or answers the number of its owner
+    /// word.
     pub fn claim(&mut self, cell: u32) -> Result<(), u64>
         requires inside { cell < self.old.heap.cells }
         requires claims { Claims self.old.heap.cells self.old.seat.log cell }
         ensures heap { self.new.heap ≡ self.old.heap }
         ensures seat { Continues self.old.seat self.new.seat }
+        ensures fresh { OnOk result
+            (listed_at (taken_seen self.old.heap.cells self.old.seat.log) cell ≡ None) }
         ensures won { OnOk result (self.new.seat.log ≡
             told.Did (steps.Claim cell) (2 ^ 64 - 1) moves.Nothing ∷ self.old.seat.log) }
         ensures out { OnOk result (self.new.seat.slots ≡ (cell, None) ∷ self.old.seat.slots) }
@@ -103,7 +106,7 @@ impl<H: Home<A>, A: Allocator> Counter<H, A> {
         self.heap.table().unlock(&mut self.seat, block, change);
     }
 
-    /// Takes the bits of one of the thread's queue words.
+    /// Takes the bits of one of the thread's queue words, each a cell of the heap.
     pub fn drain(&mut self, word: u32) -> u64
         requires inside { word < words_for self.old.heap.cells }
         requires allowed { Allowed self.old.heap.cells self.old.seat.log (steps.Drain word) }
@@ -113,6 +116,7 @@ impl<H: Home<A>, A: Allocator> Counter<H, A> {
         ensures knows { IsKnown self.old.heap.cells self.new.seat.log
             (popping word result (known_seen self.old.heap.cells self.old.seat.log)) }
         ensures keeps { Keeps self.old.heap.cells self.old.seat.log self.new.seat.log }
+        ensures cells { AreQueued self.old.heap.cells word result }
     {
         self.heap.table().drain(&mut self.seat, word)
     }

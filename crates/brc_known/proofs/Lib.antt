@@ -15,3 +15,4 @@ pub mod Going_On_Law
 pub mod Kept_Law
 pub mod Risen_Kept
 pub mod Owners_Law
+pub mod Queued_Law

@@ -1,6 +1,7 @@
 //! What a thread's own items tell it, each as the contract of a function with nothing to do.
 
-ghost use Rattle.std.specs.Prelude.{◌≡◌, ◌≢◌, ◌≤◌, ℕ, ◌<◌, ◌==◌, ◌&&◌, List, [], ◌∷◌, Some, None, true, false, length, slice_index_or};
+ghost use Rattle.std.specs.Prelude.{◌≡◌, ◌≢◌, ◌≤◌, ℕ, ◌+◌, ◌*◌, ◌^◌, ◌<◌, ◌==◌, ◌&&◌, List, [], ◌∷◌, Some, None, true, false, length, slice_index_or};
+ghost use Rattle.std.specs.Int.{bit_at};
 ghost use Rattle.brc_runs.specs.declared.cell.Cell.{Cell as cell};
 ghost use Rattle.brc_runs.specs.declared.row.Hand.TheVariants as hands;
 ghost use Rattle.brc_runs.specs.declared.event.Dropped.{Dropped as dropped};
@@ -11,7 +12,7 @@ ghost use Rattle.brc_runs.specs.declared.event.Step.{Step as step};
 ghost use Rattle.brc_runs.specs.declared.event.Step.TheVariants as steps;
 ghost use Rattle.brc_runs.specs.declared.event.Event.{Event as event};
 ghost use Rattle.brc_runs.specs.Lists.{names, place_at, word_at, is_marked, is_bare, is_unmarked, is_blank};
-ghost use Rattle.brc_runs.specs.Heap.{Heap, opening, cell_at, entries_at, row_at, frame_at, popped_at, worklist_at, is_registered, is_gathered, AreOptions};
+ghost use Rattle.brc_runs.specs.Heap.{Heap, opening, cell_at, entries_at, row_at, frame_at, popped_at, queue_at, worklist_at, is_registered, is_gathered, AreOptions};
 ghost use Rattle.brc_runs.specs.Steps.{is_mine, needs_no_cell, takes_block, thread_may, after_target, target_at};
 ghost use Rattle.brc_runs.specs.Runs.{IsRun, IsReached};
 ghost use Rattle.brc_known.specs.Going_On.{GoesOn, known_of, knows_after, knows_apart, given_up, touched_place};
@@ -54,6 +55,21 @@ pub fn root_items_tell_the_threads()
     ensures gathered { (cells limit : ℕ) (items : ItemRun) (u : ℕ) → AreOptions cells limit
         → AreItems (opening cells limit) items
         → is_gathered (world_of_items (opening cells limit) items) u ≡ gathered_of (own 0 items) u }
+{}
+
+/// A queue word has bits of its 32 cells alone, and each of these is a cell of the heap: a bit is a reference of its cell, so
+/// that lives.
+pub fn queue_words_name_cells()
+    ensures { (h : Heap) (t k i : ℕ) → IsReached h → bit_at (word_at (queue_at h t) k) i ≡ 1
+        → (i < 32) × (k * 32 + i < length h.cells) }
+{}
+
+/// A thread gives back no more objects than all threads together make, so 64 bits count what it has given back.
+pub fn own_items_tell_few_frees()
+    ensures { (cells limit : ℕ) (items : ItemRun) (t : ℕ) → AreOptions cells limit
+        → AreItems (opening cells limit) items
+        → is_registered (world_of_items (opening cells limit) items) t ≡ true
+        → (part_of cells (own t items)).row.frees < 2 ^ 64 }
 {}
 
 /// The local count of each of a thread's own objects is a function of its own items, with the numbers that they were told:

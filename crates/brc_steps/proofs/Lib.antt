@@ -1,5 +1,6 @@
 pub mod Numbers
 pub mod Plain_Steps
+pub mod Telling
 pub mod Block_Steps
 pub mod Taking_Steps
 pub mod Local_Steps

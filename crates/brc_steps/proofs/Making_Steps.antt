@@ -1,6 +1,6 @@
 -- The life of a cell's block: Claim, InitLocal, InitShared and Birth make an object, and Free gives its cell back.
 use Rattle.std.proofs.Common.{◌≡◌, ◌≢◌, ℕ, ◌+◌, ◌-◌, ◌<◌, ◌≤◌, ◌^◌, ◌==◌, nat_le, ◌&&◌, true, false, if◌then◌else◌, pos, List, [], ◌∷◌, length, set, get_or, Option, Some, None, refl, sym, ◌∙◌, ap, subst, inl, inr, arith}
-use Rattle.std.proofs.lemmas.Bool.{cases_eq, eq-eqb, ne_eqb, le-leb, true≢false}
+use Rattle.std.proofs.lemmas.Bool.{cases_Bool, cases_eq, eq-eqb, ne_eqb, le-leb, true≢false}
 use Rattle.std.specs.Cmp.Derive.{both_true}
 use mathlib.Core.Option.{some, none}
 use lib.ListN.{get_elem?}
@@ -16,8 +16,10 @@ use Rattle.brc_runs.specs.declared.event.Step.{Step}
 use Rattle.brc_runs.specs.declared.event.Step.TheVariants.{Claim, InitLocal, InitShared, Birth, Free}
 use Rattle.brc_runs.specs.declared.row.Hand.TheVariants as hands
 use Rattle.brc_runs.specs.declared.row.Phase.TheVariants as phases
-use Rattle.brc_runs.specs.Heap.{Heap, cell_at, row_at}
+use Rattle.brc_runs.specs.Lists.{is_marked}
+use Rattle.brc_runs.specs.Heap.{Heap, cell_at, row_at, worklist_at}
 use Rattle.brc_runs.specs.Holding.{lives}
+use Rattle.brc_runs.specs.Sound.{IsSound}
 use Rattle.brc_runs.specs.Steps.{cell_after, is_free, stepped}
 use Rattle.brc_runs.proofs.Naming.{busy_hand}
 use Rattle.brc_runs.proofs.Reached.{reached_sound}
@@ -28,6 +30,7 @@ use Rattle.brc_lasting.proofs.Telling.{hand_tells}
 use Rattle.brc_known.specs.declared.word.Field.TheVariants.{Owner as OwnerWord, Local, Shared}
 use Rattle.brc_known.specs.declared.word.Word.TheVariants.{Of}
 use Rattle.brc_known.specs.Items.{shared_word}
+use Rattle.brc_known.specs.Taken.{listed_at}
 use Rattle.brc_rule.specs.declared.contents.Contents.{Contents}
 use Rattle.brc_rule.specs.declared.told.Moved.TheVariants as moves
 use Rattle.brc_rule.specs.declared.told.Told.{Told}
@@ -36,6 +39,7 @@ use Rattle.brc_rule.specs.declared.view.View.{View}
 use Rattle.brc_rule.specs.Layout.{spot}
 use Rattle.brc_rule.specs.Logs.{Run, world, contents_at}
 use Rattle.brc_rule.specs.Rule.{with_told, Kept}
+use Rattle.brc_rule.specs.Seen.{taken_seen}
 use Rattle.brc_steps.specs.Owing.{Carries, Claims, Bears}
 use Rattle.brc_steps.specs.Taking.{Claimed}
 use Rattle.brc_rule.proofs.Homing.{home_out}
@@ -44,6 +48,7 @@ use Rattle.brc_steps.proofs.Local_Steps.{fits_cell, read_cell}
 use Rattle.brc_rule.proofs.Looking.{lost, unmoved}
 use Rattle.brc_steps.proofs.Plain_Steps.{IsPlain, plain_on, same_owner, stays_on, plain_step}
 use Rattle.brc_steps.proofs.Block_Steps.{block_moved}
+use Rattle.brc_steps.proofs.Taking_Steps.{unlisted_seen}
 
 -- a cell that a thread is making an object in
 making_low : (h : Heap) (t c : ℕ) → (cell_at h c).owner ≡ owners.Claimed t → c < length h.cells
@@ -58,6 +63,13 @@ free_word threads owners.Nobody few fits is = absurd (omega (arith, is))
 free_word threads (owners.Thread t) few fits is = absurd (omega (arith, is, few, fits.1))
 free_word threads (owners.Claimed t) few fits is = absurd (omega (arith, is, few, fits.1))
 free_word threads owners.Free few fits is = refl
+
+-- what is on a worklist lives, so a free cell is on none
+free_unmarked : (h : Heap) (u c : ℕ) → IsSound h → (cell_at h c).owner ≡ owners.Free → is_marked (worklist_at h u) c ≡ false
+free_unmarked h u c sound free = elim (cases_Bool (is_marked (worklist_at h u) c)) [
+  | inl on ↦ absurd (true≢false (sym (sound.worklists u c on).lives ∙ ap lives free))
+  | inr off ↦ off
+]
 
 module _ {B : Type 0} (shows : B → ℕ × Contents) (n limit : ℕ) where
   abbrev Rule : Table (Option B) View → Type 0
@@ -115,19 +127,35 @@ module _ {B : Type 0} (shows : B → ℕ × Contents) (n limit : ℕ) where
 
   -- ---- Claim
 
+  found_free : (st : Table (Option B) View) (r : Rule st) (id : ℕ) (v : View) (c : ℕ) → get_elem? st.views id ≡ some v → v.active ≡ true → 0 < v.thread → c < n
+      → get_or st.words (spot n (Of OwnerWord c)) 0 ≡ 2 ^ 64 - 1 → (cell_at (world n limit r.run) c).owner ≡ owners.Free
+  found_free st r id v c at active some_thread low found =
+      let h : Heap = world n limit r.run in
+      let known : Known n limit h v.thread v.log = knows shows n limit st r id v at active some_thread in
+      free_word (length h.rows) (cell_at h c).owner (omega (arith, (reached_sound h known.reached).shaped.threads)) (reached_owners h known.reached c)
+      (sym found ∙ r.each_word (Of OwnerWord c) low)
+
+  -- it is none of the dead blocks that the log tells
+  found_fresh : (st : Table (Option B) View) (r : Rule st) (id : ℕ) (v : View) (c : ℕ) → get_elem? st.views id ≡ some v → v.active ≡ true → 0 < v.thread → c < n
+      → get_or st.words (spot n (Of OwnerWord c)) 0 ≡ 2 ^ 64 - 1 → listed_at (taken_seen n v.log) c ≡ None
+  found_fresh st r id v c at active some_thread low found =
+      let h : Heap = world n limit r.run in
+      let known : Known n limit h v.thread v.log = knows shows n limit st r id v at active some_thread in
+      unlisted_seen n limit h v.thread v.log c known some_thread
+      (free_unmarked h v.thread c (reached_sound h known.reached) (found_free st r id v c at active some_thread low found))
+
   claiming : (st : Table (Option B) View) (r : Rule st) (id : ℕ) (v : View) (c : ℕ) → get_elem? st.views id ≡ some v → v.active ≡ true → 0 < v.thread → c < n → Claims n v.log c
       → get_or st.words (spot n (Of OwnerWord c)) 0 ≡ 2 ^ 64 - 1
       → (get_elem? st.homes c ≡ some (some None))
       × Rule (record { words = set st.words (spot n (Of OwnerWord c)) (2 ^ 32 + v.thread); homes = set st.homes c none; views = set st.views id (with_told (Did (Claim c) (2 ^ 64 - 1) moves.Nothing) v) })
-  claiming st r id v c at active some_thread low claims found_free =
+  claiming st r id v c at active some_thread low claims found =
       let t : ℕ = v.thread in
       let s : Step = Claim c in
       let h : Heap = world n limit r.run in
       let x : Cell = cell_at h c in
       let known : Known n limit h t v.log = knows shows n limit st r id v at active some_thread in
       let inside_is : c < length h.cells = omega (arith, known.cells, low) in
-      let free : x.owner ≡ owners.Free = free_word (length h.rows) x.owner (omega (arith, (reached_sound h known.reached).shaped.threads)) (reached_owners h known.reached c)
-      (sym found_free ∙ r.each_word (Of OwnerWord c) low) in
+      let free : x.owner ≡ owners.Free = found_free st r id v c at active some_thread low found in
       let now : (cell_at (stepped h t s c) c).owner ≡ owners.Claimed t = ap (λ (y : Cell). y.owner) (read_cell h t s c inside_is) in (
         (r.each_home c low).bare free,
         block_moved shows n limit st r id v s c (Of OwnerWord c) (2 ^ 32 + t) (2 ^ 64 - 1) moves.Nothing none at active low
@@ -139,7 +167,7 @@ module _ {B : Type 0} (shows : B → ℕ × Contents) (n limit : ℕ) where
               low = inside_is;
               word = refl;
               shown = sym (ap word_of now);
-              told = sym found_free ∙ r.each_word (Of OwnerWord c) low;
+              told = sym found ∙ r.each_word (Of OwnerWord c) low;
               entries = refl;
               moves = (refl, refl);
               elsewhere = λ d other. refl;
@@ -152,7 +180,7 @@ module _ {B : Type 0} (shows : B → ℕ × Contents) (n limit : ℕ) where
       claimed_free t bad = absurd (cc)
 
   pub claims_cell : (id : ℕ) (v : View) (slots : List (ℕ × Option B)) (c : ℕ) → v.active ≡ true → 0 < v.thread → c < n → Claims n v.log c
-      → Allows Rule n id (v, slots) (spot n (Of OwnerWord c)) (λ there. either (there == 2 ^ 64 - 1) (2 ^ 32 + v.thread) there) (λ there me. Claimed v slots c there (there == 2 ^ 64 - 1) me)
+      → Allows Rule n id (v, slots) (spot n (Of OwnerWord c)) (λ there. either (there == 2 ^ 64 - 1) (2 ^ 32 + v.thread) there) (λ there me. Claimed n v slots c there (there == 2 ^ 64 - 1) me)
   claims_cell id v slots c active some_thread low claims st r deep at small =
       let w = Of OwnerWord c in
       let there : ℕ = get_or st.words (spot n w) 0 in
@@ -164,7 +192,8 @@ module _ {B : Type 0} (shows : B → ℕ × Contents) (n limit : ℕ) where
               done.0,
               subst (λ b. Rule (record { words = set st.words (spot n w) (either b (2 ^ 32 + v.thread) there); homes = set st.homes c none; views = set st.views id (with_told (Did (Claim c) (2 ^ 64 - 1) moves.Nothing) v) }))
                   (sym (eq-eqb there (2 ^ 64 - 1) same)) done.1,
-              subst (λ b. Claimed v slots c there b (with_told (Did (Claim c) (2 ^ 64 - 1) moves.Nothing) v, (c, None) ∷ slots)) (sym (eq-eqb there (2 ^ 64 - 1) same)) refl,
+              subst (λ b. Claimed n v slots c there b (with_told (Did (Claim c) (2 ^ 64 - 1) moves.Nothing) v, (c, None) ∷ slots)) (sym (eq-eqb there (2 ^ 64 - 1) same))
+                  (record { fresh = found_fresh st r id v c at active some_thread low same; after_is = refl }),
             )
         | inr other ↦ (
           with_told (Lost w there) v,
@@ -172,7 +201,7 @@ module _ {B : Type 0} (shows : B → ℕ × Contents) (n limit : ℕ) where
           tt,
           subst (λ b. Rule (record { words = set st.words (spot n w) (either b (2 ^ 32 + v.thread) there); homes = st.homes; views = set st.views id (with_told (Lost w there) v) })) (sym (ne_eqb there (2 ^ 64 - 1) other))
               (unmoved shows n limit st r id v w (Lost w there) at active low lost),
-          subst (λ b. Claimed v slots c there b (with_told (Lost w there) v, slots)) (sym (ne_eqb there (2 ^ 64 - 1) other)) refl,
+          subst (λ b. Claimed n v slots c there b (with_told (Lost w there) v, slots)) (sym (ne_eqb there (2 ^ 64 - 1) other)) refl,
         )
       ]
 

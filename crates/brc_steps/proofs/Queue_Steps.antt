@@ -1,6 +1,7 @@
 -- Steps on words that are no cell's: Drain and Close take the bits of an own queue word, Nudge sets a bit of a notify word
 -- and Wake takes them all.
-use Rattle.std.proofs.Common.{◌≡◌, ℕ, ◌+◌, ◌/◌, ◌<◌, ◌≤◌, ◌^◌, nat_lt, ◌&&◌, Bool, true, false, if◌then◌else◌, List, [], length, set, Option, None, refl, sym, ◌∙◌, ap, subst, inl, inr, arith}
+use Rattle.std.proofs.Common.{◌≡◌, ℕ, ◌+◌, ◌*◌, ◌/◌, ◌<◌, ◌≤◌, ◌^◌, nat_lt, ◌&&◌, Bool, true, false, if◌then◌else◌, List, [], length, set, Option, None, refl, sym, ◌∙◌, ap, subst, inl, inr, arith}
+use Rattle.std.specs.Int.{bit_at}
 use Rattle.std.specs.Int.RustNames.{bit_or}
 use Rattle.std.proofs.lemmas.Bool.{cases_eq, eq-eqb, ne_eqb, lt-ltb, ltb-true, and_parts}
 use Rattle.std.proofs.lemmas.Nat.{le_or_r}
@@ -14,14 +15,15 @@ use Rattle.brc_runs.specs.declared.row.Stage.TheVariants as stages
 use Rattle.brc_runs.specs.Lists.{word_at}
 use Rattle.brc_runs.specs.Heap.{Heap, row_at, queue_at, no_row, is_registered, words_for}
 use Rattle.brc_runs.specs.Sound.{IsSound}
-use Rattle.brc_runs.specs.Steps.{thread_may, target_at, after_target, kept_cells, stage_after, is_closed, closes_next, closed_more}
+use Rattle.brc_runs.specs.Steps.{thread_may, target_at, after_target, kept_cells, stage_after, is_closed, closed_more}
 use Rattle.brc_runs.proofs.Asking.{May, may_parts}
 use Rattle.brc_runs.proofs.Changes.{read_here}
 use Rattle.brc_runs.proofs.Reached.{reached_sound}
 use Rattle.brc_known.specs.declared.word.Word.{Word}
 use Rattle.brc_known.specs.declared.word.Word.TheVariants.{Queue, NotifyWord}
-use Rattle.brc_known.specs.Items.{Shows, ShowsQueue, ToldBy, meets_closed, told_at, found_at, works_on, closing_bit}
+use Rattle.brc_known.specs.Items.{IsWord, Shows, ShowsQueue, ToldBy, meets_closed, told_at, found_at, works_on, closing_bit}
 use Rattle.brc_known.proofs.Items_Own.{next_open, drains_open}
+use Rattle.brc_known.proofs.Queued_Law.{queue_bits}
 use Rattle.brc_rule.specs.declared.contents.Contents.{Contents}
 use Rattle.brc_rule.specs.declared.told.Moved.TheVariants as moves
 use Rattle.brc_rule.specs.declared.told.Told.{Told}
@@ -31,9 +33,11 @@ use Rattle.brc_rule.specs.Layout.{spot}
 use Rattle.brc_rule.specs.Logs.{puts, takes_of}
 use Rattle.brc_rule.specs.Rule.{with_told, Kept}
 use Rattle.brc_steps.specs.Owing.{Allowed, Tells}
+use Rattle.brc_steps.specs.Taking.{AreQueued}
 use Rattle.brc_rule.proofs.Own_Logs.{stands_registered}
 use Rattle.brc_rule.proofs.Knowing.{Known, is_enabled}
 use Rattle.brc_steps.proofs.Plain_Steps.{IsPlain, stays_off, plain_step}
+use Rattle.brc_steps.proofs.Telling.{tells_found}
 
 -- a thread's event on a word that is no cell's
 record PlainOff (h : Heap) (t : ℕ) (s : Step) (w : Word) (written number : ℕ) : Type 0 where
@@ -84,7 +88,16 @@ module _ {B : Type 0} (shows : B → ℕ × Contents) (n limit : ℕ) where
   abbrev Rule : Table (Option B) View → Type 0
   Rule = Kept shows n limit
 
+  -- an open word of the thread's own shows its bits, and these are cells
+  bits_shown : (h : Heap) (t : ℕ) (log : List Told) (k there : ℕ) → 0 < t → Known n limit h t log → is_closed (row_at h t).stage k ≡ false → Shows h (Queue t k) there → AreQueued n k there
+  bits_shown h t log k there some_thread known open_word shown i on =
+      let is : there ≡ word_at (queue_at h t) k = open_shows h t k there (stands_registered h t known.stood some_thread) open_word shown in
+      subst (λ m. (i < 32) × (k * 32 + i < m)) known.cells (queue_bits h t k i known.reached (ap (λ m. bit_at m i) (sym is) ∙ on))
+
   -- ---- Drain
+
+  drained_open : (h : Heap) (t : ℕ) (log : List Told) (k : ℕ) → 0 < t → Known n limit h t log → Allowed n log (Drain k) → is_closed (row_at h t).stage k ≡ false
+  drained_open h t log k some_thread known allowed = drains_open (row_at h t).stage k (may_parts h t (Drain k) (is_enabled n limit h t log (Drain k) some_thread known allowed.own refl refl)).stage
 
   drained : (h : Heap) (t : ℕ) (log : List Told) (k there : ℕ) → 0 < t → k < words_for n → Known n limit h t log → Allowed n log (Drain k) → Shows h (Queue t k) there
       → IsPlain n h t (Drain k) (Queue t k) 0 there
@@ -94,7 +107,7 @@ module _ {B : Type 0} (shows : B → ℕ × Contents) (n limit : ℕ) where
       let may : thread_may h t s ≡ true = is_enabled n limit h t log s some_thread known allowed.own refl refl in
       let parts : May h t s = may_parts h t s may in
       let registered : is_registered h t ≡ true = stands_registered h t known.stood some_thread in
-      let open_word : is_closed (row_at h t).stage k ≡ false = drains_open (row_at h t).stage k parts.stage in
+      let open_word : is_closed (row_at h t).stage k ≡ false = drained_open h t log k some_thread known allowed in
       let is : there ≡ word_at (queue_at h t) k = open_shows h t k there registered open_word shown in
       let row : row_at (kept_cells h t s) t ≡ record (row_at h t) { stage = stage_after (words_for (length h.cells)) s (row_at h t).stage } = read_here h.rows t _ no_row parts.inside in
       let queue : queue_at (kept_cells h t s) t ≡ set (queue_at h t) k 0 = read_here h.queues t _ [] (omega (arith, sound.shaped.queues, parts.inside)) in
@@ -110,12 +123,20 @@ module _ {B : Type 0} (shows : B → ℕ × Contents) (n limit : ℕ) where
       })
 
   pub drains : (id : ℕ) (v : View) (slots : List (ℕ × Option B)) (k : ℕ) → v.active ≡ true → 0 < v.thread → v.thread ≤ MOST_THREADS → k < words_for n → Allowed n v.log (Drain k)
-      → Allows Rule n id (v, slots) (spot n (Queue v.thread k)) (λ there. 0) (λ there me. me ≡ (with_told (Did (Drain k) there moves.Nothing) v, slots))
+      → Allows Rule n id (v, slots) (spot n (Queue v.thread k)) (λ there. 0) (λ there me. (me ≡ (with_told (Did (Drain k) there moves.Nothing) v, slots)) × AreQueued n k there)
   drains id v slots k active some_thread few inside allowed =
-      plain_step shows n limit id v slots (Drain k) (Queue v.thread k) (λ there. 0) (λ there. there) active some_thread (omega (arith, few), inside)
-      (λ h there known shown small. drained h v.thread v.log k there some_thread inside known allowed shown)
+      let is : IsWord n (Queue v.thread k) = (omega (arith, few), inside) in
+      tells_found shows n limit (AreQueued n k) id v slots (Queue v.thread k) (λ there. 0) (λ there me. me ≡ (with_told (Did (Drain k) there moves.Nothing) v, slots)) active some_thread is
+      (λ h there known shown. bits_shown h v.thread v.log k there some_thread known (drained_open h v.thread v.log k some_thread known allowed) shown)
+      (plain_step shows n limit id v slots (Drain k) (Queue v.thread k) (λ there. 0) (λ there. there) active some_thread is
+      (λ h there known shown small. drained h v.thread v.log k there some_thread inside known allowed shown))
 
   -- ---- Close
+
+  closed_open : (h : Heap) (t : ℕ) (log : List Told) (k : ℕ) → 0 < t → Known n limit h t log → Allowed n log (Close k) → is_closed (row_at h t).stage k ≡ false
+  closed_open h t log k some_thread known allowed =
+      let parts : May h t (Close k) = may_parts h t (Close k) (is_enabled n limit h t log (Close k) some_thread known allowed.own refl refl) in
+      next_open (row_at h t).stage k (and_parts _ _ (and_parts _ _ (and_parts _ _ (and_parts _ _ parts.own).0).0).0).1
 
   closed : (h : Heap) (t : ℕ) (log : List Told) (k there : ℕ) → 0 < t → k < words_for n → Known n limit h t log → Allowed n log (Close k) → Shows h (Queue t k) there
       → IsPlain n h t (Close k) (Queue t k) (bit_or there 9223372036854775808) there
@@ -125,8 +146,7 @@ module _ {B : Type 0} (shows : B → ℕ × Contents) (n limit : ℕ) where
       let may : thread_may h t s ≡ true = is_enabled n limit h t log s some_thread known allowed.own refl refl in
       let parts : May h t s = may_parts h t s may in
       let registered : is_registered h t ≡ true = stands_registered h t known.stood some_thread in
-      let next : closes_next (row_at h t).stage k ≡ true = (and_parts _ _ (and_parts _ _ (and_parts _ _ (and_parts _ _ parts.own).0).0).0).1 in
-      let open_word : is_closed (row_at h t).stage k ≡ false = next_open (row_at h t).stage k next in
+      let open_word : is_closed (row_at h t).stage k ≡ false = closed_open h t log k some_thread known allowed in
       let is : there ≡ word_at (queue_at h t) k = open_shows h t k there registered open_word shown in
       let row : row_at (kept_cells h t s) t ≡ record (row_at h t) { stage = stage_after (words_for (length h.cells)) s (row_at h t).stage } = read_here h.rows t _ no_row parts.inside in
       plain_off n h t s (Queue t k) (bit_or there 9223372036854775808) there (record {
@@ -141,10 +161,13 @@ module _ {B : Type 0} (shows : B → ℕ × Contents) (n limit : ℕ) where
       })
 
   pub closes : (id : ℕ) (v : View) (slots : List (ℕ × Option B)) (k : ℕ) → v.active ≡ true → 0 < v.thread → v.thread ≤ MOST_THREADS → k < words_for n → Allowed n v.log (Close k)
-      → Allows Rule n id (v, slots) (spot n (Queue v.thread k)) (λ there. bit_or there 9223372036854775808) (λ there me. me ≡ (with_told (Did (Close k) there moves.Nothing) v, slots))
+      → Allows Rule n id (v, slots) (spot n (Queue v.thread k)) (λ there. bit_or there 9223372036854775808) (λ there me. (me ≡ (with_told (Did (Close k) there moves.Nothing) v, slots)) × AreQueued n k there)
   closes id v slots k active some_thread few inside allowed =
-      plain_step shows n limit id v slots (Close k) (Queue v.thread k) (λ there. bit_or there 9223372036854775808) (λ there. there) active some_thread (omega (arith, few), inside)
-      (λ h there known shown small. closed h v.thread v.log k there some_thread inside known allowed shown)
+      let is : IsWord n (Queue v.thread k) = (omega (arith, few), inside) in
+      tells_found shows n limit (AreQueued n k) id v slots (Queue v.thread k) (λ there. bit_or there 9223372036854775808) (λ there me. me ≡ (with_told (Did (Close k) there moves.Nothing) v, slots)) active some_thread is
+      (λ h there known shown. bits_shown h v.thread v.log k there some_thread known (closed_open h v.thread v.log k some_thread known allowed) shown)
+      (plain_step shows n limit id v slots (Close k) (Queue v.thread k) (λ there. bit_or there 9223372036854775808) (λ there. there) active some_thread is
+      (λ h there known shown small. closed h v.thread v.log k there some_thread inside known allowed shown))
 
   -- ---- Nudge and Wake
 

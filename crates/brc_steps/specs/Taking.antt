@@ -1,5 +1,6 @@
 -- What a step that may take a block tells its seat.
-use Rattle.std.specs.Prelude.{◌≡◌, ℕ, ◌<◌, Bool, true, false, List, ◌∷◌, Option, Some, None, ◌^◌, ◌-◌, slice_get}
+use Rattle.std.specs.Prelude.{◌≡◌, ℕ, ◌<◌, ◌+◌, ◌*◌, Bool, true, false, List, ◌∷◌, Option, Some, None, ◌^◌, ◌-◌, slice_get}
+use Rattle.std.specs.Int.{bit_at}
 use Rattle.atomic_table.specs.Table.{Me}
 use Rattle.brc_runs.specs.declared.event.Step.{Step}
 use Rattle.brc_runs.specs.declared.event.Step.TheVariants.{Claim, Lock}
@@ -18,6 +19,10 @@ use Rattle.brc_rule.specs.Seen.{taken_seen}
 abbrev pub AreCells : ℕ → List ℕ → Type 0
 AreCells n entries = (i c : ℕ) → slice_get entries i ≡ Some c → c < n
 
+-- Each bit that was found in this queue word is one of its 32 cells, and that is a cell of the heap: a bit is a reference.
+abbrev pub AreQueued : ℕ → ℕ → ℕ → Type 0
+AreQueued n k bits = (i : ℕ) → bit_at bits i ≡ 1 → (i < 32) × (k * 32 + i < n)
+
 -- The seat has the cell's block now, and its log the contents that were found in it. It was none of the dead blocks that
 -- the seat had, and its entries are cells of the heap.
 pub record TookBlock {B : Type 0} (shows : B → ℕ × Contents) (n : ℕ) (v : View) (slots : List (ℕ × Option B)) (s : Step) (c number : ℕ) (me : Me (Option B) View) : Type 0 where
@@ -31,10 +36,15 @@ abbrev pub Ended : {B : Type 0} → (B → ℕ × Contents) → ℕ → View →
 Ended shows n v slots s c number false me = me ≡ (with_told (Did s number moves.Nothing) v, slots)
 Ended shows n v slots s c number true me = TookBlock shows n v slots s c number me
 
+-- The seat has the cell's empty slot now. The cell was none of the dead blocks that the seat had.
+pub record TookSlot {B : Type 0} (n : ℕ) (v : View) (slots : List (ℕ × Option B)) (c : ℕ) (me : Me (Option B) View) : Type 0 where
+  pub fresh : listed_at (taken_seen n v.log) c ≡ None
+  pub after_is : me ≡ (with_told (Did (Claim c) (2 ^ 64 - 1) moves.Nothing) v, (c, None) ∷ slots)
+
 -- The cell is the thread's to make an object in, and its empty slot is out with the seat; or it wasn't free.
-abbrev pub Claimed : {B : Type 0} → View → List (ℕ × Option B) → ℕ → ℕ → Bool → Me (Option B) View → Type 0
-Claimed v slots c number true me = me ≡ (with_told (Did (Claim c) (2 ^ 64 - 1) moves.Nothing) v, (c, None) ∷ slots)
-Claimed v slots c number false me = me ≡ (with_told (Lost (Of OwnerWord c) number) v, slots)
+abbrev pub Claimed : {B : Type 0} → ℕ → View → List (ℕ × Option B) → ℕ → ℕ → Bool → Me (Option B) View → Type 0
+Claimed n v slots c number true me = TookSlot n v slots c me
+Claimed n v slots c number false me = me ≡ (with_told (Lost (Of OwnerWord c) number) v, slots)
 
 -- The object is locked, and the seat has its block with the contents found; or its mutex wasn't 0.
 abbrev pub Locked : {B : Type 0} → (B → ℕ × Contents) → ℕ → View → List (ℕ × Option B) → ℕ → ℕ → ℕ → Bool → Me (Option B) View → Type 0

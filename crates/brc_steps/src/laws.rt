@@ -23,7 +23,7 @@ ghost use Rattle.brc_rule.specs.declared.view.View.{View as view};
 ghost use Rattle.brc_rule.specs.Layout.{spot};
 ghost use Rattle.brc_rule.specs.Rule.{with_told, Kept};
 ghost use Rattle.brc_steps.specs.Owing.{Raises, RaisesImmortal, Lowers, LowersImmortal, RaisesShared, Releases, Carries, EndsRisen, Claims, Bears, Unlocks, Allowed, Tells, EndsPopped, EndsAdded, EndsHeld, EndsNobodys, UntiesOver, UntiesShut, UntiesPopped, AddsLocal, Enqueues};
-ghost use Rattle.brc_steps.specs.Taking.{Ended, Claimed, Locked};
+ghost use Rattle.brc_steps.specs.Taking.{AreQueued, Ended, Claimed, Locked};
 ghost use Rattle.brc_steps.specs.Joining.{registering, starting, gathering, spent, Registers, Leaves};
 
 /// An owner counts by plain stores of the number that its log tells, without a look. An immortal's count is read, and
@@ -89,14 +89,14 @@ pub fn objects_end<B>()
         (takes_block (steps.LastDown (lasts.Dropped drop)) (cell_told (steps.LastDown (lasts.Dropped drop)) there)) me) }
 {}
 
-/// A free cell is claimed by a compare-exchange, its words are set by plain stores, and its birth puts the block home; its
-/// end gives the empty slot back.
+/// A free cell, which is none of the thread's dead blocks, is claimed by a compare-exchange, its words are set by plain
+/// stores, and its birth puts the block home; its end gives the empty slot back.
 #[tactic(auto, using(crate::proofs::Making_Steps::claims_cell, crate::proofs::Making_Steps::sets_local, crate::proofs::Making_Steps::sets_shared, crate::proofs::Making_Steps::bears_object, crate::proofs::Making_Steps::frees_cell))]
 pub fn cells_are_used_again<B>()
     ensures claim { (shows : B → ℕ × contents) (n limit id : ℕ) (v : view) (slots : List (ℕ × Option B)) (c : ℕ)
         → v.active ≡ true → 0 < v.thread → c < n → Claims n v.log c
         → Allows (Kept shows n limit) n id (v, slots) (spot n (words.Of fields.Owner c)) (λ there. either (there == 2 ^ 64 - 1) (2 ^ 32 + v.thread) there)
-        (λ there me. Claimed v slots c there (there == 2 ^ 64 - 1) me) }
+        (λ there me. Claimed n v slots c there (there == 2 ^ 64 - 1) me) }
     ensures init_local { (shows : B → ℕ × contents) (n limit id : ℕ) (v : view) (slots : List (ℕ × Option B)) (c : ℕ)
         → v.active ≡ true → 0 < v.thread → c < n → Carries n v.log (steps.InitLocal c) c
         → Allows (Kept shows n limit) n id (v, slots) (spot n (words.Of fields.Local c)) (λ there. 1)
@@ -129,18 +129,18 @@ pub fn objects_are_locked<B>()
         (λ there me. me ≡ (with_told (told.Did (steps.Unlock change) 0 (moves.Put c (shows block).1)) v, rest)) }
 {}
 
-/// A thread takes the bits of its own queue words, closes them, tells another that it should drain, and takes what it was
-/// told.
+/// A thread takes the bits of its own queue words, which are cells of the heap, closes them, tells another that it should
+/// drain, and takes what it was told.
 #[tactic(auto, using(crate::proofs::Queue_Steps::drains, crate::proofs::Queue_Steps::closes, crate::proofs::Queue_Steps::nudges, crate::proofs::Queue_Steps::wakes))]
 pub fn queues_are_drained<B>()
     ensures drain { (shows : B → ℕ × contents) (n limit id : ℕ) (v : view) (slots : List (ℕ × Option B)) (k : ℕ)
         → v.active ≡ true → 0 < v.thread → v.thread ≤ MOST_THREADS → k < words_for n → Allowed n v.log (steps.Drain k)
         → Allows (Kept shows n limit) n id (v, slots) (spot n (words.Queue v.thread k)) (λ there. 0)
-        (λ there me. me ≡ (with_told (told.Did (steps.Drain k) there moves.Nothing) v, slots)) }
+        (λ there me. (me ≡ (with_told (told.Did (steps.Drain k) there moves.Nothing) v, slots)) × AreQueued n k there) }
     ensures close { (shows : B → ℕ × contents) (n limit id : ℕ) (v : view) (slots : List (ℕ × Option B)) (k : ℕ)
         → v.active ≡ true → 0 < v.thread → v.thread ≤ MOST_THREADS → k < words_for n → Allowed n v.log (steps.Close k)
         → Allows (Kept shows n limit) n id (v, slots) (spot n (words.Queue v.thread k)) (λ there. bit_or there 9223372036854775808)
-        (λ there me. me ≡ (with_told (told.Did (steps.Close k) there moves.Nothing) v, slots)) }
+        (λ there me. (me ≡ (with_told (told.Did (steps.Close k) there moves.Nothing) v, slots)) × AreQueued n k there) }
     ensures nudge { (shows : B → ℕ × contents) (n limit id : ℕ) (v : view) (slots : List (ℕ × Option B)) (q k : ℕ)
         → v.active ≡ true → 0 < v.thread → Tells n v.log q k
         → Allows (Kept shows n limit) n id (v, slots) (spot n (words.NotifyWord q)) (λ there. bit_or there (2 ^ (k / 32)))

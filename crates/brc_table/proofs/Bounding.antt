@@ -7,7 +7,7 @@ use Rattle.brc_runs.specs.declared.event.Step.TheVariants.{MergeAdd}
 use Rattle.brc_runs.specs.Holding.{carries}
 use Rattle.brc_known.specs.declared.word.Field.TheVariants.{Owner, Local}
 use Rattle.brc_known.specs.declared.word.Word.{Word}
-use Rattle.brc_known.specs.declared.word.Word.TheVariants.{Of}
+use Rattle.brc_known.specs.declared.word.Word.TheVariants.{Of, Queue}
 use Rattle.brc_known.specs.Items.{IsWord}
 use Rattle.brc_rule.specs.declared.contents.Contents.{Contents}
 use Rattle.brc_rule.specs.declared.told.Told.TheVariants.{Saw}
@@ -23,6 +23,11 @@ use Rattle.brc_table.specs.Machine.{MayFind}
 abbrev pub cell_of : Word → ℕ
 cell_of (Of field c) = c
 cell_of _ = 0
+
+-- the number of a queue word among its thread's
+abbrev pub queue_of : Word → ℕ
+queue_of (Queue t k) = k
+queue_of _ = 0
 
 module _ {B : Type 0} (shows : B → ℕ × Contents) (n limit : ℕ) where
   -- a look keeps the rule whether or not the log tells a bound

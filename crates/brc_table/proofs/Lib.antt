@@ -2,3 +2,4 @@ pub mod Placing
 pub mod Opened
 pub mod Remaining
 pub mod Bounding
+pub mod Giving

@@ -9,6 +9,7 @@ use Rattle.brc_rule.specs.declared.told.Told.TheVariants.{Saw, Lost}
 use Rattle.brc_rule.specs.declared.view.View.{View}
 use Rattle.brc_rule.specs.Layout.{spot}
 use Rattle.brc_rule.specs.Rule.{with_told, Kept}
+use Rattle.brc_steps.specs.Taking.{AreQueued}
 
 -- the view after a compare-exchange that found this number: the item where it was the one expected, else a note
 abbrev pub exchanged : Word → ℕ → Told → ℕ → View → View
@@ -22,6 +23,11 @@ module _ {B : Type 0} (shows : B → ℕ × Contents) (n limit id : ℕ) (me : M
   -- the rule allows that the word becomes the new number where it is the old one, as the item; else as a note of the word
   abbrev pub MayExchange : Word → ℕ → ℕ → Told → Type 0
   MayExchange noted old new won = Allows (Kept shows n limit) n id me (spot n w) (λ there. either (there == old) new there) (λ there after. after ≡ (exchanged noted old won there me.0, me.1))
+
+  -- The rule allows that a queue word becomes f of what it was, as the item, and each bit found is one of its cells. m is n, as
+  -- a ghost value gives it to what is told, and k the queue word's number.
+  abbrev pub MayTake : (ℕ → ℕ) → (ℕ → Told) → ℕ → ℕ → Type 0
+  MayTake f item m k = Allows (Kept shows n limit) n id me (spot n w) f (λ there after. (after ≡ (with_told (item there) me.0, me.1)) × AreQueued m k there)
 
   -- the rule allows a look, as a note of the word, and where the log tells a bound, the number found is within it
   abbrev pub MayFind : Word → Bool → ℕ → Type 0

@@ -1,5 +1,5 @@
 -- Blocks that move: out of the table with a seat, and home.
-use Rattle.std.specs.Prelude.{◌≡◌, ℕ, ◌-◌, ◌^◌, ◌==◌, Bool, true, false, List, [], ◌∷◌, Option, Some, None}
+use Rattle.std.specs.Prelude.{◌≡◌, ℕ, ◌-◌, ◌^◌, ◌==◌, ◌<◌, Bool, true, false, List, [], ◌∷◌, Option, Some, None}
 use prog.Atomic.{either}
 use Rattle.atomic_table.specs.Table.{Me, Allows, rest}
 use Rattle.brc_block.specs.declared.payload.Payload.{Payload}
@@ -17,7 +17,7 @@ use Rattle.brc_rule.specs.declared.told.Told.{Told}
 use Rattle.brc_rule.specs.declared.view.View.{View}
 use Rattle.brc_rule.specs.Layout.{spot}
 use Rattle.brc_rule.specs.Rule.{with_told, Kept}
-use Rattle.brc_rule.specs.Seen.{contents_locked}
+use Rattle.brc_rule.specs.Seen.{contents_locked, part_seen}
 use Rattle.brc_steps.specs.Taking.{Ended, Claimed, Locked}
 use Rattle.brc_table.specs.Shown.{shows, contents_of}
 
@@ -28,6 +28,10 @@ found_or contents (Some found) = found
 
 abbrev pub found_locked : List Told → Contents
 found_locked log = found_or Nothing (contents_locked log)
+
+-- what the thread has given back so far is a number of 64 bits
+abbrev pub FewFrees : ℕ → List Told → Type 0
+FewFrees n log = (part_seen n log).row.frees < 2 ^ 64
 
 module _ {A : Type 0} where
   -- ---- what a step that may take a block answers
@@ -71,8 +75,8 @@ module _ {A : Type 0} where
     MayEnd c f m s d = Allows (Kept shows n limit) n id me (spot n (Of Shared c)) f (λ there after. Ended shows m me.0 me.1 s d there (takes_block s (cell_told s there)) after)
 
     -- a free cell's owner word becomes the new number, and the seat has its slot
-    abbrev pub MayClaim : ℕ → ℕ → ℕ → Type 0
-    MayClaim c new d = Allows (Kept shows n limit) n id me (spot n (Of Owner c)) (λ there. either (there == 2 ^ 64 - 1) new there) (λ there after. Claimed me.0 me.1 d there (there == 2 ^ 64 - 1) after)
+    abbrev pub MayClaim : ℕ → ℕ → ℕ → ℕ → Type 0
+    MayClaim c new m d = Allows (Kept shows n limit) n id me (spot n (Of Owner c)) (λ there. either (there == 2 ^ 64 - 1) new there) (λ there after. Claimed m me.0 me.1 d there (there == 2 ^ 64 - 1) after)
 
     -- an unlocked object's mutex word becomes the new number, and the seat has its block
     abbrev pub MayLock : ℕ → ℕ → ℕ → ℕ → ℕ → Type 0
@@ -81,3 +85,7 @@ module _ {A : Type 0} where
     -- a word becomes the new number, as the item, and the slot that the seat took last is home
     abbrev pub MayGive : Word → ℕ → Told → Type 0
     MayGive w new item = Allows (Kept shows n limit) n id me (spot n w) (λ _. new) (λ _ after. after ≡ (with_told item me.0, rest me.1))
+
+    -- the same, and what the thread has given back so far is a number of 64 bits
+    abbrev pub MayGiveOfFew : Word → ℕ → Told → ℕ → Type 0
+    MayGiveOfFew w new item m = Allows (Kept shows n limit) n id me (spot n w) (λ _. new) (λ _ after. (after ≡ (with_told item me.0, rest me.1)) × FewFrees m after.0.log)

@@ -2,7 +2,7 @@
 use Rattle.std.specs.Prelude.{◌≡◌, ◌≤◌, ℕ, true, List, [], Option}
 use Rattle.atomic_table.specs.Seated.{TableId}
 use Rattle.brc_block.specs.declared.payload.Payload.{Payload}
-use Rattle.brc_words.specs.declared.limits.TheConstants.{MOST_CELLS, MOST_LOCAL}
+use Rattle.brc_words.specs.declared.limits.TheConstants.{FEWEST_CELLS, MOST_CELLS, MOST_LOCAL}
 use Rattle.brc_rule.specs.Layout.{extent}
 use Rattle.brc_table.specs.declared.rule.Sizes.{Sizes}
 use Rattle.brc_rule.specs.declared.told.Told.{Told}
@@ -20,6 +20,7 @@ pub record Sized (key : Sizes) (table : TableId) (cells local_limit : ℕ) : Typ
   pub same_limit : key.local_limit ≡ local_limit
   pub words : table.words ≡ extent cells
   pub slots : table.slots ≡ cells
+  pub enough_cells : FEWEST_CELLS ≤ cells
   pub few_cells : cells ≤ MOST_CELLS
   pub low_limit : local_limit ≤ MOST_LOCAL
 

@@ -8,8 +8,10 @@ ghost use Rattle.brc_runs.specs.declared.row.Phase.TheVariants as phases;
 ghost use Rattle.brc_known.specs.declared.word.Field.TheVariants as fields;
 ghost use Rattle.brc_known.specs.declared.word.Word.TheVariants as words;
 ghost use Rattle.brc_known.specs.Going_On.{handing, filling, counting, bearing, giving_back};
+ghost use Rattle.brc_known.specs.Taken.{listed_at};
 ghost use Rattle.brc_rule.specs.declared.told.Moved.TheVariants as moves;
 ghost use Rattle.brc_rule.specs.declared.told.Told.TheVariants as told;
+ghost use Rattle.brc_rule.specs.Seen.{part_seen, taken_seen};
 ghost use Rattle.brc_steps.specs.Owing.{Claims, Bears, Carries};
 ghost use Rattle.brc_table.specs.Knowing.{known_seen, Knows, Keeps, Notes};
 ghost use Rattle.brc_table.specs.Seated.{Stays, Continues};
@@ -26,12 +28,13 @@ use brc_words::Kind;
 use std::alloc::Allocator;
 
 impl<A: Allocator> HeapTable<A> {
-    /// Claim: a free cell is the thread's to make an object in, and its empty slot is out with the seat; or the number of
-    /// its owner word.
+    /// Claim: a free cell, which is none of the thread's dead blocks, is the thread's to make an object in, and its empty
+    /// slot is out with the seat; or the number of its owner word.
     pub fn claim(&self, seat: &mut ThreadSeat<A>, cell: u32) -> Result<(), u64>
         requires table { seat.old.table ≡ self.now.table }
         requires inside { cell < self.now.cells }
         requires claims { Claims self.now.cells seat.old.log cell }
+        ensures fresh { OnOk result (listed_at (taken_seen self.now.cells seat.old.log) cell ≡ None) }
         ensures won { OnOk result (seat.new.log ≡ told.Did (steps.Claim cell) (2 ^ 64 - 1) moves.Nothing ∷ seat.old.log) }
         ensures out { OnOk result (seat.new.slots ≡ (cell, None) ∷ seat.old.slots) }
         ensures lost { IfErr result (λ found. seat.new.log ≡ told.Lost (words.Of fields.Owner cell) found ∷ seat.old.log) }
@@ -102,7 +105,8 @@ impl<A: Allocator> HeapTable<A> {
         give(self, &mut seat.place, word, u64::from(seat.thread), step);
     }
 
-    /// Free: the cell of a dead object without entries is free again.
+    /// Free: the cell of a dead object without entries is free again. Births less frees are the objects that live, so 64 bits
+    /// count what a thread has freed.
     pub fn free(&self, seat: &mut ThreadSeat<A>, cell: u32)
         requires table { seat.old.table ≡ self.now.table }
         requires inside { cell < self.now.cells }
@@ -113,6 +117,7 @@ impl<A: Allocator> HeapTable<A> {
         ensures seat { Continues seat.old seat.new }
         ensures knows { Knows self.now.cells seat.new.log (giving_back cell (known_seen self.now.cells seat.old.log)) }
         ensures keeps { Keeps self.now.cells seat.old.log seat.new.log }
+        ensures few { (part_seen self.now.cells seat.new.log).row.frees < 2 ^ 64 }
     {
         let word = Word::Of(Field::Owner, cell);
         give(self, &mut seat.place, word, u64::MAX, Step::Free(cell));

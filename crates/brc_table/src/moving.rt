@@ -18,11 +18,11 @@ ghost use Rattle.brc_rule.specs.Rule.{with_told, Kept};
 ghost use Rattle.brc_rule.specs.Seen.{taken_seen};
 ghost use Rattle.brc_steps.specs.Taking.{AreCells, Ended, Claimed, Locked};
 ghost use Rattle.brc_table.specs.Knowing.{entries_of};
-ghost use Rattle.brc_table.specs.Moving.{MayEnd, MayClaim, MayLock, MayGive, found_in, out_with, emptied, put_home, is_there, HasBlock};
+ghost use Rattle.brc_table.specs.Moving.{MayEnd, MayClaim, MayLock, MayGive, MayGiveOfFew, FewFrees, found_in, out_with, emptied, put_home, is_there, HasBlock};
 ghost use Rattle.brc_table.specs.Shown.{shows, contents_of};
 
 use crate::layout::spot_of;
-use crate::machine::{Item, Place};
+use crate::machine::Place;
 use crate::table::HeapTable;
 use atomic_table::Play;
 use brc_block::Block;
@@ -250,7 +250,7 @@ pub(crate) struct Claims<M> {
 }
 
 impl<A: Allocator, M: Winning> Play<Option<Block<A>>, View> for Claims<M> {
-    ghost then = { λ step me number after. Claimed me.0 me.1 M.cell number (number == 2 ^ 64 - 1) after };
+    ghost then = { λ step me number after. Claimed M.cells me.0 me.1 M.cell number (number == 2 ^ 64 - 1) after };
 }
 
 /// The seat has the block of an object that nobody had locked.
@@ -270,9 +270,9 @@ fn claim_as<A: Allocator, M: Winning>(
 ) -> u64
     requires same { seat.old.table_id ≡ table.now.table }
     requires inside { cell < table.now.cells }
-    requires allowed { MayClaim table.now.cells table.now.local_limit seat.old.id seat.old.me cell new M.cell }
+    requires allowed { MayClaim table.now.cells table.now.local_limit seat.old.id seat.old.me cell new M.cells M.cell }
     ensures same { (seat.new.table_id ≡ seat.old.table_id) × (seat.new.id ≡ seat.old.id) }
-    ensures claimed { Claimed seat.old.me.0 seat.old.me.1 M.cell result (result == 2 ^ 64 - 1) seat.new.me }
+    ensures claimed { Claimed M.cells seat.old.me.0 seat.old.me.1 M.cell result (result == 2 ^ 64 - 1) seat.new.me }
 {
     let at = spot_of(table.cells, Word::Of(Field::Owner, cell));
     table
@@ -290,9 +290,9 @@ pub(crate) fn claim_by<A: Allocator>(
 ) -> u64
     requires same { seat.old.table_id ≡ table.now.table }
     requires inside { cell < table.now.cells }
-    requires allowed { MayClaim table.now.cells table.now.local_limit seat.old.id seat.old.me cell new cell }
+    requires allowed { MayClaim table.now.cells table.now.local_limit seat.old.id seat.old.me cell new table.now.cells cell }
     ensures same { (seat.new.table_id ≡ seat.old.table_id) × (seat.new.id ≡ seat.old.id) }
-    ensures claimed { Claimed seat.old.me.0 seat.old.me.1 cell result (result == 2 ^ 64 - 1) seat.new.me }
+    ensures claimed { Claimed table.now.cells seat.old.me.0 seat.old.me.1 cell result (result == 2 ^ 64 - 1) seat.new.me }
 {
     claim_as::<A, Brand>(table, seat, cell, new)
 }
@@ -356,16 +356,29 @@ pub(crate) fn take_out<A: Allocator>(
 
 // ---- a plain store that gives the slot that the seat took last back
 
-/// The seat's log has the item, and the slot that it took last is home.
+/// Which item it is, and of how many cells the heap is. A caller's proof picks it.
+pub(crate) trait Giving {
+    ghost item: { ℕ → told_data };
+
+    ghost cells: { ℕ };
+}
+
+impl Giving for Brand {
+    ghost item = { λ number. told.Saw (words.NotifyWord 0) number };
+
+    ghost cells = { 0 };
+}
+
+/// The seat's log has the item, and the slot that it took last is home; the thread has given back few enough.
 pub(crate) struct Gives<M> {
     marker: PhantomData<M>,
 }
 
-impl<A: Allocator, M: Item> Play<Option<Block<A>>, View> for Gives<M> {
-    ghost then = { λ step me number after. after ≡ (with_told (M.item number) me.0, rest me.1) };
+impl<A: Allocator, M: Giving> Play<Option<Block<A>>, View> for Gives<M> {
+    ghost then = { λ step me number after. (after ≡ (with_told (M.item number) me.0, rest me.1)) × FewFrees M.cells after.0.log };
 }
 
-fn give_as<A: Allocator, M: Item>(
+fn give_as<A: Allocator, M: Giving>(
     table: &HeapTable<A>,
     seat: &mut Place<A>,
     word: Word,
@@ -374,9 +387,10 @@ fn give_as<A: Allocator, M: Item>(
 )
     requires same { seat.old.table_id ≡ table.now.table }
     requires inside { IsWord table.now.cells word }
-    requires allowed { MayGive table.now.cells table.now.local_limit seat.old.id seat.old.me word new (M.item new) }
+    requires allowed { MayGiveOfFew table.now.cells table.now.local_limit seat.old.id seat.old.me word new (M.item new) M.cells }
     ensures same { (seat.new.table_id ≡ seat.old.table_id) × (seat.new.id ≡ seat.old.id) }
     ensures told { seat.new.me ≡ (with_told (M.item new) seat.old.me.0, rest seat.old.me.1) }
+    ensures few { FewFrees M.cells seat.new.me.0.log }
 {
     let _step = step;
     let at = spot_of(table.cells, word);
@@ -394,8 +408,11 @@ pub(crate) fn give<A: Allocator>(
     requires same { seat.old.table_id ≡ table.now.table }
     requires inside { IsWord table.now.cells word }
     requires allowed { MayGive table.now.cells table.now.local_limit seat.old.id seat.old.me word new (told.Did step new (put_home seat.old.me.1)) }
+    requires active { seat.old.me.0.active ≡ true }
+    requires some_thread { 0 < seat.old.me.0.thread }
     ensures same { (seat.new.table_id ≡ seat.old.table_id) × (seat.new.id ≡ seat.old.id) }
     ensures told { seat.new.me ≡ (with_told (told.Did step new (put_home seat.old.me.1)) seat.old.me.0, rest seat.old.me.1) }
+    ensures few { FewFrees table.now.cells seat.new.me.0.log }
 {
     give_as::<A, Brand>(table, seat, word, new, step)
 }

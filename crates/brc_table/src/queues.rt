@@ -7,9 +7,11 @@ ghost use Rattle.brc_known.specs.Going_On.{popping, closing};
 ghost use Rattle.brc_rule.specs.declared.told.Moved.TheVariants as moves;
 ghost use Rattle.brc_rule.specs.declared.told.Told.TheVariants as told;
 ghost use Rattle.brc_steps.specs.Owing.{Allowed, Tells};
+ghost use Rattle.brc_steps.specs.Taking.{AreQueued};
 ghost use Rattle.brc_table.specs.Knowing.{known_seen, Knows, Keeps};
 ghost use Rattle.brc_table.specs.Seated.{Stays};
 
+use crate::draining::{take_and_close, take_bits};
 use crate::layout::bit;
 use crate::machine::{or, swap};
 use crate::seats::ThreadSeat;
@@ -17,10 +19,11 @@ use crate::table::HeapTable;
 use brc_known::Word;
 use brc_runs::Step;
 use std::alloc::Allocator;
+use std::marker::Brand;
 
 impl<A: Allocator> HeapTable<A> {
     #[tactic(auto, using(crate::proofs::Placing::own_queue_inside))]
-    /// Drain: the bits of one of its queue words are popped.
+    /// Drain: the bits of one of its queue words are popped, each a cell of the heap.
     pub fn drain(&self, seat: &mut ThreadSeat<A>, word: u32) -> u64
         requires table { seat.old.table ≡ self.now.table }
         requires inside { word < words_for self.now.cells }
@@ -29,13 +32,14 @@ impl<A: Allocator> HeapTable<A> {
         ensures seat { Stays seat.old seat.new }
         ensures knows { Knows self.now.cells seat.new.log (popping word result (known_seen self.now.cells seat.old.log)) }
         ensures keeps { Keeps self.now.cells seat.old.log seat.new.log }
+        ensures cells { AreQueued self.now.cells word result }
     {
         let at = Word::Queue(seat.thread, word);
-        swap(self, &mut seat.place, at, 0, Step::Drain(word))
+        take_bits::<A, Brand>(self, &mut seat.place, at, Step::Drain(word))
     }
 
     #[tactic(auto, using(crate::proofs::Placing::own_queue_inside))]
-    /// Close: one of its queue words takes nothing any more, and its bits are popped.
+    /// Close: one of its queue words takes nothing any more, and its bits are popped, each a cell of the heap.
     pub fn close(&self, seat: &mut ThreadSeat<A>, word: u32) -> u64
         requires table { seat.old.table ≡ self.now.table }
         requires inside { word < words_for self.now.cells }
@@ -44,9 +48,10 @@ impl<A: Allocator> HeapTable<A> {
         ensures seat { Stays seat.old seat.new }
         ensures knows { Knows self.now.cells seat.new.log (closing self.now.cells word (popping word result (known_seen self.now.cells seat.old.log))) }
         ensures keeps { Keeps self.now.cells seat.old.log seat.new.log }
+        ensures cells { AreQueued self.now.cells word result }
     {
         let at = Word::Queue(seat.thread, word);
-        or(self, &mut seat.place, at, 1 << 63, Step::Close(word))
+        take_and_close::<A, Brand>(self, &mut seat.place, at, Step::Close(word))
     }
 
     /// Nudge: a thread is told that this one of its queue words has something, or a word beside it.

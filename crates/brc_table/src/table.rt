@@ -2,7 +2,7 @@
 
 ghost use Rattle.std.specs.Prelude.{◌≡◌, ◌↔◌, ◌⊎◌, ◌≤◌, Err, IfOk, IfErr};
 ghost use Rattle.brc_words.specs.declared.fault.Fault.TheVariants as faults;
-ghost use Rattle.brc_words.specs.declared.limits.TheConstants.{MOST_CELLS, MOST_LOCAL};
+ghost use Rattle.brc_words.specs.declared.limits.TheConstants.{FEWEST_CELLS, MOST_CELLS, MOST_LOCAL};
 ghost use Rattle.brc_runs.specs.Heap.{AreOptions};
 ghost use Rattle.brc_rule.specs.Opening.{first_view};
 
@@ -73,6 +73,7 @@ impl<A: Allocator> HeapTable<A> {
     /// How many cells the heap has.
     pub fn cells(&self) -> u32
         ensures cells { result ≡ self.now.cells }
+        ensures enough { FEWEST_CELLS ≤ result }
         ensures few { result ≤ MOST_CELLS }
     {
         self.cells

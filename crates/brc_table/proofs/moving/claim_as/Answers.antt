@@ -10,5 +10,5 @@ use Rattle.brc_table.proofs.moving.claim_as.Goals as goal
 pub compare_exchange-requires : goal.compare_exchange-requires
 compare_exchange-requires g c =
     let me = c.args.seat.now.me in
-    step_allowed shows me (λ there. either (there == 18446744073709551615) c.args.new there) (λ there after. Claimed me.0 me.1 g.M.Winning.cell there (there == 18446744073709551615) after) (Of Owner c.args.cell)
+    step_allowed shows me (λ there. either (there == 18446744073709551615) c.args.new there) (λ there after. Claimed g.M.Winning.cells me.0 me.1 g.M.Winning.cell there (there == 18446744073709551615) after) (Of Owner c.args.cell)
     c.table.invariant c.table.view_is c.spot_of-at.ensures c.requires.same c.requires.inside c.requires.allowed

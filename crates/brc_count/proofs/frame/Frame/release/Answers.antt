@@ -1,37 +1,7 @@
-use Rattle.std.proofs.Common.{◌∙◌, sym, ap}
-use Rattle.brc_count.specs.Frames.{cell_held, pushed}
-use Rattle.brc_count.proofs.Changes.{after_release, same_cell}
+use Rattle.brc_count.proofs.Framings.{framing_on}
 use Rattle.brc_count.proofs.frame.Frame.release.Goals as goal
 
 pub invariant_of-self : goal.invariant_of-self
 invariant_of-self g c =
-    let up = c.give_up.ensures in
-    let all = after_release c.self.inside.counter.seat c.give_up.new.self.seat c.handle.inside.place c.in-Some.held c.give_up.result
-    c.self.invariant up.seat up.knows up.keeps up.block
-    (c.self.invariant.inside c.handle.inside.place c.in-Some.held (sym c.try_remove.ensures.value ∙ c.in-Some.is)) c.try_remove.ensures.updates in
-    rw (up.heap, c.push.ensures) (rw c.in-Some-give_up.is at all)
-
-pub invariant_of-self-in_default-give_up : goal.invariant_of-self-in_default-give_up
-invariant_of-self-in_default-give_up g c =
-    let up = c.give_up.ensures in
-    let all = after_release c.self.inside.counter.seat c.give_up.new.self.seat c.handle.inside.place c.in-Some.held c.give_up.result
-    c.self.invariant up.seat up.knows up.keeps up.block
-    (c.self.invariant.inside c.handle.inside.place c.in-Some.held (sym c.try_remove.ensures.value ∙ c.in-Some.is)) c.try_remove.ensures.updates in
-    rw up.heap (rw c.in_default-give_up.is at all)
-
-pub returns-in-Some-give_up-clause-released : goal.returns-in-Some-give_up-clause-released
-returns-in-Some-give_up-clause-released g c = λ d there.
-    let up = c.give_up.ensures in
-    let gone = c.try_remove.ensures.updates in
-    let was = c.self.invariant.placed c.handle.inside.place ∙ ap cell_held (sym c.try_remove.ensures.value ∙ c.in-Some.is) in
-    let all = after_release c.self.inside.counter.seat c.give_up.new.self.seat c.handle.inside.place c.in-Some.held c.give_up.result
-    c.self.invariant up.seat up.knows up.keeps up.block
-    (c.self.invariant.inside c.handle.inside.place c.in-Some.held (sym c.try_remove.ensures.value ∙ c.in-Some.is)) gone in
-    rw (← c.self.view_is, ← c.handle.view_is, up.heap, ← same_cell (sym was ∙ (rw (← c.self.view_is, ← c.handle.view_is) at there))) record {
-      seen = c.in-Some.held.risen;
-      block = c.give_up.result;
-      events = up.told;
-      works = c.push.ensures ∙ ap (λ b. pushed b c.self.inside.works) (sym c.in-Some-give_up.is);
-      vacant = all.placed c.handle.inside.place ∙ ap cell_held gone.changed;
-      others = λ j other. all.placed j ∙ ap cell_held (gone.others j other) ∙ sym (c.self.invariant.placed j);
-    }
+    framing_on c.self.inside.holdings c.release.new.self c.self.inside.thread c.self.invariant c.release.ensures.seat.1
+    c.release.ensures.rest c.release.ensures.popped

@@ -1,12 +1,13 @@
 use Rattle.std.proofs.Common.{rules, ◌≡◌, ◌-◌, ◌<◌, arith, subst}
-use Rattle.brc_count.specs.Frames.{Turns, NoTurn}
-use Rattle.brc_count.proofs.Changes.{kept, kept_on, one_more_turn}
-use Rattle.brc_count.proofs.frame.Frame.work.Goals as goal
+use Rattle.brc_count.specs.Closing.{TurnsLeaving, NoTurn}
+use Rattle.brc_count.proofs.Changes.{kept, kept_on}
+use Rattle.brc_count.proofs.Leaving.{one_more_turn}
+use Rattle.brc_count.proofs.closed.ClosedFrame.work.Goals as goal
 
 pub loop-left-init : goal.loop-left-init
 loop-left-init g c =
     let none : 0 ≡ c.args.budget - c.args.budget = omega arith in
-    (omega arith, subst (λ m. Turns c.args.self.now m c.args.self.now) none NoTurn, kept c.args.self.now)
+    (omega arith, subst (λ m. TurnsLeaving c.args.self.now m c.args.self.now) none NoTurn, kept c.args.self.now)
 
 pub loop-left-preserved : goal.loop-left-preserved
 loop-left-preserved g c =

@@ -1,0 +1,104 @@
+-- What contracts see of a frame's locked object, and what locking it, naming its entries and unlocking it do.
+use Rattle.std.specs.Prelude.{◌≡◌, ◌≢◌, ◌<◌, ℕ, true, List, ◌∷◌, Option, Some, None, is_some}
+use Rattle.brc_block.specs.declared.payload.Payload.{Payload}
+use Rattle.brc_runs.specs.declared.event.Change.{Change}
+use Rattle.brc_runs.specs.declared.event.Step.TheVariants.{Lock, Unlock}
+use Rattle.brc_known.specs.declared.word.Field.TheVariants.{Mutex}
+use Rattle.brc_known.specs.declared.word.Word.TheVariants.{Of}
+use Rattle.brc_known.specs.Taken.{listed_at}
+use Rattle.brc_rule.specs.declared.contents.Contents.{Contents}
+use Rattle.brc_rule.specs.declared.told.Moved.TheVariants as moves
+use Rattle.brc_rule.specs.declared.told.Told.{Told}
+use Rattle.brc_rule.specs.declared.told.Told.TheVariants.{Did, Lost}
+use Rattle.brc_rule.specs.Logs.{entries_in}
+use Rattle.brc_rule.specs.Seen.{part_seen, taken_seen, contents_locked}
+use Rattle.brc_steps.specs.Taking.{AreCells}
+use Rattle.brc_table.specs.Moving.{found_locked}
+use Rattle.brc_table.specs.Shown.{contents_of}
+use Rattle.brc_count.specs.Frames.{FrameSeen, place_seen, locked_place, lock_seen, popped_seen, IsUnlocked}
+
+-- What a thread knows of the object that it has locked: it stands in a place of the frame; what the locking found, with the
+-- entries that the thread's own part has, all of them cells of the heap; and that its block is none of the dead ones.
+pub record KnowsLock (n : ℕ) (log : List Told) : Type 0 where
+  pub somewhere : is_some (lock_seen n log) ≡ true
+  pub found : contents_locked log ≡ Some (found_locked log)
+  pub has : (c : ℕ) → lock_seen n log ≡ Some c → (part_seen n log).has c ≡ entries_in (found_locked log)
+  pub cells : AreCells n (entries_in (found_locked log))
+  pub unlisted : (c : ℕ) → lock_seen n log ≡ Some c → listed_at (taken_seen n log) c ≡ None
+
+module _ {A : Type 0} where
+  -- the thread has an object locked
+  abbrev pub IsLocked : FrameSeen A → Type 0
+  IsLocked frame = KnowsLock frame.heap.cells frame.seat.log
+
+  -- the cell to which a place of the frame has a reference
+  abbrev pub cell_in : FrameSeen A → ℕ → Option ℕ
+  cell_in frame k = place_seen frame.heap.cells frame.seat.log k
+
+  -- the place that is locked
+  abbrev pub place_locked : FrameSeen A → Option ℕ
+  place_locked frame = locked_place frame.heap.cells frame.seat.log
+
+  -- the locked object's cell; what its locking found; and which entries
+  abbrev pub cell_locked : FrameSeen A → Option ℕ
+  cell_locked frame = lock_seen frame.heap.cells frame.seat.log
+
+  abbrev pub contents_found : FrameSeen A → Contents
+  contents_found frame = found_locked frame.seat.log
+
+  abbrev pub entries_found : FrameSeen A → List ℕ
+  entries_found frame = entries_in (contents_found frame)
+
+-- ---- what calls do
+
+-- Locking and unlocking leave this as it is: the heap, the thread and its stage, its popped entries, and the dead blocks.
+pub record KeepsThread {A : Type 0} (old new : FrameSeen A) : Type 0 where
+  pub heap : new.heap ≡ old.heap
+  pub thread : new.seat.thread ≡ old.seat.thread
+  pub stage : (part_seen new.heap.cells new.seat.log).row.stage ≡ (part_seen old.heap.cells old.seat.log).row.stage
+  pub popped : popped_seen new ≡ popped_seen old
+  pub works : new.works ≡ old.works
+
+-- every place has what it had, and the next one is the same
+pub record KeepsFrame {A : Type 0} (old new : FrameSeen A) : Type 0 where
+  pub places : (k : ℕ) → cell_in new k ≡ cell_in old k
+  pub len : new.len ≡ old.len
+  pub spare : new.spare ≡ old.spare
+  pub next : new.next ≡ old.next
+
+-- one place has this now, and every other place has what it had
+pub record ChangesPlace {A : Type 0} (old new : FrameSeen A) (k : ℕ) (cell : Option ℕ) : Type 0 where
+  pub has : cell_in new k ≡ cell
+  pub others : (j : ℕ) → j ≢ k → cell_in new j ≡ cell_in old j
+
+-- what is locked and what was found stay so
+pub record KeepsLock {A : Type 0} (old new : FrameSeen A) : Type 0 where
+  pub locked : IsLocked new
+  pub place : place_locked new ≡ place_locked old
+  pub cell : cell_locked new ≡ cell_locked old
+  pub contents : contents_locked new.seat.log ≡ contents_locked old.seat.log
+
+-- The object in the place is locked, by one event, and its block is the thread's until the unlocking, with the contents that
+-- were found.
+pub record Began {A : Type 0} (old new : FrameSeen A) (k : ℕ) (block : ℕ × Payload A) : Type 0 where
+  pub cell : cell_in old k ≡ Some block.0
+  pub event : new.seat.log ≡ Did (Lock k) 0 (moves.Found block.0 (contents_of block.1)) ∷ old.seat.log
+  pub locked : IsLocked new
+  pub locks_place : place_locked new ≡ Some k
+  pub locks_cell : cell_locked new ≡ Some block.0
+  pub found : contents_found new ≡ contents_of block.1
+
+-- The object in the place was found locked, by the number of its mutex word, and nothing was done.
+pub record Busy {A : Type 0} (old new : FrameSeen A) (k : ℕ) : Type 0 where
+  pub cell : ℕ
+  pub of_place : cell_in old k ≡ Some cell
+  pub found : ℕ
+  pub by_someone : 0 < found
+  pub note : new.seat.log ≡ Lost (Of Mutex cell) found ∷ old.seat.log
+  pub unlocked : IsUnlocked new
+
+-- The locked object is changed and unlocked, by one event, and its block is at home.
+pub record Ended {A : Type 0} (old new : FrameSeen A) (change : Change) (block : ℕ × Payload A) : Type 0 where
+  pub event : new.seat.log ≡ Did (Unlock change) 0 (moves.Put block.0 (contents_of block.1)) ∷ old.seat.log
+  pub unlocked : IsUnlocked new
+  pub keeps : KeepsThread old new

@@ -1,0 +1,52 @@
+-- How an object is made: a cell is claimed, its words are set, and its block is put home; the first reference is the frame's.
+use Rattle.std.specs.Prelude.{◌≡◌, ◌≢◌, ◌<◌, ◌≤◌, ◌+◌, ◌^◌, ℕ, List, ◌∷◌, Some, None}
+use Rattle.brc_words.specs.declared.fault.Fault.{Fault}
+use Rattle.brc_words.specs.declared.fault.Fault.TheVariants.{OutOfMemory, HeapFull, FrameFull, LedgerFull}
+use Rattle.brc_words.specs.declared.limits.TheConstants.{FIRST_MORTAL, MOST_PLACES, MOST_BIRTHS}
+use Rattle.brc_runs.specs.declared.event.Step.TheVariants.{InitLocal, InitShared, Birth}
+use Rattle.brc_rule.specs.declared.contents.Contents.{Contents}
+use Rattle.brc_rule.specs.Logs.{kind_in}
+use Rattle.brc_rule.specs.declared.told.Moved.TheVariants.{Nothing, Put}
+use Rattle.brc_rule.specs.declared.told.Told.{Told}
+use Rattle.brc_rule.specs.declared.told.Told.TheVariants.{Did}
+use Rattle.brc_table.specs.Seated.{Continues}
+use Rattle.brc_counter.specs.Seeking.{PassesOver, ClaimsFirst}
+use Rattle.brc_count.specs.Frames.{FrameSeen, HandleSeen, KeepsRest, KeepsHandles, IsAsBefore, place_seen, ledger_seen}
+
+module _ {A : Type 0} where
+  -- An object with these contents is made, in the first cell that was to be had: the thread claims it, sets its local word and
+  -- its shared one, and puts its block home. The new handle is of the frame's thread, in the place that was next; every
+  -- other place has what it had, and no block came or went.
+  pub record Made (old new : FrameSeen A) (contents : Contents) (given : HandleSeen) : Type 0 where
+    pub cell : ℕ
+    pub mortal : FIRST_MORTAL ≤ cell
+    pub inside : cell < old.heap.cells
+    pub mid : List Told
+    pub claimed : ClaimsFirst cell old.seat.log mid
+    pub told : new.seat.log ≡ Did (Birth cell (kind_in contents) given.place) old.seat.thread (Put cell contents)
+        ∷ Did (InitShared cell) (2 ^ 42) Nothing ∷ Did (InitLocal cell) 1 Nothing ∷ mid
+    pub thread : given.thread ≡ old.seat.thread
+    pub place : given.place ≡ old.next
+    pub room : given.place < MOST_PLACES
+    pub vacant : place_seen old.heap.cells old.seat.log given.place ≡ None
+    pub has : place_seen new.heap.cells new.seat.log given.place ≡ Some cell
+    pub others : (k : ℕ) → k ≢ given.place → place_seen new.heap.cells new.seat.log k ≡ place_seen old.heap.cells old.seat.log k
+    pub seat : Continues old.seat new.seat
+    pub len : new.len ≡ old.len + 1
+    pub works : new.works ≡ old.works
+    pub rest : KeepsRest old new
+
+  -- all mortal cells were passed over, each with a note of its owner word; nothing else was done
+  pub record FoundNone (old new : FrameSeen A) : Type 0 where
+    pub passed : PassesOver old.seat.log FIRST_MORTAL old.heap.cells new.seat.log
+    pub keeps : KeepsHandles old new
+    pub works : new.works ≡ old.works
+
+  -- Making is refused where the next place isn't below 65,536; where the thread has made 2^47 objects; where memory is
+  -- missing for the place or the block; or where no cell was to be had.
+  abbrev pub RefusedMaking : FrameSeen A → FrameSeen A → Fault → Type 0
+  RefusedMaking old new FrameFull = (MOST_PLACES ≤ old.next) × IsAsBefore old new
+  RefusedMaking old new LedgerFull = (old.next < MOST_PLACES) × (MOST_BIRTHS ≤ (ledger_seen old).allocs) × IsAsBefore old new
+  RefusedMaking old new OutOfMemory = (old.next < MOST_PLACES) × ((ledger_seen old).allocs < MOST_BIRTHS) × IsAsBefore old new
+  RefusedMaking old new HeapFull = (old.next < MOST_PLACES) × ((ledger_seen old).allocs < MOST_BIRTHS) × FoundNone old new
+  RefusedMaking old new _ = ⊥

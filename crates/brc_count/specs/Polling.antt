@@ -1,0 +1,47 @@
+-- What a poll does: the thread takes its notify word, drains the queue words that it names, and deals with each entry.
+use Rattle.std.specs.Prelude.{◌≡◌, ℕ, ◌+◌, ◌*◌, ◌/◌, ◌∷◌, Option}
+use Rattle.std.specs.Int.{bit_at}
+use Rattle.brc_block.specs.declared.payload.Payload.{Payload}
+use Rattle.brc_runs.specs.declared.event.Step.TheVariants.{Drain, Wake}
+use Rattle.brc_runs.specs.Heap.{words_for}
+use Rattle.brc_rule.specs.declared.told.Moved.TheVariants.{Nothing}
+use Rattle.brc_rule.specs.declared.told.Told.TheVariants.{Did}
+use Rattle.brc_counter.specs.Released.{Settled}
+use Rattle.brc_count.specs.Frames.{FrameSeen, pushed}
+
+module _ {A : Type 0} where
+  -- A popped entry is dealt with: it is counted down, after its object was found merged or is merged by the thread; where
+  -- the object ends, its block is on the front of the worklist.
+  pub record Deals (old new : FrameSeen A) (c : ℕ) : Type 0 where
+    pub block : Option (ℕ × Payload A)
+    pub events : Settled c block old.seat.log new.seat.log
+    pub works : new.works ≡ pushed block old.works
+
+  -- of the bits of word k those below i were looked at, by rising number, and the entry of each that was set dealt with
+  pub data DealsBits (k bits : ℕ) (old : FrameSeen A) : ℕ → FrameSeen A → Type 0 where
+    NoBit : DealsBits k bits old 0 old
+    NotSet : (i : ℕ) (new : FrameSeen A) → DealsBits k bits old i new → bit_at bits i ≡ 0 → DealsBits k bits old (i + 1) new
+    Dealt : (i : ℕ) (mid new : FrameSeen A) → DealsBits k bits old i mid → bit_at bits i ≡ 1 → Deals mid new (k * 32 + i)
+        → DealsBits k bits old (i + 1) new
+
+  -- one queue word is drained, and the entry of each of its bits dealt with
+  pub record Drains (old new : FrameSeen A) (k : ℕ) : Type 0 where
+    pub bits : ℕ
+    pub mid : FrameSeen A
+    pub drained : mid.seat.log ≡ Did (Drain k) bits Nothing ∷ old.seat.log
+    pub works : mid.works ≡ old.works
+    pub dealt : DealsBits k bits mid 32 new
+
+  -- Of the queue words those below k were drained that the notify word names: its bit i names 32 of them, from word 32 i on.
+  pub data DrainsNamed (told : ℕ) (old : FrameSeen A) : ℕ → FrameSeen A → Type 0 where
+    NoWord : DrainsNamed told old 0 old
+    NotNamed : (k : ℕ) (new : FrameSeen A) → DrainsNamed told old k new → bit_at told (k / 32) ≡ 0 → DrainsNamed told old (k + 1) new
+    Drained : (k : ℕ) (mid new : FrameSeen A) → DrainsNamed told old k mid → bit_at told (k / 32) ≡ 1 → Drains mid new k
+        → DrainsNamed told old (k + 1) new
+
+  -- a poll that found this number in the thread's notify word
+  pub record Polled (old new : FrameSeen A) (told : ℕ) : Type 0 where
+    pub mid : FrameSeen A
+    pub woken : mid.seat.log ≡ Did Wake told Nothing ∷ old.seat.log
+    pub works : mid.works ≡ old.works
+    pub drains : DrainsNamed told mid (words_for old.heap.cells) new

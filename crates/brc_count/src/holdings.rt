@@ -1,0 +1,154 @@
+//! What one thread holds of the heap: references in places, popped entries of its merge queue, and dead blocks.
+
+ghost use Rattle.std.specs.Prelude.{◌≡◌, ◌≢◌, ◌+◌, ◌-◌, ◌<◌, ◌≤◌, ℕ, [], replicate, IfOk, IfErr, OnOk, IfSome, Some, None, true, IsTrue, IsFalse, ◌⊎◌, length};
+ghost use Rattle.brc_words.specs.declared.limits.TheConstants.{MOST_PLACES};
+ghost use Rattle.brc_runs.specs.declared.event.Step.TheVariants as steps;
+ghost use Rattle.brc_runs.specs.Heap.{words_for};
+ghost use Rattle.brc_runs.specs.Steps.{is_active, lock_ok};
+ghost use Rattle.brc_known.specs.Items.{meant};
+ghost use Rattle.brc_counter.specs.Bounded.{IsBounded};
+ghost use Rattle.brc_counter.specs.Standing.{may_give_up};
+ghost use Rattle.brc_rule.specs.Seen.{part_seen};
+ghost use Rattle.brc_table.specs.Seated.{Continues};
+ghost use Rattle.brc_count.specs.Frames.{IsActive, MayGiveUp, SourceFits, SourceNames, place_seen, locked_place, Given, Refused, ReleasedOf, IsAsBefore, KeepsRest, ledger_seen, popped_seen, IsUnlocked};
+
+use crate::held::Held;
+use crate::ledger::Ledger;
+use brc_block::Worklist;
+use brc_counter::{Counter, Home};
+use brc_runs::{Dropped, Source};
+use brc_words::{Fault, MOST_PLACES};
+use slab::Slab;
+use std::alloc::Allocator;
+use std::marker::Model;
+
+/// A thread's counter, the places of its frame, its dead blocks with the last that died in front, and one word of popped
+/// entries for each of its queue words.
+pub(crate) struct Holdings<H: Home<A>, A: Allocator> {
+    pub(crate) counter: Counter<H, A>,
+    pub(crate) places: Slab<Held, A>,
+    pub(crate) works: Worklist<A>,
+    pub(crate) popped: Vec<u64, A>,
+    pub(crate) ledger: Ledger,
+}
+
+impl<H: Home<A>, A: Allocator> Model for Holdings<H, A> {
+    ghost use Rattle.std.specs.Prelude.{◌-◌};
+    ghost use Rattle.slab.specs.Slab.{slab_len};
+    ghost use Rattle.brc_count.specs.Frames.{FrameSeen, Holding};
+
+    ghost Value = { FrameSeen A };
+
+    ghost view = { λ f. record { heap = f.counter.heap; seat = f.counter.seat; len = slab_len f.places; spare = f.places.capacity - slab_len f.places; next = f.places.vacant_key; works = f.works } };
+
+    ghost invariant = { λ f. Holding A f.counter.heap f.counter.seat f.places f.works f.popped.items f.ledger };
+}
+
+impl<H: Home<A>, A: Allocator> Holdings<H, A> {
+    #[tactic(auto, using(crate::proofs::Changes::opening))]
+    /// Nothing is held yet.
+    pub(crate) fn new(alloc: A, counter: Counter<H, A>, popped: Vec<u64, A>) -> Self
+        requires new { counter.seat.log ≡ [] }
+        requires bare { counter.seat.slots ≡ [] }
+        requires blank { popped.items ≡ replicate (words_for counter.heap.cells) 0 }
+        ensures heap { result.heap ≡ counter.heap }
+        ensures seat { result.seat ≡ counter.seat }
+        ensures none { (result.len ≡ 0) × (result.works ≡ []) }
+    {
+        Holdings {
+            counter,
+            places: Slab::new(alloc),
+            works: Worklist::new(),
+            popped,
+            ledger: Ledger {
+                allocs: 0,
+                frees: 0,
+            },
+        }
+    }
+
+    /// What the thread has made, and given back.
+    pub(crate) fn ledger(&self) -> Ledger
+        ensures { result ≡ ledger_seen self.now }
+    {
+        self.ledger
+    }
+
+    /// Whether no place is filled, and no block is to be taken apart.
+    pub(crate) fn is_idle(&self) -> bool
+        ensures idle { IsTrue result → (self.now.len ≡ 0) × (self.now.works ≡ []) }
+        ensures busy { IsFalse result → (0 < self.now.len) ⊎ (0 < length self.now.works) }
+    {
+        self.places.is_empty() && self.works.len() == 0
+    }
+
+    /// The cell to which a place has a reference.
+    pub(crate) fn cell(&self, place: u32) -> Option<u32>
+        ensures has { place_seen self.now.heap.cells self.now.seat.log place ≡ result }
+        ensures inside { IfSome result (λ cell. cell < self.now.heap.cells) }
+    {
+        match self.places.get(place as usize) {
+            Some(held) => Some(held.cell),
+            None => None,
+        }
+    }
+
+    /// Makes sure that the next place can be filled: FrameFull where it isn't below 65,536, looked at first; OutOfMemory where
+    /// memory for it can't be had.
+    pub(crate) fn reserve(&mut self) -> Result<(), Fault>
+        ensures room { OnOk result (0 < self.new.spare) }
+        ensures low { OnOk result (self.old.next < MOST_PLACES) }
+        ensures refused { IfErr result (Refused self.old) }
+        ensures same { IsAsBefore self.old self.new }
+    {
+        let next = self.places.vacant_key();
+        if next >= MOST_PLACES as usize {
+            return Err(Fault::FrameFull);
+        }
+        if self.places.reserve(1).is_err() {
+            return Err(Fault::OutOfMemory);
+        }
+        Ok(())
+    }
+
+    /// The next place gets a reference to the source's cell; the answer is that place.
+    pub(crate) fn fill(&mut self, source: Source, cell: u32) -> u32
+        requires inside { cell < self.old.heap.cells }
+        requires low { self.old.next < MOST_PLACES }
+        requires room { 0 < self.old.spare }
+        requires active { IsActive self.old }
+        requires fits { SourceFits source self.old }
+        requires named { SourceNames source cell self.old }
+        ensures heap { self.new.heap ≡ self.old.heap }
+        ensures given { Given self.old self.new source cell (record { thread = self.old.seat.thread; place = result }) }
+        ensures popped { popped_seen self.new ≡ popped_seen self.old }
+    {
+        let place = self.places.vacant_key() as u32;
+        let risen = self.counter.up(source, place, cell);
+        let _key = self.places.insert_reserved(Held { cell, risen });
+        place
+    }
+
+    /// A place's reference goes; where the object ends, its block is on the front of the worklist.
+    pub(crate) fn release(&mut self, place: u32)
+        requires filled { place_seen self.old.heap.cells self.old.seat.log place ≢ None }
+        requires stage { MayGiveUp self.old }
+        requires unlocked { IsUnlocked self.old }
+        ensures heap { self.new.heap ≡ self.old.heap }
+        ensures released { (c : ℕ) → place_seen self.old.heap.cells self.old.seat.log place ≡ Some c →
+            ReleasedOf self.old self.new place c }
+        ensures bounded { IsBounded self.old.seat.log self.new.seat.log }
+        ensures seat { Continues self.old.seat self.new.seat }
+        ensures len { self.new.len + 1 ≡ self.old.len }
+        ensures rest { KeepsRest self.old self.new }
+        ensures popped { popped_seen self.new ≡ popped_seen self.old }
+    {
+        let Some(held) = self.places.try_remove(place as usize) else {
+            unreachable!()
+        };
+        let drop = Dropped::Frame(place);
+        if let Some(block) = self.counter.give_up(drop, held.cell, held.risen) {
+            self.works.push(block);
+        }
+    }
+}

@@ -1,0 +1,272 @@
+//! A frame while it has an object locked: the locking, references to the object's entries, and the unlocking by a change.
+//!
+//! A reference passes between threads through the entries of a locked object alone, and an unlocking moves it there or back
+//! in the one event that unlocks. So nothing is counted here, but by `up_entry`.
+
+ghost use Rattle.std.specs.Prelude.{◌≡◌, ◌≢◌, ◌+◌, ◌<◌, ◌++◌, ℕ, [], ◌∷◌, Some, None, true, is_some, length, remove, slice_get, slice_set, IfOk, IfErr, IfSome, IfNone};
+ghost use Rattle.slab.specs.Slab.{get, slab_len, Updates};
+ghost use Rattle.brc_words.specs.Kinds.{is_container};
+ghost use Rattle.brc_words.specs.declared.limits.TheConstants.{MOST_ENTRIES, MOST_PLACES};
+ghost use Rattle.brc_runs.specs.declared.event.Change.TheVariants as changes;
+ghost use Rattle.brc_runs.specs.declared.event.Source.TheVariants as sources;
+ghost use Rattle.brc_rule.specs.Logs.{entries_in, kind_in};
+ghost use Rattle.brc_table.specs.Shown.{contents_of};
+ghost use Rattle.brc_count.specs.Frames.{Owns, IsActive, Given, Refused, IsAsBefore, IsUnlocked, popped_seen};
+ghost use Rattle.brc_count.specs.Locking.{IsLocked, cell_in, place_locked, cell_locked, contents_found, entries_found, KeepsThread, KeepsFrame, ChangesPlace, KeepsLock, Began, Busy, Ended};
+
+use crate::frame::Frame;
+use crate::handle::Handle;
+use crate::held::Held;
+use crate::holdings::Holdings;
+use brc_block::Block;
+use brc_counter::Home;
+use brc_runs::{Change, Source};
+use brc_words::Fault;
+use slab::Slab;
+use std::alloc::Allocator;
+
+/// A place that is filled has this now.
+fn replace<A: Allocator>(places: &mut Slab<Held, A>, place: u32, held: Held)
+    requires filled { is_some (get places.old place) ≡ true }
+    ensures updates { Updates places.old places.new place (Some held) }
+    ensures len { slab_len places.new ≡ slab_len places.old }
+    ensures capacity { places.new.capacity ≡ places.old.capacity }
+    ensures next { places.new.vacant_key ≡ places.old.vacant_key }
+{
+    places[place as usize] = held;
+}
+
+impl<H: Home<A>, A: Allocator> Holdings<H, A> {
+    /// Locks the object in a place, and answers its block; None where it is found locked.
+    pub(crate) fn begin(&mut self, place: u32) -> Option<Block<A>>
+        requires filled { is_some (cell_in self.old place) ≡ true }
+        requires active { IsActive self.old }
+        requires unlocked { IsUnlocked self.old }
+        ensures began { IfSome result (Began self.old self.new place) }
+        ensures busy { IfNone result (Busy self.old self.new place) }
+        ensures keeps { KeepsThread self.old self.new }
+        ensures frame { KeepsFrame self.old self.new }
+    {
+        let Some(cell) = self.cell(place) else {
+            unreachable!()
+        };
+        let Ok(block) = self.counter.lock(place, cell) else {
+            return None;
+        };
+        Some(block)
+    }
+
+    /// The next place gets a reference to an entry of the locked object; the answer is that place.
+    pub(crate) fn up_entry(&mut self, index: u32, cell: u32) -> u32
+        requires active { IsActive self.old }
+        requires locked { IsLocked self.old }
+        requires entry { slice_get (entries_found self.old) index ≡ Some cell }
+        requires room { 0 < self.old.spare }
+        requires low { self.old.next < MOST_PLACES }
+        ensures heap { self.new.heap ≡ self.old.heap }
+        ensures given { Given self.old self.new (sources.Entry index) cell
+            (record { thread = self.old.seat.thread; place = result }) }
+        ensures popped { popped_seen self.new ≡ popped_seen self.old }
+        ensures lock { KeepsLock self.old self.new }
+    {
+        self.fill(Source::Entry(index), cell)
+    }
+
+    /// Unlocks, and changes nothing.
+    pub(crate) fn end_keep(&mut self, block: Block<A>)
+        requires active { IsActive self.old }
+        requires locked { IsLocked self.old }
+        requires of_cell { cell_locked self.old ≡ Some block.0 }
+        requires same { contents_of block.1 ≡ contents_found self.old }
+        ensures ended { Ended self.old self.new changes.Keep block }
+        ensures frame { KeepsFrame self.old self.new }
+    {
+        self.counter.unlock(block, Change::Keep);
+    }
+
+    /// Unlocks, and a place's reference becomes the last entry.
+    pub(crate) fn end_put(&mut self, block: Block<A>, place: u32)
+        requires active { IsActive self.old }
+        requires locked { IsLocked self.old }
+        requires of_cell { cell_locked self.old ≡ Some block.0 }
+        requires filled { is_some (cell_in self.old place) ≡ true }
+        requires apart { place_locked self.old ≢ Some place }
+        requires container { is_container (kind_in (contents_found self.old)) ≡ true }
+        requires few { length (entries_found self.old) < MOST_ENTRIES }
+        requires same_kind { kind_in (contents_of block.1) ≡ kind_in (contents_found self.old) }
+        requires entries { (c : ℕ) → cell_in self.old place ≡ Some c →
+            entries_in (contents_of block.1) ≡ entries_found self.old ++ c ∷ [] }
+        ensures ended { Ended self.old self.new (changes.Put place) block }
+        ensures places { ChangesPlace self.old self.new place None }
+        ensures len { self.new.len + 1 ≡ self.old.len }
+    {
+        self.counter.unlock(block, Change::Put(place));
+        let _held = self.places.try_remove(place as usize);
+    }
+
+    /// Unlocks, and an entry's reference is the next place's; the answer is that place.
+    pub(crate) fn end_take(&mut self, block: Block<A>, index: u32, cell: u32) -> u32
+        requires active { IsActive self.old }
+        requires locked { IsLocked self.old }
+        requires of_cell { cell_locked self.old ≡ Some block.0 }
+        requires entry { slice_get (entries_found self.old) index ≡ Some cell }
+        requires room { 0 < self.old.spare }
+        requires low { self.old.next < MOST_PLACES }
+        requires container { is_container (kind_in (contents_found self.old)) ≡ true }
+        requires same_kind { kind_in (contents_of block.1) ≡ kind_in (contents_found self.old) }
+        requires entries { entries_in (contents_of block.1) ≡ remove (entries_found self.old) index }
+        ensures next { result ≡ self.old.next }
+        ensures vacant { cell_in self.old result ≡ None }
+        ensures ended { Ended self.old self.new (changes.Take index result) block }
+        ensures places { ChangesPlace self.old self.new result (Some cell) }
+        ensures len { self.new.len ≡ self.old.len + 1 }
+    {
+        let place = self.places.vacant_key() as u32;
+        self.counter.unlock(block, Change::Take { index, place });
+        // Whether its state has risen wasn't looked at since the place has it, so its release will look.
+        let _key = self.places.insert_reserved(Held { cell, risen: false });
+        place
+    }
+
+    /// Unlocks, and an entry's reference and a place's are exchanged.
+    pub(crate) fn end_swap(&mut self, block: Block<A>, index: u32, cell: u32, place: u32)
+        requires active { IsActive self.old }
+        requires locked { IsLocked self.old }
+        requires of_cell { cell_locked self.old ≡ Some block.0 }
+        requires entry { slice_get (entries_found self.old) index ≡ Some cell }
+        requires filled { is_some (cell_in self.old place) ≡ true }
+        requires apart { place_locked self.old ≢ Some place }
+        requires container { is_container (kind_in (contents_found self.old)) ≡ true }
+        requires same_kind { kind_in (contents_of block.1) ≡ kind_in (contents_found self.old) }
+        requires entries { (c : ℕ) → cell_in self.old place ≡ Some c →
+            entries_in (contents_of block.1) ≡ slice_set (entries_found self.old) index c }
+        ensures ended { Ended self.old self.new (changes.Swap index place) block }
+        ensures places { ChangesPlace self.old self.new place (Some cell) }
+        ensures len { self.new.len ≡ self.old.len }
+    {
+        self.counter.unlock(block, Change::Swap { index, place });
+        replace(&mut self.places, place, Held { cell, risen: false });
+    }
+}
+
+impl<H: Home<A>, A: Allocator> Frame<H, A> {
+    /// Locks the handle's object and answers its block, which an `end` takes back; None where it is found locked.
+    pub fn begin(&mut self, handle: &Handle) -> Option<Block<A>>
+        requires owned { Owns self.old handle.now }
+        requires unlocked { IsUnlocked self.old }
+        ensures began { IfSome result (Began self.old self.new handle.now.place) }
+        ensures busy { IfNone result (Busy self.old self.new handle.now.place) }
+        ensures keeps { KeepsThread self.old self.new }
+        ensures frame { KeepsFrame self.old self.new }
+    {
+        self.holdings.begin(handle.place)
+    }
+
+    /// Makes sure of the next place, for a handle that is given while an object is locked. FrameFull where it isn't below
+    /// 65,536, looked at first; OutOfMemory where memory for it can't be had.
+    pub fn place(&mut self) -> Result<(), Fault>
+        ensures room { IfOk result (λ ok. 0 < self.new.spare) }
+        ensures low { IfOk result (λ ok. self.new.next < MOST_PLACES) }
+        ensures refused { IfErr result (Refused self.old) }
+        ensures same { IsAsBefore self.old self.new }
+    {
+        let _place = self.holdings.reserve()?;
+        Ok(())
+    }
+
+    /// A handle to an entry of the locked object, counted up in one event. It takes no memory: `place` made sure of it.
+    pub fn up_entry(&mut self, index: u32, cell: u32) -> Handle
+        requires locked { IsLocked self.old }
+        requires entry { slice_get (entries_found self.old) index ≡ Some cell }
+        requires room { 0 < self.old.spare }
+        requires low { self.old.next < MOST_PLACES }
+        ensures heap { self.new.heap ≡ self.old.heap }
+        ensures given { Given self.old self.new (sources.Entry index) cell result }
+        ensures lock { KeepsLock self.old self.new }
+    {
+        let place = self.holdings.up_entry(index, cell);
+        Handle {
+            thread: self.thread,
+            place,
+        }
+    }
+
+    /// Unlocks the object whose block this is, and changes nothing.
+    pub fn end_keep(&mut self, block: Block<A>)
+        requires locked { IsLocked self.old }
+        requires of_cell { cell_locked self.old ≡ Some block.0 }
+        requires same { contents_of block.1 ≡ contents_found self.old }
+        ensures ended { Ended self.old self.new changes.Keep block }
+        ensures frame { KeepsFrame self.old self.new }
+    {
+        self.holdings.end_keep(block);
+    }
+
+    /// Unlocks the object whose block this is; the handle's reference is its last entry now.
+    pub fn end_put(&mut self, block: Block<A>, handle: Handle)
+        requires locked { IsLocked self.old }
+        requires of_cell { cell_locked self.old ≡ Some block.0 }
+        requires owned { Owns self.old handle }
+        requires apart { place_locked self.old ≢ Some handle.place }
+        requires container { is_container (kind_in (contents_found self.old)) ≡ true }
+        requires few { length (entries_found self.old) < MOST_ENTRIES }
+        requires same_kind { kind_in (contents_of block.1) ≡ kind_in (contents_found self.old) }
+        requires entries { (c : ℕ) → cell_in self.old handle.place ≡ Some c →
+            entries_in (contents_of block.1) ≡ entries_found self.old ++ c ∷ [] }
+        ensures ended { Ended self.old self.new (changes.Put handle.place) block }
+        ensures places { ChangesPlace self.old self.new handle.place None }
+        ensures len { self.new.len + 1 ≡ self.old.len }
+    {
+        let Handle {
+            thread: _thread,
+            place,
+        } = handle;
+        self.holdings.end_put(block, place);
+    }
+
+    /// Unlocks the object whose block this is; the reference of an entry, of which the cell is told, is the handle's now, and
+    /// later entries have closed up. It takes no memory: `place` made sure of it.
+    pub fn end_take(&mut self, block: Block<A>, index: u32, cell: u32) -> Handle
+        requires locked { IsLocked self.old }
+        requires of_cell { cell_locked self.old ≡ Some block.0 }
+        requires entry { slice_get (entries_found self.old) index ≡ Some cell }
+        requires room { 0 < self.old.spare }
+        requires low { self.old.next < MOST_PLACES }
+        requires container { is_container (kind_in (contents_found self.old)) ≡ true }
+        requires same_kind { kind_in (contents_of block.1) ≡ kind_in (contents_found self.old) }
+        requires entries { entries_in (contents_of block.1) ≡ remove (entries_found self.old) index }
+        ensures thread { result.thread ≡ self.old.seat.thread }
+        ensures next { result.place ≡ self.old.next }
+        ensures vacant { cell_in self.old result.place ≡ None }
+        ensures ended { Ended self.old self.new (changes.Take index result.place) block }
+        ensures places { ChangesPlace self.old self.new result.place (Some cell) }
+        ensures len { self.new.len ≡ self.old.len + 1 }
+    {
+        let place = self.holdings.end_take(block, index, cell);
+        Handle {
+            thread: self.thread,
+            place,
+        }
+    }
+
+    /// Unlocks the object whose block this is; the references of an entry, of which the cell is told, and of the handle are
+    /// exchanged. The answer is the same handle.
+    pub fn end_swap(&mut self, block: Block<A>, index: u32, cell: u32, handle: Handle) -> Handle
+        requires locked { IsLocked self.old }
+        requires of_cell { cell_locked self.old ≡ Some block.0 }
+        requires entry { slice_get (entries_found self.old) index ≡ Some cell }
+        requires owned { Owns self.old handle }
+        requires apart { place_locked self.old ≢ Some handle.place }
+        requires container { is_container (kind_in (contents_found self.old)) ≡ true }
+        requires same_kind { kind_in (contents_of block.1) ≡ kind_in (contents_found self.old) }
+        requires entries { (c : ℕ) → cell_in self.old handle.place ≡ Some c →
+            entries_in (contents_of block.1) ≡ slice_set (entries_found self.old) index c }
+        ensures same { result ≡ handle }
+        ensures ended { Ended self.old self.new (changes.Swap index handle.place) block }
+        ensures places { ChangesPlace self.old self.new handle.place (Some cell) }
+        ensures len { self.new.len ≡ self.old.len }
+    {
+        self.holdings.end_swap(block, index, cell, handle.place);
+        handle
+    }
+}

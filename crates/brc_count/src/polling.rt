@@ -1,0 +1,210 @@
+//! The thread's merge queue: entries that others have put there are popped, and dealt with.
+
+ghost use Rattle.std.specs.Prelude.{◌≡◌, ◌≢◌, ◌+◌, ◌*◌, ◌<◌, ℕ, Some, true, ◌∷◌, ◌/◌, length, slice_set, bit_or, IsTrue, IsFalse, ◌≤◌, IfSome, IfNone};
+ghost use Rattle.std.specs.Int.{bit_at};
+ghost use Rattle.brc_words.specs.declared.limits.TheConstants.{MOST_CELLS};
+ghost use Rattle.brc_runs.specs.declared.event.Step.TheVariants as steps;
+ghost use Rattle.brc_runs.specs.Heap.{words_for};
+ghost use Rattle.brc_runs.specs.Lists.{bit_of, word_at, without_bit, is_blank};
+ghost use Rattle.brc_known.specs.Items.{popped_told};
+ghost use Rattle.brc_rule.specs.declared.told.Moved.TheVariants as moves;
+ghost use Rattle.brc_rule.specs.declared.told.Told.TheVariants as told;
+ghost use Rattle.brc_count.specs.Frames.{IsActive, MayGiveUp, IsUnlocked, KeepsHandles, popped_seen};
+ghost use Rattle.brc_count.specs.Polling.{Deals, DealsBits, Polled};
+
+use crate::holdings::Holdings;
+use brc_counter::Home;
+use std::alloc::Allocator;
+
+/// These bits of a word are popped besides.
+pub(crate) fn join<A: Allocator>(words: &mut Vec<u64, A>, word: usize, bits: u64)
+    requires inside { word < length words.old.items }
+    ensures { words.new.items ≡ slice_set words.old.items word (bit_or (word_at words.old.items word) bits) }
+{
+    words[word] = words[word] | bits;
+}
+
+/// The entry of the cell isn't popped any more.
+fn strike<A: Allocator>(words: &mut Vec<u64, A>, cell: u32)
+    requires inside { cell / 32 < length words.old.items }
+    ensures { words.new.items ≡ without_bit words.old.items cell }
+{
+    let at = (cell / 32) as usize;
+    words[at] = words[at] ^ (1 << (cell % 32));
+}
+
+/// The place of a number's lowest bit.
+fn lowest(bits: u64) -> u32
+    requires { bits ≢ 0 }
+    ensures { bit_at bits result ≡ 1 }
+{
+    bits.trailing_zeros()
+}
+
+/// Whether what a thread was told names the word: each bit stands for 32 of them.
+fn names_word(named: u64, word: u32) -> bool
+    requires few { word < 2048 }
+    ensures named { IsTrue result → bit_at named (word / 32) ≡ 1 }
+    ensures other { IsFalse result → bit_at named (word / 32) ≡ 0 }
+{
+    named >> (word / 32) & 1 == 1
+}
+
+impl<H: Home<A>, A: Allocator> Holdings<H, A> {
+    /// How many queue words the thread has.
+    pub(crate) fn words(&self) -> u32
+        ensures words { result ≡ words_for self.now.heap.cells }
+        ensures some { 0 < result }
+        ensures few { result ≤ 2048 }
+    {
+        self.counter.home().table().cells().div_ceil(32)
+    }
+
+    /// Takes what the thread was told to drain.
+    fn wake(&mut self) -> u64
+        requires active { IsActive self.old }
+        requires unlocked { IsUnlocked self.old }
+        ensures keeps { KeepsHandles self.old self.new }
+        ensures told { self.new.seat.log ≡ told.Did steps.Wake result moves.Nothing ∷ self.old.seat.log }
+        ensures works { self.new.works ≡ self.old.works }
+        ensures popped { popped_seen self.new ≡ popped_seen self.old }
+    {
+        self.counter.wake()
+    }
+
+    /// Pops the entries of one of the thread's queue words.
+    fn drain(&mut self, word: u32) -> u64
+        requires inside { word < words_for self.old.heap.cells }
+        requires active { IsActive self.old }
+        requires unlocked { IsUnlocked self.old }
+        ensures keeps { KeepsHandles self.old self.new }
+        ensures told { self.new.seat.log ≡ told.Did (steps.Drain word) result moves.Nothing ∷ self.old.seat.log }
+        ensures works { self.new.works ≡ self.old.works }
+        ensures popped { popped_seen self.new ≡ popped_told (Some word) result (popped_seen self.old) }
+        ensures found { word_at (popped_seen self.old) word ≡ 0 → word_at (popped_seen self.new) word ≡ result }
+    {
+        let bits = self.counter.drain(word);
+        join(&mut self.popped, word as usize, bits);
+        bits
+    }
+
+    /// Deals with a popped entry: an object that isn't merged is merged by the thread; then the entry's reference is counted
+    /// down, and where that was the last one the object's block is on the front of the worklist.
+    pub(crate) fn settle(&mut self, cell: u32)
+        requires popped { bit_of (popped_seen self.old) cell ≡ 1 }
+        requires stage { MayGiveUp self.old }
+        requires unlocked { IsUnlocked self.old }
+        ensures keeps { KeepsHandles self.old self.new }
+        ensures deals { Deals self.old self.new cell }
+        ensures popped { popped_seen self.new ≡ without_bit (popped_seen self.old) cell }
+    {
+        let answered = self.counter.settle(cell);
+        strike(&mut self.popped, cell);
+        if let Some(block) = answered {
+            self.works.push(block);
+        }
+    }
+
+    /// Whether this bit of a popped word is set.
+    fn has_bit(&self, word: u32, bit: u32) -> bool
+        requires inside { word < words_for self.now.heap.cells }
+        requires low { bit < 32 }
+        ensures set { IsTrue result → bit_at (word_at (popped_seen self.now) word) bit ≡ 1 }
+        ensures unset { IsFalse result → bit_at (word_at (popped_seen self.now) word) bit ≡ 0 }
+        ensures inside { IsTrue result → word * 32 + bit < self.now.heap.cells }
+        ensures few { self.now.heap.cells ≤ MOST_CELLS }
+    {
+        // A heap has few cells: its invariant says so.
+        let _cells = self.counter.home().table().cells();
+        self.popped[word as usize] >> bit & 1 == 1
+    }
+
+    /// Deals with each entry of one popped word.
+    fn settle_word(&mut self, word: u32)
+        requires inside { word < words_for self.old.heap.cells }
+        requires stage { MayGiveUp self.old }
+        requires unlocked { IsUnlocked self.old }
+        ensures keeps { KeepsHandles self.old self.new }
+        ensures dealt { DealsBits word (word_at (popped_seen self.old) word) self.old 32 self.new }
+        ensures done { word_at (popped_seen self.new) word ≡ 0 }
+        ensures others { (k : ℕ) → k ≢ word → word_at (popped_seen self.new) k ≡ word_at (popped_seen self.old) k }
+    {
+        for bit in 0..32 {
+            if self.has_bit(word, bit) {
+                self.settle(word * 32 + bit);
+            }
+        }
+        let _popped = &self.popped;
+    }
+
+    /// The first popped word with an entry, where those before this one have none.
+    pub(crate) fn first_popped(&self, from: usize) -> Option<u32>
+        requires done { (k : ℕ) → k < from → word_at (popped_seen self.now) k ≡ 0 }
+        ensures none { IfNone result (is_blank (popped_seen self.now) ≡ true) }
+        ensures some { IfSome result (λ word. word_at (popped_seen self.now) word ≢ 0) }
+        ensures inside { IfSome result (λ word. word < words_for self.now.heap.cells) }
+        ensures done { IfSome result (λ word. (k : ℕ) → k < word → word_at (popped_seen self.now) k ≡ 0) }
+    {
+        let words = self.words() as usize;
+        for word in from..words {
+            if self.popped[word] != 0 {
+                return Some(word as u32);
+            }
+        }
+        None
+    }
+
+    /// Deals with the entry of a popped word's lowest bit, and answers its cell.
+    pub(crate) fn settle_lowest(&mut self, word: u32) -> u32
+        requires inside { word < words_for self.old.heap.cells }
+        requires some { word_at (popped_seen self.old) word ≢ 0 }
+        requires stage { MayGiveUp self.old }
+        requires unlocked { IsUnlocked self.old }
+        ensures keeps { KeepsHandles self.old self.new }
+        ensures popped { bit_of (popped_seen self.old) result ≡ 1 }
+        ensures deals { Deals self.old self.new result }
+        ensures others { (k : ℕ) → k ≢ word → word_at (popped_seen self.new) k ≡ word_at (popped_seen self.old) k }
+    {
+        let bit = self.lowest_bit(word);
+        let cell = word * 32 + bit;
+        self.settle(cell);
+        cell
+    }
+
+    /// The lowest bit that is set in a popped word.
+    fn lowest_bit(&self, word: u32) -> u32
+        requires inside { word < words_for self.now.heap.cells }
+        requires some { word_at (popped_seen self.now) word ≢ 0 }
+        ensures low { result < 32 }
+        ensures set { bit_at (word_at (popped_seen self.now) word) result ≡ 1 }
+        ensures inside { word * 32 + result < self.now.heap.cells }
+        ensures few { self.now.heap.cells ≤ MOST_CELLS }
+    {
+        // A heap has few cells: its invariant says so.
+        let _cells = self.counter.home().table().cells();
+        lowest(self.popped[word as usize])
+    }
+
+    /// Takes what the thread was told, drains the words that this names, and deals with each of their entries. It answers
+    /// what it was told: 0 where nobody put anything into its queue since the last time.
+    pub(crate) fn poll(&mut self) -> u64
+        requires active { IsActive self.old }
+        requires unlocked { IsUnlocked self.old }
+        requires blank { is_blank (popped_seen self.old) ≡ true }
+        ensures keeps { KeepsHandles self.old self.new }
+        ensures polled { Polled self.old self.new result }
+        ensures blank { is_blank (popped_seen self.new) ≡ true }
+    {
+        let named = self.wake();
+        if named == 0 {
+            return 0;
+        }
+        for word in 0..self.words() {
+            if names_word(named, word) {
+                let _bits = self.drain(word);
+                self.settle_word(word);
+            }
+        }
+        named
+    }
+}

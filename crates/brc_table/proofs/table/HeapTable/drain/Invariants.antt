@@ -1,0 +1,7 @@
+use Rattle.brc_rule.specs.declared.told.Moved.TheVariants.{Nothing}
+use Rattle.brc_rule.specs.declared.told.Told.TheVariants.{Did}
+use Rattle.brc_table.proofs.Bounding.{queue_of}
+use Rattle.brc_table.proofs.table.HeapTable.drain.Given as goal
+
+abbrev pub ghosts-take_bits : goal.ghosts-take_bits
+ghosts-take_bits g a = record { item = λ number. Did a.step number Nothing; cells = a.table.now.cells; word = queue_of a.word }
