@@ -160,13 +160,14 @@ impl<H: Home<A>, A: Allocator> Frame<H, A> {
     /// A handle to an immortal, cell 0 to 265, in one event that only looks. It is refused as `retain` is.
     pub fn immortal(&mut self, cell: u32) -> Result<Handle, Fault>
         requires immortal { cell < FIRST_MORTAL }
-        requires inside { cell < self.old.heap.cells }
         requires unlocked { IsUnlocked self.old }
         ensures heap { self.new.heap ≡ self.old.heap }
         ensures given { IfOk result (λ given. Given self.old self.new (sources.Immortal cell) cell given) }
         ensures refused { IfErr result (Refused self.old) }
         ensures unchanged { OnErr result (IsAsBefore self.old self.new) }
     {
+        // A heap has all immortals: its invariant says so.
+        let _cells = self.holdings.counter.home().table().cells();
         self.holdings.reserve()?;
         let place = self.holdings.fill(Source::Immortal(cell), cell);
         Ok(Handle {
