@@ -1,6 +1,8 @@
 //! The words of the command line.
 
-ghost use Rattle.std.specs.Prelude.{◌≡◌, ◌≤◌, ◌⊎◌, IfErr, IfOk};
+ghost use Rattle.std.specs.Prelude.{◌≡◌, ◌≤◌, ◌⊎◌, ℕ, Ok, Some, None, IfErr, IfOk, IfSome};
+ghost use Rattle.std.specs.Option.{option_and_then};
+ghost use Rattle.brc_text.specs.Numbers.{number_at};
 ghost use Rattle.brc.specs.Command.{IfRun};
 ghost use Rattle.brc.specs.declared.command.TheConstants.{MOST_TURNS};
 ghost use Rattle.brc_words.specs.declared.limits.TheConstants.{FEWEST_CELLS, MOST_CELLS, MOST_LOCAL};
@@ -118,24 +120,22 @@ Statuses: 0 no mortal object is live at the end, 1 some are, 2 bad command line,
 3 bad trace, 4 want of memory, 5 input or output.
 ";
 
-/// The number of an option, from `least` to `most`: the usual one where the command line doesn't name the option. A
-/// sign or a leading zero would be a second spelling, and is refused.
-fn number_given(
-    options: &ArgMatches,
-    name: &str,
-    usual: u32,
-    least: u32,
-    most: u32,
-) -> Result<u32, Fault>
-    requires usual { (least ≤ usual) × (usual ≤ most) }
+/// The number of an option, by the word given for it: the usual one where none is, else what the word spells, from
+/// `least` to `most`. A sign or a leading zero would be a second spelling, and is BadOptions.
+fn number_of_option(word: Option<&str>, usual: u32, least: u32, most: u32) -> Result<u32, Fault>
+    requires { (least ≤ usual) × (usual ≤ most) }
 
     ensures within { IfOk result (λ number. (least ≤ number) × (number ≤ most)) }
+    ensures usual { word.entry ≡ None → result ≡ Ok usual }
+    ensures said { IfSome word.entry (λ said. IfOk result (λ number. number_at said.now ≡ Some number)) }
+    ensures taken { (number : ℕ) → option_and_then (λ said. number_at said.now) word.entry ≡ Some number →
+        least ≤ number → number ≤ most → result ≡ Ok number }
     ensures refused { IfErr result (λ fault. fault ≡ Fault.BadOptions) }
 {
-    let Some(word) = options.get_str(name) else {
+    let Some(said) = word else {
         return Ok(usual);
     };
-    match number_of(word.as_bytes()) {
+    match number_of(said.as_bytes()) {
         Some(number) if least as u64 <= number && number <= most as u64 => Ok(number as u32),
         _ => Err(Fault::BadOptions),
     }
@@ -147,9 +147,12 @@ fn run_options(options: &ArgMatches) -> Result<RunOptions, Fault>
     ensures local_limit { IfOk result (λ run. (1 ≤ run.local_limit) × (run.local_limit ≤ MOST_LOCAL)) }
     ensures refused { IfErr result (λ fault. fault ≡ Fault.BadOptions) }
 {
-    let cells = number_given(options, "cells", USUAL_CELLS, FEWEST_CELLS, MOST_CELLS)?;
-    let budget = number_given(options, "budget", USUAL_TURNS, 1, MOST_TURNS)?;
-    let local_limit = number_given(options, "local-limit", MOST_LOCAL, 1, MOST_LOCAL)?;
+    let word = options.get_str("cells");
+    let cells = number_of_option(word, USUAL_CELLS, FEWEST_CELLS, MOST_CELLS)?;
+    let word = options.get_str("budget");
+    let budget = number_of_option(word, USUAL_TURNS, 1, MOST_TURNS)?;
+    let word = options.get_str("local-limit");
+    let local_limit = number_of_option(word, MOST_LOCAL, 1, MOST_LOCAL)?;
     Ok(RunOptions {
         cells,
         budget: budget as usize,
