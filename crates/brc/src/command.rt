@@ -1,11 +1,17 @@
 //! The words of the command line.
 
-ghost use Rattle.std.specs.Prelude.{◌≡◌, ◌⊎◌, IfErr};
+ghost use Rattle.std.specs.Prelude.{◌≡◌, ◌≤◌, ◌⊎◌, ℕ, Ok, Some, None, IfErr, IfOk, IfSome};
+ghost use Rattle.std.specs.Option.{option_and_then};
+ghost use Rattle.brc_text.specs.Numbers.{number_at};
+ghost use Rattle.brc.specs.Command.{IfRun};
+ghost use Rattle.brc.specs.declared.command.TheConstants.{MOST_TURNS};
+ghost use Rattle.brc_words.specs.declared.limits.TheConstants.{FEWEST_CELLS, MOST_CELLS, MOST_LOCAL};
 
-use brc_words::Fault;
-use clap::Command;
+use brc_text::number_of;
+use brc_words::{FEWEST_CELLS, Fault, MOST_CELLS, MOST_LOCAL};
 use clap::error::ErrorKind;
-use std::alloc::Global;
+use clap::{Arg, ArgMatches, Command};
+use std::alloc::{AllocError, Global};
 
 /// What the program is asked for.
 #[derive(Debug, Drop)]
@@ -14,7 +20,27 @@ pub enum Invocation {
     Help(String),
     /// To replay the trace on standard input.
     Replay,
+    /// To run the script on standard input, its sections on threads.
+    Run(RunOptions),
 }
+
+/// The heap of a run, and how much dead blocks are worked on meanwhile.
+#[derive(Clone, Copy, Debug, PartialEq, Eq)]
+pub struct RunOptions {
+    /// Cells of the heap, 512 to 65,536.
+    pub cells: u32,
+    /// Turns of work on dead blocks after each instruction, 1 to 1,000,000.
+    pub budget: usize,
+    /// The most that an owner counts up, 1 to 4,294,967,294.
+    pub local_limit: u32,
+}
+
+/// Cells of the heap where the command line doesn't say.
+const USUAL_CELLS: u32 = 4_096;
+/// The budget where the command line doesn't say.
+const USUAL_TURNS: u32 = 64;
+/// The largest budget.
+const MOST_TURNS: u32 = 1_000_000;
 
 const ABOUT: &str = "\
 Replays traces of an object heap with biased reference counting (PEP 703; Choi,
@@ -94,9 +120,77 @@ Statuses: 0 no mortal object is live at the end, 1 some are, 2 bad command line,
 3 bad trace, 4 want of memory, 5 input or output.
 ";
 
+/// The number of an option, by the word given for it: the usual one where none is, else what the word spells, from
+/// `least` to `most`. A sign or a leading zero would be a second spelling, and is BadOptions.
+fn number_of_option(word: Option<&str>, usual: u32, least: u32, most: u32) -> Result<u32, Fault>
+    requires { (least ≤ usual) × (usual ≤ most) }
+
+    ensures within { IfOk result (λ number. (least ≤ number) × (number ≤ most)) }
+    ensures usual { word.entry ≡ None → result ≡ Ok usual }
+    ensures said { IfSome word.entry (λ said. IfOk result (λ number. number_at said.now ≡ Some number)) }
+    ensures taken { (number : ℕ) → option_and_then (λ said. number_at said.now) word.entry ≡ Some number →
+        least ≤ number → number ≤ most → result ≡ Ok number }
+    ensures refused { IfErr result (λ fault. fault ≡ Fault.BadOptions) }
+{
+    let Some(said) = word else {
+        return Ok(usual);
+    };
+    match number_of(said.as_bytes()) {
+        Some(number) if least as u64 <= number && number <= most as u64 => Ok(number as u32),
+        _ => Err(Fault::BadOptions),
+    }
+}
+
+fn run_options(options: &ArgMatches) -> Result<RunOptions, Fault>
+    ensures cells { IfOk result (λ run. (FEWEST_CELLS ≤ run.cells) × (run.cells ≤ MOST_CELLS)) }
+    ensures budget { IfOk result (λ run. (1 ≤ run.budget) × (run.budget ≤ MOST_TURNS)) }
+    ensures local_limit { IfOk result (λ run. (1 ≤ run.local_limit) × (run.local_limit ≤ MOST_LOCAL)) }
+    ensures refused { IfErr result (λ fault. fault ≡ Fault.BadOptions) }
+{
+    let word = options.get_str("cells");
+    let cells = number_of_option(word, USUAL_CELLS, FEWEST_CELLS, MOST_CELLS)?;
+    let word = options.get_str("budget");
+    let budget = number_of_option(word, USUAL_TURNS, 1, MOST_TURNS)?;
+    let word = options.get_str("local-limit");
+    let local_limit = number_of_option(word, MOST_LOCAL, 1, MOST_LOCAL)?;
+    Ok(RunOptions {
+        cells,
+        budget: budget as usize,
+        local_limit,
+    })
+}
+
+/// `run` with its options. Help doesn't list it, since nothing runs scripts yet.
+fn run_command<'a>(alloc: Global) -> Result<Command<'a>, AllocError> {
+    let cells = Arg::new(alloc, "cells")
+        .long("cells")
+        .value_name("N")
+        .help("Cells of the heap, 512 to 65536; else 4096");
+    let budget = Arg::new(alloc, "budget")
+        .long("budget")
+        .value_name("K")
+        .help("Turns of work after each instruction, 1 to 1000000; else 64");
+    let local_limit = Arg::new(alloc, "local-limit")
+        .long("local-limit")
+        .value_name("L")
+        .help("The most an owner counts up, 1 to 4294967294, as without it");
+    Command::new(alloc, "run")
+        .about("Not there yet: will run the script on standard input")
+        .hide(true)
+        .arg(cells)?
+        .arg(budget)?
+        .arg(local_limit)
+}
+
 /// Reads the words; the first is the program's name.
 pub fn read_words(alloc: Global, words: &[String]) -> Result<Invocation, Fault>
-    ensures { IfErr result (λ fault. (fault ≡ Fault.BadOptions) ⊎ (fault ≡ Fault.OutOfMemory)) }
+    ensures cells { IfOk result (λ asked. IfRun asked (λ run.
+        (FEWEST_CELLS ≤ run.cells) × (run.cells ≤ MOST_CELLS))) }
+    ensures budget { IfOk result (λ asked. IfRun asked (λ run. (1 ≤ run.budget) × (run.budget ≤ MOST_TURNS))) }
+    ensures local_limit { IfOk result (λ asked. IfRun asked (λ run.
+        (1 ≤ run.local_limit) × (run.local_limit ≤ MOST_LOCAL))) }
+
+    ensures refused { IfErr result (λ fault. (fault ≡ Fault.BadOptions) ⊎ (fault ≡ Fault.OutOfMemory)) }
 {
     // Without the first word, so that help says `brc` by whatever name the program was started.
     let asked = match words {
@@ -112,10 +206,12 @@ pub fn read_words(alloc: Global, words: &[String]) -> Result<Invocation, Fault>
         .after_help(MORE)
         .disable_help_subcommand(true)
         .subcommand_required(true)
-        .subcommand(replay)?;
+        .subcommand(replay)?
+        .subcommand(run_command(alloc)?)?;
     match brc.try_get_matches_from(asked) {
-        Ok(matches) => match matches.subcommand_name() {
-            Some("replay") => Ok(Invocation::Replay),
+        Ok(matches) => match matches.subcommand() {
+            Some(("replay", _)) => Ok(Invocation::Replay),
+            Some(("run", options)) => Ok(Invocation::Run(run_options(options)?)),
             _ => Err(Fault::BadOptions),
         },
         Err(error) => match error.kind() {

@@ -62,6 +62,8 @@ fn answer<R: Read + Drop, W: Write>(
                 NOTHING_LIVE
             }
         }
+        // Nothing runs scripts yet, and until then who asks for it is told so as by a bad command line.
+        Invocation::Run(_options) => return Err(Fault::BadOptions),
     };
     match writer.flush() {
         Ok(()) => Ok(status),

@@ -1,6 +1,8 @@
-//! The program over streams in memory: statuses, error lines, help.
+//! The program over streams in memory: statuses, error lines, help, and what the options of a run are read as.
 
+use crate::command::{Invocation, RunOptions, read_words};
 use crate::program::program;
+use brc_words::Fault;
 use std::io::{self, Error, ErrorKind, Read, Write};
 use std::test::*;
 
@@ -122,8 +124,10 @@ fn statuses_and_lines(rt: HostRuntime) -> Result<(), Fail> {
 fn bad_command_lines(rt: HostRuntime) -> Result<(), Fail> {
     let none = ran(&rt, &["brc"], "")?;
     assert_eq!(rt; none.status, 2);
-    let other = ran(&rt, &["brc", "run"], "")?;
-    assert_eq!(rt; other.status, 2);
+    // Nothing runs scripts yet.
+    let script = ran(&rt, &["brc", "run", "--budget", "1"], "section a\n")?;
+    assert_eq!(rt; script.status, 2);
+    assert_eq!(rt; script.output.as_slice(), [].as_slice());
     let more = ran(&rt, &["brc", "replay", "more"], "")?;
     assert_eq!(rt; more.status, 2);
     assert_eq!(rt; more.output.as_slice(), [].as_slice());
@@ -146,8 +150,81 @@ fn help_is_no_error(rt: HostRuntime) -> Result<(), Fail> {
     for line in text.as_str().lines() {
         assert!(rt; line.len() <= 80, "{line}");
     }
+    assert!(rt; !text.as_str().contains("run"));
     let of_replay = ran(&rt, &["brc", "replay", "--help"], "")?;
     assert_eq!(rt; of_replay.status, 0);
+    let of_run = ran(&rt, &["brc", "run", "--help"], "")?;
+    assert_eq!(rt; of_run.status, 0);
+    let text = String::from_utf8(of_run.output)?;
+    assert!(rt; text.as_str().starts_with("Not there yet"));
+    assert!(rt; text.as_str().contains("--local-limit <L>"));
+    Ok(())
+}
+
+/// What the words after `brc run` are read as: the three numbers, or the name of the fault.
+fn read(rt: &HostRuntime, line: &str) -> Result<String, Fail> {
+    let mut words = Vec::new(rt.alloc());
+    for word in "brc run".split(' ').chain(line.split_whitespace()) {
+        words.push(String::from_str(rt.alloc(), word)?)?;
+    }
+    let text = match read_words(rt.alloc(), words.as_slice()) {
+        Ok(
+            Invocation::Run(
+                RunOptions {
+                    cells,
+                    budget,
+                    local_limit,
+                },
+            ),
+        ) => { format!(in rt.alloc(); "{cells} {budget} {local_limit}")? }
+        Ok(_) => String::from_str(rt.alloc(), "another")?,
+        Err(fault) => String::from_str(rt.alloc(), fault.name())?,
+    };
+    Ok(text)
+}
+
+#[test]
+fn options_of_a_run(rt: HostRuntime) -> Result<(), Fail> {
+    let cases = [
+        ("none", "", "4096 64 4294967294"),
+        ("cells", "--cells 512", "512 64 4294967294"),
+        ("after an equals sign", "--cells=512", "512 64 4294967294"),
+        ("budget", "--budget 1", "4096 1 4294967294"),
+        ("local limit", "--local-limit 1", "4096 64 1"),
+        (
+            "all, and in another order",
+            "--local-limit=4294967294 --budget=1000000 --cells=65536",
+            "65536 1000000 4294967294",
+        ),
+        ("too few cells", "--cells 511", "BadOptions"),
+        ("too many cells", "--cells 65537", "BadOptions"),
+        ("no turn", "--budget 0", "BadOptions"),
+        ("too many turns", "--budget 1000001", "BadOptions"),
+        ("a limit of 0", "--local-limit 0", "BadOptions"),
+        (
+            "the limit of an immortal",
+            "--local-limit 4294967295",
+            "BadOptions",
+        ),
+        (
+            "more than 64 bits",
+            "--cells 18446744073709552128",
+            "BadOptions",
+        ),
+        ("twice", "--cells 512 --cells 512", "BadOptions"),
+        ("a plus", "--cells +512", "BadOptions"),
+        ("a minus", "--cells=-512", "BadOptions"),
+        ("a leading zero", "--cells 0512", "BadOptions"),
+        ("no number", "--cells 5x2", "BadOptions"),
+        ("no value", "--cells", "BadOptions"),
+        ("an empty value", "--cells=", "BadOptions"),
+        ("an unknown option", "--threads 2", "BadOptions"),
+        ("a front of a name", "--cell 512", "BadOptions"),
+        ("a word", "script", "BadOptions"),
+    ];
+    for (case, line, wanted) in cases {
+        assert_eq!(rt; read(&rt, line)?.as_str(), wanted, "{case}");
+    }
     Ok(())
 }
 
