@@ -1,7 +1,8 @@
 //! One object, and the calls on it.
 
-ghost use Rattle.std.specs.Prelude.{◌≡◌, ◌++◌, ◌∷◌, [], IfOk, IfErr};
+ghost use Rattle.std.specs.Prelude.{◌≡◌, ◌≤◌, ◌++◌, ◌∷◌, [], IfOk, IfErr};
 ghost use Rattle.brc_words.specs.declared.fault.Fault.TheVariants.{OutOfMemory};
+ghost use Rattle.brc_words.specs.declared.limits.TheConstants.{MOST_ENTRIES};
 ghost use Rattle.brc_meaning.specs.Objects.{list_call, queue_call, dict_call, object_call, keyed_call, entries_in, number_in, text_in};
 ghost use Rattle.brc_meaning.specs.Outcomes.{Goes};
 
@@ -125,7 +126,8 @@ impl<A: Allocator> Object<A> {
 
     /// The number of entries of a container.
     pub(crate) fn entries(&self) -> Result<usize, Fault>
-        ensures { result ≡ entries_in self.now }
+        ensures counted { result ≡ entries_in self.now }
+        ensures few { IfOk result (λ entries. entries ≤ MOST_ENTRIES) }
     {
         match self {
             Object::List(entries) => Ok(entries.len()),

@@ -1,7 +1,8 @@
 //! All objects that a section made.
 
-ghost use Rattle.std.specs.Prelude.{◌≡◌, ◌++◌, ◌∷◌, [], length, IfOk, IfErr};
+ghost use Rattle.std.specs.Prelude.{◌≡◌, ◌≤◌, ◌++◌, ◌∷◌, [], length, IfOk, IfErr};
 ghost use Rattle.brc_words.specs.declared.fault.Fault.TheVariants.{OutOfMemory};
+ghost use Rattle.brc_words.specs.declared.limits.TheConstants.{MOST_ENTRIES};
 ghost use Rattle.brc_meaning.specs.declared.reference.Reference.TheVariants.{Object as AnObject};
 ghost use Rattle.brc_meaning.specs.Objects.{object_call, keyed_call, entries_in, number_in};
 ghost use Rattle.brc_meaning.specs.States.{calling, asked, printing};
@@ -97,7 +98,8 @@ impl<A: Allocator> Objects<A> {
 
     /// The number of entries of the container that is meant.
     pub(crate) fn entries(&self, reference: Reference) -> Result<usize, Fault>
-        ensures { result ≡ asked entries_in reference self.now }
+        ensures counted { result ≡ asked entries_in reference self.now }
+        ensures few { IfOk result (λ entries. entries ≤ MOST_ENTRIES) }
     {
         let Reference::Object(place) = reference else {
             return Err(Fault::WrongKind);

@@ -75,11 +75,7 @@ fn len<A: Allocator>(state: &mut State<A>, to: Register, container: Register) ->
 {
     let reference = state.registers.held(container)?;
     let entries = state.objects.entries(reference)?;
-    // A container has far fewer entries.
-    let Ok(entries) = i64::try_from(entries) else {
-        return Err(Fault::OutOfMemory);
-    };
-    state.make_integer(to, entries)
+    state.make_integer(to, entries as i64)
 }
 
 fn put<A: Allocator>(

@@ -1,6 +1,7 @@
 //! A dictionary.
 
-ghost use Rattle.std.specs.Prelude.{◌≡◌, ◌==◌, [], length, Ok, Err, IfOk, IfErr, position};
+ghost use Rattle.std.specs.Prelude.{◌≡◌, ◌≤◌, ◌==◌, [], length, Ok, Err, IfOk, IfErr, position};
+ghost use Rattle.brc_words.specs.declared.limits.TheConstants.{MOST_ENTRIES};
 ghost use Rattle.brc_plain.specs.Outcomes.{Does, DoesIfRoom, fault_alone};
 ghost use Rattle.brc_plain.specs.Dicts as dicts;
 ghost use Rattle.brc_plain.specs.Dicts.{same_key};
@@ -54,7 +55,8 @@ impl<E: Drop, A: Allocator> PlainDict<E, A> {
     }
 
     pub fn len(&self) -> usize
-        ensures { result ≡ length self.now }
+        ensures entries { result ≡ length self.now }
+        ensures few { result ≤ MOST_ENTRIES }
     {
         self.pairs.len()
     }

@@ -1,6 +1,7 @@
 //! A list.
 
 ghost use Rattle.std.specs.Prelude.{◌≡◌, ◌≤◌, ◌==◌, [], length, Ok, Err, IfOk, IfErr};
+ghost use Rattle.brc_words.specs.declared.limits.TheConstants.{MOST_ENTRIES};
 ghost use Rattle.brc_plain.specs.Outcomes.{Does, DoesIfRoom, fault_alone};
 ghost use Rattle.brc_plain.specs.Lists as lists;
 
@@ -44,7 +45,8 @@ impl<E: Drop, A: Allocator> PlainList<E, A> {
     }
 
     pub fn len(&self) -> usize
-        ensures { result ≡ length self.now }
+        ensures entries { result ≡ length self.now }
+        ensures few { result ≤ MOST_ENTRIES }
     {
         self.entries.len()
     }

@@ -1,7 +1,8 @@
 //! A queue.
 
-ghost use Rattle.std.specs.Prelude.{◌≡◌, ◌==◌, [], length, IfErr};
+ghost use Rattle.std.specs.Prelude.{◌≡◌, ◌≤◌, ◌==◌, [], length, IfErr};
 ghost use Rattle.std.specs.VecDeque.{deque_items};
+ghost use Rattle.brc_words.specs.declared.limits.TheConstants.{MOST_ENTRIES};
 ghost use Rattle.brc_plain.specs.Outcomes.{Does, DoesIfRoom, fault_alone};
 ghost use Rattle.brc_plain.specs.Queues as queues;
 
@@ -39,7 +40,8 @@ impl<E: Drop, A: Allocator> PlainQueue<E, A> {
     }
 
     pub fn len(&self) -> usize
-        ensures { result ≡ length self.now }
+        ensures entries { result ≡ length self.now }
+        ensures few { result ≤ MOST_ENTRIES }
     {
         self.entries.len()
     }
