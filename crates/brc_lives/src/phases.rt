@@ -1,0 +1,141 @@
+//! What the worked runs share: a table that opens, a frame that is entered, a reference that goes, and a thread that leaves.
+
+ghost use Rattle.std.specs.Prelude.{◌≡◌, ◌≤◌, []};
+ghost use Rattle.brc_words.specs.declared.limits.TheConstants.{MOST_THREADS};
+ghost use Rattle.brc_steps.specs.Joining.{next_thread, registering};
+ghost use Rattle.brc_rule.specs.Opening.{first_view};
+ghost use Rattle.brc_count.specs.Frames.{IsUnlocked, Owns};
+
+use brc_block::Payload;
+use brc_count::{Frame, Handle, Ledger};
+use brc_counter::Home;
+use brc_table::{HeapTable, RootSeat, ThreadSeat};
+use std::alloc::Allocator;
+use std::process::Abort;
+
+/// A table of 512 cells, or the end of the test.
+pub(crate) fn opened<A: Allocator + Copy>(rt: &impl Abort, alloc: A) -> (HeapTable<A>, RootSeat<A>)
+    ensures cells { result.0.cells ≡ 512 }
+    ensures table { result.1.table ≡ result.0.table }
+    ensures view { result.1.view ≡ first_view }
+{
+    match HeapTable::new(alloc, 512, 10) {
+        Ok(made) => made,
+        Err(_) => panic!(rt; "memory"),
+    }
+}
+
+/// The frame of the next thread.
+pub(crate) fn entered<H: Home<A> + Drop, A: Allocator + Copy>(
+    rt: &impl Abort,
+    alloc: A,
+    heap: H,
+    root: &mut RootSeat<A>,
+) -> Frame<H, A>
+    requires table { root.old.table ≡ (H.seen heap).table }
+    requires few { next_thread root.old.view ≤ MOST_THREADS }
+    ensures heap { result.heap ≡ H.seen heap }
+    ensures thread { result.seat.thread ≡ next_thread root.old.view }
+    ensures new { result.seat.log ≡ [] }
+    ensures unlocked { IsUnlocked result }
+    ensures told { root.new.view ≡ registering root.old.view }
+    ensures root { (root.new.table ≡ root.old.table) × (root.new.id ≡ root.old.id) }
+{
+    match Frame::enter(alloc, heap, root) {
+        Ok(frame) => frame,
+        Err(_) => panic!(rt; "memory"),
+    }
+}
+
+/// A new integer, with a reference in the frame.
+pub(crate) fn an_integer<H: Home<A>, A: Allocator>(
+    rt: &impl Abort,
+    alloc: A,
+    frame: &mut Frame<H, A>,
+    number: i64,
+) -> Handle
+    requires unlocked { IsUnlocked frame.old }
+    ensures heap { frame.new.heap ≡ frame.old.heap }
+    ensures unlocked { IsUnlocked frame.new }
+    ensures owned { Owns frame.new result }
+{
+    match frame.born(alloc, Payload::Int(number)) {
+        Ok(handle) => handle,
+        Err((_, payload)) => {
+            let _payload = payload;
+            panic!(rt; "no integer is made")
+        }
+    }
+}
+
+/// One reference more to the handle's object.
+pub(crate) fn another<H: Home<A>, A: Allocator>(
+    rt: &impl Abort,
+    frame: &mut Frame<H, A>,
+    handle: &Handle,
+) -> Handle
+    requires owned { Owns frame.old handle.now }
+    requires unlocked { IsUnlocked frame.old }
+    ensures heap { frame.new.heap ≡ frame.old.heap }
+    ensures unlocked { IsUnlocked frame.new }
+    ensures owned { Owns frame.new result }
+{
+    let _cell = frame.cell(handle);
+    let Ok(given) = frame.retain(handle) else {
+        panic!(rt; "no place is left")
+    };
+    assert!(rt; frame.owns(&given));
+    given
+}
+
+/// A reference goes.
+pub(crate) fn release<H: Home<A>, A: Allocator>(frame: &mut Frame<H, A>, handle: Handle)
+    requires owned { Owns frame.old handle }
+    requires unlocked { IsUnlocked frame.old }
+    ensures heap { frame.new.heap ≡ frame.old.heap }
+    ensures unlocked { IsUnlocked frame.new }
+{
+    let _cell = frame.cell(&handle);
+    frame.release(handle);
+}
+
+/// Two references go, the second one first.
+pub(crate) fn release_both<H: Home<A>, A: Allocator>(
+    rt: &impl Abort,
+    frame: &mut Frame<H, A>,
+    first: Handle,
+    second: Handle,
+)
+    requires owned { Owns frame.old second }
+    requires unlocked { IsUnlocked frame.old }
+    ensures heap { frame.new.heap ≡ frame.old.heap }
+    ensures unlocked { IsUnlocked frame.new }
+{
+    release(frame, second);
+    assert!(rt; frame.owns(&first));
+    release(frame, first);
+}
+
+/// The ledger says this.
+pub(crate) fn says(rt: &impl Abort, ledger: Ledger, allocs: u64, frees: u64) {
+    assert_eq!(rt; ledger.allocs, allocs);
+    assert_eq!(rt; ledger.frees, frees);
+}
+
+/// A thread that has no handle leaves, and there is nothing left for it to do.
+pub(crate) fn leaves<H: Home<A> + Drop, A: Allocator>(
+    rt: &impl Abort,
+    frame: Frame<H, A>,
+) -> ThreadSeat<A>
+    requires unlocked { IsUnlocked frame }
+    ensures thread { result.thread ≡ frame.seat.thread }
+    ensures bare { result.slots ≡ [] }
+{
+    match frame.close() {
+        Err(_frame) => panic!(rt; "a handle or a block is left"),
+        Ok(closed) => match closed.finish() {
+            Err(_closed) => panic!(rt; "an entry or a block is left"),
+            Ok(seat) => seat,
+        },
+    }
+}
