@@ -27,7 +27,10 @@ pub fn none<H: Home<A>, A: Allocator>(frame: &mut Frame<H, A>) -> Result<Handle,
 }
 
 /// False, which is cell 1, or True, which is cell 2. FrameFull, then OutOfMemory; a refusal changes nothing.
-pub fn truth<H: Home<A>, A: Allocator>(frame: &mut Frame<H, A>, is_true: bool) -> Result<Handle, Fault>
+pub fn truth<H: Home<A>, A: Allocator>(
+    frame: &mut Frame<H, A>,
+    is_true: bool,
+) -> Result<Handle, Fault>
     requires unlocked { IsUnlocked frame.old }
     ensures heap { frame.new.heap ≡ frame.old.heap }
     ensures given { IfOk result (Given frame.old frame.new (sources.Immortal (truth_cell is_true)) (truth_cell is_true)) }
@@ -52,7 +55,11 @@ fn small(number: i64) -> Option<u32>
 
 /// An integer: the immortal one from -5 to 256, else a new object. The faults of a new object come in the order FrameFull,
 /// LedgerFull, OutOfMemory, HeapFull.
-pub fn new_int<H: Home<A>, A: Allocator>(alloc: A, frame: &mut Frame<H, A>, number: i64) -> Result<Handle, Fault>
+pub fn new_int<H: Home<A>, A: Allocator>(
+    alloc: A,
+    frame: &mut Frame<H, A>,
+    number: i64,
+) -> Result<Handle, Fault>
     requires unlocked { IsUnlocked frame.old }
     ensures heap { frame.new.heap ≡ frame.old.heap }
     ensures made { IfOk result (Answered frame.old frame.new (small_cell number) (contents.Int number)) }
@@ -68,7 +75,11 @@ pub fn new_int<H: Home<A>, A: Allocator>(alloc: A, frame: &mut Frame<H, A>, numb
 }
 
 /// A new text; a refusal hands it back. The faults come in the order FrameFull, LedgerFull, OutOfMemory, HeapFull.
-pub fn new_text<H: Home<A>, A: Allocator>(alloc: A, frame: &mut Frame<H, A>, text: Text<A>) -> Result<Handle, (Fault, Text<A>)>
+pub fn new_text<H: Home<A>, A: Allocator>(
+    alloc: A,
+    frame: &mut Frame<H, A>,
+    text: Text<A>,
+) -> Result<Handle, (Fault, Text<A>)>
     requires unlocked { IsUnlocked frame.old }
     ensures heap { frame.new.heap ≡ frame.old.heap }
     ensures made { IfOk result (Made frame.old frame.new (contents.Text text)) }
@@ -83,7 +94,10 @@ pub fn new_text<H: Home<A>, A: Allocator>(alloc: A, frame: &mut Frame<H, A>, tex
 }
 
 /// A new empty list. The faults come in the order FrameFull, LedgerFull, OutOfMemory, HeapFull.
-pub fn new_list<H: Home<A>, A: Allocator + Copy>(alloc: A, frame: &mut Frame<H, A>) -> Result<Handle, Fault>
+pub fn new_list<H: Home<A>, A: Allocator + Copy>(
+    alloc: A,
+    frame: &mut Frame<H, A>,
+) -> Result<Handle, Fault>
     requires unlocked { IsUnlocked frame.old }
     ensures heap { frame.new.heap ≡ frame.old.heap }
     ensures made { IfOk result (Made frame.old frame.new (contents.«List» [])) }
@@ -96,7 +110,10 @@ pub fn new_list<H: Home<A>, A: Allocator + Copy>(alloc: A, frame: &mut Frame<H, 
 }
 
 /// A new empty dictionary. The faults come in the order FrameFull, LedgerFull, OutOfMemory, HeapFull.
-pub fn new_dict<H: Home<A>, A: Allocator + Copy>(alloc: A, frame: &mut Frame<H, A>) -> Result<Handle, Fault>
+pub fn new_dict<H: Home<A>, A: Allocator + Copy>(
+    alloc: A,
+    frame: &mut Frame<H, A>,
+) -> Result<Handle, Fault>
     requires unlocked { IsUnlocked frame.old }
     ensures heap { frame.new.heap ≡ frame.old.heap }
     ensures made { IfOk result (Made frame.old frame.new (contents.Dict [])) }
@@ -109,7 +126,10 @@ pub fn new_dict<H: Home<A>, A: Allocator + Copy>(alloc: A, frame: &mut Frame<H, 
 }
 
 /// A new empty mailbox. The faults come in the order FrameFull, LedgerFull, OutOfMemory, HeapFull.
-pub fn new_mailbox<H: Home<A>, A: Allocator + Copy>(alloc: A, frame: &mut Frame<H, A>) -> Result<Handle, Fault>
+pub fn new_mailbox<H: Home<A>, A: Allocator + Copy>(
+    alloc: A,
+    frame: &mut Frame<H, A>,
+) -> Result<Handle, Fault>
     requires unlocked { IsUnlocked frame.old }
     ensures heap { frame.new.heap ≡ frame.old.heap }
     ensures made { IfOk result (Made frame.old frame.new (contents.Mailbox [])) }
