@@ -19,8 +19,7 @@ fn an_immortal_is_only_looked_at(rt: HostRuntime) {
     release_both(&mut frame, first, second);
     assert_eq!(rt; frame.work(5), 5);
     says(&rt, frame.ledger(), 0, 0);
-    let seat = leaves(&rt, frame);
-    drop(seat);
+    leaves(&rt, &table, &mut root, frame);
     ends(&rt, table, root);
 }
 
@@ -34,7 +33,6 @@ fn a_frame_with_a_handle_does_not_close(rt: HostRuntime) {
     assert_eq!(rt; frame.len(), 1);
     release(&mut frame, handle);
     assert!(rt; frame.is_idle());
-    let seat = leaves(&rt, frame);
-    drop(seat);
+    leaves(&rt, &table, &mut root, frame);
     ends(&rt, table, root);
 }

@@ -16,7 +16,6 @@ fn an_integer_lives_and_dies(rt: HostRuntime) {
     release_both(&mut frame, first, second);
     assert_eq!(rt; frame.work(5), 4);
     says(&rt, frame.ledger(), 1, 1);
-    let seat = leaves(&rt, frame);
-    drop(seat);
+    leaves(&rt, &table, &mut root, frame);
     ends(&rt, table, root);
 }

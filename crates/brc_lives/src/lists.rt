@@ -21,8 +21,8 @@ fn an_asked_owner_merges_at_its_poll(rt: HostRuntime) {
     assert_eq!(rt; maker.work(5), 4);
     says(&rt, maker.ledger(), 1, 1);
     assert!(rt; comes_out(maker.ledger(), other.ledger()));
-    let _maker = leaves(&rt, maker);
-    let _other = leaves(&rt, other);
+    leaves(&rt, &table, &mut root, maker);
+    leaves(&rt, &table, &mut root, other);
     ends(&rt, table, root);
 }
 
@@ -37,9 +37,9 @@ fn an_asked_owner_merges_after_it_has_left(rt: HostRuntime) {
     let taken = take_from_globals(&rt, &mut other);
     release(&mut other, taken);
     let others = other.ledger();
-    let makers = leaves_late(&rt, maker, 2);
+    let makers = leaves_late(&rt, &table, &mut root, maker, 2);
     assert!(rt; comes_out(makers, others));
-    let _other = leaves(&rt, other);
+    leaves(&rt, &table, &mut root, other);
     ends(&rt, table, root);
 }
 
@@ -52,11 +52,11 @@ fn an_owner_that_left_is_not_asked(rt: HostRuntime) {
     let list = a_list(&rt, rt.alloc(), &mut maker);
     put_into_globals(&rt, &mut maker, list, 1);
     let taken = take_from_globals(&rt, &mut other);
-    let makers = leaves_late(&rt, maker, 0);
+    let makers = leaves_late(&rt, &table, &mut root, maker, 0);
     says(&rt, makers, 1, 0);
     release(&mut other, taken);
     assert_eq!(rt; other.work(5), 4);
     says(&rt, other.ledger(), 0, 1);
-    let _other = leaves(&rt, other);
+    leaves(&rt, &table, &mut root, other);
     ends(&rt, table, root);
 }

@@ -10,7 +10,7 @@ ghost use Rattle.brc_lives.specs.Handles.{Gains, Loses};
 use brc_block::{Cells, Payload};
 use brc_count::{Frame, Handle, Ledger};
 use brc_counter::Home;
-use brc_table::{HeapTable, RootSeat, ThreadSeat};
+use brc_table::{HeapTable, RootSeat};
 use std::alloc::Allocator;
 use std::process::Abort;
 
@@ -162,13 +162,19 @@ pub(crate) fn stays<H: Home<A>, A: Allocator>(rt: &impl Abort, frame: Frame<H, A
     }
 }
 
-/// A thread that has no handle leaves, and so many turns of work are left to it then; the answer is its last ledger.
+/// A thread that has no handle leaves, and so many turns of work are left to it then; the root gathers it, and the answer is its
+/// last ledger.
 pub(crate) fn leaves_late<H: Home<A> + Drop, A: Allocator>(
     rt: &impl Abort,
+    table: &HeapTable<A>,
+    root: &mut RootSeat<A>,
     frame: Frame<H, A>,
     turns: usize,
 ) -> Ledger
+    requires table { root.old.table ≡ table.now.table }
+    requires heap { frame.heap ≡ table.now }
     requires unlocked { IsUnlocked frame }
+    ensures table { root.new.table ≡ root.old.table }
 {
     match frame.close() {
         Err(_frame) => panic!(rt; "a handle or a block is left"),
@@ -179,26 +185,26 @@ pub(crate) fn leaves_late<H: Home<A> + Drop, A: Allocator>(
             let ledger = closed.ledger();
             match closed.finish() {
                 Err(_closed) => panic!(rt; "an entry or a block is left"),
-                Ok(_seat) => ledger,
+                Ok(seat) => {
+                    table.join(root, seat);
+                    ledger
+                }
             }
         }
     }
 }
 
-/// A thread that has no handle leaves, and there is nothing left for it to do.
+/// A thread that has no handle leaves, there is nothing left for it to do, and the root gathers it.
 pub(crate) fn leaves<H: Home<A> + Drop, A: Allocator>(
     rt: &impl Abort,
+    table: &HeapTable<A>,
+    root: &mut RootSeat<A>,
     frame: Frame<H, A>,
-) -> ThreadSeat<A>
+)
+    requires table { root.old.table ≡ table.now.table }
+    requires heap { frame.heap ≡ table.now }
     requires unlocked { IsUnlocked frame }
-    ensures thread { result.thread ≡ frame.seat.thread }
-    ensures bare { result.slots ≡ [] }
+    ensures table { root.new.table ≡ root.old.table }
 {
-    match frame.close() {
-        Err(_frame) => panic!(rt; "a handle or a block is left"),
-        Ok(closed) => match closed.finish() {
-            Err(_closed) => panic!(rt; "an entry or a block is left"),
-            Ok(seat) => seat,
-        },
-    }
+    let _ledger = leaves_late(rt, table, root, frame, 0);
 }
