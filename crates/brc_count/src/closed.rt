@@ -99,6 +99,7 @@ impl<H: Home<A>, A: Allocator> ClosedFrame<H, A> {
     where
         H: Drop,
         ensures seat { IfOk result (λ seat. seat ≡ self.seat) }
+        ensures table { IfOk result (λ seat. seat.table ≡ self.heap.table) }
         ensures leaves { IfOk result (λ seat. Leaves self.heap.cells (view_of seat)) }
         ensures bare { IfOk result (λ seat. seat.slots ≡ []) }
         ensures refused { OnErr result ((is_blank (popped_seen self) ≡ false) ⊎ (0 < length self.works)) }

@@ -65,6 +65,7 @@ impl<H: Home<A>, A: Allocator> Holdings<H, A> {
         requires empty { self.works ≡ [] }
         requires some_thread { 0 < self.seat.thread }
         ensures seat { result ≡ self.seat }
+        ensures table { result.table ≡ self.heap.table }
         ensures leaves { Leaves self.heap.cells (view_of result) }
         ensures bare { result.slots ≡ [] }
     {

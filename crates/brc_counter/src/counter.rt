@@ -67,6 +67,7 @@ impl<H: Home<A>, A: Allocator> Counter<H, A> {
     pub fn into_parts(self) -> (H, ThreadSeat<A>)
         ensures heap { H.seen result.0 ≡ self.heap }
         ensures seat { result.1 ≡ self.seat }
+        ensures table { result.1.table ≡ self.heap.table }
     {
         let Counter {
             heap,

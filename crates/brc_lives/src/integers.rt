@@ -13,10 +13,9 @@ fn an_integer_lives_and_dies(rt: HostRuntime) {
     assert_eq!(rt; frame.cell(&first), 266);
     says(&rt, frame.ledger(), 1, 0);
     let second = another(&rt, &mut frame, &first);
-    release_both(&rt, &mut frame, first, second);
+    release_both(&mut frame, first, second);
     assert_eq!(rt; frame.work(5), 4);
     says(&rt, frame.ledger(), 1, 1);
-    let seat = leaves(&rt, frame);
-    drop(seat);
+    leaves(&rt, &table, &mut root, frame);
     ends(&rt, table, root);
 }

@@ -12,6 +12,12 @@ pub use sums::comes_out;
 #[cfg(test)]
 mod ends;
 #[cfg(test)]
+mod globals;
+#[cfg(test)]
+mod immortals;
+#[cfg(test)]
 mod integers;
+#[cfg(test)]
+mod lists;
 #[cfg(test)]
 mod phases;

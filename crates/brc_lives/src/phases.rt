@@ -1,15 +1,16 @@
 //! What the worked runs share: a table that opens, a frame that is entered, a reference that goes, and a thread that leaves.
 
-ghost use Rattle.std.specs.Prelude.{◌≡◌, ◌≤◌, []};
-ghost use Rattle.brc_words.specs.declared.limits.TheConstants.{MOST_THREADS};
+ghost use Rattle.std.specs.Prelude.{◌≡◌, ◌≢◌, ◌<◌, ◌≤◌, []};
+ghost use Rattle.brc_words.specs.declared.limits.TheConstants.{FIRST_MORTAL, MOST_THREADS};
 ghost use Rattle.brc_steps.specs.Joining.{next_thread, registering};
 ghost use Rattle.brc_rule.specs.Opening.{first_view};
 ghost use Rattle.brc_count.specs.Frames.{IsUnlocked, Owns};
+ghost use Rattle.brc_lives.specs.Handles.{Gains, Loses};
 
-use brc_block::Payload;
+use brc_block::{Cells, Payload};
 use brc_count::{Frame, Handle, Ledger};
 use brc_counter::Home;
-use brc_table::{HeapTable, RootSeat, ThreadSeat};
+use brc_table::{HeapTable, RootSeat};
 use std::alloc::Allocator;
 use std::process::Abort;
 
@@ -55,9 +56,7 @@ pub(crate) fn an_integer<H: Home<A>, A: Allocator>(
     number: i64,
 ) -> Handle
     requires unlocked { IsUnlocked frame.old }
-    ensures heap { frame.new.heap ≡ frame.old.heap }
-    ensures unlocked { IsUnlocked frame.new }
-    ensures owned { Owns frame.new result }
+    ensures { Gains frame.old frame.new result }
 {
     match frame.born(alloc, Payload::Int(number)) {
         Ok(handle) => handle,
@@ -65,6 +64,41 @@ pub(crate) fn an_integer<H: Home<A>, A: Allocator>(
             let _payload = payload;
             panic!(rt; "no integer is made")
         }
+    }
+}
+
+/// A new list, with a reference in the frame.
+pub(crate) fn a_list<H: Home<A>, A: Allocator + Copy>(
+    rt: &impl Abort,
+    alloc: A,
+    frame: &mut Frame<H, A>,
+) -> Handle
+    requires unlocked { IsUnlocked frame.old }
+    ensures { Gains frame.old frame.new result }
+{
+    match frame.born(alloc, Payload::List(Cells::new(Vec::new(alloc)))) {
+        Ok(handle) => handle,
+        Err((_, payload)) => {
+            let _payload = payload;
+            panic!(rt; "no list is made")
+        }
+    }
+}
+
+/// A reference to an immortal.
+pub(crate) fn an_immortal<H: Home<A>, A: Allocator>(
+    rt: &impl Abort,
+    frame: &mut Frame<H, A>,
+    cell: u32,
+) -> Handle
+    requires immortal { cell < FIRST_MORTAL }
+    requires inside { cell < frame.old.heap.cells }
+    requires unlocked { IsUnlocked frame.old }
+    ensures { Gains frame.old frame.new result }
+{
+    match frame.immortal(cell) {
+        Ok(handle) => handle,
+        Err(_) => panic!(rt; "no place is left"),
     }
 }
 
@@ -76,24 +110,20 @@ pub(crate) fn another<H: Home<A>, A: Allocator>(
 ) -> Handle
     requires owned { Owns frame.old handle.now }
     requires unlocked { IsUnlocked frame.old }
-    ensures heap { frame.new.heap ≡ frame.old.heap }
-    ensures unlocked { IsUnlocked frame.new }
-    ensures owned { Owns frame.new result }
+    ensures { Gains frame.old frame.new result }
 {
     let _cell = frame.cell(handle);
-    let Ok(given) = frame.retain(handle) else {
-        panic!(rt; "no place is left")
-    };
-    assert!(rt; frame.owns(&given));
-    given
+    match frame.retain(handle) {
+        Ok(given) => given,
+        Err(_) => panic!(rt; "no place is left"),
+    }
 }
 
 /// A reference goes.
 pub(crate) fn release<H: Home<A>, A: Allocator>(frame: &mut Frame<H, A>, handle: Handle)
     requires owned { Owns frame.old handle }
     requires unlocked { IsUnlocked frame.old }
-    ensures heap { frame.new.heap ≡ frame.old.heap }
-    ensures unlocked { IsUnlocked frame.new }
+    ensures { Loses frame.old frame.new handle }
 {
     let _cell = frame.cell(&handle);
     frame.release(handle);
@@ -101,18 +131,17 @@ pub(crate) fn release<H: Home<A>, A: Allocator>(frame: &mut Frame<H, A>, handle:
 
 /// Two references go, the second one first.
 pub(crate) fn release_both<H: Home<A>, A: Allocator>(
-    rt: &impl Abort,
     frame: &mut Frame<H, A>,
     first: Handle,
     second: Handle,
 )
-    requires owned { Owns frame.old second }
+    requires owned { (Owns frame.old first) × (Owns frame.old second) }
+    requires apart { first.place ≢ second.place }
     requires unlocked { IsUnlocked frame.old }
     ensures heap { frame.new.heap ≡ frame.old.heap }
     ensures unlocked { IsUnlocked frame.new }
 {
     release(frame, second);
-    assert!(rt; frame.owns(&first));
     release(frame, first);
 }
 
@@ -122,20 +151,60 @@ pub(crate) fn says(rt: &impl Abort, ledger: Ledger, allocs: u64, frees: u64) {
     assert_eq!(rt; ledger.frees, frees);
 }
 
-/// A thread that has no handle leaves, and there is nothing left for it to do.
-pub(crate) fn leaves<H: Home<A> + Drop, A: Allocator>(
-    rt: &impl Abort,
-    frame: Frame<H, A>,
-) -> ThreadSeat<A>
+/// A thread that has a handle doesn't leave: its frame is answered.
+pub(crate) fn stays<H: Home<A>, A: Allocator>(rt: &impl Abort, frame: Frame<H, A>) -> Frame<H, A>
     requires unlocked { IsUnlocked frame }
-    ensures thread { result.thread ≡ frame.seat.thread }
-    ensures bare { result.slots ≡ [] }
+    ensures { result ≡ frame }
+{
+    match frame.close() {
+        Err(frame) => frame,
+        Ok(_closed) => panic!(rt; "it has left with a handle"),
+    }
+}
+
+/// A thread that has no handle leaves, and so many turns of work are left to it then; the root gathers it, and the answer is its
+/// last ledger.
+pub(crate) fn leaves_late<H: Home<A> + Drop, A: Allocator>(
+    rt: &impl Abort,
+    table: &HeapTable<A>,
+    root: &mut RootSeat<A>,
+    frame: Frame<H, A>,
+    turns: usize,
+) -> Ledger
+    requires table { root.old.table ≡ table.now.table }
+    requires heap { frame.heap ≡ table.now }
+    requires unlocked { IsUnlocked frame }
+    ensures table { root.new.table ≡ root.old.table }
 {
     match frame.close() {
         Err(_frame) => panic!(rt; "a handle or a block is left"),
-        Ok(closed) => match closed.finish() {
-            Err(_closed) => panic!(rt; "an entry or a block is left"),
-            Ok(seat) => seat,
-        },
+        Ok(closed) => {
+            let mut closed = closed;
+            assert_eq!(rt; closed.work(turns), 0);
+            assert_eq!(rt; closed.work(1), 1);
+            let ledger = closed.ledger();
+            match closed.finish() {
+                Err(_closed) => panic!(rt; "an entry or a block is left"),
+                Ok(seat) => {
+                    table.join(root, seat);
+                    ledger
+                }
+            }
+        }
     }
+}
+
+/// A thread that has no handle leaves, there is nothing left for it to do, and the root gathers it.
+pub(crate) fn leaves<H: Home<A> + Drop, A: Allocator>(
+    rt: &impl Abort,
+    table: &HeapTable<A>,
+    root: &mut RootSeat<A>,
+    frame: Frame<H, A>,
+)
+    requires table { root.old.table ≡ table.now.table }
+    requires heap { frame.heap ≡ table.now }
+    requires unlocked { IsUnlocked frame }
+    ensures table { root.new.table ≡ root.old.table }
+{
+    let _ledger = leaves_late(rt, table, root, frame, 0);
 }

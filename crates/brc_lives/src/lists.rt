@@ -1,0 +1,62 @@
+//! A list that passes from the frame of the thread that made it to another's, which lets it go.
+
+use crate::ends::ends;
+use crate::globals::{put_into_globals, take_from_globals};
+use crate::phases::{a_list, entered, leaves, leaves_late, opened, release, says};
+use crate::sums::comes_out;
+
+#[test]
+fn an_asked_owner_merges_at_its_poll(rt: HostRuntime) {
+    let (table, root) = opened(&rt, rt.alloc());
+    let mut root = root;
+    let mut maker = entered(&rt, rt.alloc(), &table, &mut root);
+    let mut other = entered(&rt, rt.alloc(), &table, &mut root);
+    let list = a_list(&rt, rt.alloc(), &mut maker);
+    put_into_globals(&rt, &mut maker, list, 1);
+    let taken = take_from_globals(&rt, &mut other);
+    assert_eq!(rt; other.cell(&taken), 266);
+    assert_eq!(rt; maker.poll(), 0);
+    release(&mut other, taken);
+    assert!(rt; maker.poll() > 0);
+    assert_eq!(rt; maker.work(5), 4);
+    says(&rt, maker.ledger(), 1, 1);
+    assert!(rt; comes_out(maker.ledger(), other.ledger()));
+    leaves(&rt, &table, &mut root, maker);
+    leaves(&rt, &table, &mut root, other);
+    ends(&rt, table, root);
+}
+
+#[test]
+fn an_asked_owner_merges_after_it_has_left(rt: HostRuntime) {
+    let (table, root) = opened(&rt, rt.alloc());
+    let mut root = root;
+    let mut maker = entered(&rt, rt.alloc(), &table, &mut root);
+    let mut other = entered(&rt, rt.alloc(), &table, &mut root);
+    let list = a_list(&rt, rt.alloc(), &mut maker);
+    put_into_globals(&rt, &mut maker, list, 1);
+    let taken = take_from_globals(&rt, &mut other);
+    release(&mut other, taken);
+    let others = other.ledger();
+    let makers = leaves_late(&rt, &table, &mut root, maker, 2);
+    assert!(rt; comes_out(makers, others));
+    leaves(&rt, &table, &mut root, other);
+    ends(&rt, table, root);
+}
+
+#[test]
+fn an_owner_that_left_is_not_asked(rt: HostRuntime) {
+    let (table, root) = opened(&rt, rt.alloc());
+    let mut root = root;
+    let mut maker = entered(&rt, rt.alloc(), &table, &mut root);
+    let mut other = entered(&rt, rt.alloc(), &table, &mut root);
+    let list = a_list(&rt, rt.alloc(), &mut maker);
+    put_into_globals(&rt, &mut maker, list, 1);
+    let taken = take_from_globals(&rt, &mut other);
+    let makers = leaves_late(&rt, &table, &mut root, maker, 0);
+    says(&rt, makers, 1, 0);
+    release(&mut other, taken);
+    assert_eq!(rt; other.work(5), 4);
+    says(&rt, other.ledger(), 0, 1);
+    leaves(&rt, &table, &mut root, other);
+    ends(&rt, table, root);
+}

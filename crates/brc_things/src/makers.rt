@@ -1,0 +1,142 @@
+//! Makers: a handle to an immortal, or to a new object.
+
+ghost use Rattle.std.specs.Prelude.{◌≡◌, ◌<◌, [], IfOk, IfErr, OnErr, Some, None};
+ghost use Rattle.brc_words.specs.declared.limits.TheConstants.{FIRST_MORTAL};
+ghost use Rattle.brc_runs.specs.declared.event.Source.TheVariants as sources;
+ghost use Rattle.brc_rule.specs.declared.contents.Contents.TheVariants as contents;
+ghost use Rattle.brc_count.specs.Frames.{Given, Refused, IsAsBefore, IsUnlocked};
+ghost use Rattle.brc_count.specs.Making.{Made, RefusedMaking};
+ghost use Rattle.brc_things.specs.Makers.{small_cell, truth_cell, Answered, RefusedTo};
+
+use brc_block::{Cells, Letters, Pairs, Payload};
+use brc_count::{Frame, Handle};
+use brc_counter::Home;
+use brc_words::{Fault, Text};
+use std::alloc::Allocator;
+use std::collections::VecDeque;
+
+/// None, which is cell 0. FrameFull, then OutOfMemory; a refusal changes nothing.
+pub fn none<H: Home<A>, A: Allocator>(frame: &mut Frame<H, A>) -> Result<Handle, Fault>
+    requires unlocked { IsUnlocked frame.old }
+    ensures heap { frame.new.heap ≡ frame.old.heap }
+    ensures given { IfOk result (Given frame.old frame.new (sources.Immortal 0) 0) }
+    ensures refused { IfErr result (Refused frame.old) }
+    ensures unchanged { OnErr result (IsAsBefore frame.old frame.new) }
+{
+    frame.immortal(0)
+}
+
+/// False, which is cell 1, or True, which is cell 2. FrameFull, then OutOfMemory; a refusal changes nothing.
+pub fn truth<H: Home<A>, A: Allocator>(
+    frame: &mut Frame<H, A>,
+    is_true: bool,
+) -> Result<Handle, Fault>
+    requires unlocked { IsUnlocked frame.old }
+    ensures heap { frame.new.heap ≡ frame.old.heap }
+    ensures given { IfOk result (Given frame.old frame.new (sources.Immortal (truth_cell is_true)) (truth_cell is_true)) }
+    ensures refused { IfErr result (Refused frame.old) }
+    ensures unchanged { OnErr result (IsAsBefore frame.old frame.new) }
+{
+    if is_true {
+        return frame.immortal(2);
+    }
+    frame.immortal(1)
+}
+
+/// The cell of an integer that is immortal.
+fn small(number: i64) -> Option<u32>
+    ensures { result ≡ small_cell number }
+{
+    if -5 <= number && number <= 256 {
+        return Some((number + 8) as u32);
+    }
+    None
+}
+
+/// An integer: the immortal one from -5 to 256, else a new object. The faults of a new object come in the order FrameFull,
+/// LedgerFull, OutOfMemory, HeapFull.
+pub fn new_int<H: Home<A>, A: Allocator>(
+    alloc: A,
+    frame: &mut Frame<H, A>,
+    number: i64,
+) -> Result<Handle, Fault>
+    requires unlocked { IsUnlocked frame.old }
+    ensures heap { frame.new.heap ≡ frame.old.heap }
+    ensures made { IfOk result (Answered frame.old frame.new (small_cell number) (contents.Int number)) }
+    ensures refused { IfErr result (RefusedTo frame.old frame.new (small_cell number)) }
+{
+    if let Some(cell) = small(number) {
+        return frame.immortal(cell);
+    }
+    match frame.born(alloc, Payload::Int(number)) {
+        Ok(handle) => Ok(handle),
+        Err((fault, _payload)) => Err(fault),
+    }
+}
+
+/// A new text; a refusal hands it back. The faults come in the order FrameFull, LedgerFull, OutOfMemory, HeapFull.
+pub fn new_text<H: Home<A>, A: Allocator>(
+    alloc: A,
+    frame: &mut Frame<H, A>,
+    text: Text<A>,
+) -> Result<Handle, (Fault, Text<A>)>
+    requires unlocked { IsUnlocked frame.old }
+    ensures heap { frame.new.heap ≡ frame.old.heap }
+    ensures made { IfOk result (Made frame.old frame.new (contents.Text text)) }
+    ensures refused { IfErr result (λ back. RefusedMaking frame.old frame.new back.0) }
+    ensures back { IfErr result (λ back. back.1 ≡ text) }
+{
+    match frame.born(alloc, Payload::Text(text)) {
+        Ok(handle) => Ok(handle),
+        Err((fault, Payload::Text(text))) => Err((fault, text)),
+        Err(_) => unreachable!(),
+    }
+}
+
+/// A new empty list. The faults come in the order FrameFull, LedgerFull, OutOfMemory, HeapFull.
+pub fn new_list<H: Home<A>, A: Allocator + Copy>(
+    alloc: A,
+    frame: &mut Frame<H, A>,
+) -> Result<Handle, Fault>
+    requires unlocked { IsUnlocked frame.old }
+    ensures heap { frame.new.heap ≡ frame.old.heap }
+    ensures made { IfOk result (Made frame.old frame.new (contents.«List» [])) }
+    ensures refused { IfErr result (RefusedMaking frame.old frame.new) }
+{
+    match frame.born(alloc, Payload::List(Cells::new(Vec::new(alloc)))) {
+        Ok(handle) => Ok(handle),
+        Err((fault, _payload)) => Err(fault),
+    }
+}
+
+/// A new empty dictionary. The faults come in the order FrameFull, LedgerFull, OutOfMemory, HeapFull.
+pub fn new_dict<H: Home<A>, A: Allocator + Copy>(
+    alloc: A,
+    frame: &mut Frame<H, A>,
+) -> Result<Handle, Fault>
+    requires unlocked { IsUnlocked frame.old }
+    ensures heap { frame.new.heap ≡ frame.old.heap }
+    ensures made { IfOk result (Made frame.old frame.new (contents.Dict [])) }
+    ensures refused { IfErr result (RefusedMaking frame.old frame.new) }
+{
+    match frame.born(alloc, Payload::Dict(Pairs::new(Vec::new(alloc)))) {
+        Ok(handle) => Ok(handle),
+        Err((fault, _payload)) => Err(fault),
+    }
+}
+
+/// A new empty mailbox. The faults come in the order FrameFull, LedgerFull, OutOfMemory, HeapFull.
+pub fn new_mailbox<H: Home<A>, A: Allocator + Copy>(
+    alloc: A,
+    frame: &mut Frame<H, A>,
+) -> Result<Handle, Fault>
+    requires unlocked { IsUnlocked frame.old }
+    ensures heap { frame.new.heap ≡ frame.old.heap }
+    ensures made { IfOk result (Made frame.old frame.new (contents.Mailbox [])) }
+    ensures refused { IfErr result (RefusedMaking frame.old frame.new) }
+{
+    match frame.born(alloc, Payload::Mailbox(Letters::new(VecDeque::new(alloc)))) {
+        Ok(handle) => Ok(handle),
+        Err((fault, _payload)) => Err(fault),
+    }
+}
