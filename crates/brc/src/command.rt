@@ -165,15 +165,15 @@ fn run_command<'a>(alloc: Global) -> Result<Command<'a>, AllocError> {
     let cells = Arg::new(alloc, "cells")
         .long("cells")
         .value_name("N")
-        .help("Cells of the heap, 512 to 65536; else 4096");
+        .help("Cells of the heap, 512 to 65536 (default 4096)");
     let budget = Arg::new(alloc, "budget")
         .long("budget")
         .value_name("K")
-        .help("Turns of work after each instruction, 1 to 1000000; else 64");
+        .help("Turns of work an instruction, 1 to 1000000 (default 64)");
     let local_limit = Arg::new(alloc, "local-limit")
         .long("local-limit")
         .value_name("L")
-        .help("The most an owner counts up, 1 to 4294967294, as without it");
+        .help("The most an owner counts up, 1 to 4294967294 (default)");
     Command::new(alloc, "run")
         .about("Not there yet: will run the script on standard input")
         .hide(true)
