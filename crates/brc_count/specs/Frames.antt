@@ -1,6 +1,6 @@
 -- What contracts see of a frame and of its handles, and what a frame keeps.
-use Rattle.std.specs.Prelude.{◌≡◌, ◌≢◌, ◌<◌, ◌≤◌, ◌+◌, ℕ, Bool, true, List, [], ◌∷◌, map, Option, Some, None, is_some, is_none, ◌&&◌, ◌*◌, length, false}
-use Rattle.slab.specs.Slab.{Slab, get}
+use Rattle.std.specs.Prelude.{◌≡◌, ◌≢◌, ◌<◌, ◌≤◌, ◌+◌, ◌-◌, ℕ, Bool, true, List, [], ◌∷◌, map, Option, Some, None, is_some, is_none, ◌&&◌, ◌*◌, length, false}
+use Rattle.slab.specs.Slab.{Slab, get, slab_len}
 use Rattle.brc_words.specs.declared.limits.TheConstants.{FIRST_MORTAL, MOST_PLACES}
 use Rattle.brc_words.specs.declared.fault.Fault.{Fault}
 use Rattle.brc_words.specs.declared.fault.Fault.TheVariants.{OutOfMemory, FrameFull}
@@ -26,6 +26,7 @@ use Rattle.brc_steps.specs.Taking.{AreCells}
 use Rattle.brc_table.specs.Seated.{TableSeen, SeatSeen, Stays}
 use Rattle.brc_table.specs.Moving.{found_locked}
 use Rattle.brc_table.specs.Shown.{contents_of}
+use Rattle.brc_counter.specs.Counter.{CounterSeen}
 use Rattle.brc_counter.specs.Standing.{may_give_up}
 use Rattle.brc_counter.specs.Released.{Released}
 use Rattle.brc_counter.specs.Up.{CountsHere, RaisedImmortal, RaisedShared}
@@ -162,6 +163,17 @@ pub record Leaving {A : Type 0} (holdings : FrameSeen A) (thread next : ℕ) : T
   pub left : is_left (part_seen holdings.heap.cells holdings.seat.log).row.stage ≡ true
   pub unlocked : IsUnlocked holdings
   pub done : (k : ℕ) → k < next → word_at (popped_seen holdings) k ≡ 0
+
+-- what contracts see of a frame at rest, without dead blocks
+abbrev pub resting_seen : {A : Type 0} → CounterSeen A → Slab Held → FrameSeen A
+resting_seen counter places = record { heap = counter.heap; seat = counter.seat; len = slab_len places; spare = places.capacity - slab_len places; next = places.vacant_key; works = [] }
+
+-- what a frame at rest keeps: it is a frame's, without handles and dead blocks, and nothing is locked
+pub record Rests (A : Type 0) (counter : CounterSeen A) (places : Slab Held) (popped : List ℕ) (ledger : Ledger) (thread : ℕ) : Type 0 where
+  pub holding : Holding A counter.heap counter.seat places [] popped ledger
+  pub framing : Framing (resting_seen counter places) thread
+  pub bare : slab_len places ≡ 0
+  pub unlocked : IsUnlocked (resting_seen counter places)
 
 -- ---- what calls do
 

@@ -42,6 +42,13 @@ impl<H: Home<A>, A: Allocator> ClosedFrame<H, A> {
         self.thread
     }
 
+    /// What leads to its heap.
+    pub fn home(&self) -> &H
+        ensures { H.seen result.now ≡ self.now.heap }
+    {
+        self.holdings.counter.home()
+    }
+
     /// How many objects the thread made, and how many cells it has given back, its own objects' and others'.
     pub fn ledger(&self) -> Ledger
         ensures { result ≡ ledger_seen self.now }

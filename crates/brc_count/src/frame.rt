@@ -94,6 +94,13 @@ impl<H: Home<A>, A: Allocator> Frame<H, A> {
         self.thread
     }
 
+    /// What leads to its heap.
+    pub fn home(&self) -> &H
+        ensures { H.seen result.now ≡ self.now.heap }
+    {
+        self.holdings.counter.home()
+    }
+
     /// Whether the handle is of this frame's thread, and its place has a reference.
     pub fn owns(&self, handle: &Handle) -> bool
         ensures owned { IsTrue result → Owns self.now handle.now }
@@ -236,6 +243,7 @@ impl<H: Home<A>, A: Allocator> Frame<H, A> {
         requires unlocked { IsUnlocked self.old }
         ensures keeps { KeepsHandles self.old self.new }
         ensures polled { Polled self.old self.new result }
+        ensures quiet { result ≡ 0 → self.new.works ≡ self.old.works }
     {
         self.holdings.poll()
     }

@@ -15,6 +15,7 @@ mod ledger;
 mod locking;
 mod making;
 mod polling;
+mod resting;
 mod work;
 
 pub use closed::ClosedFrame;
@@ -22,3 +23,4 @@ pub use frame::Frame;
 pub use handle::Handle;
 pub use held::Held;
 pub use ledger::Ledger;
+pub use resting::RestingFrame;

@@ -193,6 +193,7 @@ impl<H: Home<A>, A: Allocator> Holdings<H, A> {
         requires blank { is_blank (popped_seen self.old) ≡ true }
         ensures keeps { KeepsHandles self.old self.new }
         ensures polled { Polled self.old self.new result }
+        ensures quiet { result ≡ 0 → self.new.works ≡ self.old.works }
         ensures blank { is_blank (popped_seen self.new) ≡ true }
     {
         let named = self.wake();

@@ -11,6 +11,10 @@ pub record CounterSeen (A : Type 0) : Type 0 where
   pub heap : TableSeen
   pub seat : SeatSeen A
 
+-- the heap of a seat, with its sizes
+abbrev pub heap_of : {A : Type 0} → SeatSeen A → ℕ → ℕ → TableSeen
+heap_of seat cells limit = record { table = seat.table; cells = cells; local_limit = limit }
+
 -- The number kept for a mortal cell is the thread's local count of it, as its log tells it: 0 where it doesn't count there on
 -- the local word. The number kept for an immortal is above each limit, as its local word is.
 pub record CountsFit (n : ℕ) (log : List Told) (counts : List ℕ) : Type 0 where

@@ -14,6 +14,7 @@ mod give_up;
 mod home;
 mod own;
 mod popped;
+mod resting;
 mod seek;
 mod shared;
 mod steps;
@@ -21,3 +22,4 @@ mod up;
 
 pub use counter::{Counter, first_counts};
 pub use home::Home;
+pub use resting::RestingCounter;

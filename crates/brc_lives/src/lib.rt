@@ -5,6 +5,8 @@
 //! this is also how a caller uses them.
 #![tactic(auto)]
 
+pub mod globals;
+pub mod phases;
 mod sums;
 
 pub use sums::comes_out;
@@ -12,12 +14,8 @@ pub use sums::comes_out;
 #[cfg(test)]
 mod ends;
 #[cfg(test)]
-mod globals;
-#[cfg(test)]
 mod immortals;
 #[cfg(test)]
 mod integers;
 #[cfg(test)]
 mod lists;
-#[cfg(test)]
-mod phases;

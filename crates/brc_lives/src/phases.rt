@@ -15,7 +15,7 @@ use std::alloc::Allocator;
 use std::process::Abort;
 
 /// A table of 512 cells, or the end of the test.
-pub(crate) fn opened<A: Allocator + Copy>(rt: &impl Abort, alloc: A) -> (HeapTable<A>, RootSeat<A>)
+pub fn opened<A: Allocator + Copy>(rt: &impl Abort, alloc: A) -> (HeapTable<A>, RootSeat<A>)
     ensures cells { result.0.cells ≡ 512 }
     ensures table { result.1.table ≡ result.0.table }
     ensures view { result.1.view ≡ first_view }
@@ -27,7 +27,7 @@ pub(crate) fn opened<A: Allocator + Copy>(rt: &impl Abort, alloc: A) -> (HeapTab
 }
 
 /// The frame of the next thread.
-pub(crate) fn entered<H: Home<A> + Drop, A: Allocator + Copy>(
+pub fn entered<H: Home<A> + Drop, A: Allocator + Copy>(
     rt: &impl Abort,
     alloc: A,
     heap: H,
@@ -49,7 +49,7 @@ pub(crate) fn entered<H: Home<A> + Drop, A: Allocator + Copy>(
 }
 
 /// A new integer, with a reference in the frame.
-pub(crate) fn an_integer<H: Home<A>, A: Allocator>(
+pub fn an_integer<H: Home<A>, A: Allocator>(
     rt: &impl Abort,
     alloc: A,
     frame: &mut Frame<H, A>,
@@ -68,7 +68,7 @@ pub(crate) fn an_integer<H: Home<A>, A: Allocator>(
 }
 
 /// A new list, with a reference in the frame.
-pub(crate) fn a_list<H: Home<A>, A: Allocator + Copy>(
+pub fn a_list<H: Home<A>, A: Allocator + Copy>(
     rt: &impl Abort,
     alloc: A,
     frame: &mut Frame<H, A>,
@@ -86,7 +86,7 @@ pub(crate) fn a_list<H: Home<A>, A: Allocator + Copy>(
 }
 
 /// A reference to an immortal.
-pub(crate) fn an_immortal<H: Home<A>, A: Allocator>(
+pub fn an_immortal<H: Home<A>, A: Allocator>(
     rt: &impl Abort,
     frame: &mut Frame<H, A>,
     cell: u32,
@@ -103,7 +103,7 @@ pub(crate) fn an_immortal<H: Home<A>, A: Allocator>(
 }
 
 /// One reference more to the handle's object.
-pub(crate) fn another<H: Home<A>, A: Allocator>(
+pub fn another<H: Home<A>, A: Allocator>(
     rt: &impl Abort,
     frame: &mut Frame<H, A>,
     handle: &Handle,
@@ -120,7 +120,7 @@ pub(crate) fn another<H: Home<A>, A: Allocator>(
 }
 
 /// A reference goes.
-pub(crate) fn release<H: Home<A>, A: Allocator>(frame: &mut Frame<H, A>, handle: Handle)
+pub fn release<H: Home<A>, A: Allocator>(frame: &mut Frame<H, A>, handle: Handle)
     requires owned { Owns frame.old handle }
     requires unlocked { IsUnlocked frame.old }
     ensures { Loses frame.old frame.new handle }
@@ -130,7 +130,7 @@ pub(crate) fn release<H: Home<A>, A: Allocator>(frame: &mut Frame<H, A>, handle:
 }
 
 /// Two references go, the second one first.
-pub(crate) fn release_both<H: Home<A>, A: Allocator>(
+pub fn release_both<H: Home<A>, A: Allocator>(
     frame: &mut Frame<H, A>,
     first: Handle,
     second: Handle,
@@ -146,13 +146,13 @@ pub(crate) fn release_both<H: Home<A>, A: Allocator>(
 }
 
 /// The ledger says this.
-pub(crate) fn says(rt: &impl Abort, ledger: Ledger, allocs: u64, frees: u64) {
+pub fn says(rt: &impl Abort, ledger: Ledger, allocs: u64, frees: u64) {
     assert_eq!(rt; ledger.allocs, allocs);
     assert_eq!(rt; ledger.frees, frees);
 }
 
 /// A thread that has a handle doesn't leave: its frame is answered.
-pub(crate) fn stays<H: Home<A>, A: Allocator>(rt: &impl Abort, frame: Frame<H, A>) -> Frame<H, A>
+pub fn stays<H: Home<A>, A: Allocator>(rt: &impl Abort, frame: Frame<H, A>) -> Frame<H, A>
     requires unlocked { IsUnlocked frame }
     ensures { result ≡ frame }
 {
@@ -164,7 +164,7 @@ pub(crate) fn stays<H: Home<A>, A: Allocator>(rt: &impl Abort, frame: Frame<H, A
 
 /// A thread that has no handle leaves, and so many turns of work are left to it then; the root gathers it, and the answer is its
 /// last ledger.
-pub(crate) fn leaves_late<H: Home<A> + Drop, A: Allocator>(
+pub fn leaves_late<H: Home<A> + Drop, A: Allocator>(
     rt: &impl Abort,
     table: &HeapTable<A>,
     root: &mut RootSeat<A>,
@@ -195,7 +195,7 @@ pub(crate) fn leaves_late<H: Home<A> + Drop, A: Allocator>(
 }
 
 /// A thread that has no handle leaves, there is nothing left for it to do, and the root gathers it.
-pub(crate) fn leaves<H: Home<A> + Drop, A: Allocator>(
+pub fn leaves<H: Home<A> + Drop, A: Allocator>(
     rt: &impl Abort,
     table: &HeapTable<A>,
     root: &mut RootSeat<A>,

@@ -1,0 +1,3 @@
+pub mod Threads
+pub mod Settling
+pub mod Lending

@@ -1,0 +1,34 @@
+-- When a thread is refused, and what is left of one that is done.
+use Rattle.std.specs.Prelude.{◌≡◌, ◌<◌, ◌≤◌, ℕ, List, []}
+use Rattle.brc_words.specs.declared.fault.Fault.{Fault}
+use Rattle.brc_words.specs.declared.fault.Fault.TheVariants.{TooManyThreads, OutOfMemory}
+use Rattle.brc_words.specs.declared.limits.TheConstants.{MOST_THREADS}
+use Rattle.brc_rule.specs.declared.told.Told.{Told}
+use Rattle.brc_rule.specs.Seen.{part_seen}
+use Rattle.brc_steps.specs.Joining.{next_thread, Leaves}
+use Rattle.brc_table.specs.Seated.{TableSeen, SeatSeen, RootSeen, view_of}
+use Rattle.brc_count.specs.declared.ledger.Ledger.{Ledger}
+
+-- a thread is refused where 64 have been registered; or memory was missing
+abbrev pub RefusesThread : RootSeen → Fault → Type 0
+RefusesThread root TooManyThreads = MOST_THREADS < next_thread root.view
+RefusesThread root OutOfMemory = next_thread root.view ≤ MOST_THREADS
+RefusesThread root _ = ⊥
+
+-- how many objects a thread made that did this, and how many cells it gave back
+abbrev pub ledger_of : ℕ → List Told → Ledger
+ledger_of n log = record { allocs = (part_seen n log).row.allocs; frees = (part_seen n log).row.frees }
+
+-- the heap of a thread that is done, and its seat with the log of all that it did
+pub record RetiredSeen (A : Type 0) : Type 0 where
+  pub heap : TableSeen
+  pub seat : SeatSeen A
+
+abbrev pub retired_seen : {A : Type 0} → SeatSeen A → ℕ → ℕ → RetiredSeen A
+retired_seen seat cells limit = record { heap = record { table = seat.table; cells = cells; local_limit = limit }; seat = seat }
+
+-- It has left and holds nothing: its hand is free, nothing is popped, its worklist is empty, and no slot is out.
+pub record Retires (A : Type 0) (seat : SeatSeen A) (cells : ℕ) (ledger : Ledger) : Type 0 where
+  pub leaves : Leaves cells (view_of seat)
+  pub bare : seat.slots ≡ []
+  pub counted : ledger ≡ ledger_of cells seat.log

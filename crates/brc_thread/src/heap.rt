@@ -1,0 +1,62 @@
+//! The heap that threads share.
+
+ghost use Rattle.std.specs.Prelude.{◌≡◌, ◌↔◌, ◌⊎◌, Err, IfOk, IfErr};
+ghost use Rattle.brc_words.specs.declared.fault.Fault.TheVariants as faults;
+ghost use Rattle.brc_runs.specs.Heap.{AreOptions};
+ghost use Rattle.brc_rule.specs.Opening.{first_view};
+ghost use Rattle.brc_table.specs.Seated.{TableSeen};
+
+use crate::root::Root;
+use brc_counter::Home;
+use brc_table::HeapTable;
+use brc_words::Fault;
+use std::alloc::Allocator;
+use std::marker::Model;
+
+/// How large a heap is.
+#[derive(Clone, Copy, Debug, PartialEq, Eq)]
+pub struct Options {
+    /// How many cells it has, from 512 to 65,536. The first 266 are immortals.
+    pub cells: u32,
+    /// Up to how many references an object's owner counts on its own, from 1 to 4,294,967,294.
+    pub local_limit: u32,
+}
+
+/// The words and blocks of one heap. All threads share it by reference; it must be taken apart in the end.
+pub struct Heap<A: Allocator> {
+    pub(crate) table: HeapTable<A>,
+}
+
+impl<A: Allocator> Model for Heap<A> {
+    ghost use Rattle.brc_table.specs.Seated.{TableSeen};
+
+    ghost Value = { TableSeen };
+
+    ghost view = { λ h. h.table };
+}
+
+impl<A: Allocator + Copy> Heap<A> {
+    /// A heap with its immortals, and the root that registers its threads. BadOptions, looked at first, where a size is out
+    /// of its range; OutOfMemory where the words or a block can't be had. No call of a thread asks for words or blocks again
+    /// but those that make an object or say so.
+    pub fn new(alloc: A, options: Options) -> Result<(Heap<A>, Root<A>), Fault>
+        ensures sizes { IfOk result (λ made. (made.0.cells ≡ options.cells) × (made.0.local_limit ≡ options.local_limit)) }
+        ensures root { IfOk result (λ made. made.1.table ≡ made.0.table) }
+        ensures view { IfOk result (λ made. made.1.view ≡ first_view) }
+        ensures options { (result ≡ Err faults.BadOptions) ↔ ¬ (AreOptions options.cells options.local_limit) }
+        ensures refused { IfErr result (λ fault. (fault ≡ faults.BadOptions) ⊎ (fault ≡ faults.OutOfMemory)) }
+    {
+        match HeapTable::new(alloc, options.cells, options.local_limit) {
+            Ok((table, seat)) => Ok((Heap { table }, Root { seat })),
+            Err(fault) => Err(fault),
+        }
+    }
+}
+
+impl<'h, A: Allocator> Home<A> for &'h Heap<A> {
+    ghost seen = { λ heap. heap.now };
+
+    fn table(&self) -> &HeapTable<A> {
+        &self.table
+    }
+}

@@ -1,0 +1,21 @@
+//! The life of a thread at the running heap: it is registered, works through a mutator, leaves, and is gathered.
+//!
+//! `Heap` and `Root` are made together. A `Mutator` is what a thread of the runtime works with: a frame (`brc_count`) and
+//! nothing else. `Resting` is a mutator on its way to another thread of the machine; `Leaving` a thread that has closed its
+//! merge queue, and `Retired` one that is done, for the root to gather. At the end the heap is taken apart.
+#![tactic(auto)]
+
+mod ends;
+mod heap;
+mod leaving;
+mod mutator;
+mod resting;
+mod root;
+mod settling;
+
+pub use ends::take_apart;
+pub use heap::{Heap, Options};
+pub use leaving::{Leaving, Retired};
+pub use mutator::Mutator;
+pub use resting::Resting;
+pub use root::Root;

@@ -1,0 +1,118 @@
+//! A mutator: what a thread of the runtime works with.
+
+ghost use Rattle.std.specs.Prelude.{◌≡◌, ◌<◌, ◌≤◌, ◌-◌, [], ◌⊎◌, length, IsTrue, IsFalse, IfOk, IfErr, OnOk, OnErr};
+ghost use Rattle.brc_words.specs.declared.limits.TheConstants.{GLOBALS};
+ghost use Rattle.brc_runs.specs.declared.event.Source.TheVariants as sources;
+ghost use Rattle.brc_runs.specs.Heap.{words_for};
+ghost use Rattle.brc_count.specs.Frames.{Given, Refused, IsAsBefore, IsUnlocked, KeepsHandles, Turns, ledger_seen};
+ghost use Rattle.brc_count.specs.Polling.{Polled};
+ghost use Rattle.brc_count.specs.Closing.{Closes};
+
+use crate::leaving::Leaving;
+use brc_count::{Frame, Handle, Ledger};
+use brc_counter::Home;
+use brc_words::{Fault, GLOBALS};
+use std::alloc::Allocator;
+use std::marker::Model;
+
+/// A thread that is registered and hasn't left: its frame, and nothing else. `H` leads to its heap: `&Heap<A>`, for one.
+pub struct Mutator<H: Home<A>, A: Allocator> {
+    pub(crate) frame: Frame<H, A>,
+}
+
+impl<H: Home<A>, A: Allocator> Model for Mutator<H, A> {
+    ghost use Rattle.brc_count.specs.Frames.{FrameSeen};
+
+    ghost Value = { FrameSeen A };
+
+    ghost view = { λ m. m.frame };
+}
+
+impl<H: Home<A>, A: Allocator> Mutator<H, A> {
+    ghost use Rattle.std.specs.Borrow.{sem};
+    ghost use Rattle.brc_thread.specs.Lending.{lends_frame};
+
+    /// Which thread it is: the number, from 1 to 64.
+    pub fn thread(&self) -> u32
+        ensures { result ≡ self.now.seat.thread }
+    {
+        self.frame.thread()
+    }
+
+    /// Its frame, over which objects are made, retained and released.
+    pub fn frame(&mut self) -> &mut Frame<H, A>
+        ensures* lends { sem 𝓛 (lends_frame H.row A.row H.Home A.Allocator self.entry result) }
+        ensures frame { result.now ≡ self.old }
+    {
+        &mut self.frame
+    }
+
+    /// How many objects the thread has made, and how many cells it has given back, its own objects' and others'.
+    pub fn ledger(&self) -> Ledger
+        ensures { result ≡ ledger_seen self.now }
+    {
+        self.frame.ledger()
+    }
+
+    /// Whether it has no handle, and no dead block to take apart.
+    pub fn is_idle(&self) -> bool
+        ensures idle { IsTrue result → (self.now.len ≡ 0) × (self.now.works ≡ []) }
+        ensures busy { IsFalse result → (0 < self.now.len) ⊎ (0 < length self.now.works) }
+    {
+        self.frame.is_idle()
+    }
+
+    /// A handle to the globals, the immortal dictionary of cell 265. FrameFull, then OutOfMemory; a refusal changes nothing.
+    pub fn globals(&mut self) -> Result<Handle, Fault>
+        requires unlocked { IsUnlocked self.old }
+        ensures heap { self.new.heap ≡ self.old.heap }
+        ensures given { IfOk result (Given self.old self.new (sources.Immortal GLOBALS) GLOBALS) }
+        ensures refused { IfErr result (Refused self.old) }
+        ensures unchanged { OnErr result (IsAsBefore self.old self.new) }
+    {
+        self.frame.immortal(GLOBALS)
+    }
+
+    /// Takes what the thread was told, drains the queue words that this names, and deals with each entry that was in them.
+    /// The answer is what it was told: 0 where nobody put anything into its queue since the last poll. A runtime polls where
+    /// it can let other threads' requests in: between instructions, say. It takes no memory.
+    pub fn poll(&mut self) -> u64
+        requires unlocked { IsUnlocked self.old }
+        ensures keeps { KeepsHandles self.old self.new }
+        ensures polled { Polled self.old self.new result }
+        ensures quiet { result ≡ 0 → self.new.works ≡ self.old.works }
+    {
+        self.frame.poll()
+    }
+
+    /// Takes dead blocks apart, at most so many turns: in one, the front block's last entry is released, or, if it has none,
+    /// the block is given back. The answer is the number of turns that weren't needed: above 0 only where no block is left.
+    /// It takes no memory.
+    pub fn work(&mut self, budget: usize) -> usize
+        requires unlocked { IsUnlocked self.old }
+        ensures keeps { KeepsHandles self.old self.new }
+        ensures few { result ≤ budget }
+        ensures turns { Turns self.old (budget - result) self.new }
+        ensures done { 0 < result → self.new.works ≡ [] }
+    {
+        self.frame.work(budget)
+    }
+
+    /// Leaves: its queue words are closed, by rising number, and from then on others do for it what they asked of it. A mutator
+    /// that isn't idle, with a handle or a dead block, is answered as it was.
+    pub fn leave(self) -> Result<Leaving<H, A>, Mutator<H, A>>
+        requires unlocked { IsUnlocked self }
+        ensures heap { IfOk result (λ leaving. leaving.heap ≡ self.heap) }
+        ensures thread { IfOk result (λ leaving. leaving.seat.thread ≡ self.seat.thread) }
+        ensures closes { IfOk result (λ leaving. Closes self.seat.log (words_for self.heap.cells) leaving.seat.log) }
+        ensures idle { OnOk result ((self.len ≡ 0) × (self.works ≡ [])) }
+        ensures refused { OnErr result ((0 < self.len) ⊎ (0 < length self.works)) }
+        ensures unchanged { IfErr result (λ same. same ≡ self) }
+    {
+        let Mutator { frame } = self;
+        match frame.close() {
+            Ok(frame) => Ok(Leaving { frame }),
+            Err(frame) => Err(Mutator { frame }),
+        }
+    }
+}

@@ -1,0 +1,81 @@
+//! The root: it registers threads, and gathers those that have left.
+
+ghost use Rattle.std.specs.Prelude.{◌≡◌, ◌≤◌, [], IfOk, IfErr, OnOk, OnErr};
+ghost use Rattle.brc_count.specs.Frames.{IsUnlocked};
+ghost use Rattle.brc_steps.specs.Joining.{next_thread, registering, gathering};
+ghost use Rattle.brc_table.specs.Seated.{view_of};
+ghost use Rattle.brc_thread.specs.Threads.{RefusesThread};
+
+use crate::heap::Heap;
+use crate::leaving::Retired;
+use crate::mutator::Mutator;
+use brc_count::Frame;
+use brc_counter::Home;
+use brc_table::RootSeat;
+use brc_words::{Fault, MOST_THREADS};
+use std::alloc::Allocator;
+use std::marker::Model;
+
+/// The seat of whoever starts threads and waits for their ends. There is one for each heap.
+pub struct Root<A: Allocator> {
+    pub(crate) seat: RootSeat<A>,
+}
+
+impl<A: Allocator> Model for Root<A> {
+    ghost use Rattle.brc_table.specs.Seated.{RootSeen};
+
+    ghost Value = { RootSeen };
+
+    ghost view = { λ r. r.seat };
+}
+
+impl<A: Allocator + Copy> Root<A> {
+    /// The mutator of the next thread, which is registered with it: threads are numbered from 1. TooManyThreads, looked at
+    /// first, where 64 have been registered; OutOfMemory where its counts or popped bits can't be had. A refusal changes
+    /// nothing.
+    pub fn register<H: Home<A> + Drop>(&mut self, alloc: A, heap: H) -> Result<Mutator<H, A>, Fault>
+        requires heap { self.old.table ≡ (H.seen heap).table }
+        ensures heap { IfOk result (λ mutator. mutator.heap ≡ H.seen heap) }
+        ensures thread { IfOk result (λ mutator. mutator.seat.thread ≡ next_thread self.old.view) }
+        ensures new { IfOk result (λ mutator. mutator.seat.log ≡ []) }
+        ensures idle { IfOk result (λ mutator. (mutator.len ≡ 0) × (mutator.works ≡ [])) }
+        ensures unlocked { IfOk result (λ mutator. IsUnlocked mutator) }
+        ensures root { OnOk result (self.new.view ≡ registering self.old.view) }
+        ensures same_root { (self.new.table ≡ self.old.table) × (self.new.id ≡ self.old.id) }
+        ensures refused { IfErr result (RefusesThread self.old) }
+        ensures unchanged { OnErr result (self.new ≡ self.old) }
+    {
+        if self.seat.next() > MOST_THREADS {
+            return Err(Fault::TooManyThreads);
+        }
+        match Frame::enter(alloc, heap, &mut self.seat) {
+            Ok(frame) => Ok(Mutator { frame }),
+            Err(fault) => Err(fault),
+        }
+    }
+}
+
+impl<A: Allocator> Root<A> {
+    /// The number that the next thread gets: how many have been registered, and 1.
+    pub fn next(&self) -> u32
+        ensures { result ≡ next_thread self.now.view }
+    {
+        self.seat.next()
+    }
+
+    /// Takes a thread in that is done. What it did is the root's to know from now on.
+    pub fn gather(&mut self, heap: &Heap<A>, retired: Retired<A>)
+        requires heap { self.old.table ≡ heap.now.table }
+        requires same_heap { retired.heap ≡ heap.now }
+        ensures gathered { self.new.view ≡ gathering self.old.view (view_of retired.seat) }
+        ensures same_root { (self.new.table ≡ self.old.table) × (self.new.id ≡ self.old.id) }
+    {
+        let Retired {
+            seat,
+            cells: _cells,
+            local_limit: _limit,
+            ledger: _ledger,
+        } = retired;
+        heap.table.join(&mut self.seat, seat);
+    }
+}

@@ -1,0 +1,29 @@
+//! Settling: polls and work until there is nothing to do.
+
+ghost use Rattle.brc_count.specs.Frames.{IsUnlocked, KeepsHandles};
+ghost use Rattle.brc_thread.specs.Settling.{Settles};
+
+use crate::mutator::Mutator;
+use brc_counter::Home;
+use std::alloc::Allocator;
+use std::sync::Wait;
+
+/// So many turns of work are done between two polls.
+const TURNS: usize = 64;
+
+impl<H: Home<A>, A: Allocator> Mutator<H, A> {
+    /// Works and polls until a poll was told nothing with no dead block left. Another thread may tell it something at any
+    /// time, so that nothing says when that is.
+    pub fn settle(&mut self, rt: &impl Wait)
+        requires unlocked { IsUnlocked self.old }
+        ensures keeps { KeepsHandles self.old self.new }
+        ensures settled { Settles self.old self.new }
+    {
+        for _ in rt.forever() {
+            if self.work(TURNS) > 0 && self.poll() == 0 {
+                return;
+            }
+        }
+        unreachable!()
+    }
+}

@@ -1,0 +1,58 @@
+//! The library as a runtime uses it: the example of the README.
+
+ghost use Rattle.std.specs.Prelude.{◌≡◌};
+ghost use Rattle.brc_count.specs.Frames.{IsUnlocked};
+
+use crate::parts::given_back;
+use brc_count::Frame;
+use brc_counter::Home;
+use brc_things::{new_int, none};
+use brc_thread::{Heap, Options, take_apart};
+use std::alloc::Allocator;
+use std::process::Abort;
+
+/// What a thread of the runtime does with its frame.
+fn one_life<H: Home<A>, A: Allocator>(rt: &impl Abort, alloc: A, frame: &mut Frame<H, A>)
+    requires unlocked { IsUnlocked frame.old }
+    ensures heap { frame.new.heap ≡ frame.old.heap }
+    ensures unlocked { IsUnlocked frame.new }
+{
+    let Ok(number) = new_int(alloc, frame, 1_000) else {
+        panic!(rt; "no object can be made")
+    };
+    let Ok(again) = frame.retain(&number) else {
+        panic!(rt; "no handle can be had")
+    };
+    let Ok(none) = none(frame) else {
+        panic!(rt; "no handle can be had")
+    };
+    frame.release(number);
+    frame.release(none);
+    frame.release(again);
+}
+
+#[test]
+fn a_thread_of_the_runtime(rt: HostRuntime) {
+    let alloc = rt.alloc();
+    let options = Options {
+        cells: 4_096,
+        local_limit: 4_294_967_294,
+    };
+    let Ok((heap, mut root)) = Heap::new(alloc, options) else {
+        panic!(rt; "no heap can be had")
+    };
+    let Ok(mut mutator) = root.register(alloc, &heap) else {
+        panic!(rt; "no thread can be registered")
+    };
+    one_life(&rt, alloc, mutator.frame());
+    mutator.settle(&rt);
+    assert_eq!(rt; (mutator.ledger().allocs, mutator.ledger().frees), (1, 1));
+    match mutator.leave() {
+        Err(_mutator) => panic!(rt; "a handle or a block is left"),
+        Ok(leaving) => match leaving.finish() {
+            Err(_leaving) => panic!(rt; "an entry or a block is left"),
+            Ok(retired) => root.gather(&heap, retired),
+        },
+    }
+    assert_eq!(rt; given_back(&rt, take_apart(heap, root)), 266);
+}

@@ -1,0 +1,113 @@
+//! Turns of two, three and four threads.
+
+ghost use Rattle.std.specs.Prelude.{◌≡◌, ◌<◌};
+ghost use Rattle.brc_words.specs.declared.limits.TheConstants.{GLOBALS};
+
+use crate::parts::{clears, given_back, gives, takes};
+use brc_thread::{Heap, Options, Resting, Retired, Root, take_apart};
+use std::alloc::Global;
+use std::process::Abort;
+use std::sync::Wait;
+use std::thread::{Threads, join};
+
+/// So many objects were made, and so many cells given back.
+#[derive(Clone, Copy)]
+struct Sum {
+    allocs: u64,
+    frees: u64,
+}
+
+/// The next thread, at rest.
+fn registered(
+    rt: &impl Abort,
+    heap: &Heap<Global>,
+    root: &mut Root<Global>,
+    alloc: Global,
+) -> Resting<Global>
+    requires heap { root.old.table ≡ heap.now.table }
+    ensures heap { result.heap ≡ heap.now }
+    ensures root { root.new.table ≡ root.old.table }
+{
+    match root.register(alloc, heap) {
+        Ok(mutator) => mutator.rest(),
+        Err(_) => panic!(rt; "a thread is refused"),
+    }
+}
+
+/// The thread is gathered, and its ledger added.
+fn gathered(heap: &Heap<Global>, root: &mut Root<Global>, retired: Retired<Global>, sum: Sum) -> Sum
+    requires heap { root.old.table ≡ heap.now.table }
+    requires same { retired.heap ≡ heap.now }
+    ensures root { root.new.table ≡ root.old.table }
+{
+    let ledger = retired.ledger();
+    root.gather(heap, retired);
+    Sum {
+        allocs: sum.allocs.wrapping_add(ledger.allocs),
+        frees: sum.frees.wrapping_add(ledger.frees),
+    }
+}
+
+/// One makes lists and two others take them, each on a thread of its own; then a fourth takes what is left.
+fn turn<R: Threads + Abort + Wait + Sync>(
+    rt: &R,
+    heap: &Heap<Global>,
+    root: &mut Root<Global>,
+    alloc: Global,
+    lists: u32,
+) -> Sum
+    requires heap { root.old.table ≡ heap.now.table }
+    requires inside { GLOBALS < heap.now.cells }
+    ensures root { root.new.table ≡ root.old.table }
+{
+    let maker = registered(rt, heap, root, alloc);
+    let first = registered(rt, heap, root, alloc);
+    let second = registered(rt, heap, root, alloc);
+    let last = registered(rt, heap, root, alloc);
+    let (maker, (first, second)) = join(
+        rt,
+        || gives(rt, alloc, heap, maker, lists),
+        || {
+            join(
+                rt,
+                || takes(rt, heap, first, lists),
+                || takes(rt, heap, second, lists),
+            )
+        },
+    );
+    let last = clears(rt, heap, last);
+    let sum = Sum {
+        allocs: 0,
+        frees: 0,
+    };
+    let sum = gathered(heap, root, maker, sum);
+    let sum = gathered(heap, root, first, sum);
+    let sum = gathered(heap, root, second, sum);
+    gathered(heap, root, last, sum)
+}
+
+/// A heap of its own, on which each makes so many lists.
+fn on_a_heap<R: Threads + Abort + Wait + Sync>(rt: &R, alloc: Global, lists: u32) -> (Sum, u64) {
+    let options = Options {
+        cells: 512,
+        local_limit: 10,
+    };
+    match Heap::new(alloc, options) {
+        Err(_) => panic!(rt; "memory"),
+        Ok((heap, root)) => {
+            let mut root = root;
+            let sum = turn(rt, &heap, &mut root, alloc, lists);
+            (sum, given_back(rt, take_apart(heap, root)))
+        }
+    }
+}
+
+#[test]
+fn ledgers_come_out_in_each_of_many_turns(rt: HostRuntime) {
+    for _ in 0..1_000 {
+        let (sum, blocks) = on_a_heap(&rt, rt.alloc(), 20);
+        assert_eq!(rt; sum.allocs, 20);
+        assert_eq!(rt; sum.frees, 20);
+        assert_eq!(rt; blocks, 266);
+    }
+}
