@@ -1,5 +1,5 @@
 mod Buried
-mod Changes
+pub mod Changes
 mod Framings
 mod Locks
 mod Locked_Entries

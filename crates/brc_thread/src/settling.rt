@@ -1,7 +1,8 @@
 //! Settling: polls and work until there is nothing to do.
 
+ghost use Rattle.std.specs.Prelude.{IsTrue};
 ghost use Rattle.brc_count.specs.Frames.{IsUnlocked, KeepsHandles};
-ghost use Rattle.brc_thread.specs.Settling.{Settles};
+ghost use Rattle.brc_thread.specs.Settling.{PollsAndWorks, Settles};
 
 use crate::mutator::Mutator;
 use brc_counter::Home;
@@ -12,15 +13,28 @@ use std::sync::Wait;
 const TURNS: usize = 64;
 
 impl<H: Home<A>, A: Allocator> Mutator<H, A> {
+    /// Works, and polls once no dead block is left; whether that poll was told nothing.
+    fn has_settled(&mut self) -> bool
+        requires unlocked { IsUnlocked self.old }
+        ensures keeps { KeepsHandles self.old self.new }
+        ensures went { PollsAndWorks self.old self.new }
+        ensures settled { IsTrue result → Settles self.old self.new }
+    {
+        if self.work(TURNS) == 0 {
+            return false;
+        }
+        self.poll() == 0
+    }
+
     /// Works and polls until a poll was told nothing with no dead block left. Another thread may tell it something at any
-    /// time, so that nothing says when that is.
+    /// time, so that nothing says when that is. It takes no memory.
     pub fn settle(&mut self, rt: &impl Wait)
         requires unlocked { IsUnlocked self.old }
         ensures keeps { KeepsHandles self.old self.new }
         ensures settled { Settles self.old self.new }
     {
         for _ in rt.forever() {
-            if self.work(TURNS) > 0 && self.poll() == 0 {
+            if self.has_settled() {
                 return;
             }
         }
