@@ -1,9 +1,10 @@
 -- Handles that are kept, from what calls do to a frame's places.
-use Rattle.std.proofs.Common.{◌≡◌, ◌≢◌, ℕ, true, Option, Some, None, is_some, sym, ◌∙◌, ap}
+use Rattle.std.proofs.Common.{◌≡◌, ◌≢◌, ℕ, true, Option, Some, None, is_some, refl, sym, ◌∙◌, ap}
+use Rattle.brc_block.specs.declared.payload.Payload.{Payload}
 use Rattle.brc_runs.specs.declared.event.Source.{Source}
 use Rattle.brc_count.specs.Frames.{FrameSeen, HandleSeen, IsUnlocked, Owns, Given, ReleasedOf}
-use Rattle.brc_count.specs.Locking.{cell_in}
-use Rattle.brc_lives.specs.Handles.{Gains, Loses}
+use Rattle.brc_count.specs.Locking.{cell_in, KeepsThread, KeepsFrame, Began}
+use Rattle.brc_lives.specs.Handles.{Gains, Loses, HasLocked}
 
 none_filled : {X : Type 0} {o : Option X} → is_some o ≡ true → o ≡ None → ⊥
 none_filled filled none = cc
@@ -51,3 +52,43 @@ module _ {A : Type 0} where
   pub released_loses : (old new : FrameSeen A) (gone : HandleSeen) (c : ℕ) → new.heap ≡ old.heap → IsUnlocked old
       → new.seat.thread ≡ old.seat.thread → ReleasedOf old new gone.place c → Loses old new gone
   released_loses old new gone c heap unlocked thread r = loses old new gone heap (r.rest.lock ∙ unlocked) thread r.others
+
+  -- ---- a frame that was only looked at, or locked
+
+  pub thread_kept : (frame : FrameSeen A) → KeepsThread frame frame
+  thread_kept frame = record { heap = refl; thread = refl; stage = refl; popped = refl; works = refl }
+
+  pub thread_kept_on : {old mid new : FrameSeen A} → KeepsThread old mid → KeepsThread mid new → KeepsThread old new
+  thread_kept_on first second = record {
+    heap = second.heap ∙ first.heap;
+    thread = second.thread ∙ first.thread;
+    stage = second.stage ∙ first.stage;
+    popped = second.popped ∙ first.popped;
+    works = second.works ∙ first.works;
+  }
+
+  pub frame_kept : (frame : FrameSeen A) → KeepsFrame frame frame
+  frame_kept frame = record { places = λ k. refl; len = refl; spare = refl; next = refl }
+
+  pub frame_kept_on : {old mid new : FrameSeen A} → KeepsFrame old mid → KeepsFrame mid new → KeepsFrame old new
+  frame_kept_on first second = record {
+    places = λ k. second.places k ∙ first.places k;
+    len = second.len ∙ first.len;
+    spare = second.spare ∙ first.spare;
+    next = second.next ∙ first.next;
+  }
+
+  pub owns_kept : (old new : FrameSeen A) (h : HandleSeen) → KeepsThread old new → KeepsFrame old new → Owns old h → Owns new h
+  owns_kept old new h thread frame owns = owns_still old new h thread.thread (frame.places h.place) owns
+
+  -- locked at last, after some tries that found it busy
+  pub has_locked : (old mid new : FrameSeen A) (k : ℕ) (block : ℕ × Payload A) → KeepsThread old mid → KeepsFrame old mid
+      → Began mid new k block → KeepsThread mid new → KeepsFrame mid new → HasLocked old new k block
+  has_locked old mid new k block thread frame began keeps same = record {
+    locked = began.locked;
+    locks_place = began.locks_place;
+    locks_cell = began.locks_cell;
+    found = began.found;
+    keeps = thread_kept_on thread keeps;
+    frame = frame_kept_on frame same;
+  }
