@@ -1,4 +1,3 @@
-use Rattle.std.proofs.Common.{rules}
 use Rattle.brc_lives.proofs.Handles.{owns_kept, thread_kept, thread_kept_on, frame_kept, frame_kept_on, has_locked}
 use Rattle.brc_lives.proofs.globals.globals_locked.Goals as goal
 
@@ -13,8 +12,14 @@ begin-requires-clause-unlocked g c = c.loop.invariant.4
 
 pub returns-in-Some-begin : goal.returns-in-Some-begin
 returns-in-Some-begin g c =
-    has_locked c.args.frame.now c.loop.frame c.begin.new.frame c.args.globals.now.place c.in-Some-begin.field-0 c.loop.invariant.2 c.loop.invariant.3
+    has_locked c.args.frame.now c.loop.frame c.begin.new.self c.args.globals.now.place c.in-Some-begin.block c.loop.invariant.2 c.loop.invariant.3
     c.in-Some-begin.ensures.began c.begin.ensures.keeps c.begin.ensures.frame
 
 pub loop-preserved : goal.loop-preserved
-loop-preserved g c = ?
+loop-preserved g c = (
+  tt,
+  tt,
+  thread_kept_on c.loop.invariant.2 c.begin.ensures.keeps,
+  frame_kept_on c.loop.invariant.3 c.begin.ensures.frame,
+  c.in_default.ensures.busy.unlocked,
+)
