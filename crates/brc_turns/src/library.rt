@@ -6,7 +6,7 @@ ghost use Rattle.brc_count.specs.Frames.{IsUnlocked};
 use crate::parts::given_back;
 use brc_count::Frame;
 use brc_counter::Home;
-use brc_things::{new_int, none};
+use brc_things::new_int;
 use brc_thread::{Heap, Options, take_apart};
 use std::alloc::Allocator;
 use std::process::Abort;
@@ -23,12 +23,8 @@ fn one_life<H: Home<A>, A: Allocator>(rt: &impl Abort, alloc: A, frame: &mut Fra
     let Ok(again) = frame.retain(&number) else {
         panic!(rt; "no handle can be had")
     };
-    let Ok(none) = none(frame) else {
-        panic!(rt; "no handle can be had")
-    };
-    frame.release(number);
-    frame.release(none);
     frame.release(again);
+    frame.release(number);
 }
 
 #[test]

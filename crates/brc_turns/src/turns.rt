@@ -48,7 +48,53 @@ fn gathered(heap: &Heap<Global>, root: &mut Root<Global>, retired: Retired<Globa
     }
 }
 
-/// One makes lists and two others take them, each on a thread of its own; then a fourth takes what is left.
+/// Two threads take lists out of the globals, each on a thread of its own.
+fn two_take<R: Threads + Abort + Wait + Sync>(
+    rt: &R,
+    heap: &Heap<Global>,
+    first: Resting<Global>,
+    second: Resting<Global>,
+    tries: u32,
+) -> (Retired<Global>, Retired<Global>)
+    requires first { first.heap ≡ heap.now }
+    requires second { second.heap ≡ heap.now }
+    requires inside { GLOBALS < heap.now.cells }
+    ensures first { result.0.heap ≡ heap.now }
+    ensures second { result.1.heap ≡ heap.now }
+{
+    join(
+        rt,
+        || takes(rt, heap, first, tries),
+        || takes(rt, heap, second, tries),
+    )
+}
+
+/// One makes lists and two others take them, each on a thread of its own.
+fn three_work<R: Threads + Abort + Wait + Sync>(
+    rt: &R,
+    alloc: Global,
+    heap: &Heap<Global>,
+    maker: Resting<Global>,
+    first: Resting<Global>,
+    second: Resting<Global>,
+    lists: u32,
+) -> (Retired<Global>, (Retired<Global>, Retired<Global>))
+    requires maker { maker.heap ≡ heap.now }
+    requires first { first.heap ≡ heap.now }
+    requires second { second.heap ≡ heap.now }
+    requires inside { GLOBALS < heap.now.cells }
+    ensures maker { result.0.heap ≡ heap.now }
+    ensures first { result.1.0.heap ≡ heap.now }
+    ensures second { result.1.1.heap ≡ heap.now }
+{
+    join(
+        rt,
+        || gives(rt, alloc, heap, maker, lists),
+        || two_take(rt, heap, first, second, lists),
+    )
+}
+
+/// Three threads work at once; then a fourth takes what they have left in the globals.
 fn turn<R: Threads + Abort + Wait + Sync>(
     rt: &R,
     heap: &Heap<Global>,
@@ -64,17 +110,7 @@ fn turn<R: Threads + Abort + Wait + Sync>(
     let first = registered(rt, heap, root, alloc);
     let second = registered(rt, heap, root, alloc);
     let last = registered(rt, heap, root, alloc);
-    let (maker, (first, second)) = join(
-        rt,
-        || gives(rt, alloc, heap, maker, lists),
-        || {
-            join(
-                rt,
-                || takes(rt, heap, first, lists),
-                || takes(rt, heap, second, lists),
-            )
-        },
-    );
+    let (maker, (first, second)) = three_work(rt, alloc, heap, maker, first, second, lists);
     let last = clears(rt, heap, last);
     let sum = Sum {
         allocs: 0,
