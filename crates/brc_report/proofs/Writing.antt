@@ -1,21 +1,15 @@
 -- Two pieces of a text put one after the other, and the pieces of a list.
-use Rattle.std.proofs.Common.{◌≡◌, ◌<◌, ◌+◌, ◌++◌, ℕ, suc, List, [], ◌∷◌, Option, Result, Ok, Err, refl, sym, ◌∙◌, ap, append-nil, length, get_or, drop, drop-cons, add-one}
+use Rattle.std.proofs.Common.{◌≡◌, ◌<◌, ◌+◌, ◌++◌, ℕ, suc, List, ◌∷◌, Option, Result, sym, ◌∙◌, ap, length, get_or, drop, drop-cons, add-one}
 use Rattle.std.specs.Io.KnownBytes.{Appends}
 use Rattle.brc_words.specs.declared.fault.Fault.{Fault}
 use Rattle.brc_text.specs.Puts.{Puts, PutsUpTo}
-use Rattle.brc_text.proofs.PutLaws.{starts, goes_on, fails, ends}
+use Rattle.brc_text.proofs.PutLaws.{starts, goes_on, fails, rest_puts}
 
 -- the second piece is put, or a front of it
 pub second_puts : (old mid new : Option (List ℕ)) (result : Result (Unit {0}) Fault) (piece behind text : List ℕ)
     → text ≡ piece ++ behind → Appends old mid piece → Puts mid new result behind → Puts old new result text
-second_puts old mid new (Ok done) piece behind text split first second =
-    ends (goes_on new behind [] (goes_on mid piece behind (starts old text) split first) (sym (append-nil behind)) second)
-    refl
-second_puts old mid new (Err fault) piece behind text split first second = (
-  second.0,
-  second.1 ++ [],
-  fails behind [] (goes_on mid piece behind (starts old text) split first) (sym (append-nil behind)) second.2,
-)
+second_puts old mid new result piece behind text split first second =
+    rest_puts new result (goes_on mid piece behind (starts old text) split first) second
 
 -- the first piece fails, so a front of the text is put
 pub first_fails : (old new : Option (List ℕ)) (piece behind text left : List ℕ) → text ≡ piece ++ behind

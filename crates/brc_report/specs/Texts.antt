@@ -1,11 +1,12 @@
 -- The text of a report.
-use Rattle.std.specs.Prelude.{ℕ, ◌++◌, List, [], ◌∷◌, codes, decimal}
+use Rattle.std.specs.Prelude.{ℕ, ◌++◌, List, [], ◌∷◌, codes}
 use Rattle.brc_words.specs.declared.kind.Kind.{Kind}
 use Rattle.brc_words.specs.declared.kind.Kind.TheVariants as kinds
 use Rattle.brc_text.specs.declared.keyword.Keyword.{Keyword}
 use Rattle.brc_text.specs.declared.keyword.Keyword.TheVariants as words
 use Rattle.brc_text.specs.declared.token.Token.TheVariants as tokens
 use Rattle.brc_text.specs.Lines.{line}
+use Rattle.brc_text.specs.Headed.{headed_line, numbers_line}
 use Rattle.brc_report.specs.declared.content.Remain.{Remain}
 use Rattle.brc_report.specs.declared.report.Ledger.{Ledger}
 
@@ -25,29 +26,18 @@ abbrev pub ledger_line : Ledger → ℕ → List ℕ
 ledger_line ledger live =
     line (tokens.Word words.Ledger ∷ tokens.Number ledger.allocs ∷ tokens.Number ledger.frees ∷ tokens.Number live ∷ [])
 
--- what stands behind the first word of `remain CELL KIND HELDBY`
-abbrev pub remain_words : Remain → List ℕ
-remain_words remain =
-    line (tokens.Number remain.cell ∷ tokens.Word (kind_word remain.kind) ∷ tokens.Number remain.held_by ∷ [])
-
+-- `remain CELL KIND HELDBY`
 abbrev pub remain_line : Remain → List ℕ
-remain_line remain = codes "remain " ++ remain_words remain
+remain_line remain =
+    headed_line (codes "remain") (tokens.Number remain.cell ∷ tokens.Word (kind_word remain.kind) ∷ tokens.Number remain.held_by ∷ [])
 
 abbrev pub remains_text : List Remain → List ℕ
 remains_text [] = []
 remains_text (remain ∷ remains) = remain_line remain ++ remains_text remains
 
--- a cell and the space in front of it
-abbrev pub cell_word : ℕ → List ℕ
-cell_word cell = 32 ∷ decimal cell
-
-abbrev pub cells_text : List ℕ → List ℕ
-cells_text [] = []
-cells_text (cell ∷ cells) = cell_word cell ++ cells_text cells
-
 -- `cycle C C ..`
 abbrev pub cycle_line : List ℕ → List ℕ
-cycle_line cells = codes "cycle" ++ (cells_text cells ++ 10 ∷ [])
+cycle_line cells = numbers_line (codes "cycle") cells
 
 abbrev pub cycles_text : List (List ℕ) → List ℕ
 cycles_text [] = []

@@ -1,13 +1,12 @@
 //! A report, and its text.
 
-ghost use Rattle.std.specs.Prelude.{◌≡◌, ◌++◌, [], ◌∷◌, decimal};
+ghost use Rattle.std.specs.Prelude.{◌≡◌, ◌++◌};
 ghost use Rattle.brc_text.specs.Puts.{Puts};
-ghost use Rattle.brc_report.specs.Texts.{kind_word, ledger_line, remain_words, remain_line, remains_text, cell_word, cells_text, cycle_line, cycles_text, report_text};
+ghost use Rattle.brc_report.specs.Texts.{kind_word, ledger_line, remain_line, remains_text, cycle_line, cycles_text, report_text};
 
 use crate::content::{Cells, Content, Remain};
-use brc_text::{Keyword, Token, put_bytes, put_line};
+use brc_text::{Keyword, Token, put_headed_line, put_line, put_numbers_line};
 use brc_words::{Fault, Kind};
-use itoa::Buffer;
 use std::alloc::Allocator;
 use std::io::Write;
 
@@ -56,25 +55,19 @@ fn put_ledger<W: Write>(writer: &mut W, ledger: &Ledger, live: u64) -> Result<()
     )
 }
 
-fn put_remain_words<W: Write>(writer: &mut W, remain: Remain) -> Result<(), Fault>
-    ensures { Puts (W.contents writer.old) (W.contents writer.new) result (remain_words remain) }
+/// Writes one remain.
+fn put_remain<W: Write>(writer: &mut W, remain: Remain) -> Result<(), Fault>
+    ensures { Puts (W.contents writer.old) (W.contents writer.new) result (remain_line remain) }
 {
-    put_line(
+    put_headed_line(
         writer,
+        b"remain",
         &[
             Token::Number(remain.cell as u64),
             Token::Word(word_of_kind(remain.kind)),
             Token::Number(remain.held_by as u64),
         ],
     )
-}
-
-/// Writes one remain.
-fn put_remain<W: Write>(writer: &mut W, remain: Remain) -> Result<(), Fault>
-    ensures { Puts (W.contents writer.old) (W.contents writer.new) result (remain_line remain) }
-{
-    put_bytes(writer, b"remain ")?;
-    put_remain_words(writer, remain)
 }
 
 fn put_remains<W: Write>(writer: &mut W, remains: &[Remain]) -> Result<(), Fault>
@@ -86,42 +79,11 @@ fn put_remains<W: Write>(writer: &mut W, remains: &[Remain]) -> Result<(), Fault
     Ok(())
 }
 
-fn put_number<W: Write>(writer: &mut W, number: u32) -> Result<(), Fault>
-    ensures { Puts (W.contents writer.old) (W.contents writer.new) result (decimal number) }
-{
-    put_bytes(writer, Buffer::new().format(number).as_bytes())
-}
-
-/// Writes a cell behind a space.
-fn put_cell<W: Write>(writer: &mut W, cell: u32) -> Result<(), Fault>
-    ensures { Puts (W.contents writer.old) (W.contents writer.new) result (cell_word cell) }
-{
-    put_bytes(writer, b" ")?;
-    put_number(writer, cell)
-}
-
-fn put_cells<W: Write>(writer: &mut W, cells: &[u32]) -> Result<(), Fault>
-    ensures { Puts (W.contents writer.old) (W.contents writer.new) result (cells_text cells.now) }
-{
-    for cell in cells {
-        put_cell(writer, *cell)?;
-    }
-    Ok(())
-}
-
-fn put_cells_line<W: Write>(writer: &mut W, cells: &[u32]) -> Result<(), Fault>
-    ensures { Puts (W.contents writer.old) (W.contents writer.new) result (cells_text cells.now ++ 10 ∷ []) }
-{
-    put_cells(writer, cells)?;
-    put_bytes(writer, b"\n")
-}
-
 /// Writes one cycle.
 fn put_cycle<W: Write>(writer: &mut W, cells: &[u32]) -> Result<(), Fault>
     ensures { Puts (W.contents writer.old) (W.contents writer.new) result (cycle_line cells.now) }
 {
-    put_bytes(writer, b"cycle")?;
-    put_cells_line(writer, cells)
+    put_numbers_line(writer, b"cycle", cells)
 }
 
 fn put_cycles<A: Allocator, W: Write>(writer: &mut W, cycles: &[Cells<A>]) -> Result<(), Fault>

@@ -4,3 +4,4 @@ pub mod Words
 pub mod Tokens
 pub mod Lines
 pub mod Puts
+pub mod Headed

@@ -14,3 +14,9 @@ abbrev pub Puts : Option (List ℕ) → Option (List ℕ) → Result (Unit {0}) 
 Puts old new result text =
     MatchResult result (λ _. Appends old new text)
     (λ fault. (fault ≡ Io) × (rest : List ℕ) × PutsUpTo old new text rest)
+
+-- the writer took the text but for an end that is kept, or a front of it and the answer is Io
+abbrev pub PutsBut : Option (List ℕ) → Option (List ℕ) → Result (Unit {0}) Fault → List ℕ → List ℕ → Type 0
+PutsBut old new result text kept =
+    MatchResult result (λ _. PutsUpTo old new text kept)
+    (λ fault. (fault ≡ Io) × (rest : List ℕ) × PutsUpTo old new text rest)

@@ -5,12 +5,14 @@
 //! `proofs/TokenLaws.antt` and `proofs/LineLaws.antt`, for the crates above.
 #![tactic(auto)]
 
+mod headed;
 mod keyword;
 mod line;
 mod number;
 mod putting;
 mod token;
 
+pub use headed::{put_headed_line, put_numbers_line};
 pub use keyword::Keyword;
 pub use line::Words;
 pub use number::number_of;

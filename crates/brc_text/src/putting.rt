@@ -1,6 +1,7 @@
 //! Putting a text to a writer: all of it, or Io after a front of it.
 
-ghost use Rattle.std.specs.Prelude.{◌≡◌, ◌≤◌, ◌+◌, ◌++◌, length};
+ghost use Rattle.std.specs.Prelude.{◌≡◌, ◌<◌, ◌≤◌, ◌+◌, ◌*◌, [], ◌∷◌, ◌++◌, length};
+ghost use Rattle.std.specs.List.{flat_map};
 ghost use Rattle.arrayvec.specs.ArrayVec.{array_vec_len};
 ghost use Rattle.brc_text.specs.Tokens.{token, letter as letter_byte_of};
 ghost use Rattle.brc_text.specs.Lines.{line};
@@ -28,9 +29,9 @@ pub fn put_bytes<W: Write>(writer: &mut W, bytes: &[u8]) -> Result<(), Fault>
 }
 
 /// Eight words of at most 21 bytes, and the space or line feed behind each.
-type LineText = ArrayVec<u8, 176>;
+pub(crate) type LineText = ArrayVec<u8, 176>;
 
-fn add_bytes(text: &mut LineText, bytes: &[u8])
+pub(crate) fn add_bytes(text: &mut LineText, bytes: &[u8])
     requires { array_vec_len text.old + length bytes.now ≤ 176 }
 
     ensures added { text.new.items ≡ text.old.items ++ bytes.now }
@@ -51,7 +52,7 @@ fn letter_byte(letter: Letter) -> u8
     }
 }
 
-fn add_token(text: &mut LineText, word: Token)
+pub(crate) fn add_token(text: &mut LineText, word: Token)
     requires { array_vec_len text.old + 21 ≤ 176 }
 
     ensures added { text.new.items ≡ text.old.items ++ token word }
@@ -71,6 +72,27 @@ fn add_token(text: &mut LineText, word: Token)
     }
 }
 
+/// Writes the line that begins with the text: behind it each word with a space in front, and a line feed.
+// Inlined, so that a line is put together in one function, as if it were written out there.
+#[inline(always)]
+pub(crate) fn put_behind<W: Write>(
+    writer: &mut W,
+    text: &mut LineText,
+    words: &[Token],
+) -> Result<(), Fault>
+    requires { array_vec_len text.old + 22 * length words.now < 176 }
+
+    ensures { Puts (W.contents writer.old) (W.contents writer.new) result
+        ((text.old.items ++ flat_map (λ word. 32 ∷ token word) words.now) ++ 10 ∷ []) }
+{
+    for word in words {
+        text.push(b' ');
+        add_token(text, *word);
+    }
+    text.push(b'\n');
+    put_bytes(writer, text.as_slice())
+}
+
 /// Writes one line. It is put together on the stack and written at once.
 pub fn put_line<W: Write>(writer: &mut W, words: &[Token]) -> Result<(), Fault>
     requires { length words.now ≤ 8 }
@@ -82,10 +104,5 @@ pub fn put_line<W: Write>(writer: &mut W, words: &[Token]) -> Result<(), Fault>
     };
     let mut text = LineText::new();
     add_token(&mut text, *first);
-    for word in others {
-        text.push(b' ');
-        add_token(&mut text, *word);
-    }
-    text.push(b'\n');
-    put_bytes(writer, text.as_slice())
+    put_behind(writer, &mut text, others)
 }

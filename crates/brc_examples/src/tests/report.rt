@@ -6,6 +6,7 @@ use brc_report::{
 use brc_words::{Fault, Kind};
 use linked_list_allocator::LocalHeap;
 use std::alloc::Global;
+use std::io::{self, Error, ErrorKind, Write};
 use std::process::Abort;
 
 /// The contents with one cell more.
@@ -257,4 +258,92 @@ fn a_refused_growth_is_told(rt: HostRuntime) {
     assert!(rt; matches!(find_cycles(&heap, &remains), Err(Fault::OutOfMemory)));
     let ample = LocalHeap::new(rt.alloc(), 100_000).expect(&rt, "memory");
     assert!(rt; find_cycles(&ample, &remains).is_ok());
+}
+
+/// Two texts that remain, and a cycle of 60 cells: its line has 246 bytes.
+const LONG: &str =
+    "ledger 9 2 7\nremain 266 text 265\nremain 267 mailbox 265\ncycle 300 301 302 303 304 305 306 307 308 309 310 311 312 313 314 315 316 317 318 319 320 321 322 323 324 325 326 327 328 329 330 331 332 333 334 335 336 337 338 339 340 341 342 343 344 345 346 347 348 349 350 351 352 353 354 355 356 357 358 359\n";
+
+/// The report whose text that is.
+fn long_report(rt: &impl Abort, alloc: Global) -> Report<Global> {
+    let remains = [
+        Remain {
+            cell: 266,
+            kind: Kind::Text,
+            held_by: 265,
+        },
+        Remain {
+            cell: 267,
+            kind: Kind::Mailbox,
+            held_by: 265,
+        },
+    ];
+    let mut cells = Vec::new(alloc);
+    for cell in 300..360u32 {
+        cells.push(cell).expect(rt, "memory");
+    }
+    let mut cycles = Vec::new(alloc);
+    cycles.push(Cells::new(cells)).expect(rt, "memory");
+    Report {
+        ledger: Ledger {
+            allocs: 9,
+            frees: 2,
+        },
+        live: 7,
+        remains: Vec::from_slice(alloc, remains.as_slice()).expect(rt, "memory"),
+        cycles,
+        contents: Vec::new(alloc),
+    }
+}
+
+/// Takes each write whole and counts it, until it has no more room.
+#[derive(Drop)]
+struct Counting {
+    taken: Vec<u8>,
+    writes: u32,
+    room: usize,
+}
+
+impl Write for Counting {
+    fn write(&mut self, buf: &[u8]) -> io::Result<usize> {
+        let count = buf.len().min(self.room);
+        if count == 0 {
+            return Err(Error::from(ErrorKind::Other));
+        }
+        self.taken.extend_from_slice(&buf[..count])?;
+        self.room -= count;
+        self.writes = self.writes.saturating_add(1);
+        Ok(count)
+    }
+
+    fn flush(&mut self) -> io::Result<()> {
+        Ok(())
+    }
+}
+
+#[test]
+fn a_line_is_written_once(rt: HostRuntime) {
+    let mut out = Counting {
+        taken: Vec::new(rt.alloc()),
+        writes: 0,
+        room: 1_000,
+    };
+    assert!(rt; write_report(&long_report(&rt, rt.alloc()), &mut out).is_ok());
+    assert!(rt; out.taken.as_slice() == LONG.as_bytes());
+    // The ledger, each remain, 38 cells of the cycle, and its other 22.
+    assert_eq!(rt; out.writes, 5);
+}
+
+#[test]
+fn a_report_that_is_cut_off(rt: HostRuntime) {
+    let report = long_report(&rt, rt.alloc());
+    for room in [0, 30, 100, 250] {
+        let mut out = Counting {
+            taken: Vec::new(rt.alloc()),
+            writes: 0,
+            room,
+        };
+        assert!(rt; write_report(&report, &mut out) == Err(Fault::Io));
+        assert!(rt; out.taken.as_slice() == &LONG.as_bytes()[..room]);
+    }
 }
