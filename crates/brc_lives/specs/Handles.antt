@@ -16,3 +16,8 @@ module _ {A : Type 0} where
     pub heap : new.heap ≡ old.heap
     pub unlocked : IsUnlocked new
     pub keeps : (h : HandleSeen) → Owns old h → h.place ≢ gone.place → Owns new h
+
+  -- the heap is the same, and nothing is locked
+  pub record GoesOn (old new : FrameSeen A) : Type 0 where
+    pub heap : new.heap ≡ old.heap
+    pub unlocked : IsUnlocked new
