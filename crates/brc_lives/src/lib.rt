@@ -30,6 +30,8 @@ mod lists;
 #[cfg(test)]
 mod makers;
 #[cfg(test)]
+mod memory;
+#[cfg(test)]
 mod phases;
 #[cfg(test)]
 mod refused;
