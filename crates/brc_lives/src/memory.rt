@@ -1,5 +1,6 @@
-//! Memory that is all taken, and comes back a piece at a time.
+//! Memory that is bounded: an arena, which takes nothing back, and a heap whose pieces are all taken and come back one by one.
 
+use bumpalo::Bump;
 use linked_list_allocator::LocalHeap;
 use std::alloc::Global;
 use std::process::Abort;
@@ -9,6 +10,18 @@ use std::process::Abort;
 pub(crate) struct Pieces<'h> {
     heap: &'h LocalHeap,
     taken: Vec<Box<u8, &'h LocalHeap>>,
+}
+
+/// An arena that has so many bytes, and gets no more.
+pub(crate) fn an_arena(rt: &impl Abort, alloc: Global, bytes: usize) -> Bump {
+    let Ok(arena) = Bump::try_with_capacity(alloc, bytes) else {
+        panic!(rt; "memory")
+    };
+    arena.set_allocation_limit(Some(arena.allocated_bytes()));
+    // Its only chunk is a bit larger.
+    let taken = arena.chunk_capacity().saturating_sub(bytes);
+    assert!(rt; arena.try_alloc_slice_fill_clone(taken, 0u8).is_ok());
+    arena
 }
 
 /// A heap of so many bytes.

@@ -6,11 +6,11 @@ ghost use Rattle.brc_lives.specs.Handles.{GoesOn};
 
 use crate::ends::ends;
 use crate::holds::{give_all_back, keep};
-use crate::memory::{Pieces, a_heap};
+use crate::memory::{Pieces, a_heap, an_arena};
 use crate::phases::{entered, leaves, opened, says};
 use crate::things::a_none;
 use brc_count::{Frame, Handle};
-use brc_counter::Home;
+use brc_counter::{Home, first_counts};
 use brc_table::{HeapTable, RootSeat};
 use brc_things::{new_int, new_list, new_text, none};
 use brc_words::{Fault, Text};
@@ -220,4 +220,50 @@ fn a_refused_growth_changes_nothing(rt: HostRuntime) {
     for (call, cell, births) in cases {
         is_refused_in_turn(&rt, rt.alloc(), call, cell, births);
     }
+}
+
+/// Whether a thread enters that has so much memory. If it doesn't, the root is as it was, and the next thread is the first.
+fn enters_with(rt: &impl Abort, alloc: Global, bytes: usize) -> bool {
+    let (ample, scarce) = (an_arena(rt, alloc, 1 << 20), an_arena(rt, alloc, bytes));
+    let (table, root) = opened(rt, &ample);
+    let mut root = root;
+    let enters = match Frame::enter(&scarce, &table, &mut root) {
+        Ok(frame) => {
+            leaves(rt, &table, &mut root, frame);
+            true
+        }
+        Err(fault) => {
+            assert_eq!(rt; fault, Fault::OutOfMemory);
+            assert_eq!(rt; root.next(), 1);
+            let frame = entered(rt, &ample, &table, &mut root);
+            assert_eq!(rt; frame.thread(), 1);
+            leaves(rt, &table, &mut root, frame);
+            false
+        }
+    };
+    ends(rt, table, root);
+    enters
+}
+
+/// Whether the counts of a thread are had from so much memory.
+fn counts_with(rt: &impl Abort, alloc: Global, bytes: usize) -> bool {
+    let scarce = an_arena(rt, alloc, bytes);
+    first_counts(&scarce, 512).is_ok()
+}
+
+/// The local counts and then the popped words are had as a thread enters: so there is too little memory for the counts, or for
+/// the words alone, or there is enough.
+#[test]
+fn a_thread_without_memory_is_not_registered(rt: HostRuntime) {
+    let (mut no_counts, mut no_words, mut enough) = (0, 0, 0);
+    for size in 0..100usize {
+        let bytes = size * 64;
+        match (counts_with(&rt, rt.alloc(), bytes), enters_with(&rt, rt.alloc(), bytes)) {
+            (false, false) => no_counts += 1,
+            (true, false) => no_words += 1,
+            (true, true) => enough += 1,
+            (false, true) => panic!(rt; "a thread without counts"),
+        }
+    }
+    assert!(rt; no_counts > 0 && no_words > 0 && enough > 0);
 }
