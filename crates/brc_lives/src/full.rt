@@ -4,7 +4,7 @@ ghost use Rattle.brc_count.specs.Frames.{IsUnlocked};
 ghost use Rattle.brc_lives.specs.Handles.{GoesOn};
 
 use crate::ends::ends;
-use crate::holds::{give_all_back, give_back, keep, pick};
+use crate::holds::{give_all_back, give_back, keep, pick, retained};
 use crate::phases::{entered, leaves, opened, says};
 use crate::things::{a_none, an_empty_list};
 use brc_count::{Frame, Handle};
@@ -120,8 +120,7 @@ fn no_handle<H: Home<A>, A: Allocator>(
     let Some(first) = handles.first() else {
         panic!(rt; "no handle is kept")
     };
-    assert!(rt; frame.owns(first));
-    is_refused(rt, frame.retain(first), fault);
+    is_refused(rt, retained(rt, frame, first), fault);
     is_refused(rt, none(frame), fault);
 }
 

@@ -7,6 +7,7 @@ ghost use Rattle.brc_lives.specs.Handles.{GoesOn};
 use crate::phases::release;
 use brc_count::{Frame, Handle};
 use brc_counter::Home;
+use brc_words::Fault;
 use std::alloc::Allocator;
 use std::process::Abort;
 
@@ -41,6 +42,23 @@ pub(crate) fn give_back<H: Home<A>, A: Allocator>(
 {
     assert!(rt; frame.owns(&handle));
     release(frame, handle);
+}
+
+/// One reference more, after a look whether the handle is the frame's; or why there is none.
+pub(crate) fn retained<H: Home<A>, A: Allocator>(
+    rt: &impl Abort,
+    frame: &mut Frame<H, A>,
+    handle: &Handle,
+) -> Result<Handle, Fault>
+    requires unlocked { IsUnlocked frame.old }
+    ensures { GoesOn frame.old frame.new }
+{
+    assert!(rt; frame.owns(handle));
+    let _cell = frame.cell(handle);
+    match frame.retain(handle) {
+        Ok(given) => Ok(given),
+        Err(fault) => Err(fault),
+    }
 }
 
 /// All references that are kept go, the last one first.

@@ -54,6 +54,8 @@ impl<'h> Pieces<'h> {
 
     /// How much of the heap is in use, the pieces that are taken aside.
     pub(crate) fn used(&self) -> usize {
-        self.heap.used().wrapping_sub(self.taken.len().wrapping_mul(16))
+        self.heap
+            .used()
+            .wrapping_sub(self.taken.len().wrapping_mul(16))
     }
 }

@@ -5,7 +5,7 @@ ghost use Rattle.brc_count.specs.Frames.{IsUnlocked};
 ghost use Rattle.brc_lives.specs.Handles.{GoesOn};
 
 use crate::ends::ends;
-use crate::holds::{give_all_back, keep};
+use crate::holds::{give_all_back, keep, retained};
 use crate::memory::{Pieces, a_heap, an_arena};
 use crate::phases::{entered, leaves, opened, says};
 use crate::things::a_none;
@@ -73,9 +73,8 @@ fn make<H: Home<A>, A: Allocator + Copy>(
     requires unlocked { IsUnlocked frame.old }
     ensures { GoesOn frame.old frame.new }
 {
-    assert!(rt; frame.owns(first));
     match call {
-        Call::Retain => frame.retain(first),
+        Call::Retain => retained(rt, frame, first),
         Call::Immortal => none(frame),
         Call::Int => new_int(heaps.scarce, frame, 257),
         Call::Text => text_of(rt, heaps.scarce, frame, a_text(rt, heaps.ample)),
@@ -147,7 +146,10 @@ fn until_it_passes<'h, H: Home<&'h LocalHeap>>(
     requires unlocked { IsUnlocked frame.old }
     ensures { GoesOn frame.old frame.new }
 {
-    let mut refused = Growths { place: false, block: false };
+    let mut refused = Growths {
+        place: false,
+        block: false,
+    };
     let before = pieces.used();
     for _ in 0..1_000 {
         if let Some(handle) = tried(rt, heaps, frame, first, call) {
@@ -164,15 +166,17 @@ fn until_it_passes<'h, H: Home<&'h LocalHeap>>(
 }
 
 /// The call is refused at each of its growths, and then passes: the handle is to this cell. Nothing is left of the refusals.
-fn is_refused_in_turn(rt: &impl Abort, alloc: Global, call: Call, cell: u32, births: u64) {
-    let (ample, scarce) = (a_heap(rt, alloc, 1 << 20), a_heap(rt, alloc, 1 << 16));
-    let heaps = Heaps {
-        ample: &ample,
-        scarce: &scarce,
-    };
-    let (table, root) = opened(rt, &ample);
+fn is_refused_in_turn<'h>(
+    rt: &impl Abort,
+    alloc: Global,
+    heaps: Heaps<&'h LocalHeap>,
+    call: Call,
+    cell: u32,
+    births: u64,
+) {
+    let (table, root) = opened(rt, heaps.ample);
     let mut root = root;
-    let mut frame = entered(rt, &scarce, &table, &mut root);
+    let mut frame = entered(rt, heaps.scarce, &table, &mut root);
     is_refused_to(rt, alloc, heaps, &mut frame, call, cell);
     assert_eq!(rt; frame.len(), 0);
     says(rt, frame.ledger(), births, 0);
@@ -218,16 +222,21 @@ fn a_refused_growth_changes_nothing(rt: HostRuntime) {
         (Call::List, 266, 1),
     ];
     for (call, cell, births) in cases {
-        is_refused_in_turn(&rt, rt.alloc(), call, cell, births);
+        let ample = a_heap(&rt, rt.alloc(), 1 << 20);
+        let scarce = a_heap(&rt, rt.alloc(), 1 << 16);
+        let heaps = Heaps {
+            ample: &ample,
+            scarce: &scarce,
+        };
+        is_refused_in_turn(&rt, rt.alloc(), heaps, call, cell, births);
     }
 }
 
-/// Whether a thread enters that has so much memory. If it doesn't, the root is as it was, and the next thread is the first.
-fn enters_with(rt: &impl Abort, alloc: Global, bytes: usize) -> bool {
-    let (ample, scarce) = (an_arena(rt, alloc, 1 << 20), an_arena(rt, alloc, bytes));
-    let (table, root) = opened(rt, &ample);
+/// Whether a thread enters with what memory is left. If it doesn't, the root is as it was, and the next thread is the first.
+fn enters<A: Allocator + Copy>(rt: &impl Abort, heaps: Heaps<A>) -> bool {
+    let (table, root) = opened(rt, heaps.ample);
     let mut root = root;
-    let enters = match Frame::enter(&scarce, &table, &mut root) {
+    let enters = match Frame::enter(heaps.scarce, &table, &mut root) {
         Ok(frame) => {
             leaves(rt, &table, &mut root, frame);
             true
@@ -235,7 +244,7 @@ fn enters_with(rt: &impl Abort, alloc: Global, bytes: usize) -> bool {
         Err(fault) => {
             assert_eq!(rt; fault, Fault::OutOfMemory);
             assert_eq!(rt; root.next(), 1);
-            let frame = entered(rt, &ample, &table, &mut root);
+            let frame = entered(rt, heaps.ample, &table, &mut root);
             assert_eq!(rt; frame.thread(), 1);
             leaves(rt, &table, &mut root, frame);
             false
@@ -243,6 +252,17 @@ fn enters_with(rt: &impl Abort, alloc: Global, bytes: usize) -> bool {
     };
     ends(rt, table, root);
     enters
+}
+
+/// Whether a thread enters that has so much memory.
+fn enters_with(rt: &impl Abort, alloc: Global, bytes: usize) -> bool {
+    let ample = an_arena(rt, alloc, 1 << 20);
+    let scarce = an_arena(rt, alloc, bytes);
+    let heaps = Heaps {
+        ample: &ample,
+        scarce: &scarce,
+    };
+    enters(rt, heaps)
 }
 
 /// Whether the counts of a thread are had from so much memory.
@@ -258,7 +278,10 @@ fn a_thread_without_memory_is_not_registered(rt: HostRuntime) {
     let (mut no_counts, mut no_words, mut enough) = (0, 0, 0);
     for size in 0..100usize {
         let bytes = size * 64;
-        match (counts_with(&rt, rt.alloc(), bytes), enters_with(&rt, rt.alloc(), bytes)) {
+        match (
+            counts_with(&rt, rt.alloc(), bytes),
+            enters_with(&rt, rt.alloc(), bytes),
+        ) {
             (false, false) => no_counts += 1,
             (true, false) => no_words += 1,
             (true, true) => enough += 1,

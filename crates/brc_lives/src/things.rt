@@ -11,10 +11,7 @@ use std::alloc::Allocator;
 use std::process::Abort;
 
 /// None.
-pub(crate) fn a_none<H: Home<A>, A: Allocator>(
-    rt: &impl Abort,
-    frame: &mut Frame<H, A>,
-) -> Handle
+pub(crate) fn a_none<H: Home<A>, A: Allocator>(rt: &impl Abort, frame: &mut Frame<H, A>) -> Handle
     requires unlocked { IsUnlocked frame.old }
     ensures { Gains frame.old frame.new result }
 {
