@@ -271,22 +271,20 @@ fn counts_with(rt: &impl Abort, alloc: Global, bytes: usize) -> bool {
     first_counts(&scarce, 512).is_ok()
 }
 
-/// The local counts and then the popped words are had as a thread enters: so there is too little memory for the counts, or for
-/// the words alone, or there is enough.
+/// As a thread enters, its local counts are had and then its popped words: with no memory for the first, with none for the
+/// second, and with enough.
 #[test]
 fn a_thread_without_memory_is_not_registered(rt: HostRuntime) {
-    let (mut no_counts, mut no_words, mut enough) = (0, 0, 0);
+    let (mut no_counts, mut no_words, mut enough) = (false, false, false);
     for size in 0..100usize {
         let bytes = size * 64;
-        match (
-            counts_with(&rt, rt.alloc(), bytes),
-            enters_with(&rt, rt.alloc(), bytes),
-        ) {
-            (false, false) => no_counts += 1,
-            (true, false) => no_words += 1,
-            (true, true) => enough += 1,
+        let has_counts = counts_with(&rt, rt.alloc(), bytes);
+        match (has_counts, enters_with(&rt, rt.alloc(), bytes)) {
+            (false, false) => no_counts = true,
+            (true, false) => no_words = true,
+            (true, true) => enough = true,
             (false, true) => panic!(rt; "a thread without counts"),
         }
     }
-    assert!(rt; no_counts > 0 && no_words > 0 && enough > 0);
+    assert!(rt; no_counts && no_words && enough);
 }
