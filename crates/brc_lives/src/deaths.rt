@@ -97,6 +97,7 @@ fn a_long_chain_dies_a_turn_at_a_time(rt: HostRuntime) {
     let (table, root) = opened_with(&rt, rt.alloc(), 65_536);
     let mut root = root;
     let mut frame = entered(&rt, rt.alloc(), &table, &mut root);
+    // Each search for a free cell begins at the lowest one, so this makes some 1.8 billion looks.
     let last = a_chain(&rt, rt.alloc(), &mut frame, 59_999);
     release(&mut frame, last);
     // Each list but the first has an entry to be released, and each gives its cell back.

@@ -124,23 +124,6 @@ fn no_handle<H: Home<A>, A: Allocator>(
     is_refused(rt, none(frame), fault);
 }
 
-#[test]
-fn a_full_heap_has_room_again(rt: HostRuntime) {
-    let (table, root) = opened(&rt, rt.alloc());
-    let mut root = root;
-    let mut frame = entered(&rt, rt.alloc(), &table, &mut root);
-    let mut handles = lists(&rt, rt.alloc(), &mut frame, 246);
-    no_list(&rt, rt.alloc(), &mut frame, Fault::HeapFull);
-    assert_eq!(rt; frame.len(), 246);
-    gives_cell_back(&rt, rt.alloc(), &mut frame, &mut handles);
-    assert_eq!(rt; frame.len(), 246);
-    give_all_back(&rt, &mut frame, handles);
-    assert_eq!(rt; frame.work(300), 54);
-    says(&rt, frame.ledger(), 247, 247);
-    leaves(&rt, &table, &mut root, frame);
-    ends(&rt, table, root);
-}
-
 /// The list of cell 300 goes, and the next list has that cell.
 fn gives_cell_back<H: Home<A>, A: Allocator + Copy>(
     rt: &impl Abort,
@@ -159,6 +142,23 @@ fn gives_cell_back<H: Home<A>, A: Allocator + Copy>(
     let list = an_empty_list(rt, alloc, frame);
     assert_eq!(rt; frame.cell(&list), 300);
     keep(rt, handles, list);
+}
+
+#[test]
+fn a_full_heap_has_room_again(rt: HostRuntime) {
+    let (table, root) = opened(&rt, rt.alloc());
+    let mut root = root;
+    let mut frame = entered(&rt, rt.alloc(), &table, &mut root);
+    let mut handles = lists(&rt, rt.alloc(), &mut frame, 246);
+    no_list(&rt, rt.alloc(), &mut frame, Fault::HeapFull);
+    assert_eq!(rt; frame.len(), 246);
+    gives_cell_back(&rt, rt.alloc(), &mut frame, &mut handles);
+    assert_eq!(rt; frame.len(), 246);
+    give_all_back(&rt, &mut frame, handles);
+    assert_eq!(rt; frame.work(300), 54);
+    says(&rt, frame.ledger(), 247, 247);
+    leaves(&rt, &table, &mut root, frame);
+    ends(&rt, table, root);
 }
 
 #[test]

@@ -14,6 +14,8 @@ mod deaths;
 #[cfg(test)]
 mod ends;
 #[cfg(test)]
+mod entering;
+#[cfg(test)]
 mod entries;
 #[cfg(test)]
 mod full;

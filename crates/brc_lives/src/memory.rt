@@ -12,6 +12,13 @@ pub(crate) struct Pieces<'h> {
     taken: Vec<Box<u8, &'h LocalHeap>>,
 }
 
+/// The memories of a test: one that is enough for all, and one that may not be.
+#[derive(Clone, Copy)]
+pub(crate) struct Memories<A> {
+    pub(crate) ample: A,
+    pub(crate) scarce: A,
+}
+
 /// An arena that has so many bytes, and gets no more.
 pub(crate) fn an_arena(rt: &impl Abort, alloc: Global, bytes: usize) -> Bump {
     let Ok(arena) = Bump::try_with_capacity(alloc, bytes) else {

@@ -6,12 +6,11 @@ ghost use Rattle.brc_lives.specs.Handles.{GoesOn};
 
 use crate::ends::ends;
 use crate::holds::{give_all_back, keep, retained};
-use crate::memory::{Pieces, a_heap, an_arena};
+use crate::memory::{Memories, Pieces, a_heap};
 use crate::phases::{entered, leaves, opened, says};
 use crate::things::a_none;
 use brc_count::{Frame, Handle};
-use brc_counter::{Home, first_counts};
-use brc_table::{HeapTable, RootSeat};
+use brc_counter::Home;
 use brc_things::{new_int, new_list, new_text, none};
 use brc_words::{Fault, Text};
 use linked_list_allocator::LocalHeap;
@@ -28,7 +27,7 @@ enum Call {
     List,
 }
 
-/// A text that is refused is handed back.
+/// A new text; where it is refused it is handed back as it was.
 fn text_of<H: Home<A>, A: Allocator + Copy>(
     rt: &impl Abort,
     alloc: A,
@@ -47,25 +46,18 @@ fn text_of<H: Home<A>, A: Allocator + Copy>(
     }
 }
 
-/// A text from memory that is ample.
-fn a_text<A: Allocator>(rt: &impl Abort, alloc: A) -> Text<A> {
+/// A text, as a value.
+fn some_text<A: Allocator>(rt: &impl Abort, alloc: A) -> Text<A> {
     match String::from_str(alloc, "a text") {
         Ok(text) => Text::new(text),
         Err(_) => panic!(rt; "memory"),
     }
 }
 
-/// The heaps of a test: one that has memory for all, and one that may not.
-#[derive(Clone, Copy)]
-struct Heaps<A> {
-    ample: A,
-    scarce: A,
-}
-
-/// Makes the call.
+/// The call's answer.
 fn make<H: Home<A>, A: Allocator + Copy>(
     rt: &impl Abort,
-    heaps: Heaps<A>,
+    memories: Memories<A>,
     frame: &mut Frame<H, A>,
     first: &Handle,
     call: Call,
@@ -76,16 +68,16 @@ fn make<H: Home<A>, A: Allocator + Copy>(
     match call {
         Call::Retain => retained(rt, frame, first),
         Call::Immortal => none(frame),
-        Call::Int => new_int(heaps.scarce, frame, 257),
-        Call::Text => text_of(rt, heaps.scarce, frame, a_text(rt, heaps.ample)),
-        Call::List => new_list(heaps.scarce, frame),
+        Call::Int => new_int(memories.scarce, frame, 257),
+        Call::Text => text_of(rt, memories.scarce, frame, some_text(rt, memories.ample)),
+        Call::List => new_list(memories.scarce, frame),
     }
 }
 
-/// The call is refused, or has answered: then the answer is that handle. What is seen of a frame that refuses is as it was.
+/// The handle that the call answers; None where it is refused, and then what is seen of the frame is as it was.
 fn tried<H: Home<A>, A: Allocator + Copy>(
     rt: &impl Abort,
-    heaps: Heaps<A>,
+    memories: Memories<A>,
     frame: &mut Frame<H, A>,
     first: &Handle,
     call: Call,
@@ -94,7 +86,7 @@ fn tried<H: Home<A>, A: Allocator + Copy>(
     ensures { GoesOn frame.old frame.new }
 {
     let (len, ledger) = (frame.len(), frame.ledger());
-    match make(rt, heaps, frame, first, call) {
+    match make(rt, memories, frame, first, call) {
         Ok(handle) => Some(handle),
         Err(fault) => {
             assert_eq!(rt; fault, Fault::OutOfMemory);
@@ -138,7 +130,7 @@ struct Growths {
 fn until_it_passes<'h, H: Home<&'h LocalHeap>>(
     rt: &impl Abort,
     pieces: &mut Pieces<'h>,
-    heaps: Heaps<&'h LocalHeap>,
+    memories: Memories<&'h LocalHeap>,
     frame: &mut Frame<H, &'h LocalHeap>,
     first: &Handle,
     call: Call,
@@ -152,7 +144,7 @@ fn until_it_passes<'h, H: Home<&'h LocalHeap>>(
     };
     let before = pieces.used();
     for _ in 0..1_000 {
-        if let Some(handle) = tried(rt, heaps, frame, first, call) {
+        if let Some(handle) = tried(rt, memories, frame, first, call) {
             return (handle, refused);
         }
         if pieces.used() == before {
@@ -169,15 +161,15 @@ fn until_it_passes<'h, H: Home<&'h LocalHeap>>(
 fn is_refused_in_turn<'h>(
     rt: &impl Abort,
     alloc: Global,
-    heaps: Heaps<&'h LocalHeap>,
+    memories: Memories<&'h LocalHeap>,
     call: Call,
     cell: u32,
     births: u64,
 ) {
-    let (table, root) = opened(rt, heaps.ample);
+    let (table, root) = opened(rt, memories.ample);
     let mut root = root;
-    let mut frame = entered(rt, heaps.scarce, &table, &mut root);
-    is_refused_to(rt, alloc, heaps, &mut frame, call, cell);
+    let mut frame = entered(rt, memories.scarce, &table, &mut root);
+    is_refused_to(rt, alloc, memories, &mut frame, call, cell);
     assert_eq!(rt; frame.len(), 0);
     says(rt, frame.ledger(), births, 0);
     assert!(rt; frame.work(2) > 0);
@@ -190,7 +182,7 @@ fn is_refused_in_turn<'h>(
 fn is_refused_to<'h, H: Home<&'h LocalHeap>>(
     rt: &impl Abort,
     alloc: Global,
-    heaps: Heaps<&'h LocalHeap>,
+    memories: Memories<&'h LocalHeap>,
     frame: &mut Frame<H, &'h LocalHeap>,
     call: Call,
     cell: u32,
@@ -199,10 +191,10 @@ fn is_refused_to<'h, H: Home<&'h LocalHeap>>(
     ensures { GoesOn frame.old frame.new }
 {
     let first = a_none(rt, frame);
-    let mut pieces = Pieces::take_all(rt, alloc, heaps.scarce);
-    let mut handles = Vec::new(heaps.ample);
+    let mut pieces = Pieces::take_all(rt, alloc, memories.scarce);
+    let mut handles = Vec::new(memories.ample);
     fill_places(rt, frame, &mut handles);
-    let (handle, refused) = until_it_passes(rt, &mut pieces, heaps, frame, &first, call);
+    let (handle, refused) = until_it_passes(rt, &mut pieces, memories, frame, &first, call);
     assert!(rt; refused.place);
     assert_eq!(rt; refused.block, cell >= 266);
     assert!(rt; frame.owns(&handle));
@@ -224,67 +216,10 @@ fn a_refused_growth_changes_nothing(rt: HostRuntime) {
     for (call, cell, births) in cases {
         let ample = a_heap(&rt, rt.alloc(), 1 << 20);
         let scarce = a_heap(&rt, rt.alloc(), 1 << 16);
-        let heaps = Heaps {
+        let memories = Memories {
             ample: &ample,
             scarce: &scarce,
         };
-        is_refused_in_turn(&rt, rt.alloc(), heaps, call, cell, births);
+        is_refused_in_turn(&rt, rt.alloc(), memories, call, cell, births);
     }
-}
-
-/// Whether a thread enters with what memory is left. If it doesn't, the root is as it was, and the next thread is the first.
-fn enters<A: Allocator + Copy>(rt: &impl Abort, heaps: Heaps<A>) -> bool {
-    let (table, root) = opened(rt, heaps.ample);
-    let mut root = root;
-    let enters = match Frame::enter(heaps.scarce, &table, &mut root) {
-        Ok(frame) => {
-            leaves(rt, &table, &mut root, frame);
-            true
-        }
-        Err(fault) => {
-            assert_eq!(rt; fault, Fault::OutOfMemory);
-            assert_eq!(rt; root.next(), 1);
-            let frame = entered(rt, heaps.ample, &table, &mut root);
-            assert_eq!(rt; frame.thread(), 1);
-            leaves(rt, &table, &mut root, frame);
-            false
-        }
-    };
-    ends(rt, table, root);
-    enters
-}
-
-/// Whether a thread enters that has so much memory.
-fn enters_with(rt: &impl Abort, alloc: Global, bytes: usize) -> bool {
-    let ample = an_arena(rt, alloc, 1 << 20);
-    let scarce = an_arena(rt, alloc, bytes);
-    let heaps = Heaps {
-        ample: &ample,
-        scarce: &scarce,
-    };
-    enters(rt, heaps)
-}
-
-/// Whether the counts of a thread are had from so much memory.
-fn counts_with(rt: &impl Abort, alloc: Global, bytes: usize) -> bool {
-    let scarce = an_arena(rt, alloc, bytes);
-    first_counts(&scarce, 512).is_ok()
-}
-
-/// As a thread enters, its local counts are had and then its popped words: with no memory for the first, with none for the
-/// second, and with enough.
-#[test]
-fn a_thread_without_memory_is_not_registered(rt: HostRuntime) {
-    let (mut no_counts, mut no_words, mut enough) = (false, false, false);
-    for size in 0..100usize {
-        let bytes = size * 64;
-        let has_counts = counts_with(&rt, rt.alloc(), bytes);
-        match (has_counts, enters_with(&rt, rt.alloc(), bytes)) {
-            (false, false) => no_counts = true,
-            (true, false) => no_words = true,
-            (true, true) => enough = true,
-            (false, true) => panic!(rt; "a thread without counts"),
-        }
-    }
-    assert!(rt; no_counts && no_words && enough);
 }

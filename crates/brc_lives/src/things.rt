@@ -1,4 +1,4 @@
-//! Objects that a test has made for it, or is ended without.
+//! Objects of each kind, made for a test, which ends where one isn't to be had.
 
 ghost use Rattle.brc_count.specs.Frames.{IsUnlocked};
 ghost use Rattle.brc_lives.specs.Handles.{Gains};
