@@ -28,3 +28,8 @@ module _ {A : Type 0} where
     pub found : contents_found new ≡ contents_of block.1
     pub keeps : KeepsThread old new
     pub frame : KeepsFrame old new
+
+  -- the heap is the same, and nothing is locked
+  pub record GoesOn (old new : FrameSeen A) : Type 0 where
+    pub heap : new.heap ≡ old.heap
+    pub unlocked : IsUnlocked new

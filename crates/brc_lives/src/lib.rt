@@ -1,8 +1,8 @@
-//! Worked runs of the heap as calls on frames, run by the gate: an integer's life, an immortal's, and a list that passes from
-//! one thread's frame to another's.
+//! Worked runs of the heap as calls on frames, run by the gate: an integer's life, an immortal's, a list that passes from one
+//! thread's frame to another's, objects of each kind, a full heap and a full frame, long deaths, and refused growths.
 //!
-//! Tests, and what they look at. Each call's conditions are shown from the contracts of `brc_count` and `brc_table` alone, so
-//! this is also how a caller uses them.
+//! Tests, and what they look at. Each call's conditions are shown from the contracts of `brc_things`, `brc_count` and `brc_table`
+//! alone, so this is also how a caller uses them.
 #![tactic(auto)]
 
 pub mod globals;
@@ -12,10 +12,28 @@ mod sums;
 pub use sums::comes_out;
 
 #[cfg(test)]
+mod deaths;
+#[cfg(test)]
 mod ends;
+#[cfg(test)]
+mod entering;
+#[cfg(test)]
+mod entries;
+#[cfg(test)]
+mod full;
+#[cfg(test)]
+mod holds;
 #[cfg(test)]
 mod immortals;
 #[cfg(test)]
 mod integers;
 #[cfg(test)]
 mod lists;
+#[cfg(test)]
+mod makers;
+#[cfg(test)]
+mod memory;
+#[cfg(test)]
+mod refused;
+#[cfg(test)]
+mod things;

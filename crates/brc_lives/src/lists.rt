@@ -2,7 +2,7 @@
 
 use crate::ends::ends;
 use crate::globals::{put_into_globals, take_from_globals};
-use crate::phases::{a_list, entered, leaves, leaves_late, opened, release, says};
+use crate::phases::{a_list, another, entered, leaves, leaves_late, opened, release, says};
 use crate::sums::comes_out;
 
 #[test]
@@ -55,6 +55,29 @@ fn an_owner_that_left_is_not_asked(rt: HostRuntime) {
     let makers = leaves_late(&rt, &table, &mut root, maker, 0);
     says(&rt, makers, 1, 0);
     release(&mut other, taken);
+    assert_eq!(rt; other.work(5), 4);
+    says(&rt, other.ledger(), 0, 1);
+    leaves(&rt, &table, &mut root, other);
+    ends(&rt, table, root);
+}
+
+#[test]
+fn an_owner_that_leaves_merges_for_who_holds_on(rt: HostRuntime) {
+    let (table, root) = opened(&rt, rt.alloc());
+    let mut root = root;
+    let mut maker = entered(&rt, rt.alloc(), &table, &mut root);
+    let mut other = entered(&rt, rt.alloc(), &table, &mut root);
+    let list = a_list(&rt, rt.alloc(), &mut maker);
+    let copy = another(&rt, &mut maker, &list);
+    put_into_globals(&rt, &mut maker, list, 1);
+    put_into_globals(&rt, &mut maker, copy, 2);
+    let first = take_from_globals(&rt, &mut other);
+    let second = take_from_globals(&rt, &mut other);
+    release(&mut other, first);
+    // The one turn is the entry in the maker's queue: it merges the list, which lives on.
+    let makers = leaves_late(&rt, &table, &mut root, maker, 1);
+    says(&rt, makers, 1, 0);
+    release(&mut other, second);
     assert_eq!(rt; other.work(5), 4);
     says(&rt, other.ledger(), 0, 1);
     leaves(&rt, &table, &mut root, other);

@@ -20,7 +20,20 @@ pub fn opened<A: Allocator + Copy>(rt: &impl Abort, alloc: A) -> (HeapTable<A>, 
     ensures table { result.1.table ≡ result.0.table }
     ensures view { result.1.view ≡ first_view }
 {
-    match HeapTable::new(alloc, 512, 10) {
+    opened_with(rt, alloc, 512)
+}
+
+/// A table of so many cells, or the end of the test.
+pub(crate) fn opened_with<A: Allocator + Copy>(
+    rt: &impl Abort,
+    alloc: A,
+    cells: u32,
+) -> (HeapTable<A>, RootSeat<A>)
+    ensures cells { result.0.cells ≡ cells }
+    ensures table { result.1.table ≡ result.0.table }
+    ensures view { result.1.view ≡ first_view }
+{
+    match HeapTable::new(alloc, cells, 10) {
         Ok(made) => made,
         Err(_) => panic!(rt; "memory"),
     }

@@ -1,0 +1,225 @@
+//! Each growth of a call refused in turn: the call answers OutOfMemory, and what is seen of the frame is as it was. Memory is all
+//! taken at first and comes back a piece at a time, so each growth is the one that is refused at some time.
+
+ghost use Rattle.brc_count.specs.Frames.{IsUnlocked};
+ghost use Rattle.brc_lives.specs.Handles.{GoesOn};
+
+use crate::ends::ends;
+use crate::holds::{give_all_back, keep, retained};
+use crate::memory::{Memories, Pieces, a_heap};
+use crate::phases::{entered, leaves, opened, says};
+use crate::things::a_none;
+use brc_count::{Frame, Handle};
+use brc_counter::Home;
+use brc_things::{new_int, new_list, new_text, none};
+use brc_words::{Fault, Text};
+use linked_list_allocator::LocalHeap;
+use std::alloc::{Allocator, Global};
+use std::process::Abort;
+
+/// A call that answers a handle.
+#[derive(Clone, Copy, PartialEq, Eq)]
+enum Call {
+    Retain,
+    Immortal,
+    Int,
+    Text,
+    List,
+}
+
+/// A new text; where it is refused it is handed back as it was.
+fn text_of<H: Home<A>, A: Allocator + Copy>(
+    rt: &impl Abort,
+    alloc: A,
+    frame: &mut Frame<H, A>,
+    text: Text<A>,
+) -> Result<Handle, Fault>
+    requires unlocked { IsUnlocked frame.old }
+    ensures { GoesOn frame.old frame.new }
+{
+    match new_text(alloc, frame, text) {
+        Ok(handle) => Ok(handle),
+        Err((fault, text)) => {
+            assert_eq!(rt; text.as_str(), "a text");
+            Err(fault)
+        }
+    }
+}
+
+/// A text, as a value.
+fn some_text<A: Allocator>(rt: &impl Abort, alloc: A) -> Text<A> {
+    match String::from_str(alloc, "a text") {
+        Ok(text) => Text::new(text),
+        Err(_) => panic!(rt; "memory"),
+    }
+}
+
+/// The call's answer.
+fn make<H: Home<A>, A: Allocator + Copy>(
+    rt: &impl Abort,
+    memories: Memories<A>,
+    frame: &mut Frame<H, A>,
+    first: &Handle,
+    call: Call,
+) -> Result<Handle, Fault>
+    requires unlocked { IsUnlocked frame.old }
+    ensures { GoesOn frame.old frame.new }
+{
+    match call {
+        Call::Retain => retained(rt, frame, first),
+        Call::Immortal => none(frame),
+        Call::Int => new_int(memories.scarce, frame, 257),
+        Call::Text => text_of(rt, memories.scarce, frame, some_text(rt, memories.ample)),
+        Call::List => new_list(memories.scarce, frame),
+    }
+}
+
+/// The handle that the call answers; None where it is refused, and then what is seen of the frame is as it was.
+fn tried<H: Home<A>, A: Allocator + Copy>(
+    rt: &impl Abort,
+    memories: Memories<A>,
+    frame: &mut Frame<H, A>,
+    first: &Handle,
+    call: Call,
+) -> Option<Handle>
+    requires unlocked { IsUnlocked frame.old }
+    ensures { GoesOn frame.old frame.new }
+{
+    let (len, ledger) = (frame.len(), frame.ledger());
+    match make(rt, memories, frame, first, call) {
+        Ok(handle) => Some(handle),
+        Err(fault) => {
+            assert_eq!(rt; fault, Fault::OutOfMemory);
+            assert_eq!(rt; frame.len(), len);
+            says(rt, frame.ledger(), ledger.allocs, ledger.frees);
+            None
+        }
+    }
+}
+
+/// References to None, until there is no memory for one more.
+fn fill_places<H: Home<A>, A: Allocator + Copy>(
+    rt: &impl Abort,
+    frame: &mut Frame<H, A>,
+    handles: &mut Vec<Handle, A>,
+)
+    requires unlocked { IsUnlocked frame.old }
+    ensures { GoesOn frame.old frame.new }
+{
+    for _ in 0..1_000 {
+        match none(frame) {
+            Ok(handle) => keep(rt, handles, handle),
+            Err(fault) => {
+                assert_eq!(rt; fault, Fault::OutOfMemory);
+                return;
+            }
+        }
+    }
+    panic!(rt; "memory that is never missing");
+}
+
+/// Which growths were refused: that of the frame's places, and then that of the block.
+#[derive(Clone, Copy, Debug, PartialEq, Eq, Drop)]
+struct Growths {
+    place: bool,
+    block: bool,
+}
+
+/// The call, with a piece of memory more each time, until it passes. A place that is had stays had, by which it is told which
+/// growth was refused.
+fn until_it_passes<'h, H: Home<&'h LocalHeap>>(
+    rt: &impl Abort,
+    pieces: &mut Pieces<'h>,
+    memories: Memories<&'h LocalHeap>,
+    frame: &mut Frame<H, &'h LocalHeap>,
+    first: &Handle,
+    call: Call,
+) -> (Handle, Growths)
+    requires unlocked { IsUnlocked frame.old }
+    ensures { GoesOn frame.old frame.new }
+{
+    let mut refused = Growths {
+        place: false,
+        block: false,
+    };
+    let before = pieces.used();
+    for _ in 0..1_000 {
+        if let Some(handle) = tried(rt, memories, frame, first, call) {
+            return (handle, refused);
+        }
+        if pieces.used() == before {
+            refused.place = true;
+        } else {
+            refused.block = true;
+        }
+        pieces.give_one(rt);
+    }
+    panic!(rt; "the call never passes")
+}
+
+/// The call is refused at each of its growths, and then passes: the handle is to this cell. Nothing is left of the refusals.
+fn is_refused_in_turn<'h>(
+    rt: &impl Abort,
+    alloc: Global,
+    memories: Memories<&'h LocalHeap>,
+    call: Call,
+    cell: u32,
+    births: u64,
+) {
+    let (table, root) = opened(rt, memories.ample);
+    let mut root = root;
+    let mut frame = entered(rt, memories.scarce, &table, &mut root);
+    is_refused_to(rt, alloc, memories, &mut frame, call, cell);
+    assert_eq!(rt; frame.len(), 0);
+    says(rt, frame.ledger(), births, 0);
+    assert!(rt; frame.work(2) > 0);
+    says(rt, frame.ledger(), births, births);
+    leaves(rt, &table, &mut root, frame);
+    ends(rt, table, root);
+}
+
+/// The same, in a frame that is there.
+fn is_refused_to<'h, H: Home<&'h LocalHeap>>(
+    rt: &impl Abort,
+    alloc: Global,
+    memories: Memories<&'h LocalHeap>,
+    frame: &mut Frame<H, &'h LocalHeap>,
+    call: Call,
+    cell: u32,
+)
+    requires unlocked { IsUnlocked frame.old }
+    ensures { GoesOn frame.old frame.new }
+{
+    let first = a_none(rt, frame);
+    let mut pieces = Pieces::take_all(rt, alloc, memories.scarce);
+    let mut handles = Vec::new(memories.ample);
+    fill_places(rt, frame, &mut handles);
+    let (handle, refused) = until_it_passes(rt, &mut pieces, memories, frame, &first, call);
+    assert!(rt; refused.place);
+    assert_eq!(rt; refused.block, cell >= 266);
+    assert!(rt; frame.owns(&handle));
+    assert_eq!(rt; frame.cell(&handle), cell);
+    keep(rt, &mut handles, handle);
+    keep(rt, &mut handles, first);
+    give_all_back(rt, frame, handles);
+}
+
+#[test]
+fn a_refused_growth_changes_nothing(rt: HostRuntime) {
+    let cases = [
+        (Call::Retain, 0, 0),
+        (Call::Immortal, 0, 0),
+        (Call::Int, 266, 1),
+        (Call::Text, 266, 1),
+        (Call::List, 266, 1),
+    ];
+    for (call, cell, births) in cases {
+        let ample = a_heap(&rt, rt.alloc(), 1 << 20);
+        let scarce = a_heap(&rt, rt.alloc(), 1 << 16);
+        let memories = Memories {
+            ample: &ample,
+            scarce: &scarce,
+        };
+        is_refused_in_turn(&rt, rt.alloc(), memories, call, cell, births);
+    }
+}
