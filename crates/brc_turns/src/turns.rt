@@ -90,7 +90,13 @@ fn three_work<R: Threads + Abort + Wait + Sync>(
     join(
         rt,
         || gives(rt, alloc, heap, maker, lists),
-        || two_take(rt, heap, first, second, lists),
+        || -> (Retired<Global>, Retired<Global>)
+            requires first { first.heap ≡ heap.now }
+            requires second { second.heap ≡ heap.now }
+            requires inside { GLOBALS < heap.now.cells }
+            ensures first { result.0.heap ≡ heap.entry.now }
+            ensures second { result.1.heap ≡ heap.entry.now }
+        { two_take(rt, heap, first, second, lists) },
     )
 }
 
