@@ -1,1 +1,2 @@
 mod Settled
+mod Ending

@@ -1,3 +1,4 @@
 pub mod Threads
 pub mod Settling
 pub mod Lending
+pub mod Ending

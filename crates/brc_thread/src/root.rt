@@ -22,11 +22,14 @@ pub struct Root<A: Allocator> {
 }
 
 impl<A: Allocator> Model for Root<A> {
+    ghost use Rattle.std.specs.Prelude.{◌≡◌, true};
     ghost use Rattle.brc_table.specs.Seated.{RootSeen};
 
     ghost Value = { RootSeen };
 
     ghost view = { λ r. r.seat };
+
+    ghost invariant = { λ r. (r.seat.view.active ≡ true) × (r.seat.view.thread ≡ 0) };
 }
 
 impl<A: Allocator + Copy> Root<A> {
