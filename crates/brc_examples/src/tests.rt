@@ -1,5 +1,6 @@
 //! Tests of the crates below, which stand here so that those aren't proved twice: each by the public calls alone.
 
+mod comparing;
 mod meaning;
 mod model;
 mod plain;

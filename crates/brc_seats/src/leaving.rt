@@ -7,6 +7,7 @@ ghost use Rattle.brc_rule.specs.Seen.{part_seen};
 ghost use Rattle.brc_table.specs.Seated.{Stays};
 ghost use Rattle.brc_seats.specs.Leaving.{HoldsNothing, left_with};
 
+use crate::comparing::is;
 use brc_table::{HeapTable, ThreadSeat};
 use std::alloc::Allocator;
 use std::process::Abort;
@@ -30,6 +31,6 @@ pub(crate) fn closes_all<A: Allocator>(
     for word in 0..16 {
         let found = table.close(seat, word);
         let expected = if word == WORD { bits } else { 0 };
-        assert_eq!(rt; found, expected);
+        is(rt, found, expected);
     }
 }

@@ -10,6 +10,8 @@ mod globals;
 pub use globals::{has_one, has_two, is_bare};
 
 #[cfg(test)]
+mod comparing;
+#[cfg(test)]
 mod counters;
 #[cfg(test)]
 mod ends;

@@ -4,6 +4,7 @@ ghost use Rattle.std.specs.Prelude.{◌≡◌, [], pos};
 ghost use Rattle.brc_table.specs.Seated.{Continues};
 ghost use Rattle.brc_seats.specs.Parts.{born_log, shared_log, taken_back_log, merged_log, shared_twice_log, shared_both_log, counted_log, taken_log, taken_first_log};
 
+use crate::comparing::is;
 use crate::helpers::{
     a_list, alive, bare, claimed, locked_bare, locked_with, locked_with_two, with_one, with_two,
 };
@@ -50,7 +51,7 @@ pub(crate) fn shares_a_list<A: Allocator + Copy>(
 {
     makes_a_list(rt, alloc, table, seat);
     let found = table.immortal_up(seat, Source::Immortal(265), 1, 265);
-    assert_eq!(rt; found, 4_294_967_295);
+    is(rt, found, 4_294_967_295);
     let globals = locked_bare(rt, table, seat, 1);
     let globals = with_one(rt, alloc, globals, 1, 266);
     table.unlock(seat, globals, Change::Put(0));
@@ -74,7 +75,7 @@ pub(crate) fn keeps_and_shares_a_list<A: Allocator + Copy>(
     makes_a_list(rt, alloc, table, seat);
     table.local_up(seat, Source::Frame(0), 1, 266, 1);
     let found = table.immortal_up(seat, Source::Immortal(265), 2, 265);
-    assert_eq!(rt; found, 4_294_967_295);
+    is(rt, found, 4_294_967_295);
     let globals = locked_bare(rt, table, seat, 2);
     let globals = with_one(rt, alloc, globals, 1, 266);
     table.unlock(seat, globals, Change::Put(1));
@@ -98,7 +99,7 @@ pub(crate) fn shares_both_references<A: Allocator + Copy>(
     makes_a_list(rt, alloc, table, seat);
     table.local_up(seat, Source::Frame(0), 1, 266, 1);
     let found = table.immortal_up(seat, Source::Immortal(265), 2, 265);
-    assert_eq!(rt; found, 4_294_967_295);
+    is(rt, found, 4_294_967_295);
     let globals = locked_bare(rt, table, seat, 2);
     let globals = with_one(rt, alloc, globals, 1, 266);
     table.unlock(seat, globals, Change::Put(0));
@@ -142,11 +143,11 @@ pub(crate) fn merges_at_zero<A: Allocator + Copy>(
 {
     table.local_down(seat, Dropped::Frame(0), 266, 1);
     let Found { number, block } = table.see_zero(seat, 266);
-    assert_eq!(rt; number, shared);
+    is(rt, number, shared);
     alive(rt, block);
     table.untie_over(seat, 266);
     let Found { number, block } = table.merge_zero(seat, 266);
-    assert_eq!(rt; number, shared);
+    is(rt, number, shared);
     alive(rt, block);
 }
 
@@ -164,10 +165,10 @@ pub(crate) fn counts_what_is_shared<A: Allocator>(
     ensures seat { Continues seat.old seat.new }
 {
     let found = table.immortal_up(seat, Source::Immortal(265), 0, 265);
-    assert_eq!(rt; found, 4_294_967_295);
+    is(rt, found, 4_294_967_295);
     let globals = locked_with(rt, table, seat, 0, 1, 266);
     let found = table.shared_up(seat, Source::Entry(0), 1, 266);
-    assert_eq!(rt; found, 4_398_046_511_104);
+    is(rt, found, 4_398_046_511_104);
     table.unlock(seat, globals, Change::Keep);
 }
 
@@ -187,7 +188,7 @@ pub(crate) fn takes_what_is_shared<A: Allocator>(
     ensures seat { Continues seat.old seat.new }
 {
     let found = table.immortal_up(seat, Source::Immortal(265), 0, 265);
-    assert_eq!(rt; found, 4_294_967_295);
+    is(rt, found, 4_294_967_295);
     let globals = locked_with(rt, table, seat, 0, key, 266);
     let globals = bare(alloc, globals);
     table.unlock(seat, globals, Change::Take { index: 0, place: 1 });
@@ -208,7 +209,7 @@ pub(crate) fn takes_the_first<A: Allocator + Copy>(
     ensures seat { Continues seat.old seat.new }
 {
     let found = table.immortal_up(seat, Source::Immortal(265), 0, 265);
-    assert_eq!(rt; found, 4_294_967_295);
+    is(rt, found, 4_294_967_295);
     let globals = locked_with_two(rt, table, seat, 0, 266);
     let globals = with_one(rt, alloc, globals, 2, 266);
     table.unlock(seat, globals, Change::Take { index: 0, place: 1 });

@@ -1,6 +1,7 @@
 //! The worked runs of the examples, as calls on the seats of up to three threads that one test holds. Each call answers what
 //! the trace's step finds.
 
+use crate::comparing::is;
 use crate::ends::end_all;
 use crate::helpers::{alive, bare, ends, gone, locked_bare, locked_with, opened, with_one};
 use crate::leaving::closes_all;
@@ -25,9 +26,9 @@ fn objects_merge_at_zero(rt: HostRuntime) {
     merges_at_zero(&rt, &table, &mut one, 4_398_046_511_108);
 
     // The other finds it merged, and its reference is the last.
-    assert_eq!(rt; table.load_shared(&mut two, 266), 4_398_046_511_111);
+    is(&rt, table.load_shared(&mut two, 266), 4_398_046_511_111);
     let Found { number, block } = table.last_down(&mut two, Dropped::Frame(1), 266);
-    assert_eq!(rt; number, 4_398_046_511_111);
+    is(&rt, number, 4_398_046_511_111);
     gone(&rt, &table, &mut two, block, 266);
     assert_eq!(rt; table.load_owner(&mut one, 266), u64::MAX);
     drop(one);
@@ -48,7 +49,7 @@ fn merged_object_is_put_back(rt: HostRuntime) {
 
     // The second counts the merged list up, and puts that reference into the globals.
     let found = table.shared_up(&mut two, Source::Frame(1), 2, 266);
-    assert_eq!(rt; found, 4_398_046_511_111);
+    is(&rt, found, 4_398_046_511_111);
     let globals = locked_bare(&rt, &table, &mut two, 0);
     let globals = with_one(&rt, rt.alloc(), globals, 1, 266);
     table.unlock(&mut two, globals, Change::Put(2));
@@ -57,13 +58,13 @@ fn merged_object_is_put_back(rt: HostRuntime) {
     let globals = locked_with(&rt, &table, &mut one, 1, 1, 266);
     let globals = bare(rt.alloc(), globals);
     table.unlock(&mut one, globals, Change::Take { index: 0, place: 0 });
-    assert_eq!(rt; table.load_shared(&mut one, 266), 4_398_046_511_115);
+    is(&rt, table.load_shared(&mut one, 266), 4_398_046_511_115);
     let Found { number, block } = table.last_down(&mut one, Dropped::Frame(0), 266);
-    assert_eq!(rt; number, 4_398_046_511_115);
+    is(&rt, number, 4_398_046_511_115);
     alive(&rt, block);
-    assert_eq!(rt; table.load_shared(&mut two, 266), 4_398_046_511_111);
+    is(&rt, table.load_shared(&mut two, 266), 4_398_046_511_111);
     let Found { number, block } = table.last_down(&mut two, Dropped::Frame(1), 266);
-    assert_eq!(rt; number, 4_398_046_511_111);
+    is(&rt, number, 4_398_046_511_111);
     gone(&rt, &table, &mut two, block, 266);
     assert_eq!(rt; table.load_owner(&mut one, 266), u64::MAX);
     drop(one);
@@ -81,29 +82,30 @@ fn asked_object_is_drained(rt: HostRuntime) {
 
     // The second takes the reference that is in the globals, and asks the owner to merge.
     takes_what_is_shared(&rt, rt.alloc(), &table, &mut two, 1);
-    assert_eq!(rt;
+    is(
+        &rt,
         table.ask(&mut two, Dropped::Frame(1), 266),
-        4_398_046_511_104
+        4_398_046_511_104,
     );
-    assert_eq!(rt; table.load_owner(&mut two, 266), 1);
-    assert_eq!(rt; table.enqueue(&mut two, 266, 1), 0);
-    assert_eq!(rt; table.nudge(&mut two, 1, 8), 0);
+    is(&rt, table.load_owner(&mut two, 266), 1);
+    is(&rt, table.enqueue(&mut two, 266, 1), 0);
+    is(&rt, table.nudge(&mut two, 1, 8), 0);
 
     // The owner drains its queue, and merges.
-    assert_eq!(rt; table.wake(&mut one), 1);
-    assert_eq!(rt; table.drain(&mut one, 8), 1_024);
-    assert_eq!(rt; table.load_shared(&mut one, 266), 4_398_046_511_106);
+    is(&rt, table.wake(&mut one), 1);
+    is(&rt, table.drain(&mut one, 8), 1_024);
+    is(&rt, table.load_shared(&mut one, 266), 4_398_046_511_106);
     table.untie_popped(&mut one, 266, 4_398_046_511_106);
-    assert_eq!(rt; table.load_local(&mut one, 266), 2);
-    assert_eq!(rt; table.merge_add(&mut one, 266, 2), 4_398_046_511_106);
+    is(&rt, table.load_local(&mut one, 266), 2);
+    is(&rt, table.merge_add(&mut one, 266, 2), 4_398_046_511_106);
     let Found { number, block } = table.last_added(&mut one, 266);
-    assert_eq!(rt; number, 4_398_046_511_115);
+    is(&rt, number, 4_398_046_511_115);
     alive(&rt, block);
 
     // Its own reference is the last.
-    assert_eq!(rt; table.load_shared(&mut one, 266), 4_398_046_511_111);
+    is(&rt, table.load_shared(&mut one, 266), 4_398_046_511_111);
     let Found { number, block } = table.last_down(&mut one, Dropped::Frame(0), 266);
-    assert_eq!(rt; number, 4_398_046_511_111);
+    is(&rt, number, 4_398_046_511_111);
     gone(&rt, &table, &mut one, block, 266);
     drop(one);
     drop(two);
@@ -121,19 +123,20 @@ fn asker_enqueues_late(rt: HostRuntime) {
     takes_back(&rt, rt.alloc(), &table, &mut one);
 
     // The second asks, and looks at the owner; then the owner merges on its own.
-    assert_eq!(rt;
+    is(
+        &rt,
         table.ask(&mut two, Dropped::Frame(1), 266),
-        4_398_046_511_108
+        4_398_046_511_108,
     );
-    assert_eq!(rt; table.load_owner(&mut two, 266), 1);
+    is(&rt, table.load_owner(&mut two, 266), 1);
     merges_at_zero(&rt, &table, &mut one, 4_398_046_511_110);
 
     // The late entry is found merged, and is the last reference.
-    assert_eq!(rt; table.enqueue(&mut two, 266, 1), 0);
-    assert_eq!(rt; table.drain(&mut one, 8), 1_024);
-    assert_eq!(rt; table.load_shared(&mut one, 266), 4_398_046_511_111);
+    is(&rt, table.enqueue(&mut two, 266, 1), 0);
+    is(&rt, table.drain(&mut one, 8), 1_024);
+    is(&rt, table.load_shared(&mut one, 266), 4_398_046_511_111);
     let Found { number, block } = table.last_popped(&mut one, 266, 4_398_046_511_111);
-    assert_eq!(rt; number, 4_398_046_511_111);
+    is(&rt, number, 4_398_046_511_111);
     gone(&rt, &table, &mut one, block, 266);
     drop(one);
     drop(two);
@@ -154,26 +157,27 @@ fn counts_go_below_zero(rt: HostRuntime) {
     takes_what_is_shared(&rt, rt.alloc(), &table, &mut three, 2);
 
     // The second asks; the third finds the list queued, and counts the shared word below 0.
-    assert_eq!(rt;
+    is(
+        &rt,
         table.ask(&mut two, Dropped::Frame(1), 266),
-        4_398_046_511_104
+        4_398_046_511_104,
     );
-    assert_eq!(rt; table.load_owner(&mut two, 266), 1);
-    assert_eq!(rt; table.enqueue(&mut two, 266, 1), 0);
-    assert_eq!(rt; table.load_shared(&mut three, 266), 4_398_046_511_106);
+    is(&rt, table.load_owner(&mut two, 266), 1);
+    is(&rt, table.enqueue(&mut two, 266, 1), 0);
+    is(&rt, table.load_shared(&mut three, 266), 4_398_046_511_106);
     let Found { number, block } = table.last_down(&mut three, Dropped::Frame(1), 266);
-    assert_eq!(rt; number, 4_398_046_511_106);
+    is(&rt, number, 4_398_046_511_106);
     alive(&rt, block);
-    assert_eq!(rt; table.load_shared(&mut three, 266), 4_398_046_511_102);
+    is(&rt, table.load_shared(&mut three, 266), 4_398_046_511_102);
 
     // The owner's count makes it whole: the popped entry is the last reference.
-    assert_eq!(rt; table.drain(&mut one, 8), 1_024);
-    assert_eq!(rt; table.load_shared(&mut one, 266), 4_398_046_511_102);
+    is(&rt, table.drain(&mut one, 8), 1_024);
+    is(&rt, table.load_shared(&mut one, 266), 4_398_046_511_102);
     table.untie_popped(&mut one, 266, 4_398_046_511_102);
-    assert_eq!(rt; table.load_local(&mut one, 266), 2);
-    assert_eq!(rt; table.merge_add(&mut one, 266, 2), 4_398_046_511_102);
+    is(&rt, table.load_local(&mut one, 266), 2);
+    is(&rt, table.merge_add(&mut one, 266, 2), 4_398_046_511_102);
     let Found { number, block } = table.last_added(&mut one, 266);
-    assert_eq!(rt; number, 4_398_046_511_111);
+    is(&rt, number, 4_398_046_511_111);
     gone(&rt, &table, &mut one, block, 266);
     assert_eq!(rt; table.load_owner(&mut two, 266), u64::MAX);
     drop(one);
@@ -191,21 +195,26 @@ fn orphan_is_adopted(rt: HostRuntime) {
     shares_a_list(&rt, rt.alloc(), &table, &mut one);
     takes_what_is_shared(&rt, rt.alloc(), &table, &mut two, 1);
     let _found = table.immortal_down(&mut one, Dropped::Frame(1), 265);
-    assert_eq!(rt;
+    is(
+        &rt,
         table.ask(&mut two, Dropped::Frame(1), 266),
-        4_398_046_511_104
+        4_398_046_511_104,
     );
     closes_all(&rt, &table, &mut one, 0);
 
     // The asker meets a closed word, merges in the owner's place, and has the last reference in its hand.
-    assert_eq!(rt; table.load_owner(&mut two, 266), 1);
-    assert_eq!(rt; table.enqueue(&mut two, 266, 1), 9_223_372_036_854_775_808);
-    assert_eq!(rt; table.load_owner(&mut two, 266), 1);
+    is(&rt, table.load_owner(&mut two, 266), 1);
+    is(
+        &rt,
+        table.enqueue(&mut two, 266, 1),
+        9_223_372_036_854_775_808,
+    );
+    is(&rt, table.load_owner(&mut two, 266), 1);
     table.untie_shut(&mut two, 266, 1);
-    assert_eq!(rt; table.load_local(&mut two, 266), 1);
-    assert_eq!(rt; table.merge_add(&mut two, 266, 1), 4_398_046_511_106);
+    is(&rt, table.load_local(&mut two, 266), 1);
+    is(&rt, table.merge_add(&mut two, 266, 1), 4_398_046_511_106);
     let Found { number, block } = table.last_held(&mut two, 266);
-    assert_eq!(rt; number, 4_398_046_511_111);
+    is(&rt, number, 4_398_046_511_111);
     gone(&rt, &table, &mut two, block, 266);
     drop(one);
     drop(two);
@@ -232,21 +241,22 @@ fn a_thread_leaves_with_an_entry(rt: HostRuntime) {
     shares_a_list(&rt, rt.alloc(), &table, &mut one);
     takes_what_is_shared(&rt, rt.alloc(), &table, &mut two, 1);
     let _found = table.immortal_down(&mut one, Dropped::Frame(1), 265);
-    assert_eq!(rt;
+    is(
+        &rt,
         table.ask(&mut two, Dropped::Frame(1), 266),
-        4_398_046_511_104
+        4_398_046_511_104,
     );
-    assert_eq!(rt; table.load_owner(&mut two, 266), 1);
-    assert_eq!(rt; table.enqueue(&mut two, 266, 1), 0);
+    is(&rt, table.load_owner(&mut two, 266), 1);
+    is(&rt, table.enqueue(&mut two, 266, 1), 0);
 
     // The owner leaves, and finds the entry in its queue's word; it merges, and the entry is the last reference.
     closes_all(&rt, &table, &mut one, 1_024);
-    assert_eq!(rt; table.load_shared(&mut one, 266), 4_398_046_511_106);
+    is(&rt, table.load_shared(&mut one, 266), 4_398_046_511_106);
     table.untie_popped(&mut one, 266, 4_398_046_511_106);
-    assert_eq!(rt; table.load_local(&mut one, 266), 1);
-    assert_eq!(rt; table.merge_add(&mut one, 266, 1), 4_398_046_511_106);
+    is(&rt, table.load_local(&mut one, 266), 1);
+    is(&rt, table.merge_add(&mut one, 266, 1), 4_398_046_511_106);
     let Found { number, block } = table.last_added(&mut one, 266);
-    assert_eq!(rt; number, 4_398_046_511_111);
+    is(&rt, number, 4_398_046_511_111);
     gone(&rt, &table, &mut one, block, 266);
     table.join(&mut root, one);
     drop(two);
@@ -260,18 +270,18 @@ fn owner_counts_as_others_do_at_its_limit(rt: HostRuntime) {
     let mut one = table.split(&mut root);
     makes_a_list(&rt, rt.alloc(), &table, &mut one);
     let found = table.shared_up(&mut one, Source::Frame(0), 1, 266);
-    assert_eq!(rt; found, 4_398_046_511_104);
+    is(&rt, found, 4_398_046_511_104);
     table.local_down(&mut one, Dropped::Frame(1), 266, 1);
     let Found { number, block } = table.see_zero(&mut one, 266);
-    assert_eq!(rt; number, 4_398_046_511_108);
+    is(&rt, number, 4_398_046_511_108);
     alive(&rt, block);
     table.untie_over(&mut one, 266);
     let Found { number, block } = table.merge_zero(&mut one, 266);
-    assert_eq!(rt; number, 4_398_046_511_108);
+    is(&rt, number, 4_398_046_511_108);
     alive(&rt, block);
-    assert_eq!(rt; table.load_shared(&mut one, 266), 4_398_046_511_111);
+    is(&rt, table.load_shared(&mut one, 266), 4_398_046_511_111);
     let Found { number, block } = table.last_down(&mut one, Dropped::Frame(0), 266);
-    assert_eq!(rt; number, 4_398_046_511_111);
+    is(&rt, number, 4_398_046_511_111);
     gone(&rt, &table, &mut one, block, 266);
     drop(one);
     ends(&rt, table, root);
@@ -286,7 +296,7 @@ fn an_exchange_is_lost(rt: HostRuntime) {
     keeps_and_shares_a_list(&rt, rt.alloc(), &table, &mut one);
     counts_what_is_shared(&rt, &table, &mut two);
     let found = table.shared_up(&mut two, Source::Frame(1), 2, 266);
-    assert_eq!(rt; found, 4_398_046_511_108);
+    is(&rt, found, 4_398_046_511_108);
 
     // An exchange that expects an older word is lost, and tells the number that is there; a new one is won.
     assert!(rt;
@@ -294,7 +304,7 @@ fn an_exchange_is_lost(rt: HostRuntime) {
             == Err(4_398_046_511_112)
     );
     assert!(rt; table.shared_down(&mut two, Dropped::Frame(2), 266, 4_398_046_511_112) == Ok(()));
-    assert_eq!(rt; table.load_shared(&mut two, 266), 4_398_046_511_108);
+    is(&rt, table.load_shared(&mut two, 266), 4_398_046_511_108);
     drop(one);
     drop(two);
 

@@ -1,15 +1,41 @@
 //! Sections run by themselves. What a section comes to is the contract of `plain_run`; the texts here are worked by hand
 //! from the table of instructions.
 
+use crate::tests::comparing::{same, same_at};
 use brc_meaning::plain_run;
-use brc_script::{Script, is_private, parse};
+use brc_script::{Script, Section, is_private, parse};
 use brc_words::Fault;
 use linked_list_allocator::LocalHeap;
 use std::alloc::{Allocator, Global};
+use std::process::Abort;
 use std::str;
 use std::test::*;
 
-/// Of each private section the lines that it prints, the fault that ends it, and how many objects it makes.
+/// Of a private section, what it comes to: the lines that it prints, the fault that ends it, and how many objects it
+/// makes. Of another section nothing.
+fn add_told<A: Allocator + Copy>(
+    alloc: Global,
+    memory: A,
+    section: &Section<A>,
+    told: &mut String,
+) -> Result<(), Fault> {
+    if !is_private(section) {
+        return Ok(());
+    }
+    let plain = plain_run(memory, section)?;
+    if let Ok(lines) = str::from_utf8(plain.lines.as_slice()) {
+        told.push_str(lines)?;
+    }
+    if let Some((fault, line)) = plain.fault {
+        let end = format!(in alloc; "fault {fault} line {line}\n")?;
+        told.push_str(end.as_str())?;
+    }
+    let made = format!(in alloc; "made {}\n", plain.made)?;
+    told.push_str(made.as_str())?;
+    Ok(())
+}
+
+/// The same of each section of a script.
 fn told_of<A: Allocator + Copy>(
     alloc: Global,
     memory: A,
@@ -17,18 +43,7 @@ fn told_of<A: Allocator + Copy>(
 ) -> Result<String, Fault> {
     let mut told = String::new(alloc);
     for section in script.sections() {
-        if is_private(section) {
-            let plain = plain_run(memory, section)?;
-            if let Ok(lines) = str::from_utf8(plain.lines.as_slice()) {
-                told.push_str(lines)?;
-            }
-            if let Some((fault, line)) = plain.fault {
-                let end = format!(in alloc; "fault {fault} line {line}\n")?;
-                told.push_str(end.as_str())?;
-            }
-            let made = format!(in alloc; "made {}\n", plain.made)?;
-            told.push_str(made.as_str())?;
-        }
+        add_told(alloc, memory, section, &mut told)?;
     }
     Ok(told)
 }
@@ -38,9 +53,21 @@ fn told(alloc: Global, text: &str) -> Result<String, Fault> {
     told_of(alloc, alloc, &script)
 }
 
+/// A case: its name, a script, and what comes of it.
+type Case = (&'static str, &'static str, &'static str);
+
+/// Each script comes to what stands beside it; all have the same front.
+fn come_to(rt: &impl Abort, alloc: Global, front: &str, cases: &[Case]) -> Result<(), Fail> {
+    for &(case, text, wanted) in cases {
+        let text = format!(in alloc; "{front}{text}")?;
+        same(rt, case, told(alloc, text.as_str())?.as_str(), wanted);
+    }
+    Ok(())
+}
+
 #[test]
 fn worked_scripts(rt: HostRuntime) -> Result<(), Fail> {
-    let cases = [
+    const CASES: &[Case] = &[
         (
             "a list in itself",
             "section a\nlist r0\ncopy r1 r0\npush r0 r1\ndrop r0\n",
@@ -67,15 +94,12 @@ fn worked_scripts(rt: HostRuntime) -> Result<(), Fail> {
             "fault 16 line 4\nmade 1\n",
         ),
     ];
-    for (case, text, wanted) in cases {
-        assert_eq!(rt; told(rt.alloc(), text)?.as_str(), wanted, "{case}");
-    }
-    Ok(())
+    come_to(&rt, rt.alloc(), "", CASES)
 }
 
 #[test]
 fn integers_at_their_edges(rt: HostRuntime) -> Result<(), Fail> {
-    let cases = [
+    const CASES: &[Case] = &[
         (
             "the largest",
             "section a\nint r0 9223372036854775806\nint r1 1\nadd r2 r0 r1\nprint r2\n",
@@ -107,15 +131,12 @@ fn integers_at_their_edges(rt: HostRuntime) -> Result<(), Fail> {
             "257\n-6\nmade 2\n",
         ),
     ];
-    for (case, text, wanted) in cases {
-        assert_eq!(rt; told(rt.alloc(), text)?.as_str(), wanted, "{case}");
-    }
-    Ok(())
+    come_to(&rt, rt.alloc(), "", CASES)
 }
 
 #[test]
 fn refused_instructions(rt: HostRuntime) -> Result<(), Fail> {
-    let cases = [
+    const CASES: &[Case] = &[
         (
             "an empty register before a kind",
             "text r0 x\nadd r2 r0 r1\n",
@@ -188,16 +209,12 @@ fn refused_instructions(rt: HostRuntime) -> Result<(), Fail> {
             "fault 7 line 3\nmade 1\n",
         ),
     ];
-    for (case, text, wanted) in cases {
-        let text = format!(in rt.alloc(); "section a\n{text}")?;
-        assert_eq!(rt; told(rt.alloc(), text.as_str())?.as_str(), wanted, "{case}");
-    }
-    Ok(())
+    come_to(&rt, rt.alloc(), "section a\n", CASES)
 }
 
 #[test]
 fn registers_after_an_instruction(rt: HostRuntime) -> Result<(), Fail> {
-    let cases = [
+    const CASES: &[Case] = &[
         (
             "pushed",
             "list r0\nint r1 1\npush r0 r1\nprint r0\nprint r1\n",
@@ -254,16 +271,12 @@ fn registers_after_an_instruction(rt: HostRuntime) -> Result<(), Fail> {
             "1\ndict 0\nmade 1\n",
         ),
     ];
-    for (case, text, wanted) in cases {
-        let text = format!(in rt.alloc(); "section a\n{text}")?;
-        assert_eq!(rt; told(rt.alloc(), text.as_str())?.as_str(), wanted, "{case}");
-    }
-    Ok(())
+    come_to(&rt, rt.alloc(), "section a\n", CASES)
 }
 
 #[test]
 fn repeated_lines(rt: HostRuntime) -> Result<(), Fail> {
-    let cases = [
+    const CASES: &[Case] = &[
         (
             "a thousand times",
             "section a\nlist r0\nrepeat 1000\nint r1 1\npush r0 r1\nend\nlen r2 r0\nprint r2\n",
@@ -285,10 +298,7 @@ fn repeated_lines(rt: HostRuntime) -> Result<(), Fail> {
             "x\nx\nx\nx\nmade 1\n",
         ),
     ];
-    for (case, text, wanted) in cases {
-        assert_eq!(rt; told(rt.alloc(), text)?.as_str(), wanted, "{case}");
-    }
-    Ok(())
+    come_to(&rt, rt.alloc(), "", CASES)
 }
 
 #[test]
@@ -297,11 +307,30 @@ fn turns_take_no_memory(rt: HostRuntime) -> Result<(), Fail> {
     let text =
         "section a\nlist r0\nint r1 1\nrepeat 1000000\ncopy r2 r1\npush r0 r2\npop r3 r0\nend\nprint r3\n";
     let script = parse(&heap, text.as_bytes())?;
-    assert_eq!(rt;
-        told_of(rt.alloc(), &heap, &script)?.as_str(),
-        "1\nmade 1\n"
-    );
+    let told = told_of(rt.alloc(), &heap, &script)?;
+    same(&rt, "in 8,192 bytes", told.as_str(), "1\nmade 1\n");
     Ok(())
+}
+
+/// What comes of this script where only the heap's memory is there: all of it, or it is told that there was no more.
+fn runs_or_is_refused<A: Allocator + Copy>(
+    rt: &impl Abort,
+    alloc: Global,
+    size: usize,
+    heap: A,
+    text: &str,
+) -> Option<bool> {
+    let script = parse(heap, text.as_bytes()).ok()?;
+    match told_of(alloc, heap, &script) {
+        Ok(told) => {
+            same_at(rt, size, told.as_str(), "1000\nmade 5\n");
+            Some(true)
+        }
+        Err(fault) => {
+            same_at(rt, size, fault, Fault::OutOfMemory);
+            Some(false)
+        }
+    }
 }
 
 #[test]
@@ -312,19 +341,12 @@ fn refused_memory(rt: HostRuntime) -> Result<(), Fail> {
     let mut ran = false;
     for size in 1..128 {
         let heap = LocalHeap::new(rt.alloc(), size * 32)?;
-        if let Ok(script) = parse(&heap, text.as_bytes()) {
-            match told_of(rt.alloc(), &heap, &script) {
-                Ok(told) => {
-                    ran = true;
-                    assert_eq!(rt; told.as_str(), "1000\nmade 5\n", "at {size}");
-                }
-                Err(fault) => {
-                    refused = true;
-                    assert_eq!(rt; fault, Fault::OutOfMemory, "at {size}");
-                }
-            }
+        match runs_or_is_refused(&rt, rt.alloc(), size, &heap, text) {
+            None => {}
+            Some(true) => ran = true,
+            Some(false) => refused = true,
         }
-        assert_eq!(rt; heap.used(), 0, "at {size}");
+        same_at(&rt, size, heap.used(), 0);
     }
     assert!(rt; refused && ran);
     Ok(())

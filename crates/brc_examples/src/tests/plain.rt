@@ -1,5 +1,6 @@
 //! Containers in use, at their limit, and without memory. What a call answers is its contract.
 
+use crate::tests::comparing::{holds, same};
 use brc_plain::{PlainDict, PlainList, PlainQueue};
 use brc_words::{Fault, Key, MOST_ENTRIES};
 use linked_list_allocator::LocalHeap;
@@ -34,77 +35,150 @@ fn reads<A: Allocator>(dict: &PlainDict<u32, A>, pairs: &[(i64, u32)]) -> bool {
 #[test]
 fn a_list_is_used_at_its_end(rt: HostRuntime) {
     let mut list = PlainList::new(rt.alloc());
-    assert!(rt; list.is_empty() && list.pop() == Err(Fault::NoSuchPlace));
+    holds(&rt, "empty", list.is_empty());
+    same(&rt, "no end", list.pop(), Err(Fault::NoSuchPlace));
     for value in [5, 6, 7u32] {
-        assert!(rt; list.push(value).is_ok());
+        holds(&rt, "pushed", list.push(value).is_ok());
     }
-    assert!(rt; list.set(1, 60) == Ok(6) && list.set(3, 70) == Err((Fault::NoSuchPlace, 70)));
-    assert!(rt; list.get(1) == Ok(&60) && list.get(3) == Err(Fault::NoSuchPlace));
-    assert!(rt; list.pop() == Ok(7) && list.as_slice() == [5, 60].as_slice() && list.len() == 2);
+    same(&rt, "set", list.set(1, 60), Ok(6));
+    same(
+        &rt,
+        "set past the end",
+        list.set(3, 70),
+        Err((Fault::NoSuchPlace, 70)),
+    );
+    same(&rt, "read", list.get(1), Ok(&60));
+    same(
+        &rt,
+        "read past the end",
+        list.get(3),
+        Err(Fault::NoSuchPlace),
+    );
+    same(&rt, "the end", list.pop(), Ok(7));
+    same(&rt, "the rest", list.as_slice(), [5, 60].as_slice());
+    same(&rt, "its length", list.len(), 2);
+}
+
+/// The value is put under the key, where this value was.
+fn puts<A: Allocator>(
+    rt: &impl Abort,
+    dict: &mut PlainDict<u32, A>,
+    key: i64,
+    value: u32,
+    old: Option<u32>,
+) {
+    match dict.put(Key::Int(key), value) {
+        Ok(found) => same(rt, "the old value", found, old),
+        Err(_refused) => panic!(rt; "refused"),
+    }
 }
 
 #[test]
 fn a_dictionary_keeps_the_order_of_its_keys(rt: HostRuntime) {
     let mut dict = PlainDict::new(rt.alloc());
-    assert!(rt; dict.is_empty());
-    for key in [1, 2, 3] {
-        assert!(rt; matches!(dict.put(Key::Int(key), 10 * key as u32), Ok(None)));
-    }
-    assert!(rt; dict.delete(&Key::Int(2)) == Ok(20));
-    assert!(rt; dict.delete(&Key::Int(2)) == Err(Fault::NoSuchKey));
-    assert!(rt; matches!(dict.put(Key::Int(2), 21), Ok(None)));
-    assert!(rt; matches!(dict.put(Key::Int(1), 11), Ok(Some(10))));
-    assert!(rt; reads(&dict, &[(1, 11), (3, 30), (2, 21)]));
-    assert!(rt;
-        dict.find(&Key::Int(3)) == Ok(&30) && dict.find(&Key::Int(4)) == Err(Fault::NoSuchKey)
+    holds(&rt, "empty", dict.is_empty());
+    puts(&rt, &mut dict, 1, 10, None);
+    puts(&rt, &mut dict, 2, 20, None);
+    puts(&rt, &mut dict, 3, 30, None);
+    same(&rt, "deleted", dict.delete(&Key::Int(2)), Ok(20));
+    same(
+        &rt,
+        "twice",
+        dict.delete(&Key::Int(2)),
+        Err(Fault::NoSuchKey),
+    );
+    puts(&rt, &mut dict, 2, 21, None);
+    puts(&rt, &mut dict, 1, 11, Some(10));
+    holds(&rt, "in order", reads(&dict, &[(1, 11), (3, 30), (2, 21)]));
+    same(&rt, "found", dict.find(&Key::Int(3)), Ok(&30));
+    same(
+        &rt,
+        "not there",
+        dict.find(&Key::Int(4)),
+        Err(Fault::NoSuchKey),
     );
 }
 
 #[test]
 fn a_queue_gives_the_first_put_in(rt: HostRuntime) {
     let mut queue = PlainQueue::new(rt.alloc());
-    assert!(rt; queue.is_empty() && queue.receive() == Err(Fault::NoSuchPlace));
+    holds(&rt, "empty", queue.is_empty());
+    same(&rt, "no first", queue.receive(), Err(Fault::NoSuchPlace));
     for value in [5, 6, 7u32] {
-        assert!(rt; queue.send(value).is_ok());
+        holds(&rt, "sent", queue.send(value).is_ok());
     }
-    assert!(rt; queue.receive() == Ok(5) && queue.receive() == Ok(6) && queue.len() == 1);
+    same(&rt, "the first", queue.receive(), Ok(5));
+    same(&rt, "the second", queue.receive(), Ok(6));
+    same(&rt, "its length", queue.len(), 1);
 }
 
 #[test]
-fn a_full_container_takes_no_more(rt: HostRuntime) {
+fn a_full_list_takes_no_more(rt: HostRuntime) {
     let mut list = PlainList::new(rt.alloc());
+    for value in 0..MOST_ENTRIES {
+        holds(&rt, "pushed", list.push(value).is_ok());
+    }
+    same(&rt, "one more", list.push(7), Err((Fault::Full, 7)));
+    same(&rt, "set", list.set(0, 7), Ok(0));
+    same(&rt, "the end", list.pop(), Ok(MOST_ENTRIES - 1));
+    holds(&rt, "in its place", list.push(8).is_ok());
+}
+
+#[test]
+fn a_full_queue_takes_no_more(rt: HostRuntime) {
     let mut queue = PlainQueue::new(rt.alloc());
     for value in 0..MOST_ENTRIES {
-        assert!(rt; list.push(value).is_ok() && queue.send(value).is_ok());
+        holds(&rt, "sent", queue.send(value).is_ok());
     }
-    assert!(rt; list.push(7) == Err((Fault::Full, 7)) && queue.send(7) == Err((Fault::Full, 7)));
-    assert!(rt; list.set(0, 7) == Ok(0) && queue.receive() == Ok(0));
-    assert!(rt; list.pop() == Ok(MOST_ENTRIES - 1));
-    assert!(rt; list.push(8).is_ok() && queue.send(8).is_ok());
+    same(&rt, "one more", queue.send(7), Err((Fault::Full, 7)));
+    same(&rt, "the first", queue.receive(), Ok(0));
+    holds(&rt, "in its place", queue.send(8).is_ok());
+}
+
+/// All the memory of a heap, for a test that starts with it.
+fn heap_of(rt: &impl Abort, alloc: Global) -> LocalHeap {
+    LocalHeap::new(alloc, 1_000).expect(rt, "memory")
 }
 
 #[test]
-fn a_refused_growth_hands_everything_back(rt: HostRuntime) {
-    let heap = LocalHeap::new(rt.alloc(), 1_000).expect(&rt, "memory");
+fn a_list_hands_back_what_it_cannot_hold(rt: HostRuntime) {
+    let heap = heap_of(&rt, rt.alloc());
     let mut list = PlainList::new(&heap);
-    let mut dict = PlainDict::new(&heap);
+    let filler = fill(&rt, rt.alloc(), &heap);
+    same(&rt, "pushed", list.push(7u32), Err((Fault::OutOfMemory, 7)));
+    holds(&rt, "empty", list.is_empty());
+    drop(filler);
+    holds(&rt, "with memory", list.push(7).is_ok());
+}
+
+#[test]
+fn a_queue_hands_back_what_it_cannot_hold(rt: HostRuntime) {
+    let heap = heap_of(&rt, rt.alloc());
     let mut queue = PlainQueue::new(&heap);
     let filler = fill(&rt, rt.alloc(), &heap);
-    assert!(rt; list.push(7u32) == Err((Fault::OutOfMemory, 7)));
-    assert!(rt; queue.send(7u32) == Err((Fault::OutOfMemory, 7)));
+    same(&rt, "sent", queue.send(7u32), Err((Fault::OutOfMemory, 7)));
+    holds(&rt, "empty", queue.is_empty());
+    drop(filler);
+    holds(&rt, "with memory", queue.send(7).is_ok());
+}
+
+#[test]
+fn a_dictionary_hands_back_what_it_cannot_hold(rt: HostRuntime) {
+    let heap = heap_of(&rt, rt.alloc());
+    let mut dict = PlainDict::new(&heap);
+    let filler = fill(&rt, rt.alloc(), &heap);
     assert!(rt;
         matches!(
             dict.put(Key::Int(1), 7),
             Err((Fault::OutOfMemory, (Key::Int(1), 7)))
         )
     );
-    assert!(rt; list.is_empty() && dict.is_empty() && queue.is_empty());
-
+    holds(&rt, "empty", dict.is_empty());
     drop(filler);
-    assert!(rt; list.push(7).is_ok() && queue.send(7).is_ok());
-    assert!(rt; matches!(dict.put(Key::Int(1), 7), Ok(None)));
+    puts(&rt, &mut dict, 1, 7, None);
 
     // A key that is there wants no memory.
     let _filler = fill(&rt, rt.alloc(), &heap);
-    assert!(rt; matches!(dict.put(Key::Int(1), 8), Ok(Some(7))) && reads(&dict, &[(1, 8)]));
+    puts(&rt, &mut dict, 1, 8, Some(7));
+    holds(&rt, "the new value", reads(&dict, &[(1, 8)]));
 }

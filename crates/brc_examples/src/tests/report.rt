@@ -1,5 +1,6 @@
 //! Reports of small heaps, as values and as texts, and of large ones.
 
+use crate::tests::comparing::{holds, same};
 use brc_report::{
     Cells, Content, Ledger, Remain, Report, check_report, find_cycles, find_remains, write_report,
 };
@@ -77,14 +78,32 @@ fn what_the_globals_hold_is_no_cycle(rt: HostRuntime) {
     assert!(rt; text.as_slice() == b"ledger 1 0 1\nremain 266 text 265\n".as_slice());
 }
 
+/// What the check of a report says of these.
+fn is_report(
+    rt: &impl Abort,
+    alloc: Global,
+    remains: &[Remain],
+    cycle: &[u32],
+    contents: &[Content<Global>],
+) -> bool {
+    let cells = Vec::from_slice(alloc, cycle).expect(rt, "memory");
+    let cycles = [Cells::new(cells)];
+    check_report(alloc, remains, &cycles, contents).expect(rt, "memory")
+}
+
+/// The globals without entries, two lists that hold each other, and a text that the first holds.
+fn two_lists_and_a_text(rt: &impl Abort, alloc: Global) -> Vec<Content<Global>> {
+    let mut contents = Vec::new(alloc);
+    add(rt, alloc, &mut contents, 265, Kind::Dict, &[]);
+    add(rt, alloc, &mut contents, 266, Kind::List, &[268, 267]);
+    add(rt, alloc, &mut contents, 267, Kind::List, &[266]);
+    add(rt, alloc, &mut contents, 268, Kind::Text, &[]);
+    contents
+}
+
 #[test]
-fn two_lists_hold_each_other_and_a_text(rt: HostRuntime) {
-    let mut contents = Vec::new(rt.alloc());
-    add(&rt, rt.alloc(), &mut contents, 265, Kind::Dict, &[]);
-    add(&rt, rt.alloc(), &mut contents, 266, Kind::List, &[268, 267]);
-    add(&rt, rt.alloc(), &mut contents, 267, Kind::List, &[266]);
-    add(&rt, rt.alloc(), &mut contents, 268, Kind::Text, &[]);
-    let remains = [
+fn a_report_is_checked(rt: HostRuntime) {
+    const REMAINS: &[Remain] = &[
         Remain {
             cell: 266,
             kind: Kind::List,
@@ -101,25 +120,31 @@ fn two_lists_hold_each_other_and_a_text(rt: HostRuntime) {
             held_by: 266,
         },
     ];
-    let cycle = Vec::from_slice(rt.alloc(), [266, 267].as_slice()).expect(&rt, "memory");
-    let turned = Vec::from_slice(rt.alloc(), [267, 266].as_slice()).expect(&rt, "memory");
-    let cycles = [Cells::new(cycle)];
-    let others = [Cells::new(turned)];
-    assert!(rt; check_report(rt.alloc(), &remains, &cycles, contents.as_slice()) == Ok(true));
-    assert!(rt; check_report(rt.alloc(), &remains[..2], &cycles, contents.as_slice()) == Ok(false));
-    assert!(rt; check_report(rt.alloc(), &remains, &others, contents.as_slice()) == Ok(false));
-    assert!(rt; check_report(rt.alloc(), &remains, &[], contents.as_slice()) == Ok(false));
+    let contents = two_lists_and_a_text(&rt, rt.alloc());
+    let contents = contents.as_slice();
+    let is = is_report(&rt, rt.alloc(), REMAINS, &[266, 267], contents);
+    holds(&rt, "right", is);
+    let is = is_report(&rt, rt.alloc(), &REMAINS[..2], &[266, 267], contents);
+    holds(&rt, "a remain too few", !is);
+    let is = is_report(&rt, rt.alloc(), REMAINS, &[267, 266], contents);
+    holds(&rt, "the cycle's second cell first", !is);
+    let is = check_report(rt.alloc(), REMAINS, &[], contents);
+    same(&rt, "no cycle", is, Ok(false));
+}
+
+#[test]
+fn two_lists_hold_each_other_and_a_text(rt: HostRuntime) {
+    let contents = two_lists_and_a_text(&rt, rt.alloc());
     let text = report_of(&rt, rt.alloc(), contents, 3, 0);
-    assert!(rt;
-        text.as_slice()
-            == b"ledger 3 0 3\nremain 266 list 267\nremain 267 list 266\nremain 268 text 266\ncycle 266 267\n".as_slice()
-    );
+    let wanted =
+        b"ledger 3 0 3\nremain 266 list 267\nremain 267 list 266\nremain 268 text 266\ncycle 266 267\n";
+    same(&rt, "the text", text.as_slice(), wanted.as_slice());
 }
 
 #[test]
 fn cycles_stand_by_their_first_cells(rt: HostRuntime) {
     // 266 leads into the cycle of 268 and 270, which is met at 270; 267 and 269 are a cycle of their own.
-    let remains = [
+    const REMAINS: &[Remain] = &[
         Remain {
             cell: 266,
             kind: Kind::List,
@@ -151,24 +176,43 @@ fn cycles_stand_by_their_first_cells(rt: HostRuntime) {
             held_by: 265,
         },
     ];
-    let cycles = find_cycles(rt.alloc(), &remains).expect(&rt, "memory");
+    let cycles = find_cycles(rt.alloc(), REMAINS).expect(&rt, "memory");
     assert_eq!(rt; cycles.len(), 2);
-    assert!(rt;
-        cycles[0].as_slice() == [267, 269].as_slice()
-            && cycles[1].as_slice() == [268, 270].as_slice()
+    same(
+        &rt,
+        "the first",
+        cycles[0].as_slice(),
+        [267, 269].as_slice(),
     );
+    same(
+        &rt,
+        "the second",
+        cycles[1].as_slice(),
+        [268, 270].as_slice(),
+    );
+}
+
+/// The contents alone, without a remain and a cycle, are a report or none.
+fn alone(rt: &impl Abort, alloc: Global, case: &str, contents: &[Content<Global>], is: bool) {
+    same(rt, case, check_report(alloc, &[], &[], contents), Ok(is));
 }
 
 #[test]
 fn contents_that_do_not_rise_are_no_report(rt: HostRuntime) {
     let mut contents = Vec::new(rt.alloc());
-    assert!(rt; check_report(rt.alloc(), &[], &[], contents.as_slice()) == Ok(false));
+    alone(&rt, rt.alloc(), "no globals", contents.as_slice(), false);
     add(&rt, rt.alloc(), &mut contents, 265, Kind::Dict, &[]);
-    assert!(rt; check_report(rt.alloc(), &[], &[], contents.as_slice()) == Ok(true));
+    alone(&rt, rt.alloc(), "globals", contents.as_slice(), true);
     add(&rt, rt.alloc(), &mut contents, 266, Kind::Text, &[]);
-    assert!(rt; check_report(rt.alloc(), &[], &[], contents.as_slice()) == Ok(false));
+    alone(
+        &rt,
+        rt.alloc(),
+        "a remain too few",
+        contents.as_slice(),
+        false,
+    );
     add(&rt, rt.alloc(), &mut contents, 266, Kind::List, &[266]);
-    assert!(rt; check_report(rt.alloc(), &[], &[], contents.as_slice()) == Ok(false));
+    alone(&rt, rt.alloc(), "a cell twice", contents.as_slice(), false);
 }
 
 #[test]

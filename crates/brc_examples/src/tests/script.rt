@@ -1,87 +1,145 @@
 //! Whole scripts, every limit one past, and refused memory. Which value a text spells is the contract of `parse`.
 
+use crate::tests::comparing::{holds, same, same_at};
 use brc_script::*;
 use brc_words::{Fault, Key};
 use linked_list_allocator::LocalHeap;
 use std::alloc::{AllocError, Allocator, Global};
+use std::process::Abort;
 use std::test::*;
+
+fn number_text(alloc: Global, number: i64) -> Result<String, AllocError> {
+    format!(in alloc; "{number}")
+}
 
 fn key_text<A: Allocator>(alloc: Global, key: &Key<A>) -> Result<String, AllocError> {
     match key {
-        Key::Int(number) => format!(in alloc; "{number}"),
+        Key::Int(number) => number_text(alloc, *number),
         Key::Text(name) => format!(in alloc; "'{}", name.as_str()),
     }
 }
 
-/// The line as its number, the variant, and the operands in the order of the fields.
-fn shown<A: Allocator>(alloc: Global, line: &Line<A>) -> Result<String, AllocError> {
-    let at = line.number();
-    match line.instruction() {
+fn add_registers(
+    alloc: Global,
+    text: &mut String,
+    registers: &[Register],
+) -> Result<(), AllocError> {
+    for register in registers {
+        let number = format!(in alloc; " {}", register.number())?;
+        text.push_str(number.as_str())?;
+    }
+    Ok(())
+}
+
+/// The variant, and its operands where they are registers.
+fn plain(alloc: Global, name: &str, operands: &[Register]) -> Result<String, AllocError> {
+    let mut text = String::from_str(alloc, name)?;
+    add_registers(alloc, &mut text, operands)?;
+    Ok(text)
+}
+
+/// The same of one whose last operand is none.
+fn ended(alloc: Global, name: &str, front: &[Register], last: &str) -> Result<String, AllocError> {
+    let mut text = plain(alloc, name, front)?;
+    text.push_str(" ")?;
+    text.push_str(last)?;
+    Ok(text)
+}
+
+/// One that stores a value: where, under what, and which.
+fn stored(
+    alloc: Global,
+    name: &str,
+    container: Register,
+    at: &str,
+    value: Register,
+) -> Result<String, AllocError> {
+    let mut text = ended(alloc, name, &[container], at)?;
+    add_registers(alloc, &mut text, &[value])?;
+    Ok(text)
+}
+
+/// The variant, and the operands in the order of the fields.
+fn shown<A: Allocator>(alloc: Global, instruction: &Instruction<A>) -> Result<String, AllocError> {
+    match instruction {
+        Instruction::List { to } => plain(alloc, "List", &[*to]),
+        Instruction::Dict { to } => plain(alloc, "Dict", &[*to]),
+        Instruction::Mailbox { to } => plain(alloc, "Mailbox", &[*to]),
+        Instruction::Copy { to, from } => plain(alloc, "Copy", &[*to, *from]),
+        Instruction::Drop { from } => plain(alloc, "Drop", &[*from]),
+        Instruction::Push { list, value } => plain(alloc, "Push", &[*list, *value]),
+        Instruction::Pop { to, list } => plain(alloc, "Pop", &[*to, *list]),
+        Instruction::Len { to, container } => plain(alloc, "Len", &[*to, *container]),
+        Instruction::Send { mailbox, value } => plain(alloc, "Send", &[*mailbox, *value]),
+        Instruction::Receive { to, mailbox } => plain(alloc, "Receive", &[*to, *mailbox]),
+        Instruction::Add { to, first, second } => plain(alloc, "Add", &[*to, *first, *second]),
+        Instruction::Print { from } => plain(alloc, "Print", &[*from]),
+        _ => shown_with_words(alloc, instruction),
+    }
+}
+
+/// The same of those that have another operand than registers.
+fn shown_with_words<A: Allocator>(
+    alloc: Global,
+    instruction: &Instruction<A>,
+) -> Result<String, AllocError> {
+    match instruction {
         Instruction::Int { to, number } => {
-            format!(in alloc; "{at} Int {} {number}", to.number())
+            ended(alloc, "Int", &[*to], number_text(alloc, *number)?.as_str())
         }
-        Instruction::Text { to, text } => {
-            format!(in alloc; "{at} Text {} {}", to.number(), text.as_str())
-        }
-        Instruction::List { to } => format!(in alloc; "{at} List {}", to.number()),
-        Instruction::Dict { to } => format!(in alloc; "{at} Dict {}", to.number()),
-        Instruction::Mailbox { to } => format!(in alloc; "{at} Mailbox {}", to.number()),
-        Instruction::Copy { to, from } => {
-            format!(in alloc; "{at} Copy {} {}", to.number(), from.number())
-        }
-        Instruction::Drop { from } => format!(in alloc; "{at} Drop {}", from.number()),
-        Instruction::Push { list, value } => {
-            format!(in alloc; "{at} Push {} {}", list.number(), value.number())
-        }
-        Instruction::Pop { to, list } => {
-            format!(in alloc; "{at} Pop {} {}", to.number(), list.number())
-        }
+        Instruction::Text { to, text } => ended(alloc, "Text", &[*to], text.as_str()),
         Instruction::Get { to, list, index } => {
-            format!(in alloc; "{at} Get {} {} {index}", to.number(), list.number())
+            let index = number_text(alloc, i64::from(*index))?;
+            ended(alloc, "Get", &[*to, *list], index.as_str())
         }
         Instruction::Set { list, index, value } => {
-            format!(in alloc; "{at} Set {} {index} {}", list.number(), value.number())
-        }
-        Instruction::Len { to, container } => {
-            format!(in alloc; "{at} Len {} {}", to.number(), container.number())
+            let index = number_text(alloc, i64::from(*index))?;
+            stored(alloc, "Set", *list, index.as_str(), *value)
         }
         Instruction::Put { dict, key, value } => {
-            let key = key_text(alloc, key)?;
-            format!(in alloc; "{at} Put {} {key} {}", dict.number(), value.number())
+            stored(alloc, "Put", *dict, key_text(alloc, key)?.as_str(), *value)
         }
         Instruction::Find { to, dict, key } => {
-            let key = key_text(alloc, key)?;
-            format!(in alloc; "{at} Find {} {} {key}", to.number(), dict.number())
+            ended(alloc, "Find", &[*to, *dict], key_text(alloc, key)?.as_str())
         }
         Instruction::Delete { to, dict, key } => {
-            let key = key_text(alloc, key)?;
-            format!(in alloc; "{at} Delete {} {} {key}", to.number(), dict.number())
-        }
-        Instruction::Share { name, value } => {
-            format!(in alloc; "{at} Share {} {}", name.as_str(), value.number())
-        }
-        Instruction::Fetch { to, name } => {
-            format!(in alloc; "{at} Fetch {} {}", to.number(), name.as_str())
-        }
-        Instruction::Unshare { to, name } => {
-            format!(in alloc; "{at} Unshare {} {}", to.number(), name.as_str())
-        }
-        Instruction::Send { mailbox, value } => {
-            format!(in alloc; "{at} Send {} {}", mailbox.number(), value.number())
-        }
-        Instruction::Receive { to, mailbox } => {
-            format!(in alloc; "{at} Receive {} {}", to.number(), mailbox.number())
-        }
-        Instruction::Add { to, first, second } => {
-            format!(in alloc;
-                "{at} Add {} {} {}",
-                to.number(),
-                first.number(),
-                second.number()
+            ended(
+                alloc,
+                "Delete",
+                &[*to, *dict],
+                key_text(alloc, key)?.as_str(),
             )
         }
-        Instruction::Print { from } => format!(in alloc; "{at} Print {}", from.number()),
+        _ => shown_with_names(alloc, instruction),
     }
+}
+
+/// The same of those that have a name of the globals.
+fn shown_with_names<A: Allocator>(
+    alloc: Global,
+    instruction: &Instruction<A>,
+) -> Result<String, AllocError> {
+    match instruction {
+        Instruction::Share { name, value } => {
+            let text = format!(in alloc; "Share {}", name.as_str())?;
+            plain(alloc, text.as_str(), &[*value])
+        }
+        Instruction::Fetch { to, name } => ended(alloc, "Fetch", &[*to], name.as_str()),
+        Instruction::Unshare { to, name } => ended(alloc, "Unshare", &[*to], name.as_str()),
+        _ => String::from_str(alloc, "NOT SHOWN"),
+    }
+}
+
+/// One line more: its number, and what it does.
+fn add_line<A: Allocator>(
+    alloc: Global,
+    text: &mut String,
+    line: &Line<A>,
+) -> Result<(), AllocError> {
+    let at = line.number();
+    let does = shown(alloc, line.instruction())?;
+    let line = format!(in alloc; "{at} {}\n", does.as_str())?;
+    text.push_str(line.as_str())
 }
 
 fn add_piece<A: Allocator>(
@@ -90,18 +148,12 @@ fn add_piece<A: Allocator>(
     piece: &Piece<A>,
 ) -> Result<(), AllocError> {
     match piece {
-        Piece::One(line) => {
-            let line = shown(alloc, line)?;
-            text.push_str(line.as_str())?;
-            text.push_str("\n")
-        }
+        Piece::One(line) => add_line(alloc, text, line),
         Piece::Repeat { times, lines } => {
             let head = format!(in alloc; "{times} times\n")?;
             text.push_str(head.as_str())?;
             for line in lines.as_slice() {
-                let line = shown(alloc, line)?;
-                text.push_str(line.as_str())?;
-                text.push_str("\n")?;
+                add_line(alloc, text, line)?;
             }
             text.push_str("so often\n")
         }
@@ -124,7 +176,7 @@ fn show<A: Allocator>(alloc: Global, script: &Script<A>) -> Result<String, Alloc
 
 #[test]
 fn scripts_are_read(rt: HostRuntime) -> Result<(), Fail> {
-    let cases = [
+    const CASES: &[(&str, &str, &str)] = &[
         (
             "a list in itself",
             "section a\nlist r0\ncopy r1 r0\npush r0 r1\ndrop r0\n",
@@ -166,17 +218,22 @@ fn scripts_are_read(rt: HostRuntime) -> Result<(), Fail> {
             "in a\n1000000 times\n4 List 0\n6 Drop 0\nso often\n0 times\nso often\nin b\n",
         ),
     ];
-    for (case, text, wanted) in cases {
+    for &(case, text, wanted) in CASES {
         let script = parse(rt.alloc(), text.as_bytes())?;
-        let shown = show(rt.alloc(), &script)?;
-        assert_eq!(rt; shown.as_str(), wanted, "{case}");
+        same(&rt, case, show(rt.alloc(), &script)?.as_str(), wanted);
     }
     Ok(())
 }
 
+/// The script is refused, for this line.
+fn is_refused(rt: &impl Abort, alloc: Global, case: &str, text: &[u8], line: u32) {
+    let found = parse(alloc, text).err();
+    same(rt, case, found, Some(Fault::BadScript { line }));
+}
+
 #[test]
 fn bad_lines_are_told(rt: HostRuntime) {
-    let cases = [
+    const CASES: &[(&str, &str, u32)] = &[
         ("nothing", "", 1),
         ("no section", "# a\nlist r0\n", 1),
         (
@@ -285,12 +342,8 @@ fn bad_lines_are_told(rt: HostRuntime) {
             2,
         ),
     ];
-    for (case, text, line) in cases {
-        assert_eq!(rt;
-            parse(rt.alloc(), text.as_bytes()).err(),
-            Some(Fault::BadScript { line }),
-            "{case}"
-        );
+    for &(case, text, line) in CASES {
+        is_refused(&rt, rt.alloc(), case, text.as_bytes(), line);
     }
 }
 
@@ -305,44 +358,47 @@ fn long_line(alloc: Global, front: &str, letters: usize) -> Result<Vec<u8>, Allo
     Ok(text)
 }
 
-#[test]
-fn limits_are_kept(rt: HostRuntime) -> Result<(), Fail> {
-    let cases = [
-        ("a text", "text r0 ", 4_096),
-        ("a shared name", "fetch r0 ", 64),
-        ("a key", "find r0 r1 '", 64),
-    ];
-    for (case, front, most) in cases {
-        let text = long_line(rt.alloc(), front, most)?;
-        assert!(rt; parse(rt.alloc(), text.as_slice()).is_ok(), "{case}");
-        let text = long_line(rt.alloc(), front, most + 1)?;
-        assert_eq!(rt;
-            parse(rt.alloc(), text.as_slice()).err(),
-            Some(Fault::BadScript { line: 2 }),
-            "{case}"
-        );
-    }
+/// So many letters are read, and one more is refused.
+fn most_letters(
+    rt: &impl Abort,
+    alloc: Global,
+    case: &str,
+    front: &str,
+    most: usize,
+    line: u32,
+) -> Result<(), Fail> {
+    let mut text = long_line(alloc, front, most)?;
+    holds(rt, case, parse(alloc, text.as_slice()).is_ok());
+    text.push(b'x')?;
+    is_refused(rt, alloc, case, text.as_slice(), line);
+    Ok(())
+}
 
-    let mut text = String::new(rt.alloc());
-    for number in 0..63u32 {
-        let line = format!(in rt.alloc(); "section s{number}\n")?;
+#[test]
+fn limits_of_letters_are_kept(rt: HostRuntime) -> Result<(), Fail> {
+    most_letters(&rt, rt.alloc(), "a text", "text r0 ", 4_096, 2)?;
+    most_letters(&rt, rt.alloc(), "a shared name", "fetch r0 ", 64, 2)?;
+    most_letters(&rt, rt.alloc(), "a key", "find r0 r1 '", 64, 2)?;
+    most_letters(&rt, rt.alloc(), "a script", "#", 16_777_205, 0)
+}
+
+/// So many sections, each without an instruction.
+fn empty_sections(alloc: Global, count: u32) -> Result<String, AllocError> {
+    let mut text = String::new(alloc);
+    for number in 0..count {
+        let line = format!(in alloc; "section s{number}\n")?;
         text.push_str(line.as_str())?;
     }
-    let script = parse(rt.alloc(), text.as_bytes())?;
-    assert_eq!(rt; script.sections().len(), 63);
-    text.push_str("section s63\n")?;
-    assert_eq!(rt;
-        parse(rt.alloc(), text.as_bytes()).err(),
-        Some(Fault::BadScript { line: 64 })
-    );
+    Ok(text)
+}
 
-    let mut text = long_line(rt.alloc(), "#", 16_777_205)?;
-    assert!(rt; parse(rt.alloc(), text.as_slice()).is_ok());
-    text.push(b'x')?;
-    assert_eq!(rt;
-        parse(rt.alloc(), text.as_slice()).err(),
-        Some(Fault::BadScript { line: 0 })
-    );
+#[test]
+fn the_limit_of_sections_is_kept(rt: HostRuntime) -> Result<(), Fail> {
+    let text = empty_sections(rt.alloc(), 63)?;
+    let script = parse(rt.alloc(), text.as_bytes())?;
+    same(&rt, "sections", script.sections().len(), 63);
+    let text = empty_sections(rt.alloc(), 64)?;
+    is_refused(&rt, rt.alloc(), "one more", text.as_bytes(), 64);
     Ok(())
 }
 
@@ -352,9 +408,23 @@ fn sections_are_private(rt: HostRuntime) -> Result<(), Fail> {
         "section a\nlist r0\nrepeat 2\nsend r0 r1\nend\nsection b\nshare x r0\nsection c\nrepeat 0\nfetch r0 x\nend\nsection d\nlist r0\nunshare r0 x\n";
     let script = parse(rt.alloc(), text.as_bytes())?;
     for (section, wanted) in script.sections().iter().zip(&[true, false, false, false]) {
-        assert_eq!(rt; is_private(section), *wanted, "{}", section.name.as_str());
+        same(&rt, section.name.as_str(), is_private(section), *wanted);
     }
     Ok(())
+}
+
+/// Whether the script was read in the heap's memory, or else it is told that there was no more.
+fn is_read<A: Allocator + Copy>(rt: &impl Abort, size: usize, heap: A, text: &str) -> bool {
+    match parse(heap, text.as_bytes()) {
+        Ok(script) => {
+            same_at(rt, size, script.sections().len(), 2);
+            true
+        }
+        Err(fault) => {
+            same_at(rt, size, fault, Fault::OutOfMemory);
+            false
+        }
+    }
 }
 
 #[test]
@@ -365,17 +435,12 @@ fn refused_memory(rt: HostRuntime) -> Result<(), Fail> {
     let mut read = false;
     for size in 1..128 {
         let heap = LocalHeap::new(rt.alloc(), size * 32)?;
-        match parse(&heap, text.as_bytes()) {
-            Ok(script) => {
-                read = true;
-                assert_eq!(rt; script.sections().len(), 2, "at {size}");
-            }
-            Err(fault) => {
-                refused = true;
-                assert_eq!(rt; fault, Fault::OutOfMemory, "at {size}");
-            }
+        if is_read(&rt, size, &heap, text) {
+            read = true;
+        } else {
+            refused = true;
         }
-        assert_eq!(rt; heap.used(), 0, "at {size}");
+        same_at(&rt, size, heap.used(), 0);
     }
     assert!(rt; refused);
     assert!(rt; read);

@@ -1,5 +1,6 @@
 //! Words of the world text, which are written alone, and numbers at their bounds.
 
+use crate::tests::comparing::same;
 use brc_text::*;
 use brc_words::Fault;
 use std::io::{self, Write};
@@ -7,7 +8,7 @@ use std::test::*;
 
 #[test]
 fn numbers(rt: HostRuntime) {
-    let cases = [
+    const CASES: &[(&str, &str, Option<u64>)] = &[
         ("zero", "0", Some(0)),
         ("ten digits", "4294967295", Some(4_294_967_295)),
         ("the largest", "18446744073709551615", Some(u64::MAX)),
@@ -19,16 +20,14 @@ fn numbers(rt: HostRuntime) {
         ("a minus", "-7", None),
         ("behind the digits", "1:", None),
     ];
-    for (case, text, number) in cases {
-        assert_eq!(rt; number_of(text.as_bytes()), number, "{case}");
+    for &(case, text, number) in CASES {
+        same(&rt, case, number_of(text.as_bytes()), number);
     }
 }
 
 #[test]
 fn words_of_lines(rt: HostRuntime) {
-    let mut words = Words::new();
-    let text = b"1 unlock take 0 f12 q266 h -\n2 wake\nno line";
-    let read = [
+    const FIRST: &[Token] = &[
         Token::Number(1),
         Token::Word(Keyword::Unlock),
         Token::Word(Keyword::Take),
@@ -38,17 +37,24 @@ fn words_of_lines(rt: HostRuntime) {
         Token::Word(Keyword::InHand),
         Token::Word(Keyword::Dash),
     ];
+    const SECOND: &[Token] = &[Token::Number(2), Token::Word(Keyword::Wake)];
+    let mut words = Words::new();
+    let text = b"1 unlock take 0 f12 q266 h -\n2 wake\nno line";
     let behind = b"2 wake\nno line".as_slice();
-    assert_eq!(rt; words.read(text), Some(behind));
-    assert_eq!(rt; words.tokens(), read.as_slice());
-    let read = [Token::Number(2), Token::Word(Keyword::Wake)];
-    assert_eq!(rt; words.read(behind), Some(b"no line".as_slice()));
-    assert_eq!(rt; words.tokens(), read.as_slice());
+    same(&rt, "behind the first", words.read(text), Some(behind));
+    same(&rt, "the first", words.tokens(), FIRST);
+    same(
+        &rt,
+        "behind the second",
+        words.read(behind),
+        Some(b"no line".as_slice()),
+    );
+    same(&rt, "the second", words.tokens(), SECOND);
 }
 
 #[test]
 fn no_lines(rt: HostRuntime) {
-    let cases = [
+    const CASES: &[(&str, &str)] = &[
         ("nothing", ""),
         ("an empty line", "\n"),
         ("no line feed", "1"),
@@ -66,8 +72,8 @@ fn no_lines(rt: HostRuntime) {
         ("nine words", "1 1 1 1 1 1 1 1 1\n"),
     ];
     let mut words = Words::new();
-    for (case, text) in cases {
-        assert_eq!(rt; words.read(text.as_bytes()), None, "{case}");
+    for &(case, text) in CASES {
+        same(&rt, case, words.read(text.as_bytes()), None);
     }
 }
 
@@ -89,8 +95,7 @@ impl Write for Slow {
 
 #[test]
 fn a_line_of_the_world(rt: HostRuntime) -> Result<(), Fail> {
-    let mut out = Slow(Vec::new(rt.alloc()));
-    let words = [
+    const WORDS: &[Token] = &[
         Token::Word(Keyword::Object),
         Token::Number(266),
         Token::Word(Keyword::Mailbox),
@@ -100,9 +105,10 @@ fn a_line_of_the_world(rt: HostRuntime) -> Result<(), Fail> {
         Token::Word(Keyword::Merged),
         Token::Number(u64::MAX),
     ];
-    let done: Result<(), Fault> = put_line(&mut out, &words);
-    assert_eq!(rt; done, Ok(()));
+    let mut out = Slow(Vec::new(rt.alloc()));
+    let done: Result<(), Fault> = put_line(&mut out, WORDS);
+    same(&rt, "written", done, Ok(()));
     let expected = b"object 266 mailbox 1 - -3 merged 18446744073709551615\n";
-    assert_eq!(rt; out.0.as_slice(), expected.as_slice());
+    same(&rt, "the line", out.0.as_slice(), expected.as_slice());
     Ok(())
 }

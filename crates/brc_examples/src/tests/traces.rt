@@ -1,11 +1,14 @@
 //! Traces as texts: which lines are lines, and which step each is; a whole life there and back, streams and memory that
 //! fail.
 
+use crate::tests::comparing::{same, same_at};
 use brc_runs::{Change, Dropped, Event, LastDropped, Source, Step};
 use brc_trace::*;
 use brc_words::{Fault, Reason};
 use linked_list_allocator::LocalHeap;
+use std::alloc::{AllocGlobal, Allocator, Global};
 use std::io::{self, Error, ErrorKind, Read, Write};
+use std::process::Abort;
 use std::test::*;
 
 /// One object's life, from registration to the cell given back.
@@ -24,9 +27,15 @@ fn fault_of(rt: &HostRuntime, text: &str) -> Option<Fault> {
     }
 }
 
+/// That this line isn't one, where there is such a line.
+fn not_a_line(line: Option<u32>) -> Option<Fault> {
+    let (line, reason) = (line?, Reason::NotALine);
+    Some(Fault::BadTrace { line, reason })
+}
+
 #[test]
 fn lines(rt: HostRuntime) {
-    let cases = [
+    const CASES: &[(&str, &str, Option<u32>)] = &[
         ("no event", "heap 512 1\n", None),
         ("largest head", "heap 65536 4294967294\n", None),
         (
@@ -95,10 +104,8 @@ fn lines(rt: HostRuntime) {
         ("source of a drop", "heap 512 1\n1 up w0 1\n", Some(2)),
         ("drop of a source", "heap 512 1\n1 down i0\n", Some(2)),
     ];
-    for (case, text, line) in cases {
-        let reason = Reason::NotALine;
-        let expected = line.map(|line| Fault::BadTrace { line, reason });
-        assert_eq!(rt; fault_of(&rt, text), expected, "{case}");
+    for &(case, text, line) in CASES {
+        same(&rt, case, fault_of(&rt, text), not_a_line(line));
     }
 }
 
@@ -106,7 +113,7 @@ fn lines(rt: HostRuntime) {
 const HEAD: &str = "heap 512 1\n";
 
 /// The head, and this line.
-fn below_head(rt: &HostRuntime, line: &str) -> Result<Vec<u8>, Fail> {
+fn below_head<R: AllocGlobal>(rt: &R, line: &str) -> Result<Vec<u8>, Fail> {
     let mut text = Vec::new(rt.alloc());
     text.extend_from_slice(HEAD.as_bytes())?;
     text.extend_from_slice(line.as_bytes())?;
@@ -115,7 +122,7 @@ fn below_head(rt: &HostRuntime, line: &str) -> Result<Vec<u8>, Fail> {
 
 #[test]
 fn neighbours_of_lines(rt: HostRuntime) -> Result<(), Fail> {
-    let cases = [
+    const CASES: &[(&str, &str)] = &[
         ("up from the hand", "1 up h 0\n"),
         ("up by no place", "1 shup f0\n"),
         ("up from a popped cell", "1 shup q266 0\n"),
@@ -155,33 +162,60 @@ fn neighbours_of_lines(rt: HostRuntime) -> Result<(), Fail> {
         ("a thread alone", "1\n"),
         ("no step", "1 h\n"),
     ];
-    for (case, line) in cases {
+    for &(case, line) in CASES {
         let text = below_head(&rt, line)?;
-        let (line, reason) = (2, Reason::NotALine);
-        let expected = Some(Fault::BadTrace { line, reason });
-        assert_eq!(rt;
-            read_trace(rt.alloc(), text.as_slice()).err(),
-            expected,
-            "{case}"
-        );
+        let found = read_trace(rt.alloc(), text.as_slice()).err();
+        same(&rt, case, found, not_a_line(Some(2)));
     }
+    Ok(())
+}
+
+/// The event is read from its line, and written as that line.
+fn is_spelled<R: Abort + AllocGlobal>(rt: &R, line: &str, event: Event) -> Result<(), Fail> {
+    let text = below_head(rt, line)?;
+    let trace = read_trace(rt.alloc(), text.as_slice())
+        .ok()
+        .ok_or("a line of a trace")?;
+    same(rt, line, trace.events.as_slice(), [event].as_slice());
+    is_written(rt, &trace, line, text.as_slice(), 1000)
+}
+
+/// The trace is written as these bytes, so many at a time.
+fn is_written<R: Abort + AllocGlobal>(
+    rt: &R,
+    trace: &Trace<Global>,
+    case: &str,
+    text: &[u8],
+    at_once: usize,
+) -> Result<(), Fail> {
+    let mut out = stream(rt.alloc(), at_once, 1000, true);
+    same(rt, case, write_trace(trace, &mut out), Ok(()));
+    same(rt, case, out.taken.as_slice(), text);
     Ok(())
 }
 
 #[test]
 fn each_step(rt: HostRuntime) -> Result<(), Fail> {
-    let (source, place) = (Source::Immortal(265), 1);
-    let (index, far) = (1_048_575, 65_535);
-    let cases = [
+    const SOURCE: Source = Source::Immortal(265);
+    const INDEX: u32 = 1_048_575;
+    const FAR: u32 = 65_535;
+    const CASES: &[(&str, u32, Step)] = &[
         ("1 untie 266\n", 1, Step::Untie(266)),
         ("1 zero 266\n", 1, Step::MergeZero(266)),
-        ("1 shup i265 1\n", 1, Step::SharedUp { source, place }),
+        (
+            "1 shup i265 1\n",
+            1,
+            Step::SharedUp {
+                source: SOURCE,
+                place: 1,
+            },
+        ),
         (
             "64 shup e1048575 65535\n",
             64,
             Step::SharedUp {
-                source: Source::Entry(index),
-                place: far,
+                source: Source::Entry(INDEX),
+                place: FAR,
             },
         ),
         ("1 shdown f3\n", 1, Step::SharedDown(Dropped::Frame(3))),
@@ -201,7 +235,7 @@ fn each_step(rt: HostRuntime) -> Result<(), Fail> {
         (
             "1 last q65535\n",
             1,
-            Step::LastDown(LastDropped::Popped(far)),
+            Step::LastDown(LastDropped::Popped(FAR)),
         ),
         ("1 last h\n", 1, Step::LastDown(LastDropped::Hand)),
         ("1 enq 266\n", 1, Step::Enqueue(266)),
@@ -217,39 +251,29 @@ fn each_step(rt: HostRuntime) -> Result<(), Fail> {
             },
         ),
         ("64 wake\n", 64, Step::Wake),
-        ("1 lock 65535\n", 1, Step::Lock(far)),
+        ("1 lock 65535\n", 1, Step::Lock(FAR)),
         ("1 unlock keep\n", 1, Step::Unlock(Change::Keep)),
         ("1 unlock put 2\n", 1, Step::Unlock(Change::Put(2))),
         (
             "1 unlock take 1048575 1\n",
             1,
-            Step::Unlock(Change::Take { index, place }),
+            Step::Unlock(Change::Take {
+                index: INDEX,
+                place: 1,
+            }),
         ),
         (
             "1 unlock swap 1048575 1\n",
             1,
-            Step::Unlock(Change::Swap { index, place }),
+            Step::Unlock(Change::Swap {
+                index: INDEX,
+                place: 1,
+            }),
         ),
         ("0 gather 64\n", 0, Step::Gather(64)),
     ];
-    for (line, thread, step) in cases {
-        let text = below_head(&rt, line)?;
-        let trace = read_trace(rt.alloc(), text.as_slice())
-            .ok()
-            .ok_or("a line of a trace")?;
-        assert_eq!(rt;
-            trace.events.as_slice(),
-            [Event { thread, step }].as_slice(),
-            "{line}"
-        );
-        let mut out = Narrow {
-            taken: Vec::new(rt.alloc()),
-            at_once: 1000,
-            room: 1000,
-            fails: true,
-        };
-        assert!(rt; write_trace(&trace, &mut out).is_ok());
-        assert_eq!(rt; out.taken.as_slice(), text.as_slice(), "{line}");
+    for &(line, thread, step) in CASES {
+        is_spelled(&rt, line, Event { thread, step })?;
     }
     Ok(())
 }
@@ -261,6 +285,16 @@ struct Narrow {
     at_once: usize,
     room: usize,
     fails: bool,
+}
+
+fn stream(alloc: Global, at_once: usize, room: usize, fails: bool) -> Narrow {
+    let taken = Vec::new(alloc);
+    Narrow {
+        taken,
+        at_once,
+        room,
+        fails,
+    }
 }
 
 impl Write for Narrow {
@@ -279,26 +313,38 @@ impl Write for Narrow {
     }
 }
 
+/// The text is of a trace with this limit and so many events, and is written again, seven bytes at a time.
+fn is_a_life<R: Abort + AllocGlobal>(
+    rt: &R,
+    text: &str,
+    local_limit: u32,
+    count: usize,
+) -> Result<(), Fail> {
+    let trace = read_trace(rt.alloc(), text.as_bytes())
+        .ok()
+        .ok_or("a life is a trace")?;
+    same(rt, "cells", trace.cells, 512);
+    same(rt, "the limit", trace.local_limit, local_limit);
+    same(rt, "events", trace.events.len(), count);
+    is_written(rt, &trace, "written", text.as_bytes(), 7)
+}
+
 #[test]
 fn there_and_back(rt: HostRuntime) -> Result<(), Fail> {
-    let cases = [(LIFE, 100, 10), (SHORT_LIFE, 4_294_967_294, 8)];
-    for (text, local_limit, count) in cases {
-        let trace = read_trace(rt.alloc(), text.as_bytes())
-            .ok()
-            .ok_or("a life is a trace")?;
-        assert_eq!(rt; trace.cells, 512);
-        assert_eq!(rt; trace.local_limit, local_limit);
-        assert_eq!(rt; trace.events.len(), count);
-        let mut out = Narrow {
-            taken: Vec::new(rt.alloc()),
-            at_once: 7,
-            room: 1000,
-            fails: true,
-        };
-        assert!(rt; write_trace(&trace, &mut out).is_ok());
-        assert_eq!(rt; out.taken.as_slice(), text.as_bytes());
-    }
-    Ok(())
+    is_a_life(&rt, LIFE, 100, 10)?;
+    is_a_life(&rt, SHORT_LIFE, 4_294_967_294, 8)
+}
+
+/// The trace of a life goes to a stream with this room, nine bytes at a time, and the stream has a front of it then.
+fn stops_after<R: Abort + AllocGlobal>(rt: &R, trace: &Trace<Global>, room: usize, fails: bool) {
+    let mut out = stream(rt.alloc(), 9, room, fails);
+    same_at(rt, room, write_trace(trace, &mut out), Err(Fault::Io));
+    same_at(
+        rt,
+        room,
+        out.taken.as_slice(),
+        LIFE.as_bytes().get(..room).unwrap_or(&[]),
+    );
 }
 
 #[test]
@@ -307,26 +353,26 @@ fn failing_writers(rt: HostRuntime) -> Result<(), Fail> {
         .ok()
         .ok_or("a life is a trace")?;
     for fails in [true, false] {
-        for room in [0, 5, 13, 40] {
-            let mut out = Narrow {
-                taken: Vec::new(rt.alloc()),
-                at_once: 9,
-                room,
-                fails,
-            };
-            assert_eq!(rt;
-                write_trace(&trace, &mut out),
-                Err(Fault::Io),
-                "after {room}"
-            );
-            assert_eq!(rt;
-                out.taken.as_slice(),
-                &LIFE.as_bytes()[..room],
-                "after {room}"
-            );
-        }
+        stops_after(&rt, &trace, 0, fails);
+        stops_after(&rt, &trace, 5, fails);
+        stops_after(&rt, &trace, 13, fails);
+        stops_after(&rt, &trace, 40, fails);
     }
     Ok(())
+}
+
+/// Whether the life was read in the heap's memory, or else it is told that there was no more.
+fn is_read<A: Allocator + Copy>(rt: &impl Abort, size: usize, heap: A) -> bool {
+    match read_trace(heap, LIFE.as_bytes()) {
+        Ok(trace) => {
+            same_at(rt, size, trace.events.len(), 10);
+            true
+        }
+        Err(fault) => {
+            same_at(rt, size, fault, Fault::OutOfMemory);
+            false
+        }
+    }
 }
 
 #[test]
@@ -335,17 +381,12 @@ fn refused_memory(rt: HostRuntime) -> Result<(), Fail> {
     let mut read = false;
     for size in 1..64 {
         let heap = LocalHeap::new(rt.alloc(), size * 32)?;
-        match read_trace(&heap, LIFE.as_bytes()) {
-            Ok(trace) => {
-                read = true;
-                assert_eq!(rt; trace.events.len(), 10, "at {size}");
-            }
-            Err(fault) => {
-                refused = true;
-                assert_eq!(rt; fault, Fault::OutOfMemory, "at {size}");
-            }
+        if is_read(&rt, size, &heap) {
+            read = true;
+        } else {
+            refused = true;
         }
-        assert_eq!(rt; heap.used(), 0, "at {size}");
+        same_at(&rt, size, heap.used(), 0);
     }
     assert!(rt; refused);
     assert!(rt; read);
@@ -357,30 +398,24 @@ fn long_texts(rt: HostRuntime) -> Result<(), Fail> {
     let mut text = Vec::with_capacity(rt.alloc(), 16_777_217)?;
     text.extend_from_slice(b"heap 512 1\n")?;
     text.resize(16_777_217, b'x')?;
-    let reason = Reason::NotALine;
-    let bad = |line| Some(Fault::BadTrace { line, reason });
-    assert_eq!(rt; read_trace(rt.alloc(), text.as_slice()).err(), bad(0));
+    let found = read_trace(rt.alloc(), text.as_slice()).err();
+    same(&rt, "one byte too long", found, not_a_line(Some(0)));
     text.truncate(16_777_216);
-    assert_eq!(rt; read_trace(rt.alloc(), text.as_slice()).err(), bad(2));
+    let found = read_trace(rt.alloc(), text.as_slice()).err();
+    same(&rt, "the longest", found, not_a_line(Some(2)));
     Ok(())
 }
 
 /// What a replay of these bytes answers, and what it writes.
-fn replayed(rt: &HostRuntime, text: &str) -> Result<(Result<bool, Fault>, Vec<u8>), Fail> {
-    let mut out = Narrow {
-        taken: Vec::new(rt.alloc()),
-        at_once: 1000,
-        room: 1_000_000,
-        fails: true,
-    };
+fn replayed<R: AllocGlobal>(rt: &R, text: &str) -> Result<(Result<bool, Fault>, Vec<u8>), Fail> {
+    let mut out = stream(rt.alloc(), 1000, 1_000_000, true);
     let answer = run_replay(rt.alloc(), text.as_bytes(), &mut out);
     Ok((answer, out.taken))
 }
 
 #[test]
 fn replays(rt: HostRuntime) -> Result<(), Fail> {
-    let reason = Reason::NotEnabled;
-    let cases = [
+    const CASES: &[(&str, &str, Result<bool, Fault>, &str)] = &[
         (
             "no event",
             "heap 512 4294967294\n",
@@ -414,7 +449,10 @@ fn replays(rt: HostRuntime) -> Result<(), Fail> {
         (
             "freed before it was seen",
             "heap 512 9\n0 register 1\n1 claim 266\n1 local 266\n1 shared 266\n1 born 266 int 0\n1 free 266\n",
-            Err(Fault::BadTrace { line: 7, reason }),
+            Err(Fault::BadTrace {
+                line: 7,
+                reason: Reason::NotEnabled,
+            }),
             "",
         ),
         (
@@ -429,7 +467,10 @@ fn replays(rt: HostRuntime) -> Result<(), Fail> {
         (
             "another one behind it",
             "heap 512 9\n1 free 266\n1 free 267\n0 register 1\n",
-            Err(Fault::BadTrace { line: 2, reason }),
+            Err(Fault::BadTrace {
+                line: 2,
+                reason: Reason::NotEnabled,
+            }),
             "",
         ),
         (
@@ -442,10 +483,10 @@ fn replays(rt: HostRuntime) -> Result<(), Fail> {
             "",
         ),
     ];
-    for (case, text, answer, written) in cases {
+    for &(case, text, answer, written) in CASES {
         let (found, out) = replayed(&rt, text)?;
-        assert_eq!(rt; found, answer, "{case}");
-        assert_eq!(rt; out.as_slice(), written.as_bytes(), "{case}");
+        same(&rt, case, found, answer);
+        same(&rt, case, out.as_slice(), written.as_bytes());
     }
     Ok(())
 }
@@ -453,15 +494,16 @@ fn replays(rt: HostRuntime) -> Result<(), Fail> {
 #[test]
 fn writers_of_worlds_that_fail(rt: HostRuntime) -> Result<(), Fail> {
     for fails in [true, false] {
-        let mut out = Narrow {
-            taken: Vec::new(rt.alloc()),
-            at_once: 1000,
-            room: 7,
-            fails,
-        };
+        let mut out = stream(rt.alloc(), 1000, 7, fails);
         let input = b"heap 512 1\n".as_slice();
-        assert_eq!(rt; run_replay(rt.alloc(), input, &mut out), Err(Fault::Io));
-        assert_eq!(rt; out.taken.as_slice(), b"world 5".as_slice());
+        let answer = run_replay(rt.alloc(), input, &mut out);
+        same(&rt, "the answer", answer, Err(Fault::Io));
+        same(
+            &rt,
+            "the front",
+            out.taken.as_slice(),
+            b"world 5".as_slice(),
+        );
     }
     Ok(())
 }
@@ -489,7 +531,7 @@ impl Read for Slow {
 
 #[test]
 fn slow_and_failing_readers(rt: HostRuntime) -> Result<(), Fail> {
-    let cases = [
+    const CASES: &[(&str, u32, Result<bool, Fault>, &str)] = &[
         (
             "one byte a read",
             1000,
@@ -499,19 +541,14 @@ fn slow_and_failing_readers(rt: HostRuntime) -> Result<(), Fail> {
         ("the second read fails", 2, Err(Fault::Io), ""),
         ("the first read fails", 1, Err(Fault::Io), ""),
     ];
-    for (case, until_failure, answer, written) in cases {
+    for &(case, until_failure, answer, written) in CASES {
         let reader = Slow {
             rest: b"heap 512 1\n",
             until_failure,
         };
-        let mut out = Narrow {
-            taken: Vec::new(rt.alloc()),
-            at_once: 1000,
-            room: 1000,
-            fails: true,
-        };
-        assert_eq!(rt; run_replay(rt.alloc(), reader, &mut out), answer, "{case}");
-        assert_eq!(rt; out.taken.as_slice(), written.as_bytes(), "{case}");
+        let mut out = stream(rt.alloc(), 1000, 1000, true);
+        same(&rt, case, run_replay(rt.alloc(), reader, &mut out), answer);
+        same(&rt, case, out.taken.as_slice(), written.as_bytes());
     }
     Ok(())
 }

@@ -1,5 +1,6 @@
 //! Runs that were worked by hand: what a replay of each writes, and what it answers.
 
+use crate::tests::comparing::same;
 use brc_trace::*;
 use brc_words::{Fault, Reason};
 use std::alloc::AllocGlobal;
@@ -47,17 +48,16 @@ fn replayed<R: AllocGlobal>(
     Ok((answer, out))
 }
 
-/// A run, and the world behind its first line; `is_live` says whether an object lives there.
-fn leads_to<R: Abort + AllocGlobal>(
-    rt: &R,
-    case: &str,
-    pieces: &[&str],
-    is_live: bool,
-    world: &str,
-) -> Result<(), Fail> {
-    let (answer, out) = replayed(rt, pieces)?;
-    assert_eq!(rt; answer, Ok(is_live), "{case}");
-    assert_eq!(rt; out.as_slice(), world.as_bytes(), "{case}");
+/// A run: its name, its pieces, whether an object lives behind its last event, and the world there.
+type Run = (&'static str, &'static [&'static str], bool, &'static str);
+
+/// Each run leads to the world that stands beside it.
+fn lead_there<R: Abort + AllocGlobal>(rt: &R, runs: &[Run]) -> Result<(), Fail> {
+    for &(case, pieces, is_live, world) in runs {
+        let (answer, out) = replayed(rt, pieces)?;
+        same(rt, case, answer, Ok(is_live));
+        same(rt, case, out.as_slice(), world.as_bytes());
+    }
     Ok(())
 }
 
@@ -70,172 +70,174 @@ fn stops_at<R: Abort + AllocGlobal>(
 ) -> Result<(), Fail> {
     let (answer, out) = replayed(rt, pieces)?;
     let reason = Reason::NotEnabled;
-    assert_eq!(rt; answer, Err(Fault::BadTrace { line, reason }), "{case}");
-    assert_eq!(rt; out.as_slice(), [].as_slice(), "{case}");
+    same(rt, case, answer, Err(Fault::BadTrace { line, reason }));
+    same(rt, case, out.len(), 0);
     Ok(())
 }
 
 #[test]
 fn merges_at_zero(rt: HostRuntime) -> Result<(), Fail> {
-    leads_to(
-        &rt,
-        "a merge at zero that leaves a reference",
-        &[BORN, FOUND, TAKEN_BACK, MERGED],
-        true,
-        "world 512 4294967294\nthread 1 active\nframe 1 1 265\nthread 2 active\nframe 2 0 265\nframe 2 1 266\nobject 266 list 0 - 1 merged 1\nledger 1 0 1\n",
-    )?;
-    leads_to(
-        &rt,
-        "the last reference to a merged object",
-        &[BORN, FOUND, TAKEN_BACK, MERGED, "2 last f1\n2 free 266\n"],
-        false,
-        "world 512 4294967294\nthread 1 active\nframe 1 1 265\nthread 2 active\nframe 2 0 265\nledger 1 1 0\n",
-    )?;
-    // A merged object goes through the globals once more: whoever counts it down to 0 frees it.
-    let again =
+    const AGAIN: &str =
         "2 shup f1 2\n2 lock 0\n2 unlock put 2\n1 lock 1\n1 unlock take 0 0\n1 last f0\n2 last f1\n";
-    leads_to(
-        &rt,
-        "the last of two who count a merged object down frees it",
-        &[BORN, FOUND, TAKEN_BACK, MERGED, again, "2 free 266\n"],
-        false,
-        "world 512 4294967294\nthread 1 active\nframe 1 1 265\nthread 2 active\nframe 2 0 265\nledger 1 1 0\n",
-    )?;
+    const RUNS: &[Run] = &[
+        (
+            "a merge at zero that leaves a reference",
+            &[BORN, FOUND, TAKEN_BACK, MERGED],
+            true,
+            "world 512 4294967294\nthread 1 active\nframe 1 1 265\nthread 2 active\nframe 2 0 265\nframe 2 1 266\nobject 266 list 0 - 1 merged 1\nledger 1 0 1\n",
+        ),
+        (
+            "the last reference to a merged object",
+            &[BORN, FOUND, TAKEN_BACK, MERGED, "2 last f1\n2 free 266\n"],
+            false,
+            "world 512 4294967294\nthread 1 active\nframe 1 1 265\nthread 2 active\nframe 2 0 265\nledger 1 1 0\n",
+        ),
+        // A merged object goes through the globals once more: whoever counts it down to 0 frees it.
+        (
+            "the last of two who count a merged object down frees it",
+            &[BORN, FOUND, TAKEN_BACK, MERGED, AGAIN, "2 free 266\n"],
+            false,
+            "world 512 4294967294\nthread 1 active\nframe 1 1 265\nthread 2 active\nframe 2 0 265\nledger 1 1 0\n",
+        ),
+    ];
+    lead_there(&rt, RUNS)?;
     stops_at(
         &rt,
         "the first of the two doesn't",
-        &[BORN, FOUND, TAKEN_BACK, MERGED, again, "1 free 266\n"],
+        &[BORN, FOUND, TAKEN_BACK, MERGED, AGAIN, "1 free 266\n"],
         28,
     )
 }
 
 #[test]
 fn asks(rt: HostRuntime) -> Result<(), Fail> {
-    leads_to(
-        &rt,
-        "an ask waits in the queue",
-        &[BORN, ASKED],
-        true,
-        "world 512 4294967294\nthread 1 active\nframe 1 0 266\nframe 1 2 265\nqueued 1 266\nthread 2 active\nframe 2 0 265\nobject 266 list 1 2 0 queued 2\nledger 1 0 1\n",
-    )?;
-    leads_to(
-        &rt,
-        "ask and drain",
-        &[
-            BORN,
-            ASKED,
-            "1 wake\n1 drain 8\n1 untie 266\n1 add 266\n1 last q266\n",
-        ],
-        true,
-        "world 512 4294967294\nthread 1 active\nframe 1 0 266\nframe 1 2 265\nthread 2 active\nframe 2 0 265\nobject 266 list 0 - 1 merged 1\nledger 1 0 1\n",
-    )?;
-    leads_to(
-        &rt,
-        "the asker uses a stale owner number",
-        &[
-            BORN,
-            FOUND,
-            TAKEN_BACK,
-            "2 ask f1\n",
-            MERGED,
-            "2 enq 266\n1 drain 8\n1 last q266\n1 free 266\n",
-        ],
-        false,
-        "world 512 4294967294\nthread 1 active\nframe 1 1 265\nthread 2 active\nframe 2 0 265\nledger 1 1 0\n",
-    )?;
-    leads_to(
-        &rt,
-        "an ask at a shared count above 0",
-        &[
-            BORN,
-            FOUND,
-            "2 shup f1 2\n2 shup f1 3\n2 ask f1\n2 enq 266\n",
-        ],
-        true,
-        "world 512 4294967294\nthread 1 active\nframe 1 1 265\nqueued 1 266\nthread 2 active\nframe 2 0 265\nframe 2 2 266\nframe 2 3 266\nentry 265 0 266\nobject 266 list 1 1 3 queued 4\nledger 1 0 1\n",
-    )
+    const RUNS: &[Run] = &[
+        (
+            "an ask waits in the queue",
+            &[BORN, ASKED],
+            true,
+            "world 512 4294967294\nthread 1 active\nframe 1 0 266\nframe 1 2 265\nqueued 1 266\nthread 2 active\nframe 2 0 265\nobject 266 list 1 2 0 queued 2\nledger 1 0 1\n",
+        ),
+        (
+            "ask and drain",
+            &[
+                BORN,
+                ASKED,
+                "1 wake\n1 drain 8\n1 untie 266\n1 add 266\n1 last q266\n",
+            ],
+            true,
+            "world 512 4294967294\nthread 1 active\nframe 1 0 266\nframe 1 2 265\nthread 2 active\nframe 2 0 265\nobject 266 list 0 - 1 merged 1\nledger 1 0 1\n",
+        ),
+        (
+            "the asker uses a stale owner number",
+            &[
+                BORN,
+                FOUND,
+                TAKEN_BACK,
+                "2 ask f1\n",
+                MERGED,
+                "2 enq 266\n1 drain 8\n1 last q266\n1 free 266\n",
+            ],
+            false,
+            "world 512 4294967294\nthread 1 active\nframe 1 1 265\nthread 2 active\nframe 2 0 265\nledger 1 1 0\n",
+        ),
+        (
+            "an ask at a shared count above 0",
+            &[
+                BORN,
+                FOUND,
+                "2 shup f1 2\n2 shup f1 3\n2 ask f1\n2 enq 266\n",
+            ],
+            true,
+            "world 512 4294967294\nthread 1 active\nframe 1 1 265\nqueued 1 266\nthread 2 active\nframe 2 0 265\nframe 2 2 266\nframe 2 3 266\nentry 265 0 266\nobject 266 list 1 1 3 queued 4\nledger 1 0 1\n",
+        ),
+    ];
+    lead_there(&rt, RUNS)
 }
 
 #[test]
 fn leaving(rt: HostRuntime) -> Result<(), Fail> {
-    leads_to(
-        &rt,
-        "adoption after exit",
-        &[
-            BORN,
-            ASKED_FOR_THE_LAST,
-            CLOSED,
-            "2 enq 266\n2 untie 266\n2 add 266\n2 last h\n2 free 266\n",
-        ],
-        false,
-        "world 512 4294967294\nthread 1 left\nthread 2 active\nframe 2 0 265\nledger 1 1 0\n",
-    )?;
-    leads_to(
-        &rt,
-        "an ask before the exit",
-        &[
-            BORN,
-            ASKED_FOR_THE_LAST,
-            "2 enq 266\n",
-            CLOSED,
-            "1 untie 266\n1 add 266\n1 last q266\n1 free 266\n0 gather 1\n",
-        ],
-        false,
-        "world 512 4294967294\nthread 1 gathered\nthread 2 active\nframe 2 0 265\nledger 1 1 0\n",
-    )
+    const RUNS: &[Run] = &[
+        (
+            "adoption after exit",
+            &[
+                BORN,
+                ASKED_FOR_THE_LAST,
+                CLOSED,
+                "2 enq 266\n2 untie 266\n2 add 266\n2 last h\n2 free 266\n",
+            ],
+            false,
+            "world 512 4294967294\nthread 1 left\nthread 2 active\nframe 2 0 265\nledger 1 1 0\n",
+        ),
+        (
+            "an ask before the exit",
+            &[
+                BORN,
+                ASKED_FOR_THE_LAST,
+                "2 enq 266\n",
+                CLOSED,
+                "1 untie 266\n1 add 266\n1 last q266\n1 free 266\n0 gather 1\n",
+            ],
+            false,
+            "world 512 4294967294\nthread 1 gathered\nthread 2 active\nframe 2 0 265\nledger 1 1 0\n",
+        ),
+    ];
+    lead_there(&rt, RUNS)
 }
 
 #[test]
 fn counts_at_the_local_limit(rt: HostRuntime) -> Result<(), Fail> {
-    let born =
+    const BORN: &str =
         "heap 512 1\n0 register 1\n1 claim 266\n1 local 266\n1 shared 266\n1 born 266 list 0\n";
-    let nothing_left = "world 512 1\nthread 1 active\nledger 1 1 0\n";
-    leads_to(
-        &rt,
-        "the owner counts up on the shared word",
-        &[born, "1 shup f0 1\n", MERGED, "1 last f1\n1 free 266\n"],
-        false,
-        nothing_left,
-    )?;
-    leads_to(
-        &rt,
-        "either reference may go first",
-        &[
-            born,
-            "1 shup f0 1\n",
-            "1 down f1\n1 see 266\n1 untie 266\n1 zero 266\n",
-            "1 last f0\n1 free 266\n",
-        ],
-        false,
-        nothing_left,
-    )?;
-    stops_at(&rt, "not on its local word", &[born, "1 up f0 1\n"], 7)
+    const NOTHING_LEFT: &str = "world 512 1\nthread 1 active\nledger 1 1 0\n";
+    const RUNS: &[Run] = &[
+        (
+            "the owner counts up on the shared word",
+            &[BORN, "1 shup f0 1\n", MERGED, "1 last f1\n1 free 266\n"],
+            false,
+            NOTHING_LEFT,
+        ),
+        (
+            "either reference may go first",
+            &[
+                BORN,
+                "1 shup f0 1\n",
+                "1 down f1\n1 see 266\n1 untie 266\n1 zero 266\n",
+                "1 last f0\n1 free 266\n",
+            ],
+            false,
+            NOTHING_LEFT,
+        ),
+    ];
+    lead_there(&rt, RUNS)?;
+    stops_at(&rt, "not on its local word", &[BORN, "1 up f0 1\n"], 7)
 }
 
 #[test]
 fn counts_below_zero(rt: HostRuntime) -> Result<(), Fail> {
-    let shared_out =
+    const SHARED_OUT: &str =
         "heap 512 4294967294\n0 register 1\n0 register 2\n0 register 3\n1 claim 266\n1 local 266\n1 shared 266\n1 born 266 list 0\n1 up f0 1\n1 up i265 2\n1 lock 2\n1 unlock put 0\n1 lock 2\n1 unlock put 1\n";
-    let given_up =
+    const GIVEN_UP: &str =
         "2 up i265 0\n2 lock 0\n2 unlock take 0 1\n3 up i265 0\n3 lock 0\n3 unlock take 0 1\n2 ask f1\n2 enq 266\n3 last f1\n";
-    leads_to(
-        &rt,
-        "a second asker finds the object queued, and counts the shared word below 0",
-        &[shared_out, given_up],
-        true,
-        "world 512 4294967294\nthread 1 active\nframe 1 2 265\nqueued 1 266\nthread 2 active\nframe 2 0 265\nthread 3 active\nframe 3 0 265\nobject 266 list 1 2 -1 queued 1\nledger 1 0 1\n",
-    )?;
-    leads_to(
-        &rt,
-        "the merge makes the count whole",
-        &[
-            shared_out,
-            given_up,
-            "1 drain 8\n1 untie 266\n1 add 266\n1 last q266\n1 free 266\n",
-        ],
-        false,
-        "world 512 4294967294\nthread 1 active\nframe 1 2 265\nthread 2 active\nframe 2 0 265\nthread 3 active\nframe 3 0 265\nledger 1 1 0\n",
-    )
+    const RUNS: &[Run] = &[
+        (
+            "a second asker finds the object queued, and counts the shared word below 0",
+            &[SHARED_OUT, GIVEN_UP],
+            true,
+            "world 512 4294967294\nthread 1 active\nframe 1 2 265\nqueued 1 266\nthread 2 active\nframe 2 0 265\nthread 3 active\nframe 3 0 265\nobject 266 list 1 2 -1 queued 1\nledger 1 0 1\n",
+        ),
+        (
+            "the merge makes the count whole",
+            &[
+                SHARED_OUT,
+                GIVEN_UP,
+                "1 drain 8\n1 untie 266\n1 add 266\n1 last q266\n1 free 266\n",
+            ],
+            false,
+            "world 512 4294967294\nthread 1 active\nframe 1 2 265\nthread 2 active\nframe 2 0 265\nthread 3 active\nframe 3 0 265\nledger 1 1 0\n",
+        ),
+    ];
+    lead_there(&rt, RUNS)
 }
 
 /// Two more lists of thread 1: 267 is put into the first, and 268 takes its place there.
@@ -248,8 +250,7 @@ const COUNTED_BY_ANOTHER: &str =
 
 #[test]
 fn a_dead_list_lets_its_entries_go(rt: HostRuntime) -> Result<(), Fail> {
-    leads_to(
-        &rt,
+    const RUNS: &[Run] = &[(
         "the list that is left has one reference, in the globals",
         &[
             BORN,
@@ -259,5 +260,6 @@ fn a_dead_list_lets_its_entries_go(rt: HostRuntime) -> Result<(), Fail> {
         ],
         true,
         "world 512 4294967294\nthread 1 active\nframe 1 3 265\nthread 2 active\nframe 2 0 265\nentry 265 0 267\nobject 267 list 1 1 0 default 1\nledger 3 2 1\n",
-    )
+    )];
+    lead_there(&rt, RUNS)
 }

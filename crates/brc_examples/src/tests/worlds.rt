@@ -1,5 +1,6 @@
 //! Each call once on its way, and each growth refused. Whole runs are replayed as texts, in `worked_runs.rt`.
 
+use crate::tests::comparing::same;
 use brc_core::{
     Change, Dropped, Event, Hand, Ledger, Phase, Refusal, ReplayFault, Source, Status, Step,
     StepFault, World, replay,
@@ -47,103 +48,113 @@ fn with_a_list(alloc: Global) -> Result<World<Global>, Fault> {
 
 #[test]
 fn sizes_of_no_heap_are_refused(rt: HostRuntime) {
-    let cases = [
+    const CASES: &[(&str, u32, u32)] = &[
         ("too few cells", 511, 1),
         ("too many cells", 65_537, 1),
         ("no local count", 512, 0),
         ("the local word of an immortal", 512, 4_294_967_295),
     ];
-    for (case, cells, limit) in cases {
-        match World::new(rt.alloc(), cells, limit) {
-            Ok(_) => assert!(rt; false, "{case}"),
-            Err(fault) => assert_eq!(rt; fault, Fault::BadOptions, "{case}"),
-        }
+    for &(case, cells, limit) in CASES {
+        let found = World::new(rt.alloc(), cells, limit).err();
+        same(&rt, case, found, Some(Fault::BadOptions));
     }
 }
 
 #[test]
 fn an_event_is_made_or_refused(rt: HostRuntime) -> Result<(), Fault> {
-    let mut world = World::new(rt.alloc(), 512, 7)?;
-    let event = Event {
+    const EVENT: Event = Event {
         thread: 0,
         step: Step::Register(1),
     };
-    assert_eq!(rt; world.refusal(&event), None);
-    assert_eq!(rt; world.step(&event), Ok(()));
-    assert_eq!(rt; world.refusal(&event), Some(Refusal::NotNext));
-    assert_eq!(rt; world.step(&event), Err(StepFault::NotEnabled));
+    let mut world = World::new(rt.alloc(), 512, 7)?;
+    same(&rt, "enabled", world.refusal(&EVENT), None);
+    same(&rt, "made", world.step(&EVENT), Ok(()));
+    let again = world.refusal(&EVENT);
+    same(&rt, "not again", again, Some(Refusal::NotNext));
+    let again = world.step(&EVENT);
+    same(&rt, "refused", again, Err(StepFault::NotEnabled));
     Ok(())
+}
+
+/// How many threads there are behind these events, or why there is no world.
+fn registered(alloc: Global, events: &[Event], cells: u32) -> Result<u32, ReplayFault> {
+    let world = replay(alloc, events, cells, 7)?;
+    Ok(world.registered())
 }
 
 #[test]
 fn a_replay_answers_a_world_or_a_fault(rt: HostRuntime) {
-    let events = [
+    const WAKE: Event = Event {
+        thread: 1,
+        step: Step::Wake,
+    };
+    const EVENTS: &[Event] = &[
         Event {
             thread: 0,
             step: Step::Register(1),
         },
-        Event {
-            thread: 1,
-            step: Step::Wake,
-        },
+        WAKE,
     ];
-    match replay(rt.alloc(), &events, 512, 7) {
-        Ok(world) => assert_eq!(rt; world.registered(), 1),
-        Err(_) => assert!(rt; false),
-    }
-    match replay(rt.alloc(), &events[1..], 512, 7) {
-        Ok(_) => assert!(rt; false),
-        Err(fault) => assert_eq!(rt; fault, ReplayFault::NotEnabled { at: 0 }),
-    }
-    match replay(rt.alloc(), &events, 511, 7) {
-        Ok(_) => assert!(rt; false),
-        Err(fault) => assert_eq!(rt; fault, ReplayFault::Options),
-    }
+    let all = registered(rt.alloc(), EVENTS, 512);
+    same(&rt, "a world", all, Ok(1));
+    let late = registered(rt.alloc(), &[WAKE], 512);
+    same(
+        &rt,
+        "no thread",
+        late,
+        Err(ReplayFault::NotEnabled { at: 0 }),
+    );
+    let small = registered(rt.alloc(), EVENTS, 511);
+    same(&rt, "no heap", small, Err(ReplayFault::Options));
 }
 
 /// What thread 1 has, who has made a list and holds it.
 fn stands_as_active(rt: &impl Abort, world: &World<Global>) {
-    assert_eq!(rt; world.registered(), 1);
-    assert_eq!(rt; world.status(0), None);
-    assert_eq!(rt; world.status(1), Some(Status::Active));
-    assert_eq!(rt; world.hand(1), Some(Hand::Free));
-    assert_eq!(rt; world.locked(1), None);
+    same(rt, "registered", world.registered(), 1);
+    same(rt, "status", world.status(0), None);
+    same(rt, "status", world.status(1), Some(Status::Active));
+    same(rt, "hand", world.hand(1), Some(Hand::Free));
+    same(rt, "locked", world.locked(1), None);
 }
 
 fn has_one_place(rt: &impl Abort, world: &World<Global>) {
-    assert_eq!(rt; world.places(1), 1);
-    assert_eq!(rt; world.place(1, 0), Some(266));
-    assert_eq!(rt; world.place(1, 1), None);
-    assert_eq!(rt; world.queued(1, 266), false);
-    assert_eq!(rt; world.popped(1, 266), false);
-    assert_eq!(rt; world.on_worklist(1, 266), false);
+    same(rt, "places", world.places(1), 1);
+    same(rt, "place", world.place(1, 0), Some(266));
+    same(rt, "place", world.place(1, 1), None);
+    same(rt, "queued", world.queued(1, 266), false);
+    same(rt, "popped", world.popped(1, 266), false);
+    same(rt, "on_worklist", world.on_worklist(1, 266), false);
 }
 
 /// The list of thread 1, in cell 266.
 fn is_its_list(rt: &impl Abort, world: &World<Global>) {
-    assert_eq!(rt; world.is_live(266), true);
-    assert_eq!(rt; world.owner(266), Some(Owner::Thread(1)));
-    assert_eq!(rt; world.kind(266), Some(Kind::List));
-    assert_eq!(rt; world.entries(266).len(), 0);
-    assert_eq!(rt; world.live(), 1);
+    same(rt, "is_live", world.is_live(266), true);
+    same(rt, "owner", world.owner(266), Some(Owner::Thread(1)));
+    same(rt, "kind", world.kind(266), Some(Kind::List));
+    same(rt, "entries", world.entries(266).len(), 0);
+    same(rt, "live", world.live(), 1);
 }
 
 fn is_counted_once(rt: &impl Abort, world: &World<Global>) {
-    assert_eq!(rt; world.local(266), Some(1));
-    assert_eq!(rt; world.count(266), Some(0));
-    assert_eq!(rt; world.state(266), Some(State::Default));
-    assert_eq!(rt; world.total(266), Some(1));
+    same(rt, "local", world.local(266), Some(1));
+    same(rt, "count", world.count(266), Some(0));
+    same(rt, "state", world.state(266), Some(State::Default));
+    same(rt, "total", world.total(266), Some(1));
 }
 
 fn has_immortals(rt: &impl Abort, world: &World<Global>) {
-    assert_eq!(rt; world.cells(), 512);
-    assert_eq!(rt; world.local_limit(), 7);
-    assert_eq!(rt; world.kind(13), Some(Kind::Int));
-    assert_eq!(rt; world.entry(265, 0), None);
+    same(rt, "cells", world.cells(), 512);
+    same(rt, "local_limit", world.local_limit(), 7);
+    same(rt, "kind", world.kind(13), Some(Kind::Int));
+    same(rt, "entry", world.entry(265, 0), None);
 }
 
 #[test]
 fn readers_of_a_world(rt: HostRuntime) -> Result<(), Fault> {
+    const WANTED: &[Holder] = &[Holder::Frame {
+        thread: 1,
+        place: 0,
+    }];
     let world = with_a_list(rt.alloc())?;
     stands_as_active(&rt, &world);
     has_one_place(&rt, &world);
@@ -151,31 +162,28 @@ fn readers_of_a_world(rt: HostRuntime) -> Result<(), Fault> {
     is_counted_once(&rt, &world);
     has_immortals(&rt, &world);
     let holders = world.holders(rt.alloc(), 266)?;
-    let wanted = [Holder::Frame {
-        thread: 1,
-        place: 0,
-    }];
-    assert!(rt; holders.as_slice() == &wanted[..]);
+    same(&rt, "the holders", holders.as_slice(), WANTED);
     Ok(())
 }
 
 #[test]
 fn an_object_dies(rt: HostRuntime) -> Result<(), Fault> {
-    let mut world = with_a_list(rt.alloc())?;
-    let down = Step::LocalDown(Dropped::Frame(0));
-    assert_eq!(rt; make(&mut world, 1, down), Ok(()));
-    assert_eq!(rt; world.hand(1), Some(Hand::Busy(Phase::Zero, 266)));
-    assert_eq!(rt; make(&mut world, 1, Step::SeeZero(266)), Ok(()));
-    assert_eq!(rt; world.on_worklist(1, 266), true);
-    assert_eq!(rt; make(&mut world, 1, Step::Free(266)), Ok(()));
-    let ledger = Ledger {
+    const LEDGER: Ledger = Ledger {
         allocs: 1,
         frees: 1,
     };
-    assert_eq!(rt; world.ledger(1), Some(ledger));
-    assert_eq!(rt; world.ledgers(), ledger);
-    assert_eq!(rt; world.live(), 0);
-    assert_eq!(rt; world.total(266), None);
+    let mut world = with_a_list(rt.alloc())?;
+    let down = Step::LocalDown(Dropped::Frame(0));
+    same(&rt, "given up", make(&mut world, 1, down), Ok(()));
+    let hand = Some(Hand::Busy(Phase::Zero, 266));
+    same(&rt, "its hand", world.hand(1), hand);
+    same(&rt, "seen", make(&mut world, 1, Step::SeeZero(266)), Ok(()));
+    same(&rt, "dead", world.on_worklist(1, 266), true);
+    same(&rt, "freed", make(&mut world, 1, Step::Free(266)), Ok(()));
+    same(&rt, "its ledger", world.ledger(1), Some(LEDGER));
+    same(&rt, "all ledgers", world.ledgers(), LEDGER);
+    same(&rt, "nothing lives", world.live(), 0);
+    same(&rt, "no count", world.total(266), None);
     Ok(())
 }
 

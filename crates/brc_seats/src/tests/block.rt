@@ -1,5 +1,6 @@
 //! Blocks, their lists and what they hold, with ample memory and with none.
 
+use crate::comparing::{holds, same};
 use brc_block::{Block, Cells, Entries, Letters, Pairs, Payload, Worklist};
 use brc_words::{Fault, Key, Kind, is_container_kind};
 use linked_list_allocator::LocalHeap;
@@ -76,38 +77,73 @@ fn a_block_of_another_cell_keeps_its_payload(rt: HostRuntime) {
 }
 
 #[test]
-fn containers_keep_their_order(rt: HostRuntime) {
+fn a_list_keeps_its_order(rt: HostRuntime) {
     let mut cells = Cells::new(Vec::new(rt.alloc()));
+    for cell in [266, 267, 268, 269] {
+        holds(&rt, "put", cells.put(cell).is_ok());
+    }
+    same(&rt, "its length", cells.len(), 4);
+    same(&rt, "its end", cells.pop(), Some(269));
+    same(&rt, "the third", cells.entry(2), Some(268));
+    same(&rt, "no fourth", cells.entry(3), None);
+}
+
+#[test]
+fn a_mailbox_keeps_its_order(rt: HostRuntime) {
     let mut letters = Letters::new(VecDeque::new(rt.alloc()));
+    for cell in [266, 267, 268, 269] {
+        holds(&rt, "put", letters.put(cell).is_ok());
+    }
+    same(&rt, "its length", letters.len(), 4);
+    same(&rt, "its end", letters.pop(), Some(269));
+    same(&rt, "its front", letters.take(), Some(266));
+    same(&rt, "the second", letters.entry(1), Some(268));
+    same(&rt, "no third", letters.entry(2), None);
+}
+
+#[test]
+fn a_dictionary_keeps_its_order(rt: HostRuntime) {
     let mut pairs = Pairs::new(Vec::new(rt.alloc()));
     for cell in [266, 267, 268, 269] {
-        assert!(rt; cells.put(cell).is_ok());
-        assert!(rt; letters.put(cell).is_ok());
-        assert!(rt; pairs.put(Key::Int(i64::from(cell)), cell).is_ok());
+        holds(
+            &rt,
+            "put",
+            pairs.put(Key::Int(i64::from(cell)), cell).is_ok(),
+        );
     }
-    assert!(rt; cells.len() == 4 && letters.len() == 4 && pairs.len() == 4);
-    assert!(rt; cells.pop() == Some(269) && letters.pop() == Some(269));
-    assert!(rt; matches!(pairs.pop(), Some((Key::Int(269), 269))));
-    assert!(rt; letters.take() == Some(266));
-    assert!(rt; cells.entry(2) == Some(268) && cells.entry(3) == None);
-    assert!(rt; letters.entry(1) == Some(268) && letters.entry(2) == None);
-    assert!(rt; pairs.entry(2) == Some(268) && pairs.entry(3) == None);
+    same(&rt, "its length", pairs.len(), 4);
+    holds(
+        &rt,
+        "its end",
+        matches!(pairs.pop(), Some((Key::Int(269), 269))),
+    );
+    same(&rt, "the third", pairs.entry(2), Some(268));
+    same(&rt, "no fourth", pairs.entry(3), None);
 }
 
 #[test]
 fn a_key_is_found_by_its_value(rt: HostRuntime) {
     let mut pairs = Pairs::new(Vec::new(rt.alloc()));
     for cell in [266, 267, 268] {
-        assert!(rt; pairs.put(Key::Int(i64::from(cell) - 300), cell).is_ok());
+        holds(
+            &rt,
+            "put",
+            pairs.put(Key::Int(i64::from(cell) - 300), cell).is_ok(),
+        );
     }
-    assert!(rt; pairs.find(&Key::Int(-33)) == Some(1));
-    assert!(rt; pairs.find(&Key::Int(-31)) == None);
+    same(&rt, "the second", pairs.find(&Key::Int(-33)), Some(1));
+    same(&rt, "not there", pairs.find(&Key::Int(-31)), None);
     if pairs.len() == 3 {
         pairs.set(1, 400);
-        assert!(rt; pairs.entry(1) == Some(400));
-        assert!(rt; matches!(pairs.remove(0), (Key::Int(-34), 266)));
+        same(&rt, "set", pairs.entry(1), Some(400));
+        holds(
+            &rt,
+            "removed",
+            matches!(pairs.remove(0), (Key::Int(-34), 266)),
+        );
     }
-    assert!(rt; pairs.find(&Key::Int(-33)) == Some(0) && pairs.entry(0) == Some(400));
+    same(&rt, "the first now", pairs.find(&Key::Int(-33)), Some(0));
+    same(&rt, "its cell", pairs.entry(0), Some(400));
 }
 
 /// One more entry, in room that is made for it first; a dictionary's key is its cell's number.
@@ -132,65 +168,108 @@ fn payloads_are_edited_by_index(rt: HostRuntime) {
     for payload in payloads {
         let mut payload = payload;
         for cell in [266, 267, 268] {
-            assert!(rt; put(&mut payload, cell));
+            holds(&rt, "put", put(&mut payload, cell));
         }
-        assert!(rt; payload.entry(1) == Some(267) && payload.entry(3) == None);
+        same(&rt, "the second", payload.entry(1), Some(267));
+        same(&rt, "no fourth", payload.entry(3), None);
         assert_eq!(rt; payload.len(), 3);
         payload.set(1, 300);
-        assert_eq!(rt; payload.remove(0), 266);
-        assert!(rt; payload.pop() == Some(268) && payload.pop() == Some(300));
-        assert!(rt; payload.pop() == None && payload.len() == 0);
+        same(&rt, "the first", payload.remove(0), 266);
+        same(&rt, "the end", payload.pop(), Some(268));
+        same(&rt, "the one that was set", payload.pop(), Some(300));
+        same(&rt, "no more", payload.pop(), None);
+        same(&rt, "its length", payload.len(), 0);
     }
 }
 
 #[test]
 fn the_front_loses_its_last_entry(rt: HostRuntime) {
     let mut list = Worklist::new();
-    assert!(rt; list.pop_entry() == None);
+    same(&rt, "no front", list.pop_entry(), None);
     push_block(&mut list, rt.alloc(), 300);
     let mut payload = Payload::List(Cells::new(Vec::new(rt.alloc())));
-    assert!(rt; put(&mut payload, 266) && put(&mut payload, 267));
+    holds(&rt, "put", put(&mut payload, 266));
+    holds(&rt, "put", put(&mut payload, 267));
     if let Ok(block) = Block::new(rt.alloc(), 301, payload) {
         list.push(block);
     }
-    assert!(rt; list.pop_entry() == Some(267) && list.pop_entry() == Some(266));
-    assert!(rt; list.pop_entry() == None && list.front() == Some(301));
-    assert_eq!(rt; list.len(), 2);
+    same(&rt, "its end", list.pop_entry(), Some(267));
+    same(&rt, "the next", list.pop_entry(), Some(266));
+    same(&rt, "no more", list.pop_entry(), None);
+    same(&rt, "the front", list.front(), Some(301));
+    same(&rt, "its length", list.len(), 2);
     while let Some(block) = list.pop() {
         let _payload = block.into_payload();
     }
     list.end();
 }
 
+/// A heap with so little memory that a test can fill it.
+fn small_heap(rt: &impl Abort, alloc: Global) -> LocalHeap {
+    LocalHeap::new(alloc, 1_000).expect(rt, "memory")
+}
+
 #[test]
-fn a_refused_growth_changes_nothing(rt: HostRuntime) {
-    let heap = LocalHeap::new(rt.alloc(), 1_000).expect(&rt, "memory");
-    let list = Vec::with_capacity(&heap, 2).expect(&rt, "memory");
-    let queue = VecDeque::with_capacity(&heap, 2).expect(&rt, "memory");
-    let keyed = Vec::with_capacity(&heap, 2).expect(&rt, "memory");
-    let mut cells = Cells::new(list);
-    let mut letters = Letters::new(queue);
-    let mut pairs = Pairs::new(keyed);
+fn a_list_without_memory_stays(rt: HostRuntime) {
+    let heap = small_heap(&rt, rt.alloc());
+    let mut cells = Cells::new(Vec::with_capacity(&heap, 2).expect(&rt, "memory"));
     for cell in [266, 267] {
-        assert!(rt; cells.put(cell).is_ok());
-        assert!(rt; letters.put(cell).is_ok());
-        assert!(rt; pairs.put(Key::Int(i64::from(cell)), cell).is_ok());
+        holds(&rt, "put", cells.put(cell).is_ok());
     }
     let _filler = fill(&rt, rt.alloc(), &heap);
-
-    assert!(rt; cells.reserve().is_err() && cells.put(268).is_err());
-    assert!(rt; letters.reserve().is_err() && letters.put(268).is_err());
-    assert!(rt; pairs.reserve().is_err());
-    assert!(rt; matches!(pairs.put(Key::Int(268), 268), Err(Key::Int(268))));
-    assert!(rt; cells.as_slice() == [266, 267].as_slice());
-    assert!(rt; letters.len() == 2 && letters.entry(1) == Some(267));
-    assert!(rt; pairs.len() == 2 && pairs.find(&Key::Int(267)) == Some(1));
+    holds(&rt, "no room is made", cells.reserve().is_err());
+    holds(&rt, "nothing is put", cells.put(268).is_err());
+    same(&rt, "as it was", cells.as_slice(), [266, 267].as_slice());
 
     // The place of an entry that was taken serves the next one.
-    assert!(rt; cells.pop() == Some(267) && cells.put(268).is_ok());
-    assert!(rt; letters.take() == Some(266) && letters.put(268).is_ok());
-    assert!(rt; matches!(pairs.pop(), Some((Key::Int(267), 267))));
-    assert!(rt; pairs.put(Key::Int(268), 268).is_ok());
+    same(&rt, "its end", cells.pop(), Some(267));
+    holds(&rt, "in its place", cells.put(268).is_ok());
+}
+
+#[test]
+fn a_mailbox_without_memory_stays(rt: HostRuntime) {
+    let heap = small_heap(&rt, rt.alloc());
+    let mut letters = Letters::new(VecDeque::with_capacity(&heap, 2).expect(&rt, "memory"));
+    for cell in [266, 267] {
+        holds(&rt, "put", letters.put(cell).is_ok());
+    }
+    let _filler = fill(&rt, rt.alloc(), &heap);
+    holds(&rt, "no room is made", letters.reserve().is_err());
+    holds(&rt, "nothing is put", letters.put(268).is_err());
+    same(&rt, "its length", letters.len(), 2);
+    same(&rt, "its end", letters.entry(1), Some(267));
+
+    same(&rt, "its front", letters.take(), Some(266));
+    holds(&rt, "in its place", letters.put(268).is_ok());
+}
+
+#[test]
+fn a_dictionary_without_memory_stays(rt: HostRuntime) {
+    let heap = small_heap(&rt, rt.alloc());
+    let mut pairs = Pairs::new(Vec::with_capacity(&heap, 2).expect(&rt, "memory"));
+    for cell in [266, 267] {
+        holds(
+            &rt,
+            "put",
+            pairs.put(Key::Int(i64::from(cell)), cell).is_ok(),
+        );
+    }
+    let _filler = fill(&rt, rt.alloc(), &heap);
+    holds(&rt, "no room is made", pairs.reserve().is_err());
+    holds(
+        &rt,
+        "nothing is put",
+        matches!(pairs.put(Key::Int(268), 268), Err(Key::Int(268))),
+    );
+    same(&rt, "its length", pairs.len(), 2);
+    same(&rt, "where it was", pairs.find(&Key::Int(267)), Some(1));
+
+    holds(
+        &rt,
+        "its end",
+        matches!(pairs.pop(), Some((Key::Int(267), 267))),
+    );
+    holds(&rt, "in its place", pairs.put(Key::Int(268), 268).is_ok());
 }
 
 #[test]

@@ -1,5 +1,6 @@
 //! A table that opens, counts an immortal and is taken apart, with ample memory and with none.
 
+use crate::comparing::{is, same};
 use crate::ends::end_all;
 use brc_block::Payload;
 use brc_runs::{Dropped, Source};
@@ -15,17 +16,14 @@ fn an_immortal_is_counted_up_and_down(rt: HostRuntime) {
             let mut root = root;
             let mut seat = table.split(&mut root);
             let found = table.immortal_up(&mut seat, Source::Immortal(2), 0, 2);
-            assert_eq!(rt; found, 4_294_967_295);
+            is(&rt, found, 4_294_967_295);
             let found = table.immortal_down(&mut seat, Dropped::Frame(0), 2);
-            assert_eq!(rt; found, 4_294_967_295);
-            assert_eq!(rt; table.load_shared(&mut seat, 2), 4_398_046_511_104);
-            assert_eq!(rt;
-                table.load_owner(&mut seat, 300),
-                18_446_744_073_709_551_615
-            );
-            assert_eq!(rt; table.load_mutex(&mut seat, 300), 0);
-            assert_eq!(rt; table.load_notify(&mut seat), 0);
-            assert_eq!(rt; root.next(), 2);
+            is(&rt, found, 4_294_967_295);
+            is(&rt, table.load_shared(&mut seat, 2), 4_398_046_511_104);
+            is(&rt, table.load_owner(&mut seat, 300), u64::MAX);
+            is(&rt, table.load_mutex(&mut seat, 300), 0);
+            is(&rt, table.load_notify(&mut seat), 0);
+            is(&rt, u64::from(root.next()), 2);
             drop(seat);
             assert_eq!(rt; end_all(&rt, table.take_apart(root)), 266);
         }
@@ -63,15 +61,15 @@ fn immortals_open_as_they_are(rt: HostRuntime) {
 
 #[test]
 fn sizes_of_no_heap_are_refused(rt: HostRuntime) {
-    let cases = [
+    const CASES: &[(&str, u32, u32)] = &[
         ("too few cells", 511, 10),
         ("too many cells", 65_537, 10),
         ("no count", 512, 0),
         ("as immortals have it", 512, 4_294_967_295),
     ];
-    for (case, cells, local_limit) in cases {
+    for &(case, cells, local_limit) in CASES {
         match HeapTable::new(rt.alloc(), cells, local_limit) {
-            Err(fault) => assert_eq!(rt; fault, Fault::BadOptions, "{case}"),
+            Err(fault) => same(&rt, case, fault, Fault::BadOptions),
             Ok((table, root)) => {
                 let _blocks = end_all(&rt, table.take_apart(root));
                 panic!(rt; "{case}")
@@ -89,15 +87,15 @@ fn refused_growths_open_no_table(rt: HostRuntime) -> Result<(), Fault> {
         let heap = LocalHeap::new(rt.alloc(), size * 64)?;
         match HeapTable::new(&heap, 512, 10) {
             Err(fault) => {
-                assert_eq!(rt; fault, Fault::OutOfMemory);
+                same(&rt, "refused", fault, Fault::OutOfMemory);
                 refused = refused.saturating_add(1);
             }
             Ok((table, root)) => {
-                assert_eq!(rt; end_all(&rt, table.take_apart(root)), 266);
+                same(&rt, "blocks", end_all(&rt, table.take_apart(root)), 266);
                 opened = opened.saturating_add(1);
             }
         }
-        assert_eq!(rt; heap.used(), 0);
+        same(&rt, "memory that is used", heap.used(), 0);
     }
     assert!(rt; refused > 300);
     assert!(rt; opened > 10, "{refused} {opened}");

@@ -1,0 +1,24 @@
+//! How the tests compare. A call of a function here costs a caller's proof less than what an assertion writes out there.
+
+use std::fmt::Debug;
+use std::process::Abort;
+
+/// The two are one value, or the test ends and names the case.
+pub(crate) fn same<T: PartialEq + Debug + Drop>(rt: &impl Abort, case: &str, found: T, wanted: T) {
+    assert_eq!(rt; found, wanted, "{case}");
+}
+
+/// The same in a test that goes over sizes of memory.
+pub(crate) fn same_at<T: PartialEq + Debug + Drop>(
+    rt: &impl Abort,
+    size: usize,
+    found: T,
+    wanted: T,
+) {
+    assert_eq!(rt; found, wanted, "at {size}");
+}
+
+/// It is so, or the test ends and names the case.
+pub(crate) fn holds(rt: &impl Abort, case: &str, is_so: bool) {
+    assert!(rt; is_so, "{case}");
+}
