@@ -7,6 +7,8 @@
 
 #[cfg(test)]
 mod library;
+#[cfg(test)]
+mod limits;
 mod parts;
 #[cfg(test)]
 mod turns;

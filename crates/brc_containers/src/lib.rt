@@ -1,0 +1,11 @@
+//! What objects are and hold, read and changed under their locks, over a frame.
+//!
+//! Each call is a locking, at most one step on an entry, and an unlocking; its answer is that of plain data on what the locking
+//! found (`specs/Looking.antt`). The forms with `try_` never wait: an object that another thread has locked is Busy. The
+//! others try again, and hold nothing while they do.
+#![tactic(auto)]
+
+mod looking;
+mod reading;
+
+pub use reading::{try_int_of, try_kind_of, try_len_of, try_text_of};

@@ -1,0 +1,61 @@
+//! What a payload tells.
+
+ghost use Rattle.std.specs.Prelude.{◌≡◌, IfSome, IfNone, IsTrue, IsFalse, length};
+ghost use Rattle.brc_rule.specs.declared.contents.Contents.TheVariants as contents;
+ghost use Rattle.brc_rule.specs.Logs.{entries_in};
+ghost use Rattle.brc_table.specs.Shown.{contents_of};
+ghost use Rattle.brc_containers.specs.Looking.{IsInt, IsText, IsContainer};
+
+use brc_block::{Entries, Payload};
+use brc_words::Text;
+use std::alloc::Allocator;
+
+/// How many entries a container has; None for anything else.
+pub(crate) fn container_len<A: Allocator>(payload: &Payload<A>) -> Option<usize>
+    ensures container { IfSome result (λ len. IsContainer (contents_of payload.now)) }
+    ensures len { IfSome result (λ len. length (entries_in (contents_of payload.now)) ≡ len) }
+    ensures other { IfNone result (IsContainer (contents_of payload.now) → ⊥) }
+{
+    match payload {
+        Payload::List(cells) => Some(cells.len()),
+        Payload::Dict(pairs) => Some(pairs.len()),
+        Payload::Mailbox(letters) => Some(letters.len()),
+        _ => None,
+    }
+}
+
+/// The number of an integer; None for anything else.
+pub(crate) fn int_in<A: Allocator>(payload: &Payload<A>) -> Option<i64>
+    ensures int { IfSome result (λ number. contents_of payload.now ≡ contents.Int number) }
+    ensures other { IfNone result (IsInt (contents_of payload.now) → ⊥) }
+{
+    match payload {
+        Payload::Int(number) => Some(*number),
+        _ => None,
+    }
+}
+
+/// Whether it is a text's.
+pub(crate) fn is_text<A: Allocator>(payload: &Payload<A>) -> bool
+    ensures text { IsTrue result → IsText (contents_of payload.now) }
+    ensures other { IsFalse result → IsText (contents_of payload.now) → ⊥ }
+{
+    match payload {
+        Payload::Text(_) => true,
+        _ => false,
+    }
+}
+
+/// A copy of a text's; None where memory is missing.
+pub(crate) fn copy_of_text<A: Allocator>(alloc: A, payload: &Payload<A>) -> Option<Text<A>>
+    requires text { IsText (contents_of payload.now) }
+    ensures { IfSome result (λ text. contents_of payload.now ≡ contents.Text text) }
+{
+    match payload {
+        Payload::Text(text) => match String::from_str(alloc, text.as_str()) {
+            Ok(copy) => Some(Text::new(copy)),
+            Err(_) => None,
+        },
+        _ => unreachable!(),
+    }
+}
