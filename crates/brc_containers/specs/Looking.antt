@@ -1,5 +1,6 @@
 -- What a call on one object does to a frame, and what it finds there.
 use Rattle.std.specs.Prelude.{◌≡◌, ◌≢◌, ℕ, true, false, List, [], ◌∷◌, Some}
+use Rattle.brc_block.specs.declared.payload.Payload.{Payload}
 use Rattle.brc_words.specs.declared.fault.Fault.{Fault}
 use Rattle.brc_words.specs.declared.fault.Fault.TheVariants as faults
 use Rattle.brc_words.specs.declared.kind.Kind.TheVariants as kinds
@@ -12,7 +13,7 @@ use Rattle.brc_rule.specs.declared.told.Moved.TheVariants as moves
 use Rattle.brc_rule.specs.declared.told.Told.TheVariants.{Did}
 use Rattle.brc_rule.specs.Logs.{kind_in}
 use Rattle.brc_count.specs.Frames.{FrameSeen, IsUnlocked}
-use Rattle.brc_count.specs.Locking.{Busy, KeepsThread, KeepsFrame, cell_in}
+use Rattle.brc_count.specs.Locking.{Began, Busy, KeepsThread, KeepsFrame, cell_in}
 
 module _ {A : Type 0} where
   -- The object in the place was locked, found with these contents, and unlocked as it was found. Nothing else was done.
@@ -35,6 +36,35 @@ module _ {A : Type 0} where
   abbrev pub RefusedCopy : FrameSeen A → FrameSeen A → ℕ → (Contents → Type 0) → Fault → Type 0
   RefusedCopy old new k fits faults.OutOfMemory = (found : Contents) × LooksAt old new k found × fits found
   RefusedCopy old new k fits fault = RefusedLook old new k fits fault
+
+module _ {A : Type 0} where
+  -- some tries, each of which found the object in the place locked by another thread
+  pub data Waits (old : FrameSeen A) (k : ℕ) : FrameSeen A → Type 0 where
+    NoTry : Waits old k old
+    OneMore : (mid new : FrameSeen A) → Waits old k mid → Busy mid new k → Waits old k new
+
+  -- after some such tries the object was locked
+  pub record BeginsLate (old new : FrameSeen A) (k : ℕ) (block : ℕ × Payload A) : Type 0 where
+    pub mid : FrameSeen A
+    pub waits : Waits old k mid
+    pub began : Began mid new k block
+    pub keeps : KeepsThread mid new
+    pub frame : KeepsFrame mid new
+
+  -- after some such tries the object was looked at
+  pub record LooksLate (old new : FrameSeen A) (k : ℕ) (found : Contents) : Type 0 where
+    pub mid : FrameSeen A
+    pub waits : Waits old k mid
+    pub looks : LooksAt mid new k found
+
+  -- why a call that waits is refused
+  abbrev pub RefusedLate : FrameSeen A → FrameSeen A → ℕ → (Contents → Type 0) → Fault → Type 0
+  RefusedLate old new k fits faults.WrongKind = (found : Contents) × LooksLate old new k found × (fits found → ⊥)
+  RefusedLate old new k fits _ = ⊥
+
+  abbrev pub RefusedLateCopy : FrameSeen A → FrameSeen A → ℕ → (Contents → Type 0) → Fault → Type 0
+  RefusedLateCopy old new k fits faults.OutOfMemory = (found : Contents) × LooksLate old new k found × fits found
+  RefusedLateCopy old new k fits fault = RefusedLate old new k fits fault
 
 -- what each call is for
 abbrev pub IsInt : Contents → Type 0
