@@ -66,7 +66,7 @@ fn globals_locked<H: Home<A>, A: Allocator>(
 }
 
 /// The handle's reference goes into the globals, under this key.
-pub fn put_into_globals<R: Abort + Wait, H: Home<A>, A: Allocator>(
+pub(crate) fn put_into_globals<R: Abort + Wait, H: Home<A>, A: Allocator>(
     rt: &R,
     frame: &mut Frame<H, A>,
     handle: Handle,
@@ -88,7 +88,7 @@ pub fn put_into_globals<R: Abort + Wait, H: Home<A>, A: Allocator>(
 }
 
 /// The first reference that is in the globals, taken out of them; None where nothing is there.
-pub fn take_if_any<R: Abort + Wait, H: Home<A>, A: Allocator>(
+pub(crate) fn take_if_any<R: Abort + Wait, H: Home<A>, A: Allocator>(
     rt: &R,
     frame: &mut Frame<H, A>,
 ) -> Option<Handle>
@@ -118,7 +118,7 @@ pub fn take_if_any<R: Abort + Wait, H: Home<A>, A: Allocator>(
 }
 
 /// The first reference that is in the globals, taken out of them.
-pub fn take_from_globals<R: Abort + Wait, H: Home<A>, A: Allocator>(
+pub(crate) fn take_from_globals<R: Abort + Wait, H: Home<A>, A: Allocator>(
     rt: &R,
     frame: &mut Frame<H, A>,
 ) -> Handle

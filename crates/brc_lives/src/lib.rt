@@ -1,12 +1,10 @@
 //! Worked runs of the heap as calls on frames, run by the gate: an integer's life, an immortal's, a list that passes from one
-//! thread's frame to another's, objects of each kind, a full heap and a full frame, long deaths, and refused growths.
+//! thread's frame to another's, objects of each kind, a full heap and a full frame, long deaths, refused growths, and real threads on one heap.
 //!
-//! Tests, and what they look at. Each call's conditions are shown from the contracts of `brc_things`, `brc_count` and `brc_table`
-//! alone, so this is also how a caller uses them.
+//! Tests, and what they look at. Each call's conditions are shown from the contracts of `brc_thread`, `brc_things`, `brc_count`
+//! and `brc_table` alone, so this is also how a caller uses them.
 #![tactic(auto)]
 
-pub mod globals;
-pub mod phases;
 mod sums;
 
 pub use sums::comes_out;
@@ -22,11 +20,17 @@ mod entries;
 #[cfg(test)]
 mod full;
 #[cfg(test)]
+mod globals;
+#[cfg(test)]
 mod holds;
 #[cfg(test)]
 mod immortals;
 #[cfg(test)]
 mod integers;
+#[cfg(test)]
+mod library;
+#[cfg(test)]
+mod limits;
 #[cfg(test)]
 mod lists;
 #[cfg(test)]
@@ -34,6 +38,12 @@ mod makers;
 #[cfg(test)]
 mod memory;
 #[cfg(test)]
+mod parts;
+#[cfg(test)]
+mod phases;
+#[cfg(test)]
 mod refused;
 #[cfg(test)]
 mod things;
+#[cfg(test)]
+mod turns;

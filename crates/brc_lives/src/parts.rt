@@ -4,10 +4,10 @@ ghost use Rattle.std.specs.Prelude.{◌≡◌, ◌<◌};
 ghost use Rattle.brc_words.specs.declared.limits.TheConstants.{GLOBALS};
 ghost use Rattle.brc_count.specs.Frames.{IsUnlocked};
 
+use crate::globals::{put_into_globals, take_if_any};
+use crate::phases::{a_list, another, release_both};
 use brc_count::Frame;
 use brc_counter::Home;
-use brc_lives::globals::{put_into_globals, take_if_any};
-use brc_lives::phases::{a_list, another, release_both};
 use brc_table::Rest;
 use brc_thread::{Heap, Mutator, Resting, Retired};
 use std::alloc::Allocator;
@@ -56,7 +56,7 @@ fn polls<H: Home<A>, A: Allocator>(mutator: &mut Mutator<H, A>)
 }
 
 /// A thread without handles leaves, and does what is left to it.
-pub fn retires<H: Home<A> + Drop, A: Allocator>(
+pub(crate) fn retires<H: Home<A> + Drop, A: Allocator>(
     rt: &impl Abort,
     mutator: Mutator<H, A>,
 ) -> Retired<A>
@@ -79,7 +79,7 @@ pub fn retires<H: Home<A> + Drop, A: Allocator>(
 }
 
 /// A thread that makes so many lists and puts each into the globals.
-pub fn gives<R: Abort + Wait, A: Allocator + Copy>(
+pub(crate) fn gives<R: Abort + Wait, A: Allocator + Copy>(
     rt: &R,
     alloc: A,
     heap: &Heap<A>,
@@ -99,7 +99,7 @@ pub fn gives<R: Abort + Wait, A: Allocator + Copy>(
 }
 
 /// A thread that tries so often to take a list out of the globals, and lets it go.
-pub fn takes<R: Abort + Wait, A: Allocator>(
+pub(crate) fn takes<R: Abort + Wait, A: Allocator>(
     rt: &R,
     heap: &Heap<A>,
     resting: Resting<A>,
@@ -118,7 +118,7 @@ pub fn takes<R: Abort + Wait, A: Allocator>(
 }
 
 /// A thread that takes all that is left in the globals.
-pub fn clears<R: Abort + Wait, A: Allocator>(
+pub(crate) fn clears<R: Abort + Wait, A: Allocator>(
     rt: &R,
     heap: &Heap<A>,
     resting: Resting<A>,
@@ -139,7 +139,7 @@ pub fn clears<R: Abort + Wait, A: Allocator>(
 }
 
 /// Gives the blocks back that a heap leaves, and answers how many there were.
-pub fn given_back<A: Allocator>(rt: &impl Wait, rest: Rest<A>) -> u64 {
+pub(crate) fn given_back<A: Allocator>(rt: &impl Wait, rest: Rest<A>) -> u64 {
     let mut rest = rest;
     let mut blocks: u64 = 0;
     for _ in rt.forever() {

@@ -15,7 +15,7 @@ use std::alloc::Allocator;
 use std::process::Abort;
 
 /// A table of 512 cells, or the end of the test.
-pub fn opened<A: Allocator + Copy>(rt: &impl Abort, alloc: A) -> (HeapTable<A>, RootSeat<A>)
+pub(crate) fn opened<A: Allocator + Copy>(rt: &impl Abort, alloc: A) -> (HeapTable<A>, RootSeat<A>)
     ensures cells { result.0.cells ≡ 512 }
     ensures table { result.1.table ≡ result.0.table }
     ensures view { result.1.view ≡ first_view }
@@ -40,7 +40,7 @@ pub(crate) fn opened_with<A: Allocator + Copy>(
 }
 
 /// The frame of the next thread.
-pub fn entered<H: Home<A> + Drop, A: Allocator + Copy>(
+pub(crate) fn entered<H: Home<A> + Drop, A: Allocator + Copy>(
     rt: &impl Abort,
     alloc: A,
     heap: H,
@@ -62,7 +62,7 @@ pub fn entered<H: Home<A> + Drop, A: Allocator + Copy>(
 }
 
 /// A new integer, with a reference in the frame.
-pub fn an_integer<H: Home<A>, A: Allocator>(
+pub(crate) fn an_integer<H: Home<A>, A: Allocator>(
     rt: &impl Abort,
     alloc: A,
     frame: &mut Frame<H, A>,
@@ -81,7 +81,7 @@ pub fn an_integer<H: Home<A>, A: Allocator>(
 }
 
 /// A new list, with a reference in the frame.
-pub fn a_list<H: Home<A>, A: Allocator + Copy>(
+pub(crate) fn a_list<H: Home<A>, A: Allocator + Copy>(
     rt: &impl Abort,
     alloc: A,
     frame: &mut Frame<H, A>,
@@ -99,7 +99,7 @@ pub fn a_list<H: Home<A>, A: Allocator + Copy>(
 }
 
 /// A reference to an immortal.
-pub fn an_immortal<H: Home<A>, A: Allocator>(
+pub(crate) fn an_immortal<H: Home<A>, A: Allocator>(
     rt: &impl Abort,
     frame: &mut Frame<H, A>,
     cell: u32,
@@ -116,7 +116,7 @@ pub fn an_immortal<H: Home<A>, A: Allocator>(
 }
 
 /// One reference more to the handle's object.
-pub fn another<H: Home<A>, A: Allocator>(
+pub(crate) fn another<H: Home<A>, A: Allocator>(
     rt: &impl Abort,
     frame: &mut Frame<H, A>,
     handle: &Handle,
@@ -133,7 +133,7 @@ pub fn another<H: Home<A>, A: Allocator>(
 }
 
 /// A reference goes.
-pub fn release<H: Home<A>, A: Allocator>(frame: &mut Frame<H, A>, handle: Handle)
+pub(crate) fn release<H: Home<A>, A: Allocator>(frame: &mut Frame<H, A>, handle: Handle)
     requires owned { Owns frame.old handle }
     requires unlocked { IsUnlocked frame.old }
     ensures { Loses frame.old frame.new handle }
@@ -143,7 +143,7 @@ pub fn release<H: Home<A>, A: Allocator>(frame: &mut Frame<H, A>, handle: Handle
 }
 
 /// Two references go, the second one first.
-pub fn release_both<H: Home<A>, A: Allocator>(
+pub(crate) fn release_both<H: Home<A>, A: Allocator>(
     frame: &mut Frame<H, A>,
     first: Handle,
     second: Handle,
@@ -159,13 +159,13 @@ pub fn release_both<H: Home<A>, A: Allocator>(
 }
 
 /// The ledger says this.
-pub fn says(rt: &impl Abort, ledger: Ledger, allocs: u64, frees: u64) {
+pub(crate) fn says(rt: &impl Abort, ledger: Ledger, allocs: u64, frees: u64) {
     assert_eq!(rt; ledger.allocs, allocs);
     assert_eq!(rt; ledger.frees, frees);
 }
 
 /// A thread that has a handle doesn't leave: its frame is answered.
-pub fn stays<H: Home<A>, A: Allocator>(rt: &impl Abort, frame: Frame<H, A>) -> Frame<H, A>
+pub(crate) fn stays<H: Home<A>, A: Allocator>(rt: &impl Abort, frame: Frame<H, A>) -> Frame<H, A>
     requires unlocked { IsUnlocked frame }
     ensures { result ≡ frame }
 {
@@ -177,7 +177,7 @@ pub fn stays<H: Home<A>, A: Allocator>(rt: &impl Abort, frame: Frame<H, A>) -> F
 
 /// A thread that has no handle leaves, and so many turns of work are left to it then; the root gathers it, and the answer is its
 /// last ledger.
-pub fn leaves_late<H: Home<A> + Drop, A: Allocator>(
+pub(crate) fn leaves_late<H: Home<A> + Drop, A: Allocator>(
     rt: &impl Abort,
     table: &HeapTable<A>,
     root: &mut RootSeat<A>,
@@ -208,7 +208,7 @@ pub fn leaves_late<H: Home<A> + Drop, A: Allocator>(
 }
 
 /// A thread that has no handle leaves, there is nothing left for it to do, and the root gathers it.
-pub fn leaves<H: Home<A> + Drop, A: Allocator>(
+pub(crate) fn leaves<H: Home<A> + Drop, A: Allocator>(
     rt: &impl Abort,
     table: &HeapTable<A>,
     root: &mut RootSeat<A>,

@@ -1,5 +1,5 @@
 use Rattle.std.proofs.Common.{◌∙◌}
-use Rattle.brc_turns.proofs.library.one_life.Goals as goal
+use Rattle.brc_lives.proofs.library.one_life.Goals as goal
 
 pub returns-clause-unlocked : goal.returns-clause-unlocked
 returns-clause-unlocked g c =
