@@ -1,5 +1,5 @@
 -- What a call on one object does to a frame, and what it finds there.
-use Rattle.std.specs.Prelude.{◌≡◌, ◌≢◌, ℕ, true, false, List, [], ◌∷◌, Some}
+use Rattle.std.specs.Prelude.{◌≡◌, ℕ, true, ◌∷◌, Some}
 use Rattle.brc_block.specs.declared.payload.Payload.{Payload}
 use Rattle.brc_words.specs.declared.fault.Fault.{Fault}
 use Rattle.brc_words.specs.declared.fault.Fault.TheVariants as faults
@@ -8,7 +8,6 @@ use Rattle.brc_words.specs.Kinds.{is_container}
 use Rattle.brc_runs.specs.declared.event.Change.TheVariants.{Keep}
 use Rattle.brc_runs.specs.declared.event.Step.TheVariants.{Lock, Unlock}
 use Rattle.brc_rule.specs.declared.contents.Contents.{Contents}
-use Rattle.brc_rule.specs.declared.contents.Contents.TheVariants as contents
 use Rattle.brc_rule.specs.declared.told.Moved.TheVariants as moves
 use Rattle.brc_rule.specs.declared.told.Told.TheVariants.{Did}
 use Rattle.brc_rule.specs.Logs.{kind_in}
@@ -50,6 +49,8 @@ module _ {A : Type 0} where
     pub began : Began mid new k block
     pub keeps : KeepsThread mid new
     pub frame : KeepsFrame mid new
+    pub keeps_all : KeepsThread old new
+    pub frame_all : KeepsFrame old new
 
   -- after some such tries the object was looked at
   pub record LooksLate (old new : FrameSeen A) (k : ℕ) (found : Contents) : Type 0 where

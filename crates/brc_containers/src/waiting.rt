@@ -5,6 +5,7 @@ ghost use Rattle.brc_rule.specs.declared.contents.Contents.{Contents as contents
 ghost use Rattle.brc_rule.specs.declared.contents.Contents.TheVariants as contents;
 ghost use Rattle.brc_rule.specs.Logs.{kind_in, entries_in};
 ghost use Rattle.brc_count.specs.Frames.{IsUnlocked, Owns};
+ghost use Rattle.brc_count.specs.Locking.{KeepsThread, KeepsFrame};
 ghost use Rattle.brc_containers.specs.Looking.{BeginsLate, LooksLate, RefusedLate, RefusedLateCopy, IsInt, IsText, IsContainer};
 
 use crate::looking::{container_len, copy_of_text, int_in, is_text};
@@ -43,7 +44,10 @@ pub fn kind_of<H: Home<A>, A: Allocator>(
 ) -> Kind
     requires owned { Owns frame.old handle.now }
     requires unlocked { IsUnlocked frame.old }
-    ensures { (found : contents_of_an_object) × LooksLate frame.old frame.new handle.now.place found × (kind_in found ≡ result) }
+    ensures thread { KeepsThread frame.old frame.new }
+    ensures frame { KeepsFrame frame.old frame.new }
+    ensures unlocked { IsUnlocked frame.new }
+    ensures found { (found : contents_of_an_object) × LooksLate frame.old frame.new handle.now.place found × (kind_in found ≡ result) }
 {
     let block = begin_late(rt, frame, handle);
     let kind = block.payload().kind();
@@ -60,6 +64,9 @@ pub fn len_of<H: Home<A>, A: Allocator>(
 ) -> Result<usize, Fault>
     requires owned { Owns frame.old handle.now }
     requires unlocked { IsUnlocked frame.old }
+    ensures thread { KeepsThread frame.old frame.new }
+    ensures frame { KeepsFrame frame.old frame.new }
+    ensures unlocked { IsUnlocked frame.new }
     ensures found { IfOk result (λ len. (found : contents_of_an_object) × LooksLate frame.old frame.new handle.now.place found
         × IsContainer found × (length (entries_in found) ≡ len)) }
     ensures refused { IfErr result (RefusedLate frame.old frame.new handle.now.place IsContainer) }
@@ -81,6 +88,9 @@ pub fn int_of<H: Home<A>, A: Allocator>(
 ) -> Result<i64, Fault>
     requires owned { Owns frame.old handle.now }
     requires unlocked { IsUnlocked frame.old }
+    ensures thread { KeepsThread frame.old frame.new }
+    ensures frame { KeepsFrame frame.old frame.new }
+    ensures unlocked { IsUnlocked frame.new }
     ensures found { IfOk result (λ number. LooksLate frame.old frame.new handle.now.place (contents.Int number)) }
     ensures refused { IfErr result (RefusedLate frame.old frame.new handle.now.place IsInt) }
 {
@@ -102,6 +112,9 @@ pub fn text_of<H: Home<A>, A: Allocator>(
 ) -> Result<Text<A>, Fault>
     requires owned { Owns frame.old handle.now }
     requires unlocked { IsUnlocked frame.old }
+    ensures thread { KeepsThread frame.old frame.new }
+    ensures frame { KeepsFrame frame.old frame.new }
+    ensures unlocked { IsUnlocked frame.new }
     ensures found { IfOk result (λ text. LooksLate frame.old frame.new handle.now.place (contents.Text text)) }
     ensures refused { IfErr result (RefusedLateCopy frame.old frame.new handle.now.place IsText) }
 {

@@ -1,9 +1,10 @@
 -- Handles that are kept, from what calls do to a frame's places.
-use Rattle.std.proofs.Common.{◌≡◌, ◌≢◌, ℕ, true, Option, Some, None, is_some, refl, sym, ◌∙◌, ap}
+use Rattle.std.proofs.Common.{◌≡◌, ◌≢◌, ℕ, true, Option, Some, None, is_some, sym, ◌∙◌, ap}
 use Rattle.brc_block.specs.declared.payload.Payload.{Payload}
 use Rattle.brc_runs.specs.declared.event.Source.{Source}
 use Rattle.brc_count.specs.Frames.{FrameSeen, HandleSeen, IsUnlocked, Owns, Given, ReleasedOf}
 use Rattle.brc_count.specs.Locking.{cell_in, KeepsThread, KeepsFrame, Began}
+use Rattle.brc_containers.proofs.Kept.{thread_kept_on, frame_kept_on}
 use Rattle.brc_lives.specs.Handles.{Gains, Loses, HasLocked}
 
 none_filled : {X : Type 0} {o : Option X} → is_some o ≡ true → o ≡ None → ⊥
@@ -54,29 +55,6 @@ module _ {A : Type 0} where
   released_loses old new gone c heap unlocked thread r = loses old new gone heap (r.rest.lock ∙ unlocked) thread r.others
 
   -- ---- a frame that was only looked at, or locked
-
-  pub thread_kept : (frame : FrameSeen A) → KeepsThread frame frame
-  thread_kept frame = record { heap = refl; thread = refl; stage = refl; popped = refl; works = refl }
-
-  pub thread_kept_on : {old mid new : FrameSeen A} → KeepsThread old mid → KeepsThread mid new → KeepsThread old new
-  thread_kept_on first second = record {
-    heap = second.heap ∙ first.heap;
-    thread = second.thread ∙ first.thread;
-    stage = second.stage ∙ first.stage;
-    popped = second.popped ∙ first.popped;
-    works = second.works ∙ first.works;
-  }
-
-  pub frame_kept : (frame : FrameSeen A) → KeepsFrame frame frame
-  frame_kept frame = record { places = λ k. refl; len = refl; spare = refl; next = refl }
-
-  pub frame_kept_on : {old mid new : FrameSeen A} → KeepsFrame old mid → KeepsFrame mid new → KeepsFrame old new
-  frame_kept_on first second = record {
-    places = λ k. second.places k ∙ first.places k;
-    len = second.len ∙ first.len;
-    spare = second.spare ∙ first.spare;
-    next = second.next ∙ first.next;
-  }
 
   pub owns_kept : (old new : FrameSeen A) (h : HandleSeen) → KeepsThread old new → KeepsFrame old new → Owns old h → Owns new h
   owns_kept old new h thread frame owns = owns_still old new h thread.thread (frame.places h.place) owns

@@ -1,5 +1,6 @@
 //! Worked runs of the heap as calls on frames, run by the gate: an integer's life, an immortal's, a list that passes from one
-//! thread's frame to another's, objects of each kind, a full heap and a full frame, long deaths, refused growths, and real threads on one heap.
+//! thread's frame to another's, objects of each kind, and what is read of them, a full heap and a full frame, long deaths,
+//! refused growths, and real threads on one heap.
 //!
 //! Tests, and what they look at. Each call's conditions are shown from the contracts of `brc_thread`, `brc_things`, `brc_count`
 //! and `brc_table` alone, so this is also how a caller uses them.
@@ -41,6 +42,8 @@ mod memory;
 mod parts;
 #[cfg(test)]
 mod phases;
+#[cfg(test)]
+mod readings;
 #[cfg(test)]
 mod refused;
 #[cfg(test)]

@@ -4,6 +4,7 @@ ghost use Rattle.std.specs.Prelude.{◌≡◌};
 ghost use Rattle.brc_count.specs.Frames.{IsUnlocked};
 
 use crate::parts::{given_back, retires};
+use crate::phases::release;
 use brc_counter::Home;
 use brc_thread::{Heap, Mutator, Options, Root, take_apart};
 use brc_words::Fault;
@@ -89,8 +90,7 @@ fn leaves_late<H: Home<A> + Drop, A: Allocator>(rt: &impl Abort, mutator: Mutato
         Ok(_leaving) => panic!(rt; "it has left with a handle"),
         Err(mutator) => {
             let mut mutator = mutator;
-            let _cell = mutator.frame().cell(&globals);
-            mutator.frame().release(globals);
+            release(mutator.frame(), globals);
             let thread = mutator.thread();
             let _retired = retires(rt, mutator);
             thread
