@@ -1,2 +1,3 @@
-pub mod Counting
-pub mod Making
+pub mod Owning
+pub mod Together
+pub mod Payloads
