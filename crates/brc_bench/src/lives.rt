@@ -161,15 +161,14 @@ fn ends<H: Home<A> + Drop, A: Allocator>(rt: &impl Wait, leaving: Leaving<H, A>)
     unreachable!()
 }
 
-/// A thread that is to run.
-#[derive(Drop)]
-pub struct Job<'a> {
-    pub heap: &'a Heap<Global>,
-    pub resting: Resting<Global>,
-    /// What it does; nothing where it is only to end.
-    pub case: Option<Case>,
+/// What some threads are to do, all the same.
+#[derive(Clone, Copy, Debug)]
+pub struct Asked {
+    pub case: Case,
+    /// Whether they are idle, and others count the integers that they gave before.
+    pub idle: bool,
+    pub threads: u32,
     pub n: u64,
-    ghost same: { resting.heap ≡ heap.now },
 }
 
 /// What a thread has done.
@@ -179,21 +178,24 @@ pub struct Done {
     pub ledger: Ledger,
 }
 
-/// What the job says, from the thread's waking to its end.
-pub fn lives<R: Wait + Clock + CpuClock>(rt: &R, alloc: Global, job: Job<'_>) -> Done {
-    let Job {
-        heap,
-        resting,
-        case,
-        n,
-    } = job;
+/// What a thread does from its waking to its end.
+pub fn lives<R: Wait + Clock + CpuClock>(
+    rt: &R,
+    alloc: Global,
+    heap: &Heap<Global>,
+    resting: Resting<Global>,
+    asked: Asked,
+) -> Done
+    requires heap { resting.heap ≡ heap.now }
+{
     let mut mutator = resting.wake(heap);
-    let span = match case {
-        None => Ok(None),
-        Some(case) => match measures(rt, alloc, mutator.frame(), case, n) {
+    let span = if asked.idle {
+        Ok(None)
+    } else {
+        match measures(rt, alloc, mutator.frame(), asked.case, asked.n) {
             Ok(span) => Ok(Some(span)),
             Err(error) => Err(error),
-        },
+        }
     };
     let retired = ends(rt, leaves(rt, mutator));
     Done {

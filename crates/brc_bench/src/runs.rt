@@ -1,24 +1,25 @@
 //! The cases: threads on one heap, each with what it is to do.
 
-ghost use Rattle.std.specs.Prelude.{◌≡◌, IfOk};
+ghost use Rattle.std.specs.Prelude.{◌≡◌, IfOk, IfSome};
 ghost use Rattle.brc_count.specs.Frames.{IsUnlocked, Owns};
 ghost use Rattle.brc_bench.specs.Handles.{Keeps};
+ghost use Rattle.brc_bench.specs.Threads.{AreOf};
 
 use crate::globals::put_into_globals;
 use crate::handles::{an_integer, another, release};
-use crate::lives::{Done, FOREIGN, Job, lives, refused, rests};
+use crate::lives::{Asked, Done, FOREIGN, lives, refused, rests};
 use crate::request::Case;
-use crate::timing::{Span, Times, times_of};
+use crate::timing::{Times, times_of};
 use brc_count::{Frame, Handle};
 use brc_counter::Home;
 use brc_table::Rest;
 use brc_thread::{Heap, Options, Resting, Root, take_apart};
 use std::alloc::{AllocError, Allocator, Global};
+use std::io;
 use std::rt::Clock;
 use std::sync::Wait;
-use std::thread::Threads;
+use std::thread::{Threads, join};
 use std::time::CpuClock;
-use std::{io, thread};
 
 /// What a thread puts into the globals before the others run.
 #[derive(Clone, Copy, Debug, PartialEq, Eq)]
@@ -154,46 +155,64 @@ fn registered(
     }
 }
 
-/// Some threads that do the same.
-#[derive(Clone, Copy, Debug)]
-struct Asked {
-    /// Nothing where they are idle: each has given integers before.
-    case: Option<Case>,
-    threads: u32,
-    n: u64,
-}
-
 /// What the thread of this number, from 0, gives before all of them run.
 fn gift_of(asked: Asked, number: u32) -> Gift {
+    if asked.idle {
+        return Gift::Integers(FOREIGN);
+    }
     match asked.case {
-        None => Gift::Integers(FOREIGN),
-        Some(Case::PairShared) if number == 0 => Gift::References(asked.threads),
+        Case::PairShared if number == 0 => Gift::References(asked.threads),
         _ => Gift::Nothing,
     }
 }
 
-/// The threads, each with what it is to do.
-fn jobs_of<'a>(
+/// At most four threads at rest.
+#[derive(Drop)]
+struct Four {
+    first: Option<Resting<Global>>,
+    second: Option<Resting<Global>>,
+    third: Option<Resting<Global>>,
+    fourth: Option<Resting<Global>>,
+}
+
+/// The thread of this number, from 0, where so many are asked for.
+fn rested_one(
     rt: &impl Wait,
     alloc: Global,
-    heap: &'a Heap<Global>,
+    heap: &Heap<Global>,
     root: &mut Root<Global>,
     asked: Asked,
-) -> io::Result<Vec<Job<'a>>>
+    number: u32,
+) -> io::Result<Option<Resting<Global>>>
     requires heap { root.old.table ≡ heap.now.table }
+    ensures heap { IfOk result (λ one. IfSome one (λ resting. resting.heap ≡ heap.now)) }
     ensures root { root.new.table ≡ root.old.table }
 {
-    let mut jobs = Vec::new(alloc);
-    for number in 0..asked.threads {
-        let resting = registered(rt, alloc, heap, root, gift_of(asked, number))?;
-        jobs.push(Job {
-            heap,
-            resting,
-            case: asked.case,
-            n: asked.n,
-        })?;
+    if number >= asked.threads {
+        return Ok(None);
     }
-    Ok(jobs)
+    let resting = registered(rt, alloc, heap, root, gift_of(asked, number))?;
+    Ok(Some(resting))
+}
+
+/// The threads, each of which has given what it gives and is at rest; at most four.
+fn rested(
+    rt: &impl Wait,
+    alloc: Global,
+    heap: &Heap<Global>,
+    root: &mut Root<Global>,
+    asked: Asked,
+) -> io::Result<Four>
+    requires heap { root.old.table ≡ heap.now.table }
+    ensures heap { IfOk result (AreOf heap.now) }
+    ensures root { root.new.table ≡ root.old.table }
+{
+    Ok(Four {
+        first: rested_one(rt, alloc, heap, root, asked, 0)?,
+        second: rested_one(rt, alloc, heap, root, asked, 1)?,
+        third: rested_one(rt, alloc, heap, root, asked, 2)?,
+        fourth: rested_one(rt, alloc, heap, root, asked, 3)?,
+    })
 }
 
 /// What a run answers.
@@ -206,13 +225,99 @@ pub struct Answer {
     pub frees: u64,
 }
 
-/// Each job in a thread of its own.
-fn run_jobs<'a, R: Threads + Wait + Clock + CpuClock + Sync>(
+/// Two do what is asked, each in a thread of the machine of its own.
+fn two_live<R: Threads + Wait + Clock + CpuClock + Sync>(
     rt: &R,
     alloc: Global,
-    jobs: Vec<Job<'a>>,
-) -> Result<Vec<Done>, AllocError> {
-    thread::map_vec(rt, jobs, &|job| lives(rt, alloc, job))
+    heap: &Heap<Global>,
+    first: Resting<Global>,
+    second: Resting<Global>,
+    asked: Asked,
+) -> (Done, Done)
+    requires first { first.heap ≡ heap.now }
+    requires second { second.heap ≡ heap.now }
+{
+    join(
+        rt,
+        || lives(rt, alloc, heap, first, asked),
+        || lives(rt, alloc, heap, second, asked),
+    )
+}
+
+/// Four do.
+fn four_live<R: Threads + Wait + Clock + CpuClock + Sync>(
+    rt: &R,
+    alloc: Global,
+    heap: &Heap<Global>,
+    first: Resting<Global>,
+    second: Resting<Global>,
+    third: Resting<Global>,
+    fourth: Resting<Global>,
+    asked: Asked,
+) -> ((Done, Done), (Done, Done))
+    requires first { first.heap ≡ heap.now }
+    requires second { second.heap ≡ heap.now }
+    requires third { third.heap ≡ heap.now }
+    requires fourth { fourth.heap ≡ heap.now }
+{
+    join(
+        rt,
+        || -> (Done, Done)
+            requires first { first.heap ≡ heap.now }
+            requires second { second.heap ≡ heap.now }
+        { two_live(rt, alloc, heap, first, second, asked) },
+        || -> (Done, Done)
+            requires third { third.heap ≡ heap.now }
+            requires fourth { fourth.heap ≡ heap.now }
+        { two_live(rt, alloc, heap, third, fourth, asked) },
+    )
+}
+
+/// Each of them does what is asked, where there are one, two or four.
+fn run_all<R: Threads + Wait + Clock + CpuClock + Sync>(
+    rt: &R,
+    alloc: Global,
+    heap: &Heap<Global>,
+    four: Four,
+    asked: Asked,
+) -> Result<Vec<Done>, AllocError>
+    requires heap { AreOf heap.now four }
+{
+    let mut all = Vec::new(alloc);
+    match four {
+        Four {
+            first: Some(first),
+            second: None,
+            third: None,
+            fourth: None,
+        } => all.push(lives(rt, alloc, heap, first, asked))?,
+        Four {
+            first: Some(first),
+            second: Some(second),
+            third: None,
+            fourth: None,
+        } => {
+            let (first, second) = two_live(rt, alloc, heap, first, second, asked);
+            all.push(first)?;
+            all.push(second)?;
+        }
+        Four {
+            first: Some(first),
+            second: Some(second),
+            third: Some(third),
+            fourth: Some(fourth),
+        } => {
+            let ((first, second), (third, fourth)) = four_live(
+                rt, alloc, heap, first, second, third, fourth, asked,
+            );
+            all.push(first)?;
+            all.push(second)?;
+            all.push(third)?;
+            all.push(fourth)?;
+        }
+        _ => {}
+    }
+    Ok(all)
 }
 
 /// What all threads together found.
@@ -235,21 +340,7 @@ fn answer_of(alloc: Global, all: Vec<Done>) -> io::Result<Answer> {
     })
 }
 
-/// The busy threads run, and the idle ones end after them.
-fn answer_by<R: Threads + Wait + Clock + CpuClock + Sync>(
-    rt: &R,
-    alloc: Global,
-    busy: Vec<Job<'_>>,
-    idle: Vec<Job<'_>>,
-) -> io::Result<Answer> {
-    let mut all = run_jobs(rt, alloc, busy)?;
-    for done in run_jobs(rt, alloc, idle)? {
-        all.push(done)?;
-    }
-    answer_of(alloc, all)
-}
-
-/// Runs a case on this heap.
+/// Runs a case on this heap: the busy threads do, and the idle ones end after them.
 fn answer_on<R: Threads + Wait + Clock + CpuClock + Sync>(
     rt: &R,
     alloc: Global,
@@ -261,17 +352,21 @@ fn answer_on<R: Threads + Wait + Clock + CpuClock + Sync>(
     ensures root { root.new.table ≡ root.old.table }
 {
     let owners = match asked.case {
-        Some(Case::PairForeign) => asked.threads,
+        Case::PairForeign => asked.threads,
         _ => 0,
     };
     let owning = Asked {
-        case: None,
+        idle: true,
         threads: owners,
-        n: 0,
+        ..asked
     };
-    let idle = jobs_of(rt, alloc, heap, root, owning)?;
-    let busy = jobs_of(rt, alloc, heap, root, asked)?;
-    answer_by(rt, alloc, busy, idle)
+    let idle = rested(rt, alloc, heap, root, owning)?;
+    let busy = rested(rt, alloc, heap, root, asked)?;
+    let mut all = run_all(rt, alloc, heap, busy, asked)?;
+    for done in run_all(rt, alloc, heap, idle, owning)? {
+        all.push(done)?;
+    }
+    answer_of(alloc, all)
 }
 
 /// Gives all blocks back.
@@ -289,7 +384,7 @@ fn give_back(rt: &impl Wait, rest: Rest<Global>) {
     unreachable!()
 }
 
-/// Runs a case on a heap of its own.
+/// Runs a case on a heap of its own, in one, two or four threads.
 pub fn run_case<R: Threads + Wait + Clock + CpuClock + Sync>(
     rt: &R,
     alloc: Global,
@@ -301,8 +396,12 @@ pub fn run_case<R: Threads + Wait + Clock + CpuClock + Sync>(
         cells: 65_536,
         local_limit: 4_294_967_294,
     };
+    if threads != 1 && threads != 2 && threads != 4 {
+        return Err(refused());
+    }
     let asked = Asked {
-        case: Some(case),
+        case,
+        idle: false,
         threads,
         n,
     };
