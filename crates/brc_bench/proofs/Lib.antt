@@ -1,3 +1,4 @@
 pub mod Owning
 pub mod Together
 pub mod Payloads
+pub mod Sent

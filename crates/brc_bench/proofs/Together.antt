@@ -1,5 +1,5 @@
 -- Handles of which a frame owns each.
-use Rattle.std.proofs.Common.{◌≡◌, ◌≢◌, ℕ, List, [], ◌∷◌, ◌++◌, Option, Some, refl}
+use Rattle.std.proofs.Common.{◌≢◌, List, [], ◌∷◌, ◌++◌, Some, refl}
 use Rattle.std.specs.List.{All}
 use Rattle.std.proofs.lemmas.List.Elements.{All-nil, All-push, All-pop, All-cons, All-head, All-tail, All-weaker}
 use Rattle.brc_count.specs.Frames.{FrameSeen, HandleSeen, Owns}

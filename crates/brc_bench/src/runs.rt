@@ -1,9 +1,9 @@
 //! The cases: threads on one heap, each with what it is to do.
 
-ghost use Rattle.std.specs.Prelude.{◌≡◌, IfOk, IfSome};
+ghost use Rattle.std.specs.Prelude.{◌≡◌, IfOk};
+ghost use Rattle.std.specs.List.{All};
 ghost use Rattle.brc_count.specs.Frames.{IsUnlocked, Owns};
 ghost use Rattle.brc_bench.specs.Handles.{Keeps};
-ghost use Rattle.brc_bench.specs.Threads.{AreOf};
 
 use crate::globals::put_into_globals;
 use crate::handles::{an_integer, another, release};
@@ -15,11 +15,11 @@ use brc_counter::Home;
 use brc_table::Rest;
 use brc_thread::{Heap, Options, Resting, Root, take_apart};
 use std::alloc::{AllocError, Allocator, Global};
-use std::io;
 use std::rt::Clock;
 use std::sync::Wait;
-use std::thread::{Threads, join};
+use std::thread::Threads;
 use std::time::CpuClock;
+use std::{io, thread};
 
 /// What a thread puts into the globals before the others run.
 #[derive(Clone, Copy, Debug, PartialEq, Eq)]
@@ -166,53 +166,24 @@ fn gift_of(asked: Asked, number: u32) -> Gift {
     }
 }
 
-/// At most four threads at rest.
-#[derive(Drop)]
-struct Four {
-    first: Option<Resting<Global>>,
-    second: Option<Resting<Global>>,
-    third: Option<Resting<Global>>,
-    fourth: Option<Resting<Global>>,
-}
-
-/// The thread of this number, from 0, where so many are asked for.
-fn rested_one(
-    rt: &impl Wait,
-    alloc: Global,
-    heap: &Heap<Global>,
-    root: &mut Root<Global>,
-    asked: Asked,
-    number: u32,
-) -> io::Result<Option<Resting<Global>>>
-    requires heap { root.old.table ≡ heap.now.table }
-    ensures heap { IfOk result (λ one. IfSome one (λ resting. resting.heap ≡ heap.now)) }
-    ensures root { root.new.table ≡ root.old.table }
-{
-    if number >= asked.threads {
-        return Ok(None);
-    }
-    let resting = registered(rt, alloc, heap, root, gift_of(asked, number))?;
-    Ok(Some(resting))
-}
-
-/// The threads, each of which has given what it gives and is at rest; at most four.
+/// The threads, each of which has given what it gives and is at rest.
 fn rested(
     rt: &impl Wait,
     alloc: Global,
     heap: &Heap<Global>,
     root: &mut Root<Global>,
     asked: Asked,
-) -> io::Result<Four>
+) -> io::Result<Vec<Resting<Global>>>
     requires heap { root.old.table ≡ heap.now.table }
-    ensures heap { IfOk result (AreOf heap.now) }
+    ensures heap { IfOk result (λ all. All (λ resting. resting.heap ≡ heap.now) all.items) }
     ensures root { root.new.table ≡ root.old.table }
 {
-    Ok(Four {
-        first: rested_one(rt, alloc, heap, root, asked, 0)?,
-        second: rested_one(rt, alloc, heap, root, asked, 1)?,
-        third: rested_one(rt, alloc, heap, root, asked, 2)?,
-        fourth: rested_one(rt, alloc, heap, root, asked, 3)?,
-    })
+    let mut all = Vec::new(alloc);
+    for number in 0..asked.threads {
+        let resting = registered(rt, alloc, heap, root, gift_of(asked, number))?;
+        all.push(resting)?;
+    }
+    Ok(all)
 }
 
 /// What a run answers.
@@ -225,99 +196,23 @@ pub struct Answer {
     pub frees: u64,
 }
 
-/// Two do what is asked, each in a thread of the machine of its own.
-fn two_live<R: Threads + Wait + Clock + CpuClock + Sync>(
-    rt: &R,
-    alloc: Global,
-    heap: &Heap<Global>,
-    first: Resting<Global>,
-    second: Resting<Global>,
-    asked: Asked,
-) -> (Done, Done)
-    requires first { first.heap ≡ heap.now }
-    requires second { second.heap ≡ heap.now }
-{
-    join(
-        rt,
-        || lives(rt, alloc, heap, first, asked),
-        || lives(rt, alloc, heap, second, asked),
-    )
-}
-
-/// Four do.
-fn four_live<R: Threads + Wait + Clock + CpuClock + Sync>(
-    rt: &R,
-    alloc: Global,
-    heap: &Heap<Global>,
-    first: Resting<Global>,
-    second: Resting<Global>,
-    third: Resting<Global>,
-    fourth: Resting<Global>,
-    asked: Asked,
-) -> ((Done, Done), (Done, Done))
-    requires first { first.heap ≡ heap.now }
-    requires second { second.heap ≡ heap.now }
-    requires third { third.heap ≡ heap.now }
-    requires fourth { fourth.heap ≡ heap.now }
-{
-    join(
-        rt,
-        || -> (Done, Done)
-            requires first { first.heap ≡ heap.now }
-            requires second { second.heap ≡ heap.now }
-        { two_live(rt, alloc, heap, first, second, asked) },
-        || -> (Done, Done)
-            requires third { third.heap ≡ heap.now }
-            requires fourth { fourth.heap ≡ heap.now }
-        { two_live(rt, alloc, heap, third, fourth, asked) },
-    )
-}
-
-/// Each of them does what is asked, where there are one, two or four.
+/// Each in a thread of the machine of its own.
 fn run_all<R: Threads + Wait + Clock + CpuClock + Sync>(
     rt: &R,
     alloc: Global,
     heap: &Heap<Global>,
-    four: Four,
+    all: Vec<Resting<Global>>,
     asked: Asked,
 ) -> Result<Vec<Done>, AllocError>
-    requires heap { AreOf heap.now four }
+    requires heap { All (λ resting. resting.heap ≡ heap.now) all.items }
 {
-    let mut all = Vec::new(alloc);
-    match four {
-        Four {
-            first: Some(first),
-            second: None,
-            third: None,
-            fourth: None,
-        } => all.push(lives(rt, alloc, heap, first, asked))?,
-        Four {
-            first: Some(first),
-            second: Some(second),
-            third: None,
-            fourth: None,
-        } => {
-            let (first, second) = two_live(rt, alloc, heap, first, second, asked);
-            all.push(first)?;
-            all.push(second)?;
-        }
-        Four {
-            first: Some(first),
-            second: Some(second),
-            third: Some(third),
-            fourth: Some(fourth),
-        } => {
-            let ((first, second), (third, fourth)) = four_live(
-                rt, alloc, heap, first, second, third, fourth, asked,
-            );
-            all.push(first)?;
-            all.push(second)?;
-            all.push(third)?;
-            all.push(fourth)?;
-        }
-        _ => {}
-    }
-    Ok(all)
+    thread::map_vec(
+        rt,
+        all,
+        &|resting|
+            requires { resting.heap ≡ heap.now }
+        { lives(rt, alloc, heap, resting, asked) },
+    )
 }
 
 /// What all threads together found.
@@ -384,7 +279,7 @@ fn give_back(rt: &impl Wait, rest: Rest<Global>) {
     unreachable!()
 }
 
-/// Runs a case on a heap of its own, in one, two or four threads.
+/// Runs a case on a heap of its own.
 pub fn run_case<R: Threads + Wait + Clock + CpuClock + Sync>(
     rt: &R,
     alloc: Global,
@@ -396,9 +291,6 @@ pub fn run_case<R: Threads + Wait + Clock + CpuClock + Sync>(
         cells: 65_536,
         local_limit: 4_294_967_294,
     };
-    if threads != 1 && threads != 2 && threads != 4 {
-        return Err(refused());
-    }
     let asked = Asked {
         case,
         idle: false,

@@ -1,4 +1,3 @@
-use Rattle.std.proofs.Common.{◌≡◌}
 use Rattle.brc_count.specs.Frames.{IsUnlocked}
 use Rattle.brc_bench.proofs.lives.leaves.Given as goal
 
