@@ -1,2 +1,4 @@
-pub mod Counting
-pub mod Making
+pub mod Owning
+pub mod Together
+pub mod Payloads
+pub mod Sent

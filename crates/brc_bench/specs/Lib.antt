@@ -1,3 +1,1 @@
-pub mod Pairs
-pub mod Request
-pub mod Objects
+pub mod Handles

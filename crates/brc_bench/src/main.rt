@@ -1,17 +1,21 @@
-//! The heap's table, timed: it answers lines as `benches/README.md` has them.
+//! The running heap, timed: threads that make, retain and release objects over their frames. It answers lines as
+//! `benches/README.md` has them.
 //!
-//! `run CASE THREADS N` answers the time that so many pairs of each thread took, from the first thread's start to the last
-//! one's end, and the processor time of the slowest, in nanoseconds; `count CASE THREADS N` the words of each thread's object
-//! afterwards, which are the same whatever the schedule.
+//! `run CASE THREADS N` answers the time that so many operations of each thread took, from the first thread's start to the last
+//! one's end, and the processor time of the slowest, in nanoseconds; `count CASE THREADS N` how many objects all threads together
+//! made and how many cells they gave back, which is the same whatever the schedule.
 #![tactic(auto)]
 
-mod objects;
-mod pairs;
+mod globals;
+mod handles;
+mod lives;
+mod many;
+mod operations;
 mod request;
 mod runs;
 mod timing;
 
-use request::{Request, read_request};
+use request::{CASES, Request, read_request};
 use runs::run_case;
 use std::io;
 
@@ -20,27 +24,19 @@ fn main(rt: HostRuntime) -> io::Result<()> {
     for line in rt.lines(rt.alloc()) {
         let line = line?;
         match read_request(line.as_str()) {
-            Some(Request::List) => println!(rt; "pair_own pair_shared")?,
-            Some(
-                Request::Run {
-                    case,
-                    threads,
-                    pairs,
-                },
-            ) => match run_case(&rt, rt.alloc(), case, threads, pairs) {
-                Ok(answer) => println!(rt; "{} {}", answer.times.wall, answer.times.cpu)?,
-                Err(_) => println!(rt; "no")?,
-            },
-            Some(
-                Request::Count {
-                    case,
-                    threads,
-                    pairs,
-                },
-            ) => match run_case(&rt, rt.alloc(), case, threads, pairs) {
-                Ok(answer) => println!(rt; "{:?}", answer.words)?,
-                Err(_) => println!(rt; "no")?,
-            },
+            Some(Request::List) => println!(rt; "{CASES}")?,
+            Some(Request::Run { case, threads, n }) => {
+                match run_case(&rt, rt.alloc(), case, threads, n) {
+                    Ok(answer) => println!(rt; "{} {}", answer.times.wall, answer.times.cpu)?,
+                    Err(_) => println!(rt; "no")?,
+                }
+            }
+            Some(Request::Count { case, threads, n }) => {
+                match run_case(&rt, rt.alloc(), case, threads, n) {
+                    Ok(answer) => println!(rt; "{} {}", answer.allocs, answer.frees)?,
+                    Err(_) => println!(rt; "no")?,
+                }
+            }
             None => println!(rt; "no")?,
         }
     }

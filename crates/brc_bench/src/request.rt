@@ -1,52 +1,51 @@
 //! The lines that the program answers.
 
-ghost use Rattle.std.specs.Prelude.{◌≤◌, IfSome};
-ghost use Rattle.brc_bench.specs.Request.{threads_in};
-
-/// What is to be done.
+/// What an operation is.
 #[derive(Clone, Copy, Debug, PartialEq, Eq)]
 pub enum Case {
-    /// Each thread has an object of its own, and counts it up and down.
+    /// A retain and a release of one integer of the thread's own.
     PairOwn,
-    /// All threads hold one object that is merged, and count it up and down.
+    /// The same of eight integers in turn.
+    PairOwn8,
+    /// The same of one integer that all threads hold, with a poll at each 256th.
     PairShared,
+    /// The same of 64 integers in turn, whose owner is idle.
+    PairForeign,
+    /// An integer is made and released, and taken apart.
+    NewInt,
+    /// A text of sixteen bytes is.
+    NewText16,
 }
+
+/// The names of the cases.
+pub const CASES: &str = "pair_own pair_own8 pair_shared pair_foreign new_int new_text16";
 
 /// What a line asks for.
 #[derive(Clone, Copy, Debug, PartialEq, Eq)]
 pub enum Request {
     /// The names of the cases.
     List,
-    /// The time of so many pairs of each thread.
-    Run {
-        case: Case,
-        threads: u32,
-        pairs: u64,
-    },
-    /// The counts that such a run leaves.
-    Count {
-        case: Case,
-        threads: u32,
-        pairs: u64,
-    },
+    /// The time of so many operations of each thread.
+    Run { case: Case, threads: u32, n: u64 },
+    /// What all threads together have made and given back after such a run.
+    Count { case: Case, threads: u32, n: u64 },
 }
 
 /// The case of this name.
 fn case_of(name: &str) -> Option<Case> {
     match name {
         "pair_own" => Some(Case::PairOwn),
+        "pair_own8" => Some(Case::PairOwn8),
         "pair_shared" => Some(Case::PairShared),
+        "pair_foreign" => Some(Case::PairForeign),
+        "new_int" => Some(Case::NewInt),
+        "new_text16" => Some(Case::NewText16),
         _ => None,
     }
 }
 
-/// At most so many threads at once.
-const MOST_AT_ONCE: u32 = 64;
-
-/// Reads a line: `list`, or `run` or `count` with a case, how many threads, and how many pairs.
-pub fn read_request(line: &str) -> Option<Request>
-    ensures few { IfSome result (λ request. threads_in request ≤ 64) }
-{
+/// Reads a line: `list`, or `run` or `count` with a case, how many threads, and how many operations of each.
+pub fn read_request(line: &str) -> Option<Request> {
     let mut words = line.split_whitespace();
     let verb = words.next()?;
     if verb == "list" {
@@ -54,21 +53,10 @@ pub fn read_request(line: &str) -> Option<Request>
     }
     let case = case_of(words.next()?)?;
     let threads = words.next()?.parse::<u32>().ok()?;
-    let pairs = words.next()?.parse::<u64>().ok()?;
-    if threads < 1 || threads > MOST_AT_ONCE {
-        return None;
-    }
+    let n = words.next()?.parse::<u64>().ok()?;
     match verb {
-        "run" => Some(Request::Run {
-            case,
-            threads,
-            pairs,
-        }),
-        "count" => Some(Request::Count {
-            case,
-            threads,
-            pairs,
-        }),
+        "run" => Some(Request::Run { case, threads, n }),
+        "count" => Some(Request::Count { case, threads, n }),
         _ => None,
     }
 }

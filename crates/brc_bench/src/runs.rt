@@ -1,19 +1,268 @@
-//! The cases: threads at one table, each with what it is to count.
+//! The cases: threads on one heap, each with what it is to do.
 
-ghost use Rattle.std.specs.Prelude.{◌≡◌, ◌<◌, ◌≤◌};
-ghost use Rattle.brc_words.specs.declared.limits.TheConstants.{MOST_THREADS};
+ghost use Rattle.std.specs.Prelude.{◌≡◌, IfOk};
+ghost use Rattle.std.specs.List.{All};
+ghost use Rattle.brc_count.specs.Frames.{IsUnlocked, Owns};
+ghost use Rattle.brc_bench.specs.Handles.{Keeps};
 
-use crate::objects::{SHARED, find_object, make_object, merge_object, share_object};
+use crate::globals::put_into_globals;
+use crate::handles::{an_integer, another, release};
+use crate::lives::{Asked, Done, FOREIGN, lives, refused, rests};
 use crate::request::Case;
-use crate::timing::{Done, Job, Role, Times, count, times_of};
-use brc_table::{HeapTable, Rest, RootSeat};
-use brc_words::MOST_THREADS;
-use std::alloc::{AllocError, Global};
+use crate::timing::{Times, times_of};
+use brc_count::{Frame, Handle};
+use brc_counter::Home;
+use brc_table::Rest;
+use brc_thread::{Heap, Options, Resting, Root, take_apart};
+use std::alloc::{AllocError, Allocator, Global};
 use std::rt::Clock;
 use std::sync::Wait;
 use std::thread::Threads;
 use std::time::CpuClock;
 use std::{io, thread};
+
+/// What a thread puts into the globals before the others run.
+#[derive(Clone, Copy, Debug, PartialEq, Eq)]
+enum Gift {
+    Nothing,
+    /// So many integers.
+    Integers(u32),
+    /// So many references to one integer.
+    References(u32),
+}
+
+/// Integers of the thread's own go into the globals; false where one can't be made or put there.
+fn gives_integers<R: Wait, H: Home<A>, A: Allocator + Copy>(
+    rt: &R,
+    alloc: A,
+    frame: &mut Frame<H, A>,
+    count: u32,
+) -> bool
+    requires unlocked { IsUnlocked frame.old }
+    ensures heap { frame.new.heap ≡ frame.old.heap }
+    ensures unlocked { IsUnlocked frame.new }
+{
+    let first = frame.thread() as i64 * 1_000;
+    for i in 0..count {
+        let Some(handle) = an_integer(alloc, frame, 1_000 + i as i64) else {
+            return false;
+        };
+        if !put_into_globals(rt, frame, handle, first + i as i64) {
+            return false;
+        }
+    }
+    true
+}
+
+/// One reference more to the handle's object goes into the globals; false where there is no room.
+fn shares<R: Wait, H: Home<A>, A: Allocator>(
+    rt: &R,
+    frame: &mut Frame<H, A>,
+    handle: &Handle,
+    key: i64,
+) -> bool
+    requires owned { Owns frame.old handle.now }
+    requires unlocked { IsUnlocked frame.old }
+    ensures keeps { Keeps frame.old frame.new }
+    ensures unlocked { IsUnlocked frame.new }
+{
+    match another(frame, handle) {
+        Some(more) => put_into_globals(rt, frame, more, key),
+        None => false,
+    }
+}
+
+/// So many of them do.
+fn shares_often<R: Wait, H: Home<A>, A: Allocator>(
+    rt: &R,
+    frame: &mut Frame<H, A>,
+    handle: &Handle,
+    count: u32,
+) -> bool
+    requires owned { Owns frame.old handle.now }
+    requires unlocked { IsUnlocked frame.old }
+    ensures keeps { Keeps frame.old frame.new }
+    ensures unlocked { IsUnlocked frame.new }
+{
+    for i in 0..count {
+        if !shares(rt, frame, handle, i as i64) {
+            return false;
+        }
+    }
+    true
+}
+
+/// References to one integer of the thread's own go into the globals; false where that fails.
+fn gives_references<R: Wait, H: Home<A>, A: Allocator>(
+    rt: &R,
+    alloc: A,
+    frame: &mut Frame<H, A>,
+    count: u32,
+) -> bool
+    requires unlocked { IsUnlocked frame.old }
+    ensures heap { frame.new.heap ≡ frame.old.heap }
+    ensures unlocked { IsUnlocked frame.new }
+{
+    let Some(handle) = an_integer(alloc, frame, 1_000) else {
+        return false;
+    };
+    let whole = shares_often(rt, frame, &handle, count);
+    release(frame, handle);
+    whole
+}
+
+/// The gift goes into the globals; false where that fails.
+fn gives<R: Wait, H: Home<A>, A: Allocator + Copy>(
+    rt: &R,
+    alloc: A,
+    frame: &mut Frame<H, A>,
+    gift: Gift,
+) -> bool
+    requires unlocked { IsUnlocked frame.old }
+    ensures heap { frame.new.heap ≡ frame.old.heap }
+    ensures unlocked { IsUnlocked frame.new }
+{
+    match gift {
+        Gift::Nothing => true,
+        Gift::Integers(count) => gives_integers(rt, alloc, frame, count),
+        Gift::References(count) => gives_references(rt, alloc, frame, count),
+    }
+}
+
+/// The next thread, which has given this and is at rest.
+fn registered(
+    rt: &impl Wait,
+    alloc: Global,
+    heap: &Heap<Global>,
+    root: &mut Root<Global>,
+    gift: Gift,
+) -> io::Result<Resting<Global>>
+    requires heap { root.old.table ≡ heap.now.table }
+    ensures heap { IfOk result (λ resting. resting.heap ≡ heap.now) }
+    ensures root { root.new.table ≡ root.old.table }
+{
+    match root.register(alloc, heap) {
+        Err(_) => Err(refused()),
+        Ok(mutator) => {
+            let mut mutator = mutator;
+            let given = gives(rt, alloc, mutator.frame(), gift);
+            let resting = rests(rt, mutator);
+            if !given {
+                return Err(refused());
+            }
+            Ok(resting)
+        }
+    }
+}
+
+/// What the thread of this number, from 0, gives before all of them run.
+fn gift_of(asked: Asked, number: u32) -> Gift {
+    if asked.idle {
+        return Gift::Integers(FOREIGN);
+    }
+    match asked.case {
+        Case::PairShared if number == 0 => Gift::References(asked.threads),
+        _ => Gift::Nothing,
+    }
+}
+
+/// The threads, each of which has given what it gives and is at rest.
+fn rested(
+    rt: &impl Wait,
+    alloc: Global,
+    heap: &Heap<Global>,
+    root: &mut Root<Global>,
+    asked: Asked,
+) -> io::Result<Vec<Resting<Global>>>
+    requires heap { root.old.table ≡ heap.now.table }
+    ensures heap { IfOk result (λ all. All (λ resting. resting.heap ≡ heap.now) all.items) }
+    ensures root { root.new.table ≡ root.old.table }
+{
+    let mut all = Vec::new(alloc);
+    for number in 0..asked.threads {
+        let resting = registered(rt, alloc, heap, root, gift_of(asked, number))?;
+        all.push(resting)?;
+    }
+    Ok(all)
+}
+
+/// What a run answers.
+#[derive(Clone, Copy, Debug)]
+pub struct Answer {
+    pub times: Times,
+    /// How many objects all threads together have made.
+    pub allocs: u64,
+    /// How many cells they have given back.
+    pub frees: u64,
+}
+
+/// Each in a thread of the machine of its own.
+fn run_all<R: Threads + Wait + Clock + CpuClock + Sync>(
+    rt: &R,
+    alloc: Global,
+    heap: &Heap<Global>,
+    all: Vec<Resting<Global>>,
+    asked: Asked,
+) -> Result<Vec<Done>, AllocError>
+    requires heap { All (λ resting. resting.heap ≡ heap.now) all.items }
+{
+    thread::map_vec(
+        rt,
+        all,
+        &|resting|
+            requires { resting.heap ≡ heap.now }
+        { lives(rt, alloc, heap, resting, asked) },
+    )
+}
+
+/// What all threads together found.
+fn answer_of(alloc: Global, all: Vec<Done>) -> io::Result<Answer> {
+    let mut spans = Vec::new(alloc);
+    let mut allocs: u64 = 0;
+    let mut frees: u64 = 0;
+    for done in all {
+        let Done { span, ledger } = done;
+        if let Some(span) = span? {
+            spans.push(span)?;
+        }
+        allocs = allocs.wrapping_add(ledger.allocs);
+        frees = frees.wrapping_add(ledger.frees);
+    }
+    Ok(Answer {
+        times: times_of(spans.as_slice()),
+        allocs,
+        frees,
+    })
+}
+
+/// Runs a case on this heap: the busy threads do, and the idle ones end after them.
+fn answer_on<R: Threads + Wait + Clock + CpuClock + Sync>(
+    rt: &R,
+    alloc: Global,
+    heap: &Heap<Global>,
+    root: &mut Root<Global>,
+    asked: Asked,
+) -> io::Result<Answer>
+    requires heap { root.old.table ≡ heap.now.table }
+    ensures root { root.new.table ≡ root.old.table }
+{
+    let owners = match asked.case {
+        Case::PairForeign => asked.threads,
+        _ => 0,
+    };
+    let owning = Asked {
+        idle: true,
+        threads: owners,
+        ..asked
+    };
+    let idle = rested(rt, alloc, heap, root, owning)?;
+    let busy = rested(rt, alloc, heap, root, asked)?;
+    let mut all = run_all(rt, alloc, heap, busy, asked)?;
+    for done in run_all(rt, alloc, heap, idle, owning)? {
+        all.push(done)?;
+    }
+    answer_of(alloc, all)
+}
 
 /// Gives all blocks back.
 fn give_back(rt: &impl Wait, rest: Rest<Global>) {
@@ -30,190 +279,30 @@ fn give_back(rt: &impl Wait, rest: Rest<Global>) {
     unreachable!()
 }
 
-/// Memory is missing, or a cell that was thought free wasn't.
-fn refused() -> io::Error {
-    io::ErrorKind::OutOfMemory.into()
-}
-
-/// Each of so many threads with an object of its own.
-fn own_jobs<'a>(
-    alloc: Global,
-    table: &'a HeapTable<Global>,
-    root: &mut RootSeat<Global>,
-    threads: u32,
-    pairs: u64,
-) -> io::Result<Vec<Job<'a>>>
-    requires table { root.old.table ≡ table.now.table }
-    requires wide { 1_000 ≤ table.now.cells }
-    requires room { 10 ≤ table.now.local_limit }
-    requires few { threads ≤ MOST_THREADS }
-    ensures root { root.new.table ≡ root.old.table }
-{
-    let mut jobs = Vec::new(alloc);
-    for t in 0..threads {
-        if root.next() > MOST_THREADS {
-            return Err(refused());
-        }
-        let mut seat = table.split(root);
-        let cell = 300 + t;
-        if !make_object(table, &mut seat, alloc, cell) {
-            return Err(refused());
-        }
-        jobs.push(Job {
-            table,
-            seat,
-            cell,
-            pairs,
-            role: Role::Owner(1),
-        })?;
-    }
-    Ok(jobs)
-}
-
-/// One object: of one thread alone, of its owner and another one, or merged and of many.
-fn shared_jobs<'a>(
-    alloc: Global,
-    table: &'a HeapTable<Global>,
-    root: &mut RootSeat<Global>,
-    threads: u32,
-    pairs: u64,
-) -> io::Result<Vec<Job<'a>>>
-    requires table { root.old.table ≡ table.now.table }
-    requires wide { 1_000 ≤ table.now.cells }
-    requires room { 10 ≤ table.now.local_limit }
-    ensures root { root.new.table ≡ root.old.table }
-{
-    let mut jobs = Vec::new(alloc);
-    if root.next() > MOST_THREADS {
-        return Err(refused());
-    }
-    let mut owner = table.split(root);
-    if !share_object(table, &mut owner, alloc) {
-        return Err(refused());
-    }
-    if threads <= 2 {
-        jobs.push(Job {
-            table,
-            seat: owner,
-            cell: SHARED,
-            pairs,
-            role: Role::Owner(2),
-        })?;
-    } else {
-        if root.next() > MOST_THREADS {
-            return Err(refused());
-        }
-        let mut seat = table.split(root);
-        if !merge_object(table, &mut owner, &mut seat) {
-            return Err(refused());
-        }
-        jobs.push(Job {
-            table,
-            seat,
-            cell: SHARED,
-            pairs,
-            role: Role::OneOfMany,
-        })?;
-    }
-    for _ in 1..threads {
-        if root.next() > MOST_THREADS {
-            return Err(refused());
-        }
-        let mut seat = table.split(root);
-        if !find_object(table, &mut seat) {
-            return Err(refused());
-        }
-        let role = if threads <= 2 {
-            Role::Foreign
-        } else {
-            Role::OneOfMany
-        };
-        jobs.push(Job {
-            table,
-            seat,
-            cell: SHARED,
-            pairs,
-            role,
-        })?;
-    }
-    Ok(jobs)
-}
-
-/// What a run answers.
-#[derive(Drop)]
-pub struct Answer {
-    pub times: Times,
-    /// The local and the shared word of each thread's object, as they are afterwards.
-    pub words: Vec<(u64, u64)>,
-}
-
-/// Each job in a thread of its own.
-fn count_all<'a, R: Threads + Clock + CpuClock + Sync>(
-    rt: &R,
-    jobs: Vec<Job<'a>>,
-) -> Result<Vec<io::Result<Done<'a>>>, AllocError> {
-    thread::map_vec(rt, jobs, &|job| count(rt, job))
-}
-
-/// What the threads found.
-fn answer_of<R: Threads + Clock + CpuClock + Sync>(
-    rt: &R,
-    alloc: Global,
-    jobs: Vec<Job<'_>>,
-) -> io::Result<Answer> {
-    let mut all = Vec::new(alloc);
-    let mut words = Vec::new(alloc);
-    for done in count_all(rt, jobs)? {
-        let mut done = done?;
-        if !done.whole {
-            return Err(refused());
-        }
-        words.push(done.words())?;
-        all.push(done)?;
-    }
-    let times = times_of(all.as_slice());
-    Ok(Answer { times, words })
-}
-
-/// Runs a case on this table.
-fn answer_on<R: Threads + Clock + CpuClock + Sync>(
-    rt: &R,
-    alloc: Global,
-    table: &HeapTable<Global>,
-    root: &mut RootSeat<Global>,
-    case: Case,
-    threads: u32,
-    pairs: u64,
-) -> io::Result<Answer>
-    requires table { root.old.table ≡ table.now.table }
-    requires wide { 1_000 ≤ table.now.cells }
-    requires room { 10 ≤ table.now.local_limit }
-    requires few { threads ≤ MOST_THREADS }
-    ensures root { root.new.table ≡ root.old.table }
-{
-    let jobs = match case {
-        Case::PairOwn => own_jobs(alloc, table, root, threads, pairs)?,
-        Case::PairShared => shared_jobs(alloc, table, root, threads, pairs)?,
-    };
-    answer_of(rt, alloc, jobs)
-}
-
-/// Runs a case on a table of its own.
+/// Runs a case on a heap of its own.
 pub fn run_case<R: Threads + Wait + Clock + CpuClock + Sync>(
     rt: &R,
     alloc: Global,
     case: Case,
     threads: u32,
-    pairs: u64,
-) -> io::Result<Answer>
-    requires few { threads ≤ MOST_THREADS }
-{
-    match HeapTable::new(alloc, 65_536, 4_294_967_294) {
+    n: u64,
+) -> io::Result<Answer> {
+    let options = Options {
+        cells: 65_536,
+        local_limit: 4_294_967_294,
+    };
+    let asked = Asked {
+        case,
+        idle: false,
+        threads,
+        n,
+    };
+    match Heap::new(alloc, options) {
         Err(_) => Err(refused()),
-        Ok((table, root)) => {
+        Ok((heap, root)) => {
             let mut root = root;
-            let answer = answer_on(rt, alloc, &table, &mut root, case, threads, pairs);
-            give_back(rt, table.take_apart(root));
+            let answer = answer_on(rt, alloc, &heap, &mut root, asked);
+            give_back(rt, take_apart(heap, root));
             answer
         }
     }
