@@ -10,4 +10,4 @@ mod reading;
 mod waiting;
 
 pub use reading::{try_int_of, try_kind_of, try_len_of, try_text_of};
-pub use waiting::{int_of, kind_of, len_of, text_of};
+pub use waiting::{begin_late, int_of, kind_of, len_of, text_of};

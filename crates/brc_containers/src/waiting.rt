@@ -17,8 +17,9 @@ use std::alloc::Allocator;
 use std::sync::Wait;
 use std::thread::yield_now;
 
-/// Locks the handle's object, once no other thread has it locked. Between two tries it holds nothing, and gives the processor up.
-fn begin_late<H: Home<A>, A: Allocator>(
+/// Locks the handle's object, once no other thread has it locked, and answers its block, which an `end` of the frame takes back.
+/// Between two tries it holds nothing, and gives the processor up.
+pub fn begin_late<H: Home<A>, A: Allocator>(
     rt: &impl Wait,
     frame: &mut Frame<H, A>,
     handle: &Handle,

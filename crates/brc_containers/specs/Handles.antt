@@ -1,0 +1,20 @@
+-- Which handles a frame owns, before and after a call.
+use Rattle.std.specs.Prelude.{◌≡◌, ◌≢◌}
+use Rattle.brc_count.specs.Frames.{FrameSeen, HandleSeen, Owns}
+
+module _ {A : Type 0} where
+  -- what the frame owned it owns still
+  pub record Keeps (old new : FrameSeen A) : Type 0 where
+    pub heap : new.heap ≡ old.heap
+    pub owns : (h : HandleSeen) → Owns old h → Owns new h
+
+  -- a handle more, in a place that no other has
+  pub record Gains (old new : FrameSeen A) (given : HandleSeen) : Type 0 where
+    pub keeps : Keeps old new
+    pub owned : Owns new given
+    pub apart : (h : HandleSeen) → Owns old h → given.place ≢ h.place
+
+  -- a handle fewer: what the frame owned in other places it owns still
+  pub record Loses (old new : FrameSeen A) (gone : HandleSeen) : Type 0 where
+    pub heap : new.heap ≡ old.heap
+    pub owns : (h : HandleSeen) → Owns old h → gone.place ≢ h.place → Owns new h
