@@ -1,16 +1,23 @@
 -- What a call that changes an object, or takes a reference out of it, does to a frame. Each is a locking, at most one step on
--- an entry, and an unlocking; what it found, and what it put home, are told.
-use Rattle.std.specs.Prelude.{◌≡◌, ℕ, ◌∷◌, Some}
+-- an entry, and an unlocking. What it found, and what it put home, are told, and the answer is that of a call on plain data.
+use Rattle.std.specs.Prelude.{◌≡◌, ℕ, ◌+◌, ◌∷◌, Some, None, Result, Ok, Err, is_ok, true, slice_get}
+use Rattle.brc_words.specs.declared.fault.Fault.{Fault}
+use Rattle.brc_words.specs.declared.fault.Fault.TheVariants as faults
 use Rattle.brc_runs.specs.declared.event.Change.{Change}
-use Rattle.brc_runs.specs.declared.event.Change.TheVariants.{Keep}
+use Rattle.brc_runs.specs.declared.event.Change.TheVariants.{Keep, Put, Take, Swap}
 use Rattle.brc_runs.specs.declared.event.Source.TheVariants as sources
 use Rattle.brc_runs.specs.declared.event.Step.TheVariants.{Lock, Unlock}
 use Rattle.brc_rule.specs.declared.contents.Contents.{Contents}
 use Rattle.brc_rule.specs.declared.told.Moved.TheVariants as moves
 use Rattle.brc_rule.specs.declared.told.Told.TheVariants.{Did}
-use Rattle.brc_count.specs.Frames.{FrameSeen, HandleSeen, IsUnlocked, Given}
-use Rattle.brc_count.specs.Locking.{KeepsThread, cell_in}
+use Rattle.brc_rule.specs.Logs.{entries_in}
+use Rattle.brc_count.specs.Frames.{FrameSeen, HandleSeen, IsUnlocked, Given, Refused}
+use Rattle.brc_count.specs.Locking.{Busy, KeepsThread, ChangesPlace, cell_in}
 use Rattle.brc_containers.specs.Looking.{Waits}
+
+-- A call on plain data: what is found goes in; the answer and what is left come out, or why there is none.
+abbrev pub PlainCall : Type 0 → Type 0
+PlainCall R = Contents → Result (R × Contents) Fault
 
 module _ {A : Type 0} where
   -- The object in the place was locked, found with these contents, and put home with those; its unlocking moved a reference
@@ -28,14 +35,58 @@ module _ {A : Type 0} where
     pub len : new.len ≡ old.len
     pub next : new.next ≡ old.next
 
-  -- The object in the place was looked at by a call that asks for a place: it was locked, found so, and unlocked as it was.
-  pub record LooksInVain (old new : FrameSeen A) (k : ℕ) (found : Contents) : Type 0 where
-    pub looks : Changes old new k found Keep found
-    pub frame : KeepsPlaces old new
+-- ---- what succeeded
 
-  -- The object in the place was locked, and found with these contents; a new handle got a reference to one of its entries,
-  -- counted up in one event; and the object was unlocked as it was found. Nothing else was done.
-  pub record Shares (old new : FrameSeen A) (k : ℕ) (found : Contents) (index entry : ℕ) (given : HandleSeen) : Type 0 where
+module _ {A R : Type 0} where
+  -- The reference of the handle in place v went into the object, by the plain call.
+  pub record Puts (old new : FrameSeen A) (k v : ℕ) (call : ℕ → PlainCall R) (answer : R) : Type 0 where
+    pub value : ℕ
+    pub of_value : cell_in old v ≡ Some value
+    pub found : Contents
+    pub put : Contents
+    pub plain : call value found ≡ Ok (answer, put)
+    pub changes : Changes old new k found (Put v) put
+    pub places : ChangesPlace old new v None
+    pub len : new.len + 1 ≡ old.len
+
+  -- The reference of the handle in place v and that of an entry were exchanged, by the plain call, which answers the entry.
+  pub record Swaps (old new : FrameSeen A) (k v : ℕ) (call : ℕ → PlainCall R) (answer : ℕ → R) : Type 0 where
+    pub value : ℕ
+    pub of_value : cell_in old v ≡ Some value
+    pub found : Contents
+    pub put : Contents
+    pub index : ℕ
+    pub entry : ℕ
+    pub at_index : slice_get (entries_in found) index ≡ Some entry
+    pub plain : call value found ≡ Ok (answer entry, put)
+    pub changes : Changes old new k found (Swap index v) put
+    pub places : ChangesPlace old new v (Some entry)
+    pub len : new.len ≡ old.len
+
+module _ {A : Type 0} where
+  -- The reference of an entry is the new handle's now, by the plain call, which answers the entry.
+  pub record Takes (old new : FrameSeen A) (k : ℕ) (call : PlainCall ℕ) (given : HandleSeen) : Type 0 where
+    pub found : Contents
+    pub put : Contents
+    pub index : ℕ
+    pub entry : ℕ
+    pub at_index : slice_get (entries_in found) index ≡ Some entry
+    pub plain : call found ≡ Ok (entry, put)
+    pub changes : Changes old new k found (Take index given.place) put
+    pub thread : given.thread ≡ old.seat.thread
+    pub next : given.place ≡ old.next
+    pub vacant : cell_in old given.place ≡ None
+    pub places : ChangesPlace old new given.place (Some entry)
+    pub len : new.len ≡ old.len + 1
+
+  -- The new handle has a reference to an entry, counted up in one event while the object was locked; it was unlocked as it
+  -- was found. The plain call answers the entry.
+  pub record Shares (old new : FrameSeen A) (k : ℕ) (call : PlainCall ℕ) (given : HandleSeen) : Type 0 where
+    pub found : Contents
+    pub index : ℕ
+    pub entry : ℕ
+    pub at_index : slice_get (entries_in found) index ≡ Some entry
+    pub plain : call found ≡ Ok (entry, found)
     pub cell : ℕ
     pub of_place : cell_in old k ≡ Some cell
     pub locked : FrameSeen A
@@ -46,6 +97,39 @@ module _ {A : Type 0} where
     pub unlocked : IsUnlocked new
     pub keeps : KeepsThread old new
 
+-- ---- what was refused
+
+module _ {A R : Type 0} where
+  -- The object was looked at, and unlocked as it was found. The plain call is refused so.
+  pub record RefusedPlainly (old new : FrameSeen A) (k : ℕ) (call : PlainCall R) (fault : Fault) : Type 0 where
+    pub found : Contents
+    pub looks : Changes old new k found Keep found
+    pub plain : call found ≡ Err fault
+
+  -- The object was looked at, and unlocked as it was found. The plain call would have succeeded, but memory was missing, or a
+  -- place.
+  pub record RefusedForWant (old new : FrameSeen A) (k : ℕ) (call : PlainCall R) : Type 0 where
+    pub found : Contents
+    pub looks : Changes old new k found Keep found
+    pub plain : is_ok (call found) ≡ true
+
+  -- Why a call is refused that may want memory for an entry: Busy comes first, what the plain call says next, and want of
+  -- memory last.
+  abbrev pub RefusedEntry : FrameSeen A → FrameSeen A → ℕ → PlainCall R → Fault → Type 0
+  RefusedEntry old new k call faults.Busy = Busy old new k
+  RefusedEntry old new k call faults.OutOfMemory = RefusedForWant old new k call
+  RefusedEntry old new k call fault = RefusedPlainly old new k call fault
+
+  -- Why a call is refused that wants a place for a handle: the place comes last, FrameFull before want of memory.
+  abbrev pub RefusedPlace : FrameSeen A → FrameSeen A → ℕ → PlainCall R → Fault → Type 0
+  RefusedPlace old new k call faults.Busy = Busy old new k
+  RefusedPlace old new k call faults.FrameFull = RefusedForWant old new k call × Refused old faults.FrameFull
+  RefusedPlace old new k call faults.OutOfMemory = RefusedForWant old new k call × Refused old faults.OutOfMemory
+  RefusedPlace old new k call fault = RefusedPlainly old new k call fault
+
+-- ---- forms that wait
+
+module _ {A : Type 0} where
   -- so after some tries, each of which found the object in the place locked by another thread
   abbrev pub Late : FrameSeen A → ℕ → (FrameSeen A → Type 0) → Type 0
   Late old k done = (mid : FrameSeen A) × Waits old k mid × done mid
