@@ -1,2 +1,3 @@
 pub mod Kept
 pub mod Owning
+pub mod One_History

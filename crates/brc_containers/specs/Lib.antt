@@ -1,3 +1,4 @@
 pub mod Looking
 pub mod Handles
 pub mod Changing
+pub mod History

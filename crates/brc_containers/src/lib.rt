@@ -5,9 +5,11 @@
 //! others try again, and hold nothing while they do.
 #![tactic(auto)]
 
+mod laws;
 mod looking;
 mod reading;
 mod waiting;
 
+pub use laws::calls_on_an_object_are_one_history;
 pub use reading::{try_int_of, try_kind_of, try_len_of, try_text_of};
 pub use waiting::{begin_late, int_of, kind_of, len_of, text_of};

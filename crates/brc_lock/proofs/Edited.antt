@@ -1,0 +1,147 @@
+-- Contents of an edited payload: its kind stays, and its entries are those of a plain list that is edited so.
+use Rattle.std.proofs.Common.{◌≡◌, ℕ, List, [], ◌∷◌, ◌++◌, Option, Some, None, map, refl, sym, ◌∙◌, ap, slice_get, slice_set, remove, zero, suc, length, ◌<◌, arith}
+use Rattle.brc_words.specs.declared.key.Key.{Key}
+use Rattle.brc_block.specs.Pairs.{keys_in, cells_in}
+use Rattle.brc_block.specs.Payload.{kind_of, entries_of}
+use Rattle.brc_block.specs.declared.payload.Payload.{Payload}
+use Rattle.brc_block.specs.declared.payload.Payload.TheVariants as payloads
+use Rattle.brc_rule.specs.declared.contents.PlainKey.{PlainKey}
+use Rattle.brc_rule.specs.declared.contents.Contents.{Contents}
+use Rattle.brc_rule.specs.declared.contents.Contents.TheVariants.{Nothing, Truth, Int, Text, «List» as Cells, Dict, Mailbox}
+use Rattle.brc_rule.specs.Logs.{kind_in, entries_in}
+use Rattle.brc_table.specs.Shown.{contents_of, plain_key}
+use Rattle.brc_lock.specs.Edits.{with_value, with_last, without, replaced, KeyFits}
+
+first_same : {X : Type 0} {x y : X} {xs ys : List X} → x ∷ xs ≡ y ∷ ys → x ≡ y
+first_same e = cc
+
+rest_same : {X : Type 0} {x y : X} {xs ys : List X} → x ∷ xs ≡ y ∷ ys → xs ≡ ys
+rest_same e = cc
+
+joined : {X : Type 0} {x y : X} {xs ys : List X} → x ≡ y → xs ≡ ys → x ∷ xs ≡ y ∷ ys
+joined {y = y} {xs = xs} first rest = ap (λ v. v ∷ xs) first ∙ ap (λ vs. y ∷ vs) rest
+
+-- ---- pairs
+
+module _ {A : Type 0} where
+  abbrev pub plain : Key A × ℕ → PlainKey × ℕ
+  plain pair = (plain_key pair.0, pair.1)
+
+  values_of : (pairs : List (Key A × ℕ)) → map (λ (p : PlainKey × ℕ). p.1) (map plain pairs) ≡ cells_in pairs
+  values_of [] = refl
+  values_of (pair ∷ pairs) = ap (λ xs. pair.1 ∷ xs) (values_of pairs)
+
+  pub plain_put : (pairs : List (Key A × ℕ)) (key : Key A) (cell : ℕ) → map plain (pairs ++ (key, cell) ∷ []) ≡ map plain pairs ++ (plain_key key, cell) ∷ []
+  plain_put [] key cell = refl
+  plain_put (pair ∷ pairs) key cell = ap (λ xs. plain pair ∷ xs) (plain_put pairs key cell)
+
+  pub plain_remove : (pairs : List (Key A × ℕ)) (index : ℕ) → map plain (remove pairs index) ≡ remove (map plain pairs) index
+  plain_remove [] zero = refl
+  plain_remove [] (suc index) = refl
+  plain_remove (pair ∷ pairs) zero = refl
+  plain_remove (pair ∷ pairs) (suc index) = ap (λ xs. plain pair ∷ xs) (plain_remove pairs index)
+
+  same_pair : (a p : Key A × ℕ) (cell : ℕ) → a.0 ≡ p.0 → a.1 ≡ cell → plain a ≡ (plain_key p.0, cell)
+  same_pair a p cell key value = ap (λ k. (plain_key k, a.1)) key ∙ ap (λ v. (plain_key p.0, v)) value
+
+  -- pairs with the same keys and cells
+  same_pairs : (after pairs : List (Key A × ℕ)) → keys_in after ≡ keys_in pairs → cells_in after ≡ cells_in pairs → map plain after ≡ map plain pairs
+  same_pairs [] [] keys cells = refl
+  same_pairs [] (pair ∷ pairs) keys cells = absurd (cc)
+  same_pairs (a ∷ after) [] keys cells = absurd (cc)
+  same_pairs (a ∷ after) (pair ∷ pairs) keys cells =
+      joined (same_pair a pair pair.1 (first_same keys) (first_same cells)) (same_pairs after pairs (rest_same keys) (rest_same cells))
+
+  -- the pairs after it have the same keys, and the cells with one exchanged
+  pub plain_set : (pairs after : List (Key A × ℕ)) (index cell : ℕ) → keys_in after ≡ keys_in pairs → cells_in after ≡ slice_set (cells_in pairs) index cell
+      → map plain after ≡ with_value (map plain pairs) index cell
+  plain_set [] [] index cell keys cells = refl
+  plain_set [] (a ∷ after) index cell keys cells = absurd (cc)
+  plain_set (pair ∷ pairs) [] index cell keys cells = absurd (cc)
+  plain_set (pair ∷ pairs) (a ∷ after) zero cell keys cells =
+      joined (same_pair a pair cell (first_same keys) (first_same cells)) (same_pairs after pairs (rest_same keys) (rest_same cells))
+  plain_set (pair ∷ pairs) (a ∷ after) (suc index) cell keys cells =
+      joined (same_pair a pair pair.1 (first_same keys) (first_same cells)) (plain_set pairs after index cell (rest_same keys) (rest_same cells))
+
+-- ---- what a payload shows
+
+pub contents_have : {A : Type 0} (payload : Payload A) → entries_in (contents_of payload) ≡ entries_of payload
+contents_have (payloads.Int number) = refl
+contents_have (payloads.Text text) = refl
+contents_have (payloads.«List» cells) = refl
+contents_have (payloads.Dict pairs) = values_of pairs.items
+contents_have (payloads.Mailbox letters) = refl
+contents_have payloads.Nothing = refl
+contents_have (payloads.Truth truth) = refl
+
+-- ---- contents
+
+removed_values : (pairs : List (PlainKey × ℕ)) (index : ℕ) → map (λ (p : PlainKey × ℕ). p.1) (remove pairs index) ≡ remove (map (λ (p : PlainKey × ℕ). p.1) pairs) index
+removed_values [] zero = refl
+removed_values [] (suc index) = refl
+removed_values (pair ∷ pairs) zero = refl
+removed_values (pair ∷ pairs) (suc index) = ap (λ xs. pair.1 ∷ xs) (removed_values pairs index)
+
+set_values : (pairs : List (PlainKey × ℕ)) (index cell : ℕ) → map (λ (p : PlainKey × ℕ). p.1) (with_value pairs index cell) ≡ slice_set (map (λ (p : PlainKey × ℕ). p.1) pairs) index cell
+set_values [] index cell = refl
+set_values (pair ∷ pairs) zero cell = refl
+set_values (pair ∷ pairs) (suc index) cell = ap (λ xs. pair.1 ∷ xs) (set_values pairs index cell)
+
+none_removed : (index : ℕ) → [] ≡ remove {X = ℕ} [] index
+none_removed zero = refl
+none_removed (suc index) = refl
+
+-- one entry fewer
+pub without_entry : (found : Contents) (index : ℕ) → entries_in (without found index) ≡ remove (entries_in found) index
+without_entry (Cells cells) index = refl
+without_entry (Mailbox letters) index = refl
+without_entry (Dict pairs) index = removed_values pairs index
+without_entry Nothing index = none_removed index
+without_entry (Truth truth) index = none_removed index
+without_entry (Int number) index = none_removed index
+without_entry (Text text) index = none_removed index
+
+-- one exchanged
+pub replaced_entry : (found : Contents) (index cell : ℕ) → entries_in (replaced found index cell) ≡ slice_set (entries_in found) index cell
+replaced_entry (Cells cells) index cell = refl
+replaced_entry (Mailbox letters) index cell = refl
+replaced_entry (Dict pairs) index cell = set_values pairs index cell
+replaced_entry Nothing index cell = refl
+replaced_entry (Truth truth) index cell = refl
+replaced_entry (Int number) index cell = refl
+replaced_entry (Text text) index cell = refl
+
+-- ---- an entry
+
+pub plain_get : {A : Type 0} (pairs : List (Key A × ℕ)) (index : ℕ) (pair : Key A × ℕ) → slice_get pairs index ≡ Some pair
+    → slice_get (map (λ (p : PlainKey × ℕ). p.1) (map plain pairs)) index ≡ Some pair.1
+plain_get [] index pair there = absurd (cc)
+plain_get (p ∷ pairs) zero pair there = ap (λ o. elim o [ Some x ↦ Some x.1 | None ↦ None ]) there
+plain_get (p ∷ pairs) (suc index) pair there = plain_get pairs index pair there
+
+-- what stands there is in the list
+pub some_inside : (xs : List ℕ) (index x : ℕ) → slice_get xs index ≡ Some x → index < length xs
+some_inside [] index x there = absurd (cc)
+some_inside (y ∷ xs) zero x there = omega (arith)
+some_inside (y ∷ xs) (suc index) x there = omega (arith, some_inside xs index x there)
+
+module _ {A : Type 0} where
+  -- an entry of the payload is one of what was found
+  pub found_entry : (p q : Payload A) (found : Contents) (index : ℕ) (o : Option ℕ) → contents_of p ≡ found → q ≡ p → o ≡ slice_get (entries_of q) index
+      → slice_get (entries_in found) index ≡ o
+  found_entry p q found index o is same at =
+      sym (at ∙ ap (λ x. slice_get (entries_of x) index) same ∙ sym (ap (λ entries. slice_get entries index) (contents_have p)) ∙ ap (λ f. slice_get (entries_in f) index) is)
+
+  -- the payload's entries after an edit, by those that were found
+  pub without_found : (p q after : Payload A) (found : Contents) (index : ℕ) → contents_of p ≡ found → q ≡ p → contents_of after ≡ without (contents_of q) index
+      → entries_in (contents_of after) ≡ remove (entries_in found) index
+  without_found p q after found index is same left =
+      ap entries_in left ∙ without_entry (contents_of q) index ∙ ap (λ x. remove (entries_in (contents_of x)) index) same ∙ ap (λ f. remove (entries_in f) index) is
+
+  pub replaced_found : (p q after : Payload A) (found : Contents) (index cell : ℕ) → contents_of p ≡ found → q ≡ p → contents_of after ≡ replaced (contents_of q) index cell
+      → entries_in (contents_of after) ≡ slice_set (entries_in found) index cell
+  replaced_found p q after found index cell is same set =
+      ap entries_in set ∙ replaced_entry (contents_of q) index cell ∙ ap (λ x. slice_set (entries_in (contents_of x)) index cell) same ∙ ap (λ f. slice_set (entries_in f) index cell) is
+
+pub some_same : (a b : ℕ) → Some a ≡ Some b → a ≡ b
+some_same a b e = cc

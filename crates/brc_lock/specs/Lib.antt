@@ -1,0 +1,4 @@
+pub mod Waiting
+pub mod Holding
+pub mod Edits
+pub mod Lending

@@ -1,0 +1,75 @@
+//! The entries of a locked object, edited.
+
+ghost use Rattle.std.specs.Prelude.{◌≡◌, ◌<◌, ◌≤◌, Some, true, length, slice_get, OnOk, OnErr};
+ghost use Rattle.brc_words.specs.Kinds.{is_container};
+ghost use Rattle.brc_rule.specs.Logs.{kind_in, entries_in};
+ghost use Rattle.brc_block.specs.Payload.{spare_of};
+ghost use Rattle.brc_table.specs.Shown.{contents_of};
+ghost use Rattle.brc_lock.specs.Edits.{with_last, without, replaced, KeyFits};
+
+use brc_block::{Entries, Payload};
+use brc_words::Key;
+use std::alloc::{AllocError, Allocator};
+
+/// Makes room for one entry more.
+pub(crate) fn make_room<A: Allocator>(payload: &mut Payload<A>) -> Result<(), AllocError>
+    requires container { is_container (kind_in (contents_of payload.old)) ≡ true }
+    ensures contents { contents_of payload.new ≡ contents_of payload.old }
+    ensures made { OnOk result (0 < spare_of payload.new) }
+    ensures needed { OnErr result (spare_of payload.old ≡ 0) }
+    ensures unchanged { OnErr result (payload.new ≡ payload.old) }
+{
+    match payload {
+        Payload::List(cells) => cells.reserve(),
+        Payload::Dict(pairs) => pairs.reserve(),
+        Payload::Mailbox(letters) => letters.reserve(),
+        _ => unreachable!(),
+    }
+}
+
+/// One entry more, at the end, in the room that was made for it; of a dictionary beside this key.
+pub(crate) fn put_last<A: Allocator>(payload: &mut Payload<A>, key: Option<Key<A>>, cell: u32)
+    requires fits { KeyFits (contents_of payload.old) key }
+    requires room { 0 < spare_of payload.old }
+    ensures { contents_of payload.new ≡ with_last (contents_of payload.old) key cell }
+{
+    match payload {
+        Payload::List(cells) => cells.put_reserved(cell),
+        Payload::Mailbox(letters) => letters.put_reserved(cell),
+        Payload::Dict(pairs) => match key {
+            Some(key) => pairs.put_reserved(key, cell),
+            None => unreachable!(),
+        },
+        _ => unreachable!(),
+    }
+}
+
+/// One entry fewer, of a dictionary with its key; the answer is the entry.
+pub(crate) fn take_at<A: Allocator>(payload: &mut Payload<A>, index: usize) -> u32
+    requires within { index < length (entries_in (contents_of payload.old)) }
+    ensures taken { slice_get (entries_in (contents_of payload.old)) index ≡ Some result }
+    ensures left { contents_of payload.new ≡ without (contents_of payload.old) index }
+{
+    match payload {
+        Payload::List(cells) => cells.remove(index),
+        Payload::Mailbox(letters) => letters.remove(index),
+        Payload::Dict(pairs) => {
+            let (_key, cell) = pairs.remove(index);
+            cell
+        }
+        _ => unreachable!(),
+    }
+}
+
+/// Another cell for an entry, of a dictionary beside the same key.
+pub(crate) fn set_at<A: Allocator>(payload: &mut Payload<A>, index: usize, cell: u32)
+    requires within { index < length (entries_in (contents_of payload.old)) }
+    ensures { contents_of payload.new ≡ replaced (contents_of payload.old) index cell }
+{
+    match payload {
+        Payload::List(cells) => cells.set(index, cell),
+        Payload::Mailbox(letters) => letters.set(index, cell),
+        Payload::Dict(pairs) => pairs.set(index, cell),
+        _ => unreachable!(),
+    }
+}

@@ -1,0 +1,94 @@
+//! Locking.
+
+ghost use Rattle.std.specs.Prelude.{◌≡◌, IfOk, IfErr};
+ghost use Rattle.std.specs.Borrow.{sem, RestsIfErr};
+ghost use Rattle.brc_words.specs.declared.fault.Fault.TheVariants as faults;
+ghost use Rattle.brc_count.specs.Frames.{IsUnlocked, Owns};
+ghost use Rattle.brc_count.specs.Locking.{Began, Busy, KeepsThread, KeepsFrame};
+ghost use Rattle.brc_count.specs.contracts.frame.Frame.{the_row};
+ghost use Rattle.brc_lock.specs.Waiting.{BeginsLate};
+ghost use Rattle.brc_lock.specs.Holding.{Holds};
+ghost use Rattle.brc_lock.specs.Lending.{IsBusy};
+
+use crate::locked::Locked;
+use brc_block::Block;
+use brc_count::{Frame, Handle};
+use brc_counter::Home;
+use brc_words::Fault;
+use std::alloc::Allocator;
+use std::sync::Wait;
+use std::thread::yield_now;
+
+/// Locks the handle's object and answers its block, or Busy.
+fn begin_or_busy<H: Home<A>, A: Allocator>(
+    frame: &mut Frame<H, A>,
+    handle: &Handle,
+) -> Result<Block<A>, Fault>
+    requires owned { Owns frame.old handle.now }
+    requires unlocked { IsUnlocked frame.old }
+    ensures began { IfOk result (Began frame.old frame.new handle.now.place) }
+    ensures busy { IfErr result (λ fault. (fault ≡ faults.Busy) × IsBusy frame.old frame.new handle.now.place) }
+    ensures keeps { KeepsThread frame.old frame.new }
+    ensures frame { KeepsFrame frame.old frame.new }
+{
+    match frame.begin(handle) {
+        Some(block) => Ok(block),
+        None => Err(Fault::Busy),
+    }
+}
+
+/// Locks the handle's object and answers its block, once no other thread has it locked. Between two tries it holds nothing, and
+/// gives the processor up.
+pub fn begin_late<H: Home<A>, A: Allocator>(
+    rt: &impl Wait,
+    frame: &mut Frame<H, A>,
+    handle: &Handle,
+) -> Block<A>
+    requires owned { Owns frame.old handle.now }
+    requires unlocked { IsUnlocked frame.old }
+    ensures { BeginsLate frame.old frame.new handle.now.place result }
+{
+    for _ in rt.forever() {
+        if let Some(block) = frame.begin(handle) {
+            return block;
+        }
+        yield_now();
+    }
+    unreachable!()
+}
+
+/// Locks the handle's object. Busy where another thread has it locked, and then nothing changed but a note.
+pub fn try_lock<'f, H: Home<A>, A: Allocator>(
+    frame: &'f mut Frame<H, A>,
+    handle: &'f Handle,
+) -> Result<Locked<'f, H, A, Block<A>>, Fault>
+    requires owned { Owns frame.old handle.now }
+    requires unlocked { IsUnlocked frame.old }
+    ensures* rests { sem 𝓛 (RestsIfErr (the_row H.row A.row H.Home A.Allocator) frame.entry (λ l. l.frame.ghost_name) result (λ last. IsBusy frame.entry.now last handle.now.place)) }
+    ensures began { IfOk result (λ l. Began frame.old l.frame.now handle.now.place l.block) }
+    ensures holds { IfOk result (λ l. Holds l.frame.now handle.now l.block) }
+    ensures keeps { IfOk result (λ l. KeepsThread frame.old l.frame.now) }
+    ensures frame { IfOk result (λ l. KeepsFrame frame.old l.frame.now) }
+    ensures handle { IfOk result (λ l. l.handle.now ≡ handle.now) }
+    ensures busy { IfErr result (λ fault. fault ≡ faults.Busy) }
+{
+    let block = begin_or_busy(frame, handle)?;
+    Ok(Locked::new(frame, handle, block))
+}
+
+/// Locks the handle's object, once no other thread has it locked.
+pub fn lock<'f, H: Home<A>, A: Allocator>(
+    rt: &impl Wait,
+    frame: &'f mut Frame<H, A>,
+    handle: &'f Handle,
+) -> Locked<'f, H, A, Block<A>>
+    requires owned { Owns frame.old handle.now }
+    requires unlocked { IsUnlocked frame.old }
+    ensures same_reference { result.frame.ghost_name ≡ frame.entry.ghost_name }
+    ensures began { BeginsLate frame.old result.frame.now handle.now.place result.block }
+    ensures holds { Holds result.frame.now handle.now result.block }
+    ensures handle { result.handle.now ≡ handle.now }
+{
+    let block = begin_late(rt, frame, handle);
+    Locked::new(frame, handle, block)
+}

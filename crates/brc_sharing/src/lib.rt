@@ -1,0 +1,28 @@
+//! Worked runs of containers that threads share, run by the gate: a list and a mailbox that pass through the globals, an object
+//! that another thread has locked, a full list, a refused growth, letters of two real threads in their order, and many turns of
+//! real threads on shared containers.
+//!
+//! Tests, and what they look at. Each call's conditions are shown from the contracts of the crates below alone, or looked at as
+//! the test runs: whether a frame has a handle, and whether two handles are apart.
+#![tactic(auto)]
+
+mod sums;
+
+pub use sums::sum_of;
+
+#[cfg(test)]
+mod busy;
+#[cfg(test)]
+mod full;
+#[cfg(test)]
+mod letters;
+#[cfg(test)]
+mod objects;
+#[cfg(test)]
+mod passing;
+#[cfg(test)]
+mod refused;
+#[cfg(test)]
+mod threads;
+#[cfg(test)]
+mod turns;
