@@ -11,7 +11,6 @@ ghost use Rattle.brc_containers.specs.History.{Unlocking, AtOnce};
 /// where a call unlocks, there stands what its locking found, and afterwards what it puts home. So each call takes effect at
 /// once, at its unlocking, and its plain answer (`specs/Changing.antt`) is one on the contents that all earlier calls left. What
 /// stands at a cell is what the last birth or unlocking put there, by definition.
-#[tactic(auto, using(crate::proofs::One_History::at_once))]
 pub fn calls_on_an_object_are_one_history()
     ensures { (n limit : ℕ) (run : Run) (t : ℕ) (change : change_made) (number c : ℕ) (found put : contents_of_an_object)
         → AreOptions n limit → 0 < t → Unlocking n limit run t change number c found put → AtOnce run t change number c found put }
