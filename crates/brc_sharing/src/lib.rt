@@ -17,6 +17,8 @@ mod full;
 #[cfg(test)]
 mod letters;
 #[cfg(test)]
+mod memory;
+#[cfg(test)]
 mod objects;
 #[cfg(test)]
 mod passing;

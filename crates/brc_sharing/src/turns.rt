@@ -1,0 +1,364 @@
+//! Many turns of two, four and eight real threads on containers that they share.
+
+ghost use Rattle.std.specs.Prelude.{◌≡◌};
+ghost use Rattle.brc_count.specs.Frames.{IsUnlocked};
+ghost use Rattle.brc_sharing.specs.Threads.{BothOf, BothPlayed};
+
+use crate::objects::{
+    a_list, a_mailbox, an_int, exchange, fetch, give_back, letter, number_of, pop, post, push, share,
+    the_globals, unshare,
+};
+use crate::sums::sum_of;
+use crate::threads::{a_heap, a_thread, ends, is_empty, retires};
+use brc_count::{Frame, Handle, Ledger};
+use brc_counter::Home;
+use brc_dicts::dict_put;
+use brc_thread::{Heap, Resting, Retired, Root};
+use brc_words::Key;
+use std::alloc::{Allocator, Global};
+use std::process::Abort;
+use std::sync::Wait;
+use std::thread::{Threads, join};
+
+/// What one thread did: it retired, and the numbers of all integers that it got, added, less those that it gave.
+struct Played {
+    retired: Retired<Global>,
+    left: u64,
+}
+
+/// The globals have a list under 1, with one integer, a mailbox under 2, and an integer under 3. All numbers are 0.
+fn sets_up<R: Abort + Wait, H: Home<A>, A: Allocator + Copy>(
+    rt: &R,
+    alloc: A,
+    frame: &mut Frame<H, A>,
+)
+    requires unlocked { IsUnlocked frame.old }
+    ensures heap { frame.new.heap ≡ frame.old.heap }
+    ensures unlocked { IsUnlocked frame.new }
+{
+    let globals = the_globals(rt, frame);
+    let list = a_list(rt, alloc, frame);
+    let number = an_int(rt, alloc, frame, 0);
+    push(rt, frame, &list, number);
+    share(rt, frame, &globals, 1, list);
+    let mailbox = a_mailbox(rt, alloc, frame);
+    share(rt, frame, &globals, 2, mailbox);
+    let number = an_int(rt, alloc, frame, 0);
+    share(rt, frame, &globals, 3, number);
+    give_back(rt, frame, globals);
+}
+
+/// The value goes beside the key 3, and the old one is answered.
+fn replace<R: Abort + Wait, H: Home<A>, A: Allocator>(
+    rt: &R,
+    frame: &mut Frame<H, A>,
+    globals: &Handle,
+    value: Handle,
+) -> Handle
+    requires unlocked { IsUnlocked frame.old }
+    ensures heap { frame.new.heap ≡ frame.old.heap }
+    ensures unlocked { IsUnlocked frame.new }
+{
+    assert!(rt; frame.owns(globals));
+    assert!(rt; frame.owns(&value));
+    assert!(rt; value.is_apart(globals));
+    match dict_put(rt, frame, globals, Key::Int(3), value) {
+        Ok(Some(old)) => old,
+        Ok(None) => panic!(rt; "the key wasn't there"),
+        Err((_, (_key, _value))) => panic!(rt; "a put is refused"),
+    }
+}
+
+/// The number of an integer, whose handle goes, as a sum may have it.
+fn gets<R: Abort + Wait, H: Home<A>, A: Allocator>(
+    rt: &R,
+    frame: &mut Frame<H, A>,
+    handle: Handle,
+) -> u64
+    requires unlocked { IsUnlocked frame.old }
+    ensures heap { frame.new.heap ≡ frame.old.heap }
+    ensures unlocked { IsUnlocked frame.new }
+{
+    number_of(rt, frame, handle) as u64
+}
+
+/// One turn: a number is pushed and one popped, one is sent and one received, one is put in place of another in the list, and one
+/// in the dictionary. Each value that is there is somebody's once. The answer is what was got, added.
+fn plays_once<R: Abort + Wait, H: Home<A>, A: Allocator>(
+    rt: &R,
+    alloc: A,
+    frame: &mut Frame<H, A>,
+    number: i64,
+) -> u64
+where
+    A: Copy,
+    requires unlocked { IsUnlocked frame.old }
+    ensures heap { frame.new.heap ≡ frame.old.heap }
+    ensures unlocked { IsUnlocked frame.new }
+{
+    let globals = the_globals(rt, frame);
+    let value = an_int(rt, alloc, frame, number);
+    let old = replace(rt, frame, &globals, value);
+    let replaced = gets(rt, frame, old);
+    let listed = lists_once(rt, alloc, frame, &globals, number);
+    let posted = posts_once(rt, alloc, frame, &globals, number);
+    give_back(rt, frame, globals);
+    sum_of(replaced, sum_of(listed, posted))
+}
+
+/// A number is pushed, the first entry exchanged for another, and the last one popped.
+fn lists_once<R: Abort + Wait, H: Home<A>, A: Allocator>(
+    rt: &R,
+    alloc: A,
+    frame: &mut Frame<H, A>,
+    globals: &Handle,
+    number: i64,
+) -> u64
+where
+    A: Copy,
+    requires unlocked { IsUnlocked frame.old }
+    ensures heap { frame.new.heap ≡ frame.old.heap }
+    ensures unlocked { IsUnlocked frame.new }
+{
+    let list = fetch(rt, frame, globals, 1);
+    let value = an_int(rt, alloc, frame, number);
+    push(rt, frame, &list, value);
+    let value = an_int(rt, alloc, frame, number);
+    let old = exchange(rt, frame, &list, 0, value);
+    let exchanged = gets(rt, frame, old);
+    let last = pop(rt, frame, &list);
+    let popped = gets(rt, frame, last);
+    give_back(rt, frame, list);
+    sum_of(exchanged, popped)
+}
+
+/// A number is sent, and one received.
+fn posts_once<R: Abort + Wait, H: Home<A>, A: Allocator>(
+    rt: &R,
+    alloc: A,
+    frame: &mut Frame<H, A>,
+    globals: &Handle,
+    number: i64,
+) -> u64
+where
+    A: Copy,
+    requires unlocked { IsUnlocked frame.old }
+    ensures heap { frame.new.heap ≡ frame.old.heap }
+    ensures unlocked { IsUnlocked frame.new }
+{
+    let mailbox = fetch(rt, frame, globals, 2);
+    let value = an_int(rt, alloc, frame, number);
+    post(rt, frame, &mailbox, value);
+    let Some(found) = letter(rt, frame, &mailbox) else {
+        panic!(rt; "a letter is missing")
+    };
+    give_back(rt, frame, mailbox);
+    gets(rt, frame, found)
+}
+
+/// A thread that plays so many turns.
+fn plays<R: Abort + Wait>(
+    rt: &R,
+    alloc: Global,
+    heap: &Heap<Global>,
+    resting: Resting<Global>,
+    turns: i64,
+) -> Played
+    requires heap { resting.heap ≡ heap.now }
+    ensures heap { result.retired.heap ≡ heap.now }
+{
+    let mut mutator = resting.wake(heap);
+    let mut left: u64 = 0;
+    for turn in 0..turns {
+        let number = turn.wrapping_add(1_000);
+        let got = plays_once(rt, alloc, mutator.frame(), number);
+        left = left.wrapping_add(got).wrapping_sub((number as u64).wrapping_mul(4));
+        let _told = mutator.poll();
+        let _left = mutator.work(16);
+    }
+    Played {
+        retired: retires(rt, mutator),
+        left,
+    }
+}
+
+/// Two threads play at once.
+fn two_play<R: Threads + Abort + Wait + Sync>(
+    rt: &R,
+    alloc: Global,
+    heap: &Heap<Global>,
+    two: (Resting<Global>, Resting<Global>),
+    turns: i64,
+) -> (Played, Played)
+    requires two { BothOf heap.now two }
+    ensures { BothPlayed heap.now result }
+{
+    let (first, second) = two;
+    join(
+        rt,
+        || plays(rt, alloc, heap, first, turns),
+        || plays(rt, alloc, heap, second, turns),
+    )
+}
+
+/// Four threads play at once.
+fn four_play<R: Threads + Abort + Wait + Sync>(
+    rt: &R,
+    alloc: Global,
+    heap: &Heap<Global>,
+    one: (Resting<Global>, Resting<Global>),
+    two: (Resting<Global>, Resting<Global>),
+    turns: i64,
+) -> ((Played, Played), (Played, Played))
+    requires one { BothOf heap.now one }
+    requires two { BothOf heap.now two }
+    ensures one { BothPlayed heap.now result.0 }
+    ensures two { BothPlayed heap.now result.1 }
+{
+    join(
+        rt,
+        || two_play(rt, alloc, heap, one, turns),
+        || two_play(rt, alloc, heap, two, turns),
+    )
+}
+
+/// Ledgers added, and what threads got, less what they gave.
+#[derive(Clone, Copy)]
+struct Sum {
+    allocs: u64,
+    frees: u64,
+    left: u64,
+}
+
+/// The next thread, at rest.
+fn rests(
+    rt: &impl Abort,
+    alloc: Global,
+    heap: &Heap<Global>,
+    root: &mut Root<Global>,
+) -> Resting<Global>
+    requires heap { root.old.table ≡ heap.now.table }
+    ensures heap { result.heap ≡ heap.now }
+    ensures root { root.new.table ≡ root.old.table }
+{
+    match root.register(alloc, heap) {
+        Ok(mutator) => mutator.rest(),
+        Err(_) => panic!(rt; "a thread is refused"),
+    }
+}
+
+/// Two threads are gathered.
+fn gathered(
+    heap: &Heap<Global>,
+    root: &mut Root<Global>,
+    played: (Played, Played),
+    sum: Sum,
+) -> Sum
+    requires heap { root.old.table ≡ heap.now.table }
+    requires same { BothPlayed heap.now played }
+    ensures root { root.new.table ≡ root.old.table }
+{
+    let (first, second) = played;
+    let sum = gathered_one(heap, root, first, sum);
+    gathered_one(heap, root, second, sum)
+}
+
+/// A thread is gathered.
+fn gathered_one(
+    heap: &Heap<Global>,
+    root: &mut Root<Global>,
+    played: Played,
+    sum: Sum,
+) -> Sum
+    requires heap { root.old.table ≡ heap.now.table }
+    requires same { played.retired.heap ≡ heap.now }
+    ensures root { root.new.table ≡ root.old.table }
+{
+    let Played { retired, left } = played;
+    let ledger = retired.ledger();
+    root.gather(heap, retired);
+    Sum {
+        allocs: sum_of(sum.allocs, ledger.allocs),
+        frees: sum_of(sum.frees, ledger.frees),
+        left: sum_of(sum.left, left),
+    }
+}
+
+/// What the containers have at the end is taken out, and let go; the answer is the sum of the numbers.
+fn takes_down<R: Abort + Wait, H: Home<A>, A: Allocator>(rt: &R, frame: &mut Frame<H, A>) -> u64
+    requires unlocked { IsUnlocked frame.old }
+    ensures heap { frame.new.heap ≡ frame.old.heap }
+    ensures unlocked { IsUnlocked frame.new }
+{
+    let globals = the_globals(rt, frame);
+    let list = unshare(rt, frame, &globals, 1);
+    let last = pop(rt, frame, &list);
+    let listed = gets(rt, frame, last);
+    give_back(rt, frame, list);
+    let mailbox = unshare(rt, frame, &globals, 2);
+    assert!(rt; letter(rt, frame, &mailbox).is_none());
+    give_back(rt, frame, mailbox);
+    let value = unshare(rt, frame, &globals, 3);
+    let stood = gets(rt, frame, value);
+    give_back(rt, frame, globals);
+    sum_of(listed, stood)
+}
+
+/// The sums come out: so many births, as many frees, and what threads got is what they gave, less what was left.
+fn come_out(rt: &impl Abort, sum: Sum, ledger: Ledger, left: u64, births: u64) {
+    assert_eq!(rt; sum_of(sum.allocs, ledger.allocs), births);
+    assert_eq!(rt; sum_of(sum.frees, ledger.frees), births);
+    assert_eq!(rt; sum_of(sum.left, left), 0);
+}
+
+#[test]
+fn two_threads_share_for_many_turns(rt: HostRuntime) {
+    let (heap, root) = a_heap(&rt, rt.alloc(), 4_096);
+    let mut root = root;
+    let mut last = a_thread(&rt, rt.alloc(), &heap, &mut root);
+    sets_up(&rt, rt.alloc(), last.frame());
+    let first = rests(&rt, rt.alloc(), &heap, &mut root);
+    let second = rests(&rt, rt.alloc(), &heap, &mut root);
+    let played = two_play(&rt, rt.alloc(), &heap, (first, second), 10_000);
+    let sum = Sum {
+        allocs: 0,
+        frees: 0,
+        left: 0,
+    };
+    let sum = gathered(&heap, &mut root, played, sum);
+    let left = takes_down(&rt, last.frame());
+    let ledger = ends(&rt, &heap, &mut root, last);
+    come_out(&rt, sum, ledger, left, 80_002);
+    is_empty(&rt, heap, root);
+}
+
+#[test]
+fn four_threads_share_for_many_turns(rt: HostRuntime) {
+    let (heap, root) = a_heap(&rt, rt.alloc(), 4_096);
+    let mut root = root;
+    let mut last = a_thread(&rt, rt.alloc(), &heap, &mut root);
+    sets_up(&rt, rt.alloc(), last.frame());
+    let first = rests(&rt, rt.alloc(), &heap, &mut root);
+    let second = rests(&rt, rt.alloc(), &heap, &mut root);
+    let third = rests(&rt, rt.alloc(), &heap, &mut root);
+    let fourth = rests(&rt, rt.alloc(), &heap, &mut root);
+    let (one, two) = four_play(
+        &rt,
+        rt.alloc(),
+        &heap,
+        (first, second),
+        (third, fourth),
+        10_000,
+    );
+    let sum = Sum {
+        allocs: 0,
+        frees: 0,
+        left: 0,
+    };
+    let sum = gathered(&heap, &mut root, one, sum);
+    let sum = gathered(&heap, &mut root, two, sum);
+    let left = takes_down(&rt, last.frame());
+    let ledger = ends(&rt, &heap, &mut root, last);
+    come_out(&rt, sum, ledger, left, 160_002);
+    is_empty(&rt, heap, root);
+}
