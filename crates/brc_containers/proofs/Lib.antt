@@ -1,3 +1,2 @@
-pub mod Kept
 pub mod Owning
 pub mod One_History

@@ -1,6 +1,5 @@
 -- What a call on one object does to a frame, and what it finds there.
 use Rattle.std.specs.Prelude.{◌≡◌, ℕ, true, ◌∷◌, Some}
-use Rattle.brc_block.specs.declared.payload.Payload.{Payload}
 use Rattle.brc_words.specs.declared.fault.Fault.{Fault}
 use Rattle.brc_words.specs.declared.fault.Fault.TheVariants as faults
 use Rattle.brc_words.specs.declared.kind.Kind.TheVariants as kinds
@@ -12,7 +11,8 @@ use Rattle.brc_rule.specs.declared.told.Moved.TheVariants as moves
 use Rattle.brc_rule.specs.declared.told.Told.TheVariants.{Did}
 use Rattle.brc_rule.specs.Logs.{kind_in}
 use Rattle.brc_count.specs.Frames.{FrameSeen, IsUnlocked}
-use Rattle.brc_count.specs.Locking.{Began, Busy, KeepsThread, KeepsFrame, cell_in}
+use Rattle.brc_count.specs.Locking.{Busy, KeepsThread, KeepsFrame, cell_in}
+pub use Rattle.brc_lock.specs.Waiting.{Waits, NoTry, OneMore, BeginsLate}
 
 module _ {A : Type 0} where
   -- The object in the place was locked, found with these contents, and unlocked as it was found. Nothing else was done.
@@ -37,21 +37,6 @@ module _ {A : Type 0} where
   RefusedCopy old new k fits fault = RefusedLook old new k fits fault
 
 module _ {A : Type 0} where
-  -- some tries, each of which found the object in the place locked by another thread
-  pub data Waits (old : FrameSeen A) (k : ℕ) : FrameSeen A → Type 0 where
-    NoTry : Waits old k old
-    OneMore : (mid new : FrameSeen A) → Waits old k mid → Busy mid new k → Waits old k new
-
-  -- after some such tries the object was locked
-  pub record BeginsLate (old new : FrameSeen A) (k : ℕ) (block : ℕ × Payload A) : Type 0 where
-    pub mid : FrameSeen A
-    pub waits : Waits old k mid
-    pub began : Began mid new k block
-    pub keeps : KeepsThread mid new
-    pub frame : KeepsFrame mid new
-    pub keeps_all : KeepsThread old new
-    pub frame_all : KeepsFrame old new
-
   -- after some such tries the object was looked at
   pub record LooksLate (old new : FrameSeen A) (k : ℕ) (found : Contents) : Type 0 where
     pub mid : FrameSeen A

@@ -12,4 +12,4 @@ mod waiting;
 
 pub use laws::calls_on_an_object_are_one_history;
 pub use reading::{try_int_of, try_kind_of, try_len_of, try_text_of};
-pub use waiting::{begin_late, int_of, kind_of, len_of, text_of};
+pub use waiting::{int_of, kind_of, len_of, text_of};

@@ -6,36 +6,15 @@ ghost use Rattle.brc_rule.specs.declared.contents.Contents.TheVariants as conten
 ghost use Rattle.brc_rule.specs.Logs.{kind_in, entries_in};
 ghost use Rattle.brc_count.specs.Frames.{IsUnlocked, Owns};
 ghost use Rattle.brc_count.specs.Locking.{KeepsThread, KeepsFrame};
-ghost use Rattle.brc_containers.specs.Looking.{BeginsLate, LooksLate, RefusedLate, RefusedLateCopy, IsInt, IsText, IsContainer};
+ghost use Rattle.brc_containers.specs.Looking.{LooksLate, RefusedLate, RefusedLateCopy, IsInt, IsText, IsContainer};
 
 use crate::looking::{container_len, copy_of_text, int_in, is_text};
-use brc_block::Block;
 use brc_count::{Frame, Handle};
 use brc_counter::Home;
+use brc_lock::begin_late;
 use brc_words::{Fault, Kind, Text};
 use std::alloc::Allocator;
 use std::sync::Wait;
-use std::thread::yield_now;
-
-/// Locks the handle's object, once no other thread has it locked, and answers its block, which an `end` of the frame takes back.
-/// Between two tries it holds nothing, and gives the processor up.
-pub fn begin_late<H: Home<A>, A: Allocator>(
-    rt: &impl Wait,
-    frame: &mut Frame<H, A>,
-    handle: &Handle,
-) -> Block<A>
-    requires owned { Owns frame.old handle.now }
-    requires unlocked { IsUnlocked frame.old }
-    ensures { BeginsLate frame.old frame.new handle.now.place result }
-{
-    for _ in rt.forever() {
-        if let Some(block) = frame.begin(handle) {
-            return block;
-        }
-        yield_now();
-    }
-    unreachable!()
-}
 
 /// What kind of object the handle is a reference to. It waits while another thread has it locked.
 pub fn kind_of<H: Home<A>, A: Allocator>(

@@ -4,7 +4,7 @@ use Rattle.brc_block.specs.declared.payload.Payload.{Payload}
 use Rattle.brc_runs.specs.declared.event.Source.{Source}
 use Rattle.brc_count.specs.Frames.{FrameSeen, HandleSeen, IsUnlocked, Owns, Given, ReleasedOf}
 use Rattle.brc_count.specs.Locking.{cell_in, KeepsThread, KeepsFrame, Began}
-use Rattle.brc_containers.proofs.Kept.{thread_kept_on, frame_kept_on}
+use Rattle.brc_lock.proofs.Kept.{thread_kept_on, frame_kept_on}
 use Rattle.brc_lives.specs.Handles.{Gains, Loses, HasLocked}
 
 none_filled : {X : Type 0} {o : Option X} → is_some o ≡ true → o ≡ None → ⊥

@@ -1,4 +1,4 @@
-use Rattle.brc_containers.proofs.Kept.{thread_kept, thread_kept_on, frame_kept, frame_kept_on}
+use Rattle.brc_lock.proofs.Kept.{thread_kept, thread_kept_on, frame_kept, frame_kept_on}
 use Rattle.brc_lives.proofs.Handles.{owns_kept, has_locked}
 use Rattle.brc_lives.proofs.globals.globals_locked.Goals as goal
 
