@@ -2,6 +2,8 @@
 use Rattle.std.proofs.Common.{◌≡◌, ◌≢◌, ◌<◌, ◌≤◌, ◌++◌, ℕ, true, false, List, [], ◌∷◌, Option, Some, None, Result, Ok, Err, refl, sym, ◌∙◌, ap, subst, length, map, slice_get, slice_set, remove}
 use Rattle.std.proofs.lemmas.Bool.{lt-ltb, le-ltb}
 use Rattle.std.proofs.lemmas.List.{map-append, length-map}
+use Rattle.std.proofs.lemmas.Option.{slice_get_within}
+use Rattle.brc_plain.specs.Outcomes.{leaving}
 use Rattle.std.specs.Result.{is_ok}
 use Rattle.brc_words.specs.declared.fault.Fault.{Fault}
 use Rattle.brc_words.specs.declared.fault.Fault.TheVariants as faults
@@ -90,6 +92,9 @@ module _ {A : Type 0} where
       → plain_put key value (contents_of (payloads.Dict pairs)) ≡ leaving_dict (dicts.put pairs.items key value)
   plain_put_is key value pairs = ap (λ ps. leaving_dict (dicts.put ps key value)) (pairs_back pairs.items)
 
+  pairs_long : (old : Payload A) (pairs : Row (Key A × ℕ)) → old ≡ payloads.Dict pairs → length (entries_of old) ≡ length pairs.items
+  pairs_long old pairs is = ap (λ p. length (entries_of p)) is ∙ length-map pairs.items (λ (pair : Key A × ℕ). pair.1)
+
   -- two dictionaries with the same keys and cells show the same
   same_shown : (pairs left : List (Key A × ℕ)) → keys_in pairs ≡ keys_in left → cells_in pairs ≡ cells_in left → dict_of left ≡ dict_of pairs
   same_shown pairs left keys cells = ap dict_of (sym (same_columns pairs left keys cells))
@@ -109,3 +114,116 @@ module _ {A : Type 0} where
       ∙ plain_put_is key value before
       ∙ ap leaving_dict (replaces key value cell before.items (beside_is key before.items index cell there.stands there.beside))
       ∙ ap (λ d. Ok (Some cell, d)) (same_shown after.items (replaced key value before.items) same_keys same_cells ∙ ap contents_of (sym is))
+
+  pub put_new : (key : Key A) (value : ℕ) (old new : Payload A) → IsAbsent old key → length (entries_of old) < MOST_ENTRIES
+      → kind_of new ≡ kind_of old → keys_of new ≡ keys_of old ++ key ∷ [] → entries_of new ≡ entries_of old ++ value ∷ []
+      → plain_put key value (contents_of old) ≡ Ok (None, contents_of new)
+  put_new key value old new absent few kind keys entries =
+      let before = absent.pairs in
+      let (after, is) = dict_is new (kind ∙ ap kind_of absent.is) in
+      let room : length before.items < MOST_ENTRIES = subst (λ n. n < MOST_ENTRIES) (pairs_long old before absent.is) few in
+      let same_keys : keys_in after.items ≡ keys_in (before.items ++ (key, value) ∷ []) =
+      ap keys_of (sym is) ∙ keys ∙ ap (λ p. keys_of p ++ key ∷ []) absent.is ∙ sym (map-append (λ pair. pair.0) before.items ((key, value) ∷ [])) in
+      let same_cells : cells_in after.items ≡ cells_in (before.items ++ (key, value) ∷ []) =
+      ap entries_of (sym is) ∙ entries ∙ ap (λ p. entries_of p ++ value ∷ []) absent.is
+      ∙ sym (map-append (λ pair. pair.1) before.items ((key, value) ∷ [])) in
+      ap (λ p. plain_put key value (contents_of p)) absent.is
+      ∙ plain_put_is key value before
+      ∙ ap leaving_dict (appends key value before.items absent.none room)
+      ∙ ap (λ d. Ok (None, d)) (same_shown after.items (before.items ++ (key, value) ∷ []) same_keys same_cells ∙ ap contents_of (sym is))
+
+  pub put_full : (key : Key A) (value : ℕ) (old : Payload A) → IsAbsent old key → MOST_ENTRIES ≤ length (entries_of old)
+      → plain_put key value (contents_of old) ≡ Err faults.Full
+  put_full key value old absent full =
+      let before = absent.pairs in
+      ap (λ p. plain_put key value (contents_of p)) absent.is
+      ∙ plain_put_is key value before
+      ∙ ap leaving_dict (fills key value before.items absent.none (subst (λ n. MOST_ENTRIES ≤ n) (pairs_long old before absent.is) full))
+
+  pub put_may : (key : Key A) (value : ℕ) (old : Payload A) → IsAbsent old key → length (entries_of old) < MOST_ENTRIES
+      → is_ok (plain_put key value (contents_of old)) ≡ true
+  put_may key value old absent few =
+      let before = absent.pairs in
+      ap (λ p. is_ok (plain_put key value (contents_of p))) absent.is
+      ∙ ap is_ok (plain_put_is key value before)
+      ∙ ap (λ r. is_ok (leaving_dict r)) (appends key value before.items absent.none (subst (λ n. n < MOST_ENTRIES) (pairs_long old before absent.is) few))
+
+  pub put_may_there : (key : Key A) (value : ℕ) (old : Payload A) (index cell : ℕ) → IsThere old key index cell
+      → is_ok (plain_put key value (contents_of old)) ≡ true
+  put_may_there key value old index cell there =
+      let before = there.pairs in
+      ap (λ p. is_ok (plain_put key value (contents_of p))) there.is
+      ∙ ap is_ok (plain_put_is key value before)
+      ∙ ap (λ r. is_ok (leaving_dict r)) (replaces key value cell before.items (beside_is key before.items index cell there.stands there.beside))
+
+  pub put_wrong : (key : Key A) (value : ℕ) (old : Payload A) → kind_of old ≢ kinds.Dict
+      → plain_put key value (contents_of old) ≡ Err faults.WrongKind
+  put_wrong key value (payloads.Dict pairs) other = absurd (other refl)
+  put_wrong key value _ other = refl
+
+  pub find_there : (key : Key A) (old : Payload A) (index cell : ℕ) → IsThere old key index cell
+      → plain_find key (contents_of old) ≡ Ok (cell, contents_of old)
+  find_there key old index cell there =
+      let before = there.pairs in
+      ap (λ p. plain_find key (contents_of p)) there.is
+      ∙ ap (λ ps. leaving (contents_of (payloads.Dict before)) (dicts.find ps key)) (pairs_back before.items)
+      ∙ ap (leaving (contents_of (payloads.Dict before))) (finds key cell before.items (beside_is key before.items index cell there.stands there.beside))
+      ∙ ap (λ p. Ok (cell, contents_of p)) (sym there.is)
+
+  pub find_absent : (key : Key A) (old : Payload A) → IsAbsent old key → plain_find key (contents_of old) ≡ Err faults.NoSuchKey
+  find_absent key old absent =
+      let before = absent.pairs in
+      ap (λ p. plain_find key (contents_of p)) absent.is
+      ∙ ap (λ ps. leaving (contents_of (payloads.Dict before)) (dicts.find ps key)) (pairs_back before.items)
+      ∙ ap (leaving (contents_of (payloads.Dict before))) (misses key before.items absent.none)
+
+  pub find_wrong : (key : Key A) (old : Payload A) → kind_of old ≢ kinds.Dict → plain_find key (contents_of old) ≡ Err faults.WrongKind
+  find_wrong key (payloads.Dict pairs) other = absurd (other refl)
+  find_wrong key _ other = refl
+
+  pub del_there : (key : Key A) (old new : Payload A) (index cell : ℕ) → IsThere old key index cell
+      → kind_of new ≡ kind_of old → keys_of new ≡ remove (keys_of old) index → entries_of new ≡ remove (entries_of old) index
+      → plain_del key (contents_of old) ≡ Ok (cell, contents_of new)
+  del_there key old new index cell there kind keys entries =
+      let before = there.pairs in
+      let (after, is) = dict_is new (kind ∙ ap kind_of there.is) in
+      let same_keys : keys_in after.items ≡ keys_in (without key before.items) =
+      ap keys_of (sym is) ∙ keys ∙ ap (λ p. remove (keys_of p) index) there.is ∙ sym (without_keys key before.items index there.stands) in
+      let same_cells : cells_in after.items ≡ cells_in (without key before.items) =
+      ap entries_of (sym is) ∙ entries ∙ ap (λ p. remove (entries_of p) index) there.is ∙ sym (without_cells key before.items index there.stands) in
+      ap (λ p. plain_del key (contents_of p)) there.is
+      ∙ ap (λ ps. leaving_dict (dicts.delete ps key)) (pairs_back before.items)
+      ∙ ap leaving_dict (deletes key cell before.items (beside_is key before.items index cell there.stands there.beside))
+      ∙ ap (λ d. Ok (cell, d)) (same_shown after.items (without key before.items) same_keys same_cells ∙ ap contents_of (sym is))
+
+  pub del_may : (key : Key A) (old : Payload A) (index cell : ℕ) → IsThere old key index cell → is_ok (plain_del key (contents_of old)) ≡ true
+  del_may key old index cell there =
+      let before = there.pairs in
+      ap (λ p. is_ok (plain_del key (contents_of p))) there.is
+      ∙ ap (λ ps. is_ok (leaving_dict (dicts.delete ps key))) (pairs_back before.items)
+      ∙ ap (λ r. is_ok (leaving_dict r)) (deletes key cell before.items (beside_is key before.items index cell there.stands there.beside))
+
+  pub del_absent : (key : Key A) (old : Payload A) → IsAbsent old key → plain_del key (contents_of old) ≡ Err faults.NoSuchKey
+  del_absent key old absent =
+      let before = absent.pairs in
+      ap (λ p. plain_del key (contents_of p)) absent.is
+      ∙ ap (λ ps. leaving_dict (dicts.delete ps key)) (pairs_back before.items)
+      ∙ ap leaving_dict (deletes_none key before.items absent.none)
+
+  pub del_wrong : (key : Key A) (old : Payload A) → kind_of old ≢ kinds.Dict → plain_del key (contents_of old) ≡ Err faults.WrongKind
+  del_wrong key (payloads.Dict pairs) other = absurd (other refl)
+  del_wrong key _ other = refl
+
+  -- ---- the entry that was found
+
+  pub entry_there : (old : Payload A) (key : Key A) (index cell : ℕ) → IsThere old key index cell → slice_get (entries_of old) index ≡ Some cell
+  entry_there old key index cell there = ap (λ p. slice_get (entries_of p) index) there.is ∙ there.beside
+
+  pub entry_within : (old : Payload A) (key : Key A) (index cell : ℕ) → IsThere old key index cell → index < length (entries_of old)
+  entry_within old key index cell there = slice_get_within (entries_of old) index cell (entry_there old key index cell there)
+
+  pub there_dict : (old : Payload A) (key : Key A) (index cell : ℕ) → IsThere old key index cell → kind_of old ≡ kinds.Dict
+  there_dict old key index cell there = ap kind_of there.is
+
+  pub absent_dict : (old : Payload A) (key : Key A) → IsAbsent old key → kind_of old ≡ kinds.Dict
+  absent_dict old key absent = ap kind_of absent.is

@@ -11,6 +11,7 @@ use Rattle.brc_rule.specs.declared.contents.PlainKey.TheVariants as plain
 use Rattle.brc_rule.specs.declared.contents.Contents.{Contents}
 use Rattle.brc_rule.specs.declared.contents.Contents.TheVariants.{Dict}
 use Rattle.brc_table.specs.Shown.{plain_key}
+use Rattle.brc_containers.specs.Changing.{PlainCall}
 
 module _ {A : Type 0} where
   -- the key that is shown so
@@ -31,16 +32,16 @@ module _ {A : Type 0} where
   leaving_dict (Err fault) = Err fault
 
   -- the value goes beside the key; the answer is the one that stood there
-  abbrev pub plain_put : Key A → ℕ → Contents → Result (Option ℕ × Contents) Fault
+  abbrev pub plain_put : Key A → ℕ → PlainCall (Option ℕ)
   plain_put key value (Dict shown) = leaving_dict (dicts.put (pairs_of shown) key value)
   plain_put key value _ = Err faults.WrongKind
 
   -- the value beside the key
-  abbrev pub plain_find : Key A → Contents → Result (ℕ × Contents) Fault
+  abbrev pub plain_find : Key A → PlainCall ℕ
   plain_find key (Dict shown) = leaving (Dict shown) (dicts.find (pairs_of shown) key)
   plain_find key _ = Err faults.WrongKind
 
   -- the value beside the key, and the pair goes
-  abbrev pub plain_del : Key A → Contents → Result (ℕ × Contents) Fault
+  abbrev pub plain_del : Key A → PlainCall ℕ
   plain_del key (Dict shown) = leaving_dict (dicts.delete (pairs_of shown) key)
   plain_del key _ = Err faults.WrongKind
