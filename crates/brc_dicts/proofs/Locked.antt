@@ -1,5 +1,5 @@
 -- A call on an object that is locked, as one from the frame that the locking began from.
-use Rattle.std.proofs.Common.{◌≡◌, ◌≢◌, ◌+◌, ◌<◌, ◌≤◌, ℕ, true, ◌∷◌, Option, Some, None, Ok, Err, refl, sym, ◌∙◌, ap, subst, slice_get}
+use Rattle.std.proofs.Common.{◌≡◌, ◌≢◌, ◌+◌, ◌<◌, ◌≤◌, ◌++◌, ℕ, true, [], ◌∷◌, Option, Some, None, Ok, Err, refl, sym, ◌∙◌, ap, subst, length, slice_get, slice_set}
 use Rattle.std.specs.Result.{is_ok}
 use Rattle.brc_words.specs.declared.fault.Fault.{Fault}
 use Rattle.brc_words.specs.declared.fault.Fault.TheVariants as faults
@@ -22,7 +22,11 @@ use Rattle.brc_containers.specs.Handles.{Gains}
 use Rattle.brc_containers.proofs.Kept.{thread_kept_on}
 use Rattle.brc_containers.proofs.Owning.{taken_gains}
 use Rattle.brc_dicts.specs.Since.{HasLocked}
-use Rattle.brc_dicts.proofs.Shown.{entries_shown}
+use Rattle.brc_dicts.specs.Plain.{plain_put}
+use Rattle.brc_dicts.specs.Putting.{RefusedRoom}
+use Rattle.brc_dicts.specs.Seeking.{IsAbsent}
+use Rattle.brc_dicts.proofs.Shown.{entries_shown, put_full, put_may}
+use Rattle.brc_words.specs.declared.key.Key.{Key}
 use Rattle.brc_dicts.proofs.Sharing.{given_keeps}
 
 -- the object was locked; since then a place more may need no memory
@@ -203,3 +207,40 @@ module _ {A : Type 0} where
     len = len ∙ was.places.len;
   }
 
+
+-- ---- puts
+
+same_cell : {a b : ℕ} → Some a ≡ Some b → a ≡ b
+same_cell same = cc
+
+module _ {A : Type 0} where
+  -- what an unlocking put home is what was found
+  pub ended_same : (now new : FrameSeen A) (change : Change) (block : ℕ × Payload A) (left : Payload A) → Ended now new change (block.0, left)
+      → left ≡ block.1 → Ended now new change block
+  ended_same now new change block left ended same =
+      let P : Payload A → Type 0 = λ p. Ended now new change (block.0, p) in
+      subst P same ended
+
+  -- room for a new key was refused
+  pub refused_append : (before now new : FrameSeen A) (k : ℕ) (block : ℕ × Payload A) (key : Key A) (value : ℕ) (fault : Fault)
+      → Stood before now k block → Ended now new Keep block → IsAbsent block.1 key → RefusedRoom (length (entries_of block.1)) fault
+      → RefusedEntry before new k (plain_put key value) fault
+  refused_append before now new k block key value faults.Full was ended absent full =
+      refused_plainly before now new k block (plain_put key value) faults.Full was ended (put_full key value block.1 absent full)
+  refused_append before now new k block key value faults.OutOfMemory was ended absent few =
+      refused_for_want before now new k block (plain_put key value) was ended (put_may key value block.1 absent few)
+  refused_append before now new k block key value _ was ended absent none = absurd none
+
+  -- the entries that a put leaves, by the cell of the value
+  pub entries_put : (now : FrameSeen A) (old left : Payload A) (cell value : ℕ) → contents_found now ≡ contents_of old
+      → entries_of left ≡ entries_of old ++ cell ∷ [] → Some cell ≡ Some value → entries_in (contents_of left) ≡ entries_found now ++ value ∷ []
+  entries_put now old left cell value found more same =
+      entries_shown left ∙ more ∙ ap (λ es. es ++ cell ∷ []) (sym (entries_are now old found))
+      ∙ ap (λ c. entries_found now ++ c ∷ []) (same_cell same)
+
+  pub entries_set : (now : FrameSeen A) (old left : Payload A) (index place cell value : ℕ) → contents_found now ≡ contents_of old
+      → entries_of left ≡ slice_set (entries_of old) index cell → place ≡ index → Some cell ≡ Some value
+      → entries_in (contents_of left) ≡ slice_set (entries_found now) place value
+  entries_set now old left index place cell value found set at same =
+      entries_shown left ∙ set ∙ ap (λ es. slice_set es index cell) (sym (entries_are now old found))
+      ∙ ap (λ i. slice_set (entries_found now) i cell) (sym at) ∙ ap (slice_set (entries_found now) place) (same_cell same)
