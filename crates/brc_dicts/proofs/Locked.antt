@@ -1,5 +1,5 @@
 -- A call on an object that is locked, as one from the frame that the locking began from.
-use Rattle.std.proofs.Common.{◌≡◌, ◌≢◌, ◌+◌, ◌<◌, ◌≤◌, ◌++◌, ℕ, true, [], ◌∷◌, Option, Some, None, Ok, Err, refl, sym, ◌∙◌, ap, subst, length, slice_get, slice_set}
+use Rattle.std.proofs.Common.{◌≡◌, ◌+◌, ◌<◌, ◌≤◌, ◌++◌, ℕ, true, [], ◌∷◌, Option, Some, None, Ok, Err, sym, ◌∙◌, ap, subst, length, slice_get, slice_set}
 use Rattle.std.specs.Result.{is_ok}
 use Rattle.brc_words.specs.declared.fault.Fault.{Fault}
 use Rattle.brc_words.specs.declared.fault.Fault.TheVariants as faults
@@ -15,12 +15,10 @@ use Rattle.brc_rule.specs.declared.told.Moved.TheVariants as moves
 use Rattle.brc_rule.specs.declared.told.Told.TheVariants.{Did}
 use Rattle.brc_rule.specs.Logs.{entries_in}
 use Rattle.brc_table.specs.Shown.{contents_of}
-use Rattle.brc_count.specs.Frames.{FrameSeen, HandleSeen, Given, Refused, IsAsBefore, IsUnlocked}
-use Rattle.brc_count.specs.Locking.{Began, Ended, KeepsThread, KeepsFrame, ChangesPlace, cell_in, contents_found, entries_found}
+use Rattle.brc_count.specs.Frames.{FrameSeen, HandleSeen, Given, Refused, IsAsBefore}
+use Rattle.brc_count.specs.Locking.{Began, Ended, KeepsThread, ChangesPlace, cell_in, contents_found, entries_found}
 use Rattle.brc_containers.specs.Changing.{PlainCall, Changes, KeepsPlaces, Puts, Swaps, Takes, Shares, RefusedPlainly, RefusedForWant, RefusedEntry, RefusedPlace}
-use Rattle.brc_containers.specs.Handles.{Gains}
 use Rattle.brc_containers.proofs.Kept.{thread_kept_on}
-use Rattle.brc_containers.proofs.Owning.{taken_gains}
 use Rattle.brc_dicts.specs.Since.{HasLocked}
 use Rattle.brc_dicts.specs.Plain.{plain_put}
 use Rattle.brc_dicts.specs.Putting.{RefusedRoom}
@@ -206,7 +204,6 @@ module _ {A : Type 0} where
     places = places_since before now new v (Some cell) was.places places;
     len = len ∙ was.places.len;
   }
-
 
 -- ---- puts
 

@@ -1,5 +1,5 @@
 -- Counting up an entry of a locked object leaves the thread as it is.
-use Rattle.std.proofs.Common.{◌≡◌, ℕ, inl, inr, arith, List, [], ◌∷◌, Option, Some, None, refl, sym, ◌∙◌, ap}
+use Rattle.std.proofs.Common.{◌≡◌, ℕ, inl, inr, arith, List, [], ◌∷◌, Option, Some, None, refl, ◌∙◌, ap}
 use Rattle.std.proofs.lemmas.Bool.{cases_lt}
 use Rattle.brc_words.specs.declared.limits.TheConstants.{FIRST_MORTAL}
 use Rattle.brc_runs.specs.declared.event.Source.{Source}
@@ -10,7 +10,7 @@ use Rattle.brc_rule.specs.declared.told.Told.{Told}
 use Rattle.brc_rule.specs.declared.told.Told.TheVariants.{Did}
 use Rattle.brc_rule.specs.Seen.{part_seen, counts_seen}
 use Rattle.brc_table.specs.Seated.{TableSeen}
-use Rattle.brc_count.specs.Frames.{FrameSeen, HandleSeen, Given, CountsUp, popped_seen}
+use Rattle.brc_count.specs.Frames.{FrameSeen, HandleSeen, Given, CountsUp}
 use Rattle.brc_count.specs.Locking.{KeepsThread}
 
 -- counting up is one step

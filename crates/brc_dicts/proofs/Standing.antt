@@ -1,8 +1,7 @@
 -- Where a key stands among pairs, and what the plain calls make of them, by their keys and their cells.
-use Rattle.std.proofs.Common.{◌≡◌, ◌≢◌, ◌<◌, ◌++◌, ℕ, zero, suc, Bool, true, false, List, [], ◌∷◌, All, Some, None, refl, sym, ◌∙◌, ap, subst, arith, length, map, take, slice_get, slice_set, remove}
+use Rattle.std.proofs.Common.{◌≡◌, ◌≢◌, ℕ, zero, suc, Bool, true, false, List, [], ◌∷◌, All, Some, None, refl, sym, ◌∙◌, ap, subst, arith, take, slice_get, slice_set, remove}
 use Rattle.std.proofs.lemmas.Bool.Decides.{Decides-int_eq}
 use Rattle.std.proofs.lemmas.Slice.Eq.{bytes_eq-Decides}
-use Rattle.std.proofs.lemmas.List.{map-append}
 use Rattle.brc_words.specs.declared.key.Key.{Key}
 use Rattle.brc_words.specs.declared.key.Key.TheVariants.{Int, Text}
 use Rattle.brc_block.specs.Pairs.{keys_in, cells_in}

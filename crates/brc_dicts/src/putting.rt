@@ -24,6 +24,7 @@ use std::alloc::Allocator;
 use std::sync::Wait;
 
 /// Makes room for one more pair: Full where a dictionary has as many as it may, then OutOfMemory.
+#[inline]
 fn make_room<A: Allocator>(payload: &mut Payload<A>) -> Result<(), Fault>
     requires dict { kind_of payload.old ≡ kinds.Dict }
     ensures kind { kind_of payload.new ≡ kind_of payload.old }
@@ -108,10 +109,12 @@ fn replace_locked<H: Home<A>, A: Allocator>(
         frame.end_keep(block);
         return Err((Fault::OutOfMemory, (key, value)));
     };
-    drop(key);
     let cell = frame.cell(&value);
     block.payload_mut().set(index, cell);
-    Ok(Some(frame.end_swap(block, place, entry, value)))
+    let old = frame.end_swap(block, place, entry, value);
+    // The key's memory goes once the lock is free.
+    drop(key);
+    Ok(Some(old))
 }
 
 /// A put into the dictionary that is locked, and its unlocking.

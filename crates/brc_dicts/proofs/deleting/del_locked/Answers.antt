@@ -1,9 +1,9 @@
-use Rattle.std.proofs.Common.{◌<◌, subst, sym, ◌∙◌, ap, Some, slice_get, remove}
+use Rattle.std.proofs.Common.{◌<◌, subst, sym, ◌∙◌, ap, slice_get, remove}
 use Rattle.brc_words.specs.declared.limits.TheConstants.{MOST_PLACES}
 use Rattle.brc_block.specs.Payload.{entries_of, keys_of, kind_of}
 use Rattle.brc_dicts.specs.Seeking.{IsThere, IsAbsent}
 use Rattle.brc_dicts.specs.Plain.{plain_del}
-use Rattle.brc_dicts.proofs.Shown.{del_there, del_may, del_absent, entry_there, entry_within, entries_shown, kind_shown}
+use Rattle.brc_dicts.proofs.Shown.{del_there, del_may, del_absent, entry_there, entry_within, entries_shown}
 use Rattle.brc_dicts.proofs.Locked.{stood, stood_placed, found_placed, entry_found, entries_are, refused_plainly, refused_for_want, refused_place, takes_since}
 use Rattle.brc_dicts.proofs.deleting.del_locked.Goals as goal
 

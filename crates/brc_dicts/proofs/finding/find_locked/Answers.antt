@@ -1,8 +1,7 @@
-use Rattle.std.proofs.Common.{◌<◌, subst, sym, ◌∙◌, ap, Ok, Some, slice_get}
+use Rattle.std.proofs.Common.{◌<◌, subst, ◌∙◌, ap, slice_get}
 use Rattle.std.specs.Result.{is_ok}
 use Rattle.brc_words.specs.declared.limits.TheConstants.{MOST_PLACES}
 use Rattle.brc_block.specs.Payload.{entries_of}
-use Rattle.brc_count.specs.Frames.{FrameSeen}
 use Rattle.brc_dicts.specs.Seeking.{IsThere, IsAbsent}
 use Rattle.brc_dicts.specs.Plain.{plain_find}
 use Rattle.brc_dicts.proofs.Shown.{find_there, find_absent, entry_there}

@@ -3,7 +3,7 @@ use Rattle.brc_words.specs.declared.limits.TheConstants.{MOST_ENTRIES}
 use Rattle.brc_block.specs.Payload.{entries_of, keys_of, kind_of}
 use Rattle.brc_dicts.specs.Plain.{plain_put}
 use Rattle.brc_dicts.specs.Putting.{RefusedRoom}
-use Rattle.brc_dicts.proofs.Shown.{put_new, absent_dict}
+use Rattle.brc_dicts.proofs.Shown.{put_new}
 use Rattle.brc_dicts.proofs.Locked.{stood, ended_same, refused_append, entries_put, puts_since}
 use Rattle.brc_dicts.proofs.putting.append_locked.Goals as goal
 
