@@ -1,0 +1,4 @@
+pub mod Standing
+pub mod Shown
+pub mod Locked
+pub mod Sharing

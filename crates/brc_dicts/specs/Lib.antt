@@ -1,0 +1,4 @@
+pub mod Plain
+pub mod Seeking
+pub mod Since
+pub mod Putting

@@ -1,0 +1,47 @@
+-- The calls on dictionaries as calls on plain data: those of `brc_plain`, on the pairs of an object's contents.
+use Rattle.std.specs.Prelude.{ℕ, List, map, Option, Result, Ok, Err}
+use Rattle.brc_words.specs.declared.fault.Fault.{Fault}
+use Rattle.brc_words.specs.declared.fault.Fault.TheVariants as faults
+use Rattle.brc_words.specs.declared.key.Key.{Key}
+use Rattle.brc_words.specs.declared.key.Key.TheVariants as keys
+use Rattle.brc_plain.specs.Dicts as dicts
+use Rattle.brc_plain.specs.Outcomes.{leaving}
+use Rattle.brc_rule.specs.declared.contents.PlainKey.{PlainKey}
+use Rattle.brc_rule.specs.declared.contents.PlainKey.TheVariants as plain
+use Rattle.brc_rule.specs.declared.contents.Contents.{Contents}
+use Rattle.brc_rule.specs.declared.contents.Contents.TheVariants.{Dict}
+use Rattle.brc_table.specs.Shown.{plain_key}
+use Rattle.brc_containers.specs.Changing.{PlainCall}
+
+module _ {A : Type 0} where
+  -- the key that is shown so
+  abbrev pub key_of : PlainKey → Key A
+  key_of (plain.Int number) = keys.Int number
+  key_of (plain.Text text) = keys.Text text
+
+  -- a dictionary's pairs, from its contents and to them
+  abbrev pub pairs_of : List (PlainKey × ℕ) → List (Key A × ℕ)
+  pairs_of shown = map (λ (pair : PlainKey × ℕ). (key_of pair.0, pair.1)) shown
+
+  abbrev pub dict_of : List (Key A × ℕ) → Contents
+  dict_of pairs = Dict (map (λ (pair : Key A × ℕ). (plain_key pair.0, pair.1)) pairs)
+
+  -- what a call leaves is a dictionary's contents
+  abbrev pub leaving_dict : {R : Type 0} → Result (R × List (Key A × ℕ)) Fault → Result (R × Contents) Fault
+  leaving_dict (Ok done) = Ok (done.0, dict_of done.1)
+  leaving_dict (Err fault) = Err fault
+
+  -- the value goes beside the key; the answer is the one that stood there
+  abbrev pub plain_put : Key A → ℕ → PlainCall (Option ℕ)
+  plain_put key value (Dict shown) = leaving_dict (dicts.put (pairs_of shown) key value)
+  plain_put key value _ = Err faults.WrongKind
+
+  -- the value beside the key
+  abbrev pub plain_find : Key A → PlainCall ℕ
+  plain_find key (Dict shown) = leaving (Dict shown) (dicts.find (pairs_of shown) key)
+  plain_find key _ = Err faults.WrongKind
+
+  -- the value beside the key, and the pair goes
+  abbrev pub plain_del : Key A → PlainCall ℕ
+  plain_del key (Dict shown) = leaving_dict (dicts.delete (pairs_of shown) key)
+  plain_del key _ = Err faults.WrongKind

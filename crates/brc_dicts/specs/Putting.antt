@@ -1,0 +1,34 @@
+-- What a put does to a frame and to its handles.
+use Rattle.std.specs.Prelude.{◌≡◌, ◌≤◌, ◌<◌, ℕ, Option, Some, None}
+use Rattle.brc_words.specs.declared.fault.Fault.{Fault}
+use Rattle.brc_words.specs.declared.fault.Fault.TheVariants as faults
+use Rattle.brc_words.specs.declared.key.Key.{Key}
+use Rattle.brc_words.specs.declared.limits.TheConstants.{MOST_ENTRIES}
+use Rattle.brc_count.specs.Frames.{FrameSeen, HandleSeen}
+use Rattle.brc_count.specs.Locking.{cell_in}
+use Rattle.brc_containers.specs.Changing.{Puts, Swaps, RefusedEntry}
+use Rattle.brc_containers.specs.Handles.{Keeps, Loses}
+use Rattle.brc_dicts.specs.Plain.{plain_put}
+
+-- room for one more is refused to a container of so many entries
+abbrev pub RefusedRoom : ℕ → Fault → Type 0
+RefusedRoom entries faults.Full = MOST_ENTRIES ≤ entries
+RefusedRoom entries faults.OutOfMemory = entries < MOST_ENTRIES
+RefusedRoom entries _ = ⊥
+
+module _ {A : Type 0} where
+  -- With a new key the reference of the value's handle went in. Beside a key that was there it was exchanged: the same handle
+  -- has the old value's reference now.
+  abbrev pub HasPut : FrameSeen A → FrameSeen A → ℕ → Key A → HandleSeen → Option HandleSeen → Type 0
+  HasPut old new k key value None = Puts old new k value.place (plain_put key) None
+  HasPut old new k key value (Some given) = (given ≡ value) × Swaps old new k value.place (plain_put key) Some
+
+  -- with a new key the frame has the value's handle no more; else it owns what it owned
+  abbrev pub OwnsPut : FrameSeen A → FrameSeen A → HandleSeen → Option HandleSeen → Type 0
+  OwnsPut old new value None = Loses old new value
+  OwnsPut old new value (Some given) = Keeps old new
+
+  -- why it was refused, by the cell of the value
+  abbrev pub RefusedPut : FrameSeen A → FrameSeen A → ℕ → Key A → HandleSeen → Fault → Type 0
+  RefusedPut old new k key value fault =
+      (c : ℕ) → cell_in old value.place ≡ Some c → RefusedEntry old new k (plain_put key c) fault

@@ -1,0 +1,208 @@
+//! A value goes beside a key.
+
+ghost use Rattle.std.specs.Prelude.{◌≡◌, ◌≢◌, ◌<◌, Some, None, IfOk, IfErr, OnOk, OnErr, length};
+ghost use Rattle.brc_words.specs.declared.fault.Fault.TheVariants as faults;
+ghost use Rattle.brc_words.specs.declared.kind.Kind.TheVariants as kinds;
+ghost use Rattle.brc_words.specs.declared.limits.TheConstants.{MOST_ENTRIES};
+ghost use Rattle.brc_block.specs.Payload.{kind_of, entries_of, keys_of, spare_of};
+ghost use Rattle.brc_table.specs.Shown.{contents_of};
+ghost use Rattle.brc_count.specs.Frames.{IsUnlocked, Owns};
+ghost use Rattle.brc_count.specs.Locking.{IsLocked, cell_locked, place_locked, contents_found, KeepsThread, KeepsFrame};
+ghost use Rattle.brc_containers.specs.Changing.{Late};
+ghost use Rattle.brc_containers.specs.Handles.{Keeps};
+ghost use Rattle.brc_dicts.specs.Putting.{RefusedRoom, HasPut, OwnsPut, RefusedPut};
+ghost use Rattle.brc_dicts.specs.Seeking.{IsThere, IsAbsent};
+ghost use Rattle.brc_dicts.specs.Since.{Since};
+
+use crate::seeking::{Sought, seek};
+use brc_block::{Block, Payload};
+use brc_lock::begin_late;
+use brc_count::{Frame, Handle};
+use brc_counter::Home;
+use brc_words::{Fault, Key, MOST_ENTRIES};
+use std::alloc::Allocator;
+use std::sync::Wait;
+
+/// Makes room for one more pair: Full where a dictionary has as many as it may, then OutOfMemory.
+#[inline]
+fn make_room<A: Allocator>(payload: &mut Payload<A>) -> Result<(), Fault>
+    requires dict { kind_of payload.old ≡ kinds.Dict }
+    ensures kind { kind_of payload.new ≡ kind_of payload.old }
+    ensures entries { entries_of payload.new ≡ entries_of payload.old }
+    ensures keys { keys_of payload.new ≡ keys_of payload.old }
+    ensures room { OnOk result (0 < spare_of payload.new) }
+    ensures few { OnOk result (length (entries_of payload.old) < MOST_ENTRIES) }
+    ensures refused { IfErr result (RefusedRoom (length (entries_of payload.old))) }
+    ensures unchanged { OnErr result (payload.new ≡ payload.old) }
+{
+    if payload.len() >= MOST_ENTRIES as usize {
+        return Err(Fault::Full);
+    }
+    match payload.reserve() {
+        Ok(()) => Ok(()),
+        Err(_refused) => Err(Fault::OutOfMemory),
+    }
+}
+
+/// A new key goes into the dictionary that is locked, at the end, with the value.
+fn append_locked<H: Home<A>, A: Allocator>(
+    frame: &mut Frame<H, A>,
+    mut block: Block<A>,
+    key: Key<A>,
+    value: Handle,
+) -> Result<Option<Handle>, (Fault, (Key<A>, Handle))>
+    requires locked { IsLocked frame.old }
+    requires of_cell { cell_locked frame.old ≡ Some block.0 }
+    requires found { contents_found frame.old ≡ contents_of block.1 }
+    requires value_owned { Owns frame.old value }
+    requires apart { place_locked frame.old ≢ Some value.place }
+    requires absent { IsAbsent block.1 key }
+    ensures thread { KeepsThread frame.old frame.new }
+    ensures unlocked { IsUnlocked frame.new }
+    ensures put { IfOk result (λ answer. Since frame.old block
+        (λ before k. HasPut before frame.new k key value answer)) }
+    ensures owns { IfOk result (OwnsPut frame.old frame.new value) }
+    ensures back { IfErr result (λ refused. refused.1 ≡ (key, value)) }
+    ensures frame { IfErr result (λ refused. KeepsFrame frame.old frame.new) }
+    ensures refused { IfErr result (λ refused. Since frame.old block
+        (λ before k. RefusedPut before frame.new k key value refused.0)) }
+    ensures waits { IfErr result (λ refused. refused.0 ≢ faults.Busy) }
+{
+    let cell = frame.cell(&value);
+    if let Err(fault) = make_room(block.payload_mut()) {
+        frame.end_keep(block);
+        return Err((fault, (key, value)));
+    }
+    block.payload_mut().put_pair_reserved(key, cell);
+    frame.end_put(block, value);
+    Ok(None)
+}
+
+/// The value goes beside a key that is there, in the dictionary that is locked. It takes no memory.
+fn replace_locked<H: Home<A>, A: Allocator>(
+    frame: &mut Frame<H, A>,
+    mut block: Block<A>,
+    key: Key<A>,
+    value: Handle,
+    index: usize,
+    entry: u32,
+) -> Result<Option<Handle>, (Fault, (Key<A>, Handle))>
+    requires locked { IsLocked frame.old }
+    requires of_cell { cell_locked frame.old ≡ Some block.0 }
+    requires found { contents_found frame.old ≡ contents_of block.1 }
+    requires value_owned { Owns frame.old value }
+    requires apart { place_locked frame.old ≢ Some value.place }
+    requires there { IsThere block.1 key index entry }
+    ensures thread { KeepsThread frame.old frame.new }
+    ensures unlocked { IsUnlocked frame.new }
+    ensures put { IfOk result (λ answer. Since frame.old block
+        (λ before k. HasPut before frame.new k key value answer)) }
+    ensures owns { IfOk result (OwnsPut frame.old frame.new value) }
+    ensures back { IfErr result (λ refused. refused.1 ≡ (key, value)) }
+    ensures frame { IfErr result (λ refused. KeepsFrame frame.old frame.new) }
+    ensures refused { IfErr result (λ refused. Since frame.old block
+        (λ before k. RefusedPut before frame.new k key value refused.0)) }
+    ensures waits { IfErr result (λ refused. refused.0 ≢ faults.Busy) }
+{
+    // No container of a heap has so many entries, but nothing here knows that.
+    let Ok(place) = u32::try_from(index) else {
+        frame.end_keep(block);
+        return Err((Fault::OutOfMemory, (key, value)));
+    };
+    let cell = frame.cell(&value);
+    block.payload_mut().set(index, cell);
+    let old = frame.end_swap(block, place, entry, value);
+    // The key's memory goes once the lock is free.
+    drop(key);
+    Ok(Some(old))
+}
+
+/// A put into the dictionary that is locked, and its unlocking.
+fn put_locked<H: Home<A>, A: Allocator>(
+    frame: &mut Frame<H, A>,
+    block: Block<A>,
+    key: Key<A>,
+    value: Handle,
+) -> Result<Option<Handle>, (Fault, (Key<A>, Handle))>
+    requires locked { IsLocked frame.old }
+    requires of_cell { cell_locked frame.old ≡ Some block.0 }
+    requires found { contents_found frame.old ≡ contents_of block.1 }
+    requires value_owned { Owns frame.old value }
+    requires apart { place_locked frame.old ≢ Some value.place }
+    ensures thread { KeepsThread frame.old frame.new }
+    ensures unlocked { IsUnlocked frame.new }
+    ensures put { IfOk result (λ answer. Since frame.old block
+        (λ before k. HasPut before frame.new k key value answer)) }
+    ensures owns { IfOk result (OwnsPut frame.old frame.new value) }
+    ensures back { IfErr result (λ refused. refused.1 ≡ (key, value)) }
+    ensures frame { IfErr result (λ refused. KeepsFrame frame.old frame.new) }
+    ensures refused { IfErr result (λ refused. Since frame.old block
+        (λ before k. RefusedPut before frame.new k key value refused.0)) }
+    ensures waits { IfErr result (λ refused. refused.0 ≢ faults.Busy) }
+{
+    match seek(block.payload(), &key) {
+        Sought::There { index, cell } => replace_locked(frame, block, key, value, index, cell),
+        Sought::Absent => append_locked(frame, block, key, value),
+        Sought::WrongKind => {
+            frame.end_keep(block);
+            Err((Fault::WrongKind, (key, value)))
+        }
+    }
+}
+
+/// Puts the value beside the key. A new key comes last, and the answer is None; beside a key that is there the value takes the
+/// place of the old one, which is the answer. Busy where another thread has the dictionary locked, then WrongKind where the
+/// object is no dictionary, Full where a new key is the 1,048,577th, and OutOfMemory; a refusal hands key and value back.
+pub fn try_dict_put<H: Home<A>, A: Allocator>(
+    frame: &mut Frame<H, A>,
+    dict: &Handle,
+    key: Key<A>,
+    value: Handle,
+) -> Result<Option<Handle>, (Fault, (Key<A>, Handle))>
+    requires owned { Owns frame.old dict.now }
+    requires value_owned { Owns frame.old value }
+    requires apart { value.place ≢ dict.now.place }
+    requires unlocked { IsUnlocked frame.old }
+    ensures thread { KeepsThread frame.old frame.new }
+    ensures unlocked { IsUnlocked frame.new }
+    ensures put { IfOk result (HasPut frame.old frame.new dict.now.place key value) }
+    ensures owns { IfOk result (OwnsPut frame.old frame.new value) }
+    ensures back { IfErr result (λ refused. refused.1 ≡ (key, value)) }
+    ensures frame { IfErr result (λ refused. KeepsFrame frame.old frame.new) }
+    ensures keeps { IfErr result (λ refused. Keeps frame.old frame.new) }
+    ensures refused { IfErr result (λ refused. RefusedPut frame.old frame.new dict.now.place key value refused.0) }
+{
+    let Some(block) = frame.begin(dict) else {
+        return Err((Fault::Busy, (key, value)));
+    };
+    put_locked(frame, block, key, value)
+}
+
+/// Puts the value beside the key, as `try_dict_put` does; WrongKind, Full and OutOfMemory as there. It waits while another thread
+/// has the dictionary locked.
+pub fn dict_put<H: Home<A>, A: Allocator>(
+    rt: &impl Wait,
+    frame: &mut Frame<H, A>,
+    dict: &Handle,
+    key: Key<A>,
+    value: Handle,
+) -> Result<Option<Handle>, (Fault, (Key<A>, Handle))>
+    requires owned { Owns frame.old dict.now }
+    requires value_owned { Owns frame.old value }
+    requires apart { value.place ≢ dict.now.place }
+    requires unlocked { IsUnlocked frame.old }
+    ensures thread { KeepsThread frame.old frame.new }
+    ensures unlocked { IsUnlocked frame.new }
+    ensures put { IfOk result (λ answer. Late frame.old dict.now.place
+        (λ mid. HasPut mid frame.new dict.now.place key value answer)) }
+    ensures owns { IfOk result (OwnsPut frame.old frame.new value) }
+    ensures back { IfErr result (λ refused. refused.1 ≡ (key, value)) }
+    ensures frame { IfErr result (λ refused. KeepsFrame frame.old frame.new) }
+    ensures keeps { IfErr result (λ refused. Keeps frame.old frame.new) }
+    ensures refused { IfErr result (λ refused. Late frame.old dict.now.place
+        (λ mid. RefusedPut mid frame.new dict.now.place key value refused.0)) }
+    ensures waits { IfErr result (λ refused. refused.0 ≢ faults.Busy) }
+{
+    let block = begin_late(rt, frame, dict);
+    put_locked(frame, block, key, value)
+}
