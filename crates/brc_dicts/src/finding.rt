@@ -12,9 +12,9 @@ ghost use Rattle.brc_dicts.specs.Since.{Since};
 
 use crate::seeking::{Sought, seek};
 use brc_block::Block;
-use brc_lock::begin_late;
 use brc_count::{Frame, Handle};
 use brc_counter::Home;
+use brc_lock::begin_late;
 use brc_words::{Fault, Key};
 use std::alloc::Allocator;
 use std::sync::Wait;
