@@ -1,0 +1,3 @@
+pub mod Rows_Law
+pub mod Raised
+pub mod Joining
