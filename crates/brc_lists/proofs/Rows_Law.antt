@@ -1,5 +1,5 @@
 -- What the plain calls on lists and mailboxes come to, from an object's kind and entries.
-use Rattle.std.proofs.Common.{◌≡◌, ◌≢◌, ◌<◌, ◌≤◌, ◌+◌, ◌-◌, ℕ, Bool, true, false, List, [], ◌∷◌, ◌++◌, Option, Some, None, Result, Ok, Err, is_ok, length, take, drop, map, remove, slice_get, slice_set, if◌then◌else◌, nat_lt, refl, sym, ◌∙◌, ap, arith}
+use Rattle.std.proofs.Common.{suc, ◌≡◌, ◌≢◌, ◌<◌, ◌≤◌, ◌+◌, ◌-◌, ℕ, Bool, true, false, List, [], ◌∷◌, ◌++◌, Option, Some, None, Result, Ok, Err, is_ok, length, take, drop, map, remove, slice_get, slice_set, if◌then◌else◌, nat_lt, refl, sym, ◌∙◌, ap, arith}
 use Rattle.std.proofs.lemmas.Bool.{lt-ltb, le-ltb}
 use Rattle.std.proofs.lemmas.List.{append-nil}
 use Rattle.std.proofs.Math.ListN.{drop_of_length-le}
@@ -168,7 +168,7 @@ at_refuses kind is found index left _ why = absurd why
 
 without_last : (cells : List ℕ) → remove cells (length cells - 1) ≡ take (length cells - 1) cells
 without_last cells =
-    ap (λ rest. take (length cells - 1) cells ++ rest) (drop_of_length-le cells (omega arith)) ∙ append-nil (take (length cells - 1) cells)
+    ap (λ rest. take (length cells - 1) cells ++ rest) (drop_of_length-le cells {i = suc (length cells - 1)} (omega arith)) ∙ append-nil (take (length cells - 1) cells)
 
 pub pop_is_take : (found : Contents) → plain_pop found ≡ plain_take kinds.«List» (length (entries_in found) - 1) found
 pop_is_take (contents.«List» cells) =
@@ -178,3 +178,10 @@ pop_is_take _ = refl
 pub receive_is_take : (found : Contents) → plain_receive found ≡ plain_take kinds.Mailbox 0 found
 receive_is_take (contents.Mailbox letters) = refl
 receive_is_take _ = refl
+
+-- the same of a list's last place, told by its payload
+pub pop_at : {A : Type 0} (found : Contents) (payload : Payload A) (last : ℕ) → found ≡ contents_of payload → last ≡ length (entries_of payload) - 1
+    → plain_pop found ≡ plain_take kinds.«List» last found
+pop_at found payload last is at_end =
+    pop_is_take found ∙ ap (λ es. plain_take kinds.«List» (length es - 1) found) (ap entries_in is ∙ entries_shown payload)
+    ∙ ap (λ i. plain_take kinds.«List» i found) (sym at_end)

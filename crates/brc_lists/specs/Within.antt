@@ -75,11 +75,11 @@ module _ {A : Type 0} where
     pub at_index : slice_get (entries_found old) index ≡ Some entry
     pub plain : call (contents_found old) ≡ Ok (entry, contents_found old)
     pub ready : FrameSeen A
-    pub shared : FrameSeen A
-    pub same_log : ready.seat ≡ old.seat
-    pub same_heap : ready.heap ≡ old.heap
+    pub same_seat : ready.seat ≡ old.seat
     pub before : KeepsPlaces old ready
+    pub shared : FrameSeen A
     pub gives : Given ready shared (sources.Entry index) entry given
+    pub same_cell : cell_locked shared ≡ cell_locked old
     pub ends : EndsWith shared new Keep (contents_found old)
     pub after : KeepsFrame shared new
 
