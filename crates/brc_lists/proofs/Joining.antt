@@ -217,6 +217,26 @@ module _ {A : Type 0} where
 
 -- ---- what was refused
 
+module _ {R : Type 0} where
+  -- a form that waits never answers Busy
+  plain_waited : (outcome : Result (R × Contents) Fault) (fault : Fault) → RefusesPlainly outcome fault → fault ≢ faults.Busy
+  plain_waited outcome faults.Busy why = absurd why
+  plain_waited outcome _ why = λ same. cc
+
+  entry_waited : (outcome : Result (R × Contents) Fault) (fault : Fault) → RefusesEntry outcome fault → fault ≢ faults.Busy
+  entry_waited outcome faults.Busy why = absurd why
+  entry_waited outcome _ why = λ same. cc
+
+  pub put_waited : {T : Type 0} (call : ℕ → PlainCall R) (found : Contents) (r : Result T (Fault × HandleSeen))
+      → IfErr r (λ e. (c : ℕ) → RefusesEntry (call c found) e.0) → IfErr r (λ e. e.0 ≢ faults.Busy)
+  put_waited call found (Ok x) why = tt
+  put_waited call found (Err e) why = entry_waited (call 0 found) e.0 (why 0)
+
+  pub set_waited : {T : Type 0} (call : ℕ → PlainCall R) (found : Contents) (r : Result T (Fault × HandleSeen))
+      → IfErr r (λ e. (c : ℕ) → RefusesPlainly (call c found) e.0) → IfErr r (λ e. e.0 ≢ faults.Busy)
+  set_waited call found (Ok x) why = tt
+  set_waited call found (Err e) why = plain_waited (call 0 found) e.0 (why 0)
+
 module _ {A R : Type 0} where
   plainly : (old new : FrameSeen A) (k : ℕ) (call : PlainCall R) (found : Contents) → Changes old new k found Keep found → (fault : Fault)
       → call found ≡ Err fault → RefusedPlainly old new k call fault
@@ -278,25 +298,6 @@ module _ {A R : Type 0} where
       place_refused old locked new k call (contents_found locked) frame.next
           (began_ends old locked new k block Keep (contents_found locked) began thread kept) fault
           (place_as locked call within (contents_found locked) fault same why)
-
-  -- a form that waits never answers Busy
-  plain_waited : (outcome : Result (R × Contents) Fault) (fault : Fault) → RefusesPlainly outcome fault → fault ≢ faults.Busy
-  plain_waited outcome faults.Busy why = absurd why
-  plain_waited outcome _ why = λ same. cc
-
-  entry_waited : (outcome : Result (R × Contents) Fault) (fault : Fault) → RefusesEntry outcome fault → fault ≢ faults.Busy
-  entry_waited outcome faults.Busy why = absurd why
-  entry_waited outcome _ why = λ same. cc
-
-  pub put_waited : {T : Type 0} (call : ℕ → PlainCall R) (found : Contents) (r : Result T (Fault × HandleSeen))
-      → IfErr r (λ e. (c : ℕ) → RefusesEntry (call c found) e.0) → IfErr r (λ e. e.0 ≢ faults.Busy)
-  put_waited call found (Ok x) why = tt
-  put_waited call found (Err e) why = entry_waited (call 0 found) e.0 (why 0)
-
-  pub set_waited : {T : Type 0} (call : ℕ → PlainCall R) (found : Contents) (r : Result T (Fault × HandleSeen))
-      → IfErr r (λ e. (c : ℕ) → RefusesPlainly (call c found) e.0) → IfErr r (λ e. e.0 ≢ faults.Busy)
-  set_waited call found (Ok x) why = tt
-  set_waited call found (Err e) why = plain_waited (call 0 found) e.0 (why 0)
 
   -- ---- of a result, after some tries
 

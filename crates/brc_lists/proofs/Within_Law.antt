@@ -93,9 +93,9 @@ module _ {A : Type 0} where
       → kind_of before ≡ kind → slice_get (entries_of before) index ≡ Some entry
       → kind_of block.1 ≡ kind_of before → entries_of block.1 ≡ remove (entries_of before) index
       → given.thread ≡ ready.seat.thread → given.place ≡ ready.next → cell_in ready given.place ≡ None
-      → Ended ready new (Take index given.place) block → ChangesPlace ready new given.place (Some entry) → new.len ≡ ready.len + 1
+      → (place : ℕ) → place ≡ index → Ended ready new (Take place given.place) block → ChangesPlace ready new given.place (Some entry) → new.len ≡ ready.len + 1
       → TakesOut old new (plain_take kind index) given
-  takes_out old ready new kind index entry given block before same row locks found is there same_kind left thread next vacant ended places len =
+  takes_out old ready new kind index entry given block before same row locks found is there same_kind left thread next vacant place at_place ended places len =
       let entries = found_entries (contents_found old) before found in
       let here = ap (λ es. slice_get es index) entries ∙ there in
       record {
@@ -106,7 +106,8 @@ module _ {A : Type 0} where
         plain = at_gives kind row (contents_found old) (contents_of block.1) index entry (λ es. remove es index)
             (found_kind (contents_found old) before found is) (kind_shown block.1 ∙ same_kind ∙ is) here
             (entries_shown block.1 ∙ left ∙ ap (λ es. remove es index) (sym entries));
-        ends = record { block = block; locks_cell = locks; holds = refl; ended = ended_as old ready new (Take index given.place) block same ended };
+        ends = record { block = block; locks_cell = locks; holds = refl; ended = ended_as old ready new (Take index given.place) block same
+            (subst (λ i. Ended ready new (Take i given.place) block) at_place ended) };
         thread = thread ∙ ap (λ (f : FrameSeen A). f.seat.thread) same;
         next = next ∙ ap (λ (f : FrameSeen A). f.next) same;
         vacant = ap (λ (f : FrameSeen A). cell_in f given.place) (sym same) ∙ vacant;

@@ -1,4 +1,4 @@
-use Rattle.std.proofs.Common.{◌<◌, length, remove, sym, ◌∙◌, ap, subst}
+use Rattle.std.proofs.Common.{◌≡◌, ◌<◌, length, remove, sym, ◌∙◌, ap, subst}
 use Rattle.std.proofs.lemmas.Option.{slice_get_within}
 use Rattle.brc_block.specs.declared.payload.Payload.{Payload}
 use Rattle.brc_block.specs.Payload.{kind_of, entries_of}
@@ -25,4 +25,4 @@ returns-clause-taken g c =
         c.in-Ok.ensures.is c.in-Ok.ensures.entry (c.remove-entry.ensures.kind ∙ ap kind_of there)
         (c.remove-entry.ensures.left ∙ ap (λ (p : Payload g.row.A.Denot). remove (entries_of p) c.args.index) there)
         c.end_take.ensures.thread c.end_take.ensures.next c.end_take.ensures.vacant
-        c.end_take.ensures.ended c.end_take.ensures.places c.end_take.ensures.len
+        c.in-Ok-try_from.place c.in-Ok-try_from.ensures.1 c.end_take.ensures.ended c.end_take.ensures.places c.end_take.ensures.len
