@@ -1,13 +1,11 @@
 -- A locking and what is done within it, as one call.
-use Rattle.std.proofs.Common.{◌≡◌, ◌≢◌, ℕ, ◌+◌, ◌∷◌, List, Option, Some, None, is_some, true, is_ok, ◌<◌, refl, sym, ◌∙◌, ap, subst, Result, Ok, Err, inl, inr, ◌⊎◌, ◌≤◌}
-use Rattle.std.proofs.lemmas.Bool.{cases_eq}
-use Rattle.brc_words.specs.declared.limits.TheConstants.{MOST_PLACES}
+use Rattle.std.proofs.Common.{◌≡◌, ◌≢◌, ℕ, ◌+◌, ◌∷◌, List, Option, Some, true, is_ok, sym, ◌∙◌, ap, Result, Ok, Err}
 use Rattle.std.specs.Result.{IfOk, IfErr, OnOk, OnErr}
 use Rattle.brc_words.specs.declared.fault.Fault.{Fault}
 use Rattle.brc_words.specs.declared.fault.Fault.TheVariants as faults
 use Rattle.brc_block.specs.declared.payload.Payload.{Payload}
 use Rattle.brc_runs.specs.declared.event.Change.{Change}
-use Rattle.brc_runs.specs.declared.event.Change.TheVariants.{Keep, Put, Take, Swap}
+use Rattle.brc_runs.specs.declared.event.Change.TheVariants.{Keep, Take, Swap}
 use Rattle.brc_runs.specs.declared.event.Step.TheVariants.{Lock, Unlock}
 use Rattle.brc_rule.specs.declared.contents.Contents.{Contents}
 use Rattle.brc_rule.specs.declared.told.Moved.TheVariants as moves
@@ -15,47 +13,18 @@ use Rattle.brc_rule.specs.declared.told.Told.{Told}
 use Rattle.brc_rule.specs.declared.told.Told.TheVariants.{Did}
 use Rattle.brc_table.specs.Seated.{SeatSeen}
 use Rattle.brc_table.specs.Shown.{contents_of}
-use Rattle.brc_count.specs.Frames.{FrameSeen, HandleSeen, Owns, Refused}
-use Rattle.brc_count.specs.Locking.{Began, KeepsThread, KeepsFrame, ChangesPlace, cell_in, place_locked, cell_locked, contents_found}
-use Rattle.brc_containers.specs.Changing.{PlainCall, Changes, KeepsPlaces, Puts, Swaps, Takes, Shares, RefusedPlainly, RefusedForWant, RefusedCall, RefusedEntry, RefusedPlace, Late}
+use Rattle.brc_count.specs.Frames.{FrameSeen, HandleSeen}
+use Rattle.brc_count.specs.Locking.{Began, KeepsThread, KeepsFrame, ChangesPlace, cell_in, contents_found}
+use Rattle.brc_containers.specs.Changing.{PlainCall, Changes, KeepsPlaces, Swaps, Takes, Shares, RefusedPlainly, RefusedForWant, RefusedCall, RefusedEntry, Late}
 use Rattle.brc_containers.specs.Looking.{BeginsLate}
-use Rattle.brc_containers.specs.Handles.{Keeps, Gains, Loses}
-use Rattle.brc_containers.proofs.Kept.{thread_kept_on, frame_kept_on}
-use Rattle.brc_containers.proofs.Owning.{kept_keeps, keeps_on, put_loses, taken_gains, owns_still, owns_kept}
-use Rattle.brc_lists.specs.Within.{HasLocked, EndsWith, PutsIn, SwapsIn, TakesOut, SharesOut, RefusesPlainly, RefusesEntry, RefusesPlace}
-
--- ---- under a result
-
-pub if_ok_on : {T E : Type 0} {P Q : T → Type 0} → ((x : T) → P x → Q x) → (r : Result T E) → IfOk r P → IfOk r Q
-if_ok_on f (Ok x) has = f x has
-if_ok_on f (Err e) has = tt
-
-pub if_err_on : {T E : Type 0} {P Q : E → Type 0} → ((e : E) → P e → Q e) → (r : Result T E) → IfErr r P → IfErr r Q
-if_err_on f (Ok x) has = tt
-if_err_on f (Err e) has = f e has
-
--- two facts of a refusal
-pub if_err_both : {T E : Type 0} {P Q S : E → Type 0} → ((e : E) → P e → Q e → S e) → (r : Result T E) → IfErr r P → IfErr r Q → IfErr r S
-if_err_both f (Ok x) has more = tt
-if_err_both f (Err e) has more = f e has more
+use Rattle.brc_containers.proofs.Kept.{thread_kept_on}
+use Rattle.brc_lists.specs.Within.{EndsWith, SwapsIn, TakesOut, SharesOut, RefusesPlainly, RefusesEntry}
 
 some_is : {a b : ℕ} → Some a ≡ Some b → a ≡ b
 some_is same = cc
 
 module _ {A : Type 0} where
-  -- ---- what a locking leaves to do
-
-  pub began_has : (old locked : FrameSeen A) (k : ℕ) (block : ℕ × Payload A) → Began old locked k block → HasLocked locked block
-  began_has old locked k block began = record { locked = began.locked; locks_cell = began.locks_cell; found = began.found }
-
-  -- the locked place has another number than the value's
-  pub began_apart : (old locked : FrameSeen A) (k v : ℕ) (block : ℕ × Payload A) → Began old locked k block → v ≢ k → place_locked locked ≢ Some v
-  began_apart old locked k v block began apart = λ same. apart (some_is (sym same ∙ began.locks_place))
-
-  pub owns_locked : (old locked : FrameSeen A) (h : HandleSeen) → KeepsThread old locked → KeepsFrame old locked → Owns old h → Owns locked h
-  owns_locked old locked h thread frame owns = owns_kept old locked h thread frame owns
-
-  -- ---- one place changes after a locking
+  -- ---- the places, after a locking
 
   changes_after : (old locked new : FrameSeen A) (k : ℕ) (cell : Option ℕ) → KeepsFrame old locked → ChangesPlace locked new k cell → ChangesPlace old new k cell
   changes_after old locked new k cell frame changes = record {
@@ -69,18 +38,6 @@ module _ {A : Type 0} where
     len = places.len ∙ frame.len;
     next = places.next ∙ frame.next;
   }
-
-  pub frame_places : (old new : FrameSeen A) → KeepsFrame old new → KeepsPlaces old new
-  frame_places old new frame = record { places = frame.places; len = frame.len; next = frame.next }
-
-  -- the handle of an exchange has a reference still
-  swap_owns : (old new : FrameSeen A) (v entry : ℕ) (h : HandleSeen) → KeepsThread old new → ChangesPlace old new v (Some entry) → Owns old h
-      → ((h.place ≡ v) ⊎ (h.place ≢ v)) → Owns new h
-  swap_owns old new v entry h thread places owns (inl same) = record {
-    thread = owns.thread ∙ sym thread.thread;
-    filled = ap (λ k. is_some (cell_in new k)) same ∙ ap is_some places.has;
-  }
-  swap_owns old new v entry h thread places owns (inr other) = owns_still old new h thread.thread (places.others h.place other) owns
 
   -- ---- the events of a whole call
 
@@ -102,24 +59,6 @@ module _ {A : Type 0} where
 -- ---- what succeeded
 
 module _ {A R : Type 0} where
-  pub puts_all : (old locked new : FrameSeen A) (k v : ℕ) (block : ℕ × Payload A) (call : ℕ → PlainCall R) (answer : R) → Began old locked k block
-      → KeepsThread old locked → KeepsFrame old locked → PutsIn locked new v call answer → Puts old new k v call answer
-  puts_all old locked new k v block call answer began thread frame puts = record {
-    value = puts.value;
-    of_value = sym (frame.places v) ∙ puts.of_value;
-    found = contents_found locked;
-    put = puts.put;
-    plain = puts.plain;
-    changes = began_ends old locked new k block (Put v) puts.put began thread puts.ends;
-    places = changes_after old locked new v None frame puts.places;
-    len = puts.len ∙ frame.len;
-  }
-
-  pub puts_lose : (old locked new : FrameSeen A) (gone : HandleSeen) (call : ℕ → PlainCall R) (answer : R)
-      → KeepsThread old locked → KeepsFrame old locked → PutsIn locked new gone.place call answer → Loses old new gone
-  puts_lose old locked new gone call answer thread frame puts =
-      put_loses old new gone (thread_kept_on thread puts.ends.ended.keeps) (changes_after old locked new gone.place None frame puts.places)
-
   pub swaps_all : (old locked new : FrameSeen A) (k v : ℕ) (block : ℕ × Payload A) (call : ℕ → PlainCall R) (answer : ℕ → R) → Began old locked k block
       → KeepsThread old locked → KeepsFrame old locked → SwapsIn locked new v call answer → Swaps old new k v call answer
   swaps_all old locked new k v block call answer began thread frame swaps = record {
@@ -135,16 +74,6 @@ module _ {A R : Type 0} where
     places = changes_after old locked new v (Some swaps.entry) frame swaps.places;
     len = swaps.len ∙ frame.len;
   }
-
-  pub swaps_keep : (old locked new : FrameSeen A) (v : ℕ) (call : ℕ → PlainCall R) (answer : ℕ → R)
-      → KeepsThread old locked → KeepsFrame old locked → SwapsIn locked new v call answer → Keeps old new
-  swaps_keep old locked new v call answer thread frame swaps =
-      let kept = thread_kept_on thread swaps.ends.ended.keeps in
-      record {
-        heap = kept.heap;
-        owns = λ h owns. swap_owns old new v swaps.entry h kept (changes_after old locked new v (Some swaps.entry) frame swaps.places) owns
-            (cases_eq h.place v);
-      }
 
 module _ {A : Type 0} where
   pub takes_all : (old locked new : FrameSeen A) (k : ℕ) (block : ℕ × Payload A) (within call : PlainCall ℕ) (given : HandleSeen)
@@ -163,20 +92,6 @@ module _ {A : Type 0} where
     vacant = sym (frame.places given.place) ∙ takes.vacant;
     places = changes_after old locked new given.place (Some takes.entry) frame takes.places;
     len = takes.len ∙ ap (λ n. n + 1) frame.len;
-  }
-
-  pub takes_gain : (old locked new : FrameSeen A) (within : PlainCall ℕ) (given : HandleSeen) → KeepsThread old locked → KeepsFrame old locked
-      → TakesOut locked new within given → Gains old new given
-  takes_gain old locked new within given thread frame takes =
-      taken_gains old new given takes.entry (thread_kept_on thread takes.ends.ended.keeps) (takes.thread ∙ thread.thread)
-          (sym (frame.places given.place) ∙ takes.vacant) (changes_after old locked new given.place (Some takes.entry) frame takes.places)
-
-  -- every place but the given one has what it had
-  share_changes : (old locked new : FrameSeen A) (call : PlainCall ℕ) (given : HandleSeen) → KeepsFrame old locked → (shares : SharesOut locked new call given)
-      → ChangesPlace old new given.place (Some shares.entry)
-  share_changes old locked new call given frame shares = record {
-    has = shares.after.places given.place ∙ shares.gives.has;
-    others = λ j other. shares.after.places j ∙ shares.gives.others j other ∙ shares.before.places j ∙ frame.places j;
   }
 
   pub shares_all : (old locked new : FrameSeen A) (k : ℕ) (block : ℕ × Payload A) (call : PlainCall ℕ) (given : HandleSeen) → Began old locked k block
@@ -206,14 +121,6 @@ module _ {A : Type 0} where
         unlocked = ends.ended.unlocked;
         keeps = thread_kept_on thread thread_on;
       }
-
-  pub shares_gain : (old locked new : FrameSeen A) (call : PlainCall ℕ) (given : HandleSeen) → KeepsThread old locked → KeepsFrame old locked
-      → KeepsThread locked new → SharesOut locked new call given → Gains old new given
-  shares_gain old locked new call given thread frame thread_on shares =
-      taken_gains old new given shares.entry (thread_kept_on thread thread_on)
-          (shares.gives.thread ∙ ap (λ (s : SeatSeen A). s.thread) shares.same_seat ∙ thread.thread)
-          (sym (frame.places given.place) ∙ sym (shares.before.places given.place) ∙ shares.gives.vacant)
-          (share_changes old locked new call given frame shares)
 
 -- ---- what was refused
 
@@ -257,20 +164,6 @@ module _ {A R : Type 0} where
   entry_refused old new k call found looks faults.OutOfMemory why = for_want old new k call found looks why
   entry_refused old new k call found looks fault why = plainly old new k call found looks fault why
 
-  pub place_refused : (old locked new : FrameSeen A) (k : ℕ) (call : PlainCall R) (found : Contents) → locked.next ≡ old.next
-      → Changes old new k found Keep found → (fault : Fault) → RefusesPlace locked (call found) fault → RefusedPlace old new k call fault
-  place_refused old locked new k call found next looks faults.Busy why = absurd why
-  place_refused old locked new k call found next looks faults.FrameFull why =
-      (for_want old new k call found looks why.0, subst (λ n. MOST_PLACES ≤ n) next why.1)
-  place_refused old locked new k call found next looks faults.OutOfMemory why =
-      (for_want old new k call found looks why.0, subst (λ n. n < MOST_PLACES) next why.1)
-  place_refused old locked new k call found next looks fault why = plainly old new k call found looks fault why
-
-  -- another spelling of the plain call
-  pub place_as : (locked : FrameSeen A) (call within : PlainCall R) (found : Contents) (fault : Fault) → call found ≡ within found
-      → RefusesPlace locked (within found) fault → RefusesPlace locked (call found) fault
-  place_as locked call within found fault same why = subst (λ outcome. RefusesPlace locked outcome fault) (sym same) why
-
   -- ---- of a result
 
   pub put_refused : {T : Type 0} (old locked new : FrameSeen A) (k v : ℕ) (block : ℕ × Payload A) (call : ℕ → PlainCall R) (r : Result T (Fault × HandleSeen))
@@ -289,16 +182,6 @@ module _ {A R : Type 0} where
   set_refused old locked new k v block call (Err e) began thread kept why =
       λ c is. call_refused old new k (call c) (contents_found locked) (began_ends old locked new k block Keep (contents_found locked) began thread kept) e.0 (why c)
 
-  pub take_refused : {T : Type 0} (old locked new : FrameSeen A) (k : ℕ) (block : ℕ × Payload A) (within call : PlainCall R) (r : Result T Fault)
-      → call (contents_found locked) ≡ within (contents_found locked)
-      → Began old locked k block → KeepsThread old locked → KeepsFrame old locked → OnErr r (EndsWith locked new Keep (contents_found locked))
-      → IfErr r (RefusesPlace locked (within (contents_found locked))) → IfErr r (RefusedPlace old new k call)
-  take_refused old locked new k block within call (Ok x) same began thread frame kept why = tt
-  take_refused old locked new k block within call (Err fault) same began thread frame kept why =
-      place_refused old locked new k call (contents_found locked) frame.next
-          (began_ends old locked new k block Keep (contents_found locked) began thread kept) fault
-          (place_as locked call within (contents_found locked) fault same why)
-
   -- ---- of a result, after some tries
 
   pub late_put_refused : {T : Type 0} (old locked new : FrameSeen A) (k v : ℕ) (block : ℕ × Payload A) (call : ℕ → PlainCall R) (r : Result T (Fault × HandleSeen))
@@ -307,8 +190,12 @@ module _ {A R : Type 0} where
       → IfErr r (λ e. (c : ℕ) → cell_in old v ≡ Some c → Late old k (λ mid. RefusedEntry mid new k (call c) e.0))
   late_put_refused old locked new k v block call (Ok x) begins kept why = tt
   late_put_refused old locked new k v block call (Err e) begins kept why =
-      λ c is. (begins.mid, begins.waits, entry_refused begins.mid new k (call c) (contents_found locked)
-          (began_ends begins.mid locked new k block Keep (contents_found locked) begins.began begins.keeps kept) e.0 (why c))
+      λ c is. (
+        begins.mid,
+        begins.waits,
+        entry_refused begins.mid new k (call c) (contents_found locked)
+            (began_ends begins.mid locked new k block Keep (contents_found locked) begins.began begins.keeps kept) e.0 (why c),
+      )
 
   pub late_set_refused : {T : Type 0} (old locked new : FrameSeen A) (k v : ℕ) (block : ℕ × Payload A) (call : ℕ → PlainCall R) (r : Result T (Fault × HandleSeen))
       → BeginsLate old locked k block → OnErr r (EndsWith locked new Keep (contents_found locked))
@@ -316,8 +203,12 @@ module _ {A R : Type 0} where
       → IfErr r (λ e. (c : ℕ) → cell_in old v ≡ Some c → Late old k (λ mid. RefusedCall mid new k (call c) e.0))
   late_set_refused old locked new k v block call (Ok x) begins kept why = tt
   late_set_refused old locked new k v block call (Err e) begins kept why =
-      λ c is. (begins.mid, begins.waits, call_refused begins.mid new k (call c) (contents_found locked)
-          (began_ends begins.mid locked new k block Keep (contents_found locked) begins.began begins.keeps kept) e.0 (why c))
+      λ c is. (
+        begins.mid,
+        begins.waits,
+        call_refused begins.mid new k (call c) (contents_found locked)
+            (began_ends begins.mid locked new k block Keep (contents_found locked) begins.began begins.keeps kept) e.0 (why c),
+      )
 
   pub late_swaps : {T E : Type 0} (old locked new : FrameSeen A) (k v : ℕ) (block : ℕ × Payload A) (call : ℕ → PlainCall R) (answer : ℕ → R) (r : Result T E)
       → BeginsLate old locked k block → OnOk r (SwapsIn locked new v call answer) → OnOk r (Late old k (λ mid. Swaps mid new k v call answer))

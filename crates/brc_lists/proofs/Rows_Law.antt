@@ -1,6 +1,6 @@
 -- What the plain calls on lists and mailboxes come to, from an object's kind and entries.
-use Rattle.std.proofs.Common.{suc, ◌≡◌, ◌≢◌, ◌<◌, ◌≤◌, ◌+◌, ◌-◌, ℕ, Bool, true, false, List, [], ◌∷◌, ◌++◌, Option, Some, None, Result, Ok, Err, is_ok, length, take, drop, map, remove, slice_get, slice_set, if◌then◌else◌, nat_lt, refl, sym, ◌∙◌, ap, arith}
-use Rattle.std.proofs.lemmas.Bool.{lt-ltb, le-ltb}
+use Rattle.std.proofs.Common.{suc, ◌≡◌, ◌<◌, ◌-◌, ℕ, true, false, List, [], ◌∷◌, ◌++◌, Some, Result, Ok, Err, length, take, map, remove, slice_get, if◌then◌else◌, refl, sym, ◌∙◌, ap, arith}
+use Rattle.std.proofs.lemmas.Bool.{lt-ltb}
 use Rattle.std.proofs.lemmas.List.{append-nil}
 use Rattle.std.proofs.Math.ListN.{drop_of_length-le}
 use Rattle.brc_words.specs.declared.fault.Fault.{Fault}
@@ -8,7 +8,6 @@ use Rattle.brc_words.specs.declared.fault.Fault.TheVariants as faults
 use Rattle.brc_words.specs.declared.kind.Kind.{Kind}
 use Rattle.brc_words.specs.declared.kind.Kind.TheVariants as kinds
 use Rattle.brc_words.specs.declared.limits.TheConstants.{MOST_ENTRIES}
-use Rattle.brc_words.specs.Kinds.{is_container}
 use Rattle.brc_block.specs.declared.payload.Payload.{Payload}
 use Rattle.brc_block.specs.declared.payload.Payload.TheVariants as payloads
 use Rattle.brc_block.specs.Payload.{kind_of, entries_of}
@@ -18,9 +17,8 @@ use Rattle.brc_rule.specs.declared.contents.Contents.{Contents}
 use Rattle.brc_rule.specs.declared.contents.Contents.TheVariants as contents
 use Rattle.brc_rule.specs.Logs.{kind_in, entries_in}
 use Rattle.brc_table.specs.Shown.{contents_of, plain_key}
-use Rattle.brc_lists.specs.Plain.{left_in, on_list, on_mailbox, plain_pop, plain_receive}
-use Rattle.brc_lists.specs.Rows.{is_row, on_row, plain_put, plain_at, plain_take, NoRoom, NoEntry}
-use Rattle.brc_lists.specs.Within.{RefusesPlainly, RefusesEntry}
+use Rattle.brc_lists.specs.Plain.{left_in, plain_pop}
+use Rattle.brc_lists.specs.Rows.{is_row, on_row, plain_put, plain_at, plain_take}
 
 -- ---- a payload as contents
 
@@ -55,15 +53,6 @@ abbrev pub row : Kind → List ℕ → Contents
 row kinds.Mailbox cells = contents.Mailbox cells
 row _ cells = contents.«List» cells
 
-pub row_contains : (kind : Kind) → is_row kind ≡ true → is_container kind ≡ true
-row_contains kinds.«List» is = refl
-row_contains kinds.Mailbox is = refl
-row_contains _ is = cc
-
-pub row_keyless : (kind : Kind) → is_row kind ≡ true → kind ≢ kinds.Dict
-row_keyless kinds.Dict is = cc
-row_keyless _ is = λ same. cc
-
 list_is : (found : Contents) → kind_in found ≡ kinds.«List» → found ≡ contents.«List» (entries_in found)
 list_is (contents.«List» cells) is = refl
 list_is (contents.Truth true) is = cc
@@ -92,25 +81,6 @@ module _ {R : Type 0} where
       → on_row kind call found ≡ left_in (row kind) (call (entries_in found))
   on_kind kind is call found same = ap (on_row kind call) (row_is kind is found same) ∙ on_its_row kind call (entries_in found)
 
-  on_no_list : (call : List ℕ → Result (R × List ℕ) Fault) (found : Contents) → kind_in found ≢ kinds.«List»
-      → on_list call found ≡ Err faults.WrongKind
-  on_no_list call (contents.«List» cells) other = absurd (other refl)
-  on_no_list call _ other = refl
-
-  on_no_mailbox : (call : List ℕ → Result (R × List ℕ) Fault) (found : Contents) → kind_in found ≢ kinds.Mailbox
-      → on_mailbox call found ≡ Err faults.WrongKind
-  on_no_mailbox call (contents.Mailbox letters) other = absurd (other refl)
-  on_no_mailbox call _ other = refl
-
-  pub on_other : (kind : Kind) → is_row kind ≡ true → (call : List ℕ → Result (R × List ℕ) Fault) (found : Contents) → kind_in found ≢ kind
-      → on_row kind call found ≡ Err faults.WrongKind
-  on_other kinds.«List» is call found other = on_no_list call found other
-  on_other kinds.Mailbox is call found other = on_no_mailbox call found other
-  on_other _ is call found other = cc
-
-  pub is_ok_as : {x : Result R Fault} {r : R} → x ≡ Ok r → is_ok x ≡ true
-  is_ok_as same = ap is_ok same
-
 -- ---- one entry more
 
 pub put_plain : (kind : Kind) → is_row kind ≡ true → (found : Contents) (value : ℕ) → kind_in found ≡ kind → length (entries_in found) < MOST_ENTRIES
@@ -119,24 +89,11 @@ put_plain kind is found value same few =
     on_kind kind is (λ cells. lists.push cells value) found same
     ∙ ap (λ b. left_in (row kind) (if b then Ok (tt, entries_in found ++ value ∷ []) else Err faults.Full)) (lt-ltb (length (entries_in found)) MOST_ENTRIES few)
 
-put_full : (kind : Kind) → is_row kind ≡ true → (found : Contents) (value : ℕ) → kind_in found ≡ kind → MOST_ENTRIES ≤ length (entries_in found)
-    → plain_put kind value found ≡ Err faults.Full
-put_full kind is found value same full =
-    on_kind kind is (λ cells. lists.push cells value) found same
-    ∙ ap (λ b. left_in (row kind) (if b then Ok (tt, entries_in found ++ value ∷ []) else Err faults.Full)) (le-ltb (length (entries_in found)) MOST_ENTRIES full)
-
 -- what an object is put home as
 pub put_gives : (kind : Kind) → is_row kind ≡ true → (found put : Contents) (value : ℕ) → kind_in found ≡ kind → kind_in put ≡ kind
     → length (entries_in found) < MOST_ENTRIES → entries_in put ≡ entries_in found ++ value ∷ [] → plain_put kind value found ≡ Ok (tt, put)
 put_gives kind is found put value same kept few more =
     put_plain kind is found value same few ∙ ap (λ cells. Ok (tt, row kind cells)) (sym more) ∙ ap (λ p. Ok (tt, p)) (sym (row_is kind is put kept))
-
-pub put_refuses : (kind : Kind) → is_row kind ≡ true → (found : Contents) (value : ℕ) (fault : Fault) → NoRoom kind (kind_in found) (entries_in found) fault
-    → RefusesEntry (plain_put kind value found) fault
-put_refuses kind is found value faults.WrongKind why = on_other kind is (λ cells. lists.push cells value) found why
-put_refuses kind is found value faults.Full why = put_full kind is found value why.0 why.1
-put_refuses kind is found value faults.OutOfMemory why = ap is_ok (put_plain kind is found value why.0 why.1)
-put_refuses kind is found value _ why = absurd why
 
 -- ---- an entry at a place
 
@@ -146,23 +103,11 @@ at_plain kind is found index entry left same there =
     on_kind kind is (λ cells. leaving (left cells) (lists.get cells index)) found same
     ∙ ap (λ o. left_in (row kind) (leaving (left (entries_in found)) (or_fault faults.NoSuchPlace o))) there
 
-at_past : (kind : Kind) → is_row kind ≡ true → (found : Contents) (index : ℕ) (left : List ℕ → List ℕ) → kind_in found ≡ kind
-    → slice_get (entries_in found) index ≡ None → plain_at kind index left found ≡ Err faults.NoSuchPlace
-at_past kind is found index left same none =
-    on_kind kind is (λ cells. leaving (left cells) (lists.get cells index)) found same
-    ∙ ap (λ o. left_in (row kind) (leaving (left (entries_in found)) (or_fault faults.NoSuchPlace o))) none
-
 pub at_gives : (kind : Kind) → is_row kind ≡ true → (found put : Contents) (index entry : ℕ) (left : List ℕ → List ℕ) → kind_in found ≡ kind → kind_in put ≡ kind
     → slice_get (entries_in found) index ≡ Some entry → entries_in put ≡ left (entries_in found) → plain_at kind index left found ≡ Ok (entry, put)
 at_gives kind is found put index entry left same kept there rest =
     at_plain kind is found index entry left same there ∙ ap (λ cells. Ok (entry, row kind cells)) (sym rest)
     ∙ ap (λ p. Ok (entry, p)) (sym (row_is kind is put kept))
-
-pub at_refuses : (kind : Kind) → is_row kind ≡ true → (found : Contents) (index : ℕ) (left : List ℕ → List ℕ) (fault : Fault)
-    → NoEntry kind index (kind_in found) (entries_in found) fault → RefusesPlainly (plain_at kind index left found) fault
-at_refuses kind is found index left faults.WrongKind why = on_other kind is (λ cells. leaving (left cells) (lists.get cells index)) found why
-at_refuses kind is found index left faults.NoSuchPlace why = at_past kind is found index left why.0 why.1
-at_refuses kind is found index left _ why = absurd why
 
 -- ---- the last entry of a list, and the first of a mailbox
 
@@ -174,10 +119,6 @@ pub pop_is_take : (found : Contents) → plain_pop found ≡ plain_take kinds.«
 pop_is_take (contents.«List» cells) =
     ap (λ rest. left_in contents.«List» (leaving rest (lists.get cells (length cells - 1)))) (sym (without_last cells))
 pop_is_take _ = refl
-
-pub receive_is_take : (found : Contents) → plain_receive found ≡ plain_take kinds.Mailbox 0 found
-receive_is_take (contents.Mailbox letters) = refl
-receive_is_take _ = refl
 
 -- the same of a list's last place, told by its payload
 pub pop_at : {A : Type 0} (found : Contents) (payload : Payload A) (last : ℕ) → found ≡ contents_of payload → last ≡ length (entries_of payload) - 1

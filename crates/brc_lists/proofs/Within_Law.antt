@@ -1,5 +1,5 @@
 -- What is done within a lock, from what its steps say.
-use Rattle.std.proofs.Common.{◌≡◌, ◌<◌, ◌+◌, ◌++◌, ◌∷◌, [], ℕ, List, Option, Some, None, true, Ok, length, remove, slice_get, slice_set, refl, sym, ◌∙◌, ap, subst, arith}
+use Rattle.std.proofs.Common.{◌≡◌, ◌<◌, ◌+◌, ◌++◌, ◌∷◌, [], ℕ, List, Some, None, true, length, remove, slice_get, slice_set, refl, sym, ◌∙◌, ap, subst}
 use Rattle.brc_words.specs.declared.fault.Fault.{Fault}
 use Rattle.brc_words.specs.declared.kind.Kind.{Kind}
 use Rattle.brc_words.specs.declared.kind.Kind.TheVariants as kinds
@@ -7,7 +7,7 @@ use Rattle.brc_words.specs.declared.limits.TheConstants.{MOST_ENTRIES}
 use Rattle.brc_block.specs.declared.payload.Payload.{Payload}
 use Rattle.brc_block.specs.Payload.{kind_of, entries_of}
 use Rattle.brc_runs.specs.declared.event.Change.{Change}
-use Rattle.brc_runs.specs.declared.event.Change.TheVariants.{Keep, Put, Take, Swap}
+use Rattle.brc_runs.specs.declared.event.Change.TheVariants.{Put, Take, Swap}
 use Rattle.brc_runs.specs.declared.event.Step.TheVariants.{Unlock}
 use Rattle.brc_rule.specs.declared.contents.Contents.{Contents}
 use Rattle.brc_rule.specs.declared.told.Moved.TheVariants as moves
@@ -16,10 +16,10 @@ use Rattle.brc_rule.specs.Logs.{kind_in, entries_in}
 use Rattle.brc_rule.specs.Seen.{part_seen}
 use Rattle.brc_table.specs.Shown.{contents_of}
 use Rattle.brc_count.specs.Frames.{FrameSeen, HandleSeen, IsAsBefore, popped_seen}
-use Rattle.brc_count.specs.Locking.{Ended, ChangesPlace, KeepsThread, cell_in, cell_locked, contents_found, entries_found}
+use Rattle.brc_count.specs.Locking.{Ended, ChangesPlace, cell_in, cell_locked, contents_found}
 use Rattle.brc_lists.specs.Plain.{plain_set}
 use Rattle.brc_lists.specs.Rows.{is_row, plain_put, plain_at, plain_take}
-use Rattle.brc_lists.specs.Within.{HasLocked, EndsWith, PutsIn, SwapsIn, TakesOut, RefusesPlace}
+use Rattle.brc_lists.specs.Within.{PutsIn, SwapsIn, TakesOut, RefusesPlace}
 use Rattle.brc_lists.proofs.Rows_Law.{kind_shown, entries_shown, put_gives, at_gives}
 
 module _ {A : Type 0} where
@@ -106,8 +106,13 @@ module _ {A : Type 0} where
         plain = at_gives kind row (contents_found old) (contents_of block.1) index entry (λ es. remove es index)
             (found_kind (contents_found old) before found is) (kind_shown block.1 ∙ same_kind ∙ is) here
             (entries_shown block.1 ∙ left ∙ ap (λ es. remove es index) (sym entries));
-        ends = record { block = block; locks_cell = locks; holds = refl; ended = ended_as old ready new (Take index given.place) block same
-            (subst (λ i. Ended ready new (Take i given.place) block) at_place ended) };
+        ends = record {
+          block = block;
+          locks_cell = locks;
+          holds = refl;
+          ended = ended_as old ready new (Take index given.place) block same
+              (subst (λ i. Ended ready new (Take i given.place) block) at_place ended);
+        };
         thread = thread ∙ ap (λ (f : FrameSeen A). f.seat.thread) same;
         next = next ∙ ap (λ (f : FrameSeen A). f.next) same;
         vacant = ap (λ (f : FrameSeen A). cell_in f given.place) (sym same) ∙ vacant;

@@ -1,5 +1,5 @@
 -- The part of a call that comes after its locking: what it does to a frame that has the object locked.
-use Rattle.std.specs.Prelude.{◌≡◌, ◌+◌, ℕ, ◌∷◌, Some, None, Result, Ok, Err, is_ok, true, slice_get}
+use Rattle.std.specs.Prelude.{◌≡◌, ◌+◌, ℕ, Some, None, Result, Ok, Err, is_ok, true, slice_get}
 use Rattle.brc_words.specs.declared.fault.Fault.{Fault}
 use Rattle.brc_words.specs.declared.fault.Fault.TheVariants as faults
 use Rattle.brc_block.specs.declared.payload.Payload.{Payload}
@@ -7,7 +7,6 @@ use Rattle.brc_runs.specs.declared.event.Change.{Change}
 use Rattle.brc_runs.specs.declared.event.Change.TheVariants.{Keep, Put, Take, Swap}
 use Rattle.brc_runs.specs.declared.event.Source.TheVariants as sources
 use Rattle.brc_rule.specs.declared.contents.Contents.{Contents}
-use Rattle.brc_rule.specs.Logs.{entries_in}
 use Rattle.brc_table.specs.Shown.{contents_of}
 use Rattle.brc_count.specs.Frames.{FrameSeen, HandleSeen, Given, Refused}
 use Rattle.brc_count.specs.Locking.{IsLocked, KeepsFrame, ChangesPlace, Ended, cell_in, cell_locked, contents_found, entries_found}

@@ -1,4 +1,4 @@
-use Rattle.std.proofs.Common.{◌-◌, length, sym, ◌∙◌, ap}
+use Rattle.std.proofs.Common.{◌-◌, length, ◌∙◌, ap}
 use Rattle.brc_words.specs.declared.kind.Kind.TheVariants as kinds
 use Rattle.brc_block.specs.declared.payload.Payload.{Payload}
 use Rattle.brc_block.specs.Payload.{entries_of}
@@ -14,6 +14,6 @@ returns-clause-popped g c =
     let last = c.saturating_sub-last.result in
     let block = c.begin_late-block.result in
     late_takes c.args.frame.now c.begin_late-block.new.frame c.take_locked.new.frame c.args.list.now.place block (plain_take kinds.«List» last) plain_pop c.take_locked.result
-        (pop_at (contents_found c.begin_late-block.new.frame) block.1 last c.begin_late-block.ensures.began.found
-            (c.saturating_sub-last.ensures ∙ ap (λ n. n - 1) c.len.ensures ∙ ap (λ (p : Payload g.row.A.Denot). length (entries_of p) - 1) c.payload.ensures))
-        c.begin_late-block.ensures c.take_locked.ensures.taken
+    (pop_at (contents_found c.begin_late-block.new.frame) block.1 last c.begin_late-block.ensures.began.found
+    (c.saturating_sub-last.ensures ∙ ap (λ n. n - 1) c.len.ensures ∙ ap (λ (p : Payload g.row.A.Denot). length (entries_of p) - 1) c.payload.ensures))
+    c.begin_late-block.ensures c.take_locked.ensures.taken

@@ -9,4 +9,4 @@ returns-clause-waited g c = put_waited plain_push (contents_found c.begin_late-b
 pub returns-clause-refused : goal.returns-clause-refused
 returns-clause-refused g c =
     late_put_refused c.args.frame.now c.begin_late-block.new.frame c.put_locked.new.frame c.args.list.now.place c.args.value.place c.begin_late-block.result plain_push c.put_locked.result
-        c.begin_late-block.ensures c.put_locked.ensures.kept c.put_locked.ensures.refused
+    c.begin_late-block.ensures c.put_locked.ensures.kept c.put_locked.ensures.refused
