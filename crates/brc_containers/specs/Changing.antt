@@ -12,7 +12,7 @@ use Rattle.brc_rule.specs.declared.told.Moved.TheVariants as moves
 use Rattle.brc_rule.specs.declared.told.Told.TheVariants.{Did}
 use Rattle.brc_rule.specs.Logs.{entries_in}
 use Rattle.brc_count.specs.Frames.{FrameSeen, HandleSeen, IsUnlocked, Given, Refused}
-use Rattle.brc_count.specs.Locking.{Busy, KeepsThread, ChangesPlace, cell_in}
+use Rattle.brc_count.specs.Locking.{Busy, KeepsThread, KeepsFrame, ChangesPlace, cell_in}
 use Rattle.brc_containers.specs.Looking.{Waits}
 
 -- A call on plain data: what is found goes in; the answer and what is left come out, or why there is none.
@@ -94,6 +94,8 @@ module _ {A : Type 0} where
     pub locks : locked.seat.log ≡ Did (Lock k) 0 (moves.Found cell found) ∷ old.seat.log
     pub gives : Given locked shared (sources.Entry index) entry given
     pub unlocks : new.seat.log ≡ Did (Unlock Keep) 0 (moves.Put cell found) ∷ shared.seat.log
+    pub before : KeepsPlaces old locked
+    pub after : KeepsFrame shared new
     pub unlocked : IsUnlocked new
     pub keeps : KeepsThread old new
 
@@ -112,6 +114,11 @@ module _ {A R : Type 0} where
     pub found : Contents
     pub looks : Changes old new k found Keep found
     pub plain : is_ok (call found) ≡ true
+
+  -- Why a call is refused that wants neither memory nor a place: Busy comes first.
+  abbrev pub RefusedCall : FrameSeen A → FrameSeen A → ℕ → PlainCall R → Fault → Type 0
+  RefusedCall old new k call faults.Busy = Busy old new k
+  RefusedCall old new k call fault = RefusedPlainly old new k call fault
 
   -- Why a call is refused that may want memory for an entry: Busy comes first, what the plain call says next, and want of
   -- memory last.

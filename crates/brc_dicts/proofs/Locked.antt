@@ -18,7 +18,7 @@ use Rattle.brc_table.specs.Shown.{contents_of}
 use Rattle.brc_count.specs.Frames.{FrameSeen, HandleSeen, Given, Refused, IsAsBefore}
 use Rattle.brc_count.specs.Locking.{Began, Ended, KeepsThread, ChangesPlace, cell_in, contents_found, entries_found}
 use Rattle.brc_containers.specs.Changing.{PlainCall, Changes, KeepsPlaces, Puts, Swaps, Takes, Shares, RefusedPlainly, RefusedForWant, RefusedEntry, RefusedPlace}
-use Rattle.brc_containers.proofs.Kept.{thread_kept_on}
+use Rattle.brc_lock.proofs.Kept.{thread_kept_on}
 use Rattle.brc_dicts.specs.Since.{HasLocked}
 use Rattle.brc_dicts.specs.Plain.{plain_put}
 use Rattle.brc_dicts.specs.Putting.{RefusedRoom}

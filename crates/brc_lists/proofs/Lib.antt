@@ -1,0 +1,3 @@
+pub mod Rows_Law
+pub mod Within_Law
+pub mod Joining

@@ -1,0 +1,124 @@
+//! The calls on a list that never wait.
+
+ghost use Rattle.std.specs.Prelude.{◌≡◌, ◌≢◌, ℕ, Some, IfOk, IfErr, OnOk, OnErr};
+ghost use Rattle.brc_count.specs.Frames.{IsUnlocked, Owns};
+ghost use Rattle.brc_count.specs.Locking.{KeepsThread, KeepsFrame, cell_in};
+ghost use Rattle.brc_containers.specs.Changing.{KeepsPlaces, Puts, Swaps, Takes, Shares, RefusedCall, RefusedEntry, RefusedPlace};
+ghost use Rattle.brc_containers.specs.Handles.{Keeps, Gains, Loses};
+ghost use Rattle.brc_lists.specs.Plain.{plain_push, plain_pop, plain_get, plain_set};
+
+use crate::within::{put_locked, share_locked, swap_locked, take_locked};
+use brc_count::{Frame, Handle};
+use brc_counter::Home;
+use brc_words::{Fault, Kind};
+use std::alloc::Allocator;
+
+/// The value's reference becomes the last entry of the list. A refusal hands the value back: Busy where another thread has the
+/// object locked, then WrongKind where it is no list, Full where it has 1,048,576 entries, and OutOfMemory.
+pub fn try_list_push<H: Home<A>, A: Allocator>(
+    frame: &mut Frame<H, A>,
+    list: &Handle,
+    value: Handle,
+) -> Result<(), (Fault, Handle)>
+    requires owned { Owns frame.old list.now }
+    requires value_owned { Owns frame.old value }
+    requires apart { value.place ≢ list.now.place }
+    requires unlocked { IsUnlocked frame.old }
+    ensures thread { KeepsThread frame.old frame.new }
+    ensures unlocked { IsUnlocked frame.new }
+
+    ensures pushed { OnOk result (Puts frame.old frame.new list.now.place value.place plain_push tt) }
+    ensures loses { OnOk result (Loses frame.old frame.new value) }
+
+    ensures back { IfErr result (λ refused. refused.1 ≡ value) }
+    ensures kept { OnErr result (Keeps frame.old frame.new) }
+    ensures frame { OnErr result (KeepsFrame frame.old frame.new) }
+    ensures refused { IfErr result (λ refused. (c : ℕ) → cell_in frame.old value.place ≡ Some c →
+        RefusedEntry frame.old frame.new list.now.place (plain_push c) refused.0) }
+{
+    let Some(block) = frame.begin(list) else {
+        return Err((Fault::Busy, value));
+    };
+    put_locked(frame, Kind::List, block, value)
+}
+
+/// The reference of the list's last entry is the answer's now. The faults come in this order: Busy where another thread has the
+/// object locked, WrongKind where it is no list, NoSuchPlace where it has no entry, FrameFull, OutOfMemory.
+pub fn try_list_pop<H: Home<A>, A: Allocator>(
+    frame: &mut Frame<H, A>,
+    list: &Handle,
+) -> Result<Handle, Fault>
+    requires owned { Owns frame.old list.now }
+    requires unlocked { IsUnlocked frame.old }
+    ensures thread { KeepsThread frame.old frame.new }
+    ensures unlocked { IsUnlocked frame.new }
+
+    ensures popped { IfOk result (Takes frame.old frame.new list.now.place plain_pop) }
+    ensures gains { IfOk result (Gains frame.old frame.new) }
+
+    ensures kept { OnErr result (Keeps frame.old frame.new) }
+    ensures places { OnErr result (KeepsPlaces frame.old frame.new) }
+    ensures refused { IfErr result (RefusedPlace frame.old frame.new list.now.place plain_pop) }
+{
+    let Some(block) = frame.begin(list) else {
+        return Err(Fault::Busy);
+    };
+    let last = block.payload().len().saturating_sub(1);
+    take_locked(frame, Kind::List, block, last)
+}
+
+/// A handle more to an entry of the list. The faults come in this order: Busy where another thread has the object locked,
+/// WrongKind where it is no list, NoSuchPlace past its end, FrameFull, OutOfMemory.
+pub fn try_list_get<H: Home<A>, A: Allocator>(
+    frame: &mut Frame<H, A>,
+    list: &Handle,
+    index: u32,
+) -> Result<Handle, Fault>
+    requires owned { Owns frame.old list.now }
+    requires unlocked { IsUnlocked frame.old }
+    ensures thread { KeepsThread frame.old frame.new }
+    ensures unlocked { IsUnlocked frame.new }
+
+    ensures shared { IfOk result (Shares frame.old frame.new list.now.place (plain_get index)) }
+    ensures gains { IfOk result (Gains frame.old frame.new) }
+
+    ensures kept { OnErr result (Keeps frame.old frame.new) }
+    ensures places { OnErr result (KeepsPlaces frame.old frame.new) }
+    ensures refused { IfErr result (RefusedPlace frame.old frame.new list.now.place (plain_get index)) }
+{
+    let Some(block) = frame.begin(list) else {
+        return Err(Fault::Busy);
+    };
+    share_locked(frame, block, index)
+}
+
+/// The references of an entry of the list and of the value are exchanged; the answer is the same handle, which has the old
+/// entry's now. It takes no memory. A refusal hands the value back: Busy where another thread has the object locked, then
+/// WrongKind where it is no list, and NoSuchPlace past its end.
+pub fn try_list_set<H: Home<A>, A: Allocator>(
+    frame: &mut Frame<H, A>,
+    list: &Handle,
+    index: u32,
+    value: Handle,
+) -> Result<Handle, (Fault, Handle)>
+    requires owned { Owns frame.old list.now }
+    requires value_owned { Owns frame.old value }
+    requires apart { value.place ≢ list.now.place }
+    requires unlocked { IsUnlocked frame.old }
+    ensures thread { KeepsThread frame.old frame.new }
+    ensures unlocked { IsUnlocked frame.new }
+    ensures kept { Keeps frame.old frame.new }
+
+    ensures set { OnOk result (Swaps frame.old frame.new list.now.place value.place (plain_set index) (λ entry. entry)) }
+    ensures same { IfOk result (λ old. old ≡ value) }
+
+    ensures back { IfErr result (λ refused. refused.1 ≡ value) }
+    ensures frame { OnErr result (KeepsFrame frame.old frame.new) }
+    ensures refused { IfErr result (λ refused. (c : ℕ) → cell_in frame.old value.place ≡ Some c →
+        RefusedCall frame.old frame.new list.now.place (plain_set index c) refused.0) }
+{
+    let Some(block) = frame.begin(list) else {
+        return Err((Fault::Busy, value));
+    };
+    swap_locked(frame, block, index, value)
+}

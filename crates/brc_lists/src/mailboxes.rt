@@ -1,0 +1,67 @@
+//! The calls on a mailbox that never wait.
+
+ghost use Rattle.std.specs.Prelude.{◌≡◌, ◌≢◌, ℕ, Some, IfOk, IfErr, OnOk, OnErr};
+ghost use Rattle.brc_count.specs.Frames.{IsUnlocked, Owns};
+ghost use Rattle.brc_count.specs.Locking.{KeepsThread, KeepsFrame, cell_in};
+ghost use Rattle.brc_containers.specs.Changing.{KeepsPlaces, Puts, Takes, RefusedEntry, RefusedPlace};
+ghost use Rattle.brc_containers.specs.Handles.{Keeps, Gains, Loses};
+ghost use Rattle.brc_lists.specs.Plain.{plain_send, plain_receive};
+
+use crate::within::{put_locked, take_locked};
+use brc_count::{Frame, Handle};
+use brc_counter::Home;
+use brc_words::{Fault, Kind};
+use std::alloc::Allocator;
+
+/// The value's reference becomes the last entry of the mailbox. A refusal hands the value back: Busy where another thread has
+/// the object locked, then WrongKind where it is no mailbox, Full where it has 1,048,576 entries, and OutOfMemory.
+pub fn try_send<H: Home<A>, A: Allocator>(
+    frame: &mut Frame<H, A>,
+    mailbox: &Handle,
+    value: Handle,
+) -> Result<(), (Fault, Handle)>
+    requires owned { Owns frame.old mailbox.now }
+    requires value_owned { Owns frame.old value }
+    requires apart { value.place ≢ mailbox.now.place }
+    requires unlocked { IsUnlocked frame.old }
+    ensures thread { KeepsThread frame.old frame.new }
+    ensures unlocked { IsUnlocked frame.new }
+
+    ensures sent { OnOk result (Puts frame.old frame.new mailbox.now.place value.place plain_send tt) }
+    ensures loses { OnOk result (Loses frame.old frame.new value) }
+
+    ensures back { IfErr result (λ refused. refused.1 ≡ value) }
+    ensures kept { OnErr result (Keeps frame.old frame.new) }
+    ensures frame { OnErr result (KeepsFrame frame.old frame.new) }
+    ensures refused { IfErr result (λ refused. (c : ℕ) → cell_in frame.old value.place ≡ Some c →
+        RefusedEntry frame.old frame.new mailbox.now.place (plain_send c) refused.0) }
+{
+    let Some(block) = frame.begin(mailbox) else {
+        return Err((Fault::Busy, value));
+    };
+    put_locked(frame, Kind::Mailbox, block, value)
+}
+
+/// The reference of the mailbox's first entry is the answer's now. The faults come in this order: Busy where another thread has
+/// the object locked, WrongKind where it is no mailbox, NoSuchPlace where it has no entry, FrameFull, OutOfMemory.
+pub fn try_recv<H: Home<A>, A: Allocator>(
+    frame: &mut Frame<H, A>,
+    mailbox: &Handle,
+) -> Result<Handle, Fault>
+    requires owned { Owns frame.old mailbox.now }
+    requires unlocked { IsUnlocked frame.old }
+    ensures thread { KeepsThread frame.old frame.new }
+    ensures unlocked { IsUnlocked frame.new }
+
+    ensures received { IfOk result (Takes frame.old frame.new mailbox.now.place plain_receive) }
+    ensures gains { IfOk result (Gains frame.old frame.new) }
+
+    ensures kept { OnErr result (Keeps frame.old frame.new) }
+    ensures places { OnErr result (KeepsPlaces frame.old frame.new) }
+    ensures refused { IfErr result (RefusedPlace frame.old frame.new mailbox.now.place plain_receive) }
+{
+    let Some(block) = frame.begin(mailbox) else {
+        return Err(Fault::Busy);
+    };
+    take_locked(frame, Kind::Mailbox, block, 0)
+}
