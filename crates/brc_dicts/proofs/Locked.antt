@@ -16,7 +16,7 @@ use Rattle.brc_rule.specs.declared.told.Told.TheVariants.{Did}
 use Rattle.brc_rule.specs.Logs.{entries_in}
 use Rattle.brc_table.specs.Shown.{contents_of}
 use Rattle.brc_count.specs.Frames.{FrameSeen, HandleSeen, Given, Refused, IsAsBefore}
-use Rattle.brc_count.specs.Locking.{Began, Ended, KeepsThread, ChangesPlace, cell_in, contents_found, entries_found}
+use Rattle.brc_count.specs.Locking.{Began, Ended, KeepsThread, KeepsFrame, ChangesPlace, cell_in, contents_found, entries_found}
 use Rattle.brc_containers.specs.Changing.{PlainCall, Changes, KeepsPlaces, Puts, Swaps, Takes, Shares, RefusedPlainly, RefusedForWant, RefusedEntry, RefusedPlace}
 use Rattle.brc_lock.proofs.Kept.{thread_kept_on}
 use Rattle.brc_dicts.specs.Since.{HasLocked}
@@ -148,10 +148,10 @@ module _ {A : Type 0} where
   }
 
   pub shares_since : (before now shared new : FrameSeen A) (k : ℕ) (block : ℕ × Payload A) (call : PlainCall ℕ) (index cell : ℕ) (given : HandleSeen)
-      → Stood before now k block → Given now shared (sources.Entry index) cell given → shared.heap ≡ now.heap → Ended shared new Keep block
+      → Stood before now k block → Given now shared (sources.Entry index) cell given → shared.heap ≡ now.heap → Ended shared new Keep block → KeepsFrame shared new
       → slice_get (entries_of block.1) index ≡ Some cell → call (contents_of block.1) ≡ Ok (cell, contents_of block.1)
       → Shares before new k call given
-  shares_since before now shared new k block call index cell given was gives heap ended entry plain = record {
+  shares_since before now shared new k block call index cell given was gives heap ended frame entry plain = record {
     found = contents_of block.1;
     index = index;
     entry = cell;
@@ -164,6 +164,8 @@ module _ {A : Type 0} where
     locks = was.began.event;
     gives = gives;
     unlocks = ended.event;
+    before = was.places;
+    after = frame;
     unlocked = ended.unlocked;
     keeps = thread_kept_on was.keeps (thread_kept_on (given_keeps now shared (sources.Entry index) cell given gives heap) ended.keeps);
   }

@@ -9,9 +9,9 @@ ghost use Rattle.brc_containers.specs.Handles.{Keeps, Gains, Loses};
 ghost use Rattle.brc_lists.specs.Plain.{plain_push, plain_pop, plain_get, plain_set, plain_send, plain_receive};
 
 use crate::within::{put_locked, share_locked, swap_locked, take_locked};
-use brc_lock::begin_late;
 use brc_count::{Frame, Handle};
 use brc_counter::Home;
+use brc_lock::begin_late;
 use brc_words::{Fault, Kind};
 use std::alloc::Allocator;
 use std::sync::Wait;

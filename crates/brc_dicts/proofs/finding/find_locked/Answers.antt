@@ -43,6 +43,6 @@ returns-clause-shares g c = λ before k since.
     let there = subst (λ p. IsThere p c.args.key.now c.in-There.index c.in-There.cell) c.payload.ensures c.in-There.ensures in
     let was = stood_placed before c.args.frame.now c.place.new.self k c.args.block since c.place.ensures.same in
     shares_since before c.place.new.self c.up_entry-given.new.self c.end_keep-2.new.self k c.args.block (plain_find c.args.key.now) c.in-Ok.index c.in-There.cell c.up_entry-given.result
-    was c.up_entry-given.ensures.given c.up_entry-given.ensures.heap c.end_keep-2.ensures.ended
+    was c.up_entry-given.ensures.given c.up_entry-given.ensures.heap c.end_keep-2.ensures.ended c.end_keep-2.ensures.frame
     (ap (slice_get (entries_of c.args.block.1)) c.in-Ok.ensures.1 ∙ entry_there c.args.block.1 c.args.key.now c.in-There.index c.in-There.cell there)
     (find_there c.args.key.now c.args.block.1 c.in-There.index c.in-There.cell there)
