@@ -121,14 +121,7 @@ fn what_another_thread_has_locked_is_busy(rt: HostRuntime) {
     let globals = the_globals(&rt, first.frame());
     let others = the_globals(&rt, second.frame());
     let list = a_list(&rt, rt.alloc(), second.frame());
-    let list = locks_meanwhile(
-        &rt,
-        first.frame(),
-        &globals,
-        second.frame(),
-        &others,
-        list,
-    );
+    let list = locks_meanwhile(&rt, first.frame(), &globals, second.frame(), &others, list);
     puts_then(&rt, second.frame(), &others, list);
     give_back(&rt, first.frame(), globals);
     give_back(&rt, second.frame(), others);

@@ -21,7 +21,8 @@ fn fill<R: Abort + Wait, H: Home<A>, A: Allocator>(
     frame: &mut Frame<H, A>,
     list: &Handle,
     count: u32,
-) where
+)
+where
     A: Copy,
     requires unlocked { IsUnlocked frame.old }
     ensures heap { frame.new.heap ≡ frame.old.heap }

@@ -3,7 +3,7 @@
 ghost use Rattle.std.specs.Prelude.{◌≡◌};
 ghost use Rattle.brc_count.specs.Frames.{IsUnlocked};
 
-use brc_containers::int_of;
+use brc_containers::{int_of, len_of};
 use brc_count::{Frame, Handle};
 use brc_counter::Home;
 use brc_dicts::{dict_del, dict_find, dict_put};
@@ -222,6 +222,20 @@ pub(crate) fn letter<R: Abort + Wait, H: Home<A>, A: Allocator>(
         Ok(handle) => Some(handle),
         Err(_) => None,
     }
+}
+
+/// The mailbox has no letter.
+pub(crate) fn has_no_letter<R: Abort + Wait, H: Home<A>, A: Allocator>(
+    rt: &R,
+    frame: &mut Frame<H, A>,
+    mailbox: &Handle,
+)
+    requires unlocked { IsUnlocked frame.old }
+    ensures heap { frame.new.heap ≡ frame.old.heap }
+    ensures unlocked { IsUnlocked frame.new }
+{
+    assert!(rt; frame.owns(mailbox));
+    assert!(rt; len_of(rt, frame, mailbox) == Ok(0));
 }
 
 /// The value goes into the globals, under a new key.

@@ -279,10 +279,7 @@ fn shared<R: Abort + Wait, H: Home<A>, A: Allocator>(
 }
 
 /// The container under 7 is taken out of the globals.
-fn taken_out<R: Abort + Wait, H: Home<A>, A: Allocator>(
-    rt: &R,
-    frame: &mut Frame<H, A>,
-) -> Handle
+fn taken_out<R: Abort + Wait, H: Home<A>, A: Allocator>(rt: &R, frame: &mut Frame<H, A>) -> Handle
     requires unlocked { IsUnlocked frame.old }
     ensures heap { frame.new.heap ≡ frame.old.heap }
     ensures unlocked { IsUnlocked frame.new }

@@ -5,8 +5,8 @@ ghost use Rattle.brc_count.specs.Frames.{IsUnlocked};
 ghost use Rattle.brc_sharing.specs.Threads.{BothOf, BothPlayed};
 
 use crate::objects::{
-    a_list, a_mailbox, an_int, exchange, fetch, give_back, letter, number_of, pop, post, push, share,
-    the_globals, unshare,
+    a_list, a_mailbox, an_int, exchange, fetch, give_back, has_no_letter, letter, number_of, pop,
+    post, push, share, the_globals, unshare,
 };
 use crate::sums::sum_of;
 use crate::threads::{a_heap, a_thread, ends, is_empty, retires};
@@ -172,7 +172,9 @@ fn plays<R: Abort + Wait>(
     for turn in 0..turns {
         let number = turn.wrapping_add(1_000);
         let got = plays_once(rt, alloc, mutator.frame(), number);
-        left = left.wrapping_add(got).wrapping_sub((number as u64).wrapping_mul(4));
+        left = left
+            .wrapping_add(got)
+            .wrapping_sub((number as u64).wrapping_mul(4));
         let _told = mutator.poll();
         let _left = mutator.work(16);
     }
@@ -248,12 +250,7 @@ fn rests(
 }
 
 /// Two threads are gathered.
-fn gathered(
-    heap: &Heap<Global>,
-    root: &mut Root<Global>,
-    played: (Played, Played),
-    sum: Sum,
-) -> Sum
+fn gathered(heap: &Heap<Global>, root: &mut Root<Global>, played: (Played, Played), sum: Sum) -> Sum
     requires heap { root.old.table ≡ heap.now.table }
     requires same { BothPlayed heap.now played }
     ensures root { root.new.table ≡ root.old.table }
@@ -264,12 +261,7 @@ fn gathered(
 }
 
 /// A thread is gathered.
-fn gathered_one(
-    heap: &Heap<Global>,
-    root: &mut Root<Global>,
-    played: Played,
-    sum: Sum,
-) -> Sum
+fn gathered_one(heap: &Heap<Global>, root: &mut Root<Global>, played: Played, sum: Sum) -> Sum
     requires heap { root.old.table ≡ heap.now.table }
     requires same { played.retired.heap ≡ heap.now }
     ensures root { root.new.table ≡ root.old.table }
@@ -296,7 +288,7 @@ fn takes_down<R: Abort + Wait, H: Home<A>, A: Allocator>(rt: &R, frame: &mut Fra
     let listed = gets(rt, frame, last);
     give_back(rt, frame, list);
     let mailbox = unshare(rt, frame, &globals, 2);
-    assert!(rt; letter(rt, frame, &mailbox).is_none());
+    has_no_letter(rt, frame, &mailbox);
     give_back(rt, frame, mailbox);
     let value = unshare(rt, frame, &globals, 3);
     let stood = gets(rt, frame, value);
