@@ -231,6 +231,7 @@ impl<H: Home<A>, A: Allocator> Frame<H, A> {
     /// Takes dead blocks apart, at most so many turns: in one, the front block's last entry is released, or, if it has
     /// none, the block is given back. The answer is the number of turns that weren't needed: above 0 only where no block is
     /// left. It takes no memory.
+    #[inline(always)]
     pub fn work(&mut self, budget: usize) -> usize
         requires unlocked { IsUnlocked self.old }
         ensures keeps { KeepsHandles self.old self.new }

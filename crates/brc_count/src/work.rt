@@ -23,6 +23,9 @@ impl<H: Home<A>, A: Allocator> Holdings<H, A> {
         ensures idle { IsFalse result → self.new.works ≡ [] }
         ensures unchanged { IsFalse result → self.new ≡ self.old }
     {
+        if self.works.len() == 0 {
+            return false;
+        }
         if let Some(entry) = self.works.pop_entry() {
             let Some(front) = self.works.front() else {
                 unreachable!()
@@ -43,6 +46,7 @@ impl<H: Home<A>, A: Allocator> Holdings<H, A> {
     }
 
     /// At most so many turns; the answer is the number of turns that weren't needed.
+    #[inline(always)]
     pub(crate) fn work(&mut self, budget: usize) -> usize
         requires stage { MayGiveUp self.old }
         requires unlocked { IsUnlocked self.old }

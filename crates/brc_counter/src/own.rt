@@ -20,7 +20,7 @@ use std::alloc::Allocator;
 
 /// The thread's count of its own object came to 0: where nobody else has counted or asked the object is dead, and else the
 /// counts are merged.
-#[inline(never)]
+#[inline(always)]
 pub(crate) fn end_own<A: Allocator>(
     table: &HeapTable<A>,
     seat: &mut ThreadSeat<A>,
