@@ -57,11 +57,11 @@ impl<H: Home<A>, A: Allocator> Counter<H, A> {
             risen_seen self.old.heap.cells self.new.seat.log (drops.Frame k) c ≡ true }
     {
         let cell = block.cell();
+        self.counts[cell as usize] = 1;
         let table = self.heap.table();
         table.init_local(&mut self.seat, cell);
         table.init_shared(&mut self.seat, cell);
         table.birth(&mut self.seat, block, kind, place);
-        self.counts[cell as usize] = 1;
     }
 
     /// The cell of a dead object without entries is free again; 64 bits count what the thread has freed.

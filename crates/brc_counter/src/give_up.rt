@@ -66,8 +66,8 @@ impl<H: Home<A>, A: Allocator> Counter<H, A> {
             }
             return release_shared(table, &mut self.seat, drop, cell);
         }
-        let block = release_own(table, &mut self.seat, drop, cell, count);
+        // The thread's own memory comes first: what is loaded after the word's store waits for it.
         self.counts[cell as usize] = count - 1;
-        block
+        release_own(table, &mut self.seat, drop, cell, count)
     }
 }

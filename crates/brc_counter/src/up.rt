@@ -52,8 +52,9 @@ impl<H: Home<A>, A: Allocator> Counter<H, A> {
         let count = self.counts[cell as usize];
         let table = self.heap.table();
         if 0 < count && count < table.local_limit() {
-            table.local_up(&mut self.seat, source, place, cell, count);
+            // First, as in `give_up`.
             self.counts[cell as usize] = count + 1;
+            table.local_up(&mut self.seat, source, place, cell, count);
             return false;
         }
         if cell < FIRST_MORTAL {
