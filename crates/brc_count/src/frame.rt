@@ -110,6 +110,7 @@ impl<H: Home<A>, A: Allocator> Frame<H, A> {
     }
 
     /// The cell of the object that the handle is a reference to.
+    #[inline(always)]
     pub fn cell(&self, handle: &Handle) -> u32
         requires owned { Owns self.now handle.now }
         ensures cell { place_seen self.now.heap.cells self.now.seat.log handle.now.place ≡ Some result }
@@ -145,6 +146,7 @@ impl<H: Home<A>, A: Allocator> Frame<H, A> {
 
     /// One handle more to the same object, in one event (PEP 703, "Biased Reference Counting"). FrameFull where the next
     /// place isn't below 65,536, looked at first; OutOfMemory where a place more can't be had. A refusal changes nothing.
+    #[inline(always)]
     pub fn retain(&mut self, handle: &Handle) -> Result<Handle, Fault>
         requires owned { Owns self.old handle.now }
         requires unlocked { IsUnlocked self.old }
@@ -165,6 +167,7 @@ impl<H: Home<A>, A: Allocator> Frame<H, A> {
     }
 
     /// A handle to an immortal, cell 0 to 265, in one event that only looks. It is refused as `retain` is.
+    #[inline(always)]
     pub fn immortal(&mut self, cell: u32) -> Result<Handle, Fault>
         requires immortal { cell < FIRST_MORTAL }
         requires unlocked { IsUnlocked self.old }
@@ -188,6 +191,7 @@ impl<H: Home<A>, A: Allocator> Frame<H, A> {
     /// come in this order, and each hands the payload back: FrameFull where the next place isn't below 65,536; LedgerFull
     /// where the thread has made 2^47 objects; OutOfMemory where the place or the block can't be had; HeapFull where all
     /// mortal cells were found taken. A container's payload is empty.
+    #[inline(always)]
     pub fn born(&mut self, alloc: A, payload: Payload<A>) -> Result<Handle, (Fault, Payload<A>)>
         requires unlocked { IsUnlocked self.old }
         requires mortal { is_mortal (kind_in (contents_of payload)) ≡ true }
@@ -206,6 +210,7 @@ impl<H: Home<A>, A: Allocator> Frame<H, A> {
 
     /// The reference goes, in at most five events and one lost exchange, whatever others do; where the object ends, its
     /// block is on the front of the worklist (PEP 703, "Biased Reference Counting").
+    #[inline(always)]
     pub fn release(&mut self, handle: Handle)
         requires owned { Owns self.old handle }
         requires unlocked { IsUnlocked self.old }
@@ -226,6 +231,7 @@ impl<H: Home<A>, A: Allocator> Frame<H, A> {
     /// Takes dead blocks apart, at most so many turns: in one, the front block's last entry is released, or, if it has
     /// none, the block is given back. The answer is the number of turns that weren't needed: above 0 only where no block is
     /// left. It takes no memory.
+    #[inline(always)]
     pub fn work(&mut self, budget: usize) -> usize
         requires unlocked { IsUnlocked self.old }
         ensures keeps { KeepsHandles self.old self.new }

@@ -83,6 +83,7 @@ impl<H: Home<A>, A: Allocator> Holdings<H, A> {
     }
 
     /// The cell to which a place has a reference.
+    #[inline(always)]
     pub(crate) fn cell(&self, place: u32) -> Option<u32>
         ensures has { place_seen self.now.heap.cells self.now.seat.log place ≡ result }
         ensures inside { IfSome result (λ cell. cell < self.now.heap.cells) }
@@ -95,6 +96,7 @@ impl<H: Home<A>, A: Allocator> Holdings<H, A> {
 
     /// Makes sure that the next place can be filled: FrameFull where it isn't below 65,536, looked at first; OutOfMemory where
     /// memory for it can't be had.
+    #[inline(always)]
     pub(crate) fn reserve(&mut self) -> Result<(), Fault>
         ensures room { OnOk result (0 < self.new.spare) }
         ensures low { OnOk result (self.old.next < MOST_PLACES) }
@@ -112,6 +114,7 @@ impl<H: Home<A>, A: Allocator> Holdings<H, A> {
     }
 
     /// The next place gets a reference to the source's cell; the answer is that place.
+    #[inline(always)]
     pub(crate) fn fill(&mut self, source: Source, cell: u32) -> u32
         requires inside { cell < self.old.heap.cells }
         requires low { self.old.next < MOST_PLACES }
@@ -130,6 +133,7 @@ impl<H: Home<A>, A: Allocator> Holdings<H, A> {
     }
 
     /// A place's reference goes; where the object ends, its block is on the front of the worklist.
+    #[inline(always)]
     pub(crate) fn release(&mut self, place: u32)
         requires filled { place_seen self.old.heap.cells self.old.seat.log place ≢ None }
         requires stage { MayGiveUp self.old }

@@ -17,6 +17,7 @@ use std::alloc::Allocator;
 
 impl<H: Home<A>, A: Allocator> Holdings<H, A> {
     /// Has a place and a block ready for a new object. The faults come in this order: FrameFull, LedgerFull, OutOfMemory.
+    #[inline(always)]
     fn ready(&mut self, alloc: A, payload: Payload<A>) -> Result<Block<A>, (Fault, Payload<A>)>
         ensures block { IfOk result (λ block. block.1 ≡ payload) }
         ensures room { OnOk result (0 < self.new.spare) }
@@ -39,6 +40,7 @@ impl<H: Home<A>, A: Allocator> Holdings<H, A> {
     }
 
     /// The block becomes a new object, in the first cell that is to be had; it is answered where none is.
+    #[inline(always)]
     fn make(&mut self, block: Block<A>) -> Result<u32, Block<A>>
         requires low { self.old.next < MOST_PLACES }
         requires room { 0 < self.old.spare }
@@ -68,6 +70,7 @@ impl<H: Home<A>, A: Allocator> Holdings<H, A> {
     }
 
     /// A new object, and the place that has its first reference. A refusal hands the payload back.
+    #[inline(always)]
     pub(crate) fn born(&mut self, alloc: A, payload: Payload<A>) -> Result<u32, (Fault, Payload<A>)>
         requires active { IsActive self.old }
         requires unlocked { IsUnlocked self.old }

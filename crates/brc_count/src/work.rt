@@ -13,6 +13,7 @@ use std::alloc::Allocator;
 impl<H: Home<A>, A: Allocator> Holdings<H, A> {
     /// One turn: the front block's last entry is released, or, if it has none, the block is given back; false where there
     /// is no block.
+    #[inline(always)]
     pub(crate) fn turn(&mut self) -> bool
         requires stage { MayGiveUp self.old }
         requires unlocked { IsUnlocked self.old }
@@ -22,6 +23,9 @@ impl<H: Home<A>, A: Allocator> Holdings<H, A> {
         ensures idle { IsFalse result → self.new.works ≡ [] }
         ensures unchanged { IsFalse result → self.new ≡ self.old }
     {
+        if self.works.len() == 0 {
+            return false;
+        }
         if let Some(entry) = self.works.pop_entry() {
             let Some(front) = self.works.front() else {
                 unreachable!()
@@ -42,6 +46,7 @@ impl<H: Home<A>, A: Allocator> Holdings<H, A> {
     }
 
     /// At most so many turns; the answer is the number of turns that weren't needed.
+    #[inline(always)]
     pub(crate) fn work(&mut self, budget: usize) -> usize
         requires stage { MayGiveUp self.old }
         requires unlocked { IsUnlocked self.old }

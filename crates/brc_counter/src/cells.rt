@@ -31,6 +31,7 @@ use std::alloc::Allocator;
 impl<H: Home<A>, A: Allocator> Counter<H, A> {
     /// An object is born in the cell that the thread has claimed: its words are set, its block is put home, and the place of
     /// the frame has the first reference, which the thread counts on its own.
+    #[inline(always)]
     pub fn bear(&mut self, block: Block<A>, kind: Kind, place: u32)
         requires inside { block.0 < self.old.heap.cells }
         requires mortal { FIRST_MORTAL ≤ block.0 }
@@ -56,14 +57,15 @@ impl<H: Home<A>, A: Allocator> Counter<H, A> {
             risen_seen self.old.heap.cells self.new.seat.log (drops.Frame k) c ≡ true }
     {
         let cell = block.cell();
+        self.counts[cell as usize] = 1;
         let table = self.heap.table();
         table.init_local(&mut self.seat, cell);
         table.init_shared(&mut self.seat, cell);
         table.birth(&mut self.seat, block, kind, place);
-        self.counts[cell as usize] = 1;
     }
 
     /// The cell of a dead object without entries is free again; 64 bits count what the thread has freed.
+    #[inline(always)]
     pub fn free(&mut self, cell: u32)
         requires inside { cell < self.old.heap.cells }
         requires slot { self.old.seat.slots ≡ (cell, None) ∷ rest self.old.seat.slots }

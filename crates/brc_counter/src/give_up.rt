@@ -26,6 +26,7 @@ impl<H: Home<A>, A: Allocator> Counter<H, A> {
     /// Gives a reference up, in at most five events and one lost exchange whatever others do, and answers the block of the
     /// object that this ended, if it did (PEP 703, "Biased Reference Counting"). `has_risen` says that the object was seen
     /// queued or merged while the reference was there; then no look is needed.
+    #[inline(always)]
     pub fn give_up(&mut self, drop: Dropped, cell: u32, has_risen: bool) -> Option<Block<A>>
         requires inside { cell < self.old.heap.cells }
         requires holds { Holds self.old.heap.cells self.old.seat.log drop cell }
@@ -65,8 +66,8 @@ impl<H: Home<A>, A: Allocator> Counter<H, A> {
             }
             return release_shared(table, &mut self.seat, drop, cell);
         }
-        let block = release_own(table, &mut self.seat, drop, cell, count);
+        // The thread's own memory comes first: what is loaded after the word's store waits for it.
         self.counts[cell as usize] = count - 1;
-        block
+        release_own(table, &mut self.seat, drop, cell, count)
     }
 }

@@ -20,6 +20,7 @@ use std::alloc::Allocator;
 
 /// The thread's count of its own object came to 0: where nobody else has counted or asked the object is dead, and else the
 /// counts are merged.
+#[inline(always)]
 pub(crate) fn end_own<A: Allocator>(
     table: &HeapTable<A>,
     seat: &mut ThreadSeat<A>,
@@ -57,6 +58,7 @@ pub(crate) fn end_own<A: Allocator>(
 }
 
 /// A reference to an own object goes: the thread counts it down, from the count that its log tells.
+#[inline(always)]
 pub(crate) fn release_own<A: Allocator>(
     table: &HeapTable<A>,
     seat: &mut ThreadSeat<A>,

@@ -26,6 +26,7 @@ use std::alloc::Allocator;
 
 impl<H: Home<A>, A: Allocator> Counter<H, A> {
     /// One cell is looked at, and tried where it is found free; true where it is the thread's.
+    #[inline(always)]
     fn try_cell(&mut self, cell: u32) -> bool
         requires inside { cell < self.old.heap.cells }
         requires mortal { FIRST_MORTAL ≤ cell }
@@ -60,6 +61,7 @@ impl<H: Home<A>, A: Allocator> Counter<H, A> {
     /// Claims the first free cell that the thread gets: the owner words of the mortal cells are looked at from the lowest on,
     /// and each that is found free is tried once. None where all of them were passed over, though one that was looked at
     /// early may be free by then.
+    #[inline(always)]
     pub fn seek(&mut self) -> Option<u32>
         requires stands { Stands self.old.heap.cells self.old.seat.log hands.Free }
         requires active { is_active (part_seen self.old.heap.cells self.old.seat.log).row.stage ≡ true }

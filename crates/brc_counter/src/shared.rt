@@ -22,6 +22,7 @@ use std::alloc::Allocator;
 const ONE_COUNTED: u64 = (1 << 42) + 4;
 
 /// The reference goes in one event: the object was seen queued or merged.
+#[inline(always)]
 pub(crate) fn release_risen<A: Allocator>(
     table: &HeapTable<A>,
     seat: &mut ThreadSeat<A>,
@@ -50,6 +51,7 @@ pub(crate) fn release_risen<A: Allocator>(
 }
 
 /// The thread asks: its reference is to be merged, and is in its hand now; or somebody had asked before, or merged.
+#[inline(never)]
 pub(crate) fn release_asking<A: Allocator>(
     table: &HeapTable<A>,
     seat: &mut ThreadSeat<A>,
@@ -78,6 +80,7 @@ pub(crate) fn release_asking<A: Allocator>(
 
 /// The reference goes by a look at the shared word. One exchange is tried; where it is lost the word has moved, so the count
 /// that was loaded says nothing any more, and asking is right at any count.
+#[inline(always)]
 pub(crate) fn release_shared<A: Allocator>(
     table: &HeapTable<A>,
     seat: &mut ThreadSeat<A>,

@@ -31,6 +31,7 @@ use std::alloc::Allocator;
 impl<H: Home<A>, A: Allocator> Counter<H, A> {
     /// Claims a free cell, which is none of the thread's dead blocks, to make an object in; or answers the number of its owner
     /// word.
+    #[inline(always)]
     pub fn claim(&mut self, cell: u32) -> Result<(), u64>
         requires inside { cell < self.old.heap.cells }
         requires claims { Claims self.old.heap.cells self.old.seat.log cell }

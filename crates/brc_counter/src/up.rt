@@ -22,6 +22,7 @@ impl<H: Home<A>, A: Allocator> Counter<H, A> {
     /// Counts the cell up, in one event: an immortal by a look, an own object below the local limit on its local word, and
     /// all else on the shared word (PEP 703, "Biased Reference Counting"). It answers whether the shared word was found
     /// queued or merged, so that the reference's release needs no look.
+    #[inline(always)]
     pub fn up(&mut self, source: Source, place: u32, cell: u32) -> bool
         requires inside { cell < self.old.heap.cells }
         requires raising { Raising self.old.heap.cells self.old.seat.log source place cell }
@@ -51,8 +52,9 @@ impl<H: Home<A>, A: Allocator> Counter<H, A> {
         let count = self.counts[cell as usize];
         let table = self.heap.table();
         if 0 < count && count < table.local_limit() {
-            table.local_up(&mut self.seat, source, place, cell, count);
+            // First, as in `give_up`.
             self.counts[cell as usize] = count + 1;
+            table.local_up(&mut self.seat, source, place, cell, count);
             return false;
         }
         if cell < FIRST_MORTAL {

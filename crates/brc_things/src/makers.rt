@@ -44,6 +44,7 @@ pub fn truth<H: Home<A>, A: Allocator>(
 }
 
 /// The cell of an integer that is immortal.
+#[inline(always)]
 fn small(number: i64) -> Option<u32>
     ensures { result ≡ small_cell number }
 {
@@ -55,6 +56,7 @@ fn small(number: i64) -> Option<u32>
 
 /// An integer: the immortal one from -5 to 256, else a new object. The faults of a new object come in the order FrameFull,
 /// LedgerFull, OutOfMemory, HeapFull.
+#[inline(always)]
 pub fn new_int<H: Home<A>, A: Allocator>(
     alloc: A,
     frame: &mut Frame<H, A>,
@@ -75,6 +77,7 @@ pub fn new_int<H: Home<A>, A: Allocator>(
 }
 
 /// A new text; a refusal hands it back. The faults come in the order FrameFull, LedgerFull, OutOfMemory, HeapFull.
+#[inline(always)]
 pub fn new_text<H: Home<A>, A: Allocator>(
     alloc: A,
     frame: &mut Frame<H, A>,

@@ -15,7 +15,7 @@ returns-then-count-eq0-clause-told g c =
 
 pub returns-clause-told : goal.returns-clause-told
 returns-clause-told g c =
-    let told = rw c.table-table.ensures at c.release_own-block.ensures.told in
+    let told = rw c.table-table.ensures at c.release_own.ensures.told in
     rw (← c.self.view_is) (ReleaseOwn (search rules) (search rules) told)
 
 pub returns-then-cell-lt-FIRST_MORTAL-clause-bounded : goal.returns-then-cell-lt-FIRST_MORTAL-clause-bounded
@@ -39,8 +39,8 @@ returns-then-count-eq0-clause-dead g c =
 
 pub returns-clause-dead : goal.returns-clause-dead
 returns-clause-dead g c =
-    let known = rw c.table-table.ensures at c.release_own-block.ensures.knows.part in
-    rw (← c.self.view_is) (dead_released _ c.self.inside.seat.log c.release_own-block.new.seat.log c.args.cell c.args.drop c.release_own-block.result known (search rules))
+    let known = rw c.table-table.ensures at c.release_own.ensures.knows.part in
+    rw (← c.self.view_is) (dead_released _ c.self.inside.seat.log c.release_own.new.seat.log c.args.cell c.args.drop c.release_own.result known (search rules))
 
 pub returns-then-cell-lt-FIRST_MORTAL-clause-others : goal.returns-then-cell-lt-FIRST_MORTAL-clause-others
 returns-then-cell-lt-FIRST_MORTAL-clause-others g c =
@@ -59,5 +59,5 @@ returns-then-count-eq0-clause-others g c =
 
 pub returns-clause-others : goal.returns-clause-others
 returns-clause-others g c =
-    let known = rw c.table-table.ensures at c.release_own-block.ensures.knows.part in
-    rw (← c.self.view_is) (dead_stays _ c.self.inside.seat.log c.release_own-block.new.seat.log c.args.cell c.args.drop (is_there c.release_own-block.result) (entries_of c.release_own-block.result) known)
+    let known = rw c.table-table.ensures at c.release_own.ensures.knows.part in
+    rw (← c.self.view_is) (dead_stays _ c.self.inside.seat.log c.release_own.new.seat.log c.args.cell c.args.drop (is_there c.release_own.result) (entries_of c.release_own.result) known)
