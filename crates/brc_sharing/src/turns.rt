@@ -23,7 +23,7 @@ use std::thread::{Threads, join};
 /// What one thread did: it retired, and the numbers of all integers that it got, added, less those that it gave.
 struct Played {
     retired: Retired<Global>,
-    left: u64,
+    left: i64,
 }
 
 /// The globals have a list under 1, with one integer, a mailbox under 2, and an integer under 3. All numbers are 0.
@@ -69,19 +69,6 @@ fn replace<R: Abort + Wait, H: Home<A>, A: Allocator>(
     }
 }
 
-/// The number of an integer, whose handle goes, as a sum may have it.
-fn gets<R: Abort + Wait, H: Home<A>, A: Allocator>(
-    rt: &R,
-    frame: &mut Frame<H, A>,
-    handle: Handle,
-) -> u64
-    requires unlocked { IsUnlocked frame.old }
-    ensures heap { frame.new.heap ≡ frame.old.heap }
-    ensures unlocked { IsUnlocked frame.new }
-{
-    number_of(rt, frame, handle) as u64
-}
-
 /// One turn: a number is pushed and one popped, one is sent and one received, one is put in place of another in the list, and one
 /// in the dictionary. Each value that is there is somebody's once. The answer is what was got, added.
 fn plays_once<R: Abort + Wait, H: Home<A>, A: Allocator>(
@@ -89,7 +76,7 @@ fn plays_once<R: Abort + Wait, H: Home<A>, A: Allocator>(
     alloc: A,
     frame: &mut Frame<H, A>,
     number: i64,
-) -> u64
+) -> i64
 where
     A: Copy,
     requires unlocked { IsUnlocked frame.old }
@@ -99,11 +86,11 @@ where
     let globals = the_globals(rt, frame);
     let value = an_int(rt, alloc, frame, number);
     let old = replace(rt, frame, &globals, value);
-    let replaced = gets(rt, frame, old);
+    let replaced = number_of(rt, frame, old);
     let listed = lists_once(rt, alloc, frame, &globals, number);
     let posted = posts_once(rt, alloc, frame, &globals, number);
     give_back(rt, frame, globals);
-    sum_of(replaced, sum_of(listed, posted))
+    replaced.wrapping_add(listed).wrapping_add(posted)
 }
 
 /// A number is pushed, the first entry exchanged for another, and the last one popped.
@@ -113,7 +100,7 @@ fn lists_once<R: Abort + Wait, H: Home<A>, A: Allocator>(
     frame: &mut Frame<H, A>,
     globals: &Handle,
     number: i64,
-) -> u64
+) -> i64
 where
     A: Copy,
     requires unlocked { IsUnlocked frame.old }
@@ -125,11 +112,11 @@ where
     push(rt, frame, &list, value);
     let value = an_int(rt, alloc, frame, number);
     let old = exchange(rt, frame, &list, 0, value);
-    let exchanged = gets(rt, frame, old);
+    let exchanged = number_of(rt, frame, old);
     let last = pop(rt, frame, &list);
-    let popped = gets(rt, frame, last);
+    let popped = number_of(rt, frame, last);
     give_back(rt, frame, list);
-    sum_of(exchanged, popped)
+    exchanged.wrapping_add(popped)
 }
 
 /// A number is sent, and one received.
@@ -139,7 +126,7 @@ fn posts_once<R: Abort + Wait, H: Home<A>, A: Allocator>(
     frame: &mut Frame<H, A>,
     globals: &Handle,
     number: i64,
-) -> u64
+) -> i64
 where
     A: Copy,
     requires unlocked { IsUnlocked frame.old }
@@ -153,7 +140,7 @@ where
         panic!(rt; "a letter is missing")
     };
     give_back(rt, frame, mailbox);
-    gets(rt, frame, found)
+    number_of(rt, frame, found)
 }
 
 /// A thread that plays so many turns.
@@ -168,13 +155,11 @@ fn plays<R: Abort + Wait>(
     ensures heap { result.retired.heap ≡ heap.now }
 {
     let mut mutator = resting.wake(heap);
-    let mut left: u64 = 0;
+    let mut left: i64 = 0;
     for turn in 0..turns {
         let number = turn.wrapping_add(1_000);
         let got = plays_once(rt, alloc, mutator.frame(), number);
-        left = left
-            .wrapping_add(got)
-            .wrapping_sub((number as u64).wrapping_mul(4));
+        left = left.wrapping_add(got).wrapping_sub(number.wrapping_mul(4));
         let _told = mutator.poll();
         let _left = mutator.work(16);
     }
@@ -229,7 +214,7 @@ fn four_play<R: Threads + Abort + Wait + Sync>(
 struct Sum {
     allocs: u64,
     frees: u64,
-    left: u64,
+    left: i64,
 }
 
 /// The next thread, at rest.
@@ -272,12 +257,12 @@ fn gathered_one(heap: &Heap<Global>, root: &mut Root<Global>, played: Played, su
     Sum {
         allocs: sum_of(sum.allocs, ledger.allocs),
         frees: sum_of(sum.frees, ledger.frees),
-        left: sum_of(sum.left, left),
+        left: sum.left.wrapping_add(left),
     }
 }
 
 /// What the containers have at the end is taken out, and let go; the answer is the sum of the numbers.
-fn takes_down<R: Abort + Wait, H: Home<A>, A: Allocator>(rt: &R, frame: &mut Frame<H, A>) -> u64
+fn takes_down<R: Abort + Wait, H: Home<A>, A: Allocator>(rt: &R, frame: &mut Frame<H, A>) -> i64
     requires unlocked { IsUnlocked frame.old }
     ensures heap { frame.new.heap ≡ frame.old.heap }
     ensures unlocked { IsUnlocked frame.new }
@@ -285,22 +270,22 @@ fn takes_down<R: Abort + Wait, H: Home<A>, A: Allocator>(rt: &R, frame: &mut Fra
     let globals = the_globals(rt, frame);
     let list = unshare(rt, frame, &globals, 1);
     let last = pop(rt, frame, &list);
-    let listed = gets(rt, frame, last);
+    let listed = number_of(rt, frame, last);
     give_back(rt, frame, list);
     let mailbox = unshare(rt, frame, &globals, 2);
     has_no_letter(rt, frame, &mailbox);
     give_back(rt, frame, mailbox);
     let value = unshare(rt, frame, &globals, 3);
-    let stood = gets(rt, frame, value);
+    let stood = number_of(rt, frame, value);
     give_back(rt, frame, globals);
-    sum_of(listed, stood)
+    listed.wrapping_add(stood)
 }
 
 /// The sums come out: so many births, as many frees, and what threads got is what they gave, less what was left.
-fn come_out(rt: &impl Abort, sum: Sum, ledger: Ledger, left: u64, births: u64) {
+fn come_out(rt: &impl Abort, sum: Sum, ledger: Ledger, left: i64, births: u64) {
     assert_eq!(rt; sum_of(sum.allocs, ledger.allocs), births);
     assert_eq!(rt; sum_of(sum.frees, ledger.frees), births);
-    assert_eq!(rt; sum_of(sum.left, left), 0);
+    assert_eq!(rt; sum.left.wrapping_add(left), 0);
 }
 
 #[test]

@@ -2,5 +2,5 @@ use Rattle.std.proofs.Common.{◌≡◌}
 use Rattle.brc_count.specs.Frames.{IsUnlocked}
 use Rattle.brc_sharing.proofs.turns.plays.Given as goal
 
-abbrev pub invariant-loop : goal.invariant-loop
-invariant-loop g l = (l.mutator.heap ≡ l.fn.heap) × IsUnlocked l.mutator
+abbrev pub invariant-loop-turn : goal.invariant-loop-turn
+invariant-loop-turn g l = (l.mutator.heap ≡ l.fn.heap) × IsUnlocked l.mutator

@@ -1,0 +1,5 @@
+use Rattle.std.proofs.Common.{◌∙◌}
+use Rattle.brc_sharing.proofs.objects.another.Goals as goal
+
+pub returns-clause-unlocked : goal.returns-clause-unlocked
+returns-clause-unlocked g c = (c.in-Ok.ensures.given c.cell-cell.result c.cell-cell.ensures.cell).rest.lock ∙ c.requires.unlocked
