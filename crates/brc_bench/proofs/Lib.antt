@@ -1,4 +1,3 @@
 pub mod Owning
 pub mod Together
-pub mod Payloads
 pub mod Sent

@@ -3,7 +3,8 @@ use Rattle.std.proofs.Common.{◌≢◌, List, [], ◌∷◌, ◌++◌, Some, re
 use Rattle.std.specs.List.{All}
 use Rattle.std.proofs.lemmas.List.Elements.{All-nil, All-push, All-pop, All-cons, All-head, All-tail, All-weaker}
 use Rattle.brc_count.specs.Frames.{FrameSeen, HandleSeen, Owns}
-use Rattle.brc_bench.specs.Handles.{AreApart, Keeps, Gains, Loses, OwnsAll}
+use Rattle.brc_containers.specs.Handles.{Keeps, Gains, Loses}
+use Rattle.brc_bench.specs.Handles.{AreApart, OwnsAll}
 
 -- the last element, and those before it
 all_before : {X : Type 0} (P : X → Type 0) (xs : List X) (x : X) → All P (xs ++ x ∷ []) → All P xs × P x

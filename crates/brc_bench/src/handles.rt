@@ -2,11 +2,11 @@
 
 ghost use Rattle.std.specs.Prelude.{◌≡◌, IfSome, IfNone};
 ghost use Rattle.brc_count.specs.Frames.{IsUnlocked, Owns};
-ghost use Rattle.brc_bench.specs.Handles.{Keeps, Gains, Loses};
+ghost use Rattle.brc_containers.specs.Handles.{Keeps, Gains, Loses};
 
 use brc_count::{Frame, Handle};
 use brc_counter::Home;
-use brc_things::{new_int, new_text};
+use brc_things::{new_dict, new_int, new_list, new_mailbox, new_text};
 use brc_words::Text;
 use std::alloc::Allocator;
 
@@ -41,6 +41,51 @@ pub fn a_text<H: Home<A>, A: Allocator>(
     ensures unlocked { IsUnlocked frame.new }
 {
     match new_text(alloc, frame, text) {
+        Ok(handle) => Some(handle),
+        Err(_) => None,
+    }
+}
+
+/// A new list; None where there is no memory, place or cell for it.
+#[inline(always)]
+pub fn a_list<H: Home<A>, A: Allocator + Copy>(alloc: A, frame: &mut Frame<H, A>) -> Option<Handle>
+    requires unlocked { IsUnlocked frame.old }
+    ensures gains { IfSome result (Gains frame.old frame.new) }
+    ensures keeps { IfNone result (Keeps frame.old frame.new) }
+    ensures unlocked { IsUnlocked frame.new }
+{
+    match new_list(alloc, frame) {
+        Ok(handle) => Some(handle),
+        Err(_) => None,
+    }
+}
+
+/// A new dictionary; None where there is no memory, place or cell for it.
+#[inline(always)]
+pub fn a_dict<H: Home<A>, A: Allocator + Copy>(alloc: A, frame: &mut Frame<H, A>) -> Option<Handle>
+    requires unlocked { IsUnlocked frame.old }
+    ensures gains { IfSome result (Gains frame.old frame.new) }
+    ensures keeps { IfNone result (Keeps frame.old frame.new) }
+    ensures unlocked { IsUnlocked frame.new }
+{
+    match new_dict(alloc, frame) {
+        Ok(handle) => Some(handle),
+        Err(_) => None,
+    }
+}
+
+/// A new mailbox; None where there is no memory, place or cell for it.
+#[inline(always)]
+pub fn a_mailbox<H: Home<A>, A: Allocator + Copy>(
+    alloc: A,
+    frame: &mut Frame<H, A>,
+) -> Option<Handle>
+    requires unlocked { IsUnlocked frame.old }
+    ensures gains { IfSome result (Gains frame.old frame.new) }
+    ensures keeps { IfNone result (Keeps frame.old frame.new) }
+    ensures unlocked { IsUnlocked frame.new }
+{
+    match new_mailbox(alloc, frame) {
         Ok(handle) => Some(handle),
         Err(_) => None,
     }

@@ -1,11 +1,16 @@
 //! A thread's life: it wakes, has its objects, does what is timed, lets them go, and leaves.
 
-ghost use Rattle.std.specs.Prelude.{◌≡◌};
+ghost use Rattle.std.specs.Prelude.{◌≡◌, IfSome, IfNone};
 ghost use Rattle.std.specs.List.{All};
 ghost use Rattle.brc_count.specs.Frames.{IsUnlocked, Owns};
-ghost use Rattle.brc_bench.specs.Handles.{Keeps, OwnsAll};
+ghost use Rattle.brc_containers.specs.Handles.{Keeps, Gains};
+ghost use Rattle.brc_bench.specs.Handles.{OwnsAll};
 
-use crate::many::{makes, releases, takes};
+use crate::deaths::{a_chain, times_death};
+use crate::dicts::puts_and_finds;
+use crate::letters::{Post, mails};
+use crate::lists::{a_full_list, lists, pushes_and_pops};
+use crate::many::{makes, makes_dict, makes_list, releases, takes};
 use crate::operations::{integers, pairs, pairs_in_turn, polled_pairs, texts};
 use crate::request::Case;
 use crate::timing::{Span, this_moment};
@@ -26,13 +31,18 @@ pub fn refused() -> io::Error {
     io::ErrorKind::OutOfMemory.into()
 }
 
-/// The thread gets the handles that the case counts; false where one can't be had.
+/// The first of the keys under which the thread of this number puts integers of its own into the globals.
+pub fn first_key(thread: u32) -> u32 {
+    thread.saturating_mul(1_000)
+}
+
+/// The thread gets the handles that the case needs; false where one can't be had.
 fn fills<R: Wait, H: Home<A>, A: Allocator + Copy>(
     rt: &R,
     alloc: A,
     frame: &mut Frame<H, A>,
     handles: &mut Vec<Handle, A>,
-    case: Case,
+    asked: Asked,
 ) -> bool
     requires all { OwnsAll frame.old handles.old.items }
     requires unlocked { IsUnlocked frame.old }
@@ -40,19 +50,29 @@ fn fills<R: Wait, H: Home<A>, A: Allocator + Copy>(
     ensures heap { frame.new.heap ≡ frame.old.heap }
     ensures unlocked { IsUnlocked frame.new }
 {
-    match case {
-        Case::PairOwn => makes(alloc, frame, handles, 1),
+    let thread = frame.thread();
+    match asked.case {
+        Case::PairOwn | Case::NewList10 => makes(alloc, frame, handles, 1),
         Case::PairOwn8 => makes(alloc, frame, handles, 8),
-        Case::PairShared => takes(rt, frame, handles, 1),
-        Case::PairForeign => takes(rt, frame, handles, FOREIGN),
-        Case::NewInt | Case::NewText16 => true,
+        Case::PairShared | Case::ListShared | Case::Mail => takes(rt, frame, handles, thread, 1),
+        Case::PairForeign => {
+            // The idle threads, as many as these, are the first ones.
+            let owner = thread.saturating_sub(asked.threads);
+            takes(rt, frame, handles, first_key(owner), FOREIGN)
+        }
+        Case::List => makes_list(rt, alloc, frame, handles),
+        Case::Dict => makes_dict(rt, alloc, frame, handles),
+        Case::NewInt | Case::NewText16 | Case::Chain | Case::Wide => true,
     }
 }
 
-/// So many operations of a case on handles; false where there is none, or where no place was to be had.
-fn counts<H: Home<A>, A: Allocator>(
+/// So many operations of a case on handles; false where there is none, or where one failed.
+fn counts<R: Wait, H: Home<A>, A: Allocator + Copy>(
+    rt: &R,
+    alloc: A,
     frame: &mut Frame<H, A>,
     handles: &[Handle],
+    post: &Post,
     case: Case,
     n: u64,
 ) -> bool
@@ -62,20 +82,27 @@ fn counts<H: Home<A>, A: Allocator>(
     ensures unlocked { IsUnlocked frame.new }
 {
     if handles.is_empty() {
+        post.give_up();
         return false;
     }
     match case {
         Case::PairOwn => pairs(frame, &handles[0], n),
         Case::PairShared => polled_pairs(frame, &handles[0], n),
+        Case::NewList10 => lists(rt, alloc, frame, &handles[0], n),
+        Case::List | Case::ListShared => pushes_and_pops(rt, alloc, frame, &handles[0], n),
+        Case::Dict => puts_and_finds(rt, alloc, frame, &handles[0], n),
+        Case::Mail => mails(rt, alloc, frame, &handles[0], post, n),
         _ => pairs_in_turn(frame, handles, n),
     }
 }
 
 /// So many operations of a case; false where one failed.
-fn operates<H: Home<A>, A: Allocator + Copy>(
+fn operates<R: Wait, H: Home<A>, A: Allocator + Copy>(
+    rt: &R,
     alloc: A,
     frame: &mut Frame<H, A>,
     handles: &[Handle],
+    post: &Post,
     case: Case,
     n: u64,
 ) -> bool
@@ -87,7 +114,42 @@ fn operates<H: Home<A>, A: Allocator + Copy>(
     match case {
         Case::NewInt => integers(alloc, frame, n),
         Case::NewText16 => texts(alloc, frame, n),
-        _ => counts(frame, handles, case, n),
+        _ => counts(rt, alloc, frame, handles, post, case, n),
+    }
+}
+
+/// What is taken apart while it is timed; None where it can't be had.
+fn has_to_die<R: Wait, H: Home<A>, A: Allocator + Copy>(
+    rt: &R,
+    alloc: A,
+    frame: &mut Frame<H, A>,
+    asked: Asked,
+) -> Option<Handle>
+    requires unlocked { IsUnlocked frame.old }
+    ensures gains { IfSome result (Gains frame.old frame.new) }
+    ensures keeps { IfNone result (Keeps frame.old frame.new) }
+    ensures unlocked { IsUnlocked frame.new }
+{
+    match asked.case {
+        Case::Chain => a_chain(rt, alloc, frame, asked.n),
+        _ => a_full_list(rt, alloc, frame, asked.n),
+    }
+}
+
+/// When the thread began and ended to take it apart; or why it couldn't.
+fn measures_death<R: Wait + Clock + CpuClock, H: Home<A>, A: Allocator + Copy>(
+    rt: &R,
+    alloc: A,
+    frame: &mut Frame<H, A>,
+    asked: Asked,
+) -> io::Result<Span>
+    requires unlocked { IsUnlocked frame.old }
+    ensures heap { frame.new.heap ≡ frame.old.heap }
+    ensures unlocked { IsUnlocked frame.new }
+{
+    match has_to_die(rt, alloc, frame, asked) {
+        Some(handle) => times_death(rt, frame, handle),
+        None => Err(refused()),
     }
 }
 
@@ -96,17 +158,25 @@ fn measures<R: Wait + Clock + CpuClock, H: Home<A>, A: Allocator + Copy>(
     rt: &R,
     alloc: A,
     frame: &mut Frame<H, A>,
-    case: Case,
-    n: u64,
+    post: &Post,
+    asked: Asked,
 ) -> io::Result<Span>
     requires unlocked { IsUnlocked frame.old }
     ensures heap { frame.new.heap ≡ frame.old.heap }
     ensures unlocked { IsUnlocked frame.new }
 {
     let mut handles = Vec::new(alloc);
-    let filled = fills(rt, alloc, frame, &mut handles, case);
+    let filled = fills(rt, alloc, frame, &mut handles, asked);
     let began = this_moment(rt);
-    let whole = operates(alloc, frame, handles.as_slice(), case, n);
+    let whole = operates(
+        rt,
+        alloc,
+        frame,
+        handles.as_slice(),
+        post,
+        asked.case,
+        asked.n,
+    );
     let ended = this_moment(rt);
     releases(frame, handles);
     if !filled || !whole {
@@ -184,6 +254,7 @@ pub fn lives<R: Wait + Clock + CpuClock>(
     alloc: Global,
     heap: &Heap<Global>,
     resting: Resting<Global>,
+    post: &Post,
     asked: Asked,
 ) -> Done
     requires heap { resting.heap ≡ heap.now }
@@ -192,7 +263,11 @@ pub fn lives<R: Wait + Clock + CpuClock>(
     let span = if asked.idle {
         Ok(None)
     } else {
-        match measures(rt, alloc, mutator.frame(), asked.case, asked.n) {
+        let span = match asked.case {
+            Case::Chain | Case::Wide => measures_death(rt, alloc, mutator.frame(), asked),
+            _ => measures(rt, alloc, mutator.frame(), post, asked),
+        };
+        match span {
             Ok(span) => Ok(Some(span)),
             Err(error) => Err(error),
         }

@@ -6,8 +6,12 @@
 //! made and how many cells they gave back, which is the same whatever the schedule.
 #![tactic(auto)]
 
+mod deaths;
+mod dicts;
 mod globals;
 mod handles;
+mod letters;
+mod lists;
 mod lives;
 mod many;
 mod operations;

@@ -5,8 +5,10 @@ ghost use Rattle.std.specs.List.{All};
 ghost use Rattle.brc_count.specs.Frames.{IsUnlocked, Owns};
 ghost use Rattle.brc_bench.specs.Handles.{OwnsAll};
 
+use crate::dicts::a_full_dict;
 use crate::globals::take_from_globals;
 use crate::handles::{an_integer, release};
+use crate::lists::a_full_list;
 use brc_count::{Frame, Handle};
 use brc_counter::Home;
 use std::alloc::Allocator;
@@ -35,6 +37,44 @@ fn keep<H: Home<A>, A: Allocator>(
     }
 }
 
+/// A list of ten references more; false where it can't be had.
+pub fn makes_list<R: Wait, H: Home<A>, A: Allocator + Copy>(
+    rt: &R,
+    alloc: A,
+    frame: &mut Frame<H, A>,
+    handles: &mut Vec<Handle, A>,
+) -> bool
+    requires all { OwnsAll frame.old handles.old.items }
+    requires unlocked { IsUnlocked frame.old }
+    ensures all { OwnsAll frame.new handles.new.items }
+    ensures heap { frame.new.heap ≡ frame.old.heap }
+    ensures unlocked { IsUnlocked frame.new }
+{
+    match a_full_list(rt, alloc, frame, 10) {
+        Some(handle) => keep(frame, handles, handle),
+        None => false,
+    }
+}
+
+/// A dictionary of 256 keys more; false where it can't be had.
+pub fn makes_dict<R: Wait, H: Home<A>, A: Allocator + Copy>(
+    rt: &R,
+    alloc: A,
+    frame: &mut Frame<H, A>,
+    handles: &mut Vec<Handle, A>,
+) -> bool
+    requires all { OwnsAll frame.old handles.old.items }
+    requires unlocked { IsUnlocked frame.old }
+    ensures all { OwnsAll frame.new handles.new.items }
+    ensures heap { frame.new.heap ≡ frame.old.heap }
+    ensures unlocked { IsUnlocked frame.new }
+{
+    match a_full_dict(rt, alloc, frame) {
+        Some(handle) => keep(frame, handles, handle),
+        None => false,
+    }
+}
+
 /// So many integers more, of the thread's own; false where one can't be had.
 pub fn makes<H: Home<A>, A: Allocator + Copy>(
     alloc: A,
@@ -59,11 +99,12 @@ pub fn makes<H: Home<A>, A: Allocator + Copy>(
     true
 }
 
-/// So many references more, out of the globals; false where one can't be had.
+/// The references under so many keys from this one on, out of the globals; false where one can't be had.
 pub fn takes<R: Wait, H: Home<A>, A: Allocator>(
     rt: &R,
     frame: &mut Frame<H, A>,
     handles: &mut Vec<Handle, A>,
+    first: u32,
     count: u32,
 ) -> bool
     requires all { OwnsAll frame.old handles.old.items }
@@ -72,8 +113,8 @@ pub fn takes<R: Wait, H: Home<A>, A: Allocator>(
     ensures heap { frame.new.heap ≡ frame.old.heap }
     ensures unlocked { IsUnlocked frame.new }
 {
-    for _ in 0..count {
-        let Some(handle) = take_from_globals(rt, frame) else {
+    for i in 0..count {
+        let Some(handle) = take_from_globals(rt, frame, first as i64 + i as i64) else {
             return false;
         };
         if !keep(frame, handles, handle) {

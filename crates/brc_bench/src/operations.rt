@@ -3,7 +3,7 @@
 ghost use Rattle.std.specs.Prelude.{◌≡◌, ◌<◌, ◌≤◌, length};
 ghost use Rattle.std.specs.List.{All};
 ghost use Rattle.brc_count.specs.Frames.{IsUnlocked, Owns};
-ghost use Rattle.brc_bench.specs.Handles.{Keeps};
+ghost use Rattle.brc_containers.specs.Handles.{Keeps};
 
 use crate::handles::{a_text, an_integer, another, poll, release, work};
 use brc_count::{Frame, Handle};
@@ -108,7 +108,7 @@ pub fn pairs_in_turn<H: Home<A>, A: Allocator>(
 }
 
 /// So many turns of work follow each object that is made.
-const TURNS: usize = 64;
+pub const TURNS: usize = 64;
 
 /// An integer is made and released, and taken apart; false where it can't be had.
 #[inline(always)]

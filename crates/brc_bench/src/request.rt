@@ -15,10 +15,25 @@ pub enum Case {
     NewInt,
     /// A text of sixteen bytes is.
     NewText16,
+    /// A list of ten references to one integer is.
+    NewList10,
+    /// A push to a list of the thread's own, and a pop.
+    List,
+    /// The same of one list that all threads hold.
+    ListShared,
+    /// A put into a dictionary of the thread's own of 256 integer keys, and a find.
+    Dict,
+    /// A send of a new integer by each of two threads, and its receiving by a third.
+    Mail,
+    /// One of so many lists, of which each holds the next, is taken apart.
+    Chain,
+    /// One of so many entries of a list is released.
+    Wide,
 }
 
 /// The names of the cases.
-pub const CASES: &str = "pair_own pair_own8 pair_shared pair_foreign new_int new_text16";
+pub const CASES: &str =
+    "pair_own pair_own8 pair_shared pair_foreign new_int new_text16 new_list10 list list_shared dict mail chain wide";
 
 /// What a line asks for.
 #[derive(Clone, Copy, Debug, PartialEq, Eq)]
@@ -40,6 +55,13 @@ fn case_of(name: &str) -> Option<Case> {
         "pair_foreign" => Some(Case::PairForeign),
         "new_int" => Some(Case::NewInt),
         "new_text16" => Some(Case::NewText16),
+        "new_list10" => Some(Case::NewList10),
+        "list" => Some(Case::List),
+        "list_shared" => Some(Case::ListShared),
+        "dict" => Some(Case::Dict),
+        "mail" => Some(Case::Mail),
+        "chain" => Some(Case::Chain),
+        "wide" => Some(Case::Wide),
         _ => None,
     }
 }

@@ -1,13 +1,14 @@
 //! The cases: threads on one heap, each with what it is to do.
 
-ghost use Rattle.std.specs.Prelude.{◌≡◌, IfOk};
+ghost use Rattle.std.specs.Prelude.{◌≡◌, IfOk, IfSome, IfNone};
 ghost use Rattle.std.specs.List.{All};
 ghost use Rattle.brc_count.specs.Frames.{IsUnlocked, Owns};
-ghost use Rattle.brc_bench.specs.Handles.{Keeps};
+ghost use Rattle.brc_containers.specs.Handles.{Keeps, Gains};
 
 use crate::globals::put_into_globals;
-use crate::handles::{an_integer, another, release};
-use crate::lives::{Asked, Done, FOREIGN, lives, refused, rests};
+use crate::handles::{a_list, a_mailbox, an_integer, another, release};
+use crate::letters::{Post, SENDERS};
+use crate::lives::{Asked, Done, FOREIGN, first_key, lives, refused, rests};
 use crate::request::Case;
 use crate::timing::{Times, times_of};
 use brc_count::{Frame, Handle};
@@ -21,14 +22,22 @@ use std::thread::Threads;
 use std::time::CpuClock;
 use std::{io, thread};
 
+/// What all threads hold.
+#[derive(Clone, Copy, Debug, PartialEq, Eq)]
+enum Shared {
+    Int,
+    List,
+    Mailbox,
+}
+
 /// What a thread puts into the globals before the others run.
 #[derive(Clone, Copy, Debug, PartialEq, Eq)]
 enum Gift {
     Nothing,
     /// So many integers.
     Integers(u32),
-    /// So many references to one integer.
-    References(u32),
+    /// So many references to one object.
+    References(Shared, u32),
 }
 
 /// Integers of the thread's own go into the globals; false where one can't be made or put there.
@@ -42,7 +51,7 @@ fn gives_integers<R: Wait, H: Home<A>, A: Allocator + Copy>(
     ensures heap { frame.new.heap ≡ frame.old.heap }
     ensures unlocked { IsUnlocked frame.new }
 {
-    let first = frame.thread() as i64 * 1_000;
+    let first = first_key(frame.thread()) as i64;
     for i in 0..count {
         let Some(handle) = an_integer(alloc, frame, 1_000 + i as i64) else {
             return false;
@@ -72,7 +81,7 @@ fn shares<R: Wait, H: Home<A>, A: Allocator>(
     }
 }
 
-/// So many of them do.
+/// So many of them do, under the numbers of the threads from 1 on.
 fn shares_often<R: Wait, H: Home<A>, A: Allocator>(
     rt: &R,
     frame: &mut Frame<H, A>,
@@ -85,25 +94,44 @@ fn shares_often<R: Wait, H: Home<A>, A: Allocator>(
     ensures unlocked { IsUnlocked frame.new }
 {
     for i in 0..count {
-        if !shares(rt, frame, handle, i as i64) {
+        if !shares(rt, frame, handle, 1 + i as i64) {
             return false;
         }
     }
     true
 }
 
-/// References to one integer of the thread's own go into the globals; false where that fails.
-fn gives_references<R: Wait, H: Home<A>, A: Allocator>(
+/// A new object to be shared; None where it can't be had.
+fn to_share<H: Home<A>, A: Allocator + Copy>(
+    alloc: A,
+    frame: &mut Frame<H, A>,
+    shared: Shared,
+) -> Option<Handle>
+    requires unlocked { IsUnlocked frame.old }
+    ensures gains { IfSome result (Gains frame.old frame.new) }
+    ensures keeps { IfNone result (Keeps frame.old frame.new) }
+    ensures unlocked { IsUnlocked frame.new }
+{
+    match shared {
+        Shared::Int => an_integer(alloc, frame, 1_000),
+        Shared::List => a_list(alloc, frame),
+        Shared::Mailbox => a_mailbox(alloc, frame),
+    }
+}
+
+/// References to one object of the thread's own go into the globals; false where that fails.
+fn gives_references<R: Wait, H: Home<A>, A: Allocator + Copy>(
     rt: &R,
     alloc: A,
     frame: &mut Frame<H, A>,
+    shared: Shared,
     count: u32,
 ) -> bool
     requires unlocked { IsUnlocked frame.old }
     ensures heap { frame.new.heap ≡ frame.old.heap }
     ensures unlocked { IsUnlocked frame.new }
 {
-    let Some(handle) = an_integer(alloc, frame, 1_000) else {
+    let Some(handle) = to_share(alloc, frame, shared) else {
         return false;
     };
     let whole = shares_often(rt, frame, &handle, count);
@@ -125,7 +153,7 @@ fn gives<R: Wait, H: Home<A>, A: Allocator + Copy>(
     match gift {
         Gift::Nothing => true,
         Gift::Integers(count) => gives_integers(rt, alloc, frame, count),
-        Gift::References(count) => gives_references(rt, alloc, frame, count),
+        Gift::References(shared, count) => gives_references(rt, alloc, frame, shared, count),
     }
 }
 
@@ -160,8 +188,13 @@ fn gift_of(asked: Asked, number: u32) -> Gift {
     if asked.idle {
         return Gift::Integers(FOREIGN);
     }
+    if number > 0 {
+        return Gift::Nothing;
+    }
     match asked.case {
-        Case::PairShared if number == 0 => Gift::References(asked.threads),
+        Case::PairShared => Gift::References(Shared::Int, asked.threads),
+        Case::ListShared => Gift::References(Shared::List, asked.threads),
+        Case::Mail => Gift::References(Shared::Mailbox, asked.threads),
         _ => Gift::Nothing,
     }
 }
@@ -202,6 +235,7 @@ fn run_all<R: Threads + Wait + Clock + CpuClock + Sync>(
     alloc: Global,
     heap: &Heap<Global>,
     all: Vec<Resting<Global>>,
+    post: &Post,
     asked: Asked,
 ) -> Result<Vec<Done>, AllocError>
     requires heap { All (λ resting. resting.heap ≡ heap.now) all.items }
@@ -211,7 +245,7 @@ fn run_all<R: Threads + Wait + Clock + CpuClock + Sync>(
         all,
         &|resting|
             requires { resting.heap ≡ heap.now }
-        { lives(rt, alloc, heap, resting, asked) },
+        { lives(rt, alloc, heap, resting, post, asked) },
     )
 }
 
@@ -257,8 +291,9 @@ fn answer_on<R: Threads + Wait + Clock + CpuClock + Sync>(
     };
     let idle = rested(rt, alloc, heap, root, owning)?;
     let busy = rested(rt, alloc, heap, root, asked)?;
-    let mut all = run_all(rt, alloc, heap, busy, asked)?;
-    for done in run_all(rt, alloc, heap, idle, owning)? {
+    let post = Post::new();
+    let mut all = run_all(rt, alloc, heap, busy, &post, asked)?;
+    for done in run_all(rt, alloc, heap, idle, &post, owning)? {
         all.push(done)?;
     }
     answer_of(alloc, all)
@@ -279,6 +314,15 @@ fn give_back(rt: &impl Wait, rest: Rest<Global>) {
     unreachable!()
 }
 
+/// How many threads a case has.
+fn threads_of(case: Case, threads: u32) -> u32 {
+    match case {
+        Case::Mail => SENDERS + 1,
+        Case::Chain | Case::Wide => 1,
+        _ => threads,
+    }
+}
+
 /// Runs a case on a heap of its own.
 pub fn run_case<R: Threads + Wait + Clock + CpuClock + Sync>(
     rt: &R,
@@ -294,7 +338,7 @@ pub fn run_case<R: Threads + Wait + Clock + CpuClock + Sync>(
     let asked = Asked {
         case,
         idle: false,
-        threads,
+        threads: threads_of(case, threads),
         n,
     };
     match Heap::new(alloc, options) {

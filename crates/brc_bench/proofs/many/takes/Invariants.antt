@@ -3,5 +3,5 @@ use Rattle.brc_count.specs.Frames.{IsUnlocked}
 use Rattle.brc_bench.specs.Handles.{OwnsAll}
 use Rattle.brc_bench.proofs.many.takes.Given as goal
 
-abbrev pub invariant-loop : goal.invariant-loop
-invariant-loop g l = (l.frame.heap ≡ l.fn.frame.heap) × IsUnlocked l.frame × OwnsAll l.frame l.handles.items
+abbrev pub invariant-loop-i : goal.invariant-loop-i
+invariant-loop-i g l = (l.frame.heap ≡ l.fn.frame.heap) × IsUnlocked l.frame × OwnsAll l.frame l.handles.items
