@@ -8,7 +8,7 @@ use crate::objects::{
     the_globals, unshare,
 };
 use crate::sums::sum_of;
-use crate::threads::{a_heap, a_thread, ends, is_empty, retires};
+use crate::threads::{a_heap, a_thread, ends, is_empty, rests, retires};
 use brc_count::Frame;
 use brc_counter::Home;
 use brc_thread::{Heap, Resting, Retired};
@@ -128,8 +128,8 @@ fn letters_of_two_threads_come_in_their_order(rt: HostRuntime) {
     let mut root = root;
     let mut last = a_thread(&rt, rt.alloc(), &heap, &mut root);
     shares_a_mailbox(&rt, rt.alloc(), last.frame());
-    let first = a_thread(&rt, rt.alloc(), &heap, &mut root).rest();
-    let second = a_thread(&rt, rt.alloc(), &heap, &mut root).rest();
+    let first = rests(&rt, rt.alloc(), &heap, &mut root);
+    let second = rests(&rt, rt.alloc(), &heap, &mut root);
     let (first, second) = two_send(&rt, rt.alloc(), &heap, first, second);
     let births = sum_of(first.ledger().allocs, second.ledger().allocs);
     let frees = sum_of(first.ledger().frees, second.ledger().frees);

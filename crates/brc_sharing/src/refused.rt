@@ -52,7 +52,7 @@ fn put<R: Abort + Wait, H: Home<A>, A: Allocator>(
     frame: &mut Frame<H, A>,
     container: &Handle,
     call: Call,
-    key: i64,
+    key: u32,
 ) -> Result<(), Fault>
     requires unlocked { IsUnlocked frame.old }
     ensures heap { frame.new.heap ≡ frame.old.heap }
@@ -71,11 +71,11 @@ fn put<R: Abort + Wait, H: Home<A>, A: Allocator>(
             Ok(()) => return Ok(()),
             Err(refused) => refused,
         },
-        _ => match dict_put(rt, frame, container, Key::Int(key), value) {
+        _ => match dict_put(rt, frame, container, Key::Int(key as i64), value) {
             Ok(None) => return Ok(()),
             Ok(Some(_old)) => panic!(rt; "the key was there"),
             Err((fault, (key_back, value))) => {
-                assert!(rt; key_back == Key::Int(key));
+                assert!(rt; key_back == Key::Int(key as i64));
                 (fault, value)
             }
         },
@@ -129,7 +129,7 @@ fn puts_until_refused<R: Abort + Wait, H: Home<A>, A: Allocator>(
     frame: &mut Frame<H, A>,
     container: &Handle,
     call: Call,
-) -> i64
+) -> u32
     requires unlocked { IsUnlocked frame.old }
     ensures heap { frame.new.heap ≡ frame.old.heap }
     ensures unlocked { IsUnlocked frame.new }
@@ -157,7 +157,7 @@ fn puts_with_memory<'h, R: Abort + Wait, H: Home<&'h LocalHeap>>(
     frame: &mut Frame<H, &'h LocalHeap>,
     container: &Handle,
     call: Call,
-    key: i64,
+    key: u32,
 )
     requires unlocked { IsUnlocked frame.old }
     ensures heap { frame.new.heap ≡ frame.old.heap }

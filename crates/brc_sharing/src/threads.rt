@@ -47,6 +47,23 @@ pub(crate) fn a_thread<'h, A: Allocator + Copy>(
     }
 }
 
+/// The next thread, at rest.
+pub(crate) fn rests<A: Allocator + Copy>(
+    rt: &impl Abort,
+    alloc: A,
+    heap: &Heap<A>,
+    root: &mut Root<A>,
+) -> Resting<A>
+    requires heap { root.old.table ≡ heap.now.table }
+    ensures heap { result.heap ≡ heap.now }
+    ensures root { root.new.table ≡ root.old.table }
+{
+    match root.register(alloc, heap) {
+        Ok(mutator) => mutator.rest(),
+        Err(_) => panic!(rt; "a thread is refused"),
+    }
+}
+
 /// A thread without handles settles and leaves, and has nothing left to do.
 pub(crate) fn retires<R: Abort + Wait, H: Home<A> + Drop, A: Allocator>(
     rt: &R,

@@ -9,7 +9,7 @@ use crate::objects::{
     post, push, share, the_globals, unshare,
 };
 use crate::sums::sum_of;
-use crate::threads::{a_heap, a_thread, ends, is_empty, retires};
+use crate::threads::{a_heap, a_thread, ends, is_empty, rests, retires};
 use brc_count::{Frame, Handle, Ledger};
 use brc_counter::Home;
 use brc_dicts::dict_put;
@@ -204,8 +204,14 @@ fn four_play<R: Threads + Abort + Wait + Sync>(
 {
     join(
         rt,
-        || two_play(rt, alloc, heap, one, turns),
-        || two_play(rt, alloc, heap, two, turns),
+        || -> (Played, Played)
+            requires one { BothOf heap.now one }
+            ensures { BothPlayed heap.entry.now result }
+        { two_play(rt, alloc, heap, one, turns) },
+        || -> (Played, Played)
+            requires two { BothOf heap.now two }
+            ensures { BothPlayed heap.entry.now result }
+        { two_play(rt, alloc, heap, two, turns) },
     )
 }
 
@@ -215,23 +221,6 @@ struct Sum {
     allocs: u64,
     frees: u64,
     left: i64,
-}
-
-/// The next thread, at rest.
-fn rests(
-    rt: &impl Abort,
-    alloc: Global,
-    heap: &Heap<Global>,
-    root: &mut Root<Global>,
-) -> Resting<Global>
-    requires heap { root.old.table ≡ heap.now.table }
-    ensures heap { result.heap ≡ heap.now }
-    ensures root { root.new.table ≡ root.old.table }
-{
-    match root.register(alloc, heap) {
-        Ok(mutator) => mutator.rest(),
-        Err(_) => panic!(rt; "a thread is refused"),
-    }
 }
 
 /// Two threads are gathered.
