@@ -2,7 +2,7 @@
 
 ghost use Rattle.std.specs.Prelude.{◌≡◌};
 ghost use Rattle.brc_count.specs.Frames.{IsUnlocked};
-ghost use Rattle.brc_sharing.specs.Threads.{BothOf, BothPlayed};
+ghost use Rattle.brc_sharing.specs.Threads.{BothOf};
 
 use crate::objects::{
     a_list, a_mailbox, an_int, exchange, fetch, give_back, has_no_letter, letter, number_of, pop,
@@ -178,7 +178,7 @@ fn two_play<R: Threads + Abort + Wait + Sync>(
     turns: i64,
 ) -> (Played, Played)
     requires two { BothOf heap.now two }
-    ensures { BothPlayed heap.now result }
+    ensures { (result.0.retired.heap ≡ heap.now) × (result.1.retired.heap ≡ heap.now) }
 {
     let (first, second) = two;
     join(
@@ -199,18 +199,18 @@ fn four_play<R: Threads + Abort + Wait + Sync>(
 ) -> ((Played, Played), (Played, Played))
     requires one { BothOf heap.now one }
     requires two { BothOf heap.now two }
-    ensures one { BothPlayed heap.now result.0 }
-    ensures two { BothPlayed heap.now result.1 }
+    ensures one { (result.0.0.retired.heap ≡ heap.now) × (result.0.1.retired.heap ≡ heap.now) }
+    ensures two { (result.1.0.retired.heap ≡ heap.now) × (result.1.1.retired.heap ≡ heap.now) }
 {
     join(
         rt,
         || -> (Played, Played)
             requires one { BothOf heap.now one }
-            ensures { BothPlayed heap.entry.now result }
+            ensures { (result.0.retired.heap ≡ heap.entry.now) × (result.1.retired.heap ≡ heap.entry.now) }
         { two_play(rt, alloc, heap, one, turns) },
         || -> (Played, Played)
             requires two { BothOf heap.now two }
-            ensures { BothPlayed heap.entry.now result }
+            ensures { (result.0.retired.heap ≡ heap.entry.now) × (result.1.retired.heap ≡ heap.entry.now) }
         { two_play(rt, alloc, heap, two, turns) },
     )
 }
@@ -226,7 +226,7 @@ struct Sum {
 /// Two threads are gathered.
 fn gathered(heap: &Heap<Global>, root: &mut Root<Global>, played: (Played, Played), sum: Sum) -> Sum
     requires heap { root.old.table ≡ heap.now.table }
-    requires same { BothPlayed heap.now played }
+    requires same { (played.0.retired.heap ≡ heap.now) × (played.1.retired.heap ≡ heap.now) }
     ensures root { root.new.table ≡ root.old.table }
 {
     let (first, second) = played;
