@@ -44,7 +44,7 @@ use Rattle.brc_rule.proofs.Knowing.{Known, knows, is_enabled, meant_there}
 use Rattle.brc_steps.proofs.Local_Steps.{fits_cell, read_cell}
 use Rattle.brc_rule.proofs.Looking.{lost, unmoved}
 use Rattle.brc_steps.proofs.Block_Steps.{block_moved}
-use Rattle.brc_steps.proofs.Taking_Steps.{unlisted_seen, found_cells}
+use Rattle.brc_steps.proofs.Taking_Steps.{unlisted_seen, found_cells, found_few}
 use Rattle.brc_rule.specs.Homes.{AtRest, ContentsFit}
 use Rattle.brc_rule.proofs.Contents_Law.{contents_fit}
 use Rattle.brc_rule.proofs.Locked_Contents.{locked_contents}
@@ -119,7 +119,8 @@ module _ {B : Type 0} (shows : B → ℕ × Contents) (n limit : ℕ) where
             let h : Heap = world n limit r.run in
             let known : Known n limit h v.thread v.log = knows shows n limit st r id v at active some_thread in
             let cell : Named h c = named_rests n limit h v.thread v.log c known (held_by_place h v.thread k c (meant_there n limit h v.thread v.log (Lock k) (Some c) known carries.cell)) in
-            let lies : LiesThere shows st.homes c (contents_at r.run c) = lies_there st r id v k c at active some_thread low carries same in (
+            let lies : LiesThere shows st.homes c (contents_at r.run c) = lies_there st r id v k c at active some_thread low carries same in
+            let are : entries_in (shows lies.block).1 ≡ entries_at h c = ap entries_in lies.holds ∙ (contents_fit n limit r.run c r.options r.legal cell.rest).entries in (
               with_told (Did (Lock k) 0 (moves.Found c (shows lies.block).1)) v,
               takes c (Some lies.block),
               lies.there,
@@ -130,7 +131,8 @@ module _ {B : Type 0} (shows : B → ℕ × Contents) (n limit : ℕ) where
                     block = lies.block;
                     of_cell = lies.of_cell;
                     fresh = unlisted_seen n limit h v.thread v.log c known some_thread (cell.rest.off v.thread);
-                    entries = found_cells n limit h v.thread v.log c _ known (ap entries_in lies.holds ∙ (contents_fit n limit r.run c r.options r.legal cell.rest).entries);
+                    entries = found_cells n limit h v.thread v.log c _ known are;
+                    few = found_few n limit h v.thread v.log c _ known are;
                     after_is = refl;
                   }),
             )

@@ -1,10 +1,11 @@
 -- Steps that may take the block of a dead object: SeeZero, MergeZero, LastDown. The number found decides.
-use Rattle.std.proofs.Common.{◌≡◌, ℕ, ◌<◌, ◌^◌, Bool, true, false, if◌then◌else◌, List, [], ◌∷◌, length, set, get_or, Option, Some, None, refl, sym, ◌∙◌, ap, subst, inl, inr, arith}
+use Rattle.std.proofs.Common.{◌≡◌, ℕ, ◌<◌, ◌≤◌, ◌^◌, Bool, true, false, if◌then◌else◌, List, [], ◌∷◌, length, set, get_or, Option, Some, None, refl, sym, ◌∙◌, ap, subst, inl, inr, arith}
 use Rattle.std.specs.Prelude.{slice_get}
 use Rattle.std.proofs.lemmas.Bool.{cases_Bool, true≢false}
 use mathlib.Core.Option.{some, none}
 use lib.ListN.{get_elem?}
 use Rattle.atomic_table.specs.Table.{State, Allows, keeps, takes}
+use Rattle.brc_words.specs.declared.limits.TheConstants.{MOST_ENTRIES}
 use Rattle.brc_runs.specs.declared.cell.Cell.{Cell}
 use Rattle.brc_runs.specs.declared.event.Step.{Step}
 use Rattle.brc_runs.specs.Lists.{is_marked}
@@ -15,6 +16,7 @@ use Rattle.brc_runs.specs.Steps.{thread_may, target_at, cell_after, stepped, is_
 use Rattle.brc_runs.proofs.Asking.{May, may_parts}
 use Rattle.brc_runs.proofs.Changes.{read_here}
 use Rattle.brc_runs.proofs.Reached.{reached_sound}
+use Rattle.brc_runs.proofs.Sizes.{reached_entries}
 use Rattle.brc_lasting.proofs.Lasting.{live_owner}
 use Rattle.brc_lasting.proofs.Ranges_Law.{entries_inside}
 use Rattle.brc_lasting.proofs.Standing.{taken_unlocked}
@@ -98,6 +100,10 @@ pub found_cells : (n limit : ℕ) (h : Heap) (t : ℕ) (log : List Told) (c : �
 found_cells n limit h t log c entries known are i d there =
     subst (λ cells. d < cells) known.cells (entries_inside h c i d known.reached (ap (λ (xs : List ℕ). slice_get xs i) (sym are) ∙ there))
 
+-- no cell has too many entries
+pub found_few : (n limit : ℕ) (h : Heap) (t : ℕ) (log : List Told) (c : ℕ) (entries : List ℕ) → Known n limit h t log → entries ≡ entries_at h c → length entries ≤ MOST_ENTRIES
+found_few n limit h t log c entries known are = subst (λ xs. length xs ≤ MOST_ENTRIES) (sym are) (reached_entries h known.reached c)
+
 module _ {B : Type 0} (shows : B → ℕ × Contents) (n limit : ℕ) where
   abbrev Table : Type 0
   Table = State (Option B) View
@@ -155,7 +161,9 @@ module _ {B : Type 0} (shows : B → ℕ × Contents) (n limit : ℕ) where
           subst (λ b. Ended shows n v slots s c there b (with_told (Did s there moves.Nothing) v, slots)) (sym (e.number_tells ∙ off)) refl,
         )
         | inl on ↦
-            let lies : LiesThere shows st.homes c (contents_at r.run c) = (r.each_home c low).lies e.live (unlocked h t s c known e on) e.unmarked in (
+            let lies : LiesThere shows st.homes c (contents_at r.run c) = (r.each_home c low).lies e.live (unlocked h t s c known e on) e.unmarked in
+            let are : entries_in (shows lies.block).1 ≡ entries_at h c =
+            ap entries_in lies.holds ∙ (contents_fit n limit r.run c r.options r.legal (record { live = e.live; off = e.unmarked })).entries in (
               with_told (Did s there (moves.Found c (shows lies.block).1)) v,
               takes c (Some lies.block),
               lies.there,
@@ -165,7 +173,8 @@ module _ {B : Type 0} (shows : B → ℕ × Contents) (n limit : ℕ) where
                     block = lies.block;
                     of_cell = lies.of_cell;
                     fresh = unlisted_seen n limit h t v.log c known some_thread (e.unmarked t);
-                    entries = found_cells n limit h t v.log c _ known (ap entries_in lies.holds ∙ (contents_fit n limit r.run c r.options r.legal (record { live = e.live; off = e.unmarked })).entries);
+                    entries = found_cells n limit h t v.log c _ known are;
+                    few = found_few n limit h t v.log c _ known are;
                     after_is = refl;
                   }),
             )

@@ -1,7 +1,8 @@
 -- What a step that may take a block tells its seat.
-use Rattle.std.specs.Prelude.{◌≡◌, ℕ, ◌<◌, ◌+◌, ◌*◌, Bool, true, false, List, ◌∷◌, Option, Some, None, ◌^◌, ◌-◌, slice_get}
+use Rattle.std.specs.Prelude.{◌≡◌, ℕ, ◌<◌, ◌≤◌, ◌+◌, ◌*◌, Bool, true, false, List, ◌∷◌, length, Option, Some, None, ◌^◌, ◌-◌, slice_get}
 use Rattle.std.specs.Int.{bit_at}
 use Rattle.atomic_table.specs.Table.{Me}
+use Rattle.brc_words.specs.declared.limits.TheConstants.{MOST_ENTRIES}
 use Rattle.brc_runs.specs.declared.event.Step.{Step}
 use Rattle.brc_runs.specs.declared.event.Step.TheVariants.{Claim, Lock}
 use Rattle.brc_known.specs.Taken.{listed_at}
@@ -24,12 +25,13 @@ abbrev pub AreQueued : ℕ → ℕ → ℕ → Type 0
 AreQueued n k bits = (i : ℕ) → bit_at bits i ≡ 1 → (i < 32) × (k * 32 + i < n)
 
 -- The seat has the cell's block now, and its log the contents that were found in it. It was none of the dead blocks that
--- the seat had, and its entries are cells of the heap.
+-- the seat had, and its entries are cells of the heap, not too many.
 pub record TookBlock {B : Type 0} (shows : B → ℕ × Contents) (n : ℕ) (v : View) (slots : List (ℕ × Option B)) (s : Step) (c number : ℕ) (me : Me (Option B) View) : Type 0 where
   pub block : B
   pub of_cell : (shows block).0 ≡ c
   pub fresh : listed_at (taken_seen n v.log) c ≡ None
   pub entries : AreCells n (entries_in (shows block).1)
+  pub few : length (entries_in (shows block).1) ≤ MOST_ENTRIES
   pub after_is : me ≡ (with_told (Did s number (moves.Found c (shows block).1)) v, (c, Some block) ∷ slots)
 
 abbrev pub Ended : {B : Type 0} → (B → ℕ × Contents) → ℕ → View → List (ℕ × Option B) → Step → ℕ → ℕ → Bool → Me (Option B) View → Type 0

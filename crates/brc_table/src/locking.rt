@@ -1,7 +1,8 @@
 //! Locks: an object's block goes out with the seat of the thread that locks it, and home with what the thread made of it.
 
-ghost use Rattle.std.specs.Prelude.{◌≡◌, ◌<◌, ◌≤◌, ◌∷◌, None, Some, OnOk, OnErr, IfOk, IfErr};
+ghost use Rattle.std.specs.Prelude.{◌≡◌, ◌<◌, ◌≤◌, ◌∷◌, None, Some, length, OnOk, OnErr, IfOk, IfErr};
 ghost use Rattle.atomic_table.specs.Table.{rest};
+ghost use Rattle.brc_words.specs.declared.limits.TheConstants.{MOST_ENTRIES};
 ghost use Rattle.brc_runs.specs.declared.event.Step.TheVariants as steps;
 ghost use Rattle.brc_known.specs.declared.word.Field.TheVariants as fields;
 ghost use Rattle.brc_known.specs.declared.word.Word.TheVariants as words;
@@ -35,6 +36,7 @@ impl<A: Allocator> HeapTable<A> {
         ensures of_cell { IfOk result (λ block. block.0 ≡ cell) }
         ensures fresh { IfOk result (λ block. listed_at (taken_seen self.now.cells seat.old.log) cell ≡ None) }
         ensures entries { IfOk result (λ block. AreCells self.now.cells (entries_in (contents_of block.1))) }
+        ensures few { IfOk result (λ block. length (entries_in (contents_of block.1)) ≤ MOST_ENTRIES) }
         ensures won { IfOk result (λ block. seat.new.log ≡ told.Did (steps.Lock place) 0 (moves.Found cell (contents_of block.1)) ∷ seat.old.log) }
         ensures out { IfOk result (λ block. seat.new.slots ≡ (cell, None) ∷ seat.old.slots) }
         ensures lost { IfErr result (λ found. seat.new.log ≡ told.Lost (words.Of fields.Mutex cell) found ∷ seat.old.log) }
