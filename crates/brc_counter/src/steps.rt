@@ -1,7 +1,8 @@
 //! Steps that count nothing: a cell is claimed, an object locked and unlocked, and the thread's merge queue drained.
 
-ghost use Rattle.std.specs.Prelude.{◌≡◌, ◌≢◌, ◌<◌, ◌-◌, ◌^◌, ◌∷◌, None, Some, OnOk, OnErr, IfOk, IfErr};
+ghost use Rattle.std.specs.Prelude.{◌≡◌, ◌≢◌, ◌<◌, ◌≤◌, ◌-◌, ◌^◌, ◌∷◌, None, Some, length, OnOk, OnErr, IfOk, IfErr};
 ghost use Rattle.atomic_table.specs.Table.{rest};
+ghost use Rattle.brc_words.specs.declared.limits.TheConstants.{MOST_ENTRIES};
 ghost use Rattle.brc_runs.specs.Heap.{words_for};
 ghost use Rattle.brc_runs.specs.declared.event.Step.TheVariants as steps;
 ghost use Rattle.brc_runs.specs.declared.row.Hand.TheVariants as hands;
@@ -67,6 +68,8 @@ impl<H: Home<A>, A: Allocator> Counter<H, A> {
             listed_at (taken_seen self.old.heap.cells self.old.seat.log) cell ≡ None) }
         ensures entries { IfOk result (λ block.
             AreCells self.old.heap.cells (entries_in (contents_of block.1))) }
+        ensures few { IfOk result (λ block.
+            length (entries_in (contents_of block.1)) ≤ MOST_ENTRIES) }
         ensures won { IfOk result (λ block. self.new.seat.log ≡ told.Did (steps.Lock place) 0
             (moves.Found cell (contents_of block.1)) ∷ self.old.seat.log) }
         ensures out { IfOk result (λ block. self.new.seat.slots ≡ (cell, None) ∷ self.old.seat.slots) }
