@@ -1,7 +1,7 @@
 -- Counting up an entry of the locked object: which cell it is, and that what is locked and found stays.
-use Rattle.std.proofs.Common.{◌≡◌, ◌≢◌, ℕ, Bool, true, false, arith, inl, inr, List, [], ◌∷◌, Option, Some, None, is_some, refl, sym, ◌∙◌, ap, subst, slice_get}
+use Rattle.std.proofs.Common.{◌≡◌, ◌≢◌, ◌≤◌, ℕ, Bool, true, false, arith, inl, inr, List, [], ◌∷◌, length, Option, Some, None, is_some, refl, sym, ◌∙◌, ap, subst, slice_get}
 use Rattle.std.proofs.lemmas.Bool.{cases_lt}
-use Rattle.brc_words.specs.declared.limits.TheConstants.{FIRST_MORTAL}
+use Rattle.brc_words.specs.declared.limits.TheConstants.{FIRST_MORTAL, MOST_ENTRIES}
 use Rattle.brc_runs.specs.declared.event.Source.{Source}
 use Rattle.brc_runs.specs.declared.event.Source.TheVariants as sources
 use Rattle.brc_runs.specs.declared.event.Step.TheVariants.{LocalUp, SharedUp}
@@ -118,6 +118,7 @@ entry_up old new source c given all heap lock =
       found = contents_same ∙ lock.found ∙ ap Some (sym found_same);
       has = λ d is. ap (λ has. has d) (has_stays n source given.place old.seat.log new.seat.log up) ∙ lock.has d (sym cell ∙ is) ∙ ap entries_in (sym found_same);
       cells = subst (λ f. AreCells n (entries_in f)) (sym found_same) lock.cells;
+      few = subst (λ f. length (entries_in f) ≤ MOST_ENTRIES) (sym found_same) lock.few;
       unlisted = λ d is. ap (λ bs. listed_at bs d) blocks_same ∙ lock.unlisted d (sym cell ∙ is);
     } in
     record {

@@ -1,5 +1,6 @@
 -- What contracts see of a frame's locked object, and what locking it, naming its entries and unlocking it do.
-use Rattle.std.specs.Prelude.{◌≡◌, ◌≢◌, ◌<◌, ℕ, true, List, ◌∷◌, Option, Some, None, is_some}
+use Rattle.std.specs.Prelude.{◌≡◌, ◌≢◌, ◌<◌, ◌≤◌, ℕ, true, List, ◌∷◌, length, Option, Some, None, is_some}
+use Rattle.brc_words.specs.declared.limits.TheConstants.{MOST_ENTRIES}
 use Rattle.brc_block.specs.declared.payload.Payload.{Payload}
 use Rattle.brc_runs.specs.declared.event.Change.{Change}
 use Rattle.brc_runs.specs.declared.event.Step.TheVariants.{Lock, Unlock}
@@ -18,12 +19,14 @@ use Rattle.brc_table.specs.Shown.{contents_of}
 use Rattle.brc_count.specs.Frames.{FrameSeen, place_seen, locked_place, lock_seen, popped_seen, IsUnlocked}
 
 -- What a thread knows of the object that it has locked: it stands in a place of the frame; what the locking found, with the
--- entries that the thread's own part has, all of them cells of the heap; and that its block is none of the dead ones.
+-- entries that the thread's own part has, not too many, and all of them cells of the heap; and that its block is none of the
+-- dead ones.
 pub record KnowsLock (n : ℕ) (log : List Told) : Type 0 where
   pub somewhere : is_some (lock_seen n log) ≡ true
   pub found : contents_locked log ≡ Some (found_locked log)
   pub has : (c : ℕ) → lock_seen n log ≡ Some c → (part_seen n log).has c ≡ entries_in (found_locked log)
   pub cells : AreCells n (entries_in (found_locked log))
+  pub few : length (entries_in (found_locked log)) ≤ MOST_ENTRIES
   pub unlisted : (c : ℕ) → lock_seen n log ≡ Some c → listed_at (taken_seen n log) c ≡ None
 
 module _ {A : Type 0} where
