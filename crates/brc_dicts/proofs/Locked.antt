@@ -3,7 +3,7 @@ use Rattle.std.proofs.Common.{◌≡◌, ◌+◌, ◌<◌, ◌≤◌, ◌++◌, 
 use Rattle.std.specs.Result.{is_ok}
 use Rattle.brc_words.specs.declared.fault.Fault.{Fault}
 use Rattle.brc_words.specs.declared.fault.Fault.TheVariants as faults
-use Rattle.brc_words.specs.declared.limits.TheConstants.{MOST_PLACES}
+use Rattle.brc_words.specs.declared.limits.TheConstants.{MOST_ENTRIES, MOST_PLACES}
 use Rattle.brc_block.specs.declared.payload.Payload.{Payload}
 use Rattle.brc_block.specs.Payload.{entries_of}
 use Rattle.brc_runs.specs.declared.event.Change.{Change}
@@ -16,12 +16,12 @@ use Rattle.brc_rule.specs.declared.told.Told.TheVariants.{Did}
 use Rattle.brc_rule.specs.Logs.{entries_in}
 use Rattle.brc_table.specs.Shown.{contents_of}
 use Rattle.brc_count.specs.Frames.{FrameSeen, HandleSeen, Given, Refused, IsAsBefore}
-use Rattle.brc_count.specs.Locking.{Began, Ended, KeepsThread, KeepsFrame, ChangesPlace, cell_in, contents_found, entries_found}
-use Rattle.brc_containers.specs.Changing.{PlainCall, Changes, KeepsPlaces, Puts, Swaps, Takes, Shares, RefusedPlainly, RefusedForWant, RefusedEntry, RefusedPlace}
+use Rattle.brc_count.specs.Locking.{IsLocked, Began, Ended, KeepsThread, KeepsFrame, ChangesPlace, cell_in, contents_found, entries_found}
+use Rattle.brc_containers.specs.Changing.{PlainCall, Changes, KeepsPlaces, Puts, Swaps, Takes, Shares, RefusedPlainly, RefusedForWant, RefusedPlace}
 use Rattle.brc_lock.proofs.Kept.{thread_kept_on}
 use Rattle.brc_dicts.specs.Since.{HasLocked}
-use Rattle.brc_dicts.specs.Plain.{plain_put}
-use Rattle.brc_dicts.specs.Putting.{RefusedRoom}
+use Rattle.brc_dicts.specs.Plain.{dict_of, plain_put}
+use Rattle.brc_dicts.specs.Putting.{RefusedRoom, RefusedPair}
 use Rattle.brc_dicts.specs.Seeking.{IsAbsent}
 use Rattle.brc_dicts.proofs.Shown.{entries_shown, put_full, put_may}
 use Rattle.brc_words.specs.declared.key.Key.{Key}
@@ -75,11 +75,14 @@ module _ {A : Type 0} where
   pub found_placed : (now mid : FrameSeen A) (found : Contents) → IsAsBefore now mid → contents_found now ≡ found → contents_found mid ≡ found
   found_placed now mid found same is = ap contents_found same ∙ is
 
+  -- a locked object hasn't too many
+  pub few_entries : (now : FrameSeen A) (payload : Payload A) → IsLocked now → contents_found now ≡ contents_of payload → length (entries_of payload) ≤ MOST_ENTRIES
+  few_entries now payload locked found = subst (λ es. length es ≤ MOST_ENTRIES) (entries_are now payload found) locked.few
+
   -- so the entry that was sought is found there
-  pub entry_found : (now : FrameSeen A) (payload : Payload A) (index place cell : ℕ) → contents_found now ≡ contents_of payload → place ≡ index
-      → slice_get (entries_of payload) index ≡ Some cell → slice_get (entries_found now) place ≡ Some cell
-  entry_found now payload index place cell found same entry =
-      ap (λ es. slice_get es place) (entries_are now payload found) ∙ ap (slice_get (entries_of payload)) same ∙ entry
+  pub entry_found : (now : FrameSeen A) (payload : Payload A) (index cell : ℕ) → contents_found now ≡ contents_of payload
+      → slice_get (entries_of payload) index ≡ Some cell → slice_get (entries_found now) index ≡ Some cell
+  entry_found now payload index cell found entry = ap (λ es. slice_get es index) (entries_are now payload found) ∙ entry
 
   -- ---- what was done
 
@@ -223,11 +226,15 @@ module _ {A : Type 0} where
   -- room for a new key was refused
   pub refused_append : (before now new : FrameSeen A) (k : ℕ) (block : ℕ × Payload A) (key : Key A) (value : ℕ) (fault : Fault)
       → Stood before now k block → Ended now new Keep block → IsAbsent block.1 key → RefusedRoom (length (entries_of block.1)) fault
-      → RefusedEntry before new k (plain_put key value) fault
+      → RefusedPair before new k (plain_put key value) fault
   refused_append before now new k block key value faults.Full was ended absent full =
       refused_plainly before now new k block (plain_put key value) faults.Full was ended (put_full key value block.1 absent full)
-  refused_append before now new k block key value faults.OutOfMemory was ended absent few =
-      refused_for_want before now new k block (plain_put key value) was ended (put_may key value block.1 absent few)
+  refused_append before now new k block key value faults.OutOfMemory was ended absent few = record {
+    found = contents_of block.1;
+    put = dict_of (absent.pairs.items ++ (key, value) ∷ []);
+    looks = changes_since before now new k block block.1 Keep was ended;
+    plain = put_may key value block.1 absent few;
+  }
   refused_append before now new k block key value _ was ended absent none = absurd none
 
   -- the entries that a put leaves, by the cell of the value
@@ -237,9 +244,9 @@ module _ {A : Type 0} where
       entries_shown left ∙ more ∙ ap (λ es. es ++ cell ∷ []) (sym (entries_are now old found))
       ∙ ap (λ c. entries_found now ++ c ∷ []) (same_cell same)
 
-  pub entries_set : (now : FrameSeen A) (old left : Payload A) (index place cell value : ℕ) → contents_found now ≡ contents_of old
-      → entries_of left ≡ slice_set (entries_of old) index cell → place ≡ index → Some cell ≡ Some value
-      → entries_in (contents_of left) ≡ slice_set (entries_found now) place value
-  entries_set now old left index place cell value found set at same =
+  pub entries_set : (now : FrameSeen A) (old left : Payload A) (index cell value : ℕ) → contents_found now ≡ contents_of old
+      → entries_of left ≡ slice_set (entries_of old) index cell → Some cell ≡ Some value
+      → entries_in (contents_of left) ≡ slice_set (entries_found now) index value
+  entries_set now old left index cell value found set same =
       entries_shown left ∙ set ∙ ap (λ es. slice_set es index cell) (sym (entries_are now old found))
-      ∙ ap (λ i. slice_set (entries_found now) i cell) (sym at) ∙ ap (slice_set (entries_found now) place) (same_cell same)
+      ∙ ap (slice_set (entries_found now) index) (same_cell same)

@@ -139,21 +139,13 @@ module _ {A : Type 0} where
       ∙ plain_put_is key value before
       ∙ ap leaving_dict (fills key value before.items absent.none (subst (λ n. MOST_ENTRIES ≤ n) (pairs_long old before absent.is) full))
 
-  pub put_may : (key : Key A) (value : ℕ) (old : Payload A) → IsAbsent old key → length (entries_of old) < MOST_ENTRIES
-      → is_ok (plain_put key value (contents_of old)) ≡ true
+  pub put_may : (key : Key A) (value : ℕ) (old : Payload A) (absent : IsAbsent old key) → length (entries_of old) < MOST_ENTRIES
+      → plain_put key value (contents_of old) ≡ Ok (None, dict_of (absent.pairs.items ++ (key, value) ∷ []))
   put_may key value old absent few =
       let before = absent.pairs in
-      ap (λ p. is_ok (plain_put key value (contents_of p))) absent.is
-      ∙ ap is_ok (plain_put_is key value before)
-      ∙ ap (λ r. is_ok (leaving_dict r)) (appends key value before.items absent.none (subst (λ n. n < MOST_ENTRIES) (pairs_long old before absent.is) few))
-
-  pub put_may_there : (key : Key A) (value : ℕ) (old : Payload A) (index cell : ℕ) → IsThere old key index cell
-      → is_ok (plain_put key value (contents_of old)) ≡ true
-  put_may_there key value old index cell there =
-      let before = there.pairs in
-      ap (λ p. is_ok (plain_put key value (contents_of p))) there.is
-      ∙ ap is_ok (plain_put_is key value before)
-      ∙ ap (λ r. is_ok (leaving_dict r)) (replaces key value cell before.items (beside_is key before.items index cell there.stands there.beside))
+      ap (λ p. plain_put key value (contents_of p)) absent.is
+      ∙ plain_put_is key value before
+      ∙ ap leaving_dict (appends key value before.items absent.none (subst (λ n. n < MOST_ENTRIES) (pairs_long old before absent.is) few))
 
   pub put_wrong : (key : Key A) (value : ℕ) (old : Payload A) → kind_of old ≢ kinds.Dict
       → plain_put key value (contents_of old) ≡ Err faults.WrongKind

@@ -1,12 +1,14 @@
 -- What a put does to a frame and to its handles.
-use Rattle.std.specs.Prelude.{◌≡◌, ◌≤◌, ◌<◌, ℕ, Option, Some, None}
+use Rattle.std.specs.Prelude.{◌≡◌, ◌≤◌, ◌<◌, ℕ, Option, Some, None, Ok}
 use Rattle.brc_words.specs.declared.fault.Fault.{Fault}
 use Rattle.brc_words.specs.declared.fault.Fault.TheVariants as faults
 use Rattle.brc_words.specs.declared.key.Key.{Key}
 use Rattle.brc_words.specs.declared.limits.TheConstants.{MOST_ENTRIES}
+use Rattle.brc_runs.specs.declared.event.Change.TheVariants.{Keep}
+use Rattle.brc_rule.specs.declared.contents.Contents.{Contents}
 use Rattle.brc_count.specs.Frames.{FrameSeen, HandleSeen}
-use Rattle.brc_count.specs.Locking.{cell_in}
-use Rattle.brc_containers.specs.Changing.{Puts, Swaps, RefusedEntry}
+use Rattle.brc_count.specs.Locking.{Busy, cell_in}
+use Rattle.brc_containers.specs.Changing.{PlainCall, Changes, Puts, Swaps, RefusedPlainly}
 use Rattle.brc_containers.specs.Handles.{Keeps, Loses}
 use Rattle.brc_dicts.specs.Plain.{plain_put}
 
@@ -28,7 +30,20 @@ module _ {A : Type 0} where
   OwnsPut old new value None = Loses old new value
   OwnsPut old new value (Some given) = Keeps old new
 
+  -- The dictionary was looked at, and unlocked as it was found. The plain call puts a new key into it, but memory was missing.
+  pub record RefusedNew (old new : FrameSeen A) (k : ℕ) (call : PlainCall (Option ℕ)) : Type 0 where
+    pub found : Contents
+    pub put : Contents
+    pub looks : Changes old new k found Keep found
+    pub plain : call found ≡ Ok (None, put)
+
+  -- Busy comes first, what the plain call says next, and want of memory last, which only a new key has
+  abbrev pub RefusedPair : FrameSeen A → FrameSeen A → ℕ → PlainCall (Option ℕ) → Fault → Type 0
+  RefusedPair old new k call faults.Busy = Busy old new k
+  RefusedPair old new k call faults.OutOfMemory = RefusedNew old new k call
+  RefusedPair old new k call fault = RefusedPlainly old new k call fault
+
   -- why it was refused, by the cell of the value
   abbrev pub RefusedPut : FrameSeen A → FrameSeen A → ℕ → Key A → HandleSeen → Fault → Type 0
   RefusedPut old new k key value fault =
-      (c : ℕ) → cell_in old value.place ≡ Some c → RefusedEntry old new k (plain_put key c) fault
+      (c : ℕ) → cell_in old value.place ≡ Some c → RefusedPair old new k (plain_put key c) fault

@@ -53,11 +53,7 @@ fn del_locked<H: Home<A>, A: Allocator>(
         frame.end_keep(block);
         return Err(fault);
     }
-    // No container of a heap has so many entries, but nothing here knows that.
-    let Ok(place) = u32::try_from(index) else {
-        frame.end_keep(block);
-        return Err(Fault::OutOfMemory);
-    };
+    let place = index as u32;
     let _cell = block.payload_mut().remove(index);
     Ok(frame.end_take(block, place, cell))
 }

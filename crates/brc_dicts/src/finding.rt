@@ -53,12 +53,7 @@ fn find_locked<H: Home<A>, A: Allocator>(
         frame.end_keep(block);
         return Err(fault);
     }
-    // No container of a heap has so many entries, but nothing here knows that.
-    let Ok(index) = u32::try_from(index) else {
-        frame.end_keep(block);
-        return Err(Fault::OutOfMemory);
-    };
-    let given = frame.up_entry(index, cell);
+    let given = frame.up_entry(index as u32, cell);
     frame.end_keep(block);
     Ok(given)
 }

@@ -78,7 +78,7 @@ fn append_locked<H: Home<A>, A: Allocator>(
     Ok(None)
 }
 
-/// The value goes beside a key that is there, in the dictionary that is locked. It takes no memory.
+/// The value goes beside a key that is there, in the dictionary that is locked; the answer is the old one. It takes no memory.
 fn replace_locked<H: Home<A>, A: Allocator>(
     frame: &mut Frame<H, A>,
     mut block: Block<A>,
@@ -86,7 +86,7 @@ fn replace_locked<H: Home<A>, A: Allocator>(
     value: Handle,
     index: usize,
     entry: u32,
-) -> Result<Option<Handle>, (Fault, (Key<A>, Handle))>
+) -> Handle
     requires locked { IsLocked frame.old }
     requires of_cell { cell_locked frame.old ≡ Some block.0 }
     requires found { contents_found frame.old ≡ contents_of block.1 }
@@ -95,26 +95,17 @@ fn replace_locked<H: Home<A>, A: Allocator>(
     requires there { IsThere block.1 key index entry }
     ensures thread { KeepsThread frame.old frame.new }
     ensures unlocked { IsUnlocked frame.new }
-    ensures put { IfOk result (λ answer. Since frame.old block
-        (λ before k. HasPut before frame.new k key value answer)) }
-    ensures owns { IfOk result (OwnsPut frame.old frame.new value) }
-    ensures back { IfErr result (λ refused. refused.1 ≡ (key, value)) }
-    ensures frame { IfErr result (λ refused. KeepsFrame frame.old frame.new) }
-    ensures refused { IfErr result (λ refused. Since frame.old block
-        (λ before k. RefusedPut before frame.new k key value refused.0)) }
-    ensures waits { IfErr result (λ refused. refused.0 ≢ faults.Busy) }
+    ensures put { Since frame.old block
+        (λ before k. HasPut before frame.new k key value (Some result)) }
+    ensures owns { OwnsPut frame.old frame.new value (Some result) }
 {
-    // No container of a heap has so many entries, but nothing here knows that.
-    let Ok(place) = u32::try_from(index) else {
-        frame.end_keep(block);
-        return Err((Fault::OutOfMemory, (key, value)));
-    };
+    let place = index as u32;
     let cell = frame.cell(&value);
     block.payload_mut().set(index, cell);
     let old = frame.end_swap(block, place, entry, value);
     // The key's memory goes once the lock is free.
     drop(key);
-    Ok(Some(old))
+    old
 }
 
 /// A put into the dictionary that is locked, and its unlocking.
@@ -141,7 +132,10 @@ fn put_locked<H: Home<A>, A: Allocator>(
     ensures waits { IfErr result (λ refused. refused.0 ≢ faults.Busy) }
 {
     match seek(block.payload(), &key) {
-        Sought::There { index, cell } => replace_locked(frame, block, key, value, index, cell),
+        Sought::There { index, cell } => {
+            let old = replace_locked(frame, block, key, value, index, cell);
+            Ok(Some(old))
+        }
         Sought::Absent => append_locked(frame, block, key, value),
         Sought::WrongKind => {
             frame.end_keep(block);
@@ -152,7 +146,8 @@ fn put_locked<H: Home<A>, A: Allocator>(
 
 /// Puts the value beside the key. A new key comes last, and the answer is None; beside a key that is there the value takes the
 /// place of the old one, which is the answer. Busy where another thread has the dictionary locked, then WrongKind where the
-/// object is no dictionary, Full where a new key is the 1,048,577th, and OutOfMemory; a refusal hands key and value back.
+/// object is no dictionary, Full where a new key is the 1,048,577th, and OutOfMemory for a new key; a refusal hands key and value
+/// back.
 pub fn try_dict_put<H: Home<A>, A: Allocator>(
     frame: &mut Frame<H, A>,
     dict: &Handle,

@@ -1,5 +1,5 @@
 -- What is done within a lock, from what its steps say.
-use Rattle.std.proofs.Common.{◌≡◌, ◌<◌, ◌+◌, ◌++◌, ◌∷◌, [], ℕ, List, Some, None, true, length, remove, slice_get, slice_set, refl, sym, ◌∙◌, ap, subst}
+use Rattle.std.proofs.Common.{◌≡◌, ◌<◌, ◌≤◌, ◌+◌, ◌++◌, ◌∷◌, [], ℕ, List, Some, None, true, length, remove, slice_get, slice_set, refl, sym, ◌∙◌, ap, subst}
 use Rattle.brc_words.specs.declared.fault.Fault.{Fault}
 use Rattle.brc_words.specs.declared.kind.Kind.{Kind}
 use Rattle.brc_words.specs.declared.kind.Kind.TheVariants as kinds
@@ -19,7 +19,7 @@ use Rattle.brc_count.specs.Frames.{FrameSeen, HandleSeen, IsAsBefore, popped_see
 use Rattle.brc_count.specs.Locking.{Ended, ChangesPlace, cell_in, cell_locked, contents_found}
 use Rattle.brc_lists.specs.Plain.{plain_set}
 use Rattle.brc_lists.specs.Rows.{is_row, plain_put, plain_at, plain_take}
-use Rattle.brc_lists.specs.Within.{PutsIn, SwapsIn, TakesOut, RefusesPlace}
+use Rattle.brc_lists.specs.Within.{HasLocked, PutsIn, SwapsIn, TakesOut, RefusesPlace}
 use Rattle.brc_lists.proofs.Rows_Law.{kind_shown, entries_shown, put_gives, at_gives}
 
 module _ {A : Type 0} where
@@ -29,6 +29,11 @@ module _ {A : Type 0} where
 
   pub found_entries : (found : Contents) (payload : Payload A) → found ≡ contents_of payload → entries_in found ≡ entries_of payload
   found_entries found payload is = ap entries_in is ∙ entries_shown payload
+
+  -- an object that is locked hasn't too many entries
+  pub few_entries : (frame : FrameSeen A) (block : ℕ × Payload A) → HasLocked frame block → length (entries_of block.1) ≤ MOST_ENTRIES
+  few_entries frame block has =
+      subst (λ es. length es ≤ MOST_ENTRIES) (found_entries (contents_found frame) block.1 has.found) has.locked.few
 
   pub puts_in : (old new : FrameSeen A) (kind : Kind) (v value : ℕ) (block : ℕ × Payload A) (before : Payload A) → is_row kind ≡ true
       → cell_locked old ≡ Some block.0 → contents_found old ≡ contents_of before → cell_in old v ≡ Some value
@@ -93,9 +98,9 @@ module _ {A : Type 0} where
       → kind_of before ≡ kind → slice_get (entries_of before) index ≡ Some entry
       → kind_of block.1 ≡ kind_of before → entries_of block.1 ≡ remove (entries_of before) index
       → given.thread ≡ ready.seat.thread → given.place ≡ ready.next → cell_in ready given.place ≡ None
-      → (place : ℕ) → place ≡ index → Ended ready new (Take place given.place) block → ChangesPlace ready new given.place (Some entry) → new.len ≡ ready.len + 1
+      → Ended ready new (Take index given.place) block → ChangesPlace ready new given.place (Some entry) → new.len ≡ ready.len + 1
       → TakesOut old new (plain_take kind index) given
-  takes_out old ready new kind index entry given block before same row locks found is there same_kind left thread next vacant place at_place ended places len =
+  takes_out old ready new kind index entry given block before same row locks found is there same_kind left thread next vacant ended places len =
       let entries = found_entries (contents_found old) before found in
       let here = ap (λ es. slice_get es index) entries ∙ there in
       record {
@@ -110,8 +115,7 @@ module _ {A : Type 0} where
           block = block;
           locks_cell = locks;
           holds = refl;
-          ended = ended_as old ready new (Take index given.place) block same
-              (subst (λ i. Ended ready new (Take i given.place) block) at_place ended);
+          ended = ended_as old ready new (Take index given.place) block same ended;
         };
         thread = thread ∙ ap (λ (f : FrameSeen A). f.seat.thread) same;
         next = next ∙ ap (λ (f : FrameSeen A). f.next) same;

@@ -159,11 +159,7 @@ pub(crate) fn take_locked<H: Home<A>, A: Allocator>(
         }
         Ok(entry) => entry,
     };
-    // No object has so many entries, but the proof knows only how many a call puts in.
-    let Ok(place) = u32::try_from(index) else {
-        frame.end_keep(block);
-        return Err(Fault::OutOfMemory);
-    };
+    let place = index as u32;
     let _entry = block.payload_mut().remove(index);
     Ok(frame.end_take(block, place, entry))
 }

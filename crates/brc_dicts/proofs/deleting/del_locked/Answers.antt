@@ -1,10 +1,9 @@
-use Rattle.std.proofs.Common.{◌<◌, subst, sym, ◌∙◌, ap, slice_get, remove}
-use Rattle.brc_words.specs.declared.limits.TheConstants.{MOST_PLACES}
+use Rattle.std.proofs.Common.{arith, subst, sym, ◌∙◌, ap, remove}
 use Rattle.brc_block.specs.Payload.{entries_of, keys_of, kind_of}
 use Rattle.brc_dicts.specs.Seeking.{IsThere, IsAbsent}
 use Rattle.brc_dicts.specs.Plain.{plain_del}
 use Rattle.brc_dicts.proofs.Shown.{del_there, del_may, del_absent, entry_there, entry_within, entries_shown}
-use Rattle.brc_dicts.proofs.Locked.{stood, stood_placed, found_placed, entry_found, entries_are, refused_plainly, refused_for_want, refused_place, takes_since}
+use Rattle.brc_dicts.proofs.Locked.{stood, stood_placed, found_placed, few_entries, entry_found, entries_are, refused_plainly, refused_for_want, refused_place, takes_since}
 use Rattle.brc_dicts.proofs.deleting.del_locked.Goals as goal
 
 pub returns-in-Absent-clause-refused : goal.returns-in-Absent-clause-refused
@@ -21,14 +20,10 @@ returns-in-Err-clause-refused g c = λ before k since.
     (refused_for_want before c.place.new.self c.end_keep-in-Err.new.self k c.args.block (plain_del c.args.key.now) was c.end_keep-in-Err.ensures.ended
     (del_may c.args.key.now c.args.block.1 c.in-There.index c.in-There.cell there))
 
-pub returns-in_default-try_from-clause-refused : goal.returns-in_default-try_from-clause-refused
-returns-in_default-try_from-clause-refused g c = λ before k since.
+pub overflow_cast-place : goal.overflow_cast-place
+overflow_cast-place g c =
     let there = subst (λ p. IsThere p c.args.key.now c.in-There.index c.in-There.cell) c.payload.ensures c.in-There.ensures in
-    let was = stood_placed before c.args.frame.now c.place.new.self k c.args.block since c.place.ensures.same in (
-      refused_for_want before c.place.new.self c.end_keep-in_default-try_from.new.self k c.args.block (plain_del c.args.key.now) was
-          c.end_keep-in_default-try_from.ensures.ended (del_may c.args.key.now c.args.block.1 c.in-There.index c.in-There.cell there),
-      subst (λ n. n < MOST_PLACES) was.places.next c.in_default.ensures.low,
-    )
+    omega (arith, entry_within c.args.block.1 c.args.key.now c.in-There.index c.in-There.cell there, few_entries c.args.frame.now c.args.block.1 c.requires.locked c.requires.found)
 
 pub remove-cell-requires : goal.remove-cell-requires
 remove-cell-requires g c =
@@ -38,8 +33,8 @@ remove-cell-requires g c =
 pub end_take-requires-clause-entry : goal.end_take-requires-clause-entry
 end_take-requires-clause-entry g c =
     let there = subst (λ p. IsThere p c.args.key.now c.in-There.index c.in-There.cell) c.payload.ensures c.in-There.ensures in
-    entry_found c.place.new.self c.args.block.1 c.in-There.index c.in-Ok.place c.in-There.cell
-    (found_placed c.args.frame.now c.place.new.self _ c.place.ensures.same c.requires.found) c.in-Ok.ensures.1
+    entry_found c.place.new.self c.args.block.1 c.in-There.index c.in-There.cell
+    (found_placed c.args.frame.now c.place.new.self _ c.place.ensures.same c.requires.found)
     (entry_there c.args.block.1 c.args.key.now c.in-There.index c.in-There.cell there)
 
 pub end_take-requires-clause-entries : goal.end_take-requires-clause-entries
@@ -48,16 +43,15 @@ end_take-requires-clause-entries g c =
     ∙ ap (λ p. remove (entries_of p) c.in-There.index) c.payload_mut.ensures.value
     ∙ ap (λ es. remove es c.in-There.index) (sym (entries_are c.place.new.self c.args.block.1
     (found_placed c.args.frame.now c.place.new.self _ c.place.ensures.same c.requires.found)))
-    ∙ ap (remove _) (sym c.in-Ok.ensures.1)
 
 pub returns-clause-takes : goal.returns-clause-takes
 returns-clause-takes g c = λ before k since.
     let there = subst (λ p. IsThere p c.args.key.now c.in-There.index c.in-There.cell) c.payload.ensures c.in-There.ensures in
     let was = stood_placed before c.args.frame.now c.place.new.self k c.args.block since c.place.ensures.same in
     let lent = c.payload_mut.ensures.value in
-    takes_since before c.place.new.self c.end_take.new.self k c.args.block c.remove-cell.new.self (plain_del c.args.key.now) c.in-Ok.place c.in-There.cell c.end_take.result
+    takes_since before c.place.new.self c.end_take.new.self k c.args.block c.remove-cell.new.self (plain_del c.args.key.now) c.in-There.index c.in-There.cell c.end_take.result
     was c.end_take.ensures.ended
-    (ap (slice_get (entries_of c.args.block.1)) c.in-Ok.ensures.1 ∙ entry_there c.args.block.1 c.args.key.now c.in-There.index c.in-There.cell there)
+    (entry_there c.args.block.1 c.args.key.now c.in-There.index c.in-There.cell there)
     (del_there c.args.key.now c.args.block.1 c.remove-cell.new.self c.in-There.index c.in-There.cell there
     (c.remove-cell.ensures.kind ∙ ap kind_of lent)
     (c.remove-cell.ensures.keys ∙ ap (λ p. remove (keys_of p) c.in-There.index) lent)

@@ -1,11 +1,9 @@
-use Rattle.std.proofs.Common.{◌<◌, subst, ◌∙◌, ap, slice_get}
+use Rattle.std.proofs.Common.{arith, subst, ap}
 use Rattle.std.specs.Result.{is_ok}
-use Rattle.brc_words.specs.declared.limits.TheConstants.{MOST_PLACES}
-use Rattle.brc_block.specs.Payload.{entries_of}
 use Rattle.brc_dicts.specs.Seeking.{IsThere, IsAbsent}
 use Rattle.brc_dicts.specs.Plain.{plain_find}
-use Rattle.brc_dicts.proofs.Shown.{find_there, find_absent, entry_there}
-use Rattle.brc_dicts.proofs.Locked.{stood, stood_placed, found_placed, entry_found, refused_plainly, refused_for_want, refused_place, shares_since}
+use Rattle.brc_dicts.proofs.Shown.{find_there, find_absent, entry_there, entry_within}
+use Rattle.brc_dicts.proofs.Locked.{stood, stood_placed, found_placed, few_entries, entry_found, refused_plainly, refused_for_want, refused_place, shares_since}
 use Rattle.brc_dicts.proofs.finding.find_locked.Goals as goal
 
 pub returns-in-Absent-clause-refused : goal.returns-in-Absent-clause-refused
@@ -22,27 +20,23 @@ returns-in-Err-clause-refused g c = λ before k since.
     (refused_for_want before c.place.new.self c.end_keep-in-Err.new.self k c.args.block (plain_find c.args.key.now) was c.end_keep-in-Err.ensures.ended
     (ap is_ok (find_there c.args.key.now c.args.block.1 c.in-There.index c.in-There.cell there)))
 
-pub returns-in_default-try_from-clause-refused : goal.returns-in_default-try_from-clause-refused
-returns-in_default-try_from-clause-refused g c = λ before k since.
+pub overflow_cast-index : goal.overflow_cast-index
+overflow_cast-index g c =
     let there = subst (λ p. IsThere p c.args.key.now c.in-There.index c.in-There.cell) c.payload.ensures c.in-There.ensures in
-    let was = stood_placed before c.args.frame.now c.place.new.self k c.args.block since c.place.ensures.same in (
-      refused_for_want before c.place.new.self c.end_keep-in_default-try_from.new.self k c.args.block (plain_find c.args.key.now) was
-          c.end_keep-in_default-try_from.ensures.ended (ap is_ok (find_there c.args.key.now c.args.block.1 c.in-There.index c.in-There.cell there)),
-      subst (λ n. n < MOST_PLACES) was.places.next c.in_default.ensures.low,
-    )
+    omega (arith, entry_within c.args.block.1 c.args.key.now c.in-There.index c.in-There.cell there, few_entries c.args.frame.now c.args.block.1 c.requires.locked c.requires.found)
 
 pub up_entry-given-requires-clause-entry : goal.up_entry-given-requires-clause-entry
 up_entry-given-requires-clause-entry g c =
     let there = subst (λ p. IsThere p c.args.key.now c.in-There.index c.in-There.cell) c.payload.ensures c.in-There.ensures in
-    entry_found c.place.new.self c.args.block.1 c.in-There.index c.in-Ok.index c.in-There.cell
-    (found_placed c.args.frame.now c.place.new.self _ c.place.ensures.same c.requires.found) c.in-Ok.ensures.1
+    entry_found c.place.new.self c.args.block.1 c.in-There.index c.in-There.cell
+    (found_placed c.args.frame.now c.place.new.self _ c.place.ensures.same c.requires.found)
     (entry_there c.args.block.1 c.args.key.now c.in-There.index c.in-There.cell there)
 
 pub returns-clause-shares : goal.returns-clause-shares
 returns-clause-shares g c = λ before k since.
     let there = subst (λ p. IsThere p c.args.key.now c.in-There.index c.in-There.cell) c.payload.ensures c.in-There.ensures in
     let was = stood_placed before c.args.frame.now c.place.new.self k c.args.block since c.place.ensures.same in
-    shares_since before c.place.new.self c.up_entry-given.new.self c.end_keep-2.new.self k c.args.block (plain_find c.args.key.now) c.in-Ok.index c.in-There.cell c.up_entry-given.result
+    shares_since before c.place.new.self c.up_entry-given.new.self c.end_keep-2.new.self k c.args.block (plain_find c.args.key.now) c.in-There.index c.in-There.cell c.up_entry-given.result
     was c.up_entry-given.ensures.given c.up_entry-given.ensures.heap c.end_keep-2.ensures.ended c.end_keep-2.ensures.frame
-    (ap (slice_get (entries_of c.args.block.1)) c.in-Ok.ensures.1 ∙ entry_there c.args.block.1 c.args.key.now c.in-There.index c.in-There.cell there)
+    (entry_there c.args.block.1 c.args.key.now c.in-There.index c.in-There.cell there)
     (find_there c.args.key.now c.args.block.1 c.in-There.index c.in-There.cell there)

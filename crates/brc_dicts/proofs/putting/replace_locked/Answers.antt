@@ -1,16 +1,14 @@
-use Rattle.std.proofs.Common.{Some, subst, sym, ◌∙◌, ap, slice_get, slice_set}
+use Rattle.std.proofs.Common.{Some, arith, subst, sym, ◌∙◌, ap, slice_set}
 use Rattle.brc_block.specs.Payload.{entries_of, keys_of, kind_of}
 use Rattle.brc_dicts.specs.Plain.{plain_put}
 use Rattle.brc_dicts.specs.Seeking.{IsThere}
-use Rattle.brc_dicts.proofs.Shown.{put_there, put_may_there, entry_there, entry_within}
-use Rattle.brc_dicts.proofs.Locked.{stood, refused_for_want, entry_found, entries_set, swaps_since}
+use Rattle.brc_dicts.proofs.Shown.{put_there, entry_there, entry_within}
+use Rattle.brc_dicts.proofs.Locked.{stood, few_entries, entry_found, entries_set, swaps_since}
 use Rattle.brc_dicts.proofs.putting.replace_locked.Goals as goal
 
-pub returns-in_default-clause-refused : goal.returns-in_default-clause-refused
-returns-in_default-clause-refused g c = λ before k since value at.
-    refused_for_want before c.args.frame.now c.end_keep.new.self k c.args.block (plain_put c.args.key value)
-    (stood before c.args.frame.now k c.args.block since) c.end_keep.ensures.ended
-    (put_may_there c.args.key value c.args.block.1 c.args.index c.args.entry c.requires.there)
+pub overflow_cast-place : goal.overflow_cast-place
+overflow_cast-place g c =
+    omega (arith, entry_within c.args.block.1 c.args.key c.args.index c.args.entry c.requires.there, few_entries c.args.frame.now c.args.block.1 c.requires.locked c.requires.found)
 
 pub set-requires : goal.set-requires
 set-requires g c =
@@ -19,14 +17,14 @@ set-requires g c =
 
 pub end_swap-old-requires-clause-entry : goal.end_swap-old-requires-clause-entry
 end_swap-old-requires-clause-entry g c =
-    entry_found c.args.frame.now c.args.block.1 c.args.index c.in-Ok.place c.args.entry c.requires.found c.in-Ok.ensures.1
+    entry_found c.args.frame.now c.args.block.1 c.args.index c.args.entry c.requires.found
     (entry_there c.args.block.1 c.args.key c.args.index c.args.entry c.requires.there)
 
 pub end_swap-old-requires-clause-entries : goal.end_swap-old-requires-clause-entries
 end_swap-old-requires-clause-entries g c = λ value at.
-    entries_set c.args.frame.now c.args.block.1 c.set.new.self c.args.index c.in-Ok.place c.cell-cell.result value c.requires.found
+    entries_set c.args.frame.now c.args.block.1 c.set.new.self c.args.index c.cell-cell.result value c.requires.found
     (c.set.ensures.set ∙ ap (λ p. slice_set (entries_of p) c.args.index c.cell-cell.result) c.payload_mut.ensures.value)
-    c.in-Ok.ensures.1 (sym c.cell-cell.ensures.cell ∙ at)
+    (sym c.cell-cell.ensures.cell ∙ at)
 
 pub returns-clause-put : goal.returns-clause-put
 returns-clause-put g c = λ before k since.
@@ -34,9 +32,9 @@ returns-clause-put g c = λ before k since.
     let there = c.requires.there in (
       c.end_swap-old.ensures.same,
       swaps_since before c.args.frame.now c.end_swap-old.new.self k c.args.value.place c.args.block c.set.new.self (plain_put c.args.key) Some
-          c.cell-cell.result c.in-Ok.place c.args.entry
+          c.cell-cell.result c.args.index c.args.entry
           (stood before c.args.frame.now k c.args.block since) c.end_swap-old.ensures.ended c.cell-cell.ensures.cell
-          (ap (slice_get (entries_of c.args.block.1)) c.in-Ok.ensures.1 ∙ entry_there c.args.block.1 c.args.key c.args.index c.args.entry there)
+          (entry_there c.args.block.1 c.args.key c.args.index c.args.entry there)
           (put_there c.args.key c.cell-cell.result c.args.block.1 c.set.new.self c.args.index c.args.entry there
           (c.set.ensures.kind ∙ ap kind_of lent) (c.set.ensures.keys ∙ ap keys_of lent)
           (c.set.ensures.set ∙ ap (λ p. slice_set (entries_of p) c.args.index c.cell-cell.result) lent))

@@ -1,15 +1,19 @@
-use Rattle.std.proofs.Common.{◌<◌, length, remove, sym, ◌∙◌, ap, subst}
+use Rattle.std.proofs.Common.{◌<◌, arith, length, remove, sym, ◌∙◌, ap, subst}
 use Rattle.std.proofs.lemmas.Option.{slice_get_within}
 use Rattle.brc_block.specs.declared.payload.Payload.{Payload}
 use Rattle.brc_block.specs.Payload.{kind_of, entries_of}
 use Rattle.brc_count.specs.Locking.{contents_found}
-use Rattle.brc_lists.proofs.Within_Law.{place_found, takes_out}
+use Rattle.brc_lists.proofs.Within_Law.{few_entries, place_found, takes_out}
 use Rattle.brc_lists.proofs.within.take_locked.Goals as goal
 
 pub returns-in-Err-clause-refused : goal.returns-in-Err-clause-refused
 returns-in-Err-clause-refused g c =
     place_found c.args.frame.now c.args.kind c.args.index (λ cells. remove cells c.args.index) (contents_found c.args.frame.now) c.args.block.1 c.in-Err.fault
     c.requires.has.found (c.in-Err.ensures.refused (λ cells. remove cells c.args.index))
+
+pub overflow_cast-place : goal.overflow_cast-place
+overflow_cast-place g c =
+    omega (arith, slice_get_within (entries_of c.args.block.1) c.args.index c.in-Ok.entry c.in-Ok.ensures.entry, few_entries c.args.frame.now c.args.block c.requires.has)
 
 pub remove-entry-requires : goal.remove-entry-requires
 remove-entry-requires g c = record {
@@ -25,4 +29,4 @@ returns-clause-taken g c =
     c.in-Ok.ensures.is c.in-Ok.ensures.entry (c.remove-entry.ensures.kind ∙ ap kind_of there)
     (c.remove-entry.ensures.left ∙ ap (λ (p : Payload g.row.A.Denot). remove (entries_of p) c.args.index) there)
     c.end_take.ensures.thread c.end_take.ensures.next c.end_take.ensures.vacant
-    c.in-Ok-try_from.place c.in-Ok-try_from.ensures.1 c.end_take.ensures.ended c.end_take.ensures.places c.end_take.ensures.len
+    c.end_take.ensures.ended c.end_take.ensures.places c.end_take.ensures.len
