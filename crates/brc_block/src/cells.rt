@@ -46,35 +46,41 @@ impl<A: Allocator> Cells<A> {
 impl<A: Allocator> Entries for Cells<A> {
     ghost row = { λ c. c };
 
+    #[inline(always)]
     fn len(&self) -> usize {
         self.list.len()
     }
 
+    #[inline(always)]
     fn entry(&self, index: usize) -> Option<u32> {
         self.list.get(index).copied()
     }
 
+    #[inline(always)]
     fn reserve(&mut self) -> Result<(), AllocError> {
         self.list.reserve(1)
     }
 
+    #[inline(always)]
     fn put_reserved(&mut self, cell: u32) {
-        // An insertion at the end, since its contract says that the capacity stays.
-        let end = self.list.len();
-        match self.list.insert(end, cell) {
-            Ok(()) => {}
-            Err(_refused) => unreachable!(),
-        }
+        self.list.push_reserved(cell);
     }
 
+    #[inline(always)]
     fn set(&mut self, index: usize, cell: u32) {
         self.list[index] = cell;
     }
 
+    #[inline(always)]
     fn remove(&mut self, index: usize) -> u32 {
-        self.list.remove(index)
+        if self.list.len() - 1 == index {
+            self.list.take_last()
+        } else {
+            self.list.remove(index)
+        }
     }
 
+    #[inline(always)]
     fn pop(&mut self) -> Option<u32> {
         self.list.pop()
     }
