@@ -42,10 +42,8 @@ fn begin_or_busy<H: Home<A>, A: Allocator>(
 /// How many lost tries are followed by the next without giving the processor up.
 const TRIES_AT_ONCE: u32 = 40;
 
-/// Between two tries: another thread mostly has an object locked for less time than the system takes to run a thread again. The
+/// Between two tries: another thread mostly has an object locked for less time than the system takes to run this one again. The
 /// answer is how many tries were lost, as far as it counts.
-#[cold]
-#[inline(never)]
 fn pause(lost: u32) -> u32 {
     if lost < TRIES_AT_ONCE {
         spin_loop();
@@ -56,10 +54,10 @@ fn pause(lost: u32) -> u32 {
     }
 }
 
-/// Locks the handle's object and answers its block, once no other thread has it locked. Between two tries it holds nothing; after
-/// some of them it gives the processor up.
-#[inline]
-pub fn begin_late<H: Home<A>, A: Allocator>(
+/// Locks the handle's object and answers its block, once no other thread has it locked, where the first try was lost.
+#[cold]
+#[inline(never)]
+fn begin_again<H: Home<A>, A: Allocator>(
     rt: &impl Wait,
     frame: &mut Frame<H, A>,
     handle: &Handle,
@@ -70,12 +68,30 @@ pub fn begin_late<H: Home<A>, A: Allocator>(
 {
     let mut lost = 0;
     for _ in rt.forever() {
+        lost = pause(lost);
         if let Some(block) = frame.begin(handle) {
             return block;
         }
-        lost = pause(lost);
     }
     unreachable!()
+}
+
+/// Locks the handle's object and answers its block, once no other thread has it locked. Between two tries it holds nothing; after
+/// the first few it gives the processor up.
+#[inline(always)]
+pub fn begin_late<H: Home<A>, A: Allocator>(
+    rt: &impl Wait,
+    frame: &mut Frame<H, A>,
+    handle: &Handle,
+) -> Block<A>
+    requires owned { Owns frame.old handle.now }
+    requires unlocked { IsUnlocked frame.old }
+    ensures { BeginsLate frame.old frame.new handle.now.place result }
+{
+    match frame.begin(handle) {
+        Some(block) => block,
+        None => begin_again(rt, frame, handle),
+    }
 }
 
 /// Locks the handle's object. Busy where another thread has it locked, and then nothing changed but a note.
