@@ -1,11 +1,14 @@
 //! The entries of a list.
 
-ghost use Rattle.std.specs.Prelude.{◌≡◌, ◌-◌, vec_len};
+ghost use Rattle.std.specs.Prelude.{◌≡◌, ◌-◌, ◌<◌, OnOk, OnErr, vec_len};
 ghost use Rattle.std.specs.Vec.{vec_capacity};
 
 use crate::entries::Entries;
 use std::alloc::{AllocError, Allocator};
 use std::marker::Model;
+
+/// How many entries the first growth makes room for.
+const FEWEST: usize = 8;
 
 /// The entries of a list, as cells.
 #[derive(Drop)]
@@ -35,6 +38,19 @@ impl<A: Allocator> Cells<A> {
         Cells { list }
     }
 
+    /// As many entries more, as `FEWEST` says at first. It stands apart, so that what is inlined stays small.
+    #[cold]
+    #[inline(never)]
+    fn grow(&mut self) -> Result<(), AllocError>
+        requires full { self.old.spare ≡ 0 }
+        ensures items { self.new.items ≡ self.old.items }
+        ensures made { OnOk result (0 < self.new.spare) }
+        ensures unchanged { OnErr result (self.new ≡ self.old) }
+    {
+        let more = self.list.len().max(FEWEST);
+        self.list.reserve_exact(more)
+    }
+
     /// The cells in their order.
     pub fn as_slice(&self) -> &[u32]
         ensures { result.now ≡ self.now.items }
@@ -58,7 +74,10 @@ impl<A: Allocator> Entries for Cells<A> {
 
     #[inline(always)]
     fn reserve(&mut self) -> Result<(), AllocError> {
-        self.list.reserve(1)
+        if self.list.len() < self.list.capacity() {
+            return Ok(());
+        }
+        self.grow()
     }
 
     #[inline(always)]
