@@ -29,6 +29,6 @@ module _ {A : Type 0} where
   }
 
   -- tries that follow other tries
-  pub waits_on : {old mid new : FrameSeen A} {k : ℕ} → Waits old k mid → Waits mid k new → Waits old k new
+  pub waits_on : {old mid : FrameSeen A} {k : ℕ} {new : FrameSeen A} → Waits old k mid → Waits mid k new → Waits old k new
   waits_on first NoTry = first
   waits_on first (OneMore mid new waits busy) = OneMore mid new (waits_on first waits) busy

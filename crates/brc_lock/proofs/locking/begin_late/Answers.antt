@@ -1,4 +1,26 @@
-use Rattle.std.proofs.Common.{is_some, sym, ◌∙◌, ap}
 use Rattle.brc_lock.specs.Waiting.{NoTry, OneMore}
 use Rattle.brc_lock.proofs.Kept.{thread_kept_on, frame_kept_on, waits_on}
 use Rattle.brc_lock.proofs.locking.begin_late.Goals as goal
+
+pub returns-in-Some : goal.returns-in-Some
+returns-in-Some g c = record {
+  mid = c.args.frame.now;
+  waits = NoTry;
+  began = c.in-Some.ensures.began;
+  keeps = c.begin.ensures.keeps;
+  frame = c.begin.ensures.frame;
+  keeps_all = c.begin.ensures.keeps;
+  frame_all = c.begin.ensures.frame;
+}
+
+pub returns-in-None : goal.returns-in-None
+returns-in-None g c =
+    let first = OneMore c.args.frame.now c.begin.new.self NoTry c.in-None.ensures.busy in record {
+      mid = c.begin_again.ensures.mid;
+      waits = waits_on first c.begin_again.ensures.waits;
+      began = c.begin_again.ensures.began;
+      keeps = c.begin_again.ensures.keeps;
+      frame = c.begin_again.ensures.frame;
+      keeps_all = thread_kept_on c.begin.ensures.keeps c.begin_again.ensures.keeps_all;
+      frame_all = frame_kept_on c.begin.ensures.frame c.begin_again.ensures.frame_all;
+    }
