@@ -55,6 +55,7 @@ impl<A: Allocator> Block<A> {
     }
 
     /// The cell that the block is of.
+    #[inline(always)]
     pub fn cell(&self) -> u32
         ensures { result ≡ self.now.0 }
     {
@@ -69,6 +70,7 @@ impl<A: Allocator> Block<A> {
     }
 
     /// What the block holds.
+    #[inline(always)]
     pub fn payload(&self) -> &Payload<A>
         ensures { result.now ≡ self.now.1 }
     {
@@ -76,6 +78,7 @@ impl<A: Allocator> Block<A> {
     }
 
     /// What the block holds, to be changed.
+    #[inline(always)]
     pub fn payload_mut(&mut self) -> &mut Payload<A>
         ensures* lends { sem 𝓛 (lends_payload A.row A.Allocator self.entry result) }
         ensures value { result.now ≡ self.old.1 }
@@ -84,6 +87,7 @@ impl<A: Allocator> Block<A> {
     }
 
     /// The payload; the memory of the block is given back.
+    #[inline(always)]
     pub fn into_payload(self) -> Payload<A>
         ensures { result ≡ self.1 }
     {
@@ -99,6 +103,7 @@ impl<A: Allocator> Block<A> {
     }
 
     /// The allocation alone, with nothing below it.
+    #[inline(always)]
     pub(crate) fn into_node(self) -> Box<Node<A>, A>
         ensures cell { result.value.cell ≡ self.0 }
         ensures payload { result.value.payload ≡ self.1 }
@@ -109,6 +114,7 @@ impl<A: Allocator> Block<A> {
     }
 
     /// The allocation as a block, where nothing is below it.
+    #[inline(always)]
     pub(crate) fn from_node(node: Box<Node<A>, A>) -> Self
         requires alone { node.value.below ≡ [] }
         ensures { result ≡ (node.value.cell, node.value.payload) }

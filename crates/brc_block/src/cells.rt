@@ -1,11 +1,14 @@
 //! The entries of a list.
 
-ghost use Rattle.std.specs.Prelude.{◌≡◌, ◌-◌, vec_len};
+ghost use Rattle.std.specs.Prelude.{◌≡◌, ◌-◌, ◌<◌, OnOk, OnErr, vec_len};
 ghost use Rattle.std.specs.Vec.{vec_capacity};
 
 use crate::entries::Entries;
 use std::alloc::{AllocError, Allocator};
 use std::marker::Model;
+
+/// How many entries the first growth makes room for.
+const FEWEST: usize = 8;
 
 /// The entries of a list, as cells.
 #[derive(Drop)]
@@ -35,6 +38,19 @@ impl<A: Allocator> Cells<A> {
         Cells { list }
     }
 
+    /// As many entries more, as `FEWEST` says at first. It stands apart, so that what is inlined stays small.
+    #[cold]
+    #[inline(never)]
+    fn grow(&mut self) -> Result<(), AllocError>
+        requires full { self.old.spare ≡ 0 }
+        ensures items { self.new.items ≡ self.old.items }
+        ensures made { OnOk result (0 < self.new.spare) }
+        ensures unchanged { OnErr result (self.new ≡ self.old) }
+    {
+        let more = self.list.len().max(FEWEST);
+        self.list.reserve_exact(more)
+    }
+
     /// The cells in their order.
     pub fn as_slice(&self) -> &[u32]
         ensures { result.now ≡ self.now.items }
@@ -46,35 +62,44 @@ impl<A: Allocator> Cells<A> {
 impl<A: Allocator> Entries for Cells<A> {
     ghost row = { λ c. c };
 
+    #[inline(always)]
     fn len(&self) -> usize {
         self.list.len()
     }
 
+    #[inline(always)]
     fn entry(&self, index: usize) -> Option<u32> {
         self.list.get(index).copied()
     }
 
+    #[inline(always)]
     fn reserve(&mut self) -> Result<(), AllocError> {
-        self.list.reserve(1)
-    }
-
-    fn put_reserved(&mut self, cell: u32) {
-        // An insertion at the end, since its contract says that the capacity stays.
-        let end = self.list.len();
-        match self.list.insert(end, cell) {
-            Ok(()) => {}
-            Err(_refused) => unreachable!(),
+        if self.list.len() < self.list.capacity() {
+            return Ok(());
         }
+        self.grow()
     }
 
+    #[inline(always)]
+    fn put_reserved(&mut self, cell: u32) {
+        self.list.push_reserved(cell);
+    }
+
+    #[inline(always)]
     fn set(&mut self, index: usize, cell: u32) {
         self.list[index] = cell;
     }
 
+    #[inline(always)]
     fn remove(&mut self, index: usize) -> u32 {
-        self.list.remove(index)
+        if self.list.len() - 1 == index {
+            self.list.take_last()
+        } else {
+            self.list.remove(index)
+        }
     }
 
+    #[inline(always)]
     fn pop(&mut self) -> Option<u32> {
         self.list.pop()
     }

@@ -99,12 +99,7 @@ impl<A: Allocator> Pairs<A> {
         ensures put { self.new.items ≡ self.old.items ++ (key, cell) ∷ [] }
         ensures used { self.new.spare + 1 ≡ self.old.spare }
     {
-        // An insertion at the end, since its contract says that the capacity stays.
-        let end = self.list.len();
-        match self.list.insert(end, (key, cell)) {
-            Ok(()) => {}
-            Err(_refused) => unreachable!(),
-        }
+        self.list.push_reserved((key, cell));
     }
 
     /// One more entry, at the end, or its key back.

@@ -28,6 +28,7 @@ impl<A: Allocator> Payload<A> {
     ghost use Rattle.brc_block.specs.Payload.{kind_of, entries_of, keys_of, spare_of};
 
     /// What kind of object it is.
+    #[inline(always)]
     pub fn kind(&self) -> Kind
         ensures { result ≡ kind_of self.now }
     {
@@ -44,6 +45,7 @@ impl<A: Allocator> Payload<A> {
     }
 
     /// How many entries it has; only containers have any.
+    #[inline(always)]
     pub fn len(&self) -> usize
         ensures { result ≡ length (entries_of self.now) }
     {
@@ -56,6 +58,7 @@ impl<A: Allocator> Payload<A> {
     }
 
     /// The cell of an entry, or None past the end.
+    #[inline(always)]
     pub fn entry(&self, index: usize) -> Option<u32>
         ensures { result ≡ slice_get (entries_of self.now) index }
     {
@@ -68,6 +71,7 @@ impl<A: Allocator> Payload<A> {
     }
 
     /// Makes room for one more entry: the next put takes no memory then.
+    #[inline(always)]
     pub fn reserve(&mut self) -> Result<(), AllocError>
         requires container { IsTrue (is_container (kind_of self.old)) }
         ensures kind { kind_of self.new ≡ kind_of self.old }
@@ -89,6 +93,7 @@ impl<A: Allocator> Payload<A> {
     }
 
     /// One more entry of a list or a mailbox, at the end, in the room that was made for it.
+    #[inline(always)]
     pub fn put_reserved(&mut self, cell: u32)
         requires keyless { kind_of self.old ≢ kinds.Dict }
         requires room { 0 < spare_of self.old }
@@ -120,6 +125,7 @@ impl<A: Allocator> Payload<A> {
     }
 
     /// Another cell for an entry; of a dictionary the key and its place stay.
+    #[inline(always)]
     pub fn set(&mut self, index: usize, cell: u32)
         requires within { index < length (entries_of self.old) }
         ensures set { entries_of self.new ≡ slice_set (entries_of self.old) index cell }
@@ -136,6 +142,7 @@ impl<A: Allocator> Payload<A> {
     }
 
     /// Takes an entry, of a dictionary with its key, and the later ones close up.
+    #[inline(always)]
     pub fn remove(&mut self, index: usize) -> u32
         requires within { index < length (entries_of self.old) }
         ensures taken { slice_get (entries_of self.old) index ≡ Some result }
@@ -156,6 +163,7 @@ impl<A: Allocator> Payload<A> {
     }
 
     /// Takes the last entry, of a dictionary with its key; None where there is none.
+    #[inline(always)]
     pub fn pop(&mut self) -> Option<u32>
         ensures last { entries_of self.old ≡ entries_of self.new ++ option_to_list result }
         ensures keys { keys_of self.new ≡ take (length (entries_of self.new)) (keys_of self.old) }

@@ -26,6 +26,7 @@ use slab::Slab;
 use std::alloc::Allocator;
 
 /// A place that is filled has this now.
+#[inline(always)]
 fn replace<A: Allocator>(places: &mut Slab<Held, A>, place: u32, held: Held)
     requires filled { is_some (get places.old place) ≡ true }
     ensures updates { Updates places.old places.new place (Some held) }
@@ -38,6 +39,7 @@ fn replace<A: Allocator>(places: &mut Slab<Held, A>, place: u32, held: Held)
 
 impl<H: Home<A>, A: Allocator> Holdings<H, A> {
     /// Locks the object in a place, and answers its block; None where it is found locked.
+    #[inline(always)]
     pub(crate) fn begin(&mut self, place: u32) -> Option<Block<A>>
         requires filled { is_some (cell_in self.old place) ≡ true }
         requires active { IsActive self.old }
@@ -57,6 +59,7 @@ impl<H: Home<A>, A: Allocator> Holdings<H, A> {
     }
 
     /// The next place gets a reference to an entry of the locked object; the answer is that place.
+    #[inline(always)]
     pub(crate) fn up_entry(&mut self, index: u32, cell: u32) -> u32
         requires active { IsActive self.old }
         requires locked { IsLocked self.old }
@@ -73,6 +76,7 @@ impl<H: Home<A>, A: Allocator> Holdings<H, A> {
     }
 
     /// Unlocks, and changes nothing.
+    #[inline(always)]
     pub(crate) fn end_keep(&mut self, block: Block<A>)
         requires active { IsActive self.old }
         requires locked { IsLocked self.old }
@@ -85,6 +89,7 @@ impl<H: Home<A>, A: Allocator> Holdings<H, A> {
     }
 
     /// Unlocks, and a place's reference becomes the last entry.
+    #[inline(always)]
     pub(crate) fn end_put(&mut self, block: Block<A>, place: u32)
         requires active { IsActive self.old }
         requires locked { IsLocked self.old }
@@ -105,6 +110,7 @@ impl<H: Home<A>, A: Allocator> Holdings<H, A> {
     }
 
     /// Unlocks, and an entry's reference is the next place's; the answer is that place.
+    #[inline(always)]
     pub(crate) fn end_take(&mut self, block: Block<A>, index: u32, cell: u32) -> u32
         requires active { IsActive self.old }
         requires locked { IsLocked self.old }
@@ -129,6 +135,7 @@ impl<H: Home<A>, A: Allocator> Holdings<H, A> {
     }
 
     /// Unlocks, and an entry's reference and a place's are exchanged.
+    #[inline(always)]
     pub(crate) fn end_swap(&mut self, block: Block<A>, index: u32, cell: u32, place: u32)
         requires active { IsActive self.old }
         requires locked { IsLocked self.old }
@@ -151,6 +158,7 @@ impl<H: Home<A>, A: Allocator> Holdings<H, A> {
 
 impl<H: Home<A>, A: Allocator> Frame<H, A> {
     /// Locks the handle's object and answers its block, which an `end` takes back; None where it is found locked.
+    #[inline(always)]
     pub fn begin(&mut self, handle: &Handle) -> Option<Block<A>>
         requires owned { Owns self.old handle.now }
         requires unlocked { IsUnlocked self.old }
@@ -164,6 +172,7 @@ impl<H: Home<A>, A: Allocator> Frame<H, A> {
 
     /// Makes sure of the next place, for a handle that is given while an object is locked. FrameFull where it isn't below
     /// 65,536, looked at first; OutOfMemory where memory for it can't be had.
+    #[inline(always)]
     pub fn place(&mut self) -> Result<(), Fault>
         ensures room { IfOk result (λ ok. 0 < self.new.spare) }
         ensures low { IfOk result (λ ok. self.new.next < MOST_PLACES) }
@@ -175,6 +184,7 @@ impl<H: Home<A>, A: Allocator> Frame<H, A> {
     }
 
     /// A handle to an entry of the locked object, counted up in one event. It takes no memory: `place` made sure of it.
+    #[inline(always)]
     pub fn up_entry(&mut self, index: u32, cell: u32) -> Handle
         requires locked { IsLocked self.old }
         requires entry { slice_get (entries_found self.old) index ≡ Some cell }
@@ -192,6 +202,7 @@ impl<H: Home<A>, A: Allocator> Frame<H, A> {
     }
 
     /// Unlocks the object whose block this is, and changes nothing.
+    #[inline(always)]
     pub fn end_keep(&mut self, block: Block<A>)
         requires locked { IsLocked self.old }
         requires of_cell { cell_locked self.old ≡ Some block.0 }
@@ -203,6 +214,7 @@ impl<H: Home<A>, A: Allocator> Frame<H, A> {
     }
 
     /// Unlocks the object whose block this is; the handle's reference is its last entry now.
+    #[inline(always)]
     pub fn end_put(&mut self, block: Block<A>, handle: Handle)
         requires locked { IsLocked self.old }
         requires of_cell { cell_locked self.old ≡ Some block.0 }
@@ -226,6 +238,7 @@ impl<H: Home<A>, A: Allocator> Frame<H, A> {
 
     /// Unlocks the object whose block this is; the reference of an entry, of which the cell is told, is the handle's now, and
     /// later entries have closed up. It takes no memory: `place` made sure of it.
+    #[inline(always)]
     pub fn end_take(&mut self, block: Block<A>, index: u32, cell: u32) -> Handle
         requires locked { IsLocked self.old }
         requires of_cell { cell_locked self.old ≡ Some block.0 }
@@ -251,6 +264,7 @@ impl<H: Home<A>, A: Allocator> Frame<H, A> {
 
     /// Unlocks the object whose block this is; the references of an entry, of which the cell is told, and of the handle are
     /// exchanged. The answer is the same handle.
+    #[inline(always)]
     pub fn end_swap(&mut self, block: Block<A>, index: u32, cell: u32, handle: Handle) -> Handle
         requires locked { IsLocked self.old }
         requires of_cell { cell_locked self.old ≡ Some block.0 }

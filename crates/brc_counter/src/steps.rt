@@ -58,6 +58,7 @@ impl<H: Home<A>, A: Allocator> Counter<H, A> {
     }
 
     /// Locks the object in a place of the frame, and answers its block; or answers who has it locked.
+    #[inline(always)]
     pub fn lock(&mut self, place: u32, cell: u32) -> Result<Block<A>, u64>
         requires inside { cell < self.old.heap.cells }
         requires carries { Carries self.old.heap.cells self.old.seat.log (steps.Lock place) cell }
@@ -92,6 +93,7 @@ impl<H: Home<A>, A: Allocator> Counter<H, A> {
     }
 
     /// Unlocks the object whose block this is, with the entries that the change makes of those found.
+    #[inline(always)]
     pub fn unlock(&mut self, block: Block<A>, change: Change)
         requires inside { block.0 < self.old.heap.cells }
         requires slot { self.old.seat.slots ≡ (block.0, None) ∷ rest self.old.seat.slots }

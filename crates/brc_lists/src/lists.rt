@@ -15,6 +15,7 @@ use std::alloc::Allocator;
 
 /// The value's reference becomes the last entry of the list. A refusal hands the value back: Busy where another thread has the
 /// object locked, then WrongKind where it is no list, Full where it has 1,048,576 entries, and OutOfMemory.
+#[inline]
 pub fn try_list_push<H: Home<A>, A: Allocator>(
     frame: &mut Frame<H, A>,
     list: &Handle,
@@ -44,6 +45,7 @@ pub fn try_list_push<H: Home<A>, A: Allocator>(
 
 /// The reference of the list's last entry is the answer's now. The faults come in this order: Busy where another thread has the
 /// object locked, WrongKind where it is no list, NoSuchPlace where it has no entry, FrameFull, OutOfMemory.
+#[inline]
 pub fn try_list_pop<H: Home<A>, A: Allocator>(
     frame: &mut Frame<H, A>,
     list: &Handle,
@@ -69,6 +71,7 @@ pub fn try_list_pop<H: Home<A>, A: Allocator>(
 
 /// A handle more to an entry of the list. The faults come in this order: Busy where another thread has the object locked,
 /// WrongKind where it is no list, NoSuchPlace past its end, FrameFull, OutOfMemory.
+#[inline]
 pub fn try_list_get<H: Home<A>, A: Allocator>(
     frame: &mut Frame<H, A>,
     list: &Handle,
@@ -95,6 +98,7 @@ pub fn try_list_get<H: Home<A>, A: Allocator>(
 /// The references of an entry of the list and of the value are exchanged; the answer is the same handle, which has the old
 /// entry's now. It takes no memory. A refusal hands the value back: Busy where another thread has the object locked, then
 /// WrongKind where it is no list, and NoSuchPlace past its end.
+#[inline]
 pub fn try_list_set<H: Home<A>, A: Allocator>(
     frame: &mut Frame<H, A>,
     list: &Handle,

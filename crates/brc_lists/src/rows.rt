@@ -11,7 +11,7 @@ use std::alloc::Allocator;
 
 /// Makes room for one more entry in an object of this kind: WrongKind for any other, Full where it has 1,048,576 entries,
 /// then OutOfMemory.
-#[inline]
+#[inline(always)]
 pub(crate) fn make_room<A: Allocator>(payload: &mut Payload<A>, kind: Kind) -> Result<(), Fault>
     requires row { is_row kind ≡ true }
     ensures kind { kind_of payload.new ≡ kind_of payload.old }
@@ -35,7 +35,7 @@ pub(crate) fn make_room<A: Allocator>(payload: &mut Payload<A>, kind: Kind) -> R
 }
 
 /// The cell of an entry of an object of this kind: WrongKind for any other, NoSuchPlace past the end.
-#[inline]
+#[inline(always)]
 pub(crate) fn entry_in<A: Allocator>(
     payload: &Payload<A>,
     kind: Kind,

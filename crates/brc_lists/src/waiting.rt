@@ -18,6 +18,7 @@ use std::sync::Wait;
 
 /// The value's reference becomes the last entry of the list, once no other thread has it locked. A refusal hands the value back:
 /// WrongKind where it is no list, then Full where it has 1,048,576 entries, and OutOfMemory.
+#[inline(always)]
 pub fn list_push<H: Home<A>, A: Allocator>(
     rt: &impl Wait,
     frame: &mut Frame<H, A>,
@@ -47,6 +48,7 @@ pub fn list_push<H: Home<A>, A: Allocator>(
 
 /// The reference of the list's last entry is the answer's now, once no other thread has the list locked. The faults come in this
 /// order: WrongKind where it is no list, NoSuchPlace where it has no entry, FrameFull, OutOfMemory.
+#[inline(always)]
 pub fn list_pop<H: Home<A>, A: Allocator>(
     rt: &impl Wait,
     frame: &mut Frame<H, A>,
@@ -72,6 +74,7 @@ pub fn list_pop<H: Home<A>, A: Allocator>(
 
 /// A handle more to an entry of the list, once no other thread has the list locked. The faults come in this order: WrongKind where
 /// it is no list, NoSuchPlace past its end, FrameFull, OutOfMemory.
+#[inline]
 pub fn list_get<H: Home<A>, A: Allocator>(
     rt: &impl Wait,
     frame: &mut Frame<H, A>,
@@ -98,6 +101,7 @@ pub fn list_get<H: Home<A>, A: Allocator>(
 /// The references of an entry of the list and of the value are exchanged, once no other thread has the list locked; the answer
 /// is the same handle, which has the old entry's now. It takes no memory. A refusal hands the value back: WrongKind where it is
 /// no list, then NoSuchPlace past its end.
+#[inline]
 pub fn list_set<H: Home<A>, A: Allocator>(
     rt: &impl Wait,
     frame: &mut Frame<H, A>,
@@ -129,6 +133,7 @@ pub fn list_set<H: Home<A>, A: Allocator>(
 
 /// The value's reference becomes the last entry of the mailbox, once no other thread has it locked. A refusal hands the value back:
 /// WrongKind where it is no mailbox, then Full where it has 1,048,576 entries, and OutOfMemory.
+#[inline]
 pub fn send<H: Home<A>, A: Allocator>(
     rt: &impl Wait,
     frame: &mut Frame<H, A>,
@@ -158,6 +163,7 @@ pub fn send<H: Home<A>, A: Allocator>(
 
 /// The reference of the mailbox's first entry is the answer's now, once no other thread has the mailbox locked. The faults come in
 /// this order: WrongKind where it is no mailbox, NoSuchPlace where it has no entry, FrameFull, OutOfMemory.
+#[inline]
 pub fn recv<H: Home<A>, A: Allocator>(
     rt: &impl Wait,
     frame: &mut Frame<H, A>,

@@ -23,7 +23,7 @@ use brc_words::{Fault, Kind};
 use std::alloc::Allocator;
 
 /// The value's reference becomes the last entry of a list or a mailbox.
-#[inline]
+#[inline(always)]
 pub(crate) fn put_locked<H: Home<A>, A: Allocator>(
     frame: &mut Frame<H, A>,
     kind: Kind,
@@ -53,7 +53,7 @@ pub(crate) fn put_locked<H: Home<A>, A: Allocator>(
 }
 
 /// The references of an entry of a list and of the value are exchanged.
-#[inline]
+#[inline(always)]
 pub(crate) fn swap_locked<H: Home<A>, A: Allocator>(
     frame: &mut Frame<H, A>,
     mut block: Block<A>,
@@ -86,7 +86,7 @@ pub(crate) fn swap_locked<H: Home<A>, A: Allocator>(
 }
 
 /// The cell of an entry, and the next place made sure of, for a handle to that entry.
-#[inline]
+#[inline(always)]
 fn entry_and_place<H: Home<A>, A: Allocator>(
     frame: &mut Frame<H, A>,
     kind: Kind,
@@ -108,7 +108,7 @@ fn entry_and_place<H: Home<A>, A: Allocator>(
 }
 
 /// A handle more to an entry of a list. It is counted up before the unlocking: after that the entry may go.
-#[inline]
+#[inline(always)]
 pub(crate) fn share_locked<H: Home<A>, A: Allocator>(
     frame: &mut Frame<H, A>,
     block: Block<A>,
@@ -136,7 +136,7 @@ pub(crate) fn share_locked<H: Home<A>, A: Allocator>(
 }
 
 /// The reference of an entry of a list or a mailbox is a new handle's now.
-#[inline]
+#[inline(always)]
 pub(crate) fn take_locked<H: Home<A>, A: Allocator>(
     frame: &mut Frame<H, A>,
     kind: Kind,

@@ -1,7 +1,8 @@
 -- A frame that was only looked at, or locked and unlocked.
-use Rattle.std.proofs.Common.{refl, ◌∙◌}
+use Rattle.std.proofs.Common.{ℕ, refl, ◌∙◌}
 use Rattle.brc_count.specs.Frames.{FrameSeen}
 use Rattle.brc_count.specs.Locking.{KeepsThread, KeepsFrame}
+use Rattle.brc_lock.specs.Waiting.{Waits, NoTry, OneMore}
 
 module _ {A : Type 0} where
   pub thread_kept : (frame : FrameSeen A) → KeepsThread frame frame
@@ -26,3 +27,8 @@ module _ {A : Type 0} where
     spare = second.spare ∙ first.spare;
     next = second.next ∙ first.next;
   }
+
+  -- tries that follow other tries
+  pub waits_on : {old mid : FrameSeen A} {k : ℕ} {new : FrameSeen A} → Waits old k mid → Waits mid k new → Waits old k new
+  waits_on first NoTry = first
+  waits_on first (OneMore mid new waits busy) = OneMore mid new (waits_on first waits) busy

@@ -16,10 +16,12 @@ use brc_count::{Frame, Handle};
 use brc_counter::Home;
 use brc_words::Fault;
 use std::alloc::Allocator;
+use std::hint::spin_loop;
 use std::sync::Wait;
 use std::thread::yield_now;
 
 /// Locks the handle's object and answers its block, or Busy.
+#[inline(always)]
 fn begin_or_busy<H: Home<A>, A: Allocator>(
     frame: &mut Frame<H, A>,
     handle: &Handle,
@@ -37,8 +39,46 @@ fn begin_or_busy<H: Home<A>, A: Allocator>(
     }
 }
 
-/// Locks the handle's object and answers its block, once no other thread has it locked. Between two tries it holds nothing, and
-/// gives the processor up.
+/// How many lost tries are followed by the next without giving the processor up.
+const TRIES_AT_ONCE: u32 = 40;
+
+/// Between two tries: another thread mostly has an object locked for less time than the system takes to run this one again. The
+/// answer is how many tries were lost, as far as it counts.
+fn pause(lost: u32) -> u32 {
+    if lost < TRIES_AT_ONCE {
+        spin_loop();
+        lost + 1
+    } else {
+        yield_now();
+        lost
+    }
+}
+
+/// Locks the handle's object and answers its block, once no other thread has it locked, where the first try was lost.
+#[cold]
+#[inline(never)]
+fn begin_again<H: Home<A>, A: Allocator>(
+    rt: &impl Wait,
+    frame: &mut Frame<H, A>,
+    handle: &Handle,
+) -> Block<A>
+    requires owned { Owns frame.old handle.now }
+    requires unlocked { IsUnlocked frame.old }
+    ensures { BeginsLate frame.old frame.new handle.now.place result }
+{
+    let mut lost = 0;
+    for _ in rt.forever() {
+        lost = pause(lost);
+        if let Some(block) = frame.begin(handle) {
+            return block;
+        }
+    }
+    unreachable!()
+}
+
+/// Locks the handle's object and answers its block, once no other thread has it locked. Between two tries it holds nothing; after
+/// the first few it gives the processor up.
+#[inline(always)]
 pub fn begin_late<H: Home<A>, A: Allocator>(
     rt: &impl Wait,
     frame: &mut Frame<H, A>,
@@ -48,16 +88,14 @@ pub fn begin_late<H: Home<A>, A: Allocator>(
     requires unlocked { IsUnlocked frame.old }
     ensures { BeginsLate frame.old frame.new handle.now.place result }
 {
-    for _ in rt.forever() {
-        if let Some(block) = frame.begin(handle) {
-            return block;
-        }
-        yield_now();
+    match frame.begin(handle) {
+        Some(block) => block,
+        None => begin_again(rt, frame, handle),
     }
-    unreachable!()
 }
 
 /// Locks the handle's object. Busy where another thread has it locked, and then nothing changed but a note.
+#[inline]
 pub fn try_lock<'f, H: Home<A>, A: Allocator>(
     frame: &'f mut Frame<H, A>,
     handle: &'f Handle,
@@ -78,6 +116,7 @@ pub fn try_lock<'f, H: Home<A>, A: Allocator>(
 }
 
 /// Locks the handle's object, once no other thread has it locked.
+#[inline]
 pub fn lock<'f, H: Home<A>, A: Allocator>(
     rt: &impl Wait,
     frame: &'f mut Frame<H, A>,

@@ -29,6 +29,7 @@ use std::alloc::Allocator;
 
 impl<A: Allocator> HeapTable<A> {
     /// Lock: the block of an object that nobody had locked, with the contents that were put home last; or who has it locked.
+    #[inline(always)]
     pub fn lock(&self, seat: &mut ThreadSeat<A>, place: u32, cell: u32) -> Result<Block<A>, u64>
         requires table { seat.old.table ≡ self.now.table }
         requires inside { cell < self.now.cells }
@@ -58,6 +59,7 @@ impl<A: Allocator> HeapTable<A> {
     }
 
     /// Unlock: the block goes home, with the entries that the change makes of those found.
+    #[inline(always)]
     pub fn unlock(&self, seat: &mut ThreadSeat<A>, block: Block<A>, change: Change)
         requires table { seat.old.table ≡ self.now.table }
         requires inside { block.0 < self.now.cells }

@@ -1,7 +1,7 @@
 use Rattle.brc_count.specs.Frames.{IsUnlocked}
 use Rattle.brc_count.specs.Locking.{KeepsThread, KeepsFrame}
 use Rattle.brc_lock.specs.Waiting.{Waits}
-use Rattle.brc_lock.proofs.locking.begin_late.Given as goal
+use Rattle.brc_lock.proofs.locking.begin_again.Given as goal
 
 abbrev pub invariant-loop : goal.invariant-loop
 invariant-loop g l =
