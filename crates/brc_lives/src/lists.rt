@@ -13,7 +13,7 @@ fn an_asked_owner_merges_at_its_poll(rt: HostRuntime) {
     let mut other = entered(&rt, rt.alloc(), &table, &mut root);
     let list = a_list(&rt, rt.alloc(), &mut maker);
     put_into_globals(&rt, &mut maker, list, 1);
-    let taken = take_from_globals(&rt, &mut other);
+    let taken = take_from_globals(&rt, &mut other, 1);
     assert_eq!(rt; other.cell(&taken), 266);
     assert_eq!(rt; maker.poll(), 0);
     release(&mut other, taken);
@@ -34,7 +34,7 @@ fn an_asked_owner_merges_after_it_has_left(rt: HostRuntime) {
     let mut other = entered(&rt, rt.alloc(), &table, &mut root);
     let list = a_list(&rt, rt.alloc(), &mut maker);
     put_into_globals(&rt, &mut maker, list, 1);
-    let taken = take_from_globals(&rt, &mut other);
+    let taken = take_from_globals(&rt, &mut other, 1);
     release(&mut other, taken);
     let others = other.ledger();
     let makers = leaves_late(&rt, &table, &mut root, maker, 2);
@@ -51,7 +51,7 @@ fn an_owner_that_left_is_not_asked(rt: HostRuntime) {
     let mut other = entered(&rt, rt.alloc(), &table, &mut root);
     let list = a_list(&rt, rt.alloc(), &mut maker);
     put_into_globals(&rt, &mut maker, list, 1);
-    let taken = take_from_globals(&rt, &mut other);
+    let taken = take_from_globals(&rt, &mut other, 1);
     let makers = leaves_late(&rt, &table, &mut root, maker, 0);
     says(&rt, makers, 1, 0);
     release(&mut other, taken);
@@ -71,8 +71,8 @@ fn an_owner_that_leaves_merges_for_who_holds_on(rt: HostRuntime) {
     let copy = another(&rt, &mut maker, &list);
     put_into_globals(&rt, &mut maker, list, 1);
     put_into_globals(&rt, &mut maker, copy, 2);
-    let first = take_from_globals(&rt, &mut other);
-    let second = take_from_globals(&rt, &mut other);
+    let first = take_from_globals(&rt, &mut other, 1);
+    let second = take_from_globals(&rt, &mut other, 2);
     release(&mut other, first);
     // The one turn is the entry in the maker's queue: it merges the list, which lives on.
     let makers = leaves_late(&rt, &table, &mut root, maker, 1);

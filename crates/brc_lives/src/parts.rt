@@ -30,14 +30,18 @@ fn give_one<R: Abort + Wait, H: Home<A>, A: Allocator + Copy>(
     put_into_globals(rt, frame, list, key);
 }
 
-/// A reference is taken out of the globals, counted up, and both go; false where nothing was there.
-fn take_one<R: Abort + Wait, H: Home<A>, A: Allocator>(rt: &R, frame: &mut Frame<H, A>) -> bool
+/// The reference beside the key is taken out of the globals, counted up, and both go; false where none stands there.
+fn take_one<R: Abort + Wait, H: Home<A>, A: Allocator>(
+    rt: &R,
+    frame: &mut Frame<H, A>,
+    key: i64,
+) -> bool
     requires inside { GLOBALS < frame.old.heap.cells }
     requires unlocked { IsUnlocked frame.old }
     ensures heap { frame.new.heap ≡ frame.old.heap }
     ensures unlocked { IsUnlocked frame.new }
 {
-    let Some(taken) = take_if_any(rt, frame) else {
+    let Some(taken) = take_if_any(rt, frame, key) else {
         return false;
     };
     let more = another(rt, frame, &taken);
@@ -78,7 +82,7 @@ pub(crate) fn retires<H: Home<A> + Drop, A: Allocator>(
     }
 }
 
-/// A thread that makes so many lists and puts each into the globals.
+/// A thread that makes so many lists and puts each into the globals, beside a key of its own.
 pub(crate) fn gives<R: Abort + Wait, A: Allocator + Copy>(
     rt: &R,
     alloc: A,
@@ -98,40 +102,39 @@ pub(crate) fn gives<R: Abort + Wait, A: Allocator + Copy>(
     retires(rt, mutator)
 }
 
-/// A thread that tries so often to take a list out of the globals, and lets it go.
+/// A thread that tries once for each of so many lists to take it out of the globals, and lets it go.
 pub(crate) fn takes<R: Abort + Wait, A: Allocator>(
     rt: &R,
     heap: &Heap<A>,
     resting: Resting<A>,
-    tries: u32,
+    lists: u32,
 ) -> Retired<A>
     requires heap { resting.heap ≡ heap.now }
     requires inside { GLOBALS < heap.now.cells }
     ensures heap { result.heap ≡ heap.now }
 {
     let mut mutator = resting.wake(heap);
-    for _ in 0..tries {
-        let _taken = take_one(rt, mutator.frame());
+    for list in 0..lists {
+        let _taken = take_one(rt, mutator.frame(), list as i64);
         polls(&mut mutator);
     }
     retires(rt, mutator)
 }
 
-/// A thread that takes all that is left in the globals.
+/// A thread that takes what is left of so many lists in the globals.
 pub(crate) fn clears<R: Abort + Wait, A: Allocator>(
     rt: &R,
     heap: &Heap<A>,
     resting: Resting<A>,
+    lists: u32,
 ) -> Retired<A>
     requires heap { resting.heap ≡ heap.now }
     requires inside { GLOBALS < heap.now.cells }
     ensures heap { result.heap ≡ heap.now }
 {
     let mut mutator = resting.wake(heap);
-    for _ in rt.forever() {
-        if !take_one(rt, mutator.frame()) {
-            break;
-        }
+    for list in 0..lists {
+        let _taken = take_one(rt, mutator.frame(), list as i64);
         polls(&mut mutator);
     }
     mutator.settle(rt);

@@ -149,7 +149,7 @@ pub(crate) fn release_both<H: Home<A>, A: Allocator>(
     second: Handle,
 )
     requires owned { (Owns frame.old first) × (Owns frame.old second) }
-    requires apart { first.place ≢ second.place }
+    requires apart { second.place ≢ first.place }
     requires unlocked { IsUnlocked frame.old }
     ensures heap { frame.new.heap ≡ frame.old.heap }
     ensures unlocked { IsUnlocked frame.new }

@@ -48,13 +48,13 @@ fn gathered(heap: &Heap<Global>, root: &mut Root<Global>, retired: Retired<Globa
     }
 }
 
-/// Two threads take lists out of the globals, each on a thread of its own.
+/// Two threads take these lists out of the globals, each on a thread of its own.
 fn two_take<R: Threads + Abort + Wait + Sync>(
     rt: &R,
     heap: &Heap<Global>,
     first: Resting<Global>,
     second: Resting<Global>,
-    tries: u32,
+    lists: u32,
 ) -> (Retired<Global>, Retired<Global>)
     requires first { first.heap ≡ heap.now }
     requires second { second.heap ≡ heap.now }
@@ -64,8 +64,8 @@ fn two_take<R: Threads + Abort + Wait + Sync>(
 {
     join(
         rt,
-        || takes(rt, heap, first, tries),
-        || takes(rt, heap, second, tries),
+        || takes(rt, heap, first, lists),
+        || takes(rt, heap, second, lists),
     )
 }
 
@@ -117,7 +117,7 @@ fn turn<R: Threads + Abort + Wait + Sync>(
     let second = registered(rt, heap, root, alloc);
     let last = registered(rt, heap, root, alloc);
     let (maker, (first, second)) = three_work(rt, alloc, heap, maker, first, second, lists);
-    let last = clears(rt, heap, last);
+    let last = clears(rt, heap, last, lists);
     let sum = Sum {
         allocs: 0,
         frees: 0,

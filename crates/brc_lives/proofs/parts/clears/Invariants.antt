@@ -2,5 +2,5 @@ use Rattle.std.proofs.Common.{◌≡◌}
 use Rattle.brc_count.specs.Frames.{IsUnlocked}
 use Rattle.brc_lives.proofs.parts.clears.Given as goal
 
-abbrev pub invariant-loop : goal.invariant-loop
-invariant-loop g l = (goal.iterator-loop g).can_next l.iterator' × (goal.iterator-loop g).is_finite l.iterator' × (l.mutator.heap ≡ l.fn.heap) × IsUnlocked l.mutator
+abbrev pub invariant-loop-list : goal.invariant-loop-list
+invariant-loop-list g l = (l.mutator.heap ≡ l.fn.heap) × IsUnlocked l.mutator
