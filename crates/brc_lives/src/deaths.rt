@@ -1,4 +1,4 @@
-//! Deaths that take many turns: a long chain of lists, and a list of many lists.
+//! A long chain of lists, and its death; and a list of many lists.
 
 ghost use Rattle.brc_count.specs.Frames.{IsUnlocked, Owns};
 ghost use Rattle.brc_lives.specs.Handles.{GoesOn};
@@ -64,7 +64,7 @@ fn add_a_list<H: Home<A>, A: Allocator + Copy>(
 }
 
 /// A list of so many new lists.
-fn a_list_of_lists<H: Home<A>, A: Allocator + Copy>(
+pub(crate) fn a_list_of_lists<H: Home<A>, A: Allocator + Copy>(
     rt: &impl Abort,
     alloc: A,
     frame: &mut Frame<H, A>,
@@ -103,19 +103,6 @@ fn a_long_chain_dies_a_turn_at_a_time(rt: HostRuntime) {
     // Each list but the first has an entry to be released, and each gives its cell back.
     takes_turns(&rt, &mut frame, 119_999);
     says(&rt, frame.ledger(), 60_000, 60_000);
-    leaves(&rt, &table, &mut root, frame);
-    ends(&rt, table, root);
-}
-
-#[test]
-fn a_list_of_lists_dies_a_turn_at_a_time(rt: HostRuntime) {
-    let (table, root) = opened_with(&rt, rt.alloc(), 4_096);
-    let mut root = root;
-    let mut frame = entered(&rt, rt.alloc(), &table, &mut root);
-    let list = a_list_of_lists(&rt, rt.alloc(), &mut frame, 1_000);
-    release(&mut frame, list);
-    takes_turns(&rt, &mut frame, 2_001);
-    says(&rt, frame.ledger(), 1_001, 1_001);
     leaves(&rt, &table, &mut root, frame);
     ends(&rt, table, root);
 }

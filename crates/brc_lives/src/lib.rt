@@ -49,6 +49,8 @@ mod readings;
 #[cfg(test)]
 mod refused;
 #[cfg(test)]
+mod starved;
+#[cfg(test)]
 mod things;
 #[cfg(test)]
 mod turns;

@@ -3,12 +3,13 @@
 ghost use Rattle.std.specs.Prelude.{◌≡◌};
 ghost use Rattle.brc_count.specs.Frames.{IsUnlocked};
 
-use crate::objects::{a_list, fetch, give_back, the_globals, unshare};
+use crate::objects::{a_list, give_back, the_globals, unshare};
 use crate::threads::{a_heap, a_thread, ends, is_empty};
+use brc_block::Payload;
 use brc_containers::try_int_of;
 use brc_count::{Frame, Handle};
 use brc_counter::Home;
-use brc_dicts::try_dict_put;
+use brc_dicts::{try_dict_find, try_dict_put};
 use brc_lists::try_list_pop;
 use brc_lock::try_lock;
 use brc_words::{Fault, Key};
@@ -59,7 +60,8 @@ fn has_an_empty_list<H: Home<A>, A: Allocator>(
     assert!(rt; try_int_of(frame, list) == Err(Fault::WrongKind));
 }
 
-/// While the first thread has the globals locked, the second one finds them Busy; its own list it can use. It answers its list.
+/// While the first thread has the globals locked, with room and a place, the second one finds them Busy; its own list it can use.
+/// It answers its list.
 fn locks_meanwhile<H: Home<A>, A: Allocator>(
     rt: &impl Abort,
     frame: &mut Frame<H, A>,
@@ -79,11 +81,34 @@ fn locks_meanwhile<H: Home<A>, A: Allocator>(
     match try_lock(frame, globals) {
         Err(_) => panic!(rt; "nobody else has locked the globals"),
         Ok(locked) => {
+            let mut locked = locked;
+            let Payload::Dict(_) = locked.payload() else {
+                panic!(rt; "the globals are no dictionary")
+            };
+            assert!(rt; locked.room().is_ok());
+            assert!(rt; locked.place().is_ok());
             let list = finds_them_busy(rt, other, others, list);
             has_an_empty_list(rt, other, &list);
             locked.unlock();
             list
         }
+    }
+}
+
+/// What stands beside the key is found.
+fn finds_at_once<H: Home<A>, A: Allocator>(
+    rt: &impl Abort,
+    frame: &mut Frame<H, A>,
+    globals: &Handle,
+)
+    requires unlocked { IsUnlocked frame.old }
+    ensures heap { frame.new.heap ≡ frame.old.heap }
+    ensures unlocked { IsUnlocked frame.new }
+{
+    assert!(rt; frame.owns(globals));
+    match try_dict_find(frame, globals, &Key::Int(7)) {
+        Ok(found) => give_back(rt, frame, found),
+        Err(_) => panic!(rt; "the key isn't there"),
     }
 }
 
@@ -106,8 +131,7 @@ fn puts_then<R: Abort + Wait, H: Home<A>, A: Allocator>(
         Ok(Some(_old)) => panic!(rt; "the key was there"),
         Err((_, (_key, _list))) => panic!(rt; "a put is refused"),
     }
-    let found = fetch(rt, frame, globals, 7);
-    give_back(rt, frame, found);
+    finds_at_once(rt, frame, globals);
     let list = unshare(rt, frame, globals, 7);
     give_back(rt, frame, list);
 }

@@ -3,9 +3,9 @@
 ghost use Rattle.std.specs.Prelude.{◌≡◌};
 ghost use Rattle.brc_count.specs.Frames.{IsUnlocked};
 
-use crate::objects::{a_list, an_int, give_back, push};
+use crate::guards::{Way, put_by_guard};
+use crate::objects::{a_list, an_int, give_back, has_entries, push};
 use crate::threads::{a_heap, a_thread, ends, is_empty};
-use brc_containers::len_of;
 use brc_count::{Frame, Handle};
 use brc_counter::Home;
 use brc_lists::list_push;
@@ -55,8 +55,27 @@ fn is_full<R: Abort + Wait, H: Home<A>, A: Allocator>(
             give_back(rt, frame, value);
         }
     }
-    assert!(rt; frame.owns(list));
-    assert!(rt; len_of(rt, frame, list) == Ok(1_048_576));
+    has_entries(rt, frame, list, 1_048_576);
+}
+
+/// Nor is there room for it by a guard.
+fn has_no_room<R: Abort + Wait, H: Home<A>, A: Allocator>(
+    rt: &R,
+    frame: &mut Frame<H, A>,
+    list: &Handle,
+    value: Handle,
+)
+    requires unlocked { IsUnlocked frame.old }
+    ensures heap { frame.new.heap ≡ frame.old.heap }
+    ensures unlocked { IsUnlocked frame.new }
+{
+    match put_by_guard(rt, frame, list, value, Way::Late) {
+        Ok(()) => panic!(rt; "the list is full"),
+        Err((fault, value)) => {
+            assert_eq!(rt; fault, Fault::Full);
+            give_back(rt, frame, value);
+        }
+    }
 }
 
 /// A list is filled, takes no more, and goes.
@@ -71,6 +90,8 @@ fn fills_a_list<R: Abort + Wait, H: Home<A>, A: Allocator + Copy>(
 {
     let list = a_list(rt, alloc, frame);
     fill(rt, alloc, frame, &list, 1_048_576);
+    let value = an_int(rt, alloc, frame, 1);
+    has_no_room(rt, frame, &list, value);
     let value = an_int(rt, alloc, frame, 1);
     is_full(rt, frame, &list, value);
     give_back(rt, frame, list);

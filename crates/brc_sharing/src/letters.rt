@@ -4,8 +4,8 @@ ghost use Rattle.std.specs.Prelude.{◌≡◌};
 ghost use Rattle.brc_count.specs.Frames.{IsUnlocked};
 
 use crate::objects::{
-    a_mailbox, an_int, fetch, give_back, has_no_letter, letter, number_of, post, share,
-    the_globals, unshare,
+    a_mailbox, an_int, fetch, give_back, has_entries, letter, number_of, post, share, the_globals,
+    unshare,
 };
 use crate::sums::sum_of;
 use crate::threads::{a_heap, a_thread, ends, is_empty, rests, retires};
@@ -117,7 +117,7 @@ fn receives_all<R: Abort + Wait, H: Home<A>, A: Allocator>(rt: &R, frame: &mut F
         let _told = frame.poll();
         let _left = frame.work(2);
     }
-    has_no_letter(rt, frame, &mailbox);
+    has_entries(rt, frame, &mailbox, 0);
     give_back(rt, frame, mailbox);
     give_back(rt, frame, globals);
 }

@@ -1,6 +1,6 @@
 //! Worked runs of containers that threads share, run by the gate: a list and a mailbox that pass through the globals, an object
-//! that another thread has locked, a full list, a refused growth, letters of two real threads in their order, and many turns of
-//! real threads on shared containers.
+//! that another thread has locked, objects edited by a guard, calls that never wait, a full list, refused growths and copies,
+//! letters of two real threads in their order, and many turns of real threads on shared containers.
 //!
 //! Tests, and what they look at. Each call's conditions are shown from the contracts of the crates below alone, or looked at as
 //! the test runs: whether a frame has a handle, and whether two handles are apart.
@@ -13,7 +13,11 @@ pub use sums::sum_of;
 #[cfg(test)]
 mod busy;
 #[cfg(test)]
+mod copies;
+#[cfg(test)]
 mod full;
+#[cfg(test)]
+mod guards;
 #[cfg(test)]
 mod letters;
 #[cfg(test)]
@@ -26,5 +30,7 @@ mod passing;
 mod refused;
 #[cfg(test)]
 mod threads;
+#[cfg(test)]
+mod tries;
 #[cfg(test)]
 mod turns;

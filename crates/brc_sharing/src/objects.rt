@@ -8,8 +8,8 @@ use brc_count::{Frame, Handle};
 use brc_counter::Home;
 use brc_dicts::{dict_del, dict_find, dict_put};
 use brc_lists::{list_get, list_pop, list_push, list_set, recv, send};
-use brc_things::{new_int, new_list, new_mailbox};
-use brc_words::{GLOBALS, Key};
+use brc_things::{new_dict, new_int, new_list, new_mailbox, new_text};
+use brc_words::{GLOBALS, Key, Text};
 use std::alloc::Allocator;
 use std::process::Abort;
 use std::sync::Wait;
@@ -31,6 +31,26 @@ pub(crate) fn an_int<H: Home<A>, A: Allocator>(
     }
 }
 
+/// A new text.
+pub(crate) fn a_text<H: Home<A>, A: Allocator + Copy>(
+    rt: &impl Abort,
+    alloc: A,
+    frame: &mut Frame<H, A>,
+    text: &str,
+) -> Handle
+    requires unlocked { IsUnlocked frame.old }
+    ensures heap { frame.new.heap ≡ frame.old.heap }
+    ensures unlocked { IsUnlocked frame.new }
+{
+    let Ok(text) = String::from_str(alloc, text) else {
+        panic!(rt; "memory")
+    };
+    match new_text(alloc, frame, Text::new(text)) {
+        Ok(handle) => handle,
+        Err(_) => panic!(rt; "no text is made"),
+    }
+}
+
 /// A new empty list.
 pub(crate) fn a_list<H: Home<A>, A: Allocator + Copy>(
     rt: &impl Abort,
@@ -44,6 +64,22 @@ pub(crate) fn a_list<H: Home<A>, A: Allocator + Copy>(
     match new_list(alloc, frame) {
         Ok(handle) => handle,
         Err(_) => panic!(rt; "no list is made"),
+    }
+}
+
+/// A new empty dictionary.
+pub(crate) fn a_dict<H: Home<A>, A: Allocator + Copy>(
+    rt: &impl Abort,
+    alloc: A,
+    frame: &mut Frame<H, A>,
+) -> Handle
+    requires unlocked { IsUnlocked frame.old }
+    ensures heap { frame.new.heap ≡ frame.old.heap }
+    ensures unlocked { IsUnlocked frame.new }
+{
+    match new_dict(alloc, frame) {
+        Ok(handle) => handle,
+        Err(_) => panic!(rt; "no dictionary is made"),
     }
 }
 
@@ -224,18 +260,19 @@ pub(crate) fn letter<R: Abort + Wait, H: Home<A>, A: Allocator>(
     }
 }
 
-/// The mailbox has no letter.
-pub(crate) fn has_no_letter<R: Abort + Wait, H: Home<A>, A: Allocator>(
+/// The container has so many entries.
+pub(crate) fn has_entries<R: Abort + Wait, H: Home<A>, A: Allocator>(
     rt: &R,
     frame: &mut Frame<H, A>,
-    mailbox: &Handle,
+    container: &Handle,
+    count: usize,
 )
     requires unlocked { IsUnlocked frame.old }
     ensures heap { frame.new.heap ≡ frame.old.heap }
     ensures unlocked { IsUnlocked frame.new }
 {
-    assert!(rt; frame.owns(mailbox));
-    assert!(rt; len_of(rt, frame, mailbox) == Ok(0));
+    assert!(rt; frame.owns(container));
+    assert!(rt; len_of(rt, frame, container) == Ok(count));
 }
 
 /// The value goes into the globals, under a new key.

@@ -4,16 +4,14 @@ ghost use Rattle.std.specs.Prelude.{◌≡◌};
 ghost use Rattle.brc_count.specs.Frames.{IsUnlocked};
 
 use crate::objects::{
-    a_list, a_mailbox, an_int, another, entry_of, fetch, give_back, letter, number_of, pop, post,
-    push, share, the_globals, unshare,
+    a_list, a_mailbox, a_text, an_int, another, entry_of, fetch, give_back, letter, number_of, pop,
+    post, push, share, the_globals, unshare,
 };
 use crate::sums::sum_of;
 use crate::threads::{a_heap, a_thread, ends, is_empty};
 use brc_containers::text_of;
 use brc_count::{Frame, Handle};
 use brc_counter::Home;
-use brc_things::new_text;
-use brc_words::Text;
 use std::alloc::Allocator;
 use std::process::Abort;
 use std::sync::Wait;
@@ -134,26 +132,6 @@ fn a_list_that_moved_is_freed(rt: HostRuntime) {
     let _one = ends(&rt, &heap, &mut root, first);
     let _two = ends(&rt, &heap, &mut root, second);
     is_empty(&rt, heap, root);
-}
-
-/// A new text.
-fn a_text<H: Home<A>, A: Allocator + Copy>(
-    rt: &impl Abort,
-    alloc: A,
-    frame: &mut Frame<H, A>,
-    text: &str,
-) -> Handle
-    requires unlocked { IsUnlocked frame.old }
-    ensures heap { frame.new.heap ≡ frame.old.heap }
-    ensures unlocked { IsUnlocked frame.new }
-{
-    let Ok(text) = String::from_str(alloc, text) else {
-        panic!(rt; "memory")
-    };
-    match new_text(alloc, frame, Text::new(text)) {
-        Ok(handle) => handle,
-        Err(_) => panic!(rt; "no text is made"),
-    }
 }
 
 /// The next letter is a copy of this text.

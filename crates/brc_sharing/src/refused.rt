@@ -2,18 +2,19 @@
 //! as many entries as before, and the frame as many handles; with memory it then passes. Memory is all taken at first, and
 //! comes back a piece at a time.
 
-ghost use Rattle.std.specs.Prelude.{◌≡◌};
-ghost use Rattle.brc_count.specs.Frames.{IsUnlocked};
+ghost use Rattle.std.specs.Prelude.{◌≡◌, ◌≢◌};
+ghost use Rattle.brc_count.specs.Frames.{IsUnlocked, Owns};
 
+use crate::guards::{Way, entry_by_guard, put_by_guard, take_by_guard};
 use crate::memory::{Pieces, a_local_heap};
-use crate::objects::{a_list, a_mailbox, another, give_back, share, the_globals, unshare};
+use crate::objects::{a_dict, a_list, a_mailbox, another, give_back, share, the_globals, unshare};
 use crate::threads::{a_heap, a_thread, ends, is_empty};
 use brc_containers::{len_of, try_len_of};
 use brc_count::{Frame, Handle};
 use brc_counter::Home;
 use brc_dicts::{dict_del, dict_find, dict_put};
 use brc_lists::{list_get, list_pop, list_push, recv, send};
-use brc_things::{new_dict, none};
+use brc_things::none;
 use brc_words::{Fault, Key};
 use linked_list_allocator::LocalHeap;
 use std::alloc::{Allocator, Global};
@@ -31,6 +32,9 @@ enum Call {
     Recv,
     Find,
     Del,
+    Room,
+    Entry,
+    Take,
 }
 
 /// A reference to None.
@@ -45,8 +49,56 @@ fn a_none<H: Home<A>, A: Allocator>(rt: &impl Abort, frame: &mut Frame<H, A>) ->
     }
 }
 
-/// A call that puts a reference to None into the container, under a new key where it is a dictionary. A refusal hands back what
-/// the call took.
+/// A call that puts the value into the container, under a new key where it is a dictionary.
+fn offered<R: Abort + Wait, H: Home<A>, A: Allocator>(
+    rt: &R,
+    frame: &mut Frame<H, A>,
+    container: &Handle,
+    call: Call,
+    key: u32,
+    value: Handle,
+) -> Result<(), (Fault, Handle)>
+    requires owned { Owns frame.old container.now }
+    requires value_owned { Owns frame.old value }
+    requires apart { value.place ≢ container.now.place }
+    requires unlocked { IsUnlocked frame.old }
+    ensures heap { frame.new.heap ≡ frame.old.heap }
+    ensures unlocked { IsUnlocked frame.new }
+{
+    match call {
+        Call::Push => list_push(rt, frame, container, value),
+        Call::Send => send(rt, frame, container, value),
+        Call::Room => put_by_guard(rt, frame, container, value, Way::Late),
+        _ => put_beside(rt, frame, container, key, value),
+    }
+}
+
+/// The value goes beside a new key. A refusal hands both back.
+fn put_beside<R: Abort + Wait, H: Home<A>, A: Allocator>(
+    rt: &R,
+    frame: &mut Frame<H, A>,
+    dict: &Handle,
+    key: u32,
+    value: Handle,
+) -> Result<(), (Fault, Handle)>
+    requires owned { Owns frame.old dict.now }
+    requires value_owned { Owns frame.old value }
+    requires apart { value.place ≢ dict.now.place }
+    requires unlocked { IsUnlocked frame.old }
+    ensures heap { frame.new.heap ≡ frame.old.heap }
+    ensures unlocked { IsUnlocked frame.new }
+{
+    match dict_put(rt, frame, dict, Key::Int(key as i64), value) {
+        Ok(None) => Ok(()),
+        Ok(Some(_old)) => panic!(rt; "the key was there"),
+        Err((fault, (key_back, value))) => {
+            assert!(rt; key_back == Key::Int(key as i64));
+            Err((fault, value))
+        }
+    }
+}
+
+/// A call that puts a reference to None into the container. A refusal hands back what the call took.
 fn put<R: Abort + Wait, H: Home<A>, A: Allocator>(
     rt: &R,
     frame: &mut Frame<H, A>,
@@ -62,27 +114,13 @@ fn put<R: Abort + Wait, H: Home<A>, A: Allocator>(
     assert!(rt; frame.owns(container));
     assert!(rt; frame.owns(&value));
     assert!(rt; value.is_apart(container));
-    let refused = match call {
-        Call::Push => match list_push(rt, frame, container, value) {
-            Ok(()) => return Ok(()),
-            Err(refused) => refused,
-        },
-        Call::Send => match send(rt, frame, container, value) {
-            Ok(()) => return Ok(()),
-            Err(refused) => refused,
-        },
-        _ => match dict_put(rt, frame, container, Key::Int(key as i64), value) {
-            Ok(None) => return Ok(()),
-            Ok(Some(_old)) => panic!(rt; "the key was there"),
-            Err((fault, (key_back, value))) => {
-                assert!(rt; key_back == Key::Int(key as i64));
-                (fault, value)
-            }
-        },
-    };
-    let (fault, value) = refused;
-    give_back(rt, frame, value);
-    Err(fault)
+    match offered(rt, frame, container, call, key, value) {
+        Ok(()) => Ok(()),
+        Err((fault, value)) => {
+            give_back(rt, frame, value);
+            Err(fault)
+        }
+    }
 }
 
 /// A call that answers a handle to an entry.
@@ -102,6 +140,8 @@ fn get<R: Abort + Wait, H: Home<A>, A: Allocator>(
         Call::Get => list_get(rt, frame, container, 0),
         Call::Recv => recv(rt, frame, container),
         Call::Find => dict_find(rt, frame, container, &Key::Int(0)),
+        Call::Entry => entry_by_guard(rt, frame, container, 0, Way::AtOnce),
+        Call::Take => take_by_guard(rt, frame, container, 0, Way::Late),
         _ => dict_del(rt, frame, container, &Key::Int(0)),
     }
 }
@@ -243,20 +283,18 @@ fn made<H: Home<A>, A: Allocator + Copy>(
     ensures heap { frame.new.heap ≡ frame.old.heap }
     ensures unlocked { IsUnlocked frame.new }
 {
-    match call {
-        Call::Push | Call::Pop | Call::Get => a_list(rt, alloc, frame),
-        Call::Send | Call::Recv => a_mailbox(rt, alloc, frame),
-        Call::Put | Call::Find | Call::Del => match new_dict(alloc, frame) {
-            Ok(handle) => handle,
-            Err(_) => panic!(rt; "no dictionary is made"),
-        },
+    match putting(call) {
+        Call::Send => a_mailbox(rt, alloc, frame),
+        Call::Put => a_dict(rt, alloc, frame),
+        _ => a_list(rt, alloc, frame),
     }
 }
 
 /// The call that puts into the container that this one is for.
 fn putting(call: Call) -> Call {
     match call {
-        Call::Push | Call::Pop | Call::Get => Call::Push,
+        Call::Room => Call::Room,
+        Call::Push | Call::Pop | Call::Get | Call::Entry | Call::Take => Call::Push,
         Call::Send | Call::Recv => Call::Send,
         Call::Put | Call::Find | Call::Del => Call::Put,
     }
@@ -385,7 +423,7 @@ fn gets_on_a_heap<'h, R: Abort + Wait>(
 
 #[test]
 fn a_refused_entry_changes_nothing(rt: HostRuntime) {
-    for call in [Call::Push, Call::Send, Call::Put] {
+    for call in [Call::Push, Call::Send, Call::Put, Call::Room] {
         let ample = a_local_heap(&rt, rt.alloc(), 1 << 20);
         let scarce = a_local_heap(&rt, rt.alloc(), 1 << 14);
         puts_on_a_heap(&rt, rt.alloc(), &ample, &scarce, call);
@@ -394,7 +432,15 @@ fn a_refused_entry_changes_nothing(rt: HostRuntime) {
 
 #[test]
 fn a_refused_place_changes_nothing(rt: HostRuntime) {
-    for call in [Call::Pop, Call::Get, Call::Recv, Call::Find, Call::Del] {
+    for call in [
+        Call::Pop,
+        Call::Get,
+        Call::Recv,
+        Call::Find,
+        Call::Del,
+        Call::Entry,
+        Call::Take,
+    ] {
         let ample = a_local_heap(&rt, rt.alloc(), 1 << 20);
         let scarce = a_local_heap(&rt, rt.alloc(), 1 << 16);
         gets_on_a_heap(&rt, rt.alloc(), &ample, &scarce, call);

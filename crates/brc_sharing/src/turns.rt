@@ -5,7 +5,7 @@ ghost use Rattle.brc_count.specs.Frames.{IsUnlocked};
 ghost use Rattle.brc_sharing.specs.Threads.{BothOf};
 
 use crate::objects::{
-    a_list, a_mailbox, an_int, exchange, fetch, give_back, has_no_letter, letter, number_of, pop,
+    a_list, a_mailbox, an_int, exchange, fetch, give_back, has_entries, letter, number_of, pop,
     post, push, share, the_globals, unshare,
 };
 use crate::sums::sum_of;
@@ -215,6 +215,88 @@ fn four_play<R: Threads + Abort + Wait + Sync>(
     )
 }
 
+/// Eight threads play at once.
+fn eight_play<R: Threads + Abort + Wait + Sync>(
+    rt: &R,
+    alloc: Global,
+    heap: &Heap<Global>,
+    first: (
+        (Resting<Global>, Resting<Global>),
+        (Resting<Global>, Resting<Global>),
+    ),
+    second: (
+        (Resting<Global>, Resting<Global>),
+        (Resting<Global>, Resting<Global>),
+    ),
+    turns: i64,
+) -> (
+    ((Played, Played), (Played, Played)),
+    ((Played, Played), (Played, Played)),
+)
+    requires one { BothOf heap.now first.0 }
+    requires two { BothOf heap.now first.1 }
+    requires three { BothOf heap.now second.0 }
+    requires four { BothOf heap.now second.1 }
+    ensures one { (result.0.0.0.retired.heap ≡ heap.now) × (result.0.0.1.retired.heap ≡ heap.now) }
+    ensures two { (result.0.1.0.retired.heap ≡ heap.now) × (result.0.1.1.retired.heap ≡ heap.now) }
+    ensures three { (result.1.0.0.retired.heap ≡ heap.now) × (result.1.0.1.retired.heap ≡ heap.now) }
+    ensures four { (result.1.1.0.retired.heap ≡ heap.now) × (result.1.1.1.retired.heap ≡ heap.now) }
+{
+    let (one, two) = first;
+    let (three, four) = second;
+    join(
+        rt,
+        || -> ((Played, Played), (Played, Played))
+            requires one { BothOf heap.now one }
+            requires two { BothOf heap.now two }
+            ensures one { (result.0.0.retired.heap ≡ heap.entry.now) × (result.0.1.retired.heap ≡ heap.entry.now) }
+            ensures two { (result.1.0.retired.heap ≡ heap.entry.now) × (result.1.1.retired.heap ≡ heap.entry.now) }
+        { four_play(rt, alloc, heap, one, two, turns) },
+        || -> ((Played, Played), (Played, Played))
+            requires three { BothOf heap.now three }
+            requires four { BothOf heap.now four }
+            ensures one { (result.0.0.retired.heap ≡ heap.entry.now) × (result.0.1.retired.heap ≡ heap.entry.now) }
+            ensures two { (result.1.0.retired.heap ≡ heap.entry.now) × (result.1.1.retired.heap ≡ heap.entry.now) }
+        { four_play(rt, alloc, heap, three, four, turns) },
+    )
+}
+
+/// The next two threads, at rest.
+fn two_rest(
+    rt: &impl Abort,
+    alloc: Global,
+    heap: &Heap<Global>,
+    root: &mut Root<Global>,
+) -> (Resting<Global>, Resting<Global>)
+    requires heap { root.old.table ≡ heap.now.table }
+    ensures two { BothOf heap.now result }
+    ensures root { root.new.table ≡ root.old.table }
+{
+    let first = rests(rt, alloc, heap, root);
+    let second = rests(rt, alloc, heap, root);
+    (first, second)
+}
+
+/// The next four threads, at rest.
+fn four_rest(
+    rt: &impl Abort,
+    alloc: Global,
+    heap: &Heap<Global>,
+    root: &mut Root<Global>,
+) -> (
+    (Resting<Global>, Resting<Global>),
+    (Resting<Global>, Resting<Global>),
+)
+    requires heap { root.old.table ≡ heap.now.table }
+    ensures one { BothOf heap.now result.0 }
+    ensures two { BothOf heap.now result.1 }
+    ensures root { root.new.table ≡ root.old.table }
+{
+    let one = two_rest(rt, alloc, heap, root);
+    let two = two_rest(rt, alloc, heap, root);
+    (one, two)
+}
+
 /// Ledgers added, and what threads got, less what they gave.
 #[derive(Clone, Copy)]
 struct Sum {
@@ -222,6 +304,13 @@ struct Sum {
     frees: u64,
     left: i64,
 }
+
+/// What no thread did.
+const NOTHING: Sum = Sum {
+    allocs: 0,
+    frees: 0,
+    left: 0,
+};
 
 /// Two threads are gathered.
 fn gathered(heap: &Heap<Global>, root: &mut Root<Global>, played: (Played, Played), sum: Sum) -> Sum
@@ -232,6 +321,23 @@ fn gathered(heap: &Heap<Global>, root: &mut Root<Global>, played: (Played, Playe
     let (first, second) = played;
     let sum = gathered_one(heap, root, first, sum);
     gathered_one(heap, root, second, sum)
+}
+
+/// Four threads are gathered.
+fn gathered_four(
+    heap: &Heap<Global>,
+    root: &mut Root<Global>,
+    played: ((Played, Played), (Played, Played)),
+    sum: Sum,
+) -> Sum
+    requires heap { root.old.table ≡ heap.now.table }
+    requires one { (played.0.0.retired.heap ≡ heap.now) × (played.0.1.retired.heap ≡ heap.now) }
+    requires two { (played.1.0.retired.heap ≡ heap.now) × (played.1.1.retired.heap ≡ heap.now) }
+    ensures root { root.new.table ≡ root.old.table }
+{
+    let (one, two) = played;
+    let sum = gathered(heap, root, one, sum);
+    gathered(heap, root, two, sum)
 }
 
 /// A thread is gathered.
@@ -262,7 +368,7 @@ fn takes_down<R: Abort + Wait, H: Home<A>, A: Allocator>(rt: &R, frame: &mut Fra
     let listed = number_of(rt, frame, last);
     give_back(rt, frame, list);
     let mailbox = unshare(rt, frame, &globals, 2);
-    has_no_letter(rt, frame, &mailbox);
+    has_entries(rt, frame, &mailbox, 0);
     give_back(rt, frame, mailbox);
     let value = unshare(rt, frame, &globals, 3);
     let stood = number_of(rt, frame, value);
@@ -283,15 +389,9 @@ fn two_threads_share_for_many_turns(rt: HostRuntime) {
     let mut root = root;
     let mut last = a_thread(&rt, rt.alloc(), &heap, &mut root);
     sets_up(&rt, rt.alloc(), last.frame());
-    let first = rests(&rt, rt.alloc(), &heap, &mut root);
-    let second = rests(&rt, rt.alloc(), &heap, &mut root);
-    let played = two_play(&rt, rt.alloc(), &heap, (first, second), 10_000);
-    let sum = Sum {
-        allocs: 0,
-        frees: 0,
-        left: 0,
-    };
-    let sum = gathered(&heap, &mut root, played, sum);
+    let two = two_rest(&rt, rt.alloc(), &heap, &mut root);
+    let played = two_play(&rt, rt.alloc(), &heap, two, 10_000);
+    let sum = gathered(&heap, &mut root, played, NOTHING);
     let left = takes_down(&rt, last.frame());
     let ledger = ends(&rt, &heap, &mut root, last);
     come_out(&rt, sum, ledger, left, 80_002);
@@ -304,27 +404,29 @@ fn four_threads_share_for_many_turns(rt: HostRuntime) {
     let mut root = root;
     let mut last = a_thread(&rt, rt.alloc(), &heap, &mut root);
     sets_up(&rt, rt.alloc(), last.frame());
-    let first = rests(&rt, rt.alloc(), &heap, &mut root);
-    let second = rests(&rt, rt.alloc(), &heap, &mut root);
-    let third = rests(&rt, rt.alloc(), &heap, &mut root);
-    let fourth = rests(&rt, rt.alloc(), &heap, &mut root);
-    let (one, two) = four_play(
-        &rt,
-        rt.alloc(),
-        &heap,
-        (first, second),
-        (third, fourth),
-        10_000,
-    );
-    let sum = Sum {
-        allocs: 0,
-        frees: 0,
-        left: 0,
-    };
-    let sum = gathered(&heap, &mut root, one, sum);
+    let (one, two) = four_rest(&rt, rt.alloc(), &heap, &mut root);
+    let (one, two) = four_play(&rt, rt.alloc(), &heap, one, two, 10_000);
+    let sum = gathered(&heap, &mut root, one, NOTHING);
     let sum = gathered(&heap, &mut root, two, sum);
     let left = takes_down(&rt, last.frame());
     let ledger = ends(&rt, &heap, &mut root, last);
     come_out(&rt, sum, ledger, left, 160_002);
+    is_empty(&rt, heap, root);
+}
+
+#[test]
+fn eight_threads_share_for_many_turns(rt: HostRuntime) {
+    let (heap, root) = a_heap(&rt, rt.alloc(), 4_096);
+    let mut root = root;
+    let mut last = a_thread(&rt, rt.alloc(), &heap, &mut root);
+    sets_up(&rt, rt.alloc(), last.frame());
+    let first = four_rest(&rt, rt.alloc(), &heap, &mut root);
+    let second = four_rest(&rt, rt.alloc(), &heap, &mut root);
+    let (first, second) = eight_play(&rt, rt.alloc(), &heap, first, second, 10_000);
+    let sum = gathered_four(&heap, &mut root, first, NOTHING);
+    let sum = gathered_four(&heap, &mut root, second, sum);
+    let left = takes_down(&rt, last.frame());
+    let ledger = ends(&rt, &heap, &mut root, last);
+    come_out(&rt, sum, ledger, left, 320_002);
     is_empty(&rt, heap, root);
 }

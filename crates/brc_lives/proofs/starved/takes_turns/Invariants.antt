@@ -1,0 +1,5 @@
+use Rattle.brc_lives.specs.Handles.{GoesOn}
+use Rattle.brc_lives.proofs.starved.takes_turns.Given as goal
+
+abbrev pub invariant-loop : goal.invariant-loop
+invariant-loop g l = GoesOn l.fn.frame l.frame

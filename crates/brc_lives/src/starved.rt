@@ -1,0 +1,60 @@
+//! A death while no memory is left: what a release and turns of work give back is taken at once, so they take none.
+
+ghost use Rattle.brc_count.specs.Frames.{IsUnlocked};
+ghost use Rattle.brc_lives.specs.Handles.{GoesOn};
+
+use crate::deaths::a_list_of_lists;
+use crate::ends::ends;
+use crate::memory::{Pieces, a_heap};
+use crate::phases::{entered, leaves, opened_with, release, says};
+use brc_count::Frame;
+use brc_counter::Home;
+use linked_list_allocator::LocalHeap;
+use std::alloc::Global;
+use std::process::Abort;
+
+/// All memory that is left is taken.
+fn starve<'h>(rt: &impl Abort, alloc: Global, memory: &'h LocalHeap, taken: &mut Vec<Pieces<'h>>) {
+    assert!(rt; taken.push(Pieces::take_all(rt, alloc, memory)).is_ok());
+}
+
+/// So many calls of work for one turn need it, and the next one doesn't; none has memory.
+fn takes_turns<'h, H: Home<&'h LocalHeap>>(
+    rt: &impl Abort,
+    alloc: Global,
+    memory: &'h LocalHeap,
+    taken: &mut Vec<Pieces<'h>>,
+    frame: &mut Frame<H, &'h LocalHeap>,
+    turns: usize,
+)
+    requires unlocked { IsUnlocked frame.old }
+    ensures { GoesOn frame.old frame.new }
+{
+    for _ in 0..turns {
+        starve(rt, alloc, memory, taken);
+        assert_eq!(rt; frame.work(1), 0);
+    }
+    starve(rt, alloc, memory, taken);
+    assert_eq!(rt; frame.work(1), 1);
+}
+
+/// A list of 1,000 lists goes, on a heap of its own.
+fn dies_on_a_heap<'h>(rt: &impl Abort, alloc: Global, memory: &'h LocalHeap) {
+    let (table, root) = opened_with(rt, memory, 4_096);
+    let mut root = root;
+    let mut frame = entered(rt, memory, &table, &mut root);
+    let list = a_list_of_lists(rt, memory, &mut frame, 1_000);
+    let mut taken = Vec::new(alloc);
+    starve(rt, alloc, memory, &mut taken);
+    release(&mut frame, list);
+    takes_turns(rt, alloc, memory, &mut taken, &mut frame, 2_001);
+    says(rt, frame.ledger(), 1_001, 1_001);
+    leaves(rt, &table, &mut root, frame);
+    ends(rt, table, root);
+}
+
+#[test]
+fn a_list_of_lists_dies_a_turn_at_a_time(rt: HostRuntime) {
+    let memory = a_heap(&rt, rt.alloc(), 1 << 22);
+    dies_on_a_heap(&rt, rt.alloc(), &memory);
+}
