@@ -16,7 +16,6 @@ use brc_count::{Frame, Handle};
 use brc_counter::Home;
 use brc_words::Fault;
 use std::alloc::Allocator;
-use std::hint::spin_loop;
 use std::sync::Wait;
 use std::thread::yield_now;
 
@@ -39,22 +38,8 @@ fn begin_or_busy<H: Home<A>, A: Allocator>(
     }
 }
 
-/// How many lost tries are followed by the next without giving the processor up.
-const TRIES_AT_ONCE: u32 = 40;
-
-/// Between two tries: another thread mostly has an object locked for less time than the system takes to run this one again. The
-/// answer is how many tries were lost, as far as it counts.
-fn pause(lost: u32) -> u32 {
-    if lost < TRIES_AT_ONCE {
-        spin_loop();
-        lost + 1
-    } else {
-        yield_now();
-        lost
-    }
-}
-
 /// Locks the handle's object and answers its block, once no other thread has it locked, where the first try was lost.
+/// Before each further try it gives the processor up.
 #[cold]
 #[inline(never)]
 fn begin_again<H: Home<A>, A: Allocator>(
@@ -66,9 +51,8 @@ fn begin_again<H: Home<A>, A: Allocator>(
     requires unlocked { IsUnlocked frame.old }
     ensures { BeginsLate frame.old frame.new handle.now.place result }
 {
-    let mut lost = 0;
     for _ in rt.forever() {
-        lost = pause(lost);
+        yield_now();
         if let Some(block) = frame.begin(handle) {
             return block;
         }
@@ -76,8 +60,8 @@ fn begin_again<H: Home<A>, A: Allocator>(
     unreachable!()
 }
 
-/// Locks the handle's object and answers its block, once no other thread has it locked. Between two tries it holds nothing; after
-/// the first few it gives the processor up.
+/// Locks the handle's object and answers its block, once no other thread has it locked. Between two tries it holds nothing, and
+/// gives the processor up.
 #[inline(always)]
 pub fn begin_late<H: Home<A>, A: Allocator>(
     rt: &impl Wait,
