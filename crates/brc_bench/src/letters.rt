@@ -20,9 +20,11 @@ pub const SENDERS: u32 = 2;
 /// How many letters may be under way.
 const UNDER_WAY: u64 = 1_024;
 
-/// What the threads tell each other beside the mailbox.
+/// What the threads tell each other beside the heap.
 #[derive(Drop)]
 pub struct Post {
+    /// How many threads are ready to begin.
+    pub ready: AtomicU64,
     /// How many letters have been received, as of the last 64th.
     pub received: AtomicU64,
     /// Whether a thread gave up, so that the others needn't wait for it.
@@ -30,12 +32,25 @@ pub struct Post {
 }
 
 impl Post {
-    /// Nothing has been received.
+    /// No thread is ready, and nothing has been received.
     pub fn new() -> Post {
         Post {
+            ready: AtomicU64::new(0),
             received: AtomicU64::new(0),
             is_given_up: AtomicBool::new(false),
         }
+    }
+
+    /// Waits until so many threads are ready to begin, as this one is.
+    pub fn begin_together(&self, rt: &impl Wait, threads: u32) {
+        self.ready.fetch_add(1, Ordering::Relaxed);
+        for _ in rt.forever() {
+            if self.ready.load(Ordering::Relaxed) >= u64::from(threads) {
+                return;
+            }
+            thread::yield_now();
+        }
+        unreachable!()
     }
 
     /// This thread gives up.

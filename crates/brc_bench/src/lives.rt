@@ -167,6 +167,7 @@ fn measures<R: Wait + Clock + CpuClock, H: Home<A>, A: Allocator + Copy>(
 {
     let mut handles = Vec::new(alloc);
     let filled = fills(rt, alloc, frame, &mut handles, asked);
+    post.begin_together(rt, asked.threads);
     let began = this_moment(rt);
     let whole = operates(
         rt,

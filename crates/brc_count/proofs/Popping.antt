@@ -28,7 +28,7 @@ use Rattle.brc_counter.specs.Up.{IsKnown}
 use Rattle.brc_counter.proofs.Marking.{marks_wide}
 use Rattle.brc_count.specs.declared.held.Held.{Held}
 use Rattle.brc_count.specs.declared.ledger.Ledger.{Ledger}
-use Rattle.brc_count.specs.Polling.{DrainsNamed, NoWord, NotNamed}
+use Rattle.brc_count.specs.Polling.{DealsBits, NoBit, NotSet, DrainsNamed, NoName, NotNamed}
 use Rattle.brc_count.specs.Frames.{AreBits, FrameSeen, Holding, locked_place, cell_held, pushed}
 use Rattle.brc_count.proofs.Buried.{after_given}
 use Rattle.brc_count.proofs.Changes.{none_held, nothing_locked, out_unlocked, slots_pushed, blocks_pushed}
@@ -257,9 +257,14 @@ sifted_all n k was now fit old = same_from_bits (word_at now k) 0 (λ j. none j 
     ]
 
 -- a thread that was told nothing drains nothing
-pub nothing_named : {A : Type 0} (frame : FrameSeen A) (words : ℕ) → DrainsNamed 0 frame words frame
-nothing_named frame zero = NoWord
-nothing_named frame (suc k) = subst (λ m. DrainsNamed 0 frame m frame) (omega arith) (NotNamed k frame (nothing_named frame k) (bit_at-zero (k / 32)))
+pub nothing_named : {A : Type 0} (words : ℕ) (frame : FrameSeen A) (i : ℕ) → DrainsNamed 0 words frame i frame
+nothing_named words frame zero = NoName
+nothing_named words frame (suc i) = subst (λ m. DrainsNamed 0 words frame m frame) (omega arith) (NotNamed i frame (nothing_named words frame i) (bit_at-zero i))
+
+-- and a word without a bit has no entry to deal with
+pub nothing_dealt : {A : Type 0} (k : ℕ) (frame : FrameSeen A) (i : ℕ) → DealsBits k 0 frame i frame
+nothing_dealt k frame zero = NoBit
+nothing_dealt k frame (suc i) = subst (λ m. DealsBits k 0 frame m frame) (omega arith) (NotSet i frame (nothing_dealt k frame i) (bit_at-zero i))
 
 -- once a word is drained and its entries are dealt with, it is 0 again, and so are all others
 pub still_blank : (k number : ℕ) (was mid now : List ℕ) → ((m : ℕ) → word_at was m ≡ 0) → mid ≡ popped_told (Some k) number was

@@ -1,5 +1,5 @@
 -- What a poll does: the thread takes its notify word, drains the queue words that it names, and deals with each entry.
-use Rattle.std.specs.Prelude.{◌≡◌, ℕ, ◌+◌, ◌*◌, ◌/◌, ◌∷◌, Option}
+use Rattle.std.specs.Prelude.{◌≡◌, ℕ, min, ◌+◌, ◌*◌, ◌/◌, ◌∷◌, Option}
 use Rattle.std.specs.Int.{bit_at}
 use Rattle.brc_block.specs.declared.payload.Payload.{Payload}
 use Rattle.brc_runs.specs.declared.event.Step.TheVariants.{Drain, Wake}
@@ -32,16 +32,23 @@ module _ {A : Type 0} where
     pub works : mid.works ≡ old.works
     pub dealt : DealsBits k bits mid 32 new
 
-  -- Of the queue words those below k were drained that the notify word names: its bit i names 32 of them, from word 32 i on.
-  pub data DrainsNamed (told : ℕ) (old : FrameSeen A) : ℕ → FrameSeen A → Type 0 where
-    NoWord : DrainsNamed told old 0 old
-    NotNamed : (k : ℕ) (new : FrameSeen A) → DrainsNamed told old k new → bit_at told (k / 32) ≡ 0 → DrainsNamed told old (k + 1) new
-    Drained : (k : ℕ) (mid new : FrameSeen A) → DrainsNamed told old k mid → bit_at told (k / 32) ≡ 1 → Drains mid new k
-        → DrainsNamed told old (k + 1) new
+  -- the queue words from one number on are drained, one after the other, up to another number
+  pub data DrainsEach (from : ℕ) (old : FrameSeen A) : ℕ → FrameSeen A → Type 0 where
+    NoWord : DrainsEach from old from old
+    OneMore : (k : ℕ) (mid new : FrameSeen A) → DrainsEach from old k mid → Drains mid new k → DrainsEach from old (k + 1) new
+
+  -- Of the bits of the notify word those below i were looked at, by rising number. One that is set names 32 queue words, from
+  -- word 32 i on, or as many as there are: each of them is drained.
+  pub data DrainsNamed (told words : ℕ) (old : FrameSeen A) : ℕ → FrameSeen A → Type 0 where
+    NoName : DrainsNamed told words old 0 old
+    NotNamed : (i : ℕ) (new : FrameSeen A) → DrainsNamed told words old i new → bit_at told i ≡ 0
+        → DrainsNamed told words old (i + 1) new
+    Named : (i : ℕ) (mid new : FrameSeen A) → DrainsNamed told words old i mid → bit_at told i ≡ 1
+        → DrainsEach (i * 32) mid (min words (i * 32 + 32)) new → DrainsNamed told words old (i + 1) new
 
   -- a poll that found this number in the thread's notify word
   pub record Polled (old new : FrameSeen A) (told : ℕ) : Type 0 where
     pub mid : FrameSeen A
     pub woken : mid.seat.log ≡ Did Wake told Nothing ∷ old.seat.log
     pub works : mid.works ≡ old.works
-    pub drains : DrainsNamed told mid (words_for old.heap.cells) new
+    pub drains : DrainsNamed told (words_for old.heap.cells) mid ((words_for old.heap.cells + 31) / 32) new

@@ -1,6 +1,6 @@
 //! The thread's merge queue: entries that others have put there are popped, and dealt with.
 
-ghost use Rattle.std.specs.Prelude.{◌≡◌, ◌≢◌, ◌+◌, ◌*◌, ◌<◌, ℕ, Some, true, ◌∷◌, ◌/◌, length, slice_set, bit_or, IsTrue, IsFalse, ◌≤◌, IfSome, IfNone};
+ghost use Rattle.std.specs.Prelude.{◌≡◌, ◌≢◌, min, ◌+◌, ◌*◌, ◌<◌, ℕ, Some, true, ◌∷◌, ◌/◌, length, slice_set, bit_or, IsTrue, IsFalse, ◌≤◌, IfSome, IfNone};
 ghost use Rattle.std.specs.Int.{bit_at};
 ghost use Rattle.brc_words.specs.declared.limits.TheConstants.{MOST_CELLS};
 ghost use Rattle.brc_runs.specs.declared.event.Step.TheVariants as steps;
@@ -10,7 +10,7 @@ ghost use Rattle.brc_known.specs.Items.{popped_told};
 ghost use Rattle.brc_rule.specs.declared.told.Moved.TheVariants as moves;
 ghost use Rattle.brc_rule.specs.declared.told.Told.TheVariants as told;
 ghost use Rattle.brc_count.specs.Frames.{IsActive, MayGiveUp, IsUnlocked, KeepsHandles, popped_seen};
-ghost use Rattle.brc_count.specs.Polling.{Deals, DealsBits, Polled};
+ghost use Rattle.brc_count.specs.Polling.{Deals, DealsBits, Drains, DrainsEach, Polled};
 
 use crate::holdings::Holdings;
 use brc_counter::Home;
@@ -41,13 +41,21 @@ fn lowest(bits: u64) -> u32
     bits.trailing_zeros()
 }
 
-/// Whether what a thread was told names the word: each bit stands for 32 of them.
-fn names_word(named: u64, word: u32) -> bool
-    requires few { word < 2048 }
-    ensures named { IsTrue result → bit_at named (word / 32) ≡ 1 }
-    ensures other { IsFalse result → bit_at named (word / 32) ≡ 0 }
+/// Whether this bit of what a thread was told is set: it names 32 of the thread's queue words.
+fn is_named(named: u64, bit: u32) -> bool
+    requires few { bit < 64 }
+    ensures named { IsTrue result → bit_at named bit ≡ 1 }
+    ensures other { IsFalse result → bit_at named bit ≡ 0 }
 {
-    named >> (word / 32) & 1 == 1
+    named >> bit & 1 == 1
+}
+
+/// The first queue word past those that this bit names, of a thread with so many.
+fn past_named(words: u32, bit: u32) -> u32
+    requires few { bit < 64 }
+    ensures { result ≡ min words (bit * 32 + 32) }
+{
+    words.min(bit * 32 + 32)
 }
 
 impl<H: Home<A>, A: Allocator> Holdings<H, A> {
@@ -137,6 +145,39 @@ impl<H: Home<A>, A: Allocator> Holdings<H, A> {
         let _popped = &self.popped;
     }
 
+    /// Drains one of the thread's queue words, and deals with each entry that was in it.
+    fn drain_one(&mut self, word: u32)
+        requires inside { word < words_for self.old.heap.cells }
+        requires active { IsActive self.old }
+        requires unlocked { IsUnlocked self.old }
+        requires blank { (k : ℕ) → word_at (popped_seen self.old) k ≡ 0 }
+        ensures keeps { KeepsHandles self.old self.new }
+        ensures drains { Drains self.old self.new word }
+        ensures blank { (k : ℕ) → word_at (popped_seen self.new) k ≡ 0 }
+    {
+        let bits = self.drain(word);
+        if bits == 0 {
+            return;
+        }
+        self.settle_word(word);
+    }
+
+    /// Drains the queue words from this one on up to another, and deals with each entry that was in them.
+    fn drain_each(&mut self, from: u32, until: u32)
+        requires order { from ≤ until }
+        requires inside { until ≤ words_for self.old.heap.cells }
+        requires active { IsActive self.old }
+        requires unlocked { IsUnlocked self.old }
+        requires blank { (k : ℕ) → word_at (popped_seen self.old) k ≡ 0 }
+        ensures keeps { KeepsHandles self.old self.new }
+        ensures drains { DrainsEach from self.old until self.new }
+        ensures blank { (k : ℕ) → word_at (popped_seen self.new) k ≡ 0 }
+    {
+        for word in from..until {
+            self.drain_one(word);
+        }
+    }
+
     /// The first popped word with an entry, where those before this one have none.
     pub(crate) fn first_popped(&self, from: usize) -> Option<u32>
         requires done { (k : ℕ) → k < from → word_at (popped_seen self.now) k ≡ 0 }
@@ -200,10 +241,10 @@ impl<H: Home<A>, A: Allocator> Holdings<H, A> {
         if named == 0 {
             return 0;
         }
-        for word in 0..self.words() {
-            if names_word(named, word) {
-                let _bits = self.drain(word);
-                self.settle_word(word);
+        let words = self.words();
+        for bit in 0..words.div_ceil(32) {
+            if is_named(named, bit) {
+                self.drain_each(bit * 32, past_named(words, bit));
             }
         }
         named

@@ -1,8 +1,9 @@
 -- Where the words of a heap of n cells lie in the table.
 --
--- All owner words lie side by side: a search for a free cell reads them one after the other, and they are read far more
--- often than written. The counts of neighbouring cells, which belong to different threads, share no cache line: a local
--- word has a line of 64 bytes of its own, and the shared word and the mutex have the next.
+-- The counts come first, so that a cell's are found by its number alone. Those of neighbouring cells, which belong to
+-- different threads, share no cache line: a local word has a line of 64 bytes of its own, and the shared word and the mutex
+-- have the next. All owner words lie side by side: a search for a free cell reads them one after the other, and they are
+-- read far more often than written.
 use Rattle.std.specs.Prelude.{ℕ, ◌+◌, ◌*◌, ◌/◌}
 use Rattle.brc_words.specs.declared.limits.TheConstants.{MOST_THREADS}
 use Rattle.brc_runs.specs.Heap.{words_for}
@@ -10,23 +11,23 @@ use Rattle.brc_known.specs.declared.word.Field.TheVariants.{Owner, Local, Shared
 use Rattle.brc_known.specs.declared.word.Word.{Word}
 use Rattle.brc_known.specs.declared.word.Word.TheVariants.{Of, Queue, NotifyWord}
 
--- the first word after the owner words that begins a line
-abbrev pub counts_from : ℕ → ℕ
-counts_from n = (n + 7) / 8 * 8
-
 -- the first word after the counts
+abbrev pub owners_from : ℕ → ℕ
+owners_from n = n * 16
+
+-- the first word after the owner words that begins a line
 abbrev pub queues_from : ℕ → ℕ
-queues_from n = counts_from n + n * 16
+queues_from n = owners_from n + (n + 7) / 8 * 8
 
 -- the first word after the queue words: word k of all threads side by side
 abbrev pub notify_from : ℕ → ℕ
 notify_from n = queues_from n + words_for n * (MOST_THREADS + 1)
 
 abbrev pub spot : ℕ → Word → ℕ
-spot n (Of Owner c) = c
-spot n (Of Local c) = counts_from n + c * 16
-spot n (Of Shared c) = counts_from n + c * 16 + 8
-spot n (Of Mutex c) = counts_from n + c * 16 + 9
+spot n (Of Owner c) = owners_from n + c
+spot n (Of Local c) = c * 16
+spot n (Of Shared c) = c * 16 + 8
+spot n (Of Mutex c) = c * 16 + 9
 spot n (Queue t k) = queues_from n + k * (MOST_THREADS + 1) + t
 spot n (NotifyWord t) = notify_from n + t * 8
 

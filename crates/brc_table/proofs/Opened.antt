@@ -18,7 +18,7 @@ use Rattle.brc_known.specs.declared.word.Word.TheVariants.{Of, Queue, NotifyWord
 use Rattle.brc_known.specs.Items.{IsWord, Shows, ShowsQueue, word_in}
 use Rattle.brc_block.specs.declared.payload.Payload.{Payload}
 use Rattle.brc_rule.specs.declared.contents.Contents.{Contents}
-use Rattle.brc_rule.specs.Layout.{counts_from, queues_from, spot, extent}
+use Rattle.brc_rule.specs.Layout.{owners_from, queues_from, spot, extent}
 use Rattle.brc_rule.specs.Logs.{opening_contents}
 use Rattle.brc_rule.specs.Homes.{LiesThere}
 use Rattle.brc_rule.specs.Rule.{Kept}
@@ -36,27 +36,27 @@ if_not b x y is = ap (λ z. if z then x else y) is
 
 -- ---- words, by where they lie
 
-among_owners : (n at : ℕ) → at < n → opening_word n at ≡ opening_owner at
-among_owners n at low = ap (λ z. if z then opening_owner at else (if nat_lt at (counts_from n) then 0 else (if nat_lt at (queues_from n) then opening_count ((at - counts_from n) / 16) ((at - counts_from n) % 16) else 0))) (lt-ltb at n low)
-
-past_gap : (n at : ℕ) → counts_from n ≤ at → opening_word n at ≡ (if nat_lt at (queues_from n) then opening_count ((at - counts_from n) / 16) ((at - counts_from n) % 16) else 0)
-past_gap n at high =
-    let past : n ≤ at = omega (arith, high) in
-    ap (λ z. if z then opening_owner at else (if nat_lt at (counts_from n) then 0 else (if nat_lt at (queues_from n) then opening_count ((at - counts_from n) / 16) ((at - counts_from n) % 16) else 0))) (le-ltb at n past)
-    ∙ ap (λ z. if z then 0 else (if nat_lt at (queues_from n) then opening_count ((at - counts_from n) / 16) ((at - counts_from n) % 16) else 0)) (le-ltb at (counts_from n) high)
-
-among_counts : (n at c part : ℕ) → c < n → part < 16 → at ≡ counts_from n + c * 16 + part → opening_word n at ≡ opening_count c part
+among_counts : (n at c part : ℕ) → c < n → part < 16 → at ≡ c * 16 + part → opening_word n at ≡ opening_count c part
 among_counts n at c part low small there =
-    let cell : (at - counts_from n) / 16 ≡ c = omega (arith, small, there) in
-    let of_it : (at - counts_from n) % 16 ≡ part = omega (arith, small, there) in
-    past_gap n at (omega (arith, there))
-    ∙ ap (λ z. if z then opening_count ((at - counts_from n) / 16) ((at - counts_from n) % 16) else 0) (lt-ltb at (queues_from n) (omega (arith, low, small, there)))
+    let cell : at / 16 ≡ c = omega (arith, small, there) in
+    let of_it : at % 16 ≡ part = omega (arith, small, there) in
+    ap (λ z. if z then opening_count (at / 16) (at % 16) else (if nat_lt at (owners_from n + n) then opening_owner (at - owners_from n) else 0)) (lt-ltb at (owners_from n) (omega (arith, low, small, there)))
     ∙ (λ i. opening_count (cell i) (of_it i))
 
-past_counts : (n at : ℕ) → queues_from n ≤ at → opening_word n at ≡ 0
-past_counts n at high =
-    past_gap n at (omega (arith, high))
-    ∙ ap (λ z. if z then opening_count ((at - counts_from n) / 16) ((at - counts_from n) % 16) else 0) (le-ltb at (queues_from n) high)
+past_counts : (n at : ℕ) → owners_from n ≤ at → opening_word n at ≡ (if nat_lt at (owners_from n + n) then opening_owner (at - owners_from n) else 0)
+past_counts n at high = ap (λ z. if z then opening_count (at / 16) (at % 16) else (if nat_lt at (owners_from n + n) then opening_owner (at - owners_from n) else 0)) (le-ltb at (owners_from n) high)
+
+among_owners : (n at c : ℕ) → c < n → at ≡ owners_from n + c → opening_word n at ≡ opening_owner c
+among_owners n at c low there =
+    let cell : at - owners_from n ≡ c = omega (arith, there) in
+    past_counts n at (omega (arith, there))
+    ∙ ap (λ z. if z then opening_owner (at - owners_from n) else 0) (lt-ltb at (owners_from n + n) (omega (arith, low, there)))
+    ∙ ap opening_owner cell
+
+past_owners : (n at : ℕ) → queues_from n ≤ at → opening_word n at ≡ 0
+past_owners n at high =
+    past_counts n at (omega (arith, high))
+    ∙ ap (λ z. if z then opening_owner (at - owners_from n) else 0) (le-ltb at (owners_from n + n) (omega (arith, high)))
 
 -- ---- the opening world's words
 
@@ -87,7 +87,7 @@ none_registered n limit t = elim (cases_lt 0 t) [
 ]
 
 opens_word : (n limit : ℕ) (w : Word) → FIRST_MORTAL ≤ n → IsWord n w → Shows (opening n limit) w (opening_word n (spot n w))
-opens_word n limit (Of Owner c) enough is = among_owners n c is ∙ by_cell n limit Owner c (opening_owner c) enough
+opens_word n limit (Of Owner c) enough is = among_owners n (spot n (Of Owner c)) c is (omega arith) ∙ by_cell n limit Owner c (opening_owner c) enough
     (λ low. ap (λ z. if z then 0 else 2 ^ 64 - 1) (lt-ltb c FIRST_MORTAL low)) (λ high. ap (λ z. if z then 0 else 2 ^ 64 - 1) (le-ltb c FIRST_MORTAL high))
 opens_word n limit (Of Local c) enough is = among_counts n (spot n (Of Local c)) c 0 is (omega arith) (omega arith) ∙ by_cell n limit Local c (opening_count c 0) enough
     (λ low. ap (λ z. if z then IMMORTAL_LOCAL else 0) (lt-ltb c FIRST_MORTAL low)) (λ high. ap (λ z. if z then IMMORTAL_LOCAL else 0) (le-ltb c FIRST_MORTAL high))
@@ -95,8 +95,8 @@ opens_word n limit (Of Shared c) enough is = among_counts n (spot n (Of Shared c
 opens_word n limit (Of Mutex c) enough is = among_counts n (spot n (Of Mutex c)) c 9 is (omega arith) refl ∙ by_cell n limit Mutex c 0 enough (λ low. refl) (λ high. refl)
 opens_word n limit (Queue t k) enough is =
     subst (λ b. ShowsQueue b (is_closed (row_at (opening n limit) t).stage k) (word_at (queue_at (opening n limit) t) k) (opening_word n (spot n (Queue t k)))) (sym (none_registered n limit t))
-    (past_counts n (spot n (Queue t k)) (omega arith))
-opens_word n limit (NotifyWord t) enough is = past_counts n (spot n (NotifyWord t)) (omega arith) ∙ sym (lone t)
+    (past_owners n (spot n (Queue t k)) (omega arith))
+opens_word n limit (NotifyWord t) enough is = past_owners n (spot n (NotifyWord t)) (omega arith) ∙ sym (lone t)
 
 -- ---- lists
 

@@ -1,9 +1,9 @@
 -- What a table opens with: the words of the opening world, and the block of each immortal.
-use Rattle.std.specs.Prelude.{ℕ, zero, suc, ◌-◌, ◌/◌, ◌%◌, ◌^◌, ◌==◌, nat_lt, if◌then◌else◌, List, [], ◌∷◌, ◌++◌, Option, Some, None}
+use Rattle.std.specs.Prelude.{ℕ, zero, suc, ◌+◌, ◌-◌, ◌/◌, ◌%◌, ◌^◌, ◌==◌, nat_lt, if◌then◌else◌, List, [], ◌∷◌, ◌++◌, Option, Some, None}
 use Rattle.brc_words.specs.declared.limits.TheConstants.{FIRST_MORTAL, IMMORTAL_LOCAL}
 use Rattle.brc_block.specs.declared.payload.Payload.{Payload}
 use Rattle.brc_rule.specs.declared.contents.Contents.{Contents}
-use Rattle.brc_rule.specs.Layout.{counts_from, queues_from}
+use Rattle.brc_rule.specs.Layout.{owners_from}
 use Rattle.brc_rule.specs.Logs.{opening_contents}
 use Rattle.brc_table.specs.Shown.{shows}
 
@@ -18,7 +18,7 @@ opening_count c part = if part == 0 then (if nat_lt c FIRST_MORTAL then IMMORTAL
 -- the word at a spot; nothing is queued, and nobody is told anything
 abbrev pub opening_word : ℕ → ℕ → ℕ
 opening_word n at =
-    if nat_lt at n then opening_owner at else (if nat_lt at (counts_from n) then 0 else (if nat_lt at (queues_from n) then opening_count ((at - counts_from n) / 16) ((at - counts_from n) % 16) else 0))
+    if nat_lt at (owners_from n) then opening_count (at / 16) (at % 16) else (if nat_lt at (owners_from n + n) then opening_owner (at - owners_from n) else 0)
 
 -- so many of the words, from the first on
 abbrev pub opening_words : ℕ → ℕ → List ℕ

@@ -4,25 +4,25 @@ ghost use Rattle.std.specs.Prelude.{◌^◌, ◌≡◌, ◌<◌, ◌≤◌};
 ghost use Rattle.brc_words.specs.declared.limits.TheConstants.{MOST_CELLS};
 ghost use Rattle.brc_runs.specs.Heap.{words_for as queue_words};
 ghost use Rattle.brc_known.specs.Items.{IsWord};
-ghost use Rattle.brc_rule.specs.Layout.{counts_from as counts_begin, queues_from as queues_begin, notify_from as notify_begin, extent as extent_of, spot};
+ghost use Rattle.brc_rule.specs.Layout.{owners_from as owners_begin, queues_from as queues_begin, notify_from as notify_begin, extent as extent_of, spot};
 
 use brc_known::{Field, Word};
 use brc_runs::words_for;
 
-/// The first word after the owner words that begins a line.
-pub(crate) fn counts_from(cells: u32) -> usize
+/// The first word after the counts.
+pub(crate) fn owners_from(cells: u32) -> usize
     requires { cells ≤ MOST_CELLS }
-    ensures { result ≡ counts_begin cells }
+    ensures { result ≡ owners_begin cells }
 {
-    (cells as usize + 7) / 8 * 8
+    cells as usize * 16
 }
 
-/// The first word after the counts.
-pub(crate) fn queues_from(cells: u32) -> usize
+/// The first word after the owner words that begins a line.
+fn queues_from(cells: u32) -> usize
     requires { cells ≤ MOST_CELLS }
     ensures { result ≡ queues_begin cells }
 {
-    counts_from(cells) + cells as usize * 16
+    owners_from(cells) + (cells as usize + 7) / 8 * 8
 }
 
 /// The first word after the queue words.
@@ -48,10 +48,10 @@ pub(crate) fn spot_of(cells: u32, word: Word) -> usize
     ensures { result ≡ spot cells word }
 {
     match word {
-        Word::Of(Field::Owner, cell) => cell as usize,
-        Word::Of(Field::Local, cell) => counts_from(cells) + cell as usize * 16,
-        Word::Of(Field::Shared, cell) => counts_from(cells) + cell as usize * 16 + 8,
-        Word::Of(Field::Mutex, cell) => counts_from(cells) + cell as usize * 16 + 9,
+        Word::Of(Field::Owner, cell) => owners_from(cells) + cell as usize,
+        Word::Of(Field::Local, cell) => cell as usize * 16,
+        Word::Of(Field::Shared, cell) => cell as usize * 16 + 8,
+        Word::Of(Field::Mutex, cell) => cell as usize * 16 + 9,
         Word::Queue(thread, k) => queues_from(cells) + k as usize * 65 + thread as usize,
         Word::NotifyWord(thread) => notify_from(cells) + thread as usize * 8,
     }

@@ -9,7 +9,7 @@ ghost use Rattle.brc_rule.specs.Logs.{opening_contents};
 ghost use Rattle.brc_table.specs.Opening.{opening_owner, opening_count, opening_word, opening_words, slot_shows, opening_slot, opening_slots};
 ghost use Rattle.brc_table.specs.Shown.{contents_of};
 
-use crate::layout::{counts_from, extent, queues_from};
+use crate::layout::{extent, owners_from};
 use brc_block::{Block, Pairs, Payload};
 use brc_words::{
     FEWEST_CELLS, FIRST_MORTAL, Fault, GLOBALS, IMMORTAL_LOCAL, MOST_CELLS, MOST_LOCAL,
@@ -56,13 +56,10 @@ fn opening_word(cells: u32, at: usize) -> u64
     requires { cells ≤ MOST_CELLS }
     ensures { result ≡ opening_word cells at }
 {
-    if at < cells as usize {
-        opening_owner(at)
-    } else if at < counts_from(cells) {
-        0
-    } else if at < queues_from(cells) {
-        let at = at - counts_from(cells);
+    if at < owners_from(cells) {
         opening_count(at / 16, at % 16)
+    } else if at < owners_from(cells) + cells as usize {
+        opening_owner(at - owners_from(cells))
     } else {
         0
     }

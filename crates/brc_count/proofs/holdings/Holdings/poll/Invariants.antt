@@ -4,6 +4,6 @@ use Rattle.brc_count.specs.Frames.{KeepsHandles, popped_seen}
 use Rattle.brc_count.specs.Polling.{DrainsNamed}
 use Rattle.brc_count.proofs.holdings.Holdings.poll.Given as goal
 
-abbrev pub invariant-loop-word : goal.invariant-loop-word
-invariant-loop-word g l = DrainsNamed l.named l.initial.self l.word l.self × KeepsHandles l.initial.self l.self
+abbrev pub invariant-loop-bit : goal.invariant-loop-bit
+invariant-loop-bit g l = DrainsNamed l.named l.words l.initial.self l.bit l.self × KeepsHandles l.initial.self l.self
     × ((k : ℕ) → word_at (popped_seen l.self) k ≡ 0)
