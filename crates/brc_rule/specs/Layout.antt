@@ -3,8 +3,9 @@
 -- The counts come first, so that a cell's are found by its number alone. Those of neighbouring cells, which belong to
 -- different threads, share no cache line: a local word has a line of 64 bytes of its own, and the shared word and the mutex
 -- have the next. All owner words lie side by side: a search for a free cell reads them one after the other, and they are
--- read far more often than written.
-use Rattle.std.specs.Prelude.{ℕ, ◌+◌, ◌*◌, ◌/◌}
+-- read far more often than written. So do the 32 queue words of a thread that one bit of its notify word names: a poll drains
+-- them in a row, and they share no line with another thread's, but at their ends.
+use Rattle.std.specs.Prelude.{ℕ, ◌+◌, ◌*◌, ◌/◌, ◌%◌}
 use Rattle.brc_words.specs.declared.limits.TheConstants.{MOST_THREADS}
 use Rattle.brc_runs.specs.Heap.{words_for}
 use Rattle.brc_known.specs.declared.word.Field.TheVariants.{Owner, Local, Shared, Mutex}
@@ -19,16 +20,20 @@ owners_from n = n * 16
 abbrev pub queues_from : ℕ → ℕ
 queues_from n = owners_from n + (n + 7) / 8 * 8
 
--- the first word after the queue words: word k of all threads side by side
+-- how many rows of 32 queue words a thread has
+abbrev pub rows_for : ℕ → ℕ
+rows_for n = (words_for n + 31) / 32
+
+-- the first word after the queue words: row 0 of all threads, then row 1 of all
 abbrev pub notify_from : ℕ → ℕ
-notify_from n = queues_from n + words_for n * (MOST_THREADS + 1)
+notify_from n = queues_from n + rows_for n * (MOST_THREADS + 1) * 32
 
 abbrev pub spot : ℕ → Word → ℕ
 spot n (Of Owner c) = owners_from n + c
 spot n (Of Local c) = c * 16
 spot n (Of Shared c) = c * 16 + 8
 spot n (Of Mutex c) = c * 16 + 9
-spot n (Queue t k) = queues_from n + k * (MOST_THREADS + 1) + t
+spot n (Queue t k) = queues_from n + (k / 32 * (MOST_THREADS + 1) + t) * 32 + k % 32
 spot n (NotifyWord t) = notify_from n + t * 8
 
 -- how many words the table has

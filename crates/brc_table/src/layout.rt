@@ -30,7 +30,7 @@ fn notify_from(cells: u32) -> usize
     requires { cells ≤ MOST_CELLS }
     ensures { result ≡ notify_begin cells }
 {
-    queues_from(cells) + words_for(cells as usize) * 65
+    queues_from(cells) + words_for(cells as usize).div_ceil(32) * 65 * 32
 }
 
 /// How many words the table has.
@@ -52,7 +52,10 @@ pub(crate) fn spot_of(cells: u32, word: Word) -> usize
         Word::Of(Field::Local, cell) => cell as usize * 16,
         Word::Of(Field::Shared, cell) => cell as usize * 16 + 8,
         Word::Of(Field::Mutex, cell) => cell as usize * 16 + 9,
-        Word::Queue(thread, k) => queues_from(cells) + k as usize * 65 + thread as usize,
+        Word::Queue(thread, k) => {
+            let (thread, k) = (thread as usize, k as usize);
+            queues_from(cells) + (k / 32 * 65 + thread) * 32 + k % 32
+        }
         Word::NotifyWord(thread) => notify_from(cells) + thread as usize * 8,
     }
 }
