@@ -1,2 +1,3 @@
 mod Settled
 mod Ending
+mod Handed

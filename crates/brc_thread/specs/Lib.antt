@@ -2,3 +2,4 @@ pub mod Threads
 pub mod Settling
 pub mod Lending
 pub mod Ending
+pub mod Handed

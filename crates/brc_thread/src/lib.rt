@@ -7,6 +7,7 @@
 
 mod ends;
 mod heap;
+mod laws;
 mod leaving;
 mod mutator;
 mod resting;
@@ -15,6 +16,7 @@ mod settling;
 
 pub use ends::take_apart;
 pub use heap::{Heap, Options};
+pub use laws::handles_keep_their_objects;
 pub use leaving::{Leaving, Retired};
 pub use mutator::Mutator;
 pub use resting::Resting;
