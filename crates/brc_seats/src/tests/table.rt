@@ -83,7 +83,7 @@ fn sizes_of_no_heap_are_refused(rt: HostRuntime) {
 fn refused_growths_open_no_table(rt: HostRuntime) -> Result<(), Fault> {
     let mut refused = 0u32;
     let mut opened = 0u32;
-    for size in 1_200..3_400usize {
+    for size in 1_300..3_800usize {
         let heap = LocalHeap::new(rt.alloc(), size * 64)?;
         match HeapTable::new(&heap, 512, 10) {
             Err(fault) => {
