@@ -1,8 +1,7 @@
 -- A held cell is no step's to free or to bear.
-use Rattle.std.proofs.Common.{◌≡◌, ℕ, ◌≤◌, ◌∷◌, true, Some, ap, subst, ◌∙◌}
-use Rattle.brc_words.specs.declared.kind.Kind.{Kind}
+use Rattle.std.proofs.Common.{ℕ, ◌≤◌, ap, subst, ◌∙◌}
 use Rattle.brc_runs.specs.declared.event.Event.{Event}
-use Rattle.brc_runs.specs.Heap.{Heap, opening, frame_at}
+use Rattle.brc_runs.specs.Heap.{Heap, opening}
 use Rattle.brc_runs.specs.Lists.{place_at}
 use Rattle.brc_runs.specs.Runs.{IsReached}
 use Rattle.brc_runs.specs.Sound.{held}
@@ -13,7 +12,7 @@ use Rattle.brc_known.proofs.Items_Runs.{events_run}
 use Rattle.brc_known.proofs.Items_Law.{parts_are_told}
 use Rattle.brc_rule.specs.declared.told.Told.{Told}
 use Rattle.brc_rule.specs.declared.told.Told.TheVariants.{Did, Saw, Lost}
-use Rattle.brc_rule.specs.Logs.{Run, items_of, own_of, world, IsLegal}
+use Rattle.brc_rule.specs.Logs.{Run, items_of, own_of, world}
 use Rattle.brc_rule.specs.Seen.{part_seen}
 use Rattle.brc_rule.proofs.Own_Logs.{own_items}
 use Rattle.brc_thread.specs.Handed.{IsHeld, Next, Spares}
