@@ -199,6 +199,18 @@ by_whom h e ok =
       })
     ]
 
+-- no event of the root's is a birth or a free
+pub root_idle : (h : Heap) (e : Event) → enabled h e ≡ true
+    → ((e.thread == 0) && is_birth e.step ≡ false) × ((e.thread == 0) && is_free_step e.step ≡ false)
+root_idle h e ok =
+    elim (cases_Bool (e.thread == 0)) [
+      | inl root ↦
+          let may : root_may h e.step ≡ true = subst (λ b. (if b then root_may h e.step else thread_may h e.thread e.step) ≡ true) root ok in
+          let plain = or_parts _ _ (root_step h e.step may) in
+          (and_right (e.thread == 0) (is_birth e.step) plain.0, and_right (e.thread == 0) (is_free_step e.step) plain.1)
+      | inr thread ↦ (ap (λ b. b && is_birth e.step) thread, ap (λ b. b && is_free_step e.step) thread)
+    ]
+
 pub event_turns : (h : Heap) (e : Event) → IsSound h → enabled h e ≡ true → Turns h e
 event_turns h e sound ok =
     elim (by_whom h e ok) [

@@ -12,7 +12,7 @@ use Rattle.brc_runs.specs.Lists.{one}
 use Rattle.brc_runs.specs.Heap.{Heap, opening, cell_at, row_at, no_row, AreOptions}
 use Rattle.brc_runs.specs.Steps.{enabled, after, after_target, root_after, root_may, thread_may, target_at}
 use Rattle.brc_runs.specs.Runs.{IsRun, IsReached, world_after}
-use Rattle.brc_runs.specs.Holding.{Headline, Histories, lives, lives_at, lives_since, is_birth}
+use Rattle.brc_runs.specs.Holding.{Headline, Histories, lives, lives_at, lives_since, is_birth, births_by, frees_by}
 use Rattle.brc_runs.specs.Steps.{is_free_step}
 use Rattle.brc_runs.specs.Sound.{IsSound}
 use Rattle.brc_runs.proofs.Beginning.{opening_sound, free_cell}
@@ -20,7 +20,7 @@ use Rattle.brc_runs.proofs.Registering.{registered_sound}
 use Rattle.brc_runs.proofs.Resting.{gathered_sound}
 use Rattle.brc_runs.proofs.Preserving.{step_sound}
 use Rattle.brc_runs.proofs.Headlines.{sound_headline, allocs_fit, frees_fit}
-use Rattle.brc_runs.proofs.Lifetimes.{Turns, event_turns, event_dies}
+use Rattle.brc_runs.proofs.Lifetimes.{Turns, root_idle, event_turns, event_dies}
 
 -- ---- every reached world is sound
 
@@ -90,6 +90,16 @@ run_histories cells limit (e ∷ run) options is_run =
     one_is : (b : Bool) → one b ≡ (if b then 1 else 0)
     one_is true = refl
     one_is false = refl
+
+-- the root bears and frees nothing
+pub root_counts_nothing : (start : Heap) (run : List Event) → IsRun start run → (births_by 0 run ≡ 0) × (frees_by 0 run ≡ 0)
+root_counts_nothing start [] is_run = (refl, refl)
+root_counts_nothing start (e ∷ run) is_run =
+    let before = root_counts_nothing start run is_run.0 in
+    let idle = root_idle (world_after start run) e is_run.1 in (
+      omega (arith, before.0, sum_by-cons (λ (x : Event). if (x.thread == 0) && is_birth x.step then 1 else 0) e run, ap {B = ℕ} (λ b. if b then 1 else 0) idle.0),
+      omega (arith, before.1, sum_by-cons (λ (x : Event). if (x.thread == 0) && is_free_step x.step then 1 else 0) e run, ap {B = ℕ} (λ b. if b then 1 else 0) idle.1),
+    )
 
 -- one more birth and one more free can be counted
 pub reached_allocs : (h : Heap) → IsReached h → (t : ℕ) → (row_at h t).allocs + 1 < 2 ^ 64

@@ -5,17 +5,24 @@ use Rattle.brc_known.specs.Items.{events_of}
 use Rattle.brc_rule.specs.declared.view.View.{View}
 use Rattle.brc_rule.specs.Logs.{items_of, own_of, world}
 use Rattle.brc_rule.specs.Rule.{log_in}
-use Rattle.brc_runs.specs.Heap.{is_gathered}
+use Rattle.brc_runs.specs.Heap.{Heap, opening, row_at, is_registered, is_gathered}
 use Rattle.brc_runs.specs.Holding.{Headline, Histories}
 use Rattle.brc_runs.specs.Runs.{IsReached}
-use Rattle.brc_runs.specs.Heap.{opening}
 use Rattle.brc_table.specs.Rest.{Remains}
+use Rattle.brc_count.specs.declared.ledger.Ledger.{Ledger}
+use Rattle.brc_thread.specs.Threads.{ledger_of}
+
+-- the births and frees that a world counts for a thread
+abbrev pub ledger_at : Heap → ℕ → Ledger
+ledger_at h t = record { allocs = (row_at h t).allocs; frees = (row_at h t).frees }
 
 module _ {A : Type 0} where
   -- What is left are the slots of a last state that keeps the rule: it is the world of one run of all threads' steps. In that
   -- world counts are references, an object without references is in some thread's hand, and births less frees are the live
   -- objects; each object that died had no holder, and died once for its birth. Of that run the root's own steps are its log,
-  -- and those of each thread that was gathered are the log that the root took in.
+  -- and those of each thread that was gathered are the log that the root took in. What that world counts for a registered
+  -- thread, as the headline sums it up, is the ledger of all that the thread did, which `Retired` answers; for the root it
+  -- counts nothing.
   pub record Ends (n limit id : ℕ) (root : View) (slots : List (Option (ℕ × Payload A))) : Type 0 where
     pub remains : Remains n limit id root slots
     pub reached : IsReached (world n limit remains.kept.run)
@@ -24,3 +31,6 @@ module _ {A : Type 0} where
     pub root_did : own_of 0 remains.kept.run ≡ root.log
     pub gathered_did : (t : ℕ) → 0 < t → is_gathered (world n limit remains.kept.run) t ≡ true
         → log_in root.gathered t ≡ Some (own_of t remains.kept.run)
+    pub root_counts : ledger_at (world n limit remains.kept.run) 0 ≡ record { allocs = 0; frees = 0 }
+    pub ledgers : (t : ℕ) → is_registered (world n limit remains.kept.run) t ≡ true
+        → ledger_at (world n limit remains.kept.run) t ≡ ledger_of n (own_of t remains.kept.run)
