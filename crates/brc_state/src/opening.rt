@@ -1,6 +1,6 @@
 //! The opening world: the immortals, all other cells free, and no thread but the root.
 
-ghost use Rattle.std.specs.Prelude.{◌≡◌, ◌↔◌, [], replicate, IfOk, IsTrue};
+ghost use Rattle.std.specs.Prelude.{◌≡◌, ◌↔◌, [], ◌∷◌, replicate, IfOk, IsTrue};
 ghost use Rattle.brc_runs.specs.Heap.{AreOptions, opening_cells, opening};
 
 use crate::entries::Entries;
@@ -44,6 +44,15 @@ fn opening_entries<A: Allocator + Copy>(
     Ok(made)
 }
 
+/// The list of the root's one item.
+fn only<T: Drop, A: Allocator>(alloc: A, item: T) -> Result<Vec<T, A>, AllocError>
+    ensures { IfOk result (λ made. made.items ≡ item ∷ []) }
+{
+    let mut made = Vec::new(alloc);
+    made.push(item)?;
+    Ok(made)
+}
+
 impl<A: Allocator + Copy> Tables<A> {
     /// The tables as the heap opens.
     pub fn opening(alloc: A, cells: u32, local_limit: u32) -> Result<Self, AllocError>
@@ -51,20 +60,13 @@ impl<A: Allocator + Copy> Tables<A> {
     {
         let cells_made = opening_cells(alloc, cells)?;
         let entries = opening_entries(alloc, cells)?;
-        let mut rows = Vec::new(alloc);
-        rows.push(no_row())?;
-        let mut frames = Vec::new(alloc);
-        frames.push(Frame::new(alloc))?;
-        let mut popped = Vec::new(alloc);
-        popped.push(Words::zeros(alloc, 0)?)?;
-        let mut worklists = Vec::new(alloc);
-        worklists.push(Marks::unset(alloc, 0)?)?;
-        let mut queues = Vec::new(alloc);
-        queues.push(Words::zeros(alloc, 0)?)?;
-        let mut notify_words = Vec::new(alloc);
-        notify_words.push(0)?;
-        let mut gathered = Vec::new(alloc);
-        gathered.push(false)?;
+        let rows = only(alloc, no_row())?;
+        let frames = only(alloc, Frame::new(alloc))?;
+        let popped = only(alloc, Words::zeros(alloc, 0)?)?;
+        let worklists = only(alloc, Marks::unset(alloc, 0)?)?;
+        let queues = only(alloc, Words::zeros(alloc, 0)?)?;
+        let notify_words = only(alloc, 0)?;
+        let gathered = only(alloc, false)?;
         Ok(Tables {
             alloc,
             local_limit,

@@ -28,12 +28,8 @@ impl<A: Allocator + Copy> Tables<A> {
         ensures ok { OnOk result (self.new ≡ registered self.old) }
         ensures err { OnErr result (self.new ≡ self.old) }
     {
-        let cells = self.cells.len();
-        let popped = Words::zeros(self.alloc, words_for(cells))?;
-        let queue = Words::zeros(self.alloc, words_for(cells))?;
-        let worklist = Marks::unset(self.alloc, cells)?;
         // All growth comes before the first item, so that after a refusal no list is longer than
-        // another.
+        // another; and before the thread's own lists, so that few refusals have something to give back.
         self.rows.reserve(1)?;
         self.frames.reserve(1)?;
         self.popped.reserve(1)?;
@@ -41,6 +37,10 @@ impl<A: Allocator + Copy> Tables<A> {
         self.queues.reserve(1)?;
         self.notify_words.reserve(1)?;
         self.gathered.reserve(1)?;
+        let cells = self.cells.len();
+        let popped = Words::zeros(self.alloc, words_for(cells))?;
+        let queue = Words::zeros(self.alloc, words_for(cells))?;
+        let worklist = Marks::unset(self.alloc, cells)?;
         put_last(&mut self.rows, new_row());
         put_last(&mut self.frames, Frame::new(self.alloc));
         put_last(&mut self.popped, popped);
