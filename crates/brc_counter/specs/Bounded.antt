@@ -17,7 +17,7 @@ losses_in (Did s number moved ∷ log) = losses_in log
 losses_in (Saw word number ∷ log) = losses_in log
 losses_in (Lost word number ∷ log) = suc (losses_in log)
 
--- at most five events more, and one lost exchange
+-- at most five events more, and one lost exchange that the log has
 pub record IsBounded (before log : List Told) : Type 0 where
   pub steps : steps_in log ≤ steps_in before + 5
   pub losses : losses_in log ≤ losses_in before + 1

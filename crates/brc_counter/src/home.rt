@@ -6,7 +6,8 @@ ghost use Rattle.brc_table.specs.Seated.{TableSeen};
 use brc_table::HeapTable;
 use std::alloc::Allocator;
 
-/// What leads to the table of a heap.
+/// What leads to the table of a heap. Counting waits for nobody only as far as `table` doesn't: a reference is there at once,
+/// and another `Home` has to say so of itself.
 pub trait Home<A: Allocator> {
     ghost seen: { Self → TableSeen };
 
