@@ -41,7 +41,7 @@ module _ {A : Type 0} {c : ℕ} {block : Option (ℕ × Payload A)} {log : List 
     shared_within (SharedRisen word risen e) = let w = ends_within e in record { steps_are = omega (arith, w.steps_are); losses_are = omega (arith, w.losses_are) }
     shared_within (SharedCounted word default none told) = record { steps_are = omega (arith, ap steps_in told); losses_are = omega (arith, ap losses_in told) }
     shared_within (SharedNoCount word default low e) = let w = asks_within e in record { steps_are = omega (arith, w.steps_are); losses_are = omega (arith, w.losses_are) }
-    shared_within (SharedMoved word found default some e) = let w = asks_within e in record { steps_are = omega (arith, w.steps_are); losses_are = omega (arith, w.losses_are) }
+    shared_within (SharedMoved word found default some moved e) = let w = asks_within e in record { steps_are = omega (arith, w.steps_are); losses_are = omega (arith, w.losses_are) }
 
     own_within : {n : ℕ} {before : List Told} → GoesOwn n drop c block before log → Within 4 0 before log
     own_within (OwnCounted more none told) = record { steps_are = omega (arith, ap steps_in told); losses_are = omega (arith, ap losses_in told) }

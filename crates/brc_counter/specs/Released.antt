@@ -78,7 +78,7 @@ module _ {A : Type 0} where
         → log ≡ Did (SharedDown drop) word Nothing ∷ Saw (Of Shared c) word ∷ before → GoesShared drop c block before log
     SharedNoCount : (word : ℕ) → word % 4 ≡ 0 → word < NO_COUNT + 4 → Asks drop c block (Saw (Of Shared c) word ∷ before) log
         → GoesShared drop c block before log
-    SharedMoved : (word found : ℕ) → word % 4 ≡ 0 → NO_COUNT + 4 ≤ word
+    SharedMoved : (word found : ℕ) → word % 4 ≡ 0 → NO_COUNT + 4 ≤ word → found ≢ word
         → Asks drop c block (Lost (Of Shared c) found ∷ Saw (Of Shared c) word ∷ before) log → GoesShared drop c block before log
 
   -- a reference to an own object: its count goes down, and at 0 the object may end

@@ -12,9 +12,10 @@ use Rattle.brc_rule.specs.declared.contents.Contents.{Contents}
 use Rattle.brc_rule.specs.declared.told.Told.{Told}
 use Rattle.brc_rule.specs.declared.view.View.{View}
 use Rattle.brc_rule.specs.Layout.{spot, extent}
-use Rattle.brc_rule.specs.Logs.{item_of, Run, world, IsMoved}
+use Rattle.brc_rule.specs.Logs.{item_of, Run, gathered_by, lives_on, lives_of, world, IsMoved}
 use Rattle.brc_rule.specs.Homes.{Homes, HomeShown}
 use Rattle.brc_rule.specs.Rule.{stands, with_told, Fits, Seated, Kept}
+use Rattle.brc_rule.proofs.Once.{once_calm}
 use Rattle.brc_rule.proofs.Own_Logs.{own_more, own_same, stands_ungathered, SameThreads, same_stands, same_gathered}
 
 pub at_inside : {A : Type 0} (l : List A) (i : ℕ) (a : A) → get_elem? l i ≡ some a → i < length l
@@ -26,6 +27,10 @@ at_inside (x ∷ xs) (suc i) a at = omega (arith, at_inside xs i a at)
 pub record IsCalm (h new : Heap) (x : Told) : Type 0 where
   pub threads : SameThreads h new
   pub starts : (u : ℕ) → is_start u (item_of x) ≡ false
+  pub gathers : gathered_by x ≡ None
+
+same_lives : (t : ℕ) (x : Told) (run : Run) → gathered_by x ≡ None → lives_of ((t, x) ∷ run) ≡ lives_of run
+same_lives t x run none = ap (λ o. lives_on o run (lives_of run)) none
 
 module _ {B : Type 0} (shows : B → ℕ × Contents) (n limit : ℕ) where
   abbrev pub Table : Type 0
@@ -50,6 +55,7 @@ module _ {B : Type 0} (shows : B → ℕ × Contents) (n limit : ℕ) where
     log = own_same t u.thread x run (calm.starts u.thread) (λ e. apart (ap seat e ∙ fits.here)) ∙ fits.log;
     gathered = λ root w some_thread left. fits.gathered root w some_thread (sym (same_gathered (world n limit run) (world n limit ((t, x) ∷ run)) w calm.threads) ∙ left)
         ∙ ap Some (sym (own_same t w x run (calm.starts w) (λ e. gathered_else run seat t w x calm stood some_thread left e)));
+    lives = λ root. fits.lives root ∙ sym (same_lives t x run calm.gathers);
   }
     where
       gathered_else : (run : Run) (seat : ℕ → ℕ) (t w : ℕ) (x : Told) → IsCalm (world n limit run) (world n limit ((t, x) ∷ run)) x → stands (world n limit run) t ≡ true
@@ -80,6 +86,7 @@ module _ {B : Type 0} (shows : B → ℕ × Contents) (n limit : ℕ) where
             (λ (e : (j ≢ id) × (get_elem? s.views j ≡ some u)). other_fits r.run r.seat t j u x calm mine.there (λ same. e.0 (sym same ∙ mine.here)) (r.each_seat j u e.1 live))
             (at_set s.views id j (with_told x v) u there);
         each_thread = λ u there. seated_still r.seat s.views id v x u at active (r.each_thread u (sym (same_stands old new u calm.threads) ∙ there));
+        each_once = λ u some. once_calm old new r.run t u x (calm.starts u) calm.gathers mine.there (same_stands old new u calm.threads) (r.each_once u some);
       }
     where
       own_fits : (run : Run) (seat : ℕ → ℕ) (j : ℕ) (v : View) (x : Told) → IsCalm (world n limit run) (world n limit ((v.thread, x) ∷ run)) x
@@ -90,6 +97,7 @@ module _ {B : Type 0} (shows : B → ℕ × Contents) (n limit : ℕ) where
         log = own_more v.thread x run (calm.starts v.thread) ∙ ap (λ log. x ∷ log) fits.log;
         gathered = λ root w some_thread left. fits.gathered root w some_thread (sym (same_gathered (world n limit run) (world n limit ((v.thread, x) ∷ run)) w calm.threads) ∙ left)
             ∙ ap Some (sym (own_same v.thread w x run (calm.starts w) (λ e. omega (arith, root, e, some_thread))));
+        lives = λ root. fits.lives root ∙ sym (same_lives v.thread x run calm.gathers);
       }
 
       seated_still : (seat : ℕ → ℕ) (views : List View) (id : ℕ) (v : View) (x : Told) (u : ℕ) → get_elem? views id ≡ some v → v.active ≡ true

@@ -11,3 +11,4 @@ pub mod Opening_Law
 pub mod Since
 pub mod Noting
 pub mod Small_Looks
+pub mod Once

@@ -31,10 +31,10 @@ module _ {B : Type 0} (shows : B → ℕ × Contents) (n limit : ℕ) where
   noted : (s : Table) (r : Rule s) (id : ℕ) (v : View) (w : Word) (x : Told) → get_elem? s.views id ≡ some v → v.active ≡ true → IsWord n w
       → Looks w (get_or s.words (spot n w) 0) x → Rule (record { words = s.words; homes = s.homes; views = set s.views id (with_told x v) })
   noted s r id v w _ at active is saw = grows shows n limit s r id v (Saw w (get_or s.words (spot n w) 0)) s.words s.homes at active
-      (record { threads = record { rows = refl; gathered = refl }; starts = λ u. refl }) (r.each_word w is) tt
+      (record { threads = record { rows = refl; gathered = refl }; starts = λ u. refl; gathers = refl }) (r.each_word w is) tt
       (record { wide = r.wide; deep = r.deep; each_word = r.each_word; each_home = λ c low. home_stays shows s.homes (world n limit r.run) (world n limit r.run) r.run _ c (unchanged (world n limit r.run) c) refl (r.each_home c low) })
   noted s r id v w _ at active is lost = grows shows n limit s r id v (Lost w (get_or s.words (spot n w) 0)) s.words s.homes at active
-      (record { threads = record { rows = refl; gathered = refl }; starts = λ u. refl }) (r.each_word w is) tt
+      (record { threads = record { rows = refl; gathered = refl }; starts = λ u. refl; gathers = refl }) (r.each_word w is) tt
       (record { wide = r.wide; deep = r.deep; each_word = r.each_word; each_home = λ c low. home_stays shows s.homes (world n limit r.run) (world n limit r.run) r.run _ c (unchanged (world n limit r.run) c) refl (r.each_home c low) })
 
   -- the word is written with what it had

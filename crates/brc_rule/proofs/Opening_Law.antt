@@ -1,5 +1,5 @@
 -- A table that opens with the opening world's words and the immortals' blocks keeps the rule: the run is empty.
-use Rattle.std.proofs.Common.{◌≡◌, ℕ, zero, suc, ◌<◌, ◌==◌, nat_lt, not, true, false, List, [], ◌∷◌, map, Option, refl, sym, ◌∙◌, ap, subst, inl, inr, arith}
+use Rattle.std.proofs.Common.{◌≡◌, ℕ, zero, suc, ◌<◌, ◌==◌, nat_lt, not, Bool, if◌then◌else◌, ◌++◌, true, false, List, [], ◌∷◌, map, Option, refl, sym, ◌∙◌, ap, subst, inl, inr, arith}
 use Rattle.std.proofs.lemmas.Bool.{cases_lt, eqb-true, ltb-true, and_parts, or_cases, true≢false}
 use mathlib.Core.Option.{some, some-injective, some-ne-none}
 use lib.ListN.{get_elem?, length-map}
@@ -12,6 +12,7 @@ use Rattle.brc_runs.specs.Heap.{opening, cell_at, is_gathered, is_registered, Ar
 use Rattle.brc_runs.specs.Holding.{lives}
 use Rattle.brc_runs.proofs.Beginning.{free_cell, immortal_cell}
 use Rattle.brc_rule.specs.declared.contents.Contents.{Contents}
+use Rattle.brc_rule.specs.declared.told.Told.{Told}
 use Rattle.brc_rule.specs.declared.view.View.{View}
 use Rattle.brc_rule.specs.Homes.{HomeShown}
 use Rattle.brc_rule.specs.Rule.{stands, Fits, Kept}
@@ -29,6 +30,10 @@ root_stands n limit t stood = elim (or_cases (t == 0) _ stood) [
       let number : (nat_lt 0 t ≡ true) × (nat_lt t 1 ≡ true) = and_parts (nat_lt 0 t) (nat_lt t 1) (and_parts (is_registered (opening n limit) t) (not (is_gathered (opening n limit) t)) thread).0 in
       absurd (omega (arith, ltb-true 0 t number.0, ltb-true t 1 number.1))
 ]
+
+none_logged : (b : Bool) → ◌≡◌ {A = List Told} [] ((if b then [] else []) ++ [])
+none_logged true = refl
+none_logged false = refl
 
 module _ {B : Type 0} (shows : B → ℕ × Contents) (n limit : ℕ) where
   opening_home : (words : List ℕ) (slots : List (Option B)) (c : ℕ) → AreOptions n limit → Opens shows n limit words slots → c < n → HomeShown shows (map some slots) (opening n limit) [] c
@@ -55,8 +60,9 @@ module _ {B : Type 0} (shows : B → ℕ × Contents) (n limit : ℕ) where
     each_word = given.each_word;
     each_home = λ c low. opening_home words slots c options given low;
     each_seat = λ j v there live. subst (λ (z : ℕ × View). Fits (opening n limit) [] (λ t. 0) z.0 z.1) (λ i. (sym (only_root j v there).0 i, (only_root j v there).1 i))
-        (record { here = refl; there = refl; log = refl; gathered = λ root u low out. absurd (true≢false (sym out ∙ none_gathered n limit u)) });
+        (record { here = refl; there = refl; log = refl; gathered = λ root u low out. absurd (true≢false (sym out ∙ none_gathered n limit u)); lives = λ root. refl });
     each_thread = λ t stood. record { view = first_view; there = refl; active = refl; thread = sym (root_stands n limit t stood) };
+    each_once = λ t some. none_logged (stands (opening n limit) t);
   }
     where
       only_root : (j : ℕ) (v : View) → get_elem? (first_view ∷ []) j ≡ some v → (j ≡ 0) × (first_view ≡ v)

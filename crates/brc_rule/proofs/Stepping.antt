@@ -23,7 +23,7 @@ use Rattle.brc_rule.specs.declared.told.Told.{Told}
 use Rattle.brc_rule.specs.declared.told.Told.TheVariants.{Did}
 use Rattle.brc_rule.specs.declared.view.View.{View}
 use Rattle.brc_rule.specs.Layout.{spot}
-use Rattle.brc_rule.specs.Logs.{item_of, entries_found, Run, items_of, world, MovesWith}
+use Rattle.brc_rule.specs.Logs.{item_of, gathered_by, entries_found, Run, items_of, world, MovesWith}
 use Rattle.brc_rule.specs.Homes.{Homes, HomeShown}
 use Rattle.brc_rule.specs.Rule.{with_told, Kept}
 use Rattle.brc_rule.proofs.Spots.{inside, apart}
@@ -49,6 +49,10 @@ pub no_start : (h : Heap) (t : ℕ) (s : Step) (number : ℕ) (moved : Moved) �
 no_start h t (Register w) number moved may u = absurd (true≢false (sym may.hand))
 no_start h t (Gather w) number moved may u = absurd (true≢false (sym may.hand))
 no_start h t _ number moved may u = refl
+
+no_gather : (h : Heap) (t : ℕ) (s : Step) (number : ℕ) (moved : Moved) → May h t s → gathered_by (Did s number moved) ≡ None
+no_gather h t (Gather w) number moved may = absurd (true≢false (sym may.hand))
+no_gather h t _ number moved may = refl
 
 -- a thread's event, with what it was told, what it moved, and the word that it worked on
 pub record Does (n : ℕ) (h : Heap) (run : Run) (t : ℕ) (s : Step) (w : Word) (written number : ℕ) (moved : Moved) : Type 0 where
@@ -79,7 +83,7 @@ module _ {B : Type 0} (shows : B → ℕ × Contents) (n limit : ℕ) where
       let may : May h t s = may_parts h t s did.may in
       let is : world n limit ((t, x) ∷ r.run) ≡ moved_on h t s = thread_after h t s did.some_thread in
       grows shows n limit st r id v x (set st.words (spot n w) written) homes at active
-      (record { threads = subst (SameThreads h) (sym is) (same_threads h t s (target_at h t s)); starts = no_start h t s number moved may })
+      (record { threads = subst (SameThreads h) (sym is) (same_threads h t s (target_at h t s)); starts = no_start h t s number moved may; gathers = no_gather h t s number moved may })
       (thread_enabled h t s did.some_thread did.may, did.told, did.entries) did.moves
       (record {
         wide = length-set st.words (spot n w) written ∙ r.wide;

@@ -1,10 +1,10 @@
 -- Items with the contents that go with them, and the runs that they make.
-use Rattle.std.specs.Prelude.{◌≡◌, ℕ, ◌==◌, Bool, true, false, if◌then◌else◌, pos, ◌-ℤ◌, List, [], ◌∷◌, map, Option, Some, None}
+use Rattle.std.specs.Prelude.{◌≡◌, ℕ, ◌==◌, Bool, true, false, if◌then◌else◌, pos, ◌-ℤ◌, List, [], ◌∷◌, ◌++◌, map, Option, Some, None}
 use Rattle.brc_words.specs.declared.limits.TheConstants.{GLOBALS}
 use Rattle.brc_words.specs.declared.kind.Kind.{Kind}
 use Rattle.brc_words.specs.declared.kind.Kind.TheVariants as kinds
 use Rattle.brc_runs.specs.declared.event.Step.{Step}
-use Rattle.brc_runs.specs.declared.event.Step.TheVariants.{Birth, Unlock}
+use Rattle.brc_runs.specs.declared.event.Step.TheVariants.{Birth, Unlock, Gather}
 use Rattle.brc_runs.specs.declared.event.Change.TheVariants as changes
 use Rattle.brc_runs.specs.Heap.{Heap, opening, cell_at, entries_at}
 use Rattle.brc_runs.specs.Steps.{after_target, target_at, locked_at}
@@ -65,6 +65,31 @@ items_of (x ∷ run) = (x.0, item_of x.1) ∷ items_of run
 abbrev pub own_of : ℕ → Run → List Told
 own_of t [] = []
 own_of t (x ∷ run) = if is_start t (item_of x.1) then [] else (if x.0 == t then x.1 ∷ own_of t run else own_of t run)
+
+-- whom an item gathers
+abbrev pub gathered_by : Told → Option ℕ
+gathered_by (Did (Gather u) number moved) = Some u
+gathered_by x = None
+
+abbrev pub lives_on : Option ℕ → Run → List (ℕ × List Told) → List (ℕ × List Told)
+lives_on None run lives = lives
+lives_on (Some u) run lives = (u, own_of u run) ∷ lives
+
+-- What each registration that has ended did, newest first: of each thread that was gathered its items since it was
+-- registered.
+abbrev pub lives_of : Run → List (ℕ × List Told)
+lives_of [] = []
+lives_of (x ∷ run) = lives_on (gathered_by x.1) run (lives_of run)
+
+-- all items of a thread's number
+abbrev pub all_of : ℕ → Run → List Told
+all_of t [] = []
+all_of t (x ∷ run) = if x.0 == t then x.1 ∷ all_of t run else all_of t run
+
+-- what its registrations did that have ended, newest first
+abbrev pub ended_in : ℕ → List (ℕ × List Told) → List Told
+ended_in t [] = []
+ended_in t (x ∷ lives) = if x.0 == t then x.1 ++ ended_in t lives else ended_in t lives
 
 -- the world that the run leads to
 abbrev pub world : ℕ → ℕ → Run → Heap

@@ -1,5 +1,5 @@
 -- The rule of the running table: what its words, its blocks at home and its seats' views show is the world of one run.
-use Rattle.std.specs.Prelude.{◌≡◌, ℕ, ◌==◌, ◌&&◌, ◌||◌, not, ◌<◌, Bool, true, if◌then◌else◌, List, [], ◌∷◌, length, slice_index, Option, Some, None}
+use Rattle.std.specs.Prelude.{◌≡◌, ℕ, ◌==◌, ◌&&◌, ◌||◌, not, ◌<◌, Bool, true, if◌then◌else◌, List, [], ◌∷◌, ◌++◌, length, slice_index, Option, Some, None}
 use mathlib.Core.Option.{some}
 use lib.ListN.{get_elem?}
 use Rattle.atomic_table.specs.Table.{State}
@@ -10,7 +10,7 @@ use Rattle.brc_rule.specs.declared.contents.Contents.{Contents}
 use Rattle.brc_rule.specs.declared.told.Told.{Told}
 use Rattle.brc_rule.specs.declared.view.View.{View}
 use Rattle.brc_rule.specs.Layout.{spot, extent}
-use Rattle.brc_rule.specs.Logs.{Run, own_of, world, IsLegal}
+use Rattle.brc_rule.specs.Logs.{Run, own_of, lives_of, all_of, ended_in, world, IsLegal}
 use Rattle.brc_rule.specs.Homes.{HomeShown}
 
 -- the root, and each thread that is registered and not gathered, has a seat
@@ -26,13 +26,19 @@ log_in (x ∷ logs) u = if x.0 == u then Some x.1 else log_in logs u
 abbrev pub with_told : Told → View → View
 with_told x v = record v { log = x ∷ v.log }
 
--- The view of a seat: its thread's only one, and its log is all that the thread did. The root's has the logs of the
--- threads that are gathered.
+-- The view of a seat: its thread's only one, and its log is all that the thread did. The root's has a log for
+-- each registration that has ended.
 pub record Fits (h : Heap) (run : Run) (seat : ℕ → ℕ) (j : ℕ) (v : View) : Type 0 where
   pub here : seat v.thread ≡ j
   pub there : stands h v.thread ≡ true
   pub log : own_of v.thread run ≡ v.log
   pub gathered : v.thread ≡ 0 → (u : ℕ) → 0 < u → is_gathered h u ≡ true → log_in v.gathered u ≡ Some (own_of u run)
+  pub lives : v.thread ≡ 0 → v.gathered ≡ lives_of run
+
+-- Each item of a thread stands in one log, once and in its order: in its seat's, where it has one, or before that in one of
+-- those of its registrations that have ended.
+abbrev pub StandsOnce : Heap → Run → ℕ → Type 0
+StandsOnce h run t = all_of t run ≡ (if stands h t then own_of t run else []) ++ ended_in t (lives_of run)
 
 -- the seat that a thread has
 pub record Seated (views : List View) (t j : ℕ) : Type 0 where
@@ -54,3 +60,4 @@ pub record Kept {B : Type 0} (shows : B → ℕ × Contents) (n limit : ℕ) (s 
   pub each_home : (c : ℕ) → c < n → HomeShown shows s.homes (world n limit run) run c
   pub each_seat : (j : ℕ) (v : View) → get_elem? s.views j ≡ some v → v.active ≡ true → Fits (world n limit run) run seat j v
   pub each_thread : (t : ℕ) → stands (world n limit run) t ≡ true → Seated s.views t (seat t)
+  pub each_once : (t : ℕ) → 0 < t → StandsOnce (world n limit run) run t

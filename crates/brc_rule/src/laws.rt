@@ -21,9 +21,9 @@ ghost use Rattle.brc_rule.specs.declared.told.Moved.TheVariants as moves;
 ghost use Rattle.brc_rule.specs.declared.told.Told.TheVariants as told;
 ghost use Rattle.brc_rule.specs.declared.view.View.{View as view};
 ghost use Rattle.brc_rule.specs.Layout.{spot, extent};
-ghost use Rattle.brc_rule.specs.Logs.{Run, world, own_of, contents_at, keeps, IsLegal};
+ghost use Rattle.brc_rule.specs.Logs.{Run, world, own_of, all_of, lives_of, contents_at, keeps, IsLegal};
 ghost use Rattle.brc_rule.specs.Homes.{AtRest, ContentsFit};
-ghost use Rattle.brc_rule.specs.Rule.{log_in, with_told, Kept};
+ghost use Rattle.brc_rule.specs.Rule.{log_in, with_told, StandsOnce, Kept};
 ghost use Rattle.brc_rule.specs.Seen.{part_seen, contents_locked, own_may};
 ghost use Rattle.brc_rule.specs.Opening.{first_view, Opens};
 
@@ -51,6 +51,21 @@ pub fn what_stands_here_is_one_run<B>()
     ensures own { (shows : B → ℕ × contents) (n limit : ℕ) (s : State (Option B) view)
         (r : Kept shows n limit s) (j : ℕ) (v : view) → get_elem? s.views j ≡ some v → v.active ≡ true
         → 0 < v.thread → IsPart (world n limit r.run) v.thread (part_seen n v.log) }
+{}
+
+/// Each item of that run stands in one log, once and in its order: each of the root's in its seat's, and each of a thread in
+/// its seat's, where it has one, or in one of those that the root keeps of registrations that have ended.
+pub fn each_item_stands_in_one_log<B>()
+    ensures seats { (shows : B → ℕ × contents) (n limit : ℕ) (s : State (Option B) view)
+        (r : Kept shows n limit s) (j : ℕ) (v : view) → get_elem? s.views j ≡ some v → v.active ≡ true
+        → own_of v.thread r.run ≡ v.log }
+    ensures ended { (shows : B → ℕ × contents) (n limit : ℕ) (s : State (Option B) view)
+        (r : Kept shows n limit s) (j : ℕ) (v : view) → get_elem? s.views j ≡ some v → v.active ≡ true
+        → v.thread ≡ 0 → v.gathered ≡ lives_of r.run }
+    ensures root { (shows : B → ℕ × contents) (n limit : ℕ) (s : State (Option B) view)
+        (r : Kept shows n limit s) → all_of 0 r.run ≡ own_of 0 r.run }
+    ensures once { (shows : B → ℕ × contents) (n limit : ℕ) (s : State (Option B) view)
+        (r : Kept shows n limit s) (t : ℕ) → 0 < t → StandsOnce (world n limit r.run) r.run t }
 {}
 
 /// A load of any word keeps the rule, and joins its seat's log as a note.

@@ -36,6 +36,7 @@ use Rattle.brc_rule.specs.Seen.{part_seen}
 use Rattle.brc_steps.specs.Joining.{next_thread, registering, starting, gathering, spent, Registers, Leaves}
 use Rattle.brc_rule.proofs.Own_Logs.{own_items, own_more, own_same, stands_registered, stands_ungathered}
 use Rattle.brc_rule.proofs.Growing.{at_inside}
+use Rattle.brc_rule.proofs.Once.{once_calm, once_started, once_gathered, once_else}
 use Rattle.brc_rule.proofs.Homing.{Stays, home_stays}
 use Rattle.brc_rule.proofs.Knowing.{Known, knows}
 use Rattle.brc_rule.proofs.Contents_Law.{marks_of_root}
@@ -129,6 +130,20 @@ shown_gathered h u (Of f c) m shown = shown
 shown_gathered h u (Queue t k) m shown = shown
 shown_gathered h u (NotifyWord t) m shown = shown
 
+-- a number that is to come doesn't stand, nor does a thread that is gathered
+not_yet : (h : Heap) (t : ℕ) → IsSound h → t ≡ length h.rows → stands h t ≡ false
+not_yet h t sound next =
+    ap (λ b. b || (is_registered h t && not (is_gathered h t))) (ne_eqb t 0 (λ e. omega (arith, e, next, sound.shaped.root)))
+    ∙ ap (λ b. (nat_lt 0 t && b) && not (is_gathered h t)) (le-ltb t (length h.rows) (omega (arith, next)))
+    ∙ ap (λ b. b && not (is_gathered h t)) (and_false (nat_lt 0 t))
+
+gone_now : (h : Heap) (u t : ℕ) → 0 < u → u < length h.rows → IsSound h → u ≡ t → stands (gathered_in h u) t ≡ false
+gone_now h u t positive low sound same =
+    ap (stands (gathered_in h u)) (sym same)
+    ∙ ap (λ b. b || (is_registered h u && not (is_gathered (gathered_in h u) u))) (ne_eqb u 0 (λ e. omega (arith, e, positive)))
+    ∙ ap (λ b. is_registered h u && not b) (read_here h.gathered u true false (omega (arith, low, sound.shaped.gathered)))
+    ∙ and_false (is_registered h u)
+
 module _ {B : Type 0} (shows : B → ℕ × Contents) (n limit : ℕ) where
   abbrev Table : Type 0
   Table = State (Option B) View
@@ -182,6 +197,10 @@ module _ {B : Type 0} (shows : B → ℕ × Contents) (n limit : ℕ) where
             (start_fits s r v u registers sound is some_thread refl))
             (at_push (set s.views id (registering v)) (starting v) w j there);
         each_thread = λ t there. seated s r id v t u at registers is some_thread sound refl there;
+        each_once = λ t positive. elim (cases_eq u t) [
+          | inl same ↦ once_started h (registered h) r.run t x positive (eq-eqb u t same) refl (not_yet h t sound (sym same ∙ is)) (r.each_once t positive)
+          | inr other ↦ once_calm h (registered h) r.run 0 t x (ne_eqb u t other) refl refl (stood_before h t sound (λ e. other (is ∙ sym e))) (r.each_once t positive)
+        ];
       }
     where
       start_fits : (s : Table) (r : Rule s) (v : View) (u : ℕ) → Registers v → IsSound (world n limit r.run) → u ≡ length (world n limit r.run).rows → 0 < u → u ≡ next_thread v
@@ -192,6 +211,7 @@ module _ {B : Type 0} (shows : B → ℕ × Contents) (n limit : ℕ) where
         log = ap (λ t. own_of t ((0, Did (Register u) 0 moves.Nothing) ∷ r.run)) (sym next)
             ∙ ap (λ b. if b then [] else (if 0 == u then Did (Register u) 0 moves.Nothing ∷ own_of u r.run else own_of u r.run)) (eq-eqb u u refl);
         gathered = λ root. absurd (omega (arith, root, sym next, some_thread));
+        lives = λ root. absurd (omega (arith, root, sym next, some_thread));
       }
 
       not_new : (r_rows u t : ℕ) (h : Heap) → u ≡ length h.rows → stands h t ≡ true → 0 < u → t ≢ u
@@ -211,6 +231,7 @@ module _ {B : Type 0} (shows : B → ℕ × Contents) (n limit : ℕ) where
             there = stood_before (world n limit r.run) w.thread sound (λ e. apart (e ∙ sym is)) ∙ fits.there;
             log = own_same 0 w.thread (Did (Register u) 0 moves.Nothing) r.run (ne_eqb u w.thread (λ e. apart (sym e))) not_root ∙ fits.log;
             gathered = λ root. absurd (not_root (sym root));
+            lives = λ root. absurd (not_root (sym root));
           }
 
       root_fits : (s : Table) (r : Rule s) (id : ℕ) (v : View) (u : ℕ) → Registers v → IsSound (world n limit r.run) → u ≡ length (world n limit r.run).rows → 0 < u
@@ -229,6 +250,7 @@ module _ {B : Type 0} (shows : B → ℕ × Contents) (n limit : ℕ) where
                 let before : w < length h.gathered = gathered_inside h w old in
                 fits.gathered root w low old ∙ ap Some (sym (own_same 0 w (Did (Register u) 0 moves.Nothing) r.run
                 (ne_eqb u w (λ e. omega (arith, e, is, before, sound.shaped.gathered))) (λ e. omega (arith, e, low))));
+            lives = λ root. fits.lives root;
           }
 
       seated : (s : Table) (r : Rule s) (id : ℕ) (v : View) (t u : ℕ) → get_elem? s.views id ≡ some v → Registers v → u ≡ length (world n limit r.run).rows → 0 < u → IsSound (world n limit r.run) → u ≡ next_thread v
@@ -303,6 +325,10 @@ module _ {B : Type 0} (shows : B → ℕ × Contents) (n limit : ℕ) where
             (at_set s.views id j (gathering v w) z e.1))
             (at_set (set s.views id (gathering v w)) other j spent z there);
         each_thread = λ t there. seated_joined s r id other v w t at at_other active root leaves.some_thread low sound his there;
+        each_once = λ t positive. elim (cases_eq u t) [
+          | inl same ↦ once_gathered h (gathered_in h u) r.run t x positive (ap Some same) (ap (stands h) (sym same) ∙ his.there) (gone_now h u t leaves.some_thread low sound same) (r.each_once t positive)
+          | inr apart ↦ once_else h (gathered_in h u) r.run t u x positive refl refl apart (same_stood h u t (λ e. apart (sym e))) (r.each_once t positive)
+        ];
       }
     where
       root_joined : (s : Table) (r : Rule s) (id other : ℕ) (v w : View) → v.thread ≡ 0 → 0 < w.thread → w.thread < length (world n limit r.run).rows → IsSound (world n limit r.run)
@@ -323,6 +349,7 @@ module _ {B : Type 0} (shows : B → ℕ × Contents) (n limit : ℕ) where
                   ∙ fits.gathered root q low_q (sym (read_there h.gathered u q true false (λ e. apart (sym e))) ∙ out)
                   ∙ ap Some (sym (own_same 0 q x r.run refl (λ e. omega (arith, e, low_q))))
             ];
+            lives = λ at_root. ap (λ (log : List Told). (u, log) ∷ v.gathered) (sym his.log) ∙ ap (λ (lives : List (ℕ × List Told)). (u, own_of u r.run) ∷ lives) (fits.lives root);
           }
 
       thread_joined : (s : Table) (r : Rule s) (id other j : ℕ) (z v w : View) → v.thread ≡ 0 → Fits (world n limit r.run) r.run r.seat id v → Fits (world n limit r.run) r.run r.seat other w → j ≢ id → j ≢ other
@@ -334,6 +361,7 @@ module _ {B : Type 0} (shows : B → ℕ × Contents) (n limit : ℕ) where
             there = same_stood (world n limit r.run) w.thread z.thread (λ e. not_his (sym thread.here ∙ ap r.seat e ∙ his.here)) ∙ thread.there;
             log = own_same 0 z.thread (Did (Gather w.thread) 0 moves.Nothing) r.run refl not_root ∙ thread.log;
             gathered = λ zero_is. absurd (not_root (sym zero_is));
+            lives = λ zero_is. absurd (not_root (sym zero_is));
           }
 
       gathered_now : (h : Heap) (u : ℕ) → 0 < u → u < length h.gathered → stands (gathered_in h u) u ≡ true → ⊥

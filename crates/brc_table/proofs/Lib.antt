@@ -3,3 +3,4 @@ pub mod Opened
 pub mod Remaining
 pub mod Bounding
 pub mod Giving
+pub mod Showing

@@ -5,3 +5,4 @@ pub mod Machine
 pub mod Moving
 pub mod Knowing
 pub mod Rest
+pub mod Moment

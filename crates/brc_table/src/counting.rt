@@ -149,6 +149,7 @@ impl<A: Allocator> HeapTable<A> {
         requires some_count { 2 ^ 42 + 4 ≤ old }
         ensures won { OnOk result (seat.new.log ≡ told.Did (steps.SharedDown drop) old moves.Nothing ∷ seat.old.log) }
         ensures lost { IfErr result (λ found. seat.new.log ≡ told.Lost (words.Of fields.Shared cell) found ∷ seat.old.log) }
+        ensures moved { IfErr result (λ found. found ≢ old) }
         ensures seat { Stays seat.old seat.new }
         ensures won_knows { OnOk result (Knows self.now.cells seat.new.log (giving_up (Some drop) (known_seen self.now.cells seat.old.log))) }
         ensures lost_knows { OnErr result (Knows self.now.cells seat.new.log (known_seen self.now.cells seat.old.log)) }

@@ -10,6 +10,7 @@
 mod counting;
 mod draining;
 mod ending;
+mod laws;
 mod layout;
 mod locking;
 mod looks;
@@ -25,6 +26,7 @@ mod rule;
 mod seats;
 mod table;
 
+pub use laws::at_any_moment_the_words_show_one_run;
 pub use moving::Found;
 pub use rest::Rest;
 pub use root::RootSeat;

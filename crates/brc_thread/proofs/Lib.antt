@@ -1,3 +1,4 @@
 mod Settled
 mod Ending
 mod Handed
+mod At_Home

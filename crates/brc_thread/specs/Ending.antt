@@ -1,15 +1,18 @@
 -- How a heap ends: what is left of it, and what is so of all that was done on it.
-use Rattle.std.specs.Prelude.{◌≡◌, ◌<◌, ℕ, true, List, Option, Some}
+use Rattle.std.specs.Prelude.{◌≡◌, ◌<◌, ℕ, true, List, length, Option, Some}
 use Rattle.brc_block.specs.declared.payload.Payload.{Payload}
 use Rattle.brc_known.specs.Items.{events_of}
+use Rattle.brc_known.specs.Root.{gathered_of}
 use Rattle.brc_rule.specs.declared.view.View.{View}
-use Rattle.brc_rule.specs.Logs.{items_of, own_of, world}
-use Rattle.brc_rule.specs.Rule.{log_in}
+use Rattle.brc_rule.specs.Logs.{items_of, log_items, own_of, all_of, lives_of, world}
+use Rattle.brc_rule.specs.Rule.{log_in, StandsOnce}
 use Rattle.brc_runs.specs.Heap.{Heap, opening, row_at, is_registered, is_gathered}
 use Rattle.brc_runs.specs.Holding.{Headline, Histories}
 use Rattle.brc_runs.specs.Runs.{IsReached}
+use Rattle.brc_steps.specs.Joining.{next_thread}
 use Rattle.brc_table.specs.Rest.{Remains}
 use Rattle.brc_count.specs.declared.ledger.Ledger.{Ledger}
+use Rattle.brc_thread.specs.Emptied.{AllGathered, AllAtHome}
 use Rattle.brc_thread.specs.Threads.{ledger_of}
 
 -- the births and frees that a world counts for a thread
@@ -20,9 +23,11 @@ module _ {A : Type 0} where
   -- What is left are the slots of a last state that keeps the rule: it is the world of one run of all threads' steps. In that
   -- world counts are references, an object without references is in some thread's hand, and births less frees are the live
   -- objects; each object that died had no holder, and died once for its birth. Of that run the root's own steps are its log,
-  -- and those of each thread that was gathered are the log that the root took in. What that world counts for a registered
+  -- and those of each thread that was gathered are the log that the root took in: it has one for each registration that ended, and
+  -- each item of a thread stands in one of them or in its seat's, once and in its order. What that world counts for a registered
   -- thread, as the headline sums it up, is the ledger of all that the thread did, which `Retired` answers; for the root it
-  -- counts nothing.
+  -- counts nothing. Which threads were registered and which are gathered is told by the root's log; where all are gathered, the
+  -- blocks that are left are those of all live objects and immortals, each with what was put home there last.
   pub record Ends (n limit id : ℕ) (root : View) (slots : List (Option (ℕ × Payload A))) : Type 0 where
     pub remains : Remains n limit id root slots
     pub reached : IsReached (world n limit remains.kept.run)
@@ -31,6 +36,12 @@ module _ {A : Type 0} where
     pub root_did : own_of 0 remains.kept.run ≡ root.log
     pub gathered_did : (t : ℕ) → 0 < t → is_gathered (world n limit remains.kept.run) t ≡ true
         → log_in root.gathered t ≡ Some (own_of t remains.kept.run)
+    pub root_once : all_of 0 remains.kept.run ≡ own_of 0 remains.kept.run
+    pub lives_did : root.gathered ≡ lives_of remains.kept.run
+    pub each_once : (t : ℕ) → 0 < t → StandsOnce (world n limit remains.kept.run) remains.kept.run t
     pub root_counts : ledger_at (world n limit remains.kept.run) 0 ≡ record { allocs = 0; frees = 0 }
     pub ledgers : (t : ℕ) → is_registered (world n limit remains.kept.run) t ≡ true
         → ledger_at (world n limit remains.kept.run) t ≡ ledger_of n (own_of t remains.kept.run)
+    pub registered : length (world n limit remains.kept.run).rows ≡ next_thread root
+    pub gathered : (t : ℕ) → is_gathered (world n limit remains.kept.run) t ≡ gathered_of (log_items root.log) t
+    pub all_at_home : AllGathered (world n limit remains.kept.run) → AllAtHome n (world n limit remains.kept.run) remains.kept.run slots

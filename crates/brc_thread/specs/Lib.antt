@@ -3,3 +3,4 @@ pub mod Settling
 pub mod Lending
 pub mod Ending
 pub mod Handed
+pub mod Emptied

@@ -20,7 +20,7 @@ returns-in-Ok-clause-told g c = SharedCounted c.load_shared-word.result (search 
 pub returns-in-Err-clause-told : goal.returns-in-Err-clause-told
 returns-in-Err-clause-told g c =
     let moved = rw c.in-Err.ensures.lost at c.release_asking-in-Err.ensures.told in
-    SharedMoved c.load_shared-word.result c.in-Err.field-0 (search rules) (search rules) (rw c.load_shared-word.ensures.told at moved)
+    SharedMoved c.load_shared-word.result c.in-Err.field-0 (search rules) (search rules) c.in-Err.ensures.moved (rw c.load_shared-word.ensures.told at moved)
 
 pub returns-in-Err-clause-keeps : goal.returns-in-Err-clause-keeps
 returns-in-Err-clause-keeps g c =

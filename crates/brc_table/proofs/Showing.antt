@@ -1,0 +1,33 @@
+-- What a table that keeps its rule shows.
+use Rattle.std.proofs.Common.{ℕ, Option, sym, ◌∙◌, ap}
+use Rattle.atomic_table.specs.Table.{State}
+use Rattle.brc_block.specs.declared.payload.Payload.{Payload}
+use Rattle.brc_runs.proofs.Reached.{run_histories}
+use Rattle.brc_known.specs.Items.{events_of}
+use Rattle.brc_known.proofs.Items_Runs.{events_run}
+use Rattle.brc_rule.specs.declared.view.View.{View}
+use Rattle.brc_rule.specs.Logs.{items_of}
+use Rattle.brc_rule.specs.Rule.{Kept}
+use Rattle.brc_rule.proofs.Knowing.{kept_reached, kept_headline}
+use Rattle.brc_rule.proofs.Once.{root_once}
+use Rattle.brc_runs.specs.Heap.{opening}
+use Rattle.brc_table.specs.Moment.{ShowsOneRun}
+use Rattle.brc_table.specs.Shown.{shows}
+
+module _ {A : Type 0} where
+  pub shows_one_run : (n limit : ℕ) (s : State (Option (ℕ × Payload A)) View) → Kept shows n limit s → ShowsOneRun n limit s
+  shows_one_run n limit s kept = record {
+    run = kept.run;
+    legal = kept.legal;
+    reached = kept_reached shows n limit s kept;
+    headline = kept_headline shows n limit s kept;
+    histories = run_histories n limit (events_of (items_of kept.run)) kept.options (events_run (opening n limit) (items_of kept.run) kept.legal.items);
+    words = kept.each_word;
+    homes = kept.each_home;
+    seats = λ t stood. (kept.seat t, kept.each_thread t stood);
+    one_seat = λ i j v w at_i at_j is_v is_w same. sym (kept.each_seat i v at_i is_v).here ∙ ap kept.seat same ∙ (kept.each_seat j w at_j is_w).here;
+    logs = λ j v at active. (kept.each_seat j v at active).log;
+    ended = λ j v at active root. (kept.each_seat j v at active).lives root;
+    root_once = root_once n limit kept.run kept.options kept.legal.items;
+    each_once = kept.each_once;
+  }

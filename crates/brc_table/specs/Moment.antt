@@ -1,0 +1,38 @@
+-- What a table shows at a moment.
+use Rattle.std.specs.Prelude.{◌≡◌, ℕ, ◌<◌, true, slice_index, Option}
+use mathlib.Core.Option.{some}
+use lib.ListN.{get_elem?}
+use Rattle.atomic_table.specs.Table.{State}
+use Rattle.brc_block.specs.declared.payload.Payload.{Payload}
+use Rattle.brc_runs.specs.Heap.{opening}
+use Rattle.brc_runs.specs.Holding.{Headline, Histories}
+use Rattle.brc_runs.specs.Runs.{IsReached}
+use Rattle.brc_known.specs.declared.word.Word.{Word}
+use Rattle.brc_known.specs.Items.{IsWord, Shows, events_of}
+use Rattle.brc_rule.specs.declared.view.View.{View}
+use Rattle.brc_rule.specs.Layout.{spot}
+use Rattle.brc_rule.specs.Logs.{Run, items_of, own_of, all_of, lives_of, world, IsLegal}
+use Rattle.brc_rule.specs.Homes.{HomeShown}
+use Rattle.brc_rule.specs.Rule.{stands, Seated, StandsOnce}
+use Rattle.brc_table.specs.Shown.{shows}
+
+module _ {A : Type 0} where
+  -- A table's words, its blocks at home and its seats' logs are those of one legal run of all threads' steps. The world that
+  -- the run leads to is reached, and counts are references there; each object that died had no holder, and died once for its
+  -- birth. Each thread that is registered and not gathered has one seat, whose log is what the thread did; and each item of
+  -- the run stands in one log, once: a seat's, or one that the root keeps of a registration that has ended.
+  pub record ShowsOneRun (n limit : ℕ) (s : State (Option (ℕ × Payload A)) View) : Type 0 where
+    pub run : Run
+    pub legal : IsLegal n limit run
+    pub reached : IsReached (world n limit run)
+    pub headline : Headline (world n limit run)
+    pub histories : Histories (opening n limit) (events_of (items_of run))
+    pub words : (w : Word) → IsWord n w → Shows (world n limit run) w (slice_index s.words (spot n w))
+    pub homes : (c : ℕ) → c < n → HomeShown shows s.homes (world n limit run) run c
+    pub seats : (t : ℕ) → stands (world n limit run) t ≡ true → (j : ℕ) × Seated s.views t j
+    pub one_seat : (i j : ℕ) (v w : View) → get_elem? s.views i ≡ some v → get_elem? s.views j ≡ some w
+        → v.active ≡ true → w.active ≡ true → v.thread ≡ w.thread → i ≡ j
+    pub logs : (j : ℕ) (v : View) → get_elem? s.views j ≡ some v → v.active ≡ true → own_of v.thread run ≡ v.log
+    pub ended : (j : ℕ) (v : View) → get_elem? s.views j ≡ some v → v.active ≡ true → v.thread ≡ 0 → v.gathered ≡ lives_of run
+    pub root_once : all_of 0 run ≡ own_of 0 run
+    pub each_once : (t : ℕ) → 0 < t → StandsOnce (world n limit run) run t

@@ -1,0 +1,171 @@
+-- With every thread gathered nobody has anything out: each live object's block is at home.
+use Rattle.std.proofs.Common.{◌≡◌, ◌≢◌, ℕ, zero, suc, ◌<◌, ◌≤◌, ◌==◌, nat_lt, ◌&&◌, not, Bool, true, false, if◌then◌else◌, List, [], ◌∷◌, length, get_or, sum_by, Option, Some, None, refl, sym, ◌∙◌, ap, subst, inl, inr, arith}
+use Rattle.std.proofs.lemmas.Bool.{cases_eq, cases_lt, cases_Bool, eq-eqb, lt-ltb, le-ltb, and_parts, true≢false}
+use Rattle.std.proofs.lemmas.List.{get_or_past}
+use Rattle.std.proofs.lemmas.List.Sums.{sum_by-cons}
+use Rattle.std.specs.Cmp.Derive.{both_true}
+use mathlib.Core.Option.{some}
+use Rattle.brc_words.specs.declared.limits.TheConstants.{FIRST_MORTAL}
+use Rattle.brc_words.specs.declared.owner.Owner.{Owner}
+use Rattle.brc_words.specs.declared.owner.Owner.TheVariants as owners
+use Rattle.brc_words.specs.declared.state.State.{State}
+use Rattle.brc_runs.specs.declared.event.Event.{Event}
+use Rattle.brc_runs.specs.declared.event.Step.{Step}
+use Rattle.brc_runs.specs.declared.event.Step.TheVariants.{Register, Gather}
+use Rattle.brc_runs.specs.declared.row.Row.{Row}
+use Rattle.brc_runs.specs.declared.row.Hand.{Hand}
+use Rattle.brc_runs.specs.declared.row.Hand.TheVariants as hands
+use Rattle.brc_runs.specs.Lists.{one, is_marked}
+use Rattle.brc_runs.specs.Heap.{Heap, opening, cell_at, row_at, worklist_at, is_registered, no_row, new_row, AreOptions}
+use Rattle.brc_runs.specs.Steps.{after_target, root_after, root_may, thread_may, target_at}
+use Rattle.brc_runs.specs.Holding.{lives, lives_at}
+use Rattle.brc_runs.specs.Runs.{IsRun, IsReached, world_after}
+use Rattle.brc_runs.specs.Sound.{IsSound, grips, gripped, grips_by_owner}
+use Rattle.brc_runs.proofs.Asking.{may_parts}
+use Rattle.brc_runs.proofs.Reached.{run_sound, reached_sound}
+use Rattle.brc_runs.proofs.Registering.{push_else}
+use Rattle.brc_lasting.proofs.Lasting.{others_own}
+use Rattle.brc_lasting.proofs.Standing.{run_reached, gathered_hold_nothing}
+use Rattle.brc_known.specs.Items.{events_of}
+use Rattle.brc_known.proofs.Items_Runs.{events_run}
+use Rattle.brc_known.proofs.Items_Tells.{no_start}
+use Rattle.brc_block.specs.declared.payload.Payload.{Payload}
+use Rattle.brc_rule.specs.declared.view.View.{View}
+use Rattle.brc_rule.specs.Logs.{items_of, contents_at, world}
+use Rattle.brc_table.specs.Rest.{Remains}
+use Rattle.brc_thread.specs.Emptied.{AllGathered, HasBlock, AllAtHome}
+
+-- ---- who has nothing
+
+-- a number without a hand, a lock or a dead block
+record IsIdle (h : Heap) (t : ℕ) : Type 0 where
+  pub hand : (row_at h t).hand ≡ hands.Free
+  pub unlocked : (row_at h t).locked ≡ None
+  pub worklist : (q : ℕ) → is_marked (worklist_at h t) q ≡ false
+
+-- so is the root at all times, which no step is made for
+record RootRests (h : Heap) : Type 0 where
+  pub row : row_at h 0 ≡ no_row
+  pub worklist : worklist_at h 0 ≡ []
+
+after_root : (h : Heap) (s : Step) → IsSound h → RootRests h → RootRests (root_after h s)
+after_root h (Register u) sound rests = record {
+  row = push_else h.rows new_row no_row 0 (λ e. omega (arith, e, sound.shaped.root)) ∙ rests.row;
+  worklist = push_else h.worklists _ [] 0 (λ e. omega (arith, e, sound.shaped.worklists, sound.shaped.root)) ∙ rests.worklist;
+}
+after_root h (Gather u) sound rests = record { row = rests.row; worklist = rests.worklist }
+after_root h _ sound rests = rests
+
+root_rests : (n limit : ℕ) (run : List Event) → AreOptions n limit → IsRun (opening n limit) run → RootRests (world_after (opening n limit) run)
+root_rests n limit [] options is_run = record { row = refl; worklist = refl }
+root_rests n limit (e ∷ run) options is_run =
+    let h : Heap = world_after (opening n limit) run in
+    let moved : Heap = after_target h e.thread e.step (target_at h e.thread e.step) in
+    let sound : IsSound h = run_sound n limit run options is_run.0 in
+    let before : RootRests h = root_rests n limit run options is_run.0 in
+    elim (cases_Bool (e.thread == 0)) [
+      | inl root ↦ subst (λ b. RootRests (if b then root_after h e.step else moved)) (sym root) (after_root h e.step sound before)
+      | inr thread ↦
+          let may = may_parts h e.thread e.step (subst (λ b. (if b then root_may h e.step else thread_may h e.thread e.step) ≡ true) thread is_run.1) in
+          let same = others_own h e 0 sound is_run.1 (record {
+            other = λ is_root. true≢false (sym (eq-eqb e.thread 0 is_root) ∙ thread);
+            apart = (no_start h e.thread e.step 0 0 [] may).1;
+          }) in
+          record { row = same.row ∙ before.row; worklist = same.worklist ∙ before.worklist }
+    ]
+
+-- where all are gathered every number is idle
+all_idle : (h : Heap) (t : ℕ) → IsReached h → RootRests h → AllGathered h → IsIdle h t
+all_idle h t reached rests all = elim (cases_eq t 0) [
+  | inl root ↦ subst (IsIdle h) (sym root) (record {
+    hand = ap (λ (row : Row). row.hand) rests.row;
+    unlocked = ap (λ (row : Row). row.locked) rests.row;
+    worklist = λ q. ap (λ (marks : List Bool). is_marked marks q) rests.worklist;
+  })
+  | inr thread ↦ elim (cases_lt t (length h.rows)) [
+    | inl inside ↦
+        let there : is_registered h t ≡ true = both_true (lt-ltb 0 t (omega (arith, thread))) (lt-ltb t (length h.rows) inside) in
+        let holds = gathered_hold_nothing h t reached (all t there) in
+        record { hand = holds.hand; unlocked = holds.unlocked; worklist = holds.worklist }
+    | inr past ↦
+        let sound : IsSound h = reached_sound h reached in
+        let none : row_at h t ≡ no_row = get_or_past h.rows t no_row past in
+        record {
+          hand = ap (λ (row : Row). row.hand) none;
+          unlocked = ap (λ (row : Row). row.locked) none;
+          worklist = λ q. ap (λ (marks : List Bool). is_marked marks q) (get_or_past h.worklists t [] (omega (arith, past, sound.shaped.worklists)));
+        }
+  ]
+]
+
+-- ---- so nothing is gripped
+
+none_in : {X : Type 0} (f : X → ℕ) (d : X) (xs : List X) → ((i : ℕ) → f (get_or xs i d) ≡ 0) → sum_by f xs ≡ 0
+none_in f d [] none = refl
+none_in f d (x ∷ xs) none = omega (arith, sum_by-cons f x xs, none 0, none_in f d xs (λ i. none (suc i)))
+
+none_gripped : (h : Heap) (q : ℕ) → ((t : ℕ) → IsIdle h t) → gripped h q ≡ 0
+none_gripped h q idle = omega (
+  arith,
+  none_in (λ (marks : List Bool). one (is_marked marks q)) [] h.worklists (λ t. ap one ((idle t).worklist q)),
+  none_in (λ (row : Row). one (grips q row.hand)) no_row h.rows (λ t. ap (λ (hand : Hand). one (grips q hand)) (idle t).hand),
+)
+
+-- a cell that nobody grips and where nothing lives is free
+is_free_cell : (o : Owner) (state : State) (local : ℕ) (count : Rattle.std.proofs.Common.ℤ) → grips_by_owner o state local count ≡ 0 → lives o ≡ false → o ≡ owners.Free
+is_free_cell owners.Nobody state local count none dead = absurd (true≢false dead)
+is_free_cell (owners.Thread t) state local count none dead = absurd (true≢false dead)
+is_free_cell (owners.Claimed t) state local count none dead = absurd (omega (arith, none))
+is_free_cell owners.Free state local count none dead = refl
+
+free_there : (h : Heap) (c : ℕ) → IsSound h → ((t : ℕ) → IsIdle h t) → FIRST_MORTAL ≤ c → lives (cell_at h c).owner ≡ false → (cell_at h c).owner ≡ owners.Free
+free_there h c sound idle mortal dead =
+    is_free_cell (cell_at h c).owner (cell_at h c).state (cell_at h c).local (cell_at h c).count (sym (sound.gripped c mortal) ∙ none_gripped h c idle) dead
+
+-- and nothing is locked
+unlocked_there : (h : Heap) (c : ℕ) → IsSound h → ((t : ℕ) → IsIdle h t) → (cell_at h c).mutex ≡ 0
+unlocked_there h c sound idle = elim (cases_eq (cell_at h c).mutex 0) [
+  | inl none ↦ none
+  | inr shut ↦
+      let locks = sound.mutexes (cell_at h c).mutex c (omega (arith, shut)) refl in
+      absurd (some_none (sym (idle (cell_at h c).mutex).unlocked ∙ locks.1.place))
+]
+  where
+    some_none : {k : ℕ} → ◌≡◌ {A = Option ℕ} None (Some k) → ⊥
+    some_none e = true≢false (ap (λ (o : Option ℕ). elim o [ None ↦ true | Some k ↦ false ]) e)
+
+-- ---- the blocks
+
+module _ {A : Type 0} where
+  -- a block that lies at home is in its slot at the end
+  in_slot : (n limit id : ℕ) (root : View) (slots : List (Option (ℕ × Payload A))) (remains : Remains n limit id root slots) (c : ℕ) → c < n
+      → IsSound (world n limit remains.kept.run) → ((t : ℕ) → IsIdle (world n limit remains.kept.run) t) → lives (cell_at (world n limit remains.kept.run) c).owner ≡ true
+      → HasBlock slots c (contents_at remains.kept.run c)
+  in_slot n limit id root slots remains c low sound idle live =
+      let h : Heap = world n limit remains.kept.run in
+      let lies = (remains.kept.each_home c low).lies live (unlocked_there h c sound idle) (λ t. (idle t).worklist c) in
+      record {
+        payload = lies.block.1;
+        there = remains.each_home c (Some lies.block) lies.there ∙ ap (λ (d : ℕ). some (Some (d, lies.block.1))) lies.of_cell;
+        holds = lies.holds;
+      }
+
+  pub all_at_home : (n limit id : ℕ) (root : View) (slots : List (Option (ℕ × Payload A))) (remains : Remains n limit id root slots)
+      → AllGathered (world n limit remains.kept.run) → AllAtHome n (world n limit remains.kept.run) remains.kept.run slots
+  all_at_home n limit id root slots remains all =
+      let run = remains.kept.run in
+      let h : Heap = world n limit run in
+      let options = remains.kept.options in
+      let is_run = events_run (opening n limit) (items_of run) remains.kept.legal.items in
+      let reached : IsReached h = run_reached n limit (events_of (items_of run)) options is_run in
+      let sound : IsSound h = reached_sound h reached in
+      let idle : (t : ℕ) → IsIdle h t = λ t. all_idle h t reached (root_rests n limit (events_of (items_of run)) options is_run) all in
+      record {
+        deep = sym remains.deep ∙ remains.kept.deep;
+        immortals = λ c low. in_slot n limit id root slots remains c (omega (arith, low, options.enough)) sound idle (ap lives (sound.immortals c low).owner);
+        live = λ c low live. in_slot n limit id root slots remains c low sound idle (and_parts _ _ live).1;
+        free = λ c mortal low dead. remains.each_home c None ((remains.kept.each_home c low).bare (free_there h c sound idle mortal (dead_owner h c mortal dead)));
+      }
+    where
+      dead_owner : (h : Heap) (c : ℕ) → FIRST_MORTAL ≤ c → lives_at h c ≡ false → lives (cell_at h c).owner ≡ false
+      dead_owner h c mortal dead = sym (ap (λ b. not b && lives (cell_at h c).owner) (le-ltb c FIRST_MORTAL mortal)) ∙ dead
