@@ -1,6 +1,7 @@
 -- Which handles a frame owns after a call, from what the call does to its places.
 use Rattle.std.proofs.Common.{◌≡◌, ◌≢◌, ℕ, true, Option, Some, None, is_some, refl, sym, ◌∙◌, ap}
-use Rattle.brc_count.specs.Frames.{FrameSeen, HandleSeen, Owns}
+use Rattle.brc_runs.specs.declared.event.Source.{Source}
+use Rattle.brc_count.specs.Frames.{FrameSeen, HandleSeen, Owns, Given, ReleasedOf}
 use Rattle.brc_count.specs.Locking.{cell_in, KeepsThread, KeepsFrame, ChangesPlace}
 use Rattle.brc_containers.specs.Changing.{KeepsPlaces}
 use Rattle.brc_containers.specs.Handles.{Keeps, Gains, Loses}
@@ -67,4 +68,23 @@ module _ {A : Type 0} where
     };
     owned = record { thread = own ∙ sym thread.thread; filled = ap is_some places.has };
     apart = λ h owns. vacant_else (cell_in old) h.place given.place owns.filled vacant;
+  }
+
+  -- a new handle has a reference
+  pub given_gains : (old new : FrameSeen A) (source : Source) (c : ℕ) (given : HandleSeen) → new.heap ≡ old.heap
+      → Given old new source c given → Gains old new given
+  given_gains old new source c given heap g =
+      let apart : (h : HandleSeen) → Owns old h → given.place ≢ h.place = λ h owns. vacant_else (cell_in old) h.place given.place owns.filled g.vacant in
+      record {
+        keeps = record { heap = heap; owns = λ h owns. owns_still old new h g.seat.1 (g.others h.place (flipped (apart h owns))) owns };
+        owned = record { thread = g.thread ∙ sym g.seat.1; filled = ap is_some g.has };
+        apart = apart;
+      }
+
+  -- a handle's reference goes
+  pub released_loses : (old new : FrameSeen A) (gone : HandleSeen) (c : ℕ) → new.heap ≡ old.heap → new.seat.thread ≡ old.seat.thread
+      → ReleasedOf old new gone.place c → Loses old new gone
+  released_loses old new gone c heap thread goes = record {
+    heap = heap;
+    owns = λ h owns else. owns_still old new h thread (goes.others h.place (flipped else)) owns;
   }

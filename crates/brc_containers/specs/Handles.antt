@@ -1,6 +1,6 @@
--- Which handles a frame owns, before and after a call.
+-- Which handles a frame owns, before and after a call or several.
 use Rattle.std.specs.Prelude.{◌≡◌, ◌≢◌}
-use Rattle.brc_count.specs.Frames.{FrameSeen, HandleSeen, Owns}
+use Rattle.brc_count.specs.Frames.{FrameSeen, HandleSeen, IsUnlocked, Owns}
 
 module _ {A : Type 0} where
   -- what the frame owned it owns still
@@ -18,3 +18,8 @@ module _ {A : Type 0} where
   pub record Loses (old new : FrameSeen A) (gone : HandleSeen) : Type 0 where
     pub heap : new.heap ≡ old.heap
     pub owns : (h : HandleSeen) → Owns old h → gone.place ≢ h.place → Owns new h
+
+  -- the heap is the same, and nothing is locked
+  pub record GoesOn (old new : FrameSeen A) : Type 0 where
+    pub heap : new.heap ≡ old.heap
+    pub unlocked : IsUnlocked new

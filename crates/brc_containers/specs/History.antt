@@ -1,19 +1,78 @@
--- Calls on one object as one history.
-use Rattle.std.specs.Prelude.{◌≡◌, ℕ, ◌∷◌, Some}
+-- The calls on one object, of whatever threads, as one list: its history.
+use Rattle.std.specs.Prelude.{◌≡◌, ℕ, ◌==◌, true, if◌then◌else◌, List, [], ◌∷◌, ◌++◌, Option, Some}
 use Rattle.brc_runs.specs.declared.event.Change.{Change}
-use Rattle.brc_runs.specs.declared.event.Step.TheVariants.{Unlock}
+use Rattle.brc_runs.specs.declared.event.Step.{Step}
+use Rattle.brc_runs.specs.declared.event.Step.TheVariants.{Birth, Unlock}
 use Rattle.brc_rule.specs.declared.contents.Contents.{Contents}
 use Rattle.brc_rule.specs.declared.told.Moved.TheVariants.{Put}
+use Rattle.brc_rule.specs.declared.told.Told.{Told}
 use Rattle.brc_rule.specs.declared.told.Told.TheVariants.{Did}
-use Rattle.brc_rule.specs.Logs.{Run, own_of, contents_at, IsLegal}
+use Rattle.brc_rule.specs.Logs.{Run, own_of, opening_contents, keeps}
 use Rattle.brc_rule.specs.Seen.{contents_locked}
 
--- The newest step of the run is an unlocking, by which a thread puts an object home with these contents; its locking found those.
-pub record Unlocking (n limit : ℕ) (run : Run) (t : ℕ) (change : Change) (number c : ℕ) (found put : Contents) : Type 0 where
-  pub legal : IsLegal n limit ((t, Did (Unlock change) number (Put c put)) ∷ run)
-  pub found_then : contents_locked (own_of t run) ≡ Some found
+-- ---- histories
 
--- Then what it found stands there to the last, whatever others did meanwhile; what it puts stands there afterwards.
-pub record AtOnce (run : Run) (t : ℕ) (change : Change) (number c : ℕ) (found put : Contents) : Type 0 where
-  pub before : contents_at run c ≡ found
-  pub after : contents_at ((t, Did (Unlock change) number (Put c put)) ∷ run) c ≡ put
+-- A thread bore an object, and put these contents home; or it made a change to one and unlocked it: its own locking had found
+-- the first contents, and it put the second home.
+pub data Call : Type 0 where
+  Bears : ℕ → Contents → Call
+  Changes : ℕ → Change → Option Contents → Contents → Call
+
+-- who called
+abbrev pub caller : Call → ℕ
+caller (Bears t put) = t
+caller (Changes t change found put) = t
+
+-- what a call put home
+abbrev pub put_home : Call → Contents
+put_home (Bears t put) = put
+put_home (Changes t change found put) = put
+
+-- what stands in a cell after these calls, newest first: what the last one put home; before the first, what the heap opens with
+abbrev pub left_by : ℕ → List Call → Contents
+left_by c [] = opening_contents c
+left_by c (call ∷ older) = put_home call
+
+-- The call may come next where these contents stand: a birth always; a change if its locking found just these contents, and one
+-- that keeps puts them home again.
+abbrev pub Follows : Call → Contents → Type 0
+Follows (Bears t put) before = Unit {0}
+Follows (Changes t change found put) before = (found ≡ Some before) × (keeps (Unlock change) ≡ true → put ≡ before)
+
+-- one call after the other, each from what the one before it left
+abbrev pub IsSequential : ℕ → List Call → Type 0
+IsSequential c [] = Unit {0}
+IsSequential c (call ∷ older) = IsSequential c older × Follows call (left_by c older)
+
+-- ---- the history that a run tells
+
+-- what a step that puts these contents home adds to the calls before it: a birth, or an unlocking
+abbrev pub with_step : ℕ → Step → Option Contents → Contents → List Call → List Call
+with_step t (Birth c kind k) found put older = Bears t put ∷ older
+with_step t (Unlock change) found put older = Changes t change found put ∷ older
+with_step t s found put older = older
+
+-- the same of any item, on one cell alone
+abbrev pub with_call : ℕ → ℕ → Told → Option Contents → List Call → List Call
+with_call c t (Did s number (Put d put)) found older = if d == c then with_step t s found put older else older
+with_call c t x found older = older
+
+-- The calls on the cell's objects, of all threads, newest first: each stands where it was born or unlocked in the run, with what
+-- the thread's own locking had found.
+abbrev pub history_of : ℕ → Run → List Call
+history_of c [] = []
+history_of c (x ∷ run) = with_call c x.0 x.1 (contents_locked (own_of x.0 run)) (history_of c run)
+
+-- the same of one thread's own steps
+abbrev pub own_history : ℕ → ℕ → List Told → List Call
+own_history c t [] = []
+own_history c t (x ∷ log) = with_call c t x (contents_locked log) (own_history c t log)
+
+-- what one thread called
+abbrev pub calls_of : ℕ → List Call → List Call
+calls_of t [] = []
+calls_of t (call ∷ older) = if caller call == t then call ∷ calls_of t older else calls_of t older
+
+-- the second history is the first with more calls after it
+abbrev pub Extends : List Call → List Call → Type 0
+Extends older newer = (more : List Call) × (newer ≡ more ++ older)

@@ -1,4 +1,5 @@
 pub mod Looking
 pub mod Handles
 pub mod Changing
+pub mod Called
 pub mod History

@@ -1,5 +1,5 @@
 -- What a call on one object does to a frame, and what it finds there.
-use Rattle.std.specs.Prelude.{◌≡◌, ℕ, true, ◌∷◌, Some}
+use Rattle.std.specs.Prelude.{◌≡◌, ℕ, true, ◌∷◌, Some, Result, IfOk, IfErr}
 use Rattle.brc_words.specs.declared.fault.Fault.{Fault}
 use Rattle.brc_words.specs.declared.fault.Fault.TheVariants as faults
 use Rattle.brc_words.specs.declared.kind.Kind.TheVariants as kinds
@@ -51,6 +51,15 @@ module _ {A : Type 0} where
   abbrev pub RefusedLateCopy : FrameSeen A → FrameSeen A → ℕ → (Contents → Type 0) → Fault → Type 0
   RefusedLateCopy old new k fits faults.OutOfMemory = (found : Contents) × LooksLate old new k found × fits found
   RefusedLateCopy old new k fits fault = RefusedLate old new k fits fault
+
+-- What a call says that looks at one object: nothing else was done to the frame; the answer says this of what was found; or the
+-- call was refused, and why.
+pub record Looked {A T : Type 0} (old new : FrameSeen A) (told : T → Type 0) (why : Fault → Type 0) (result : Result T Fault) : Type 0 where
+  pub thread : KeepsThread old new
+  pub frame : KeepsFrame old new
+  pub unlocked : IsUnlocked new
+  pub found : IfOk result told
+  pub refused : IfErr result why
 
 -- what each call is for
 abbrev pub IsInt : Contents → Type 0

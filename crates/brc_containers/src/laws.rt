@@ -1,17 +1,25 @@
 //! The law of calls on one object, as the contract of a function with nothing to do.
 
-ghost use Rattle.std.specs.Prelude.{ℕ, ◌<◌};
-ghost use Rattle.brc_runs.specs.declared.event.Change.{Change as change_made};
+ghost use Rattle.std.specs.Prelude.{◌≡◌, ℕ, ◌<◌, List, ◌++◌};
 ghost use Rattle.brc_runs.specs.Heap.{AreOptions};
-ghost use Rattle.brc_rule.specs.declared.contents.Contents.{Contents as contents_of_an_object};
-ghost use Rattle.brc_rule.specs.Logs.{Run};
-ghost use Rattle.brc_containers.specs.History.{Unlocking, AtOnce};
+ghost use Rattle.brc_rule.specs.Logs.{Run, own_of, contents_at, IsLegal};
+ghost use Rattle.brc_containers.specs.History.{Call as call, IsSequential, Extends, left_by, history_of, own_history, calls_of};
 
-/// All calls on an object, of whatever threads, are one history, in the order of their unlockings in the one run of the table:
-/// where a call unlocks, there stands what its locking found, and afterwards what it puts home. So each call takes effect at
-/// once, at its unlocking, and its plain answer (`specs/Changing.antt`) is one on the contents that all earlier calls left. What
-/// stands at a cell is what the last birth or unlocking put there, by definition.
+/// All calls on the objects in one cell, of whatever threads, are one sequential history: births, and calls that stand where
+/// they unlock in the one run of the table. Each call's locking found just what the call before it put home, so that its plain
+/// answer (`specs/Changing.antt`) is one on the contents that all earlier calls left. Nothing is said of an order in time between
+/// threads but that of the run.
 pub fn calls_on_an_object_are_one_history()
-    ensures { (n limit : ℕ) (run : Run) (t : ℕ) (change : change_made) (number c : ℕ) (found put : contents_of_an_object)
-        → AreOptions n limit → 0 < t → Unlocking n limit run t change number c found put → AtOnce run t change number c found put }
+    ensures sequential { (n limit : ℕ) (run : Run) (c : ℕ) → AreOptions n limit → IsLegal n limit run → IsSequential c (history_of c run) }
+    // What stands in the cell after the run is what the last call put home.
+    ensures last { (n limit : ℕ) (run : Run) (c : ℕ) → IsLegal n limit run → contents_at run c ≡ left_by c (history_of c run) }
+
+    // A run that goes on has a history that goes on, and a front of a legal run, or of a sequential history, is one too.
+    ensures extends { (later run : Run) (c : ℕ) → Extends (history_of c run) (history_of c (later ++ run)) }
+    ensures earlier { (n limit : ℕ) (later run : Run) → IsLegal n limit (later ++ run) → IsLegal n limit run }
+    ensures fronts { (c : ℕ) (older newer : List call) → Extends older newer → IsSequential c newer → IsSequential c older }
+
+    // A thread's calls stand in it in the order of the thread's own steps, as its log tells them.
+    ensures own { (n limit : ℕ) (run : Run) (c t : ℕ) → IsLegal n limit run → 0 < t
+        → calls_of t (history_of c run) ≡ own_history c t (own_of t run) }
 {}

@@ -7,7 +7,7 @@ ghost use Rattle.brc_rule.specs.declared.contents.Contents.TheVariants as conten
 ghost use Rattle.brc_rule.specs.Logs.{kind_in, entries_in};
 ghost use Rattle.brc_count.specs.Frames.{IsUnlocked, Owns};
 ghost use Rattle.brc_count.specs.Locking.{Busy, KeepsThread, KeepsFrame};
-ghost use Rattle.brc_containers.specs.Looking.{LooksAt, RefusedLook, RefusedCopy, IsInt, IsText, IsContainer};
+ghost use Rattle.brc_containers.specs.Looking.{Looked, LooksAt, RefusedLook, RefusedCopy, IsInt, IsText, IsContainer};
 
 use crate::looking::{container_len, copy_of_text, int_in, is_text};
 use brc_count::{Frame, Handle};
@@ -22,11 +22,9 @@ pub fn try_kind_of<H: Home<A>, A: Allocator>(
 ) -> Result<Kind, Fault>
     requires owned { Owns frame.old handle.now }
     requires unlocked { IsUnlocked frame.old }
-    ensures thread { KeepsThread frame.old frame.new }
-    ensures frame { KeepsFrame frame.old frame.new }
-    ensures unlocked { IsUnlocked frame.new }
-    ensures found { IfOk result (λ kind. (found : contents_of_an_object) × LooksAt frame.old frame.new handle.now.place found × (kind_in found ≡ kind)) }
-    ensures refused { IfErr result (λ fault. (fault ≡ faults.Busy) × Busy frame.old frame.new handle.now.place) }
+    ensures looked { Looked frame.old frame.new
+        (λ kind. (found : contents_of_an_object) × LooksAt frame.old frame.new handle.now.place found × (kind_in found ≡ kind))
+        (λ fault. (fault ≡ faults.Busy) × Busy frame.old frame.new handle.now.place) result }
 {
     let Some(block) = frame.begin(handle) else {
         return Err(Fault::Busy);
@@ -44,12 +42,10 @@ pub fn try_len_of<H: Home<A>, A: Allocator>(
 ) -> Result<usize, Fault>
     requires owned { Owns frame.old handle.now }
     requires unlocked { IsUnlocked frame.old }
-    ensures thread { KeepsThread frame.old frame.new }
-    ensures frame { KeepsFrame frame.old frame.new }
-    ensures unlocked { IsUnlocked frame.new }
-    ensures found { IfOk result (λ len. (found : contents_of_an_object) × LooksAt frame.old frame.new handle.now.place found
-        × IsContainer found × (length (entries_in found) ≡ len)) }
-    ensures refused { IfErr result (RefusedLook frame.old frame.new handle.now.place IsContainer) }
+    ensures looked { Looked frame.old frame.new
+        (λ len. (found : contents_of_an_object) × LooksAt frame.old frame.new handle.now.place found
+        × IsContainer found × (length (entries_in found) ≡ len))
+        (RefusedLook frame.old frame.new handle.now.place IsContainer) result }
 {
     let Some(block) = frame.begin(handle) else {
         return Err(Fault::Busy);
@@ -69,11 +65,9 @@ pub fn try_int_of<H: Home<A>, A: Allocator>(
 ) -> Result<i64, Fault>
     requires owned { Owns frame.old handle.now }
     requires unlocked { IsUnlocked frame.old }
-    ensures thread { KeepsThread frame.old frame.new }
-    ensures frame { KeepsFrame frame.old frame.new }
-    ensures unlocked { IsUnlocked frame.new }
-    ensures found { IfOk result (λ number. LooksAt frame.old frame.new handle.now.place (contents.Int number)) }
-    ensures refused { IfErr result (RefusedLook frame.old frame.new handle.now.place IsInt) }
+    ensures looked { Looked frame.old frame.new
+        (λ number. LooksAt frame.old frame.new handle.now.place (contents.Int number))
+        (RefusedLook frame.old frame.new handle.now.place IsInt) result }
 {
     let Some(block) = frame.begin(handle) else {
         return Err(Fault::Busy);
@@ -94,11 +88,9 @@ pub fn try_text_of<H: Home<A>, A: Allocator>(
 ) -> Result<Text<A>, Fault>
     requires owned { Owns frame.old handle.now }
     requires unlocked { IsUnlocked frame.old }
-    ensures thread { KeepsThread frame.old frame.new }
-    ensures frame { KeepsFrame frame.old frame.new }
-    ensures unlocked { IsUnlocked frame.new }
-    ensures found { IfOk result (λ text. LooksAt frame.old frame.new handle.now.place (contents.Text text)) }
-    ensures refused { IfErr result (RefusedCopy frame.old frame.new handle.now.place IsText) }
+    ensures looked { Looked frame.old frame.new
+        (λ text. LooksAt frame.old frame.new handle.now.place (contents.Text text))
+        (RefusedCopy frame.old frame.new handle.now.place IsText) result }
 {
     let Some(block) = frame.begin(handle) else {
         return Err(Fault::Busy);

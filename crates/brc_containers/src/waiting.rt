@@ -6,7 +6,7 @@ ghost use Rattle.brc_rule.specs.declared.contents.Contents.TheVariants as conten
 ghost use Rattle.brc_rule.specs.Logs.{kind_in, entries_in};
 ghost use Rattle.brc_count.specs.Frames.{IsUnlocked, Owns};
 ghost use Rattle.brc_count.specs.Locking.{KeepsThread, KeepsFrame};
-ghost use Rattle.brc_containers.specs.Looking.{LooksLate, RefusedLate, RefusedLateCopy, IsInt, IsText, IsContainer};
+ghost use Rattle.brc_containers.specs.Looking.{Looked, LooksLate, RefusedLate, RefusedLateCopy, IsInt, IsText, IsContainer};
 
 use crate::looking::{container_len, copy_of_text, int_in, is_text};
 use brc_count::{Frame, Handle};
@@ -44,12 +44,10 @@ pub fn len_of<H: Home<A>, A: Allocator>(
 ) -> Result<usize, Fault>
     requires owned { Owns frame.old handle.now }
     requires unlocked { IsUnlocked frame.old }
-    ensures thread { KeepsThread frame.old frame.new }
-    ensures frame { KeepsFrame frame.old frame.new }
-    ensures unlocked { IsUnlocked frame.new }
-    ensures found { IfOk result (λ len. (found : contents_of_an_object) × LooksLate frame.old frame.new handle.now.place found
-        × IsContainer found × (length (entries_in found) ≡ len)) }
-    ensures refused { IfErr result (RefusedLate frame.old frame.new handle.now.place IsContainer) }
+    ensures looked { Looked frame.old frame.new
+        (λ len. (found : contents_of_an_object) × LooksLate frame.old frame.new handle.now.place found
+        × IsContainer found × (length (entries_in found) ≡ len))
+        (RefusedLate frame.old frame.new handle.now.place IsContainer) result }
 {
     let block = begin_late(rt, frame, handle);
     let len = container_len(block.payload());
@@ -68,11 +66,9 @@ pub fn int_of<H: Home<A>, A: Allocator>(
 ) -> Result<i64, Fault>
     requires owned { Owns frame.old handle.now }
     requires unlocked { IsUnlocked frame.old }
-    ensures thread { KeepsThread frame.old frame.new }
-    ensures frame { KeepsFrame frame.old frame.new }
-    ensures unlocked { IsUnlocked frame.new }
-    ensures found { IfOk result (λ number. LooksLate frame.old frame.new handle.now.place (contents.Int number)) }
-    ensures refused { IfErr result (RefusedLate frame.old frame.new handle.now.place IsInt) }
+    ensures looked { Looked frame.old frame.new
+        (λ number. LooksLate frame.old frame.new handle.now.place (contents.Int number))
+        (RefusedLate frame.old frame.new handle.now.place IsInt) result }
 {
     let block = begin_late(rt, frame, handle);
     let number = int_in(block.payload());
@@ -92,11 +88,9 @@ pub fn text_of<H: Home<A>, A: Allocator>(
 ) -> Result<Text<A>, Fault>
     requires owned { Owns frame.old handle.now }
     requires unlocked { IsUnlocked frame.old }
-    ensures thread { KeepsThread frame.old frame.new }
-    ensures frame { KeepsFrame frame.old frame.new }
-    ensures unlocked { IsUnlocked frame.new }
-    ensures found { IfOk result (λ text. LooksLate frame.old frame.new handle.now.place (contents.Text text)) }
-    ensures refused { IfErr result (RefusedLateCopy frame.old frame.new handle.now.place IsText) }
+    ensures looked { Looked frame.old frame.new
+        (λ text. LooksLate frame.old frame.new handle.now.place (contents.Text text))
+        (RefusedLateCopy frame.old frame.new handle.now.place IsText) result }
 {
     let block = begin_late(rt, frame, handle);
     if !is_text(block.payload()) {

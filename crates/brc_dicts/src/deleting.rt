@@ -5,8 +5,9 @@ ghost use Rattle.brc_words.specs.declared.fault.Fault.TheVariants as faults;
 ghost use Rattle.brc_table.specs.Shown.{contents_of};
 ghost use Rattle.brc_count.specs.Frames.{IsUnlocked, Owns};
 ghost use Rattle.brc_count.specs.Locking.{IsLocked, cell_locked, contents_found, KeepsThread};
+ghost use Rattle.brc_containers.specs.Called.{HandsOut};
 ghost use Rattle.brc_containers.specs.Changing.{KeepsPlaces, Takes, RefusedPlace, Late};
-ghost use Rattle.brc_containers.specs.Handles.{Keeps, Gains};
+ghost use Rattle.brc_containers.specs.Handles.{Gains};
 ghost use Rattle.brc_dicts.specs.Plain.{plain_del};
 ghost use Rattle.brc_dicts.specs.Since.{Since};
 
@@ -67,13 +68,9 @@ pub fn try_dict_del<H: Home<A>, A: Allocator>(
 ) -> Result<Handle, Fault>
     requires owned { Owns frame.old dict.now }
     requires unlocked { IsUnlocked frame.old }
-    ensures thread { KeepsThread frame.old frame.new }
-    ensures unlocked { IsUnlocked frame.new }
-    ensures takes { IfOk result (Takes frame.old frame.new dict.now.place (plain_del key.now)) }
-    ensures gains { IfOk result (Gains frame.old frame.new) }
-    ensures places { IfErr result (λ fault. KeepsPlaces frame.old frame.new) }
-    ensures keeps { IfErr result (λ fault. Keeps frame.old frame.new) }
-    ensures refused { IfErr result (RefusedPlace frame.old frame.new dict.now.place (plain_del key.now)) }
+    ensures takes { HandsOut frame.old frame.new
+        (Takes frame.old frame.new dict.now.place (plain_del key.now))
+        (RefusedPlace frame.old frame.new dict.now.place (plain_del key.now)) result }
 {
     let Some(block) = frame.begin(dict) else {
         return Err(Fault::Busy);
@@ -91,15 +88,9 @@ pub fn dict_del<H: Home<A>, A: Allocator>(
 ) -> Result<Handle, Fault>
     requires owned { Owns frame.old dict.now }
     requires unlocked { IsUnlocked frame.old }
-    ensures thread { KeepsThread frame.old frame.new }
-    ensures unlocked { IsUnlocked frame.new }
-    ensures takes { IfOk result (λ given. Late frame.old dict.now.place
-        (λ mid. Takes mid frame.new dict.now.place (plain_del key.now) given)) }
-    ensures gains { IfOk result (Gains frame.old frame.new) }
-    ensures places { IfErr result (λ fault. KeepsPlaces frame.old frame.new) }
-    ensures keeps { IfErr result (λ fault. Keeps frame.old frame.new) }
-    ensures refused { IfErr result (λ fault. Late frame.old dict.now.place
-        (λ mid. RefusedPlace mid frame.new dict.now.place (plain_del key.now) fault)) }
+    ensures takes { HandsOut frame.old frame.new
+        (λ given. Late frame.old dict.now.place (λ mid. Takes mid frame.new dict.now.place (plain_del key.now) given))
+        (λ fault. Late frame.old dict.now.place (λ mid. RefusedPlace mid frame.new dict.now.place (plain_del key.now) fault)) result }
     ensures waits { IfErr result (λ fault. fault ≢ faults.Busy) }
 {
     let block = begin_late(rt, frame, dict);

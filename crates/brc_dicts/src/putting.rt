@@ -8,8 +8,8 @@ ghost use Rattle.brc_block.specs.Payload.{kind_of, entries_of, keys_of, spare_of
 ghost use Rattle.brc_table.specs.Shown.{contents_of};
 ghost use Rattle.brc_count.specs.Frames.{IsUnlocked, Owns};
 ghost use Rattle.brc_count.specs.Locking.{IsLocked, cell_locked, place_locked, contents_found, KeepsThread, KeepsFrame};
+ghost use Rattle.brc_containers.specs.Called.{TakesIn};
 ghost use Rattle.brc_containers.specs.Changing.{Late};
-ghost use Rattle.brc_containers.specs.Handles.{Keeps};
 ghost use Rattle.brc_dicts.specs.Putting.{RefusedRoom, HasPut, OwnsPut, RefusedPut};
 ghost use Rattle.brc_dicts.specs.Seeking.{IsThere, IsAbsent};
 ghost use Rattle.brc_dicts.specs.Since.{Since};
@@ -158,14 +158,10 @@ pub fn try_dict_put<H: Home<A>, A: Allocator>(
     requires value_owned { Owns frame.old value }
     requires apart { value.place ≢ dict.now.place }
     requires unlocked { IsUnlocked frame.old }
-    ensures thread { KeepsThread frame.old frame.new }
-    ensures unlocked { IsUnlocked frame.new }
-    ensures put { IfOk result (HasPut frame.old frame.new dict.now.place key value) }
+    ensures put { TakesIn frame.old frame.new (key, value)
+        (HasPut frame.old frame.new dict.now.place key value)
+        (λ fault. RefusedPut frame.old frame.new dict.now.place key value fault) result }
     ensures owns { IfOk result (OwnsPut frame.old frame.new value) }
-    ensures back { IfErr result (λ refused. refused.1 ≡ (key, value)) }
-    ensures frame { IfErr result (λ refused. KeepsFrame frame.old frame.new) }
-    ensures keeps { IfErr result (λ refused. Keeps frame.old frame.new) }
-    ensures refused { IfErr result (λ refused. RefusedPut frame.old frame.new dict.now.place key value refused.0) }
 {
     let Some(block) = frame.begin(dict) else {
         return Err((Fault::Busy, (key, value)));
@@ -186,16 +182,10 @@ pub fn dict_put<H: Home<A>, A: Allocator>(
     requires value_owned { Owns frame.old value }
     requires apart { value.place ≢ dict.now.place }
     requires unlocked { IsUnlocked frame.old }
-    ensures thread { KeepsThread frame.old frame.new }
-    ensures unlocked { IsUnlocked frame.new }
-    ensures put { IfOk result (λ answer. Late frame.old dict.now.place
-        (λ mid. HasPut mid frame.new dict.now.place key value answer)) }
+    ensures put { TakesIn frame.old frame.new (key, value)
+        (λ answer. Late frame.old dict.now.place (λ mid. HasPut mid frame.new dict.now.place key value answer))
+        (λ fault. Late frame.old dict.now.place (λ mid. RefusedPut mid frame.new dict.now.place key value fault)) result }
     ensures owns { IfOk result (OwnsPut frame.old frame.new value) }
-    ensures back { IfErr result (λ refused. refused.1 ≡ (key, value)) }
-    ensures frame { IfErr result (λ refused. KeepsFrame frame.old frame.new) }
-    ensures keeps { IfErr result (λ refused. Keeps frame.old frame.new) }
-    ensures refused { IfErr result (λ refused. Late frame.old dict.now.place
-        (λ mid. RefusedPut mid frame.new dict.now.place key value refused.0)) }
     ensures waits { IfErr result (λ refused. refused.0 ≢ faults.Busy) }
 {
     let block = begin_late(rt, frame, dict);

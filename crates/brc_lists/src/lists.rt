@@ -3,7 +3,8 @@
 ghost use Rattle.std.specs.Prelude.{◌≡◌, ◌≢◌, ℕ, Some, IfOk, IfErr, OnOk, OnErr};
 ghost use Rattle.brc_count.specs.Frames.{IsUnlocked, Owns};
 ghost use Rattle.brc_count.specs.Locking.{KeepsThread, KeepsFrame, cell_in};
-ghost use Rattle.brc_containers.specs.Changing.{KeepsPlaces, Puts, Swaps, Takes, Shares, RefusedCall, RefusedEntry, RefusedPlace};
+ghost use Rattle.brc_containers.specs.Called.{HandsOut, TakesIn};
+ghost use Rattle.brc_containers.specs.Changing.{Puts, Swaps, Takes, Shares, RefusedCall, RefusedEntry, RefusedPlace};
 ghost use Rattle.brc_containers.specs.Handles.{Keeps, Gains, Loses};
 ghost use Rattle.brc_lists.specs.Plain.{plain_push, plain_pop, plain_get, plain_set};
 
@@ -25,17 +26,10 @@ pub fn try_list_push<H: Home<A>, A: Allocator>(
     requires value_owned { Owns frame.old value }
     requires apart { value.place ≢ list.now.place }
     requires unlocked { IsUnlocked frame.old }
-    ensures thread { KeepsThread frame.old frame.new }
-    ensures unlocked { IsUnlocked frame.new }
-
-    ensures pushed { OnOk result (Puts frame.old frame.new list.now.place value.place plain_push tt) }
+    ensures pushed { TakesIn frame.old frame.new value
+        (λ answer. Puts frame.old frame.new list.now.place value.place plain_push tt)
+        (λ fault. (c : ℕ) → cell_in frame.old value.place ≡ Some c → RefusedEntry frame.old frame.new list.now.place (plain_push c) fault) result }
     ensures loses { OnOk result (Loses frame.old frame.new value) }
-
-    ensures back { IfErr result (λ refused. refused.1 ≡ value) }
-    ensures kept { OnErr result (Keeps frame.old frame.new) }
-    ensures frame { OnErr result (KeepsFrame frame.old frame.new) }
-    ensures refused { IfErr result (λ refused. (c : ℕ) → cell_in frame.old value.place ≡ Some c →
-        RefusedEntry frame.old frame.new list.now.place (plain_push c) refused.0) }
 {
     let Some(block) = frame.begin(list) else {
         return Err((Fault::Busy, value));
@@ -52,15 +46,9 @@ pub fn try_list_pop<H: Home<A>, A: Allocator>(
 ) -> Result<Handle, Fault>
     requires owned { Owns frame.old list.now }
     requires unlocked { IsUnlocked frame.old }
-    ensures thread { KeepsThread frame.old frame.new }
-    ensures unlocked { IsUnlocked frame.new }
-
-    ensures popped { IfOk result (Takes frame.old frame.new list.now.place plain_pop) }
-    ensures gains { IfOk result (Gains frame.old frame.new) }
-
-    ensures kept { OnErr result (Keeps frame.old frame.new) }
-    ensures places { OnErr result (KeepsPlaces frame.old frame.new) }
-    ensures refused { IfErr result (RefusedPlace frame.old frame.new list.now.place plain_pop) }
+    ensures popped { HandsOut frame.old frame.new
+        (Takes frame.old frame.new list.now.place plain_pop)
+        (RefusedPlace frame.old frame.new list.now.place plain_pop) result }
 {
     let Some(block) = frame.begin(list) else {
         return Err(Fault::Busy);
@@ -79,15 +67,9 @@ pub fn try_list_get<H: Home<A>, A: Allocator>(
 ) -> Result<Handle, Fault>
     requires owned { Owns frame.old list.now }
     requires unlocked { IsUnlocked frame.old }
-    ensures thread { KeepsThread frame.old frame.new }
-    ensures unlocked { IsUnlocked frame.new }
-
-    ensures shared { IfOk result (Shares frame.old frame.new list.now.place (plain_get index)) }
-    ensures gains { IfOk result (Gains frame.old frame.new) }
-
-    ensures kept { OnErr result (Keeps frame.old frame.new) }
-    ensures places { OnErr result (KeepsPlaces frame.old frame.new) }
-    ensures refused { IfErr result (RefusedPlace frame.old frame.new list.now.place (plain_get index)) }
+    ensures shared { HandsOut frame.old frame.new
+        (Shares frame.old frame.new list.now.place (plain_get index))
+        (RefusedPlace frame.old frame.new list.now.place (plain_get index)) result }
 {
     let Some(block) = frame.begin(list) else {
         return Err(Fault::Busy);
@@ -109,17 +91,11 @@ pub fn try_list_set<H: Home<A>, A: Allocator>(
     requires value_owned { Owns frame.old value }
     requires apart { value.place ≢ list.now.place }
     requires unlocked { IsUnlocked frame.old }
-    ensures thread { KeepsThread frame.old frame.new }
-    ensures unlocked { IsUnlocked frame.new }
+    ensures set { TakesIn frame.old frame.new value
+        (λ answer. Swaps frame.old frame.new list.now.place value.place (plain_set index) (λ entry. entry))
+        (λ fault. (c : ℕ) → cell_in frame.old value.place ≡ Some c → RefusedCall frame.old frame.new list.now.place (plain_set index c) fault) result }
     ensures kept { Keeps frame.old frame.new }
-
-    ensures set { OnOk result (Swaps frame.old frame.new list.now.place value.place (plain_set index) (λ entry. entry)) }
     ensures same { IfOk result (λ old. old ≡ value) }
-
-    ensures back { IfErr result (λ refused. refused.1 ≡ value) }
-    ensures frame { OnErr result (KeepsFrame frame.old frame.new) }
-    ensures refused { IfErr result (λ refused. (c : ℕ) → cell_in frame.old value.place ≡ Some c →
-        RefusedCall frame.old frame.new list.now.place (plain_set index c) refused.0) }
 {
     let Some(block) = frame.begin(list) else {
         return Err((Fault::Busy, value));

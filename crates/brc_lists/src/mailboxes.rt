@@ -3,7 +3,8 @@
 ghost use Rattle.std.specs.Prelude.{◌≡◌, ◌≢◌, ℕ, Some, IfOk, IfErr, OnOk, OnErr};
 ghost use Rattle.brc_count.specs.Frames.{IsUnlocked, Owns};
 ghost use Rattle.brc_count.specs.Locking.{KeepsThread, KeepsFrame, cell_in};
-ghost use Rattle.brc_containers.specs.Changing.{KeepsPlaces, Puts, Takes, RefusedEntry, RefusedPlace};
+ghost use Rattle.brc_containers.specs.Called.{HandsOut, TakesIn};
+ghost use Rattle.brc_containers.specs.Changing.{Puts, Takes, RefusedEntry, RefusedPlace};
 ghost use Rattle.brc_containers.specs.Handles.{Keeps, Gains, Loses};
 ghost use Rattle.brc_lists.specs.Plain.{plain_send, plain_receive};
 
@@ -25,17 +26,10 @@ pub fn try_send<H: Home<A>, A: Allocator>(
     requires value_owned { Owns frame.old value }
     requires apart { value.place ≢ mailbox.now.place }
     requires unlocked { IsUnlocked frame.old }
-    ensures thread { KeepsThread frame.old frame.new }
-    ensures unlocked { IsUnlocked frame.new }
-
-    ensures sent { OnOk result (Puts frame.old frame.new mailbox.now.place value.place plain_send tt) }
+    ensures sent { TakesIn frame.old frame.new value
+        (λ answer. Puts frame.old frame.new mailbox.now.place value.place plain_send tt)
+        (λ fault. (c : ℕ) → cell_in frame.old value.place ≡ Some c → RefusedEntry frame.old frame.new mailbox.now.place (plain_send c) fault) result }
     ensures loses { OnOk result (Loses frame.old frame.new value) }
-
-    ensures back { IfErr result (λ refused. refused.1 ≡ value) }
-    ensures kept { OnErr result (Keeps frame.old frame.new) }
-    ensures frame { OnErr result (KeepsFrame frame.old frame.new) }
-    ensures refused { IfErr result (λ refused. (c : ℕ) → cell_in frame.old value.place ≡ Some c →
-        RefusedEntry frame.old frame.new mailbox.now.place (plain_send c) refused.0) }
 {
     let Some(block) = frame.begin(mailbox) else {
         return Err((Fault::Busy, value));
@@ -52,15 +46,9 @@ pub fn try_recv<H: Home<A>, A: Allocator>(
 ) -> Result<Handle, Fault>
     requires owned { Owns frame.old mailbox.now }
     requires unlocked { IsUnlocked frame.old }
-    ensures thread { KeepsThread frame.old frame.new }
-    ensures unlocked { IsUnlocked frame.new }
-
-    ensures received { IfOk result (Takes frame.old frame.new mailbox.now.place plain_receive) }
-    ensures gains { IfOk result (Gains frame.old frame.new) }
-
-    ensures kept { OnErr result (Keeps frame.old frame.new) }
-    ensures places { OnErr result (KeepsPlaces frame.old frame.new) }
-    ensures refused { IfErr result (RefusedPlace frame.old frame.new mailbox.now.place plain_receive) }
+    ensures received { HandsOut frame.old frame.new
+        (Takes frame.old frame.new mailbox.now.place plain_receive)
+        (RefusedPlace frame.old frame.new mailbox.now.place plain_receive) result }
 {
     let Some(block) = frame.begin(mailbox) else {
         return Err(Fault::Busy);

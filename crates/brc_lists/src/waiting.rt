@@ -4,7 +4,8 @@ ghost use Rattle.std.specs.Prelude.{◌≡◌, ◌≢◌, ℕ, Some, IfOk, IfErr
 ghost use Rattle.brc_words.specs.declared.fault.Fault.TheVariants as faults;
 ghost use Rattle.brc_count.specs.Frames.{IsUnlocked, Owns};
 ghost use Rattle.brc_count.specs.Locking.{KeepsThread, KeepsFrame, cell_in};
-ghost use Rattle.brc_containers.specs.Changing.{KeepsPlaces, Puts, Swaps, Takes, Shares, RefusedCall, RefusedEntry, RefusedPlace, Late};
+ghost use Rattle.brc_containers.specs.Called.{HandsOut, TakesIn};
+ghost use Rattle.brc_containers.specs.Changing.{Puts, Swaps, Takes, Shares, RefusedCall, RefusedEntry, RefusedPlace, Late};
 ghost use Rattle.brc_containers.specs.Handles.{Keeps, Gains, Loses};
 ghost use Rattle.brc_lists.specs.Plain.{plain_push, plain_pop, plain_get, plain_set, plain_send, plain_receive};
 
@@ -29,18 +30,11 @@ pub fn list_push<H: Home<A>, A: Allocator>(
     requires value_owned { Owns frame.old value }
     requires apart { value.place ≢ list.now.place }
     requires unlocked { IsUnlocked frame.old }
-    ensures thread { KeepsThread frame.old frame.new }
-    ensures unlocked { IsUnlocked frame.new }
-
-    ensures pushed { OnOk result (Late frame.old list.now.place (λ mid. Puts mid frame.new list.now.place value.place plain_push tt)) }
+    ensures pushed { TakesIn frame.old frame.new value
+        (λ answer. Late frame.old list.now.place (λ mid. Puts mid frame.new list.now.place value.place plain_push tt))
+        (λ fault. (c : ℕ) → cell_in frame.old value.place ≡ Some c → Late frame.old list.now.place (λ mid. RefusedEntry mid frame.new list.now.place (plain_push c) fault)) result }
     ensures loses { OnOk result (Loses frame.old frame.new value) }
-
-    ensures back { IfErr result (λ refused. refused.1 ≡ value) }
-    ensures kept { OnErr result (Keeps frame.old frame.new) }
-    ensures frame { OnErr result (KeepsFrame frame.old frame.new) }
     ensures waited { IfErr result (λ refused. refused.0 ≢ faults.Busy) }
-    ensures refused { IfErr result (λ refused. (c : ℕ) → cell_in frame.old value.place ≡ Some c →
-        Late frame.old list.now.place (λ mid. RefusedEntry mid frame.new list.now.place (plain_push c) refused.0)) }
 {
     let block = begin_late(rt, frame, list);
     put_locked(frame, Kind::List, block, value)
@@ -56,16 +50,10 @@ pub fn list_pop<H: Home<A>, A: Allocator>(
 ) -> Result<Handle, Fault>
     requires owned { Owns frame.old list.now }
     requires unlocked { IsUnlocked frame.old }
-    ensures thread { KeepsThread frame.old frame.new }
-    ensures unlocked { IsUnlocked frame.new }
-
-    ensures popped { IfOk result (λ given. Late frame.old list.now.place (λ mid. Takes mid frame.new list.now.place plain_pop given)) }
-    ensures gains { IfOk result (Gains frame.old frame.new) }
-
-    ensures kept { OnErr result (Keeps frame.old frame.new) }
-    ensures places { OnErr result (KeepsPlaces frame.old frame.new) }
+    ensures popped { HandsOut frame.old frame.new
+        (λ given. Late frame.old list.now.place (λ mid. Takes mid frame.new list.now.place plain_pop given))
+        (λ fault. Late frame.old list.now.place (λ mid. RefusedPlace mid frame.new list.now.place plain_pop fault)) result }
     ensures waited { IfErr result (λ fault. fault ≢ faults.Busy) }
-    ensures refused { IfErr result (λ fault. Late frame.old list.now.place (λ mid. RefusedPlace mid frame.new list.now.place plain_pop fault)) }
 {
     let block = begin_late(rt, frame, list);
     let last = block.payload().len().saturating_sub(1);
@@ -83,16 +71,10 @@ pub fn list_get<H: Home<A>, A: Allocator>(
 ) -> Result<Handle, Fault>
     requires owned { Owns frame.old list.now }
     requires unlocked { IsUnlocked frame.old }
-    ensures thread { KeepsThread frame.old frame.new }
-    ensures unlocked { IsUnlocked frame.new }
-
-    ensures shared { IfOk result (λ given. Late frame.old list.now.place (λ mid. Shares mid frame.new list.now.place (plain_get index) given)) }
-    ensures gains { IfOk result (Gains frame.old frame.new) }
-
-    ensures kept { OnErr result (Keeps frame.old frame.new) }
-    ensures places { OnErr result (KeepsPlaces frame.old frame.new) }
+    ensures shared { HandsOut frame.old frame.new
+        (λ given. Late frame.old list.now.place (λ mid. Shares mid frame.new list.now.place (plain_get index) given))
+        (λ fault. Late frame.old list.now.place (λ mid. RefusedPlace mid frame.new list.now.place (plain_get index) fault)) result }
     ensures waited { IfErr result (λ fault. fault ≢ faults.Busy) }
-    ensures refused { IfErr result (λ fault. Late frame.old list.now.place (λ mid. RefusedPlace mid frame.new list.now.place (plain_get index) fault)) }
 {
     let block = begin_late(rt, frame, list);
     share_locked(frame, block, index)
@@ -113,19 +95,12 @@ pub fn list_set<H: Home<A>, A: Allocator>(
     requires value_owned { Owns frame.old value }
     requires apart { value.place ≢ list.now.place }
     requires unlocked { IsUnlocked frame.old }
-    ensures thread { KeepsThread frame.old frame.new }
-    ensures unlocked { IsUnlocked frame.new }
+    ensures set { TakesIn frame.old frame.new value
+        (λ answer. Late frame.old list.now.place (λ mid. Swaps mid frame.new list.now.place value.place (plain_set index) (λ entry. entry)))
+        (λ fault. (c : ℕ) → cell_in frame.old value.place ≡ Some c → Late frame.old list.now.place (λ mid. RefusedCall mid frame.new list.now.place (plain_set index c) fault)) result }
     ensures kept { Keeps frame.old frame.new }
-
-    ensures set { OnOk result (Late frame.old list.now.place (λ mid.
-        Swaps mid frame.new list.now.place value.place (plain_set index) (λ entry. entry))) }
     ensures same { IfOk result (λ old. old ≡ value) }
-
-    ensures back { IfErr result (λ refused. refused.1 ≡ value) }
-    ensures frame { OnErr result (KeepsFrame frame.old frame.new) }
     ensures waited { IfErr result (λ refused. refused.0 ≢ faults.Busy) }
-    ensures refused { IfErr result (λ refused. (c : ℕ) → cell_in frame.old value.place ≡ Some c →
-        Late frame.old list.now.place (λ mid. RefusedCall mid frame.new list.now.place (plain_set index c) refused.0)) }
 {
     let block = begin_late(rt, frame, list);
     swap_locked(frame, block, index, value)
@@ -144,18 +119,11 @@ pub fn send<H: Home<A>, A: Allocator>(
     requires value_owned { Owns frame.old value }
     requires apart { value.place ≢ mailbox.now.place }
     requires unlocked { IsUnlocked frame.old }
-    ensures thread { KeepsThread frame.old frame.new }
-    ensures unlocked { IsUnlocked frame.new }
-
-    ensures sent { OnOk result (Late frame.old mailbox.now.place (λ mid. Puts mid frame.new mailbox.now.place value.place plain_send tt)) }
+    ensures sent { TakesIn frame.old frame.new value
+        (λ answer. Late frame.old mailbox.now.place (λ mid. Puts mid frame.new mailbox.now.place value.place plain_send tt))
+        (λ fault. (c : ℕ) → cell_in frame.old value.place ≡ Some c → Late frame.old mailbox.now.place (λ mid. RefusedEntry mid frame.new mailbox.now.place (plain_send c) fault)) result }
     ensures loses { OnOk result (Loses frame.old frame.new value) }
-
-    ensures back { IfErr result (λ refused. refused.1 ≡ value) }
-    ensures kept { OnErr result (Keeps frame.old frame.new) }
-    ensures frame { OnErr result (KeepsFrame frame.old frame.new) }
     ensures waited { IfErr result (λ refused. refused.0 ≢ faults.Busy) }
-    ensures refused { IfErr result (λ refused. (c : ℕ) → cell_in frame.old value.place ≡ Some c →
-        Late frame.old mailbox.now.place (λ mid. RefusedEntry mid frame.new mailbox.now.place (plain_send c) refused.0)) }
 {
     let block = begin_late(rt, frame, mailbox);
     put_locked(frame, Kind::Mailbox, block, value)
@@ -171,16 +139,10 @@ pub fn recv<H: Home<A>, A: Allocator>(
 ) -> Result<Handle, Fault>
     requires owned { Owns frame.old mailbox.now }
     requires unlocked { IsUnlocked frame.old }
-    ensures thread { KeepsThread frame.old frame.new }
-    ensures unlocked { IsUnlocked frame.new }
-
-    ensures received { IfOk result (λ given. Late frame.old mailbox.now.place (λ mid. Takes mid frame.new mailbox.now.place plain_receive given)) }
-    ensures gains { IfOk result (Gains frame.old frame.new) }
-
-    ensures kept { OnErr result (Keeps frame.old frame.new) }
-    ensures places { OnErr result (KeepsPlaces frame.old frame.new) }
+    ensures received { HandsOut frame.old frame.new
+        (λ given. Late frame.old mailbox.now.place (λ mid. Takes mid frame.new mailbox.now.place plain_receive given))
+        (λ fault. Late frame.old mailbox.now.place (λ mid. RefusedPlace mid frame.new mailbox.now.place plain_receive fault)) result }
     ensures waited { IfErr result (λ fault. fault ≢ faults.Busy) }
-    ensures refused { IfErr result (λ fault. Late frame.old mailbox.now.place (λ mid. RefusedPlace mid frame.new mailbox.now.place plain_receive fault)) }
 {
     let block = begin_late(rt, frame, mailbox);
     take_locked(frame, Kind::Mailbox, block, 0)
