@@ -1,29 +1,17 @@
 //! `brc replay`: a trace of atomic steps on standard input, the world that it leads to on standard output.
 //!
-//! The command line is read in `command`, statuses and error lines are in `program`; all else is `brc_trace`.
+//! What is done, its statuses and its error lines are `brc_program`; here are the words and the streams of the process.
 #![tactic(auto)]
 
-mod command;
-mod program;
-#[cfg(test)]
-mod tests;
-
-use program::{BAD_WORDS, STREAM, program};
-use std::io::{BufWriter, Write};
+use brc_program::{program, refuse};
+use brc_words::Fault;
+use std::io::{BufWriter, ErrorKind};
 use std::process::ExitCode;
 use std::{env, io};
 
-fn main(rt: HostRuntime) -> io::Result<ExitCode> {
-    // Words that aren't text are a bad command line too.
-    let words = match env::args(&rt) {
-        Ok(words) => words.collect::<Vec<String>>(rt.alloc())?,
-        Err(_) => {
-            return match rt.stderr().write_all(b"brc: bad command line\n") {
-                Ok(()) => Ok(ExitCode::from(BAD_WORDS)),
-                Err(_) => Ok(ExitCode::from(STREAM)),
-            };
-        }
-    };
+/// The program over the words and the streams of the process. An error is of what it needs before it can start.
+fn start(rt: &HostRuntime) -> io::Result<u8> {
+    let words = env::args(rt)?.collect::<Vec<String>>(rt.alloc())?;
     let mut output = BufWriter::new(rt.alloc(), rt.stdout())?;
     let status = program(
         rt.alloc(),
@@ -32,5 +20,20 @@ fn main(rt: HostRuntime) -> io::Result<ExitCode> {
         &mut output,
         &mut rt.stderr(),
     );
-    Ok(ExitCode::from(status))
+    Ok(status)
+}
+
+fn main(rt: HostRuntime) -> ExitCode {
+    let status = match start(&rt) {
+        Ok(status) => status,
+        Err(error) => {
+            // Words that aren't text are a bad command line too.
+            let fault = match error.kind() {
+                ErrorKind::OutOfMemory => Fault::OutOfMemory,
+                _ => Fault::BadOptions,
+            };
+            refuse(&mut rt.stderr(), fault)
+        }
+    };
+    ExitCode::from(status)
 }

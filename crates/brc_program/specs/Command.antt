@@ -1,8 +1,8 @@
 -- What a command line asks for.
 use Rattle.std.specs.Prelude.{⊤}
-use Rattle.brc.specs.declared.command.Invocation.{Invocation}
-use Rattle.brc.specs.declared.command.Invocation.TheVariants.{Run}
-use Rattle.brc.specs.declared.command.RunOptions.{RunOptions}
+use Rattle.brc_program.specs.declared.command.Invocation.{Invocation}
+use Rattle.brc_program.specs.declared.command.Invocation.TheVariants.{Run}
+use Rattle.brc_program.specs.declared.command.RunOptions.{RunOptions}
 
 -- where a run is asked for, this is so of its options
 abbrev pub IfRun : Invocation → (RunOptions → Type 0) → Type 0

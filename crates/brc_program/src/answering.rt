@@ -14,13 +14,13 @@ const NOTHING_LIVE: u8 = 0;
 /// Some are.
 const SOMETHING_LIVE: u8 = 1;
 /// The command line is bad.
-pub const BAD_WORDS: u8 = 2;
+const BAD_WORDS: u8 = 2;
 /// The trace is bad.
 const BAD_TRACE: u8 = 3;
 /// A growth was refused.
 const MEMORY: u8 = 4;
 /// A stream failed.
-pub const STREAM: u8 = 5;
+const STREAM: u8 = 5;
 
 /// Does what the words ask for, and answers the status. Of several statuses the highest counts.
 pub fn program<R: Read + Drop, W: Write, E: Write>(
@@ -34,10 +34,17 @@ pub fn program<R: Read + Drop, W: Write, E: Write>(
 {
     match answer(alloc, words, reader, writer) {
         Ok(status) => status,
-        Err(fault) => match tell(errors, fault) {
-            Ok(()) => status_of(fault),
-            Err(_) => STREAM,
-        },
+        Err(fault) => refuse(errors, fault),
+    }
+}
+
+/// Tells of a fault, and answers its status.
+pub fn refuse<E: Write>(errors: &mut E, fault: Fault) -> u8
+    ensures { result ≤ 5 }
+{
+    match tell(errors, fault) {
+        Ok(()) => status_of(fault),
+        Err(_) => STREAM,
     }
 }
 

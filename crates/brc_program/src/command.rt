@@ -3,8 +3,8 @@
 ghost use Rattle.std.specs.Prelude.{◌≡◌, ◌≤◌, ◌⊎◌, ℕ, Ok, Some, None, IfErr, IfOk, IfSome};
 ghost use Rattle.std.specs.Option.{option_and_then};
 ghost use Rattle.brc_text.specs.Numbers.{number_at};
-ghost use Rattle.brc.specs.Command.{IfRun};
-ghost use Rattle.brc.specs.declared.command.TheConstants.{MOST_TURNS};
+ghost use Rattle.brc_program.specs.Command.{IfRun};
+ghost use Rattle.brc_program.specs.declared.command.TheConstants.{MOST_TURNS};
 ghost use Rattle.brc_words.specs.declared.limits.TheConstants.{FEWEST_CELLS, MOST_CELLS, MOST_LOCAL};
 
 use brc_text::number_of;
