@@ -5,10 +5,6 @@
 //! that was found. What goes into a queue, what is popped and what a closed word does is `specs/Queue.antt`.
 #![tactic(auto)]
 
-mod merging;
-mod notify;
 mod queue;
 
-pub use merging::merge_add;
-pub use notify::{nudge, wake};
-pub use queue::{Enqueued, close_word, drain_word, enqueue};
+pub use queue::{Enqueued, close_word, drain_word, enqueue, merge_add, nudge, wake};

@@ -1,11 +1,15 @@
-//! Queue words: references go in, and their bits are popped.
+//! The merge queues: references go into queue words and their bits are popped, notify words say which queue words to look at,
+//! and a popped object's local count joins its shared one.
 
-ghost use Rattle.std.specs.Prelude.{◌≡◌, ◌<◌, ◌∷◌};
+ghost use Rattle.std.specs.Prelude.{◌≡◌, ◌<◌, ◌∷◌, Some};
 ghost use Rattle.brc_runs.specs.Heap.{words_for};
 ghost use Rattle.brc_runs.specs.declared.event.Step.TheVariants as steps;
 ghost use Rattle.brc_rule.specs.declared.told.Moved.TheVariants as moves;
 ghost use Rattle.brc_rule.specs.declared.told.Told.TheVariants as told;
-ghost use Rattle.brc_steps.specs.Owing.{Allowed, Enqueues};
+ghost use Rattle.brc_runs.specs.Steps.{added_hand};
+ghost use Rattle.brc_rule.specs.Noted.{newest_step};
+ghost use Rattle.brc_rule.specs.Seen.{part_seen};
+ghost use Rattle.brc_steps.specs.Owing.{AddsLocal, Allowed, Enqueues, Tells};
 ghost use Rattle.brc_known.specs.Going_On.{handing, popping, closing};
 ghost use Rattle.brc_table.specs.Knowing.{known_seen, Knows, Keeps};
 ghost use Rattle.brc_table.specs.Seated.{Stays};
@@ -70,4 +74,52 @@ pub fn close_word<A: Allocator>(table: &HeapTable<A>, seat: &mut ThreadSeat<A>, 
     ensures keeps { Keeps table.now.cells seat.old.log seat.new.log }
 {
     table.close(seat, word)
+}
+
+/// The local count, as it was looked at, joins the shared one; answers the shared word that was found.
+pub fn merge_add<A: Allocator>(
+    table: &HeapTable<A>,
+    seat: &mut ThreadSeat<A>,
+    cell: u32,
+    local: u32,
+) -> u64
+    requires table { seat.old.table ≡ table.now.table }
+    requires inside { cell < table.now.cells }
+    requires adds { AddsLocal table.now.cells seat.old.log cell local }
+    ensures told { seat.new.log ≡ told.Did (steps.MergeAdd cell) result moves.Nothing ∷ seat.old.log }
+    ensures seat { Stays seat.old seat.new }
+    ensures knows { Knows table.now.cells seat.new.log (handing (added_hand cell (part_seen table.now.cells seat.old.log).row.hand) (known_seen table.now.cells seat.old.log)) }
+    ensures keeps { Keeps table.now.cells seat.old.log seat.new.log }
+    ensures newest { newest_step seat.new.log ≡ Some (steps.MergeAdd cell) }
+{
+    table.merge_add(seat, cell, local)
+}
+
+/// Tells a thread that this one of its queue words has something, and answers what it was told before and hasn't taken yet.
+pub fn nudge<A: Allocator>(
+    table: &HeapTable<A>,
+    seat: &mut ThreadSeat<A>,
+    thread: u32,
+    word: u32,
+) -> u64
+    requires table { seat.old.table ≡ table.now.table }
+    requires tells { Tells table.now.cells seat.old.log thread word }
+    ensures told { seat.new.log ≡ told.Did (steps.Nudge thread word) result moves.Nothing ∷ seat.old.log }
+    ensures seat { Stays seat.old seat.new }
+    ensures knows { Knows table.now.cells seat.new.log (known_seen table.now.cells seat.old.log) }
+    ensures keeps { Keeps table.now.cells seat.old.log seat.new.log }
+{
+    table.nudge(seat, thread, word)
+}
+
+/// Takes what the thread was told: bit k says that something was put into one of its queue words from 32 k on.
+pub fn wake<A: Allocator>(table: &HeapTable<A>, seat: &mut ThreadSeat<A>) -> u64
+    requires table { seat.old.table ≡ table.now.table }
+    requires allowed { Allowed table.now.cells seat.old.log steps.Wake }
+    ensures told { seat.new.log ≡ told.Did steps.Wake result moves.Nothing ∷ seat.old.log }
+    ensures seat { Stays seat.old seat.new }
+    ensures knows { Knows table.now.cells seat.new.log (known_seen table.now.cells seat.old.log) }
+    ensures keeps { Keeps table.now.cells seat.old.log seat.new.log }
+{
+    table.wake(seat)
 }
