@@ -1,10 +1,11 @@
 -- With every thread gathered nobody has anything out: each live object's block is at home.
-use Rattle.std.proofs.Common.{◌≡◌, ◌≢◌, ℕ, zero, suc, ◌<◌, ◌≤◌, ◌==◌, nat_lt, ◌&&◌, not, Bool, true, false, if◌then◌else◌, List, [], ◌∷◌, length, get_or, sum_by, Option, Some, None, refl, sym, ◌∙◌, ap, subst, inl, inr, arith}
-use Rattle.std.proofs.lemmas.Bool.{cases_eq, cases_lt, cases_Bool, eq-eqb, lt-ltb, le-ltb, and_parts, true≢false}
+use Rattle.std.proofs.Common.{◌≡◌, ◌≢◌, ℕ, zero, suc, ◌<◌, ◌≤◌, ◌==◌, nat_lt, ◌&&◌, not, Bool, true, false, if◌then◌else◌, List, [], ◌∷◌, length, get_or, sum_by, Option, Some, None, refl, sym, ◌∙◌, ap, subst, inl, inr, arith, ◌+◌, map, ◌||◌}
+use Rattle.std.proofs.lemmas.Bool.{cases_eq, cases_lt, cases_Bool, eq-eqb, lt-ltb, le-ltb, and_parts, true≢false, or_cases, or_parts, ltb-true, ltb-false}
 use Rattle.std.proofs.lemmas.List.{get_or_past}
 use Rattle.std.proofs.lemmas.List.Sums.{sum_by-cons}
 use Rattle.std.specs.Cmp.Derive.{both_true}
-use mathlib.Core.Option.{some}
+use mathlib.Core.Option.{some, some-injective}
+use lib.ListN.{get_elem?}
 use Rattle.brc_words.specs.declared.limits.TheConstants.{FIRST_MORTAL}
 use Rattle.brc_words.specs.declared.owner.Owner.{Owner}
 use Rattle.brc_words.specs.declared.owner.Owner.TheVariants as owners
@@ -16,7 +17,7 @@ use Rattle.brc_runs.specs.declared.row.Row.{Row}
 use Rattle.brc_runs.specs.declared.row.Hand.{Hand}
 use Rattle.brc_runs.specs.declared.row.Hand.TheVariants as hands
 use Rattle.brc_runs.specs.Lists.{one, is_marked}
-use Rattle.brc_runs.specs.Heap.{Heap, opening, cell_at, row_at, worklist_at, is_registered, no_row, new_row, AreOptions}
+use Rattle.brc_runs.specs.Heap.{Heap, opening, cell_at, row_at, worklist_at, is_immortal, is_registered, no_row, new_row, AreOptions}
 use Rattle.brc_runs.specs.Steps.{after_target, root_after, root_may, thread_may, target_at}
 use Rattle.brc_runs.specs.Holding.{lives, lives_at}
 use Rattle.brc_runs.specs.Runs.{IsRun, IsReached, world_after}
@@ -30,10 +31,11 @@ use Rattle.brc_known.specs.Items.{events_of}
 use Rattle.brc_known.proofs.Items_Runs.{events_run}
 use Rattle.brc_known.proofs.Items_Tells.{no_start}
 use Rattle.brc_block.specs.declared.payload.Payload.{Payload}
+use Rattle.brc_rule.specs.declared.contents.Contents.{Contents}
 use Rattle.brc_rule.specs.declared.view.View.{View}
 use Rattle.brc_rule.specs.Logs.{items_of, contents_at, world}
-use Rattle.brc_table.specs.Rest.{Remains}
-use Rattle.brc_thread.specs.Emptied.{AllGathered, HasBlock, AllAtHome}
+use Rattle.brc_table.specs.Rest.{from_block, Remains}
+use Rattle.brc_thread.specs.Emptied.{AllGathered, is_used, used_from, blocks_in, HasBlock, AllAtHome}
 
 -- ---- who has nothing
 
@@ -150,6 +152,32 @@ module _ {A : Type 0} where
         holds = lies.holds;
       }
 
+  -- slots by cell, each as its cell is
+  record AreThere (h : Heap) (slots : List (Option (ℕ × Payload A))) (c more : ℕ) : Type 0 where
+    pub long : length slots ≡ more
+    pub used : (i d : ℕ) → d ≡ c + i → i < more → is_used h d ≡ true → (payload : Payload A) × (get_elem? slots i ≡ some (Some (d, payload)))
+    pub unused : (i d : ℕ) → d ≡ c + i → i < more → is_used h d ≡ false → get_elem? slots i ≡ some None
+
+  listed : (h : Heap) (slots : List (Option (ℕ × Payload A))) (c more : ℕ) → AreThere h slots c more → map (λ (block : ℕ × Payload A). block.0) (blocks_in slots) ≡ used_from h c more
+  listed h [] c zero there = refl
+  listed h [] c (suc more) there = absurd (omega (arith, there.long))
+  listed h (x ∷ slots) c zero there = absurd (omega (arith, there.long))
+  listed h (x ∷ slots) c (suc more) there =
+      let later : map (λ (block : ℕ × Payload A). block.0) (blocks_in slots) ≡ used_from h (suc c) more = listed h slots (suc c) more (record {
+        long = omega (arith, there.long);
+        used = λ i d is low. there.used (suc i) d (omega (arith, is)) (omega (arith, low));
+        unused = λ i d is low. there.unused (suc i) d (omega (arith, is)) (omega (arith, low));
+      }) in
+      elim (cases_Bool (is_used h c)) [
+        | inl used ↦
+            let first = there.used 0 c (omega arith) (omega arith) used in
+            ap (λ (y : Option (ℕ × Payload A)). map (λ (block : ℕ × Payload A). block.0) (blocks_in (y ∷ slots))) (some-injective _ _ first.1)
+            ∙ ap (λ cells. c ∷ cells) later ∙ sym (ap (λ b. if b then c ∷ used_from h (suc c) more else used_from h (suc c) more) used)
+        | inr unused ↦
+            ap (λ (y : Option (ℕ × Payload A)). map (λ (block : ℕ × Payload A). block.0) (blocks_in (y ∷ slots))) (some-injective _ _ (there.unused 0 c (omega arith) (omega arith) unused))
+            ∙ later ∙ sym (ap (λ b. if b then c ∷ used_from h (suc c) more else used_from h (suc c) more) unused)
+      ]
+
   pub all_at_home : (n limit id : ℕ) (root : View) (slots : List (Option (ℕ × Payload A))) (remains : Remains n limit id root slots)
       → AllGathered (world n limit remains.kept.run) → AllAtHome n (world n limit remains.kept.run) remains.kept.run slots
   all_at_home n limit id root slots remains all =
@@ -160,12 +188,47 @@ module _ {A : Type 0} where
       let reached : IsReached h = run_reached n limit (events_of (items_of run)) options is_run in
       let sound : IsSound h = reached_sound h reached in
       let idle : (t : ℕ) → IsIdle h t = λ t. all_idle h t reached (root_rests n limit (events_of (items_of run)) options is_run) all in
+      let free : (c : ℕ) → FIRST_MORTAL ≤ c → c < n → lives_at h c ≡ false → get_elem? slots c ≡ some None =
+      λ c mortal low dead. remains.each_home c None ((remains.kept.each_home c low).bare (free_there h c sound idle mortal (dead_owner h c mortal dead))) in
       record {
         deep = sym remains.deep ∙ remains.kept.deep;
         immortals = λ c low. in_slot n limit id root slots remains c (omega (arith, low, options.enough)) sound idle (ap lives (sound.immortals c low).owner);
         live = λ c low live. in_slot n limit id root slots remains c low sound idle (and_parts _ _ live).1;
-        free = λ c mortal low dead. remains.each_home c None ((remains.kept.each_home c low).bare (free_there h c sound idle mortal (dead_owner h c mortal dead)));
+        free = free;
+        cells = listed h slots 0 n (record {
+          long = sym remains.deep ∙ remains.kept.deep;
+          used = λ i d is low used. by_cell i d (omega (arith, is)) (in_slot n limit id root slots remains d (omega (arith, is, low)) sound idle (used_lives h d sound used));
+          unused = λ i d is low unused. subst (λ j. get_elem? slots j ≡ some None) (omega (arith, is)) (free d (unused_mortal h d unused) (omega (arith, is, low)) (unused_dead h d unused));
+        });
       }
     where
       dead_owner : (h : Heap) (c : ℕ) → FIRST_MORTAL ≤ c → lives_at h c ≡ false → lives (cell_at h c).owner ≡ false
       dead_owner h c mortal dead = sym (ap (λ b. not b && lives (cell_at h c).owner) (le-ltb c FIRST_MORTAL mortal)) ∙ dead
+
+      by_cell : (i d : ℕ) {contents : Contents} → d ≡ i → HasBlock slots d contents → (payload : Payload A) × (get_elem? slots i ≡ some (Some (d, payload)))
+      by_cell i d same has = (has.payload, subst (λ j. get_elem? slots j ≡ some (Some (d, has.payload))) same has.there)
+
+      used_lives : (h : Heap) (c : ℕ) → IsSound h → is_used h c ≡ true → lives (cell_at h c).owner ≡ true
+      used_lives h c sound used = elim (or_cases (is_immortal c) (lives_at h c) used) [
+        | inl immortal ↦ ap lives (sound.immortals c (ltb-true c FIRST_MORTAL immortal)).owner
+        | inr live ↦ (and_parts _ _ live).1
+      ]
+
+      unused_mortal : (h : Heap) (c : ℕ) → is_used h c ≡ false → FIRST_MORTAL ≤ c
+      unused_mortal h c unused = ltb-false c FIRST_MORTAL (or_parts (is_immortal c) (lives_at h c) unused).0
+
+      unused_dead : (h : Heap) (c : ℕ) → is_used h c ≡ false → lives_at h c ≡ false
+      unused_dead h c unused = (or_parts (is_immortal c) (lives_at h c) unused).1
+
+-- ---- what Rest gives, one after the other
+
+module _ {A : Type 0} where
+  pub gives_next : (slots others : List (Option (ℕ × Payload A))) (block : ℕ × Payload A) → from_block slots ≡ Some block ∷ others → blocks_in slots ≡ block ∷ blocks_in others
+  gives_next [] others block is = absurd (omega (arith, ap length is))
+  gives_next (None ∷ slots) others block is = gives_next slots others block is
+  gives_next (Some first ∷ slots) others block is = ap blocks_in is
+
+  pub gives_none : (slots : List (Option (ℕ × Payload A))) → from_block slots ≡ [] → blocks_in slots ≡ []
+  gives_none [] is = refl
+  gives_none (None ∷ slots) is = gives_none slots is
+  gives_none (Some first ∷ slots) is = absurd (omega (arith, ap length is))

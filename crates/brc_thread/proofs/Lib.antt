@@ -1,4 +1,4 @@
 mod Settled
 mod Ending
 mod Handed
-mod At_Home
+pub mod At_Home

@@ -16,7 +16,7 @@ mod settling;
 
 pub use ends::take_apart;
 pub use heap::{Heap, Options};
-pub use laws::handles_keep_their_objects;
+pub use laws::{handles_keep_their_objects, rest_gives_every_block};
 pub use leaving::{Leaving, Retired};
 pub use mutator::Mutator;
 pub use resting::Resting;
