@@ -10,9 +10,10 @@ ghost use Rattle.brc_thread.specs.Handed.{IsHeld, Next, Spares};
 
 use std::alloc::Allocator;
 
-/// From the step that gives a handle to the step that spends it, no step of any thread gives its cell back, and none bears
-/// another object there: so what a handle names is one object, and its memory is there (PEP 703, "Biased Reference Counting").
-/// That a handle is held is told by its thread's own log, as `brc_count`'s `Owns` asks.
+/// While a thread's own log says that a place of its frame has a cell, from the step that fills the place to the one that empties
+/// it, no step of any thread gives that cell back, and none bears another object there: so what the place names is one object,
+/// and its memory is there (PEP 703, "Biased Reference Counting"). A handle names a thread and a place, and not its heap; that
+/// the place is filled is what `brc_count`'s `Owns` asks.
 pub fn handles_keep_their_objects()
     ensures { (n limit : ℕ) (run : Run) (t k c u : ℕ) (told : told_data)
         → IsHeld n limit run t k c → Next n limit run u told → Spares c told }
