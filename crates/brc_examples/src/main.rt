@@ -2,8 +2,6 @@
 #![tactic(auto)]
 
 mod library;
-#[cfg(test)]
-mod tests;
 
 use brc_trace::run_replay;
 use brc_words::{Fault, Reason};

@@ -22,3 +22,10 @@ pub(crate) fn same_at<T: PartialEq + Debug + Drop>(
 pub(crate) fn holds(rt: &impl Abort, case: &str, is_so: bool) {
     assert!(rt; is_so, "{case}");
 }
+
+/// Each of these is so.
+pub(crate) fn all_hold(rt: &impl Abort, cases: &[(&str, bool)]) {
+    for &(case, is_so) in cases {
+        holds(rt, case, is_so);
+    }
+}

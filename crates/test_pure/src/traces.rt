@@ -1,7 +1,7 @@
 //! Traces as texts: which lines are lines, and which step each is; a whole life there and back, streams and memory that
 //! fail.
 
-use crate::tests::comparing::{same, same_at};
+use crate::comparing::{same, same_at};
 use brc_runs::{Change, Dropped, Event, LastDropped, Source, Step};
 use brc_trace::*;
 use brc_words::{Fault, Reason};
@@ -377,19 +377,16 @@ fn is_read<A: Allocator + Copy>(rt: &impl Abort, size: usize, heap: A) -> bool {
 
 #[test]
 fn refused_memory(rt: HostRuntime) -> Result<(), Fail> {
-    let mut refused = false;
-    let mut read = false;
+    let mut reads = 0u32;
     for size in 1..64 {
         let heap = LocalHeap::new(rt.alloc(), size * 32)?;
         if is_read(&rt, size, &heap) {
-            read = true;
-        } else {
-            refused = true;
+            reads = reads.saturating_add(1);
         }
         same_at(&rt, size, heap.used(), 0);
     }
-    assert!(rt; refused);
-    assert!(rt; read);
+    // In some of the 63 sizes, and not in each.
+    assert!(rt; 0 < reads && reads < 63);
     Ok(())
 }
 

@@ -1,22 +1,17 @@
 //! Containers in use, at their limit, and without memory. What a call answers is its contract.
 
-use crate::tests::comparing::{holds, same};
+use crate::comparing::{all_hold, holds, same};
 use brc_plain::{PlainDict, PlainList, PlainQueue};
 use brc_words::{Fault, Key, MOST_ENTRIES};
 use linked_list_allocator::LocalHeap;
 use std::alloc::{Allocator, Global};
 use std::process::Abort;
 
-/// Takes all the memory that the heap has left.
-fn fill<'h>(rt: &impl Abort, alloc: Global, heap: &'h LocalHeap) -> Vec<Box<u8, &'h LocalHeap>> {
-    let mut filler = Vec::new(alloc);
-    for _ in 0..1_000_000 {
-        match Box::new(heap, 0u8) {
-            Ok(byte) => assert!(rt; filler.push(byte).is_ok()),
-            Err(_) => return filler,
-        }
-    }
-    panic!(rt; "a heap that is never full")
+/// All the memory that the heap has left, in one piece.
+fn fill<'h>(rt: &impl Abort, heap: &'h LocalHeap) -> Vec<u8, &'h LocalHeap> {
+    let filler = Vec::with_capacity(heap, heap.free()).expect(rt, "memory");
+    assert!(rt; heap.free() == 0);
+    filler
 }
 
 /// Whether the dictionary has these keys, in this order, each with this value.
@@ -35,28 +30,27 @@ fn reads<A: Allocator>(dict: &PlainDict<u32, A>, pairs: &[(i64, u32)]) -> bool {
 #[test]
 fn a_list_is_used_at_its_end(rt: HostRuntime) {
     let mut list = PlainList::new(rt.alloc());
-    holds(&rt, "empty", list.is_empty());
-    same(&rt, "no end", list.pop(), Err(Fault::NoSuchPlace));
-    for value in [5, 6, 7u32] {
-        holds(&rt, "pushed", list.push(value).is_ok());
-    }
-    same(&rt, "set", list.set(1, 60), Ok(6));
-    same(
-        &rt,
-        "set past the end",
-        list.set(3, 70),
-        Err((Fault::NoSuchPlace, 70)),
-    );
-    same(&rt, "read", list.get(1), Ok(&60));
-    same(
-        &rt,
-        "read past the end",
-        list.get(3),
-        Err(Fault::NoSuchPlace),
-    );
-    same(&rt, "the end", list.pop(), Ok(7));
+    let cases = [
+        ("empty", list.is_empty()),
+        ("no end", matches!(list.pop(), Err(Fault::NoSuchPlace))),
+        ("pushed", list.push(5u32).is_ok()),
+        ("pushed", list.push(6).is_ok()),
+        ("pushed", list.push(7).is_ok()),
+        ("set", matches!(list.set(1, 60), Ok(6))),
+        (
+            "set past the end",
+            matches!(list.set(3, 70), Err((Fault::NoSuchPlace, 70))),
+        ),
+        ("read", matches!(list.get(1), Ok(60))),
+        (
+            "read past the end",
+            matches!(list.get(3), Err(Fault::NoSuchPlace)),
+        ),
+        ("the end", matches!(list.pop(), Ok(7))),
+        ("its length", list.len() == 2),
+    ];
+    all_hold(&rt, cases.as_slice());
     same(&rt, "the rest", list.as_slice(), [5, 60].as_slice());
-    same(&rt, "its length", list.len(), 2);
 }
 
 /// The value is put under the key, where this value was.
@@ -80,36 +74,44 @@ fn a_dictionary_keeps_the_order_of_its_keys(rt: HostRuntime) {
     puts(&rt, &mut dict, 1, 10, None);
     puts(&rt, &mut dict, 2, 20, None);
     puts(&rt, &mut dict, 3, 30, None);
-    same(&rt, "deleted", dict.delete(&Key::Int(2)), Ok(20));
-    same(
-        &rt,
-        "twice",
-        dict.delete(&Key::Int(2)),
-        Err(Fault::NoSuchKey),
-    );
+    let cases = [
+        ("deleted", matches!(dict.delete(&Key::Int(2)), Ok(20))),
+        (
+            "twice",
+            matches!(dict.delete(&Key::Int(2)), Err(Fault::NoSuchKey)),
+        ),
+    ];
+    all_hold(&rt, cases.as_slice());
     puts(&rt, &mut dict, 2, 21, None);
     puts(&rt, &mut dict, 1, 11, Some(10));
     holds(&rt, "in order", reads(&dict, &[(1, 11), (3, 30), (2, 21)]));
-    same(&rt, "found", dict.find(&Key::Int(3)), Ok(&30));
-    same(
-        &rt,
-        "not there",
-        dict.find(&Key::Int(4)),
-        Err(Fault::NoSuchKey),
-    );
+    let cases = [
+        ("found", matches!(dict.find(&Key::Int(3)), Ok(30))),
+        (
+            "not there",
+            matches!(dict.find(&Key::Int(4)), Err(Fault::NoSuchKey)),
+        ),
+    ];
+    all_hold(&rt, cases.as_slice());
 }
 
 #[test]
 fn a_queue_gives_the_first_put_in(rt: HostRuntime) {
     let mut queue = PlainQueue::new(rt.alloc());
-    holds(&rt, "empty", queue.is_empty());
-    same(&rt, "no first", queue.receive(), Err(Fault::NoSuchPlace));
-    for value in [5, 6, 7u32] {
-        holds(&rt, "sent", queue.send(value).is_ok());
-    }
-    same(&rt, "the first", queue.receive(), Ok(5));
-    same(&rt, "the second", queue.receive(), Ok(6));
-    same(&rt, "its length", queue.len(), 1);
+    let cases = [
+        ("empty", queue.is_empty()),
+        (
+            "no first",
+            matches!(queue.receive(), Err(Fault::NoSuchPlace)),
+        ),
+        ("sent", queue.send(5u32).is_ok()),
+        ("sent", queue.send(6).is_ok()),
+        ("sent", queue.send(7).is_ok()),
+        ("the first", matches!(queue.receive(), Ok(5))),
+        ("the second", matches!(queue.receive(), Ok(6))),
+        ("its length", queue.len() == 1),
+    ];
+    all_hold(&rt, cases.as_slice());
 }
 
 #[test]
@@ -118,10 +120,13 @@ fn a_full_list_takes_no_more(rt: HostRuntime) {
     for value in 0..MOST_ENTRIES {
         holds(&rt, "pushed", list.push(value).is_ok());
     }
-    same(&rt, "one more", list.push(7), Err((Fault::Full, 7)));
-    same(&rt, "set", list.set(0, 7), Ok(0));
-    same(&rt, "the end", list.pop(), Ok(MOST_ENTRIES - 1));
-    holds(&rt, "in its place", list.push(8).is_ok());
+    let cases = [
+        ("one more", matches!(list.push(7), Err((Fault::Full, 7)))),
+        ("set", matches!(list.set(0, 7), Ok(0))),
+        ("the end", list.pop() == Ok(MOST_ENTRIES - 1)),
+        ("in its place", list.push(8).is_ok()),
+    ];
+    all_hold(&rt, cases.as_slice());
 }
 
 #[test]
@@ -130,9 +135,12 @@ fn a_full_queue_takes_no_more(rt: HostRuntime) {
     for value in 0..MOST_ENTRIES {
         holds(&rt, "sent", queue.send(value).is_ok());
     }
-    same(&rt, "one more", queue.send(7), Err((Fault::Full, 7)));
-    same(&rt, "the first", queue.receive(), Ok(0));
-    holds(&rt, "in its place", queue.send(8).is_ok());
+    let cases = [
+        ("one more", matches!(queue.send(7), Err((Fault::Full, 7)))),
+        ("the first", matches!(queue.receive(), Ok(0))),
+        ("in its place", queue.send(8).is_ok()),
+    ];
+    all_hold(&rt, cases.as_slice());
 }
 
 /// All the memory of a heap, for a test that starts with it.
@@ -144,7 +152,7 @@ fn heap_of(rt: &impl Abort, alloc: Global) -> LocalHeap {
 fn a_list_hands_back_what_it_cannot_hold(rt: HostRuntime) {
     let heap = heap_of(&rt, rt.alloc());
     let mut list = PlainList::new(&heap);
-    let filler = fill(&rt, rt.alloc(), &heap);
+    let filler = fill(&rt, &heap);
     same(&rt, "pushed", list.push(7u32), Err((Fault::OutOfMemory, 7)));
     holds(&rt, "empty", list.is_empty());
     drop(filler);
@@ -155,7 +163,7 @@ fn a_list_hands_back_what_it_cannot_hold(rt: HostRuntime) {
 fn a_queue_hands_back_what_it_cannot_hold(rt: HostRuntime) {
     let heap = heap_of(&rt, rt.alloc());
     let mut queue = PlainQueue::new(&heap);
-    let filler = fill(&rt, rt.alloc(), &heap);
+    let filler = fill(&rt, &heap);
     same(&rt, "sent", queue.send(7u32), Err((Fault::OutOfMemory, 7)));
     holds(&rt, "empty", queue.is_empty());
     drop(filler);
@@ -166,7 +174,7 @@ fn a_queue_hands_back_what_it_cannot_hold(rt: HostRuntime) {
 fn a_dictionary_hands_back_what_it_cannot_hold(rt: HostRuntime) {
     let heap = heap_of(&rt, rt.alloc());
     let mut dict = PlainDict::new(&heap);
-    let filler = fill(&rt, rt.alloc(), &heap);
+    let filler = fill(&rt, &heap);
     assert!(rt;
         matches!(
             dict.put(Key::Int(1), 7),
@@ -178,7 +186,7 @@ fn a_dictionary_hands_back_what_it_cannot_hold(rt: HostRuntime) {
     puts(&rt, &mut dict, 1, 7, None);
 
     // A key that is there wants no memory.
-    let _filler = fill(&rt, rt.alloc(), &heap);
+    let _filler = fill(&rt, &heap);
     puts(&rt, &mut dict, 1, 8, Some(7));
     holds(&rt, "the new value", reads(&dict, &[(1, 8)]));
 }

@@ -1,6 +1,6 @@
 //! Whole scripts, every limit one past, and refused memory. Which value a text spells is the contract of `parse`.
 
-use crate::tests::comparing::{holds, same, same_at};
+use crate::comparing::{holds, same, same_at};
 use brc_script::*;
 use brc_words::{Fault, Key};
 use linked_list_allocator::LocalHeap;
@@ -407,8 +407,14 @@ fn sections_are_private(rt: HostRuntime) -> Result<(), Fail> {
     let text =
         "section a\nlist r0\nrepeat 2\nsend r0 r1\nend\nsection b\nshare x r0\nsection c\nrepeat 0\nfetch r0 x\nend\nsection d\nlist r0\nunshare r0 x\n";
     let script = parse(rt.alloc(), text.as_bytes())?;
-    for (section, wanted) in script.sections().iter().zip(&[true, false, false, false]) {
-        same(&rt, section.name.as_str(), is_private(section), *wanted);
+    match script.sections() {
+        [alone, shares, fetches, unshares] => {
+            holds(&rt, "alone", is_private(alone));
+            holds(&rt, "shares", !is_private(shares));
+            holds(&rt, "fetches in a repeat", !is_private(fetches));
+            holds(&rt, "unshares", !is_private(unshares));
+        }
+        _ => panic!(rt; "other sections"),
     }
     Ok(())
 }

@@ -1,6 +1,6 @@
 //! Reports of small heaps, as values and as texts, and of large ones.
 
-use crate::tests::comparing::{holds, same};
+use crate::comparing::{holds, same};
 use brc_report::{
     Cells, Content, Ledger, Remain, Report, check_report, find_cycles, find_remains, write_report,
 };
@@ -28,13 +28,24 @@ fn add(
     contents.push(content).expect(rt, "memory");
 }
 
-/// The text of the report on these contents, of a heap that made and freed so many objects.
+/// What a cell holds: its number, its kind, and its entries.
+type Row = (u32, Kind, &'static [u32]);
+
+/// The contents of these cells.
+fn contents_of(rt: &impl Abort, alloc: Global, rows: &[Row]) -> Vec<Content<Global>> {
+    let mut contents = Vec::new(alloc);
+    for &(cell, kind, entries) in rows {
+        add(rt, alloc, &mut contents, cell, kind, entries);
+    }
+    contents
+}
+
+/// The text of the report on these contents, of a heap that made so many objects and freed none.
 fn report_of(
     rt: &impl Abort,
     alloc: Global,
     contents: Vec<Content<Global>>,
     allocs: u64,
-    frees: u64,
 ) -> Vec<u8> {
     let remains = find_remains(alloc, contents.as_slice())
         .expect(rt, "memory")
@@ -49,8 +60,8 @@ fn report_of(
         ) == Ok(true)
     );
     let report = Report {
-        ledger: Ledger { allocs, frees },
-        live: allocs.saturating_sub(frees),
+        ledger: Ledger { allocs, frees: 0 },
+        live: allocs,
         remains,
         cycles,
         contents,
@@ -60,23 +71,56 @@ fn report_of(
     text
 }
 
-#[test]
-fn a_list_that_holds_itself_is_a_cycle(rt: HostRuntime) {
-    let mut contents = Vec::new(rt.alloc());
-    add(&rt, rt.alloc(), &mut contents, 265, Kind::Dict, &[]);
-    add(&rt, rt.alloc(), &mut contents, 266, Kind::List, &[266]);
-    let text = report_of(&rt, rt.alloc(), contents, 1, 0);
-    assert!(rt; text.as_slice() == b"ledger 1 0 1\nremain 266 list 266\ncycle 266\n".as_slice());
-}
+/// The globals without entries, two lists that hold each other, and a text that the first holds.
+const TWO_LISTS: &[Row] = &[
+    (265, Kind::Dict, &[]),
+    (266, Kind::List, &[268, 267]),
+    (267, Kind::List, &[266]),
+    (268, Kind::Text, &[]),
+];
 
 #[test]
-fn what_the_globals_hold_is_no_cycle(rt: HostRuntime) {
-    let mut contents = Vec::new(rt.alloc());
-    add(&rt, rt.alloc(), &mut contents, 265, Kind::Dict, &[266]);
-    add(&rt, rt.alloc(), &mut contents, 266, Kind::Text, &[]);
-    let text = report_of(&rt, rt.alloc(), contents, 1, 0);
-    assert!(rt; text.as_slice() == b"ledger 1 0 1\nremain 266 text 265\n".as_slice());
+fn reports_are_written(rt: HostRuntime) {
+    const CASES: &[(&str, &[Row], u64, &str)] = &[
+        (
+            "a list that holds itself is a cycle",
+            &[(265, Kind::Dict, &[]), (266, Kind::List, &[266])],
+            1,
+            "ledger 1 0 1\nremain 266 list 266\ncycle 266\n",
+        ),
+        (
+            "what the globals hold is no cycle",
+            &[(265, Kind::Dict, &[266]), (266, Kind::Text, &[])],
+            1,
+            "ledger 1 0 1\nremain 266 text 265\n",
+        ),
+        (
+            "two lists hold each other and a text",
+            TWO_LISTS,
+            3,
+            "ledger 3 0 3\nremain 266 list 267\nremain 267 list 266\nremain 268 text 266\ncycle 266 267\n",
+        ),
+    ];
+    for &(case, rows, allocs, wanted) in CASES {
+        let contents = contents_of(&rt, rt.alloc(), rows);
+        let text = report_of(&rt, rt.alloc(), contents, allocs);
+        same(&rt, case, text.as_slice(), wanted.as_bytes());
+    }
 }
+
+/// Two lists that hold each other.
+const EACH_OTHER: &[Remain] = &[
+    Remain {
+        cell: 266,
+        kind: Kind::List,
+        held_by: 267,
+    },
+    Remain {
+        cell: 267,
+        kind: Kind::List,
+        held_by: 266,
+    },
+];
 
 /// What the check of a report says of these.
 fn is_report(
@@ -89,16 +133,6 @@ fn is_report(
     let cells = Vec::from_slice(alloc, cycle).expect(rt, "memory");
     let cycles = [Cells::new(cells)];
     check_report(alloc, remains, &cycles, contents).expect(rt, "memory")
-}
-
-/// The globals without entries, two lists that hold each other, and a text that the first holds.
-fn two_lists_and_a_text(rt: &impl Abort, alloc: Global) -> Vec<Content<Global>> {
-    let mut contents = Vec::new(alloc);
-    add(rt, alloc, &mut contents, 265, Kind::Dict, &[]);
-    add(rt, alloc, &mut contents, 266, Kind::List, &[268, 267]);
-    add(rt, alloc, &mut contents, 267, Kind::List, &[266]);
-    add(rt, alloc, &mut contents, 268, Kind::Text, &[]);
-    contents
 }
 
 #[test]
@@ -120,25 +154,18 @@ fn a_report_is_checked(rt: HostRuntime) {
             held_by: 266,
         },
     ];
-    let contents = two_lists_and_a_text(&rt, rt.alloc());
-    let contents = contents.as_slice();
-    let is = is_report(&rt, rt.alloc(), REMAINS, &[266, 267], contents);
-    holds(&rt, "right", is);
-    let is = is_report(&rt, rt.alloc(), &REMAINS[..2], &[266, 267], contents);
-    holds(&rt, "a remain too few", !is);
-    let is = is_report(&rt, rt.alloc(), REMAINS, &[267, 266], contents);
-    holds(&rt, "the cycle's second cell first", !is);
-    let is = check_report(rt.alloc(), REMAINS, &[], contents);
+    const CASES: &[(&str, &[Remain], &[u32], bool)] = &[
+        ("right", REMAINS, &[266, 267], true),
+        ("a remain too few", EACH_OTHER, &[266, 267], false),
+        ("the cycle's second cell first", REMAINS, &[267, 266], false),
+    ];
+    let contents = contents_of(&rt, rt.alloc(), TWO_LISTS);
+    for &(case, remains, cycle, wanted) in CASES {
+        let is = is_report(&rt, rt.alloc(), remains, cycle, contents.as_slice());
+        holds(&rt, case, is == wanted);
+    }
+    let is = check_report(rt.alloc(), REMAINS, &[], contents.as_slice());
     same(&rt, "no cycle", is, Ok(false));
-}
-
-#[test]
-fn two_lists_hold_each_other_and_a_text(rt: HostRuntime) {
-    let contents = two_lists_and_a_text(&rt, rt.alloc());
-    let text = report_of(&rt, rt.alloc(), contents, 3, 0);
-    let wanted =
-        b"ledger 3 0 3\nremain 266 list 267\nremain 267 list 266\nremain 268 text 266\ncycle 266 267\n";
-    same(&rt, "the text", text.as_slice(), wanted.as_slice());
 }
 
 #[test]
@@ -193,26 +220,31 @@ fn cycles_stand_by_their_first_cells(rt: HostRuntime) {
 }
 
 /// The contents alone, without a remain and a cycle, are a report or none.
-fn alone(rt: &impl Abort, alloc: Global, case: &str, contents: &[Content<Global>], is: bool) {
-    same(rt, case, check_report(alloc, &[], &[], contents), Ok(is));
-}
-
 #[test]
 fn contents_that_do_not_rise_are_no_report(rt: HostRuntime) {
-    let mut contents = Vec::new(rt.alloc());
-    alone(&rt, rt.alloc(), "no globals", contents.as_slice(), false);
-    add(&rt, rt.alloc(), &mut contents, 265, Kind::Dict, &[]);
-    alone(&rt, rt.alloc(), "globals", contents.as_slice(), true);
-    add(&rt, rt.alloc(), &mut contents, 266, Kind::Text, &[]);
-    alone(
-        &rt,
-        rt.alloc(),
-        "a remain too few",
-        contents.as_slice(),
-        false,
-    );
-    add(&rt, rt.alloc(), &mut contents, 266, Kind::List, &[266]);
-    alone(&rt, rt.alloc(), "a cell twice", contents.as_slice(), false);
+    const CASES: &[(&str, &[Row], bool)] = &[
+        ("no globals", &[], false),
+        ("globals", &[(265, Kind::Dict, &[])], true),
+        (
+            "a remain too few",
+            &[(265, Kind::Dict, &[]), (266, Kind::Text, &[])],
+            false,
+        ),
+        (
+            "a cell twice",
+            &[
+                (265, Kind::Dict, &[]),
+                (266, Kind::Text, &[]),
+                (266, Kind::List, &[266]),
+            ],
+            false,
+        ),
+    ];
+    for &(case, rows, wanted) in CASES {
+        let contents = contents_of(&rt, rt.alloc(), rows);
+        let is = check_report(rt.alloc(), &[], &[], contents.as_slice());
+        same(&rt, case, is, Ok(wanted));
+    }
 }
 
 #[test]
@@ -286,22 +318,10 @@ fn a_million_entries_have_their_holders(rt: HostRuntime) {
 
 #[test]
 fn a_refused_growth_is_told(rt: HostRuntime) {
-    let remains = [
-        Remain {
-            cell: 266,
-            kind: Kind::List,
-            held_by: 267,
-        },
-        Remain {
-            cell: 267,
-            kind: Kind::List,
-            held_by: 266,
-        },
-    ];
     let heap = LocalHeap::new(rt.alloc(), 16).expect(&rt, "memory");
-    assert!(rt; matches!(find_cycles(&heap, &remains), Err(Fault::OutOfMemory)));
+    assert!(rt; matches!(find_cycles(&heap, EACH_OTHER), Err(Fault::OutOfMemory)));
     let ample = LocalHeap::new(rt.alloc(), 100_000).expect(&rt, "memory");
-    assert!(rt; find_cycles(&ample, &remains).is_ok());
+    assert!(rt; find_cycles(&ample, EACH_OTHER).is_ok());
 }
 
 /// Two texts that remain, and a cycle of 60 cells: its line has 246 bytes.

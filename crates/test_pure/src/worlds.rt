@@ -1,0 +1,290 @@
+//! Each call once on its way, and each growth refused. Whole runs are replayed as texts, in `worked_runs.rt`.
+
+use crate::comparing::{all_hold, holds, same};
+use brc_core::{
+    Change, Event, Hand, Ledger, Phase, Refusal, ReplayFault, Source, Status, Step, StepFault,
+    World, replay,
+};
+use brc_model::Holder;
+use brc_trace::read_trace;
+use brc_words::{Fault, Kind, Owner, State};
+use linked_list_allocator::LocalHeap;
+use std::alloc::{Allocator, Global};
+use std::process::Abort;
+
+#[test]
+fn sizes_of_no_heap_are_refused(rt: HostRuntime) {
+    const CASES: &[(&str, u32, u32)] = &[
+        ("too few cells", 511, 1),
+        ("too many cells", 65_537, 1),
+        ("no local count", 512, 0),
+        ("the local word of an immortal", 512, 4_294_967_295),
+    ];
+    for &(case, cells, limit) in CASES {
+        let found = World::new(rt.alloc(), cells, limit).err();
+        same(&rt, case, found, Some(Fault::BadOptions));
+    }
+}
+
+#[test]
+fn an_event_is_made_or_refused(rt: HostRuntime) -> Result<(), Fault> {
+    const EVENT: Event = Event {
+        thread: 0,
+        step: Step::Register(1),
+    };
+    let mut world = World::new(rt.alloc(), 512, 7)?;
+    let (before, made) = (world.refusal(&EVENT), world.step(&EVENT));
+    let (after, again) = (world.refusal(&EVENT), world.step(&EVENT));
+    holds(&rt, "enabled", before.is_none());
+    holds(&rt, "made", made.is_ok());
+    holds(&rt, "not again", matches!(after, Some(Refusal::NotNext)));
+    holds(&rt, "refused", matches!(again, Err(StepFault::NotEnabled)));
+    Ok(())
+}
+
+/// How many threads there are behind these events, or why there is no world.
+fn registered(alloc: Global, events: &[Event], cells: u32) -> Result<u32, ReplayFault> {
+    let world = replay(alloc, events, cells, 7)?;
+    Ok(world.registered())
+}
+
+#[test]
+fn a_replay_answers_a_world_or_a_fault(rt: HostRuntime) {
+    const REGISTER: Event = Event {
+        thread: 0,
+        step: Step::Register(1),
+    };
+    const WAKE: Event = Event {
+        thread: 1,
+        step: Step::Wake,
+    };
+    const CASES: &[(&str, &[Event], u32, Result<u32, ReplayFault>)] = &[
+        ("a world", &[REGISTER, WAKE], 512, Ok(1)),
+        (
+            "no thread",
+            &[WAKE],
+            512,
+            Err(ReplayFault::NotEnabled { at: 0 }),
+        ),
+        ("no heap", &[REGISTER, WAKE], 511, Err(ReplayFault::Options)),
+    ];
+    for &(case, events, cells, wanted) in CASES {
+        same(&rt, case, registered(rt.alloc(), events, cells), wanted);
+    }
+}
+
+/// The world that a trace leads to.
+fn world_behind(alloc: Global, lines: &[u8]) -> Result<World<Global>, Fault> {
+    let trace = read_trace(alloc, lines)?;
+    Ok(replay(
+        alloc,
+        trace.events.as_slice(),
+        trace.cells,
+        trace.local_limit,
+    )?)
+}
+
+/// Thread 1 holds two lists. A text of its is dead, on its worklist, and another was freed. Thread 2 gave up a reference to each
+/// list: one lies in the queue of thread 1, one is popped. Thread 1 has the globals locked, and thread 2 has a dictionary in
+/// its hand that nothing holds any more.
+const BUSY: &[u8] =
+    b"heap 512 7\n0 register 1\n0 register 2\n1 claim 267\n1 local 267\n1 shared 267\n1 born 267 text 1\n1 down f1\n1 see 267\n1 free 267\n1 claim 266\n1 local 266\n1 shared 266\n1 born 266 list 0\n1 claim 300\n1 local 300\n1 shared 300\n1 born 300 list 1\n1 claim 267\n1 local 267\n1 shared 267\n1 born 267 text 5\n1 up f0 2\n1 up i265 3\n1 lock 3\n1 unlock put 2\n1 lock 3\n1 unlock put 1\n2 up i265 0\n2 lock 0\n2 unlock take 0 1\n2 ask f1\n2 enq 266\n2 lock 0\n2 unlock take 0 1\n2 ask f1\n2 enq 300\n1 drain 9\n1 down f5\n1 see 267\n1 lock 3\n2 claim 301\n2 local 301\n2 shared 301\n2 born 301 dict 1\n2 down f1\n";
+
+fn threads_stand(rt: &impl Abort, world: &World<Global>) {
+    let cases = [
+        ("cells", world.cells() == 512),
+        ("local_limit", world.local_limit() == 7),
+        ("registered", world.registered() == 2),
+        ("the root has no status", world.status(0).is_none()),
+        ("status", matches!(world.status(1), Some(Status::Active))),
+        ("a free hand", matches!(world.hand(1), Some(Hand::Free))),
+        (
+            "a hand",
+            matches!(world.hand(2), Some(Hand::Busy(Phase::Zero, 301))),
+        ),
+        ("locked", world.locked(1) == Some(3)),
+        ("nothing locked", world.locked(2) == None),
+        ("places", world.places(1) == 6),
+        ("a place", world.place(1, 0) == Some(266)),
+        ("a vacant place", world.place(1, 5) == None),
+    ];
+    all_hold(rt, cases.as_slice());
+}
+
+fn piles_stand(rt: &impl Abort, world: &World<Global>) {
+    let cases = [
+        ("queued", world.queued(1, 266)),
+        ("not queued", !world.queued(1, 300)),
+        ("popped", world.popped(1, 300)),
+        ("not popped", !world.popped(1, 266)),
+        ("on_worklist", world.on_worklist(1, 267)),
+        ("not on_worklist", !world.on_worklist(1, 266)),
+        ("something queued", !world.has_nothing_queued(1)),
+        ("has_nothing_queued", world.has_nothing_queued(2)),
+        ("something popped", !world.has_nothing_popped(1)),
+        ("has_nothing_popped", world.has_nothing_popped(2)),
+        ("some work", !world.has_no_work(1)),
+        ("has_no_work", world.has_no_work(2)),
+    ];
+    all_hold(rt, cases.as_slice());
+}
+
+fn cells_stand(rt: &impl Abort, world: &World<Global>) {
+    let cases = [
+        ("is_live", world.is_live(266)),
+        ("not is_live", !world.is_live(268)),
+        ("owner", matches!(world.owner(266), Some(Owner::Thread(1)))),
+        ("kind", matches!(world.kind(266), Some(Kind::List))),
+        (
+            "an immortal's kind",
+            matches!(world.kind(13), Some(Kind::Int)),
+        ),
+        ("local", world.local(266) == Some(2)),
+        ("count", world.count(266) == Some(0)),
+        ("state", matches!(world.state(266), Some(State::Queued))),
+        ("total", world.total(266) == Some(2)),
+        ("no total", world.total(268) == None),
+        ("entries", world.entries(266).len() == 0),
+        ("no entry", world.entry(265, 0) == None),
+    ];
+    all_hold(rt, cases.as_slice());
+}
+
+fn ledgers_stand(rt: &impl Abort, world: &World<Global>) {
+    const WANTED: Ledger = Ledger {
+        allocs: 5,
+        frees: 1,
+    };
+    same(rt, "ledgers", world.ledgers(), WANTED);
+    let own = world.ledger(2);
+    let cases = [
+        (
+            "ledger",
+            matches!(
+                own,
+                Some(Ledger {
+                    allocs: 1,
+                    frees: 0,
+                })
+            ),
+        ),
+        ("live", world.live() == 4),
+    ];
+    all_hold(rt, cases.as_slice());
+}
+
+#[test]
+fn readers_of_a_world(rt: HostRuntime) -> Result<(), Fault> {
+    const WANTED: &[Holder] = &[
+        Holder::Frame {
+            thread: 1,
+            place: 0,
+        },
+        Holder::Queue {
+            thread: 1,
+            cell: 266,
+        },
+    ];
+    let world = world_behind(rt.alloc(), BUSY)?;
+    threads_stand(&rt, &world);
+    piles_stand(&rt, &world);
+    cells_stand(&rt, &world);
+    ledgers_stand(&rt, &world);
+    let holders = world.holders(rt.alloc(), 266)?;
+    same(&rt, "the holders", holders.as_slice(), WANTED);
+    Ok(())
+}
+
+/// One step, by its thread.
+fn make<A: Allocator + Copy>(
+    world: &mut World<A>,
+    thread: u32,
+    step: Step,
+) -> Result<(), StepFault> {
+    world.step(&Event { thread, step })
+}
+
+/// Thread 1 makes a list in a free cell, up to its birth.
+fn prepare<A: Allocator + Copy>(world: &mut World<A>, cell: u32) -> Result<(), StepFault> {
+    make(world, 1, Step::Claim(cell))?;
+    make(world, 1, Step::InitLocal(cell))?;
+    make(world, 1, Step::InitShared(cell))
+}
+
+/// The list is born into a place of the frame.
+fn born(cell: u32, place: u32) -> Step {
+    let kind = Kind::List;
+    Step::Birth { cell, kind, place }
+}
+
+/// What is read of a world on both sides of a step.
+type Seen = (u32, Option<Hand>, Option<u32>, Option<i64>, Option<u32>);
+
+fn seen<A: Allocator + Copy>(world: &World<A>) -> Seen {
+    (
+        world.registered(),
+        world.hand(1),
+        world.local(266),
+        world.count(266),
+        world.locked(1),
+    )
+}
+
+/// Whether memory is refused for the step, and the world is then as it was.
+fn is_refused<A: Allocator + Copy>(world: &mut World<A>, thread: u32, step: Step) -> bool {
+    let before = seen(world);
+    make(world, thread, step) == Err(StepFault::Memory) && seen(world) == before
+}
+
+/// Steps that need more memory, one after the other: how many are made before one is refused.
+fn growths<A: Allocator + Copy>(world: &mut World<A>) -> Result<u32, StepFault> {
+    if is_refused(world, 0, Step::Register(1)) {
+        return Ok(0);
+    }
+    prepare(world, 266)?;
+    if is_refused(world, 1, born(266, 0)) {
+        return Ok(1);
+    }
+    prepare(world, 267)?;
+    make(world, 1, born(267, 1))?;
+    make(world, 1, Step::Lock(0))?;
+    if is_refused(world, 1, Step::Unlock(Change::Put(1))) {
+        return Ok(2);
+    }
+    make(world, 1, Step::Lock(0))?;
+    Ok(farther_growths(world))
+}
+
+/// The same with steps that fill places farther and farther away.
+fn farther_growths<A: Allocator + Copy>(world: &mut World<A>) -> u32 {
+    let (index, place) = (0, 20);
+    if is_refused(world, 1, Step::Unlock(Change::Take { index, place })) {
+        return 3;
+    }
+    let (source, place) = (Source::Frame(0), 90);
+    if is_refused(world, 1, Step::LocalUp { source, place }) {
+        return 4;
+    }
+    let place = 400;
+    if is_refused(world, 1, Step::SharedUp { source, place }) {
+        return 5;
+    }
+    6
+}
+
+/// Each size of memory in turn: every growth is refused at some of them.
+#[test]
+fn refused_growths_change_nothing(rt: HostRuntime) -> Result<(), Fault> {
+    let mut next = 0u32;
+    for size in 4_000..5_500usize {
+        let heap = LocalHeap::new(rt.alloc(), size * 8)?;
+        let Ok(mut world) = World::new(&heap, 512, 2) else {
+            continue;
+        };
+        if growths(&mut world) == Ok(next) {
+            next = next.saturating_add(1);
+        }
+    }
+    assert_eq!(rt; next, 7);
+    Ok(())
+}
