@@ -4,10 +4,4 @@
 #![tactic(auto)]
 
 #[cfg(test)]
-mod command_lines;
-#[cfg(test)]
-mod running;
-#[cfg(test)]
-mod statuses;
-#[cfg(test)]
-mod streams;
+mod tests;

@@ -1,6 +1,6 @@
 //! Runs that were worked by hand: what a replay of each writes, and what it answers.
 
-use crate::comparing::same;
+use crate::tests::comparing::same;
 use brc_trace::*;
 use brc_words::{Fault, Reason};
 use std::alloc::AllocGlobal;

@@ -1,7 +1,7 @@
 //! Traces as texts: which lines are lines, and which step each is; a whole life there and back, streams and memory that
 //! fail.
 
-use crate::comparing::{same, same_at};
+use crate::tests::comparing::{same, same_at};
 use brc_runs::{Change, Dropped, Event, LastDropped, Source, Step};
 use brc_trace::*;
 use brc_words::{Fault, Reason};
@@ -361,18 +361,10 @@ fn failing_writers(rt: HostRuntime) -> Result<(), Fail> {
     Ok(())
 }
 
-/// Whether the life was read in the heap's memory, or else it is told that there was no more.
-fn is_read<A: Allocator + Copy>(rt: &impl Abort, size: usize, heap: A) -> bool {
-    match read_trace(heap, LIFE.as_bytes()) {
-        Ok(trace) => {
-            same_at(rt, size, trace.events.len(), 10);
-            true
-        }
-        Err(fault) => {
-            same_at(rt, size, fault, Fault::OutOfMemory);
-            false
-        }
-    }
+/// How many events of the life are read in the heap's memory.
+fn events_in<A: Allocator + Copy>(heap: A) -> Result<usize, Fault> {
+    let trace = read_trace(heap, LIFE.as_bytes())?;
+    Ok(trace.events.len())
 }
 
 #[test]
@@ -380,8 +372,12 @@ fn refused_memory(rt: HostRuntime) -> Result<(), Fail> {
     let mut reads = 0u32;
     for size in 1..64 {
         let heap = LocalHeap::new(rt.alloc(), size * 32)?;
-        if is_read(&rt, size, &heap) {
-            reads = reads.saturating_add(1);
+        match events_in(&heap) {
+            Ok(count) => {
+                same_at(&rt, size, count, 10);
+                reads = reads.saturating_add(1);
+            }
+            Err(fault) => same_at(&rt, size, fault, Fault::OutOfMemory),
         }
         same_at(&rt, size, heap.used(), 0);
     }

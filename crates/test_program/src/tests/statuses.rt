@@ -1,6 +1,6 @@
 //! What comes of a trace: the status, the world, the error line.
 
-use crate::running::{ran, same};
+use crate::tests::running::{ran, same};
 use std::test::*;
 
 /// A list is made, given up, and freed.

@@ -1,6 +1,6 @@
 //! Each call once on its way, and each growth refused. Whole runs are replayed as texts, in `worked_runs.rt`.
 
-use crate::comparing::{all_hold, holds, same};
+use crate::tests::comparing::{all_hold, holds, same};
 use brc_core::{
     Change, Event, Hand, Ledger, Phase, Refusal, ReplayFault, Source, Status, Step, StepFault,
     World, replay,

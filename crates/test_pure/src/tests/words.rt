@@ -1,6 +1,6 @@
 //! The names of faults as they are shown, and words worked by hand.
 
-use crate::comparing::{holds, same};
+use crate::tests::comparing::{holds, same};
 use brc_words::*;
 use std::alloc::{AllocError, Allocator, Global};
 use std::hash::{DefaultHasher, Hash, Hasher};

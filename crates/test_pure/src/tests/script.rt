@@ -1,6 +1,6 @@
 //! Whole scripts, every limit one past, and refused memory. Which value a text spells is the contract of `parse`.
 
-use crate::comparing::{holds, same, same_at};
+use crate::tests::comparing::{holds, same, same_at};
 use brc_script::*;
 use brc_words::{Fault, Key};
 use linked_list_allocator::LocalHeap;

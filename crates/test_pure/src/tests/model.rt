@@ -1,6 +1,6 @@
 //! Lives of objects in the map, told by hand.
 
-use crate::comparing::holds;
+use crate::tests::comparing::holds;
 use brc_model::{Exchange, Handover, Handovers, Holder, HolderWorld, Move, Refused, Spot};
 use brc_words::Kind;
 use linked_list_allocator::LocalHeap;

@@ -1,6 +1,6 @@
 //! Streams that fail.
 
-use crate::running::{ended, same, status_of};
+use crate::tests::running::{ended, same, status_of};
 use std::io::{self, Error, ErrorKind, Read, Write};
 use std::test::*;
 

@@ -1,6 +1,6 @@
 //! Words of the world text, which are written alone, and numbers at their bounds.
 
-use crate::comparing::same;
+use crate::tests::comparing::same;
 use brc_text::*;
 use brc_words::Fault;
 use std::io::{self, Write};

@@ -1,6 +1,6 @@
 //! Command lines: bad ones, help, and what the options of a run are read as.
 
-use crate::running::{ran, same, words_of};
+use crate::tests::running::{ran, same, words_of};
 use brc_program::{Invocation, RunOptions, read_words};
 use std::alloc::{AllocError, AllocGlobal, Global};
 use std::process::Abort;

@@ -1,6 +1,6 @@
 //! Containers in use, at their limit, and without memory. What a call answers is its contract.
 
-use crate::comparing::{all_hold, holds, same};
+use crate::tests::comparing::{all_hold, holds, same};
 use brc_plain::{PlainDict, PlainList, PlainQueue};
 use brc_words::{Fault, Key, MOST_ENTRIES};
 use linked_list_allocator::LocalHeap;

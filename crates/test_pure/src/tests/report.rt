@@ -1,6 +1,6 @@
 //! Reports of small heaps, as values and as texts, and of large ones.
 
-use crate::comparing::{holds, same};
+use crate::tests::comparing::{holds, same};
 use brc_report::{
     Cells, Content, Ledger, Remain, Report, check_report, find_cycles, find_remains, write_report,
 };

@@ -1,7 +1,7 @@
 //! Sections run by themselves. What a section comes to is the contract of `plain_run`; the texts here are worked by hand
 //! from the table of instructions.
 
-use crate::comparing::{same, same_at};
+use crate::tests::comparing::{same, same_at};
 use brc_meaning::plain_run;
 use brc_script::{Script, Section, is_private, parse};
 use brc_words::Fault;

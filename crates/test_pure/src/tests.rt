@@ -1,0 +1,13 @@
+//! The tests, by crate.
+
+mod comparing;
+mod meaning;
+mod model;
+mod plain;
+mod report;
+mod script;
+mod text;
+mod traces;
+mod words;
+mod worked_runs;
+mod worlds;
