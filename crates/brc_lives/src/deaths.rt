@@ -1,7 +1,7 @@
 //! A long chain of lists, and its death; and a list of many lists.
 
 ghost use Rattle.brc_count.specs.Frames.{IsUnlocked, Owns};
-ghost use Rattle.brc_lives.specs.Handles.{GoesOn};
+ghost use Rattle.brc_containers.specs.Handles.{GoesOn};
 
 use crate::ends::ends;
 use crate::entries::put_into_list;

@@ -1,7 +1,7 @@
 //! Values beside keys: put, replaced, found and taken out again, under the lock of their dictionary.
 
 ghost use Rattle.brc_count.specs.Frames.{IsUnlocked};
-ghost use Rattle.brc_lives.specs.Handles.{GoesOn};
+ghost use Rattle.brc_containers.specs.Handles.{GoesOn};
 
 use crate::ends::ends;
 use crate::holds::give_back;

@@ -2,7 +2,7 @@
 
 ghost use Rattle.std.specs.Prelude.{◌≡◌, ◌≢◌};
 ghost use Rattle.brc_count.specs.Frames.{IsUnlocked, Owns};
-ghost use Rattle.brc_lives.specs.Handles.{Loses};
+ghost use Rattle.brc_containers.specs.Handles.{Loses};
 
 use brc_count::{Frame, Handle};
 use brc_counter::Home;
@@ -21,7 +21,8 @@ pub(crate) fn put_into_list<H: Home<A>, A: Allocator>(
     requires entry { Owns frame.old entry }
     requires apart { entry.place ≢ list.now.place }
     requires unlocked { IsUnlocked frame.old }
-    ensures { Loses frame.old frame.new entry }
+    ensures unlocked { IsUnlocked frame.new }
+    ensures loses { Loses frame.old frame.new entry }
 {
     match try_list_push(frame, list, entry) {
         Ok(()) => {}

@@ -1,7 +1,7 @@
 //! A heap without a free cell, and a frame without a free place.
 
 ghost use Rattle.brc_count.specs.Frames.{IsUnlocked};
-ghost use Rattle.brc_lives.specs.Handles.{GoesOn};
+ghost use Rattle.brc_containers.specs.Handles.{GoesOn};
 
 use crate::ends::ends;
 use crate::holds::{give_all_back, give_back, keep, pick, retained};

@@ -3,7 +3,7 @@
 ghost use Rattle.std.specs.Prelude.{◌≡◌, ◌≢◌, ◌<◌, IfSome};
 ghost use Rattle.brc_words.specs.declared.limits.TheConstants.{GLOBALS};
 ghost use Rattle.brc_count.specs.Frames.{IsUnlocked, Owns};
-ghost use Rattle.brc_lives.specs.Handles.{Gains, Loses};
+ghost use Rattle.brc_containers.specs.Handles.{Gains, Loses};
 
 use crate::phases::{an_immortal, release};
 use brc_count::{Frame, Handle};
@@ -26,7 +26,8 @@ fn put_beside<R: Abort + Wait, H: Home<A>, A: Allocator>(
     requires value { Owns frame.old value }
     requires apart { value.place ≢ dict.now.place }
     requires unlocked { IsUnlocked frame.old }
-    ensures { Loses frame.old frame.new value }
+    ensures unlocked { IsUnlocked frame.new }
+    ensures loses { Loses frame.old frame.new value }
 {
     match dict_put(rt, frame, dict, Key::Int(key), value) {
         Ok(None) => {}
@@ -45,7 +46,8 @@ pub(crate) fn put_into_globals<R: Abort + Wait, H: Home<A>, A: Allocator>(
     requires inside { GLOBALS < frame.old.heap.cells }
     requires owned { Owns frame.old handle }
     requires unlocked { IsUnlocked frame.old }
-    ensures { Loses frame.old frame.new handle }
+    ensures unlocked { IsUnlocked frame.new }
+    ensures loses { Loses frame.old frame.new handle }
 {
     let globals = an_immortal(rt, frame, GLOBALS);
     put_beside(rt, frame, &globals, key, handle);
@@ -85,7 +87,8 @@ pub(crate) fn take_from_globals<R: Abort + Wait, H: Home<A>, A: Allocator>(
 ) -> Handle
     requires inside { GLOBALS < frame.old.heap.cells }
     requires unlocked { IsUnlocked frame.old }
-    ensures { Gains frame.old frame.new result }
+    ensures unlocked { IsUnlocked frame.new }
+    ensures gains { Gains frame.old frame.new result }
 {
     match take_if_any(rt, frame, key) {
         Some(handle) => handle,

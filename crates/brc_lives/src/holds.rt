@@ -2,7 +2,7 @@
 //! is looked at before it is used.
 
 ghost use Rattle.brc_count.specs.Frames.{IsUnlocked};
-ghost use Rattle.brc_lives.specs.Handles.{GoesOn};
+ghost use Rattle.brc_containers.specs.Handles.{GoesOn};
 
 use crate::phases::release;
 use brc_count::{Frame, Handle};

@@ -1,7 +1,7 @@
 //! Objects of each kind: which are there already, which are new, and in which cells.
 
 ghost use Rattle.brc_count.specs.Frames.{IsUnlocked, Owns};
-ghost use Rattle.brc_lives.specs.Handles.{GoesOn, Loses};
+ghost use Rattle.brc_containers.specs.Handles.{GoesOn, Loses};
 
 use crate::ends::ends;
 use crate::phases::{another, entered, leaves, opened, release, release_both, says};
@@ -20,7 +20,8 @@ fn goes_from<H: Home<A>, A: Allocator>(
 )
     requires owned { Owns frame.old handle }
     requires unlocked { IsUnlocked frame.old }
-    ensures { Loses frame.old frame.new handle }
+    ensures unlocked { IsUnlocked frame.new }
+    ensures loses { Loses frame.old frame.new handle }
 {
     assert_eq!(rt; frame.cell(&handle), cell);
     release(frame, handle);

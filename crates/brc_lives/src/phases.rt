@@ -5,7 +5,7 @@ ghost use Rattle.brc_words.specs.declared.limits.TheConstants.{FIRST_MORTAL, MOS
 ghost use Rattle.brc_steps.specs.Joining.{next_thread, registering};
 ghost use Rattle.brc_rule.specs.Opening.{first_view};
 ghost use Rattle.brc_count.specs.Frames.{IsUnlocked, Owns};
-ghost use Rattle.brc_lives.specs.Handles.{Gains, Loses};
+ghost use Rattle.brc_containers.specs.Handles.{Gains, Loses};
 
 use brc_block::{Cells, Payload};
 use brc_count::{Frame, Handle, Ledger};
@@ -69,7 +69,8 @@ pub(crate) fn an_integer<H: Home<A>, A: Allocator>(
     number: i64,
 ) -> Handle
     requires unlocked { IsUnlocked frame.old }
-    ensures { Gains frame.old frame.new result }
+    ensures unlocked { IsUnlocked frame.new }
+    ensures gains { Gains frame.old frame.new result }
 {
     match frame.born(alloc, Payload::Int(number)) {
         Ok(handle) => handle,
@@ -87,7 +88,8 @@ pub(crate) fn a_list<H: Home<A>, A: Allocator + Copy>(
     frame: &mut Frame<H, A>,
 ) -> Handle
     requires unlocked { IsUnlocked frame.old }
-    ensures { Gains frame.old frame.new result }
+    ensures unlocked { IsUnlocked frame.new }
+    ensures gains { Gains frame.old frame.new result }
 {
     match frame.born(alloc, Payload::List(Cells::new(Vec::new(alloc)))) {
         Ok(handle) => handle,
@@ -107,7 +109,8 @@ pub(crate) fn an_immortal<H: Home<A>, A: Allocator>(
     requires immortal { cell < FIRST_MORTAL }
     requires inside { cell < frame.old.heap.cells }
     requires unlocked { IsUnlocked frame.old }
-    ensures { Gains frame.old frame.new result }
+    ensures unlocked { IsUnlocked frame.new }
+    ensures gains { Gains frame.old frame.new result }
 {
     match frame.immortal(cell) {
         Ok(handle) => handle,
@@ -123,7 +126,8 @@ pub(crate) fn another<H: Home<A>, A: Allocator>(
 ) -> Handle
     requires owned { Owns frame.old handle.now }
     requires unlocked { IsUnlocked frame.old }
-    ensures { Gains frame.old frame.new result }
+    ensures unlocked { IsUnlocked frame.new }
+    ensures gains { Gains frame.old frame.new result }
 {
     let _cell = frame.cell(handle);
     match frame.retain(handle) {
@@ -136,7 +140,8 @@ pub(crate) fn another<H: Home<A>, A: Allocator>(
 pub(crate) fn release<H: Home<A>, A: Allocator>(frame: &mut Frame<H, A>, handle: Handle)
     requires owned { Owns frame.old handle }
     requires unlocked { IsUnlocked frame.old }
-    ensures { Loses frame.old frame.new handle }
+    ensures unlocked { IsUnlocked frame.new }
+    ensures loses { Loses frame.old frame.new handle }
 {
     let _cell = frame.cell(&handle);
     frame.release(handle);

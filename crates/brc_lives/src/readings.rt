@@ -3,7 +3,7 @@
 ghost use Rattle.std.specs.Prelude.{◌<◌};
 ghost use Rattle.brc_words.specs.declared.limits.TheConstants.{GLOBALS};
 ghost use Rattle.brc_count.specs.Frames.{IsUnlocked};
-ghost use Rattle.brc_lives.specs.Handles.{GoesOn};
+ghost use Rattle.brc_containers.specs.Handles.{GoesOn};
 
 use crate::ends::ends;
 use crate::holds::give_back;

@@ -2,7 +2,7 @@
 //! taken at first and comes back a piece at a time, so each growth is the one that is refused at some time.
 
 ghost use Rattle.brc_count.specs.Frames.{IsUnlocked};
-ghost use Rattle.brc_lives.specs.Handles.{GoesOn};
+ghost use Rattle.brc_containers.specs.Handles.{GoesOn};
 
 use crate::ends::ends;
 use crate::holds::{give_all_back, keep, retained};

@@ -1,7 +1,7 @@
 //! A death while no memory is left: what a release and turns of work give back is taken at once, so they take none.
 
 ghost use Rattle.brc_count.specs.Frames.{IsUnlocked};
-ghost use Rattle.brc_lives.specs.Handles.{GoesOn};
+ghost use Rattle.brc_containers.specs.Handles.{GoesOn};
 
 use crate::deaths::a_list_of_lists;
 use crate::ends::ends;

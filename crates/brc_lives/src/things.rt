@@ -1,7 +1,7 @@
 //! Objects of each kind, made for a test, which ends where one isn't to be had.
 
 ghost use Rattle.brc_count.specs.Frames.{IsUnlocked};
-ghost use Rattle.brc_lives.specs.Handles.{Gains};
+ghost use Rattle.brc_containers.specs.Handles.{Gains};
 
 use brc_count::{Frame, Handle};
 use brc_counter::Home;
@@ -13,7 +13,8 @@ use std::process::Abort;
 /// None.
 pub(crate) fn a_none<H: Home<A>, A: Allocator>(rt: &impl Abort, frame: &mut Frame<H, A>) -> Handle
     requires unlocked { IsUnlocked frame.old }
-    ensures { Gains frame.old frame.new result }
+    ensures unlocked { IsUnlocked frame.new }
+    ensures gains { Gains frame.old frame.new result }
 {
     match none(frame) {
         Ok(handle) => handle,
@@ -28,7 +29,8 @@ pub(crate) fn a_truth<H: Home<A>, A: Allocator>(
     is_true: bool,
 ) -> Handle
     requires unlocked { IsUnlocked frame.old }
-    ensures { Gains frame.old frame.new result }
+    ensures unlocked { IsUnlocked frame.new }
+    ensures gains { Gains frame.old frame.new result }
 {
     match truth(frame, is_true) {
         Ok(handle) => handle,
@@ -44,7 +46,8 @@ pub(crate) fn an_int<H: Home<A>, A: Allocator>(
     number: i64,
 ) -> Handle
     requires unlocked { IsUnlocked frame.old }
-    ensures { Gains frame.old frame.new result }
+    ensures unlocked { IsUnlocked frame.new }
+    ensures gains { Gains frame.old frame.new result }
 {
     match new_int(alloc, frame, number) {
         Ok(handle) => handle,
@@ -60,7 +63,8 @@ pub(crate) fn a_text<H: Home<A>, A: Allocator + Copy>(
     text: &str,
 ) -> Handle
     requires unlocked { IsUnlocked frame.old }
-    ensures { Gains frame.old frame.new result }
+    ensures unlocked { IsUnlocked frame.new }
+    ensures gains { Gains frame.old frame.new result }
 {
     let Ok(text) = String::from_str(alloc, text) else {
         panic!(rt; "memory")
@@ -78,7 +82,8 @@ pub(crate) fn an_empty_list<H: Home<A>, A: Allocator + Copy>(
     frame: &mut Frame<H, A>,
 ) -> Handle
     requires unlocked { IsUnlocked frame.old }
-    ensures { Gains frame.old frame.new result }
+    ensures unlocked { IsUnlocked frame.new }
+    ensures gains { Gains frame.old frame.new result }
 {
     match new_list(alloc, frame) {
         Ok(handle) => handle,
@@ -93,7 +98,8 @@ pub(crate) fn a_dict<H: Home<A>, A: Allocator + Copy>(
     frame: &mut Frame<H, A>,
 ) -> Handle
     requires unlocked { IsUnlocked frame.old }
-    ensures { Gains frame.old frame.new result }
+    ensures unlocked { IsUnlocked frame.new }
+    ensures gains { Gains frame.old frame.new result }
 {
     match new_dict(alloc, frame) {
         Ok(handle) => handle,
@@ -108,7 +114,8 @@ pub(crate) fn a_mailbox<H: Home<A>, A: Allocator + Copy>(
     frame: &mut Frame<H, A>,
 ) -> Handle
     requires unlocked { IsUnlocked frame.old }
-    ensures { Gains frame.old frame.new result }
+    ensures unlocked { IsUnlocked frame.new }
+    ensures gains { Gains frame.old frame.new result }
 {
     match new_mailbox(alloc, frame) {
         Ok(handle) => handle,

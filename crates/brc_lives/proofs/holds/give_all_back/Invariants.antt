@@ -1,4 +1,4 @@
-use Rattle.brc_lives.specs.Handles.{GoesOn}
+use Rattle.brc_containers.specs.Handles.{GoesOn}
 use Rattle.brc_lives.proofs.holds.give_all_back.Given as goal
 
 abbrev pub invariant-loop-handle : goal.invariant-loop-handle

@@ -1,4 +1,4 @@
-use Rattle.brc_lives.specs.Handles.{GoesOn}
+use Rattle.brc_containers.specs.Handles.{GoesOn}
 use Rattle.brc_lives.proofs.refused.until_it_passes.Given as goal
 
 abbrev pub invariant-loop : goal.invariant-loop
