@@ -6,11 +6,9 @@
 //! says what holds since the locking, whatever frame it began from (`specs/Since.antt`).
 #![tactic(auto)]
 
-mod deleting;
-mod finding;
 mod putting;
 mod seeking;
+mod values;
 
-pub use deleting::{dict_del, try_dict_del};
-pub use finding::{dict_find, try_dict_find};
 pub use putting::{dict_put, try_dict_put};
+pub use values::{dict_del, dict_find, try_dict_del, try_dict_find};

@@ -1,7 +1,7 @@
 use Rattle.std.proofs.Common.{rules}
 use Rattle.std.proofs.lemmas.Result.{IfOk-weaker}
 use Rattle.brc_dicts.specs.Since.{HasLocked}
-use Rattle.brc_dicts.proofs.finding.dict_find.Goals as goal
+use Rattle.brc_dicts.proofs.values.dict_find.Goals as goal
 
 pub returns-clause-shares : goal.returns-clause-shares
 returns-clause-shares g c =

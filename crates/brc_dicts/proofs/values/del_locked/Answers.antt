@@ -4,7 +4,7 @@ use Rattle.brc_dicts.specs.Seeking.{IsThere, IsAbsent}
 use Rattle.brc_dicts.specs.Plain.{plain_del}
 use Rattle.brc_dicts.proofs.Shown.{del_there, del_may, del_absent, entry_there, entry_within, entries_shown}
 use Rattle.brc_dicts.proofs.Locked.{stood, stood_placed, found_placed, few_entries, entry_found, entries_are, refused_plainly, refused_for_want, refused_place, takes_since}
-use Rattle.brc_dicts.proofs.deleting.del_locked.Goals as goal
+use Rattle.brc_dicts.proofs.values.del_locked.Goals as goal
 
 pub returns-in-Absent-clause-refused : goal.returns-in-Absent-clause-refused
 returns-in-Absent-clause-refused g c = λ before k since.

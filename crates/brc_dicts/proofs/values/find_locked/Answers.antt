@@ -4,7 +4,7 @@ use Rattle.brc_dicts.specs.Seeking.{IsThere, IsAbsent}
 use Rattle.brc_dicts.specs.Plain.{plain_find}
 use Rattle.brc_dicts.proofs.Shown.{find_there, find_absent, entry_there, entry_within}
 use Rattle.brc_dicts.proofs.Locked.{stood, stood_placed, found_placed, few_entries, entry_found, refused_plainly, refused_for_want, refused_place, shares_since}
-use Rattle.brc_dicts.proofs.finding.find_locked.Goals as goal
+use Rattle.brc_dicts.proofs.values.find_locked.Goals as goal
 
 pub returns-in-Absent-clause-refused : goal.returns-in-Absent-clause-refused
 returns-in-Absent-clause-refused g c = λ before k since.

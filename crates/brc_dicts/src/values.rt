@@ -1,4 +1,4 @@
-//! A pair goes.
+//! The value beside a key: it is found, or goes with its pair.
 
 ghost use Rattle.std.specs.Prelude.{◌≡◌, ◌≢◌, Some, IfOk, IfErr};
 ghost use Rattle.brc_words.specs.declared.fault.Fault.TheVariants as faults;
@@ -6,9 +6,9 @@ ghost use Rattle.brc_table.specs.Shown.{contents_of};
 ghost use Rattle.brc_count.specs.Frames.{IsUnlocked, Owns};
 ghost use Rattle.brc_count.specs.Locking.{IsLocked, cell_locked, contents_found, KeepsThread};
 ghost use Rattle.brc_containers.specs.Called.{HandsOut};
-ghost use Rattle.brc_containers.specs.Changing.{KeepsPlaces, Takes, RefusedPlace, Late};
+ghost use Rattle.brc_containers.specs.Changing.{KeepsPlaces, Shares, Takes, RefusedPlace, Late};
 ghost use Rattle.brc_containers.specs.Handles.{Gains};
-ghost use Rattle.brc_dicts.specs.Plain.{plain_del};
+ghost use Rattle.brc_dicts.specs.Plain.{plain_find, plain_del};
 ghost use Rattle.brc_dicts.specs.Since.{Since};
 
 use crate::seeking::{Sought, seek};
@@ -19,6 +19,83 @@ use brc_lock::begin_late;
 use brc_words::{Fault, Key};
 use std::alloc::Allocator;
 use std::sync::Wait;
+
+/// A find in the dictionary that is locked, and its unlocking.
+fn find_locked<H: Home<A>, A: Allocator>(
+    frame: &mut Frame<H, A>,
+    block: Block<A>,
+    key: &Key<A>,
+) -> Result<Handle, Fault>
+    requires locked { IsLocked frame.old }
+    requires of_cell { cell_locked frame.old ≡ Some block.0 }
+    requires found { contents_found frame.old ≡ contents_of block.1 }
+    ensures thread { KeepsThread frame.old frame.new }
+    ensures unlocked { IsUnlocked frame.new }
+    ensures shares { IfOk result (λ given. Since frame.old block
+        (λ before k. Shares before frame.new k (plain_find key.now) given)) }
+    ensures gains { IfOk result (Gains frame.old frame.new) }
+    ensures places { IfErr result (λ fault. KeepsPlaces frame.old frame.new) }
+    ensures refused { IfErr result (λ fault. Since frame.old block
+        (λ before k. RefusedPlace before frame.new k (plain_find key.now) fault)) }
+    ensures waits { IfErr result (λ fault. fault ≢ faults.Busy) }
+{
+    let (index, cell) = match seek(block.payload(), key) {
+        Sought::There { index, cell } => (index, cell),
+        Sought::Absent => {
+            frame.end_keep(block);
+            return Err(Fault::NoSuchKey);
+        }
+        Sought::WrongKind => {
+            frame.end_keep(block);
+            return Err(Fault::WrongKind);
+        }
+    };
+    if let Err(fault) = frame.place() {
+        frame.end_keep(block);
+        return Err(fault);
+    }
+    let given = frame.up_entry(index as u32, cell);
+    frame.end_keep(block);
+    Ok(given)
+}
+
+/// A handle to the value beside the key, counted up in one event while the dictionary is locked. Busy where another thread has it
+/// locked, then WrongKind where the object is no dictionary, NoSuchKey, FrameFull and OutOfMemory.
+pub fn try_dict_find<H: Home<A>, A: Allocator>(
+    frame: &mut Frame<H, A>,
+    dict: &Handle,
+    key: &Key<A>,
+) -> Result<Handle, Fault>
+    requires owned { Owns frame.old dict.now }
+    requires unlocked { IsUnlocked frame.old }
+    ensures shares { HandsOut frame.old frame.new
+        (Shares frame.old frame.new dict.now.place (plain_find key.now))
+        (RefusedPlace frame.old frame.new dict.now.place (plain_find key.now)) result }
+{
+    let Some(block) = frame.begin(dict) else {
+        return Err(Fault::Busy);
+    };
+    find_locked(frame, block, key)
+}
+
+/// A handle to the value beside the key; WrongKind, NoSuchKey, FrameFull and OutOfMemory as in `try_dict_find`. It waits while
+/// another thread has the dictionary locked.
+pub fn dict_find<H: Home<A>, A: Allocator>(
+    rt: &impl Wait,
+    frame: &mut Frame<H, A>,
+    dict: &Handle,
+    key: &Key<A>,
+) -> Result<Handle, Fault>
+    requires owned { Owns frame.old dict.now }
+    requires unlocked { IsUnlocked frame.old }
+    ensures shares { HandsOut frame.old frame.new
+        (λ given. Late frame.old dict.now.place (λ mid. Shares mid frame.new dict.now.place (plain_find key.now) given))
+        (λ fault. Late frame.old dict.now.place (λ mid. RefusedPlace mid frame.new dict.now.place (plain_find key.now) fault)) result }
+    ensures waits { IfErr result (λ fault. fault ≢ faults.Busy) }
+{
+    let block = begin_late(rt, frame, dict);
+    find_locked(frame, block, key)
+}
 
 /// A deletion in the dictionary that is locked, and its unlocking.
 fn del_locked<H: Home<A>, A: Allocator>(
