@@ -1,69 +1,39 @@
 //! While one thread has the globals locked.
 
-ghost use Rattle.std.specs.Prelude.{◌≡◌};
 ghost use Rattle.brc_count.specs.Frames.{IsUnlocked};
+ghost use Rattle.brc_containers.specs.Handles.{GoesOn};
 
-use crate::objects::{a_list, give_back, the_globals, unshare};
+use crate::calls::{Getting, Giving, gets, gets_none, gives, refuses};
+use crate::objects::{Thing, give_back, made, the_globals};
 use crate::threads::{a_heap, a_thread, ends, is_empty};
 use brc_block::Payload;
 use brc_containers::try_int_of;
 use brc_count::{Frame, Handle};
 use brc_counter::Home;
-use brc_dicts::{try_dict_find, try_dict_put};
-use brc_lists::try_list_pop;
 use brc_lock::try_lock;
-use brc_words::{Fault, Key};
+use brc_words::Fault;
 use std::alloc::Allocator;
 use std::process::Abort;
 use std::sync::Wait;
 
-/// A put into the globals is refused as Busy, and hands back key and handle.
-fn finds_them_busy<H: Home<A>, A: Allocator>(
-    rt: &impl Abort,
-    frame: &mut Frame<H, A>,
-    globals: &Handle,
-    value: Handle,
-) -> Handle
-    requires unlocked { IsUnlocked frame.old }
-    ensures heap { frame.new.heap ≡ frame.old.heap }
-    ensures unlocked { IsUnlocked frame.new }
-{
-    assert!(rt; frame.owns(globals));
-    assert!(rt; frame.owns(&value));
-    assert!(rt; value.is_apart(globals));
-    match try_dict_put(frame, globals, Key::Int(7), value) {
-        Ok(_) => panic!(rt; "the globals are locked"),
-        Err((fault, (key, value))) => {
-            assert_eq!(rt; fault, Fault::Busy);
-            assert!(rt; key == Key::Int(7));
-            value
-        }
-    }
-}
-
 /// An own empty list has nothing to pop, and no number.
-fn has_an_empty_list<H: Home<A>, A: Allocator>(
-    rt: &impl Abort,
+fn has_an_empty_list<R: Abort + Wait, H: Home<A>, A: Allocator>(
+    rt: &R,
     frame: &mut Frame<H, A>,
     list: &Handle,
 )
     requires unlocked { IsUnlocked frame.old }
-    ensures heap { frame.new.heap ≡ frame.old.heap }
-    ensures unlocked { IsUnlocked frame.new }
+    ensures { GoesOn frame.old frame.new }
 {
-    assert!(rt; frame.owns(list));
-    match try_list_pop(frame, list) {
-        Ok(_handle) => panic!(rt; "the list is empty"),
-        Err(fault) => assert_eq!(rt; fault, Fault::NoSuchPlace),
-    }
+    gets_none(rt, frame, list, Getting::TryPop);
     assert!(rt; frame.owns(list));
     assert!(rt; try_int_of(frame, list) == Err(Fault::WrongKind));
 }
 
 /// While the first thread has the globals locked, with room and a place, the second one finds them Busy; its own list it can use.
 /// It answers its list.
-fn locks_meanwhile<H: Home<A>, A: Allocator>(
-    rt: &impl Abort,
+fn locks_meanwhile<R: Abort + Wait, H: Home<A>, A: Allocator>(
+    rt: &R,
     frame: &mut Frame<H, A>,
     globals: &Handle,
     other: &mut Frame<H, A>,
@@ -72,10 +42,8 @@ fn locks_meanwhile<H: Home<A>, A: Allocator>(
 ) -> Handle
     requires unlocked { IsUnlocked frame.old }
     requires other_unlocked { IsUnlocked other.old }
-    ensures heap { frame.new.heap ≡ frame.old.heap }
-    ensures unlocked { IsUnlocked frame.new }
-    ensures other_heap { other.new.heap ≡ other.old.heap }
-    ensures other_unlocked { IsUnlocked other.new }
+    ensures goes_on { GoesOn frame.old frame.new }
+    ensures other_goes_on { GoesOn other.old other.new }
 {
     assert!(rt; frame.owns(globals));
     match try_lock(frame, globals) {
@@ -87,28 +55,11 @@ fn locks_meanwhile<H: Home<A>, A: Allocator>(
             };
             assert!(rt; locked.room().is_ok());
             assert!(rt; locked.place().is_ok());
-            let list = finds_them_busy(rt, other, others, list);
+            let list = refuses(rt, other, others, Giving::TryPut(7), list, Fault::Busy);
             has_an_empty_list(rt, other, &list);
             locked.unlock();
             list
         }
-    }
-}
-
-/// What stands beside the key is found.
-fn finds_at_once<H: Home<A>, A: Allocator>(
-    rt: &impl Abort,
-    frame: &mut Frame<H, A>,
-    globals: &Handle,
-)
-    requires unlocked { IsUnlocked frame.old }
-    ensures heap { frame.new.heap ≡ frame.old.heap }
-    ensures unlocked { IsUnlocked frame.new }
-{
-    assert!(rt; frame.owns(globals));
-    match try_dict_find(frame, globals, &Key::Int(7)) {
-        Ok(found) => give_back(rt, frame, found),
-        Err(_) => panic!(rt; "the key isn't there"),
     }
 }
 
@@ -120,19 +71,12 @@ fn puts_then<R: Abort + Wait, H: Home<A>, A: Allocator>(
     list: Handle,
 )
     requires unlocked { IsUnlocked frame.old }
-    ensures heap { frame.new.heap ≡ frame.old.heap }
-    ensures unlocked { IsUnlocked frame.new }
+    ensures { GoesOn frame.old frame.new }
 {
-    assert!(rt; frame.owns(globals));
-    assert!(rt; frame.owns(&list));
-    assert!(rt; list.is_apart(globals));
-    match try_dict_put(frame, globals, Key::Int(7), list) {
-        Ok(None) => {}
-        Ok(Some(_old)) => panic!(rt; "the key was there"),
-        Err((_, (_key, _list))) => panic!(rt; "a put is refused"),
-    }
-    finds_at_once(rt, frame, globals);
-    let list = unshare(rt, frame, globals, 7);
+    gives(rt, frame, globals, Giving::TryPut(7), list);
+    let found = gets(rt, frame, globals, Getting::TryFind(7));
+    give_back(rt, frame, found);
+    let list = gets(rt, frame, globals, Getting::Del(7));
     give_back(rt, frame, list);
 }
 
@@ -144,7 +88,7 @@ fn what_another_thread_has_locked_is_busy(rt: HostRuntime) {
     let mut second = a_thread(&rt, rt.alloc(), &heap, &mut root);
     let globals = the_globals(&rt, first.frame());
     let others = the_globals(&rt, second.frame());
-    let list = a_list(&rt, rt.alloc(), second.frame());
+    let list = made(&rt, rt.alloc(), second.frame(), Thing::List);
     let list = locks_meanwhile(&rt, first.frame(), &globals, second.frame(), &others, list);
     puts_then(&rt, second.frame(), &others, list);
     give_back(&rt, first.frame(), globals);

@@ -1,13 +1,12 @@
 //! The copy of a text refused for want of memory: the frame and the text are as before, and with memory the copy is had. Memory
 //! is all taken at first, and comes back a piece at a time.
 
-ghost use Rattle.std.specs.Prelude.{◌≡◌};
 ghost use Rattle.brc_count.specs.Frames.{IsUnlocked};
+ghost use Rattle.brc_containers.specs.Handles.{GoesOn};
 
 use crate::guards::Way;
-use crate::memory::{Pieces, a_local_heap};
+use crate::memory::Pieces;
 use crate::objects::{a_text, give_back};
-use crate::threads::{a_heap, a_thread, ends, is_empty};
 use brc_containers::{text_of, try_text_of};
 use brc_count::{Frame, Handle};
 use brc_counter::Home;
@@ -29,8 +28,7 @@ fn copied<R: Abort + Wait, H: Home<A>, A: Allocator>(
     way: Way,
 ) -> Result<Text<A>, Fault>
     requires unlocked { IsUnlocked frame.old }
-    ensures heap { frame.new.heap ≡ frame.old.heap }
-    ensures unlocked { IsUnlocked frame.new }
+    ensures { GoesOn frame.old frame.new }
 {
     assert!(rt; frame.owns(text));
     match way {
@@ -49,8 +47,7 @@ fn copies_with_memory<'h, R: Abort + Wait, H: Home<&'h LocalHeap>>(
     way: Way,
 )
     requires unlocked { IsUnlocked frame.old }
-    ensures heap { frame.new.heap ≡ frame.old.heap }
-    ensures unlocked { IsUnlocked frame.new }
+    ensures { GoesOn frame.old frame.new }
 {
     for tried in 0..1_000 {
         match copied(rt, scarce, frame, text, way) {
@@ -68,7 +65,7 @@ fn copies_with_memory<'h, R: Abort + Wait, H: Home<&'h LocalHeap>>(
 }
 
 /// A text is copied while memory comes back.
-fn refuses_a_copy<'h, R: Abort + Wait, H: Home<&'h LocalHeap>>(
+pub(crate) fn refuses_a_copy<'h, R: Abort + Wait, H: Home<&'h LocalHeap>>(
     rt: &R,
     alloc: Global,
     ample: &'h LocalHeap,
@@ -77,37 +74,10 @@ fn refuses_a_copy<'h, R: Abort + Wait, H: Home<&'h LocalHeap>>(
     way: Way,
 )
     requires unlocked { IsUnlocked frame.old }
-    ensures heap { frame.new.heap ≡ frame.old.heap }
-    ensures unlocked { IsUnlocked frame.new }
+    ensures { GoesOn frame.old frame.new }
 {
     let text = a_text(rt, ample, frame, SOME_TEXT);
     let mut pieces = Pieces::take_all(rt, alloc, scarce);
     copies_with_memory(rt, scarce, &mut pieces, frame, &text, way);
     give_back(rt, frame, text);
-}
-
-/// A copy, on a heap of its own.
-fn copies_on_a_heap<'h, R: Abort + Wait>(
-    rt: &R,
-    alloc: Global,
-    ample: &'h LocalHeap,
-    scarce: &'h LocalHeap,
-    way: Way,
-) {
-    let (heap, root) = a_heap(rt, ample, 512);
-    let mut root = root;
-    let mut thread = a_thread(rt, ample, &heap, &mut root);
-    refuses_a_copy(rt, alloc, ample, scarce, thread.frame(), way);
-    let ledger = ends(rt, &heap, &mut root, thread);
-    assert_eq!(rt; (ledger.allocs, ledger.frees), (1, 1));
-    is_empty(rt, heap, root);
-}
-
-#[test]
-fn a_refused_copy_changes_nothing(rt: HostRuntime) {
-    for way in [Way::AtOnce, Way::Late] {
-        let ample = a_local_heap(&rt, rt.alloc(), 1 << 20);
-        let scarce = a_local_heap(&rt, rt.alloc(), 1 << 12);
-        copies_on_a_heap(&rt, rt.alloc(), &ample, &scarce, way);
-    }
 }

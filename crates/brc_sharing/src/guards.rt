@@ -3,16 +3,15 @@
 ghost use Rattle.std.specs.Prelude.{◌≡◌};
 ghost use Rattle.brc_count.specs.Frames.{IsUnlocked, Owns};
 ghost use Rattle.brc_count.specs.Locking.{KeepsThread, KeepsFrame};
+ghost use Rattle.brc_containers.specs.Handles.{GoesOn};
 ghost use Rattle.brc_lock.specs.Holding.{Holds};
 
-use crate::objects::{a_dict, a_list, an_int, fetch, give_back, has_entries, number_of};
-use crate::threads::{a_heap, a_thread, ends, is_empty};
 use brc_block::{Block, Entries, Payload};
 use brc_count::{Frame, Handle};
 use brc_counter::Home;
 use brc_lock::{Locked, lock, try_lock};
 use brc_words::{Fault, Key};
-use std::alloc::{Allocator, Global};
+use std::alloc::Allocator;
 use std::process::Abort;
 use std::sync::Wait;
 
@@ -56,8 +55,7 @@ pub(crate) fn put_by_guard<R: Abort + Wait, H: Home<A>, A: Allocator>(
     way: Way,
 ) -> Result<(), (Fault, Handle)>
     requires unlocked { IsUnlocked frame.old }
-    ensures heap { frame.new.heap ≡ frame.old.heap }
-    ensures unlocked { IsUnlocked frame.new }
+    ensures { GoesOn frame.old frame.new }
 {
     assert!(rt; frame.owns(list));
     assert!(rt; frame.owns(&value));
@@ -80,7 +78,7 @@ pub(crate) fn put_by_guard<R: Abort + Wait, H: Home<A>, A: Allocator>(
 }
 
 /// The value goes into an empty dictionary, beside the key 7.
-fn puts_a_pair<R: Abort + Wait, H: Home<A>, A: Allocator>(
+pub(crate) fn puts_a_pair<R: Abort + Wait, H: Home<A>, A: Allocator>(
     rt: &R,
     frame: &mut Frame<H, A>,
     dict: &Handle,
@@ -88,8 +86,7 @@ fn puts_a_pair<R: Abort + Wait, H: Home<A>, A: Allocator>(
     way: Way,
 )
     requires unlocked { IsUnlocked frame.old }
-    ensures heap { frame.new.heap ≡ frame.old.heap }
-    ensures unlocked { IsUnlocked frame.new }
+    ensures { GoesOn frame.old frame.new }
 {
     assert!(rt; frame.owns(dict));
     assert!(rt; frame.owns(&value));
@@ -115,8 +112,7 @@ pub(crate) fn entry_by_guard<R: Abort + Wait, H: Home<A>, A: Allocator>(
     way: Way,
 ) -> Result<Handle, Fault>
     requires unlocked { IsUnlocked frame.old }
-    ensures heap { frame.new.heap ≡ frame.old.heap }
-    ensures unlocked { IsUnlocked frame.new }
+    ensures { GoesOn frame.old frame.new }
 {
     assert!(rt; frame.owns(list));
     let mut guard = locked(rt, frame, list, way);
@@ -146,8 +142,7 @@ pub(crate) fn take_by_guard<R: Abort + Wait, H: Home<A>, A: Allocator>(
     way: Way,
 ) -> Result<Handle, Fault>
     requires unlocked { IsUnlocked frame.old }
-    ensures heap { frame.new.heap ≡ frame.old.heap }
-    ensures unlocked { IsUnlocked frame.new }
+    ensures { GoesOn frame.old frame.new }
 {
     assert!(rt; frame.owns(list));
     let mut guard = locked(rt, frame, list, way);
@@ -165,7 +160,7 @@ pub(crate) fn take_by_guard<R: Abort + Wait, H: Home<A>, A: Allocator>(
 }
 
 /// The value and an entry of the list change places.
-fn swap_by_guard<R: Abort + Wait, H: Home<A>, A: Allocator>(
+pub(crate) fn swap_by_guard<R: Abort + Wait, H: Home<A>, A: Allocator>(
     rt: &R,
     frame: &mut Frame<H, A>,
     list: &Handle,
@@ -174,8 +169,7 @@ fn swap_by_guard<R: Abort + Wait, H: Home<A>, A: Allocator>(
     way: Way,
 ) -> Handle
     requires unlocked { IsUnlocked frame.old }
-    ensures heap { frame.new.heap ≡ frame.old.heap }
-    ensures unlocked { IsUnlocked frame.new }
+    ensures { GoesOn frame.old frame.new }
 {
     assert!(rt; frame.owns(list));
     assert!(rt; frame.owns(&value));
@@ -187,109 +181,4 @@ fn swap_by_guard<R: Abort + Wait, H: Home<A>, A: Allocator>(
     };
     assert!(rt; (index as usize) < cells.len());
     guard.unlock_swap(index, value)
-}
-
-/// An integer with this number goes into the list.
-fn puts<R: Abort + Wait, H: Home<A>, A: Allocator>(
-    rt: &R,
-    alloc: A,
-    frame: &mut Frame<H, A>,
-    list: &Handle,
-    number: i64,
-    way: Way,
-)
-    requires unlocked { IsUnlocked frame.old }
-    ensures heap { frame.new.heap ≡ frame.old.heap }
-    ensures unlocked { IsUnlocked frame.new }
-{
-    let value = an_int(rt, alloc, frame, number);
-    match put_by_guard(rt, frame, list, value, way) {
-        Ok(()) => {}
-        Err((_, _value)) => panic!(rt; "no room is made"),
-    }
-}
-
-/// The handle that was had is to an integer with this number.
-fn is_number<R: Abort + Wait, H: Home<A>, A: Allocator>(
-    rt: &R,
-    frame: &mut Frame<H, A>,
-    had: Result<Handle, Fault>,
-    number: i64,
-)
-    requires unlocked { IsUnlocked frame.old }
-    ensures heap { frame.new.heap ≡ frame.old.heap }
-    ensures unlocked { IsUnlocked frame.new }
-{
-    match had {
-        Ok(handle) => assert_eq!(rt; number_of(rt, frame, handle), number),
-        Err(_) => panic!(rt; "no place is left"),
-    }
-}
-
-/// Two integers go into a list, one is found there, one exchanged for a third, and the first one taken out.
-fn edits_a_list<R: Abort + Wait, H: Home<A>, A: Allocator + Copy>(
-    rt: &R,
-    alloc: A,
-    frame: &mut Frame<H, A>,
-    way: Way,
-)
-    requires unlocked { IsUnlocked frame.old }
-    ensures heap { frame.new.heap ≡ frame.old.heap }
-    ensures unlocked { IsUnlocked frame.new }
-{
-    let list = a_list(rt, alloc, frame);
-    puts(rt, alloc, frame, &list, 1_000, way);
-    puts(rt, alloc, frame, &list, 1_001, way);
-    has_entries(rt, frame, &list, 2);
-    let found = entry_by_guard(rt, frame, &list, 1, way);
-    is_number(rt, frame, found, 1_001);
-    has_entries(rt, frame, &list, 2);
-    let value = an_int(rt, alloc, frame, 1_002);
-    let old = swap_by_guard(rt, frame, &list, 1, value, way);
-    assert_eq!(rt; number_of(rt, frame, old), 1_001);
-    let taken = take_by_guard(rt, frame, &list, 0, way);
-    is_number(rt, frame, taken, 1_000);
-    has_entries(rt, frame, &list, 1);
-    let left = entry_by_guard(rt, frame, &list, 0, way);
-    is_number(rt, frame, left, 1_002);
-    give_back(rt, frame, list);
-}
-
-/// An integer goes into a dictionary, and stands beside its key then.
-fn edits_a_dict<R: Abort + Wait, H: Home<A>, A: Allocator + Copy>(
-    rt: &R,
-    alloc: A,
-    frame: &mut Frame<H, A>,
-    way: Way,
-)
-    requires unlocked { IsUnlocked frame.old }
-    ensures heap { frame.new.heap ≡ frame.old.heap }
-    ensures unlocked { IsUnlocked frame.new }
-{
-    let dict = a_dict(rt, alloc, frame);
-    let value = an_int(rt, alloc, frame, 1_000);
-    puts_a_pair(rt, frame, &dict, value, way);
-    has_entries(rt, frame, &dict, 1);
-    let found = fetch(rt, frame, &dict, 7);
-    assert_eq!(rt; number_of(rt, frame, found), 1_000);
-    give_back(rt, frame, dict);
-}
-
-/// A list and a dictionary, on a heap of their own.
-fn edits_on_a_heap<R: Abort + Wait>(rt: &R, alloc: Global, way: Way) {
-    let (heap, root) = a_heap(rt, alloc, 512);
-    let mut root = root;
-    let mut thread = a_thread(rt, alloc, &heap, &mut root);
-    edits_a_list(rt, alloc, thread.frame(), way);
-    edits_a_dict(rt, alloc, thread.frame(), way);
-    let ledger = ends(rt, &heap, &mut root, thread);
-    assert_eq!(rt; (ledger.allocs, ledger.frees), (6, 6));
-    is_empty(rt, heap, root);
-}
-
-#[test]
-fn a_locked_object_is_edited(rt: HostRuntime) {
-    for way in [Way::AtOnce, Way::Late] {
-        edits_on_a_heap(&rt, rt.alloc(), way);
-    }
 }

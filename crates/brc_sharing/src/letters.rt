@@ -2,11 +2,10 @@
 
 ghost use Rattle.std.specs.Prelude.{◌≡◌};
 ghost use Rattle.brc_count.specs.Frames.{IsUnlocked};
+ghost use Rattle.brc_containers.specs.Handles.{GoesOn};
 
-use crate::objects::{
-    a_mailbox, an_int, fetch, give_back, has_entries, letter, number_of, post, share, the_globals,
-    unshare,
-};
+use crate::calls::{Getting, Giving, fetches, gets, gives_number, shares_new};
+use crate::objects::{Thing, entries, give_back, number_of};
 use crate::sums::sum_of;
 use crate::threads::{a_heap, a_thread, ends, is_empty, rests, retires};
 use brc_count::Frame;
@@ -17,39 +16,19 @@ use std::process::Abort;
 use std::sync::Wait;
 use std::thread::{Threads, join};
 
-/// A new mailbox is in the globals under 7.
-fn shares_a_mailbox<R: Abort + Wait, H: Home<A>, A: Allocator + Copy>(
-    rt: &R,
-    alloc: A,
-    frame: &mut Frame<H, A>,
-)
-    requires unlocked { IsUnlocked frame.old }
-    ensures heap { frame.new.heap ≡ frame.old.heap }
-    ensures unlocked { IsUnlocked frame.new }
-{
-    let mailbox = a_mailbox(rt, alloc, frame);
-    let globals = the_globals(rt, frame);
-    share(rt, frame, &globals, 7, mailbox);
-    give_back(rt, frame, globals);
-}
-
 /// One letter with this number goes into the mailbox under 7.
-fn sends_one<R: Abort + Wait, H: Home<A>, A: Allocator>(
+fn sends_one<R: Abort + Wait, H: Home<A>, A: Allocator + Copy>(
     rt: &R,
     alloc: A,
     frame: &mut Frame<H, A>,
     number: i64,
 )
     requires unlocked { IsUnlocked frame.old }
-    ensures heap { frame.new.heap ≡ frame.old.heap }
-    ensures unlocked { IsUnlocked frame.new }
+    ensures { GoesOn frame.old frame.new }
 {
-    let globals = the_globals(rt, frame);
-    let mailbox = fetch(rt, frame, &globals, 7);
-    let value = an_int(rt, alloc, frame, number);
-    post(rt, frame, &mailbox, value);
+    let mailbox = fetches(rt, frame, Getting::Find(7));
+    gives_number(rt, alloc, frame, &mailbox, Giving::Send, number);
     give_back(rt, frame, mailbox);
-    give_back(rt, frame, globals);
 }
 
 /// A thread that sends 1,000 integers, from this number up.
@@ -95,17 +74,13 @@ fn two_send<R: Threads + Abort + Wait + Sync>(
 /// All letters are received: each sender's come in their order, and there are 2,000.
 fn receives_all<R: Abort + Wait, H: Home<A>, A: Allocator>(rt: &R, frame: &mut Frame<H, A>)
     requires unlocked { IsUnlocked frame.old }
-    ensures heap { frame.new.heap ≡ frame.old.heap }
-    ensures unlocked { IsUnlocked frame.new }
+    ensures { GoesOn frame.old frame.new }
 {
-    let globals = the_globals(rt, frame);
-    let mailbox = unshare(rt, frame, &globals, 7);
+    let mailbox = fetches(rt, frame, Getting::Del(7));
     let mut first: i64 = 1_000;
     let mut second: i64 = 10_000;
     for _ in 0..2_000 {
-        let Some(found) = letter(rt, frame, &mailbox) else {
-            panic!(rt; "a letter is missing")
-        };
+        let found = gets(rt, frame, &mailbox, Getting::Recv);
         let number = number_of(rt, frame, found);
         if number < 10_000 {
             assert_eq!(rt; number, first);
@@ -117,9 +92,8 @@ fn receives_all<R: Abort + Wait, H: Home<A>, A: Allocator>(rt: &R, frame: &mut F
         let _told = frame.poll();
         let _left = frame.work(2);
     }
-    has_entries(rt, frame, &mailbox, 0);
+    assert_eq!(rt; entries(rt, frame, &mailbox), 0);
     give_back(rt, frame, mailbox);
-    give_back(rt, frame, globals);
 }
 
 #[test]
@@ -127,7 +101,7 @@ fn letters_of_two_threads_come_in_their_order(rt: HostRuntime) {
     let (heap, root) = a_heap(&rt, rt.alloc(), 4_096);
     let mut root = root;
     let mut last = a_thread(&rt, rt.alloc(), &heap, &mut root);
-    shares_a_mailbox(&rt, rt.alloc(), last.frame());
+    shares_new(&rt, rt.alloc(), last.frame(), 7, Thing::Mailbox);
     let first = rests(&rt, rt.alloc(), &heap, &mut root);
     let second = rests(&rt, rt.alloc(), &heap, &mut root);
     let (first, second) = two_send(&rt, rt.alloc(), &heap, first, second);

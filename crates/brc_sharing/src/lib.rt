@@ -11,11 +11,13 @@ mod sums;
 pub use sums::sum_of;
 
 #[cfg(test)]
+mod alone;
+#[cfg(test)]
 mod busy;
 #[cfg(test)]
-mod copies;
+mod calls;
 #[cfg(test)]
-mod full;
+mod copies;
 #[cfg(test)]
 mod guards;
 #[cfg(test)]
@@ -30,7 +32,5 @@ mod passing;
 mod refused;
 #[cfg(test)]
 mod threads;
-#[cfg(test)]
-mod tries;
 #[cfg(test)]
 mod turns;

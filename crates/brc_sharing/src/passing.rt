@@ -1,15 +1,12 @@
 //! Objects that pass from thread to thread through the globals.
 
-ghost use Rattle.std.specs.Prelude.{◌≡◌};
 ghost use Rattle.brc_count.specs.Frames.{IsUnlocked};
+ghost use Rattle.brc_containers.specs.Handles.{GoesOn};
 
-use crate::objects::{
-    a_list, a_mailbox, a_text, an_int, another, entry_of, fetch, give_back, letter, number_of, pop,
-    post, push, share, the_globals, unshare,
-};
+use crate::calls::{Getting, Giving, fetches, gets_number, gives_number, shares, shares_new};
+use crate::objects::{Thing, another, give_back, made};
 use crate::sums::sum_of;
 use crate::threads::{a_heap, a_thread, ends, is_empty};
-use brc_containers::text_of;
 use brc_count::{Frame, Handle};
 use brc_counter::Home;
 use std::alloc::Allocator;
@@ -23,14 +20,11 @@ fn shares_a_list<R: Abort + Wait, H: Home<A>, A: Allocator + Copy>(
     frame: &mut Frame<H, A>,
 ) -> Handle
     requires unlocked { IsUnlocked frame.old }
-    ensures heap { frame.new.heap ≡ frame.old.heap }
-    ensures unlocked { IsUnlocked frame.new }
+    ensures { GoesOn frame.old frame.new }
 {
-    let list = a_list(rt, alloc, frame);
+    let list = made(rt, alloc, frame, Thing::List);
     let more = another(rt, frame, &list);
-    let globals = the_globals(rt, frame);
-    share(rt, frame, &globals, 7, more);
-    give_back(rt, frame, globals);
+    shares(rt, frame, 7, more);
     list
 }
 
@@ -42,27 +36,20 @@ fn pushes_there<R: Abort + Wait, H: Home<A>, A: Allocator + Copy>(
     number: i64,
 )
     requires unlocked { IsUnlocked frame.old }
-    ensures heap { frame.new.heap ≡ frame.old.heap }
-    ensures unlocked { IsUnlocked frame.new }
+    ensures { GoesOn frame.old frame.new }
 {
-    let globals = the_globals(rt, frame);
-    let list = fetch(rt, frame, &globals, 7);
-    let value = an_int(rt, alloc, frame, number);
-    push(rt, frame, &list, value);
+    let list = fetches(rt, frame, Getting::Find(7));
+    gives_number(rt, alloc, frame, &list, Giving::Push, number);
     give_back(rt, frame, list);
-    give_back(rt, frame, globals);
 }
 
 /// What stands under 7 is taken out of the globals, and let go.
 fn takes_out<R: Abort + Wait, H: Home<A>, A: Allocator>(rt: &R, frame: &mut Frame<H, A>)
     requires unlocked { IsUnlocked frame.old }
-    ensures heap { frame.new.heap ≡ frame.old.heap }
-    ensures unlocked { IsUnlocked frame.new }
+    ensures { GoesOn frame.old frame.new }
 {
-    let globals = the_globals(rt, frame);
-    let list = unshare(rt, frame, &globals, 7);
+    let list = fetches(rt, frame, Getting::Del(7));
     give_back(rt, frame, list);
-    give_back(rt, frame, globals);
 }
 
 /// The list's entry is this number, and the list goes.
@@ -73,13 +60,10 @@ fn reads_back<R: Abort + Wait, H: Home<A>, A: Allocator>(
     number: i64,
 )
     requires unlocked { IsUnlocked frame.old }
-    ensures heap { frame.new.heap ≡ frame.old.heap }
-    ensures unlocked { IsUnlocked frame.new }
+    ensures { GoesOn frame.old frame.new }
 {
-    let entry = entry_of(rt, frame, &list, 0);
-    assert_eq!(rt; number_of(rt, frame, entry), number);
-    let last = pop(rt, frame, &list);
-    assert_eq!(rt; number_of(rt, frame, last), number);
+    gets_number(rt, frame, &list, Getting::Get(0), number);
+    gets_number(rt, frame, &list, Getting::Pop, number);
     give_back(rt, frame, list);
 }
 
@@ -102,88 +86,18 @@ fn what_one_thread_pushes_another_reads(rt: HostRuntime) {
     is_empty(&rt, heap, root);
 }
 
-/// A new list goes into the globals under 7, and nowhere else.
-fn moves_a_list<R: Abort + Wait, H: Home<A>, A: Allocator + Copy>(
-    rt: &R,
-    alloc: A,
-    frame: &mut Frame<H, A>,
-)
-    requires unlocked { IsUnlocked frame.old }
-    ensures heap { frame.new.heap ≡ frame.old.heap }
-    ensures unlocked { IsUnlocked frame.new }
-{
-    let list = a_list(rt, alloc, frame);
-    let globals = the_globals(rt, frame);
-    share(rt, frame, &globals, 7, list);
-    give_back(rt, frame, globals);
-}
-
 #[test]
 fn a_list_that_moved_is_freed(rt: HostRuntime) {
     let (heap, root) = a_heap(&rt, rt.alloc(), 512);
     let mut root = root;
     let mut first = a_thread(&rt, rt.alloc(), &heap, &mut root);
     let mut second = a_thread(&rt, rt.alloc(), &heap, &mut root);
-    moves_a_list(&rt, rt.alloc(), first.frame());
+    shares_new(&rt, rt.alloc(), first.frame(), 7, Thing::List);
     takes_out(&rt, second.frame());
     first.settle(&rt);
     assert_eq!(rt; (first.ledger().allocs, first.ledger().frees), (1, 1));
     assert_eq!(rt; (second.ledger().allocs, second.ledger().frees), (0, 0));
     let _one = ends(&rt, &heap, &mut root, first);
     let _two = ends(&rt, &heap, &mut root, second);
-    is_empty(&rt, heap, root);
-}
-
-/// The next letter is a copy of this text.
-fn receives<R: Abort + Wait, H: Home<A>, A: Allocator + Copy>(
-    rt: &R,
-    alloc: A,
-    frame: &mut Frame<H, A>,
-    mailbox: &Handle,
-    text: &str,
-)
-    requires unlocked { IsUnlocked frame.old }
-    ensures heap { frame.new.heap ≡ frame.old.heap }
-    ensures unlocked { IsUnlocked frame.new }
-{
-    let Some(found) = letter(rt, frame, mailbox) else {
-        panic!(rt; "no letter is there")
-    };
-    assert!(rt; frame.owns(&found));
-    match text_of(rt, alloc, frame, &found) {
-        Ok(copy) => assert!(rt; copy.as_str() == text),
-        Err(_) => panic!(rt; "it is no text"),
-    }
-    give_back(rt, frame, found);
-}
-
-/// Two texts are sent, and come in that order.
-fn posts_and_receives<R: Abort + Wait, H: Home<A>, A: Allocator + Copy>(
-    rt: &R,
-    alloc: A,
-    frame: &mut Frame<H, A>,
-)
-    requires unlocked { IsUnlocked frame.old }
-    ensures heap { frame.new.heap ≡ frame.old.heap }
-    ensures unlocked { IsUnlocked frame.new }
-{
-    let mailbox = a_mailbox(rt, alloc, frame);
-    let first = a_text(rt, alloc, frame, "first");
-    let second = a_text(rt, alloc, frame, "second");
-    post(rt, frame, &mailbox, first);
-    post(rt, frame, &mailbox, second);
-    receives(rt, alloc, frame, &mailbox, "first");
-    receives(rt, alloc, frame, &mailbox, "second");
-    give_back(rt, frame, mailbox);
-}
-
-#[test]
-fn letters_come_first_in_first_out(rt: HostRuntime) {
-    let (heap, root) = a_heap(&rt, rt.alloc(), 512);
-    let mut root = root;
-    let mut thread = a_thread(&rt, rt.alloc(), &heap, &mut root);
-    posts_and_receives(&rt, rt.alloc(), thread.frame());
-    let ledger = ends(&rt, &heap, &mut root, thread);
-    assert_eq!(rt; (ledger.allocs, ledger.frees), (3, 3));
     is_empty(&rt, heap, root);
 }

@@ -2,19 +2,18 @@
 
 ghost use Rattle.std.specs.Prelude.{◌≡◌};
 ghost use Rattle.brc_count.specs.Frames.{IsUnlocked};
+ghost use Rattle.brc_containers.specs.Handles.{GoesOn};
 ghost use Rattle.brc_sharing.specs.Threads.{BothOf};
 
-use crate::objects::{
-    a_list, a_mailbox, an_int, exchange, fetch, give_back, has_entries, letter, number_of, pop,
-    post, push, share, the_globals, unshare,
+use crate::calls::{
+    Exchanging, Getting, Giving, exchanges, fetches, gets, gives_number, shares, shares_new,
 };
+use crate::objects::{Thing, entries, give_back, made, number_of, the_globals};
 use crate::sums::sum_of;
 use crate::threads::{a_heap, a_thread, ends, is_empty, rests, retires};
 use brc_count::{Frame, Handle, Ledger};
 use brc_counter::Home;
-use brc_dicts::dict_put;
 use brc_thread::{Heap, Resting, Retired, Root};
-use brc_words::Key;
 use std::alloc::{Allocator, Global};
 use std::process::Abort;
 use std::sync::Wait;
@@ -33,114 +32,89 @@ fn sets_up<R: Abort + Wait, H: Home<A>, A: Allocator + Copy>(
     frame: &mut Frame<H, A>,
 )
     requires unlocked { IsUnlocked frame.old }
-    ensures heap { frame.new.heap ≡ frame.old.heap }
-    ensures unlocked { IsUnlocked frame.new }
+    ensures { GoesOn frame.old frame.new }
 {
-    let globals = the_globals(rt, frame);
-    let list = a_list(rt, alloc, frame);
-    let number = an_int(rt, alloc, frame, 0);
-    push(rt, frame, &list, number);
-    share(rt, frame, &globals, 1, list);
-    let mailbox = a_mailbox(rt, alloc, frame);
-    share(rt, frame, &globals, 2, mailbox);
-    let number = an_int(rt, alloc, frame, 0);
-    share(rt, frame, &globals, 3, number);
-    give_back(rt, frame, globals);
+    let list = made(rt, alloc, frame, Thing::List);
+    gives_number(rt, alloc, frame, &list, Giving::Push, 0);
+    shares(rt, frame, 1, list);
+    shares_new(rt, alloc, frame, 2, Thing::Mailbox);
+    shares_new(rt, alloc, frame, 3, Thing::Int(0));
 }
 
-/// The value goes beside the key 3, and the old one is answered.
-fn replace<R: Abort + Wait, H: Home<A>, A: Allocator>(
-    rt: &R,
-    frame: &mut Frame<H, A>,
-    globals: &Handle,
-    value: Handle,
-) -> Handle
-    requires unlocked { IsUnlocked frame.old }
-    ensures heap { frame.new.heap ≡ frame.old.heap }
-    ensures unlocked { IsUnlocked frame.new }
-{
-    assert!(rt; frame.owns(globals));
-    assert!(rt; frame.owns(&value));
-    assert!(rt; value.is_apart(globals));
-    match dict_put(rt, frame, globals, Key::Int(3), value) {
-        Ok(Some(old)) => old,
-        Ok(None) => panic!(rt; "the key wasn't there"),
-        Err((_, (_key, _value))) => panic!(rt; "a put is refused"),
-    }
-}
-
-/// One turn: a number is pushed and one popped, one is sent and one received, one is put in place of another in the list, and one
-/// in the dictionary. Each value that is there is somebody's once. The answer is what was got, added.
-fn plays_once<R: Abort + Wait, H: Home<A>, A: Allocator>(
+/// A value with this number takes an entry's place; the answer is the number of that.
+fn replaces<R: Abort + Wait, H: Home<A>, A: Allocator + Copy>(
     rt: &R,
     alloc: A,
     frame: &mut Frame<H, A>,
+    container: &Handle,
+    exchanging: Exchanging,
     number: i64,
 ) -> i64
-where
-    A: Copy,
     requires unlocked { IsUnlocked frame.old }
-    ensures heap { frame.new.heap ≡ frame.old.heap }
-    ensures unlocked { IsUnlocked frame.new }
+    ensures { GoesOn frame.old frame.new }
 {
-    let globals = the_globals(rt, frame);
-    let value = an_int(rt, alloc, frame, number);
-    let old = replace(rt, frame, &globals, value);
-    let replaced = number_of(rt, frame, old);
-    let listed = lists_once(rt, alloc, frame, &globals, number);
-    let posted = posts_once(rt, alloc, frame, &globals, number);
-    give_back(rt, frame, globals);
-    replaced.wrapping_add(listed).wrapping_add(posted)
+    let value = made(rt, alloc, frame, Thing::Int(number));
+    let old = exchanges(rt, frame, container, exchanging, value);
+    number_of(rt, frame, old)
 }
 
-/// A number is pushed, the first entry exchanged for another, and the last one popped.
-fn lists_once<R: Abort + Wait, H: Home<A>, A: Allocator>(
+/// A value with this number goes in, and one is had; the answer is the number of that.
+fn passes<R: Abort + Wait, H: Home<A>, A: Allocator + Copy>(
     rt: &R,
     alloc: A,
     frame: &mut Frame<H, A>,
-    globals: &Handle,
+    container: &Handle,
+    by: (Giving, Getting),
     number: i64,
 ) -> i64
-where
-    A: Copy,
     requires unlocked { IsUnlocked frame.old }
-    ensures heap { frame.new.heap ≡ frame.old.heap }
-    ensures unlocked { IsUnlocked frame.new }
+    ensures { GoesOn frame.old frame.new }
 {
-    let list = fetch(rt, frame, globals, 1);
-    let value = an_int(rt, alloc, frame, number);
-    push(rt, frame, &list, value);
-    let value = an_int(rt, alloc, frame, number);
-    let old = exchange(rt, frame, &list, 0, value);
-    let exchanged = number_of(rt, frame, old);
-    let last = pop(rt, frame, &list);
-    let popped = number_of(rt, frame, last);
-    give_back(rt, frame, list);
-    exchanged.wrapping_add(popped)
-}
-
-/// A number is sent, and one received.
-fn posts_once<R: Abort + Wait, H: Home<A>, A: Allocator>(
-    rt: &R,
-    alloc: A,
-    frame: &mut Frame<H, A>,
-    globals: &Handle,
-    number: i64,
-) -> i64
-where
-    A: Copy,
-    requires unlocked { IsUnlocked frame.old }
-    ensures heap { frame.new.heap ≡ frame.old.heap }
-    ensures unlocked { IsUnlocked frame.new }
-{
-    let mailbox = fetch(rt, frame, globals, 2);
-    let value = an_int(rt, alloc, frame, number);
-    post(rt, frame, &mailbox, value);
-    let Some(found) = letter(rt, frame, &mailbox) else {
-        panic!(rt; "a letter is missing")
-    };
-    give_back(rt, frame, mailbox);
+    let (giving, getting) = by;
+    gives_number(rt, alloc, frame, container, giving, number);
+    let found = gets(rt, frame, container, getting);
     number_of(rt, frame, found)
+}
+
+/// One turn: a number is put in place of another in the dictionary, and one in the list; one is pushed and one popped, one is sent
+/// and one received. Each value that is there is somebody's once. The answer is what was got, added.
+fn plays_once<R: Abort + Wait, H: Home<A>, A: Allocator + Copy>(
+    rt: &R,
+    alloc: A,
+    frame: &mut Frame<H, A>,
+    number: i64,
+) -> i64
+    requires unlocked { IsUnlocked frame.old }
+    ensures { GoesOn frame.old frame.new }
+{
+    let globals = the_globals(rt, frame);
+    let replaced = replaces(rt, alloc, frame, &globals, Exchanging::Put(3), number);
+    let list = gets(rt, frame, &globals, Getting::Find(1));
+    let exchanged = replaces(rt, alloc, frame, &list, Exchanging::Set(0), number);
+    let popped = passes(
+        rt,
+        alloc,
+        frame,
+        &list,
+        (Giving::Push, Getting::Pop),
+        number,
+    );
+    give_back(rt, frame, list);
+    let mailbox = gets(rt, frame, &globals, Getting::Find(2));
+    let received = passes(
+        rt,
+        alloc,
+        frame,
+        &mailbox,
+        (Giving::Send, Getting::Recv),
+        number,
+    );
+    give_back(rt, frame, mailbox);
+    give_back(rt, frame, globals);
+    replaced
+        .wrapping_add(exchanged)
+        .wrapping_add(popped)
+        .wrapping_add(received)
 }
 
 /// A thread that plays so many turns.
@@ -359,21 +333,17 @@ fn gathered_one(heap: &Heap<Global>, root: &mut Root<Global>, played: Played, su
 /// What the containers have at the end is taken out, and let go; the answer is the sum of the numbers.
 fn takes_down<R: Abort + Wait, H: Home<A>, A: Allocator>(rt: &R, frame: &mut Frame<H, A>) -> i64
     requires unlocked { IsUnlocked frame.old }
-    ensures heap { frame.new.heap ≡ frame.old.heap }
-    ensures unlocked { IsUnlocked frame.new }
+    ensures { GoesOn frame.old frame.new }
 {
-    let globals = the_globals(rt, frame);
-    let list = unshare(rt, frame, &globals, 1);
-    let last = pop(rt, frame, &list);
+    let list = fetches(rt, frame, Getting::Del(1));
+    let last = gets(rt, frame, &list, Getting::Pop);
     let listed = number_of(rt, frame, last);
     give_back(rt, frame, list);
-    let mailbox = unshare(rt, frame, &globals, 2);
-    has_entries(rt, frame, &mailbox, 0);
+    let mailbox = fetches(rt, frame, Getting::Del(2));
+    assert_eq!(rt; entries(rt, frame, &mailbox), 0);
     give_back(rt, frame, mailbox);
-    let value = unshare(rt, frame, &globals, 3);
-    let stood = number_of(rt, frame, value);
-    give_back(rt, frame, globals);
-    listed.wrapping_add(stood)
+    let value = fetches(rt, frame, Getting::Del(3));
+    listed.wrapping_add(number_of(rt, frame, value))
 }
 
 /// The sums come out: so many births, as many frees, and what threads got is what they gave, less what was left.

@@ -1,5 +1,8 @@
-use Rattle.std.proofs.Common.{◌∙◌}
+use Rattle.std.proofs.Common.{◌∙◌, rules}
 use Rattle.brc_sharing.proofs.objects.another.Goals as goal
 
-pub returns-clause-unlocked : goal.returns-clause-unlocked
-returns-clause-unlocked g c = (c.in-Ok.ensures.given c.cell-cell.result c.cell-cell.ensures.cell).rest.lock ∙ c.requires.unlocked
+pub returns : goal.returns
+returns g c = record {
+  heap = search rules;
+  unlocked = (c.in-Ok.ensures.given c.cell-cell.result c.cell-cell.ensures.cell).rest.lock ∙ c.requires.unlocked;
+}

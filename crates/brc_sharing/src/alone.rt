@@ -1,0 +1,251 @@
+//! Lives of one thread on a heap of its own, each of which leaves nothing: letters in their order, calls that never wait where no
+//! other thread has the object locked, a list with as many entries as a container may have, and objects edited by guards.
+
+ghost use Rattle.brc_count.specs.Frames.{IsUnlocked};
+ghost use Rattle.brc_containers.specs.Handles.{GoesOn};
+
+use crate::calls::{
+    Exchanging, Getting, Giving, exchanges, gets, gets_none, gets_number, gives, gives_number,
+    refuses,
+};
+use crate::guards::{Way, puts_a_pair};
+use crate::objects::{Thing, a_text, entries, give_back, made, number_of};
+use crate::threads::{a_heap, a_thread, ends, is_empty};
+use brc_containers::text_of;
+use brc_count::{Frame, Handle};
+use brc_counter::Home;
+use brc_words::Fault;
+use std::alloc::{Allocator, Global};
+use std::process::Abort;
+use std::sync::Wait;
+
+/// The next letter is a copy of this text.
+fn receives<R: Abort + Wait, H: Home<A>, A: Allocator + Copy>(
+    rt: &R,
+    alloc: A,
+    frame: &mut Frame<H, A>,
+    mailbox: &Handle,
+    text: &str,
+)
+    requires unlocked { IsUnlocked frame.old }
+    ensures { GoesOn frame.old frame.new }
+{
+    let found = gets(rt, frame, mailbox, Getting::Recv);
+    assert!(rt; frame.owns(&found));
+    match text_of(rt, alloc, frame, &found) {
+        Ok(copy) => assert!(rt; copy.as_str() == text),
+        Err(_) => panic!(rt; "it is no text"),
+    }
+    give_back(rt, frame, found);
+}
+
+/// Two texts are sent, and come in that order.
+fn posts_and_receives<R: Abort + Wait, H: Home<A>, A: Allocator + Copy>(
+    rt: &R,
+    alloc: A,
+    frame: &mut Frame<H, A>,
+)
+    requires unlocked { IsUnlocked frame.old }
+    ensures { GoesOn frame.old frame.new }
+{
+    let mailbox = made(rt, alloc, frame, Thing::Mailbox);
+    let first = a_text(rt, alloc, frame, "first");
+    let second = a_text(rt, alloc, frame, "second");
+    gives(rt, frame, &mailbox, Giving::Send, first);
+    gives(rt, frame, &mailbox, Giving::Send, second);
+    receives(rt, alloc, frame, &mailbox, "first");
+    receives(rt, alloc, frame, &mailbox, "second");
+    give_back(rt, frame, mailbox);
+}
+
+/// Two integers go into a list; one is found, exchanged for a third, and all that is there is popped, the last one first.
+fn uses_a_list<R: Abort + Wait, H: Home<A>, A: Allocator + Copy>(
+    rt: &R,
+    alloc: A,
+    frame: &mut Frame<H, A>,
+)
+    requires unlocked { IsUnlocked frame.old }
+    ensures { GoesOn frame.old frame.new }
+{
+    let list = made(rt, alloc, frame, Thing::List);
+    gives_number(rt, alloc, frame, &list, Giving::TryPush, 1_000);
+    gives_number(rt, alloc, frame, &list, Giving::TryPush, 1_001);
+    gets_number(rt, frame, &list, Getting::TryGet(0), 1_000);
+    gets_none(rt, frame, &list, Getting::TryGet(2));
+    let value = made(rt, alloc, frame, Thing::Int(1_002));
+    let old = exchanges(rt, frame, &list, Exchanging::TrySet(0), value);
+    assert_eq!(rt; number_of(rt, frame, old), 1_000);
+    gets_number(rt, frame, &list, Getting::TryPop, 1_001);
+    gets_number(rt, frame, &list, Getting::TryPop, 1_002);
+    gets_none(rt, frame, &list, Getting::TryPop);
+    give_back(rt, frame, list);
+}
+
+/// Two integers are sent, and received in that order.
+fn uses_a_mailbox<R: Abort + Wait, H: Home<A>, A: Allocator + Copy>(
+    rt: &R,
+    alloc: A,
+    frame: &mut Frame<H, A>,
+)
+    requires unlocked { IsUnlocked frame.old }
+    ensures { GoesOn frame.old frame.new }
+{
+    let mailbox = made(rt, alloc, frame, Thing::Mailbox);
+    gives_number(rt, alloc, frame, &mailbox, Giving::TrySend, 1_000);
+    gives_number(rt, alloc, frame, &mailbox, Giving::TrySend, 1_001);
+    gets_number(rt, frame, &mailbox, Getting::TryRecv, 1_000);
+    gets_number(rt, frame, &mailbox, Getting::TryRecv, 1_001);
+    gets_none(rt, frame, &mailbox, Getting::TryRecv);
+    give_back(rt, frame, mailbox);
+}
+
+/// The list gets so many small integers.
+fn fill<R: Abort + Wait, H: Home<A>, A: Allocator + Copy>(
+    rt: &R,
+    alloc: A,
+    frame: &mut Frame<H, A>,
+    list: &Handle,
+    count: u32,
+)
+    requires unlocked { IsUnlocked frame.old }
+    ensures { GoesOn frame.old frame.new }
+{
+    for _ in 0..count {
+        gives_number(rt, alloc, frame, list, Giving::Push, 1);
+    }
+}
+
+/// A list is filled, takes no more, neither by a guard nor by a push, and goes. It has 1,048,576 entries then.
+fn fills_a_list<R: Abort + Wait, H: Home<A>, A: Allocator + Copy>(
+    rt: &R,
+    alloc: A,
+    frame: &mut Frame<H, A>,
+)
+    requires unlocked { IsUnlocked frame.old }
+    ensures { GoesOn frame.old frame.new }
+{
+    let list = made(rt, alloc, frame, Thing::List);
+    fill(rt, alloc, frame, &list, 1_048_576);
+    let value = made(rt, alloc, frame, Thing::Int(1));
+    let value = refuses(
+        rt,
+        frame,
+        &list,
+        Giving::Room(Way::Late),
+        value,
+        Fault::Full,
+    );
+    let value = refuses(rt, frame, &list, Giving::Push, value, Fault::Full);
+    give_back(rt, frame, value);
+    assert_eq!(rt; entries(rt, frame, &list), 1_048_576);
+    give_back(rt, frame, list);
+}
+
+/// Two integers go into a list, one is found there, one exchanged for a third, and the first one taken out.
+fn edits_a_list<R: Abort + Wait, H: Home<A>, A: Allocator + Copy>(
+    rt: &R,
+    alloc: A,
+    frame: &mut Frame<H, A>,
+    way: Way,
+)
+    requires unlocked { IsUnlocked frame.old }
+    ensures { GoesOn frame.old frame.new }
+{
+    let list = made(rt, alloc, frame, Thing::List);
+    gives_number(rt, alloc, frame, &list, Giving::Room(way), 1_000);
+    gives_number(rt, alloc, frame, &list, Giving::Room(way), 1_001);
+    assert_eq!(rt; entries(rt, frame, &list), 2);
+    gets_number(rt, frame, &list, Getting::Entry(1, way), 1_001);
+    assert_eq!(rt; entries(rt, frame, &list), 2);
+    let value = made(rt, alloc, frame, Thing::Int(1_002));
+    let old = exchanges(rt, frame, &list, Exchanging::Swap(1, way), value);
+    assert_eq!(rt; number_of(rt, frame, old), 1_001);
+    gets_number(rt, frame, &list, Getting::Take(0, way), 1_000);
+    assert_eq!(rt; entries(rt, frame, &list), 1);
+    gets_number(rt, frame, &list, Getting::Entry(0, way), 1_002);
+    give_back(rt, frame, list);
+}
+
+/// An integer goes into a dictionary, and stands beside its key then.
+fn edits_a_dict<R: Abort + Wait, H: Home<A>, A: Allocator + Copy>(
+    rt: &R,
+    alloc: A,
+    frame: &mut Frame<H, A>,
+    way: Way,
+)
+    requires unlocked { IsUnlocked frame.old }
+    ensures { GoesOn frame.old frame.new }
+{
+    let dict = made(rt, alloc, frame, Thing::Dict);
+    let value = made(rt, alloc, frame, Thing::Int(1_000));
+    puts_a_pair(rt, frame, &dict, value, way);
+    assert_eq!(rt; entries(rt, frame, &dict), 1);
+    gets_number(rt, frame, &dict, Getting::Find(7), 1_000);
+    give_back(rt, frame, dict);
+}
+
+/// What the thread does.
+#[derive(Clone, Copy)]
+enum Life {
+    Letters,
+    Tries,
+    Full,
+    Guards(Way),
+}
+
+/// The thread does it.
+fn does<R: Abort + Wait, H: Home<A>, A: Allocator + Copy>(
+    rt: &R,
+    alloc: A,
+    frame: &mut Frame<H, A>,
+    life: Life,
+)
+    requires unlocked { IsUnlocked frame.old }
+    ensures { GoesOn frame.old frame.new }
+{
+    match life {
+        Life::Letters => posts_and_receives(rt, alloc, frame),
+        Life::Tries => {
+            uses_a_list(rt, alloc, frame);
+            uses_a_mailbox(rt, alloc, frame);
+        }
+        Life::Full => fills_a_list(rt, alloc, frame),
+        Life::Guards(way) => {
+            edits_a_list(rt, alloc, frame, way);
+            edits_a_dict(rt, alloc, frame, way);
+        }
+    }
+}
+
+/// The thread makes so many objects, as many are freed, and the heap is empty then.
+fn lives<R: Abort + Wait>(rt: &R, alloc: Global, life: Life, births: u64) {
+    let (heap, root) = a_heap(rt, alloc, 512);
+    let mut root = root;
+    let mut thread = a_thread(rt, alloc, &heap, &mut root);
+    does(rt, alloc, thread.frame(), life);
+    let ledger = ends(rt, &heap, &mut root, thread);
+    assert_eq!(rt; (ledger.allocs, ledger.frees), (births, births));
+    is_empty(rt, heap, root);
+}
+
+#[test]
+fn letters_come_first_in_first_out(rt: HostRuntime) {
+    lives(&rt, rt.alloc(), Life::Letters, 3);
+}
+
+#[test]
+fn calls_that_never_wait_find_what_is_there(rt: HostRuntime) {
+    lives(&rt, rt.alloc(), Life::Tries, 7);
+}
+
+#[test]
+fn a_full_list_takes_no_entry(rt: HostRuntime) {
+    lives(&rt, rt.alloc(), Life::Full, 1);
+}
+
+#[test]
+fn a_locked_object_is_edited(rt: HostRuntime) {
+    for way in [Way::AtOnce, Way::Late] {
+        lives(&rt, rt.alloc(), Life::Guards(way), 6);
+    }
+}
