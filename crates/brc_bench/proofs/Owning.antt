@@ -1,27 +1,14 @@
 -- Which handles a frame owns after a call, from what the call does to its places.
-use Rattle.std.proofs.Common.{◌≡◌, ℕ, Some, is_some, refl, sym, ◌∙◌, ap}
-use Rattle.brc_runs.specs.declared.event.Source.{Source}
+use Rattle.std.proofs.Common.{◌≡◌, ℕ, Some, refl, ◌∙◌}
 use Rattle.brc_runs.specs.declared.event.Source.TheVariants as sources
 use Rattle.brc_count.specs.Frames.{FrameSeen, HandleSeen, IsUnlocked, Owns, Given, ReleasedOf}
 use Rattle.brc_count.specs.Locking.{cell_in}
 use Rattle.brc_containers.specs.Handles.{Gains, Loses}
-use Rattle.brc_containers.proofs.Owning.{vacant_else, flipped, filled_with, owns_still}
+use Rattle.brc_containers.proofs.Owning.{filled_with, given_gains, released_loses}
 use Rattle.brc_bench.specs.Handles.{Trades}
 
 module _ {A : Type 0} where
   -- ---- a handle's place is filled, so that what is said of its cell holds
-
-  given_gains : (old new : FrameSeen A) (source : Source) (c : ℕ) (given : HandleSeen) → new.heap ≡ old.heap
-      → Given old new source c given → Gains old new given
-  given_gains old new source c given heap g = record {
-    keeps = record {
-      heap = heap;
-      owns = λ h owns. owns_still old new h g.seat.1
-          (g.others h.place (flipped (vacant_else (cell_in old) h.place given.place owns.filled g.vacant))) owns;
-    };
-    owned = record { thread = g.thread ∙ sym g.seat.1; filled = ap is_some g.has };
-    apart = λ h owns. vacant_else (cell_in old) h.place given.place owns.filled g.vacant;
-  }
 
   -- what a retain and a release say of the handle's cell
   abbrev pub GivesMore : FrameSeen A → FrameSeen A → HandleSeen → HandleSeen → Type 0
@@ -42,14 +29,11 @@ module _ {A : Type 0} where
       let has = filled_with (cell_in old h.place) owns.filled
       in (gives has.0 has.1).rest.lock ∙ unlocked
 
-  pub released_loses : (old new : FrameSeen A) (gone : HandleSeen) → new.heap ≡ old.heap → new.seat.thread ≡ old.seat.thread
+  pub release_loses : (old new : FrameSeen A) (gone : HandleSeen) → new.heap ≡ old.heap → new.seat.thread ≡ old.seat.thread
       → Owns old gone → Releases old new gone → Loses old new gone
-  released_loses old new gone heap thread owns goes =
+  release_loses old new gone heap thread owns goes =
       let has = filled_with (cell_in old gone.place) owns.filled
-      in record {
-        heap = heap;
-        owns = λ h owns else. owns_still old new h thread ((goes has.0 has.1).others h.place (flipped else)) owns;
-      }
+      in released_loses old new gone has.0 heap thread (goes has.0 has.1)
 
   pub released_unlocked : (old new : FrameSeen A) (gone : HandleSeen) → Owns old gone → Releases old new gone
       → IsUnlocked old → IsUnlocked new

@@ -4,7 +4,7 @@ ghost use Rattle.brc_count.specs.Frames.{IsUnlocked, Owns};
 ghost use Rattle.brc_containers.specs.Handles.{GoesOn};
 
 use crate::ends::ends;
-use crate::entries::put_into_list;
+use crate::globals::put_into_list;
 use crate::phases::{entered, leaves, opened_with, release, says};
 use crate::things::an_empty_list;
 use brc_count::{Frame, Handle};

@@ -1,4 +1,4 @@
-//! References that pass through the globals, the dictionary of cell 265.
+//! References that pass through the globals, the dictionary of cell 265, or into a list of the same frame.
 
 ghost use Rattle.std.specs.Prelude.{◌≡◌, ◌≢◌, ◌<◌, IfSome};
 ghost use Rattle.brc_words.specs.declared.limits.TheConstants.{GLOBALS};
@@ -9,6 +9,7 @@ use crate::phases::{an_immortal, release};
 use brc_count::{Frame, Handle};
 use brc_counter::Home;
 use brc_dicts::{dict_del, dict_put};
+use brc_lists::try_list_push;
 use brc_words::{GLOBALS, Key};
 use std::alloc::Allocator;
 use std::process::Abort;
@@ -93,5 +94,25 @@ pub(crate) fn take_from_globals<R: Abort + Wait, H: Home<A>, A: Allocator>(
     match take_if_any(rt, frame, key) {
         Some(handle) => handle,
         None => panic!(rt; "nothing is in the globals"),
+    }
+}
+
+/// The second handle's reference goes into the first one's list.
+pub(crate) fn put_into_list<H: Home<A>, A: Allocator>(
+    rt: &impl Abort,
+    frame: &mut Frame<H, A>,
+    list: &Handle,
+    entry: Handle,
+)
+    requires list { Owns frame.old list.now }
+    requires entry { Owns frame.old entry }
+    requires apart { entry.place ≢ list.now.place }
+    requires unlocked { IsUnlocked frame.old }
+    ensures unlocked { IsUnlocked frame.new }
+    ensures loses { Loses frame.old frame.new entry }
+{
+    match try_list_push(frame, list, entry) {
+        Ok(()) => {}
+        Err((_, _entry)) => panic!(rt; "the list is locked, or has no room"),
     }
 }

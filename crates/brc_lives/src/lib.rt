@@ -19,17 +19,11 @@ mod ends;
 #[cfg(test)]
 mod entering;
 #[cfg(test)]
-mod entries;
-#[cfg(test)]
 mod full;
 #[cfg(test)]
 mod globals;
 #[cfg(test)]
 mod holds;
-#[cfg(test)]
-mod immortals;
-#[cfg(test)]
-mod integers;
 #[cfg(test)]
 mod library;
 #[cfg(test)]

@@ -1,10 +1,13 @@
-//! Objects of each kind: which are there already, which are new, and in which cells.
+//! Objects of each kind: which are there already, which are new, and in which cells; an integer's life, and an immortal that
+//! nobody counts.
 
 ghost use Rattle.brc_count.specs.Frames.{IsUnlocked, Owns};
 ghost use Rattle.brc_containers.specs.Handles.{GoesOn, Loses};
 
 use crate::ends::ends;
-use crate::phases::{another, entered, leaves, opened, release, release_both, says};
+use crate::phases::{
+    an_immortal, an_integer, another, entered, leaves, opened, release, release_both, says, stays,
+};
 use crate::things::{a_dict, a_mailbox, a_none, a_text, a_truth, an_int};
 use brc_count::{Frame, Handle};
 use brc_counter::Home;
@@ -105,6 +108,55 @@ fn texts_and_containers_are_made(rt: HostRuntime) {
     goes_from(&rt, &mut frame, mailbox, 268);
     assert_eq!(rt; frame.work(5), 2);
     says(&rt, frame.ledger(), 3, 3);
+    leaves(&rt, &table, &mut root, frame);
+    ends(&rt, table, root);
+}
+
+#[test]
+fn an_integer_lives_and_dies(rt: HostRuntime) {
+    let (table, root) = opened(&rt, rt.alloc());
+    let mut root = root;
+    let mut frame = entered(&rt, rt.alloc(), &table, &mut root);
+    assert_eq!(rt; frame.thread(), 1);
+    let first = an_integer(&rt, rt.alloc(), &mut frame, 257);
+    assert_eq!(rt; frame.cell(&first), 266);
+    says(&rt, frame.ledger(), 1, 0);
+    let second = another(&rt, &mut frame, &first);
+    release_both(&mut frame, first, second);
+    assert_eq!(rt; frame.work(5), 4);
+    says(&rt, frame.ledger(), 1, 1);
+    leaves(&rt, &table, &mut root, frame);
+    ends(&rt, table, root);
+}
+
+/// The cell of the integer 256.
+const LAST_INTEGER: u32 = 264;
+
+#[test]
+fn an_immortal_is_only_looked_at(rt: HostRuntime) {
+    let (table, root) = opened(&rt, rt.alloc());
+    let mut root = root;
+    let mut frame = entered(&rt, rt.alloc(), &table, &mut root);
+    let first = an_immortal(&rt, &mut frame, LAST_INTEGER);
+    let second = another(&rt, &mut frame, &first);
+    assert_eq!(rt; frame.cell(&second), 264);
+    release_both(&mut frame, first, second);
+    assert_eq!(rt; frame.work(5), 5);
+    says(&rt, frame.ledger(), 0, 0);
+    leaves(&rt, &table, &mut root, frame);
+    ends(&rt, table, root);
+}
+
+#[test]
+fn a_frame_with_a_handle_does_not_close(rt: HostRuntime) {
+    let (table, root) = opened(&rt, rt.alloc());
+    let mut root = root;
+    let mut frame = entered(&rt, rt.alloc(), &table, &mut root);
+    let handle = an_immortal(&rt, &mut frame, LAST_INTEGER);
+    let mut frame = stays(&rt, frame);
+    assert_eq!(rt; frame.len(), 1);
+    release(&mut frame, handle);
+    assert!(rt; frame.is_idle());
     leaves(&rt, &table, &mut root, frame);
     ends(&rt, table, root);
 }
