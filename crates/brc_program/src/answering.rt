@@ -3,7 +3,8 @@
 ghost use Rattle.std.specs.Prelude.{◌≤◌, IfOk};
 
 use crate::command::{Invocation, read_words};
-use brc_trace::run_replay;
+use crate::explanations::put_why;
+use brc_trace::{Unreplayed, run_replay, run_replay_explained};
 use brc_words::{Fault, Reason};
 use std::alloc::Global;
 use std::io;
@@ -34,7 +35,7 @@ pub fn program<R: Read + Drop, W: Write, E: Write>(
 {
     match answer(alloc, words, reader, writer) {
         Ok(status) => status,
-        Err(fault) => refuse(errors, fault),
+        Err(failed) => refuse_with_why(errors, &failed),
     }
 }
 
@@ -42,9 +43,45 @@ pub fn program<R: Read + Drop, W: Write, E: Write>(
 pub fn refuse<E: Write>(errors: &mut E, fault: Fault) -> u8
     ensures { result ≤ 5 }
 {
-    match tell(errors, fault) {
-        Ok(()) => status_of(fault),
+    refuse_with_why(errors, &unexplained(fault))
+}
+
+/// Tells of a fault, and of why it came where that is known, and answers its status.
+fn refuse_with_why<E: Write>(errors: &mut E, failed: &Unreplayed) -> u8
+    ensures { result ≤ 5 }
+{
+    match tell_all(errors, failed) {
+        Ok(()) => status_of(failed.fault),
         Err(_) => STREAM,
+    }
+}
+
+/// A fault that is told without a reason.
+fn unexplained(fault: Fault) -> Unreplayed {
+    Unreplayed { fault, why: None }
+}
+
+/// A replay, which may say why it refuses a trace; the status of its world.
+fn replay<R: Read + Drop, W: Write>(
+    alloc: Global,
+    explain: bool,
+    reader: R,
+    writer: &mut W,
+) -> Result<u8, Unreplayed>
+    ensures { IfOk result (λ status. status ≤ 1) }
+{
+    let replayed = if explain {
+        run_replay_explained(alloc, reader, writer)
+    } else {
+        match run_replay(alloc, reader, writer) {
+            Ok(live) => Ok(live),
+            Err(fault) => Err(unexplained(fault)),
+        }
+    };
+    match replayed {
+        Ok(true) => Ok(SOMETHING_LIVE),
+        Ok(false) => Ok(NOTHING_LIVE),
+        Err(failed) => Err(failed),
     }
 }
 
@@ -54,27 +91,28 @@ fn answer<R: Read + Drop, W: Write>(
     words: &[String],
     reader: R,
     writer: &mut W,
-) -> Result<u8, Fault>
+) -> Result<u8, Unreplayed>
     ensures { IfOk result (λ status. status ≤ 1) }
 {
-    let status = match read_words(alloc, words)? {
+    let asked = match read_words(alloc, words) {
+        Ok(asked) => asked,
+        Err(fault) => return Err(unexplained(fault)),
+    };
+    let status = match asked {
         Invocation::Help(text) => match writer.write_all(text.as_bytes()) {
             Ok(()) => NOTHING_LIVE,
-            Err(_) => return Err(Fault::Io),
+            Err(_) => return Err(unexplained(Fault::Io)),
         },
-        Invocation::Replay => {
-            if run_replay(alloc, reader, writer)? {
-                SOMETHING_LIVE
-            } else {
-                NOTHING_LIVE
-            }
-        }
+        Invocation::Replay { explain } => match replay(alloc, explain, reader, writer) {
+            Ok(status) => status,
+            Err(failed) => return Err(failed),
+        },
         // Nothing runs scripts yet, and until then who asks for it is told so as by a bad command line.
-        Invocation::Run(_options) => return Err(Fault::BadOptions),
+        Invocation::Run(_options) => return Err(unexplained(Fault::BadOptions)),
     };
     match writer.flush() {
         Ok(()) => Ok(status),
-        Err(_) => Err(Fault::Io),
+        Err(_) => Err(unexplained(Fault::Io)),
     }
 }
 
@@ -87,6 +125,15 @@ fn status_of(fault: Fault) -> u8
         Fault::BadTrace { .. } => BAD_TRACE,
         Fault::Io => STREAM,
         _ => MEMORY,
+    }
+}
+
+/// Writes the error line of a fault, and where it is known why it came, the line that says so.
+fn tell_all<E: Write>(errors: &mut E, failed: &Unreplayed) -> io::Result<()> {
+    tell(errors, failed.fault)?;
+    match &failed.why {
+        Some(why) => put_why(errors, why),
+        None => Ok(()),
     }
 }
 

@@ -10,7 +10,7 @@ ghost use Rattle.brc_words.specs.declared.limits.TheConstants.{FEWEST_CELLS, MOS
 use brc_text::number_of;
 use brc_words::{FEWEST_CELLS, Fault, MOST_CELLS, MOST_LOCAL};
 use clap::error::ErrorKind;
-use clap::{Arg, ArgMatches, Command};
+use clap::{Arg, ArgAction, ArgMatches, Command};
 use std::alloc::{AllocError, Global};
 
 /// What the program is asked for.
@@ -18,8 +18,8 @@ use std::alloc::{AllocError, Global};
 pub enum Invocation {
     /// This text, on standard output.
     Help(String),
-    /// To replay the trace on standard input.
-    Replay,
+    /// To replay the trace on standard input, and to say why it is refused, where that is asked for too.
+    Replay { explain: bool },
     /// To run the script on standard input, its sections on threads.
     Run(RunOptions),
 }
@@ -116,8 +116,15 @@ the world that line 7 met:
 
     head -n 6 TRACE | brc replay
 
+With --explain a second line says why, `brc: why: ..`: what is wrong with a bad
+line, or which condition its event fails first and what stands there.
+
 Statuses: 0 no mortal object is live at the end, 1 some are, 2 bad command line,
 3 bad trace, 4 want of memory, 5 input or output.
+";
+
+const MORE_OF_REPLAY: &str = "\
+brc --help has the grammar of traces, an example and the statuses.
 ";
 
 /// The number of an option, by the word given for it: the usual one where none is, else what the word spells, from
@@ -160,6 +167,19 @@ fn run_options(options: &ArgMatches) -> Result<RunOptions, Fault>
     })
 }
 
+/// `replay` with its option.
+fn replay_command<'a>(alloc: Global) -> Result<Command<'a>, AllocError> {
+    let explain = Arg::new(alloc, "explain")
+        .long("explain")
+        .action(ArgAction::SetTrue)
+        .help("Say why a trace is refused, on a second error line");
+    Command::new(alloc, "replay")
+        .about("Writes the world that the trace on standard input leads to")
+        .override_usage("brc replay [OPTIONS]")
+        .after_help(MORE_OF_REPLAY)
+        .arg(explain)
+}
+
 /// `run` with its options. Help doesn't list it, since nothing runs scripts yet.
 fn run_command<'a>(alloc: Global) -> Result<Command<'a>, AllocError> {
     let cells = Arg::new(alloc, "cells")
@@ -177,6 +197,7 @@ fn run_command<'a>(alloc: Global) -> Result<Command<'a>, AllocError> {
     Command::new(alloc, "run")
         .about("Not there yet: will run the script on standard input")
         .hide(true)
+        .override_usage("brc run [OPTIONS]")
         .arg(cells)?
         .arg(budget)?
         .arg(local_limit)
@@ -197,20 +218,19 @@ pub fn read_words(alloc: Global, words: &[String]) -> Result<Invocation, Fault>
         [] => words,
         [_name, asked @ ..] => asked,
     };
-    let replay = Command::new(alloc, "replay").about(
-        "Writes the world that the trace on standard input leads to",
-    );
     let brc = Command::new(alloc, "brc")
         .about(ABOUT)
         .no_binary_name(true)
         .after_help(MORE)
         .disable_help_subcommand(true)
         .subcommand_required(true)
-        .subcommand(replay)?
+        .subcommand(replay_command(alloc)?)?
         .subcommand(run_command(alloc)?)?;
     match brc.try_get_matches_from(asked) {
         Ok(matches) => match matches.subcommand() {
-            Some(("replay", _)) => Ok(Invocation::Replay),
+            Some(("replay", options)) => Ok(Invocation::Replay {
+                explain: options.get_flag("explain"),
+            }),
             Some(("run", options)) => Ok(Invocation::Run(run_options(options)?)),
             _ => Err(Fault::BadOptions),
         },

@@ -7,6 +7,7 @@
 
 mod answering;
 mod command;
+mod explanations;
 
 pub use answering::{program, refuse};
 pub use command::{Invocation, RunOptions, read_words};

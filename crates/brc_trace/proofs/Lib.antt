@@ -5,3 +5,5 @@ pub mod ReadingLoop
 pub mod WorldLaws
 pub mod ReplayLaws
 pub mod SteppingLaws
+pub mod CauseLaws
+pub mod ExplainingLaws

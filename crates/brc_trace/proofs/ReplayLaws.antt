@@ -4,7 +4,7 @@ use Rattle.std.specs.Prelude.{IfSome}
 use Rattle.std.proofs.lemmas.Bool.{and_parts, leb-true, ltb-true, ltb-false}
 use Rattle.std.proofs.Math.Seq.{take-append_seam}
 use Rattle.std.proofs.lemmas.List.{take_all, length-take-le}
-use Rattle.std.specs.Prelude.{Err, ◌⊎◌, Bool}
+use Rattle.std.specs.Prelude.{Result, Ok, Err, ◌⊎◌}
 use Rattle.std.proofs.Common.{inl, inr}
 use Rattle.std.specs.Io.KnownBytes.{Consumes, IsAtEnd}
 use Rattle.std.proofs.KnownBytes.{Consumes-whole, Consumes-trans, Appends-nil, Keeps-refl}
@@ -101,3 +101,21 @@ not_written input old new bytes left world fault is h io put =
     let P : Fault → Type 0 = λ f. Replays input old new (Err f) in
     let half : IsHalfWritten input put.front = record { world = world; replayed = carried input bytes world is h; left = left; text = put.is } in
     subst P (sym io) (put.front, put.put, inr half)
+
+-- ---- a replay of what was read
+
+half_of_front : (input : Option (List ℕ)) (bytes front : List ℕ) → IfSome input (λ all. bytes ≡ take (MOST_INPUT + 1) all)
+    → (front ≡ []) ⊎ IsHalfWritten (Some bytes) front → (front ≡ []) ⊎ IsHalfWritten input front
+half_of_front input bytes front is (inl none) = inl none
+half_of_front input bytes front is (inr half) =
+    inr (record { world = half.world; replayed = carried input bytes half.world is half.replayed; left = half.left; text = half.text })
+
+-- what a replay of the bytes does is what one of the input does, of which they are all or as many as a trace may have and one
+pub of_front : (input : Option (List ℕ)) (bytes : List ℕ) (old new : Option (List ℕ)) (answer : Result Bool Fault)
+    → IfSome input (λ all. bytes ≡ take (MOST_INPUT + 1) all) → Replays (Some bytes) old new answer → Replays input old new answer
+of_front input bytes old new (Ok live) is h =
+    record { world = h.world; replayed = carried input bytes h.world is h.replayed; written = h.written; lives = h.lives }
+of_front input bytes old new (Err (faults.BadTrace line reason)) is h = (h.0, bad input bytes line reason is h.1)
+of_front input bytes old new (Err faults.OutOfMemory) is h = h
+of_front input bytes old new (Err faults.Io) is h = (h.0, h.1, half_of_front input bytes h.0 is h.2)
+of_front input bytes old new (Err _) is h = absurd h

@@ -38,7 +38,7 @@ fn birth_of(operands: &[Token]) -> Option<Step>
 
 /// The step that a word and the operands behind it spell; none where they spell none.
 #[inline(always)]
-fn step_of(word: Keyword, operands: &[Token]) -> Option<Step>
+pub(crate) fn step_of(word: Keyword, operands: &[Token]) -> Option<Step>
     ensures { result ≡ step_at word operands.now }
 {
     match word {

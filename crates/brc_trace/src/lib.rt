@@ -5,18 +5,24 @@
 //! `proofs/TextLaws.antt`.
 #![tactic(auto)]
 
+mod causes;
 mod event_line;
+mod explaining;
 mod operands;
 mod reading;
 mod replaying;
+mod standing;
 mod stepping;
 mod trace;
 mod world_text;
 mod world_thread;
 mod writing;
 
+pub use causes::Cause;
+pub use explaining::{Refused, Unreplayed, Why, explain, run_replay_explained};
 pub use reading::read_trace;
 pub use replaying::run_replay;
+pub use standing::{Meant, Standing};
 pub use trace::Trace;
 pub use world_text::write_world;
 pub use writing::write_trace;

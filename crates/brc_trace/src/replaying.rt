@@ -13,7 +13,10 @@ use std::io::{Read, Write};
 const MOST_READ: usize = MOST_INPUT + 1;
 
 /// All that the reader gives, up to one byte more than a trace may have. Any error ends it.
-fn read_input<A: Allocator, R: Read>(alloc: A, reader: &mut R) -> Result<Vec<u8, A>, Fault>
+pub(crate) fn read_input<A: Allocator, R: Read>(
+    alloc: A,
+    reader: &mut R,
+) -> Result<Vec<u8, A>, Fault>
     ensures bytes { IfOk result (λ bytes. IfSome (R.remaining reader.old) (λ input. bytes.items ≡ take (MOST_INPUT + 1) input)) }
     ensures refused { IfErr result (λ fault. (fault ≡ Fault.Io) ⊎ (fault ≡ Fault.OutOfMemory)) }
 {

@@ -1,6 +1,7 @@
 //! The tests, by crate.
 
 mod comparing;
+mod explaining;
 mod meaning;
 mod model;
 mod plain;

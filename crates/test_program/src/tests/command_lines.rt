@@ -11,6 +11,8 @@ fn bad_command_lines(rt: HostRuntime) -> Result<(), Fail> {
     const CASES: &[(&str, &str)] = &[
         ("brc", ""),
         ("brc replay more", ""),
+        ("brc replay --explained", ""),
+        ("brc replay --explain=yes", ""),
         // Nothing runs scripts yet.
         ("brc run --budget 1", "section a\n"),
     ];
@@ -53,9 +55,14 @@ fn help_is_no_error(rt: HostRuntime) -> Result<(), Fail> {
 
 #[test]
 fn each_command_has_its_help(rt: HostRuntime) -> Result<(), Fail> {
-    let _of_replay = help(&rt, "brc replay --help")?;
+    let of_replay = help(&rt, "brc replay --help")?;
+    says(&rt, of_replay.as_str(), "Usage: brc replay [OPTIONS]");
+    says(&rt, of_replay.as_str(), "--explain");
+    says(&rt, of_replay.as_str(), "brc --help has the grammar");
+    is_narrow(&rt, of_replay.as_str());
     let of_run = help(&rt, "brc run --help")?;
     assert!(rt; of_run.as_str().starts_with("Not there yet"));
+    says(&rt, of_run.as_str(), "Usage: brc run [OPTIONS]");
     says(&rt, of_run.as_str(), "--local-limit <L>");
     Ok(())
 }

@@ -1,0 +1,68 @@
+-- Why a replay refuses a text.
+use Rattle.std.specs.Prelude.{◌≡◌, ◌<◌, ℕ, ◌+◌, Bool, List, length, take, reverse, Option, Some, None, Result, Ok, Err}
+use Rattle.brc_words.specs.declared.limits.TheConstants.{MOST_INPUT}
+use Rattle.brc_runs.specs.declared.event.Event.{Event}
+use Rattle.brc_runs.specs.Heap.{Heap, opening}
+use Rattle.brc_runs.specs.Runs.{IsRun, world_after}
+use Rattle.brc_core.specs.Replays.{IsFirstNotEnabled}
+use Rattle.brc_state.specs.Refusals.{refusal_of}
+use Rattle.brc_trace.specs.Causes.{IsCause, piece_at}
+use Rattle.brc_trace.specs.Replaying.{IsBad}
+use Rattle.brc_trace.specs.Standing.{seen}
+use Rattle.brc_trace.specs.Traces.{Listing, trace_at}
+use Rattle.brc_words.specs.declared.fault.Fault.{Fault}
+use Rattle.brc_words.specs.declared.fault.Fault.TheVariants as faults
+use Rattle.brc_words.specs.declared.fault.Reason.TheVariants as reasons
+use Rattle.brc_trace.specs.declared.explaining.Refused.{Refused}
+use Rattle.brc_trace.specs.declared.explaining.Unreplayed.{Unreplayed}
+use Rattle.brc_trace.specs.declared.explaining.Why.{Why}
+use Rattle.brc_trace.specs.declared.explaining.Why.TheVariants as whys
+
+-- the event on this line is refused in this world for what is told, and what is said to stand there does
+pub record WhyRefused (world : Heap) (event : Event) (line : ℕ) (told : Refused) : Type 0 where
+  pub line_is : told.line ≡ line
+  pub event_is : told.event ≡ event
+  pub refusal_is : refusal_of world event ≡ Some told.refusal
+  pub standing_is : told.standing ≡ seen world event
+
+-- the events before are a run, the next one isn't enabled where they lead, and it is told why; the first event has line 2
+pub record IsRefused (start : Heap) (events : List Event) (told : Refused) : Type 0 where
+  pub at : ℕ
+  pub first : IsFirstNotEnabled start events at
+  pub why : WhyRefused (world_after start (reverse (take at events))) first.event (at + 2) told
+
+-- what is told of events: none where they are a run
+abbrev pub ExplainsEvents : Heap → List Event → Option Refused → Type 0
+ExplainsEvents start events None = IsRun start (reverse events)
+ExplainsEvents start events (Some told) = IsRefused start events told
+
+-- what is told of the bytes' trace
+pub record ExplainsTrace (bytes : List ℕ) (told : Option Refused) : Type 0 where
+  pub trace : Listing
+  pub spelled : trace_at bytes ≡ Ok trace
+  pub events : ExplainsEvents (opening trace.cells trace.local_limit) trace.events told
+
+-- What is told of bytes: that they are too many, their least bad line and what is wrong with it, the first event that
+-- isn't enabled and why, or nothing where they are a trace whose events are a run.
+abbrev pub Explains : List ℕ → Option Why → Type 0
+Explains bytes (Some whys.TooLong) = MOST_INPUT < length bytes
+Explains bytes (Some (whys.Bad line cause)) = (trace_at bytes ≡ Err line) × IsCause cause line (piece_at line bytes)
+Explains bytes (Some (whys.Refused told)) = ExplainsTrace bytes (Some told)
+Explains bytes None = ExplainsTrace bytes None
+
+-- what a replay answers, without why
+abbrev pub without_why : Result Bool Unreplayed → Result Bool Fault
+without_why (Ok live) = Ok live
+without_why (Err told) = Err told.fault
+
+-- the fault that a replay answers for this reason
+abbrev pub fault_of_why : Why → Fault
+fault_of_why whys.TooLong = faults.BadTrace 0 reasons.NotALine
+fault_of_why (whys.Bad line cause) = faults.BadTrace line reasons.NotALine
+fault_of_why (whys.Refused told) = faults.BadTrace told.line reasons.NotEnabled
+
+-- what is told of a fault is of that fault, if the fault is right; of one that isn't of the trace nothing is told
+abbrev pub Agrees : List ℕ → Fault → Option Why → Type 0
+Agrees bytes fault None = Unit {0}
+Agrees bytes (faults.BadTrace line reason) (Some why) = IsBad reason line bytes → faults.BadTrace line reason ≡ fault_of_why why
+Agrees bytes _ (Some why) = ⊥
