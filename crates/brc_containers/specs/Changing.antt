@@ -13,7 +13,6 @@ use Rattle.brc_rule.specs.declared.told.Told.TheVariants.{Did}
 use Rattle.brc_rule.specs.Logs.{entries_in}
 use Rattle.brc_count.specs.Frames.{FrameSeen, HandleSeen, IsUnlocked, Given, Refused}
 use Rattle.brc_count.specs.Locking.{Busy, KeepsThread, KeepsFrame, ChangesPlace, cell_in}
-use Rattle.brc_containers.specs.Looking.{Waits}
 
 -- A call on plain data: what is found goes in; the answer and what is left come out, or why there is none.
 abbrev pub PlainCall : Type 0 → Type 0
@@ -73,6 +72,7 @@ module _ {A : Type 0} where
     pub at_index : slice_get (entries_in found) index ≡ Some entry
     pub plain : call found ≡ Ok (entry, put)
     pub changes : Changes old new k found (Take index given.place) put
+    pub heap : given.heap ≡ old.heap
     pub thread : given.thread ≡ old.seat.thread
     pub next : given.place ≡ old.next
     pub vacant : cell_in old given.place ≡ None
@@ -91,6 +91,8 @@ module _ {A : Type 0} where
     pub of_place : cell_in old k ≡ Some cell
     pub locked : FrameSeen A
     pub shared : FrameSeen A
+    pub same_heap : locked.heap ≡ old.heap
+    pub shared_heap : shared.heap ≡ old.heap
     pub locks : locked.seat.log ≡ Did (Lock k) 0 (moves.Found cell found) ∷ old.seat.log
     pub gives : Given locked shared (sources.Entry index) entry given
     pub unlocks : new.seat.log ≡ Did (Unlock Keep) 0 (moves.Put cell found) ∷ shared.seat.log
@@ -133,10 +135,3 @@ module _ {A R : Type 0} where
   RefusedPlace old new k call faults.FrameFull = RefusedForWant old new k call × Refused old faults.FrameFull
   RefusedPlace old new k call faults.OutOfMemory = RefusedForWant old new k call × Refused old faults.OutOfMemory
   RefusedPlace old new k call fault = RefusedPlainly old new k call fault
-
--- ---- forms that wait
-
-module _ {A : Type 0} where
-  -- so after some tries, each of which found the object in the place locked by another thread
-  abbrev pub Late : FrameSeen A → ℕ → (FrameSeen A → Type 0) → Type 0
-  Late old k done = (mid : FrameSeen A) × Waits old k mid × done mid

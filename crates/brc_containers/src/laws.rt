@@ -1,9 +1,14 @@
-//! The law of calls on one object, as the contract of a function with nothing to do.
+//! The law of calls on one object, and that of lost tries, as contracts of functions with nothing to do.
 
 ghost use Rattle.std.specs.Prelude.{◌≡◌, ℕ, ◌<◌, List, ◌++◌};
 ghost use Rattle.brc_runs.specs.Heap.{AreOptions};
 ghost use Rattle.brc_rule.specs.Logs.{Run, own_of, contents_at, IsLegal};
+ghost use Rattle.brc_count.specs.Frames.{FrameSeen};
+ghost use Rattle.brc_count.specs.Locking.{KeepsThread, KeepsFrame};
+ghost use Rattle.brc_lock.specs.Waiting.{Waits};
 ghost use Rattle.brc_containers.specs.History.{Call as call, IsSequential, Extends, left_by, history_of, own_history, calls_of};
+
+use std::alloc::Allocator;
 
 /// All calls on the objects in one cell, of whatever threads, are one sequential history: births, and calls that stand where
 /// they unlock in the one run of the table. Each call's locking found just what the call before it put home, so that its plain
@@ -22,4 +27,12 @@ pub fn calls_on_an_object_are_one_history()
     // A thread's calls stand in it in the order of the thread's own steps, as its log tells them.
     ensures own { (n limit : ℕ) (run : Run) (c t : ℕ) → IsLegal n limit run → 0 < t
         → calls_of t (history_of c run) ≡ own_history c t (own_of t run) }
+{}
+
+/// Tries that find an object locked change nothing of a frame but its log. So what a form that waits says from the frame that its
+/// lost tries left (`Late`) holds from the frame that it was called with: places, handles, heap and room are the same.
+#[tactic(auto, using(brc_lock::proofs::Kept::waits_thread, brc_lock::proofs::Kept::waits_frame))]
+pub fn lost_tries_change_nothing<A: Allocator>()
+    ensures thread { (old mid : FrameSeen A) (k : ℕ) → Waits old k mid → KeepsThread old mid }
+    ensures frame { (old mid : FrameSeen A) (k : ℕ) → Waits old k mid → KeepsFrame old mid }
 {}

@@ -2,7 +2,7 @@
 //!
 //! Each call is a locking, at most one step on an entry, and an unlocking; its answer is that of plain data on what the locking
 //! found (`specs/Looking.antt`). The forms with `try_` never wait: an object that another thread has locked is Busy. The
-//! others try again, and hold nothing while they do.
+//! others try again, and hold nothing while they do. What a call does is one definition, which both its forms cite.
 #![tactic(auto)]
 
 mod laws;
@@ -10,6 +10,6 @@ mod looking;
 mod reading;
 mod waiting;
 
-pub use laws::calls_on_an_object_are_one_history;
+pub use laws::{calls_on_an_object_are_one_history, lost_tries_change_nothing};
 pub use reading::{try_int_of, try_kind_of, try_len_of, try_text_of};
 pub use waiting::{int_of, kind_of, len_of, text_of};

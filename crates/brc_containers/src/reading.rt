@@ -1,13 +1,8 @@
 //! What an object is: its kind, its length, its integer, its text.
 
-ghost use Rattle.std.specs.Prelude.{◌≡◌, IfOk, IfErr, length};
-ghost use Rattle.brc_words.specs.declared.fault.Fault.TheVariants as faults;
-ghost use Rattle.brc_rule.specs.declared.contents.Contents.{Contents as contents_of_an_object};
-ghost use Rattle.brc_rule.specs.declared.contents.Contents.TheVariants as contents;
-ghost use Rattle.brc_rule.specs.Logs.{kind_in, entries_in};
 ghost use Rattle.brc_count.specs.Frames.{IsUnlocked, Owns};
-ghost use Rattle.brc_count.specs.Locking.{Busy, KeepsThread, KeepsFrame};
-ghost use Rattle.brc_containers.specs.Looking.{Looked, LooksAt, RefusedLook, RefusedCopy, IsInt, IsText, IsContainer};
+ghost use Rattle.brc_count.specs.Owned.{Keeps};
+ghost use Rattle.brc_containers.specs.Looking.{KindOf, LenOf, IntOf, TextOf};
 
 use crate::looking::{container_len, copy_of_text, int_in, is_text};
 use brc_count::{Frame, Handle};
@@ -18,13 +13,13 @@ use std::alloc::Allocator;
 /// What kind of object the handle is a reference to. Busy where another thread has it locked.
 pub fn try_kind_of<H: Home<A>, A: Allocator>(
     frame: &mut Frame<H, A>,
-    handle: &Handle,
+    handle: &Handle<A>,
 ) -> Result<Kind, Fault>
     requires owned { Owns frame.old handle.now }
     requires unlocked { IsUnlocked frame.old }
-    ensures looked { Looked frame.old frame.new
-        (λ kind. (found : contents_of_an_object) × LooksAt frame.old frame.new handle.now.place found × (kind_in found ≡ kind))
-        (λ fault. (fault ≡ faults.Busy) × Busy frame.old frame.new handle.now.place) result }
+    ensures looked { KindOf frame.old frame.new handle.now.place result }
+    ensures keeps { Keeps frame.old frame.new }
+    ensures unlocked { IsUnlocked frame.new }
 {
     let Some(block) = frame.begin(handle) else {
         return Err(Fault::Busy);
@@ -38,14 +33,13 @@ pub fn try_kind_of<H: Home<A>, A: Allocator>(
 /// object is no container.
 pub fn try_len_of<H: Home<A>, A: Allocator>(
     frame: &mut Frame<H, A>,
-    handle: &Handle,
+    handle: &Handle<A>,
 ) -> Result<usize, Fault>
     requires owned { Owns frame.old handle.now }
     requires unlocked { IsUnlocked frame.old }
-    ensures looked { Looked frame.old frame.new
-        (λ len. (found : contents_of_an_object) × LooksAt frame.old frame.new handle.now.place found
-        × IsContainer found × (length (entries_in found) ≡ len))
-        (RefusedLook frame.old frame.new handle.now.place IsContainer) result }
+    ensures looked { LenOf frame.old frame.new handle.now.place result }
+    ensures keeps { Keeps frame.old frame.new }
+    ensures unlocked { IsUnlocked frame.new }
 {
     let Some(block) = frame.begin(handle) else {
         return Err(Fault::Busy);
@@ -61,13 +55,13 @@ pub fn try_len_of<H: Home<A>, A: Allocator>(
 /// The number of an integer. Busy where another thread has the object locked, then WrongKind where it is no integer.
 pub fn try_int_of<H: Home<A>, A: Allocator>(
     frame: &mut Frame<H, A>,
-    handle: &Handle,
+    handle: &Handle<A>,
 ) -> Result<i64, Fault>
     requires owned { Owns frame.old handle.now }
     requires unlocked { IsUnlocked frame.old }
-    ensures looked { Looked frame.old frame.new
-        (λ number. LooksAt frame.old frame.new handle.now.place (contents.Int number))
-        (RefusedLook frame.old frame.new handle.now.place IsInt) result }
+    ensures looked { IntOf frame.old frame.new handle.now.place result }
+    ensures keeps { Keeps frame.old frame.new }
+    ensures unlocked { IsUnlocked frame.new }
 {
     let Some(block) = frame.begin(handle) else {
         return Err(Fault::Busy);
@@ -84,13 +78,13 @@ pub fn try_int_of<H: Home<A>, A: Allocator>(
 pub fn try_text_of<H: Home<A>, A: Allocator>(
     alloc: A,
     frame: &mut Frame<H, A>,
-    handle: &Handle,
+    handle: &Handle<A>,
 ) -> Result<Text<A>, Fault>
     requires owned { Owns frame.old handle.now }
     requires unlocked { IsUnlocked frame.old }
-    ensures looked { Looked frame.old frame.new
-        (λ text. LooksAt frame.old frame.new handle.now.place (contents.Text text))
-        (RefusedCopy frame.old frame.new handle.now.place IsText) result }
+    ensures looked { TextOf frame.old frame.new handle.now.place result }
+    ensures keeps { Keeps frame.old frame.new }
+    ensures unlocked { IsUnlocked frame.new }
 {
     let Some(block) = frame.begin(handle) else {
         return Err(Fault::Busy);

@@ -1,12 +1,12 @@
-//! The forms that wait: they try again until the object isn't locked by another thread.
+//! The forms that wait: they try again until the object isn't locked by another thread. What each does then is what its form with
+//! `try_` does, from the frame that the lost tries left, which have changed nothing (`laws::lost_tries_change_nothing`).
 
-ghost use Rattle.std.specs.Prelude.{◌≡◌, IfOk, IfErr, length};
-ghost use Rattle.brc_rule.specs.declared.contents.Contents.{Contents as contents_of_an_object};
-ghost use Rattle.brc_rule.specs.declared.contents.Contents.TheVariants as contents;
-ghost use Rattle.brc_rule.specs.Logs.{kind_in, entries_in};
+ghost use Rattle.std.specs.Prelude.{◌≢◌, Ok, IfErr};
+ghost use Rattle.brc_words.specs.declared.fault.Fault.TheVariants as faults;
 ghost use Rattle.brc_count.specs.Frames.{IsUnlocked, Owns};
-ghost use Rattle.brc_count.specs.Locking.{KeepsThread, KeepsFrame};
-ghost use Rattle.brc_containers.specs.Looking.{Looked, LooksLate, RefusedLate, RefusedLateCopy, IsInt, IsText, IsContainer};
+ghost use Rattle.brc_count.specs.Owned.{Keeps};
+ghost use Rattle.brc_containers.specs.Called.{Late};
+ghost use Rattle.brc_containers.specs.Looking.{KindOf, LenOf, IntOf, TextOf};
 
 use crate::looking::{container_len, copy_of_text, int_in, is_text};
 use brc_count::{Frame, Handle};
@@ -20,14 +20,13 @@ use std::sync::Wait;
 pub fn kind_of<H: Home<A>, A: Allocator>(
     rt: &impl Wait,
     frame: &mut Frame<H, A>,
-    handle: &Handle,
+    handle: &Handle<A>,
 ) -> Kind
     requires owned { Owns frame.old handle.now }
     requires unlocked { IsUnlocked frame.old }
-    ensures thread { KeepsThread frame.old frame.new }
-    ensures frame { KeepsFrame frame.old frame.new }
+    ensures looked { Late frame.old handle.now.place (λ mid. KindOf mid frame.new handle.now.place (Ok result)) }
+    ensures keeps { Keeps frame.old frame.new }
     ensures unlocked { IsUnlocked frame.new }
-    ensures found { (found : contents_of_an_object) × LooksLate frame.old frame.new handle.now.place found × (kind_in found ≡ result) }
 {
     let block = begin_late(rt, frame, handle);
     let kind = block.payload().kind();
@@ -40,14 +39,14 @@ pub fn kind_of<H: Home<A>, A: Allocator>(
 pub fn len_of<H: Home<A>, A: Allocator>(
     rt: &impl Wait,
     frame: &mut Frame<H, A>,
-    handle: &Handle,
+    handle: &Handle<A>,
 ) -> Result<usize, Fault>
     requires owned { Owns frame.old handle.now }
     requires unlocked { IsUnlocked frame.old }
-    ensures looked { Looked frame.old frame.new
-        (λ len. (found : contents_of_an_object) × LooksLate frame.old frame.new handle.now.place found
-        × IsContainer found × (length (entries_in found) ≡ len))
-        (RefusedLate frame.old frame.new handle.now.place IsContainer) result }
+    ensures looked { Late frame.old handle.now.place (λ mid. LenOf mid frame.new handle.now.place result) }
+    ensures keeps { Keeps frame.old frame.new }
+    ensures unlocked { IsUnlocked frame.new }
+    ensures waited { IfErr result (λ fault. fault ≢ faults.Busy) }
 {
     let block = begin_late(rt, frame, handle);
     let len = container_len(block.payload());
@@ -62,13 +61,14 @@ pub fn len_of<H: Home<A>, A: Allocator>(
 pub fn int_of<H: Home<A>, A: Allocator>(
     rt: &impl Wait,
     frame: &mut Frame<H, A>,
-    handle: &Handle,
+    handle: &Handle<A>,
 ) -> Result<i64, Fault>
     requires owned { Owns frame.old handle.now }
     requires unlocked { IsUnlocked frame.old }
-    ensures looked { Looked frame.old frame.new
-        (λ number. LooksLate frame.old frame.new handle.now.place (contents.Int number))
-        (RefusedLate frame.old frame.new handle.now.place IsInt) result }
+    ensures looked { Late frame.old handle.now.place (λ mid. IntOf mid frame.new handle.now.place result) }
+    ensures keeps { Keeps frame.old frame.new }
+    ensures unlocked { IsUnlocked frame.new }
+    ensures waited { IfErr result (λ fault. fault ≢ faults.Busy) }
 {
     let block = begin_late(rt, frame, handle);
     let number = int_in(block.payload());
@@ -84,13 +84,14 @@ pub fn text_of<H: Home<A>, A: Allocator>(
     rt: &impl Wait,
     alloc: A,
     frame: &mut Frame<H, A>,
-    handle: &Handle,
+    handle: &Handle<A>,
 ) -> Result<Text<A>, Fault>
     requires owned { Owns frame.old handle.now }
     requires unlocked { IsUnlocked frame.old }
-    ensures looked { Looked frame.old frame.new
-        (λ text. LooksLate frame.old frame.new handle.now.place (contents.Text text))
-        (RefusedLateCopy frame.old frame.new handle.now.place IsText) result }
+    ensures looked { Late frame.old handle.now.place (λ mid. TextOf mid frame.new handle.now.place result) }
+    ensures keeps { Keeps frame.old frame.new }
+    ensures unlocked { IsUnlocked frame.new }
+    ensures waited { IfErr result (λ fault. fault ≢ faults.Busy) }
 {
     let block = begin_late(rt, frame, handle);
     if !is_text(block.payload()) {

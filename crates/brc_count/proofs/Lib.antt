@@ -6,3 +6,4 @@ mod Locked_Entries
 mod Popping
 mod Leaving
 mod Bearing
+pub mod Owning

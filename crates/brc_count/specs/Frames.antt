@@ -33,8 +33,9 @@ use Rattle.brc_counter.specs.Up.{CountsHere, RaisedImmortal, RaisedShared}
 use Rattle.brc_count.specs.declared.held.Held.{Held}
 use Rattle.brc_count.specs.declared.ledger.Ledger.{Ledger}
 
--- which thread's handle it is, and which place of that thread's frame has its reference
+-- of which heap the handle is, of which thread, and which place of that thread's frame has its reference
 pub record HandleSeen : Type 0 where
+  pub heap : TableSeen
   pub thread : ℕ
   pub place : ℕ
 
@@ -126,8 +127,13 @@ pub record Holding (A : Type 0) (heap : TableSeen) (seat : SeatSeen A) (places :
   pub allocs : ledger.allocs ≡ (part_seen heap.cells seat.log).row.allocs
   pub frees : ledger.frees ≡ (part_seen heap.cells seat.log).row.frees
 
--- the handle is of the frame's thread, and its place has a reference
+-- the handle of the frame's thread for one of its places
+abbrev pub handle_at : {A : Type 0} → FrameSeen A → ℕ → HandleSeen
+handle_at frame k = record { heap = frame.heap; thread = frame.seat.thread; place = k }
+
+-- the handle is of the frame's heap and of its thread, and its place has a reference
 pub record Owns {A : Type 0} (frame : FrameSeen A) (handle : HandleSeen) : Type 0 where
+  pub heap : handle.heap ≡ frame.heap
   pub thread : handle.thread ≡ frame.seat.thread
   pub filled : is_some (place_seen frame.heap.cells frame.seat.log handle.place) ≡ true
 
@@ -203,9 +209,10 @@ pub record CountsUp {A : Type 0} (old new : FrameSeen A) (source : Source) (k c 
   pub shared : FIRST_MORTAL ≤ c → ¬ CountsHere old.heap.cells old.heap.local_limit old.seat.log c
       → RaisedShared source k old.seat.log new.seat.log risen
 
--- A new handle is of the frame's thread, in the place that was next, and has a reference to the cell; every other place has
--- what it had, and no block came or went.
+-- A new handle is of the frame's heap and thread, in the place that was next, and has a reference to the cell; every other place
+-- has what it had, and no block came or went.
 pub record Given {A : Type 0} (old new : FrameSeen A) (source : Source) (c : ℕ) (given : HandleSeen) : Type 0 where
+  pub heap : given.heap ≡ old.heap
   pub thread : given.thread ≡ old.seat.thread
   pub place : given.place ≡ old.next
   pub room : given.place < MOST_PLACES
@@ -240,9 +247,9 @@ pub record ReleasedOf {A : Type 0} (old new : FrameSeen A) (k c : ℕ) : Type 0 
 -- nothing is done. Every place has what it had.
 pub data Turned {A : Type 0} (old new : FrameSeen A) : Type 0 where
   EntryReleased : (entry : ℕ) (mid : List (ℕ × Payload A)) (pops : PopsEntry old.works mid entry) (seen : Bool) (block : Option (ℕ × Payload A))
-      → Released old.heap.cells (drops.Work pops.cell) entry seen block old.seat.log new.seat.log
+      → new.heap ≡ old.heap → Released old.heap.cells (drops.Work pops.cell) entry seen block old.seat.log new.seat.log
       → new.works ≡ pushed block mid → Turned old new
-  BlockFreed : (front : ℕ × Payload A) (found : ℕ) → old.works ≡ front ∷ new.works → entries_of front.1 ≡ []
+  BlockFreed : (front : ℕ × Payload A) (found : ℕ) → new.heap ≡ old.heap → old.works ≡ front ∷ new.works → entries_of front.1 ≡ []
       → new.seat.log ≡ Did (Free front.0) found Nothing ∷ old.seat.log → Turned old new
 
 -- so many turns, one after the other

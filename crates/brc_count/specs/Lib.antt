@@ -1,4 +1,5 @@
 pub mod Frames
+pub mod Owned
 pub mod Locking
 pub mod Polling
 pub mod Closing

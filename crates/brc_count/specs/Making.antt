@@ -15,7 +15,7 @@ use Rattle.brc_count.specs.Frames.{FrameSeen, HandleSeen, KeepsRest, KeepsHandle
 
 module _ {A : Type 0} where
   -- An object with these contents is made, in the first cell that was to be had: the thread claims it, sets its local word and
-  -- its shared one, and puts its block home. The new handle is of the frame's thread, in the place that was next; every
+  -- its shared one, and puts its block home. The new handle is of the frame's heap and thread, in the place that was next; every
   -- other place has what it had, and no block came or went.
   pub record Made (old new : FrameSeen A) (contents : Contents) (given : HandleSeen) : Type 0 where
     pub cell : ℕ
@@ -25,6 +25,7 @@ module _ {A : Type 0} where
     pub claimed : ClaimsFirst cell old.seat.log mid
     pub told : new.seat.log ≡ Did (Birth cell (kind_in contents) given.place) old.seat.thread (Put cell contents)
         ∷ Did (InitShared cell) (2 ^ 42) Nothing ∷ Did (InitLocal cell) 1 Nothing ∷ mid
+    pub heap : given.heap ≡ old.heap
     pub thread : given.thread ≡ old.seat.thread
     pub place : given.place ≡ old.next
     pub room : given.place < MOST_PLACES

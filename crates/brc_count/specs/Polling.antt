@@ -13,6 +13,7 @@ module _ {A : Type 0} where
   -- A popped entry is dealt with: it is counted down, after its object was found merged or is merged by the thread; where
   -- the object ends, its block is on the front of the worklist.
   pub record Deals (old new : FrameSeen A) (c : ℕ) : Type 0 where
+    pub heap : new.heap ≡ old.heap
     pub block : Option (ℕ × Payload A)
     pub events : Settled c block old.seat.log new.seat.log
     pub works : new.works ≡ pushed block old.works
@@ -28,6 +29,7 @@ module _ {A : Type 0} where
   pub record Drains (old new : FrameSeen A) (k : ℕ) : Type 0 where
     pub bits : ℕ
     pub mid : FrameSeen A
+    pub heap : mid.heap ≡ old.heap
     pub drained : mid.seat.log ≡ Did (Drain k) bits Nothing ∷ old.seat.log
     pub works : mid.works ≡ old.works
     pub dealt : DealsBits k bits mid 32 new
@@ -49,6 +51,7 @@ module _ {A : Type 0} where
   -- a poll that found this number in the thread's notify word
   pub record Polled (old new : FrameSeen A) (told : ℕ) : Type 0 where
     pub mid : FrameSeen A
+    pub heap : mid.heap ≡ old.heap
     pub woken : mid.seat.log ≡ Did Wake told Nothing ∷ old.seat.log
     pub works : mid.works ≡ old.works
     pub drains : DrainsNamed told (words_for old.heap.cells) mid ((words_for old.heap.cells + 31) / 32) new

@@ -8,15 +8,17 @@ ghost use Rattle.brc_runs.specs.Heap.{words_for};
 ghost use Rattle.brc_counter.specs.Bounded.{IsBounded};
 ghost use Rattle.brc_steps.specs.Joining.{next_thread, registering};
 ghost use Rattle.brc_table.specs.Seated.{Continues};
-ghost use Rattle.brc_count.specs.Frames.{place_seen, Owns, Given, Refused, ReleasedOf, IsAsBefore, IsUnlocked, Turns, KeepsHandles, ledger_seen};
+ghost use Rattle.brc_count.specs.Frames.{place_seen, handle_at, Owns, Given, Refused, ReleasedOf, IsAsBefore, IsUnlocked, Turns, KeepsHandles, ledger_seen};
 ghost use Rattle.brc_count.specs.Polling.{Polled};
 ghost use Rattle.brc_count.specs.Closing.{Closes};
 ghost use Rattle.brc_count.specs.Making.{Made, RefusedMaking};
+ghost use Rattle.brc_count.specs.Owned.{Keeps, Gains, Loses};
 ghost use Rattle.brc_words.specs.Kinds.{is_mortal};
 ghost use Rattle.brc_rule.specs.Logs.{kind_in, entries_in};
 ghost use Rattle.brc_table.specs.Shown.{contents_of};
 
 use crate::closed::ClosedFrame;
+use crate::handed::Handed;
 use crate::handle::Handle;
 use crate::holdings::Holdings;
 use crate::ledger::Ledger;
@@ -27,6 +29,7 @@ use brc_table::RootSeat;
 use brc_words::Fault;
 use std::alloc::{AllocError, Allocator};
 use std::marker::Model;
+use std::snapshot::Snapshot;
 
 /// What a thread that is active holds, and the thread's number.
 pub struct Frame<H: Home<A>, A: Allocator> {
@@ -101,8 +104,22 @@ impl<H: Home<A>, A: Allocator> Frame<H, A> {
         self.holdings.counter.home()
     }
 
-    /// Whether the handle is of this frame's thread, and its place has a reference.
-    pub fn owns(&self, handle: &Handle) -> bool
+    /// The frame's handle for a place.
+    #[inline(always)]
+    pub(crate) fn handle(&self, place: u32) -> Handle<A>
+        ensures { result ≡ handle_at self.now place }
+    {
+        Handle {
+            thread: self.thread,
+            place,
+            heap: Snapshot::of(self.home().table()),
+        }
+    }
+
+    /// Whether the handle, which is of this frame's heap, is of its thread, and its place has a reference. Nothing at run time tells
+    /// one heap from another: that the two are of one heap is what a caller proves.
+    pub fn owns(&self, handle: &Handle<A>) -> bool
+        requires heap { handle.now.heap ≡ self.now.heap }
         ensures owned { IsTrue result → Owns self.now handle.now }
         ensures foreign { IsFalse result → ¬ Owns self.now handle.now }
     {
@@ -111,7 +128,7 @@ impl<H: Home<A>, A: Allocator> Frame<H, A> {
 
     /// The cell of the object that the handle is a reference to.
     #[inline(always)]
-    pub fn cell(&self, handle: &Handle) -> u32
+    pub fn cell(&self, handle: &Handle<A>) -> u32
         requires owned { Owns self.now handle.now }
         ensures cell { place_seen self.now.heap.cells self.now.seat.log handle.now.place ≡ Some result }
         ensures inside { result < self.now.heap.cells }
@@ -147,7 +164,7 @@ impl<H: Home<A>, A: Allocator> Frame<H, A> {
     /// One handle more to the same object, in one event (PEP 703, "Biased Reference Counting"). FrameFull where the next
     /// place isn't below 65,536, looked at first; OutOfMemory where a place more can't be had. A refusal changes nothing.
     #[inline(always)]
-    pub fn retain(&mut self, handle: &Handle) -> Result<Handle, Fault>
+    pub fn retain(&mut self, handle: &Handle<A>) -> Result<Handle<A>, Fault>
         requires owned { Owns self.old handle.now }
         requires unlocked { IsUnlocked self.old }
         ensures heap { self.new.heap ≡ self.old.heap }
@@ -156,34 +173,36 @@ impl<H: Home<A>, A: Allocator> Frame<H, A> {
             Given self.old self.new (sources.Frame handle.now.place) c given) }
         ensures refused { IfErr result (Refused self.old) }
         ensures unchanged { OnErr result (IsAsBefore self.old self.new) }
+
+        ensures gains { IfOk result (Gains self.old self.new) }
+        ensures keeps { OnErr result (Keeps self.old self.new) }
+        ensures unlocked { IsUnlocked self.new }
     {
         let cell = self.cell(handle);
         self.holdings.reserve()?;
         let place = self.holdings.fill(Source::Frame(handle.place), cell);
-        Ok(Handle {
-            thread: self.thread,
-            place,
-        })
+        Ok(self.handle(place))
     }
 
     /// A handle to an immortal, cell 0 to 265, in one event that only looks. It is refused as `retain` is.
     #[inline(always)]
-    pub fn immortal(&mut self, cell: u32) -> Result<Handle, Fault>
+    pub fn immortal(&mut self, cell: u32) -> Result<Handle<A>, Fault>
         requires immortal { cell < FIRST_MORTAL }
         requires unlocked { IsUnlocked self.old }
         ensures heap { self.new.heap ≡ self.old.heap }
         ensures given { IfOk result (λ given. Given self.old self.new (sources.Immortal cell) cell given) }
         ensures refused { IfErr result (Refused self.old) }
         ensures unchanged { OnErr result (IsAsBefore self.old self.new) }
+
+        ensures gains { IfOk result (Gains self.old self.new) }
+        ensures keeps { OnErr result (Keeps self.old self.new) }
+        ensures unlocked { IsUnlocked self.new }
     {
         // A heap has all immortals: its invariant says so.
         let _cells = self.holdings.counter.home().table().cells();
         self.holdings.reserve()?;
         let place = self.holdings.fill(Source::Immortal(cell), cell);
-        Ok(Handle {
-            thread: self.thread,
-            place,
-        })
+        Ok(self.handle(place))
     }
 
     /// A new object with this payload, and a handle to it: a cell is claimed, its words are set, and the block is put home
@@ -192,27 +211,30 @@ impl<H: Home<A>, A: Allocator> Frame<H, A> {
     /// where the thread has made 2^47 objects; OutOfMemory where the place or the block can't be had; HeapFull where all
     /// mortal cells were found taken. A container's payload is empty.
     #[inline(always)]
-    pub fn born(&mut self, alloc: A, payload: Payload<A>) -> Result<Handle, (Fault, Payload<A>)>
+    pub fn born(&mut self, alloc: A, payload: Payload<A>) -> Result<Handle<A>, Handed<Payload<A>>>
         requires unlocked { IsUnlocked self.old }
         requires mortal { is_mortal (kind_in (contents_of payload)) ≡ true }
         requires empty { entries_in (contents_of payload) ≡ [] }
         ensures heap { self.new.heap ≡ self.old.heap }
         ensures made { IfOk result (Made self.old self.new (contents_of payload)) }
-        ensures refused { IfErr result (λ back. RefusedMaking self.old self.new back.0) }
-        ensures back { IfErr result (λ back. back.1 ≡ payload) }
+        ensures refused { IfErr result (λ handed. RefusedMaking self.old self.new handed.fault) }
+        ensures back { IfErr result (λ handed. handed.back ≡ payload) }
+
+        ensures gains { IfOk result (Gains self.old self.new) }
+        ensures keeps { OnErr result (Keeps self.old self.new) }
+        ensures unlocked { IsUnlocked self.new }
     {
-        let place = self.holdings.born(alloc, payload)?;
-        Ok(Handle {
-            thread: self.thread,
-            place,
-        })
+        match self.holdings.born(alloc, payload) {
+            Ok(place) => Ok(self.handle(place)),
+            Err((fault, back)) => Err(Handed { fault, back }),
+        }
     }
 
     /// The reference goes, in at most five events whatever others do, with one lost exchange in the log; where the object ends,
     /// its block is on the front of the worklist (PEP 703, "Biased Reference Counting"). It waits for nobody, unless its `Home`
     /// does to find the table.
     #[inline(always)]
-    pub fn release(&mut self, handle: Handle)
+    pub fn release(&mut self, handle: Handle<A>)
         requires owned { Owns self.old handle }
         requires unlocked { IsUnlocked self.old }
         ensures heap { self.new.heap ≡ self.old.heap }
@@ -220,13 +242,10 @@ impl<H: Home<A>, A: Allocator> Frame<H, A> {
             ReleasedOf self.old self.new handle.place c }
         ensures bounded { IsBounded self.old.seat.log self.new.seat.log }
         ensures seat { Continues self.old.seat self.new.seat }
-        ensures len { self.new.len + 1 ≡ self.old.len }
+        ensures loses { Loses self.old self.new handle }
+        ensures unlocked { IsUnlocked self.new }
     {
-        let Handle {
-            thread: _thread,
-            place,
-        } = handle;
-        self.holdings.release(place);
+        self.holdings.release(handle.into_place());
     }
 
     /// Takes dead blocks apart, at most so many turns: in one, the front block's last entry is released, or, if it has
@@ -235,10 +254,13 @@ impl<H: Home<A>, A: Allocator> Frame<H, A> {
     #[inline(always)]
     pub fn work(&mut self, budget: usize) -> usize
         requires unlocked { IsUnlocked self.old }
-        ensures keeps { KeepsHandles self.old self.new }
+        ensures handles { KeepsHandles self.old self.new }
         ensures few { result ≤ budget }
         ensures turns { Turns self.old (budget - result) self.new }
         ensures done { 0 < result → self.new.works ≡ [] }
+
+        ensures keeps { Keeps self.old self.new }
+        ensures unlocked { IsUnlocked self.new }
     {
         self.holdings.work(budget)
     }
@@ -248,9 +270,12 @@ impl<H: Home<A>, A: Allocator> Frame<H, A> {
     /// The answer is what it was told, 0 where nobody put anything into the queue since the last poll. It takes no memory.
     pub fn poll(&mut self) -> u64
         requires unlocked { IsUnlocked self.old }
-        ensures keeps { KeepsHandles self.old self.new }
+        ensures handles { KeepsHandles self.old self.new }
         ensures polled { Polled self.old self.new result }
         ensures quiet { result ≡ 0 → self.new.works ≡ self.old.works }
+
+        ensures keeps { Keeps self.old self.new }
+        ensures unlocked { IsUnlocked self.new }
     {
         self.holdings.poll()
     }

@@ -10,7 +10,7 @@ ghost use Rattle.brc_counter.specs.Bounded.{IsBounded};
 ghost use Rattle.brc_counter.specs.Standing.{may_give_up};
 ghost use Rattle.brc_rule.specs.Seen.{part_seen};
 ghost use Rattle.brc_table.specs.Seated.{Continues};
-ghost use Rattle.brc_count.specs.Frames.{IsActive, MayGiveUp, SourceFits, SourceNames, place_seen, locked_place, Given, Refused, ReleasedOf, IsAsBefore, KeepsRest, ledger_seen, popped_seen, IsUnlocked};
+ghost use Rattle.brc_count.specs.Frames.{IsActive, MayGiveUp, SourceFits, SourceNames, place_seen, locked_place, Given, Refused, ReleasedOf, handle_at, IsAsBefore, KeepsRest, ledger_seen, popped_seen, IsUnlocked};
 
 use crate::held::Held;
 use crate::ledger::Ledger;
@@ -123,7 +123,7 @@ impl<H: Home<A>, A: Allocator> Holdings<H, A> {
         requires fits { SourceFits source self.old }
         requires named { SourceNames source cell self.old }
         ensures heap { self.new.heap ≡ self.old.heap }
-        ensures given { Given self.old self.new source cell (record { thread = self.old.seat.thread; place = result }) }
+        ensures given { Given self.old self.new source cell (handle_at self.new result) }
         ensures popped { popped_seen self.new ≡ popped_seen self.old }
     {
         let place = self.places.vacant_key() as u32;

@@ -8,6 +8,7 @@
 mod closed;
 mod closing;
 mod frame;
+mod handed;
 mod handle;
 mod held;
 mod holdings;
@@ -20,6 +21,7 @@ mod work;
 
 pub use closed::ClosedFrame;
 pub use frame::Frame;
+pub use handed::Handed;
 pub use handle::Handle;
 pub use held::Held;
 pub use ledger::Ledger;

@@ -11,7 +11,7 @@ ghost use Rattle.brc_runs.specs.declared.event.Change.TheVariants as changes;
 ghost use Rattle.brc_runs.specs.declared.event.Source.TheVariants as sources;
 ghost use Rattle.brc_rule.specs.Logs.{entries_in, kind_in};
 ghost use Rattle.brc_table.specs.Shown.{contents_of};
-ghost use Rattle.brc_count.specs.Frames.{Owns, IsActive, Given, Refused, IsAsBefore, IsUnlocked, popped_seen};
+ghost use Rattle.brc_count.specs.Frames.{Owns, handle_at, IsActive, Given, Refused, IsAsBefore, IsUnlocked, popped_seen};
 ghost use Rattle.brc_count.specs.Locking.{IsLocked, cell_in, place_locked, cell_locked, contents_found, entries_found, KeepsThread, KeepsFrame, ChangesPlace, KeepsLock, Began, Busy, Ended};
 
 use crate::frame::Frame;
@@ -68,7 +68,7 @@ impl<H: Home<A>, A: Allocator> Holdings<H, A> {
         requires low { self.old.next < MOST_PLACES }
         ensures heap { self.new.heap ≡ self.old.heap }
         ensures given { Given self.old self.new (sources.Entry index) cell
-            (record { thread = self.old.seat.thread; place = result }) }
+            (handle_at self.new result) }
         ensures popped { popped_seen self.new ≡ popped_seen self.old }
         ensures lock { KeepsLock self.old self.new }
     {
@@ -159,7 +159,7 @@ impl<H: Home<A>, A: Allocator> Holdings<H, A> {
 impl<H: Home<A>, A: Allocator> Frame<H, A> {
     /// Locks the handle's object and answers its block, which an `end` takes back; None where it is found locked.
     #[inline(always)]
-    pub fn begin(&mut self, handle: &Handle) -> Option<Block<A>>
+    pub fn begin(&mut self, handle: &Handle<A>) -> Option<Block<A>>
         requires owned { Owns self.old handle.now }
         requires unlocked { IsUnlocked self.old }
         ensures began { IfSome result (Began self.old self.new handle.now.place) }
@@ -185,7 +185,7 @@ impl<H: Home<A>, A: Allocator> Frame<H, A> {
 
     /// A handle to an entry of the locked object, counted up in one event. It takes no memory: `place` made sure of it.
     #[inline(always)]
-    pub fn up_entry(&mut self, index: u32, cell: u32) -> Handle
+    pub fn up_entry(&mut self, index: u32, cell: u32) -> Handle<A>
         requires locked { IsLocked self.old }
         requires entry { slice_get (entries_found self.old) index ≡ Some cell }
         requires room { 0 < self.old.spare }
@@ -195,10 +195,7 @@ impl<H: Home<A>, A: Allocator> Frame<H, A> {
         ensures lock { KeepsLock self.old self.new }
     {
         let place = self.holdings.up_entry(index, cell);
-        Handle {
-            thread: self.thread,
-            place,
-        }
+        self.handle(place)
     }
 
     /// Unlocks the object whose block this is, and changes nothing.
@@ -215,7 +212,7 @@ impl<H: Home<A>, A: Allocator> Frame<H, A> {
 
     /// Unlocks the object whose block this is; the handle's reference is its last entry now.
     #[inline(always)]
-    pub fn end_put(&mut self, block: Block<A>, handle: Handle)
+    pub fn end_put(&mut self, block: Block<A>, handle: Handle<A>)
         requires locked { IsLocked self.old }
         requires of_cell { cell_locked self.old ≡ Some block.0 }
         requires owned { Owns self.old handle }
@@ -229,17 +226,13 @@ impl<H: Home<A>, A: Allocator> Frame<H, A> {
         ensures places { ChangesPlace self.old self.new handle.place None }
         ensures len { self.new.len + 1 ≡ self.old.len }
     {
-        let Handle {
-            thread: _thread,
-            place,
-        } = handle;
-        self.holdings.end_put(block, place);
+        self.holdings.end_put(block, handle.into_place());
     }
 
     /// Unlocks the object whose block this is; the reference of an entry, of which the cell is told, is the handle's now, and
     /// later entries have closed up. It takes no memory: `place` made sure of it.
     #[inline(always)]
-    pub fn end_take(&mut self, block: Block<A>, index: u32, cell: u32) -> Handle
+    pub fn end_take(&mut self, block: Block<A>, index: u32, cell: u32) -> Handle<A>
         requires locked { IsLocked self.old }
         requires of_cell { cell_locked self.old ≡ Some block.0 }
         requires entry { slice_get (entries_found self.old) index ≡ Some cell }
@@ -248,6 +241,7 @@ impl<H: Home<A>, A: Allocator> Frame<H, A> {
         requires container { is_container (kind_in (contents_found self.old)) ≡ true }
         requires same_kind { kind_in (contents_of block.1) ≡ kind_in (contents_found self.old) }
         requires entries { entries_in (contents_of block.1) ≡ remove (entries_found self.old) index }
+        ensures heap { result.heap ≡ self.old.heap }
         ensures thread { result.thread ≡ self.old.seat.thread }
         ensures next { result.place ≡ self.old.next }
         ensures vacant { cell_in self.old result.place ≡ None }
@@ -256,16 +250,19 @@ impl<H: Home<A>, A: Allocator> Frame<H, A> {
         ensures len { self.new.len ≡ self.old.len + 1 }
     {
         let place = self.holdings.end_take(block, index, cell);
-        Handle {
-            thread: self.thread,
-            place,
-        }
+        self.handle(place)
     }
 
     /// Unlocks the object whose block this is; the references of an entry, of which the cell is told, and of the handle are
     /// exchanged. The answer is the same handle.
     #[inline(always)]
-    pub fn end_swap(&mut self, block: Block<A>, index: u32, cell: u32, handle: Handle) -> Handle
+    pub fn end_swap(
+        &mut self,
+        block: Block<A>,
+        index: u32,
+        cell: u32,
+        handle: Handle<A>,
+    ) -> Handle<A>
         requires locked { IsLocked self.old }
         requires of_cell { cell_locked self.old ≡ Some block.0 }
         requires entry { slice_get (entries_found self.old) index ≡ Some cell }

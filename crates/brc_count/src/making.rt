@@ -5,7 +5,7 @@ ghost use Rattle.brc_words.specs.Kinds.{is_mortal};
 ghost use Rattle.brc_words.specs.declared.limits.TheConstants.{MOST_PLACES, MOST_BIRTHS};
 ghost use Rattle.brc_rule.specs.Logs.{kind_in, entries_in};
 ghost use Rattle.brc_table.specs.Shown.{contents_of};
-ghost use Rattle.brc_count.specs.Frames.{IsActive, IsUnlocked, IsAsBefore, ledger_seen, popped_seen};
+ghost use Rattle.brc_count.specs.Frames.{handle_at, IsActive, IsUnlocked, IsAsBefore, ledger_seen, popped_seen};
 ghost use Rattle.brc_count.specs.Making.{Made, FoundNone, RefusedMaking};
 
 use crate::held::Held;
@@ -51,7 +51,7 @@ impl<H: Home<A>, A: Allocator> Holdings<H, A> {
         requires empty { entries_in (contents_of block.1) ≡ [] }
         ensures heap { self.new.heap ≡ self.old.heap }
         ensures made { IfOk result (λ place.
-            Made self.old self.new (contents_of block.1) (record { thread = self.old.seat.thread; place = place })) }
+            Made self.old self.new (contents_of block.1) (handle_at self.new place)) }
         ensures none { OnErr result (FoundNone self.old self.new) }
         ensures back { IfErr result (λ back. back ≡ block) }
         ensures popped { popped_seen self.new ≡ popped_seen self.old }
@@ -78,7 +78,7 @@ impl<H: Home<A>, A: Allocator> Holdings<H, A> {
         requires empty { entries_in (contents_of payload) ≡ [] }
         ensures heap { self.new.heap ≡ self.old.heap }
         ensures made { IfOk result (λ place.
-            Made self.old self.new (contents_of payload) (record { thread = self.old.seat.thread; place = place })) }
+            Made self.old self.new (contents_of payload) (handle_at self.new place)) }
         ensures refused { IfErr result (λ back. RefusedMaking self.old self.new back.0) }
         ensures back { IfErr result (λ back. back.1 ≡ payload) }
         ensures popped { popped_seen self.new ≡ popped_seen self.old }

@@ -132,10 +132,10 @@ module _ {A : Type 0} where
   pub takes_since : (before now new : FrameSeen A) (k : ℕ) (block : ℕ × Payload A) (left : Payload A) (call : PlainCall ℕ) (index cell : ℕ) (given : HandleSeen)
       → Stood before now k block → Ended now new (Take index given.place) (block.0, left)
       → slice_get (entries_of block.1) index ≡ Some cell → call (contents_of block.1) ≡ Ok (cell, contents_of left)
-      → given.thread ≡ now.seat.thread → given.place ≡ now.next → cell_in now given.place ≡ None
+      → given.heap ≡ now.heap → given.thread ≡ now.seat.thread → given.place ≡ now.next → cell_in now given.place ≡ None
       → ChangesPlace now new given.place (Some cell) → new.len ≡ now.len + 1
       → Takes before new k call given
-  takes_since before now new k block left call index cell given was ended entry plain thread next vacant places len = record {
+  takes_since before now new k block left call index cell given was ended entry plain heap thread next vacant places len = record {
     found = contents_of block.1;
     put = contents_of left;
     index = index;
@@ -143,6 +143,7 @@ module _ {A : Type 0} where
     at_index = ap (λ es. slice_get es index) (entries_shown block.1) ∙ entry;
     plain = plain;
     changes = changes_since before now new k block left (Take index given.place) was ended;
+    heap = heap ∙ was.keeps.heap;
     thread = thread ∙ was.keeps.thread;
     next = next ∙ was.places.next;
     vacant = sym (was.places.places given.place) ∙ vacant;
@@ -163,7 +164,9 @@ module _ {A : Type 0} where
     cell = block.0;
     of_place = was.began.cell;
     locked = now;
+    same_heap = was.keeps.heap;
     shared = shared;
+    shared_heap = heap ∙ was.keeps.heap;
     locks = was.began.event;
     gives = gives;
     unlocks = ended.event;

@@ -2,3 +2,4 @@ pub mod Plain
 pub mod Seeking
 pub mod Since
 pub mod Putting
+pub mod Calls

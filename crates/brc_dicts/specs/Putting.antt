@@ -9,7 +9,7 @@ use Rattle.brc_rule.specs.declared.contents.Contents.{Contents}
 use Rattle.brc_count.specs.Frames.{FrameSeen, HandleSeen}
 use Rattle.brc_count.specs.Locking.{Busy, cell_in}
 use Rattle.brc_containers.specs.Changing.{PlainCall, Changes, Puts, Swaps, RefusedPlainly}
-use Rattle.brc_containers.specs.Handles.{Keeps, Loses}
+use Rattle.brc_count.specs.Owned.{Keeps, Loses}
 use Rattle.brc_dicts.specs.Plain.{plain_put}
 
 -- room for one more is refused to a container of so many entries

@@ -8,15 +8,16 @@ ghost use Rattle.brc_block.specs.Payload.{kind_of, entries_of, keys_of, spare_of
 ghost use Rattle.brc_table.specs.Shown.{contents_of};
 ghost use Rattle.brc_count.specs.Frames.{IsUnlocked, Owns};
 ghost use Rattle.brc_count.specs.Locking.{IsLocked, cell_locked, place_locked, contents_found, KeepsThread, KeepsFrame};
-ghost use Rattle.brc_containers.specs.Called.{TakesIn};
-ghost use Rattle.brc_containers.specs.Changing.{Late};
+ghost use Rattle.brc_count.specs.Owned.{Keeps};
+ghost use Rattle.brc_containers.specs.Called.{Late};
+ghost use Rattle.brc_dicts.specs.Calls.{DictPut};
 ghost use Rattle.brc_dicts.specs.Putting.{RefusedRoom, HasPut, OwnsPut, RefusedPut};
 ghost use Rattle.brc_dicts.specs.Seeking.{IsThere, IsAbsent};
 ghost use Rattle.brc_dicts.specs.Since.{Since};
 
 use crate::seeking::{Sought, seek};
 use brc_block::{Block, Payload};
-use brc_count::{Frame, Handle};
+use brc_count::{Frame, Handed, Handle};
 use brc_counter::Home;
 use brc_lock::begin_late;
 use brc_words::{Fault, Key, MOST_ENTRIES};
@@ -49,8 +50,8 @@ fn append_locked<H: Home<A>, A: Allocator>(
     frame: &mut Frame<H, A>,
     mut block: Block<A>,
     key: Key<A>,
-    value: Handle,
-) -> Result<Option<Handle>, (Fault, (Key<A>, Handle))>
+    value: Handle<A>,
+) -> Result<Option<Handle<A>>, Handed<(Key<A>, Handle<A>)>>
     requires locked { IsLocked frame.old }
     requires of_cell { cell_locked frame.old ≡ Some block.0 }
     requires found { contents_found frame.old ≡ contents_of block.1 }
@@ -62,16 +63,19 @@ fn append_locked<H: Home<A>, A: Allocator>(
     ensures put { IfOk result (λ answer. Since frame.old block
         (λ before k. HasPut before frame.new k key value answer)) }
     ensures owns { IfOk result (OwnsPut frame.old frame.new value) }
-    ensures back { IfErr result (λ refused. refused.1 ≡ (key, value)) }
-    ensures frame { IfErr result (λ refused. KeepsFrame frame.old frame.new) }
-    ensures refused { IfErr result (λ refused. Since frame.old block
-        (λ before k. RefusedPut before frame.new k key value refused.0)) }
-    ensures waits { IfErr result (λ refused. refused.0 ≢ faults.Busy) }
+    ensures back { IfErr result (λ handed. handed.back ≡ (key, value)) }
+    ensures frame { IfErr result (λ handed. KeepsFrame frame.old frame.new) }
+    ensures refused { IfErr result (λ handed. Since frame.old block
+        (λ before k. RefusedPut before frame.new k key value handed.fault)) }
+    ensures waits { IfErr result (λ handed. handed.fault ≢ faults.Busy) }
 {
     let cell = frame.cell(&value);
     if let Err(fault) = make_room(block.payload_mut()) {
         frame.end_keep(block);
-        return Err((fault, (key, value)));
+        return Err(Handed {
+            fault,
+            back: (key, value),
+        });
     }
     block.payload_mut().put_pair_reserved(key, cell);
     frame.end_put(block, value);
@@ -83,10 +87,10 @@ fn replace_locked<H: Home<A>, A: Allocator>(
     frame: &mut Frame<H, A>,
     mut block: Block<A>,
     key: Key<A>,
-    value: Handle,
+    value: Handle<A>,
     index: usize,
     entry: u32,
-) -> Handle
+) -> Handle<A>
     requires locked { IsLocked frame.old }
     requires of_cell { cell_locked frame.old ≡ Some block.0 }
     requires found { contents_found frame.old ≡ contents_of block.1 }
@@ -113,8 +117,8 @@ fn put_locked<H: Home<A>, A: Allocator>(
     frame: &mut Frame<H, A>,
     block: Block<A>,
     key: Key<A>,
-    value: Handle,
-) -> Result<Option<Handle>, (Fault, (Key<A>, Handle))>
+    value: Handle<A>,
+) -> Result<Option<Handle<A>>, Handed<(Key<A>, Handle<A>)>>
     requires locked { IsLocked frame.old }
     requires of_cell { cell_locked frame.old ≡ Some block.0 }
     requires found { contents_found frame.old ≡ contents_of block.1 }
@@ -125,11 +129,11 @@ fn put_locked<H: Home<A>, A: Allocator>(
     ensures put { IfOk result (λ answer. Since frame.old block
         (λ before k. HasPut before frame.new k key value answer)) }
     ensures owns { IfOk result (OwnsPut frame.old frame.new value) }
-    ensures back { IfErr result (λ refused. refused.1 ≡ (key, value)) }
-    ensures frame { IfErr result (λ refused. KeepsFrame frame.old frame.new) }
-    ensures refused { IfErr result (λ refused. Since frame.old block
-        (λ before k. RefusedPut before frame.new k key value refused.0)) }
-    ensures waits { IfErr result (λ refused. refused.0 ≢ faults.Busy) }
+    ensures back { IfErr result (λ handed. handed.back ≡ (key, value)) }
+    ensures frame { IfErr result (λ handed. KeepsFrame frame.old frame.new) }
+    ensures refused { IfErr result (λ handed. Since frame.old block
+        (λ before k. RefusedPut before frame.new k key value handed.fault)) }
+    ensures waits { IfErr result (λ handed. handed.fault ≢ faults.Busy) }
 {
     match seek(block.payload(), &key) {
         Sought::There { index, cell } => {
@@ -139,7 +143,10 @@ fn put_locked<H: Home<A>, A: Allocator>(
         Sought::Absent => append_locked(frame, block, key, value),
         Sought::WrongKind => {
             frame.end_keep(block);
-            Err((Fault::WrongKind, (key, value)))
+            Err(Handed {
+                fault: Fault::WrongKind,
+                back: (key, value),
+            })
         }
     }
 }
@@ -150,21 +157,25 @@ fn put_locked<H: Home<A>, A: Allocator>(
 /// back.
 pub fn try_dict_put<H: Home<A>, A: Allocator>(
     frame: &mut Frame<H, A>,
-    dict: &Handle,
+    dict: &Handle<A>,
     key: Key<A>,
-    value: Handle,
-) -> Result<Option<Handle>, (Fault, (Key<A>, Handle))>
+    value: Handle<A>,
+) -> Result<Option<Handle<A>>, Handed<(Key<A>, Handle<A>)>>
     requires owned { Owns frame.old dict.now }
     requires value_owned { Owns frame.old value }
     requires apart { value.place ≢ dict.now.place }
     requires unlocked { IsUnlocked frame.old }
-    ensures put { TakesIn frame.old frame.new (key, value)
-        (HasPut frame.old frame.new dict.now.place key value)
-        (λ fault. RefusedPut frame.old frame.new dict.now.place key value fault) result }
+    ensures put { DictPut frame.old frame.new dict.now.place key value result }
     ensures owns { IfOk result (OwnsPut frame.old frame.new value) }
+    ensures keeps { OnErr result (Keeps frame.old frame.new) }
+    ensures unlocked { IsUnlocked frame.new }
+    ensures back { IfErr result (λ handed. handed.back ≡ (key, value)) }
 {
     let Some(block) = frame.begin(dict) else {
-        return Err((Fault::Busy, (key, value)));
+        return Err(Handed {
+            fault: Fault::Busy,
+            back: (key, value),
+        });
     };
     put_locked(frame, block, key, value)
 }
@@ -174,19 +185,20 @@ pub fn try_dict_put<H: Home<A>, A: Allocator>(
 pub fn dict_put<H: Home<A>, A: Allocator>(
     rt: &impl Wait,
     frame: &mut Frame<H, A>,
-    dict: &Handle,
+    dict: &Handle<A>,
     key: Key<A>,
-    value: Handle,
-) -> Result<Option<Handle>, (Fault, (Key<A>, Handle))>
+    value: Handle<A>,
+) -> Result<Option<Handle<A>>, Handed<(Key<A>, Handle<A>)>>
     requires owned { Owns frame.old dict.now }
     requires value_owned { Owns frame.old value }
     requires apart { value.place ≢ dict.now.place }
     requires unlocked { IsUnlocked frame.old }
-    ensures put { TakesIn frame.old frame.new (key, value)
-        (λ answer. Late frame.old dict.now.place (λ mid. HasPut mid frame.new dict.now.place key value answer))
-        (λ fault. Late frame.old dict.now.place (λ mid. RefusedPut mid frame.new dict.now.place key value fault)) result }
+    ensures put { Late frame.old dict.now.place (λ mid. DictPut mid frame.new dict.now.place key value result) }
     ensures owns { IfOk result (OwnsPut frame.old frame.new value) }
-    ensures waits { IfErr result (λ refused. refused.0 ≢ faults.Busy) }
+    ensures keeps { OnErr result (Keeps frame.old frame.new) }
+    ensures unlocked { IsUnlocked frame.new }
+    ensures back { IfErr result (λ handed. handed.back ≡ (key, value)) }
+    ensures waited { IfErr result (λ handed. handed.fault ≢ faults.Busy) }
 {
     let block = begin_late(rt, frame, dict);
     put_locked(frame, block, key, value)

@@ -1,13 +1,14 @@
 //! The value beside a key: it is found, or goes with its pair.
 
-ghost use Rattle.std.specs.Prelude.{◌≡◌, ◌≢◌, Some, IfOk, IfErr};
+ghost use Rattle.std.specs.Prelude.{◌≡◌, ◌≢◌, Some, IfOk, IfErr, OnErr};
 ghost use Rattle.brc_words.specs.declared.fault.Fault.TheVariants as faults;
 ghost use Rattle.brc_table.specs.Shown.{contents_of};
 ghost use Rattle.brc_count.specs.Frames.{IsUnlocked, Owns};
 ghost use Rattle.brc_count.specs.Locking.{IsLocked, cell_locked, contents_found, KeepsThread};
-ghost use Rattle.brc_containers.specs.Called.{HandsOut};
-ghost use Rattle.brc_containers.specs.Changing.{KeepsPlaces, Shares, Takes, RefusedPlace, Late};
-ghost use Rattle.brc_containers.specs.Handles.{Gains};
+ghost use Rattle.brc_count.specs.Owned.{Keeps, Gains};
+ghost use Rattle.brc_containers.specs.Called.{Late};
+ghost use Rattle.brc_containers.specs.Changing.{KeepsPlaces, Shares, Takes, RefusedPlace};
+ghost use Rattle.brc_dicts.specs.Calls.{DictFind, DictDel};
 ghost use Rattle.brc_dicts.specs.Plain.{plain_find, plain_del};
 ghost use Rattle.brc_dicts.specs.Since.{Since};
 
@@ -25,7 +26,7 @@ fn find_locked<H: Home<A>, A: Allocator>(
     frame: &mut Frame<H, A>,
     block: Block<A>,
     key: &Key<A>,
-) -> Result<Handle, Fault>
+) -> Result<Handle<A>, Fault>
     requires locked { IsLocked frame.old }
     requires of_cell { cell_locked frame.old ≡ Some block.0 }
     requires found { contents_found frame.old ≡ contents_of block.1 }
@@ -63,14 +64,15 @@ fn find_locked<H: Home<A>, A: Allocator>(
 /// locked, then WrongKind where the object is no dictionary, NoSuchKey, FrameFull and OutOfMemory.
 pub fn try_dict_find<H: Home<A>, A: Allocator>(
     frame: &mut Frame<H, A>,
-    dict: &Handle,
+    dict: &Handle<A>,
     key: &Key<A>,
-) -> Result<Handle, Fault>
+) -> Result<Handle<A>, Fault>
     requires owned { Owns frame.old dict.now }
     requires unlocked { IsUnlocked frame.old }
-    ensures shares { HandsOut frame.old frame.new
-        (Shares frame.old frame.new dict.now.place (plain_find key.now))
-        (RefusedPlace frame.old frame.new dict.now.place (plain_find key.now)) result }
+    ensures shares { DictFind frame.old frame.new dict.now.place key.now result }
+    ensures gains { IfOk result (Gains frame.old frame.new) }
+    ensures keeps { OnErr result (Keeps frame.old frame.new) }
+    ensures unlocked { IsUnlocked frame.new }
 {
     let Some(block) = frame.begin(dict) else {
         return Err(Fault::Busy);
@@ -83,15 +85,16 @@ pub fn try_dict_find<H: Home<A>, A: Allocator>(
 pub fn dict_find<H: Home<A>, A: Allocator>(
     rt: &impl Wait,
     frame: &mut Frame<H, A>,
-    dict: &Handle,
+    dict: &Handle<A>,
     key: &Key<A>,
-) -> Result<Handle, Fault>
+) -> Result<Handle<A>, Fault>
     requires owned { Owns frame.old dict.now }
     requires unlocked { IsUnlocked frame.old }
-    ensures shares { HandsOut frame.old frame.new
-        (λ given. Late frame.old dict.now.place (λ mid. Shares mid frame.new dict.now.place (plain_find key.now) given))
-        (λ fault. Late frame.old dict.now.place (λ mid. RefusedPlace mid frame.new dict.now.place (plain_find key.now) fault)) result }
-    ensures waits { IfErr result (λ fault. fault ≢ faults.Busy) }
+    ensures shares { Late frame.old dict.now.place (λ mid. DictFind mid frame.new dict.now.place key.now result) }
+    ensures gains { IfOk result (Gains frame.old frame.new) }
+    ensures keeps { OnErr result (Keeps frame.old frame.new) }
+    ensures unlocked { IsUnlocked frame.new }
+    ensures waited { IfErr result (λ fault. fault ≢ faults.Busy) }
 {
     let block = begin_late(rt, frame, dict);
     find_locked(frame, block, key)
@@ -102,7 +105,7 @@ fn del_locked<H: Home<A>, A: Allocator>(
     frame: &mut Frame<H, A>,
     mut block: Block<A>,
     key: &Key<A>,
-) -> Result<Handle, Fault>
+) -> Result<Handle<A>, Fault>
     requires locked { IsLocked frame.old }
     requires of_cell { cell_locked frame.old ≡ Some block.0 }
     requires found { contents_found frame.old ≡ contents_of block.1 }
@@ -140,14 +143,15 @@ fn del_locked<H: Home<A>, A: Allocator>(
 /// WrongKind where the object is no dictionary, NoSuchKey, FrameFull and OutOfMemory.
 pub fn try_dict_del<H: Home<A>, A: Allocator>(
     frame: &mut Frame<H, A>,
-    dict: &Handle,
+    dict: &Handle<A>,
     key: &Key<A>,
-) -> Result<Handle, Fault>
+) -> Result<Handle<A>, Fault>
     requires owned { Owns frame.old dict.now }
     requires unlocked { IsUnlocked frame.old }
-    ensures takes { HandsOut frame.old frame.new
-        (Takes frame.old frame.new dict.now.place (plain_del key.now))
-        (RefusedPlace frame.old frame.new dict.now.place (plain_del key.now)) result }
+    ensures takes { DictDel frame.old frame.new dict.now.place key.now result }
+    ensures gains { IfOk result (Gains frame.old frame.new) }
+    ensures keeps { OnErr result (Keeps frame.old frame.new) }
+    ensures unlocked { IsUnlocked frame.new }
 {
     let Some(block) = frame.begin(dict) else {
         return Err(Fault::Busy);
@@ -160,15 +164,16 @@ pub fn try_dict_del<H: Home<A>, A: Allocator>(
 pub fn dict_del<H: Home<A>, A: Allocator>(
     rt: &impl Wait,
     frame: &mut Frame<H, A>,
-    dict: &Handle,
+    dict: &Handle<A>,
     key: &Key<A>,
-) -> Result<Handle, Fault>
+) -> Result<Handle<A>, Fault>
     requires owned { Owns frame.old dict.now }
     requires unlocked { IsUnlocked frame.old }
-    ensures takes { HandsOut frame.old frame.new
-        (λ given. Late frame.old dict.now.place (λ mid. Takes mid frame.new dict.now.place (plain_del key.now) given))
-        (λ fault. Late frame.old dict.now.place (λ mid. RefusedPlace mid frame.new dict.now.place (plain_del key.now) fault)) result }
-    ensures waits { IfErr result (λ fault. fault ≢ faults.Busy) }
+    ensures takes { Late frame.old dict.now.place (λ mid. DictDel mid frame.new dict.now.place key.now result) }
+    ensures gains { IfOk result (Gains frame.old frame.new) }
+    ensures keeps { OnErr result (Keeps frame.old frame.new) }
+    ensures unlocked { IsUnlocked frame.new }
+    ensures waited { IfErr result (λ fault. fault ≢ faults.Busy) }
 {
     let block = begin_late(rt, frame, dict);
     del_locked(frame, block, key)

@@ -97,10 +97,10 @@ module _ {A : Type 0} where
       → IsAsBefore old ready → is_row kind ≡ true → cell_locked old ≡ Some block.0 → contents_found old ≡ contents_of before
       → kind_of before ≡ kind → slice_get (entries_of before) index ≡ Some entry
       → kind_of block.1 ≡ kind_of before → entries_of block.1 ≡ remove (entries_of before) index
-      → given.thread ≡ ready.seat.thread → given.place ≡ ready.next → cell_in ready given.place ≡ None
+      → given.heap ≡ ready.heap → given.thread ≡ ready.seat.thread → given.place ≡ ready.next → cell_in ready given.place ≡ None
       → Ended ready new (Take index given.place) block → ChangesPlace ready new given.place (Some entry) → new.len ≡ ready.len + 1
       → TakesOut old new (plain_take kind index) given
-  takes_out old ready new kind index entry given block before same row locks found is there same_kind left thread next vacant ended places len =
+  takes_out old ready new kind index entry given block before same row locks found is there same_kind left heap thread next vacant ended places len =
       let entries = found_entries (contents_found old) before found in
       let here = ap (λ es. slice_get es index) entries ∙ there in
       record {
@@ -117,6 +117,7 @@ module _ {A : Type 0} where
           holds = refl;
           ended = ended_as old ready new (Take index given.place) block same ended;
         };
+        heap = heap ∙ ap (λ (f : FrameSeen A). f.heap) same;
         thread = thread ∙ ap (λ (f : FrameSeen A). f.seat.thread) same;
         next = next ∙ ap (λ (f : FrameSeen A). f.next) same;
         vacant = ap (λ (f : FrameSeen A). cell_in f given.place) (sym same) ∙ vacant;

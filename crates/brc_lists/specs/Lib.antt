@@ -1,3 +1,4 @@
 pub mod Plain
+pub mod Calls
 pub mod Rows
 pub mod Within

@@ -61,6 +61,7 @@ module _ {A : Type 0} where
     pub at_index : slice_get (entries_found old) index ≡ Some entry
     pub plain : call (contents_found old) ≡ Ok (entry, put)
     pub ends : EndsWith old new (Take index given.place) put
+    pub heap : given.heap ≡ old.heap
     pub thread : given.thread ≡ old.seat.thread
     pub next : given.place ≡ old.next
     pub vacant : cell_in old given.place ≡ None
@@ -75,8 +76,10 @@ module _ {A : Type 0} where
     pub plain : call (contents_found old) ≡ Ok (entry, contents_found old)
     pub ready : FrameSeen A
     pub same_seat : ready.seat ≡ old.seat
+    pub same_heap : ready.heap ≡ old.heap
     pub before : KeepsPlaces old ready
     pub shared : FrameSeen A
+    pub shared_heap : shared.heap ≡ old.heap
     pub gives : Given ready shared (sources.Entry index) entry given
     pub same_cell : cell_locked shared ≡ cell_locked old
     pub ends : EndsWith shared new Keep (contents_found old)

@@ -1,15 +1,12 @@
 //! The calls on a list that never wait.
 
-ghost use Rattle.std.specs.Prelude.{◌≡◌, ◌≢◌, ℕ, Some, IfOk, IfErr, OnOk, OnErr};
+ghost use Rattle.std.specs.Prelude.{◌≡◌, ◌≢◌, IfOk, IfErr, OnOk, OnErr};
 ghost use Rattle.brc_count.specs.Frames.{IsUnlocked, Owns};
-ghost use Rattle.brc_count.specs.Locking.{KeepsThread, KeepsFrame, cell_in};
-ghost use Rattle.brc_containers.specs.Called.{HandsOut, TakesIn};
-ghost use Rattle.brc_containers.specs.Changing.{Puts, Swaps, Takes, Shares, RefusedCall, RefusedEntry, RefusedPlace};
-ghost use Rattle.brc_containers.specs.Handles.{Keeps, Gains, Loses};
-ghost use Rattle.brc_lists.specs.Plain.{plain_push, plain_pop, plain_get, plain_set};
+ghost use Rattle.brc_count.specs.Owned.{Keeps, Gains, Loses};
+ghost use Rattle.brc_lists.specs.Calls.{ListPush, ListPop, ListGet, ListSet};
 
 use crate::within::{put_locked, share_locked, swap_locked, take_locked};
-use brc_count::{Frame, Handle};
+use brc_count::{Frame, Handed, Handle};
 use brc_counter::Home;
 use brc_words::{Fault, Kind};
 use std::alloc::Allocator;
@@ -19,20 +16,24 @@ use std::alloc::Allocator;
 #[inline]
 pub fn try_list_push<H: Home<A>, A: Allocator>(
     frame: &mut Frame<H, A>,
-    list: &Handle,
-    value: Handle,
-) -> Result<(), (Fault, Handle)>
+    list: &Handle<A>,
+    value: Handle<A>,
+) -> Result<(), Handed<Handle<A>>>
     requires owned { Owns frame.old list.now }
     requires value_owned { Owns frame.old value }
     requires apart { value.place ≢ list.now.place }
     requires unlocked { IsUnlocked frame.old }
-    ensures pushed { TakesIn frame.old frame.new value
-        (λ answer. Puts frame.old frame.new list.now.place value.place plain_push tt)
-        (λ fault. (c : ℕ) → cell_in frame.old value.place ≡ Some c → RefusedEntry frame.old frame.new list.now.place (plain_push c) fault) result }
+    ensures pushed { ListPush frame.old frame.new list.now.place value.place result }
     ensures loses { OnOk result (Loses frame.old frame.new value) }
+    ensures keeps { OnErr result (Keeps frame.old frame.new) }
+    ensures unlocked { IsUnlocked frame.new }
+    ensures back { IfErr result (λ handed. handed.back ≡ value) }
 {
     let Some(block) = frame.begin(list) else {
-        return Err((Fault::Busy, value));
+        return Err(Handed {
+            fault: Fault::Busy,
+            back: value,
+        });
     };
     put_locked(frame, Kind::List, block, value)
 }
@@ -42,13 +43,14 @@ pub fn try_list_push<H: Home<A>, A: Allocator>(
 #[inline]
 pub fn try_list_pop<H: Home<A>, A: Allocator>(
     frame: &mut Frame<H, A>,
-    list: &Handle,
-) -> Result<Handle, Fault>
+    list: &Handle<A>,
+) -> Result<Handle<A>, Fault>
     requires owned { Owns frame.old list.now }
     requires unlocked { IsUnlocked frame.old }
-    ensures popped { HandsOut frame.old frame.new
-        (Takes frame.old frame.new list.now.place plain_pop)
-        (RefusedPlace frame.old frame.new list.now.place plain_pop) result }
+    ensures popped { ListPop frame.old frame.new list.now.place result }
+    ensures gains { IfOk result (Gains frame.old frame.new) }
+    ensures keeps { OnErr result (Keeps frame.old frame.new) }
+    ensures unlocked { IsUnlocked frame.new }
 {
     let Some(block) = frame.begin(list) else {
         return Err(Fault::Busy);
@@ -62,14 +64,15 @@ pub fn try_list_pop<H: Home<A>, A: Allocator>(
 #[inline]
 pub fn try_list_get<H: Home<A>, A: Allocator>(
     frame: &mut Frame<H, A>,
-    list: &Handle,
+    list: &Handle<A>,
     index: u32,
-) -> Result<Handle, Fault>
+) -> Result<Handle<A>, Fault>
     requires owned { Owns frame.old list.now }
     requires unlocked { IsUnlocked frame.old }
-    ensures shared { HandsOut frame.old frame.new
-        (Shares frame.old frame.new list.now.place (plain_get index))
-        (RefusedPlace frame.old frame.new list.now.place (plain_get index)) result }
+    ensures shared { ListGet frame.old frame.new list.now.place index result }
+    ensures gains { IfOk result (Gains frame.old frame.new) }
+    ensures keeps { OnErr result (Keeps frame.old frame.new) }
+    ensures unlocked { IsUnlocked frame.new }
 {
     let Some(block) = frame.begin(list) else {
         return Err(Fault::Busy);
@@ -83,22 +86,25 @@ pub fn try_list_get<H: Home<A>, A: Allocator>(
 #[inline]
 pub fn try_list_set<H: Home<A>, A: Allocator>(
     frame: &mut Frame<H, A>,
-    list: &Handle,
+    list: &Handle<A>,
     index: u32,
-    value: Handle,
-) -> Result<Handle, (Fault, Handle)>
+    value: Handle<A>,
+) -> Result<Handle<A>, Handed<Handle<A>>>
     requires owned { Owns frame.old list.now }
     requires value_owned { Owns frame.old value }
     requires apart { value.place ≢ list.now.place }
     requires unlocked { IsUnlocked frame.old }
-    ensures set { TakesIn frame.old frame.new value
-        (λ answer. Swaps frame.old frame.new list.now.place value.place (plain_set index) (λ entry. entry))
-        (λ fault. (c : ℕ) → cell_in frame.old value.place ≡ Some c → RefusedCall frame.old frame.new list.now.place (plain_set index c) fault) result }
-    ensures kept { Keeps frame.old frame.new }
+    ensures set { ListSet frame.old frame.new list.now.place index value.place result }
+    ensures keeps { Keeps frame.old frame.new }
     ensures same { IfOk result (λ old. old ≡ value) }
+    ensures unlocked { IsUnlocked frame.new }
+    ensures back { IfErr result (λ handed. handed.back ≡ value) }
 {
     let Some(block) = frame.begin(list) else {
-        return Err((Fault::Busy, value));
+        return Err(Handed {
+            fault: Fault::Busy,
+            back: value,
+        });
     };
     swap_locked(frame, block, index, value)
 }

@@ -1,15 +1,12 @@
 //! The calls on a mailbox that never wait.
 
-ghost use Rattle.std.specs.Prelude.{◌≡◌, ◌≢◌, ℕ, Some, IfOk, IfErr, OnOk, OnErr};
+ghost use Rattle.std.specs.Prelude.{◌≡◌, ◌≢◌, IfOk, IfErr, OnOk, OnErr};
 ghost use Rattle.brc_count.specs.Frames.{IsUnlocked, Owns};
-ghost use Rattle.brc_count.specs.Locking.{KeepsThread, KeepsFrame, cell_in};
-ghost use Rattle.brc_containers.specs.Called.{HandsOut, TakesIn};
-ghost use Rattle.brc_containers.specs.Changing.{Puts, Takes, RefusedEntry, RefusedPlace};
-ghost use Rattle.brc_containers.specs.Handles.{Keeps, Gains, Loses};
-ghost use Rattle.brc_lists.specs.Plain.{plain_send, plain_receive};
+ghost use Rattle.brc_count.specs.Owned.{Keeps, Gains, Loses};
+ghost use Rattle.brc_lists.specs.Calls.{MailboxSend, MailboxReceive};
 
 use crate::within::{put_locked, take_locked};
-use brc_count::{Frame, Handle};
+use brc_count::{Frame, Handed, Handle};
 use brc_counter::Home;
 use brc_words::{Fault, Kind};
 use std::alloc::Allocator;
@@ -19,20 +16,24 @@ use std::alloc::Allocator;
 #[inline]
 pub fn try_send<H: Home<A>, A: Allocator>(
     frame: &mut Frame<H, A>,
-    mailbox: &Handle,
-    value: Handle,
-) -> Result<(), (Fault, Handle)>
+    mailbox: &Handle<A>,
+    value: Handle<A>,
+) -> Result<(), Handed<Handle<A>>>
     requires owned { Owns frame.old mailbox.now }
     requires value_owned { Owns frame.old value }
     requires apart { value.place ≢ mailbox.now.place }
     requires unlocked { IsUnlocked frame.old }
-    ensures sent { TakesIn frame.old frame.new value
-        (λ answer. Puts frame.old frame.new mailbox.now.place value.place plain_send tt)
-        (λ fault. (c : ℕ) → cell_in frame.old value.place ≡ Some c → RefusedEntry frame.old frame.new mailbox.now.place (plain_send c) fault) result }
+    ensures sent { MailboxSend frame.old frame.new mailbox.now.place value.place result }
     ensures loses { OnOk result (Loses frame.old frame.new value) }
+    ensures keeps { OnErr result (Keeps frame.old frame.new) }
+    ensures unlocked { IsUnlocked frame.new }
+    ensures back { IfErr result (λ handed. handed.back ≡ value) }
 {
     let Some(block) = frame.begin(mailbox) else {
-        return Err((Fault::Busy, value));
+        return Err(Handed {
+            fault: Fault::Busy,
+            back: value,
+        });
     };
     put_locked(frame, Kind::Mailbox, block, value)
 }
@@ -42,13 +43,14 @@ pub fn try_send<H: Home<A>, A: Allocator>(
 #[inline]
 pub fn try_recv<H: Home<A>, A: Allocator>(
     frame: &mut Frame<H, A>,
-    mailbox: &Handle,
-) -> Result<Handle, Fault>
+    mailbox: &Handle<A>,
+) -> Result<Handle<A>, Fault>
     requires owned { Owns frame.old mailbox.now }
     requires unlocked { IsUnlocked frame.old }
-    ensures received { HandsOut frame.old frame.new
-        (Takes frame.old frame.new mailbox.now.place plain_receive)
-        (RefusedPlace frame.old frame.new mailbox.now.place plain_receive) result }
+    ensures received { MailboxReceive frame.old frame.new mailbox.now.place result }
+    ensures gains { IfOk result (Gains frame.old frame.new) }
+    ensures keeps { OnErr result (Keeps frame.old frame.new) }
+    ensures unlocked { IsUnlocked frame.new }
 {
     let Some(block) = frame.begin(mailbox) else {
         return Err(Fault::Busy);

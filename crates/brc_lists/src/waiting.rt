@@ -1,16 +1,15 @@
-//! The forms that wait: they try again until the object isn't locked by another thread.
+//! The forms that wait: they try again until the object isn't locked by another thread. What each does then is what its form with
+//! `try_` does, from the frame that the lost tries left (`lost_tries_change_nothing` of `brc_containers`).
 
-ghost use Rattle.std.specs.Prelude.{◌≡◌, ◌≢◌, ℕ, Some, IfOk, IfErr, OnOk, OnErr};
+ghost use Rattle.std.specs.Prelude.{◌≡◌, ◌≢◌, IfOk, IfErr, OnOk, OnErr};
 ghost use Rattle.brc_words.specs.declared.fault.Fault.TheVariants as faults;
 ghost use Rattle.brc_count.specs.Frames.{IsUnlocked, Owns};
-ghost use Rattle.brc_count.specs.Locking.{KeepsThread, KeepsFrame, cell_in};
-ghost use Rattle.brc_containers.specs.Called.{HandsOut, TakesIn};
-ghost use Rattle.brc_containers.specs.Changing.{Puts, Swaps, Takes, Shares, RefusedCall, RefusedEntry, RefusedPlace, Late};
-ghost use Rattle.brc_containers.specs.Handles.{Keeps, Gains, Loses};
-ghost use Rattle.brc_lists.specs.Plain.{plain_push, plain_pop, plain_get, plain_set, plain_send, plain_receive};
+ghost use Rattle.brc_count.specs.Owned.{Keeps, Gains, Loses};
+ghost use Rattle.brc_containers.specs.Called.{Late};
+ghost use Rattle.brc_lists.specs.Calls.{ListPush, ListPop, ListGet, ListSet, MailboxSend, MailboxReceive};
 
 use crate::within::{put_locked, share_locked, swap_locked, take_locked};
-use brc_count::{Frame, Handle};
+use brc_count::{Frame, Handed, Handle};
 use brc_counter::Home;
 use brc_lock::begin_late;
 use brc_words::{Fault, Kind};
@@ -23,18 +22,19 @@ use std::sync::Wait;
 pub fn list_push<H: Home<A>, A: Allocator>(
     rt: &impl Wait,
     frame: &mut Frame<H, A>,
-    list: &Handle,
-    value: Handle,
-) -> Result<(), (Fault, Handle)>
+    list: &Handle<A>,
+    value: Handle<A>,
+) -> Result<(), Handed<Handle<A>>>
     requires owned { Owns frame.old list.now }
     requires value_owned { Owns frame.old value }
     requires apart { value.place ≢ list.now.place }
     requires unlocked { IsUnlocked frame.old }
-    ensures pushed { TakesIn frame.old frame.new value
-        (λ answer. Late frame.old list.now.place (λ mid. Puts mid frame.new list.now.place value.place plain_push tt))
-        (λ fault. (c : ℕ) → cell_in frame.old value.place ≡ Some c → Late frame.old list.now.place (λ mid. RefusedEntry mid frame.new list.now.place (plain_push c) fault)) result }
+    ensures pushed { Late frame.old list.now.place (λ mid. ListPush mid frame.new list.now.place value.place result) }
     ensures loses { OnOk result (Loses frame.old frame.new value) }
-    ensures waited { IfErr result (λ refused. refused.0 ≢ faults.Busy) }
+    ensures keeps { OnErr result (Keeps frame.old frame.new) }
+    ensures unlocked { IsUnlocked frame.new }
+    ensures back { IfErr result (λ handed. handed.back ≡ value) }
+    ensures waited { IfErr result (λ handed. handed.fault ≢ faults.Busy) }
 {
     let block = begin_late(rt, frame, list);
     put_locked(frame, Kind::List, block, value)
@@ -46,13 +46,14 @@ pub fn list_push<H: Home<A>, A: Allocator>(
 pub fn list_pop<H: Home<A>, A: Allocator>(
     rt: &impl Wait,
     frame: &mut Frame<H, A>,
-    list: &Handle,
-) -> Result<Handle, Fault>
+    list: &Handle<A>,
+) -> Result<Handle<A>, Fault>
     requires owned { Owns frame.old list.now }
     requires unlocked { IsUnlocked frame.old }
-    ensures popped { HandsOut frame.old frame.new
-        (λ given. Late frame.old list.now.place (λ mid. Takes mid frame.new list.now.place plain_pop given))
-        (λ fault. Late frame.old list.now.place (λ mid. RefusedPlace mid frame.new list.now.place plain_pop fault)) result }
+    ensures popped { Late frame.old list.now.place (λ mid. ListPop mid frame.new list.now.place result) }
+    ensures gains { IfOk result (Gains frame.old frame.new) }
+    ensures keeps { OnErr result (Keeps frame.old frame.new) }
+    ensures unlocked { IsUnlocked frame.new }
     ensures waited { IfErr result (λ fault. fault ≢ faults.Busy) }
 {
     let block = begin_late(rt, frame, list);
@@ -66,14 +67,15 @@ pub fn list_pop<H: Home<A>, A: Allocator>(
 pub fn list_get<H: Home<A>, A: Allocator>(
     rt: &impl Wait,
     frame: &mut Frame<H, A>,
-    list: &Handle,
+    list: &Handle<A>,
     index: u32,
-) -> Result<Handle, Fault>
+) -> Result<Handle<A>, Fault>
     requires owned { Owns frame.old list.now }
     requires unlocked { IsUnlocked frame.old }
-    ensures shared { HandsOut frame.old frame.new
-        (λ given. Late frame.old list.now.place (λ mid. Shares mid frame.new list.now.place (plain_get index) given))
-        (λ fault. Late frame.old list.now.place (λ mid. RefusedPlace mid frame.new list.now.place (plain_get index) fault)) result }
+    ensures shared { Late frame.old list.now.place (λ mid. ListGet mid frame.new list.now.place index result) }
+    ensures gains { IfOk result (Gains frame.old frame.new) }
+    ensures keeps { OnErr result (Keeps frame.old frame.new) }
+    ensures unlocked { IsUnlocked frame.new }
     ensures waited { IfErr result (λ fault. fault ≢ faults.Busy) }
 {
     let block = begin_late(rt, frame, list);
@@ -87,20 +89,20 @@ pub fn list_get<H: Home<A>, A: Allocator>(
 pub fn list_set<H: Home<A>, A: Allocator>(
     rt: &impl Wait,
     frame: &mut Frame<H, A>,
-    list: &Handle,
+    list: &Handle<A>,
     index: u32,
-    value: Handle,
-) -> Result<Handle, (Fault, Handle)>
+    value: Handle<A>,
+) -> Result<Handle<A>, Handed<Handle<A>>>
     requires owned { Owns frame.old list.now }
     requires value_owned { Owns frame.old value }
     requires apart { value.place ≢ list.now.place }
     requires unlocked { IsUnlocked frame.old }
-    ensures set { TakesIn frame.old frame.new value
-        (λ answer. Late frame.old list.now.place (λ mid. Swaps mid frame.new list.now.place value.place (plain_set index) (λ entry. entry)))
-        (λ fault. (c : ℕ) → cell_in frame.old value.place ≡ Some c → Late frame.old list.now.place (λ mid. RefusedCall mid frame.new list.now.place (plain_set index c) fault)) result }
-    ensures kept { Keeps frame.old frame.new }
+    ensures set { Late frame.old list.now.place (λ mid. ListSet mid frame.new list.now.place index value.place result) }
+    ensures keeps { Keeps frame.old frame.new }
     ensures same { IfOk result (λ old. old ≡ value) }
-    ensures waited { IfErr result (λ refused. refused.0 ≢ faults.Busy) }
+    ensures unlocked { IsUnlocked frame.new }
+    ensures back { IfErr result (λ handed. handed.back ≡ value) }
+    ensures waited { IfErr result (λ handed. handed.fault ≢ faults.Busy) }
 {
     let block = begin_late(rt, frame, list);
     swap_locked(frame, block, index, value)
@@ -112,18 +114,19 @@ pub fn list_set<H: Home<A>, A: Allocator>(
 pub fn send<H: Home<A>, A: Allocator>(
     rt: &impl Wait,
     frame: &mut Frame<H, A>,
-    mailbox: &Handle,
-    value: Handle,
-) -> Result<(), (Fault, Handle)>
+    mailbox: &Handle<A>,
+    value: Handle<A>,
+) -> Result<(), Handed<Handle<A>>>
     requires owned { Owns frame.old mailbox.now }
     requires value_owned { Owns frame.old value }
     requires apart { value.place ≢ mailbox.now.place }
     requires unlocked { IsUnlocked frame.old }
-    ensures sent { TakesIn frame.old frame.new value
-        (λ answer. Late frame.old mailbox.now.place (λ mid. Puts mid frame.new mailbox.now.place value.place plain_send tt))
-        (λ fault. (c : ℕ) → cell_in frame.old value.place ≡ Some c → Late frame.old mailbox.now.place (λ mid. RefusedEntry mid frame.new mailbox.now.place (plain_send c) fault)) result }
+    ensures sent { Late frame.old mailbox.now.place (λ mid. MailboxSend mid frame.new mailbox.now.place value.place result) }
     ensures loses { OnOk result (Loses frame.old frame.new value) }
-    ensures waited { IfErr result (λ refused. refused.0 ≢ faults.Busy) }
+    ensures keeps { OnErr result (Keeps frame.old frame.new) }
+    ensures unlocked { IsUnlocked frame.new }
+    ensures back { IfErr result (λ handed. handed.back ≡ value) }
+    ensures waited { IfErr result (λ handed. handed.fault ≢ faults.Busy) }
 {
     let block = begin_late(rt, frame, mailbox);
     put_locked(frame, Kind::Mailbox, block, value)
@@ -135,13 +138,14 @@ pub fn send<H: Home<A>, A: Allocator>(
 pub fn recv<H: Home<A>, A: Allocator>(
     rt: &impl Wait,
     frame: &mut Frame<H, A>,
-    mailbox: &Handle,
-) -> Result<Handle, Fault>
+    mailbox: &Handle<A>,
+) -> Result<Handle<A>, Fault>
     requires owned { Owns frame.old mailbox.now }
     requires unlocked { IsUnlocked frame.old }
-    ensures received { HandsOut frame.old frame.new
-        (λ given. Late frame.old mailbox.now.place (λ mid. Takes mid frame.new mailbox.now.place plain_receive given))
-        (λ fault. Late frame.old mailbox.now.place (λ mid. RefusedPlace mid frame.new mailbox.now.place plain_receive fault)) result }
+    ensures received { Late frame.old mailbox.now.place (λ mid. MailboxReceive mid frame.new mailbox.now.place result) }
+    ensures gains { IfOk result (Gains frame.old frame.new) }
+    ensures keeps { OnErr result (Keeps frame.old frame.new) }
+    ensures unlocked { IsUnlocked frame.new }
     ensures waited { IfErr result (λ fault. fault ≢ faults.Busy) }
 {
     let block = begin_late(rt, frame, mailbox);

@@ -3,6 +3,7 @@
 //! Whatever can be refused comes before the first change, so a refused call unlocks the object as it was found.
 
 ghost use Rattle.std.specs.Prelude.{◌≡◌, ◌≢◌, ◌<◌, ℕ, List, true, Some, IfOk, IfErr, OnErr, OnOk, slice_get};
+ghost use Rattle.brc_words.specs.declared.fault.Fault.TheVariants as faults;
 ghost use Rattle.brc_words.specs.declared.kind.Kind.TheVariants as kinds;
 ghost use Rattle.brc_words.specs.declared.limits.TheConstants.{MOST_PLACES};
 ghost use Rattle.brc_block.specs.Payload.{kind_of, entries_of};
@@ -10,6 +11,7 @@ ghost use Rattle.brc_runs.specs.declared.event.Change.TheVariants as changes;
 ghost use Rattle.brc_table.specs.Shown.{contents_of};
 ghost use Rattle.brc_count.specs.Frames.{IsUnlocked, IsAsBefore, Owns};
 ghost use Rattle.brc_count.specs.Locking.{KeepsThread, KeepsFrame, contents_found, place_locked};
+ghost use Rattle.brc_count.specs.Owned.{Keeps, Gains, Loses};
 ghost use Rattle.brc_containers.specs.Changing.{KeepsPlaces};
 ghost use Rattle.brc_lists.specs.Plain.{plain_get, plain_set};
 ghost use Rattle.brc_lists.specs.Rows.{is_row, plain_put, plain_at, plain_take};
@@ -17,7 +19,7 @@ ghost use Rattle.brc_lists.specs.Within.{HasLocked, EndsWith, PutsIn, SwapsIn, T
 
 use crate::rows::{entry_in, make_room};
 use brc_block::Block;
-use brc_count::{Frame, Handle};
+use brc_count::{Frame, Handed, Handle};
 use brc_counter::Home;
 use brc_words::{Fault, Kind};
 use std::alloc::Allocator;
@@ -28,8 +30,8 @@ pub(crate) fn put_locked<H: Home<A>, A: Allocator>(
     frame: &mut Frame<H, A>,
     kind: Kind,
     mut block: Block<A>,
-    value: Handle,
-) -> Result<(), (Fault, Handle)>
+    value: Handle<A>,
+) -> Result<(), Handed<Handle<A>>>
     requires row { is_row kind ≡ true }
     requires has { HasLocked frame.old block }
     requires owned { Owns frame.old value }
@@ -37,14 +39,16 @@ pub(crate) fn put_locked<H: Home<A>, A: Allocator>(
     ensures thread { KeepsThread frame.old frame.new }
     ensures unlocked { IsUnlocked frame.new }
     ensures put { OnOk result (PutsIn frame.old frame.new value.place (plain_put kind) tt) }
-    ensures back { IfErr result (λ refused. refused.1 ≡ value) }
+    ensures loses { OnOk result (Loses frame.old frame.new value) }
+    ensures back { IfErr result (λ handed. handed.back ≡ value) }
     ensures frame { OnErr result (KeepsFrame frame.old frame.new) }
     ensures kept { OnErr result (EndsWith frame.old frame.new changes.Keep (contents_found frame.old)) }
-    ensures refused { IfErr result (λ refused. (c : ℕ) → RefusesEntry (plain_put kind c (contents_found frame.old)) refused.0) }
+    ensures refused { IfErr result (λ handed. (c : ℕ) → RefusesEntry (plain_put kind c (contents_found frame.old)) handed.fault) }
+    ensures waited { IfErr result (λ handed. handed.fault ≢ faults.Busy) }
 {
     if let Err(fault) = make_room(block.payload_mut(), kind) {
         frame.end_keep(block);
-        return Err((fault, value));
+        return Err(Handed { fault, back: value });
     }
     let cell = frame.cell(&value);
     block.payload_mut().put_reserved(cell);
@@ -58,24 +62,26 @@ pub(crate) fn swap_locked<H: Home<A>, A: Allocator>(
     frame: &mut Frame<H, A>,
     mut block: Block<A>,
     index: u32,
-    value: Handle,
-) -> Result<Handle, (Fault, Handle)>
+    value: Handle<A>,
+) -> Result<Handle<A>, Handed<Handle<A>>>
     requires has { HasLocked frame.old block }
     requires owned { Owns frame.old value }
     requires apart { place_locked frame.old ≢ Some value.place }
     ensures thread { KeepsThread frame.old frame.new }
     ensures unlocked { IsUnlocked frame.new }
     ensures swapped { OnOk result (SwapsIn frame.old frame.new value.place (plain_set index) (λ entry. entry)) }
+    ensures keeps { Keeps frame.old frame.new }
     ensures same { IfOk result (λ old. old ≡ value) }
-    ensures back { IfErr result (λ refused. refused.1 ≡ value) }
+    ensures back { IfErr result (λ handed. handed.back ≡ value) }
     ensures frame { OnErr result (KeepsFrame frame.old frame.new) }
     ensures kept { OnErr result (EndsWith frame.old frame.new changes.Keep (contents_found frame.old)) }
-    ensures refused { IfErr result (λ refused. (c : ℕ) → RefusesPlainly (plain_set index c (contents_found frame.old)) refused.0) }
+    ensures refused { IfErr result (λ handed. (c : ℕ) → RefusesPlainly (plain_set index c (contents_found frame.old)) handed.fault) }
+    ensures waited { IfErr result (λ handed. handed.fault ≢ faults.Busy) }
 {
     match entry_in(block.payload(), Kind::List, index as usize) {
         Err(fault) => {
             frame.end_keep(block);
-            Err((fault, value))
+            Err(Handed { fault, back: value })
         }
         Ok(entry) => {
             let cell = frame.cell(&value);
@@ -113,11 +119,12 @@ pub(crate) fn share_locked<H: Home<A>, A: Allocator>(
     frame: &mut Frame<H, A>,
     block: Block<A>,
     index: u32,
-) -> Result<Handle, Fault>
+) -> Result<Handle<A>, Fault>
     requires has { HasLocked frame.old block }
     ensures thread { KeepsThread frame.old frame.new }
     ensures unlocked { IsUnlocked frame.new }
     ensures shared { IfOk result (SharesOut frame.old frame.new (plain_get index)) }
+    ensures gains { IfOk result (Gains frame.old frame.new) }
     ensures places { OnErr result (KeepsPlaces frame.old frame.new) }
     ensures kept { OnErr result (EndsWith frame.old frame.new changes.Keep (contents_found frame.old)) }
     ensures refused { IfErr result (RefusesPlace frame.old (plain_get index (contents_found frame.old))) }
@@ -142,12 +149,13 @@ pub(crate) fn take_locked<H: Home<A>, A: Allocator>(
     kind: Kind,
     mut block: Block<A>,
     index: usize,
-) -> Result<Handle, Fault>
+) -> Result<Handle<A>, Fault>
     requires row { is_row kind ≡ true }
     requires has { HasLocked frame.old block }
     ensures thread { KeepsThread frame.old frame.new }
     ensures unlocked { IsUnlocked frame.new }
     ensures taken { IfOk result (TakesOut frame.old frame.new (plain_take kind index)) }
+    ensures gains { IfOk result (Gains frame.old frame.new) }
     ensures places { OnErr result (KeepsPlaces frame.old frame.new) }
     ensures kept { OnErr result (EndsWith frame.old frame.new changes.Keep (contents_found frame.old)) }
     ensures refused { IfErr result (RefusesPlace frame.old (plain_take kind index (contents_found frame.old))) }

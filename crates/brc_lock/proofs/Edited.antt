@@ -2,15 +2,15 @@
 use Rattle.std.proofs.Common.{◌≡◌, ℕ, List, [], ◌∷◌, ◌++◌, Option, Some, None, map, refl, sym, ◌∙◌, ap, slice_get, slice_set, remove, zero, suc, length, ◌<◌, arith}
 use Rattle.brc_words.specs.declared.key.Key.{Key}
 use Rattle.brc_block.specs.Pairs.{keys_in, cells_in}
-use Rattle.brc_block.specs.Payload.{kind_of, entries_of}
+use Rattle.brc_block.specs.Payload.{entries_of}
 use Rattle.brc_block.specs.declared.payload.Payload.{Payload}
 use Rattle.brc_block.specs.declared.payload.Payload.TheVariants as payloads
 use Rattle.brc_rule.specs.declared.contents.PlainKey.{PlainKey}
 use Rattle.brc_rule.specs.declared.contents.Contents.{Contents}
 use Rattle.brc_rule.specs.declared.contents.Contents.TheVariants.{Nothing, Truth, Int, Text, «List» as Cells, Dict, Mailbox}
-use Rattle.brc_rule.specs.Logs.{kind_in, entries_in}
+use Rattle.brc_rule.specs.Logs.{entries_in}
 use Rattle.brc_table.specs.Shown.{contents_of, plain_key}
-use Rattle.brc_lock.specs.Edits.{with_value, with_last, without, replaced, KeyFits}
+use Rattle.brc_lock.specs.Edits.{with_value, without, replaced}
 
 first_same : {X : Type 0} {x y : X} {xs ys : List X} → x ∷ xs ≡ y ∷ ys → x ≡ y
 first_same e = cc

@@ -1,5 +1,5 @@
 -- The contents of a container with an entry more, fewer or exchanged.
-use Rattle.std.specs.Prelude.{◌≡◌, ◌≢◌, ℕ, ◌++◌, List, [], ◌∷◌, Option, Some, None, slice_get, slice_set, remove, zero, suc}
+use Rattle.std.specs.Prelude.{◌≢◌, ℕ, ◌++◌, List, [], ◌∷◌, Option, Some, None, slice_set, remove, zero, suc}
 use Rattle.std.specs.List.{All}
 use Rattle.brc_words.specs.declared.key.Key.{Key}
 use Rattle.brc_table.specs.Shown.{plain_key}

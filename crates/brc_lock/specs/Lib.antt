@@ -1,4 +1,3 @@
 pub mod Waiting
 pub mod Holding
 pub mod Edits
-pub mod Lending

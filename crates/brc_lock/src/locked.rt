@@ -7,7 +7,8 @@ ghost use Rattle.brc_runs.specs.declared.event.Change.TheVariants as changes;
 ghost use Rattle.brc_runs.specs.declared.event.Source.TheVariants as sources;
 ghost use Rattle.brc_rule.specs.Logs.{kind_in, entries_in};
 ghost use Rattle.brc_table.specs.Shown.{contents_of};
-ghost use Rattle.brc_count.specs.Frames.{Owns, Given, Refused, IsAsBefore};
+ghost use Rattle.brc_count.specs.Frames.{Owns, Given, Refused, IsAsBefore, IsUnlocked};
+ghost use Rattle.brc_count.specs.Owned.{Keeps, Gains, Loses};
 ghost use Rattle.brc_count.specs.Locking.{KeepsFrame, KeepsLock, ChangesPlace, cell_in};
 ghost use Rattle.brc_lock.specs.Edits.{with_last, without, replaced, KeyFits};
 ghost use Rattle.brc_lock.specs.Holding.{Holds, Unlocks, HasRoom, RefusedRoom};
@@ -22,12 +23,12 @@ use std::alloc::Allocator;
 /// An object that is locked: its frame, the handle by which it was locked, and its block. It must be unlocked. `B` is `Block<A>`.
 pub struct Locked<'f, H: Home<A>, A: Allocator, B> {
     pub(crate) frame: &'f mut Frame<H, A>,
-    pub(crate) handle: &'f Handle,
+    pub(crate) handle: &'f Handle<A>,
     pub(crate) block: B,
 }
 
 impl<'f, H: Home<A>, A: Allocator> Locked<'f, H, A, Block<A>> {
-    pub(crate) fn new(frame: &'f mut Frame<H, A>, handle: &'f Handle, block: Block<A>) -> Self
+    pub(crate) fn new(frame: &'f mut Frame<H, A>, handle: &'f Handle<A>, block: Block<A>) -> Self
         ensures same_reference { result.frame.ghost_name ≡ frame.entry.ghost_name }
         ensures frame { result.frame.now ≡ frame.old }
         ensures handle { result.handle.now ≡ handle.now }
@@ -76,6 +77,7 @@ impl<'f, H: Home<A>, A: Allocator> Locked<'f, H, A, Block<A>> {
         requires holds { Holds self.old.frame.now self.old.handle.now self.old.block }
         ensures same_reference { self.new.frame.ghost_name ≡ self.old.frame.ghost_name }
         ensures frame { IsAsBefore self.old.frame.now self.new.frame.now }
+        ensures keeps { Keeps self.old.frame.now self.new.frame.now }
         ensures handle { self.new.handle.now ≡ self.old.handle.now }
         ensures block { self.new.block ≡ self.old.block }
         ensures holds { Holds self.new.frame.now self.new.handle.now self.new.block }
@@ -87,7 +89,7 @@ impl<'f, H: Home<A>, A: Allocator> Locked<'f, H, A, Block<A>> {
     }
 
     /// A handle to an entry, counted up in one event. It takes no memory: `place` made sure of it.
-    pub fn entry(&mut self, index: u32) -> Handle
+    pub fn entry(&mut self, index: u32) -> Handle<A>
         requires holds { Holds self.old.frame.now self.old.handle.now self.old.block }
         requires there { index < length (entries_in (contents_of self.old.block.1)) }
         requires room { 0 < self.old.frame.now.spare }
@@ -98,6 +100,7 @@ impl<'f, H: Home<A>, A: Allocator> Locked<'f, H, A, Block<A>> {
         ensures handle { self.new.handle.now ≡ self.old.handle.now }
         ensures block { self.new.block ≡ self.old.block }
         ensures holds { Holds self.new.frame.now self.new.handle.now self.new.block }
+        ensures gains { Gains self.old.frame.now self.new.frame.now result }
     {
         let Some(cell) = self.block.payload().entry(index as usize) else {
             unreachable!()
@@ -110,6 +113,8 @@ impl<'f, H: Home<A>, A: Allocator> Locked<'f, H, A, Block<A>> {
         requires holds { Holds self.frame.now self.handle.now self.block }
         ensures unlocks { Unlocks self.entry.frame.now self.exit.0.now changes.Keep self.entry.block.0 (contents_of self.entry.block.1) }
         ensures frame { KeepsFrame self.entry.frame.now self.exit.0.now }
+        ensures keeps { Keeps self.entry.frame.now self.exit.0.now }
+        ensures unlocked { IsUnlocked self.exit.0.now }
     {
         let Locked {
             frame,
@@ -121,7 +126,7 @@ impl<'f, H: Home<A>, A: Allocator> Locked<'f, H, A, Block<A>> {
 
     /// Unlocks the object with one entry more, the handle's reference, at the end; of a dictionary beside a key that isn't in it.
     /// `room` made sure of it.
-    pub fn unlock_put(self, key: Option<Key<A>>, value: Handle)
+    pub fn unlock_put(self, key: Option<Key<A>>, value: Handle<A>)
         requires holds { Holds self.frame.now self.handle.now self.block }
         requires room { HasRoom self.block }
         requires fits { KeyFits (contents_of self.block.1) key }
@@ -131,6 +136,8 @@ impl<'f, H: Home<A>, A: Allocator> Locked<'f, H, A, Block<A>> {
             Unlocks self.entry.frame.now self.exit.0.now (changes.Put value.place) self.entry.block.0 (with_last (contents_of self.entry.block.1) key c) }
         ensures places { ChangesPlace self.entry.frame.now self.exit.0.now value.place None }
         ensures len { self.exit.0.now.len + 1 ≡ self.entry.frame.now.len }
+        ensures loses { Loses self.entry.frame.now self.exit.0.now value }
+        ensures unlocked { IsUnlocked self.exit.0.now }
     {
         let Locked {
             frame,
@@ -144,17 +151,20 @@ impl<'f, H: Home<A>, A: Allocator> Locked<'f, H, A, Block<A>> {
 
     /// Unlocks the object with one entry fewer, of a dictionary with its key; its reference is the handle's now. `place` made
     /// sure of it.
-    pub fn unlock_take(self, index: u32) -> Handle
+    pub fn unlock_take(self, index: u32) -> Handle<A>
         requires holds { Holds self.frame.now self.handle.now self.block }
         requires there { index < length (entries_in (contents_of self.block.1)) }
         requires room { 0 < self.frame.now.spare }
         requires low { self.frame.now.next < MOST_PLACES }
+        ensures heap { result.heap ≡ self.entry.frame.now.heap }
         ensures thread { result.thread ≡ self.entry.frame.now.seat.thread }
         ensures next { result.place ≡ self.entry.frame.now.next }
         ensures vacant { cell_in self.entry.frame.now result.place ≡ None }
         ensures unlocks { Unlocks self.entry.frame.now self.exit.0.now (changes.Take index result.place) self.entry.block.0 (without (contents_of self.entry.block.1) index) }
         ensures places { ChangesPlace self.entry.frame.now self.exit.0.now result.place (slice_get (entries_in (contents_of self.entry.block.1)) index) }
         ensures len { self.exit.0.now.len ≡ self.entry.frame.now.len + 1 }
+        ensures gains { Gains self.entry.frame.now self.exit.0.now result }
+        ensures unlocked { IsUnlocked self.exit.0.now }
     {
         let Locked {
             frame,
@@ -168,7 +178,7 @@ impl<'f, H: Home<A>, A: Allocator> Locked<'f, H, A, Block<A>> {
 
     /// Unlocks the object with another entry at a place, of a dictionary beside the same key: its reference and the handle's are
     /// exchanged. The answer is the same handle.
-    pub fn unlock_swap(self, index: u32, value: Handle) -> Handle
+    pub fn unlock_swap(self, index: u32, value: Handle<A>) -> Handle<A>
         requires holds { Holds self.frame.now self.handle.now self.block }
         requires there { index < length (entries_in (contents_of self.block.1)) }
         requires owned { Owns self.frame.now value }
@@ -178,6 +188,8 @@ impl<'f, H: Home<A>, A: Allocator> Locked<'f, H, A, Block<A>> {
             Unlocks self.entry.frame.now self.exit.0.now (changes.Swap index value.place) self.entry.block.0 (replaced (contents_of self.entry.block.1) index c) }
         ensures places { ChangesPlace self.entry.frame.now self.exit.0.now value.place (slice_get (entries_in (contents_of self.entry.block.1)) index) }
         ensures len { self.exit.0.now.len ≡ self.entry.frame.now.len }
+        ensures keeps { Keeps self.entry.frame.now self.exit.0.now }
+        ensures unlocked { IsUnlocked self.exit.0.now }
     {
         let Locked {
             frame,

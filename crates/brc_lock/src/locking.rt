@@ -4,11 +4,11 @@ ghost use Rattle.std.specs.Prelude.{◌≡◌, IfOk, IfErr};
 ghost use Rattle.std.specs.Borrow.{sem, RestsIfErr};
 ghost use Rattle.brc_words.specs.declared.fault.Fault.TheVariants as faults;
 ghost use Rattle.brc_count.specs.Frames.{IsUnlocked, Owns};
-ghost use Rattle.brc_count.specs.Locking.{Began, Busy, KeepsThread, KeepsFrame};
+ghost use Rattle.brc_count.specs.Owned.{Keeps};
+ghost use Rattle.brc_count.specs.Locking.{Began, KeepsThread, KeepsFrame};
 ghost use Rattle.brc_count.specs.contracts.frame.Frame.{the_row};
-ghost use Rattle.brc_lock.specs.Waiting.{BeginsLate};
+ghost use Rattle.brc_lock.specs.Waiting.{IsBusy, BeginsLate};
 ghost use Rattle.brc_lock.specs.Holding.{Holds};
-ghost use Rattle.brc_lock.specs.Lending.{IsBusy};
 
 use crate::locked::Locked;
 use brc_block::Block;
@@ -23,7 +23,7 @@ use std::thread::yield_now;
 #[inline(always)]
 fn begin_or_busy<H: Home<A>, A: Allocator>(
     frame: &mut Frame<H, A>,
-    handle: &Handle,
+    handle: &Handle<A>,
 ) -> Result<Block<A>, Fault>
     requires owned { Owns frame.old handle.now }
     requires unlocked { IsUnlocked frame.old }
@@ -45,7 +45,7 @@ fn begin_or_busy<H: Home<A>, A: Allocator>(
 fn begin_again<H: Home<A>, A: Allocator>(
     rt: &impl Wait,
     frame: &mut Frame<H, A>,
-    handle: &Handle,
+    handle: &Handle<A>,
 ) -> Block<A>
     requires owned { Owns frame.old handle.now }
     requires unlocked { IsUnlocked frame.old }
@@ -66,7 +66,7 @@ fn begin_again<H: Home<A>, A: Allocator>(
 pub fn begin_late<H: Home<A>, A: Allocator>(
     rt: &impl Wait,
     frame: &mut Frame<H, A>,
-    handle: &Handle,
+    handle: &Handle<A>,
 ) -> Block<A>
     requires owned { Owns frame.old handle.now }
     requires unlocked { IsUnlocked frame.old }
@@ -82,7 +82,7 @@ pub fn begin_late<H: Home<A>, A: Allocator>(
 #[inline]
 pub fn try_lock<'f, H: Home<A>, A: Allocator>(
     frame: &'f mut Frame<H, A>,
-    handle: &'f Handle,
+    handle: &'f Handle<A>,
 ) -> Result<Locked<'f, H, A, Block<A>>, Fault>
     requires owned { Owns frame.old handle.now }
     requires unlocked { IsUnlocked frame.old }
@@ -92,6 +92,7 @@ pub fn try_lock<'f, H: Home<A>, A: Allocator>(
     ensures holds { IfOk result (λ l. Holds l.frame.now handle.now l.block) }
     ensures keeps { IfOk result (λ l. KeepsThread frame.old l.frame.now) }
     ensures frame { IfOk result (λ l. KeepsFrame frame.old l.frame.now) }
+    ensures owns { IfOk result (λ l. Keeps frame.old l.frame.now) }
     ensures handle { IfOk result (λ l. l.handle.now ≡ handle.now) }
     ensures busy { IfErr result (λ fault. fault ≡ faults.Busy) }
 {
@@ -104,12 +105,13 @@ pub fn try_lock<'f, H: Home<A>, A: Allocator>(
 pub fn lock<'f, H: Home<A>, A: Allocator>(
     rt: &impl Wait,
     frame: &'f mut Frame<H, A>,
-    handle: &'f Handle,
+    handle: &'f Handle<A>,
 ) -> Locked<'f, H, A, Block<A>>
     requires owned { Owns frame.old handle.now }
     requires unlocked { IsUnlocked frame.old }
     ensures same_reference { result.frame.ghost_name ≡ frame.entry.ghost_name }
     ensures began { BeginsLate frame.old result.frame.now handle.now.place result.block }
+    ensures owns { Keeps frame.old result.frame.now }
     ensures holds { Holds result.frame.now handle.now result.block }
     ensures handle { result.handle.now ≡ handle.now }
 {

@@ -6,22 +6,27 @@ ghost use Rattle.brc_runs.specs.declared.event.Source.TheVariants as sources;
 ghost use Rattle.brc_rule.specs.declared.contents.Contents.TheVariants as contents;
 ghost use Rattle.brc_count.specs.Frames.{Given, Refused, IsAsBefore, IsUnlocked};
 ghost use Rattle.brc_count.specs.Making.{Made, RefusedMaking};
+ghost use Rattle.brc_count.specs.Owned.{Keeps, Gains};
 ghost use Rattle.brc_things.specs.Makers.{small_cell, truth_cell, Answered, RefusedTo};
 
 use brc_block::{Cells, Letters, Pairs, Payload};
-use brc_count::{Frame, Handle};
+use brc_count::{Frame, Handed, Handle};
 use brc_counter::Home;
 use brc_words::{Fault, Text};
 use std::alloc::Allocator;
 use std::collections::VecDeque;
 
 /// None, which is cell 0. FrameFull, then OutOfMemory; a refusal changes nothing.
-pub fn none<H: Home<A>, A: Allocator>(frame: &mut Frame<H, A>) -> Result<Handle, Fault>
+pub fn none<H: Home<A>, A: Allocator>(frame: &mut Frame<H, A>) -> Result<Handle<A>, Fault>
     requires unlocked { IsUnlocked frame.old }
     ensures heap { frame.new.heap ≡ frame.old.heap }
     ensures given { IfOk result (Given frame.old frame.new (sources.Immortal 0) 0) }
     ensures refused { IfErr result (Refused frame.old) }
     ensures unchanged { OnErr result (IsAsBefore frame.old frame.new) }
+
+    ensures gains { IfOk result (Gains frame.old frame.new) }
+    ensures keeps { OnErr result (Keeps frame.old frame.new) }
+    ensures unlocked { IsUnlocked frame.new }
 {
     frame.immortal(0)
 }
@@ -30,12 +35,16 @@ pub fn none<H: Home<A>, A: Allocator>(frame: &mut Frame<H, A>) -> Result<Handle,
 pub fn truth<H: Home<A>, A: Allocator>(
     frame: &mut Frame<H, A>,
     is_true: bool,
-) -> Result<Handle, Fault>
+) -> Result<Handle<A>, Fault>
     requires unlocked { IsUnlocked frame.old }
     ensures heap { frame.new.heap ≡ frame.old.heap }
     ensures given { IfOk result (Given frame.old frame.new (sources.Immortal (truth_cell is_true)) (truth_cell is_true)) }
     ensures refused { IfErr result (Refused frame.old) }
     ensures unchanged { OnErr result (IsAsBefore frame.old frame.new) }
+
+    ensures gains { IfOk result (Gains frame.old frame.new) }
+    ensures keeps { OnErr result (Keeps frame.old frame.new) }
+    ensures unlocked { IsUnlocked frame.new }
 {
     if is_true {
         return frame.immortal(2);
@@ -61,18 +70,22 @@ pub fn new_int<H: Home<A>, A: Allocator>(
     alloc: A,
     frame: &mut Frame<H, A>,
     number: i64,
-) -> Result<Handle, Fault>
+) -> Result<Handle<A>, Fault>
     requires unlocked { IsUnlocked frame.old }
     ensures heap { frame.new.heap ≡ frame.old.heap }
     ensures made { IfOk result (Answered frame.old frame.new (small_cell number) (contents.Int number)) }
     ensures refused { IfErr result (RefusedTo frame.old frame.new (small_cell number)) }
+
+    ensures gains { IfOk result (Gains frame.old frame.new) }
+    ensures keeps { OnErr result (Keeps frame.old frame.new) }
+    ensures unlocked { IsUnlocked frame.new }
 {
     if let Some(cell) = small(number) {
         return frame.immortal(cell);
     }
     match frame.born(alloc, Payload::Int(number)) {
         Ok(handle) => Ok(handle),
-        Err((fault, _payload)) => Err(fault),
+        Err(handed) => Err(handed.fault),
     }
 }
 
@@ -82,16 +95,25 @@ pub fn new_text<H: Home<A>, A: Allocator>(
     alloc: A,
     frame: &mut Frame<H, A>,
     text: Text<A>,
-) -> Result<Handle, (Fault, Text<A>)>
+) -> Result<Handle<A>, Handed<Text<A>>>
     requires unlocked { IsUnlocked frame.old }
     ensures heap { frame.new.heap ≡ frame.old.heap }
     ensures made { IfOk result (Made frame.old frame.new (contents.Text text)) }
-    ensures refused { IfErr result (λ back. RefusedMaking frame.old frame.new back.0) }
-    ensures back { IfErr result (λ back. back.1 ≡ text) }
+    ensures refused { IfErr result (λ handed. RefusedMaking frame.old frame.new handed.fault) }
+    ensures back { IfErr result (λ handed. handed.back ≡ text) }
+
+    ensures gains { IfOk result (Gains frame.old frame.new) }
+    ensures keeps { OnErr result (Keeps frame.old frame.new) }
+    ensures unlocked { IsUnlocked frame.new }
 {
     match frame.born(alloc, Payload::Text(text)) {
         Ok(handle) => Ok(handle),
-        Err((fault, Payload::Text(text))) => Err((fault, text)),
+        Err(
+            Handed {
+                fault,
+                back: Payload::Text(back),
+            },
+        ) => Err(Handed { fault, back }),
         Err(_) => unreachable!(),
     }
 }
@@ -100,15 +122,19 @@ pub fn new_text<H: Home<A>, A: Allocator>(
 pub fn new_list<H: Home<A>, A: Allocator + Copy>(
     alloc: A,
     frame: &mut Frame<H, A>,
-) -> Result<Handle, Fault>
+) -> Result<Handle<A>, Fault>
     requires unlocked { IsUnlocked frame.old }
     ensures heap { frame.new.heap ≡ frame.old.heap }
     ensures made { IfOk result (Made frame.old frame.new (contents.«List» [])) }
     ensures refused { IfErr result (RefusedMaking frame.old frame.new) }
+
+    ensures gains { IfOk result (Gains frame.old frame.new) }
+    ensures keeps { OnErr result (Keeps frame.old frame.new) }
+    ensures unlocked { IsUnlocked frame.new }
 {
     match frame.born(alloc, Payload::List(Cells::new(Vec::new(alloc)))) {
         Ok(handle) => Ok(handle),
-        Err((fault, _payload)) => Err(fault),
+        Err(handed) => Err(handed.fault),
     }
 }
 
@@ -116,15 +142,19 @@ pub fn new_list<H: Home<A>, A: Allocator + Copy>(
 pub fn new_dict<H: Home<A>, A: Allocator + Copy>(
     alloc: A,
     frame: &mut Frame<H, A>,
-) -> Result<Handle, Fault>
+) -> Result<Handle<A>, Fault>
     requires unlocked { IsUnlocked frame.old }
     ensures heap { frame.new.heap ≡ frame.old.heap }
     ensures made { IfOk result (Made frame.old frame.new (contents.Dict [])) }
     ensures refused { IfErr result (RefusedMaking frame.old frame.new) }
+
+    ensures gains { IfOk result (Gains frame.old frame.new) }
+    ensures keeps { OnErr result (Keeps frame.old frame.new) }
+    ensures unlocked { IsUnlocked frame.new }
 {
     match frame.born(alloc, Payload::Dict(Pairs::new(Vec::new(alloc)))) {
         Ok(handle) => Ok(handle),
-        Err((fault, _payload)) => Err(fault),
+        Err(handed) => Err(handed.fault),
     }
 }
 
@@ -132,14 +162,18 @@ pub fn new_dict<H: Home<A>, A: Allocator + Copy>(
 pub fn new_mailbox<H: Home<A>, A: Allocator + Copy>(
     alloc: A,
     frame: &mut Frame<H, A>,
-) -> Result<Handle, Fault>
+) -> Result<Handle<A>, Fault>
     requires unlocked { IsUnlocked frame.old }
     ensures heap { frame.new.heap ≡ frame.old.heap }
     ensures made { IfOk result (Made frame.old frame.new (contents.Mailbox [])) }
     ensures refused { IfErr result (RefusedMaking frame.old frame.new) }
+
+    ensures gains { IfOk result (Gains frame.old frame.new) }
+    ensures keeps { OnErr result (Keeps frame.old frame.new) }
+    ensures unlocked { IsUnlocked frame.new }
 {
     match frame.born(alloc, Payload::Mailbox(Letters::new(VecDeque::new(alloc)))) {
         Ok(handle) => Ok(handle),
-        Err((fault, _payload)) => Err(fault),
+        Err(handed) => Err(handed.fault),
     }
 }

@@ -232,3 +232,14 @@ module _ {A : Type 0} where
   gives_none [] is = refl
   gives_none (None ∷ slots) is = gives_none slots is
   gives_none (Some first ∷ slots) is = absurd (omega (arith, ap length is))
+
+  -- with a block given fewer slots are left
+  pub fewer_left : (slots others : List (Option (ℕ × Payload A))) (block : ℕ × Payload A) → from_block slots ≡ Some block ∷ others
+      → length others < length slots
+  fewer_left [] others block is = cc
+  fewer_left (None ∷ slots) others block is = let less : length others < length slots = fewer_left slots others block is in omega arith
+  fewer_left (Some first ∷ slots) others block is =
+      let same : length slots ≡ length others = ap (λ (xs : List (Option (ℕ × Payload A))). length xs) (rest_same slots others first block is) in omega arith
+    where
+      rest_same : (slots others : List (Option (ℕ × Payload A))) (first block : ℕ × Payload A) → Some first ∷ slots ≡ Some block ∷ others → slots ≡ others
+      rest_same slots others first block is = cc

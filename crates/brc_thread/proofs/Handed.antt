@@ -1,5 +1,5 @@
 -- A held cell is no step's to free or to bear.
-use Rattle.std.proofs.Common.{ℕ, ◌≤◌, ap, ◌∙◌}
+use Rattle.std.proofs.Common.{◌≡◌, ℕ, ◌≤◌, Some, ap, ◌∙◌, subst}
 use Rattle.brc_runs.specs.declared.event.Event.{Event}
 use Rattle.brc_runs.specs.Heap.{Heap, opening}
 use Rattle.brc_runs.specs.Lists.{place_at}
@@ -13,21 +13,42 @@ use Rattle.brc_rule.specs.declared.told.Told.{Told}
 use Rattle.brc_rule.specs.declared.told.Told.TheVariants.{Did, Saw, Lost}
 use Rattle.brc_rule.specs.Logs.{Run, items_of, own_of, world}
 use Rattle.brc_rule.specs.Seen.{part_seen}
-use Rattle.brc_thread.specs.Handed.{IsHeld, Next, Spares}
+use Rattle.brc_table.specs.Seated.{TableSeen}
+use Rattle.brc_count.specs.Frames.{FrameSeen, HandleSeen}
+use Rattle.brc_thread.specs.Handed.{IsHeld, OwnsIn, Next, Spares, world_of}
 use Rattle.brc_thread.proofs.Ending.{own_part}
 
 -- what the thread's own steps say of the place, the world has there
-held_there : (n limit : ℕ) (run : Run) (t k c u : ℕ) (told : Told) → IsHeld n limit run t k c → Next n limit run u told → 1 ≤ held (world n limit run) c
-held_there n limit run t k c u told handed next =
+held_there : (runs : TableSeen → Run) (handle : HandleSeen) (c u : ℕ) (told : Told) → IsHeld runs handle c → Next handle.heap (runs handle.heap) u told
+    → 1 ≤ held (world_of handle.heap (runs handle.heap)) c
+held_there runs handle c u told handed next =
+    let n = handle.heap.cells in
+    let limit = handle.heap.local_limit in
+    let run = runs handle.heap in
+    let t = handle.thread in
     let part : IsPart (world n limit run) t (part_seen n (own_of t run)) = own_part n limit run t next.options next.legal.items.0 handed.registered in
-    held_by_place (world n limit run) t k c (ap (λ f. place_at f k) part.frame_is ∙ handed.there)
+    held_by_place (world n limit run) t handle.place c (ap (λ f. place_at f handle.place) part.frame_is ∙ handed.there)
 
-pub spared : (n limit : ℕ) (run : Run) (t k c u : ℕ) (told : Told) → IsHeld n limit run t k c → Next n limit run u told → Spares c told
-spared n limit run t k c u (Did s number moved) handed next =
+pub spared : (runs : TableSeen → Run) (handle : HandleSeen) (c u : ℕ) (told : Told) → IsHeld runs handle c → Next handle.heap (runs handle.heap) u told
+    → Spares c told
+spared runs handle c u (Did s number moved) handed next =
+    let n = handle.heap.cells in
+    let limit = handle.heap.local_limit in
+    let run = runs handle.heap in
     let h : Heap = world n limit run in
     let e : Event = record { thread = u; step = s } in
     let reached : IsReached h = run_reached n limit (events_of (items_of run)) next.options (events_run (opening n limit) (items_of run) next.legal.items.0) in
-    let some : 1 ≤ held h c = held_there n limit run t k c u (Did s number moved) handed next in
+    let some : 1 ≤ held h c = held_there runs handle c u (Did s number moved) handed next in
     (held_not_freed h e c reached next.legal.items.1.0 some, λ kind j. held_not_born h e c kind j reached next.legal.items.1.0 some)
-spared n limit run t k c u (Saw word number) handed next = tt
-spared n limit run t k c u (Lost word number) handed next = tt
+spared runs handle c u (Saw word number) handed next = tt
+spared runs handle c u (Lost word number) handed next = tt
+
+-- a handle that a frame owns is of the frame's heap and thread
+pub held_where_owned : {A : Type 0} (runs : TableSeen → Run) (frame : FrameSeen A) (handle : HandleSeen) (c : ℕ) → OwnsIn runs frame handle c
+    → IsHeld runs handle c
+held_where_owned runs frame handle c owned =
+    rw (owned.owns.heap, owned.owns.thread) record {
+      some_thread = owned.some_thread;
+      registered = owned.registered;
+      there = subst (λ log. place_at (part_seen frame.heap.cells log).frame handle.place ≡ Some c) owned.did owned.cell;
+    }

@@ -1,4 +1,5 @@
 mod Settled
 mod Ending
 mod Handed
+mod Finishing
 pub mod At_Home

@@ -1,20 +1,35 @@
--- A handle between the step that gave it and the step that spends it.
+-- A handle between the step that gave it and the step that spends it, at one of any number of heaps.
 use Rattle.std.specs.Prelude.{◌≡◌, ◌≢◌, ℕ, ◌<◌, true, ◌∷◌, Some}
 use Rattle.brc_words.specs.declared.kind.Kind.{Kind}
 use Rattle.brc_runs.specs.declared.event.Step.TheVariants.{Free, Birth}
-use Rattle.brc_runs.specs.Heap.{AreOptions, is_registered}
+use Rattle.brc_runs.specs.Heap.{Heap, AreOptions, is_registered}
 use Rattle.brc_runs.specs.Lists.{place_at}
 use Rattle.brc_rule.specs.declared.told.Told.{Told}
 use Rattle.brc_rule.specs.declared.told.Told.TheVariants.{Did, Saw, Lost}
 use Rattle.brc_rule.specs.Logs.{Run, own_of, world, IsLegal}
 use Rattle.brc_rule.specs.Seen.{part_seen}
+use Rattle.brc_table.specs.Seated.{TableSeen}
+use Rattle.brc_count.specs.Frames.{FrameSeen, HandleSeen, Owns}
+use Rattle.brc_count.specs.Locking.{cell_in}
 
--- The thread has been given a handle to the cell, and hasn't spent it: by its own steps alone, the place that the handle names
--- has the cell. The last of them that filled the place gave the handle.
-pub record IsHeld (n limit : ℕ) (run : Run) (t k c : ℕ) : Type 0 where
-  pub some_thread : 0 < t
-  pub registered : is_registered (world n limit run) t ≡ true
-  pub there : place_at (part_seen n (own_of t run)).frame k ≡ Some c
+-- the world that a heap's run leads to
+abbrev pub world_of : TableSeen → Run → Heap
+world_of heap run = world heap.cells heap.local_limit run
+
+-- Of any number of heaps, each with its run: the handle was given, and isn't spent. By the steps of its own thread at its own heap
+-- alone, the place that it names has the cell. The last of them that filled the place gave the handle.
+pub record IsHeld (runs : TableSeen → Run) (handle : HandleSeen) (c : ℕ) : Type 0 where
+  pub some_thread : 0 < handle.thread
+  pub registered : is_registered (world_of handle.heap (runs handle.heap)) handle.thread ≡ true
+  pub there : place_at (part_seen handle.heap.cells (own_of handle.thread (runs handle.heap))).frame handle.place ≡ Some c
+
+-- A frame at one of the heaps owns the handle, which has this cell; what the frame did is its thread's part of the heap's run.
+pub record OwnsIn {A : Type 0} (runs : TableSeen → Run) (frame : FrameSeen A) (handle : HandleSeen) (c : ℕ) : Type 0 where
+  pub some_thread : 0 < frame.seat.thread
+  pub registered : is_registered (world_of frame.heap (runs frame.heap)) frame.seat.thread ≡ true
+  pub did : frame.seat.log ≡ own_of frame.seat.thread (runs frame.heap)
+  pub owns : Owns frame handle
+  pub cell : cell_in frame handle.place ≡ Some c
 
 -- the step doesn't give the cell back, and bears no object there
 abbrev pub Spares : ℕ → Told → Type 0
@@ -22,7 +37,7 @@ Spares c (Did s number moved) = (s ≢ Free c) × ((kind : Kind) (k : ℕ) → s
 Spares c (Saw word number) = Unit {0}
 Spares c (Lost word number) = Unit {0}
 
--- the next step of a run, of whatever thread
-pub record Next (n limit : ℕ) (run : Run) (u : ℕ) (told : Told) : Type 0 where
-  pub options : AreOptions n limit
-  pub legal : IsLegal n limit ((u, told) ∷ run)
+-- the next step of a heap's run, of whatever thread
+pub record Next (heap : TableSeen) (run : Run) (u : ℕ) (told : Told) : Type 0 where
+  pub options : AreOptions heap.cells heap.local_limit
+  pub legal : IsLegal heap.cells heap.local_limit ((u, told) ∷ run)

@@ -4,3 +4,4 @@ pub mod Lending
 pub mod Ending
 pub mod Handed
 pub mod Emptied
+pub mod Retiring

@@ -5,6 +5,7 @@ ghost use Rattle.brc_thread.specs.Ending.{Ends};
 
 use crate::heap::Heap;
 use crate::root::Root;
+use brc_block::Block;
 use brc_table::Rest;
 use std::alloc::Allocator;
 
@@ -20,4 +21,19 @@ pub fn take_apart<A: Allocator>(heap: Heap<A>, root: Root<A>) -> Rest<A>
     let Heap { table } = heap;
     let Root { seat } = root;
     table.take_apart(seat)
+}
+
+/// A block's memory is given back, with what it holds.
+fn give_one<A: Allocator>(block: Block<A>) {
+    let _payload = block.into_payload();
+}
+
+/// Gives back all that a heap left, block by block.
+#[tactic(auto, using(crate::proofs::At_Home::fewer_left))]
+pub fn give_back<A: Allocator>(rest: Rest<A>) {
+    let mut rest = rest;
+    while let Some((block, later)) = rest.next() {
+        give_one(block);
+        rest = later;
+    }
 }

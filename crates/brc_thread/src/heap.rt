@@ -22,6 +22,14 @@ pub struct Options {
     pub local_limit: u32,
 }
 
+impl Options {
+    /// 4,096 cells, of which 3,830 are for objects, and the largest limit.
+    pub const USUAL: Options = Options {
+        cells: 4_096,
+        local_limit: 4_294_967_294,
+    };
+}
+
 /// The words and blocks of one heap. All threads share it by reference; it must be taken apart in the end.
 pub struct Heap<A: Allocator> {
     pub(crate) table: HeapTable<A>,

@@ -6,17 +6,21 @@ ghost use Rattle.brc_rule.specs.declared.told.Told.{Told as told_data};
 ghost use Rattle.brc_rule.specs.Logs.{Run};
 ghost use Rattle.brc_table.specs.Rest.{from_block};
 ghost use Rattle.brc_thread.specs.Emptied.{blocks_in};
-ghost use Rattle.brc_thread.specs.Handed.{IsHeld, Next, Spares};
+ghost use Rattle.brc_table.specs.Seated.{TableSeen};
+ghost use Rattle.brc_count.specs.Frames.{FrameSeen, HandleSeen};
+ghost use Rattle.brc_thread.specs.Handed.{IsHeld, OwnsIn, Next, Spares};
 
 use std::alloc::Allocator;
 
-/// While a thread's own log says that a place of its frame has a cell, from the step that fills the place to the one that empties
-/// it, no step of any thread gives that cell back, and none bears another object there: so what the place names is one object,
-/// and its memory is there (PEP 703, "Biased Reference Counting"). A handle names a thread and a place, and not its heap; that
-/// the place is filled is what `brc_count`'s `Owns` asks.
-pub fn handles_keep_their_objects()
-    ensures { (n limit : ℕ) (run : Run) (t k c u : ℕ) (told : told_data)
-        → IsHeld n limit run t k c → Next n limit run u told → Spares c told }
+/// While a frame owns a handle, from the step that gave it to the one that spends it, no step of any thread at the handle's heap gives
+/// its cell back, and none bears another object there: so what the handle names is one object, and its memory is there (PEP 703,
+/// "Biased Reference Counting"). It is said of any number of heaps: a handle of another heap is owned by no frame of this one.
+#[tactic(auto, using(crate::proofs::Handed::held_where_owned, crate::proofs::Handed::spared))]
+pub fn handles_keep_their_objects<A: Allocator>()
+    ensures held { (runs : TableSeen → Run) (frame : FrameSeen A) (handle : HandleSeen) (c : ℕ)
+        → OwnsIn runs frame handle c → IsHeld runs handle c }
+    ensures kept { (runs : TableSeen → Run) (handle : HandleSeen) (c u : ℕ) (told : told_data)
+        → IsHeld runs handle c → Next handle.heap (runs handle.heap) u told → Spares c told }
 {}
 
 /// By what `Rest::next` answers, it gives the blocks in the slots one after the other, each once, and then nothing.

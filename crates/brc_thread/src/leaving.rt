@@ -71,7 +71,7 @@ impl<H: Home<A>, A: Allocator> Leaving<H, A> {
     /// Deals with popped entries and takes dead blocks apart, at most so many turns: entries come first. The answer is the
     /// number of turns that weren't needed: above 0 only where nothing is left. It takes no memory.
     pub fn work(&mut self, budget: usize) -> usize
-        ensures keeps { KeepsHandles self.old self.new }
+        ensures handles { KeepsHandles self.old self.new }
         ensures few { result ≤ budget }
         ensures turns { TurnsLeaving self.old (budget - result) self.new }
         ensures done { 0 < result → (is_blank (popped_seen self.new) ≡ true) × (self.new.works ≡ []) }

@@ -11,10 +11,11 @@ mod laws;
 mod leaving;
 mod mutator;
 mod resting;
+mod retiring;
 mod root;
 mod settling;
 
-pub use ends::take_apart;
+pub use ends::{give_back, take_apart};
 pub use heap::{Heap, Options};
 pub use laws::{handles_keep_their_objects, rest_gives_every_block};
 pub use leaving::{Leaving, Retired};

@@ -7,6 +7,7 @@ ghost use Rattle.brc_runs.specs.Heap.{words_for};
 ghost use Rattle.brc_count.specs.Frames.{Given, Refused, IsAsBefore, IsUnlocked, KeepsHandles, Turns, ledger_seen};
 ghost use Rattle.brc_count.specs.Polling.{Polled};
 ghost use Rattle.brc_count.specs.Closing.{Closes};
+ghost use Rattle.brc_count.specs.Owned.{Keeps, Gains};
 
 use crate::leaving::Leaving;
 use brc_count::{Frame, Handle, Ledger};
@@ -63,12 +64,16 @@ impl<H: Home<A>, A: Allocator> Mutator<H, A> {
     }
 
     /// A handle to the globals, the immortal dictionary of cell 265. FrameFull, then OutOfMemory; a refusal changes nothing.
-    pub fn globals(&mut self) -> Result<Handle, Fault>
+    pub fn globals(&mut self) -> Result<Handle<A>, Fault>
         requires unlocked { IsUnlocked self.old }
         ensures heap { self.new.heap ≡ self.old.heap }
         ensures given { IfOk result (Given self.old self.new (sources.Immortal GLOBALS) GLOBALS) }
         ensures refused { IfErr result (Refused self.old) }
         ensures unchanged { OnErr result (IsAsBefore self.old self.new) }
+
+        ensures gains { IfOk result (Gains self.old self.new) }
+        ensures keeps { OnErr result (Keeps self.old self.new) }
+        ensures unlocked { IsUnlocked self.new }
     {
         self.frame.immortal(GLOBALS)
     }
@@ -78,9 +83,12 @@ impl<H: Home<A>, A: Allocator> Mutator<H, A> {
     /// it can let other threads' requests in: between instructions, say. It takes no memory.
     pub fn poll(&mut self) -> u64
         requires unlocked { IsUnlocked self.old }
-        ensures keeps { KeepsHandles self.old self.new }
+        ensures handles { KeepsHandles self.old self.new }
         ensures polled { Polled self.old self.new result }
         ensures quiet { result ≡ 0 → self.new.works ≡ self.old.works }
+
+        ensures keeps { Keeps self.old self.new }
+        ensures unlocked { IsUnlocked self.new }
     {
         self.frame.poll()
     }
@@ -90,10 +98,13 @@ impl<H: Home<A>, A: Allocator> Mutator<H, A> {
     /// It takes no memory.
     pub fn work(&mut self, budget: usize) -> usize
         requires unlocked { IsUnlocked self.old }
-        ensures keeps { KeepsHandles self.old self.new }
+        ensures handles { KeepsHandles self.old self.new }
         ensures few { result ≤ budget }
         ensures turns { Turns self.old (budget - result) self.new }
         ensures done { 0 < result → self.new.works ≡ [] }
+
+        ensures keeps { Keeps self.old self.new }
+        ensures unlocked { IsUnlocked self.new }
     {
         self.frame.work(budget)
     }

@@ -2,6 +2,7 @@
 
 ghost use Rattle.std.specs.Prelude.{IsTrue};
 ghost use Rattle.brc_count.specs.Frames.{IsUnlocked, KeepsHandles};
+ghost use Rattle.brc_count.specs.Owned.{Keeps};
 ghost use Rattle.brc_thread.specs.Settling.{PollsAndWorks, Settles};
 
 use crate::mutator::Mutator;
@@ -16,7 +17,7 @@ impl<H: Home<A>, A: Allocator> Mutator<H, A> {
     /// Works, and polls once no dead block is left; whether that poll was told nothing.
     fn has_settled(&mut self) -> bool
         requires unlocked { IsUnlocked self.old }
-        ensures keeps { KeepsHandles self.old self.new }
+        ensures handles { KeepsHandles self.old self.new }
         ensures went { PollsAndWorks self.old self.new }
         ensures settled { IsTrue result → Settles self.old self.new }
     {
@@ -30,8 +31,11 @@ impl<H: Home<A>, A: Allocator> Mutator<H, A> {
     /// time, so that nothing says when that is. It takes no memory.
     pub fn settle(&mut self, rt: &impl Wait)
         requires unlocked { IsUnlocked self.old }
-        ensures keeps { KeepsHandles self.old self.new }
+        ensures handles { KeepsHandles self.old self.new }
         ensures settled { Settles self.old self.new }
+
+        ensures keeps { Keeps self.old self.new }
+        ensures unlocked { IsUnlocked self.new }
     {
         for _ in rt.forever() {
             if self.has_settled() {

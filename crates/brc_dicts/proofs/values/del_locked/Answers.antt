@@ -56,4 +56,4 @@ returns-clause-takes g c = λ before k since.
     (c.remove-cell.ensures.kind ∙ ap kind_of lent)
     (c.remove-cell.ensures.keys ∙ ap (λ p. remove (keys_of p) c.in-There.index) lent)
     (c.remove-cell.ensures.left ∙ ap (λ p. remove (entries_of p) c.in-There.index) lent))
-    c.end_take.ensures.thread c.end_take.ensures.next c.end_take.ensures.vacant c.end_take.ensures.places c.end_take.ensures.len
+    c.end_take.ensures.heap c.end_take.ensures.thread c.end_take.ensures.next c.end_take.ensures.vacant c.end_take.ensures.places c.end_take.ensures.len

@@ -1,21 +1,18 @@
-use Rattle.std.proofs.Common.{rules}
-use Rattle.std.proofs.lemmas.Result.{IfOk-weaker}
-use Rattle.brc_dicts.specs.Since.{HasLocked}
+use Rattle.brc_containers.specs.Changing.{Shares, RefusedPlace}
+use Rattle.brc_dicts.specs.Plain.{plain_find}
+use Rattle.brc_dicts.proofs.Since_Law.{locked_late, hands_out}
 use Rattle.brc_dicts.proofs.values.dict_find.Goals as goal
 
 pub returns-clause-shares : goal.returns-clause-shares
 returns-clause-shares g c =
     let late = c.begin_late-block.ensures in
-    let since : HasLocked late.mid c.begin_late-block.new.frame c.args.dict.now.place c.begin_late-block.result =
-    record { began = late.began; keeps = late.keeps; frame = late.frame } in
-    record {
-      thread = search rules;
-      unlocked = search rules;
-      did =
-          IfOk-weaker c.find_locked.result _ _ (λ given shares. (late.mid, late.waits, shares late.mid c.args.dict.now.place since))
-          c.find_locked.ensures.shares;
-      gains = search rules;
-      kept = search rules;
-      places = search rules;
-      refused = search rules;
-    }
+    let locked = c.begin_late-block.new.frame in
+    let k = c.args.dict.now.place in
+    let up = c.find_locked.ensures in (
+      late.mid,
+      late.waits,
+      hands_out late.mid locked c.find_locked.new.frame k c.begin_late-block.result
+          (λ before j given. Shares before c.find_locked.new.frame j (plain_find c.args.key.now) given)
+          (λ before j fault. RefusedPlace before c.find_locked.new.frame j (plain_find c.args.key.now) fault)
+          c.find_locked.result (locked_late c.args.frame.now locked k c.begin_late-block.result late) up.thread up.shares up.places up.refused,
+    )

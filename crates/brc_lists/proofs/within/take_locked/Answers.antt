@@ -28,5 +28,5 @@ returns-clause-taken g c =
     c.in-Ok.ensures.same c.requires.row c.requires.has.locks_cell c.requires.has.found
     c.in-Ok.ensures.is c.in-Ok.ensures.entry (c.remove-entry.ensures.kind ∙ ap kind_of there)
     (c.remove-entry.ensures.left ∙ ap (λ (p : Payload g.row.A.Denot). remove (entries_of p) c.args.index) there)
-    c.end_take.ensures.thread c.end_take.ensures.next c.end_take.ensures.vacant
+    c.end_take.ensures.heap c.end_take.ensures.thread c.end_take.ensures.next c.end_take.ensures.vacant
     c.end_take.ensures.ended c.end_take.ensures.places c.end_take.ensures.len

@@ -1,9 +1,8 @@
 use Rattle.brc_count.specs.Frames.{IsUnlocked}
-use Rattle.brc_count.specs.Locking.{KeepsThread, KeepsFrame}
 use Rattle.brc_lock.specs.Waiting.{Waits}
 use Rattle.brc_lock.proofs.locking.begin_again.Given as goal
 
 abbrev pub invariant-loop : goal.invariant-loop
 invariant-loop g l =
     (goal.iterator-loop g).can_next l.iterator' × (goal.iterator-loop g).is_finite l.iterator'
-    × Waits l.fn.frame l.fn.handle.place l.frame × KeepsThread l.fn.frame l.frame × KeepsFrame l.fn.frame l.frame × IsUnlocked l.frame
+    × Waits l.fn.frame l.fn.handle.place l.frame × IsUnlocked l.frame

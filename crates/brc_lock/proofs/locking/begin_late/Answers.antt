@@ -1,4 +1,4 @@
-use Rattle.brc_lock.specs.Waiting.{NoTry, OneMore}
+use Rattle.brc_lock.specs.Waiting.{IsBusy, NoTry, OneMore}
 use Rattle.brc_lock.proofs.Kept.{thread_kept_on, frame_kept_on, waits_on}
 use Rattle.brc_lock.proofs.locking.begin_late.Goals as goal
 
@@ -15,7 +15,12 @@ returns-in-Some g c = record {
 
 pub returns-in-None : goal.returns-in-None
 returns-in-None g c =
-    let first = OneMore c.args.frame.now c.begin.new.self NoTry c.in-None.ensures.busy in record {
+    let busy : IsBusy c.args.frame.now c.begin.new.self c.args.handle.now.place = record {
+      busy = c.in-None.ensures.busy;
+      keeps = c.begin.ensures.keeps;
+      frame = c.begin.ensures.frame;
+    } in
+    let first = OneMore c.args.frame.now c.begin.new.self NoTry busy in record {
       mid = c.begin_again.ensures.mid;
       waits = waits_on first c.begin_again.ensures.waits;
       began = c.begin_again.ensures.began;

@@ -8,6 +8,7 @@ pub returns-then-bits-eq0-clause-drains : goal.returns-then-bits-eq0-clause-drai
 returns-then-bits-eq0-clause-drains g c = record {
   bits = 0;
   mid = c.drain-bits.new.self;
+  heap = c.drain-bits.ensures.keeps.heap;
   drained = rw c.if-bits-eq0.true at c.drain-bits.ensures.told;
   works = c.drain-bits.ensures.works;
   dealt = nothing_dealt c.args.word c.drain-bits.new.self 32;
@@ -20,6 +21,7 @@ returns-clause-drains g c =
     record {
       bits = c.drain-bits.result;
       mid = c.drain-bits.new.self;
+      heap = drained.keeps.heap;
       drained = drained.told;
       works = drained.works;
       dealt = subst (λ b. DealsBits c.args.word b c.drain-bits.new.self 32 c.settle_word.new.self) (drained.found none) c.settle_word.ensures.dealt;

@@ -26,7 +26,8 @@ returns-clause-given g c =
     c.self.invariant up.seat up.knows up.keeps up.risen (rw (← c.self.view_is) at c.requires.inside)
     (record { changed = at_key.changed; others = at_key.others }) c.vacant_key-place.ensures.vacant up.found in
     rw (← c.self.view_is, up.heap) record {
-      thread = refl;
+      heap = refl;
+      thread = up.seat.1;
       place = c.vacant_key-place.ensures.value;
       room = rw c.vacant_key-place.ensures.value (rw (← c.self.view_is) at c.requires.low);
       vacant = c.self.invariant.placed c.vacant_key-place.result ∙ ap cell_held c.vacant_key-place.ensures.vacant;

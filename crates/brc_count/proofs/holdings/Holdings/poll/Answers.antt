@@ -14,6 +14,7 @@ returns-then-named-eq0-clause-polled g c =
     let words = words_for c.args.self.now.heap.cells in
     record {
       mid = c.wake-named.new.self;
+      heap = c.wake-named.ensures.keeps.heap;
       woken = rw c.if-named-eq0.true at c.wake-named.ensures.told;
       works = c.wake-named.ensures.works;
       drains = nothing_named words c.wake-named.new.self ((words + 31) / 32);

@@ -25,6 +25,7 @@ invariant_of-self-in_default g c =
 pub returns-in-Some-clause-deals : goal.returns-in-Some-clause-deals
 returns-in-Some-clause-deals g c =
     rw (← c.self.view_is) record {
+      heap = c.settle-answered.ensures.heap;
       block = c.settle-answered.result;
       events = c.settle-answered.ensures.told;
       works = c.push.ensures ∙ ap (λ b. pushed b c.self.inside.works) (sym c.in-Some.is);
@@ -33,6 +34,7 @@ returns-in-Some-clause-deals g c =
 pub returns-in_default-clause-deals : goal.returns-in_default-clause-deals
 returns-in_default-clause-deals g c =
     rw (← c.self.view_is) record {
+      heap = c.settle-answered.ensures.heap;
       block = c.settle-answered.result;
       events = c.settle-answered.ensures.told;
       works = ap (λ b. pushed b c.self.inside.works) (sym c.in_default.is);

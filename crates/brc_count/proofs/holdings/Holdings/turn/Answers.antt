@@ -41,14 +41,14 @@ pub returns-in-Some-give_up-clause-turned : goal.returns-in-Some-give_up-clause-
 returns-in-Some-give_up-clause-turned g c = λ is.
     let pops = c.in-Some.ensures.popped in
     let same = same_cell (sym (c.front.ensures ∙ ap front_cell pops.after) ∙ c.in-Some-front.is) in
-    rw (← c.self.view_is) (EntryReleased c.in-Some.entry c.pop_entry.new.self pops false c.give_up.result (rw (← same) at c.give_up.ensures.told)
+    rw (← c.self.view_is) (EntryReleased c.in-Some.entry c.pop_entry.new.self pops false c.give_up.result c.give_up.ensures.heap (rw (← same) at c.give_up.ensures.told)
     (c.push.ensures ∙ ap (λ b. pushed b c.pop_entry.new.self) (sym c.in-Some-give_up.is)))
 
 pub returns-in_default-give_up-clause-turned : goal.returns-in_default-give_up-clause-turned
 returns-in_default-give_up-clause-turned g c = λ is.
     let pops = c.in-Some.ensures.popped in
     let same = same_cell (sym (c.front.ensures ∙ ap front_cell pops.after) ∙ c.in-Some-front.is) in
-    rw (← c.self.view_is) (EntryReleased c.in-Some.entry c.pop_entry.new.self pops false c.give_up.result (rw (← same) at c.give_up.ensures.told)
+    rw (← c.self.view_is) (EntryReleased c.in-Some.entry c.pop_entry.new.self pops false c.give_up.result c.give_up.ensures.heap (rw (← same) at c.give_up.ensures.told)
     (ap (λ b. pushed b c.pop_entry.new.self) (sym c.in_default-give_up.is)))
 
 -- ---- a block is given back
@@ -75,4 +75,4 @@ pub returns-clause-turned : goal.returns-clause-turned
 returns-clause-turned g c = λ is.
     let front = sym c.in_default.ensures.unchanged ∙ c.in-Some-pop.ensures.some in
     let none = ap front_entries (sym front) ∙ c.in_default.ensures.none in
-    rw (← c.self.view_is) (BlockFreed c.in-Some-pop.block (2 ^ 64 - 1) front none (rw c.cell.ensures at c.free.ensures.told))
+    rw (← c.self.view_is) (BlockFreed c.in-Some-pop.block (2 ^ 64 - 1) c.free.ensures.heap front none (rw c.cell.ensures at c.free.ensures.told))

@@ -1,4 +1,5 @@
 use Rattle.brc_runs.specs.declared.event.Source.TheVariants as sources
+use Rattle.brc_count.specs.Frames.{handle_at}
 use Rattle.brc_count.proofs.Locked_Entries.{entry_named, entry_up}
 use Rattle.brc_count.proofs.holdings.Holdings.up_entry.Goals as goal
 
@@ -9,5 +10,5 @@ fill-requires-clause-named g c =
 
 pub returns-clause-lock : goal.returns-clause-lock
 returns-clause-lock g c =
-    entry_up c.args.self.now c.fill.new.self (sources.Entry c.args.index) c.args.cell (record { thread = c.args.self.now.seat.thread; place = c.fill.result })
+    entry_up c.args.self.now c.fill.new.self (sources.Entry c.args.index) c.args.cell (handle_at c.fill.new.self c.fill.result)
     c.fill.ensures.given c.fill.ensures.heap c.requires.locked

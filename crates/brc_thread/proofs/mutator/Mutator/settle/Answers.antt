@@ -11,4 +11,4 @@ pub returns-then-has_settled-clause-settled : goal.returns-then-has_settled-clau
 returns-then-has_settled-clause-settled g c = settles_late c.loop.invariant.3 (c.has_settled.ensures.settled (search rules))
 
 pub loop-preserved : goal.loop-preserved
-loop-preserved g c = (tt, tt, kept_on c.loop.invariant.2 c.has_settled.ensures.keeps, goes_on c.loop.invariant.3 c.has_settled.ensures.went)
+loop-preserved g c = (tt, tt, kept_on c.loop.invariant.2 c.has_settled.ensures.handles, goes_on c.loop.invariant.3 c.has_settled.ensures.went)

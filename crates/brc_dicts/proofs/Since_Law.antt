@@ -1,0 +1,43 @@
+-- What holds since the locking, whatever frame it began from, holds of the call.
+use Rattle.std.proofs.Common.{ℕ, Option, Result, Ok, Err, ◌∙◌}
+use Rattle.std.specs.Result.{IfOk, IfErr}
+use Rattle.brc_words.specs.declared.fault.Fault.{Fault}
+use Rattle.brc_block.specs.declared.payload.Payload.{Payload}
+use Rattle.brc_count.specs.declared.handed.Handed.{Handed}
+use Rattle.brc_count.specs.Frames.{FrameSeen, HandleSeen}
+use Rattle.brc_count.specs.Locking.{KeepsThread, KeepsFrame}
+use Rattle.brc_lock.specs.Waiting.{BeginsLate}
+use Rattle.brc_lock.proofs.Kept.{thread_kept_on, frame_kept_on}
+use Rattle.brc_containers.specs.Called.{HandsOut, TakesIn}
+use Rattle.brc_containers.specs.Changing.{KeepsPlaces}
+use Rattle.brc_dicts.specs.Since.{HasLocked, Since}
+
+module _ {A : Type 0} where
+  -- a locking that waited, from the frame that its lost tries left
+  pub locked_late : (old now : FrameSeen A) (k : ℕ) (block : ℕ × Payload A) (late : BeginsLate old now k block) → HasLocked late.mid now k block
+  locked_late old now k block late = record { began = late.began; keeps = late.keeps; frame = late.frame }
+
+  places_on : {before now new : FrameSeen A} → KeepsFrame before now → KeepsPlaces now new → KeepsPlaces before new
+  places_on first second = record {
+    places = λ j. second.places j ∙ first.places j;
+    len = second.len ∙ first.len;
+    next = second.next ∙ first.next;
+  }
+
+  pub hands_out : (before now new : FrameSeen A) (k : ℕ) (block : ℕ × Payload A) (done : FrameSeen A → ℕ → HandleSeen → Type 0)
+      (why : FrameSeen A → ℕ → Fault → Type 0) (result : Result HandleSeen Fault) → HasLocked before now k block → KeepsThread now new
+      → IfOk result (λ given. Since now block (λ b j. done b j given)) → IfErr result (λ fault. KeepsPlaces now new)
+      → IfErr result (λ fault. Since now block (λ b j. why b j fault)) → HandsOut before new (done before k) (why before k) result
+  hands_out before now new k block done why (Ok given) since thread did places refused =
+      record { thread = thread_kept_on since.keeps thread; did = did before k since; places = tt; refused = tt }
+  hands_out before now new k block done why (Err fault) since thread did places refused =
+      record { thread = thread_kept_on since.keeps thread; did = tt; places = places_on since.frame places; refused = refused before k since }
+
+  pub takes_in : {T V : Type 0} (before now new : FrameSeen A) (k : ℕ) (block : ℕ × Payload A) (done : FrameSeen A → ℕ → T → Type 0)
+      (why : FrameSeen A → ℕ → Fault → Type 0) (result : Result T (Handed V)) → HasLocked before now k block → KeepsThread now new
+      → IfOk result (λ answer. Since now block (λ b j. done b j answer)) → IfErr result (λ handed. KeepsFrame now new)
+      → IfErr result (λ handed. Since now block (λ b j. why b j handed.fault)) → TakesIn before new (done before k) (why before k) result
+  takes_in before now new k block done why (Ok answer) since thread did frame refused =
+      record { thread = thread_kept_on since.keeps thread; did = did before k since; frame = tt; refused = tt }
+  takes_in before now new k block done why (Err handed) since thread did frame refused =
+      record { thread = thread_kept_on since.keeps thread; did = tt; frame = frame_kept_on since.frame frame; refused = refused before k since }

@@ -1,0 +1,18 @@
+use Rattle.brc_containers.specs.Changing.{Takes, RefusedPlace}
+use Rattle.brc_dicts.specs.Plain.{plain_del}
+use Rattle.brc_dicts.proofs.Since_Law.{locked_late, hands_out}
+use Rattle.brc_dicts.proofs.values.dict_del.Goals as goal
+
+pub returns-clause-takes : goal.returns-clause-takes
+returns-clause-takes g c =
+    let late = c.begin_late-block.ensures in
+    let locked = c.begin_late-block.new.frame in
+    let k = c.args.dict.now.place in
+    let up = c.del_locked.ensures in (
+      late.mid,
+      late.waits,
+      hands_out late.mid locked c.del_locked.new.frame k c.begin_late-block.result
+          (λ before j given. Takes before c.del_locked.new.frame j (plain_del c.args.key.now) given)
+          (λ before j fault. RefusedPlace before c.del_locked.new.frame j (plain_del c.args.key.now) fault)
+          c.del_locked.result (locked_late c.args.frame.now locked k c.begin_late-block.result late) up.thread up.takes up.places up.refused,
+    )

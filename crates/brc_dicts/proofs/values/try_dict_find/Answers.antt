@@ -1,0 +1,15 @@
+use Rattle.brc_containers.specs.Changing.{Shares, RefusedPlace}
+use Rattle.brc_dicts.specs.Plain.{plain_find}
+use Rattle.brc_dicts.specs.Since.{HasLocked}
+use Rattle.brc_dicts.proofs.Since_Law.{hands_out}
+use Rattle.brc_dicts.proofs.values.try_dict_find.Goals as goal
+
+pub returns-clause-shares : goal.returns-clause-shares
+returns-clause-shares g c =
+    let since : HasLocked c.args.frame.now c.begin.new.self c.args.dict.now.place c.in-Some.block =
+    record { began = c.in-Some.ensures.began; keeps = c.begin.ensures.keeps; frame = c.begin.ensures.frame } in
+    let up = c.find_locked.ensures in
+    hands_out c.args.frame.now c.begin.new.self c.find_locked.new.frame c.args.dict.now.place c.in-Some.block
+    (λ before k given. Shares before c.find_locked.new.frame k (plain_find c.args.key.now) given)
+    (λ before k fault. RefusedPlace before c.find_locked.new.frame k (plain_find c.args.key.now) fault)
+    c.find_locked.result since up.thread up.shares up.places up.refused

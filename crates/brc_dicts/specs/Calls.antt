@@ -1,0 +1,23 @@
+-- The calls on dictionaries, each told once, over the frame that its locking began from: both its forms cite it.
+use Rattle.std.specs.Prelude.{ℕ, Option, Result}
+use Rattle.brc_words.specs.declared.fault.Fault.{Fault}
+use Rattle.brc_words.specs.declared.key.Key.{Key}
+use Rattle.brc_count.specs.declared.handed.Handed.{Handed}
+use Rattle.brc_count.specs.Frames.{FrameSeen, HandleSeen}
+use Rattle.brc_containers.specs.Called.{HandsOut, TakesIn}
+use Rattle.brc_containers.specs.Changing.{Shares, Takes, RefusedPlace}
+use Rattle.brc_dicts.specs.Plain.{plain_find, plain_del}
+use Rattle.brc_dicts.specs.Putting.{HasPut, RefusedPut}
+
+module _ {A : Type 0} where
+  -- the value goes beside the key, and the old one comes out
+  abbrev pub DictPut : FrameSeen A → FrameSeen A → ℕ → Key A → HandleSeen → Result (Option HandleSeen) (Handed (Key A × HandleSeen)) → Type 0
+  DictPut old new k key value result = TakesIn old new (HasPut old new k key value) (RefusedPut old new k key value) result
+
+  -- a handle more to the value beside the key
+  abbrev pub DictFind : FrameSeen A → FrameSeen A → ℕ → Key A → Result HandleSeen Fault → Type 0
+  DictFind old new k key result = HandsOut old new (Shares old new k (plain_find key)) (RefusedPlace old new k (plain_find key)) result
+
+  -- the value beside the key comes out, and its pair goes
+  abbrev pub DictDel : FrameSeen A → FrameSeen A → ℕ → Key A → Result HandleSeen Fault → Type 0
+  DictDel old new k key result = HandsOut old new (Takes old new k (plain_del key)) (RefusedPlace old new k (plain_del key)) result
