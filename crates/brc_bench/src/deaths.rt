@@ -2,8 +2,7 @@
 
 ghost use Rattle.std.specs.Prelude.{◌≡◌, IfSome, IfNone};
 ghost use Rattle.brc_count.specs.Frames.{IsUnlocked, Owns};
-ghost use Rattle.brc_containers.specs.Handles.{Keeps, Gains, Loses};
-ghost use Rattle.brc_bench.specs.Handles.{Trades};
+ghost use Rattle.brc_count.specs.Owned.{Keeps, Gains, Loses, Trades};
 
 use crate::handles::{a_list, release, work};
 use crate::lists::push;
@@ -21,8 +20,8 @@ fn link<R: Wait, H: Home<A>, A: Allocator + Copy>(
     rt: &R,
     alloc: A,
     frame: &mut Frame<H, A>,
-    chain: Handle,
-) -> Option<Handle>
+    chain: Handle<A>,
+) -> Option<Handle<A>>
     requires owned { Owns frame.old chain }
     requires unlocked { IsUnlocked frame.old }
     ensures trades { IfSome result (Trades frame.old frame.new chain) }
@@ -45,9 +44,9 @@ fn links<R: Wait, H: Home<A>, A: Allocator + Copy>(
     rt: &R,
     alloc: A,
     frame: &mut Frame<H, A>,
-    chain: Handle,
+    chain: Handle<A>,
     count: u64,
-) -> Option<Handle>
+) -> Option<Handle<A>>
     requires owned { Owns frame.old chain }
     requires unlocked { IsUnlocked frame.old }
     ensures trades { IfSome result (Trades frame.old frame.new chain) }
@@ -70,7 +69,7 @@ pub fn a_chain<R: Wait, H: Home<A>, A: Allocator + Copy>(
     alloc: A,
     frame: &mut Frame<H, A>,
     count: u64,
-) -> Option<Handle>
+) -> Option<Handle<A>>
     requires unlocked { IsUnlocked frame.old }
     ensures gains { IfSome result (Gains frame.old frame.new) }
     ensures keeps { IfNone result (Keeps frame.old frame.new) }
@@ -86,11 +85,11 @@ pub fn a_chain<R: Wait, H: Home<A>, A: Allocator + Copy>(
 pub fn times_death<R: Clock + CpuClock, H: Home<A>, A: Allocator>(
     rt: &R,
     frame: &mut Frame<H, A>,
-    handle: Handle,
+    handle: Handle<A>,
 ) -> io::Result<Span>
     requires owned { Owns frame.old handle }
     requires unlocked { IsUnlocked frame.old }
-    ensures heap { frame.new.heap ≡ frame.old.heap }
+    ensures loses { Loses frame.old frame.new handle }
     ensures unlocked { IsUnlocked frame.new }
 {
     let began = this_moment(rt);

@@ -2,11 +2,10 @@
 
 ghost use Rattle.std.specs.Prelude.{◌≡◌, ◌≢◌, IfSome, IfNone};
 ghost use Rattle.brc_count.specs.Frames.{IsUnlocked, Owns};
-ghost use Rattle.brc_containers.specs.Handles.{Keeps, Gains, Loses};
-ghost use Rattle.brc_bench.specs.Handles.{Trades};
+ghost use Rattle.brc_count.specs.Owned.{Keeps, Gains, Loses, Trades};
 
 use crate::handles::{a_dict, an_integer, another, release};
-use brc_count::{Frame, Handle};
+use brc_count::{Frame, Handed, Handle};
 use brc_counter::Home;
 use brc_dicts::{dict_find, dict_put};
 use brc_words::Key;
@@ -26,8 +25,8 @@ fn key_of<A: Allocator>(number: u64) -> Key<A> {
 fn put_another<R: Wait, H: Home<A>, A: Allocator>(
     rt: &R,
     frame: &mut Frame<H, A>,
-    dict: &Handle,
-    value: &Handle,
+    dict: &Handle<A>,
+    value: &Handle<A>,
     number: u64,
 ) -> bool
     requires owned { Owns frame.old dict.now }
@@ -45,7 +44,12 @@ fn put_another<R: Wait, H: Home<A>, A: Allocator>(
             release(frame, other);
             false
         }
-        Err((_, (_, other))) => {
+        Err(
+            Handed {
+                back: (_, other),
+                ..
+            },
+        ) => {
             release(frame, other);
             false
         }
@@ -56,8 +60,8 @@ fn put_another<R: Wait, H: Home<A>, A: Allocator>(
 fn put_all<R: Wait, H: Home<A>, A: Allocator>(
     rt: &R,
     frame: &mut Frame<H, A>,
-    dict: &Handle,
-    value: &Handle,
+    dict: &Handle<A>,
+    value: &Handle<A>,
 ) -> bool
     requires owned { Owns frame.old dict.now }
     requires value_owned { Owns frame.old value.now }
@@ -78,7 +82,7 @@ fn fills_dict<R: Wait, H: Home<A>, A: Allocator>(
     rt: &R,
     alloc: A,
     frame: &mut Frame<H, A>,
-    dict: &Handle,
+    dict: &Handle<A>,
 ) -> bool
     requires owned { Owns frame.old dict.now }
     requires unlocked { IsUnlocked frame.old }
@@ -98,7 +102,7 @@ pub fn a_full_dict<R: Wait, H: Home<A>, A: Allocator + Copy>(
     rt: &R,
     alloc: A,
     frame: &mut Frame<H, A>,
-) -> Option<Handle>
+) -> Option<Handle<A>>
     requires unlocked { IsUnlocked frame.old }
     ensures gains { IfSome result (Gains frame.old frame.new) }
     ensures keeps { IfNone result (Keeps frame.old frame.new) }
@@ -119,10 +123,10 @@ pub fn a_full_dict<R: Wait, H: Home<A>, A: Allocator + Copy>(
 fn replace<R: Wait, H: Home<A>, A: Allocator>(
     rt: &R,
     frame: &mut Frame<H, A>,
-    dict: &Handle,
+    dict: &Handle<A>,
     key: Key<A>,
-    value: Handle,
-) -> Option<Handle>
+    value: Handle<A>,
+) -> Option<Handle<A>>
     requires owned { Owns frame.old dict.now }
     requires value_owned { Owns frame.old value }
     requires apart { value.place ≢ dict.now.place }
@@ -133,7 +137,12 @@ fn replace<R: Wait, H: Home<A>, A: Allocator>(
 {
     match dict_put(rt, frame, dict, key, value) {
         Ok(old) => old,
-        Err((_, (_, value))) => {
+        Err(
+            Handed {
+                back: (_, value),
+                ..
+            },
+        ) => {
             release(frame, value);
             None
         }
@@ -145,7 +154,7 @@ fn replace<R: Wait, H: Home<A>, A: Allocator>(
 fn finds<R: Wait, H: Home<A>, A: Allocator>(
     rt: &R,
     frame: &mut Frame<H, A>,
-    dict: &Handle,
+    dict: &Handle<A>,
     key: &Key<A>,
 ) -> bool
     requires owned { Owns frame.old dict.now }
@@ -167,10 +176,10 @@ fn finds<R: Wait, H: Home<A>, A: Allocator>(
 fn replace_and_find<R: Wait, H: Home<A>, A: Allocator>(
     rt: &R,
     frame: &mut Frame<H, A>,
-    dict: &Handle,
+    dict: &Handle<A>,
     number: u64,
-    value: Handle,
-) -> Option<Handle>
+    value: Handle<A>,
+) -> Option<Handle<A>>
     requires owned { Owns frame.old dict.now }
     requires value_owned { Owns frame.old value }
     requires apart { value.place ≢ dict.now.place }
@@ -194,10 +203,10 @@ fn replace_and_find<R: Wait, H: Home<A>, A: Allocator>(
 fn replaces<R: Wait, H: Home<A>, A: Allocator>(
     rt: &R,
     frame: &mut Frame<H, A>,
-    dict: &Handle,
-    value: Handle,
+    dict: &Handle<A>,
+    value: Handle<A>,
     n: u64,
-) -> Option<Handle>
+) -> Option<Handle<A>>
     requires owned { Owns frame.old dict.now }
     requires value_owned { Owns frame.old value }
     requires apart { value.place ≢ dict.now.place }
@@ -221,7 +230,7 @@ pub fn puts_and_finds<R: Wait, H: Home<A>, A: Allocator>(
     rt: &R,
     alloc: A,
     frame: &mut Frame<H, A>,
-    dict: &Handle,
+    dict: &Handle<A>,
     n: u64,
 ) -> bool
     requires owned { Owns frame.old dict.now }

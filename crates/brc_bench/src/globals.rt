@@ -2,10 +2,10 @@
 
 ghost use Rattle.std.specs.Prelude.{IfSome, IfNone};
 ghost use Rattle.brc_count.specs.Frames.{IsUnlocked, Owns};
-ghost use Rattle.brc_containers.specs.Handles.{Keeps, Gains, Loses};
+ghost use Rattle.brc_count.specs.Owned.{Keeps, Gains, Loses};
 
 use crate::handles::release;
-use brc_count::{Frame, Handle};
+use brc_count::{Frame, Handed, Handle};
 use brc_counter::Home;
 use brc_dicts::{dict_del, dict_put};
 use brc_words::{GLOBALS, Key};
@@ -13,7 +13,7 @@ use std::alloc::Allocator;
 use std::sync::Wait;
 
 /// A handle to the globals; None where there is no place for it.
-fn the_globals<H: Home<A>, A: Allocator>(frame: &mut Frame<H, A>) -> Option<Handle>
+fn the_globals<H: Home<A>, A: Allocator>(frame: &mut Frame<H, A>) -> Option<Handle<A>>
     requires unlocked { IsUnlocked frame.old }
     ensures gains { IfSome result (Gains frame.old frame.new) }
     ensures keeps { IfNone result (Keeps frame.old frame.new) }
@@ -29,7 +29,7 @@ fn the_globals<H: Home<A>, A: Allocator>(frame: &mut Frame<H, A>) -> Option<Hand
 pub fn put_into_globals<R: Wait, H: Home<A>, A: Allocator>(
     rt: &R,
     frame: &mut Frame<H, A>,
-    handle: Handle,
+    handle: Handle<A>,
     key: i64,
 ) -> bool
     requires owned { Owns frame.old handle }
@@ -51,7 +51,12 @@ pub fn put_into_globals<R: Wait, H: Home<A>, A: Allocator>(
             release(frame, globals);
             false
         }
-        Err((_fault, (_key, back))) => {
+        Err(
+            Handed {
+                back: (_, back),
+                ..
+            },
+        ) => {
             release(frame, back);
             release(frame, globals);
             false
@@ -64,7 +69,7 @@ pub fn take_from_globals<R: Wait, H: Home<A>, A: Allocator>(
     rt: &R,
     frame: &mut Frame<H, A>,
     key: i64,
-) -> Option<Handle>
+) -> Option<Handle<A>>
     requires unlocked { IsUnlocked frame.old }
     ensures gains { IfSome result (Gains frame.old frame.new) }
     ensures keeps { IfNone result (Keeps frame.old frame.new) }

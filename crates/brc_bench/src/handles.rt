@@ -2,7 +2,7 @@
 
 ghost use Rattle.std.specs.Prelude.{◌≡◌, IfSome, IfNone};
 ghost use Rattle.brc_count.specs.Frames.{IsUnlocked, Owns};
-ghost use Rattle.brc_containers.specs.Handles.{Keeps, Gains, Loses};
+ghost use Rattle.brc_count.specs.Owned.{Keeps, Gains, Loses};
 
 use brc_count::{Frame, Handle};
 use brc_counter::Home;
@@ -16,7 +16,7 @@ pub fn an_integer<H: Home<A>, A: Allocator>(
     alloc: A,
     frame: &mut Frame<H, A>,
     number: i64,
-) -> Option<Handle>
+) -> Option<Handle<A>>
     requires unlocked { IsUnlocked frame.old }
     ensures gains { IfSome result (Gains frame.old frame.new) }
     ensures keeps { IfNone result (Keeps frame.old frame.new) }
@@ -34,7 +34,7 @@ pub fn a_text<H: Home<A>, A: Allocator>(
     alloc: A,
     frame: &mut Frame<H, A>,
     text: Text<A>,
-) -> Option<Handle>
+) -> Option<Handle<A>>
     requires unlocked { IsUnlocked frame.old }
     ensures gains { IfSome result (Gains frame.old frame.new) }
     ensures keeps { IfNone result (Keeps frame.old frame.new) }
@@ -48,7 +48,10 @@ pub fn a_text<H: Home<A>, A: Allocator>(
 
 /// A new list; None where there is no memory, place or cell for it.
 #[inline(always)]
-pub fn a_list<H: Home<A>, A: Allocator + Copy>(alloc: A, frame: &mut Frame<H, A>) -> Option<Handle>
+pub fn a_list<H: Home<A>, A: Allocator + Copy>(
+    alloc: A,
+    frame: &mut Frame<H, A>,
+) -> Option<Handle<A>>
     requires unlocked { IsUnlocked frame.old }
     ensures gains { IfSome result (Gains frame.old frame.new) }
     ensures keeps { IfNone result (Keeps frame.old frame.new) }
@@ -62,7 +65,10 @@ pub fn a_list<H: Home<A>, A: Allocator + Copy>(alloc: A, frame: &mut Frame<H, A>
 
 /// A new dictionary; None where there is no memory, place or cell for it.
 #[inline(always)]
-pub fn a_dict<H: Home<A>, A: Allocator + Copy>(alloc: A, frame: &mut Frame<H, A>) -> Option<Handle>
+pub fn a_dict<H: Home<A>, A: Allocator + Copy>(
+    alloc: A,
+    frame: &mut Frame<H, A>,
+) -> Option<Handle<A>>
     requires unlocked { IsUnlocked frame.old }
     ensures gains { IfSome result (Gains frame.old frame.new) }
     ensures keeps { IfNone result (Keeps frame.old frame.new) }
@@ -79,7 +85,7 @@ pub fn a_dict<H: Home<A>, A: Allocator + Copy>(alloc: A, frame: &mut Frame<H, A>
 pub fn a_mailbox<H: Home<A>, A: Allocator + Copy>(
     alloc: A,
     frame: &mut Frame<H, A>,
-) -> Option<Handle>
+) -> Option<Handle<A>>
     requires unlocked { IsUnlocked frame.old }
     ensures gains { IfSome result (Gains frame.old frame.new) }
     ensures keeps { IfNone result (Keeps frame.old frame.new) }
@@ -93,7 +99,10 @@ pub fn a_mailbox<H: Home<A>, A: Allocator + Copy>(
 
 /// One reference more to the handle's object; None where there is no place for it.
 #[inline(always)]
-pub fn another<H: Home<A>, A: Allocator>(frame: &mut Frame<H, A>, handle: &Handle) -> Option<Handle>
+pub fn another<H: Home<A>, A: Allocator>(
+    frame: &mut Frame<H, A>,
+    handle: &Handle<A>,
+) -> Option<Handle<A>>
     requires owned { Owns frame.old handle.now }
     requires unlocked { IsUnlocked frame.old }
     ensures gains { IfSome result (Gains frame.old frame.new) }
@@ -108,7 +117,7 @@ pub fn another<H: Home<A>, A: Allocator>(frame: &mut Frame<H, A>, handle: &Handl
 
 /// A reference goes.
 #[inline(always)]
-pub fn release<H: Home<A>, A: Allocator>(frame: &mut Frame<H, A>, handle: Handle)
+pub fn release<H: Home<A>, A: Allocator>(frame: &mut Frame<H, A>, handle: Handle<A>)
     requires owned { Owns frame.old handle }
     requires unlocked { IsUnlocked frame.old }
     ensures loses { Loses frame.old frame.new handle }

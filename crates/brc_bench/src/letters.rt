@@ -2,7 +2,7 @@
 
 ghost use Rattle.std.specs.Prelude.{◌≢◌};
 ghost use Rattle.brc_count.specs.Frames.{IsUnlocked, Owns};
-ghost use Rattle.brc_containers.specs.Handles.{Keeps, Loses};
+ghost use Rattle.brc_count.specs.Owned.{Keeps, Loses};
 
 use crate::handles::{an_integer, poll, release, work};
 use brc_count::{Frame, Handle};
@@ -89,8 +89,8 @@ fn awaits<R: Wait, H: Home<A>, A: Allocator>(
 fn post_letter<R: Wait, H: Home<A>, A: Allocator>(
     rt: &R,
     frame: &mut Frame<H, A>,
-    mailbox: &Handle,
-    letter: Handle,
+    mailbox: &Handle<A>,
+    letter: Handle<A>,
 ) -> bool
     requires owned { Owns frame.old mailbox.now }
     requires letter_owned { Owns frame.old letter }
@@ -101,8 +101,8 @@ fn post_letter<R: Wait, H: Home<A>, A: Allocator>(
 {
     match send(rt, frame, mailbox, letter) {
         Ok(()) => true,
-        Err((_, letter)) => {
-            release(frame, letter);
+        Err(handed) => {
+            release(frame, handed.back);
             false
         }
     }
@@ -114,7 +114,7 @@ fn sends_one<R: Wait, H: Home<A>, A: Allocator>(
     rt: &R,
     alloc: A,
     frame: &mut Frame<H, A>,
-    mailbox: &Handle,
+    mailbox: &Handle<A>,
     number: i64,
 ) -> bool
     requires owned { Owns frame.old mailbox.now }
@@ -138,7 +138,7 @@ fn sends<R: Wait, H: Home<A>, A: Allocator + Copy>(
     rt: &R,
     alloc: A,
     frame: &mut Frame<H, A>,
-    mailbox: &Handle,
+    mailbox: &Handle<A>,
     post: &Post,
     n: u64,
 ) -> bool
@@ -164,7 +164,7 @@ fn sends<R: Wait, H: Home<A>, A: Allocator + Copy>(
 fn receives_one<R: Wait, H: Home<A>, A: Allocator>(
     rt: &R,
     frame: &mut Frame<H, A>,
-    mailbox: &Handle,
+    mailbox: &Handle<A>,
 ) -> Result<(), Fault>
     requires owned { Owns frame.old mailbox.now }
     requires unlocked { IsUnlocked frame.old }
@@ -185,7 +185,7 @@ fn receives_one<R: Wait, H: Home<A>, A: Allocator>(
 fn receives<R: Wait, H: Home<A>, A: Allocator>(
     rt: &R,
     frame: &mut Frame<H, A>,
-    mailbox: &Handle,
+    mailbox: &Handle<A>,
     post: &Post,
     count: u64,
 ) -> bool
@@ -220,7 +220,7 @@ pub fn mails<R: Wait, H: Home<A>, A: Allocator + Copy>(
     rt: &R,
     alloc: A,
     frame: &mut Frame<H, A>,
-    mailbox: &Handle,
+    mailbox: &Handle<A>,
     post: &Post,
     n: u64,
 ) -> bool

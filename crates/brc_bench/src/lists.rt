@@ -2,8 +2,7 @@
 
 ghost use Rattle.std.specs.Prelude.{◌≡◌, ◌≢◌, IfSome, IfNone};
 ghost use Rattle.brc_count.specs.Frames.{IsUnlocked, Owns};
-ghost use Rattle.brc_containers.specs.Handles.{Keeps, Gains, Loses};
-ghost use Rattle.brc_bench.specs.Handles.{Trades};
+ghost use Rattle.brc_count.specs.Owned.{Keeps, Gains, Loses, Trades};
 
 use crate::handles::{a_list, an_integer, another, release, work};
 use crate::operations::TURNS;
@@ -18,8 +17,8 @@ use std::sync::Wait;
 pub fn push<R: Wait, H: Home<A>, A: Allocator>(
     rt: &R,
     frame: &mut Frame<H, A>,
-    list: &Handle,
-    value: Handle,
+    list: &Handle<A>,
+    value: Handle<A>,
 ) -> bool
     requires owned { Owns frame.old list.now }
     requires value_owned { Owns frame.old value }
@@ -30,8 +29,8 @@ pub fn push<R: Wait, H: Home<A>, A: Allocator>(
 {
     match list_push(rt, frame, list, value) {
         Ok(()) => true,
-        Err((_, value)) => {
-            release(frame, value);
+        Err(handed) => {
+            release(frame, handed.back);
             false
         }
     }
@@ -42,8 +41,8 @@ pub fn push<R: Wait, H: Home<A>, A: Allocator>(
 fn push_another<R: Wait, H: Home<A>, A: Allocator>(
     rt: &R,
     frame: &mut Frame<H, A>,
-    list: &Handle,
-    value: &Handle,
+    list: &Handle<A>,
+    value: &Handle<A>,
 ) -> bool
     requires owned { Owns frame.old list.now }
     requires value_owned { Owns frame.old value.now }
@@ -62,8 +61,8 @@ fn push_another<R: Wait, H: Home<A>, A: Allocator>(
 fn push_often<R: Wait, H: Home<A>, A: Allocator>(
     rt: &R,
     frame: &mut Frame<H, A>,
-    list: &Handle,
-    value: &Handle,
+    list: &Handle<A>,
+    value: &Handle<A>,
     count: u64,
 ) -> bool
     requires owned { Owns frame.old list.now }
@@ -85,7 +84,7 @@ fn fills_list<R: Wait, H: Home<A>, A: Allocator>(
     rt: &R,
     alloc: A,
     frame: &mut Frame<H, A>,
-    list: &Handle,
+    list: &Handle<A>,
     count: u64,
 ) -> bool
     requires owned { Owns frame.old list.now }
@@ -107,7 +106,7 @@ pub fn a_full_list<R: Wait, H: Home<A>, A: Allocator + Copy>(
     alloc: A,
     frame: &mut Frame<H, A>,
     count: u64,
-) -> Option<Handle>
+) -> Option<Handle<A>>
     requires unlocked { IsUnlocked frame.old }
     ensures gains { IfSome result (Gains frame.old frame.new) }
     ensures keeps { IfNone result (Keeps frame.old frame.new) }
@@ -128,9 +127,9 @@ pub fn a_full_list<R: Wait, H: Home<A>, A: Allocator + Copy>(
 fn exchange<R: Wait, H: Home<A>, A: Allocator>(
     rt: &R,
     frame: &mut Frame<H, A>,
-    list: &Handle,
-    value: Handle,
-) -> Option<Handle>
+    list: &Handle<A>,
+    value: Handle<A>,
+) -> Option<Handle<A>>
     requires owned { Owns frame.old list.now }
     requires value_owned { Owns frame.old value }
     requires apart { value.place ≢ list.now.place }
@@ -153,10 +152,10 @@ fn exchange<R: Wait, H: Home<A>, A: Allocator>(
 fn exchanges<R: Wait, H: Home<A>, A: Allocator>(
     rt: &R,
     frame: &mut Frame<H, A>,
-    list: &Handle,
-    value: Handle,
+    list: &Handle<A>,
+    value: Handle<A>,
     n: u64,
-) -> Option<Handle>
+) -> Option<Handle<A>>
     requires owned { Owns frame.old list.now }
     requires value_owned { Owns frame.old value }
     requires apart { value.place ≢ list.now.place }
@@ -180,7 +179,7 @@ pub fn pushes_and_pops<R: Wait, H: Home<A>, A: Allocator>(
     rt: &R,
     alloc: A,
     frame: &mut Frame<H, A>,
-    list: &Handle,
+    list: &Handle<A>,
     n: u64,
 ) -> bool
     requires owned { Owns frame.old list.now }
@@ -206,7 +205,7 @@ fn list_lives<R: Wait, H: Home<A>, A: Allocator + Copy>(
     rt: &R,
     alloc: A,
     frame: &mut Frame<H, A>,
-    value: &Handle,
+    value: &Handle<A>,
 ) -> bool
     requires value_owned { Owns frame.old value.now }
     requires unlocked { IsUnlocked frame.old }
@@ -227,7 +226,7 @@ pub fn lists<R: Wait, H: Home<A>, A: Allocator + Copy>(
     rt: &R,
     alloc: A,
     frame: &mut Frame<H, A>,
-    value: &Handle,
+    value: &Handle<A>,
     n: u64,
 ) -> bool
     requires value_owned { Owns frame.old value.now }

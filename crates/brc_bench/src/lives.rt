@@ -1,22 +1,22 @@
 //! A thread's life: it wakes, has its objects, does what is timed, lets them go, and leaves.
 
 ghost use Rattle.std.specs.Prelude.{◌≡◌, IfSome, IfNone};
-ghost use Rattle.std.specs.List.{All};
-ghost use Rattle.brc_count.specs.Frames.{IsUnlocked, Owns};
-ghost use Rattle.brc_containers.specs.Handles.{Keeps, Gains};
-ghost use Rattle.brc_bench.specs.Handles.{OwnsAll};
+ghost use Rattle.brc_count.specs.Frames.{IsUnlocked};
+ghost use Rattle.brc_count.specs.Owned.{Keeps, Gains};
+ghost use Rattle.brc_handles.specs.Handles.{Holds};
 
 use crate::deaths::{a_chain, times_death};
 use crate::dicts::puts_and_finds;
 use crate::letters::{Post, mails};
 use crate::lists::{a_full_list, lists, pushes_and_pops};
-use crate::many::{makes, makes_dict, makes_list, releases, takes};
+use crate::many::{makes, makes_dict, makes_list, takes};
 use crate::operations::{integers, pairs, pairs_in_turn, polled_pairs, texts};
 use crate::request::Case;
 use crate::timing::{Span, this_moment};
 use brc_count::{Frame, Handle, Ledger};
 use brc_counter::Home;
-use brc_thread::{Heap, Leaving, Mutator, Resting, Retired};
+use brc_handles::Handles;
+use brc_thread::{Heap, Mutator, Resting};
 use std::alloc::{Allocator, Global};
 use std::io;
 use std::rt::Clock;
@@ -41,12 +41,12 @@ fn fills<R: Wait, H: Home<A>, A: Allocator + Copy>(
     rt: &R,
     alloc: A,
     frame: &mut Frame<H, A>,
-    handles: &mut Vec<Handle, A>,
+    handles: &mut Handles<A>,
     asked: Asked,
 ) -> bool
-    requires all { OwnsAll frame.old handles.old.items }
+    requires holds { Holds 0 frame.old handles.old }
     requires unlocked { IsUnlocked frame.old }
-    ensures all { OwnsAll frame.new handles.new.items }
+    ensures holds { Holds 0 frame.new handles.new }
     ensures heap { frame.new.heap ≡ frame.old.heap }
     ensures unlocked { IsUnlocked frame.new }
 {
@@ -71,27 +71,27 @@ fn counts<R: Wait, H: Home<A>, A: Allocator + Copy>(
     rt: &R,
     alloc: A,
     frame: &mut Frame<H, A>,
-    handles: &[Handle],
+    handles: &Handles<A>,
     post: &Post,
     case: Case,
     n: u64,
 ) -> bool
-    requires owned { All (Owns frame.old) handles.now }
+    requires holds { Holds 0 frame.old handles.now }
     requires unlocked { IsUnlocked frame.old }
     ensures keeps { Keeps frame.old frame.new }
     ensures unlocked { IsUnlocked frame.new }
 {
-    if handles.is_empty() {
+    let Some(first) = handles.get(0) else {
         post.give_up();
         return false;
-    }
+    };
     match case {
-        Case::PairOwn => pairs(frame, &handles[0], n),
-        Case::PairShared => polled_pairs(frame, &handles[0], n),
-        Case::NewList10 => lists(rt, alloc, frame, &handles[0], n),
-        Case::List | Case::ListShared => pushes_and_pops(rt, alloc, frame, &handles[0], n),
-        Case::Dict => puts_and_finds(rt, alloc, frame, &handles[0], n),
-        Case::Mail => mails(rt, alloc, frame, &handles[0], post, n),
+        Case::PairOwn => pairs(frame, first, n),
+        Case::PairShared => polled_pairs(frame, first, n),
+        Case::NewList10 => lists(rt, alloc, frame, first, n),
+        Case::List | Case::ListShared => pushes_and_pops(rt, alloc, frame, first, n),
+        Case::Dict => puts_and_finds(rt, alloc, frame, first, n),
+        Case::Mail => mails(rt, alloc, frame, first, post, n),
         _ => pairs_in_turn(frame, handles, n),
     }
 }
@@ -101,12 +101,12 @@ fn operates<R: Wait, H: Home<A>, A: Allocator + Copy>(
     rt: &R,
     alloc: A,
     frame: &mut Frame<H, A>,
-    handles: &[Handle],
+    handles: &Handles<A>,
     post: &Post,
     case: Case,
     n: u64,
 ) -> bool
-    requires owned { All (Owns frame.old) handles.now }
+    requires holds { Holds 0 frame.old handles.now }
     requires unlocked { IsUnlocked frame.old }
     ensures keeps { Keeps frame.old frame.new }
     ensures unlocked { IsUnlocked frame.new }
@@ -124,7 +124,7 @@ fn has_to_die<R: Wait, H: Home<A>, A: Allocator + Copy>(
     alloc: A,
     frame: &mut Frame<H, A>,
     asked: Asked,
-) -> Option<Handle>
+) -> Option<Handle<A>>
     requires unlocked { IsUnlocked frame.old }
     ensures gains { IfSome result (Gains frame.old frame.new) }
     ensures keeps { IfNone result (Keeps frame.old frame.new) }
@@ -144,7 +144,7 @@ fn measures_death<R: Wait + Clock + CpuClock, H: Home<A>, A: Allocator + Copy>(
     asked: Asked,
 ) -> io::Result<Span>
     requires unlocked { IsUnlocked frame.old }
-    ensures heap { frame.new.heap ≡ frame.old.heap }
+    ensures keeps { Keeps frame.old frame.new }
     ensures unlocked { IsUnlocked frame.new }
 {
     match has_to_die(rt, alloc, frame, asked) {
@@ -161,25 +161,19 @@ fn measures<R: Wait + Clock + CpuClock, H: Home<A>, A: Allocator + Copy>(
     post: &Post,
     asked: Asked,
 ) -> io::Result<Span>
+    requires bare { frame.old.len ≡ 0 }
     requires unlocked { IsUnlocked frame.old }
     ensures heap { frame.new.heap ≡ frame.old.heap }
+    ensures bare { frame.new.len ≡ 0 }
     ensures unlocked { IsUnlocked frame.new }
 {
-    let mut handles = Vec::new(alloc);
+    let mut handles = Handles::new(alloc);
     let filled = fills(rt, alloc, frame, &mut handles, asked);
     post.begin_together(rt, asked.threads);
     let began = this_moment(rt);
-    let whole = operates(
-        rt,
-        alloc,
-        frame,
-        handles.as_slice(),
-        post,
-        asked.case,
-        asked.n,
-    );
+    let whole = operates(rt, alloc, frame, &handles, post, asked.case, asked.n);
     let ended = this_moment(rt);
-    releases(frame, handles);
+    handles.release_all(frame);
     if !filled || !whole {
         return Err(refused());
     }
@@ -189,47 +183,15 @@ fn measures<R: Wait + Clock + CpuClock, H: Home<A>, A: Allocator + Copy>(
     })
 }
 
-/// The mutator at rest, once it holds nothing and has nothing to take apart.
+/// The mutator at rest, once it has nothing to take apart.
 pub fn rests<H: Home<A> + Drop, A: Allocator>(rt: &impl Wait, mutator: Mutator<H, A>) -> Resting<A>
+    requires bare { mutator.len ≡ 0 }
     requires unlocked { IsUnlocked mutator }
     ensures heap { result.heap ≡ mutator.heap }
 {
     let mut mutator = mutator;
-    for _ in rt.forever() {
-        if mutator.is_idle() {
-            return mutator.rest();
-        }
-        mutator.settle(rt);
-    }
-    unreachable!()
-}
-
-/// The mutator leaves, once it holds nothing and has nothing to take apart.
-fn leaves<H: Home<A>, A: Allocator>(rt: &impl Wait, mutator: Mutator<H, A>) -> Leaving<H, A>
-    requires unlocked { IsUnlocked mutator }
-{
-    let mut mutator = mutator;
-    for _ in rt.forever() {
-        mutator.settle(rt);
-        match mutator.leave() {
-            Ok(leaving) => return leaving,
-            Err(same) => mutator = same,
-        }
-    }
-    unreachable!()
-}
-
-/// A thread that has left is done, once it has dealt with what was in its queue and has nothing to take apart.
-fn ends<H: Home<A> + Drop, A: Allocator>(rt: &impl Wait, leaving: Leaving<H, A>) -> Retired<A> {
-    let mut leaving = leaving;
-    for _ in rt.forever() {
-        let _left = leaving.work(64);
-        match leaving.finish() {
-            Ok(retired) => return retired,
-            Err(same) => leaving = same,
-        }
-    }
-    unreachable!()
+    mutator.settle(rt);
+    mutator.rest()
 }
 
 /// What some threads are to do, all the same.
@@ -273,7 +235,7 @@ pub fn lives<R: Wait + Clock + CpuClock>(
             Err(error) => Err(error),
         }
     };
-    let retired = ends(rt, leaves(rt, mutator));
+    let retired = mutator.retire(rt);
     Done {
         span,
         ledger: retired.ledger(),

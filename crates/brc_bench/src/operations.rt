@@ -1,19 +1,19 @@
 //! The operations that are timed.
 
-ghost use Rattle.std.specs.Prelude.{◌≡◌, ◌<◌, ◌≤◌, length};
-ghost use Rattle.std.specs.List.{All};
 ghost use Rattle.brc_count.specs.Frames.{IsUnlocked, Owns};
-ghost use Rattle.brc_containers.specs.Handles.{Keeps};
+ghost use Rattle.brc_count.specs.Owned.{Keeps};
+ghost use Rattle.brc_handles.specs.Handles.{Holds};
 
 use crate::handles::{a_text, an_integer, another, poll, release, work};
 use brc_count::{Frame, Handle};
 use brc_counter::Home;
+use brc_handles::Handles;
 use brc_words::Text;
 use std::alloc::Allocator;
 
 /// One reference more to the handle's object, and one less; false where there is no place for it.
 #[inline(always)]
-fn pair<H: Home<A>, A: Allocator>(frame: &mut Frame<H, A>, handle: &Handle) -> bool
+fn pair<H: Home<A>, A: Allocator>(frame: &mut Frame<H, A>, handle: &Handle<A>) -> bool
     requires owned { Owns frame.old handle.now }
     requires unlocked { IsUnlocked frame.old }
     ensures keeps { Keeps frame.old frame.new }
@@ -29,7 +29,7 @@ fn pair<H: Home<A>, A: Allocator>(frame: &mut Frame<H, A>, handle: &Handle) -> b
 }
 
 /// So many pairs on one object.
-pub fn pairs<H: Home<A>, A: Allocator>(frame: &mut Frame<H, A>, handle: &Handle, n: u64) -> bool
+pub fn pairs<H: Home<A>, A: Allocator>(frame: &mut Frame<H, A>, handle: &Handle<A>, n: u64) -> bool
     requires owned { Owns frame.old handle.now }
     requires unlocked { IsUnlocked frame.old }
     ensures keeps { Keeps frame.old frame.new }
@@ -46,7 +46,7 @@ pub fn pairs<H: Home<A>, A: Allocator>(frame: &mut Frame<H, A>, handle: &Handle,
 /// The same, with a poll at each 256th.
 pub fn polled_pairs<H: Home<A>, A: Allocator>(
     frame: &mut Frame<H, A>,
-    handle: &Handle,
+    handle: &Handle<A>,
     n: u64,
 ) -> bool
     requires owned { Owns frame.old handle.now }
@@ -69,36 +69,42 @@ pub fn polled_pairs<H: Home<A>, A: Allocator>(
 #[inline(always)]
 fn pairs_of_first<H: Home<A>, A: Allocator>(
     frame: &mut Frame<H, A>,
-    handles: &[Handle],
+    handles: &Handles<A>,
     count: usize,
 ) -> bool
-    requires inside { count ≤ length handles.now }
-    requires owned { All (Owns frame.old) handles.now }
+    requires holds { Holds 0 frame.old handles.now }
     requires unlocked { IsUnlocked frame.old }
     ensures keeps { Keeps frame.old frame.new }
     ensures unlocked { IsUnlocked frame.new }
 {
     for i in 0..count {
-        if !pair(frame, &handles[i]) {
-            return false;
+        match handles.get(i) {
+            Some(handle) => {
+                if !pair(frame, handle) {
+                    return false;
+                }
+            }
+            None => return false,
         }
     }
     true
 }
 
-/// So many pairs on these objects in turn.
+/// So many pairs on these objects in turn; false where there is none.
 pub fn pairs_in_turn<H: Home<A>, A: Allocator>(
     frame: &mut Frame<H, A>,
-    handles: &[Handle],
+    handles: &Handles<A>,
     n: u64,
 ) -> bool
-    requires some { 0 < length handles.now }
-    requires owned { All (Owns frame.old) handles.now }
+    requires holds { Holds 0 frame.old handles.now }
     requires unlocked { IsUnlocked frame.old }
     ensures keeps { Keeps frame.old frame.new }
     ensures unlocked { IsUnlocked frame.new }
 {
     let count = handles.len();
+    if count == 0 {
+        return false;
+    }
     for _ in 0..n / count as u64 {
         if !pairs_of_first(frame, handles, count) {
             return false;

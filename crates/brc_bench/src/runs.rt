@@ -3,7 +3,7 @@
 ghost use Rattle.std.specs.Prelude.{◌≡◌, IfOk, IfSome, IfNone};
 ghost use Rattle.std.specs.List.{All};
 ghost use Rattle.brc_count.specs.Frames.{IsUnlocked, Owns};
-ghost use Rattle.brc_containers.specs.Handles.{Keeps, Gains};
+ghost use Rattle.brc_count.specs.Owned.{Keeps, Gains};
 
 use crate::globals::put_into_globals;
 use crate::handles::{a_list, a_mailbox, an_integer, another, release};
@@ -13,8 +13,7 @@ use crate::request::Case;
 use crate::timing::{Times, times_of};
 use brc_count::{Frame, Handle};
 use brc_counter::Home;
-use brc_table::Rest;
-use brc_thread::{Heap, Options, Resting, Root, take_apart};
+use brc_thread::{Heap, Options, Resting, Root, give_back, take_apart};
 use std::alloc::{AllocError, Allocator, Global};
 use std::rt::Clock;
 use std::sync::Wait;
@@ -48,7 +47,7 @@ fn gives_integers<R: Wait, H: Home<A>, A: Allocator + Copy>(
     count: u32,
 ) -> bool
     requires unlocked { IsUnlocked frame.old }
-    ensures heap { frame.new.heap ≡ frame.old.heap }
+    ensures keeps { Keeps frame.old frame.new }
     ensures unlocked { IsUnlocked frame.new }
 {
     let first = first_key(frame.thread()) as i64;
@@ -67,7 +66,7 @@ fn gives_integers<R: Wait, H: Home<A>, A: Allocator + Copy>(
 fn shares<R: Wait, H: Home<A>, A: Allocator>(
     rt: &R,
     frame: &mut Frame<H, A>,
-    handle: &Handle,
+    handle: &Handle<A>,
     key: i64,
 ) -> bool
     requires owned { Owns frame.old handle.now }
@@ -85,7 +84,7 @@ fn shares<R: Wait, H: Home<A>, A: Allocator>(
 fn shares_often<R: Wait, H: Home<A>, A: Allocator>(
     rt: &R,
     frame: &mut Frame<H, A>,
-    handle: &Handle,
+    handle: &Handle<A>,
     count: u32,
 ) -> bool
     requires owned { Owns frame.old handle.now }
@@ -106,7 +105,7 @@ fn to_share<H: Home<A>, A: Allocator + Copy>(
     alloc: A,
     frame: &mut Frame<H, A>,
     shared: Shared,
-) -> Option<Handle>
+) -> Option<Handle<A>>
     requires unlocked { IsUnlocked frame.old }
     ensures gains { IfSome result (Gains frame.old frame.new) }
     ensures keeps { IfNone result (Keeps frame.old frame.new) }
@@ -128,7 +127,7 @@ fn gives_references<R: Wait, H: Home<A>, A: Allocator + Copy>(
     count: u32,
 ) -> bool
     requires unlocked { IsUnlocked frame.old }
-    ensures heap { frame.new.heap ≡ frame.old.heap }
+    ensures keeps { Keeps frame.old frame.new }
     ensures unlocked { IsUnlocked frame.new }
 {
     let Some(handle) = to_share(alloc, frame, shared) else {
@@ -147,7 +146,7 @@ fn gives<R: Wait, H: Home<A>, A: Allocator + Copy>(
     gift: Gift,
 ) -> bool
     requires unlocked { IsUnlocked frame.old }
-    ensures heap { frame.new.heap ≡ frame.old.heap }
+    ensures keeps { Keeps frame.old frame.new }
     ensures unlocked { IsUnlocked frame.new }
 {
     match gift {
@@ -299,21 +298,6 @@ fn answer_on<R: Threads + Wait + Clock + CpuClock + Sync>(
     answer_of(alloc, all)
 }
 
-/// Gives all blocks back.
-fn give_back(rt: &impl Wait, rest: Rest<Global>) {
-    let mut rest = rest;
-    for _ in rt.forever() {
-        match rest.next() {
-            None => return,
-            Some((block, left)) => {
-                let _payload = block.into_payload();
-                rest = left;
-            }
-        }
-    }
-    unreachable!()
-}
-
 /// How many threads a case has.
 fn threads_of(case: Case, threads: u32) -> u32 {
     match case {
@@ -346,7 +330,7 @@ pub fn run_case<R: Threads + Wait + Clock + CpuClock + Sync>(
         Ok((heap, root)) => {
             let mut root = root;
             let answer = answer_on(rt, alloc, &heap, &mut root, asked);
-            give_back(rt, take_apart(heap, root));
+            give_back(take_apart(heap, root));
             answer
         }
     }

@@ -1,11 +1,11 @@
 //! A long chain of lists, and its death; and a list of many lists.
 
 ghost use Rattle.brc_count.specs.Frames.{IsUnlocked, Owns};
-ghost use Rattle.brc_containers.specs.Handles.{GoesOn};
+ghost use Rattle.brc_count.specs.Owned.{GoesOn};
 
 use crate::ends::ends;
 use crate::globals::put_into_list;
-use crate::phases::{entered, leaves, opened_with, release, says};
+use crate::phases::{entered, leaves, opened_with, says};
 use crate::things::an_empty_list;
 use brc_count::{Frame, Handle};
 use brc_counter::Home;
@@ -17,8 +17,8 @@ fn a_list_around<H: Home<A>, A: Allocator + Copy>(
     rt: &impl Abort,
     alloc: A,
     frame: &mut Frame<H, A>,
-    older: Handle,
-) -> Handle
+    older: Handle<A>,
+) -> Handle<A>
     requires owned { Owns frame.old older }
     requires unlocked { IsUnlocked frame.old }
     ensures owned { Owns frame.new result }
@@ -35,7 +35,7 @@ fn a_chain<H: Home<A>, A: Allocator + Copy>(
     alloc: A,
     frame: &mut Frame<H, A>,
     more: usize,
-) -> Handle
+) -> Handle<A>
     requires unlocked { IsUnlocked frame.old }
     ensures owned { Owns frame.new result }
     ensures goes_on { GoesOn frame.old frame.new }
@@ -52,7 +52,7 @@ fn add_a_list<H: Home<A>, A: Allocator + Copy>(
     rt: &impl Abort,
     alloc: A,
     frame: &mut Frame<H, A>,
-    list: &Handle,
+    list: &Handle<A>,
 )
     requires owned { Owns frame.old list.now }
     requires unlocked { IsUnlocked frame.old }
@@ -69,7 +69,7 @@ pub(crate) fn a_list_of_lists<H: Home<A>, A: Allocator + Copy>(
     alloc: A,
     frame: &mut Frame<H, A>,
     entries: usize,
-) -> Handle
+) -> Handle<A>
     requires unlocked { IsUnlocked frame.old }
     ensures owned { Owns frame.new result }
     ensures goes_on { GoesOn frame.old frame.new }
@@ -99,7 +99,7 @@ fn a_long_chain_dies_a_turn_at_a_time(rt: HostRuntime) {
     let mut frame = entered(&rt, rt.alloc(), &table, &mut root);
     // Each search for a free cell begins at the lowest one, so this makes some 1.8 billion looks.
     let last = a_chain(&rt, rt.alloc(), &mut frame, 59_999);
-    release(&mut frame, last);
+    frame.release(last);
     // Each list but the first has an entry to be released, and each gives its cell back.
     takes_turns(&rt, &mut frame, 119_999);
     says(&rt, frame.ledger(), 60_000, 60_000);

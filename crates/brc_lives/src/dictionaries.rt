@@ -1,10 +1,10 @@
 //! Values beside keys: put, replaced, found and taken out again, under the lock of their dictionary.
 
-ghost use Rattle.brc_count.specs.Frames.{IsUnlocked};
-ghost use Rattle.brc_containers.specs.Handles.{GoesOn};
+ghost use Rattle.std.specs.Prelude.{IfOk, OnErr};
+ghost use Rattle.brc_count.specs.Frames.{IsUnlocked, Owns};
+ghost use Rattle.brc_count.specs.Owned.{Keeps, Gains, Loses};
 
 use crate::ends::ends;
-use crate::holds::give_back;
 use crate::phases::{entered, leaves, opened};
 use crate::things::{a_dict, an_int};
 use brc_containers::{try_int_of, try_len_of};
@@ -24,52 +24,85 @@ fn text_key<A: Allocator>(rt: &impl Abort, alloc: A, text: &str) -> Key<A> {
     }
 }
 
+/// A call that answers the value beside a key: it stays, or its pair goes.
+#[derive(Clone, Copy)]
+enum Seeking {
+    Find,
+    TryFind,
+    Del,
+    TryDel,
+}
+
+/// What the call answers.
+fn sought<R: Abort + Wait, H: Home<A>, A: Allocator>(
+    rt: &R,
+    frame: &mut Frame<H, A>,
+    dict: &Handle<A>,
+    key: &Key<A>,
+    seeking: Seeking,
+) -> Result<Handle<A>, Fault>
+    requires owned { Owns frame.old dict.now }
+    requires unlocked { IsUnlocked frame.old }
+    ensures gains { IfOk result (Gains frame.old frame.new) }
+    ensures keeps { OnErr result (Keeps frame.old frame.new) }
+    ensures unlocked { IsUnlocked frame.new }
+{
+    match seeking {
+        Seeking::Find => dict_find(rt, frame, dict, key),
+        Seeking::TryFind => try_dict_find(frame, dict, key),
+        Seeking::Del => dict_del(rt, frame, dict, key),
+        Seeking::TryDel => try_dict_del(frame, dict, key),
+    }
+}
+
 /// The number of an integer whose handle goes.
 fn number_of<H: Home<A>, A: Allocator>(
-    rt: &impl Abort,
     frame: &mut Frame<H, A>,
-    handle: Handle,
+    handle: Handle<A>,
 ) -> Result<i64, Fault>
+    requires owned { Owns frame.old handle }
     requires unlocked { IsUnlocked frame.old }
-    ensures { GoesOn frame.old frame.new }
+    ensures loses { Loses frame.old frame.new handle }
+    ensures unlocked { IsUnlocked frame.new }
 {
-    assert!(rt; frame.owns(&handle));
     let number = try_int_of(frame, &handle);
-    give_back(rt, frame, handle);
+    frame.release(handle);
     number
 }
 
-/// The number of the handle that a call answered, or its refusal.
-fn number_in<H: Home<A>, A: Allocator>(
-    rt: &impl Abort,
+/// The number of the integer that the call answers, or its refusal.
+fn number_sought<R: Abort + Wait, H: Home<A>, A: Allocator>(
+    rt: &R,
     frame: &mut Frame<H, A>,
-    answer: Result<Handle, Fault>,
+    dict: &Handle<A>,
+    key: &Key<A>,
+    seeking: Seeking,
 ) -> Result<i64, Fault>
+    requires owned { Owns frame.old dict.now }
     requires unlocked { IsUnlocked frame.old }
-    ensures { GoesOn frame.old frame.new }
+    ensures keeps { Keeps frame.old frame.new }
+    ensures unlocked { IsUnlocked frame.new }
 {
-    match answer {
-        Ok(handle) => number_of(rt, frame, handle),
+    match sought(rt, frame, dict, key, seeking) {
+        Ok(handle) => number_of(frame, handle),
         Err(fault) => Err(fault),
     }
 }
 
-/// The number of the old value, if there was one; a refusal ends the test.
+/// The number of an old value, whose handle goes.
 fn old_number<H: Home<A>, A: Allocator>(
     rt: &impl Abort,
     frame: &mut Frame<H, A>,
-    answer: Result<Option<Handle>, (Fault, (Key<A>, Handle))>,
-) -> Option<i64>
+    old: Handle<A>,
+) -> i64
+    requires owned { Owns frame.old old }
     requires unlocked { IsUnlocked frame.old }
-    ensures { GoesOn frame.old frame.new }
+    ensures loses { Loses frame.old frame.new old }
+    ensures unlocked { IsUnlocked frame.new }
 {
-    match answer {
-        Ok(None) => None,
-        Ok(Some(handle)) => match number_of(rt, frame, handle) {
-            Ok(number) => Some(number),
-            Err(_fault) => panic!(rt; "no integer stood there"),
-        },
-        Err(_refused) => panic!(rt; "the put is refused"),
+    match number_of(frame, old) {
+        Ok(number) => number,
+        Err(_fault) => panic!(rt; "no integer stood there"),
     }
 }
 
@@ -78,17 +111,21 @@ fn puts<H: Home<A>, A: Allocator + Copy>(
     rt: &impl Abort,
     alloc: A,
     frame: &mut Frame<H, A>,
-    dict: &Handle,
+    dict: &Handle<A>,
     key: Key<A>,
     number: i64,
 ) -> Option<i64>
+    requires owned { Owns frame.old dict.now }
     requires unlocked { IsUnlocked frame.old }
-    ensures { GoesOn frame.old frame.new }
+    ensures keeps { Keeps frame.old frame.new }
+    ensures unlocked { IsUnlocked frame.new }
 {
-    assert!(rt; frame.owns(dict));
     let value = an_int(rt, alloc, frame, number);
-    let answer = try_dict_put(frame, dict, key, value);
-    old_number(rt, frame, answer)
+    match try_dict_put(frame, dict, key, value) {
+        Ok(None) => None,
+        Ok(Some(old)) => Some(old_number(rt, frame, old)),
+        Err(_handed) => panic!(rt; "the put is refused"),
+    }
 }
 
 /// The same, by the form that waits.
@@ -96,68 +133,69 @@ fn puts_late<R: Abort + Wait, H: Home<A>, A: Allocator + Copy>(
     rt: &R,
     alloc: A,
     frame: &mut Frame<H, A>,
-    dict: &Handle,
+    dict: &Handle<A>,
     key: Key<A>,
     number: i64,
 ) -> Option<i64>
+    requires owned { Owns frame.old dict.now }
     requires unlocked { IsUnlocked frame.old }
-    ensures { GoesOn frame.old frame.new }
+    ensures keeps { Keeps frame.old frame.new }
+    ensures unlocked { IsUnlocked frame.new }
 {
-    assert!(rt; frame.owns(dict));
     let value = an_int(rt, alloc, frame, number);
-    let answer = dict_put(rt, frame, dict, key, value);
-    old_number(rt, frame, answer)
+    match dict_put(rt, frame, dict, key, value) {
+        Ok(None) => None,
+        Ok(Some(old)) => Some(old_number(rt, frame, old)),
+        Err(_handed) => panic!(rt; "the put is refused"),
+    }
 }
 
 /// The integer beside the key, in both forms.
 fn finds<R: Abort + Wait, H: Home<A>, A: Allocator>(
     rt: &R,
     frame: &mut Frame<H, A>,
-    dict: &Handle,
+    dict: &Handle<A>,
     key: &Key<A>,
     number: Result<i64, Fault>,
 )
+    requires owned { Owns frame.old dict.now }
     requires unlocked { IsUnlocked frame.old }
-    ensures { GoesOn frame.old frame.new }
+    ensures keeps { Keeps frame.old frame.new }
+    ensures unlocked { IsUnlocked frame.new }
 {
-    assert!(rt; frame.owns(dict));
-    let answer = try_dict_find(frame, dict, key);
-    assert!(rt; number_in(rt, frame, answer) == number);
-    assert!(rt; frame.owns(dict));
-    let late = dict_find(rt, frame, dict, key);
-    assert!(rt; number_in(rt, frame, late) == number);
+    assert!(rt; number_sought(rt, frame, dict, key, Seeking::TryFind) == number);
+    assert!(rt; number_sought(rt, frame, dict, key, Seeking::Find) == number);
 }
 
 /// The integer beside the key, whose pair goes; then the key is there no more.
 fn takes<R: Abort + Wait, H: Home<A>, A: Allocator>(
     rt: &R,
     frame: &mut Frame<H, A>,
-    dict: &Handle,
+    dict: &Handle<A>,
     key: &Key<A>,
     number: i64,
 )
+    requires owned { Owns frame.old dict.now }
     requires unlocked { IsUnlocked frame.old }
-    ensures { GoesOn frame.old frame.new }
+    ensures keeps { Keeps frame.old frame.new }
+    ensures unlocked { IsUnlocked frame.new }
 {
-    assert!(rt; frame.owns(dict));
-    let answer = try_dict_del(frame, dict, key);
-    assert!(rt; number_in(rt, frame, answer) == Ok(number));
-    assert!(rt; frame.owns(dict));
-    let late = dict_del(rt, frame, dict, key);
-    assert!(rt; number_in(rt, frame, late) == Err(Fault::NoSuchKey));
+    assert!(rt; number_sought(rt, frame, dict, key, Seeking::TryDel) == Ok(number));
+    assert!(rt; number_sought(rt, frame, dict, key, Seeking::Del) == Err(Fault::NoSuchKey));
 }
 
 /// So many pairs.
 fn len_is<H: Home<A>, A: Allocator>(
     rt: &impl Abort,
     frame: &mut Frame<H, A>,
-    dict: &Handle,
+    dict: &Handle<A>,
     len: usize,
 )
+    requires owned { Owns frame.old dict.now }
     requires unlocked { IsUnlocked frame.old }
-    ensures { GoesOn frame.old frame.new }
+    ensures keeps { Keeps frame.old frame.new }
+    ensures unlocked { IsUnlocked frame.new }
 {
-    assert!(rt; frame.owns(dict));
     assert!(rt; try_len_of(frame, dict) == Ok(len));
 }
 
@@ -186,7 +224,7 @@ fn values_stand_beside_their_keys(rt: HostRuntime) {
     finds(&rt, &mut frame, &dict, &Key::Int(-7), Ok(1002));
     takes(&rt, &mut frame, &dict, &side, 1004);
     len_is(&rt, &mut frame, &dict, 1);
-    give_back(&rt, &mut frame, dict);
+    frame.release(dict);
     // Four integers went with their handles; the dictionary goes with its last pair's.
     assert!(rt; frame.work(9) == 2);
     leaves(&rt, &table, &mut root, frame);
@@ -206,7 +244,7 @@ fn an_integer_is_no_dictionary(rt: HostRuntime) {
         &Key::Int(7),
         Err(Fault::WrongKind),
     );
-    give_back(&rt, &mut frame, number);
+    frame.release(number);
     assert!(rt; frame.work(9) == 8);
     leaves(&rt, &table, &mut root, frame);
     ends(&rt, table, root);

@@ -1,13 +1,14 @@
 //! A heap without a free cell, and a frame without a free place.
 
+ghost use Rattle.std.specs.Prelude.{◌≡◌, ◌<◌, All, length};
 ghost use Rattle.brc_count.specs.Frames.{IsUnlocked};
-ghost use Rattle.brc_containers.specs.Handles.{GoesOn};
+ghost use Rattle.brc_count.specs.Owned.{GoesOn};
 
 use crate::ends::ends;
-use crate::holds::{give_all_back, give_back, keep, pick, retained};
+use crate::holds::{give_all_back, keep};
 use crate::phases::{entered, leaves, opened, says};
 use crate::things::{a_none, an_empty_list};
-use brc_count::{Frame, Handle};
+use brc_count::{Frame, Handed, Handle};
 use brc_counter::Home;
 use brc_things::{new_int, new_list, new_text, none};
 use brc_words::{Fault, Text};
@@ -20,9 +21,10 @@ fn lists<H: Home<A>, A: Allocator + Copy>(
     alloc: A,
     frame: &mut Frame<H, A>,
     count: usize,
-) -> Vec<Handle, A>
+) -> Vec<Handle<A>, A>
     requires unlocked { IsUnlocked frame.old }
-    ensures { GoesOn frame.old frame.new }
+    ensures at_heap { All (λ h. h.heap ≡ frame.old.heap) result.items }
+    ensures goes_on { GoesOn frame.old frame.new }
 {
     let mut handles = Vec::new(alloc);
     for _ in 0..count {
@@ -38,9 +40,10 @@ fn nones<H: Home<A>, A: Allocator>(
     alloc: A,
     frame: &mut Frame<H, A>,
     count: usize,
-) -> Vec<Handle, A>
+) -> Vec<Handle<A>, A>
     requires unlocked { IsUnlocked frame.old }
-    ensures { GoesOn frame.old frame.new }
+    ensures at_heap { All (λ h. h.heap ≡ frame.old.heap) result.items }
+    ensures goes_on { GoesOn frame.old frame.new }
 {
     let mut handles = Vec::new(alloc);
     for _ in 0..count {
@@ -51,7 +54,7 @@ fn nones<H: Home<A>, A: Allocator>(
 }
 
 /// The answer is this fault.
-fn is_refused(rt: &impl Abort, answer: Result<Handle, Fault>, fault: Fault) {
+fn is_refused<A: Allocator>(rt: &impl Abort, answer: Result<Handle<A>, Fault>, fault: Fault) {
     match answer {
         Ok(_handle) => panic!(rt; "it isn't refused"),
         Err(found) => assert_eq!(rt; found, fault),
@@ -86,7 +89,12 @@ fn no_text<H: Home<A>, A: Allocator + Copy>(
     };
     match new_text(alloc, frame, Text::new(text)) {
         Ok(_handle) => panic!(rt; "it isn't refused"),
-        Err((found, text)) => {
+        Err(
+            Handed {
+                fault: found,
+                back: text,
+            },
+        ) => {
             assert_eq!(rt; found, fault);
             assert_eq!(rt; text.as_str(), "a text");
         }
@@ -111,16 +119,18 @@ fn no_int<H: Home<A>, A: Allocator>(
 fn no_handle<H: Home<A>, A: Allocator>(
     rt: &impl Abort,
     frame: &mut Frame<H, A>,
-    handles: &[Handle],
+    handles: &[Handle<A>],
     fault: Fault,
 )
+    requires at_heap { All (λ h. h.heap ≡ frame.old.heap) handles.now }
     requires unlocked { IsUnlocked frame.old }
     ensures { GoesOn frame.old frame.new }
 {
     let Some(first) = handles.first() else {
         panic!(rt; "no handle is kept")
     };
-    is_refused(rt, retained(rt, frame, first), fault);
+    assert!(rt; frame.owns(first));
+    is_refused(rt, frame.retain(first), fault);
     is_refused(rt, none(frame), fault);
 }
 
@@ -129,15 +139,20 @@ fn gives_cell_back<H: Home<A>, A: Allocator + Copy>(
     rt: &impl Abort,
     alloc: A,
     frame: &mut Frame<H, A>,
-    handles: &mut Vec<Handle, A>,
+    handles: &mut Vec<Handle<A>, A>,
 )
+    requires at_heap { All (λ h. h.heap ≡ frame.old.heap) handles.old.items }
     requires unlocked { IsUnlocked frame.old }
-    ensures { GoesOn frame.old frame.new }
+    ensures at_heap { All (λ h. h.heap ≡ frame.old.heap) handles.new.items }
+    ensures goes_on { GoesOn frame.old frame.new }
 {
-    let gone = pick(rt, handles, 34);
+    if handles.len() <= 34 {
+        panic!(rt; "so many handles aren't kept");
+    }
+    let gone = handles.swap_remove(34);
     assert!(rt; frame.owns(&gone));
     assert_eq!(rt; frame.cell(&gone), 300);
-    give_back(rt, frame, gone);
+    frame.release(gone);
     assert_eq!(rt; frame.work(2), 1);
     let list = an_empty_list(rt, alloc, frame);
     assert_eq!(rt; frame.cell(&list), 300);

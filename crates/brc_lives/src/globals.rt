@@ -1,11 +1,10 @@
 //! References that pass through the globals, the dictionary of cell 265, or into a list of the same frame.
 
-ghost use Rattle.std.specs.Prelude.{◌≡◌, ◌≢◌, ◌<◌, IfSome};
-ghost use Rattle.brc_words.specs.declared.limits.TheConstants.{GLOBALS};
+ghost use Rattle.std.specs.Prelude.{◌≢◌, IfSome, IfNone};
 ghost use Rattle.brc_count.specs.Frames.{IsUnlocked, Owns};
-ghost use Rattle.brc_containers.specs.Handles.{Gains, Loses};
+ghost use Rattle.brc_count.specs.Owned.{Keeps, Gains, Loses};
 
-use crate::phases::{an_immortal, release};
+use crate::phases::an_immortal;
 use brc_count::{Frame, Handle};
 use brc_counter::Home;
 use brc_dicts::{dict_del, dict_put};
@@ -19,9 +18,9 @@ use std::sync::Wait;
 fn put_beside<R: Abort + Wait, H: Home<A>, A: Allocator>(
     rt: &R,
     frame: &mut Frame<H, A>,
-    dict: &Handle,
+    dict: &Handle<A>,
     key: i64,
-    value: Handle,
+    value: Handle<A>,
 )
     requires dict { Owns frame.old dict.now }
     requires value { Owns frame.old value }
@@ -33,7 +32,7 @@ fn put_beside<R: Abort + Wait, H: Home<A>, A: Allocator>(
     match dict_put(rt, frame, dict, Key::Int(key), value) {
         Ok(None) => {}
         Ok(Some(_old)) => panic!(rt; "the key is there"),
-        Err((_, (_key, _value))) => panic!(rt; "the globals have no room"),
+        Err(_handed) => panic!(rt; "the globals have no room"),
     }
 }
 
@@ -41,10 +40,9 @@ fn put_beside<R: Abort + Wait, H: Home<A>, A: Allocator>(
 pub(crate) fn put_into_globals<R: Abort + Wait, H: Home<A>, A: Allocator>(
     rt: &R,
     frame: &mut Frame<H, A>,
-    handle: Handle,
+    handle: Handle<A>,
     key: i64,
 )
-    requires inside { GLOBALS < frame.old.heap.cells }
     requires owned { Owns frame.old handle }
     requires unlocked { IsUnlocked frame.old }
     ensures unlocked { IsUnlocked frame.new }
@@ -52,7 +50,7 @@ pub(crate) fn put_into_globals<R: Abort + Wait, H: Home<A>, A: Allocator>(
 {
     let globals = an_immortal(rt, frame, GLOBALS);
     put_beside(rt, frame, &globals, key, handle);
-    release(frame, globals);
+    frame.release(globals);
 }
 
 /// The reference that stands in the globals beside this key, taken out of them; None where none does.
@@ -60,21 +58,20 @@ pub(crate) fn take_if_any<R: Abort + Wait, H: Home<A>, A: Allocator>(
     rt: &R,
     frame: &mut Frame<H, A>,
     key: i64,
-) -> Option<Handle>
-    requires inside { GLOBALS < frame.old.heap.cells }
+) -> Option<Handle<A>>
     requires unlocked { IsUnlocked frame.old }
-    ensures taken { IfSome result (Gains frame.old frame.new) }
-    ensures heap { frame.new.heap ≡ frame.old.heap }
     ensures unlocked { IsUnlocked frame.new }
+    ensures gains { IfSome result (Gains frame.old frame.new) }
+    ensures keeps { IfNone result (Keeps frame.old frame.new) }
 {
     let globals = an_immortal(rt, frame, GLOBALS);
     match dict_del(rt, frame, &globals, &Key::Int(key)) {
         Err(_) => {
-            release(frame, globals);
+            frame.release(globals);
             None
         }
         Ok(handle) => {
-            release(frame, globals);
+            frame.release(globals);
             Some(handle)
         }
     }
@@ -85,8 +82,7 @@ pub(crate) fn take_from_globals<R: Abort + Wait, H: Home<A>, A: Allocator>(
     rt: &R,
     frame: &mut Frame<H, A>,
     key: i64,
-) -> Handle
-    requires inside { GLOBALS < frame.old.heap.cells }
+) -> Handle<A>
     requires unlocked { IsUnlocked frame.old }
     ensures unlocked { IsUnlocked frame.new }
     ensures gains { Gains frame.old frame.new result }
@@ -101,8 +97,8 @@ pub(crate) fn take_from_globals<R: Abort + Wait, H: Home<A>, A: Allocator>(
 pub(crate) fn put_into_list<H: Home<A>, A: Allocator>(
     rt: &impl Abort,
     frame: &mut Frame<H, A>,
-    list: &Handle,
-    entry: Handle,
+    list: &Handle<A>,
+    entry: Handle<A>,
 )
     requires list { Owns frame.old list.now }
     requires entry { Owns frame.old entry }
@@ -113,6 +109,6 @@ pub(crate) fn put_into_list<H: Home<A>, A: Allocator>(
 {
     match try_list_push(frame, list, entry) {
         Ok(()) => {}
-        Err((_, _entry)) => panic!(rt; "the list is locked, or has no room"),
+        Err(_handed) => panic!(rt; "the list is locked, or has no room"),
     }
 }

@@ -1,72 +1,50 @@
-//! Many handles of one frame, kept in a vector. What the vector has isn't known to the proofs, so a handle that comes out of it
-//! is looked at before it is used.
+//! Many handles of one frame, kept in a vector. Of what the vector has, proofs know the heap alone, so whether the frame owns a
+//! handle that comes out of it is looked at.
 
+ghost use Rattle.std.specs.Prelude.{◌≡◌, ◌++◌, ◌∷◌, [], ◌<◌, All, length};
 ghost use Rattle.brc_count.specs.Frames.{IsUnlocked};
-ghost use Rattle.brc_containers.specs.Handles.{GoesOn};
+ghost use Rattle.brc_count.specs.Owned.{GoesOn};
 
-use crate::phases::release;
 use brc_count::{Frame, Handle};
 use brc_counter::Home;
-use brc_words::Fault;
 use std::alloc::Allocator;
 use std::process::Abort;
 
 /// The handle is kept besides.
-pub(crate) fn keep<A: Allocator>(rt: &impl Abort, handles: &mut Vec<Handle, A>, handle: Handle) {
+pub(crate) fn keep<A: Allocator>(
+    rt: &impl Abort,
+    handles: &mut Vec<Handle<A>, A>,
+    handle: Handle<A>,
+)
+    ensures { handles.new.items ≡ handles.old.items ++ handle ∷ [] }
+{
     match handles.push(handle) {
         Ok(()) => {}
         Err(_handle) => panic!(rt; "no memory for a handle"),
     }
 }
 
-/// The handle that stands here among those that are kept; the last one has its place then.
-pub(crate) fn pick<A: Allocator>(
-    rt: &impl Abort,
-    handles: &mut Vec<Handle, A>,
-    index: usize,
-) -> Handle {
-    if index >= handles.len() {
-        panic!(rt; "so many handles aren't kept");
-    }
-    handles.swap_remove(index)
-}
-
 /// A reference goes, after a look whether it is the frame's.
 pub(crate) fn give_back<H: Home<A>, A: Allocator>(
     rt: &impl Abort,
     frame: &mut Frame<H, A>,
-    handle: Handle,
+    handle: Handle<A>,
 )
+    requires at_heap { handle.heap ≡ frame.old.heap }
     requires unlocked { IsUnlocked frame.old }
     ensures { GoesOn frame.old frame.new }
 {
     assert!(rt; frame.owns(&handle));
-    release(frame, handle);
-}
-
-/// One reference more, after a look whether the handle is the frame's; or why there is none.
-pub(crate) fn retained<H: Home<A>, A: Allocator>(
-    rt: &impl Abort,
-    frame: &mut Frame<H, A>,
-    handle: &Handle,
-) -> Result<Handle, Fault>
-    requires unlocked { IsUnlocked frame.old }
-    ensures { GoesOn frame.old frame.new }
-{
-    assert!(rt; frame.owns(handle));
-    let _cell = frame.cell(handle);
-    match frame.retain(handle) {
-        Ok(given) => Ok(given),
-        Err(fault) => Err(fault),
-    }
+    frame.release(handle);
 }
 
 /// All references that are kept go, the last one first.
 pub(crate) fn give_all_back<H: Home<A>, A: Allocator>(
     rt: &impl Abort,
     frame: &mut Frame<H, A>,
-    handles: Vec<Handle, A>,
+    handles: Vec<Handle<A>, A>,
 )
+    requires at_heap { All (λ h. h.heap ≡ frame.old.heap) handles.items }
     requires unlocked { IsUnlocked frame.old }
     ensures { GoesOn frame.old frame.new }
 {

@@ -1,6 +1,6 @@
 //! Worked runs of the heap as calls on frames, run by the gate: an integer's life, an immortal's, a list that passes from one
 //! thread's frame to another's, objects of each kind, and what is read of them, a full heap and a full frame, long deaths,
-//! refused growths, and real threads on one heap.
+//! refused growths, two heaps at once, and real threads on one heap.
 //!
 //! Tests, and what they look at. Each call's conditions are shown from the contracts of `brc_thread`, `brc_things`, `brc_count`
 //! and `brc_table` alone, so this is also how a caller uses them.
@@ -47,4 +47,8 @@ mod starved;
 #[cfg(test)]
 mod things;
 #[cfg(test)]
+mod threads;
+#[cfg(test)]
 mod turns;
+#[cfg(test)]
+mod two_heaps;

@@ -1,20 +1,19 @@
 //! The library as a runtime uses it: the example of the README.
 
-ghost use Rattle.std.specs.Prelude.{◌≡◌};
 ghost use Rattle.brc_count.specs.Frames.{IsUnlocked};
+ghost use Rattle.brc_count.specs.Owned.{Keeps};
 
-use crate::parts::given_back;
 use brc_count::Frame;
 use brc_counter::Home;
 use brc_things::new_int;
-use brc_thread::{Heap, Options, take_apart};
+use brc_thread::{Heap, Options, give_back, take_apart};
 use std::alloc::Allocator;
 use std::process::Abort;
 
 /// What a thread of the runtime does with its frame.
 fn one_life<H: Home<A>, A: Allocator>(rt: &impl Abort, alloc: A, frame: &mut Frame<H, A>)
     requires unlocked { IsUnlocked frame.old }
-    ensures heap { frame.new.heap ≡ frame.old.heap }
+    ensures keeps { Keeps frame.old frame.new }
     ensures unlocked { IsUnlocked frame.new }
 {
     let Ok(number) = new_int(alloc, frame, 1_000) else {
@@ -38,14 +37,7 @@ fn a_thread_of_the_runtime(rt: HostRuntime) {
         panic!(rt; "no thread can be registered")
     };
     one_life(&rt, alloc, mutator.frame());
-    mutator.settle(&rt);
-    assert_eq!(rt; (mutator.ledger().allocs, mutator.ledger().frees), (1, 1));
-    match mutator.leave() {
-        Err(_mutator) => panic!(rt; "a handle or a block is left"),
-        Ok(leaving) => match leaving.finish() {
-            Err(_leaving) => panic!(rt; "an entry or a block is left"),
-            Ok(retired) => root.gather(&heap, retired),
-        },
-    }
-    assert_eq!(rt; given_back(&rt, take_apart(heap, root)), 266);
+    let ledger = mutator.end(&rt, &mut root, &heap);
+    assert_eq!(rt; (ledger.allocs, ledger.frees), (1, 1));
+    give_back(take_apart(heap, root));
 }

@@ -2,8 +2,9 @@
 
 use crate::ends::ends;
 use crate::globals::{put_into_globals, take_from_globals};
-use crate::phases::{a_list, another, entered, leaves, leaves_late, opened, release, says};
+use crate::phases::{another, entered, leaves, leaves_late, opened, says};
 use crate::sums::comes_out;
+use crate::things::an_empty_list;
 
 #[test]
 fn an_asked_owner_merges_at_its_poll(rt: HostRuntime) {
@@ -11,12 +12,12 @@ fn an_asked_owner_merges_at_its_poll(rt: HostRuntime) {
     let mut root = root;
     let mut maker = entered(&rt, rt.alloc(), &table, &mut root);
     let mut other = entered(&rt, rt.alloc(), &table, &mut root);
-    let list = a_list(&rt, rt.alloc(), &mut maker);
+    let list = an_empty_list(&rt, rt.alloc(), &mut maker);
     put_into_globals(&rt, &mut maker, list, 1);
     let taken = take_from_globals(&rt, &mut other, 1);
     assert_eq!(rt; other.cell(&taken), 266);
     assert_eq!(rt; maker.poll(), 0);
-    release(&mut other, taken);
+    other.release(taken);
     assert!(rt; maker.poll() > 0);
     assert_eq!(rt; maker.work(5), 4);
     says(&rt, maker.ledger(), 1, 1);
@@ -32,10 +33,10 @@ fn an_asked_owner_merges_after_it_has_left(rt: HostRuntime) {
     let mut root = root;
     let mut maker = entered(&rt, rt.alloc(), &table, &mut root);
     let mut other = entered(&rt, rt.alloc(), &table, &mut root);
-    let list = a_list(&rt, rt.alloc(), &mut maker);
+    let list = an_empty_list(&rt, rt.alloc(), &mut maker);
     put_into_globals(&rt, &mut maker, list, 1);
     let taken = take_from_globals(&rt, &mut other, 1);
-    release(&mut other, taken);
+    other.release(taken);
     let others = other.ledger();
     let makers = leaves_late(&rt, &table, &mut root, maker, 2);
     assert!(rt; comes_out(makers, others));
@@ -49,12 +50,12 @@ fn an_owner_that_left_is_not_asked(rt: HostRuntime) {
     let mut root = root;
     let mut maker = entered(&rt, rt.alloc(), &table, &mut root);
     let mut other = entered(&rt, rt.alloc(), &table, &mut root);
-    let list = a_list(&rt, rt.alloc(), &mut maker);
+    let list = an_empty_list(&rt, rt.alloc(), &mut maker);
     put_into_globals(&rt, &mut maker, list, 1);
     let taken = take_from_globals(&rt, &mut other, 1);
     let makers = leaves_late(&rt, &table, &mut root, maker, 0);
     says(&rt, makers, 1, 0);
-    release(&mut other, taken);
+    other.release(taken);
     assert_eq!(rt; other.work(5), 4);
     says(&rt, other.ledger(), 0, 1);
     leaves(&rt, &table, &mut root, other);
@@ -67,17 +68,17 @@ fn an_owner_that_leaves_merges_for_who_holds_on(rt: HostRuntime) {
     let mut root = root;
     let mut maker = entered(&rt, rt.alloc(), &table, &mut root);
     let mut other = entered(&rt, rt.alloc(), &table, &mut root);
-    let list = a_list(&rt, rt.alloc(), &mut maker);
+    let list = an_empty_list(&rt, rt.alloc(), &mut maker);
     let copy = another(&rt, &mut maker, &list);
     put_into_globals(&rt, &mut maker, list, 1);
     put_into_globals(&rt, &mut maker, copy, 2);
     let first = take_from_globals(&rt, &mut other, 1);
     let second = take_from_globals(&rt, &mut other, 2);
-    release(&mut other, first);
+    other.release(first);
     // The one turn is the entry in the maker's queue: it merges the list, which lives on.
     let makers = leaves_late(&rt, &table, &mut root, maker, 1);
     says(&rt, makers, 1, 0);
-    release(&mut other, second);
+    other.release(second);
     assert_eq!(rt; other.work(5), 4);
     says(&rt, other.ledger(), 0, 1);
     leaves(&rt, &table, &mut root, other);

@@ -2,12 +2,10 @@
 //! nobody counts.
 
 ghost use Rattle.brc_count.specs.Frames.{IsUnlocked, Owns};
-ghost use Rattle.brc_containers.specs.Handles.{GoesOn, Loses};
+ghost use Rattle.brc_count.specs.Owned.{GoesOn, Loses};
 
 use crate::ends::ends;
-use crate::phases::{
-    an_immortal, an_integer, another, entered, leaves, opened, release, release_both, says, stays,
-};
+use crate::phases::{an_immortal, an_integer, another, entered, leaves, opened, says, stays};
 use crate::things::{a_dict, a_mailbox, a_none, a_text, a_truth, an_int};
 use brc_count::{Frame, Handle};
 use brc_counter::Home;
@@ -18,7 +16,7 @@ use std::process::Abort;
 fn goes_from<H: Home<A>, A: Allocator>(
     rt: &impl Abort,
     frame: &mut Frame<H, A>,
-    handle: Handle,
+    handle: Handle<A>,
     cell: u32,
 )
     requires owned { Owns frame.old handle }
@@ -27,7 +25,7 @@ fn goes_from<H: Home<A>, A: Allocator>(
     ensures loses { Loses frame.old frame.new handle }
 {
     assert_eq!(rt; frame.cell(&handle), cell);
-    release(frame, handle);
+    frame.release(handle);
 }
 
 /// The integer is had from this cell, and goes.
@@ -70,7 +68,8 @@ fn what_is_immortal_is_not_made(rt: HostRuntime) {
     let first = an_int(&rt, rt.alloc(), &mut frame, 256);
     let second = another(&rt, &mut frame, &first);
     assert_eq!(rt; frame.cell(&second), 264);
-    release_both(&mut frame, first, second);
+    frame.release(second);
+    frame.release(first);
     says(&rt, frame.ledger(), 0, 0);
     leaves(&rt, &table, &mut root, frame);
     ends(&rt, table, root);
@@ -122,7 +121,8 @@ fn an_integer_lives_and_dies(rt: HostRuntime) {
     assert_eq!(rt; frame.cell(&first), 266);
     says(&rt, frame.ledger(), 1, 0);
     let second = another(&rt, &mut frame, &first);
-    release_both(&mut frame, first, second);
+    frame.release(second);
+    frame.release(first);
     assert_eq!(rt; frame.work(5), 4);
     says(&rt, frame.ledger(), 1, 1);
     leaves(&rt, &table, &mut root, frame);
@@ -140,7 +140,8 @@ fn an_immortal_is_only_looked_at(rt: HostRuntime) {
     let first = an_immortal(&rt, &mut frame, LAST_INTEGER);
     let second = another(&rt, &mut frame, &first);
     assert_eq!(rt; frame.cell(&second), 264);
-    release_both(&mut frame, first, second);
+    frame.release(second);
+    frame.release(first);
     assert_eq!(rt; frame.work(5), 5);
     says(&rt, frame.ledger(), 0, 0);
     leaves(&rt, &table, &mut root, frame);
@@ -155,7 +156,7 @@ fn a_frame_with_a_handle_does_not_close(rt: HostRuntime) {
     let handle = an_immortal(&rt, &mut frame, LAST_INTEGER);
     let mut frame = stays(&rt, frame);
     assert_eq!(rt; frame.len(), 1);
-    release(&mut frame, handle);
+    frame.release(handle);
     assert!(rt; frame.is_idle());
     leaves(&rt, &table, &mut root, frame);
     ends(&rt, table, root);

@@ -1,14 +1,14 @@
 //! What one thread does, from its waking to its end.
 
-ghost use Rattle.std.specs.Prelude.{◌≡◌, ◌<◌};
-ghost use Rattle.brc_words.specs.declared.limits.TheConstants.{GLOBALS};
+ghost use Rattle.std.specs.Prelude.{◌≡◌};
 ghost use Rattle.brc_count.specs.Frames.{IsUnlocked};
+ghost use Rattle.brc_count.specs.Owned.{Keeps};
 
 use crate::globals::{put_into_globals, take_if_any};
-use crate::phases::{a_list, another, release_both};
+use crate::phases::another;
+use crate::things::an_empty_list;
 use brc_count::Frame;
 use brc_counter::Home;
-use brc_table::Rest;
 use brc_thread::{Heap, Mutator, Resting, Retired};
 use std::alloc::Allocator;
 use std::process::Abort;
@@ -21,12 +21,11 @@ fn give_one<R: Abort + Wait, H: Home<A>, A: Allocator + Copy>(
     frame: &mut Frame<H, A>,
     key: i64,
 )
-    requires inside { GLOBALS < frame.old.heap.cells }
     requires unlocked { IsUnlocked frame.old }
-    ensures heap { frame.new.heap ≡ frame.old.heap }
+    ensures keeps { Keeps frame.old frame.new }
     ensures unlocked { IsUnlocked frame.new }
 {
-    let list = a_list(rt, alloc, frame);
+    let list = an_empty_list(rt, alloc, frame);
     put_into_globals(rt, frame, list, key);
 }
 
@@ -36,50 +35,27 @@ fn take_one<R: Abort + Wait, H: Home<A>, A: Allocator>(
     frame: &mut Frame<H, A>,
     key: i64,
 ) -> bool
-    requires inside { GLOBALS < frame.old.heap.cells }
     requires unlocked { IsUnlocked frame.old }
-    ensures heap { frame.new.heap ≡ frame.old.heap }
+    ensures keeps { Keeps frame.old frame.new }
     ensures unlocked { IsUnlocked frame.new }
 {
     let Some(taken) = take_if_any(rt, frame, key) else {
         return false;
     };
     let more = another(rt, frame, &taken);
-    release_both(frame, taken, more);
+    frame.release(more);
+    frame.release(taken);
     true
 }
 
 /// Deals with what others asked for, and with some dead blocks.
 fn polls<H: Home<A>, A: Allocator>(mutator: &mut Mutator<H, A>)
     requires unlocked { IsUnlocked mutator.old }
-    ensures heap { mutator.new.heap ≡ mutator.old.heap }
+    ensures keeps { Keeps mutator.old mutator.new }
     ensures unlocked { IsUnlocked mutator.new }
 {
     let _told = mutator.poll();
     let _left = mutator.work(2);
-}
-
-/// A thread without handles leaves, and does what is left to it.
-pub(crate) fn retires<H: Home<A> + Drop, A: Allocator>(
-    rt: &impl Abort,
-    mutator: Mutator<H, A>,
-) -> Retired<A>
-    requires unlocked { IsUnlocked mutator }
-    ensures heap { result.heap ≡ mutator.heap }
-{
-    let mut mutator = mutator;
-    let _left = mutator.work(1_000_000);
-    match mutator.leave() {
-        Err(_mutator) => panic!(rt; "a handle or a block is left"),
-        Ok(leaving) => {
-            let mut leaving = leaving;
-            let _left = leaving.work(1_000_000);
-            match leaving.finish() {
-                Err(_leaving) => panic!(rt; "an entry or a block is left"),
-                Ok(retired) => retired,
-            }
-        }
-    }
 }
 
 /// A thread that makes so many lists and puts each into the globals, beside a key of its own.
@@ -91,7 +67,6 @@ pub(crate) fn gives<R: Abort + Wait, A: Allocator + Copy>(
     lists: u32,
 ) -> Retired<A>
     requires heap { resting.heap ≡ heap.now }
-    requires inside { GLOBALS < heap.now.cells }
     ensures heap { result.heap ≡ heap.now }
 {
     let mut mutator = resting.wake(heap);
@@ -99,7 +74,7 @@ pub(crate) fn gives<R: Abort + Wait, A: Allocator + Copy>(
         give_one(rt, alloc, mutator.frame(), list as i64);
         polls(&mut mutator);
     }
-    retires(rt, mutator)
+    mutator.retire(rt)
 }
 
 /// A thread that tries once for each of so many lists to take it out of the globals, and lets it go.
@@ -110,7 +85,6 @@ pub(crate) fn takes<R: Abort + Wait, A: Allocator>(
     lists: u32,
 ) -> Retired<A>
     requires heap { resting.heap ≡ heap.now }
-    requires inside { GLOBALS < heap.now.cells }
     ensures heap { result.heap ≡ heap.now }
 {
     let mut mutator = resting.wake(heap);
@@ -118,42 +92,5 @@ pub(crate) fn takes<R: Abort + Wait, A: Allocator>(
         let _taken = take_one(rt, mutator.frame(), list as i64);
         polls(&mut mutator);
     }
-    retires(rt, mutator)
-}
-
-/// A thread that takes what is left of so many lists in the globals.
-pub(crate) fn clears<R: Abort + Wait, A: Allocator>(
-    rt: &R,
-    heap: &Heap<A>,
-    resting: Resting<A>,
-    lists: u32,
-) -> Retired<A>
-    requires heap { resting.heap ≡ heap.now }
-    requires inside { GLOBALS < heap.now.cells }
-    ensures heap { result.heap ≡ heap.now }
-{
-    let mut mutator = resting.wake(heap);
-    for list in 0..lists {
-        let _taken = take_one(rt, mutator.frame(), list as i64);
-        polls(&mut mutator);
-    }
-    mutator.settle(rt);
-    retires(rt, mutator)
-}
-
-/// Gives the blocks back that a heap leaves, and answers how many there were.
-pub(crate) fn given_back<A: Allocator>(rt: &impl Wait, rest: Rest<A>) -> u64 {
-    let mut rest = rest;
-    let mut blocks: u64 = 0;
-    for _ in rt.forever() {
-        match rest.next() {
-            None => return blocks,
-            Some((block, left)) => {
-                let _payload = block.into_payload();
-                blocks = blocks.wrapping_add(1);
-                rest = left;
-            }
-        }
-    }
-    unreachable!()
+    mutator.retire(rt)
 }

@@ -1,14 +1,14 @@
-//! What the worked runs share: a table that opens, a frame that is entered, a reference that goes, and a thread that leaves.
+//! What the worked runs share: a table that opens, a frame that is entered, a reference that is had, and a thread that leaves.
 
-ghost use Rattle.std.specs.Prelude.{◌≡◌, ◌≢◌, ◌<◌, ◌≤◌, []};
+ghost use Rattle.std.specs.Prelude.{◌≡◌, ◌<◌, ◌≤◌, []};
 ghost use Rattle.brc_words.specs.declared.limits.TheConstants.{FIRST_MORTAL, MOST_THREADS};
 ghost use Rattle.brc_steps.specs.Joining.{next_thread, registering};
 ghost use Rattle.brc_rule.specs.Opening.{first_view};
 ghost use Rattle.brc_count.specs.Frames.{IsUnlocked, Owns};
-ghost use Rattle.brc_containers.specs.Handles.{Gains, Loses};
+ghost use Rattle.brc_count.specs.Owned.{Gains};
 
-use brc_block::{Cells, Payload};
-use brc_count::{Frame, Handle, Ledger};
+use brc_block::Payload;
+use brc_count::{Frame, Handed, Handle, Ledger};
 use brc_counter::Home;
 use brc_table::{HeapTable, RootSeat};
 use std::alloc::Allocator;
@@ -16,7 +16,6 @@ use std::process::Abort;
 
 /// A table of 512 cells, or the end of the test.
 pub(crate) fn opened<A: Allocator + Copy>(rt: &impl Abort, alloc: A) -> (HeapTable<A>, RootSeat<A>)
-    ensures cells { result.0.cells ≡ 512 }
     ensures table { result.1.table ≡ result.0.table }
     ensures view { result.1.view ≡ first_view }
 {
@@ -29,7 +28,6 @@ pub(crate) fn opened_with<A: Allocator + Copy>(
     alloc: A,
     cells: u32,
 ) -> (HeapTable<A>, RootSeat<A>)
-    ensures cells { result.0.cells ≡ cells }
     ensures table { result.1.table ≡ result.0.table }
     ensures view { result.1.view ≡ first_view }
 {
@@ -67,35 +65,16 @@ pub(crate) fn an_integer<H: Home<A>, A: Allocator>(
     alloc: A,
     frame: &mut Frame<H, A>,
     number: i64,
-) -> Handle
+) -> Handle<A>
     requires unlocked { IsUnlocked frame.old }
     ensures unlocked { IsUnlocked frame.new }
     ensures gains { Gains frame.old frame.new result }
 {
     match frame.born(alloc, Payload::Int(number)) {
         Ok(handle) => handle,
-        Err((_, payload)) => {
+        Err(Handed { back: payload, .. }) => {
             let _payload = payload;
             panic!(rt; "no integer is made")
-        }
-    }
-}
-
-/// A new list, with a reference in the frame.
-pub(crate) fn a_list<H: Home<A>, A: Allocator + Copy>(
-    rt: &impl Abort,
-    alloc: A,
-    frame: &mut Frame<H, A>,
-) -> Handle
-    requires unlocked { IsUnlocked frame.old }
-    ensures unlocked { IsUnlocked frame.new }
-    ensures gains { Gains frame.old frame.new result }
-{
-    match frame.born(alloc, Payload::List(Cells::new(Vec::new(alloc)))) {
-        Ok(handle) => handle,
-        Err((_, payload)) => {
-            let _payload = payload;
-            panic!(rt; "no list is made")
         }
     }
 }
@@ -105,9 +84,8 @@ pub(crate) fn an_immortal<H: Home<A>, A: Allocator>(
     rt: &impl Abort,
     frame: &mut Frame<H, A>,
     cell: u32,
-) -> Handle
+) -> Handle<A>
     requires immortal { cell < FIRST_MORTAL }
-    requires inside { cell < frame.old.heap.cells }
     requires unlocked { IsUnlocked frame.old }
     ensures unlocked { IsUnlocked frame.new }
     ensures gains { Gains frame.old frame.new result }
@@ -122,45 +100,17 @@ pub(crate) fn an_immortal<H: Home<A>, A: Allocator>(
 pub(crate) fn another<H: Home<A>, A: Allocator>(
     rt: &impl Abort,
     frame: &mut Frame<H, A>,
-    handle: &Handle,
-) -> Handle
+    handle: &Handle<A>,
+) -> Handle<A>
     requires owned { Owns frame.old handle.now }
     requires unlocked { IsUnlocked frame.old }
     ensures unlocked { IsUnlocked frame.new }
     ensures gains { Gains frame.old frame.new result }
 {
-    let _cell = frame.cell(handle);
     match frame.retain(handle) {
         Ok(given) => given,
         Err(_) => panic!(rt; "no place is left"),
     }
-}
-
-/// A reference goes.
-pub(crate) fn release<H: Home<A>, A: Allocator>(frame: &mut Frame<H, A>, handle: Handle)
-    requires owned { Owns frame.old handle }
-    requires unlocked { IsUnlocked frame.old }
-    ensures unlocked { IsUnlocked frame.new }
-    ensures loses { Loses frame.old frame.new handle }
-{
-    let _cell = frame.cell(&handle);
-    frame.release(handle);
-}
-
-/// Two references go, the second one first.
-pub(crate) fn release_both<H: Home<A>, A: Allocator>(
-    frame: &mut Frame<H, A>,
-    first: Handle,
-    second: Handle,
-)
-    requires owned { (Owns frame.old first) × (Owns frame.old second) }
-    requires apart { second.place ≢ first.place }
-    requires unlocked { IsUnlocked frame.old }
-    ensures heap { frame.new.heap ≡ frame.old.heap }
-    ensures unlocked { IsUnlocked frame.new }
-{
-    release(frame, second);
-    release(frame, first);
 }
 
 /// The ledger says this.

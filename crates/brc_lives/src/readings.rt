@@ -1,12 +1,9 @@
 //! What objects are and hold, read under their locks.
 
-ghost use Rattle.std.specs.Prelude.{◌<◌};
-ghost use Rattle.brc_words.specs.declared.limits.TheConstants.{GLOBALS};
-ghost use Rattle.brc_count.specs.Frames.{IsUnlocked};
-ghost use Rattle.brc_containers.specs.Handles.{GoesOn};
+ghost use Rattle.brc_count.specs.Frames.{IsUnlocked, Owns};
+ghost use Rattle.brc_count.specs.Owned.{Keeps};
 
 use crate::ends::ends;
-use crate::holds::give_back;
 use crate::phases::{an_immortal, entered, leaves, opened};
 use crate::things::{a_text, an_empty_list, an_int};
 use brc_containers::{
@@ -23,15 +20,15 @@ use std::sync::Wait;
 fn kind_is<R: Abort + Wait, H: Home<A>, A: Allocator>(
     rt: &R,
     frame: &mut Frame<H, A>,
-    handle: &Handle,
+    handle: &Handle<A>,
     kind: Kind,
 )
+    requires owned { Owns frame.old handle.now }
     requires unlocked { IsUnlocked frame.old }
-    ensures { GoesOn frame.old frame.new }
+    ensures keeps { Keeps frame.old frame.new }
+    ensures unlocked { IsUnlocked frame.new }
 {
-    assert!(rt; frame.owns(handle));
     assert!(rt; try_kind_of(frame, handle) == Ok(kind));
-    assert!(rt; frame.owns(handle));
     assert!(rt; kind_of(rt, frame, handle) == kind);
 }
 
@@ -39,15 +36,15 @@ fn kind_is<R: Abort + Wait, H: Home<A>, A: Allocator>(
 fn len_is<R: Abort + Wait, H: Home<A>, A: Allocator>(
     rt: &R,
     frame: &mut Frame<H, A>,
-    handle: &Handle,
+    handle: &Handle<A>,
     len: Result<usize, Fault>,
 )
+    requires owned { Owns frame.old handle.now }
     requires unlocked { IsUnlocked frame.old }
-    ensures { GoesOn frame.old frame.new }
+    ensures keeps { Keeps frame.old frame.new }
+    ensures unlocked { IsUnlocked frame.new }
 {
-    assert!(rt; frame.owns(handle));
     assert!(rt; try_len_of(frame, handle) == len);
-    assert!(rt; frame.owns(handle));
     assert!(rt; len_of(rt, frame, handle) == len);
 }
 
@@ -55,15 +52,15 @@ fn len_is<R: Abort + Wait, H: Home<A>, A: Allocator>(
 fn int_is<R: Abort + Wait, H: Home<A>, A: Allocator>(
     rt: &R,
     frame: &mut Frame<H, A>,
-    handle: &Handle,
+    handle: &Handle<A>,
     number: Result<i64, Fault>,
 )
+    requires owned { Owns frame.old handle.now }
     requires unlocked { IsUnlocked frame.old }
-    ensures { GoesOn frame.old frame.new }
+    ensures keeps { Keeps frame.old frame.new }
+    ensures unlocked { IsUnlocked frame.new }
 {
-    assert!(rt; frame.owns(handle));
     assert!(rt; try_int_of(frame, handle) == number);
-    assert!(rt; frame.owns(handle));
     assert!(rt; int_of(rt, frame, handle) == number);
 }
 
@@ -80,15 +77,15 @@ fn text_is<R: Abort + Wait, H: Home<A>, A: Allocator + Copy>(
     rt: &R,
     alloc: A,
     frame: &mut Frame<H, A>,
-    handle: &Handle,
+    handle: &Handle<A>,
     text: &str,
 )
+    requires owned { Owns frame.old handle.now }
     requires unlocked { IsUnlocked frame.old }
-    ensures { GoesOn frame.old frame.new }
+    ensures keeps { Keeps frame.old frame.new }
+    ensures unlocked { IsUnlocked frame.new }
 {
-    assert!(rt; frame.owns(handle));
     assert!(rt; is_copy(try_text_of(alloc, frame, handle), text));
-    assert!(rt; frame.owns(handle));
     assert!(rt; is_copy(text_of(rt, alloc, frame, handle), text));
 }
 
@@ -101,16 +98,16 @@ fn objects_are_read_as_they_are(rt: HostRuntime) {
     kind_is(&rt, &mut frame, &number, Kind::Int);
     int_is(&rt, &mut frame, &number, Ok(-6));
     len_is(&rt, &mut frame, &number, Err(Fault::WrongKind));
-    give_back(&rt, &mut frame, number);
+    frame.release(number);
     let text = a_text(&rt, rt.alloc(), &mut frame, "side");
     kind_is(&rt, &mut frame, &text, Kind::Text);
     text_is(&rt, rt.alloc(), &mut frame, &text, "side");
     int_is(&rt, &mut frame, &text, Err(Fault::WrongKind));
-    give_back(&rt, &mut frame, text);
+    frame.release(text);
     let list = an_empty_list(&rt, rt.alloc(), &mut frame);
     kind_is(&rt, &mut frame, &list, Kind::List);
     len_is(&rt, &mut frame, &list, Ok(0));
-    give_back(&rt, &mut frame, list);
+    frame.release(list);
     assert!(rt; frame.work(9) == 6);
     leaves(&rt, &table, &mut root, frame);
     ends(&rt, table, root);
@@ -122,12 +119,12 @@ fn finds_busy<H: Home<A>, A: Allocator>(
     frame: &mut Frame<H, A>,
     other: &mut Frame<H, A>,
 )
-    requires inside { GLOBALS < frame.old.heap.cells }
-    requires other_inside { GLOBALS < other.old.heap.cells }
     requires unlocked { IsUnlocked frame.old }
     requires other_unlocked { IsUnlocked other.old }
-    ensures goes_on { GoesOn frame.old frame.new }
-    ensures other { GoesOn other.old other.new }
+    ensures keeps { Keeps frame.old frame.new }
+    ensures other_keeps { Keeps other.old other.new }
+    ensures unlocked { IsUnlocked frame.new }
+    ensures other_unlocked { IsUnlocked other.new }
 {
     let globals = an_immortal(rt, frame, GLOBALS);
     let others = an_immortal(rt, other, GLOBALS);
@@ -138,8 +135,8 @@ fn finds_busy<H: Home<A>, A: Allocator>(
             frame.end_keep(block);
         }
     }
-    give_back(rt, other, others);
-    give_back(rt, frame, globals);
+    other.release(others);
+    frame.release(globals);
 }
 
 #[test]

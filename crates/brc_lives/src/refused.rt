@@ -1,15 +1,16 @@
 //! Each growth of a call refused in turn: the call answers OutOfMemory, and what is seen of the frame is as it was. Memory is all
 //! taken at first and comes back a piece at a time, so each growth is the one that is refused at some time.
 
-ghost use Rattle.brc_count.specs.Frames.{IsUnlocked};
-ghost use Rattle.brc_containers.specs.Handles.{GoesOn};
+ghost use Rattle.std.specs.Prelude.{◌≡◌, ◌<◌, All, IfOk, OnErr, IfSome, IfNone, length};
+ghost use Rattle.brc_count.specs.Frames.{HandleSeen, IsUnlocked, Owns};
+ghost use Rattle.brc_count.specs.Owned.{Keeps, Gains};
 
 use crate::ends::ends;
-use crate::holds::{give_all_back, keep, retained};
+use crate::holds::{give_all_back, keep};
 use crate::memory::{Memories, Pieces, a_heap};
 use crate::phases::{entered, leaves, opened, says};
 use crate::things::a_none;
-use brc_count::{Frame, Handle};
+use brc_count::{Frame, Handed, Handle};
 use brc_counter::Home;
 use brc_things::{new_int, new_list, new_text, none};
 use brc_words::{Fault, Text};
@@ -33,13 +34,15 @@ fn text_of<H: Home<A>, A: Allocator + Copy>(
     alloc: A,
     frame: &mut Frame<H, A>,
     text: Text<A>,
-) -> Result<Handle, Fault>
+) -> Result<Handle<A>, Fault>
     requires unlocked { IsUnlocked frame.old }
-    ensures { GoesOn frame.old frame.new }
+    ensures gains { IfOk result (Gains frame.old frame.new) }
+    ensures keeps { OnErr result (Keeps frame.old frame.new) }
+    ensures unlocked { IsUnlocked frame.new }
 {
     match new_text(alloc, frame, text) {
         Ok(handle) => Ok(handle),
-        Err((fault, text)) => {
+        Err(Handed { fault, back: text }) => {
             assert_eq!(rt; text.as_str(), "a text");
             Err(fault)
         }
@@ -59,14 +62,17 @@ fn make<H: Home<A>, A: Allocator + Copy>(
     rt: &impl Abort,
     memories: Memories<A>,
     frame: &mut Frame<H, A>,
-    first: &Handle,
+    first: &Handle<A>,
     call: Call,
-) -> Result<Handle, Fault>
+) -> Result<Handle<A>, Fault>
+    requires owned { Owns frame.old first.now }
     requires unlocked { IsUnlocked frame.old }
-    ensures { GoesOn frame.old frame.new }
+    ensures gains { IfOk result (Gains frame.old frame.new) }
+    ensures keeps { OnErr result (Keeps frame.old frame.new) }
+    ensures unlocked { IsUnlocked frame.new }
 {
     match call {
-        Call::Retain => retained(rt, frame, first),
+        Call::Retain => frame.retain(first),
         Call::Immortal => none(frame),
         Call::Int => new_int(memories.scarce, frame, 257),
         Call::Text => text_of(rt, memories.scarce, frame, some_text(rt, memories.ample)),
@@ -79,11 +85,14 @@ fn tried<H: Home<A>, A: Allocator + Copy>(
     rt: &impl Abort,
     memories: Memories<A>,
     frame: &mut Frame<H, A>,
-    first: &Handle,
+    first: &Handle<A>,
     call: Call,
-) -> Option<Handle>
+) -> Option<Handle<A>>
+    requires owned { Owns frame.old first.now }
     requires unlocked { IsUnlocked frame.old }
-    ensures { GoesOn frame.old frame.new }
+    ensures gains { IfSome result (Gains frame.old frame.new) }
+    ensures keeps { IfNone result (Keeps frame.old frame.new) }
+    ensures unlocked { IsUnlocked frame.new }
 {
     let (len, ledger) = (frame.len(), frame.ledger());
     match make(rt, memories, frame, first, call) {
@@ -101,10 +110,14 @@ fn tried<H: Home<A>, A: Allocator + Copy>(
 fn fill_places<H: Home<A>, A: Allocator + Copy>(
     rt: &impl Abort,
     frame: &mut Frame<H, A>,
-    handles: &mut Vec<Handle, A>,
+    handles: &mut Vec<Handle<A>, A>,
 )
+    requires at_heap { All (λ h. h.heap ≡ frame.old.heap) handles.old.items }
     requires unlocked { IsUnlocked frame.old }
-    ensures { GoesOn frame.old frame.new }
+    ensures at_heap { All (λ h. h.heap ≡ frame.old.heap) handles.new.items }
+    ensures heap { frame.new.heap ≡ frame.old.heap }
+    ensures owns { (h : HandleSeen) → Owns frame.old h → Owns frame.new h }
+    ensures unlocked { IsUnlocked frame.new }
 {
     for _ in 0..1_000 {
         match none(frame) {
@@ -132,11 +145,13 @@ fn until_it_passes<'h, H: Home<&'h LocalHeap>>(
     pieces: &mut Pieces<'h>,
     memories: Memories<&'h LocalHeap>,
     frame: &mut Frame<H, &'h LocalHeap>,
-    first: &Handle,
+    first: &Handle<&'h LocalHeap>,
     call: Call,
-) -> (Handle, Growths)
+) -> (Handle<&'h LocalHeap>, Growths)
+    requires owned { Owns frame.old first.now }
     requires unlocked { IsUnlocked frame.old }
-    ensures { GoesOn frame.old frame.new }
+    ensures gains { Gains frame.old frame.new result.0 }
+    ensures unlocked { IsUnlocked frame.new }
 {
     let mut refused = Growths {
         place: false,
@@ -188,7 +203,8 @@ fn is_refused_to<'h, H: Home<&'h LocalHeap>>(
     cell: u32,
 )
     requires unlocked { IsUnlocked frame.old }
-    ensures { GoesOn frame.old frame.new }
+    ensures heap { frame.new.heap ≡ frame.old.heap }
+    ensures unlocked { IsUnlocked frame.new }
 {
     let first = a_none(rt, frame);
     let mut pieces = Pieces::take_all(rt, alloc, memories.scarce);
@@ -197,10 +213,9 @@ fn is_refused_to<'h, H: Home<&'h LocalHeap>>(
     let (handle, refused) = until_it_passes(rt, &mut pieces, memories, frame, &first, call);
     assert!(rt; refused.place);
     assert_eq!(rt; refused.block, cell >= 266);
-    assert!(rt; frame.owns(&handle));
     assert_eq!(rt; frame.cell(&handle), cell);
-    keep(rt, &mut handles, handle);
-    keep(rt, &mut handles, first);
+    frame.release(handle);
+    frame.release(first);
     give_all_back(rt, frame, handles);
 }
 

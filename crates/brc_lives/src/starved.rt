@@ -1,12 +1,12 @@
 //! A death while no memory is left: what a release and turns of work give back is taken at once, so they take none.
 
 ghost use Rattle.brc_count.specs.Frames.{IsUnlocked};
-ghost use Rattle.brc_containers.specs.Handles.{GoesOn};
+ghost use Rattle.brc_count.specs.Owned.{GoesOn};
 
 use crate::deaths::a_list_of_lists;
 use crate::ends::ends;
 use crate::memory::{Pieces, a_heap};
-use crate::phases::{entered, leaves, opened_with, release, says};
+use crate::phases::{entered, leaves, opened_with, says};
 use brc_count::Frame;
 use brc_counter::Home;
 use linked_list_allocator::LocalHeap;
@@ -46,7 +46,7 @@ fn dies_on_a_heap<'h>(rt: &impl Abort, alloc: Global, memory: &'h LocalHeap) {
     let list = a_list_of_lists(rt, memory, &mut frame, 1_000);
     let mut taken = Vec::new(alloc);
     starve(rt, alloc, memory, &mut taken);
-    release(&mut frame, list);
+    frame.release(list);
     takes_turns(rt, alloc, memory, &mut taken, &mut frame, 2_001);
     says(rt, frame.ledger(), 1_001, 1_001);
     leaves(rt, &table, &mut root, frame);

@@ -1,7 +1,7 @@
 //! Objects of each kind, made for a test, which ends where one isn't to be had.
 
 ghost use Rattle.brc_count.specs.Frames.{IsUnlocked};
-ghost use Rattle.brc_containers.specs.Handles.{Gains};
+ghost use Rattle.brc_count.specs.Owned.{Gains};
 
 use brc_count::{Frame, Handle};
 use brc_counter::Home;
@@ -11,7 +11,10 @@ use std::alloc::Allocator;
 use std::process::Abort;
 
 /// None.
-pub(crate) fn a_none<H: Home<A>, A: Allocator>(rt: &impl Abort, frame: &mut Frame<H, A>) -> Handle
+pub(crate) fn a_none<H: Home<A>, A: Allocator>(
+    rt: &impl Abort,
+    frame: &mut Frame<H, A>,
+) -> Handle<A>
     requires unlocked { IsUnlocked frame.old }
     ensures unlocked { IsUnlocked frame.new }
     ensures gains { Gains frame.old frame.new result }
@@ -27,7 +30,7 @@ pub(crate) fn a_truth<H: Home<A>, A: Allocator>(
     rt: &impl Abort,
     frame: &mut Frame<H, A>,
     is_true: bool,
-) -> Handle
+) -> Handle<A>
     requires unlocked { IsUnlocked frame.old }
     ensures unlocked { IsUnlocked frame.new }
     ensures gains { Gains frame.old frame.new result }
@@ -44,7 +47,7 @@ pub(crate) fn an_int<H: Home<A>, A: Allocator>(
     alloc: A,
     frame: &mut Frame<H, A>,
     number: i64,
-) -> Handle
+) -> Handle<A>
     requires unlocked { IsUnlocked frame.old }
     ensures unlocked { IsUnlocked frame.new }
     ensures gains { Gains frame.old frame.new result }
@@ -61,7 +64,7 @@ pub(crate) fn a_text<H: Home<A>, A: Allocator + Copy>(
     alloc: A,
     frame: &mut Frame<H, A>,
     text: &str,
-) -> Handle
+) -> Handle<A>
     requires unlocked { IsUnlocked frame.old }
     ensures unlocked { IsUnlocked frame.new }
     ensures gains { Gains frame.old frame.new result }
@@ -80,7 +83,7 @@ pub(crate) fn an_empty_list<H: Home<A>, A: Allocator + Copy>(
     rt: &impl Abort,
     alloc: A,
     frame: &mut Frame<H, A>,
-) -> Handle
+) -> Handle<A>
     requires unlocked { IsUnlocked frame.old }
     ensures unlocked { IsUnlocked frame.new }
     ensures gains { Gains frame.old frame.new result }
@@ -96,7 +99,7 @@ pub(crate) fn a_dict<H: Home<A>, A: Allocator + Copy>(
     rt: &impl Abort,
     alloc: A,
     frame: &mut Frame<H, A>,
-) -> Handle
+) -> Handle<A>
     requires unlocked { IsUnlocked frame.old }
     ensures unlocked { IsUnlocked frame.new }
     ensures gains { Gains frame.old frame.new result }
@@ -112,7 +115,7 @@ pub(crate) fn a_mailbox<H: Home<A>, A: Allocator + Copy>(
     rt: &impl Abort,
     alloc: A,
     frame: &mut Frame<H, A>,
-) -> Handle
+) -> Handle<A>
     requires unlocked { IsUnlocked frame.old }
     ensures unlocked { IsUnlocked frame.new }
     ensures gains { Gains frame.old frame.new result }

@@ -1,10 +1,10 @@
 //! Turns of two, three and four threads.
 
-ghost use Rattle.std.specs.Prelude.{◌≡◌, ◌<◌};
-ghost use Rattle.brc_words.specs.declared.limits.TheConstants.{GLOBALS};
+ghost use Rattle.std.specs.Prelude.{◌≡◌};
 
-use crate::parts::{clears, given_back, gives, takes};
-use brc_thread::{Heap, Options, Resting, Retired, Root, take_apart};
+use crate::parts::{gives, takes};
+use crate::threads::{a_heap, a_thread, blocks_left};
+use brc_thread::{Heap, Resting, Retired, Root};
 use std::alloc::Global;
 use std::process::Abort;
 use std::sync::Wait;
@@ -15,23 +15,6 @@ use std::thread::{Threads, join};
 struct Sum {
     allocs: u64,
     frees: u64,
-}
-
-/// The next thread, at rest.
-fn registered(
-    rt: &impl Abort,
-    heap: &Heap<Global>,
-    root: &mut Root<Global>,
-    alloc: Global,
-) -> Resting<Global>
-    requires heap { root.old.table ≡ heap.now.table }
-    ensures heap { result.heap ≡ heap.now }
-    ensures root { root.new.table ≡ root.old.table }
-{
-    match root.register(alloc, heap) {
-        Ok(mutator) => mutator.rest(),
-        Err(_) => panic!(rt; "a thread is refused"),
-    }
 }
 
 /// The thread is gathered, and its ledger added.
@@ -58,7 +41,6 @@ fn two_take<R: Threads + Abort + Wait + Sync>(
 ) -> (Retired<Global>, Retired<Global>)
     requires first { first.heap ≡ heap.now }
     requires second { second.heap ≡ heap.now }
-    requires inside { GLOBALS < heap.now.cells }
     ensures first { result.0.heap ≡ heap.now }
     ensures second { result.1.heap ≡ heap.now }
 {
@@ -82,7 +64,6 @@ fn three_work<R: Threads + Abort + Wait + Sync>(
     requires maker { maker.heap ≡ heap.now }
     requires first { first.heap ≡ heap.now }
     requires second { second.heap ≡ heap.now }
-    requires inside { GLOBALS < heap.now.cells }
     ensures maker { result.0.heap ≡ heap.now }
     ensures first { result.1.0.heap ≡ heap.now }
     ensures second { result.1.1.heap ≡ heap.now }
@@ -93,7 +74,6 @@ fn three_work<R: Threads + Abort + Wait + Sync>(
         || -> (Retired<Global>, Retired<Global>)
             requires first { first.heap ≡ heap.now }
             requires second { second.heap ≡ heap.now }
-            requires inside { GLOBALS < heap.now.cells }
             ensures first { result.0.heap ≡ heap.entry.now }
             ensures second { result.1.heap ≡ heap.entry.now }
         { two_take(rt, heap, first, second, lists) },
@@ -109,15 +89,14 @@ fn turn<R: Threads + Abort + Wait + Sync>(
     lists: u32,
 ) -> Sum
     requires heap { root.old.table ≡ heap.now.table }
-    requires inside { GLOBALS < heap.now.cells }
     ensures root { root.new.table ≡ root.old.table }
 {
-    let maker = registered(rt, heap, root, alloc);
-    let first = registered(rt, heap, root, alloc);
-    let second = registered(rt, heap, root, alloc);
-    let last = registered(rt, heap, root, alloc);
+    let maker = a_thread(rt, alloc, heap, root).rest();
+    let first = a_thread(rt, alloc, heap, root).rest();
+    let second = a_thread(rt, alloc, heap, root).rest();
+    let last = a_thread(rt, alloc, heap, root).rest();
     let (maker, (first, second)) = three_work(rt, alloc, heap, maker, first, second, lists);
-    let last = clears(rt, heap, last, lists);
+    let last = takes(rt, heap, last, lists);
     let sum = Sum {
         allocs: 0,
         frees: 0,
@@ -130,18 +109,9 @@ fn turn<R: Threads + Abort + Wait + Sync>(
 
 /// A heap of its own, on which each makes so many lists.
 fn on_a_heap<R: Threads + Abort + Wait + Sync>(rt: &R, alloc: Global, lists: u32) -> (Sum, u64) {
-    let options = Options {
-        cells: 512,
-        local_limit: 10,
-    };
-    match Heap::new(alloc, options) {
-        Err(_) => panic!(rt; "memory"),
-        Ok((heap, root)) => {
-            let mut root = root;
-            let sum = turn(rt, &heap, &mut root, alloc, lists);
-            (sum, given_back(rt, take_apart(heap, root)))
-        }
-    }
+    let (heap, mut root) = a_heap(rt, alloc, 10);
+    let sum = turn(rt, &heap, &mut root, alloc, lists);
+    (sum, blocks_left(rt, heap, root))
 }
 
 #[test]

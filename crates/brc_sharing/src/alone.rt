@@ -1,16 +1,16 @@
 //! Lives of one thread on a heap of its own, each of which leaves nothing: letters in their order, calls that never wait where no
 //! other thread has the object locked, a list with as many entries as a container may have, and objects edited by guards.
 
-ghost use Rattle.brc_count.specs.Frames.{IsUnlocked};
-ghost use Rattle.brc_containers.specs.Handles.{GoesOn};
+ghost use Rattle.brc_count.specs.Frames.{IsUnlocked, Owns};
+ghost use Rattle.brc_count.specs.Owned.{Keeps};
 
 use crate::calls::{
     Exchanging, Getting, Giving, exchanges, gets, gets_none, gets_number, gives, gives_number,
     refuses,
 };
 use crate::guards::{Way, puts_a_pair};
-use crate::objects::{Thing, a_text, entries, give_back, made, number_of};
-use crate::threads::{a_heap, a_thread, ends, is_empty};
+use crate::objects::{Thing, a_text, entries, made, number_of};
+use crate::threads::{a_heap, a_thread, is_empty};
 use brc_containers::text_of;
 use brc_count::{Frame, Handle};
 use brc_counter::Home;
@@ -24,19 +24,20 @@ fn receives<R: Abort + Wait, H: Home<A>, A: Allocator + Copy>(
     rt: &R,
     alloc: A,
     frame: &mut Frame<H, A>,
-    mailbox: &Handle,
+    mailbox: &Handle<A>,
     text: &str,
 )
+    requires owned { Owns frame.old mailbox.now }
     requires unlocked { IsUnlocked frame.old }
-    ensures { GoesOn frame.old frame.new }
+    ensures keeps { Keeps frame.old frame.new }
+    ensures unlocked { IsUnlocked frame.new }
 {
     let found = gets(rt, frame, mailbox, Getting::Recv);
-    assert!(rt; frame.owns(&found));
     match text_of(rt, alloc, frame, &found) {
         Ok(copy) => assert!(rt; copy.as_str() == text),
         Err(_) => panic!(rt; "it is no text"),
     }
-    give_back(rt, frame, found);
+    frame.release(found);
 }
 
 /// Two texts are sent, and come in that order.
@@ -46,7 +47,8 @@ fn posts_and_receives<R: Abort + Wait, H: Home<A>, A: Allocator + Copy>(
     frame: &mut Frame<H, A>,
 )
     requires unlocked { IsUnlocked frame.old }
-    ensures { GoesOn frame.old frame.new }
+    ensures keeps { Keeps frame.old frame.new }
+    ensures unlocked { IsUnlocked frame.new }
 {
     let mailbox = made(rt, alloc, frame, Thing::Mailbox);
     let first = a_text(rt, alloc, frame, "first");
@@ -55,7 +57,7 @@ fn posts_and_receives<R: Abort + Wait, H: Home<A>, A: Allocator + Copy>(
     gives(rt, frame, &mailbox, Giving::Send, second);
     receives(rt, alloc, frame, &mailbox, "first");
     receives(rt, alloc, frame, &mailbox, "second");
-    give_back(rt, frame, mailbox);
+    frame.release(mailbox);
 }
 
 /// Two integers go into a list; one is found, exchanged for a third, and all that is there is popped, the last one first.
@@ -65,7 +67,8 @@ fn uses_a_list<R: Abort + Wait, H: Home<A>, A: Allocator + Copy>(
     frame: &mut Frame<H, A>,
 )
     requires unlocked { IsUnlocked frame.old }
-    ensures { GoesOn frame.old frame.new }
+    ensures keeps { Keeps frame.old frame.new }
+    ensures unlocked { IsUnlocked frame.new }
 {
     let list = made(rt, alloc, frame, Thing::List);
     gives_number(rt, alloc, frame, &list, Giving::TryPush, 1_000);
@@ -78,7 +81,7 @@ fn uses_a_list<R: Abort + Wait, H: Home<A>, A: Allocator + Copy>(
     gets_number(rt, frame, &list, Getting::TryPop, 1_001);
     gets_number(rt, frame, &list, Getting::TryPop, 1_002);
     gets_none(rt, frame, &list, Getting::TryPop);
-    give_back(rt, frame, list);
+    frame.release(list);
 }
 
 /// Two integers are sent, and received in that order.
@@ -88,7 +91,8 @@ fn uses_a_mailbox<R: Abort + Wait, H: Home<A>, A: Allocator + Copy>(
     frame: &mut Frame<H, A>,
 )
     requires unlocked { IsUnlocked frame.old }
-    ensures { GoesOn frame.old frame.new }
+    ensures keeps { Keeps frame.old frame.new }
+    ensures unlocked { IsUnlocked frame.new }
 {
     let mailbox = made(rt, alloc, frame, Thing::Mailbox);
     gives_number(rt, alloc, frame, &mailbox, Giving::TrySend, 1_000);
@@ -96,7 +100,7 @@ fn uses_a_mailbox<R: Abort + Wait, H: Home<A>, A: Allocator + Copy>(
     gets_number(rt, frame, &mailbox, Getting::TryRecv, 1_000);
     gets_number(rt, frame, &mailbox, Getting::TryRecv, 1_001);
     gets_none(rt, frame, &mailbox, Getting::TryRecv);
-    give_back(rt, frame, mailbox);
+    frame.release(mailbox);
 }
 
 /// The list gets so many small integers.
@@ -104,11 +108,13 @@ fn fill<R: Abort + Wait, H: Home<A>, A: Allocator + Copy>(
     rt: &R,
     alloc: A,
     frame: &mut Frame<H, A>,
-    list: &Handle,
+    list: &Handle<A>,
     count: u32,
 )
+    requires owned { Owns frame.old list.now }
     requires unlocked { IsUnlocked frame.old }
-    ensures { GoesOn frame.old frame.new }
+    ensures keeps { Keeps frame.old frame.new }
+    ensures unlocked { IsUnlocked frame.new }
 {
     for _ in 0..count {
         gives_number(rt, alloc, frame, list, Giving::Push, 1);
@@ -122,7 +128,8 @@ fn fills_a_list<R: Abort + Wait, H: Home<A>, A: Allocator + Copy>(
     frame: &mut Frame<H, A>,
 )
     requires unlocked { IsUnlocked frame.old }
-    ensures { GoesOn frame.old frame.new }
+    ensures keeps { Keeps frame.old frame.new }
+    ensures unlocked { IsUnlocked frame.new }
 {
     let list = made(rt, alloc, frame, Thing::List);
     fill(rt, alloc, frame, &list, 1_048_576);
@@ -136,9 +143,9 @@ fn fills_a_list<R: Abort + Wait, H: Home<A>, A: Allocator + Copy>(
         Fault::Full,
     );
     let value = refuses(rt, frame, &list, Giving::Push, value, Fault::Full);
-    give_back(rt, frame, value);
+    frame.release(value);
     assert_eq!(rt; entries(rt, frame, &list), 1_048_576);
-    give_back(rt, frame, list);
+    frame.release(list);
 }
 
 /// Two integers go into a list, one is found there, one exchanged for a third, and the first one taken out.
@@ -149,7 +156,8 @@ fn edits_a_list<R: Abort + Wait, H: Home<A>, A: Allocator + Copy>(
     way: Way,
 )
     requires unlocked { IsUnlocked frame.old }
-    ensures { GoesOn frame.old frame.new }
+    ensures keeps { Keeps frame.old frame.new }
+    ensures unlocked { IsUnlocked frame.new }
 {
     let list = made(rt, alloc, frame, Thing::List);
     gives_number(rt, alloc, frame, &list, Giving::Room(way), 1_000);
@@ -163,7 +171,7 @@ fn edits_a_list<R: Abort + Wait, H: Home<A>, A: Allocator + Copy>(
     gets_number(rt, frame, &list, Getting::Take(0, way), 1_000);
     assert_eq!(rt; entries(rt, frame, &list), 1);
     gets_number(rt, frame, &list, Getting::Entry(0, way), 1_002);
-    give_back(rt, frame, list);
+    frame.release(list);
 }
 
 /// An integer goes into a dictionary, and stands beside its key then.
@@ -174,14 +182,15 @@ fn edits_a_dict<R: Abort + Wait, H: Home<A>, A: Allocator + Copy>(
     way: Way,
 )
     requires unlocked { IsUnlocked frame.old }
-    ensures { GoesOn frame.old frame.new }
+    ensures keeps { Keeps frame.old frame.new }
+    ensures unlocked { IsUnlocked frame.new }
 {
     let dict = made(rt, alloc, frame, Thing::Dict);
     let value = made(rt, alloc, frame, Thing::Int(1_000));
     puts_a_pair(rt, frame, &dict, value, way);
     assert_eq!(rt; entries(rt, frame, &dict), 1);
     gets_number(rt, frame, &dict, Getting::Find(7), 1_000);
-    give_back(rt, frame, dict);
+    frame.release(dict);
 }
 
 /// What the thread does.
@@ -201,7 +210,8 @@ fn does<R: Abort + Wait, H: Home<A>, A: Allocator + Copy>(
     life: Life,
 )
     requires unlocked { IsUnlocked frame.old }
-    ensures { GoesOn frame.old frame.new }
+    ensures keeps { Keeps frame.old frame.new }
+    ensures unlocked { IsUnlocked frame.new }
 {
     match life {
         Life::Letters => posts_and_receives(rt, alloc, frame),
@@ -223,7 +233,7 @@ fn lives<R: Abort + Wait>(rt: &R, alloc: Global, life: Life, births: u64) {
     let mut root = root;
     let mut thread = a_thread(rt, alloc, &heap, &mut root);
     does(rt, alloc, thread.frame(), life);
-    let ledger = ends(rt, &heap, &mut root, thread);
+    let ledger = thread.end(rt, &mut root, &heap);
     assert_eq!(rt; (ledger.allocs, ledger.frees), (births, births));
     is_empty(rt, heap, root);
 }

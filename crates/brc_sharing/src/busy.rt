@@ -1,11 +1,12 @@
 //! While one thread has the globals locked.
 
-ghost use Rattle.brc_count.specs.Frames.{IsUnlocked};
-ghost use Rattle.brc_containers.specs.Handles.{GoesOn};
+ghost use Rattle.std.specs.Prelude.{◌≡◌, ◌≢◌};
+ghost use Rattle.brc_count.specs.Frames.{IsUnlocked, Owns};
+ghost use Rattle.brc_count.specs.Owned.{Keeps, Loses};
 
 use crate::calls::{Getting, Giving, gets, gets_none, gives, refuses};
-use crate::objects::{Thing, give_back, made, the_globals};
-use crate::threads::{a_heap, a_thread, ends, is_empty};
+use crate::objects::{Thing, made, the_globals};
+use crate::threads::{a_heap, a_thread, is_empty};
 use brc_block::Payload;
 use brc_containers::try_int_of;
 use brc_count::{Frame, Handle};
@@ -20,13 +21,14 @@ use std::sync::Wait;
 fn has_an_empty_list<R: Abort + Wait, H: Home<A>, A: Allocator>(
     rt: &R,
     frame: &mut Frame<H, A>,
-    list: &Handle,
+    list: &Handle<A>,
 )
+    requires owned { Owns frame.old list.now }
     requires unlocked { IsUnlocked frame.old }
-    ensures { GoesOn frame.old frame.new }
+    ensures keeps { Keeps frame.old frame.new }
+    ensures unlocked { IsUnlocked frame.new }
 {
     gets_none(rt, frame, list, Getting::TryPop);
-    assert!(rt; frame.owns(list));
     assert!(rt; try_int_of(frame, list) == Err(Fault::WrongKind));
 }
 
@@ -35,17 +37,23 @@ fn has_an_empty_list<R: Abort + Wait, H: Home<A>, A: Allocator>(
 fn locks_meanwhile<R: Abort + Wait, H: Home<A>, A: Allocator>(
     rt: &R,
     frame: &mut Frame<H, A>,
-    globals: &Handle,
+    globals: &Handle<A>,
     other: &mut Frame<H, A>,
-    others: &Handle,
-    list: Handle,
-) -> Handle
+    others: &Handle<A>,
+    list: Handle<A>,
+) -> Handle<A>
+    requires owned { Owns frame.old globals.now }
+    requires others_owned { Owns other.old others.now }
+    requires list_owned { Owns other.old list }
+    requires apart { list.place ≢ others.now.place }
     requires unlocked { IsUnlocked frame.old }
     requires other_unlocked { IsUnlocked other.old }
-    ensures goes_on { GoesOn frame.old frame.new }
-    ensures other_goes_on { GoesOn other.old other.new }
+    ensures keeps { Keeps frame.old frame.new }
+    ensures other_keeps { Keeps other.old other.new }
+    ensures unlocked { IsUnlocked frame.new }
+    ensures other_unlocked { IsUnlocked other.new }
+    ensures same { result ≡ list }
 {
-    assert!(rt; frame.owns(globals));
     match try_lock(frame, globals) {
         Err(_) => panic!(rt; "nobody else has locked the globals"),
         Ok(locked) => {
@@ -67,17 +75,21 @@ fn locks_meanwhile<R: Abort + Wait, H: Home<A>, A: Allocator>(
 fn puts_then<R: Abort + Wait, H: Home<A>, A: Allocator>(
     rt: &R,
     frame: &mut Frame<H, A>,
-    globals: &Handle,
-    list: Handle,
+    globals: &Handle<A>,
+    list: Handle<A>,
 )
+    requires owned { Owns frame.old globals.now }
+    requires list_owned { Owns frame.old list }
+    requires apart { list.place ≢ globals.now.place }
     requires unlocked { IsUnlocked frame.old }
-    ensures { GoesOn frame.old frame.new }
+    ensures loses { Loses frame.old frame.new list }
+    ensures unlocked { IsUnlocked frame.new }
 {
     gives(rt, frame, globals, Giving::TryPut(7), list);
     let found = gets(rt, frame, globals, Getting::TryFind(7));
-    give_back(rt, frame, found);
+    frame.release(found);
     let list = gets(rt, frame, globals, Getting::Del(7));
-    give_back(rt, frame, list);
+    frame.release(list);
 }
 
 #[test]
@@ -91,10 +103,10 @@ fn what_another_thread_has_locked_is_busy(rt: HostRuntime) {
     let list = made(&rt, rt.alloc(), second.frame(), Thing::List);
     let list = locks_meanwhile(&rt, first.frame(), &globals, second.frame(), &others, list);
     puts_then(&rt, second.frame(), &others, list);
-    give_back(&rt, first.frame(), globals);
-    give_back(&rt, second.frame(), others);
-    let _first = ends(&rt, &heap, &mut root, first);
-    let ledger = ends(&rt, &heap, &mut root, second);
+    first.frame().release(globals);
+    second.frame().release(others);
+    let _first = first.end(&rt, &mut root, &heap);
+    let ledger = second.end(&rt, &mut root, &heap);
     assert_eq!(rt; (ledger.allocs, ledger.frees), (1, 1));
     is_empty(&rt, heap, root);
 }

@@ -1,12 +1,14 @@
 //! Calls on containers by their names: those that a value is given to, those that answer a handle to an entry, and those that
-//! exchange the two. Whether the frame has the handles, and whether they are apart, is looked at first.
+//! exchange the two. Each says of the frame's handles what the call itself says.
 
-ghost use Rattle.brc_count.specs.Frames.{IsUnlocked};
-ghost use Rattle.brc_containers.specs.Handles.{GoesOn};
+ghost use Rattle.std.specs.Prelude.{◌≡◌, ◌≢◌, IfOk, IfErr, IfSome, OnOk, OnErr};
+ghost use Rattle.brc_count.specs.Frames.{IsUnlocked, Owns};
+ghost use Rattle.brc_count.specs.Owned.{Keeps, Gains, Loses};
+ghost use Rattle.brc_dicts.specs.Putting.{OwnsPut};
 
 use crate::guards::{Way, entry_by_guard, put_by_guard, swap_by_guard, take_by_guard};
-use crate::objects::{Thing, give_back, made, number_of, the_globals};
-use brc_count::{Frame, Handle};
+use crate::objects::{Thing, made, number_of, the_globals};
+use brc_count::{Frame, Handed, Handle};
 use brc_counter::Home;
 use brc_dicts::{dict_del, dict_find, dict_put, try_dict_find, try_dict_put};
 use brc_lists::{
@@ -61,18 +63,60 @@ pub(crate) enum Exchanging {
     Swap(u32, Way),
 }
 
-/// A put of a new key, which a refusal hands back.
-fn beside<A: Allocator>(
-    rt: &impl Abort,
+/// A put, which answers the old value, if there was one, by the handle that the value had.
+fn put<R: Abort + Wait, H: Home<A>, A: Allocator>(
+    rt: &R,
+    frame: &mut Frame<H, A>,
+    dict: &Handle<A>,
     key: i64,
-    answer: Result<Option<Handle>, (Fault, (Key<A>, Handle))>,
-) -> Result<(), (Fault, Handle)> {
-    match answer {
+    value: Handle<A>,
+    way: Way,
+) -> Result<Option<Handle<A>>, Handed<(Key<A>, Handle<A>)>>
+    requires owned { Owns frame.old dict.now }
+    requires value_owned { Owns frame.old value }
+    requires apart { value.place ≢ dict.now.place }
+    requires unlocked { IsUnlocked frame.old }
+    ensures owns { IfOk result (OwnsPut frame.old frame.new value) }
+    ensures same { IfOk result (λ old. IfSome old (λ given. given ≡ value)) }
+    ensures keeps { OnErr result (Keeps frame.old frame.new) }
+    ensures unlocked { IsUnlocked frame.new }
+    ensures back { IfErr result (λ handed. handed.back.1 ≡ value) }
+{
+    match way {
+        Way::AtOnce => try_dict_put(frame, dict, Key::Int(key), value),
+        Way::Late => dict_put(rt, frame, dict, Key::Int(key), value),
+    }
+}
+
+/// A put of a new key. A refusal hands key and value back.
+fn put_new<R: Abort + Wait, H: Home<A>, A: Allocator>(
+    rt: &R,
+    frame: &mut Frame<H, A>,
+    dict: &Handle<A>,
+    key: i64,
+    value: Handle<A>,
+    way: Way,
+) -> Result<(), Handed<Handle<A>>>
+    requires owned { Owns frame.old dict.now }
+    requires value_owned { Owns frame.old value }
+    requires apart { value.place ≢ dict.now.place }
+    requires unlocked { IsUnlocked frame.old }
+    ensures loses { OnOk result (Loses frame.old frame.new value) }
+    ensures keeps { OnErr result (Keeps frame.old frame.new) }
+    ensures unlocked { IsUnlocked frame.new }
+    ensures back { IfErr result (λ handed. handed.back ≡ value) }
+{
+    match put(rt, frame, dict, key, value, way) {
         Ok(None) => Ok(()),
         Ok(Some(_old)) => panic!(rt; "the key was there"),
-        Err((fault, (key_back, value))) => {
+        Err(
+            Handed {
+                fault,
+                back: (key_back, back),
+            },
+        ) => {
             assert!(rt; key_back == Key::Int(key));
-            Err((fault, value))
+            Err(Handed { fault, back })
         }
     }
 }
@@ -81,29 +125,26 @@ fn beside<A: Allocator>(
 pub(crate) fn given<R: Abort + Wait, H: Home<A>, A: Allocator>(
     rt: &R,
     frame: &mut Frame<H, A>,
-    container: &Handle,
+    container: &Handle<A>,
     giving: Giving,
-    value: Handle,
-) -> Result<(), (Fault, Handle)>
+    value: Handle<A>,
+) -> Result<(), Handed<Handle<A>>>
+    requires owned { Owns frame.old container.now }
+    requires value_owned { Owns frame.old value }
+    requires apart { value.place ≢ container.now.place }
     requires unlocked { IsUnlocked frame.old }
-    ensures { GoesOn frame.old frame.new }
+    ensures loses { OnOk result (Loses frame.old frame.new value) }
+    ensures keeps { OnErr result (Keeps frame.old frame.new) }
+    ensures unlocked { IsUnlocked frame.new }
+    ensures back { IfErr result (λ handed. handed.back ≡ value) }
 {
-    assert!(rt; frame.owns(container));
-    assert!(rt; frame.owns(&value));
-    assert!(rt; value.is_apart(container));
     match giving {
         Giving::Push => list_push(rt, frame, container, value),
         Giving::TryPush => try_list_push(frame, container, value),
         Giving::Send => send(rt, frame, container, value),
         Giving::TrySend => try_send(frame, container, value),
-        Giving::Put(key) => {
-            let answer = dict_put(rt, frame, container, Key::Int(key), value);
-            beside(rt, key, answer)
-        }
-        Giving::TryPut(key) => {
-            let answer = try_dict_put(frame, container, Key::Int(key), value);
-            beside(rt, key, answer)
-        }
+        Giving::Put(key) => put_new(rt, frame, container, key, value, Way::Late),
+        Giving::TryPut(key) => put_new(rt, frame, container, key, value, Way::AtOnce),
         Giving::Room(way) => put_by_guard(rt, frame, container, value, way),
     }
 }
@@ -112,16 +153,20 @@ pub(crate) fn given<R: Abort + Wait, H: Home<A>, A: Allocator>(
 pub(crate) fn gives<R: Abort + Wait, H: Home<A>, A: Allocator>(
     rt: &R,
     frame: &mut Frame<H, A>,
-    container: &Handle,
+    container: &Handle<A>,
     giving: Giving,
-    value: Handle,
+    value: Handle<A>,
 )
+    requires owned { Owns frame.old container.now }
+    requires value_owned { Owns frame.old value }
+    requires apart { value.place ≢ container.now.place }
     requires unlocked { IsUnlocked frame.old }
-    ensures { GoesOn frame.old frame.new }
+    ensures loses { Loses frame.old frame.new value }
+    ensures unlocked { IsUnlocked frame.new }
 {
     match given(rt, frame, container, giving, value) {
         Ok(()) => {}
-        Err((_, _value)) => panic!(rt; "a value is refused"),
+        Err(_handed) => panic!(rt; "a value is refused"),
     }
 }
 
@@ -129,17 +174,22 @@ pub(crate) fn gives<R: Abort + Wait, H: Home<A>, A: Allocator>(
 pub(crate) fn refuses<R: Abort + Wait, H: Home<A>, A: Allocator>(
     rt: &R,
     frame: &mut Frame<H, A>,
-    container: &Handle,
+    container: &Handle<A>,
     giving: Giving,
-    value: Handle,
+    value: Handle<A>,
     why: Fault,
-) -> Handle
+) -> Handle<A>
+    requires owned { Owns frame.old container.now }
+    requires value_owned { Owns frame.old value }
+    requires apart { value.place ≢ container.now.place }
     requires unlocked { IsUnlocked frame.old }
-    ensures { GoesOn frame.old frame.new }
+    ensures keeps { Keeps frame.old frame.new }
+    ensures unlocked { IsUnlocked frame.new }
+    ensures same { result ≡ value }
 {
     match given(rt, frame, container, giving, value) {
         Ok(()) => panic!(rt; "a value is taken"),
-        Err((fault, value)) => {
+        Err(Handed { fault, back: value }) => {
             assert_eq!(rt; fault, why);
             value
         }
@@ -150,13 +200,15 @@ pub(crate) fn refuses<R: Abort + Wait, H: Home<A>, A: Allocator>(
 pub(crate) fn had<R: Abort + Wait, H: Home<A>, A: Allocator>(
     rt: &R,
     frame: &mut Frame<H, A>,
-    container: &Handle,
+    container: &Handle<A>,
     getting: Getting,
-) -> Result<Handle, Fault>
+) -> Result<Handle<A>, Fault>
+    requires owned { Owns frame.old container.now }
     requires unlocked { IsUnlocked frame.old }
-    ensures { GoesOn frame.old frame.new }
+    ensures gains { IfOk result (Gains frame.old frame.new) }
+    ensures keeps { OnErr result (Keeps frame.old frame.new) }
+    ensures unlocked { IsUnlocked frame.new }
 {
-    assert!(rt; frame.owns(container));
     match getting {
         Getting::Pop => list_pop(rt, frame, container),
         Getting::TryPop => try_list_pop(frame, container),
@@ -176,11 +228,13 @@ pub(crate) fn had<R: Abort + Wait, H: Home<A>, A: Allocator>(
 pub(crate) fn gets<R: Abort + Wait, H: Home<A>, A: Allocator>(
     rt: &R,
     frame: &mut Frame<H, A>,
-    container: &Handle,
+    container: &Handle<A>,
     getting: Getting,
-) -> Handle
+) -> Handle<A>
+    requires owned { Owns frame.old container.now }
     requires unlocked { IsUnlocked frame.old }
-    ensures { GoesOn frame.old frame.new }
+    ensures gains { Gains frame.old frame.new result }
+    ensures unlocked { IsUnlocked frame.new }
 {
     match had(rt, frame, container, getting) {
         Ok(handle) => handle,
@@ -192,12 +246,14 @@ pub(crate) fn gets<R: Abort + Wait, H: Home<A>, A: Allocator>(
 pub(crate) fn gets_number<R: Abort + Wait, H: Home<A>, A: Allocator>(
     rt: &R,
     frame: &mut Frame<H, A>,
-    container: &Handle,
+    container: &Handle<A>,
     getting: Getting,
     number: i64,
 )
+    requires owned { Owns frame.old container.now }
     requires unlocked { IsUnlocked frame.old }
-    ensures { GoesOn frame.old frame.new }
+    ensures keeps { Keeps frame.old frame.new }
+    ensures unlocked { IsUnlocked frame.new }
 {
     let handle = gets(rt, frame, container, getting);
     assert_eq!(rt; number_of(rt, frame, handle), number);
@@ -207,11 +263,13 @@ pub(crate) fn gets_number<R: Abort + Wait, H: Home<A>, A: Allocator>(
 pub(crate) fn gets_none<R: Abort + Wait, H: Home<A>, A: Allocator>(
     rt: &R,
     frame: &mut Frame<H, A>,
-    container: &Handle,
+    container: &Handle<A>,
     getting: Getting,
 )
+    requires owned { Owns frame.old container.now }
     requires unlocked { IsUnlocked frame.old }
-    ensures { GoesOn frame.old frame.new }
+    ensures keeps { Keeps frame.old frame.new }
+    ensures unlocked { IsUnlocked frame.new }
 {
     match had(rt, frame, container, getting) {
         Ok(_handle) => panic!(rt; "an entry is there"),
@@ -223,29 +281,31 @@ pub(crate) fn gets_none<R: Abort + Wait, H: Home<A>, A: Allocator>(
 pub(crate) fn exchanges<R: Abort + Wait, H: Home<A>, A: Allocator>(
     rt: &R,
     frame: &mut Frame<H, A>,
-    container: &Handle,
+    container: &Handle<A>,
     exchanging: Exchanging,
-    value: Handle,
-) -> Handle
+    value: Handle<A>,
+) -> Handle<A>
+    requires owned { Owns frame.old container.now }
+    requires value_owned { Owns frame.old value }
+    requires apart { value.place ≢ container.now.place }
     requires unlocked { IsUnlocked frame.old }
-    ensures { GoesOn frame.old frame.new }
+    ensures keeps { Keeps frame.old frame.new }
+    ensures unlocked { IsUnlocked frame.new }
+    ensures same { result ≡ value }
 {
-    assert!(rt; frame.owns(container));
-    assert!(rt; frame.owns(&value));
-    assert!(rt; value.is_apart(container));
     match exchanging {
         Exchanging::Set(index) => match list_set(rt, frame, container, index, value) {
             Ok(old) => old,
-            Err((_, _value)) => panic!(rt; "an exchange is refused"),
+            Err(_handed) => panic!(rt; "an exchange is refused"),
         },
         Exchanging::TrySet(index) => match try_list_set(frame, container, index, value) {
             Ok(old) => old,
-            Err((_, _value)) => panic!(rt; "an exchange that doesn't wait is refused"),
+            Err(_handed) => panic!(rt; "an exchange that doesn't wait is refused"),
         },
-        Exchanging::Put(key) => match dict_put(rt, frame, container, Key::Int(key), value) {
+        Exchanging::Put(key) => match put(rt, frame, container, key, value, Way::Late) {
             Ok(Some(old)) => old,
             Ok(None) => panic!(rt; "the key wasn't there"),
-            Err((_, (_key, _value))) => panic!(rt; "a put is refused"),
+            Err(_handed) => panic!(rt; "a put is refused"),
         },
         Exchanging::Swap(index, way) => swap_by_guard(rt, frame, container, index, value, way),
     }
@@ -256,14 +316,16 @@ pub(crate) fn shares<R: Abort + Wait, H: Home<A>, A: Allocator>(
     rt: &R,
     frame: &mut Frame<H, A>,
     key: i64,
-    value: Handle,
+    value: Handle<A>,
 )
+    requires owned { Owns frame.old value }
     requires unlocked { IsUnlocked frame.old }
-    ensures { GoesOn frame.old frame.new }
+    ensures loses { Loses frame.old frame.new value }
+    ensures unlocked { IsUnlocked frame.new }
 {
     let globals = the_globals(rt, frame);
     gives(rt, frame, &globals, Giving::Put(key), value);
-    give_back(rt, frame, globals);
+    frame.release(globals);
 }
 
 /// A handle to what the call on the globals finds.
@@ -271,13 +333,14 @@ pub(crate) fn fetches<R: Abort + Wait, H: Home<A>, A: Allocator>(
     rt: &R,
     frame: &mut Frame<H, A>,
     getting: Getting,
-) -> Handle
+) -> Handle<A>
     requires unlocked { IsUnlocked frame.old }
-    ensures { GoesOn frame.old frame.new }
+    ensures gains { Gains frame.old frame.new result }
+    ensures unlocked { IsUnlocked frame.new }
 {
     let globals = the_globals(rt, frame);
     let found = gets(rt, frame, &globals, getting);
-    give_back(rt, frame, globals);
+    frame.release(globals);
     found
 }
 
@@ -286,12 +349,14 @@ pub(crate) fn gives_number<R: Abort + Wait, H: Home<A>, A: Allocator + Copy>(
     rt: &R,
     alloc: A,
     frame: &mut Frame<H, A>,
-    container: &Handle,
+    container: &Handle<A>,
     giving: Giving,
     number: i64,
 )
+    requires owned { Owns frame.old container.now }
     requires unlocked { IsUnlocked frame.old }
-    ensures { GoesOn frame.old frame.new }
+    ensures keeps { Keeps frame.old frame.new }
+    ensures unlocked { IsUnlocked frame.new }
 {
     let value = made(rt, alloc, frame, Thing::Int(number));
     gives(rt, frame, container, giving, value);
@@ -306,7 +371,8 @@ pub(crate) fn shares_new<R: Abort + Wait, H: Home<A>, A: Allocator + Copy>(
     thing: Thing,
 )
     requires unlocked { IsUnlocked frame.old }
-    ensures { GoesOn frame.old frame.new }
+    ensures keeps { Keeps frame.old frame.new }
+    ensures unlocked { IsUnlocked frame.new }
 {
     let value = made(rt, alloc, frame, thing);
     shares(rt, frame, key, value);

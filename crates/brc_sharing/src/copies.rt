@@ -1,12 +1,12 @@
 //! The copy of a text refused for want of memory: the frame and the text are as before, and with memory the copy is had. Memory
 //! is all taken at first, and comes back a piece at a time.
 
-ghost use Rattle.brc_count.specs.Frames.{IsUnlocked};
-ghost use Rattle.brc_containers.specs.Handles.{GoesOn};
+ghost use Rattle.brc_count.specs.Frames.{IsUnlocked, Owns};
+ghost use Rattle.brc_count.specs.Owned.{Keeps};
 
 use crate::guards::Way;
 use crate::memory::Pieces;
-use crate::objects::{a_text, give_back};
+use crate::objects::a_text;
 use brc_containers::{text_of, try_text_of};
 use brc_count::{Frame, Handle};
 use brc_counter::Home;
@@ -24,13 +24,14 @@ fn copied<R: Abort + Wait, H: Home<A>, A: Allocator>(
     rt: &R,
     alloc: A,
     frame: &mut Frame<H, A>,
-    text: &Handle,
+    text: &Handle<A>,
     way: Way,
 ) -> Result<Text<A>, Fault>
+    requires owned { Owns frame.old text.now }
     requires unlocked { IsUnlocked frame.old }
-    ensures { GoesOn frame.old frame.new }
+    ensures keeps { Keeps frame.old frame.new }
+    ensures unlocked { IsUnlocked frame.new }
 {
-    assert!(rt; frame.owns(text));
     match way {
         Way::AtOnce => try_text_of(alloc, frame, text),
         Way::Late => text_of(rt, alloc, frame, text),
@@ -43,11 +44,13 @@ fn copies_with_memory<'h, R: Abort + Wait, H: Home<&'h LocalHeap>>(
     scarce: &'h LocalHeap,
     pieces: &mut Pieces<'h>,
     frame: &mut Frame<H, &'h LocalHeap>,
-    text: &Handle,
+    text: &Handle<&'h LocalHeap>,
     way: Way,
 )
+    requires owned { Owns frame.old text.now }
     requires unlocked { IsUnlocked frame.old }
-    ensures { GoesOn frame.old frame.new }
+    ensures keeps { Keeps frame.old frame.new }
+    ensures unlocked { IsUnlocked frame.new }
 {
     for tried in 0..1_000 {
         match copied(rt, scarce, frame, text, way) {
@@ -74,10 +77,11 @@ pub(crate) fn refuses_a_copy<'h, R: Abort + Wait, H: Home<&'h LocalHeap>>(
     way: Way,
 )
     requires unlocked { IsUnlocked frame.old }
-    ensures { GoesOn frame.old frame.new }
+    ensures keeps { Keeps frame.old frame.new }
+    ensures unlocked { IsUnlocked frame.new }
 {
     let text = a_text(rt, ample, frame, SOME_TEXT);
     let mut pieces = Pieces::take_all(rt, alloc, scarce);
     copies_with_memory(rt, scarce, &mut pieces, frame, &text, way);
-    give_back(rt, frame, text);
+    frame.release(text);
 }

@@ -1,13 +1,12 @@
 //! Objects that are locked by a guard: looked at, and unlocked as they were found, or with one entry more, fewer or exchanged.
 
-ghost use Rattle.std.specs.Prelude.{◌≡◌};
+ghost use Rattle.std.specs.Prelude.{◌≡◌, ◌≢◌, IfOk, IfErr, OnOk, OnErr};
 ghost use Rattle.brc_count.specs.Frames.{IsUnlocked, Owns};
-ghost use Rattle.brc_count.specs.Locking.{KeepsThread, KeepsFrame};
-ghost use Rattle.brc_containers.specs.Handles.{GoesOn};
+ghost use Rattle.brc_count.specs.Owned.{Keeps, Gains, Loses};
 ghost use Rattle.brc_lock.specs.Holding.{Holds};
 
 use brc_block::{Block, Entries, Payload};
-use brc_count::{Frame, Handle};
+use brc_count::{Frame, Handed, Handle};
 use brc_counter::Home;
 use brc_lock::{Locked, lock, try_lock};
 use brc_words::{Fault, Key};
@@ -26,7 +25,7 @@ pub(crate) enum Way {
 fn locked<'f, R: Abort + Wait, H: Home<A>, A: Allocator>(
     rt: &R,
     frame: &'f mut Frame<H, A>,
-    handle: &'f Handle,
+    handle: &'f Handle<A>,
     way: Way,
 ) -> Locked<'f, H, A, Block<A>>
     requires owned { Owns frame.old handle.now }
@@ -34,8 +33,7 @@ fn locked<'f, R: Abort + Wait, H: Home<A>, A: Allocator>(
     ensures same_reference { result.frame.ghost_name ≡ frame.entry.ghost_name }
     ensures handle { result.handle.now ≡ handle.now }
     ensures holds { Holds result.frame.now handle.now result.block }
-    ensures thread { KeepsThread frame.old result.frame.now }
-    ensures frame { KeepsFrame frame.old result.frame.now }
+    ensures keeps { Keeps frame.old result.frame.now }
 {
     match way {
         Way::AtOnce => match try_lock(frame, handle) {
@@ -50,17 +48,19 @@ fn locked<'f, R: Abort + Wait, H: Home<A>, A: Allocator>(
 pub(crate) fn put_by_guard<R: Abort + Wait, H: Home<A>, A: Allocator>(
     rt: &R,
     frame: &mut Frame<H, A>,
-    list: &Handle,
-    value: Handle,
+    list: &Handle<A>,
+    value: Handle<A>,
     way: Way,
-) -> Result<(), (Fault, Handle)>
+) -> Result<(), Handed<Handle<A>>>
+    requires owned { Owns frame.old list.now }
+    requires value_owned { Owns frame.old value }
+    requires apart { value.place ≢ list.now.place }
     requires unlocked { IsUnlocked frame.old }
-    ensures { GoesOn frame.old frame.new }
+    ensures loses { OnOk result (Loses frame.old frame.new value) }
+    ensures keeps { OnErr result (Keeps frame.old frame.new) }
+    ensures unlocked { IsUnlocked frame.new }
+    ensures back { IfErr result (λ handed. handed.back ≡ value) }
 {
-    assert!(rt; frame.owns(list));
-    assert!(rt; frame.owns(&value));
-    assert!(rt; value.is_apart(list));
-    let _cell = frame.cell(&value);
     let mut guard = locked(rt, frame, list, way);
     let Payload::List(_) = guard.payload() else {
         panic!(rt; "it is no list")
@@ -72,7 +72,7 @@ pub(crate) fn put_by_guard<R: Abort + Wait, H: Home<A>, A: Allocator>(
         }
         Err(fault) => {
             guard.unlock();
-            Err((fault, value))
+            Err(Handed { fault, back: value })
         }
     }
 }
@@ -81,17 +81,17 @@ pub(crate) fn put_by_guard<R: Abort + Wait, H: Home<A>, A: Allocator>(
 pub(crate) fn puts_a_pair<R: Abort + Wait, H: Home<A>, A: Allocator>(
     rt: &R,
     frame: &mut Frame<H, A>,
-    dict: &Handle,
-    value: Handle,
+    dict: &Handle<A>,
+    value: Handle<A>,
     way: Way,
 )
+    requires owned { Owns frame.old dict.now }
+    requires value_owned { Owns frame.old value }
+    requires apart { value.place ≢ dict.now.place }
     requires unlocked { IsUnlocked frame.old }
-    ensures { GoesOn frame.old frame.new }
+    ensures loses { Loses frame.old frame.new value }
+    ensures unlocked { IsUnlocked frame.new }
 {
-    assert!(rt; frame.owns(dict));
-    assert!(rt; frame.owns(&value));
-    assert!(rt; value.is_apart(dict));
-    let _cell = frame.cell(&value);
     let mut guard = locked(rt, frame, dict, way);
     let Payload::Dict(pairs) = guard.payload() else {
         panic!(rt; "it is no dictionary")
@@ -107,14 +107,16 @@ pub(crate) fn puts_a_pair<R: Abort + Wait, H: Home<A>, A: Allocator>(
 pub(crate) fn entry_by_guard<R: Abort + Wait, H: Home<A>, A: Allocator>(
     rt: &R,
     frame: &mut Frame<H, A>,
-    list: &Handle,
+    list: &Handle<A>,
     index: u32,
     way: Way,
-) -> Result<Handle, Fault>
+) -> Result<Handle<A>, Fault>
+    requires owned { Owns frame.old list.now }
     requires unlocked { IsUnlocked frame.old }
-    ensures { GoesOn frame.old frame.new }
+    ensures gains { IfOk result (Gains frame.old frame.new) }
+    ensures keeps { OnErr result (Keeps frame.old frame.new) }
+    ensures unlocked { IsUnlocked frame.new }
 {
-    assert!(rt; frame.owns(list));
     let mut guard = locked(rt, frame, list, way);
     let Payload::List(cells) = guard.payload() else {
         panic!(rt; "it is no list")
@@ -137,14 +139,16 @@ pub(crate) fn entry_by_guard<R: Abort + Wait, H: Home<A>, A: Allocator>(
 pub(crate) fn take_by_guard<R: Abort + Wait, H: Home<A>, A: Allocator>(
     rt: &R,
     frame: &mut Frame<H, A>,
-    list: &Handle,
+    list: &Handle<A>,
     index: u32,
     way: Way,
-) -> Result<Handle, Fault>
+) -> Result<Handle<A>, Fault>
+    requires owned { Owns frame.old list.now }
     requires unlocked { IsUnlocked frame.old }
-    ensures { GoesOn frame.old frame.new }
+    ensures gains { IfOk result (Gains frame.old frame.new) }
+    ensures keeps { OnErr result (Keeps frame.old frame.new) }
+    ensures unlocked { IsUnlocked frame.new }
 {
-    assert!(rt; frame.owns(list));
     let mut guard = locked(rt, frame, list, way);
     let Payload::List(cells) = guard.payload() else {
         panic!(rt; "it is no list")
@@ -163,18 +167,19 @@ pub(crate) fn take_by_guard<R: Abort + Wait, H: Home<A>, A: Allocator>(
 pub(crate) fn swap_by_guard<R: Abort + Wait, H: Home<A>, A: Allocator>(
     rt: &R,
     frame: &mut Frame<H, A>,
-    list: &Handle,
+    list: &Handle<A>,
     index: u32,
-    value: Handle,
+    value: Handle<A>,
     way: Way,
-) -> Handle
+) -> Handle<A>
+    requires owned { Owns frame.old list.now }
+    requires value_owned { Owns frame.old value }
+    requires apart { value.place ≢ list.now.place }
     requires unlocked { IsUnlocked frame.old }
-    ensures { GoesOn frame.old frame.new }
+    ensures keeps { Keeps frame.old frame.new }
+    ensures unlocked { IsUnlocked frame.new }
+    ensures same { result ≡ value }
 {
-    assert!(rt; frame.owns(list));
-    assert!(rt; frame.owns(&value));
-    assert!(rt; value.is_apart(list));
-    let _cell = frame.cell(&value);
     let guard = locked(rt, frame, list, way);
     let Payload::List(cells) = guard.payload() else {
         panic!(rt; "it is no list")

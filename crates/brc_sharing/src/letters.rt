@@ -2,12 +2,12 @@
 
 ghost use Rattle.std.specs.Prelude.{◌≡◌};
 ghost use Rattle.brc_count.specs.Frames.{IsUnlocked};
-ghost use Rattle.brc_containers.specs.Handles.{GoesOn};
+ghost use Rattle.brc_count.specs.Owned.{Keeps};
 
 use crate::calls::{Getting, Giving, fetches, gets, gives_number, shares_new};
-use crate::objects::{Thing, entries, give_back, number_of};
+use crate::objects::{Thing, entries, number_of};
 use crate::sums::sum_of;
-use crate::threads::{a_heap, a_thread, ends, is_empty, rests, retires};
+use crate::threads::{a_heap, a_thread, is_empty};
 use brc_count::Frame;
 use brc_counter::Home;
 use brc_thread::{Heap, Resting, Retired};
@@ -24,11 +24,12 @@ fn sends_one<R: Abort + Wait, H: Home<A>, A: Allocator + Copy>(
     number: i64,
 )
     requires unlocked { IsUnlocked frame.old }
-    ensures { GoesOn frame.old frame.new }
+    ensures keeps { Keeps frame.old frame.new }
+    ensures unlocked { IsUnlocked frame.new }
 {
     let mailbox = fetches(rt, frame, Getting::Find(7));
     gives_number(rt, alloc, frame, &mailbox, Giving::Send, number);
-    give_back(rt, frame, mailbox);
+    frame.release(mailbox);
 }
 
 /// A thread that sends 1,000 integers, from this number up.
@@ -48,7 +49,7 @@ fn sends<R: Abort + Wait, A: Allocator + Copy>(
         let _told = mutator.poll();
         let _left = mutator.work(2);
     }
-    retires(rt, mutator)
+    mutator.retire(rt)
 }
 
 /// Two threads send at once, each on a thread of its own.
@@ -74,7 +75,8 @@ fn two_send<R: Threads + Abort + Wait + Sync>(
 /// All letters are received: each sender's come in their order, and there are 2,000.
 fn receives_all<R: Abort + Wait, H: Home<A>, A: Allocator>(rt: &R, frame: &mut Frame<H, A>)
     requires unlocked { IsUnlocked frame.old }
-    ensures { GoesOn frame.old frame.new }
+    ensures keeps { Keeps frame.old frame.new }
+    ensures unlocked { IsUnlocked frame.new }
 {
     let mailbox = fetches(rt, frame, Getting::Del(7));
     let mut first: i64 = 1_000;
@@ -93,7 +95,7 @@ fn receives_all<R: Abort + Wait, H: Home<A>, A: Allocator>(rt: &R, frame: &mut F
         let _left = frame.work(2);
     }
     assert_eq!(rt; entries(rt, frame, &mailbox), 0);
-    give_back(rt, frame, mailbox);
+    frame.release(mailbox);
 }
 
 #[test]
@@ -102,15 +104,15 @@ fn letters_of_two_threads_come_in_their_order(rt: HostRuntime) {
     let mut root = root;
     let mut last = a_thread(&rt, rt.alloc(), &heap, &mut root);
     shares_new(&rt, rt.alloc(), last.frame(), 7, Thing::Mailbox);
-    let first = rests(&rt, rt.alloc(), &heap, &mut root);
-    let second = rests(&rt, rt.alloc(), &heap, &mut root);
+    let first = a_thread(&rt, rt.alloc(), &heap, &mut root).rest();
+    let second = a_thread(&rt, rt.alloc(), &heap, &mut root).rest();
     let (first, second) = two_send(&rt, rt.alloc(), &heap, first, second);
     let births = sum_of(first.ledger().allocs, second.ledger().allocs);
     let frees = sum_of(first.ledger().frees, second.ledger().frees);
     root.gather(&heap, first);
     root.gather(&heap, second);
     receives_all(&rt, last.frame());
-    let ledger = ends(&rt, &heap, &mut root, last);
+    let ledger = last.end(&rt, &mut root, &heap);
     assert_eq!(rt; sum_of(births, ledger.allocs), 2_001);
     assert_eq!(rt; sum_of(frees, ledger.frees), 2_001);
     is_empty(&rt, heap, root);

@@ -1,9 +1,9 @@
 //! Worked runs of containers that threads share, run by the gate: a list and a mailbox that pass through the globals, an object
 //! that another thread has locked, objects edited by a guard, calls that never wait, a full list, refused growths and copies,
-//! letters of two real threads in their order, and many turns of real threads on shared containers.
+//! letters of two real threads in their order, threads that depart, and many turns of real threads on shared containers.
 //!
-//! Tests, and what they look at. Each call's conditions are shown from the contracts of the crates below alone, or looked at as
-//! the test runs: whether a frame has a handle, and whether two handles are apart.
+//! Tests, and what they look at. Each call's conditions are shown from the contracts of the crates below alone; only of handles
+//! that a vector keeps it is looked at, as the test runs, whether the frame owns them.
 #![tactic(auto)]
 
 mod sums;
@@ -18,6 +18,8 @@ mod busy;
 mod calls;
 #[cfg(test)]
 mod copies;
+#[cfg(test)]
+mod departing;
 #[cfg(test)]
 mod guards;
 #[cfg(test)]

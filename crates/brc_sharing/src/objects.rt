@@ -1,7 +1,8 @@
-//! Objects and references, of which a test wants that they are had. Whether the frame has a handle is looked at first.
+//! Objects and references, of which a test wants that they are had.
 
-ghost use Rattle.brc_count.specs.Frames.{IsUnlocked};
-ghost use Rattle.brc_containers.specs.Handles.{GoesOn};
+ghost use Rattle.std.specs.Prelude.{IfOk, OnErr};
+ghost use Rattle.brc_count.specs.Frames.{IsUnlocked, Owns};
+ghost use Rattle.brc_count.specs.Owned.{Keeps, Gains, Loses};
 
 use brc_containers::{int_of, len_of};
 use brc_count::{Frame, Handle};
@@ -26,9 +27,11 @@ fn tried<H: Home<A>, A: Allocator + Copy>(
     alloc: A,
     frame: &mut Frame<H, A>,
     thing: Thing,
-) -> Result<Handle, Fault>
+) -> Result<Handle<A>, Fault>
     requires unlocked { IsUnlocked frame.old }
-    ensures { GoesOn frame.old frame.new }
+    ensures gains { IfOk result (Gains frame.old frame.new) }
+    ensures keeps { OnErr result (Keeps frame.old frame.new) }
+    ensures unlocked { IsUnlocked frame.new }
 {
     match thing {
         Thing::Int(number) => new_int(alloc, frame, number),
@@ -44,9 +47,10 @@ pub(crate) fn made<H: Home<A>, A: Allocator + Copy>(
     alloc: A,
     frame: &mut Frame<H, A>,
     thing: Thing,
-) -> Handle
+) -> Handle<A>
     requires unlocked { IsUnlocked frame.old }
-    ensures { GoesOn frame.old frame.new }
+    ensures gains { Gains frame.old frame.new result }
+    ensures unlocked { IsUnlocked frame.new }
 {
     match tried(alloc, frame, thing) {
         Ok(handle) => handle,
@@ -60,9 +64,10 @@ pub(crate) fn a_text<H: Home<A>, A: Allocator + Copy>(
     alloc: A,
     frame: &mut Frame<H, A>,
     text: &str,
-) -> Handle
+) -> Handle<A>
     requires unlocked { IsUnlocked frame.old }
-    ensures { GoesOn frame.old frame.new }
+    ensures gains { Gains frame.old frame.new result }
+    ensures unlocked { IsUnlocked frame.new }
 {
     let Ok(text) = String::from_str(alloc, text) else {
         panic!(rt; "memory")
@@ -77,9 +82,10 @@ pub(crate) fn a_text<H: Home<A>, A: Allocator + Copy>(
 pub(crate) fn the_globals<H: Home<A>, A: Allocator>(
     rt: &impl Abort,
     frame: &mut Frame<H, A>,
-) -> Handle
+) -> Handle<A>
     requires unlocked { IsUnlocked frame.old }
-    ensures { GoesOn frame.old frame.new }
+    ensures gains { Gains frame.old frame.new result }
+    ensures unlocked { IsUnlocked frame.new }
 {
     match frame.immortal(GLOBALS) {
         Ok(handle) => handle,
@@ -91,43 +97,30 @@ pub(crate) fn the_globals<H: Home<A>, A: Allocator>(
 pub(crate) fn another<H: Home<A>, A: Allocator>(
     rt: &impl Abort,
     frame: &mut Frame<H, A>,
-    handle: &Handle,
-) -> Handle
+    handle: &Handle<A>,
+) -> Handle<A>
+    requires owned { Owns frame.old handle.now }
     requires unlocked { IsUnlocked frame.old }
-    ensures { GoesOn frame.old frame.new }
+    ensures gains { Gains frame.old frame.new result }
+    ensures unlocked { IsUnlocked frame.new }
 {
-    assert!(rt; frame.owns(handle));
-    let _cell = frame.cell(handle);
     match frame.retain(handle) {
         Ok(given) => given,
         Err(_) => panic!(rt; "no place is left"),
     }
 }
 
-/// A reference goes.
-pub(crate) fn give_back<H: Home<A>, A: Allocator>(
-    rt: &impl Abort,
-    frame: &mut Frame<H, A>,
-    handle: Handle,
-)
-    requires unlocked { IsUnlocked frame.old }
-    ensures { GoesOn frame.old frame.new }
-{
-    assert!(rt; frame.owns(&handle));
-    let _cell = frame.cell(&handle);
-    frame.release(handle);
-}
-
 /// How many entries the container has.
 pub(crate) fn entries<R: Abort + Wait, H: Home<A>, A: Allocator>(
     rt: &R,
     frame: &mut Frame<H, A>,
-    container: &Handle,
+    container: &Handle<A>,
 ) -> usize
+    requires owned { Owns frame.old container.now }
     requires unlocked { IsUnlocked frame.old }
-    ensures { GoesOn frame.old frame.new }
+    ensures keeps { Keeps frame.old frame.new }
+    ensures unlocked { IsUnlocked frame.new }
 {
-    assert!(rt; frame.owns(container));
     match len_of(rt, frame, container) {
         Ok(len) => len,
         Err(_) => panic!(rt; "it is no container"),
@@ -138,15 +131,16 @@ pub(crate) fn entries<R: Abort + Wait, H: Home<A>, A: Allocator>(
 pub(crate) fn number_of<R: Abort + Wait, H: Home<A>, A: Allocator>(
     rt: &R,
     frame: &mut Frame<H, A>,
-    handle: Handle,
+    handle: Handle<A>,
 ) -> i64
+    requires owned { Owns frame.old handle }
     requires unlocked { IsUnlocked frame.old }
-    ensures { GoesOn frame.old frame.new }
+    ensures loses { Loses frame.old frame.new handle }
+    ensures unlocked { IsUnlocked frame.new }
 {
-    assert!(rt; frame.owns(&handle));
     let Ok(number) = int_of(rt, frame, &handle) else {
         panic!(rt; "it is no integer")
     };
-    give_back(rt, frame, handle);
+    frame.release(handle);
     number
 }

@@ -2,17 +2,18 @@
 //! as many entries as before, and the frame as many handles; with memory it then passes. Memory is all taken at first, and
 //! comes back a piece at a time.
 
-ghost use Rattle.brc_count.specs.Frames.{IsUnlocked};
-ghost use Rattle.brc_containers.specs.Handles.{GoesOn};
+ghost use Rattle.std.specs.Prelude.{◌≡◌, ◌<◌, ◌++◌, ◌∷◌, [], All, length, OnOk, OnErr};
+ghost use Rattle.brc_count.specs.Frames.{HandleSeen, IsUnlocked, Owns};
+ghost use Rattle.brc_count.specs.Owned.{Keeps, Gains, GoesOn};
 
 use crate::calls::{Getting, Giving, fetches, given, had, shares};
 use crate::copies::refuses_a_copy;
 use crate::guards::Way;
 use crate::memory::{Pieces, a_local_heap};
-use crate::objects::{Thing, another, entries, give_back, made};
-use crate::threads::{a_heap, a_thread, ends, is_empty};
+use crate::objects::{Thing, another, entries, made};
+use crate::threads::{a_heap, a_thread, is_empty};
 use brc_containers::try_len_of;
-use brc_count::{Frame, Handle};
+use brc_count::{Frame, Handed, Handle};
 use brc_counter::Home;
 use brc_things::none;
 use brc_words::Fault;
@@ -22,9 +23,10 @@ use std::process::Abort;
 use std::sync::Wait;
 
 /// A reference to None.
-fn a_none<H: Home<A>, A: Allocator>(rt: &impl Abort, frame: &mut Frame<H, A>) -> Handle
+fn a_none<H: Home<A>, A: Allocator>(rt: &impl Abort, frame: &mut Frame<H, A>) -> Handle<A>
     requires unlocked { IsUnlocked frame.old }
-    ensures { GoesOn frame.old frame.new }
+    ensures gains { Gains frame.old frame.new result }
+    ensures unlocked { IsUnlocked frame.new }
 {
     match none(frame) {
         Ok(handle) => handle,
@@ -44,17 +46,19 @@ fn with_key(giving: Giving, key: u32) -> Giving {
 fn put<R: Abort + Wait, H: Home<A>, A: Allocator>(
     rt: &R,
     frame: &mut Frame<H, A>,
-    container: &Handle,
+    container: &Handle<A>,
     giving: Giving,
 ) -> Result<(), Fault>
+    requires owned { Owns frame.old container.now }
     requires unlocked { IsUnlocked frame.old }
-    ensures { GoesOn frame.old frame.new }
+    ensures keeps { Keeps frame.old frame.new }
+    ensures unlocked { IsUnlocked frame.new }
 {
     let value = a_none(rt, frame);
     match given(rt, frame, container, giving, value) {
         Ok(()) => Ok(()),
-        Err((fault, value)) => {
-            give_back(rt, frame, value);
+        Err(Handed { fault, back: value }) => {
+            frame.release(value);
             Err(fault)
         }
     }
@@ -64,11 +68,13 @@ fn put<R: Abort + Wait, H: Home<A>, A: Allocator>(
 fn puts_until_refused<R: Abort + Wait, H: Home<A>, A: Allocator>(
     rt: &R,
     frame: &mut Frame<H, A>,
-    container: &Handle,
+    container: &Handle<A>,
     giving: Giving,
 ) -> u32
+    requires owned { Owns frame.old container.now }
     requires unlocked { IsUnlocked frame.old }
-    ensures { GoesOn frame.old frame.new }
+    ensures keeps { Keeps frame.old frame.new }
+    ensures unlocked { IsUnlocked frame.new }
 {
     let handles = frame.len();
     for key in 0..1_000 {
@@ -91,11 +97,13 @@ fn puts_with_memory<'h, R: Abort + Wait, H: Home<&'h LocalHeap>>(
     rt: &R,
     pieces: &mut Pieces<'h>,
     frame: &mut Frame<H, &'h LocalHeap>,
-    container: &Handle,
+    container: &Handle<&'h LocalHeap>,
     giving: Giving,
 )
+    requires owned { Owns frame.old container.now }
     requires unlocked { IsUnlocked frame.old }
-    ensures { GoesOn frame.old frame.new }
+    ensures keeps { Keeps frame.old frame.new }
+    ensures unlocked { IsUnlocked frame.new }
 {
     for _ in 0..1_000 {
         match put(rt, frame, container, giving) {
@@ -111,10 +119,14 @@ fn puts_with_memory<'h, R: Abort + Wait, H: Home<&'h LocalHeap>>(
 fn fills_places<H: Home<A>, A: Allocator, B: Allocator>(
     rt: &impl Abort,
     frame: &mut Frame<H, A>,
-    handles: &mut Vec<Handle, B>,
+    handles: &mut Vec<Handle<A>, B>,
 )
+    requires at_heap { All (λ h. h.heap ≡ frame.old.heap) handles.old.items }
     requires unlocked { IsUnlocked frame.old }
-    ensures { GoesOn frame.old frame.new }
+    ensures at_heap { All (λ h. h.heap ≡ frame.old.heap) handles.new.items }
+    ensures heap { frame.new.heap ≡ frame.old.heap }
+    ensures owns { (h : HandleSeen) → Owns frame.old h → Owns frame.new h }
+    ensures unlocked { IsUnlocked frame.new }
 {
     for _ in 0..1_000 {
         match none(frame) {
@@ -129,11 +141,44 @@ fn fills_places<H: Home<A>, A: Allocator, B: Allocator>(
 }
 
 /// The handle is kept besides.
-fn keep<B: Allocator>(rt: &impl Abort, handles: &mut Vec<Handle, B>, handle: Handle) {
+fn keep<A: Allocator, B: Allocator>(
+    rt: &impl Abort,
+    handles: &mut Vec<Handle<A>, B>,
+    handle: Handle<A>,
+)
+    ensures { handles.new.items ≡ handles.old.items ++ handle ∷ [] }
+{
     match handles.push(handle) {
         Ok(()) => {}
         Err(_handle) => panic!(rt; "no memory for a handle"),
     }
+}
+
+/// A reference goes. Of what a vector has, proofs know the heap alone, so whether the frame owns it is looked at.
+fn give_back<H: Home<A>, A: Allocator>(rt: &impl Abort, frame: &mut Frame<H, A>, handle: Handle<A>)
+    requires at_heap { handle.heap ≡ frame.old.heap }
+    requires unlocked { IsUnlocked frame.old }
+    ensures { GoesOn frame.old frame.new }
+{
+    assert!(rt; frame.owns(&handle));
+    frame.release(handle);
+}
+
+/// All references that are kept go, the last one first.
+fn give_all_back<H: Home<A>, A: Allocator, B: Allocator>(
+    rt: &impl Abort,
+    frame: &mut Frame<H, A>,
+    handles: Vec<Handle<A>, B>,
+)
+    requires at_heap { All (λ h. h.heap ≡ frame.old.heap) handles.items }
+    requires unlocked { IsUnlocked frame.old }
+    ensures { GoesOn frame.old frame.new }
+{
+    let mut handles = handles;
+    while let Some(handle) = handles.pop() {
+        give_back(rt, frame, handle);
+    }
+    handles.destroy_empty();
 }
 
 /// The call is refused until there is memory for a place; each refusal leaves as many entries and handles as before.
@@ -141,11 +186,13 @@ fn gets_with_memory<'h, R: Abort + Wait, H: Home<&'h LocalHeap>>(
     rt: &R,
     pieces: &mut Pieces<'h>,
     frame: &mut Frame<H, &'h LocalHeap>,
-    container: &Handle,
+    container: &Handle<&'h LocalHeap>,
     getting: Getting,
-) -> Handle
+) -> Handle<&'h LocalHeap>
+    requires owned { Owns frame.old container.now }
     requires unlocked { IsUnlocked frame.old }
-    ensures { GoesOn frame.old frame.new }
+    ensures gains { Gains frame.old frame.new result }
+    ensures unlocked { IsUnlocked frame.new }
 {
     let handles = frame.len();
     let before = entries(rt, frame, container);
@@ -195,8 +242,10 @@ fn refuses_an_entry<'h, R: Abort + Wait, H: Home<&'h LocalHeap>>(
 )
     requires unlocked { IsUnlocked frame.old }
     requires other_unlocked { IsUnlocked other.old }
-    ensures goes_on { GoesOn frame.old frame.new }
-    ensures other_goes_on { GoesOn other.old other.new }
+    ensures keeps { Keeps frame.old frame.new }
+    ensures other_keeps { Keeps other.old other.new }
+    ensures unlocked { IsUnlocked frame.new }
+    ensures other_unlocked { IsUnlocked other.new }
 {
     let container = made(rt, scarce, frame, container_for(giving));
     let more = another(rt, frame, &container);
@@ -204,11 +253,10 @@ fn refuses_an_entry<'h, R: Abort + Wait, H: Home<&'h LocalHeap>>(
     let others = fetches(rt, other, Getting::Del(7));
     let mut pieces = Pieces::take_all(rt, alloc, scarce);
     let count = puts_until_refused(rt, frame, &container, giving);
-    assert!(rt; other.owns(&others));
     assert!(rt; try_len_of(other, &others) == Ok(count as usize));
     puts_with_memory(rt, &mut pieces, frame, &container, with_key(giving, count));
-    give_back(rt, other, others);
-    give_back(rt, frame, container);
+    other.release(others);
+    frame.release(container);
 }
 
 /// A handle to an entry is refused for want of memory for its place, and with memory it is had.
@@ -220,7 +268,8 @@ fn refuses_a_place<'h, R: Abort + Wait, H: Home<&'h LocalHeap>>(
     getting: Getting,
 )
     requires unlocked { IsUnlocked frame.old }
-    ensures { GoesOn frame.old frame.new }
+    ensures goes_on { GoesOn frame.old frame.new }
+    ensures bare { frame.new.len ≡ 0 }
 {
     let giving = putting(getting);
     let container = made(rt, scarce, frame, container_for(giving));
@@ -229,12 +278,10 @@ fn refuses_a_place<'h, R: Abort + Wait, H: Home<&'h LocalHeap>>(
     let mut pieces = Pieces::take_all(rt, alloc, scarce);
     fills_places(rt, frame, &mut handles);
     let entry = gets_with_memory(rt, &mut pieces, frame, &container, getting);
-    give_back(rt, frame, entry);
-    while let Some(handle) = handles.pop() {
-        give_back(rt, frame, handle);
-    }
-    handles.destroy_empty();
-    give_back(rt, frame, container);
+    frame.release(entry);
+    frame.release(container);
+    give_all_back(rt, frame, handles);
+    assert_eq!(rt; frame.len(), 0);
 }
 
 /// A call that puts, on a heap of its own with two threads.
@@ -250,10 +297,8 @@ fn puts_on_a_heap<'h, R: Abort + Wait>(
     let mut first = a_thread(rt, ample, &heap, &mut root);
     let mut second = a_thread(rt, ample, &heap, &mut root);
     refuses_an_entry(rt, alloc, scarce, first.frame(), second.frame(), giving);
-    second.settle(rt);
-    first.settle(rt);
-    let one = ends(rt, &heap, &mut root, first);
-    let _two = ends(rt, &heap, &mut root, second);
+    let _two = second.end(rt, &mut root, &heap);
+    let one = first.end(rt, &mut root, &heap);
     assert_eq!(rt; one.allocs, 1);
     is_empty(rt, heap, root);
 }
@@ -281,7 +326,7 @@ fn wants_on_a_heap<'h, R: Abort + Wait>(
     };
     let mut thread = a_thread(rt, places, &heap, &mut root);
     wants(rt, alloc, ample, scarce, thread.frame(), wanted);
-    let ledger = ends(rt, &heap, &mut root, thread);
+    let ledger = thread.end(rt, &mut root, &heap);
     assert_eq!(rt; (ledger.allocs, ledger.frees), (1, 1));
     is_empty(rt, heap, root);
 }
@@ -295,8 +340,11 @@ fn wants<'h, R: Abort + Wait, H: Home<&'h LocalHeap>>(
     frame: &mut Frame<H, &'h LocalHeap>,
     wanted: Wanted,
 )
+    requires bare { frame.old.len ≡ 0 }
     requires unlocked { IsUnlocked frame.old }
-    ensures { GoesOn frame.old frame.new }
+    ensures heap { frame.new.heap ≡ frame.old.heap }
+    ensures bare { frame.new.len ≡ 0 }
+    ensures unlocked { IsUnlocked frame.new }
 {
     match wanted {
         Wanted::Place(getting) => refuses_a_place(rt, alloc, scarce, frame, getting),

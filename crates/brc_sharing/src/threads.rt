@@ -1,14 +1,11 @@
-//! A heap, its threads, and how they end.
+//! A heap, its threads, and how the heap ends.
 
-ghost use Rattle.std.specs.Prelude.{◌≡◌};
+ghost use Rattle.std.specs.Prelude.{◌≡◌, []};
 ghost use Rattle.brc_count.specs.Frames.{IsUnlocked};
 
-use brc_count::Ledger;
-use brc_counter::Home;
-use brc_thread::{Heap, Mutator, Options, Resting, Retired, Root, take_apart};
+use brc_thread::{Heap, Mutator, Options, Root, take_apart};
 use std::alloc::Allocator;
 use std::process::Abort;
-use std::sync::Wait;
 
 /// A heap of so many cells, and its root.
 pub(crate) fn a_heap<A: Allocator + Copy>(
@@ -38,6 +35,7 @@ pub(crate) fn a_thread<'h, A: Allocator + Copy>(
 ) -> Mutator<&'h Heap<A>, A>
     requires heap { root.old.table ≡ heap.now.table }
     ensures heap { result.heap ≡ heap.now }
+    ensures idle { (result.len ≡ 0) × (result.works ≡ []) }
     ensures unlocked { IsUnlocked result }
     ensures root { root.new.table ≡ root.old.table }
 {
@@ -45,64 +43,6 @@ pub(crate) fn a_thread<'h, A: Allocator + Copy>(
         Ok(mutator) => mutator,
         Err(_) => panic!(rt; "no thread can be registered"),
     }
-}
-
-/// The next thread, at rest.
-pub(crate) fn rests<A: Allocator + Copy>(
-    rt: &impl Abort,
-    alloc: A,
-    heap: &Heap<A>,
-    root: &mut Root<A>,
-) -> Resting<A>
-    requires heap { root.old.table ≡ heap.now.table }
-    ensures heap { result.heap ≡ heap.now }
-    ensures root { root.new.table ≡ root.old.table }
-{
-    match root.register(alloc, heap) {
-        Ok(mutator) => mutator.rest(),
-        Err(_) => panic!(rt; "a thread is refused"),
-    }
-}
-
-/// A thread without handles settles and leaves, and has nothing left to do.
-pub(crate) fn retires<R: Abort + Wait, H: Home<A> + Drop, A: Allocator>(
-    rt: &R,
-    mutator: Mutator<H, A>,
-) -> Retired<A>
-    requires unlocked { IsUnlocked mutator }
-    ensures heap { result.heap ≡ mutator.heap }
-{
-    let mut mutator = mutator;
-    mutator.settle(rt);
-    match mutator.leave() {
-        Err(_mutator) => panic!(rt; "a handle is left"),
-        Ok(leaving) => {
-            let mut leaving = leaving;
-            let _left = leaving.work(1_000);
-            match leaving.finish() {
-                Ok(retired) => retired,
-                Err(_leaving) => panic!(rt; "an entry or a block is left"),
-            }
-        }
-    }
-}
-
-/// A thread without handles settles, leaves and is gathered; its ledger.
-pub(crate) fn ends<R: Abort + Wait, H: Home<A> + Drop, A: Allocator>(
-    rt: &R,
-    heap: &Heap<A>,
-    root: &mut Root<A>,
-    mutator: Mutator<H, A>,
-) -> Ledger
-    requires heap { root.old.table ≡ heap.now.table }
-    requires same { mutator.heap ≡ heap.now }
-    requires unlocked { IsUnlocked mutator }
-    ensures root { root.new.table ≡ root.old.table }
-{
-    let retired = retires(rt, mutator);
-    let ledger = retired.ledger();
-    root.gather(heap, retired);
-    ledger
 }
 
 /// The heap is taken apart, and only the immortals have blocks: cells 0 to 265.

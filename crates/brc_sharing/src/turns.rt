@@ -1,16 +1,16 @@
 //! Many turns of two, four and eight real threads on containers that they share.
 
 ghost use Rattle.std.specs.Prelude.{◌≡◌};
-ghost use Rattle.brc_count.specs.Frames.{IsUnlocked};
-ghost use Rattle.brc_containers.specs.Handles.{GoesOn};
+ghost use Rattle.brc_count.specs.Frames.{IsUnlocked, Owns};
+ghost use Rattle.brc_count.specs.Owned.{Keeps};
 ghost use Rattle.brc_sharing.specs.Threads.{BothOf};
 
 use crate::calls::{
     Exchanging, Getting, Giving, exchanges, fetches, gets, gives_number, shares, shares_new,
 };
-use crate::objects::{Thing, entries, give_back, made, number_of, the_globals};
+use crate::objects::{Thing, entries, made, number_of, the_globals};
 use crate::sums::sum_of;
-use crate::threads::{a_heap, a_thread, ends, is_empty, rests, retires};
+use crate::threads::{a_heap, a_thread, is_empty};
 use brc_count::{Frame, Handle, Ledger};
 use brc_counter::Home;
 use brc_thread::{Heap, Resting, Retired, Root};
@@ -32,7 +32,8 @@ fn sets_up<R: Abort + Wait, H: Home<A>, A: Allocator + Copy>(
     frame: &mut Frame<H, A>,
 )
     requires unlocked { IsUnlocked frame.old }
-    ensures { GoesOn frame.old frame.new }
+    ensures keeps { Keeps frame.old frame.new }
+    ensures unlocked { IsUnlocked frame.new }
 {
     let list = made(rt, alloc, frame, Thing::List);
     gives_number(rt, alloc, frame, &list, Giving::Push, 0);
@@ -46,12 +47,14 @@ fn replaces<R: Abort + Wait, H: Home<A>, A: Allocator + Copy>(
     rt: &R,
     alloc: A,
     frame: &mut Frame<H, A>,
-    container: &Handle,
+    container: &Handle<A>,
     exchanging: Exchanging,
     number: i64,
 ) -> i64
+    requires owned { Owns frame.old container.now }
     requires unlocked { IsUnlocked frame.old }
-    ensures { GoesOn frame.old frame.new }
+    ensures keeps { Keeps frame.old frame.new }
+    ensures unlocked { IsUnlocked frame.new }
 {
     let value = made(rt, alloc, frame, Thing::Int(number));
     let old = exchanges(rt, frame, container, exchanging, value);
@@ -63,12 +66,14 @@ fn passes<R: Abort + Wait, H: Home<A>, A: Allocator + Copy>(
     rt: &R,
     alloc: A,
     frame: &mut Frame<H, A>,
-    container: &Handle,
+    container: &Handle<A>,
     by: (Giving, Getting),
     number: i64,
 ) -> i64
+    requires owned { Owns frame.old container.now }
     requires unlocked { IsUnlocked frame.old }
-    ensures { GoesOn frame.old frame.new }
+    ensures keeps { Keeps frame.old frame.new }
+    ensures unlocked { IsUnlocked frame.new }
 {
     let (giving, getting) = by;
     gives_number(rt, alloc, frame, container, giving, number);
@@ -85,7 +90,8 @@ fn plays_once<R: Abort + Wait, H: Home<A>, A: Allocator + Copy>(
     number: i64,
 ) -> i64
     requires unlocked { IsUnlocked frame.old }
-    ensures { GoesOn frame.old frame.new }
+    ensures keeps { Keeps frame.old frame.new }
+    ensures unlocked { IsUnlocked frame.new }
 {
     let globals = the_globals(rt, frame);
     let replaced = replaces(rt, alloc, frame, &globals, Exchanging::Put(3), number);
@@ -99,7 +105,7 @@ fn plays_once<R: Abort + Wait, H: Home<A>, A: Allocator + Copy>(
         (Giving::Push, Getting::Pop),
         number,
     );
-    give_back(rt, frame, list);
+    frame.release(list);
     let mailbox = gets(rt, frame, &globals, Getting::Find(2));
     let received = passes(
         rt,
@@ -109,8 +115,8 @@ fn plays_once<R: Abort + Wait, H: Home<A>, A: Allocator + Copy>(
         (Giving::Send, Getting::Recv),
         number,
     );
-    give_back(rt, frame, mailbox);
-    give_back(rt, frame, globals);
+    frame.release(mailbox);
+    frame.release(globals);
     replaced
         .wrapping_add(exchanged)
         .wrapping_add(popped)
@@ -138,7 +144,7 @@ fn plays<R: Abort + Wait>(
         let _left = mutator.work(16);
     }
     Played {
-        retired: retires(rt, mutator),
+        retired: mutator.retire(rt),
         left,
     }
 }
@@ -246,8 +252,8 @@ fn two_rest(
     ensures two { BothOf heap.now result }
     ensures root { root.new.table ≡ root.old.table }
 {
-    let first = rests(rt, alloc, heap, root);
-    let second = rests(rt, alloc, heap, root);
+    let first = a_thread(rt, alloc, heap, root).rest();
+    let second = a_thread(rt, alloc, heap, root).rest();
     (first, second)
 }
 
@@ -330,20 +336,55 @@ fn gathered_one(heap: &Heap<Global>, root: &mut Root<Global>, played: Played, su
     }
 }
 
-/// What the containers have at the end is taken out, and let go; the answer is the sum of the numbers.
-fn takes_down<R: Abort + Wait, H: Home<A>, A: Allocator>(rt: &R, frame: &mut Frame<H, A>) -> i64
+/// The list is taken out of the globals and let go; the answer is the number of its last entry.
+fn takes_list_down<R: Abort + Wait, H: Home<A>, A: Allocator>(
+    rt: &R,
+    frame: &mut Frame<H, A>,
+) -> i64
     requires unlocked { IsUnlocked frame.old }
-    ensures { GoesOn frame.old frame.new }
+    ensures keeps { Keeps frame.old frame.new }
+    ensures unlocked { IsUnlocked frame.new }
 {
     let list = fetches(rt, frame, Getting::Del(1));
     let last = gets(rt, frame, &list, Getting::Pop);
     let listed = number_of(rt, frame, last);
-    give_back(rt, frame, list);
+    frame.release(list);
+    listed
+}
+
+/// The mailbox is, which is empty.
+fn takes_mailbox_down<R: Abort + Wait, H: Home<A>, A: Allocator>(rt: &R, frame: &mut Frame<H, A>)
+    requires unlocked { IsUnlocked frame.old }
+    ensures keeps { Keeps frame.old frame.new }
+    ensures unlocked { IsUnlocked frame.new }
+{
     let mailbox = fetches(rt, frame, Getting::Del(2));
     assert_eq!(rt; entries(rt, frame, &mailbox), 0);
-    give_back(rt, frame, mailbox);
+    frame.release(mailbox);
+}
+
+/// The value beside a key is; the answer is its number.
+fn takes_value_down<R: Abort + Wait, H: Home<A>, A: Allocator>(
+    rt: &R,
+    frame: &mut Frame<H, A>,
+) -> i64
+    requires unlocked { IsUnlocked frame.old }
+    ensures keeps { Keeps frame.old frame.new }
+    ensures unlocked { IsUnlocked frame.new }
+{
     let value = fetches(rt, frame, Getting::Del(3));
-    listed.wrapping_add(number_of(rt, frame, value))
+    number_of(rt, frame, value)
+}
+
+/// What the containers have at the end is taken out, and let go; the answer is the sum of the numbers.
+fn takes_down<R: Abort + Wait, H: Home<A>, A: Allocator>(rt: &R, frame: &mut Frame<H, A>) -> i64
+    requires unlocked { IsUnlocked frame.old }
+    ensures keeps { Keeps frame.old frame.new }
+    ensures unlocked { IsUnlocked frame.new }
+{
+    let listed = takes_list_down(rt, frame);
+    takes_mailbox_down(rt, frame);
+    listed.wrapping_add(takes_value_down(rt, frame))
 }
 
 /// The sums come out: so many births, as many frees, and what threads got is what they gave, less what was left.
@@ -363,7 +404,7 @@ fn two_threads_share_for_many_turns(rt: HostRuntime) {
     let played = two_play(&rt, rt.alloc(), &heap, two, 10_000);
     let sum = gathered(&heap, &mut root, played, NOTHING);
     let left = takes_down(&rt, last.frame());
-    let ledger = ends(&rt, &heap, &mut root, last);
+    let ledger = last.end(&rt, &mut root, &heap);
     come_out(&rt, sum, ledger, left, 80_002);
     is_empty(&rt, heap, root);
 }
@@ -379,7 +420,7 @@ fn four_threads_share_for_many_turns(rt: HostRuntime) {
     let sum = gathered(&heap, &mut root, one, NOTHING);
     let sum = gathered(&heap, &mut root, two, sum);
     let left = takes_down(&rt, last.frame());
-    let ledger = ends(&rt, &heap, &mut root, last);
+    let ledger = last.end(&rt, &mut root, &heap);
     come_out(&rt, sum, ledger, left, 160_002);
     is_empty(&rt, heap, root);
 }
@@ -396,7 +437,7 @@ fn eight_threads_share_for_many_turns(rt: HostRuntime) {
     let sum = gathered_four(&heap, &mut root, first, NOTHING);
     let sum = gathered_four(&heap, &mut root, second, sum);
     let left = takes_down(&rt, last.frame());
-    let ledger = ends(&rt, &heap, &mut root, last);
+    let ledger = last.end(&rt, &mut root, &heap);
     come_out(&rt, sum, ledger, left, 320_002);
     is_empty(&rt, heap, root);
 }

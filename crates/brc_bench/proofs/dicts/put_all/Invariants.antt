@@ -1,5 +1,5 @@
 use Rattle.brc_count.specs.Frames.{IsUnlocked}
-use Rattle.brc_containers.specs.Handles.{Keeps}
+use Rattle.brc_count.specs.Owned.{Keeps}
 use Rattle.brc_bench.proofs.dicts.put_all.Given as goal
 
 abbrev pub invariant-loop-number : goal.invariant-loop-number

@@ -1,5 +1,5 @@
 use Rattle.brc_count.specs.Frames.{IsUnlocked}
-use Rattle.brc_bench.specs.Handles.{Trades}
+use Rattle.brc_count.specs.Owned.{Trades}
 use Rattle.brc_bench.proofs.lists.exchanges.Given as goal
 
 abbrev pub invariant-loop : goal.invariant-loop

@@ -1,7 +1,7 @@
 use Rattle.std.proofs.Common.{◌≡◌}
 use Rattle.brc_count.specs.Frames.{IsUnlocked}
-use Rattle.brc_bench.specs.Handles.{OwnsAll}
+use Rattle.brc_handles.specs.Handles.{Holds}
 use Rattle.brc_bench.proofs.many.takes.Given as goal
 
 abbrev pub invariant-loop-i : goal.invariant-loop-i
-invariant-loop-i g l = (l.frame.heap ≡ l.fn.frame.heap) × IsUnlocked l.frame × OwnsAll l.frame l.handles.items
+invariant-loop-i g l = (l.frame.heap ≡ l.fn.frame.heap) × IsUnlocked l.frame × Holds 0 l.frame l.handles

@@ -1,5 +1,5 @@
 use Rattle.brc_count.specs.Frames.{IsUnlocked}
-use Rattle.brc_containers.specs.Handles.{Keeps}
+use Rattle.brc_count.specs.Owned.{Keeps}
 use Rattle.brc_bench.proofs.operations.polled_pairs.Given as goal
 
 abbrev pub invariant-loop-i : goal.invariant-loop-i

@@ -1,6 +1,6 @@
-use Rattle.std.proofs.Common.{◌≡◌}
 use Rattle.brc_count.specs.Frames.{IsUnlocked}
+use Rattle.brc_count.specs.Owned.{Keeps}
 use Rattle.brc_bench.proofs.runs.gives_integers.Given as goal
 
 abbrev pub invariant-loop-i : goal.invariant-loop-i
-invariant-loop-i g l = (l.frame.heap ≡ l.fn.frame.heap) × IsUnlocked l.frame
+invariant-loop-i g l = Keeps l.fn.frame l.frame × IsUnlocked l.frame

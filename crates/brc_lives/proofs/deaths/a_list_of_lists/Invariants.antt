@@ -1,5 +1,5 @@
 use Rattle.brc_count.specs.Frames.{Owns}
-use Rattle.brc_containers.specs.Handles.{GoesOn}
+use Rattle.brc_count.specs.Owned.{GoesOn}
 use Rattle.brc_lives.proofs.deaths.a_list_of_lists.Given as goal
 
 abbrev pub invariant-loop : goal.invariant-loop

@@ -1,4 +1,4 @@
-use Rattle.brc_containers.specs.Handles.{GoesOn}
+use Rattle.brc_count.specs.Owned.{GoesOn}
 use Rattle.brc_lives.proofs.deaths.takes_turns.Given as goal
 
 abbrev pub invariant-loop : goal.invariant-loop

@@ -3,4 +3,8 @@ use Rattle.brc_count.specs.Frames.{IsUnlocked}
 use Rattle.brc_lives.proofs.parts.gives.Given as goal
 
 abbrev pub invariant-loop-list : goal.invariant-loop-list
-invariant-loop-list g l = (l.mutator.heap ≡ l.fn.heap) × IsUnlocked l.mutator
+invariant-loop-list g l = record {
+  heap : l.mutator.heap ≡ l.fn.heap;
+  bare : l.mutator.len ≡ 0;
+  unlocked : IsUnlocked l.mutator;
+}

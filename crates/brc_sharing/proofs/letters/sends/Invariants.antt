@@ -3,4 +3,8 @@ use Rattle.brc_count.specs.Frames.{IsUnlocked}
 use Rattle.brc_sharing.proofs.letters.sends.Given as goal
 
 abbrev pub invariant-loop-number : goal.invariant-loop-number
-invariant-loop-number g l = (l.mutator.heap ≡ l.fn.heap) × IsUnlocked l.mutator
+invariant-loop-number g l = record {
+  heap : l.mutator.heap ≡ l.fn.heap;
+  bare : l.mutator.len ≡ 0;
+  unlocked : IsUnlocked l.mutator;
+}

@@ -1,7 +1,0 @@
-use Rattle.brc_count.specs.Frames.{IsUnlocked}
-use Rattle.brc_bench.proofs.lives.leaves.Given as goal
-
-abbrev pub invariant-loop : goal.invariant-loop
-invariant-loop g l =
-    (goal.iterator-loop g).can_next l.iterator' × (goal.iterator-loop g).is_finite l.iterator'
-    × IsUnlocked l.mutator

@@ -1,6 +1,0 @@
-use Rattle.std.proofs.Common.{◌≡◌}
-use Rattle.brc_count.specs.Frames.{IsUnlocked}
-use Rattle.brc_lives.proofs.parts.clears.Given as goal
-
-abbrev pub invariant-loop-list : goal.invariant-loop-list
-invariant-loop-list g l = (l.mutator.heap ≡ l.fn.heap) × IsUnlocked l.mutator
