@@ -4,7 +4,7 @@
 use Rattle.std.specs.Prelude.{ℕ, Result, IfOk, IfErr, OnErr}
 use Rattle.brc_words.specs.declared.fault.Fault.{Fault}
 use Rattle.brc_count.specs.declared.handed.Handed.{Handed}
-use Rattle.brc_count.specs.Frames.{FrameSeen, HandleSeen}
+use Rattle.brc_count.specs.Frames.{FrameSeen}
 use Rattle.brc_count.specs.Locking.{KeepsThread, KeepsFrame}
 use Rattle.brc_lock.specs.Waiting.{Waits}
 use Rattle.brc_containers.specs.Changing.{KeepsPlaces}
@@ -22,8 +22,9 @@ module _ {A : Type 0} where
     pub found : IfOk result told
     pub refused : IfErr result why
 
-  -- A call that answers a handle. This was done; or the call was refused, and why, and every place is as it was.
-  pub record HandsOut (old new : FrameSeen A) (done : HandleSeen → Type 0) (why : Fault → Type 0) (result : Result HandleSeen Fault) : Type 0 where
+  -- A call that answers a handle, or one with what it was found by. This was done; or the call was refused, and why, and every
+  -- place is as it was.
+  pub record HandsOut {T : Type 0} (old new : FrameSeen A) (done : T → Type 0) (why : Fault → Type 0) (result : Result T Fault) : Type 0 where
     pub thread : KeepsThread old new
     pub did : IfOk result done
     pub places : OnErr result (KeepsPlaces old new)

@@ -1,5 +1,7 @@
 -- What a call on one object finds there, and the calls that look at one: each is told once, and both its forms cite it.
-use Rattle.std.specs.Prelude.{◌≡◌, ℕ, ℤ, true, List, ◌∷◌, Some, Result, length}
+use Rattle.std.specs.Prelude.{◌≡◌, ◌<◌, ◌+◌, ◌++◌, ℕ, ℤ, true, List, ◌∷◌, Some, Result, length}
+use Rattle.std.specs.declared.string.String.{String}
+use Rattle.std.specs.String.{string_bytes, string_len, string_capacity}
 use Rattle.brc_words.specs.declared.fault.Fault.{Fault}
 use Rattle.brc_words.specs.declared.fault.Fault.TheVariants as faults
 use Rattle.brc_words.specs.declared.kind.Kind.{Kind}
@@ -66,3 +68,15 @@ module _ {A : Type 0} where
   -- the text in the place, of which memory for a copy may be missing
   abbrev pub TextOf : FrameSeen A → FrameSeen A → ℕ → Result (List ℕ) Fault → Type 0
   TextOf old new k result = Looked old new (λ text. LooksAt old new k (contents.Text text)) (RefusedCopy old new k IsText) result
+
+  -- the same of a call that puts a text into a buffer, and wants memory only where the buffer has no room for it
+  abbrev pub RefusedInto : {B : Type 0} → FrameSeen A → FrameSeen A → ℕ → String B → Fault → Type 0
+  RefusedInto old new k buffer faults.OutOfMemory =
+      (text : List ℕ) × LooksAt old new k (contents.Text text) × (string_capacity buffer < string_len buffer + length text)
+  RefusedInto old new k buffer fault = RefusedLook old new k IsText fault
+
+  -- the text in the place, after the bytes of a buffer that was `had` and is `has`
+  abbrev pub TextInto : {B : Type 0} → FrameSeen A → FrameSeen A → ℕ → String B → String B → Result (Unit {0}) Fault → Type 0
+  TextInto old new k had has result =
+      Looked old new (λ done. (text : List ℕ) × LooksAt old new k (contents.Text text) × (string_bytes has ≡ string_bytes had ++ text))
+      (RefusedInto old new k had) result

@@ -11,5 +11,5 @@ mod reading;
 mod waiting;
 
 pub use laws::{calls_on_an_object_are_one_history, lost_tries_change_nothing};
-pub use reading::{try_int_of, try_kind_of, try_len_of, try_text_of};
-pub use waiting::{int_of, kind_of, len_of, text_of};
+pub use reading::{try_int_of, try_kind_of, try_len_of, try_text_into, try_text_of};
+pub use waiting::{int_of, kind_of, len_of, text_into, text_of};

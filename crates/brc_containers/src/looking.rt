@@ -1,6 +1,7 @@
 //! What a payload tells.
 
-ghost use Rattle.std.specs.Prelude.{◌≡◌, IfSome, IfNone, IsTrue, IsFalse, length};
+ghost use Rattle.std.specs.Prelude.{◌≡◌, ◌<◌, ◌+◌, ◌++◌, ℕ, List, IfSome, IfNone, OnOk, OnErr, IsTrue, IsFalse, length};
+ghost use Rattle.std.specs.String.{string_bytes, string_len, string_capacity};
 ghost use Rattle.brc_rule.specs.declared.contents.Contents.TheVariants as contents;
 ghost use Rattle.brc_rule.specs.Logs.{entries_in};
 ghost use Rattle.brc_table.specs.Shown.{contents_of};
@@ -8,7 +9,7 @@ ghost use Rattle.brc_containers.specs.Looking.{IsInt, IsText, IsContainer};
 
 use brc_block::{Entries, Payload};
 use brc_words::Text;
-use std::alloc::Allocator;
+use std::alloc::{AllocError, Allocator};
 
 /// How many entries a container has; None for anything else.
 pub(crate) fn container_len<A: Allocator>(payload: &Payload<A>) -> Option<usize>
@@ -56,6 +57,24 @@ pub(crate) fn copy_of_text<A: Allocator>(alloc: A, payload: &Payload<A>) -> Opti
             Ok(copy) => Some(Text::new(copy)),
             Err(_) => None,
         },
+        _ => unreachable!(),
+    }
+}
+
+/// The bytes of a text's go behind those of the buffer, or memory for them was missing.
+pub(crate) fn append_text<A: Allocator, B: Allocator>(
+    payload: &Payload<A>,
+    buffer: &mut String<B>,
+) -> Result<(), AllocError>
+    requires text { IsText (contents_of payload.now) }
+    ensures appended { OnOk result ((text : List ℕ) × (contents_of payload.now ≡ contents.Text text)
+        × (string_bytes buffer.new ≡ string_bytes buffer.old ++ text)) }
+    ensures full { OnErr result ((text : List ℕ) × (contents_of payload.now ≡ contents.Text text)
+        × (string_capacity buffer.old < string_len buffer.old + length text)) }
+    ensures unchanged { OnErr result (string_bytes buffer.new ≡ string_bytes buffer.old) }
+{
+    match payload {
+        Payload::Text(text) => buffer.push_str(text.as_str()),
         _ => unreachable!(),
     }
 }

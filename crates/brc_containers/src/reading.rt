@@ -1,14 +1,16 @@
 //! What an object is: its kind, its length, its integer, its text.
 
+ghost use Rattle.std.specs.Prelude.{◌≡◌, OnErr};
+ghost use Rattle.std.specs.String.{string_bytes};
 ghost use Rattle.brc_count.specs.Frames.{IsUnlocked, Owns};
 ghost use Rattle.brc_count.specs.Owned.{Keeps};
-ghost use Rattle.brc_containers.specs.Looking.{KindOf, LenOf, IntOf, TextOf};
+ghost use Rattle.brc_containers.specs.Looking.{KindOf, LenOf, IntOf, TextOf, TextInto};
 
-use crate::looking::{container_len, copy_of_text, int_in, is_text};
+use crate::looking::{append_text, container_len, copy_of_text, int_in, is_text};
 use brc_count::{Frame, Handle};
 use brc_counter::Home;
 use brc_words::{Fault, Kind, Text};
-use std::alloc::Allocator;
+use std::alloc::{AllocError, Allocator};
 
 /// What kind of object the handle is a reference to. Busy where another thread has it locked.
 pub fn try_kind_of<H: Home<A>, A: Allocator>(
@@ -98,5 +100,34 @@ pub fn try_text_of<H: Home<A>, A: Allocator>(
     match copy {
         Some(text) => Ok(text),
         None => Err(Fault::OutOfMemory),
+    }
+}
+
+/// A text, into a buffer of the caller's, behind what it has. Busy where another thread has the object locked, then WrongKind where it
+/// is no text, then OutOfMemory, where the buffer had no room for it; a refusal leaves the buffer's bytes as they were.
+pub fn try_text_into<H: Home<A>, A: Allocator, B: Allocator>(
+    frame: &mut Frame<H, A>,
+    handle: &Handle<A>,
+    buffer: &mut String<B>,
+) -> Result<(), Fault>
+    requires owned { Owns frame.old handle.now }
+    requires unlocked { IsUnlocked frame.old }
+    ensures looked { TextInto frame.old frame.new handle.now.place buffer.old buffer.new result }
+    ensures unchanged { OnErr result (string_bytes buffer.new ≡ string_bytes buffer.old) }
+    ensures keeps { Keeps frame.old frame.new }
+    ensures unlocked { IsUnlocked frame.new }
+{
+    let Some(block) = frame.begin(handle) else {
+        return Err(Fault::Busy);
+    };
+    if !is_text(block.payload()) {
+        frame.end_keep(block);
+        return Err(Fault::WrongKind);
+    }
+    let done = append_text(block.payload(), buffer);
+    frame.end_keep(block);
+    match done {
+        Ok(()) => Ok(()),
+        Err(AllocError) => Err(Fault::OutOfMemory),
     }
 }

@@ -1,19 +1,20 @@
 //! The forms that wait: they try again until the object isn't locked by another thread. What each does then is what its form with
 //! `try_` does, from the frame that the lost tries left, which have changed nothing (`laws::lost_tries_change_nothing`).
 
-ghost use Rattle.std.specs.Prelude.{◌≢◌, Ok, IfErr};
+ghost use Rattle.std.specs.Prelude.{◌≡◌, ◌≢◌, Ok, IfErr, OnErr};
+ghost use Rattle.std.specs.String.{string_bytes};
 ghost use Rattle.brc_words.specs.declared.fault.Fault.TheVariants as faults;
 ghost use Rattle.brc_count.specs.Frames.{IsUnlocked, Owns};
 ghost use Rattle.brc_count.specs.Owned.{Keeps};
 ghost use Rattle.brc_containers.specs.Called.{Late};
-ghost use Rattle.brc_containers.specs.Looking.{KindOf, LenOf, IntOf, TextOf};
+ghost use Rattle.brc_containers.specs.Looking.{KindOf, LenOf, IntOf, TextOf, TextInto};
 
-use crate::looking::{container_len, copy_of_text, int_in, is_text};
+use crate::looking::{append_text, container_len, copy_of_text, int_in, is_text};
 use brc_count::{Frame, Handle};
 use brc_counter::Home;
 use brc_lock::begin_late;
 use brc_words::{Fault, Kind, Text};
-use std::alloc::Allocator;
+use std::alloc::{AllocError, Allocator};
 use std::sync::Wait;
 
 /// What kind of object the handle is a reference to. It waits while another thread has it locked.
@@ -103,5 +104,35 @@ pub fn text_of<H: Home<A>, A: Allocator>(
     match copy {
         Some(text) => Ok(text),
         None => Err(Fault::OutOfMemory),
+    }
+}
+
+/// A text, into a buffer of the caller's, behind what it has; WrongKind where the object is none, then OutOfMemory, where the buffer had
+/// no room for it. A refusal leaves the buffer's bytes as they were. It waits while another thread has the object locked.
+pub fn text_into<H: Home<A>, A: Allocator, B: Allocator>(
+    rt: &impl Wait,
+    frame: &mut Frame<H, A>,
+    handle: &Handle<A>,
+    buffer: &mut String<B>,
+) -> Result<(), Fault>
+    requires owned { Owns frame.old handle.now }
+    requires unlocked { IsUnlocked frame.old }
+    ensures looked { Late frame.old handle.now.place
+        (λ mid. TextInto mid frame.new handle.now.place buffer.old buffer.new result) }
+    ensures unchanged { OnErr result (string_bytes buffer.new ≡ string_bytes buffer.old) }
+    ensures keeps { Keeps frame.old frame.new }
+    ensures unlocked { IsUnlocked frame.new }
+    ensures waited { IfErr result (λ fault. fault ≢ faults.Busy) }
+{
+    let block = begin_late(rt, frame, handle);
+    if !is_text(block.payload()) {
+        frame.end_keep(block);
+        return Err(Fault::WrongKind);
+    }
+    let done = append_text(block.payload(), buffer);
+    frame.end_keep(block);
+    match done {
+        Ok(()) => Ok(()),
+        Err(AllocError) => Err(Fault::OutOfMemory),
     }
 }

@@ -2,4 +2,5 @@ pub mod Standing
 pub mod Shown
 pub mod Locked
 pub mod Sharing
+pub mod Indexed
 mod Since_Law

@@ -151,7 +151,7 @@ module _ {A : Type 0} where
     len = len ∙ ap (λ n. n + 1) was.places.len;
   }
 
-  pub shares_since : (before now shared new : FrameSeen A) (k : ℕ) (block : ℕ × Payload A) (call : PlainCall ℕ) (index cell : ℕ) (given : HandleSeen)
+  abbrev pub shares_since : (before now shared new : FrameSeen A) (k : ℕ) (block : ℕ × Payload A) (call : PlainCall ℕ) (index cell : ℕ) (given : HandleSeen)
       → Stood before now k block → Given now shared (sources.Entry index) cell given → shared.heap ≡ now.heap → Ended shared new Keep block → KeepsFrame shared new
       → slice_get (entries_of block.1) index ≡ Some cell → call (contents_of block.1) ≡ Ok (cell, contents_of block.1)
       → Shares before new k call given

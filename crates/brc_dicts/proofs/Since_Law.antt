@@ -1,14 +1,14 @@
 -- What holds since the locking, whatever frame it began from, holds of the call.
-use Rattle.std.proofs.Common.{ℕ, Option, Result, Ok, Err, ◌∙◌}
+use Rattle.std.proofs.Common.{ℕ, Result, Ok, Err, ◌∙◌}
 use Rattle.std.specs.Result.{IfOk, IfErr}
 use Rattle.brc_words.specs.declared.fault.Fault.{Fault}
 use Rattle.brc_block.specs.declared.payload.Payload.{Payload}
 use Rattle.brc_count.specs.declared.handed.Handed.{Handed}
-use Rattle.brc_count.specs.Frames.{FrameSeen, HandleSeen}
+use Rattle.brc_count.specs.Frames.{FrameSeen}
 use Rattle.brc_count.specs.Locking.{KeepsThread, KeepsFrame}
 use Rattle.brc_lock.specs.Waiting.{BeginsLate}
 use Rattle.brc_lock.proofs.Kept.{thread_kept_on, frame_kept_on}
-use Rattle.brc_containers.specs.Called.{HandsOut, TakesIn}
+use Rattle.brc_containers.specs.Called.{Looked, HandsOut, TakesIn}
 use Rattle.brc_containers.specs.Changing.{KeepsPlaces}
 use Rattle.brc_dicts.specs.Since.{HasLocked, Since}
 
@@ -24,8 +24,17 @@ module _ {A : Type 0} where
     next = second.next ∙ first.next;
   }
 
-  pub hands_out : (before now new : FrameSeen A) (k : ℕ) (block : ℕ × Payload A) (done : FrameSeen A → ℕ → HandleSeen → Type 0)
-      (why : FrameSeen A → ℕ → Fault → Type 0) (result : Result HandleSeen Fault) → HasLocked before now k block → KeepsThread now new
+  pub looked : {T : Type 0} (before now new : FrameSeen A) (k : ℕ) (block : ℕ × Payload A) (done : FrameSeen A → ℕ → T → Type 0)
+      (why : FrameSeen A → ℕ → Fault → Type 0) (result : Result T Fault) → HasLocked before now k block → KeepsThread now new → KeepsFrame now new
+      → IfOk result (λ answer. Since now block (λ b j. done b j answer)) → IfErr result (λ fault. Since now block (λ b j. why b j fault))
+      → Looked before new (done before k) (why before k) result
+  looked before now new k block done why (Ok answer) since thread frame did refused =
+      record { thread = thread_kept_on since.keeps thread; frame = frame_kept_on since.frame frame; found = did before k since; refused = tt }
+  looked before now new k block done why (Err fault) since thread frame did refused =
+      record { thread = thread_kept_on since.keeps thread; frame = frame_kept_on since.frame frame; found = tt; refused = refused before k since }
+
+  pub hands_out : {T : Type 0} (before now new : FrameSeen A) (k : ℕ) (block : ℕ × Payload A) (done : FrameSeen A → ℕ → T → Type 0)
+      (why : FrameSeen A → ℕ → Fault → Type 0) (result : Result T Fault) → HasLocked before now k block → KeepsThread now new
       → IfOk result (λ given. Since now block (λ b j. done b j given)) → IfErr result (λ fault. KeepsPlaces now new)
       → IfErr result (λ fault. Since now block (λ b j. why b j fault)) → HandsOut before new (done before k) (why before k) result
   hands_out before now new k block done why (Ok given) since thread did places refused =

@@ -4,9 +4,10 @@ use Rattle.brc_words.specs.declared.fault.Fault.{Fault}
 use Rattle.brc_words.specs.declared.key.Key.{Key}
 use Rattle.brc_count.specs.declared.handed.Handed.{Handed}
 use Rattle.brc_count.specs.Frames.{FrameSeen, HandleSeen}
-use Rattle.brc_containers.specs.Called.{HandsOut, TakesIn}
-use Rattle.brc_containers.specs.Changing.{Shares, Takes, RefusedPlace}
-use Rattle.brc_dicts.specs.Plain.{plain_find, plain_del}
+use Rattle.brc_containers.specs.Called.{Looked, HandsOut, TakesIn}
+use Rattle.brc_containers.specs.Changing.{Shares, Takes, RefusedEntry, RefusedPlace}
+use Rattle.brc_dicts.specs.Indexing.{Reads, SharesPair}
+use Rattle.brc_dicts.specs.Plain.{plain_find, plain_del, plain_key_at, plain_value_at}
 use Rattle.brc_dicts.specs.Putting.{HasPut, RefusedPut}
 
 module _ {A : Type 0} where
@@ -21,3 +22,12 @@ module _ {A : Type 0} where
   -- the value beside the key comes out, and its pair goes
   abbrev pub DictDel : FrameSeen A → FrameSeen A → ℕ → Key A → Result HandleSeen Fault → Type 0
   DictDel old new k key result = HandsOut old new (Takes old new k (plain_del key)) (RefusedPlace old new k (plain_del key)) result
+
+  -- the key at the place, of which memory for a copy may be missing
+  abbrev pub DictKey : FrameSeen A → FrameSeen A → ℕ → ℕ → Result (Key A) Fault → Type 0
+  DictKey old new k index result = Looked old new (Reads old new k (plain_key_at index)) (RefusedEntry old new k (plain_key_at {A = A} index)) result
+
+  -- the key at the place, with a handle more to its value
+  abbrev pub DictPair : FrameSeen A → FrameSeen A → ℕ → ℕ → Result (Key A × HandleSeen) Fault → Type 0
+  DictPair old new k index result =
+      HandsOut old new (SharesPair old new k index) (RefusedPlace old new k (plain_value_at A index)) result

@@ -1,5 +1,6 @@
 pub mod Plain
 pub mod Seeking
 pub mod Since
+pub mod Indexing
 pub mod Putting
 pub mod Calls

@@ -45,3 +45,22 @@ module _ {A : Type 0} where
   abbrev pub plain_del : Key A → PlainCall ℕ
   plain_del key (Dict shown) = leaving_dict (dicts.delete (pairs_of shown) key)
   plain_del key _ = Err faults.WrongKind
+
+  -- the first, and the second, of what comes out
+  abbrev pub first_of : Result (Key A × ℕ) Fault → Result (Key A) Fault
+  first_of (Ok pair) = Ok pair.0
+  first_of (Err fault) = Err fault
+
+  abbrev pub second_of : Result (Key A × ℕ) Fault → Result ℕ Fault
+  second_of (Ok pair) = Ok pair.1
+  second_of (Err fault) = Err fault
+
+  -- the key at a place, in the order in which the keys came
+  abbrev pub plain_key_at : ℕ → PlainCall (Key A)
+  plain_key_at index (Dict shown) = leaving (Dict shown) (first_of (dicts.pair_at (pairs_of shown) index))
+  plain_key_at index _ = Err faults.WrongKind
+
+-- the value beside the key at a place
+abbrev pub plain_value_at : (A : Type 0) → ℕ → PlainCall ℕ
+plain_value_at A index (Dict shown) = leaving (Dict shown) (second_of (dicts.pair_at (pairs_of {A = A} shown) index))
+plain_value_at A index _ = Err faults.WrongKind

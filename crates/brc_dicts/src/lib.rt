@@ -1,4 +1,4 @@
-//! The calls on dictionaries, over a frame: put, find and delete, each under the dictionary's lock.
+//! The calls on dictionaries, over a frame: put, find and delete, and keys and pairs by their places, each under the dictionary's lock.
 //!
 //! A call answers what the plain dictionary of `brc_plain` answers on the pairs that the locking found, and the object is put
 //! home with those that it leaves (`specs/Plain.antt`). The forms with `try_` never wait: a dictionary that another thread has
@@ -6,9 +6,11 @@
 //! says what holds since the locking, whatever frame it began from (`specs/Since.antt`).
 #![tactic(auto)]
 
+mod indexing;
 mod putting;
 mod seeking;
 mod values;
 
+pub use indexing::{dict_key, dict_pair, try_dict_key, try_dict_pair};
 pub use putting::{dict_put, try_dict_put};
 pub use values::{dict_del, dict_find, try_dict_del, try_dict_find};

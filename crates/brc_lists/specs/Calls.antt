@@ -7,7 +7,7 @@ use Rattle.brc_count.specs.Frames.{FrameSeen, HandleSeen}
 use Rattle.brc_count.specs.Locking.{cell_in}
 use Rattle.brc_containers.specs.Called.{HandsOut, TakesIn}
 use Rattle.brc_containers.specs.Changing.{PlainCall, Puts, Swaps, Takes, Shares, RefusedCall, RefusedEntry, RefusedPlace}
-use Rattle.brc_lists.specs.Plain.{plain_push, plain_pop, plain_get, plain_set, plain_send, plain_receive}
+use Rattle.brc_lists.specs.Plain.{plain_push, plain_pop, plain_take_at, plain_get, plain_set, plain_send, plain_receive}
 
 module _ {A : Type 0} where
   -- the reference of the handle in place v goes in, by the plain call; only memory for an entry may be wanting
@@ -39,6 +39,10 @@ module _ {A : Type 0} where
   -- the last entry's reference is the answer's now
   abbrev pub ListPop : FrameSeen A → FrameSeen A → ℕ → Result HandleSeen Fault → Type 0
   ListPop old new k result = TakesEntry old new k plain_pop result
+
+  -- the reference of the entry at the index is the answer's now
+  abbrev pub ListTake : FrameSeen A → FrameSeen A → ℕ → ℕ → Result HandleSeen Fault → Type 0
+  ListTake old new k index result = TakesEntry old new k (plain_take_at index) result
 
   -- the answer has a reference more to the entry at the index
   abbrev pub ListGet : FrameSeen A → FrameSeen A → ℕ → ℕ → Result HandleSeen Fault → Type 0

@@ -37,6 +37,10 @@ plain_pop = on_list lists.pop
 abbrev pub plain_get : ℕ → PlainCall ℕ
 plain_get index = on_list (λ cells. leaving cells (lists.get cells index))
 
+-- a list's entry at a place, which goes, and the later ones close up
+abbrev pub plain_take_at : ℕ → PlainCall ℕ
+plain_take_at index = on_list (λ cells. lists.take_at cells index)
+
 -- another entry at a place of a list, for the one that stood there
 abbrev pub plain_set : ℕ → ℕ → PlainCall ℕ
 plain_set index value = on_list (λ cells. lists.set cells index value)

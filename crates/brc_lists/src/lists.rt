@@ -3,7 +3,7 @@
 ghost use Rattle.std.specs.Prelude.{◌≡◌, ◌≢◌, IfOk, IfErr, OnOk, OnErr};
 ghost use Rattle.brc_count.specs.Frames.{IsUnlocked, Owns};
 ghost use Rattle.brc_count.specs.Owned.{Keeps, Gains, Loses};
-ghost use Rattle.brc_lists.specs.Calls.{ListPush, ListPop, ListGet, ListSet};
+ghost use Rattle.brc_lists.specs.Calls.{ListPush, ListPop, ListTake, ListGet, ListSet};
 
 use crate::within::{put_locked, share_locked, swap_locked, take_locked};
 use brc_count::{Frame, Handed, Handle};
@@ -57,6 +57,27 @@ pub fn try_list_pop<H: Home<A>, A: Allocator>(
     };
     let last = block.payload().len().saturating_sub(1);
     take_locked(frame, Kind::List, block, last)
+}
+
+/// The reference of an entry of the list is the answer's now; later entries close up. The faults come in this order: Busy where
+/// another thread has the object locked, WrongKind where it is no list, NoSuchPlace past its end, FrameFull, OutOfMemory.
+#[inline]
+pub fn try_list_take<H: Home<A>, A: Allocator>(
+    frame: &mut Frame<H, A>,
+    list: &Handle<A>,
+    index: u32,
+) -> Result<Handle<A>, Fault>
+    requires owned { Owns frame.old list.now }
+    requires unlocked { IsUnlocked frame.old }
+    ensures taken { ListTake frame.old frame.new list.now.place index result }
+    ensures gains { IfOk result (Gains frame.old frame.new) }
+    ensures keeps { OnErr result (Keeps frame.old frame.new) }
+    ensures unlocked { IsUnlocked frame.new }
+{
+    let Some(block) = frame.begin(list) else {
+        return Err(Fault::Busy);
+    };
+    take_locked(frame, Kind::List, block, index as usize)
 }
 
 /// A handle more to an entry of the list. The faults come in this order: Busy where another thread has the object locked,

@@ -6,7 +6,7 @@ ghost use Rattle.brc_words.specs.declared.fault.Fault.TheVariants as faults;
 ghost use Rattle.brc_count.specs.Frames.{IsUnlocked, Owns};
 ghost use Rattle.brc_count.specs.Owned.{Keeps, Gains, Loses};
 ghost use Rattle.brc_containers.specs.Called.{Late};
-ghost use Rattle.brc_lists.specs.Calls.{ListPush, ListPop, ListGet, ListSet, MailboxSend, MailboxReceive};
+ghost use Rattle.brc_lists.specs.Calls.{ListPush, ListPop, ListTake, ListGet, ListSet, MailboxSend, MailboxReceive};
 
 use crate::within::{put_locked, share_locked, swap_locked, take_locked};
 use brc_count::{Frame, Handed, Handle};
@@ -59,6 +59,27 @@ pub fn list_pop<H: Home<A>, A: Allocator>(
     let block = begin_late(rt, frame, list);
     let last = block.payload().len().saturating_sub(1);
     take_locked(frame, Kind::List, block, last)
+}
+
+/// The reference of an entry of the list is the answer's now, once no other thread has the list locked; later entries close up. The
+/// faults come in this order: WrongKind where it is no list, NoSuchPlace past its end, FrameFull, OutOfMemory.
+#[inline]
+pub fn list_take<H: Home<A>, A: Allocator>(
+    rt: &impl Wait,
+    frame: &mut Frame<H, A>,
+    list: &Handle<A>,
+    index: u32,
+) -> Result<Handle<A>, Fault>
+    requires owned { Owns frame.old list.now }
+    requires unlocked { IsUnlocked frame.old }
+    ensures taken { Late frame.old list.now.place (λ mid. ListTake mid frame.new list.now.place index result) }
+    ensures gains { IfOk result (Gains frame.old frame.new) }
+    ensures keeps { OnErr result (Keeps frame.old frame.new) }
+    ensures unlocked { IsUnlocked frame.new }
+    ensures waited { IfErr result (λ fault. fault ≢ faults.Busy) }
+{
+    let block = begin_late(rt, frame, list);
+    take_locked(frame, Kind::List, block, index as usize)
 }
 
 /// A handle more to an entry of the list, once no other thread has the list locked. The faults come in this order: WrongKind where

@@ -1,6 +1,6 @@
 -- The calls of a dictionary, as its pairs of key and value in the order in which the keys came: what each answers, and
 -- the pairs after it.
-use Rattle.std.specs.Prelude.{◌≡◌, ℕ, ◌++◌, List, [], ◌∷◌, length, nat_lt, Bool, true, false, zero, suc, if◌then◌else◌, Option, Some, None, Result, Ok, Err}
+use Rattle.std.specs.Prelude.{◌≡◌, ℕ, ◌++◌, List, [], ◌∷◌, length, nat_lt, Bool, true, false, zero, suc, if◌then◌else◌, Option, Some, None, Result, Ok, Err, slice_get}
 use Rattle.std.specs.Ordering.{int_eq}
 use Rattle.std.specs.Str.{bytes_eq}
 use Rattle.brc_words.specs.declared.fault.Fault.{Fault}
@@ -56,6 +56,10 @@ module _ {A E : Type 0} where
   -- the value beside the key
   abbrev pub find : List (Key A × E) → Key A → Result E Fault
   find pairs key = or_fault faults.NoSuchKey (value_at key pairs)
+
+  -- the pair at a place, in the order in which the keys came
+  abbrev pub pair_at : List (Key A × E) → ℕ → Result (Key A × E) Fault
+  pair_at pairs index = or_fault faults.NoSuchPlace (slice_get pairs index)
 
   -- the value beside the key, and the pair goes
   abbrev pub delete : List (Key A × E) → Key A → Result (E × List (Key A × E)) Fault

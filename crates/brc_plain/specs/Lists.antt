@@ -1,5 +1,5 @@
 -- The calls of a list: what each answers, and the list after it.
-use Rattle.std.specs.Prelude.{ℕ, ◌++◌, ◌-◌, List, [], ◌∷◌, length, take, nat_lt, if◌then◌else◌, Result, Ok, Err, slice_get, slice_set}
+use Rattle.std.specs.Prelude.{ℕ, ◌++◌, ◌-◌, List, [], ◌∷◌, length, take, nat_lt, if◌then◌else◌, Result, Ok, Err, slice_get, slice_set, remove}
 use Rattle.brc_words.specs.declared.fault.Fault.{Fault}
 use Rattle.brc_words.specs.declared.fault.Fault.TheVariants as faults
 use Rattle.brc_words.specs.declared.limits.TheConstants.{MOST_ENTRIES}
@@ -18,6 +18,10 @@ module _ {E : Type 0} where
   -- the last entry, which goes
   abbrev pub pop : List E → Result (E × List E) Fault
   pop list = leaving (take (length list - 1) list) (get list (length list - 1))
+
+  -- the entry at a place, which goes, and the later ones close up
+  abbrev pub take_at : List E → ℕ → Result (E × List E) Fault
+  take_at list index = leaving (remove list index) (get list index)
 
   -- another entry at a place; the answer is the entry that stood there
   abbrev pub set : List E → ℕ → E → Result (E × List E) Fault

@@ -108,6 +108,18 @@ impl<E: Drop, A: Allocator> PlainDict<E, A> {
         }
     }
 
+    /// The pair at a place, in the order in which the keys came.
+    pub fn pair_at(&self, index: usize) -> Result<&(Key<A>, E), Fault>
+        ensures found { IfOk result (λ pair. dicts.pair_at self.now index ≡ Ok pair.now) }
+        ensures refused { IfErr result (λ fault. dicts.pair_at self.now index ≡ Err fault) }
+    {
+        if index < self.pairs.len() {
+            Ok(&self.pairs[index])
+        } else {
+            Err(Fault::NoSuchPlace)
+        }
+    }
+
     /// Takes the value beside the key; the pair goes, and the later ones close up.
     pub fn delete(&mut self, key: &Key<A>) -> Result<E, Fault>
         ensures { Does result self.old self.new (dicts.delete self.old key.now) }

@@ -81,6 +81,17 @@ impl<E: Drop, A: Allocator> PlainList<E, A> {
         }
     }
 
+    /// Takes the entry at a place; the later ones close up.
+    pub fn take_at(&mut self, index: usize) -> Result<E, Fault>
+        ensures { Does result self.old self.new (lists.take_at self.old index) }
+    {
+        if index < self.entries.len() {
+            Ok(self.entries.remove(index))
+        } else {
+            Err(Fault::NoSuchPlace)
+        }
+    }
+
     /// The entry at a place.
     pub fn get(&self, index: usize) -> Result<&E, Fault>
         ensures found { IfOk result (λ entry. lists.get self.now index ≡ Ok entry.now) }

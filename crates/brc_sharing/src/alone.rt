@@ -60,7 +60,7 @@ fn posts_and_receives<R: Abort + Wait, H: Home<A>, A: Allocator + Copy>(
     frame.release(mailbox);
 }
 
-/// Two integers go into a list; one is found, exchanged for a third, and all that is there is popped, the last one first.
+/// Two integers go into a list; the first is found and exchanged for a third, which is taken out; the other is popped.
 fn uses_a_list<R: Abort + Wait, H: Home<A>, A: Allocator + Copy>(
     rt: &R,
     alloc: A,
@@ -78,8 +78,10 @@ fn uses_a_list<R: Abort + Wait, H: Home<A>, A: Allocator + Copy>(
     let value = made(rt, alloc, frame, Thing::Int(1_002));
     let old = exchanges(rt, frame, &list, Exchanging::TrySet(0), value);
     assert_eq!(rt; number_of(rt, frame, old), 1_000);
+    gets_none(rt, frame, &list, Getting::TakeAt(2));
+    gets_number(rt, frame, &list, Getting::TakeAt(0), 1_002);
+    gets_none(rt, frame, &list, Getting::TryTakeAt(1));
     gets_number(rt, frame, &list, Getting::TryPop, 1_001);
-    gets_number(rt, frame, &list, Getting::TryPop, 1_002);
     gets_none(rt, frame, &list, Getting::TryPop);
     frame.release(list);
 }

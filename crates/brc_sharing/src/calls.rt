@@ -12,8 +12,8 @@ use brc_count::{Frame, Handed, Handle};
 use brc_counter::Home;
 use brc_dicts::{dict_del, dict_find, dict_put, try_dict_find, try_dict_put};
 use brc_lists::{
-    list_get, list_pop, list_push, list_set, recv, send, try_list_get, try_list_pop, try_list_push,
-    try_list_set, try_recv, try_send,
+    list_get, list_pop, list_push, list_set, list_take, recv, send, try_list_get, try_list_pop,
+    try_list_push, try_list_set, try_list_take, try_recv, try_send,
 };
 use brc_words::{Fault, Key};
 use std::alloc::Allocator;
@@ -41,6 +41,8 @@ pub(crate) enum Getting {
     TryPop,
     Get(u32),
     TryGet(u32),
+    TakeAt(u32),
+    TryTakeAt(u32),
     Recv,
     TryRecv,
     Find(i64),
@@ -214,6 +216,8 @@ pub(crate) fn had<R: Abort + Wait, H: Home<A>, A: Allocator>(
         Getting::TryPop => try_list_pop(frame, container),
         Getting::Get(index) => list_get(rt, frame, container, index),
         Getting::TryGet(index) => try_list_get(frame, container, index),
+        Getting::TakeAt(index) => list_take(rt, frame, container, index),
+        Getting::TryTakeAt(index) => try_list_take(frame, container, index),
         Getting::Recv => recv(rt, frame, container),
         Getting::TryRecv => try_recv(frame, container),
         Getting::Find(key) => dict_find(rt, frame, container, &Key::Int(key)),

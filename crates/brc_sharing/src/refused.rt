@@ -7,7 +7,7 @@ ghost use Rattle.brc_count.specs.Frames.{HandleSeen, IsUnlocked, Owns};
 ghost use Rattle.brc_count.specs.Owned.{Keeps, Gains, GoesOn};
 
 use crate::calls::{Getting, Giving, fetches, given, had, shares};
-use crate::copies::refuses_a_copy;
+use crate::copies::{Copying, refuses_a_copy};
 use crate::guards::Way;
 use crate::memory::{Pieces, a_local_heap};
 use crate::objects::{Thing, another, entries, made};
@@ -23,7 +23,10 @@ use std::process::Abort;
 use std::sync::Wait;
 
 /// A reference to None.
-fn a_none<H: Home<A>, A: Allocator>(rt: &impl Abort, frame: &mut Frame<H, A>) -> Handle<A>
+pub(crate) fn a_none<H: Home<A>, A: Allocator>(
+    rt: &impl Abort,
+    frame: &mut Frame<H, A>,
+) -> Handle<A>
     requires unlocked { IsUnlocked frame.old }
     ensures gains { Gains frame.old frame.new result }
     ensures unlocked { IsUnlocked frame.new }
@@ -303,11 +306,11 @@ fn puts_on_a_heap<'h, R: Abort + Wait>(
     is_empty(rt, heap, root);
 }
 
-/// What memory is wanted for: a handle's place, or the copy of a text.
+/// What memory is wanted for: a handle's place, or a copy.
 #[derive(Clone, Copy)]
 enum Wanted {
     Place(Getting),
-    Copy(Way),
+    Copy(Copying, Way),
 }
 
 /// One thread wants it, on a heap of its own. Where a place is wanted the thread's places are of scarce memory.
@@ -322,7 +325,7 @@ fn wants_on_a_heap<'h, R: Abort + Wait>(
     let mut root = root;
     let places = match wanted {
         Wanted::Place(_) => scarce,
-        Wanted::Copy(_) => ample,
+        Wanted::Copy(_, _) => ample,
     };
     let mut thread = a_thread(rt, places, &heap, &mut root);
     wants(rt, alloc, ample, scarce, thread.frame(), wanted);
@@ -348,7 +351,9 @@ fn wants<'h, R: Abort + Wait, H: Home<&'h LocalHeap>>(
 {
     match wanted {
         Wanted::Place(getting) => refuses_a_place(rt, alloc, scarce, frame, getting),
-        Wanted::Copy(way) => refuses_a_copy(rt, alloc, ample, scarce, frame, way),
+        Wanted::Copy(copying, way) => {
+            refuses_a_copy(rt, alloc, ample, scarce, frame, copying, way);
+        }
     }
 }
 
@@ -378,6 +383,7 @@ fn a_refused_place_changes_nothing(rt: HostRuntime) {
     for getting in [
         Getting::Pop,
         Getting::Get(0),
+        Getting::TryTakeAt(0),
         Getting::Recv,
         Getting::Find(0),
         Getting::Del(0),
@@ -390,7 +396,9 @@ fn a_refused_place_changes_nothing(rt: HostRuntime) {
 
 #[test]
 fn a_refused_copy_changes_nothing(rt: HostRuntime) {
-    for way in [Way::AtOnce, Way::Late] {
-        is_wanted(&rt, rt.alloc(), 1 << 12, Wanted::Copy(way));
+    for copying in [Copying::Text, Copying::Into, Copying::Key, Copying::Pair] {
+        for way in [Way::AtOnce, Way::Late] {
+            is_wanted(&rt, rt.alloc(), 1 << 12, Wanted::Copy(copying, way));
+        }
     }
 }

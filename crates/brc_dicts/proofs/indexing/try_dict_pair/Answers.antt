@@ -1,0 +1,16 @@
+use Rattle.brc_containers.specs.Changing.{RefusedPlace}
+use Rattle.brc_dicts.specs.Plain.{plain_value_at}
+use Rattle.brc_dicts.specs.Indexing.{SharesPair}
+use Rattle.brc_dicts.specs.Since.{HasLocked}
+use Rattle.brc_dicts.proofs.Since_Law.{hands_out}
+use Rattle.brc_dicts.proofs.indexing.try_dict_pair.Goals as goal
+
+pub returns-clause-shares : goal.returns-clause-shares
+returns-clause-shares g c =
+    let since : HasLocked c.args.frame.now c.begin.new.self c.args.dict.now.place c.in-Some.block =
+    record { began = c.in-Some.ensures.began; keeps = c.begin.ensures.keeps; frame = c.begin.ensures.frame } in
+    let up = c.pair_locked.ensures in
+    hands_out c.args.frame.now c.begin.new.self c.pair_locked.new.frame c.args.dict.now.place c.in-Some.block
+    (λ before k pair. SharesPair before c.pair_locked.new.frame k c.args.index pair)
+    (λ before k fault. RefusedPlace before c.pair_locked.new.frame k (plain_value_at g.row.A.Denot c.args.index) fault)
+    c.pair_locked.result since up.thread up.shares up.places up.refused

@@ -1,0 +1,238 @@
+//! Keys and pairs by their places, in the order in which the keys came.
+
+ghost use Rattle.std.specs.Prelude.{◌≡◌, ◌≢◌, ◌<◌, Some, None, Ok, IfOk, IfErr, IfSome, IfNone, OnOk, OnErr, slice_get};
+ghost use Rattle.brc_words.specs.declared.fault.Fault.TheVariants as faults;
+ghost use Rattle.brc_words.specs.declared.limits.TheConstants.{MOST_PLACES};
+ghost use Rattle.brc_table.specs.Shown.{contents_of};
+ghost use Rattle.brc_count.specs.Frames.{IsUnlocked, IsAsBefore, Owns};
+ghost use Rattle.brc_count.specs.Locking.{IsLocked, cell_locked, contents_found, KeepsThread, KeepsFrame};
+ghost use Rattle.brc_count.specs.Owned.{Keeps, Gains};
+ghost use Rattle.brc_containers.specs.Called.{Late};
+ghost use Rattle.brc_containers.specs.Changing.{KeepsPlaces, RefusedEntry, RefusedPlace};
+ghost use Rattle.brc_dicts.specs.Calls.{DictKey, DictPair};
+ghost use Rattle.brc_dicts.specs.Indexing.{IsAt, NoPair, Reads, SharesPair, MissesKey, MissesPair};
+ghost use Rattle.brc_dicts.specs.Plain.{plain_key_at, plain_value_at};
+ghost use Rattle.brc_dicts.specs.Since.{Since};
+
+use brc_block::{Block, Pairs, Payload};
+use brc_count::{Frame, Handle};
+use brc_counter::Home;
+use brc_lock::begin_late;
+use brc_words::{Fault, Key, Text};
+use std::alloc::Allocator;
+use std::sync::Wait;
+
+/// The pair at the place.
+#[inline]
+fn pair_at<A: Allocator>(pairs: &Pairs<A>, index: usize) -> Option<&(Key<A>, u32)>
+    ensures there { IfSome result (λ pair. slice_get pairs.now.items index ≡ Some pair.now) }
+    ensures past { IfNone result (slice_get pairs.now.items index ≡ None) }
+{
+    let pairs = pairs.as_slice();
+    if index < pairs.len() {
+        Some(&pairs[index])
+    } else {
+        None
+    }
+}
+
+/// The pair at the place: WrongKind where the object is no dictionary, NoSuchPlace past its end.
+#[inline]
+fn pair_in<A: Allocator>(payload: &Payload<A>, index: usize) -> Result<&(Key<A>, u32), Fault>
+    ensures there { IfOk result (λ pair. IsAt payload.now index pair.now.0 pair.now.1) }
+    ensures refused { IfErr result (NoPair payload.now index) }
+{
+    let Payload::Dict(pairs) = payload else {
+        return Err(Fault::WrongKind);
+    };
+    match pair_at(pairs, index) {
+        Some(pair) => Ok(pair),
+        None => Err(Fault::NoSuchPlace),
+    }
+}
+
+/// The same key once more; None where memory for its text is missing.
+fn copy_of_key<A: Allocator>(alloc: A, key: &Key<A>) -> Option<Key<A>>
+    ensures { IfSome result (λ copy. copy ≡ key.now) }
+{
+    match key {
+        Key::Int(number) => Some(Key::Int(*number)),
+        Key::Text(text) => match String::from_str(alloc, text.as_str()) {
+            Ok(copy) => Some(Key::Text(Text::new(copy))),
+            Err(_) => None,
+        },
+    }
+}
+
+/// A copy of the key at the place.
+fn key_in<A: Allocator>(alloc: A, payload: &Payload<A>, index: usize) -> Result<Key<A>, Fault>
+    ensures found { IfOk result (λ key. plain_key_at index (contents_of payload.now) ≡ Ok (key, contents_of payload.now)) }
+    ensures refused { IfErr result (MissesKey A (contents_of payload.now) index) }
+{
+    let pair = pair_in(payload, index)?;
+    match copy_of_key(alloc, &pair.0) {
+        Some(key) => Ok(key),
+        None => Err(Fault::OutOfMemory),
+    }
+}
+
+/// The key at the place of the dictionary that is locked, and its unlocking.
+fn key_locked<H: Home<A>, A: Allocator>(
+    alloc: A,
+    frame: &mut Frame<H, A>,
+    block: Block<A>,
+    index: u32,
+) -> Result<Key<A>, Fault>
+    requires locked { IsLocked frame.old }
+    requires of_cell { cell_locked frame.old ≡ Some block.0 }
+    requires found { contents_found frame.old ≡ contents_of block.1 }
+    ensures thread { KeepsThread frame.old frame.new }
+    ensures frame { KeepsFrame frame.old frame.new }
+    ensures unlocked { IsUnlocked frame.new }
+    ensures reads { IfOk result (λ key. Since frame.old block
+        (λ before k. Reads before frame.new k (plain_key_at index) key)) }
+    ensures refused { IfErr result (λ fault. Since frame.old block
+        (λ before k. RefusedEntry before frame.new k (plain_key_at {A = A} index) fault)) }
+    ensures waits { IfErr result (λ fault. fault ≢ faults.Busy) }
+{
+    let key = key_in(alloc, block.payload(), index as usize);
+    frame.end_keep(block);
+    key
+}
+
+/// A copy of the key at the place, in the order in which the keys came. Busy where another thread has the dictionary locked, then
+/// WrongKind where the object is no dictionary, NoSuchPlace past its end, and OutOfMemory.
+pub fn try_dict_key<H: Home<A>, A: Allocator>(
+    alloc: A,
+    frame: &mut Frame<H, A>,
+    dict: &Handle<A>,
+    index: u32,
+) -> Result<Key<A>, Fault>
+    requires owned { Owns frame.old dict.now }
+    requires unlocked { IsUnlocked frame.old }
+    ensures reads { DictKey frame.old frame.new dict.now.place index result }
+    ensures keeps { Keeps frame.old frame.new }
+    ensures unlocked { IsUnlocked frame.new }
+{
+    let Some(block) = frame.begin(dict) else {
+        return Err(Fault::Busy);
+    };
+    key_locked(alloc, frame, block, index)
+}
+
+/// A copy of the key at the place; WrongKind, NoSuchPlace and OutOfMemory as in `try_dict_key`. It waits while another thread has the
+/// dictionary locked.
+pub fn dict_key<H: Home<A>, A: Allocator>(
+    rt: &impl Wait,
+    alloc: A,
+    frame: &mut Frame<H, A>,
+    dict: &Handle<A>,
+    index: u32,
+) -> Result<Key<A>, Fault>
+    requires owned { Owns frame.old dict.now }
+    requires unlocked { IsUnlocked frame.old }
+    ensures reads { Late frame.old dict.now.place (λ mid. DictKey mid frame.new dict.now.place index result) }
+    ensures keeps { Keeps frame.old frame.new }
+    ensures unlocked { IsUnlocked frame.new }
+    ensures waited { IfErr result (λ fault. fault ≢ faults.Busy) }
+{
+    let block = begin_late(rt, frame, dict);
+    key_locked(alloc, frame, block, index)
+}
+
+/// A copy of the key at the place, the cell beside it, and the next place of the frame made sure of.
+fn pair_and_place<H: Home<A>, A: Allocator>(
+    alloc: A,
+    frame: &mut Frame<H, A>,
+    block: &Block<A>,
+    index: usize,
+) -> Result<(Key<A>, u32), Fault>
+    ensures same { IsAsBefore frame.old frame.new }
+    ensures room { OnOk result (0 < frame.new.spare) }
+    ensures low { OnOk result (frame.new.next < MOST_PLACES) }
+    ensures there { IfOk result (λ pair. IsAt block.now.1 index pair.0 pair.1) }
+    ensures refused { IfErr result (MissesPair frame.old (contents_of block.now.1) index) }
+{
+    let pair = pair_in(block.payload(), index)?;
+    frame.place()?;
+    match copy_of_key(alloc, &pair.0) {
+        Some(key) => Ok((key, pair.1)),
+        None => Err(Fault::OutOfMemory),
+    }
+}
+
+/// The pair at the place of the dictionary that is locked, and its unlocking.
+fn pair_locked<H: Home<A>, A: Allocator>(
+    alloc: A,
+    frame: &mut Frame<H, A>,
+    block: Block<A>,
+    index: u32,
+) -> Result<(Key<A>, Handle<A>), Fault>
+    requires locked { IsLocked frame.old }
+    requires of_cell { cell_locked frame.old ≡ Some block.0 }
+    requires found { contents_found frame.old ≡ contents_of block.1 }
+    ensures thread { KeepsThread frame.old frame.new }
+    ensures unlocked { IsUnlocked frame.new }
+    ensures shares { IfOk result (λ pair. Since frame.old block
+        (λ before k. SharesPair before frame.new k index pair)) }
+    ensures gains { IfOk result (λ pair. Gains frame.old frame.new pair.1) }
+    ensures places { IfErr result (λ fault. KeepsPlaces frame.old frame.new) }
+    ensures refused { IfErr result (λ fault. Since frame.old block
+        (λ before k. RefusedPlace before frame.new k (plain_value_at A index) fault)) }
+    ensures waits { IfErr result (λ fault. fault ≢ faults.Busy) }
+{
+    match pair_and_place(alloc, frame, &block, index as usize) {
+        Err(fault) => {
+            frame.end_keep(block);
+            Err(fault)
+        }
+        Ok((key, cell)) => {
+            let given = frame.up_entry(index, cell);
+            frame.end_keep(block);
+            Ok((key, given))
+        }
+    }
+}
+
+/// A copy of the key at the place, in the order in which the keys came, and a handle to the value beside it, counted up in one event
+/// while the dictionary is locked. Busy where another thread has it locked, then WrongKind where the object is no dictionary,
+/// NoSuchPlace past its end, FrameFull and OutOfMemory.
+pub fn try_dict_pair<H: Home<A>, A: Allocator>(
+    alloc: A,
+    frame: &mut Frame<H, A>,
+    dict: &Handle<A>,
+    index: u32,
+) -> Result<(Key<A>, Handle<A>), Fault>
+    requires owned { Owns frame.old dict.now }
+    requires unlocked { IsUnlocked frame.old }
+    ensures shares { DictPair frame.old frame.new dict.now.place index result }
+    ensures gains { IfOk result (λ pair. Gains frame.old frame.new pair.1) }
+    ensures keeps { OnErr result (Keeps frame.old frame.new) }
+    ensures unlocked { IsUnlocked frame.new }
+{
+    let Some(block) = frame.begin(dict) else {
+        return Err(Fault::Busy);
+    };
+    pair_locked(alloc, frame, block, index)
+}
+
+/// The pair at the place, with a handle to its value; WrongKind, NoSuchPlace, FrameFull and OutOfMemory as in `try_dict_pair`. It waits
+/// while another thread has the dictionary locked.
+pub fn dict_pair<H: Home<A>, A: Allocator>(
+    rt: &impl Wait,
+    alloc: A,
+    frame: &mut Frame<H, A>,
+    dict: &Handle<A>,
+    index: u32,
+) -> Result<(Key<A>, Handle<A>), Fault>
+    requires owned { Owns frame.old dict.now }
+    requires unlocked { IsUnlocked frame.old }
+    ensures shares { Late frame.old dict.now.place (λ mid. DictPair mid frame.new dict.now.place index result) }
+    ensures gains { IfOk result (λ pair. Gains frame.old frame.new pair.1) }
+    ensures keeps { OnErr result (Keeps frame.old frame.new) }
+    ensures unlocked { IsUnlocked frame.new }
+    ensures waited { IfErr result (λ fault. fault ≢ faults.Busy) }
+{
+    let block = begin_late(rt, frame, dict);
+    pair_locked(alloc, frame, block, index)
+}
