@@ -3,7 +3,8 @@
 //! A heap is opened (`Heap::new`) with its root, which registers threads. Each thread has a `Mutator`, and works over its frame:
 //! objects are made (`new_int`, `new_list`, ..), retained and released, and lists, dictionaries and mailboxes read and changed under
 //! their locks. A `Handle` is a reference; it must be given back, by `Frame::release` or by a call that takes it. `Handles` keeps many.
-//! A thread ends by `Mutator::retire`, `end` or `depart`, and a heap by `take_apart` and `give_back`.
+//! A thread ends by `Mutator::retire`, `end` or `depart`, and a heap by `close`, with a report of what is left, or by `take_apart` and
+//! `give_back`.
 //!
 //! What contracts of a client cite stands in `specs/Words.antt`: which handles a frame owns before and after a call.
 #![tactic(auto)]
@@ -14,7 +15,9 @@ mod fixed;
 pub use asking::{is_same, truth_of};
 
 // the heap and its threads
+pub use brc_close::{CloseFault, close};
 pub use brc_count::Ledger;
+pub use brc_report::{Cells, Content, Remain, Report, check_report, write_report};
 pub use brc_table::Rest;
 pub use brc_thread::{Heap, Options, Resting, Retired, Root, give_back, take_apart};
 pub use fixed::{Leaving, Mutator};
@@ -29,12 +32,16 @@ pub use brc_things::{new_dict, new_int, new_list, new_mailbox, new_text, none, t
 
 // what they are and hold
 pub use brc_containers::{
-    int_of, kind_of, len_of, text_of, try_int_of, try_kind_of, try_len_of, try_text_of,
+    int_of, kind_of, len_of, text_into, text_of, try_int_of, try_kind_of, try_len_of,
+    try_text_into, try_text_of,
 };
-pub use brc_dicts::{dict_del, dict_find, dict_put, try_dict_del, try_dict_find, try_dict_put};
+pub use brc_dicts::{
+    dict_del, dict_find, dict_key, dict_pair, dict_put, try_dict_del, try_dict_find, try_dict_key,
+    try_dict_pair, try_dict_put,
+};
 pub use brc_lists::{
-    list_get, list_pop, list_push, list_set, recv, send, try_list_get, try_list_pop, try_list_push,
-    try_list_set, try_recv, try_send,
+    list_get, list_pop, list_push, list_set, list_take, recv, send, try_list_get, try_list_pop,
+    try_list_push, try_list_set, try_list_take, try_recv, try_send,
 };
 
 // plain values

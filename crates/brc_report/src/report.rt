@@ -1,12 +1,13 @@
 //! A report, and its text.
 
-ghost use Rattle.std.specs.Prelude.{◌≡◌, ◌++◌};
+ghost use Rattle.std.specs.Prelude.{◌≡◌, ◌++◌, ◌⊎◌, true, false, IfSome, IfNone};
 ghost use Rattle.brc_text.specs.Puts.{Puts};
+ghost use Rattle.brc_report.specs.Spelled.{is_spelled, all_spelled, has_cells, all_have_cells};
 ghost use Rattle.brc_report.specs.Texts.{kind_word, ledger_line, remain_line, remains_text, cycle_line, cycles_text, report_text};
 
 use crate::content::{Cells, Content, Remain};
 use brc_text::{Keyword, Token, put_headed_line, put_line, put_numbers_line};
-use brc_words::{Fault, Kind};
+use brc_words::{FIRST_MORTAL, Fault, Kind};
 use std::alloc::Allocator;
 use std::io::Write;
 
@@ -25,6 +26,77 @@ pub struct Report<A: Allocator> {
     pub remains: Vec<Remain, A>,
     pub cycles: Vec<Cells<A>, A>,
     pub contents: Vec<Content<A>, A>,
+
+    // A text spells it: each remain is a mortal cell of a mortal kind, and each cycle has a cell.
+    pub ghost remains_spelled: { all_spelled remains.items ≡ true },
+    pub ghost cycles_spelled: { all_have_cells cycles.items ≡ true },
+}
+
+/// Whether a text spells the remain.
+fn is_spelled(remain: &Remain) -> bool
+    ensures { result ≡ is_spelled remain.now }
+{
+    if remain.cell < FIRST_MORTAL {
+        return false;
+    }
+    match remain.kind {
+        Kind::Int | Kind::Text | Kind::List | Kind::Dict | Kind::Mailbox => true,
+        Kind::Nothing | Kind::False | Kind::True => false,
+    }
+}
+
+/// Whether a text spells all remains.
+fn all_spelled(remains: &[Remain]) -> bool
+    ensures { result ≡ all_spelled remains.now }
+{
+    for remain in remains {
+        if !is_spelled(remain) {
+            return false;
+        }
+    }
+    true
+}
+
+/// Whether all cycles have cells.
+fn all_have_cells<A: Allocator>(cycles: &[Cells<A>]) -> bool
+    ensures { result ≡ all_have_cells cycles.now }
+{
+    for cycle in cycles {
+        if cycle.as_slice().len() == 0 {
+            return false;
+        }
+    }
+    true
+}
+
+impl<A: Allocator> Report<A> {
+    /// A report of these; None where no text spells it: where a remain is no mortal cell or of no mortal kind, or a cycle has no cell.
+    pub fn new(
+        ledger: Ledger,
+        live: u64,
+        remains: Vec<Remain, A>,
+        cycles: Vec<Cells<A>, A>,
+        contents: Vec<Content<A>, A>,
+    ) -> Option<Report<A>>
+        ensures numbers { IfSome result (λ report. (report.ledger ≡ ledger) × (report.live ≡ live)) }
+        ensures parts { IfSome result (λ report.
+            (report.remains ≡ remains) × (report.cycles ≡ cycles) × (report.contents ≡ contents)) }
+        ensures none { IfNone result ((all_spelled remains.items ≡ false) ⊎ (all_have_cells cycles.items ≡ false)) }
+    {
+        if !all_spelled(remains.as_slice()) {
+            return None;
+        }
+        if !all_have_cells(cycles.as_slice()) {
+            return None;
+        }
+        Some(Report {
+            ledger,
+            live,
+            remains,
+            cycles,
+            contents,
+        })
+    }
 }
 
 fn word_of_kind(kind: Kind) -> Keyword

@@ -74,12 +74,8 @@ pub fn report_on<R: CpuClock>(
         allocs: live,
         frees: 0,
     };
-    let report = Report {
-        ledger,
-        live,
-        remains,
-        cycles,
-        contents,
+    let Some(report) = Report::new(ledger, live, remains, cycles, contents) else {
+        return Ok(None);
     };
     let mut text = Vec::new(alloc);
     let Ok(()) = write_report(&report, &mut text) else {

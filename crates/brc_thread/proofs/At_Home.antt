@@ -16,9 +16,9 @@ use Rattle.brc_runs.specs.declared.event.Step.TheVariants.{Register, Gather}
 use Rattle.brc_runs.specs.declared.row.Row.{Row}
 use Rattle.brc_runs.specs.declared.row.Hand.{Hand}
 use Rattle.brc_runs.specs.declared.row.Hand.TheVariants as hands
-use Rattle.brc_runs.specs.Lists.{one, is_marked}
-use Rattle.brc_runs.specs.Heap.{Heap, opening, cell_at, row_at, worklist_at, is_immortal, is_registered, no_row, new_row, AreOptions}
-use Rattle.brc_runs.specs.Steps.{after_target, root_after, root_may, thread_may, target_at}
+use Rattle.brc_runs.specs.Lists.{one, is_marked, place_at, bit_of}
+use Rattle.brc_runs.specs.Heap.{Heap, opening, cell_at, row_at, worklist_at, frame_at, popped_at, queue_at, is_immortal, is_registered, no_row, new_row, AreOptions}
+use Rattle.brc_runs.specs.Steps.{is_active, after_target, root_after, root_may, thread_may, target_at}
 use Rattle.brc_runs.specs.Holding.{lives, lives_at}
 use Rattle.brc_runs.specs.Runs.{IsRun, IsReached, world_after}
 use Rattle.brc_runs.specs.Sound.{IsSound, grips, gripped, grips_by_owner}
@@ -39,14 +39,15 @@ use Rattle.brc_thread.specs.Emptied.{AllGathered, is_used, used_from, blocks_in,
 
 -- ---- who has nothing
 
--- a number without a hand, a lock or a dead block
-record IsIdle (h : Heap) (t : ℕ) : Type 0 where
+-- a number without a hand, a lock, a dead block or a filled place
+pub record IsIdle (h : Heap) (t : ℕ) : Type 0 where
   pub hand : (row_at h t).hand ≡ hands.Free
+  pub frame : (k : ℕ) → place_at (frame_at h t) k ≡ None
   pub unlocked : (row_at h t).locked ≡ None
   pub worklist : (q : ℕ) → is_marked (worklist_at h t) q ≡ false
 
 -- so is the root at all times, which no step is made for
-record RootRests (h : Heap) : Type 0 where
+pub record RootRests (h : Heap) : Type 0 where
   pub row : row_at h 0 ≡ no_row
   pub worklist : worklist_at h 0 ≡ []
 
@@ -58,7 +59,7 @@ after_root h (Register u) sound rests = record {
 after_root h (Gather u) sound rests = record { row = rests.row; worklist = rests.worklist }
 after_root h _ sound rests = rests
 
-root_rests : (n limit : ℕ) (run : List Event) → AreOptions n limit → IsRun (opening n limit) run → RootRests (world_after (opening n limit) run)
+pub root_rests : (n limit : ℕ) (run : List Event) → AreOptions n limit → IsRun (opening n limit) run → RootRests (world_after (opening n limit) run)
 root_rests n limit [] options is_run = record { row = refl; worklist = refl }
 root_rests n limit (e ∷ run) options is_run =
     let h : Heap = world_after (opening n limit) run in
@@ -77,9 +78,10 @@ root_rests n limit (e ∷ run) options is_run =
     ]
 
 -- where all are gathered every number is idle
-all_idle : (h : Heap) (t : ℕ) → IsReached h → RootRests h → AllGathered h → IsIdle h t
+pub all_idle : (h : Heap) (t : ℕ) → IsReached h → RootRests h → AllGathered h → IsIdle h t
 all_idle h t reached rests all = elim (cases_eq t 0) [
   | inl root ↦ subst (IsIdle h) (sym root) (record {
+    frame = ((reached_sound h reached).threads 0).inactive_frame (ap (λ (row : Row). is_active row.stage) rests.row);
     hand = ap (λ (row : Row). row.hand) rests.row;
     unlocked = ap (λ (row : Row). row.locked) rests.row;
     worklist = λ q. ap (λ (marks : List Bool). is_marked marks q) rests.worklist;
@@ -88,21 +90,42 @@ all_idle h t reached rests all = elim (cases_eq t 0) [
     | inl inside ↦
         let there : is_registered h t ≡ true = both_true (lt-ltb 0 t (omega (arith, thread))) (lt-ltb t (length h.rows) inside) in
         let holds = gathered_hold_nothing h t reached (all t there) in
-        record { hand = holds.hand; unlocked = holds.unlocked; worklist = holds.worklist }
+        record { hand = holds.hand; frame = holds.frame; unlocked = holds.unlocked; worklist = holds.worklist }
     | inr past ↦
         let sound : IsSound h = reached_sound h reached in
         let none : row_at h t ≡ no_row = get_or_past h.rows t no_row past in
         record {
           hand = ap (λ (row : Row). row.hand) none;
+          frame = λ k. ap (λ (frame : List (Option ℕ)). place_at frame k) (get_or_past h.frames t [] (omega (arith, past, sound.shaped.frames)));
           unlocked = ap (λ (row : Row). row.locked) none;
           worklist = λ q. ap (λ (marks : List Bool). is_marked marks q) (get_or_past h.worklists t [] (omega (arith, past, sound.shaped.worklists)));
         }
   ]
 ]
 
+-- No bit of a merge queue, and none that was popped, is a live object's: what a number has that isn't registered would be of
+-- objects that it bore, and there are none.
+pub record NoBits (h : Heap) (t q : ℕ) : Type 0 where
+  pub queue : bit_of (queue_at h t) q ≡ 0
+  pub popped : bit_of (popped_at h t) q ≡ 0
+
+pub no_bits : (h : Heap) (t q : ℕ) → IsReached h → AllGathered h → FIRST_MORTAL ≤ q → lives (cell_at h q).owner ≡ true → NoBits h t q
+no_bits h t q reached all mortal live = elim (cases_Bool (is_registered h t)) [
+  | inl there ↦ let holds = gathered_hold_nothing h t reached (all t there) in record { queue = holds.queue q; popped = holds.popped q }
+  | inr unknown ↦ elim (cases_lt 0 (bit_of (queue_at h t) q + bit_of (popped_at h t) q)) [
+    | inr none ↦ record { queue = omega (arith, none); popped = omega (arith, none) }
+    | inl bits ↦
+        let sound : IsSound h = reached_sound h reached in
+        let born = (sound.cells q mortal).born live in
+        let bearer = (sound.bits t q bits).1 in
+        let there : is_registered h t ≡ true = both_true (lt-ltb 0 t (omega (arith, born.0, bearer))) (lt-ltb t (length h.rows) (omega (arith, born.1, bearer))) in
+        absurd (true≢false (sym there ∙ unknown))
+  ]
+]
+
 -- ---- so nothing is gripped
 
-none_in : {X : Type 0} (f : X → ℕ) (d : X) (xs : List X) → ((i : ℕ) → f (get_or xs i d) ≡ 0) → sum_by f xs ≡ 0
+pub none_in : {X : Type 0} (f : X → ℕ) (d : X) (xs : List X) → ((i : ℕ) → f (get_or xs i d) ≡ 0) → sum_by f xs ≡ 0
 none_in f d [] none = refl
 none_in f d (x ∷ xs) none = omega (arith, sum_by-cons f x xs, none 0, none_in f d xs (λ i. none (suc i)))
 

@@ -1,5 +1,5 @@
 -- How a heap ends: what is left of it, and what is so of all that was done on it.
-use Rattle.std.specs.Prelude.{◌≡◌, ◌<◌, ℕ, true, List, length, Option, Some}
+use Rattle.std.specs.Prelude.{◌≡◌, ◌<◌, ℕ, true, List, length, sum_by, Option, Some}
 use Rattle.brc_block.specs.declared.payload.Payload.{Payload}
 use Rattle.brc_known.specs.Items.{events_of}
 use Rattle.brc_known.specs.Root.{gathered_of}
@@ -12,6 +12,7 @@ use Rattle.brc_runs.specs.Runs.{IsReached}
 use Rattle.brc_steps.specs.Joining.{next_thread}
 use Rattle.brc_table.specs.Rest.{Remains}
 use Rattle.brc_count.specs.declared.ledger.Ledger.{Ledger}
+use Rattle.brc_thread.specs.Counting.{registrations, gatherings, births_of_all, frees_of_all}
 use Rattle.brc_thread.specs.Emptied.{AllGathered, AllAtHome}
 use Rattle.brc_thread.specs.Threads.{ledger_of}
 
@@ -26,7 +27,8 @@ module _ {A : Type 0} where
   -- and those of each thread that was gathered are the log that the root took in: it has one for each registration that ended, and
   -- each item of a thread stands in one of them or in its seat's, once and in its order. What that world counts for a registered
   -- thread, as the headline sums it up, is the ledger of all that the thread did, which `Retired` answers; for the root it
-  -- counts nothing. Which threads were registered and which are gathered is told by the root's log; where all are gathered, the
+  -- counts nothing. Which threads were registered and which are gathered is told by the root's log: all are, where it has gathered as
+  -- many as it has registered. Where all are gathered, what their logs count, added up, is what that world counts, and the
   -- blocks that are left are those of all live objects and immortals, each with what was put home there last.
   pub record Ends (n limit id : ℕ) (root : View) (slots : List (Option (ℕ × Payload A))) : Type 0 where
     pub remains : Remains n limit id root slots
@@ -45,3 +47,6 @@ module _ {A : Type 0} where
     pub registered : length (world n limit remains.kept.run).rows ≡ next_thread root
     pub gathered : (t : ℕ) → is_gathered (world n limit remains.kept.run) t ≡ gathered_of (log_items root.log) t
     pub all_at_home : AllGathered (world n limit remains.kept.run) → AllAtHome n (world n limit remains.kept.run) remains.kept.run slots
+    pub everyone : registrations root ≡ gatherings root → AllGathered (world n limit remains.kept.run)
+    pub births : AllGathered (world n limit remains.kept.run) → births_of_all root.gathered ≡ sum_by (λ row. row.allocs) (world n limit remains.kept.run).rows
+    pub frees : AllGathered (world n limit remains.kept.run) → frees_of_all root.gathered ≡ sum_by (λ row. row.frees) (world n limit remains.kept.run).rows

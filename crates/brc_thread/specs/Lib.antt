@@ -1,7 +1,9 @@
 pub mod Threads
+pub mod Counting
 pub mod Settling
 pub mod Lending
 pub mod Ending
 pub mod Handed
 pub mod Emptied
 pub mod Retiring
+pub mod Clearing

@@ -19,7 +19,12 @@ pub fn take_apart<A: Allocator>(heap: Heap<A>, root: Root<A>) -> Rest<A>
     ensures ended { Ends heap.cells heap.local_limit root.id root.view result }
 {
     let Heap { table } = heap;
-    let Root { seat } = root;
+    let Root {
+        seat,
+        registered: _registered,
+        gathered: _gathered,
+        ledger: _ledger,
+    } = root;
     table.take_apart(seat)
 }
 

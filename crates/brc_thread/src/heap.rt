@@ -7,10 +7,11 @@ ghost use Rattle.brc_rule.specs.Opening.{first_view};
 ghost use Rattle.brc_table.specs.Seated.{TableSeen};
 
 use crate::root::Root;
+use brc_count::Ledger;
 use brc_counter::Home;
 use brc_table::HeapTable;
 use brc_words::Fault;
-use std::alloc::Allocator;
+use std::alloc::{Allocator, Global};
 use std::marker::Model;
 
 /// How large a heap is.
@@ -31,7 +32,7 @@ impl Options {
 }
 
 /// The words and blocks of one heap. All threads share it by reference; it must be taken apart in the end.
-pub struct Heap<A: Allocator> {
+pub struct Heap<A: Allocator = Global> {
     pub(crate) table: HeapTable<A>,
 }
 
@@ -55,7 +56,18 @@ impl<A: Allocator + Copy> Heap<A> {
         ensures refused { IfErr result (λ fault. (fault ≡ faults.BadOptions) ⊎ (fault ≡ faults.OutOfMemory)) }
     {
         match HeapTable::new(alloc, options.cells, options.local_limit) {
-            Ok((table, seat)) => Ok((Heap { table }, Root { seat })),
+            Ok((table, seat)) => {
+                let root = Root {
+                    seat,
+                    registered: 0,
+                    gathered: 0,
+                    ledger: Ledger {
+                        allocs: 0,
+                        frees: 0,
+                    },
+                };
+                Ok((Heap { table }, root))
+            }
             Err(fault) => Err(fault),
         }
     }

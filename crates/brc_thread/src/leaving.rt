@@ -9,7 +9,7 @@ ghost use Rattle.brc_thread.specs.Threads.{ledger_of};
 use brc_count::{ClosedFrame, Ledger};
 use brc_counter::Home;
 use brc_table::ThreadSeat;
-use std::alloc::Allocator;
+use std::alloc::{Allocator, Global};
 use std::marker::Model;
 
 /// A thread that has left: it has popped entries to deal with, and dead blocks.
@@ -28,7 +28,7 @@ impl<H: Home<A>, A: Allocator> Model for Leaving<H, A> {
 /// A thread that holds nothing any more: its seat, for the root to gather. It names no lifetime, so that a thread of the machine
 /// can hand it back as it ends.
 #[derive(Drop)]
-pub struct Retired<A: Allocator> {
+pub struct Retired<A: Allocator = Global> {
     pub(crate) seat: ThreadSeat<A>,
     pub(crate) cells: u32,
     pub(crate) local_limit: u32,

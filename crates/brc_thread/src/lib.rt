@@ -5,6 +5,7 @@
 //! merge queue, and `Retired` one that is done, for the root to gather. At the end the heap is taken apart.
 #![tactic(auto)]
 
+mod clearing;
 mod ends;
 mod heap;
 mod laws;

@@ -6,13 +6,13 @@ ghost use Rattle.brc_count.specs.Frames.{IsUnlocked};
 use crate::mutator::Mutator;
 use brc_count::RestingFrame;
 use brc_counter::Home;
-use std::alloc::Allocator;
+use std::alloc::{Allocator, Global};
 use std::marker::Model;
 
 /// A mutator without handles, away from its heap. It names no lifetime, and nothing in it must be spent: a closure can own it.
 /// One that is dropped is a thread that can't be gathered any more.
 #[derive(Drop)]
-pub struct Resting<A: Allocator> {
+pub struct Resting<A: Allocator = Global> {
     frame: RestingFrame<A>,
 }
 

@@ -2,34 +2,41 @@
 
 ghost use Rattle.std.specs.Prelude.{◌≡◌, ◌≤◌, [], IfOk, IfErr, OnOk, OnErr};
 ghost use Rattle.brc_count.specs.Frames.{IsUnlocked, ledger_seen};
+ghost use Rattle.brc_words.specs.declared.limits.TheConstants.{MOST_THREADS};
 ghost use Rattle.brc_steps.specs.Joining.{next_thread, registering, gathering};
 ghost use Rattle.brc_table.specs.Seated.{view_of};
+ghost use Rattle.brc_thread.specs.Counting.{registrations, gatherings, births_of_all, frees_of_all, in_u32, in_u64};
 ghost use Rattle.brc_thread.specs.Threads.{RefusesThread};
 
 use crate::heap::Heap;
 use crate::leaving::Retired;
 use crate::mutator::Mutator;
-use brc_count::Frame;
+use brc_count::{Frame, Ledger};
 use brc_counter::Home;
 use brc_table::RootSeat;
 use brc_words::{Fault, MOST_THREADS};
-use std::alloc::Allocator;
+use std::alloc::{Allocator, Global};
 use std::marker::Model;
 
-/// The seat of whoever starts threads and waits for their ends. There is one for each heap.
-pub struct Root<A: Allocator> {
+/// The seat of whoever starts threads and waits for their ends. There is one for each heap. It counts whom it registers and whom it
+/// gathers, and adds up what those did that it gathered.
+pub struct Root<A: Allocator = Global> {
     pub(crate) seat: RootSeat<A>,
+    pub(crate) registered: u32,
+    pub(crate) gathered: u32,
+    pub(crate) ledger: Ledger,
 }
 
 impl<A: Allocator> Model for Root<A> {
     ghost use Rattle.std.specs.Prelude.{◌≡◌, true};
     ghost use Rattle.brc_table.specs.Seated.{RootSeen};
+    ghost use Rattle.brc_thread.specs.Counting.{Counts};
 
     ghost Value = { RootSeen };
 
     ghost view = { λ r. r.seat };
 
-    ghost invariant = { λ r. (r.seat.view.active ≡ true) × (r.seat.view.thread ≡ 0) };
+    ghost invariant = { λ r. (r.seat.view.active ≡ true) × (r.seat.view.thread ≡ 0) × Counts r.seat.view r.registered r.gathered r.ledger };
 }
 
 impl<A: Allocator + Copy> Root<A> {
@@ -53,7 +60,10 @@ impl<A: Allocator + Copy> Root<A> {
             return Err(Fault::TooManyThreads);
         }
         match Frame::enter(alloc, heap, &mut self.seat) {
-            Ok(frame) => Ok(Mutator { frame }),
+            Ok(frame) => {
+                self.registered += 1;
+                Ok(Mutator { frame })
+            }
             Err(fault) => Err(fault),
         }
     }
@@ -67,6 +77,30 @@ impl<A: Allocator> Root<A> {
         self.seat.next()
     }
 
+    /// How many threads have been registered: 64 at most.
+    pub fn registered(&self) -> u32
+        ensures told { result ≡ registrations self.now.view }
+        ensures few { result ≤ MOST_THREADS }
+    {
+        self.registered
+    }
+
+    /// How many threads have been gathered, as far as 32 bits count. No more are than were registered, 64 at most; but that is so of
+    /// the run of the whole heap, and no type of the root's says it.
+    pub fn gathered(&self) -> u32
+        ensures { result ≡ in_u32 (gatherings self.now.view) }
+    {
+        self.gathered
+    }
+
+    /// What the threads did that were gathered, added up, as far as 64 bits count.
+    pub fn ledger(&self) -> Ledger
+        ensures allocs { result.allocs ≡ in_u64 (births_of_all self.now.view.gathered) }
+        ensures frees { result.frees ≡ in_u64 (frees_of_all self.now.view.gathered) }
+    {
+        self.ledger
+    }
+
     /// Takes a thread in that is done. What it did is the root's to know from now on.
     pub fn gather(&mut self, heap: &Heap<A>, retired: Retired<A>)
         requires heap { self.old.table ≡ heap.now.table }
@@ -78,8 +112,13 @@ impl<A: Allocator> Root<A> {
             seat,
             cells: _cells,
             local_limit: _limit,
-            ledger: _ledger,
+            ledger,
         } = retired;
         heap.table.join(&mut self.seat, seat);
+        self.gathered = self.gathered.saturating_add(1);
+        self.ledger = Ledger {
+            allocs: self.ledger.allocs.saturating_add(ledger.allocs),
+            frees: self.ledger.frees.saturating_add(ledger.frees),
+        };
     }
 }

@@ -59,13 +59,11 @@ fn report_of(
             contents.as_slice()
         ) == Ok(true)
     );
-    let report = Report {
-        ledger: Ledger { allocs, frees: 0 },
-        live: allocs,
-        remains,
-        cycles,
-        contents,
-    };
+    let ledger = Ledger { allocs, frees: 0 };
+    let report = Report::new(ledger, allocs, remains, cycles, contents).expect(
+        rt,
+        "a report that no text spells",
+    );
     let mut text = Vec::new(alloc);
     assert!(rt; write_report(&report, &mut text).is_ok());
     text
@@ -348,16 +346,15 @@ fn long_report(rt: &impl Abort, alloc: Global) -> Report<Global> {
     }
     let mut cycles = Vec::new(alloc);
     cycles.push(Cells::new(cells)).expect(rt, "memory");
-    Report {
-        ledger: Ledger {
-            allocs: 9,
-            frees: 2,
-        },
-        live: 7,
-        remains: Vec::from_slice(alloc, remains.as_slice()).expect(rt, "memory"),
-        cycles,
-        contents: Vec::new(alloc),
-    }
+    let ledger = Ledger {
+        allocs: 9,
+        frees: 2,
+    };
+    let remains = Vec::from_slice(alloc, remains.as_slice()).expect(rt, "memory");
+    Report::new(ledger, 7, remains, cycles, Vec::new(alloc)).expect(
+        rt,
+        "a report that no text spells",
+    )
 }
 
 /// Takes each write whole and counts it, until it has no more room.

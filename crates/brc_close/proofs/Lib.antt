@@ -1,0 +1,5 @@
+mod Mortal_Kinds
+mod Held
+mod Listing
+mod Collected
+mod Closed

@@ -1,0 +1,54 @@
+-- How many threads the root has registered and gathered, and what those that it gathered did, counted from its view.
+use Rattle.std.specs.Prelude.{◌≡◌, ◌≤◌, ℕ, List, length, min, sum_by}
+use Rattle.brc_words.specs.declared.limits.TheConstants.{MOST_THREADS}
+use Rattle.brc_runs.specs.Lists.{one}
+use Rattle.brc_runs.specs.Holding.{is_birth}
+use Rattle.brc_runs.specs.Steps.{is_free_step}
+use Rattle.brc_runs.specs.declared.event.Step.TheVariants.{Register}
+use Rattle.brc_rule.specs.declared.told.Told.{Told}
+use Rattle.brc_rule.specs.declared.told.Told.TheVariants.{Did}
+use Rattle.brc_rule.specs.declared.view.View.{View}
+use Rattle.brc_count.specs.declared.ledger.Ledger.{Ledger}
+
+-- the step registers a thread, bears an object, gives a cell back
+abbrev pub registers : Told → ℕ
+registers (Did (Register u) number moved) = 1
+registers x = 0
+
+abbrev pub bears : Told → ℕ
+bears (Did s number moved) = one (is_birth s)
+bears x = 0
+
+abbrev pub frees : Told → ℕ
+frees (Did s number moved) = one (is_free_step s)
+frees x = 0
+
+-- how many threads the root has registered
+abbrev pub registrations : View → ℕ
+registrations v = sum_by registers v.log
+
+-- and how many it has gathered: it has a log for each
+abbrev pub gatherings : View → ℕ
+gatherings v = length v.gathered
+
+-- what those that it gathered did, added up
+abbrev pub births_of_all : List (ℕ × List Told) → ℕ
+births_of_all lives = sum_by (λ (life : ℕ × List Told). sum_by bears life.1) lives
+
+abbrev pub frees_of_all : List (ℕ × List Told) → ℕ
+frees_of_all lives = sum_by (λ (life : ℕ × List Told). sum_by frees life.1) lives
+
+-- as far as 32 bits count, and as far as 64 bits do: every number that a heap comes to is below that, but no type says so
+abbrev pub in_u32 : ℕ → ℕ
+in_u32 n = min n 4294967295
+
+abbrev pub in_u64 : ℕ → ℕ
+in_u64 n = min n 18446744073709551615
+
+-- what a root counts is so of its view; it registers no more threads than a heap may have
+pub record Counts (view : View) (registered gathered : ℕ) (ledger : Ledger) : Type 0 where
+  pub all_registered : registered ≡ registrations view
+  pub few : registered ≤ MOST_THREADS
+  pub all_gathered : gathered ≡ in_u32 (gatherings view)
+  pub allocs : ledger.allocs ≡ in_u64 (births_of_all view.gathered)
+  pub frees : ledger.frees ≡ in_u64 (frees_of_all view.gathered)

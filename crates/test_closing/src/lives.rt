@@ -1,0 +1,93 @@
+//! What the only thread of a heap does before it ends. Where something is refused, it does no more.
+
+ghost use Rattle.brc_heap.specs.Words.{IsUnlocked, Keeps, Owns};
+
+use brc_heap::{Frame, Handle, Key, Mutator, Text, dict_put, list_push, new_list, new_text};
+use std::alloc::Allocator;
+use std::sync::Wait;
+
+/// A thread's life.
+#[derive(Clone, Copy)]
+pub(crate) enum Life {
+    HoldsItself,
+    LeavesAText,
+    ClearsUp,
+}
+
+/// A list gets a handle to itself, and its other handle goes.
+fn holds_itself<A: Allocator + Copy>(rt: &impl Wait, alloc: A, frame: &mut Frame<'_, A>)
+    requires unlocked { IsUnlocked frame.old }
+    ensures keeps { Keeps frame.old frame.new }
+    ensures unlocked { IsUnlocked frame.new }
+{
+    let Ok(list) = new_list(alloc, frame) else {
+        return;
+    };
+    let Ok(again) = frame.retain(&list) else {
+        frame.release(list);
+        return;
+    };
+    if let Err(handed) = list_push(rt, frame, &list, again) {
+        frame.release(handed.back);
+    }
+    frame.release(list);
+}
+
+/// A new text goes into the dictionary.
+fn puts_a_text<A: Allocator + Copy>(
+    rt: &impl Wait,
+    alloc: A,
+    frame: &mut Frame<'_, A>,
+    dict: &Handle<A>,
+)
+    requires owned { Owns frame.old dict.now }
+    requires unlocked { IsUnlocked frame.old }
+    ensures keeps { Keeps frame.old frame.new }
+    ensures unlocked { IsUnlocked frame.new }
+{
+    let Ok(bytes) = String::from_str(alloc, "kept") else {
+        return;
+    };
+    let Ok(text) = new_text(alloc, frame, Text::new(bytes)) else {
+        return;
+    };
+    match dict_put(rt, frame, dict, Key::Int(1), text) {
+        Ok(None) => {}
+        Ok(Some(old)) => frame.release(old),
+        Err(handed) => frame.release(handed.back.1),
+    }
+}
+
+/// The globals get a new text.
+fn leaves_a_text<A: Allocator + Copy>(rt: &impl Wait, alloc: A, mutator: &mut Mutator<'_, A>)
+    requires unlocked { IsUnlocked mutator.old }
+    ensures keeps { Keeps mutator.old mutator.new }
+    ensures unlocked { IsUnlocked mutator.new }
+{
+    let Ok(globals) = mutator.globals() else {
+        return;
+    };
+    puts_a_text(rt, alloc, mutator.frame(), &globals);
+    mutator.frame().release(globals);
+}
+
+/// The thread does it.
+pub(crate) fn lives<A: Allocator + Copy>(
+    rt: &impl Wait,
+    alloc: A,
+    mutator: &mut Mutator<'_, A>,
+    life: Life,
+)
+    requires unlocked { IsUnlocked mutator.old }
+    ensures keeps { Keeps mutator.old mutator.new }
+    ensures unlocked { IsUnlocked mutator.new }
+{
+    match life {
+        Life::HoldsItself => holds_itself(rt, alloc, mutator.frame()),
+        Life::LeavesAText => leaves_a_text(rt, alloc, mutator),
+        Life::ClearsUp => {
+            leaves_a_text(rt, alloc, mutator);
+            let _cleared = mutator.clear_globals();
+        }
+    }
+}

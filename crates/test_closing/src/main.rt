@@ -1,0 +1,131 @@
+//! Heaps that are closed, and their reports: a list that holds itself, a text that the globals hold, globals that are cleared, a thread
+//! that nobody gathered, and a report for which memory is wanting.
+#![tactic(auto)]
+
+mod lives;
+
+use brc_heap::{CloseFault, Heap, Options, Report, close, give_back, take_apart, write_report};
+use linked_list_allocator::LocalHeap;
+use lives::{Life, lives};
+use std::alloc::{Allocator, Global};
+use std::io;
+use std::sync::Wait;
+
+/// The least heap.
+const SIZES: Options = Options {
+    cells: 512,
+    local_limit: 10,
+};
+
+/// The memories of a heap, and of its report.
+#[derive(Clone, Copy)]
+struct Memories<A> {
+    ample: A,
+    scarce: A,
+}
+
+/// The report of a heap whose only thread lived so; None where something was refused.
+fn report_of<A: Allocator + Copy>(
+    rt: &impl Wait,
+    memories: Memories<A>,
+    life: Life,
+) -> Option<Report<A>> {
+    let (heap, mut root) = Heap::new(memories.ample, SIZES).ok()?;
+    if let Ok(mut mutator) = root.register(memories.ample, &heap) {
+        lives(rt, memories.ample, &mut mutator, life);
+        let _ledger = mutator.end(rt, &mut root, &heap);
+    }
+    match close(memories.scarce, heap, root) {
+        Ok(report) => Some(report),
+        Err(CloseFault::Memory) => None,
+        Err(
+            CloseFault::Missing {
+                registered: _registered,
+                gathered: _gathered,
+                heap,
+                root,
+            },
+        ) => {
+            give_back(take_apart(heap, root));
+            None
+        }
+    }
+}
+
+/// How many threads were registered, and how many gathered, of a heap that one of two threads left without the root.
+fn missing<A: Allocator + Copy>(rt: &impl Wait, alloc: A) -> Option<(u32, u32)> {
+    let (heap, mut root) = Heap::new(alloc, SIZES).ok()?;
+    if let Ok(mutator) = root.register(alloc, &heap) {
+        let _ledger = mutator.end(rt, &mut root, &heap);
+    }
+    if let Ok(mutator) = root.register(alloc, &heap) {
+        let _retired = mutator.retire(rt);
+    }
+    match close(alloc, heap, root) {
+        Ok(_) => None,
+        Err(CloseFault::Memory) => None,
+        Err(
+            CloseFault::Missing {
+                registered,
+                gathered,
+                heap,
+                root,
+            },
+        ) => {
+            give_back(take_apart(heap, root));
+            Some((registered, gathered))
+        }
+    }
+}
+
+/// Whether a report is had from so many bytes.
+fn is_had(rt: &impl Wait, alloc: Global, bytes: usize) -> bool {
+    let (Ok(ample), Ok(scarce)) = (LocalHeap::new(alloc, 1 << 22), LocalHeap::new(alloc, bytes))
+    else {
+        return false;
+    };
+    let memories = Memories {
+        ample: &ample,
+        scarce: &scarce,
+    };
+    report_of(rt, memories, Life::HoldsItself).is_some()
+}
+
+/// Whether the report is refused with little memory, and had with more.
+fn is_refused_first(rt: &impl Wait, alloc: Global) -> bool {
+    for more in 0..64usize {
+        if is_had(rt, alloc, 64 * (more + 1)) {
+            return more > 2;
+        }
+    }
+    false
+}
+
+/// A report's text, or that there is none.
+fn shows(rt: &HostRuntime, what: &str, report: Option<Report<Global>>) -> io::Result<()> {
+    println!(rt; "{what}:")?;
+    let Some(report) = report else {
+        return println!(rt; "no report");
+    };
+    match write_report(&report, &mut rt.stdout()) {
+        Ok(()) => Ok(()),
+        Err(_) => println!(rt; "not written"),
+    }
+}
+
+fn main(rt: HostRuntime) -> io::Result<()> {
+    let memories = Memories {
+        ample: rt.alloc(),
+        scarce: rt.alloc(),
+    };
+    let report = report_of(&rt, memories, Life::HoldsItself);
+    shows(&rt, "a list that holds itself", report)?;
+    let report = report_of(&rt, memories, Life::LeavesAText);
+    shows(&rt, "a text that the globals hold", report)?;
+    let report = report_of(&rt, memories, Life::ClearsUp);
+    shows(&rt, "globals that are cleared", report)?;
+    let missing = missing(&rt, rt.alloc());
+    println!(rt; "registered and gathered: {missing:?}")?;
+    let refused = is_refused_first(&rt, rt.alloc());
+    println!(rt; "refused for want of memory, and had with more: {refused}")
+}
