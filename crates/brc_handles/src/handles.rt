@@ -7,12 +7,12 @@ ghost use Rattle.brc_handles.specs.Handles.{slot, IsApart, IsBare, ComesIn, Come
 
 use brc_count::{Handed, Handle};
 use brc_words::Fault;
-use std::alloc::{AllocError, Allocator};
+use std::alloc::{AllocError, Allocator, Global};
 use std::marker::Model;
 
 /// Handles of one frame, each in a place with a number; a place can be empty. No two are of one place of the frame. What is here
 /// must be spent, by `release_all`.
-pub struct Handles<A: Allocator> {
+pub struct Handles<A: Allocator = Global> {
     pub(crate) slots: Vec<Option<Handle<A>>, A>,
 }
 

@@ -8,8 +8,3 @@ mod handles;
 mod holding;
 
 pub use handles::Handles;
-
-#[cfg(test)]
-mod client;
-#[cfg(test)]
-mod tests;

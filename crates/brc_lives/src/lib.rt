@@ -1,6 +1,6 @@
 //! Worked runs of the heap as calls on frames, run by the gate: an integer's life, an immortal's, a list that passes from one
 //! thread's frame to another's, objects of each kind, and what is read of them, a full heap and a full frame, long deaths,
-//! refused growths, two heaps at once, and real threads on one heap.
+//! refused growths, many handles in one, two heaps at once, and real threads on one heap.
 //!
 //! Tests, and what they look at. Each call's conditions are shown from the contracts of `brc_thread`, `brc_things`, `brc_count`
 //! and `brc_table` alone, so this is also how a caller uses them.
@@ -10,6 +10,8 @@ mod sums;
 
 pub use sums::comes_out;
 
+#[cfg(test)]
+mod client;
 #[cfg(test)]
 mod deaths;
 #[cfg(test)]
@@ -25,13 +27,13 @@ mod globals;
 #[cfg(test)]
 mod holds;
 #[cfg(test)]
-mod library;
-#[cfg(test)]
 mod limits;
 #[cfg(test)]
 mod lists;
 #[cfg(test)]
 mod makers;
+#[cfg(test)]
+mod many;
 #[cfg(test)]
 mod memory;
 #[cfg(test)]

@@ -6,10 +6,10 @@ ghost use Rattle.brc_count.specs.Frames.{IsUnlocked, Owns};
 ghost use Rattle.brc_count.specs.Owned.{Keeps, Loses};
 ghost use Rattle.brc_handles.specs.Handles.{slot, Holds};
 
-use crate::Handles;
 use brc_block::Payload;
 use brc_count::{Frame, Handle};
 use brc_counter::Home;
+use brc_handles::Handles;
 use brc_words::Fault;
 use std::alloc::Allocator;
 
