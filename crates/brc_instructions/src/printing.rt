@@ -1,0 +1,60 @@
+//! `print`: what an object is and holds, as a value.
+
+ghost use Rattle.std.specs.Prelude.{◌≡◌, ◌≢◌, IfErr};
+ghost use Rattle.brc_words.specs.declared.fault.Fault.TheVariants as faults;
+ghost use Rattle.brc_count.specs.Frames.{IsUnlocked, Owns};
+ghost use Rattle.brc_count.specs.Owned.{Keeps};
+ghost use Rattle.brc_instructions.specs.Registers.{Stands};
+
+use crate::registers::Registers;
+use crate::shown::Shown;
+use brc_count::{Frame, Handle};
+use brc_counter::Home;
+use brc_heap::{int_of, kind_of, len_of, text_of};
+use brc_script::Register;
+use brc_words::{Fault, Kind};
+use std::alloc::Allocator;
+use std::sync::Wait;
+
+/// What the object shows. Its kind is read first, which never changes. None, False and True are made by no instruction, and are the
+/// wrong kind.
+fn show<R: Wait, H: Home<A>, A: Allocator>(
+    rt: &R,
+    alloc: A,
+    frame: &mut Frame<H, A>,
+    handle: &Handle<A>,
+) -> Result<Shown<A>, Fault>
+    requires owned { Owns frame.old handle.now }
+    requires unlocked { IsUnlocked frame.old }
+    ensures keeps { Keeps frame.old frame.new }
+    ensures unlocked { IsUnlocked frame.new }
+    ensures waits { IfErr result (λ fault. fault ≢ faults.Busy) }
+{
+    match kind_of(rt, frame, handle) {
+        Kind::Int => Ok(Shown::Integer(int_of(rt, frame, handle)?)),
+        Kind::Text => Ok(Shown::Text(text_of(rt, alloc, frame, handle)?)),
+        Kind::List => Ok(Shown::List(len_of(rt, frame, handle)?)),
+        Kind::Dict => Ok(Shown::Dict(len_of(rt, frame, handle)?)),
+        Kind::Mailbox => Ok(Shown::Mailbox(len_of(rt, frame, handle)?)),
+        Kind::Nothing | Kind::False | Kind::True => Err(Fault::WrongKind),
+    }
+}
+
+/// `print`: what the register's object shows.
+pub fn print<R: Wait, H: Home<A>, A: Allocator>(
+    rt: &R,
+    alloc: A,
+    frame: &mut Frame<H, A>,
+    registers: &Registers<A>,
+    from: Register,
+) -> Result<Shown<A>, Fault>
+    requires stands { Stands frame.old registers.now }
+    ensures stands { Stands frame.new registers.now }
+    ensures heap { frame.new.heap ≡ frame.old.heap }
+    ensures waits { IfErr result (λ fault. fault ≢ faults.Busy) }
+{
+    let Some(handle) = registers.get(from) else {
+        return Err(Fault::NoSuchPlace);
+    };
+    show(rt, alloc, frame, handle)
+}

@@ -1,0 +1,8 @@
+use Rattle.std.proofs.Common.{◌≡◌}
+use Rattle.brc_instructions.specs.Registers.{Stands}
+use Rattle.brc_section.proofs.waiting.look_again.Given as goal
+
+abbrev pub invariant-loop : goal.invariant-loop
+invariant-loop g l =
+    (goal.iterator-loop g).can_next l.iterator' × (goal.iterator-loop g).is_finite l.iterator'
+    × (l.frame.heap ≡ l.fn.frame.heap) × Stands l.frame l.registers

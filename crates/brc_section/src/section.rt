@@ -1,0 +1,151 @@
+//! A section from its first line to its end.
+
+ghost use Rattle.std.specs.Prelude.{◌≡◌, ℕ, [], ◌∷◌, Some, IfSome};
+ghost use Rattle.brc_words.specs.declared.fault.Fault.TheVariants as faults;
+ghost use Rattle.brc_words.specs.Faults.{number_of};
+ghost use Rattle.brc_count.specs.Frames.{IsUnlocked};
+ghost use Rattle.brc_section.specs.Ends.{IsLineOf};
+
+use crate::board::Board;
+use crate::gate::Gate;
+use crate::names::Names;
+use crate::running::{Halt, run_pieces};
+use crate::waiting::Seated;
+use brc_count::Frame;
+use brc_counter::Home;
+use brc_instructions::{Lines, Registers};
+use brc_script::{Piece, Section};
+use brc_thread::Mutator;
+use brc_words::Fault;
+use std::alloc::Allocator;
+use std::sync::Wait;
+
+/// How a section ended.
+#[derive(Drop)]
+pub struct SectionEnd<A: Allocator> {
+    /// The printed lines, each ended by a line feed.
+    pub lines: Vec<u8, A>,
+    /// The number of the fault that ended it, 1 to 17, and the line that met it, counted from 1 in the whole script.
+    pub fault: Option<(u8, u32)>,
+}
+
+/// The number of the piece's first line, if it has one.
+fn first_in<A: Allocator>(piece: &Piece<A>) -> Option<u32>
+    ensures { IfSome result (λ line. IsLineOf line (piece.now ∷ [])) }
+{
+    match piece {
+        Piece::One(line) => Some(line.number()),
+        Piece::Repeat { lines, .. } => match lines.as_slice() {
+            [line, ..] => Some(line.number()),
+            [] => None,
+        },
+    }
+}
+
+/// The number of the first line of these pieces, if they have one.
+#[tactic(auto, using(crate::proofs::Lines::piece_at))]
+fn first_line<A: Allocator>(pieces: &[Piece<A>]) -> Option<u32>
+    ensures { IfSome result (λ line. IsLineOf line pieces.now) }
+{
+    for piece in pieces {
+        if let Some(line) = first_in(piece) {
+            return Some(line);
+        }
+    }
+    None
+}
+
+/// The lines of the section over its frame, which has no handle before and after. The registers are made at the first line, whose
+/// fault it is where they can't be had, and released at the end.
+fn run_over<R: Wait, G: Gate, H: Home<A>, A: Allocator + Copy>(
+    rt: &R,
+    alloc: A,
+    frame: &mut Frame<H, A>,
+    lines: &mut Lines<A>,
+    section: &Section<A>,
+    seated: &Seated<'_, A>,
+    gate: &G,
+) -> Option<Halt>
+    requires bare { frame.old.len ≡ 0 }
+    requires unlocked { IsUnlocked frame.old }
+    ensures bare { frame.new.len ≡ 0 }
+    ensures unlocked { IsUnlocked frame.new }
+    ensures heap { frame.new.heap ≡ frame.old.heap }
+    ensures line { IfSome result (λ halt. IsLineOf halt.line section.now.pieces) }
+    ensures busy { IfSome result (λ halt. halt.fault ≡ faults.Busy → G.may_refuse gate.now seated.now.number halt.line) }
+{
+    let pieces = section.pieces.as_slice();
+    let Some(first) = first_line(pieces) else {
+        return None;
+    };
+    let mut registers = match Registers::empty(alloc) {
+        Ok(registers) => registers,
+        Err(fault) => return Some(Halt { fault, line: first }),
+    };
+    let names = Names::of(alloc, section);
+    let ran = run_pieces(
+        rt,
+        alloc,
+        frame,
+        &mut registers,
+        lines,
+        pieces,
+        &names,
+        seated,
+        gate,
+    );
+    registers.release_all(frame);
+    ran.err()
+}
+
+/// Runs a section on a thread of the heap: each line once the gate lets it through, with one poll and at most so many turns of work
+/// after it, up to the last line or the first fault. A `fetch` or `recv` that finds nothing waits by the board until another section
+/// has changed something, or none is left that could. In the end its registers are released, from r0 to r15, and the thread settles.
+///
+/// The section's number counts from 1, as the board does; a number that it doesn't have waits for nobody.
+pub fn run_section<R: Wait, G: Gate, H: Home<A>, A: Allocator + Copy>(
+    rt: &R,
+    alloc: A,
+    mutator: &mut Mutator<H, A>,
+    section: &Section<A>,
+    number: u32,
+    budget: usize,
+    board: &Board<A>,
+    gate: &G,
+) -> SectionEnd<A>
+    requires bare { mutator.old.len ≡ 0 }
+    requires unlocked { IsUnlocked mutator.old }
+
+    ensures idle { (mutator.new.len ≡ 0) × (mutator.new.works ≡ []) }
+    ensures unlocked { IsUnlocked mutator.new }
+    ensures heap { mutator.new.heap ≡ mutator.old.heap }
+
+    // The fault is that of a line of the section, and Busy only of one at which the gate may answer false.
+    ensures line { IfSome result.fault (λ fault. IsLineOf fault.1 section.now.pieces) }
+    ensures busy { (line : ℕ) → result.fault ≡ Some (number_of faults.Busy, line) → G.may_refuse gate.now number line }
+{
+    let mut lines = Lines::none(alloc);
+    let seated = Seated {
+        board,
+        number,
+        budget,
+    };
+    let halt = run_over(
+        rt,
+        alloc,
+        mutator.frame(),
+        &mut lines,
+        section,
+        &seated,
+        gate,
+    );
+    board.end(rt, number);
+    mutator.settle(rt);
+    SectionEnd {
+        lines: lines.into_bytes(),
+        fault: match halt {
+            Some(halt) => Some((halt.fault.number(), halt.line)),
+            None => None,
+        },
+    }
+}

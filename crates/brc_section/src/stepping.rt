@@ -1,0 +1,204 @@
+//! What one instruction does.
+
+ghost use Rattle.std.specs.Prelude.{◌≡◌, ◌≢◌, IfErr};
+ghost use Rattle.brc_words.specs.declared.fault.Fault.TheVariants as faults;
+ghost use Rattle.brc_instructions.specs.Registers.{Stands};
+
+use crate::names::key_of;
+use crate::waiting::{Awaited, Seated, await_it};
+use brc_count::Frame;
+use brc_counter::Home;
+use brc_instructions::{
+    Registers, Shown, add, copy, delete, dict, drop_held, find, get, int, len, list, mailbox, pop,
+    post, print, push, put, set, share, text, unshare,
+};
+use brc_script::{Instruction, Register};
+use brc_words::{Fault, Key, Text};
+use std::alloc::Allocator;
+use std::sync::Wait;
+
+/// An instruction on the globals, but for the name.
+#[derive(Clone, Copy)]
+enum Shared {
+    Share { value: Register },
+    Fetch { to: Register },
+    Unshare { to: Register },
+}
+
+/// What it does under this name.
+fn step_under<R: Wait, H: Home<A>, A: Allocator>(
+    rt: &R,
+    alloc: A,
+    frame: &mut Frame<H, A>,
+    registers: &mut Registers<A>,
+    shared: Shared,
+    name: &Key<A>,
+    seated: &Seated<'_, A>,
+) -> Result<(), Fault>
+    requires stands { Stands frame.old registers.old }
+    ensures stands { Stands frame.new registers.new }
+    ensures heap { frame.new.heap ≡ frame.old.heap }
+    ensures waits { IfErr result (λ fault. fault ≢ faults.Busy) }
+{
+    match shared {
+        Shared::Share { value } => share(rt, alloc, frame, registers, name, value),
+        Shared::Fetch { to } => { await_it(rt, frame, registers, to, &Awaited::Name(name), seated) }
+        Shared::Unshare { to } => unshare(rt, frame, registers, to, name),
+    }
+}
+
+/// What it does, by the key that was made of its name; or, where none is there, by one that is made now.
+fn step_shared<R: Wait, H: Home<A>, A: Allocator + Copy>(
+    rt: &R,
+    alloc: A,
+    frame: &mut Frame<H, A>,
+    registers: &mut Registers<A>,
+    shared: Shared,
+    name: &Text<A>,
+    key: Option<&Key<A>>,
+    seated: &Seated<'_, A>,
+) -> Result<(), Fault>
+    requires stands { Stands frame.old registers.old }
+    ensures stands { Stands frame.new registers.new }
+    ensures heap { frame.new.heap ≡ frame.old.heap }
+    ensures waits { IfErr result (λ fault. fault ≢ faults.Busy) }
+{
+    match key {
+        Some(key) => step_under(rt, alloc, frame, registers, shared, key, seated),
+        None => {
+            let key = key_of(alloc, name)?;
+            step_under(rt, alloc, frame, registers, shared, &key, seated)
+        }
+    }
+}
+
+/// Others may wait for what the instruction has changed.
+#[inline(always)]
+fn stirs<R: Wait, A: Allocator>(
+    rt: &R,
+    done: Result<(), Fault>,
+    seated: &Seated<'_, A>,
+) -> Result<(), Fault>
+    ensures { result ≡ done }
+{
+    if done.is_ok() {
+        seated.board.change(rt);
+    }
+    done
+}
+
+/// Does what the instruction says, where it is none that prints.
+#[inline(always)]
+fn step_silent<R: Wait, H: Home<A>, A: Allocator + Copy>(
+    rt: &R,
+    alloc: A,
+    frame: &mut Frame<H, A>,
+    registers: &mut Registers<A>,
+    instruction: &Instruction<A>,
+    key: Option<&Key<A>>,
+    seated: &Seated<'_, A>,
+) -> Result<(), Fault>
+    requires stands { Stands frame.old registers.old }
+    ensures stands { Stands frame.new registers.new }
+    ensures heap { frame.new.heap ≡ frame.old.heap }
+    ensures waits { IfErr result (λ fault. fault ≢ faults.Busy) }
+{
+    match instruction {
+        Instruction::Int { to, number } => int(alloc, frame, registers, *to, *number),
+        Instruction::Text { to, text: bytes } => text(alloc, frame, registers, *to, bytes),
+        Instruction::List { to } => list(alloc, frame, registers, *to),
+        Instruction::Dict { to } => dict(alloc, frame, registers, *to),
+        Instruction::Mailbox { to } => mailbox(alloc, frame, registers, *to),
+
+        Instruction::Copy { to, from } => copy(frame, registers, *to, *from),
+        Instruction::Drop { from } => drop_held(frame, registers, *from),
+
+        Instruction::Push { list, value } => {
+            let done = push(rt, frame, registers, *list, *value);
+            stirs(rt, done, seated)
+        }
+        Instruction::Pop { to, list } => {
+            let done = pop(rt, frame, registers, *to, *list);
+            stirs(rt, done, seated)
+        }
+        Instruction::Get { to, list, index } => get(rt, frame, registers, *to, *list, *index),
+        Instruction::Set { list, index, value } => {
+            let done = set(rt, frame, registers, *list, *index, *value);
+            stirs(rt, done, seated)
+        }
+        Instruction::Len { to, container } => len(rt, alloc, frame, registers, *to, *container),
+
+        Instruction::Put { dict, key, value } => {
+            let done = put(rt, alloc, frame, registers, *dict, key, *value);
+            stirs(rt, done, seated)
+        }
+        Instruction::Find { to, dict, key } => find(rt, frame, registers, *to, *dict, key),
+        Instruction::Delete { to, dict, key } => {
+            let done = delete(rt, frame, registers, *to, *dict, key);
+            stirs(rt, done, seated)
+        }
+
+        Instruction::Share { name, value } => {
+            let shared = Shared::Share { value: *value };
+            let done = step_shared(rt, alloc, frame, registers, shared, name, key, seated);
+            stirs(rt, done, seated)
+        }
+        Instruction::Fetch { to, name } => {
+            let shared = Shared::Fetch { to: *to };
+            step_shared(rt, alloc, frame, registers, shared, name, key, seated)
+        }
+        Instruction::Unshare { to, name } => {
+            let shared = Shared::Unshare { to: *to };
+            let done = step_shared(rt, alloc, frame, registers, shared, name, key, seated);
+            stirs(rt, done, seated)
+        }
+
+        Instruction::Send { mailbox, value } => {
+            let done = post(rt, frame, registers, *mailbox, *value);
+            stirs(rt, done, seated)
+        }
+        Instruction::Receive { to, mailbox } => {
+            await_it(
+                rt,
+                frame,
+                registers,
+                *to,
+                &Awaited::Letter(*mailbox),
+                seated,
+            )
+        }
+
+        Instruction::Add { to, first, second } => {
+            add(rt, alloc, frame, registers, *to, *first, *second)
+        }
+        Instruction::Print { .. } => Ok(()),
+    }
+}
+
+/// Does what the instruction says. The answer is what it prints.
+#[inline(always)]
+pub(crate) fn step<R: Wait, H: Home<A>, A: Allocator + Copy>(
+    rt: &R,
+    alloc: A,
+    frame: &mut Frame<H, A>,
+    registers: &mut Registers<A>,
+    instruction: &Instruction<A>,
+    key: Option<&Key<A>>,
+    seated: &Seated<'_, A>,
+) -> Result<Option<Shown<A>>, Fault>
+    requires stands { Stands frame.old registers.old }
+    ensures stands { Stands frame.new registers.new }
+    ensures heap { frame.new.heap ≡ frame.old.heap }
+    ensures waits { IfErr result (λ fault. fault ≢ faults.Busy) }
+{
+    if let Instruction::Print { from } = instruction {
+        return match print(rt, alloc, frame, registers, *from) {
+            Ok(shown) => Ok(Some(shown)),
+            Err(fault) => Err(fault),
+        };
+    }
+    match step_silent(rt, alloc, frame, registers, instruction, key, seated) {
+        Ok(()) => Ok(None),
+        Err(fault) => Err(fault),
+    }
+}

@@ -1,0 +1,4 @@
+mod gates;
+mod harness;
+mod instructions;
+mod worked;
