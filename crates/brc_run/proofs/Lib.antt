@@ -1,0 +1,6 @@
+mod Sent
+mod Ordered
+mod Taken
+mod One_Heap
+mod Live_Counted
+mod Reported

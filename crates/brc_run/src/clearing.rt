@@ -1,0 +1,59 @@
+//! The thread that clears the globals, once all sections have ended.
+
+ghost use Rattle.std.specs.Prelude.{◌≡◌, ◌<◌, IfErr, OnOk};
+ghost use Rattle.brc_words.specs.declared.fault.Fault.TheVariants as faults;
+ghost use Rattle.brc_count.specs.Frames.{IsUnlocked};
+ghost use Rattle.brc_thread.specs.Counting.{registrations};
+ghost use Rattle.brc_run.specs.Runs.{TakesIn};
+
+use brc_counter::Home;
+use brc_heap::{Heap, Root};
+use brc_thread::Mutator;
+use brc_words::Fault;
+use std::alloc::Allocator;
+use std::sync::Wait;
+
+/// Clears the globals, in as many rounds as they need. FrameFull and OutOfMemory as a round answers them.
+fn clear_rounds<R: Wait, H: Home<A>, A: Allocator>(
+    rt: &R,
+    mutator: &mut Mutator<H, A>,
+) -> Result<(), Fault>
+    requires bare { mutator.old.len ≡ 0 }
+    requires unlocked { IsUnlocked mutator.old }
+    ensures bare { mutator.new.len ≡ 0 }
+    ensures unlocked { IsUnlocked mutator.new }
+    ensures heap { mutator.new.heap ≡ mutator.old.heap }
+{
+    for _ in rt.forever() {
+        match mutator.clear_globals() {
+            // They have an entry yet, or another thread has them locked.
+            Err(Fault::NotIdle | Fault::Busy) => {}
+            ended => return ended,
+        }
+    }
+    unreachable!()
+}
+
+/// One more thread is registered, clears the globals, and is gathered. What a full frame leaves in them stays there, for the report to
+/// tell. OutOfMemory where the thread can't be had, or memory for a handle; the thread that was there is gathered then, too.
+#[tactic(auto, using(crate::proofs::Taken::takes_none, crate::proofs::Taken::takes_registered, crate::proofs::Taken::takes_gathered, crate::proofs::Taken::only_memory))]
+pub(crate) fn clear<R: Wait, A: Allocator + Copy>(
+    rt: &R,
+    alloc: A,
+    heap: &Heap<A>,
+    root: &mut Root<A>,
+) -> Result<(), Fault>
+    requires heap { root.old.table ≡ heap.now.table }
+    requires few { registrations root.old.view < 64 }
+    ensures heap { root.new.table ≡ root.old.table }
+    ensures gathered { OnOk result (TakesIn root.old root.new 1 1) }
+    ensures refused { IfErr result (λ fault. fault ≡ faults.OutOfMemory) }
+{
+    let mut mutator = root.register(alloc, heap)?;
+    let cleared = clear_rounds(rt, &mut mutator);
+    let _ledger = mutator.end(rt, root, heap);
+    match cleared {
+        Err(Fault::OutOfMemory) => Err(Fault::OutOfMemory),
+        _ => Ok(()),
+    }
+}

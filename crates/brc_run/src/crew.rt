@@ -1,0 +1,104 @@
+//! The threads of a script's sections: how one is registered, and what it does.
+
+ghost use Rattle.std.specs.Prelude.{◌≡◌, ◌<◌, ◌≤◌, ◌+◌, [], All, IfOk, IfErr, OnOk, length, vec_capacity};
+ghost use Rattle.brc_words.specs.declared.fault.Fault.TheVariants as faults;
+ghost use Rattle.brc_thread.specs.Counting.{registrations};
+ghost use Rattle.brc_run.specs.Runs.{IsDone, TakesIn};
+
+use brc_heap::{Heap, Resting, Retired, Root};
+use brc_script::Section;
+use brc_section::{Board, Gate, SectionEnd, run_section};
+use brc_words::Fault;
+use std::alloc::{Allocator, Global};
+use std::sync::Wait;
+
+/// What a section's thread hands back.
+#[derive(Drop)]
+pub(crate) struct Done<A: Allocator> {
+    pub(crate) retired: Retired<A>,
+    /// How the section ended; None where no thread could be had for it.
+    pub(crate) end: Option<SectionEnd<A>>,
+}
+
+/// The next thread of the heap, at rest.
+#[tactic(auto, using(crate::proofs::Taken::takes_none, crate::proofs::Taken::takes_registered, crate::proofs::Taken::only_memory))]
+fn register_one(
+    alloc: Global,
+    heap: &Heap<Global>,
+    root: &mut Root<Global>,
+) -> Result<Resting<Global>, Fault>
+    requires heap { root.old.table ≡ heap.now.table }
+    requires few { registrations root.old.view < 64 }
+
+    ensures heap { root.new.table ≡ root.old.table }
+    ensures home { IfOk result (λ resting. resting.heap ≡ heap.now) }
+    ensures registered { OnOk result (TakesIn root.old root.new 1 0) }
+    ensures refused { IfErr result (λ fault. fault ≡ faults.OutOfMemory) }
+{
+    let mutator = root.register(alloc, heap)?;
+    Ok(mutator.rest())
+}
+
+/// The next threads of the heap, so many, each at rest until one of the machine wakes it. Where one can't be had, those before it are
+/// there.
+#[tactic(auto, using(crate::proofs::Taken::takes_none, crate::proofs::Taken::one_registered, crate::proofs::One_Heap::one_at))]
+pub(crate) fn register_all(
+    alloc: Global,
+    heap: &Heap<Global>,
+    root: &mut Root<Global>,
+    sections: usize,
+    crew: &mut Vec<Resting<Global>>,
+) -> Result<(), Fault>
+    requires heap { root.old.table ≡ heap.now.table }
+    requires few { registrations root.old.view + sections < 64 }
+    requires none { crew.old.items ≡ [] }
+    requires room { sections ≤ vec_capacity crew.old }
+
+    ensures heap { root.new.table ≡ root.old.table }
+    ensures crew { All (λ resting. resting.heap ≡ heap.now) crew.new.items }
+    ensures all { OnOk result (length crew.new.items ≡ sections) }
+    ensures registered { OnOk result (TakesIn root.old root.new sections 0) }
+    ensures refused { IfErr result (λ fault. fault ≡ faults.OutOfMemory) }
+{
+    for _ in 0..sections {
+        let resting = register_one(alloc, heap, root)?;
+        crew.push_reserved(resting);
+    }
+    Ok(())
+}
+
+/// A section's thread, from its first step to its last: it runs the section, unless that counts as ended, and retires.
+pub(crate) fn run_one<R: Wait, G: Gate, A: Allocator + Copy>(
+    rt: &R,
+    alloc: A,
+    heap: &Heap<A>,
+    resting: Resting<A>,
+    section: &Section<A>,
+    number: u32,
+    budget: usize,
+    board: &Board<A>,
+    gate: &G,
+) -> Done<A>
+    requires heap { resting.heap ≡ heap.now }
+    ensures { IsDone heap.now (G.may_refuse gate.now) number section.now result }
+{
+    let mut mutator = resting.wake(heap);
+    let end = if board.has_ended(rt, number) {
+        None
+    } else {
+        Some(run_section(
+            rt,
+            alloc,
+            &mut mutator,
+            section,
+            number,
+            budget,
+            board,
+            gate,
+        ))
+    };
+    Done {
+        retired: mutator.retire(rt),
+        end,
+    }
+}

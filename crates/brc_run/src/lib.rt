@@ -1,0 +1,17 @@
+//! The sections of a script, each on a thread of its own over one heap, and the heap's report.
+//!
+//! All sections are registered in order before the first starts, section `i` as thread `i`. Each runs on a thread of the machine
+//! (`run_section`), and hands back its seat and how it ended; then all are gathered in order, one more thread clears the globals, and
+//! the heap is closed (`run_sections`). The heap's allocator is `Global`, since a thread that is started takes no other along.
+#![tactic(auto)]
+
+mod clearing;
+mod crew;
+mod gathering;
+mod joining;
+mod options;
+mod sections;
+mod starting;
+
+pub use options::{MOST_TURNS, RunOptions};
+pub use sections::{RunReport, run_sections};
