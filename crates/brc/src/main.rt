@@ -1,4 +1,5 @@
-//! `brc replay`: a trace of atomic steps on standard input, the world that it leads to on standard output.
+//! `brc run`: a script on standard input, what its sections print, on threads of their own, and the report of their heap on standard
+//! output. `brc replay`: a trace of atomic steps, and the world that it leads to.
 //!
 //! What is done, its statuses and its error lines are `brc_program`; here are the words and the streams of the process.
 #![tactic(auto)]
@@ -9,31 +10,33 @@ use std::io::{BufWriter, ErrorKind};
 use std::process::ExitCode;
 use std::{env, io};
 
-/// The program over the words and the streams of the process. An error is of what it needs before it can start.
-fn start(rt: &HostRuntime) -> io::Result<u8> {
-    let words = env::args(rt)?.collect::<Vec<String>>(rt.alloc())?;
-    let mut output = BufWriter::new(rt.alloc(), rt.stdout())?;
-    let status = program(
+/// Words that aren't text are a bad command line too.
+fn fault_of(error: &io::Error) -> Fault {
+    match error.kind() {
+        ErrorKind::OutOfMemory => Fault::OutOfMemory,
+        _ => Fault::BadOptions,
+    }
+}
+
+fn words_of(rt: &HostRuntime) -> io::Result<Vec<String>> {
+    Ok(env::args(rt)?.collect::<Vec<String>>(rt.alloc())?)
+}
+
+fn main(rt: HostRuntime) -> ExitCode {
+    let words = match words_of(&rt) {
+        Ok(words) => words,
+        Err(error) => return ExitCode::from(refuse(&mut rt.stderr(), fault_of(&error))),
+    };
+    let Ok(output) = BufWriter::new(rt.alloc(), rt.stdout()) else {
+        return ExitCode::from(refuse(&mut rt.stderr(), Fault::OutOfMemory));
+    };
+    let mut output = output;
+    ExitCode::from(program(
+        &rt,
         rt.alloc(),
         words.as_slice(),
         rt.stdin(),
         &mut output,
         &mut rt.stderr(),
-    );
-    Ok(status)
-}
-
-fn main(rt: HostRuntime) -> ExitCode {
-    let status = match start(&rt) {
-        Ok(status) => status,
-        Err(error) => {
-            // Words that aren't text are a bad command line too.
-            let fault = match error.kind() {
-                ErrorKind::OutOfMemory => Fault::OutOfMemory,
-                _ => Fault::BadOptions,
-            };
-            refuse(&mut rt.stderr(), fault)
-        }
-    };
-    ExitCode::from(status)
+    ))
 }

@@ -170,6 +170,7 @@ module _ {A : Type 0} (n limit id : ℕ) (root : View) (slots : List (Option (�
         all_frees = frees ∙ all_deaths;
         live = live;
         balance = omega (arith, allocs, frees, all_births, all_deaths, live, ends.headline.ledger);
+        remain = reports.live;
         contents = contents;
         remains = remains;
         remain_cells = cells;

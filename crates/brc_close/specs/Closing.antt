@@ -38,6 +38,7 @@ module _ {A : Type 0} where
     pub all_frees : report.ledger.frees ≡ sum_by (λ row. row.frees) (world n limit run).rows
     pub live : report.live ≡ live_count (world n limit run)
     pub balance : report.ledger.allocs ≡ report.ledger.frees + report.live
+    pub remain : report.live ≡ length report.remains.items
     pub contents : report.contents.items ≡ contents_of_heap (world n limit run) run n
     pub remains : remains_of report.contents.items ≡ Some report.remains.items
     pub remain_cells : map (λ (remain : Remain). remain.cell) report.remains.items ≡ live_cells (world n limit run) n

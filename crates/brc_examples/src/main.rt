@@ -1,11 +1,15 @@
-//! The examples, run: each trace of `data/` is replayed, and its world compared with the text that stands beside it.
+//! The examples, run: each trace of `data/` is replayed, and its world compared with the text that stands beside it; each script is
+//! run as its first line says, and its output compared.
 #![tactic(auto)]
 
 mod library;
+mod scripts;
 
+use brc_program::program;
 use brc_trace::run_replay;
 use brc_words::{Fault, Reason};
 use library::count_and_holders;
+use scripts::{SCRIPTS, asked, tell};
 use std::{fs, io};
 
 /// The traces, by name.
@@ -30,7 +34,7 @@ fn is_as_written(rt: &HostRuntime, name: &str, world: &[u8]) -> io::Result<bool>
     Ok(written.as_slice() == world)
 }
 
-/// Replays one example, and prints what came of it.
+/// Replays one trace, and prints what came of it.
 fn run_example(rt: &HostRuntime, name: &str) -> io::Result<()> {
     let path = format!(in rt.alloc(); "{name}.trace")?;
     let trace = fs::read(rt, path.as_str())?;
@@ -62,6 +66,20 @@ fn run_example(rt: &HostRuntime, name: &str) -> io::Result<()> {
 fn main(rt: HostRuntime) -> io::Result<()> {
     for name in NAMES {
         run_example(&rt, name)?;
+    }
+    for name in SCRIPTS {
+        let asked = asked(&rt, name)?;
+        let mut output = Vec::new(rt.alloc());
+        let mut errors = Vec::new(rt.alloc());
+        let status = program(
+            &rt,
+            rt.alloc(),
+            asked.words.as_slice(),
+            asked.script.as_slice(),
+            &mut output,
+            &mut errors,
+        );
+        tell(&rt, name, status, output.as_slice(), errors.as_slice())?;
     }
     match count_and_holders(rt.alloc()) {
         Ok((total, holders)) => println!(rt; "by the library: total {total}, {holders} holders"),

@@ -2,7 +2,7 @@
 use Rattle.std.specs.Prelude.{⊤}
 use Rattle.brc_program.specs.declared.command.Invocation.{Invocation}
 use Rattle.brc_program.specs.declared.command.Invocation.TheVariants.{Run}
-use Rattle.brc_program.specs.declared.command.RunOptions.{RunOptions}
+use Rattle.brc_run.specs.declared.options.RunOptions.{RunOptions}
 
 -- where a run is asked for, this is so of its options
 abbrev pub IfRun : Invocation → (RunOptions → Type 0) → Type 0

@@ -4,11 +4,16 @@ ghost use Rattle.std.specs.Prelude.{◌≤◌, IfOk};
 
 use crate::command::{Invocation, read_words};
 use crate::explanations::put_why;
+use crate::gate::Open;
+use brc_run::RunOptions;
+use brc_run_text::run_script;
 use brc_trace::{Unreplayed, run_replay, run_replay_explained};
 use brc_words::{Fault, Reason};
 use std::alloc::Global;
 use std::io;
 use std::io::{Read, Write};
+use std::sync::Wait;
+use std::thread::Threads;
 
 /// No mortal object is live at the end.
 const NOTHING_LIVE: u8 = 0;
@@ -16,15 +21,16 @@ const NOTHING_LIVE: u8 = 0;
 const SOMETHING_LIVE: u8 = 1;
 /// The command line is bad.
 const BAD_WORDS: u8 = 2;
-/// The trace is bad.
-const BAD_TRACE: u8 = 3;
-/// A growth was refused.
-const MEMORY: u8 = 4;
+/// The trace or the script is bad.
+const BAD_TEXT: u8 = 3;
+/// A growth was refused, or a fault ended a section.
+const FAULTED: u8 = 4;
 /// A stream failed.
 const STREAM: u8 = 5;
 
 /// Does what the words ask for, and answers the status. Of several statuses the highest counts.
-pub fn program<R: Read + Drop, W: Write, E: Write>(
+pub fn program<T: Threads + Wait + Sync, R: Read + Drop, W: Write, E: Write>(
+    rt: &T,
     alloc: Global,
     words: &[String],
     reader: R,
@@ -33,7 +39,7 @@ pub fn program<R: Read + Drop, W: Write, E: Write>(
 ) -> u8
     ensures { result ≤ 5 }
 {
-    match answer(alloc, words, reader, writer) {
+    match answer(rt, alloc, words, reader, writer) {
         Ok(status) => status,
         Err(failed) => refuse_with_why(errors, &failed),
     }
@@ -85,14 +91,33 @@ fn replay<R: Read + Drop, W: Write>(
     }
 }
 
+/// A run of a script; the status of its end.
+fn run<T: Threads + Wait + Sync, R: Read + Drop, W: Write>(
+    rt: &T,
+    alloc: Global,
+    options: RunOptions,
+    reader: R,
+    writer: &mut W,
+) -> Result<u8, Unreplayed>
+    ensures { IfOk result (λ status. status ≤ 4) }
+{
+    match run_script(rt, alloc, options, reader, writer, &Open) {
+        Ok(ended) if ended.faulted => Ok(FAULTED),
+        Ok(ended) if ended.lives => Ok(SOMETHING_LIVE),
+        Ok(_ended) => Ok(NOTHING_LIVE),
+        Err(fault) => Err(unexplained(fault)),
+    }
+}
+
 /// The status, once the whole answer is written and flushed.
-fn answer<R: Read + Drop, W: Write>(
+fn answer<T: Threads + Wait + Sync, R: Read + Drop, W: Write>(
+    rt: &T,
     alloc: Global,
     words: &[String],
     reader: R,
     writer: &mut W,
 ) -> Result<u8, Unreplayed>
-    ensures { IfOk result (λ status. status ≤ 1) }
+    ensures { IfOk result (λ status. status ≤ 4) }
 {
     let asked = match read_words(alloc, words) {
         Ok(asked) => asked,
@@ -107,8 +132,10 @@ fn answer<R: Read + Drop, W: Write>(
             Ok(status) => status,
             Err(failed) => return Err(failed),
         },
-        // Nothing runs scripts yet, and until then who asks for it is told so as by a bad command line.
-        Invocation::Run(_options) => return Err(unexplained(Fault::BadOptions)),
+        Invocation::Run(options) => match run(rt, alloc, options, reader, writer) {
+            Ok(status) => status,
+            Err(failed) => return Err(failed),
+        },
     };
     match writer.flush() {
         Ok(()) => Ok(status),
@@ -122,9 +149,10 @@ fn status_of(fault: Fault) -> u8
 {
     match fault {
         Fault::BadOptions => BAD_WORDS,
-        Fault::BadTrace { .. } => BAD_TRACE,
+        Fault::BadTrace { .. } => BAD_TEXT,
+        Fault::BadScript { .. } => BAD_TEXT,
         Fault::Io => STREAM,
-        _ => MEMORY,
+        _ => FAULTED,
     }
 }
 
@@ -149,6 +177,7 @@ fn tell<E: Write>(errors: &mut E, fault: Fault) -> io::Result<()> {
             line,
             reason: Reason::NotEnabled,
         } => writeln!(errors, "brc: line {line}: not enabled"),
+        Fault::BadScript { line } => writeln!(errors, "brc: line {line}: not a script line"),
         _ => {
             let number = fault.number();
             let name = fault.name();

@@ -1,13 +1,16 @@
 //! What `brc` does with the words of its command line, over any streams: the command line is read, its answer is written, and
 //! the status says what came of it.
 //!
-//! That the numbers of a run are within their limits is the contract of `read_words`; all else of what a trace comes to is
-//! `brc_trace`'s. Nothing here is of one process, so that tests call it with streams in memory.
+//! That the numbers of a run are within their limits is the contract of `read_words`; what a trace comes to is that of
+//! `brc_trace::run_replay`, what a script comes to that of `brc_run_text::run_script`. Nothing here is of one process, so that tests call
+//! it with streams in memory.
 #![tactic(auto)]
 
 mod answering;
 mod command;
 mod explanations;
+mod gate;
+mod help;
 
 pub use answering::{program, refuse};
-pub use command::{Invocation, RunOptions, read_words};
+pub use command::{Invocation, read_words};

@@ -2,5 +2,4 @@ mod Sent
 mod Ordered
 mod Taken
 mod One_Heap
-mod Live_Counted
 mod Reported

@@ -1,21 +1,14 @@
 -- What the ends of a script's threads, and the report of its heap, say of its sections.
-use Rattle.std.proofs.Common.{◌≡◌, ◌+◌, ◌≤◌, ℕ, suc, List, [], ◌∷◌, ◌++◌, map, length, Option, Some, None, refl, sym, subst, ap, arith, ◌∙◌}
+use Rattle.std.proofs.Common.{◌≡◌, ◌+◌, ℕ, suc, List, [], ◌∷◌, ◌++◌, map, length, Option, Some, refl, subst}
 use Rattle.std.specs.Prelude.{IfSome}
 use Rattle.brc_script.specs.declared.script.Section.{Section}
 use Rattle.brc_section.specs.declared.section.SectionEnd.{SectionEnd}
 use Rattle.brc_table.specs.Seated.{TableSeen}
 use Rattle.brc_run.specs.declared.crew.Done.{Done}
-use Rattle.std.proofs.lemmas.List.{length-map}
-use Rattle.brc_words.specs.declared.limits.TheConstants.{FIRST_MORTAL, FEWEST_CELLS}
-use Rattle.brc_known.specs.Items.{events_of}
-use Rattle.brc_known.proofs.Items_Queues.{run_cells}
 use Rattle.brc_rule.specs.declared.view.View.{View}
-use Rattle.brc_rule.specs.Logs.{items_of, world}
-use Rattle.brc_report.specs.declared.content.Remain.{Remain}
 use Rattle.brc_report.specs.declared.report.Report.{Report}
 use Rattle.brc_thread.specs.Counting.{registrations, gatherings}
 use Rattle.brc_close.specs.Closing.{Closes}
-use Rattle.brc_run.proofs.Live_Counted.{live_counted}
 use Rattle.brc_run.specs.declared.options.RunOptions.{RunOptions}
 use Rattle.brc_run.specs.Options.{AreRunOptions}
 use Rattle.brc_run.specs.Runs.{InOrder, EndsAs, IsDone, IsReportOf}
@@ -35,15 +28,6 @@ module _ {A : Type 0} where
       (subst (λ e. IfSome e (EndsAs refuses n section)) head so.0.ended, ends_in_order heap refuses (suc n) sections done ends tail so.1)
 
 module _ {A : Type 0} where
-  -- as many remain as live
-  remain : (n limit : ℕ) (root : View) (report : Report A) → FIRST_MORTAL ≤ n → Closes n limit root report → report.live ≡ length report.remains.items
-  remain n limit root report enough closes =
-      let h = world n limit closes.run in
-      closes.live
-      ∙ sym (live_counted h n enough (run_cells n limit (events_of (items_of closes.run))))
-      ∙ sym (ap length closes.remain_cells)
-      ∙ length-map report.remains.items (λ (remain : Remain). remain.cell)
-
   pub report_of : (options : RunOptions) (sections : ℕ) (root : View) (report : Report A) → AreRunOptions options
       → Closes options.cells options.local_limit root report → registrations root ≡ sections + 1 → gatherings root ≡ sections + 1
       → IsReportOf options sections report
@@ -53,5 +37,5 @@ module _ {A : Type 0} where
     registered = registered;
     gathered = gathered;
     balance = closes.balance;
-    remain = remain options.cells options.local_limit root report (omega (arith, within.enough_cells)) closes;
+    remain = closes.remain;
   }

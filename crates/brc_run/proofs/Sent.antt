@@ -1,89 +1,23 @@
--- A thread at rest goes to another thread of the machine. The search for this is cut at each type on the way, since it breaks
--- off at the whole: what a seat gives back are blocks, and a block's type is a cycle.
+-- What a section's thread takes along, and what it hands back, go to another thread of the machine.
 use denote.Param.Send.{IsSend, IsSync, sendable}
-use denote.RattleType.{RattleType}
-use denote.Hole.{as_row}
-use denote.Struct.Field.{usize-field, u32-field}
-use Rattle.std.proofs.Crossing.{crosses, Box-send, frees, send as global_send}
-use Rattle.std.specs.contracts.option.Option as Option
-use Rattle.std.specs.contracts.boxed.Box as Box
-use Rattle.brc_block.proofs.payload.Payload.TheSendSync as payload
+use Rattle.std.proofs.Crossing.{crosses, frees, send as global_send}
 use Rattle.std.proofs.option.Option.TheSendSync as option
 use Rattle.std.specs.contracts.alloc.Global as Global
 use Rattle.std.specs.contracts.impls.GlobalAllocator.TheImpl.{ghosts}
-use Rattle.brc_block.specs.contracts.block.Block as Block
-use Rattle.brc_block.specs.contracts.payload.Payload as Payload
-use Rattle.brc_block.specs.contracts.worklist.Node as Node
-use Rattle.brc_block.proofs.worklist.Worklist.TheLaws.TheKnot.{send-Node, send-Worklist}
-use Rattle.brc_table.specs.contracts.seats.ThreadSeat as ThreadSeat
-use Rattle.brc_counter.specs.contracts.resting.RestingCounter as RestingCounter
-use Rattle.brc_count.below.atomic_table.proofs.shared.Seat.TheSendSync as seat
-use Rattle.brc_count.below.atomic_table.proofs.owned.Table.TheSendSync as table
-use Rattle.brc_table.specs.contracts.table.HeapTable as HeapTable
-use Rattle.brc_count.specs.contracts.resting.RestingFrame as RestingFrame
-use Rattle.brc_thread.specs.contracts.resting.Resting as Resting
-use Rattle.brc_thread.specs.contracts.heap.Heap as Heap
+use Rattle.brc_thread.proofs.Sent.{retired_send}
 use Rattle.brc_section.proofs.board.Board.TheSendSync as board
 use Rattle.brc_section.specs.contracts.board.Board as Board
 use Rattle.brc_script.proofs.script.Section.TheSendSync as section
 use Rattle.brc_section.proofs.section.SectionEnd.TheSendSync as section_end
 use Rattle.brc_section.specs.contracts.section.SectionEnd as SectionEnd
-use Rattle.brc_thread.specs.contracts.leaving.Retired as Retired
 use Rattle.brc_run.specs.contracts.crew.Done as Done
 use Rattle.brc_script.specs.contracts.script.Section as Section
-
-payload_send : IsSend (Payload.the_row Global.the_row ghosts)
-payload_send = search (sendable, crosses) depth 40
-
-boxed_send : (R : RattleType) → IsSend R → IsSend (Option.the_row (Box.the_row R Global.the_row ghosts))
-boxed_send R s = option.the_send _ (Box-send R s)
-
-payload_field_send : IsSend (as_row (Payload.the_field Global.the_row ghosts))
-payload_field_send = search (sendable, crosses, payload.the_field_send, global_send, frees) depth 40
-
-payload_row_send : IsSend (Payload.the_field Global.the_row ghosts).row
-payload_row_send = search (sendable, crosses, payload.the_field_send, global_send, frees) depth 40
-
-usize_send : IsSend (as_row usize-field)
-usize_send = search sendable
-
-u32_send : IsSend (as_row u32-field)
-u32_send = search sendable
-
-node_send : IsSend (Node.the_field Global.the_row ghosts).row
-node_send =
-    let below = send-Worklist Global.the_row ghosts usize_send boxed_send u32_send payload_field_send
-    in send-Node Global.the_row ghosts below u32_send payload_row_send
-
-block_send : IsSend (Block.the_row Global.the_row ghosts)
-block_send = search (sendable, crosses, node_send) depth 40
-
-seat_send : IsSend (ThreadSeat.the_row Global.the_row ghosts)
-seat_send = search (sendable, crosses, option.the_send, seat.the_send, block_send) depth 40
-
-counter_send : IsSend (RestingCounter.the_row Global.the_row ghosts)
-counter_send = search (sendable, crosses, seat_send) depth 40
-
-frame_send : IsSend (RestingFrame.the_row Global.the_row ghosts)
-frame_send = search (sendable, crosses, counter_send) depth 40
-
-pub resting_send : IsSend (Resting.the_row Global.the_row ghosts)
-resting_send = search (sendable, crosses, frame_send) depth 40
-
-pub table_sync : IsSync (HeapTable.the_row Global.the_row ghosts)
-table_sync = search (sendable, crosses, option.the_send, table.the_field_sync, block_send) depth 40
-
-pub heap_sync : IsSync (Heap.the_row Global.the_row ghosts)
-heap_sync = search (sendable, crosses, table_sync) depth 40
 
 pub board_sync : IsSync (Board.the_row Global.the_row ghosts)
 board_sync = search (sendable, crosses, board.the_sync, board.the_field_sync, global_send, frees) depth 40
 
 pub section_sync : IsSync (Section.the_row Global.the_row ghosts)
 section_sync = search (sendable, crosses, section.the_sync, section.the_field_sync, global_send, frees) depth 40
-
-retired_send : IsSend (Retired.the_row Global.the_row ghosts)
-retired_send = search (sendable, crosses, seat_send) depth 40
 
 end_send : IsSend (SectionEnd.the_row Global.the_row ghosts)
 end_send = search (sendable, crosses, option.the_send, section_end.the_send, section_end.the_field_send, global_send, frees) depth 40

@@ -7,3 +7,4 @@ mod Finishing
 pub mod Payloads
 mod Takes
 pub mod At_Home
+pub mod Sent

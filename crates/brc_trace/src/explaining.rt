@@ -10,10 +10,11 @@ ghost use Rattle.brc_trace.specs.View.{listing};
 
 use crate::causes::{Cause, cause_of};
 use crate::reading::read_trace;
-use crate::replaying::{read_input, run_replay};
+use crate::replaying::run_replay;
 use crate::standing::{Standing, seen};
 use crate::trace::Trace;
 use brc_core::{Event, Refusal, StepFault, World};
+use brc_input::read_input;
 use brc_words::{Fault, MOST_INPUT, Reason};
 use std::alloc::{AllocError, Allocator};
 use std::io::{Read, Write};

@@ -2,6 +2,8 @@
 
 mod command_lines;
 mod explanations;
+mod instructions;
 mod running;
+mod scripts;
 mod statuses;
 mod streams;

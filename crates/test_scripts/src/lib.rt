@@ -1,4 +1,5 @@
-//! Tests of scripts whose sections run on threads of their own: what they print, the report of their heap, and what is asked meanwhile.
+//! Tests of scripts whose sections run on threads of their own, with gates: what is asked before each instruction, and what comes of it.
+//! Scripts as the program runs them are `test_program`'s.
 #![tactic(auto)]
 
 #[cfg(test)]

@@ -1,7 +1,5 @@
-//! Worked scripts, gates, and scripts that wait.
+//! What gates are asked, and runs that are refused as a whole.
 
 mod gates;
 mod harness;
 mod refusals;
-mod waiting;
-mod worked;

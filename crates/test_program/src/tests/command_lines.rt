@@ -1,10 +1,13 @@
 //! Command lines: bad ones, help, and what the options of a run are read as.
 
 use crate::tests::running::{ran, same, words_of};
-use brc_program::{Invocation, RunOptions, read_words};
+use brc_program::{Invocation, read_words};
+use brc_run::RunOptions;
 use std::alloc::{AllocError, AllocGlobal, Global};
 use std::process::Abort;
+use std::sync::Wait;
 use std::test::*;
+use std::thread::Threads;
 
 #[test]
 fn bad_command_lines(rt: HostRuntime) -> Result<(), Fail> {
@@ -13,8 +16,8 @@ fn bad_command_lines(rt: HostRuntime) -> Result<(), Fail> {
         ("brc replay more", ""),
         ("brc replay --explained", ""),
         ("brc replay --explain=yes", ""),
-        // Nothing runs scripts yet.
-        ("brc run --budget 1", "section a\n"),
+        ("brc run more", "section a\n"),
+        ("brc run --cells 511", "section a\n"),
     ];
     for &(line, input) in CASES {
         let found = ran(&rt, line, input, 2, "brc: bad command line\n")?;
@@ -24,7 +27,10 @@ fn bad_command_lines(rt: HostRuntime) -> Result<(), Fail> {
 }
 
 /// The help that is asked for by these words, without an error.
-fn help<R: Abort + AllocGlobal>(rt: &R, line: &str) -> Result<String, Fail> {
+fn help<R: Abort + AllocGlobal + Threads + Wait + Sync>(
+    rt: &R,
+    line: &str,
+) -> Result<String, Fail> {
     let text = ran(rt, line, "", 0, "")?;
     Ok(String::from_utf8(text)?)
 }
@@ -42,28 +48,24 @@ fn is_narrow(rt: &impl Abort, text: &str) {
 }
 
 #[test]
-fn help_is_no_error(rt: HostRuntime) -> Result<(), Fail> {
-    let text = help(&rt, "/usr/bin/brc-1 --help")?;
-    let text = text.as_str();
-    says(&rt, text, "Usage: brc <COMMAND>");
-    says(&rt, text, "1 born 266 list 0");
-    says(&rt, text, "3 bad trace");
-    is_narrow(&rt, text);
-    assert!(rt; !text.contains("run"));
-    Ok(())
-}
-
-#[test]
 fn each_command_has_its_help(rt: HostRuntime) -> Result<(), Fail> {
-    let of_replay = help(&rt, "brc replay --help")?;
-    says(&rt, of_replay.as_str(), "Usage: brc replay [OPTIONS]");
-    says(&rt, of_replay.as_str(), "--explain");
-    says(&rt, of_replay.as_str(), "brc --help has the grammar");
-    is_narrow(&rt, of_replay.as_str());
-    let of_run = help(&rt, "brc run --help")?;
-    assert!(rt; of_run.as_str().starts_with("Not there yet"));
-    says(&rt, of_run.as_str(), "Usage: brc run [OPTIONS]");
-    says(&rt, of_run.as_str(), "--local-limit <L>");
+    const SAYS: &[(&str, &str)] = &[
+        ("/usr/bin/brc-1 --help", "Usage: brc <COMMAND>"),
+        ("brc --help", "brc run --help teaches"),
+        ("brc --help", "3 bad\ntrace or script"),
+        ("brc replay --help", "Usage: brc replay [OPTIONS]"),
+        ("brc replay --help", "--explain"),
+        ("brc replay --help", "1 born 266 list 0"),
+        ("brc run --help", "Usage: brc run [OPTIONS]"),
+        ("brc run --help", "--local-limit <L>"),
+        ("brc run --help", "fetch R NAME"),
+        ("brc run --help", "buyer: 1000"),
+    ];
+    for &(line, said) in SAYS {
+        let text = help(&rt, line)?;
+        says(&rt, text.as_str(), said);
+        is_narrow(&rt, text.as_str());
+    }
     Ok(())
 }
 

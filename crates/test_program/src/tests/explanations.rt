@@ -4,11 +4,13 @@ use crate::tests::running::{ended, ran, same, status_of};
 use std::alloc::AllocGlobal;
 use std::io::{self, Error, ErrorKind, Write};
 use std::process::Abort;
+use std::sync::Wait;
 use std::test::*;
+use std::thread::Threads;
 
 /// The input is refused with this first line and this reason, and nothing is written on standard output; without the option
 /// the first line is the same, and alone.
-fn refused<R: Abort + AllocGlobal>(
+fn refused<R: Abort + AllocGlobal + Threads + Wait + Sync>(
     rt: &R,
     case: &str,
     input: &str,
@@ -226,7 +228,7 @@ fn error_lines_that_cannot_be_written(rt: HostRuntime) -> Result<(), Fail> {
     for &(case, room, status) in CASES {
         let mut output = Vec::new(rt.alloc());
         let found = status_of(
-            rt.alloc(),
+            &rt,
             "brc replay --explain",
             b"".as_slice(),
             &mut output,

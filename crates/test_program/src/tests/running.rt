@@ -4,7 +4,9 @@ use brc_program::program;
 use std::alloc::{AllocError, AllocGlobal, Global};
 use std::io::{Read, Write};
 use std::process::Abort;
+use std::sync::Wait;
 use std::test::*;
+use std::thread::Threads;
 
 /// The words of a line.
 pub(crate) fn words_of(alloc: Global, line: &str) -> Result<Vec<String>, AllocError> {
@@ -16,15 +18,16 @@ pub(crate) fn words_of(alloc: Global, line: &str) -> Result<Vec<String>, AllocEr
 }
 
 /// The status of the program on these words and streams.
-pub(crate) fn status_of<R: Read + Drop, W: Write, E: Write>(
-    alloc: Global,
+pub(crate) fn status_of<T: AllocGlobal + Threads + Wait + Sync, R: Read + Drop, W: Write, E: Write>(
+    rt: &T,
     line: &str,
     input: R,
     output: &mut W,
     errors: &mut E,
 ) -> Result<u8, AllocError> {
+    let alloc = rt.alloc();
     let words = words_of(alloc, line)?;
-    Ok(program(alloc, words.as_slice(), input, output, errors))
+    Ok(program(rt, alloc, words.as_slice(), input, output, errors))
 }
 
 /// The two are the same bytes, or the test ends and names the case.
@@ -38,8 +41,8 @@ pub(crate) fn ended(rt: &impl Abort, case: &str, found: u8, wanted: u8) {
 }
 
 /// On these words and this input the program ends so: its status, and what is on standard error. Answers what it wrote.
-pub(crate) fn ran<R: Abort + AllocGlobal>(
-    rt: &R,
+pub(crate) fn ran<T: Abort + AllocGlobal + Threads + Wait + Sync>(
+    rt: &T,
     line: &str,
     input: &str,
     status: u8,
@@ -47,7 +50,7 @@ pub(crate) fn ran<R: Abort + AllocGlobal>(
 ) -> Result<Vec<u8>, Fail> {
     let mut output = Vec::new(rt.alloc());
     let mut errors = Vec::new(rt.alloc());
-    let found = status_of(rt.alloc(), line, input.as_bytes(), &mut output, &mut errors)?;
+    let found = status_of(rt, line, input.as_bytes(), &mut output, &mut errors)?;
     ended(rt, line, found, status);
     same(rt, line, errors.as_slice(), told);
     Ok(output)

@@ -32,7 +32,7 @@ impl Write for Full {
 fn input_that_cannot_be_read(rt: HostRuntime) -> Result<(), Fail> {
     let mut output = Vec::new(rt.alloc());
     let mut errors = Vec::new(rt.alloc());
-    let found = status_of(rt.alloc(), "brc replay", Broken, &mut output, &mut errors)?;
+    let found = status_of(&rt, "brc replay", Broken, &mut output, &mut errors)?;
     ended(&rt, "the status", found, 5);
     same(&rt, "the output", output.as_slice(), "");
     same(&rt, "the error", errors.as_slice(), "brc: fault 15 Io\n");
@@ -43,7 +43,7 @@ fn input_that_cannot_be_read(rt: HostRuntime) -> Result<(), Fail> {
 fn output_that_cannot_be_written(rt: HostRuntime) -> Result<(), Fail> {
     let trace = b"heap 512 4294967294\n".as_slice();
     let mut errors = Vec::new(rt.alloc());
-    let found = status_of(rt.alloc(), "brc replay", trace, &mut Full, &mut errors)?;
+    let found = status_of(&rt, "brc replay", trace, &mut Full, &mut errors)?;
     ended(&rt, "the status", found, 5);
     same(&rt, "the error", errors.as_slice(), "brc: fault 15 Io\n");
     Ok(())
@@ -52,13 +52,7 @@ fn output_that_cannot_be_written(rt: HostRuntime) -> Result<(), Fail> {
 #[test]
 fn an_error_that_cannot_be_told(rt: HostRuntime) -> Result<(), Fail> {
     let mut output = Vec::new(rt.alloc());
-    let found = status_of(
-        rt.alloc(),
-        "brc replay",
-        b"".as_slice(),
-        &mut output,
-        &mut Full,
-    )?;
+    let found = status_of(&rt, "brc replay", b"".as_slice(), &mut output, &mut Full)?;
     ended(&rt, "the status", found, 5);
     same(&rt, "the output", output.as_slice(), "");
     Ok(())

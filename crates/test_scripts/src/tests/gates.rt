@@ -150,6 +150,12 @@ fn each_line_is_asked_for(rt: HostRuntime) {
             "a: 0\na: 0\nb: fault 4 line 9\nledger 1 1 0\n",
         ),
         (
+            "the first one's first",
+            (1, 2),
+            (2, 89),
+            "a: fault 4 line 2\nb: 1\nledger 0 0 0\n",
+        ),
+        (
             "a line of another's",
             (2, 5),
             (24545, 89),

@@ -5,7 +5,8 @@ use denote.Struct.Tuple.{type_at}
 use denote.Param.Send.{sendable, param_send, arg_send, recorded_send, struct_send}
 use mir.Syntax.{named}
 use Rattle.std.proofs.Crossing.{send as global_send}
-use Rattle.brc_run.proofs.Sent.{resting_send, heap_sync, board_sync, section_sync, done_send}
+use Rattle.brc_thread.proofs.Sent.{resting_send, heap_sync}
+use Rattle.brc_run.proofs.Sent.{board_sync, section_sync, done_send}
 use Rattle.brc_run.proofs.starting.start_one.Lts.{of-22, name-12}
 use Rattle.brc_run.proofs.starting.start_one.Goals as goal
 

@@ -1,0 +1,14 @@
+//! What is shown of the sections of a script: the lines that each printed, behind its name, and the fault that ended it.
+//!
+//! `specs/Sections.antt` is that text, and `specs/Names.antt` the name of a fault by its number, which is all that the
+//! end of a section keeps of it.
+#![tactic(auto)]
+
+mod fault;
+mod lines;
+mod names;
+mod parts;
+mod section;
+
+pub use names::name_of_number;
+pub use section::write_section;

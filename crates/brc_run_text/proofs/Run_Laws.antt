@@ -1,0 +1,108 @@
+-- What a run of the bytes that were read says of the whole input.
+use Rattle.std.proofs.Common.{◌≡◌, ◌∙◌, ℕ, ◌+◌, Bool, true, false, List, [], ◌++◌, length, take, Option, Some, None, Ok, Err, refl, sym, ap, subst, arith, ltb, inl, inr}
+use Rattle.std.specs.Prelude.{◌⊎◌, ¬, IfSome, Result, nat_lt}
+use Rattle.std.specs.List.{list_any}
+use Rattle.std.specs.declared.alloc.Global.{Global}
+use Rattle.std.specs.Io.KnownBytes.{Appends, Keeps}
+use Rattle.std.proofs.KnownBytes.{Appends-nil, Keeps-refl}
+use Rattle.std.proofs.lemmas.Bool.{ltb-true, ltb-false}
+use Rattle.std.proofs.lemmas.List.{take_all, length-take-le}
+use Rattle.brc_words.specs.declared.fault.Fault.{Fault}
+use Rattle.brc_words.specs.declared.fault.Fault.TheVariants as faults
+use Rattle.brc_words.specs.declared.limits.TheConstants.{MOST_INPUT}
+use Rattle.brc_text.specs.Puts.{PutsUpTo}
+use Rattle.brc_script.specs.declared.script.Section.{Section}
+use Rattle.brc_script.specs.Walks.{script_at, Refuses}
+use Rattle.brc_section.specs.declared.section.SectionEnd.{SectionEnd}
+use Rattle.brc_report.specs.declared.report.Report.{Report}
+use Rattle.brc_run.specs.declared.options.RunOptions.{RunOptions}
+use Rattle.brc_run.specs.Options.{AreRunOptions}
+use Rattle.brc_run.specs.Runs.{InOrder, EndsAs, IsReportOf}
+use Rattle.brc_run_text.specs.declared.whole.Ended.{Ended}
+use Rattle.brc_run_text.specs.Tellings.{run_text, ends_by_fault}
+use Rattle.brc_run_text.specs.Scripts_Run.{IsRunOf, IsTold, IsHalfTold, Runs}
+
+front_or_whole : (input : List ℕ) (long : Bool) → ltb MOST_INPUT (length input) ≡ long
+    → script_at {A = Global} (take (MOST_INPUT + 1) input) ≡ script_at input
+unfolding script_at
+front_or_whole input true long =
+    let over = ltb-true MOST_INPUT (length input) long in
+    let kept : length (take (MOST_INPUT + 1) input) ≡ (MOST_INPUT + 1) = length-take-le (MOST_INPUT + 1) input (omega (arith, over)) in
+    rw (kept, long) refl
+front_or_whole input false long = ap script_at (take_all (MOST_INPUT + 1) input (omega (arith, ltb-false MOST_INPUT (length input) long)))
+
+-- what is behind the limit doesn't matter
+script_of_front : (input : List ℕ) → script_at {A = Global} (take (MOST_INPUT + 1) input) ≡ script_at input
+script_of_front input = front_or_whole input (ltb MOST_INPUT (length input)) refl
+
+same_script : (bytes input : List ℕ) → bytes ≡ take (MOST_INPUT + 1) input → script_at {A = Global} input ≡ script_at bytes
+same_script bytes input is = sym (script_of_front input) ∙ ap script_at (sym is)
+
+module _ (options : RunOptions) (refuses : ℕ → ℕ → Type 0) where
+  pub not_read : (input old : Option (List ℕ)) (fault : Fault) → (fault ≡ faults.Io) ⊎ (fault ≡ faults.OutOfMemory) → Runs options refuses input old old (Err fault)
+  not_read input old fault (inl io) =
+      let P : Fault → Type 0 = λ f. Runs options refuses input old old (Err f) in
+      subst P (sym io) ([], Appends-nil old, inl refl)
+  not_read input old fault (inr memory) =
+      let P : Fault → Type 0 = λ f. Runs options refuses input old old (Err f) in
+      subst P (sym memory) (Keeps-refl old)
+
+  bad : (input : Option (List ℕ)) (bytes : List ℕ) (line : ℕ) → IfSome input (λ all. bytes ≡ take (MOST_INPUT + 1) all)
+      → script_at {A = Global} bytes ≡ Err line → IfSome input (λ all. script_at {A = Global} all ≡ Err line)
+  bad None bytes line is h = tt
+  bad (Some all) bytes line is h = same_script bytes all is ∙ h
+
+  pub not_spelled : (input old : Option (List ℕ)) (bytes : List ℕ) (fault : Fault) → IfSome input (λ all. bytes ≡ take (MOST_INPUT + 1) all)
+      → Refuses fault (script_at {A = Global} bytes) → Runs options refuses input old old (Err fault)
+  not_spelled input old bytes faults.OutOfMemory is h = Keeps-refl old
+  not_spelled input old bytes (faults.BadScript line) is h = (Keeps-refl old, bad input bytes line is h)
+  not_spelled input old bytes _ is h = absurd h
+
+  pub not_run : (input old : Option (List ℕ)) (fault : Fault) → (fault ≡ faults.BadOptions → ¬ (AreRunOptions options))
+      → (fault ≡ faults.BadOptions) ⊎ (fault ≡ faults.OutOfMemory) → Runs options refuses input old old (Err fault)
+  not_run input old fault outside (inl bad_options) =
+      let P : Fault → Type 0 = λ f. Runs options refuses input old old (Err f) in
+      subst P (sym bad_options) (Keeps-refl old, outside bad_options)
+  not_run input old fault outside (inr memory) =
+      let P : Fault → Type 0 = λ f. Runs options refuses input old old (Err f) in
+      subst P (sym memory) (Keeps-refl old)
+
+  run_of : (bytes all : List ℕ) (script : List (Section Global)) (ends : List (SectionEnd Global)) (report : Report Global)
+      → bytes ≡ take (MOST_INPUT + 1) all → script_at bytes ≡ Ok script → InOrder (EndsAs refuses) 1 script ends
+      → IsReportOf options (length script) report → (text : List ℕ) → text ≡ run_text script ends report → IsRunOf options refuses all text
+  run_of bytes all script ends report is spelled in_order reported text told = record {
+    script = script;
+    ends = ends;
+    report = report;
+    spelled = same_script bytes all is ∙ spelled;
+    in_order = in_order;
+    reported = reported;
+    told = told;
+  }
+
+  half_told : (input : Option (List ℕ)) (bytes left front : List ℕ) (script : List (Section Global)) (ends : List (SectionEnd Global)) (report : Report Global)
+      → IfSome input (λ all. bytes ≡ take (MOST_INPUT + 1) all) → script_at bytes ≡ Ok script → InOrder (EndsAs refuses) 1 script ends
+      → IsReportOf options (length script) report → run_text script ends report ≡ front ++ left → IsHalfTold options refuses input front
+  half_told None bytes left front script ends report is spelled in_order reported split = record { left = left; run = tt }
+  half_told (Some all) bytes left front script ends report is spelled in_order reported split =
+      record { left = left; run = run_of bytes all script ends report is spelled in_order reported (front ++ left) (sym split) }
+
+  pub not_written : (input old new : Option (List ℕ)) (bytes left : List ℕ) (script : List (Section Global)) (ends : List (SectionEnd Global)) (report : Report Global) (fault : Fault)
+      → IfSome input (λ all. bytes ≡ take (MOST_INPUT + 1) all) → script_at bytes ≡ Ok script → InOrder (EndsAs refuses) 1 script ends
+      → IsReportOf options (length script) report → fault ≡ faults.Io → PutsUpTo old new (run_text script ends report) left
+      → Runs options refuses input old new (Err fault)
+  not_written input old new bytes left script ends report fault is spelled in_order reported io put =
+      let P : Fault → Type 0 = λ f. Runs options refuses input old new (Err f) in
+      subst P (sym io) (put.front, put.put, inr (half_told input bytes left put.front script ends report is spelled in_order reported put.is))
+
+  pub told : (input old new : Option (List ℕ)) (bytes : List ℕ) (script : List (Section Global)) (ends : List (SectionEnd Global)) (report : Report Global) (ended : Ended)
+      → IfSome input (λ all. bytes ≡ take (MOST_INPUT + 1) all) → script_at bytes ≡ Ok script → InOrder (EndsAs refuses) 1 script ends
+      → IsReportOf options (length script) report → Appends old new (run_text script ends report)
+      → ended.lives ≡ nat_lt 0 report.live → ended.faulted ≡ list_any ends_by_fault ends → IsTold options refuses input old new ended
+  told None old new bytes script ends report ended is spelled in_order reported put lives faulted =
+      record { text = run_text script ends report; written = put; run = tt }
+  told (Some all) old new bytes script ends report ended is spelled in_order reported put lives faulted = record {
+    text = run_text script ends report;
+    written = put;
+    run = (run_of bytes all script ends report is spelled in_order reported (run_text script ends report) refl, lives, faulted);
+  }

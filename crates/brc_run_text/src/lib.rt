@@ -1,0 +1,10 @@
+//! A script from bytes to bytes: it is read, its sections run on threads of their own, and what came of it is told.
+//!
+//! `specs/Tellings.antt` is the text that is written, and `specs/Scripts_Run.antt` what the whole run does, by its answer.
+#![tactic(auto)]
+
+mod telling;
+mod whole;
+
+pub use telling::write_run;
+pub use whole::{Ended, run_script};

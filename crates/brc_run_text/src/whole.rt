@@ -1,0 +1,50 @@
+//! A script, from its bytes to the text of what came of it.
+
+ghost use Rattle.brc_run_text.specs.Scripts_Run.{Runs};
+
+use crate::telling::{has_fault, write_run};
+use brc_input::read_input;
+use brc_run::{RunOptions, run_sections};
+use brc_script::parse;
+use brc_section::Gate;
+use brc_words::Fault;
+use std::alloc::Global;
+use std::io::{Read, Write};
+use std::sync::Wait;
+use std::thread::Threads;
+
+/// How a run ended.
+#[derive(Clone, Copy, Debug, PartialEq, Eq)]
+pub struct Ended {
+    /// Whether a mortal object lives at the end.
+    pub lives: bool,
+    /// Whether a fault ended a section.
+    pub faulted: bool,
+}
+
+/// Reads a script, runs its sections at the same time, each on a thread of its own, and writes what each printed, in the script's order,
+/// and the report of their heap. BadOptions, looked at first, where a number of the options is outside its limits; Io where a read or a
+/// write fails; BadScript with the first bad line; OutOfMemory where a growth was refused, or a thread. Nothing is written until all
+/// sections have ended.
+pub fn run_script<T: Threads + Wait + Sync, R: Read + Drop, W: Write, G: Gate>(
+    rt: &T,
+    alloc: Global,
+    options: RunOptions,
+    mut reader: R,
+    writer: &mut W,
+    gate: &G,
+) -> Result<Ended, Fault>
+    ensures { Runs options (G.may_refuse gate.now) (R.remaining reader) (W.contents writer.old) (W.contents writer.new) result }
+{
+    if !options.are_within() {
+        return Err(Fault::BadOptions);
+    }
+    let input = read_input(alloc, &mut reader)?;
+    let script = parse(alloc, input.as_slice())?;
+    let run = run_sections(rt, alloc, &script, options, gate)?;
+    write_run(&script, &run, writer)?;
+    Ok(Ended {
+        lives: run.report.live > 0,
+        faulted: has_fault(run.sections.as_slice()),
+    })
+}

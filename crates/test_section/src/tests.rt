@@ -1,4 +1,0 @@
-mod gates;
-mod harness;
-mod instructions;
-mod worked;
