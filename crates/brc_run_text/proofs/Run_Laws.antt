@@ -1,7 +1,6 @@
 -- What a run of the bytes that were read says of the whole input.
 use Rattle.std.proofs.Common.{◌≡◌, ◌∙◌, ℕ, ◌+◌, Bool, true, false, List, [], ◌++◌, length, take, Option, Some, None, Ok, Err, refl, sym, ap, subst, arith, ltb, inl, inr}
-use Rattle.std.specs.Prelude.{◌⊎◌, ¬, IfSome, Result, nat_lt}
-use Rattle.std.specs.List.{list_any}
+use Rattle.std.specs.Prelude.{◌⊎◌, IfSome, Result}
 use Rattle.std.specs.declared.alloc.Global.{Global}
 use Rattle.std.specs.Io.KnownBytes.{Appends, Keeps}
 use Rattle.std.proofs.KnownBytes.{Appends-nil, Keeps-refl}
@@ -18,9 +17,8 @@ use Rattle.brc_report.specs.declared.report.Report.{Report}
 use Rattle.brc_run.specs.declared.options.RunOptions.{RunOptions}
 use Rattle.brc_run.specs.Options.{AreRunOptions}
 use Rattle.brc_run.specs.Runs.{InOrder, EndsAs, IsReportOf}
-use Rattle.brc_run_text.specs.declared.whole.Ended.{Ended}
-use Rattle.brc_run_text.specs.Tellings.{run_text, ends_by_fault}
-use Rattle.brc_run_text.specs.Scripts_Run.{IsRunOf, IsTold, IsHalfTold, Runs}
+use Rattle.brc_run_text.specs.Tellings.{run_text}
+use Rattle.brc_run_text.specs.Scripts_Run.{IsRunOf, IsHalfTold, Runs}
 
 front_or_whole : (input : List ℕ) (long : Bool) → ltb MOST_INPUT (length input) ≡ long
     → script_at {A = Global} (take (MOST_INPUT + 1) input) ≡ script_at input
@@ -67,42 +65,17 @@ module _ (options : RunOptions) (refuses : ℕ → ℕ → Type 0) where
       let P : Fault → Type 0 = λ f. Runs options refuses input old old (Err f) in
       subst P (sym memory) (Keeps-refl old)
 
-  run_of : (bytes all : List ℕ) (script : List (Section Global)) (ends : List (SectionEnd Global)) (report : Report Global)
-      → bytes ≡ take (MOST_INPUT + 1) all → script_at bytes ≡ Ok script → InOrder (EndsAs refuses) 1 script ends
-      → IsReportOf options (length script) report → (text : List ℕ) → text ≡ run_text script ends report → IsRunOf options refuses all text
-  run_of bytes all script ends report is spelled in_order reported text told = record {
-    script = script;
-    ends = ends;
-    report = report;
-    spelled = same_script bytes all is ∙ spelled;
-    in_order = in_order;
-    reported = reported;
-    told = told;
-  }
-
-  half_told : (input : Option (List ℕ)) (bytes left front : List ℕ) (script : List (Section Global)) (ends : List (SectionEnd Global)) (report : Report Global)
+  -- what was read and run is a run of the whole input
+  pub run_of : (input : Option (List ℕ)) (bytes : List ℕ) (script : List (Section Global)) (ends : List (SectionEnd Global)) (report : Report Global)
       → IfSome input (λ all. bytes ≡ take (MOST_INPUT + 1) all) → script_at bytes ≡ Ok script → InOrder (EndsAs refuses) 1 script ends
-      → IsReportOf options (length script) report → run_text script ends report ≡ front ++ left → IsHalfTold options refuses input front
-  half_told None bytes left front script ends report is spelled in_order reported split = record { left = left; run = tt }
-  half_told (Some all) bytes left front script ends report is spelled in_order reported split =
-      record { left = left; run = run_of bytes all script ends report is spelled in_order reported (front ++ left) (sym split) }
+      → IsReportOf options (length script) report → IsRunOf options refuses input script ends report
+  run_of None bytes script ends report is spelled in_order reported = record { spelled = tt; in_order = in_order; reported = reported }
+  run_of (Some all) bytes script ends report is spelled in_order reported =
+      record { spelled = same_script bytes all is ∙ spelled; in_order = in_order; reported = reported }
 
-  pub not_written : (input old new : Option (List ℕ)) (bytes left : List ℕ) (script : List (Section Global)) (ends : List (SectionEnd Global)) (report : Report Global) (fault : Fault)
-      → IfSome input (λ all. bytes ≡ take (MOST_INPUT + 1) all) → script_at bytes ≡ Ok script → InOrder (EndsAs refuses) 1 script ends
-      → IsReportOf options (length script) report → fault ≡ faults.Io → PutsUpTo old new (run_text script ends report) left
+  pub not_written : (input old new : Option (List ℕ)) (left : List ℕ) (script : List (Section Global)) (ends : List (SectionEnd Global)) (report : Report Global) (fault : Fault)
+      → IsRunOf options refuses input script ends report → fault ≡ faults.Io → PutsUpTo old new (run_text script ends report) left
       → Runs options refuses input old new (Err fault)
-  not_written input old new bytes left script ends report fault is spelled in_order reported io put =
+  not_written input old new left script ends report fault run io put =
       let P : Fault → Type 0 = λ f. Runs options refuses input old new (Err f) in
-      subst P (sym io) (put.front, put.put, inr (half_told input bytes left put.front script ends report is spelled in_order reported put.is))
-
-  pub told : (input old new : Option (List ℕ)) (bytes : List ℕ) (script : List (Section Global)) (ends : List (SectionEnd Global)) (report : Report Global) (ended : Ended)
-      → IfSome input (λ all. bytes ≡ take (MOST_INPUT + 1) all) → script_at bytes ≡ Ok script → InOrder (EndsAs refuses) 1 script ends
-      → IsReportOf options (length script) report → Appends old new (run_text script ends report)
-      → ended.lives ≡ nat_lt 0 report.live → ended.faulted ≡ list_any ends_by_fault ends → IsTold options refuses input old new ended
-  told None old new bytes script ends report ended is spelled in_order reported put lives faulted =
-      record { text = run_text script ends report; written = put; run = tt }
-  told (Some all) old new bytes script ends report ended is spelled in_order reported put lives faulted = record {
-    text = run_text script ends report;
-    written = put;
-    run = (run_of bytes all script ends report is spelled in_order reported (run_text script ends report) refl, lives, faulted);
-  }
+      subst P (sym io) (put.front, put.put, inr (record { script = script; ends = ends; report = report; run = run; left = left; text = put.is }))

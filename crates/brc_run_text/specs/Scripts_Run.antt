@@ -1,5 +1,5 @@
 -- A script, run from bytes to bytes.
-use Rattle.std.specs.Prelude.{◌≡◌, ◌⊎◌, ¬, ℕ, Bool, List, [], ◌++◌, length, Option, Result, Ok, Err, IfSome, nat_lt}
+use Rattle.std.specs.Prelude.{◌≡◌, ◌⊎◌, ℕ, Bool, List, [], ◌++◌, length, Option, Result, Ok, Err, IfSome, nat_lt}
 use Rattle.std.specs.List.{list_any}
 use Rattle.std.specs.declared.alloc.Global.{Global}
 use Rattle.std.specs.Io.KnownBytes.{Appends, Keeps}
@@ -15,28 +15,32 @@ use Rattle.brc_run.specs.Runs.{InOrder, EndsAs, IsReportOf}
 use Rattle.brc_run_text.specs.declared.whole.Ended.{Ended}
 use Rattle.brc_run_text.specs.Tellings.{run_text, ends_by_fault}
 
--- The bytes spell a script, its sections ended so, each with a fault of one of its lines at most, and with Busy only where its gate may
--- refuse; the heap was closed, this is its report, and the text tells of it all.
-pub record IsRunOf (options : RunOptions) (refuses : ℕ → ℕ → Type 0) (bytes text : List ℕ) : Type 0 where
+-- The input spells this script, where its bytes are known. Its sections ended so, each with a fault of one of its lines at most, and with
+-- Busy only where its gate may refuse; their heap was closed, and this is its report.
+pub record IsRunOf (options : RunOptions) (refuses : ℕ → ℕ → Type 0) (input : Option (List ℕ)) (script : List (Section Global))
+    (ends : List (SectionEnd Global)) (report : Report Global) : Type 0 where
+  pub spelled : IfSome input (λ bytes. script_at bytes ≡ Ok script)
+  pub in_order : InOrder (EndsAs refuses) 1 script ends
+  pub reported : IsReportOf options (length script) report
+
+-- the whole text of a run is written, and it is said whether an object lives and whether a fault ended a section
+pub record IsTold (options : RunOptions) (refuses : ℕ → ℕ → Type 0) (input old new : Option (List ℕ)) (ended : Ended) : Type 0 where
   pub script : List (Section Global)
   pub ends : List (SectionEnd Global)
   pub report : Report Global
-  pub spelled : script_at bytes ≡ Ok script
-  pub in_order : InOrder (EndsAs refuses) 1 script ends
-  pub reported : IsReportOf options (length script) report
-  pub told : text ≡ run_text script ends report
+  pub run : IsRunOf options refuses input script ends report
+  pub written : Appends old new (run_text script ends report)
+  pub lives : ended.lives ≡ nat_lt 0 report.live
+  pub faulted : ended.faulted ≡ list_any ends_by_fault ends
 
--- the whole text is written, and it is said whether an object lives and whether a fault ended a section
-pub record IsTold (options : RunOptions) (refuses : ℕ → ℕ → Type 0) (input old new : Option (List ℕ)) (ended : Ended) : Type 0 where
-  pub text : List ℕ
-  pub written : Appends old new text
-  pub run : IfSome input (λ bytes. (is : IsRunOf options refuses bytes text)
-      × (ended.lives ≡ nat_lt 0 is.report.live) × (ended.faulted ≡ list_any ends_by_fault is.ends))
-
--- the text is written up to what is left of it
+-- the text of a run is written up to what is left of it
 pub record IsHalfTold (options : RunOptions) (refuses : ℕ → ℕ → Type 0) (input : Option (List ℕ)) (front : List ℕ) : Type 0 where
+  pub script : List (Section Global)
+  pub ends : List (SectionEnd Global)
+  pub report : Report Global
+  pub run : IsRunOf options refuses input script ends report
   pub left : List ℕ
-  pub run : IfSome input (λ bytes. IsRunOf options refuses bytes (front ++ left))
+  pub text : run_text script ends report ≡ front ++ left
 
 -- What a run from bytes to bytes does, by its answer. Nothing is written until all sections have ended and their heap is closed; a read
 -- or a write that fails ends it, the write after a front of the text.
