@@ -1,1 +1,2 @@
 mod Run_Laws
+mod Tell_Laws

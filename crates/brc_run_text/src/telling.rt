@@ -22,13 +22,12 @@ fn put_sections<A: Allocator, W: Write>(
 ) -> Result<(), Fault>
     ensures { Puts (W.contents writer.old) (W.contents writer.new) result (sections_text sections.now ends.now) }
 {
-    let mut sections_left = sections;
-    let mut ends_left = ends;
-    while let ([section, more_sections @ ..], [end, more_ends @ ..]) = (sections_left, ends_left) {
+    for (at, section) in sections.iter().enumerate() {
+        let Some(end) = ends.get(at) else {
+            return Ok(());
+        };
         let name = section.name.as_str();
         write_section(writer, name.as_bytes(), end.lines.as_slice(), end.fault)?;
-        sections_left = more_sections;
-        ends_left = more_ends;
     }
     Ok(())
 }
