@@ -1,9 +1,8 @@
 -- What a run of the bytes that were read says of the whole input.
-use Rattle.std.proofs.Common.{◌≡◌, ◌∙◌, ℕ, ◌+◌, Bool, true, false, List, [], ◌++◌, length, take, Option, Some, None, Ok, Err, refl, sym, ap, subst, arith, ltb, inl, inr}
-use Rattle.std.specs.Prelude.{◌⊎◌, IfSome, Result}
+use Rattle.std.proofs.Common.{◌≡◌, ◌∙◌, ℕ, ◌+◌, Bool, true, false, List, length, take, Option, Some, None, Ok, Err, refl, sym, ap, subst, arith, ltb, inr}
+use Rattle.std.specs.Prelude.{IfSome}
 use Rattle.std.specs.declared.alloc.Global.{Global}
-use Rattle.std.specs.Io.KnownBytes.{Appends, Keeps}
-use Rattle.std.proofs.KnownBytes.{Appends-nil, Keeps-refl}
+use Rattle.std.proofs.KnownBytes.{Keeps-refl}
 use Rattle.std.proofs.lemmas.Bool.{ltb-true, ltb-false}
 use Rattle.std.proofs.lemmas.List.{take_all, length-take-le}
 use Rattle.brc_words.specs.declared.fault.Fault.{Fault}
@@ -15,10 +14,9 @@ use Rattle.brc_script.specs.Walks.{script_at, Refuses}
 use Rattle.brc_section.specs.declared.section.SectionEnd.{SectionEnd}
 use Rattle.brc_report.specs.declared.report.Report.{Report}
 use Rattle.brc_run.specs.declared.options.RunOptions.{RunOptions}
-use Rattle.brc_run.specs.Options.{AreRunOptions}
 use Rattle.brc_run.specs.Runs.{InOrder, EndsAs, IsReportOf}
 use Rattle.brc_run_text.specs.Tellings.{run_text}
-use Rattle.brc_run_text.specs.Scripts_Run.{IsRunOf, IsHalfTold, Runs}
+use Rattle.brc_run_text.specs.Scripts_Run.{IsRunOf, Runs}
 
 front_or_whole : (input : List ℕ) (long : Bool) → ltb MOST_INPUT (length input) ≡ long
     → script_at {A = Global} (take (MOST_INPUT + 1) input) ≡ script_at input
@@ -37,14 +35,6 @@ same_script : (bytes input : List ℕ) → bytes ≡ take (MOST_INPUT + 1) input
 same_script bytes input is = sym (script_of_front input) ∙ ap script_at (sym is)
 
 module _ (options : RunOptions) (refuses : ℕ → ℕ → Type 0) where
-  pub not_read : (input old : Option (List ℕ)) (fault : Fault) → (fault ≡ faults.Io) ⊎ (fault ≡ faults.OutOfMemory) → Runs options refuses input old old (Err fault)
-  not_read input old fault (inl io) =
-      let P : Fault → Type 0 = λ f. Runs options refuses input old old (Err f) in
-      subst P (sym io) ([], Appends-nil old, inl refl)
-  not_read input old fault (inr memory) =
-      let P : Fault → Type 0 = λ f. Runs options refuses input old old (Err f) in
-      subst P (sym memory) (Keeps-refl old)
-
   bad : (input : Option (List ℕ)) (bytes : List ℕ) (line : ℕ) → IfSome input (λ all. bytes ≡ take (MOST_INPUT + 1) all)
       → script_at {A = Global} bytes ≡ Err line → IfSome input (λ all. script_at {A = Global} all ≡ Err line)
   bad None bytes line is h = tt
@@ -55,15 +45,6 @@ module _ (options : RunOptions) (refuses : ℕ → ℕ → Type 0) where
   not_spelled input old bytes faults.OutOfMemory is h = Keeps-refl old
   not_spelled input old bytes (faults.BadScript line) is h = (Keeps-refl old, bad input bytes line is h)
   not_spelled input old bytes _ is h = absurd h
-
-  pub not_run : (input old : Option (List ℕ)) (fault : Fault) → (fault ≡ faults.BadOptions → ¬ (AreRunOptions options))
-      → (fault ≡ faults.BadOptions) ⊎ (fault ≡ faults.OutOfMemory) → Runs options refuses input old old (Err fault)
-  not_run input old fault outside (inl bad_options) =
-      let P : Fault → Type 0 = λ f. Runs options refuses input old old (Err f) in
-      subst P (sym bad_options) (Keeps-refl old, outside bad_options)
-  not_run input old fault outside (inr memory) =
-      let P : Fault → Type 0 = λ f. Runs options refuses input old old (Err f) in
-      subst P (sym memory) (Keeps-refl old)
 
   -- what was read and run is a run of the whole input
   pub run_of : (input : Option (List ℕ)) (bytes : List ℕ) (script : List (Section Global)) (ends : List (SectionEnd Global)) (report : Report Global)

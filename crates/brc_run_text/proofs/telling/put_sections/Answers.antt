@@ -1,6 +1,5 @@
 use Rattle.std.proofs.Common.{◌++◌, ◌+◌, drop, ◌∙◌}
 use Rattle.std.proofs.lemmas.Result.{err_from_is_err_and}
-use Rattle.std.proofs.lemmas.Bool.{ltb-true}
 use Rattle.brc_text.proofs.PutLaws.{goes_on, fails, ends}
 use Rattle.brc_run_text.specs.Tellings.{sections_text}
 use Rattle.brc_run_text.proofs.Tell_Laws.{sections_done, ends_done, next_section}
