@@ -9,7 +9,7 @@ use brc_program::program;
 use brc_trace::run_replay;
 use brc_words::{Fault, Reason};
 use library::count_and_holders;
-use scripts::{SCRIPTS, asked, tell};
+use scripts::{SCRIPTS, read_script, tell};
 use std::{fs, io};
 
 /// The traces, by name.
@@ -68,7 +68,7 @@ fn main(rt: HostRuntime) -> io::Result<()> {
         run_example(&rt, name)?;
     }
     for name in SCRIPTS {
-        let asked = asked(&rt, name)?;
+        let asked = read_script(&rt, name)?;
         let mut output = Vec::new(rt.alloc());
         let mut errors = Vec::new(rt.alloc());
         let status = program(

@@ -38,7 +38,7 @@ fn words_behind_the_first(rt: &HostRuntime, line: &str) -> io::Result<Vec<String
 }
 
 /// What is asked of the program for this script.
-pub(crate) fn asked(rt: &HostRuntime, name: &str) -> io::Result<Asked> {
+pub(crate) fn read_script(rt: &HostRuntime, name: &str) -> io::Result<Asked> {
     let path = format!(in rt.alloc(); "{name}.script")?;
     let script = fs::read(rt, path.as_str())?;
     let line = match str::from_utf8(script.as_slice()) {
