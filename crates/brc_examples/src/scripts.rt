@@ -28,9 +28,15 @@ pub(crate) struct Asked {
     pub(crate) script: Vec<u8>,
 }
 
-/// The words of a line but for its first one.
-fn words_behind_the_first(rt: &HostRuntime, line: &str) -> io::Result<Vec<String>> {
+/// The words of the first line but for its first one; none where the bytes are no text.
+fn words_of(rt: &HostRuntime, script: &[u8]) -> io::Result<Vec<String>> {
     let mut words = Vec::new(rt.alloc());
+    let Ok(text) = str::from_utf8(script) else {
+        return Ok(words);
+    };
+    let Some(line) = text.lines().next() else {
+        return Ok(words);
+    };
     for word in line.split_whitespace().skip(1) {
         words.push(String::from_str(rt.alloc(), word)?)?;
     }
@@ -41,11 +47,7 @@ fn words_behind_the_first(rt: &HostRuntime, line: &str) -> io::Result<Vec<String
 pub(crate) fn read_script(rt: &HostRuntime, name: &str) -> io::Result<Asked> {
     let path = format!(in rt.alloc(); "{name}.script")?;
     let script = fs::read(rt, path.as_str())?;
-    let line = match str::from_utf8(script.as_slice()) {
-        Ok(text) => text.lines().next().unwrap_or(""),
-        Err(_) => "",
-    };
-    let words = words_behind_the_first(rt, line)?;
+    let words = words_of(rt, script.as_slice())?;
     Ok(Asked { words, script })
 }
 
