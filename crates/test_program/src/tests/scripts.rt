@@ -1,7 +1,11 @@
 //! `brc run`: what worked scripts print, the reports of their heaps, and how sections wait for one another.
 
 use crate::tests::running::{ran, same};
+use std::alloc::AllocGlobal;
+use std::process::Abort;
+use std::sync::Wait;
 use std::test::*;
+use std::thread::Threads;
 
 /// A case: its name, a script, the status, and what is written.
 type Case = (&'static str, &'static str, u8, &'static str);
@@ -151,10 +155,10 @@ fn each_list_that_is_handed_over_ends(rt: HostRuntime) -> Result<(), Fail> {
     Ok(())
 }
 
-/// A section that plays 10,000 turns, of numbers from 1,001 up. In each turn a number is put in place of another in a dictionary, and one
+/// A section that plays 4,000 turns, of numbers from 1,001 up. In each turn a number is put in place of another in a dictionary, and one
 /// in a list; one is pushed and one popped, one is sent and one received. At the end it sends the sum of what it got.
 const PLAYS: &str =
-    "fetch r0 list\nfetch r1 box\nfetch r2 dict\nint r4 0\nint r5 1000\nint r6 1\nrepeat 10000\nadd r7 r5 r6\nput r2 'k r7\nadd r8 r4 r7\ncopy r4 r8\nadd r7 r5 r6\nset r0 0 r7\nadd r8 r4 r7\ncopy r4 r8\nadd r7 r5 r6\npush r0 r7\npop r7 r0\nadd r8 r4 r7\ncopy r4 r8\nadd r7 r5 r6\nsend r1 r7\nrecv r7 r1\nadd r8 r4 r7\ncopy r4 r8\nadd r7 r5 r6\ncopy r5 r7\nend\nfetch r9 sums\nsend r9 r4\n";
+    "fetch r0 list\nfetch r1 box\nfetch r2 dict\nint r4 0\nint r5 1000\nint r6 1\nrepeat 4000\nadd r7 r5 r6\nput r2 'k r7\nadd r8 r4 r7\ncopy r4 r8\nadd r7 r5 r6\nset r0 0 r7\nadd r8 r4 r7\ncopy r4 r8\nadd r7 r5 r6\npush r0 r7\npop r7 r0\nadd r8 r4 r7\ncopy r4 r8\nadd r7 r5 r6\nsend r1 r7\nrecv r7 r1\nadd r8 r4 r7\ncopy r4 r8\nadd r7 r5 r6\ncopy r5 r7\nend\nfetch r9 sums\nsend r9 r4\n";
 
 /// What the last section shares: a list with one number, an empty mailbox, a dictionary with one number, and a mailbox for the sums.
 const SHARES: &str =
@@ -164,42 +168,56 @@ const SHARES: &str =
 const ADDS_LEFT: &str =
     "pop r5 r0\nadd r6 r4 r5\ncopy r4 r6\ndel r5 r2 'k\nadd r6 r4 r5\nprint r6\nprint r0\nprint r1\nprint r2\n";
 
-/// Two, four and eight sections play. Each number that was given is got once or left, so the sum is theirs: a section gives 4 times the
-/// numbers from 1,001 to 11,000, which is 240,020,000, and there were 2,000 at first. A section makes 9 integers in a turn and one before;
-/// the last one makes 6 objects and as many sums as it adds.
-#[test]
-fn no_value_is_lost_where_sections_share_for_many_turns(rt: HostRuntime) -> Result<(), Fail> {
-    const CASES: &[(u32, &str)] = &[
-        (
-            2,
-            "last: 480042000\nlast: list 0\nlast: mailbox 0\nlast: dict 0\nledger 180012 180012 0\n",
-        ),
-        (
-            4,
-            "last: 960082000\nlast: list 0\nlast: mailbox 0\nlast: dict 0\nledger 360016 360016 0\n",
-        ),
-        (
-            8,
-            "last: 1920162000\nlast: list 0\nlast: mailbox 0\nlast: dict 0\nledger 720024 720024 0\n",
-        ),
-    ];
-    for &(sections, output) in CASES {
-        let mut script = String::new(rt.alloc());
-        for section in 0..sections {
-            let begins = format!(in rt.alloc(); "section s{section}\n")?;
-            script.push_str(begins.as_str())?;
-            script.push_str(PLAYS)?;
-        }
-        script.push_str(SHARES)?;
-        let adds = format!(in rt.alloc();
-            "int r4 0\nrepeat {sections}\nrecv r5 r3\nadd r6 r4 r5\ncopy r4 r6\nend\n"
-        )?;
-        script.push_str(adds.as_str())?;
-        script.push_str(ADDS_LEFT)?;
-        let found = ran(&rt, "brc run", script.as_str(), 0, "")?;
-        same(&rt, "many turns", found.as_slice(), output);
+/// So many sections play, and so it ends. Each number that was given is got once or left, so the sum is theirs: a section gives 4 times
+/// the numbers from 1,001 to 5,000, which is 48,008,000, and there were 2,000 at first. A section makes 9 integers in a turn and one before;
+/// the last one makes 6 objects, and an integer for each number that it adds.
+fn play<T: Abort + AllocGlobal + Threads + Wait + Sync>(
+    rt: &T,
+    sections: u32,
+    output: &str,
+) -> Result<(), Fail> {
+    let mut script = String::new(rt.alloc());
+    for section in 0..sections {
+        let begins = format!(in rt.alloc(); "section s{section}\n")?;
+        script.push_str(begins.as_str())?;
+        script.push_str(PLAYS)?;
     }
+    script.push_str(SHARES)?;
+    let adds = format!(in rt.alloc();
+        "int r4 0\nrepeat {sections}\nrecv r5 r3\nadd r6 r4 r5\ncopy r4 r6\nend\n"
+    )?;
+    script.push_str(adds.as_str())?;
+    script.push_str(ADDS_LEFT)?;
+    let found = ran(rt, "brc run", script.as_str(), 0, "")?;
+    same(rt, "many turns", found.as_slice(), output);
     Ok(())
+}
+
+#[test]
+fn two_sections_share_for_many_turns(rt: HostRuntime) -> Result<(), Fail> {
+    play(
+        &rt,
+        2,
+        "last: 96018000\nlast: list 0\nlast: mailbox 0\nlast: dict 0\nledger 72012 72012 0\n",
+    )
+}
+
+#[test]
+fn four_sections_share_for_many_turns(rt: HostRuntime) -> Result<(), Fail> {
+    play(
+        &rt,
+        4,
+        "last: 192034000\nlast: list 0\nlast: mailbox 0\nlast: dict 0\nledger 144016 144016 0\n",
+    )
+}
+
+#[test]
+fn eight_sections_share_for_many_turns(rt: HostRuntime) -> Result<(), Fail> {
+    play(
+        &rt,
+        8,
+        "last: 384066000\nlast: list 0\nlast: mailbox 0\nlast: dict 0\nledger 288024 288024 0\n",
+    )
 }
 
 /// Sections that wait for one another, and how that ends.
@@ -270,57 +288,64 @@ fn a_budget_is_of_so_many_turns(rt: HostRuntime) -> Result<(), Fail> {
 }
 
 /// Long scripts, which only end so where each section polls and works between its instructions and while it waits, and where no wakeup is
-/// lost; and long objects.
+/// lost; and a long death.
 #[test]
 fn long_scripts(rt: HostRuntime) -> Result<(), Fail> {
-    const CASES: &[(&str, &str, u8, &str, &str)] = &[
+    const CASES: &[(&str, &str, &str, &str)] = &[
         (
-            "a chain of 60,000 lists dies a turn at a time",
-            "brc run --cells 65536 --budget 1",
-            0,
-            "section a\nlist r0\nrepeat 59999\nlist r1\npush r1 r0\ncopy r0 r1\nend\n",
-            "ledger 60000 60000 0\n",
-        ),
-        (
-            "a list of 1,048,576 entries takes no more",
-            "brc run",
-            4,
-            "section a\nlist r0\nrepeat 1000000\nint r1 1\npush r0 r1\nend\nrepeat 48576\nint r1 1\npush r0 r1\nend\nprint r0\nint r1 1\npush r0 r1\n",
-            "a: list 1048576\na: fault 8 Full line 13\nledger 1 1 0\n",
+            "a chain of 3,000 lists dies a turn at a time",
+            "brc run --budget 1",
+            "section a\nlist r0\nrepeat 2999\nlist r1\npush r1 r0\ncopy r0 r1\nend\ndrop r1\ndrop r0\nrepeat 6000\nint r2 1\nend\n",
+            "ledger 3000 3000 0\n",
         ),
         (
             "what is dropped is freed between instructions",
             "brc run --cells 512",
-            0,
             "section a\nrepeat 10000\nint r0 1000\ndrop r0\nend\n",
             "ledger 10000 10000 0\n",
         ),
         (
             "what others drop is freed too",
             "brc run --cells 512",
-            0,
             "section a\nmailbox r0\ncopy r1 r0\nshare out r1\nmailbox r1\ncopy r2 r1\nshare back r2\nrepeat 10000\nint r2 1000\nsend r0 r2\nrecv r2 r1\nend\nsection b\nfetch r0 out\nfetch r1 back\nrepeat 10000\nrecv r2 r0\ndrop r2\nint r2 1\nsend r1 r2\nend\n",
             "ledger 10002 10002 0\n",
         ),
         (
             "a hundred thousand times one section hands something to another and waits for an answer",
             "brc run",
-            0,
             "section a\nmailbox r0\ncopy r1 r0\nshare out r1\nmailbox r1\ncopy r2 r1\nshare back r2\nrepeat 100000\nint r2 1\nsend r0 r2\nrecv r2 r1\nend\nsection b\nfetch r0 out\nfetch r1 back\nrepeat 100000\nrecv r2 r0\nsend r1 r2\nend\n",
             "ledger 2 2 0\n",
         ),
         (
             "who waits frees what others drop",
             "brc run",
-            0,
             "section a\nlist r0\nrepeat 3000\nint r1 1000\npush r0 r1\nend\nshare list r0\nfetch r1 done\nrepeat 3000\nint r2 1000\nend\nsection b\nfetch r0 list\nunshare r1 list\ndrop r1\nrepeat 3000\npop r1 r0\ndrop r1\nend\nint r1 1\nshare done r1\n",
             "ledger 6001 6001 0\n",
         ),
     ];
-    for &(case, line, status, script, output) in CASES {
-        let found = ran(&rt, line, script, status, "")?;
+    for &(case, line, script, output) in CASES {
+        let found = ran(&rt, line, script, 0, "")?;
         same(&rt, case, found.as_slice(), output);
     }
+    Ok(())
+}
+
+/// A list gets as many entries as it may have, 1,048,576, and takes no more.
+#[test]
+fn a_full_list_takes_no_entry(rt: HostRuntime) -> Result<(), Fail> {
+    let found = ran(
+        &rt,
+        "brc run",
+        "section a\nlist r0\nrepeat 1000000\nint r1 1\npush r0 r1\nend\nrepeat 48576\nint r1 1\npush r0 r1\nend\nprint r0\nint r1 1\npush r0 r1\n",
+        4,
+        "",
+    )?;
+    same(
+        &rt,
+        "a full list",
+        found.as_slice(),
+        "a: list 1048576\na: fault 8 Full line 13\nledger 1 1 0\n",
+    );
     Ok(())
 }
 
