@@ -13,6 +13,8 @@ pub use sums::comes_out;
 #[cfg(test)]
 mod client;
 #[cfg(test)]
+mod deaths;
+#[cfg(test)]
 mod ends;
 #[cfg(test)]
 mod entering;
