@@ -1,4 +1,4 @@
-//! A long chain of lists, and its death; and a list of many lists.
+//! A long chain of lists, and its death.
 
 ghost use Rattle.brc_count.specs.Frames.{IsUnlocked, Owns};
 ghost use Rattle.brc_count.specs.Owned.{GoesOn};
@@ -45,40 +45,6 @@ fn a_chain<H: Home<A>, A: Allocator + Copy>(
         last = a_list_around(rt, alloc, frame, last);
     }
     last
-}
-
-/// The list gets a new list as its last entry.
-fn add_a_list<H: Home<A>, A: Allocator + Copy>(
-    rt: &impl Abort,
-    alloc: A,
-    frame: &mut Frame<H, A>,
-    list: &Handle<A>,
-)
-    requires owned { Owns frame.old list.now }
-    requires unlocked { IsUnlocked frame.old }
-    ensures owned { Owns frame.new list.now }
-    ensures goes_on { GoesOn frame.old frame.new }
-{
-    let entry = an_empty_list(rt, alloc, frame);
-    put_into_list(rt, frame, list, entry);
-}
-
-/// A list of so many new lists.
-pub(crate) fn a_list_of_lists<H: Home<A>, A: Allocator + Copy>(
-    rt: &impl Abort,
-    alloc: A,
-    frame: &mut Frame<H, A>,
-    entries: usize,
-) -> Handle<A>
-    requires unlocked { IsUnlocked frame.old }
-    ensures owned { Owns frame.new result }
-    ensures goes_on { GoesOn frame.old frame.new }
-{
-    let list = an_empty_list(rt, alloc, frame);
-    for _ in 0..entries {
-        add_a_list(rt, alloc, frame, &list);
-    }
-    list
 }
 
 /// So many calls of work for one turn need it, and the next one doesn't.

@@ -1,8 +1,8 @@
 //! References that pass through the globals, the dictionary of cell 265, or into a list of the same frame.
 
-ghost use Rattle.std.specs.Prelude.{◌≢◌, IfSome, IfNone};
+ghost use Rattle.std.specs.Prelude.{◌≢◌};
 ghost use Rattle.brc_count.specs.Frames.{IsUnlocked, Owns};
-ghost use Rattle.brc_count.specs.Owned.{Keeps, Gains, Loses};
+ghost use Rattle.brc_count.specs.Owned.{Gains, Loses};
 
 use crate::phases::an_immortal;
 use brc_count::{Frame, Handle};
@@ -53,30 +53,6 @@ pub(crate) fn put_into_globals<R: Abort + Wait, H: Home<A>, A: Allocator>(
     frame.release(globals);
 }
 
-/// The reference that stands in the globals beside this key, taken out of them; None where none does.
-pub(crate) fn take_if_any<R: Abort + Wait, H: Home<A>, A: Allocator>(
-    rt: &R,
-    frame: &mut Frame<H, A>,
-    key: i64,
-) -> Option<Handle<A>>
-    requires unlocked { IsUnlocked frame.old }
-    ensures unlocked { IsUnlocked frame.new }
-    ensures gains { IfSome result (Gains frame.old frame.new) }
-    ensures keeps { IfNone result (Keeps frame.old frame.new) }
-{
-    let globals = an_immortal(rt, frame, GLOBALS);
-    match dict_del(rt, frame, &globals, &Key::Int(key)) {
-        Err(_) => {
-            frame.release(globals);
-            None
-        }
-        Ok(handle) => {
-            frame.release(globals);
-            Some(handle)
-        }
-    }
-}
-
 /// The reference that stands in the globals beside this key, taken out of them.
 pub(crate) fn take_from_globals<R: Abort + Wait, H: Home<A>, A: Allocator>(
     rt: &R,
@@ -87,9 +63,13 @@ pub(crate) fn take_from_globals<R: Abort + Wait, H: Home<A>, A: Allocator>(
     ensures unlocked { IsUnlocked frame.new }
     ensures gains { Gains frame.old frame.new result }
 {
-    match take_if_any(rt, frame, key) {
-        Some(handle) => handle,
-        None => panic!(rt; "nothing is in the globals"),
+    let globals = an_immortal(rt, frame, GLOBALS);
+    match dict_del(rt, frame, &globals, &Key::Int(key)) {
+        Err(_) => panic!(rt; "nothing is in the globals"),
+        Ok(handle) => {
+            frame.release(globals);
+            handle
+        }
     }
 }
 

@@ -1,6 +1,6 @@
-//! Worked runs of the heap as calls on frames, run by the gate: an integer's life, an immortal's, a list that passes from one
-//! thread's frame to another's, objects of each kind, and what is read of them, a full heap and a full frame, long deaths,
-//! refused growths, many handles in one, two heaps at once, and real threads on one heap.
+//! Worked runs of the heap as calls on frames, run by the gate: what no script of `brc run` can say of them. An integer's life, an
+//! immortal's, a list that passes from one thread's frame to another's, what is read of objects, a full heap and a full frame, a
+//! death without memory, refused growths, many handles in one, and two heaps at once.
 //!
 //! Tests, and what they look at. Each call's conditions are shown from the contracts of `brc_thread`, `brc_things`, `brc_count`
 //! and `brc_table` alone, so this is also how a caller uses them.
@@ -14,8 +14,6 @@ pub use sums::comes_out;
 mod client;
 #[cfg(test)]
 mod deaths;
-#[cfg(test)]
-mod dictionaries;
 #[cfg(test)]
 mod ends;
 #[cfg(test)]
@@ -37,8 +35,6 @@ mod many;
 #[cfg(test)]
 mod memory;
 #[cfg(test)]
-mod parts;
-#[cfg(test)]
 mod phases;
 #[cfg(test)]
 mod readings;
@@ -50,7 +46,5 @@ mod starved;
 mod things;
 #[cfg(test)]
 mod threads;
-#[cfg(test)]
-mod turns;
 #[cfg(test)]
 mod two_heaps;

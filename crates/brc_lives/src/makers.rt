@@ -1,16 +1,18 @@
-//! Objects of each kind: which are there already, which are new, and in which cells; an integer's life, and an immortal that
-//! nobody counts.
+//! None, False, True and integers: which are there already, and in which cells, and which are made; and a frame that has a handle.
 
 ghost use Rattle.brc_count.specs.Frames.{IsUnlocked, Owns};
 ghost use Rattle.brc_count.specs.Owned.{GoesOn, Loses};
 
 use crate::ends::ends;
-use crate::phases::{an_immortal, an_integer, another, entered, leaves, opened, says, stays};
-use crate::things::{a_dict, a_mailbox, a_none, a_text, a_truth, an_int};
+use crate::phases::{an_immortal, another, entered, leaves, opened, says, stays};
+use crate::things::{a_none, a_truth, an_int};
 use brc_count::{Frame, Handle};
 use brc_counter::Home;
 use std::alloc::Allocator;
 use std::process::Abort;
+
+/// The cell of the integer 256.
+const LAST_INTEGER: u32 = 264;
 
 /// A reference to this cell goes.
 fn goes_from<H: Home<A>, A: Allocator>(
@@ -56,9 +58,10 @@ fn immortals<H: Home<A>, A: Allocator + Copy>(rt: &impl Abort, alloc: A, frame: 
     goes_from(rt, frame, handle, 2);
     is_in(rt, alloc, frame, -5, 3);
     is_in(rt, alloc, frame, 0, 8);
-    is_in(rt, alloc, frame, 256, 264);
+    is_in(rt, alloc, frame, 256, LAST_INTEGER);
 }
 
+/// Nobody counts an immortal, and releases of it leave nothing to be done; the next integer is made, and dies in one turn.
 #[test]
 fn what_is_immortal_is_not_made(rt: HostRuntime) {
     let (table, root) = opened(&rt, rt.alloc());
@@ -67,83 +70,16 @@ fn what_is_immortal_is_not_made(rt: HostRuntime) {
     immortals(&rt, rt.alloc(), &mut frame);
     let first = an_int(&rt, rt.alloc(), &mut frame, 256);
     let second = another(&rt, &mut frame, &first);
-    assert_eq!(rt; frame.cell(&second), 264);
+    assert_eq!(rt; frame.cell(&second), LAST_INTEGER);
     frame.release(second);
     frame.release(first);
+    assert_eq!(rt; frame.work(5), 5);
     says(&rt, frame.ledger(), 0, 0);
-    leaves(&rt, &table, &mut root, frame);
-    ends(&rt, table, root);
-}
-
-#[test]
-fn the_next_integers_are_made(rt: HostRuntime) {
-    let (table, root) = opened(&rt, rt.alloc());
-    let mut root = root;
-    let mut frame = entered(&rt, rt.alloc(), &table, &mut root);
     let above = an_int(&rt, rt.alloc(), &mut frame, 257);
     says(&rt, frame.ledger(), 1, 0);
     goes_from(&rt, &mut frame, above, 266);
     assert_eq!(rt; frame.work(5), 4);
     says(&rt, frame.ledger(), 1, 1);
-    // The cell is free again, so the next object has it.
-    is_in(&rt, rt.alloc(), &mut frame, -6, 266);
-    assert_eq!(rt; frame.work(5), 4);
-    says(&rt, frame.ledger(), 2, 2);
-    leaves(&rt, &table, &mut root, frame);
-    ends(&rt, table, root);
-}
-
-#[test]
-fn texts_and_containers_are_made(rt: HostRuntime) {
-    let (table, root) = opened(&rt, rt.alloc());
-    let mut root = root;
-    let mut frame = entered(&rt, rt.alloc(), &table, &mut root);
-    let text = a_text(&rt, rt.alloc(), &mut frame, "a text");
-    let dict = a_dict(&rt, rt.alloc(), &mut frame);
-    let mailbox = a_mailbox(&rt, rt.alloc(), &mut frame);
-    says(&rt, frame.ledger(), 3, 0);
-    goes_from(&rt, &mut frame, text, 266);
-    goes_from(&rt, &mut frame, dict, 267);
-    goes_from(&rt, &mut frame, mailbox, 268);
-    assert_eq!(rt; frame.work(5), 2);
-    says(&rt, frame.ledger(), 3, 3);
-    leaves(&rt, &table, &mut root, frame);
-    ends(&rt, table, root);
-}
-
-#[test]
-fn an_integer_lives_and_dies(rt: HostRuntime) {
-    let (table, root) = opened(&rt, rt.alloc());
-    let mut root = root;
-    let mut frame = entered(&rt, rt.alloc(), &table, &mut root);
-    assert_eq!(rt; frame.thread(), 1);
-    let first = an_integer(&rt, rt.alloc(), &mut frame, 257);
-    assert_eq!(rt; frame.cell(&first), 266);
-    says(&rt, frame.ledger(), 1, 0);
-    let second = another(&rt, &mut frame, &first);
-    frame.release(second);
-    frame.release(first);
-    assert_eq!(rt; frame.work(5), 4);
-    says(&rt, frame.ledger(), 1, 1);
-    leaves(&rt, &table, &mut root, frame);
-    ends(&rt, table, root);
-}
-
-/// The cell of the integer 256.
-const LAST_INTEGER: u32 = 264;
-
-#[test]
-fn an_immortal_is_only_looked_at(rt: HostRuntime) {
-    let (table, root) = opened(&rt, rt.alloc());
-    let mut root = root;
-    let mut frame = entered(&rt, rt.alloc(), &table, &mut root);
-    let first = an_immortal(&rt, &mut frame, LAST_INTEGER);
-    let second = another(&rt, &mut frame, &first);
-    assert_eq!(rt; frame.cell(&second), 264);
-    frame.release(second);
-    frame.release(first);
-    assert_eq!(rt; frame.work(5), 5);
-    says(&rt, frame.ledger(), 0, 0);
     leaves(&rt, &table, &mut root, frame);
     ends(&rt, table, root);
 }

@@ -7,8 +7,7 @@ ghost use Rattle.brc_rule.specs.Opening.{first_view};
 ghost use Rattle.brc_count.specs.Frames.{IsUnlocked, Owns};
 ghost use Rattle.brc_count.specs.Owned.{Gains};
 
-use brc_block::Payload;
-use brc_count::{Frame, Handed, Handle, Ledger};
+use brc_count::{Frame, Handle, Ledger};
 use brc_counter::Home;
 use brc_table::{HeapTable, RootSeat};
 use std::alloc::Allocator;
@@ -56,26 +55,6 @@ pub(crate) fn entered<H: Home<A> + Drop, A: Allocator + Copy>(
     match Frame::enter(alloc, heap, root) {
         Ok(frame) => frame,
         Err(_) => panic!(rt; "memory"),
-    }
-}
-
-/// A new integer, with a reference in the frame.
-pub(crate) fn an_integer<H: Home<A>, A: Allocator>(
-    rt: &impl Abort,
-    alloc: A,
-    frame: &mut Frame<H, A>,
-    number: i64,
-) -> Handle<A>
-    requires unlocked { IsUnlocked frame.old }
-    ensures unlocked { IsUnlocked frame.new }
-    ensures gains { Gains frame.old frame.new result }
-{
-    match frame.born(alloc, Payload::Int(number)) {
-        Ok(handle) => handle,
-        Err(Handed { back: payload, .. }) => {
-            let _payload = payload;
-            panic!(rt; "no integer is made")
-        }
     }
 }
 

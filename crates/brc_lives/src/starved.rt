@@ -1,17 +1,53 @@
-//! A death while no memory is left: what a release and turns of work give back is taken at once, so they take none.
+//! The death of a list of many lists while no memory is left: what a release and turns of work give back is taken at once, so they
+//! take none.
 
-ghost use Rattle.brc_count.specs.Frames.{IsUnlocked};
+ghost use Rattle.brc_count.specs.Frames.{IsUnlocked, Owns};
 ghost use Rattle.brc_count.specs.Owned.{GoesOn};
 
-use crate::deaths::a_list_of_lists;
 use crate::ends::ends;
+use crate::globals::put_into_list;
 use crate::memory::{Pieces, a_heap};
 use crate::phases::{entered, leaves, opened_with, says};
-use brc_count::Frame;
+use crate::things::an_empty_list;
+use brc_count::{Frame, Handle};
 use brc_counter::Home;
 use linked_list_allocator::LocalHeap;
-use std::alloc::Global;
+use std::alloc::{Allocator, Global};
 use std::process::Abort;
+
+/// The list gets a new list as its last entry.
+fn add_a_list<H: Home<A>, A: Allocator + Copy>(
+    rt: &impl Abort,
+    alloc: A,
+    frame: &mut Frame<H, A>,
+    list: &Handle<A>,
+)
+    requires owned { Owns frame.old list.now }
+    requires unlocked { IsUnlocked frame.old }
+    ensures owned { Owns frame.new list.now }
+    ensures goes_on { GoesOn frame.old frame.new }
+{
+    let entry = an_empty_list(rt, alloc, frame);
+    put_into_list(rt, frame, list, entry);
+}
+
+/// A list of so many new lists.
+fn a_list_of_lists<H: Home<A>, A: Allocator + Copy>(
+    rt: &impl Abort,
+    alloc: A,
+    frame: &mut Frame<H, A>,
+    entries: usize,
+) -> Handle<A>
+    requires unlocked { IsUnlocked frame.old }
+    ensures owned { Owns frame.new result }
+    ensures goes_on { GoesOn frame.old frame.new }
+{
+    let list = an_empty_list(rt, alloc, frame);
+    for _ in 0..entries {
+        add_a_list(rt, alloc, frame, &list);
+    }
+    list
+}
 
 /// All memory that is left is taken.
 fn starve<'h>(rt: &impl Abort, alloc: Global, memory: &'h LocalHeap, taken: &mut Vec<Pieces<'h>>) {

@@ -1,11 +1,11 @@
-//! Objects of each kind, made for a test, which ends where one isn't to be had.
+//! Objects that are made for a test, which ends where one isn't to be had.
 
 ghost use Rattle.brc_count.specs.Frames.{IsUnlocked};
 ghost use Rattle.brc_count.specs.Owned.{Gains};
 
 use brc_count::{Frame, Handle};
 use brc_counter::Home;
-use brc_things::{new_dict, new_int, new_list, new_mailbox, new_text, none, truth};
+use brc_things::{new_int, new_list, new_text, none, truth};
 use brc_words::Text;
 use std::alloc::Allocator;
 use std::process::Abort;
@@ -91,37 +91,5 @@ pub(crate) fn an_empty_list<H: Home<A>, A: Allocator + Copy>(
     match new_list(alloc, frame) {
         Ok(handle) => handle,
         Err(_) => panic!(rt; "no list is made"),
-    }
-}
-
-/// A new empty dictionary.
-pub(crate) fn a_dict<H: Home<A>, A: Allocator + Copy>(
-    rt: &impl Abort,
-    alloc: A,
-    frame: &mut Frame<H, A>,
-) -> Handle<A>
-    requires unlocked { IsUnlocked frame.old }
-    ensures unlocked { IsUnlocked frame.new }
-    ensures gains { Gains frame.old frame.new result }
-{
-    match new_dict(alloc, frame) {
-        Ok(handle) => handle,
-        Err(_) => panic!(rt; "no dictionary is made"),
-    }
-}
-
-/// A new empty mailbox.
-pub(crate) fn a_mailbox<H: Home<A>, A: Allocator + Copy>(
-    rt: &impl Abort,
-    alloc: A,
-    frame: &mut Frame<H, A>,
-) -> Handle<A>
-    requires unlocked { IsUnlocked frame.old }
-    ensures unlocked { IsUnlocked frame.new }
-    ensures gains { Gains frame.old frame.new result }
-{
-    match new_mailbox(alloc, frame) {
-        Ok(handle) => handle,
-        Err(_) => panic!(rt; "no mailbox is made"),
     }
 }

@@ -1,64 +1,18 @@
-//! Lives of one thread on a heap of its own, each of which leaves nothing: letters in their order, calls that never wait where no
-//! other thread has the object locked, a list with as many entries as a container may have, and objects edited by guards.
+//! Lives of one thread on a heap of its own, each of which leaves nothing: calls that never wait where no other thread has the object
+//! locked, and objects edited by guards.
 
-ghost use Rattle.brc_count.specs.Frames.{IsUnlocked, Owns};
+ghost use Rattle.brc_count.specs.Frames.{IsUnlocked};
 ghost use Rattle.brc_count.specs.Owned.{Keeps};
 
-use crate::calls::{
-    Exchanging, Getting, Giving, exchanges, gets, gets_none, gets_number, gives, gives_number,
-    refuses,
-};
+use crate::calls::{Exchanging, Getting, Giving, exchanges, gets_none, gets_number, gives_number};
 use crate::guards::{Way, puts_a_pair};
-use crate::objects::{Thing, a_text, entries, made, number_of};
+use crate::objects::{Thing, entries, made, number_of};
 use crate::threads::{a_heap, a_thread, is_empty};
-use brc_containers::text_of;
-use brc_count::{Frame, Handle};
+use brc_count::Frame;
 use brc_counter::Home;
-use brc_words::Fault;
 use std::alloc::{Allocator, Global};
 use std::process::Abort;
 use std::sync::Wait;
-
-/// The next letter is a copy of this text.
-fn receives<R: Abort + Wait, H: Home<A>, A: Allocator + Copy>(
-    rt: &R,
-    alloc: A,
-    frame: &mut Frame<H, A>,
-    mailbox: &Handle<A>,
-    text: &str,
-)
-    requires owned { Owns frame.old mailbox.now }
-    requires unlocked { IsUnlocked frame.old }
-    ensures keeps { Keeps frame.old frame.new }
-    ensures unlocked { IsUnlocked frame.new }
-{
-    let found = gets(rt, frame, mailbox, Getting::Recv);
-    match text_of(rt, alloc, frame, &found) {
-        Ok(copy) => assert!(rt; copy.as_str() == text),
-        Err(_) => panic!(rt; "it is no text"),
-    }
-    frame.release(found);
-}
-
-/// Two texts are sent, and come in that order.
-fn posts_and_receives<R: Abort + Wait, H: Home<A>, A: Allocator + Copy>(
-    rt: &R,
-    alloc: A,
-    frame: &mut Frame<H, A>,
-)
-    requires unlocked { IsUnlocked frame.old }
-    ensures keeps { Keeps frame.old frame.new }
-    ensures unlocked { IsUnlocked frame.new }
-{
-    let mailbox = made(rt, alloc, frame, Thing::Mailbox);
-    let first = a_text(rt, alloc, frame, "first");
-    let second = a_text(rt, alloc, frame, "second");
-    gives(rt, frame, &mailbox, Giving::Send, first);
-    gives(rt, frame, &mailbox, Giving::Send, second);
-    receives(rt, alloc, frame, &mailbox, "first");
-    receives(rt, alloc, frame, &mailbox, "second");
-    frame.release(mailbox);
-}
 
 /// Two integers go into a list; the first is found and exchanged for a third, which is taken out; the other is popped.
 fn uses_a_list<R: Abort + Wait, H: Home<A>, A: Allocator + Copy>(
@@ -103,51 +57,6 @@ fn uses_a_mailbox<R: Abort + Wait, H: Home<A>, A: Allocator + Copy>(
     gets_number(rt, frame, &mailbox, Getting::TryRecv, 1_001);
     gets_none(rt, frame, &mailbox, Getting::TryRecv);
     frame.release(mailbox);
-}
-
-/// The list gets so many small integers.
-fn fill<R: Abort + Wait, H: Home<A>, A: Allocator + Copy>(
-    rt: &R,
-    alloc: A,
-    frame: &mut Frame<H, A>,
-    list: &Handle<A>,
-    count: u32,
-)
-    requires owned { Owns frame.old list.now }
-    requires unlocked { IsUnlocked frame.old }
-    ensures keeps { Keeps frame.old frame.new }
-    ensures unlocked { IsUnlocked frame.new }
-{
-    for _ in 0..count {
-        gives_number(rt, alloc, frame, list, Giving::Push, 1);
-    }
-}
-
-/// A list is filled, takes no more, neither by a guard nor by a push, and goes. It has 1,048,576 entries then.
-fn fills_a_list<R: Abort + Wait, H: Home<A>, A: Allocator + Copy>(
-    rt: &R,
-    alloc: A,
-    frame: &mut Frame<H, A>,
-)
-    requires unlocked { IsUnlocked frame.old }
-    ensures keeps { Keeps frame.old frame.new }
-    ensures unlocked { IsUnlocked frame.new }
-{
-    let list = made(rt, alloc, frame, Thing::List);
-    fill(rt, alloc, frame, &list, 1_048_576);
-    let value = made(rt, alloc, frame, Thing::Int(1));
-    let value = refuses(
-        rt,
-        frame,
-        &list,
-        Giving::Room(Way::Late),
-        value,
-        Fault::Full,
-    );
-    let value = refuses(rt, frame, &list, Giving::Push, value, Fault::Full);
-    frame.release(value);
-    assert_eq!(rt; entries(rt, frame, &list), 1_048_576);
-    frame.release(list);
 }
 
 /// Two integers go into a list, one is found there, one exchanged for a third, and the first one taken out.
@@ -198,9 +107,7 @@ fn edits_a_dict<R: Abort + Wait, H: Home<A>, A: Allocator + Copy>(
 /// What the thread does.
 #[derive(Clone, Copy)]
 enum Life {
-    Letters,
     Tries,
-    Full,
     Guards(Way),
 }
 
@@ -216,12 +123,10 @@ fn does<R: Abort + Wait, H: Home<A>, A: Allocator + Copy>(
     ensures unlocked { IsUnlocked frame.new }
 {
     match life {
-        Life::Letters => posts_and_receives(rt, alloc, frame),
         Life::Tries => {
             uses_a_list(rt, alloc, frame);
             uses_a_mailbox(rt, alloc, frame);
         }
-        Life::Full => fills_a_list(rt, alloc, frame),
         Life::Guards(way) => {
             edits_a_list(rt, alloc, frame, way);
             edits_a_dict(rt, alloc, frame, way);
@@ -241,18 +146,8 @@ fn lives<R: Abort + Wait>(rt: &R, alloc: Global, life: Life, births: u64) {
 }
 
 #[test]
-fn letters_come_first_in_first_out(rt: HostRuntime) {
-    lives(&rt, rt.alloc(), Life::Letters, 3);
-}
-
-#[test]
 fn calls_that_never_wait_find_what_is_there(rt: HostRuntime) {
     lives(&rt, rt.alloc(), Life::Tries, 7);
-}
-
-#[test]
-fn a_full_list_takes_no_entry(rt: HostRuntime) {
-    lives(&rt, rt.alloc(), Life::Full, 1);
 }
 
 #[test]

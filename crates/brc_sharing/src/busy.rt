@@ -88,7 +88,7 @@ fn puts_then<R: Abort + Wait, H: Home<A>, A: Allocator>(
     gives(rt, frame, globals, Giving::TryPut(7), list);
     let found = gets(rt, frame, globals, Getting::TryFind(7));
     frame.release(found);
-    let list = gets(rt, frame, globals, Getting::Del(7));
+    let list = gets(rt, frame, globals, Getting::TryDel(7));
     frame.release(list);
 }
 

@@ -10,9 +10,9 @@ use crate::guards::{Way, entry_by_guard, put_by_guard, swap_by_guard, take_by_gu
 use crate::objects::{Thing, made, number_of, the_globals};
 use brc_count::{Frame, Handed, Handle};
 use brc_counter::Home;
-use brc_dicts::{dict_del, dict_find, dict_put, try_dict_find, try_dict_put};
+use brc_dicts::{dict_del, dict_find, dict_put, try_dict_del, try_dict_find, try_dict_put};
 use brc_lists::{
-    list_get, list_pop, list_push, list_set, list_take, recv, send, try_list_get, try_list_pop,
+    list_get, list_pop, list_push, list_take, recv, send, try_list_get, try_list_pop,
     try_list_push, try_list_set, try_list_take, try_recv, try_send,
 };
 use brc_words::{Fault, Key};
@@ -48,6 +48,7 @@ pub(crate) enum Getting {
     Find(i64),
     TryFind(i64),
     Del(i64),
+    TryDel(i64),
     /// By a guard of a list; the entry stays.
     Entry(u32, Way),
     /// By a guard of a list; the entry goes.
@@ -57,10 +58,7 @@ pub(crate) enum Getting {
 /// A call that puts a value in an entry's place, and answers the entry.
 #[derive(Clone, Copy)]
 pub(crate) enum Exchanging {
-    Set(u32),
     TrySet(u32),
-    /// Beside a key that is there.
-    Put(i64),
     /// In a list, by a guard.
     Swap(u32, Way),
 }
@@ -223,6 +221,7 @@ pub(crate) fn had<R: Abort + Wait, H: Home<A>, A: Allocator>(
         Getting::Find(key) => dict_find(rt, frame, container, &Key::Int(key)),
         Getting::TryFind(key) => try_dict_find(frame, container, &Key::Int(key)),
         Getting::Del(key) => dict_del(rt, frame, container, &Key::Int(key)),
+        Getting::TryDel(key) => try_dict_del(frame, container, &Key::Int(key)),
         Getting::Entry(index, way) => entry_by_guard(rt, frame, container, index, way),
         Getting::Take(index, way) => take_by_guard(rt, frame, container, index, way),
     }
@@ -298,18 +297,9 @@ pub(crate) fn exchanges<R: Abort + Wait, H: Home<A>, A: Allocator>(
     ensures same { result ≡ value }
 {
     match exchanging {
-        Exchanging::Set(index) => match list_set(rt, frame, container, index, value) {
-            Ok(old) => old,
-            Err(_handed) => panic!(rt; "an exchange is refused"),
-        },
         Exchanging::TrySet(index) => match try_list_set(frame, container, index, value) {
             Ok(old) => old,
             Err(_handed) => panic!(rt; "an exchange that doesn't wait is refused"),
-        },
-        Exchanging::Put(key) => match put(rt, frame, container, key, value, Way::Late) {
-            Ok(Some(old)) => old,
-            Ok(None) => panic!(rt; "the key wasn't there"),
-            Err(_handed) => panic!(rt; "a put is refused"),
         },
         Exchanging::Swap(index, way) => swap_by_guard(rt, frame, container, index, value, way),
     }

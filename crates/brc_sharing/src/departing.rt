@@ -1,30 +1,7 @@
-//! Threads that depart: they neither wait nor poll, and what others still hold others release.
+//! A thread that departs: it neither waits nor polls, and has no dead block left.
 
-use crate::calls::{Getting, fetches, shares_new};
 use crate::objects::{Thing, made};
 use crate::threads::{a_heap, a_thread, is_empty};
-
-#[test]
-fn what_a_thread_left_behind_another_releases(rt: HostRuntime) {
-    let (heap, mut root) = a_heap(&rt, rt.alloc(), 512);
-    let mut maker = a_thread(&rt, rt.alloc(), &heap, &mut root);
-    let mut other = a_thread(&rt, rt.alloc(), &heap, &mut root);
-    shares_new(&rt, rt.alloc(), maker.frame(), 7, Thing::List);
-    let list = fetches(&rt, other.frame(), Getting::Del(7));
-    let leaving = match maker.depart(0) {
-        Ok(leaving) => leaving,
-        Err(_maker) => panic!(rt; "a dead block is left"),
-    };
-    let retired = leaving.finish_all(&rt);
-    let makers = retired.ledger();
-    root.gather(&heap, retired);
-    // The list's owner is gone, so this release merges the list itself.
-    other.frame().release(list);
-    let others = other.end(&rt, &mut root, &heap);
-    assert_eq!(rt; (makers.allocs, makers.frees), (1, 0));
-    assert_eq!(rt; (others.allocs, others.frees), (0, 1));
-    is_empty(&rt, heap, root);
-}
 
 #[test]
 fn a_dead_block_keeps_a_thread_until_there_are_turns_for_it(rt: HostRuntime) {

@@ -1,6 +1,6 @@
-//! Worked runs of containers that threads share, run by the gate: a list and a mailbox that pass through the globals, an object
-//! that another thread has locked, objects edited by a guard, calls that never wait, a full list, refused growths and copies,
-//! letters of two real threads in their order, threads that depart, and many turns of real threads on shared containers.
+//! Worked runs of containers that threads share, run by the gate: what no script of `brc run` can say of them. An object that another
+//! thread has locked, objects edited by a guard, calls that never wait, refused growths and copies, letters of two real threads in
+//! their order, and a thread that departs.
 //!
 //! Tests, and what they look at. Each call's conditions are shown from the contracts of the crates below alone; only of handles
 //! that a vector keeps it is looked at, as the test runs, whether the frame owns them.
@@ -29,10 +29,6 @@ mod memory;
 #[cfg(test)]
 mod objects;
 #[cfg(test)]
-mod passing;
-#[cfg(test)]
 mod refused;
 #[cfg(test)]
 mod threads;
-#[cfg(test)]
-mod turns;

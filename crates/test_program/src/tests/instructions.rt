@@ -76,11 +76,21 @@ const CASES: &[Case] = &[
         "dict r0\nint r1 1\nput r0 'k r1\ndel r2 r0 'k\nprint r2\nfind r2 r0 'k\n",
         "a: 1\na: fault 7 NoSuchKey line 7\nledger 1 1 0\n",
     ),
+    (
+        "values beside keys of both kinds",
+        "dict r0\nint r1 1000\nput r0 7 r1\nint r1 1001\nput r0 'side r1\nint r1 1002\nput r0 -7 r1\nprint r0\nint r1 1003\nput r0 7 r1\nprint r1\nint r1 1004\nput r0 'side r1\nprint r1\nprint r0\nfind r1 r0 7\nprint r1\nfind r1 r0 'side\nprint r1\ndel r1 r0 7\nprint r1\nfind r1 r0 'side\nprint r1\nfind r1 r0 -7\nprint r1\ndel r1 r0 'side\nprint r1\nprint r0\nfind r1 r0 7\n",
+        "a: dict 3\na: 1000\na: 1001\na: dict 3\na: 1003\na: 1004\na: 1003\na: 1004\na: 1002\na: 1004\na: dict 1\na: fault 7 NoSuchKey line 30\nledger 6 6 0\n",
+    ),
     // Mailboxes.
     (
         "letters in their order",
         "mailbox r0\nint r1 1\nsend r0 r1\nint r1 2\nsend r0 r1\nrecv r2 r0\nprint r2\nrecv r2 r0\nprint r2\n",
         "a: 1\na: 2\nledger 1 1 0\n",
+    ),
+    (
+        "texts as letters, and then none",
+        "mailbox r0\ntext r1 first\nsend r0 r1\ntext r1 second\nsend r0 r1\nrecv r2 r0\nprint r2\nrecv r2 r0\nprint r2\nprint r0\nrecv r2 r0\n",
+        "a: first\na: second\na: mailbox 0\na: fault 6 NoSuchPlace line 12\nledger 3 3 0\n",
     ),
     (
         "a mailbox that nobody sends to",
@@ -123,6 +133,17 @@ const CASES: &[Case] = &[
         "a name within a repeat",
         "int r0 1000\nshare n r0\nrepeat 3\nfetch r1 n\nend\nprint r1\nunshare r1 n\n",
         "a: 1000\nledger 1 1 0\n",
+    ),
+    // Cells: what is left is told by its cell. The first one that is free is taken, and immortals take none.
+    (
+        "objects of each kind, which a list in itself keeps",
+        "list r0\ntext r1 a text\npush r0 r1\ndict r1\npush r0 r1\nmailbox r1\npush r0 r1\nint r1 257\npush r0 r1\nint r1 256\npush r0 r1\nint r1 -6\npush r0 r1\ncopy r1 r0\npush r0 r1\n",
+        "ledger 6 0 6\nremain 266 list 266\nremain 267 text 266\nremain 268 dict 266\nremain 269 mailbox 266\nremain 270 int 266\nremain 271 int 266\ncycle 266\n",
+    ),
+    (
+        "a cell that is free again",
+        "int r0 257\ncopy r1 r0\ndrop r0\ndrop r1\nlist r0\ncopy r1 r0\npush r0 r1\n",
+        "ledger 2 1 1\nremain 266 list 266\ncycle 266\n",
     ),
     // Refusals: an empty register comes before all else, and what is refused stays.
     (
@@ -176,6 +197,31 @@ const CASES: &[Case] = &[
         "a: fault 6 NoSuchPlace line 3\nledger 1 1 0\n",
     ),
     (
+        "no key to find",
+        "dict r0\nfind r1 r0 7\n",
+        "a: fault 7 NoSuchKey line 3\nledger 1 1 0\n",
+    ),
+    (
+        "no key to delete",
+        "dict r0\ndel r1 r0 7\n",
+        "a: fault 7 NoSuchKey line 3\nledger 1 1 0\n",
+    ),
+    (
+        "no dictionary to find in",
+        "int r0 1000\nfind r1 r0 7\n",
+        "a: fault 5 WrongKind line 3\nledger 1 1 0\n",
+    ),
+    (
+        "no dictionary to put into",
+        "int r0 1000\nint r1 1\nput r0 7 r1\n",
+        "a: fault 5 WrongKind line 4\nledger 1 1 0\n",
+    ),
+    (
+        "no dictionary to delete from",
+        "int r0 1000\ndel r1 r0 7\n",
+        "a: fault 5 WrongKind line 3\nledger 1 1 0\n",
+    ),
+    (
         "no container",
         "int r0 1\nlen r1 r0\n",
         "a: fault 5 WrongKind line 3\nledger 0 0 0\n",
@@ -211,6 +257,17 @@ fn begins_as_meant(rt: &impl Abort, alloc: Global, case: &str, script: &str, fou
     assert!(rt; found.starts_with(meant.as_slice()), "{case}");
 }
 
+/// The status where this is written: it tells of a fault, or else of remains.
+fn status_with(output: &str) -> u8 {
+    if output.contains("fault") {
+        4
+    } else if output.contains("remain") {
+        1
+    } else {
+        0
+    }
+}
+
 #[test]
 fn each_instruction(rt: HostRuntime) -> Result<(), Fail> {
     for &(case, lines, wanted) in CASES {
@@ -219,12 +276,7 @@ fn each_instruction(rt: HostRuntime) -> Result<(), Fail> {
         let mut output = Vec::new(rt.alloc());
         let mut errors = Vec::new(rt.alloc());
         let status = status_of(&rt, "brc run", script.as_bytes(), &mut output, &mut errors)?;
-        ended(
-            &rt,
-            case,
-            status,
-            if wanted.contains("fault") { 4 } else { 0 },
-        );
+        ended(&rt, case, status, status_with(wanted));
         same(&rt, case, output.as_slice(), wanted);
         begins_as_meant(&rt, rt.alloc(), case, script, output.as_slice());
     }

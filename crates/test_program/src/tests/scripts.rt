@@ -1,7 +1,11 @@
 //! `brc run`: what worked scripts print, the reports of their heaps, and how sections wait for one another.
 
 use crate::tests::running::{ran, same};
+use std::alloc::AllocGlobal;
+use std::process::Abort;
+use std::sync::Wait;
 use std::test::*;
+use std::thread::Threads;
 
 /// A case: its name, a script, the status, and what is written.
 type Case = (&'static str, &'static str, u8, &'static str);
@@ -77,6 +81,24 @@ const WORKED: &[Case] = &[
         "b: one\nb: 1\nledger 2002 2002 0\n",
     ),
     (
+        "what one section pushes another reads",
+        "section a\nlist r0\ncopy r1 r0\nshare box r1\nfetch r2 done\nget r1 r0 0\nprint r1\npop r1 r0\nprint r1\nprint r0\nsection b\nfetch r0 box\nint r1 1000\npush r0 r1\nunshare r1 box\nint r2 1\nshare done r2\n",
+        0,
+        "a: 1000\na: 1000\na: list 0\nledger 2 2 0\n",
+    ),
+    (
+        "a list that moved to another section, and is let go there",
+        "section a\nlist r0\nshare box r0\nfetch r1 done\nsection b\nfetch r0 box\nunshare r1 box\ndrop r0\ndrop r1\nint r0 1\nshare done r0\n",
+        0,
+        "ledger 1 1 0\n",
+    ),
+    (
+        "a list that is let go once its maker has ended",
+        "section a\nlist r0\nshare box r0\nsection b\nfetch r0 box\nunshare r1 box\ndrop r1\nfetch r1 never\n",
+        4,
+        "b: fault 7 NoSuchKey line 8\nledger 1 1 0\n",
+    ),
+    (
         "no instruction",
         "section a\nsection b\nrepeat 0\nprint r0\nend\n",
         0,
@@ -110,6 +132,92 @@ fn a_taken_over_list_is_alike_in_each_run(rt: HostRuntime) -> Result<(), Fail> {
         same(&rt, case, found.as_slice(), output);
     }
     Ok(())
+}
+
+/// Twenty lists, each of which goes into a mailbox, and into the globals in place of the one before it. Two sections take eight of them
+/// each out of the mailbox, and as often the one that is in the globals then; the last thread finds the other four, and the globals' one.
+const HANDED_OVER: Case = (
+    "lists that two sections take while a third makes them",
+    "section a\nmailbox r0\ncopy r1 r0\nshare box r1\nrepeat 20\nlist r1\ncopy r2 r1\nshare last r2\nsend r0 r1\nend\nsection b\nfetch r0 box\nrepeat 8\nrecv r1 r0\nfetch r2 last\ncopy r3 r2\ndrop r1\ndrop r2\ndrop r3\nend\nsection c\nfetch r0 box\nrepeat 8\nrecv r1 r0\nfetch r2 last\ncopy r3 r2\ndrop r1\ndrop r2\ndrop r3\nend\n",
+    0,
+    "ledger 21 21 0\n",
+);
+
+/// A thousand runs, with owners that soon count as others do and few turns of work.
+#[test]
+fn each_list_that_is_handed_over_ends(rt: HostRuntime) -> Result<(), Fail> {
+    let (case, script, status, output) = HANDED_OVER;
+    let line = "brc run --cells 512 --budget 2 --local-limit 10";
+    for _run in 0..1_000 {
+        let found = ran(&rt, line, script, status, "")?;
+        same(&rt, case, found.as_slice(), output);
+    }
+    Ok(())
+}
+
+/// A section that plays 4,000 turns, of numbers from 1,001 up. In each turn a number is put in place of another in a dictionary, and one
+/// in a list; one is pushed and one popped, one is sent and one received. At the end it sends the sum of what it got.
+const PLAYS: &str =
+    "fetch r0 list\nfetch r1 box\nfetch r2 dict\nint r4 0\nint r5 1000\nint r6 1\nrepeat 4000\nadd r7 r5 r6\nput r2 'k r7\nadd r8 r4 r7\ncopy r4 r8\nadd r7 r5 r6\nset r0 0 r7\nadd r8 r4 r7\ncopy r4 r8\nadd r7 r5 r6\npush r0 r7\npop r7 r0\nadd r8 r4 r7\ncopy r4 r8\nadd r7 r5 r6\nsend r1 r7\nrecv r7 r1\nadd r8 r4 r7\ncopy r4 r8\nadd r7 r5 r6\ncopy r5 r7\nend\nfetch r9 sums\nsend r9 r4\n";
+
+/// What the last section shares: a list with one number, an empty mailbox, a dictionary with one number, and a mailbox for the sums.
+const SHARES: &str =
+    "section last\nlist r0\nint r4 1000\npush r0 r4\ncopy r4 r0\nshare list r4\nmailbox r1\ncopy r4 r1\nshare box r4\ndict r2\nint r4 1000\nput r2 'k r4\ncopy r4 r2\nshare dict r4\nmailbox r3\ncopy r4 r3\nshare sums r4\n";
+
+/// Once it has added the sums it adds the numbers that the list and the dictionary are left with.
+const ADDS_LEFT: &str =
+    "pop r5 r0\nadd r6 r4 r5\ncopy r4 r6\ndel r5 r2 'k\nadd r6 r4 r5\nprint r6\nprint r0\nprint r1\nprint r2\n";
+
+/// So many sections play, and so it ends. Each number that was given is got once or left, so the sum is theirs: a section gives 4 times
+/// the numbers from 1,001 to 5,000, which is 48,008,000, and there were 2,000 at first. A section makes 9 integers in a turn and one before;
+/// the last one makes 6 objects, and an integer for each number that it adds.
+fn play<T: Abort + AllocGlobal + Threads + Wait + Sync>(
+    rt: &T,
+    sections: u32,
+    output: &str,
+) -> Result<(), Fail> {
+    let mut script = String::new(rt.alloc());
+    for section in 0..sections {
+        let begins = format!(in rt.alloc(); "section s{section}\n")?;
+        script.push_str(begins.as_str())?;
+        script.push_str(PLAYS)?;
+    }
+    script.push_str(SHARES)?;
+    let adds = format!(in rt.alloc();
+        "int r4 0\nrepeat {sections}\nrecv r5 r3\nadd r6 r4 r5\ncopy r4 r6\nend\n"
+    )?;
+    script.push_str(adds.as_str())?;
+    script.push_str(ADDS_LEFT)?;
+    let found = ran(rt, "brc run", script.as_str(), 0, "")?;
+    same(rt, "many turns", found.as_slice(), output);
+    Ok(())
+}
+
+#[test]
+fn two_sections_share_for_many_turns(rt: HostRuntime) -> Result<(), Fail> {
+    play(
+        &rt,
+        2,
+        "last: 96018000\nlast: list 0\nlast: mailbox 0\nlast: dict 0\nledger 72012 72012 0\n",
+    )
+}
+
+#[test]
+fn four_sections_share_for_many_turns(rt: HostRuntime) -> Result<(), Fail> {
+    play(
+        &rt,
+        4,
+        "last: 192034000\nlast: list 0\nlast: mailbox 0\nlast: dict 0\nledger 144016 144016 0\n",
+    )
+}
+
+#[test]
+fn eight_sections_share_for_many_turns(rt: HostRuntime) -> Result<(), Fail> {
+    play(
+        &rt,
+        8,
+        "last: 384066000\nlast: list 0\nlast: mailbox 0\nlast: dict 0\nledger 288024 288024 0\n",
+    )
 }
 
 /// Sections that wait for one another, and how that ends.
@@ -157,11 +265,39 @@ fn waits_end(rt: HostRuntime) -> Result<(), Fail> {
     Ok(())
 }
 
+/// A list of one number dies, in a heap that is full but for it: 245 other lists are a chain. Then one more is made.
+const ONE_IN_A_FULL_HEAP: &str =
+    "section a\nlist r0\nrepeat 244\nlist r1\npush r1 r0\ncopy r0 r1\nend\nlist r2\nint r3 1\npush r2 r3\ndrop r2\nlist r4\n";
+
+/// The death takes two turns: one for its entry, and one for its cell.
+#[test]
+fn a_budget_is_of_so_many_turns(rt: HostRuntime) -> Result<(), Fail> {
+    const CASES: &[(&str, u8, &str)] = &[
+        (
+            "brc run --cells 512 --budget 1",
+            4,
+            "a: fault 2 HeapFull line 12\nledger 246 246 0\n",
+        ),
+        ("brc run --cells 512 --budget 2", 0, "ledger 247 247 0\n"),
+    ];
+    for &(line, status, output) in CASES {
+        let found = ran(&rt, line, ONE_IN_A_FULL_HEAP, status, "")?;
+        same(&rt, line, found.as_slice(), output);
+    }
+    Ok(())
+}
+
 /// Long scripts, which only end so where each section polls and works between its instructions and while it waits, and where no wakeup is
-/// lost.
+/// lost; and a long death.
 #[test]
 fn long_scripts(rt: HostRuntime) -> Result<(), Fail> {
     const CASES: &[(&str, &str, &str, &str)] = &[
+        (
+            "a chain of 3,000 lists dies a turn at a time",
+            "brc run --budget 1",
+            "section a\nlist r0\nrepeat 2999\nlist r1\npush r1 r0\ncopy r0 r1\nend\ndrop r1\ndrop r0\nrepeat 6000\nint r2 1\nend\n",
+            "ledger 3000 3000 0\n",
+        ),
         (
             "what is dropped is freed between instructions",
             "brc run --cells 512",
@@ -191,6 +327,25 @@ fn long_scripts(rt: HostRuntime) -> Result<(), Fail> {
         let found = ran(&rt, line, script, 0, "")?;
         same(&rt, case, found.as_slice(), output);
     }
+    Ok(())
+}
+
+/// A list gets as many entries as it may have, 1,048,576, and takes no more.
+#[test]
+fn a_full_list_takes_no_entry(rt: HostRuntime) -> Result<(), Fail> {
+    let found = ran(
+        &rt,
+        "brc run",
+        "section a\nlist r0\nrepeat 1000000\nint r1 1\npush r0 r1\nend\nrepeat 48576\nint r1 1\npush r0 r1\nend\nprint r0\nint r1 1\npush r0 r1\n",
+        4,
+        "",
+    )?;
+    same(
+        &rt,
+        "a full list",
+        found.as_slice(),
+        "a: list 1048576\na: fault 8 Full line 13\nledger 1 1 0\n",
+    );
     Ok(())
 }
 
