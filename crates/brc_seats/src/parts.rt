@@ -15,7 +15,7 @@ use std::alloc::Allocator;
 use std::process::Abort;
 
 /// A thread that has done nothing makes a list at cell 266, and has it in place 0.
-fn makes_a_list<A: Allocator + Copy>(
+pub(crate) fn makes_a_list<A: Allocator + Copy>(
     rt: &impl Abort,
     alloc: A,
     table: &HeapTable<A>,

@@ -13,13 +13,47 @@ use crate::helpers::{
 };
 use crate::leaving::closes_all;
 use crate::parts::{
-    counts_what_is_shared, keeps_and_shares_a_list, merges_at_zero, shares_a_list,
+    counts_what_is_shared, keeps_and_shares_a_list, makes_a_list, merges_at_zero, shares_a_list,
     shares_both_references, takes_back, takes_the_first, takes_what_is_shared,
 };
 use brc_runs::{Change, Dropped, Source};
 use brc_table::{Found, HeapTable, ThreadSeat};
 use std::alloc::Global;
 use std::process::Abort;
+
+/// The owner lets its list go: at count 0 it finds the other's count, and merges. The other's reference is then the last.
+fn ends_what_was_merged(
+    rt: &impl Abort,
+    alloc: Global,
+    table: &HeapTable<Global>,
+    one: &mut ThreadSeat<Global>,
+    two: &mut ThreadSeat<Global>,
+)
+    requires table { (one.old.table ≡ table.now.table) × (two.old.table ≡ table.now.table) }
+    requires cells { table.now.cells ≡ 512 }
+    requires first { (one.old.log ≡ []) × (one.old.slots ≡ []) }
+    requires second { (two.old.log ≡ []) × (two.old.slots ≡ []) }
+{
+    shares_a_list(rt, alloc, table, one);
+    counts_what_is_shared(rt, table, two);
+    takes_back(rt, alloc, table, one);
+    merges_at_zero(rt, table, one, 4_398_046_511_108);
+    is(rt, table.load_shared(two, 266), 4_398_046_511_111);
+    let Found { number, block } = table.last_down(two, Dropped::Frame(1), 266);
+    is(rt, number, 4_398_046_511_111);
+    gone(rt, table, two, block, 266);
+    is(rt, table.load_owner(one, 266), u64::MAX);
+}
+
+#[test]
+fn objects_merge_at_zero(rt: HostRuntime) {
+    let ((table, root), (one, two)) = opened_for_two(&rt, rt.alloc());
+    let (mut one, mut two) = (one, two);
+    ends_what_was_merged(&rt, rt.alloc(), &table, &mut one, &mut two);
+    drop(one);
+    drop(two);
+    ends(&rt, table, root);
+}
 
 /// The owner merges at zero; the other thread counts the list up, shares it once more, and ends it.
 fn puts_back_a_merged_list(
@@ -316,6 +350,44 @@ fn a_thread_leaves_with_an_entry(rt: HostRuntime) {
     gone(&rt, &table, &mut one, block, 266);
     table.join(&mut root, one);
     drop(two);
+    ends(&rt, table, root);
+}
+
+/// At its limit the owner counts in the shared word, and at count 0 it merges.
+fn counts_in_the_shared_word(
+    rt: &impl Abort,
+    alloc: Global,
+    table: &HeapTable<Global>,
+    one: &mut ThreadSeat<Global>,
+)
+    requires table { one.old.table ≡ table.now.table }
+    requires cells { table.now.cells ≡ 512 }
+    requires first { (one.old.log ≡ []) × (one.old.slots ≡ []) }
+{
+    makes_a_list(rt, alloc, table, one);
+    let found = table.shared_up(one, Source::Frame(0), 1, 266);
+    is(rt, found, 4_398_046_511_104);
+    table.local_down(one, Dropped::Frame(1), 266, 1);
+    let Found { number, block } = table.see_zero(one, 266);
+    is(rt, number, 4_398_046_511_108);
+    alive(rt, block);
+    table.untie_over(one, 266);
+    let Found { number, block } = table.merge_zero(one, 266);
+    is(rt, number, 4_398_046_511_108);
+    alive(rt, block);
+    is(rt, table.load_shared(one, 266), 4_398_046_511_111);
+    let Found { number, block } = table.last_down(one, Dropped::Frame(0), 266);
+    is(rt, number, 4_398_046_511_111);
+    gone(rt, table, one, block, 266);
+}
+
+#[test]
+fn owner_counts_as_others_do_at_its_limit(rt: HostRuntime) {
+    let (table, root) = opened(&rt, rt.alloc(), 1);
+    let mut root = root;
+    let mut one = table.split(&mut root);
+    counts_in_the_shared_word(&rt, rt.alloc(), &table, &mut one);
+    drop(one);
     ends(&rt, table, root);
 }
 
