@@ -362,6 +362,7 @@ fn counts_in_the_shared_word(
 )
     requires table { one.old.table ≡ table.now.table }
     requires cells { table.now.cells ≡ 512 }
+    requires limit { table.now.local_limit ≡ 1 }
     requires first { (one.old.log ≡ []) × (one.old.slots ≡ []) }
 {
     makes_a_list(rt, alloc, table, one);

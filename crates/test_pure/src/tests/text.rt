@@ -93,28 +93,20 @@ impl Write for Slow {
     }
 }
 
-/// The words of a line, by their places.
-fn word(place: usize) -> Token {
-    match place {
-        0 => Token::Word(Keyword::Object),
-        1 => Token::Number(266),
-        2 => Token::Word(Keyword::Mailbox),
-        3 => Token::Number(1),
-        4 => Token::Word(Keyword::Dash),
-        5 => Token::Negative(3),
-        6 => Token::Word(Keyword::Merged),
-        _ => Token::Number(u64::MAX),
-    }
-}
-
 #[test]
 fn a_line_of_the_world(rt: HostRuntime) -> Result<(), Fail> {
-    let mut words = Vec::new(rt.alloc());
-    for place in 0..8 {
-        words.push(word(place))?;
-    }
+    const WORDS: &[Token] = &[
+        Token::Word(Keyword::Object),
+        Token::Number(266),
+        Token::Word(Keyword::Mailbox),
+        Token::Number(1),
+        Token::Word(Keyword::Dash),
+        Token::Negative(3),
+        Token::Word(Keyword::Merged),
+        Token::Number(u64::MAX),
+    ];
     let mut out = Slow(Vec::new(rt.alloc()));
-    let done: Result<(), Fault> = put_line(&mut out, words.as_slice());
+    let done: Result<(), Fault> = put_line(&mut out, WORDS);
     same(&rt, "written", done, Ok(()));
     let expected = b"object 266 mailbox 1 - -3 merged 18446744073709551615\n";
     same(&rt, "the line", out.0.as_slice(), expected.as_slice());
