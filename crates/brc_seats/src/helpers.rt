@@ -39,6 +39,24 @@ pub(crate) fn opened<A: Allocator + Copy>(
     }
 }
 
+/// A table with the seat of its root, and the seats of two threads.
+type ForTwo<A> = ((HeapTable<A>, RootSeat<A>), (ThreadSeat<A>, ThreadSeat<A>));
+
+/// A table whose owners count as far as they can, and two threads that have done nothing; or the end of the test.
+pub(crate) fn opened_for_two<A: Allocator + Copy>(rt: &impl Abort, alloc: A) -> ForTwo<A>
+    ensures sizes { (result.0.0.cells ≡ 512) × (result.0.0.local_limit ≡ 4294967294) }
+    ensures root { result.0.1.table ≡ result.0.0.table }
+    ensures tables { (result.1.0.table ≡ result.0.0.table) × (result.1.1.table ≡ result.0.0.table) }
+    ensures first { (result.1.0.log ≡ []) × (result.1.0.slots ≡ []) }
+    ensures second { (result.1.1.log ≡ []) × (result.1.1.slots ≡ []) }
+{
+    let (table, root) = opened(rt, alloc, 4_294_967_294);
+    let mut root = root;
+    let one = table.split(&mut root);
+    let two = table.split(&mut root);
+    ((table, root), (one, two))
+}
+
 /// The block of a new list.
 pub(crate) fn a_list<A: Allocator + Copy>(rt: &impl Abort, alloc: A, cell: u32) -> Block<A>
     ensures cell { result.0 ≡ cell }

@@ -1,4 +1,7 @@
 //! Blocks, their lists and what they hold, with ample memory and with none.
+//!
+//! A test makes the values that have destructors, and lends them to the function that makes the calls, which then cost the
+//! proof less.
 
 use crate::comparing::{holds, same};
 use brc_block::{Block, Cells, Entries, Letters, Pairs, Payload, Worklist};
@@ -27,29 +30,35 @@ fn fill<'h>(rt: &impl Abort, alloc: Global, heap: &'h LocalHeap) -> Vec<Box<u8, 
     panic!(rt; "a heap that is never full")
 }
 
-#[test]
-fn the_last_pushed_is_the_front(rt: HostRuntime) {
-    let mut list = Worklist::new();
-    push_block(&mut list, rt.alloc(), 266);
-    push_block(&mut list, rt.alloc(), 267);
-    push_block(&mut list, rt.alloc(), 268);
-    assert_eq!(rt; list.len(), 3);
-    assert!(rt; list.front() == Some(268));
+/// Three blocks are pushed and come back, the last one first; the front is changed where it lies.
+fn comes_back(rt: &impl Abort, alloc: Global, list: &mut Worklist<Global>) {
+    for cell in [266, 267, 268] {
+        push_block(list, alloc, cell);
+    }
+    same(rt, "its length", list.len(), 3);
+    same(rt, "its front", list.front(), Some(268));
     if let Some(payload) = list.front_mut() {
         *payload = Payload::Truth(true);
     }
-    let mut cells = [0; 3];
-    for i in 0..3 {
-        if let Some(block) = list.pop() {
-            cells[i] = block.cell();
-            match block.into_payload() {
-                Payload::Truth(truth) => assert!(rt; truth && i == 0),
-                Payload::Int(number) => assert!(rt; number == i64::from(cells[i]) && i > 0),
-                _ => panic!(rt; "another payload"),
+    for (cell, changed) in [(268, true), (267, false), (266, false)] {
+        let Some(block) = list.pop() else {
+            panic!(rt; "a block is missing")
+        };
+        same(rt, "its cell", block.cell(), cell);
+        match block.into_payload() {
+            Payload::Truth(truth) => holds(rt, "changed", truth && changed),
+            Payload::Int(number) => {
+                holds(rt, "as it was", number == i64::from(cell) && !changed);
             }
+            _ => panic!(rt; "another payload"),
         }
     }
-    assert!(rt; cells == [268, 267, 266]);
+}
+
+#[test]
+fn the_last_pushed_is_the_front(rt: HostRuntime) {
+    let mut list = Worklist::new();
+    comes_back(&rt, rt.alloc(), &mut list);
     let fourth = list.pop();
     match fourth {
         None => {}
@@ -76,74 +85,87 @@ fn a_block_of_another_cell_keeps_its_payload(rt: HostRuntime) {
     }
 }
 
+/// Four cells are put in, and the last is taken again.
+fn keeps_order(rt: &impl Abort, entries: &mut impl Entries) {
+    for cell in [266, 267, 268, 269] {
+        holds(rt, "put", entries.put(cell).is_ok());
+    }
+    same(rt, "its length", entries.len(), 4);
+    same(rt, "its end", entries.pop(), Some(269));
+    same(rt, "the third", entries.entry(2), Some(268));
+    same(rt, "no fourth", entries.entry(3), None);
+}
+
 #[test]
 fn a_list_keeps_its_order(rt: HostRuntime) {
     let mut cells = Cells::new(Vec::new(rt.alloc()));
-    for cell in [266, 267, 268, 269] {
-        holds(&rt, "put", cells.put(cell).is_ok());
-    }
-    same(&rt, "its length", cells.len(), 4);
-    same(&rt, "its end", cells.pop(), Some(269));
-    same(&rt, "the third", cells.entry(2), Some(268));
-    same(&rt, "no fourth", cells.entry(3), None);
+    keeps_order(&rt, &mut cells);
 }
 
 #[test]
 fn a_mailbox_keeps_its_order(rt: HostRuntime) {
     let mut letters = Letters::new(VecDeque::new(rt.alloc()));
-    for cell in [266, 267, 268, 269] {
-        holds(&rt, "put", letters.put(cell).is_ok());
-    }
-    same(&rt, "its length", letters.len(), 4);
-    same(&rt, "its end", letters.pop(), Some(269));
+    keeps_order(&rt, &mut letters);
     same(&rt, "its front", letters.take(), Some(266));
     same(&rt, "the second", letters.entry(1), Some(268));
     same(&rt, "no third", letters.entry(2), None);
 }
 
+/// A cell more, under the key that is so much below its number.
+fn put_pair<A: Allocator>(rt: &impl Abort, pairs: &mut Pairs<A>, cell: u32, below: i64) {
+    let key = Key::Int(i64::from(cell).wrapping_sub(below));
+    holds(rt, "put", pairs.put(key, cell).is_ok());
+}
+
+/// The last pair has this number as its key and as its cell, and is taken.
+fn pops_pair<A: Allocator>(rt: &impl Abort, pairs: &mut Pairs<A>, number: u32) {
+    match pairs.pop() {
+        Some((Key::Int(key), cell)) => {
+            holds(rt, "its end", key == i64::from(number) && cell == number);
+        }
+        _ => panic!(rt; "another end"),
+    }
+}
+
+fn keeps_order_of_keys(rt: &impl Abort, pairs: &mut Pairs<Global>) {
+    for cell in [266, 267, 268, 269] {
+        put_pair(rt, pairs, cell, 0);
+    }
+    same(rt, "its length", pairs.len(), 4);
+    pops_pair(rt, pairs, 269);
+    same(rt, "the third", pairs.entry(2), Some(268));
+    same(rt, "no fourth", pairs.entry(3), None);
+}
+
 #[test]
 fn a_dictionary_keeps_its_order(rt: HostRuntime) {
     let mut pairs = Pairs::new(Vec::new(rt.alloc()));
-    for cell in [266, 267, 268, 269] {
+    keeps_order_of_keys(&rt, &mut pairs);
+}
+
+fn finds_keys(rt: &impl Abort, pairs: &mut Pairs<Global>) {
+    for cell in [266, 267, 268] {
+        put_pair(rt, pairs, cell, 300);
+    }
+    same(rt, "the second", pairs.find(&Key::Int(-33)), Some(1));
+    same(rt, "not there", pairs.find(&Key::Int(-31)), None);
+    if pairs.len() == 3 {
+        pairs.set(1, 400);
+        same(rt, "set", pairs.entry(1), Some(400));
         holds(
-            &rt,
-            "put",
-            pairs.put(Key::Int(i64::from(cell)), cell).is_ok(),
+            rt,
+            "removed",
+            matches!(pairs.remove(0), (Key::Int(-34), 266)),
         );
     }
-    same(&rt, "its length", pairs.len(), 4);
-    holds(
-        &rt,
-        "its end",
-        matches!(pairs.pop(), Some((Key::Int(269), 269))),
-    );
-    same(&rt, "the third", pairs.entry(2), Some(268));
-    same(&rt, "no fourth", pairs.entry(3), None);
+    same(rt, "the first now", pairs.find(&Key::Int(-33)), Some(0));
+    same(rt, "its cell", pairs.entry(0), Some(400));
 }
 
 #[test]
 fn a_key_is_found_by_its_value(rt: HostRuntime) {
     let mut pairs = Pairs::new(Vec::new(rt.alloc()));
-    for cell in [266, 267, 268] {
-        holds(
-            &rt,
-            "put",
-            pairs.put(Key::Int(i64::from(cell) - 300), cell).is_ok(),
-        );
-    }
-    same(&rt, "the second", pairs.find(&Key::Int(-33)), Some(1));
-    same(&rt, "not there", pairs.find(&Key::Int(-31)), None);
-    if pairs.len() == 3 {
-        pairs.set(1, 400);
-        same(&rt, "set", pairs.entry(1), Some(400));
-        holds(
-            &rt,
-            "removed",
-            matches!(pairs.remove(0), (Key::Int(-34), 266)),
-        );
-    }
-    same(&rt, "the first now", pairs.find(&Key::Int(-33)), Some(0));
-    same(&rt, "its cell", pairs.entry(0), Some(400));
+    finds_keys(&rt, &mut pairs);
 }
 
 /// One more entry, in room that is made for it first; a dictionary's key is its cell's number.
@@ -158,6 +180,22 @@ fn put<A: Allocator>(payload: &mut Payload<A>, cell: u32) -> bool {
     true
 }
 
+/// Three cells are put in, and edited until none is left.
+fn is_edited(rt: &impl Abort, payload: &mut Payload<Global>) {
+    for cell in [266, 267, 268] {
+        holds(rt, "put", put(payload, cell));
+    }
+    same(rt, "the second", payload.entry(1), Some(267));
+    same(rt, "no fourth", payload.entry(3), None);
+    assert_eq!(rt; payload.len(), 3);
+    payload.set(1, 300);
+    same(rt, "the first", payload.remove(0), 266);
+    same(rt, "the end", payload.pop(), Some(268));
+    same(rt, "the one that was set", payload.pop(), Some(300));
+    same(rt, "no more", payload.pop(), None);
+    same(rt, "its length", payload.len(), 0);
+}
+
 #[test]
 fn payloads_are_edited_by_index(rt: HostRuntime) {
     let payloads = [
@@ -167,37 +205,36 @@ fn payloads_are_edited_by_index(rt: HostRuntime) {
     ];
     for payload in payloads {
         let mut payload = payload;
-        for cell in [266, 267, 268] {
-            holds(&rt, "put", put(&mut payload, cell));
-        }
-        same(&rt, "the second", payload.entry(1), Some(267));
-        same(&rt, "no fourth", payload.entry(3), None);
-        assert_eq!(rt; payload.len(), 3);
-        payload.set(1, 300);
-        same(&rt, "the first", payload.remove(0), 266);
-        same(&rt, "the end", payload.pop(), Some(268));
-        same(&rt, "the one that was set", payload.pop(), Some(300));
-        same(&rt, "no more", payload.pop(), None);
-        same(&rt, "its length", payload.len(), 0);
+        is_edited(&rt, &mut payload);
     }
+}
+
+/// A block with this payload is pushed, if there is memory for it.
+fn push_with(list: &mut Worklist<Global>, alloc: Global, payload: Payload<Global>) {
+    if let Ok(block) = Block::new(alloc, 301, payload) {
+        list.push(block);
+    }
+}
+
+/// The front, a list of two entries, loses both; the block below it holds none.
+fn loses_entries(rt: &impl Abort, alloc: Global, list: &mut Worklist<Global>) {
+    same(rt, "no front", list.pop_entry(), None);
+    push_block(list, alloc, 300);
+    let mut payload = Payload::List(Cells::new(Vec::new(alloc)));
+    holds(rt, "put", put(&mut payload, 266));
+    holds(rt, "put", put(&mut payload, 267));
+    push_with(list, alloc, payload);
+    same(rt, "its end", list.pop_entry(), Some(267));
+    same(rt, "the next", list.pop_entry(), Some(266));
+    same(rt, "no more", list.pop_entry(), None);
+    same(rt, "the front", list.front(), Some(301));
+    same(rt, "its length", list.len(), 2);
 }
 
 #[test]
 fn the_front_loses_its_last_entry(rt: HostRuntime) {
     let mut list = Worklist::new();
-    same(&rt, "no front", list.pop_entry(), None);
-    push_block(&mut list, rt.alloc(), 300);
-    let mut payload = Payload::List(Cells::new(Vec::new(rt.alloc())));
-    holds(&rt, "put", put(&mut payload, 266));
-    holds(&rt, "put", put(&mut payload, 267));
-    if let Ok(block) = Block::new(rt.alloc(), 301, payload) {
-        list.push(block);
-    }
-    same(&rt, "its end", list.pop_entry(), Some(267));
-    same(&rt, "the next", list.pop_entry(), Some(266));
-    same(&rt, "no more", list.pop_entry(), None);
-    same(&rt, "the front", list.front(), Some(301));
-    same(&rt, "its length", list.len(), 2);
+    loses_entries(&rt, rt.alloc(), &mut list);
     while let Some(block) = list.pop() {
         let _payload = block.into_payload();
     }
@@ -209,16 +246,29 @@ fn small_heap(rt: &impl Abort, alloc: Global) -> LocalHeap {
     LocalHeap::new(alloc, 1_000).expect(rt, "memory")
 }
 
+/// Two cells are put in, for which there is room.
+fn takes_two(rt: &impl Abort, entries: &mut impl Entries) {
+    for cell in [266, 267] {
+        holds(rt, "put", entries.put(cell).is_ok());
+    }
+}
+
+/// No room is made for a third, and the two stay.
+fn stays(rt: &impl Abort, entries: &mut impl Entries) {
+    holds(rt, "no room is made", entries.reserve().is_err());
+    holds(rt, "nothing is put", entries.put(268).is_err());
+    same(rt, "its length", entries.len(), 2);
+    same(rt, "its front", entries.entry(0), Some(266));
+    same(rt, "its end", entries.entry(1), Some(267));
+}
+
 #[test]
 fn a_list_without_memory_stays(rt: HostRuntime) {
     let heap = small_heap(&rt, rt.alloc());
     let mut cells = Cells::new(Vec::with_capacity(&heap, 2).expect(&rt, "memory"));
-    for cell in [266, 267] {
-        holds(&rt, "put", cells.put(cell).is_ok());
-    }
+    takes_two(&rt, &mut cells);
     let _filler = fill(&rt, rt.alloc(), &heap);
-    holds(&rt, "no room is made", cells.reserve().is_err());
-    holds(&rt, "nothing is put", cells.put(268).is_err());
+    stays(&rt, &mut cells);
     same(&rt, "as it was", cells.as_slice(), [266, 267].as_slice());
 
     // The place of an entry that was taken serves the next one.
@@ -230,17 +280,26 @@ fn a_list_without_memory_stays(rt: HostRuntime) {
 fn a_mailbox_without_memory_stays(rt: HostRuntime) {
     let heap = small_heap(&rt, rt.alloc());
     let mut letters = Letters::new(VecDeque::with_capacity(&heap, 2).expect(&rt, "memory"));
-    for cell in [266, 267] {
-        holds(&rt, "put", letters.put(cell).is_ok());
-    }
+    takes_two(&rt, &mut letters);
     let _filler = fill(&rt, rt.alloc(), &heap);
-    holds(&rt, "no room is made", letters.reserve().is_err());
-    holds(&rt, "nothing is put", letters.put(268).is_err());
-    same(&rt, "its length", letters.len(), 2);
-    same(&rt, "its end", letters.entry(1), Some(267));
+    stays(&rt, &mut letters);
 
     same(&rt, "its front", letters.take(), Some(266));
     holds(&rt, "in its place", letters.put(268).is_ok());
+}
+
+/// No room is made for a third pair, and the two stay; the place of the one that is taken serves the next.
+fn pairs_stay<A: Allocator>(rt: &impl Abort, pairs: &mut Pairs<A>) {
+    holds(rt, "no room is made", pairs.reserve().is_err());
+    holds(
+        rt,
+        "nothing is put",
+        matches!(pairs.put(Key::Int(268), 268), Err(Key::Int(268))),
+    );
+    same(rt, "its length", pairs.len(), 2);
+    same(rt, "where it was", pairs.find(&Key::Int(267)), Some(1));
+    pops_pair(rt, pairs, 267);
+    holds(rt, "in its place", pairs.put(Key::Int(268), 268).is_ok());
 }
 
 #[test]
@@ -248,28 +307,10 @@ fn a_dictionary_without_memory_stays(rt: HostRuntime) {
     let heap = small_heap(&rt, rt.alloc());
     let mut pairs = Pairs::new(Vec::with_capacity(&heap, 2).expect(&rt, "memory"));
     for cell in [266, 267] {
-        holds(
-            &rt,
-            "put",
-            pairs.put(Key::Int(i64::from(cell)), cell).is_ok(),
-        );
+        put_pair(&rt, &mut pairs, cell, 0);
     }
     let _filler = fill(&rt, rt.alloc(), &heap);
-    holds(&rt, "no room is made", pairs.reserve().is_err());
-    holds(
-        &rt,
-        "nothing is put",
-        matches!(pairs.put(Key::Int(268), 268), Err(Key::Int(268))),
-    );
-    same(&rt, "its length", pairs.len(), 2);
-    same(&rt, "where it was", pairs.find(&Key::Int(267)), Some(1));
-
-    holds(
-        &rt,
-        "its end",
-        matches!(pairs.pop(), Some((Key::Int(267), 267))),
-    );
-    holds(&rt, "in its place", pairs.put(Key::Int(268), 268).is_ok());
+    pairs_stay(&rt, &mut pairs);
 }
 
 #[test]

@@ -1,33 +1,43 @@
 //! A table that opens, counts an immortal and is taken apart, with ample memory and with none.
 
+ghost use Rattle.std.specs.Prelude.{◌≡◌, []};
+
 use crate::comparing::{is, same};
 use crate::ends::end_all;
+use crate::helpers::{ends, opened};
 use brc_block::Payload;
 use brc_runs::{Dropped, Source};
-use brc_table::HeapTable;
+use brc_table::{HeapTable, ThreadSeat};
 use brc_words::{Fault, Kind};
 use linked_list_allocator::LocalHeap;
+use std::alloc::Global;
+use std::process::Abort;
+
+/// A thread that has done nothing counts an immortal up and down, and looks at words that nobody has touched.
+fn counts_an_immortal(rt: &impl Abort, table: &HeapTable<Global>, seat: &mut ThreadSeat<Global>)
+    requires table { seat.old.table ≡ table.now.table }
+    requires cells { table.now.cells ≡ 512 }
+    requires new { (seat.old.log ≡ []) × (seat.old.slots ≡ []) }
+{
+    let found = table.immortal_up(seat, Source::Immortal(2), 0, 2);
+    is(rt, found, 4_294_967_295);
+    let found = table.immortal_down(seat, Dropped::Frame(0), 2);
+    is(rt, found, 4_294_967_295);
+    is(rt, table.load_shared(seat, 2), 4_398_046_511_104);
+    is(rt, table.load_owner(seat, 300), u64::MAX);
+    is(rt, table.load_mutex(seat, 300), 0);
+    is(rt, table.load_notify(seat), 0);
+}
 
 #[test]
 fn an_immortal_is_counted_up_and_down(rt: HostRuntime) {
-    match HeapTable::new(rt.alloc(), 512, 10) {
-        Err(_) => panic!(rt; "memory"),
-        Ok((table, root)) => {
-            let mut root = root;
-            let mut seat = table.split(&mut root);
-            let found = table.immortal_up(&mut seat, Source::Immortal(2), 0, 2);
-            is(&rt, found, 4_294_967_295);
-            let found = table.immortal_down(&mut seat, Dropped::Frame(0), 2);
-            is(&rt, found, 4_294_967_295);
-            is(&rt, table.load_shared(&mut seat, 2), 4_398_046_511_104);
-            is(&rt, table.load_owner(&mut seat, 300), u64::MAX);
-            is(&rt, table.load_mutex(&mut seat, 300), 0);
-            is(&rt, table.load_notify(&mut seat), 0);
-            is(&rt, u64::from(root.next()), 2);
-            drop(seat);
-            assert_eq!(rt; end_all(&rt, table.take_apart(root)), 266);
-        }
-    }
+    let (table, root) = opened(&rt, rt.alloc(), 10);
+    let mut root = root;
+    let mut seat = table.split(&mut root);
+    counts_an_immortal(&rt, &table, &mut seat);
+    is(&rt, u64::from(root.next()), 2);
+    drop(seat);
+    ends(&rt, table, root);
 }
 
 #[test]

@@ -1,5 +1,6 @@
 //! How the tests compare. A call of a function here costs a caller's proof less than what an assertion writes out there.
 
+use std::alloc::AllocGlobal;
 use std::fmt::Debug;
 use std::process::Abort;
 
@@ -16,6 +17,13 @@ pub(crate) fn same_at<T: PartialEq + Debug + Drop>(
     wanted: T,
 ) {
     assert_eq!(rt; found, wanted, "at {size}");
+}
+
+/// The value is shown as this text, or the test ends and names the case.
+// What is wanted stands in a table as a text, since a constant table of an enum's values costs the proof minutes.
+pub(crate) fn shows<R: Abort + AllocGlobal, T: Debug>(rt: &R, case: &str, found: &T, wanted: &str) {
+    let shown = format!(in rt.alloc(); "{found:?}").expect(rt, "memory");
+    same(rt, case, shown.as_str(), wanted);
 }
 
 /// It is so, or the test ends and names the case.

@@ -22,46 +22,86 @@ const HAND: Holder = Holder::Hand {
     cell: 266,
 };
 
-/// What is asked of the map.
-#[derive(Clone, Copy)]
-enum Asked {
-    Born(u32, Holder),
-    Remove(u32, Holder),
-    Dies(u32),
-    /// What becomes of an entry of the list in cell 266, and of place 0 of the first thread.
-    Change(Exchange),
-    /// Both are handed over, at once.
-    Pass(Handover, Handover),
-}
-
-fn move_of(rt: &impl Abort, alloc: Global, asked: Asked) -> Move<Global> {
-    match asked {
-        Asked::Born(object, holder) => Move::Born {
-            object,
-            kind: Kind::List,
-            holder,
-        },
-        Asked::Remove(object, holder) => Move::Remove { object, holder },
-        Asked::Dies(object) => Move::Dies { object },
-        Asked::Change(change) => Move::Change {
-            cell: 266,
-            place: Spot {
-                thread: 1,
-                place: 0,
-            },
-            change,
-        },
-        Asked::Pass(first, second) => {
-            let both = Vec::from_slice(alloc, &[first, second]).expect(rt, "memory");
-            Move::Pass {
-                list: Handovers::new(both),
-            }
-        }
+/// A handover of object 266.
+fn handover(from: Holder, to: Holder) -> Handover {
+    Handover {
+        object: 266,
+        from,
+        to,
     }
 }
 
-/// A row of a life: its name, what is asked, and whether the map allows it.
-type Row = (&'static str, Asked, bool);
+/// Both are handed over, at once.
+fn pass(rt: &impl Abort, alloc: Global, first: Handover, second: Handover) -> Move<Global> {
+    let both = Vec::from_slice(alloc, &[first, second]).expect(rt, "memory");
+    Move::Pass {
+        list: Handovers::new(both),
+    }
+}
+
+/// An entry of the list in cell 266 and place 0 of the first thread change together.
+fn change(change: Exchange) -> Move<Global> {
+    Move::Change {
+        cell: 266,
+        place: Spot {
+            thread: 1,
+            place: 0,
+        },
+        change,
+    }
+}
+
+/// What is asked of the map, by its name in the rows, of this object.
+fn move_of(rt: &impl Abort, alloc: Global, asked: &str, object: u32) -> Move<Global> {
+    let hand = Holder::Hand {
+        thread: 1,
+        cell: object,
+    };
+    let kind = Kind::List;
+    match asked {
+        "born" => Move::Born {
+            object,
+            kind,
+            holder: FRAME,
+        },
+        "born in the next place" => Move::Born {
+            object,
+            kind,
+            holder: NEXT,
+        },
+        "let go" => Move::Remove {
+            object,
+            holder: FRAME,
+        },
+        "let go by the hand" => Move::Remove {
+            object,
+            holder: hand,
+        },
+        "dies" => Move::Dies { object },
+        // The second asks for what the first has given away.
+        "handed over twice" => { pass(rt, alloc, handover(FRAME, HAND), handover(FRAME, HAND)) }
+        "handed over and on" => { pass(rt, alloc, handover(FRAME, HAND), handover(HAND, NEXT)) }
+        "put from the next place" => change(Exchange::Put {
+            from: 1,
+            cell: object,
+        }),
+        "swapped out for None" => change(Exchange::Swap {
+            index: 0,
+            at: 2,
+            cell: 0,
+            old: object,
+        }),
+        "taken" => change(Exchange::Take {
+            index: 0,
+            to: 3,
+            cell: object,
+        }),
+        _ => panic!(rt; "{asked}"),
+    }
+}
+
+/// A row of a life: its name, what is asked and of which object, and whether the map allows it.
+type Row = (&'static str, &'static str, u32, bool);
 
 /// Each row is asked of the map in turn, and made or refused as it says.
 fn follows<A: Allocator + Copy>(
@@ -70,8 +110,8 @@ fn follows<A: Allocator + Copy>(
     world: &mut HolderWorld<A>,
     rows: &[Row],
 ) {
-    for &(case, asked, allowed) in rows {
-        let found = world.apply(&move_of(rt, alloc, asked));
+    for &(case, asked, object, allowed) in rows {
+        let found = world.apply(&move_of(rt, alloc, asked, object));
         let wanted = if allowed {
             Ok(())
         } else {
@@ -84,17 +124,22 @@ fn follows<A: Allocator + Copy>(
 #[test]
 fn an_object_lives_as_long_as_its_holder(rt: HostRuntime) {
     const ROWS: &[Row] = &[
-        ("an immortal is not born", Asked::Born(265, FRAME), false),
-        ("nothing lives in the cell", Asked::Dies(266), false),
-        ("an object is born", Asked::Born(266, FRAME), true),
-        ("it lives already", Asked::Born(266, NEXT), false),
-        ("its place is taken", Asked::Born(267, FRAME), false),
-        ("it is held", Asked::Dies(266), false),
-        ("the hand does not hold it", Asked::Remove(266, HAND), false),
-        ("its place lets go", Asked::Remove(266, FRAME), true),
-        ("nothing holds it", Asked::Remove(266, FRAME), false),
-        ("it dies", Asked::Dies(266), true),
-        ("it is dead", Asked::Dies(266), false),
+        ("an immortal is not born", "born", 265, false),
+        ("nothing lives in the cell", "dies", 266, false),
+        ("an object is born", "born", 266, true),
+        ("it lives already", "born in the next place", 266, false),
+        ("its place is taken", "born", 267, false),
+        ("it is held", "dies", 266, false),
+        (
+            "the hand does not hold it",
+            "let go by the hand",
+            266,
+            false,
+        ),
+        ("its place lets go", "let go", 266, true),
+        ("nothing holds it", "let go", 266, false),
+        ("it dies", "dies", 266, true),
+        ("it is dead", "dies", 266, false),
     ];
     let mut world = HolderWorld::new(rt.alloc());
     follows(&rt, rt.alloc(), &mut world, ROWS);
@@ -115,22 +160,11 @@ fn has_alone<A: Allocator + Copy>(
 
 #[test]
 fn references_are_handed_over_together(rt: HostRuntime) {
-    const FIRST: Handover = Handover {
-        object: 266,
-        from: FRAME,
-        to: HAND,
-    };
-    const BACK: Handover = Handover {
-        object: 266,
-        from: HAND,
-        to: NEXT,
-    };
-    // The second asks for what the first has given away.
     const ROWS: &[Row] = &[
-        ("born", Asked::Born(266, FRAME), true),
-        ("twice", Asked::Pass(FIRST, FIRST), false),
+        ("born", "born", 266, true),
+        ("twice", "handed over twice", 266, false),
     ];
-    const BOTH: &[Row] = &[("there and on", Asked::Pass(FIRST, BACK), true)];
+    const BOTH: &[Row] = &[("there and on", "handed over and on", 266, true)];
     let mut world = HolderWorld::new(rt.alloc());
     follows(&rt, rt.alloc(), &mut world, ROWS);
     has_alone(&rt, &world, 266, &FRAME, &HAND);
@@ -148,28 +182,21 @@ fn entries_and_places_change_together(rt: HostRuntime) {
         thread: 1,
         place: 2,
     };
-    const PUT: Exchange = Exchange::Put { from: 1, cell: 267 };
-    const SWAP: Exchange = Exchange::Swap {
-        index: 0,
-        at: 2,
-        cell: 0,
-        old: 267,
-    };
-    const TAKE: Exchange = Exchange::Take {
-        index: 0,
-        to: 3,
-        cell: 0,
-    };
     const IN: &[Row] = &[
-        ("a list", Asked::Born(266, FRAME), true),
-        ("an object", Asked::Born(267, NEXT), true),
-        ("it goes in", Asked::Change(PUT), true),
+        ("a list", "born", 266, true),
+        ("an object", "born in the next place", 267, true),
+        ("it goes in", "put from the next place", 267, true),
     ];
-    const AND_OUT: &[Row] = &[("None goes in and it comes out", Asked::Change(SWAP), true)];
+    const AND_OUT: &[Row] = &[(
+        "None goes in and it comes out",
+        "swapped out for None",
+        267,
+        true,
+    )];
     // None comes out, and no place holds an immortal.
     const NONE: &[Row] = &[
-        ("None comes out", Asked::Change(TAKE), true),
-        ("twice", Asked::Change(TAKE), false),
+        ("None comes out", "taken", 0, true),
+        ("twice", "taken", 0, false),
     ];
     let mut world = HolderWorld::new(rt.alloc());
     follows(&rt, rt.alloc(), &mut world, IN);
@@ -210,13 +237,9 @@ fn what_is_refused_for_memory_changes_nothing(rt: HostRuntime) {
     holds(&rt, "the refused one doesn't", !world.is_live(last + 1));
 
     // What lets go asks for nothing.
-    let holder = Holder::Hand {
-        thread: 1,
-        cell: last,
-    };
     let rows = [
-        ("let go", Asked::Remove(last, holder), true),
-        ("dead", Asked::Dies(last), true),
+        ("let go", "let go by the hand", last, true),
+        ("dead", "dies", last, true),
     ];
     follows(&rt, rt.alloc(), &mut world, rows.as_slice());
     holds(&rt, "the first lives", world.is_live(266));

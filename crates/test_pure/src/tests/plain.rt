@@ -7,6 +7,8 @@ use linked_list_allocator::LocalHeap;
 use std::alloc::{Allocator, Global};
 use std::process::Abort;
 
+// Each test makes what has a destructor, and lends it to a function that makes the calls: so they cost the proof less.
+
 /// All the memory that the heap has left, in one piece.
 fn fill<'h>(rt: &impl Abort, heap: &'h LocalHeap) -> Vec<u8, &'h LocalHeap> {
     let filler = Vec::with_capacity(heap, heap.free()).expect(rt, "memory");
@@ -27,9 +29,7 @@ fn reads<A: Allocator>(dict: &PlainDict<u32, A>, pairs: &[(i64, u32)]) -> bool {
     true
 }
 
-#[test]
-fn a_list_is_used_at_its_end(rt: HostRuntime) {
-    let mut list = PlainList::new(rt.alloc());
+fn use_at_the_end(rt: &impl Abort, list: &mut PlainList<u32, Global>) {
     let cases = [
         ("empty", list.is_empty()),
         ("no end", matches!(list.pop(), Err(Fault::NoSuchPlace))),
@@ -49,8 +49,14 @@ fn a_list_is_used_at_its_end(rt: HostRuntime) {
         ("the end", matches!(list.pop(), Ok(7))),
         ("its length", list.len() == 2),
     ];
-    all_hold(&rt, cases.as_slice());
-    same(&rt, "the rest", list.as_slice(), [5, 60].as_slice());
+    all_hold(rt, cases.as_slice());
+    same(rt, "the rest", list.as_slice(), [5, 60].as_slice());
+}
+
+#[test]
+fn a_list_is_used_at_its_end(rt: HostRuntime) {
+    let mut list = PlainList::new(rt.alloc());
+    use_at_the_end(&rt, &mut list);
 }
 
 /// The value is put under the key, where this value was.
@@ -67,13 +73,11 @@ fn puts<A: Allocator>(
     }
 }
 
-#[test]
-fn a_dictionary_keeps_the_order_of_its_keys(rt: HostRuntime) {
-    let mut dict = PlainDict::new(rt.alloc());
-    holds(&rt, "empty", dict.is_empty());
-    puts(&rt, &mut dict, 1, 10, None);
-    puts(&rt, &mut dict, 2, 20, None);
-    puts(&rt, &mut dict, 3, 30, None);
+fn keep_the_order(rt: &impl Abort, dict: &mut PlainDict<u32, Global>) {
+    holds(rt, "empty", dict.is_empty());
+    puts(rt, dict, 1, 10, None);
+    puts(rt, dict, 2, 20, None);
+    puts(rt, dict, 3, 30, None);
     let cases = [
         ("deleted", matches!(dict.delete(&Key::Int(2)), Ok(20))),
         (
@@ -81,10 +85,10 @@ fn a_dictionary_keeps_the_order_of_its_keys(rt: HostRuntime) {
             matches!(dict.delete(&Key::Int(2)), Err(Fault::NoSuchKey)),
         ),
     ];
-    all_hold(&rt, cases.as_slice());
-    puts(&rt, &mut dict, 2, 21, None);
-    puts(&rt, &mut dict, 1, 11, Some(10));
-    holds(&rt, "in order", reads(&dict, &[(1, 11), (3, 30), (2, 21)]));
+    all_hold(rt, cases.as_slice());
+    puts(rt, dict, 2, 21, None);
+    puts(rt, dict, 1, 11, Some(10));
+    holds(rt, "in order", reads(dict, &[(1, 11), (3, 30), (2, 21)]));
     let cases = [
         ("found", matches!(dict.find(&Key::Int(3)), Ok(30))),
         (
@@ -92,12 +96,16 @@ fn a_dictionary_keeps_the_order_of_its_keys(rt: HostRuntime) {
             matches!(dict.find(&Key::Int(4)), Err(Fault::NoSuchKey)),
         ),
     ];
-    all_hold(&rt, cases.as_slice());
+    all_hold(rt, cases.as_slice());
 }
 
 #[test]
-fn a_queue_gives_the_first_put_in(rt: HostRuntime) {
-    let mut queue = PlainQueue::new(rt.alloc());
+fn a_dictionary_keeps_the_order_of_its_keys(rt: HostRuntime) {
+    let mut dict = PlainDict::new(rt.alloc());
+    keep_the_order(&rt, &mut dict);
+}
+
+fn use_at_both_ends(rt: &impl Abort, queue: &mut PlainQueue<u32, Global>) {
     let cases = [
         ("empty", queue.is_empty()),
         (
@@ -111,14 +119,18 @@ fn a_queue_gives_the_first_put_in(rt: HostRuntime) {
         ("the second", matches!(queue.receive(), Ok(6))),
         ("its length", queue.len() == 1),
     ];
-    all_hold(&rt, cases.as_slice());
+    all_hold(rt, cases.as_slice());
 }
 
 #[test]
-fn a_full_list_takes_no_more(rt: HostRuntime) {
-    let mut list = PlainList::new(rt.alloc());
+fn a_queue_gives_the_first_put_in(rt: HostRuntime) {
+    let mut queue = PlainQueue::new(rt.alloc());
+    use_at_both_ends(&rt, &mut queue);
+}
+
+fn fill_the_list(rt: &impl Abort, list: &mut PlainList<u32, Global>) {
     for value in 0..MOST_ENTRIES {
-        holds(&rt, "pushed", list.push(value).is_ok());
+        holds(rt, "pushed", list.push(value).is_ok());
     }
     let cases = [
         ("one more", matches!(list.push(7), Err((Fault::Full, 7)))),
@@ -126,21 +138,31 @@ fn a_full_list_takes_no_more(rt: HostRuntime) {
         ("the end", list.pop() == Ok(MOST_ENTRIES - 1)),
         ("in its place", list.push(8).is_ok()),
     ];
-    all_hold(&rt, cases.as_slice());
+    all_hold(rt, cases.as_slice());
 }
 
 #[test]
-fn a_full_queue_takes_no_more(rt: HostRuntime) {
-    let mut queue = PlainQueue::new(rt.alloc());
+fn a_full_list_takes_no_more(rt: HostRuntime) {
+    let mut list = PlainList::new(rt.alloc());
+    fill_the_list(&rt, &mut list);
+}
+
+fn fill_the_queue(rt: &impl Abort, queue: &mut PlainQueue<u32, Global>) {
     for value in 0..MOST_ENTRIES {
-        holds(&rt, "sent", queue.send(value).is_ok());
+        holds(rt, "sent", queue.send(value).is_ok());
     }
     let cases = [
         ("one more", matches!(queue.send(7), Err((Fault::Full, 7)))),
         ("the first", matches!(queue.receive(), Ok(0))),
         ("in its place", queue.send(8).is_ok()),
     ];
-    all_hold(&rt, cases.as_slice());
+    all_hold(rt, cases.as_slice());
+}
+
+#[test]
+fn a_full_queue_takes_no_more(rt: HostRuntime) {
+    let mut queue = PlainQueue::new(rt.alloc());
+    fill_the_queue(&rt, &mut queue);
 }
 
 /// All the memory of a heap, for a test that starts with it.

@@ -1,6 +1,6 @@
 //! Reports of small heaps, as values and as texts, and of large ones.
 
-use crate::tests::comparing::{holds, same};
+use crate::tests::comparing::{holds, same, same_at};
 use brc_report::{
     Cells, Content, Ledger, Remain, Report, check_report, find_cycles, find_remains, write_report,
 };
@@ -10,26 +10,18 @@ use std::alloc::Global;
 use std::io::{self, Error, ErrorKind, Write};
 use std::process::Abort;
 
-/// The contents with one cell more.
-fn add(
-    rt: &impl Abort,
-    alloc: Global,
-    contents: &mut Vec<Content<Global>>,
-    cell: u32,
-    kind: Kind,
-    entries: &[u32],
-) {
-    let list = Vec::from_slice(alloc, entries).expect(rt, "memory");
-    let content = Content {
-        cell,
-        kind,
-        entries: Cells::new(list),
-    };
-    contents.push(content).expect(rt, "memory");
+/// The kind of this name. The rows of these tests name one of the four.
+fn kind_of(name: &str) -> Kind {
+    match name {
+        "dict" => Kind::Dict,
+        "text" => Kind::Text,
+        "mailbox" => Kind::Mailbox,
+        _ => Kind::List,
+    }
 }
 
 /// What a cell holds: its number, its kind, and its entries.
-type Row = (u32, Kind, &'static [u32]);
+type Row = (u32, &'static str, &'static [u32]);
 
 /// The contents of these cells.
 fn contents_of(rt: &impl Abort, alloc: Global, rows: &[Row]) -> Vec<Content<Global>> {
@@ -38,6 +30,48 @@ fn contents_of(rt: &impl Abort, alloc: Global, rows: &[Row]) -> Vec<Content<Glob
         add(rt, alloc, &mut contents, cell, kind, entries);
     }
     contents
+}
+
+/// The contents with one cell more.
+fn add(
+    rt: &impl Abort,
+    alloc: Global,
+    contents: &mut Vec<Content<Global>>,
+    cell: u32,
+    kind: &str,
+    entries: &[u32],
+) {
+    let list = Vec::from_slice(alloc, entries).expect(rt, "memory");
+    let content = Content {
+        cell,
+        kind: kind_of(kind),
+        entries: Cells::new(list),
+    };
+    contents.push(content).expect(rt, "memory");
+}
+
+/// A remain: its cell, its kind, and what holds it.
+type Left = (u32, &'static str, u32);
+
+/// One remain more.
+fn leave(rt: &impl Abort, remains: &mut Vec<Remain>, cell: u32, kind: &str, held_by: u32) {
+    let kind = kind_of(kind);
+    remains
+        .push(Remain {
+            cell,
+            kind,
+            held_by,
+        })
+        .expect(rt, "memory");
+}
+
+/// These remains.
+fn remains_of(rt: &impl Abort, alloc: Global, rows: &[Left]) -> Vec<Remain> {
+    let mut remains = Vec::new(alloc);
+    for &(cell, kind, held_by) in rows {
+        leave(rt, &mut remains, cell, kind, held_by);
+    }
+    remains
 }
 
 /// The text of the report on these contents, of a heap that made so many objects and freed none.
@@ -71,10 +105,10 @@ fn report_of(
 
 /// The globals without entries, two lists that hold each other, and a text that the first holds.
 const TWO_LISTS: &[Row] = &[
-    (265, Kind::Dict, &[]),
-    (266, Kind::List, &[268, 267]),
-    (267, Kind::List, &[266]),
-    (268, Kind::Text, &[]),
+    (265, "dict", &[]),
+    (266, "list", &[268, 267]),
+    (267, "list", &[266]),
+    (268, "text", &[]),
 ];
 
 #[test]
@@ -82,13 +116,13 @@ fn reports_are_written(rt: HostRuntime) {
     const CASES: &[(&str, &[Row], u64, &str)] = &[
         (
             "a list that holds itself is a cycle",
-            &[(265, Kind::Dict, &[]), (266, Kind::List, &[266])],
+            &[(265, "dict", &[]), (266, "list", &[266])],
             1,
             "ledger 1 0 1\nremain 266 list 266\ncycle 266\n",
         ),
         (
             "what the globals hold is no cycle",
-            &[(265, Kind::Dict, &[266]), (266, Kind::Text, &[])],
+            &[(265, "dict", &[266]), (266, "text", &[])],
             1,
             "ledger 1 0 1\nremain 266 text 265\n",
         ),
@@ -107,52 +141,26 @@ fn reports_are_written(rt: HostRuntime) {
 }
 
 /// Two lists that hold each other.
-const EACH_OTHER: &[Remain] = &[
-    Remain {
-        cell: 266,
-        kind: Kind::List,
-        held_by: 267,
-    },
-    Remain {
-        cell: 267,
-        kind: Kind::List,
-        held_by: 266,
-    },
-];
+const EACH_OTHER: &[Left] = &[(266, "list", 267), (267, "list", 266)];
 
 /// What the check of a report says of these.
 fn is_report(
     rt: &impl Abort,
     alloc: Global,
-    remains: &[Remain],
+    remains: &[Left],
     cycle: &[u32],
     contents: &[Content<Global>],
 ) -> bool {
     let cells = Vec::from_slice(alloc, cycle).expect(rt, "memory");
     let cycles = [Cells::new(cells)];
-    check_report(alloc, remains, &cycles, contents).expect(rt, "memory")
+    let remains = remains_of(rt, alloc, remains);
+    check_report(alloc, remains.as_slice(), &cycles, contents).expect(rt, "memory")
 }
 
 #[test]
 fn a_report_is_checked(rt: HostRuntime) {
-    const REMAINS: &[Remain] = &[
-        Remain {
-            cell: 266,
-            kind: Kind::List,
-            held_by: 267,
-        },
-        Remain {
-            cell: 267,
-            kind: Kind::List,
-            held_by: 266,
-        },
-        Remain {
-            cell: 268,
-            kind: Kind::Text,
-            held_by: 266,
-        },
-    ];
-    const CASES: &[(&str, &[Remain], &[u32], bool)] = &[
+    const REMAINS: &[Left] = &[(266, "list", 267), (267, "list", 266), (268, "text", 266)];
+    const CASES: &[(&str, &[Left], &[u32], bool)] = &[
         ("right", REMAINS, &[266, 267], true),
         ("a remain too few", EACH_OTHER, &[266, 267], false),
         ("the cycle's second cell first", REMAINS, &[267, 266], false),
@@ -162,46 +170,24 @@ fn a_report_is_checked(rt: HostRuntime) {
         let is = is_report(&rt, rt.alloc(), remains, cycle, contents.as_slice());
         holds(&rt, case, is == wanted);
     }
-    let is = check_report(rt.alloc(), REMAINS, &[], contents.as_slice());
+    let remains = remains_of(&rt, rt.alloc(), REMAINS);
+    let is = check_report(rt.alloc(), remains.as_slice(), &[], contents.as_slice());
     same(&rt, "no cycle", is, Ok(false));
 }
 
 #[test]
 fn cycles_stand_by_their_first_cells(rt: HostRuntime) {
     // 266 leads into the cycle of 268 and 270, which is met at 270; 267 and 269 are a cycle of their own.
-    const REMAINS: &[Remain] = &[
-        Remain {
-            cell: 266,
-            kind: Kind::List,
-            held_by: 270,
-        },
-        Remain {
-            cell: 267,
-            kind: Kind::List,
-            held_by: 269,
-        },
-        Remain {
-            cell: 268,
-            kind: Kind::List,
-            held_by: 270,
-        },
-        Remain {
-            cell: 269,
-            kind: Kind::List,
-            held_by: 267,
-        },
-        Remain {
-            cell: 270,
-            kind: Kind::List,
-            held_by: 268,
-        },
-        Remain {
-            cell: 271,
-            kind: Kind::List,
-            held_by: 265,
-        },
+    const REMAINS: &[Left] = &[
+        (266, "list", 270),
+        (267, "list", 269),
+        (268, "list", 270),
+        (269, "list", 267),
+        (270, "list", 268),
+        (271, "list", 265),
     ];
-    let cycles = find_cycles(rt.alloc(), REMAINS).expect(&rt, "memory");
+    let remains = remains_of(&rt, rt.alloc(), REMAINS);
+    let cycles = find_cycles(rt.alloc(), remains.as_slice()).expect(&rt, "memory");
     assert_eq!(rt; cycles.len(), 2);
     same(
         &rt,
@@ -222,18 +208,18 @@ fn cycles_stand_by_their_first_cells(rt: HostRuntime) {
 fn contents_that_do_not_rise_are_no_report(rt: HostRuntime) {
     const CASES: &[(&str, &[Row], bool)] = &[
         ("no globals", &[], false),
-        ("globals", &[(265, Kind::Dict, &[])], true),
+        ("globals", &[(265, "dict", &[])], true),
         (
             "a remain too few",
-            &[(265, Kind::Dict, &[]), (266, Kind::Text, &[])],
+            &[(265, "dict", &[]), (266, "text", &[])],
             false,
         ),
         (
             "a cell twice",
             &[
-                (265, Kind::Dict, &[]),
-                (266, Kind::Text, &[]),
-                (266, Kind::List, &[266]),
+                (265, "dict", &[]),
+                (266, "text", &[]),
+                (266, "list", &[266]),
             ],
             false,
         ),
@@ -245,48 +231,35 @@ fn contents_that_do_not_rise_are_no_report(rt: HostRuntime) {
     }
 }
 
+/// So many cycles are found, and the first has so many cells.
+fn has_cycles(rt: &impl Abort, alloc: Global, remains: &[Remain], count: usize, cells: usize) {
+    let cycles = find_cycles(alloc, remains).expect(rt, "memory");
+    same(rt, "cycles", cycles.len(), count);
+    if let Some(first) = cycles.as_slice().first() {
+        same(rt, "the first", first.as_slice().len(), cells);
+    }
+}
+
 #[test]
 fn a_long_chain_is_walked_once(rt: HostRuntime) {
     let mut remains = Vec::new(rt.alloc());
     for cell in 266..60_266u32 {
-        let remain = Remain {
-            cell,
-            kind: Kind::List,
-            held_by: cell + 1,
-        };
-        remains.push(remain).expect(&rt, "memory");
+        leave(&rt, &mut remains, cell, "list", cell + 1);
     }
-    let cycles = find_cycles(rt.alloc(), remains.as_slice()).expect(&rt, "memory");
-    assert_eq!(rt; cycles.len(), 0);
-    let last = Remain {
-        cell: 60_266,
-        kind: Kind::List,
-        held_by: 266,
-    };
-    remains.push(last).expect(&rt, "memory");
-    let cycles = find_cycles(rt.alloc(), remains.as_slice()).expect(&rt, "memory");
-    assert!(rt; cycles.len() == 1 && cycles[0].as_slice().len() == 60_001);
+    has_cycles(&rt, rt.alloc(), remains.as_slice(), 0, 0);
+    leave(&rt, &mut remains, 60_266, "list", 266);
+    has_cycles(&rt, rt.alloc(), remains.as_slice(), 1, 60_001);
 }
 
 #[test]
 fn a_thousand_cycles_are_found(rt: HostRuntime) {
     let mut remains = Vec::new(rt.alloc());
     for pair in 0..1_000u32 {
-        let low = Remain {
-            cell: 266 + 2 * pair,
-            kind: Kind::List,
-            held_by: 267 + 2 * pair,
-        };
-        let high = Remain {
-            cell: 267 + 2 * pair,
-            kind: Kind::List,
-            held_by: 266 + 2 * pair,
-        };
-        remains.push(low).expect(&rt, "memory");
-        remains.push(high).expect(&rt, "memory");
+        let (low, high) = (266 + 2 * pair, 267 + 2 * pair);
+        leave(&rt, &mut remains, low, "list", high);
+        leave(&rt, &mut remains, high, "list", low);
     }
-    let cycles = find_cycles(rt.alloc(), remains.as_slice()).expect(&rt, "memory");
-    assert_eq!(rt; cycles.len(), 1_000);
+    has_cycles(&rt, rt.alloc(), remains.as_slice(), 1_000, 2);
 }
 
 #[test]
@@ -296,16 +269,9 @@ fn a_million_entries_have_their_holders(rt: HostRuntime) {
     for entry in 0..1_000_000u32 {
         many.push(266 + entry % 100).expect(&rt, "memory");
     }
-    add(
-        &rt,
-        rt.alloc(),
-        &mut contents,
-        265,
-        Kind::Dict,
-        many.as_slice(),
-    );
+    add(&rt, rt.alloc(), &mut contents, 265, "dict", many.as_slice());
     for cell in 266..366 {
-        add(&rt, rt.alloc(), &mut contents, cell, Kind::List, &[266]);
+        add(&rt, rt.alloc(), &mut contents, cell, "list", &[266]);
     }
     let remains = find_remains(rt.alloc(), contents.as_slice())
         .expect(&rt, "memory")
@@ -316,10 +282,12 @@ fn a_million_entries_have_their_holders(rt: HostRuntime) {
 
 #[test]
 fn a_refused_growth_is_told(rt: HostRuntime) {
-    let heap = LocalHeap::new(rt.alloc(), 16).expect(&rt, "memory");
-    assert!(rt; matches!(find_cycles(&heap, EACH_OTHER), Err(Fault::OutOfMemory)));
-    let ample = LocalHeap::new(rt.alloc(), 100_000).expect(&rt, "memory");
-    assert!(rt; find_cycles(&ample, EACH_OTHER).is_ok());
+    let remains = remains_of(&rt, rt.alloc(), EACH_OTHER);
+    for (size, refused) in [(16, Some(Fault::OutOfMemory)), (100_000, None)] {
+        let heap = LocalHeap::new(rt.alloc(), size).expect(&rt, "memory");
+        let found = find_cycles(&heap, remains.as_slice()).err();
+        same_at(&rt, size, found, refused);
+    }
 }
 
 /// Two texts that remain, and a cycle of 60 cells: its line has 246 bytes.
@@ -328,18 +296,7 @@ const LONG: &str =
 
 /// The report whose text that is.
 fn long_report(rt: &impl Abort, alloc: Global) -> Report<Global> {
-    let remains = [
-        Remain {
-            cell: 266,
-            kind: Kind::Text,
-            held_by: 265,
-        },
-        Remain {
-            cell: 267,
-            kind: Kind::Mailbox,
-            held_by: 265,
-        },
-    ];
+    let remains = remains_of(rt, alloc, &[(266, "text", 265), (267, "mailbox", 265)]);
     let mut cells = Vec::new(alloc);
     for cell in 300..360u32 {
         cells.push(cell).expect(rt, "memory");
@@ -350,7 +307,6 @@ fn long_report(rt: &impl Abort, alloc: Global) -> Report<Global> {
         allocs: 9,
         frees: 2,
     };
-    let remains = Vec::from_slice(alloc, remains.as_slice()).expect(rt, "memory");
     Report::new(ledger, 7, remains, cycles, Vec::new(alloc)).expect(
         rt,
         "a report that no text spells",
@@ -382,29 +338,37 @@ impl Write for Counting {
     }
 }
 
+/// The report goes to a stream with this room, which has the front of its text then. This is answered; how often it wrote.
+fn writes_to(
+    rt: &impl Abort,
+    alloc: Global,
+    report: &Report<Global>,
+    room: usize,
+    answer: Result<(), Fault>,
+) -> u32 {
+    let mut out = Counting {
+        taken: Vec::new(alloc),
+        writes: 0,
+        room,
+    };
+    same_at(rt, room, write_report(report, &mut out), answer);
+    let front = LONG.as_bytes().get(..room).unwrap_or(LONG.as_bytes());
+    same_at(rt, room, out.taken.as_slice(), front);
+    out.writes
+}
+
 #[test]
 fn a_line_is_written_once(rt: HostRuntime) {
-    let mut out = Counting {
-        taken: Vec::new(rt.alloc()),
-        writes: 0,
-        room: 1_000,
-    };
-    assert!(rt; write_report(&long_report(&rt, rt.alloc()), &mut out).is_ok());
-    assert!(rt; out.taken.as_slice() == LONG.as_bytes());
+    let report = long_report(&rt, rt.alloc());
+    let writes = writes_to(&rt, rt.alloc(), &report, 1_000, Ok(()));
     // The ledger, each remain, 38 cells of the cycle, and its other 22.
-    assert_eq!(rt; out.writes, 5);
+    assert_eq!(rt; writes, 5);
 }
 
 #[test]
 fn a_report_that_is_cut_off(rt: HostRuntime) {
     let report = long_report(&rt, rt.alloc());
     for room in [0, 30, 100, 250] {
-        let mut out = Counting {
-            taken: Vec::new(rt.alloc()),
-            writes: 0,
-            room,
-        };
-        assert!(rt; write_report(&report, &mut out) == Err(Fault::Io));
-        assert!(rt; out.taken.as_slice() == &LONG.as_bytes()[..room]);
+        let _writes = writes_to(&rt, rt.alloc(), &report, room, Err(Fault::Io));
     }
 }

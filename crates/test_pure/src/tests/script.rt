@@ -8,152 +8,134 @@ use std::alloc::{AllocError, Allocator, Global};
 use std::process::Abort;
 use std::test::*;
 
-fn number_text(alloc: Global, number: i64) -> Result<String, AllocError> {
-    format!(in alloc; "{number}")
+/// The name of an instruction, and the registers that follow it. Each of these functions writes into a text of its caller's.
+fn put(text: &mut String, name: &str, registers: &[Register]) -> Result<(), AllocError> {
+    text.push_str(name)?;
+    put_registers(text, registers)
 }
 
-fn key_text<A: Allocator>(alloc: Global, key: &Key<A>) -> Result<String, AllocError> {
-    match key {
-        Key::Int(number) => number_text(alloc, *number),
-        Key::Text(name) => format!(in alloc; "'{}", name.as_str()),
-    }
-}
-
-fn add_registers(
-    alloc: Global,
-    text: &mut String,
-    registers: &[Register],
-) -> Result<(), AllocError> {
+fn put_registers(text: &mut String, registers: &[Register]) -> Result<(), AllocError> {
     for register in registers {
-        let number = format!(in alloc; " {}", register.number())?;
-        text.push_str(number.as_str())?;
+        write!(text, " {}", register.number())?;
     }
     Ok(())
 }
 
-/// The variant, and its operands where they are registers.
-fn plain(alloc: Global, name: &str, operands: &[Register]) -> Result<String, AllocError> {
-    let mut text = String::from_str(alloc, name)?;
-    add_registers(alloc, &mut text, operands)?;
-    Ok(text)
-}
-
-/// The same of one whose last operand is none.
-fn ended(alloc: Global, name: &str, front: &[Register], last: &str) -> Result<String, AllocError> {
-    let mut text = plain(alloc, name, front)?;
+fn put_word(text: &mut String, word: &str) -> Result<(), AllocError> {
     text.push_str(" ")?;
-    text.push_str(last)?;
-    Ok(text)
+    text.push_str(word)
 }
 
-/// One that stores a value: where, under what, and which.
-fn stored(
-    alloc: Global,
-    name: &str,
-    container: Register,
-    at: &str,
-    value: Register,
-) -> Result<String, AllocError> {
-    let mut text = ended(alloc, name, &[container], at)?;
-    add_registers(alloc, &mut text, &[value])?;
-    Ok(text)
+fn put_number(text: &mut String, number: i64) -> Result<(), AllocError> {
+    write!(text, " {number}")
+}
+
+fn put_key<A: Allocator>(text: &mut String, key: &Key<A>) -> Result<(), AllocError> {
+    match key {
+        Key::Int(number) => put_number(text, *number),
+        Key::Text(name) => write!(text, " '{}", name.as_str()),
+    }
 }
 
 /// The variant, and the operands in the order of the fields.
-fn shown<A: Allocator>(alloc: Global, instruction: &Instruction<A>) -> Result<String, AllocError> {
+fn show_instruction<A: Allocator>(
+    text: &mut String,
+    instruction: &Instruction<A>,
+) -> Result<(), AllocError> {
     match instruction {
-        Instruction::List { to } => plain(alloc, "List", &[*to]),
-        Instruction::Dict { to } => plain(alloc, "Dict", &[*to]),
-        Instruction::Mailbox { to } => plain(alloc, "Mailbox", &[*to]),
-        Instruction::Copy { to, from } => plain(alloc, "Copy", &[*to, *from]),
-        Instruction::Drop { from } => plain(alloc, "Drop", &[*from]),
-        Instruction::Push { list, value } => plain(alloc, "Push", &[*list, *value]),
-        Instruction::Pop { to, list } => plain(alloc, "Pop", &[*to, *list]),
-        Instruction::Len { to, container } => plain(alloc, "Len", &[*to, *container]),
-        Instruction::Send { mailbox, value } => plain(alloc, "Send", &[*mailbox, *value]),
-        Instruction::Receive { to, mailbox } => plain(alloc, "Receive", &[*to, *mailbox]),
-        Instruction::Add { to, first, second } => plain(alloc, "Add", &[*to, *first, *second]),
-        Instruction::Print { from } => plain(alloc, "Print", &[*from]),
-        _ => shown_with_words(alloc, instruction),
+        Instruction::List { to } => put(text, "List", &[*to]),
+        Instruction::Dict { to } => put(text, "Dict", &[*to]),
+        Instruction::Mailbox { to } => put(text, "Mailbox", &[*to]),
+        Instruction::Copy { to, from } => put(text, "Copy", &[*to, *from]),
+        Instruction::Drop { from } => put(text, "Drop", &[*from]),
+        Instruction::Push { list, value } => put(text, "Push", &[*list, *value]),
+        Instruction::Pop { to, list } => put(text, "Pop", &[*to, *list]),
+        Instruction::Len { to, container } => put(text, "Len", &[*to, *container]),
+        Instruction::Send { mailbox, value } => put(text, "Send", &[*mailbox, *value]),
+        Instruction::Receive { to, mailbox } => put(text, "Receive", &[*to, *mailbox]),
+        Instruction::Add { to, first, second } => put(text, "Add", &[*to, *first, *second]),
+        Instruction::Print { from } => put(text, "Print", &[*from]),
+        _ => show_with_words(text, instruction),
     }
 }
 
 /// The same of those that have another operand than registers.
-fn shown_with_words<A: Allocator>(
-    alloc: Global,
+fn show_with_words<A: Allocator>(
+    text: &mut String,
     instruction: &Instruction<A>,
-) -> Result<String, AllocError> {
+) -> Result<(), AllocError> {
     match instruction {
         Instruction::Int { to, number } => {
-            ended(alloc, "Int", &[*to], number_text(alloc, *number)?.as_str())
+            put(text, "Int", &[*to])?;
+            put_number(text, *number)
         }
-        Instruction::Text { to, text } => ended(alloc, "Text", &[*to], text.as_str()),
+        Instruction::Text { to, text: letters } => {
+            put(text, "Text", &[*to])?;
+            put_word(text, letters.as_str())
+        }
         Instruction::Get { to, list, index } => {
-            let index = number_text(alloc, i64::from(*index))?;
-            ended(alloc, "Get", &[*to, *list], index.as_str())
+            put(text, "Get", &[*to, *list])?;
+            put_number(text, i64::from(*index))
         }
         Instruction::Set { list, index, value } => {
-            let index = number_text(alloc, i64::from(*index))?;
-            stored(alloc, "Set", *list, index.as_str(), *value)
+            put(text, "Set", &[*list])?;
+            put_number(text, i64::from(*index))?;
+            put_registers(text, &[*value])
         }
         Instruction::Put { dict, key, value } => {
-            stored(alloc, "Put", *dict, key_text(alloc, key)?.as_str(), *value)
+            put(text, "Put", &[*dict])?;
+            put_key(text, key)?;
+            put_registers(text, &[*value])
         }
         Instruction::Find { to, dict, key } => {
-            ended(alloc, "Find", &[*to, *dict], key_text(alloc, key)?.as_str())
+            put(text, "Find", &[*to, *dict])?;
+            put_key(text, key)
         }
         Instruction::Delete { to, dict, key } => {
-            ended(
-                alloc,
-                "Delete",
-                &[*to, *dict],
-                key_text(alloc, key)?.as_str(),
-            )
+            put(text, "Delete", &[*to, *dict])?;
+            put_key(text, key)
         }
-        _ => shown_with_names(alloc, instruction),
+        _ => show_with_names(text, instruction),
     }
 }
 
 /// The same of those that have a name of the globals.
-fn shown_with_names<A: Allocator>(
-    alloc: Global,
+fn show_with_names<A: Allocator>(
+    text: &mut String,
     instruction: &Instruction<A>,
-) -> Result<String, AllocError> {
+) -> Result<(), AllocError> {
     match instruction {
         Instruction::Share { name, value } => {
-            let text = format!(in alloc; "Share {}", name.as_str())?;
-            plain(alloc, text.as_str(), &[*value])
+            text.push_str("Share")?;
+            put_word(text, name.as_str())?;
+            put_registers(text, &[*value])
         }
-        Instruction::Fetch { to, name } => ended(alloc, "Fetch", &[*to], name.as_str()),
-        Instruction::Unshare { to, name } => ended(alloc, "Unshare", &[*to], name.as_str()),
-        _ => String::from_str(alloc, "NOT SHOWN"),
+        Instruction::Fetch { to, name } => {
+            put(text, "Fetch", &[*to])?;
+            put_word(text, name.as_str())
+        }
+        Instruction::Unshare { to, name } => {
+            put(text, "Unshare", &[*to])?;
+            put_word(text, name.as_str())
+        }
+        _ => text.push_str("NOT SHOWN"),
     }
 }
 
 /// One line more: its number, and what it does.
-fn add_line<A: Allocator>(
-    alloc: Global,
-    text: &mut String,
-    line: &Line<A>,
-) -> Result<(), AllocError> {
-    let at = line.number();
-    let does = shown(alloc, line.instruction())?;
-    let line = format!(in alloc; "{at} {}\n", does.as_str())?;
-    text.push_str(line.as_str())
+fn show_line<A: Allocator>(text: &mut String, line: &Line<A>) -> Result<(), AllocError> {
+    write!(text, "{} ", line.number())?;
+    show_instruction(text, line.instruction())?;
+    text.push_str("\n")
 }
 
-fn add_piece<A: Allocator>(
-    alloc: Global,
-    text: &mut String,
-    piece: &Piece<A>,
-) -> Result<(), AllocError> {
+fn show_piece<A: Allocator>(text: &mut String, piece: &Piece<A>) -> Result<(), AllocError> {
     match piece {
-        Piece::One(line) => add_line(alloc, text, line),
+        Piece::One(line) => show_line(text, line),
         Piece::Repeat { times, lines } => {
-            let head = format!(in alloc; "{times} times\n")?;
-            text.push_str(head.as_str())?;
+            write!(text, "{times} times\n")?;
             for line in lines.as_slice() {
-                add_line(alloc, text, line)?;
+                show_line(text, line)?;
             }
             text.push_str("so often\n")
         }
@@ -161,17 +143,14 @@ fn add_piece<A: Allocator>(
 }
 
 /// The script line by line.
-fn show<A: Allocator>(alloc: Global, script: &Script<A>) -> Result<String, AllocError> {
-    let mut text = String::new(alloc);
+fn show<A: Allocator>(text: &mut String, script: &Script<A>) -> Result<(), AllocError> {
     for section in script.sections() {
-        text.push_str("in ")?;
-        text.push_str(section.name.as_str())?;
-        text.push_str("\n")?;
+        write!(text, "in {}\n", section.name.as_str())?;
         for piece in section.pieces.as_slice() {
-            add_piece(alloc, &mut text, piece)?;
+            show_piece(text, piece)?;
         }
     }
-    Ok(text)
+    Ok(())
 }
 
 #[test]
@@ -220,7 +199,9 @@ fn scripts_are_read(rt: HostRuntime) -> Result<(), Fail> {
     ];
     for &(case, text, wanted) in CASES {
         let script = parse(rt.alloc(), text.as_bytes())?;
-        same(&rt, case, show(rt.alloc(), &script)?.as_str(), wanted);
+        let mut shown = String::new(rt.alloc());
+        show(&mut shown, &script)?;
+        same(&rt, case, shown.as_str(), wanted);
     }
     Ok(())
 }

@@ -1,6 +1,6 @@
 //! Words of the world text, which are written alone, and numbers at their bounds.
 
-use crate::tests::comparing::same;
+use crate::tests::comparing::{same, shows};
 use brc_text::*;
 use brc_words::Fault;
 use std::io::{self, Write};
@@ -8,48 +8,48 @@ use std::test::*;
 
 #[test]
 fn numbers(rt: HostRuntime) {
-    const CASES: &[(&str, &str, Option<u64>)] = &[
-        ("zero", "0", Some(0)),
-        ("ten digits", "4294967295", Some(4_294_967_295)),
-        ("the largest", "18446744073709551615", Some(u64::MAX)),
-        ("one more", "18446744073709551616", None),
-        ("nothing", "", None),
-        ("two zeros", "00", None),
-        ("leading zero", "07", None),
-        ("a sign", "+7", None),
-        ("a minus", "-7", None),
-        ("behind the digits", "1:", None),
+    const CASES: &[(&str, &str, &str)] = &[
+        ("zero", "0", "Some(0)"),
+        ("ten digits", "4294967295", "Some(4294967295)"),
+        (
+            "the largest",
+            "18446744073709551615",
+            "Some(18446744073709551615)",
+        ),
+        ("one more", "18446744073709551616", "None"),
+        ("nothing", "", "None"),
+        ("two zeros", "00", "None"),
+        ("leading zero", "07", "None"),
+        ("a sign", "+7", "None"),
+        ("a minus", "-7", "None"),
+        ("behind the digits", "1:", "None"),
     ];
     for &(case, text, number) in CASES {
-        same(&rt, case, number_of(text.as_bytes()), number);
+        shows(&rt, case, &number_of(text.as_bytes()), number);
     }
 }
 
 #[test]
 fn words_of_lines(rt: HostRuntime) {
-    const FIRST: &[Token] = &[
-        Token::Number(1),
-        Token::Word(Keyword::Unlock),
-        Token::Word(Keyword::Take),
-        Token::Number(0),
-        Token::Place(Letter::Frame, 12),
-        Token::Place(Letter::Popped, 266),
-        Token::Word(Keyword::InHand),
-        Token::Word(Keyword::Dash),
-    ];
-    const SECOND: &[Token] = &[Token::Number(2), Token::Word(Keyword::Wake)];
+    const FIRST: &str =
+        "[Number(1), Word(Unlock), Word(Take), Number(0), Place(Frame, 12), Place(Popped, 266), Word(InHand), Word(Dash)]";
     let mut words = Words::new();
     let text = b"1 unlock take 0 f12 q266 h -\n2 wake\nno line";
     let behind = b"2 wake\nno line".as_slice();
     same(&rt, "behind the first", words.read(text), Some(behind));
-    same(&rt, "the first", words.tokens(), FIRST);
+    shows(&rt, "the first", &words.tokens(), FIRST);
     same(
         &rt,
         "behind the second",
         words.read(behind),
         Some(b"no line".as_slice()),
     );
-    same(&rt, "the second", words.tokens(), SECOND);
+    shows(
+        &rt,
+        "the second",
+        &words.tokens(),
+        "[Number(2), Word(Wake)]",
+    );
 }
 
 #[test]

@@ -1,8 +1,7 @@
 //! Traces as texts: which lines are lines, and which step each is; a whole life there and back, streams and memory that
 //! fail.
 
-use crate::tests::comparing::{same, same_at};
-use brc_runs::{Change, Dropped, Event, LastDropped, Source, Step};
+use crate::tests::comparing::{same, same_at, shows};
 use brc_trace::*;
 use brc_words::{Fault, Reason};
 use linked_list_allocator::LocalHeap;
@@ -19,93 +18,79 @@ const LIFE: &str =
 const SHORT_LIFE: &str =
     "heap 512 4294967294\n0 register 1\n1 claim 266\n1 local 266\n1 shared 266\n1 born 266 list 0\n1 down f0\n1 see 266\n1 free 266\n";
 
-/// The fault, or none where the text is read.
-fn fault_of(rt: &HostRuntime, text: &str) -> Option<Fault> {
-    match read_trace(rt.alloc(), text.as_bytes()) {
-        Ok(_trace) => None,
-        Err(fault) => Some(fault),
-    }
+/// The text is no trace, for this line.
+fn stops_at(rt: &impl Abort, alloc: Global, case: &str, text: &[u8], line: u32) {
+    let found = read_trace(alloc, text).err();
+    let reason = Reason::NotALine;
+    same(rt, case, found, Some(Fault::BadTrace { line, reason }));
 }
 
-/// That this line isn't one, where there is such a line.
-fn not_a_line(line: Option<u32>) -> Option<Fault> {
-    let (line, reason) = (line?, Reason::NotALine);
-    Some(Fault::BadTrace { line, reason })
+#[test]
+fn traces(rt: HostRuntime) {
+    const CASES: &[(&str, &str)] = &[
+        ("no event", "heap 512 1\n"),
+        ("largest head", "heap 65536 4294967294\n"),
+        ("largest numbers", "heap 512 1\n64 up e1048575 65535\n"),
+        ("does not fit the world", "heap 512 1\n1 up i266 0\n"),
+        (
+            "each kind",
+            "heap 512 1\n1 born 0 text 0\n1 born 1 dict 1\n1 born 2 mailbox 2\n1 born 3 list 3\n",
+        ),
+        ("a worklist", "heap 512 1\n1 down w266\n"),
+    ];
+    for &(case, text) in CASES {
+        let found = read_trace(rt.alloc(), text.as_bytes()).err();
+        same(&rt, case, found, None);
+    }
 }
 
 #[test]
 fn lines(rt: HostRuntime) {
-    const CASES: &[(&str, &str, Option<u32>)] = &[
-        ("no event", "heap 512 1\n", None),
-        ("largest head", "heap 65536 4294967294\n", None),
-        (
-            "largest numbers",
-            "heap 512 1\n64 up e1048575 65535\n",
-            None,
-        ),
-        ("does not fit the world", "heap 512 1\n1 up i266 0\n", None),
-        (
-            "each kind",
-            "heap 512 1\n1 born 0 text 0\n1 born 1 dict 1\n1 born 2 mailbox 2\n1 born 3 list 3\n",
-            None,
-        ),
-        ("a worklist", "heap 512 1\n1 down w266\n", None),
-        ("nothing", "", Some(1)),
-        ("an empty head", "\n", Some(1)),
-        ("no head", "0 register 1\n", Some(1)),
-        ("few cells", "heap 511 1\n", Some(1)),
-        ("many cells", "heap 65537 1\n", Some(1)),
-        ("no limit", "heap 512 0\n", Some(1)),
-        ("large limit", "heap 512 4294967295\n", Some(1)),
-        ("leading zero in the head", "heap 512 01\n", Some(1)),
-        ("head without its line feed", "heap 512 1", Some(1)),
-        ("second format", "trace 2\nheap 512 1\n", Some(1)),
-        ("an empty line", "heap 512 1\n\n0 register 1\n", Some(2)),
+    const CASES: &[(&str, &str, u32)] = &[
+        ("nothing", "", 1),
+        ("an empty head", "\n", 1),
+        ("no head", "0 register 1\n", 1),
+        ("few cells", "heap 511 1\n", 1),
+        ("many cells", "heap 65537 1\n", 1),
+        ("no limit", "heap 512 0\n", 1),
+        ("large limit", "heap 512 4294967295\n", 1),
+        ("leading zero in the head", "heap 512 01\n", 1),
+        ("head without its line feed", "heap 512 1", 1),
+        ("second format", "trace 2\nheap 512 1\n", 1),
+        ("an empty line", "heap 512 1\n\n0 register 1\n", 2),
         (
             "last line without its line feed",
             "heap 512 1\n0 register 1\n0 register 2",
-            Some(3),
+            3,
         ),
-        (
-            "the first of two",
-            "heap 512 1\n0 register 1\nx\ny\n",
-            Some(3),
-        ),
+        ("the first of two", "heap 512 1\n0 register 1\nx\ny\n", 3),
         (
             "leading zero",
             "heap 512 1\n0 register 1\n1 claim 0266\n",
-            Some(3),
+            3,
         ),
-        ("a sign", "heap 512 1\n1 claim +266\n", Some(2)),
-        ("two spaces", "heap 512 1\n1  claim 266\n", Some(2)),
-        ("a space in front", "heap 512 1\n 1 claim 266\n", Some(2)),
-        ("a space behind", "heap 512 1\n1 claim 266 \n", Some(2)),
-        ("a carriage return", "heap 512 1\r\n", Some(1)),
-        ("a capital", "heap 512 1\n1 Claim 266\n", Some(2)),
-        ("one word more", "heap 512 1\n1 claim 266 0\n", Some(2)),
-        ("nine words", "heap 512 1\n1 1 1 1 1 1 1 1 1\n", Some(2)),
-        ("thread 0", "heap 512 1\n0 claim 266\n", Some(2)),
-        ("thread 65", "heap 512 1\n65 claim 266\n", Some(2)),
-        (
-            "registered by another",
-            "heap 512 1\n1 register 1\n",
-            Some(2),
-        ),
-        ("registered 65", "heap 512 1\n0 register 65\n", Some(2)),
-        ("cell 65536", "heap 512 1\n1 claim 65536\n", Some(2)),
-        ("place 65536", "heap 512 1\n1 up f0 65536\n", Some(2)),
-        ("entry 1048576", "heap 512 1\n1 up e1048576 0\n", Some(2)),
-        ("no such kind", "heap 512 1\n1 born 266 none 0\n", Some(2)),
-        (
-            "kind of a line",
-            "heap 512 1\n1 born 266 claim 0\n",
-            Some(2),
-        ),
-        ("source of a drop", "heap 512 1\n1 up w0 1\n", Some(2)),
-        ("drop of a source", "heap 512 1\n1 down i0\n", Some(2)),
+        ("a sign", "heap 512 1\n1 claim +266\n", 2),
+        ("two spaces", "heap 512 1\n1  claim 266\n", 2),
+        ("a space in front", "heap 512 1\n 1 claim 266\n", 2),
+        ("a space behind", "heap 512 1\n1 claim 266 \n", 2),
+        ("a carriage return", "heap 512 1\r\n", 1),
+        ("a capital", "heap 512 1\n1 Claim 266\n", 2),
+        ("one word more", "heap 512 1\n1 claim 266 0\n", 2),
+        ("nine words", "heap 512 1\n1 1 1 1 1 1 1 1 1\n", 2),
+        ("thread 0", "heap 512 1\n0 claim 266\n", 2),
+        ("thread 65", "heap 512 1\n65 claim 266\n", 2),
+        ("registered by another", "heap 512 1\n1 register 1\n", 2),
+        ("registered 65", "heap 512 1\n0 register 65\n", 2),
+        ("cell 65536", "heap 512 1\n1 claim 65536\n", 2),
+        ("place 65536", "heap 512 1\n1 up f0 65536\n", 2),
+        ("entry 1048576", "heap 512 1\n1 up e1048576 0\n", 2),
+        ("no such kind", "heap 512 1\n1 born 266 none 0\n", 2),
+        ("kind of a line", "heap 512 1\n1 born 266 claim 0\n", 2),
+        ("source of a drop", "heap 512 1\n1 up w0 1\n", 2),
+        ("drop of a source", "heap 512 1\n1 down i0\n", 2),
     ];
     for &(case, text, line) in CASES {
-        same(&rt, case, fault_of(&rt, text), not_a_line(line));
+        stops_at(&rt, rt.alloc(), case, text.as_bytes(), line);
     }
 }
 
@@ -164,19 +149,18 @@ fn neighbours_of_lines(rt: HostRuntime) -> Result<(), Fail> {
     ];
     for &(case, line) in CASES {
         let text = below_head(&rt, line)?;
-        let found = read_trace(rt.alloc(), text.as_slice()).err();
-        same(&rt, case, found, not_a_line(Some(2)));
+        stops_at(&rt, rt.alloc(), case, text.as_slice(), 2);
     }
     Ok(())
 }
 
 /// The event is read from its line, and written as that line.
-fn is_spelled<R: Abort + AllocGlobal>(rt: &R, line: &str, event: Event) -> Result<(), Fail> {
+fn is_spelled<R: Abort + AllocGlobal>(rt: &R, line: &str, event: &str) -> Result<(), Fail> {
     let text = below_head(rt, line)?;
     let trace = read_trace(rt.alloc(), text.as_slice())
         .ok()
         .ok_or("a line of a trace")?;
-    same(rt, line, trace.events.as_slice(), [event].as_slice());
+    shows(rt, line, &trace.events.as_slice(), event);
     is_written(rt, &trace, line, text.as_slice(), 1000)
 }
 
@@ -196,84 +180,76 @@ fn is_written<R: Abort + AllocGlobal>(
 
 #[test]
 fn each_step(rt: HostRuntime) -> Result<(), Fail> {
-    const SOURCE: Source = Source::Immortal(265);
-    const INDEX: u32 = 1_048_575;
-    const FAR: u32 = 65_535;
-    const CASES: &[(&str, u32, Step)] = &[
-        ("1 untie 266\n", 1, Step::Untie(266)),
-        ("1 zero 266\n", 1, Step::MergeZero(266)),
+    const CASES: &[(&str, &str)] = &[
+        ("1 untie 266\n", "[Event { thread: 1, step: Untie(266) }]"),
+        (
+            "1 zero 266\n",
+            "[Event { thread: 1, step: MergeZero(266) }]",
+        ),
         (
             "1 shup i265 1\n",
-            1,
-            Step::SharedUp {
-                source: SOURCE,
-                place: 1,
-            },
+            "[Event { thread: 1, step: SharedUp { source: Immortal(265), place: 1 } }]",
         ),
         (
             "64 shup e1048575 65535\n",
-            64,
-            Step::SharedUp {
-                source: Source::Entry(INDEX),
-                place: FAR,
-            },
+            "[Event { thread: 64, step: SharedUp { source: Entry(1048575), place: 65535 } }]",
         ),
-        ("1 shdown f3\n", 1, Step::SharedDown(Dropped::Frame(3))),
-        ("1 shdown w266\n", 1, Step::SharedDown(Dropped::Work(266))),
-        ("1 ask f3\n", 1, Step::Ask(Dropped::Frame(3))),
-        ("1 ask w266\n", 1, Step::Ask(Dropped::Work(266))),
+        (
+            "1 shdown f3\n",
+            "[Event { thread: 1, step: SharedDown(Frame(3)) }]",
+        ),
+        (
+            "1 shdown w266\n",
+            "[Event { thread: 1, step: SharedDown(Work(266)) }]",
+        ),
+        ("1 ask f3\n", "[Event { thread: 1, step: Ask(Frame(3)) }]"),
+        (
+            "1 ask w266\n",
+            "[Event { thread: 1, step: Ask(Work(266)) }]",
+        ),
         (
             "1 last f3\n",
-            1,
-            Step::LastDown(LastDropped::Dropped(Dropped::Frame(3))),
+            "[Event { thread: 1, step: LastDown(Dropped(Frame(3))) }]",
         ),
         (
             "1 last w266\n",
-            1,
-            Step::LastDown(LastDropped::Dropped(Dropped::Work(266))),
+            "[Event { thread: 1, step: LastDown(Dropped(Work(266))) }]",
         ),
         (
             "1 last q65535\n",
-            1,
-            Step::LastDown(LastDropped::Popped(FAR)),
+            "[Event { thread: 1, step: LastDown(Popped(65535)) }]",
         ),
-        ("1 last h\n", 1, Step::LastDown(LastDropped::Hand)),
-        ("1 enq 266\n", 1, Step::Enqueue(266)),
-        ("1 drain 2047\n", 1, Step::Drain(2047)),
-        ("1 add 266\n", 1, Step::MergeAdd(266)),
-        ("1 close 0\n", 1, Step::Close(0)),
+        ("1 last h\n", "[Event { thread: 1, step: LastDown(Hand) }]"),
+        ("1 enq 266\n", "[Event { thread: 1, step: Enqueue(266) }]"),
+        ("1 drain 2047\n", "[Event { thread: 1, step: Drain(2047) }]"),
+        ("1 add 266\n", "[Event { thread: 1, step: MergeAdd(266) }]"),
+        ("1 close 0\n", "[Event { thread: 1, step: Close(0) }]"),
         (
             "1 nudge 64 2047\n",
-            1,
-            Step::Nudge {
-                thread: 64,
-                word: 2047,
-            },
+            "[Event { thread: 1, step: Nudge { thread: 64, word: 2047 } }]",
         ),
-        ("64 wake\n", 64, Step::Wake),
-        ("1 lock 65535\n", 1, Step::Lock(FAR)),
-        ("1 unlock keep\n", 1, Step::Unlock(Change::Keep)),
-        ("1 unlock put 2\n", 1, Step::Unlock(Change::Put(2))),
+        ("64 wake\n", "[Event { thread: 64, step: Wake }]"),
+        ("1 lock 65535\n", "[Event { thread: 1, step: Lock(65535) }]"),
+        (
+            "1 unlock keep\n",
+            "[Event { thread: 1, step: Unlock(Keep) }]",
+        ),
+        (
+            "1 unlock put 2\n",
+            "[Event { thread: 1, step: Unlock(Put(2)) }]",
+        ),
         (
             "1 unlock take 1048575 1\n",
-            1,
-            Step::Unlock(Change::Take {
-                index: INDEX,
-                place: 1,
-            }),
+            "[Event { thread: 1, step: Unlock(Take { index: 1048575, place: 1 }) }]",
         ),
         (
             "1 unlock swap 1048575 1\n",
-            1,
-            Step::Unlock(Change::Swap {
-                index: INDEX,
-                place: 1,
-            }),
+            "[Event { thread: 1, step: Unlock(Swap { index: 1048575, place: 1 }) }]",
         ),
-        ("0 gather 64\n", 0, Step::Gather(64)),
+        ("0 gather 64\n", "[Event { thread: 0, step: Gather(64) }]"),
     ];
-    for &(line, thread, step) in CASES {
-        is_spelled(&rt, line, Event { thread, step })?;
+    for &(line, event) in CASES {
+        is_spelled(&rt, line, event)?;
     }
     Ok(())
 }
@@ -353,10 +329,9 @@ fn failing_writers(rt: HostRuntime) -> Result<(), Fail> {
         .ok()
         .ok_or("a life is a trace")?;
     for fails in [true, false] {
-        stops_after(&rt, &trace, 0, fails);
-        stops_after(&rt, &trace, 5, fails);
-        stops_after(&rt, &trace, 13, fails);
-        stops_after(&rt, &trace, 40, fails);
+        for room in [0, 5, 13, 40] {
+            stops_after(&rt, &trace, room, fails);
+        }
     }
     Ok(())
 }
@@ -391,114 +366,100 @@ fn long_texts(rt: HostRuntime) -> Result<(), Fail> {
     let mut text = Vec::with_capacity(rt.alloc(), 16_777_217)?;
     text.extend_from_slice(b"heap 512 1\n")?;
     text.resize(16_777_217, b'x')?;
-    let found = read_trace(rt.alloc(), text.as_slice()).err();
-    same(&rt, "one byte too long", found, not_a_line(Some(0)));
+    stops_at(&rt, rt.alloc(), "one byte too long", text.as_slice(), 0);
     text.truncate(16_777_216);
-    let found = read_trace(rt.alloc(), text.as_slice()).err();
-    same(&rt, "the longest", found, not_a_line(Some(2)));
+    stops_at(&rt, rt.alloc(), "the longest", text.as_slice(), 2);
     Ok(())
 }
 
-/// What a replay of these bytes answers, and what it writes.
-fn replayed<R: AllocGlobal>(rt: &R, text: &str) -> Result<(Result<bool, Fault>, Vec<u8>), Fail> {
-    let mut out = stream(rt.alloc(), 1000, 1_000_000, true);
-    let answer = run_replay(rt.alloc(), text.as_bytes(), &mut out);
-    Ok((answer, out.taken))
+/// A replay of what is read answers this, and has written this where it ends.
+fn is_replayed<R: Abort + AllocGlobal>(
+    rt: &R,
+    case: &str,
+    input: impl Read + Drop,
+    out: Narrow,
+    answer: &str,
+    written: &str,
+) {
+    let mut out = out;
+    let found = run_replay(rt.alloc(), input, &mut out);
+    shows(rt, case, &found, answer);
+    same(rt, case, out.taken.as_slice(), written.as_bytes());
 }
 
 #[test]
-fn replays(rt: HostRuntime) -> Result<(), Fail> {
-    const CASES: &[(&str, &str, Result<bool, Fault>, &str)] = &[
+fn replays(rt: HostRuntime) {
+    const CASES: &[(&str, &str, &str, &str)] = &[
         (
             "no event",
             "heap 512 4294967294\n",
-            Ok(false),
+            "Ok(false)",
             "world 512 4294967294\nledger 0 0 0\n",
         ),
         (
             "a whole life",
             SHORT_LIFE,
-            Ok(false),
+            "Ok(false)",
             "world 512 4294967294\nthread 1 active\nledger 1 1 0\n",
         ),
         (
             "counted twice",
             "heap 512 4294967294\n0 register 1\n0 register 2\n1 claim 266\n1 local 266\n1 shared 266\n1 born 266 text 0\n1 up f0 1\n1 up i265 2\n2 up i0 7\n1 down f0\n",
-            Ok(true),
+            "Ok(true)",
             "world 512 4294967294\nthread 1 active\nframe 1 1 266\nframe 1 2 265\nthread 2 active\nframe 2 7 0\nobject 266 text 1 1 0 default 1\nledger 1 0 1\n",
         ),
         (
             "in the hand",
             "heap 512 4294967294\n0 register 1\n1 claim 266\n1 local 266\n1 shared 266\n1 born 266 dict 3\n1 down f3\n",
-            Ok(true),
+            "Ok(true)",
             "world 512 4294967294\nthread 1 active\nhand 1 zero 266\nobject 266 dict 1 0 0 default 0\nledger 1 0 1\n",
         ),
         (
             "on the worklist",
             "heap 512 4294967294\n0 register 1\n1 claim 300\n1 local 300\n1 shared 300\n1 born 300 dict 3\n1 down f3\n1 see 300\n",
-            Ok(true),
+            "Ok(true)",
             "world 512 4294967294\nthread 1 active\nwork 1 300\nobject 300 dict 1 0 0 default 0\nledger 1 0 1\n",
         ),
         (
             "freed before it was seen",
             "heap 512 9\n0 register 1\n1 claim 266\n1 local 266\n1 shared 266\n1 born 266 int 0\n1 free 266\n",
-            Err(Fault::BadTrace {
-                line: 7,
-                reason: Reason::NotEnabled,
-            }),
+            "Err(BadTrace { line: 7, reason: NotEnabled })",
             "",
         ),
         (
             "no line feed behind it",
             "heap 512 9\n1 free 266\n0 register 1",
-            Err(Fault::BadTrace {
-                line: 3,
-                reason: Reason::NotALine,
-            }),
+            "Err(BadTrace { line: 3, reason: NotALine })",
             "",
         ),
         (
             "another one behind it",
             "heap 512 9\n1 free 266\n1 free 267\n0 register 1\n",
-            Err(Fault::BadTrace {
-                line: 2,
-                reason: Reason::NotEnabled,
-            }),
+            "Err(BadTrace { line: 2, reason: NotEnabled })",
             "",
         ),
         (
             "a bad line behind it",
             "heap 512 9\n1 free 266\nx\n",
-            Err(Fault::BadTrace {
-                line: 3,
-                reason: Reason::NotALine,
-            }),
+            "Err(BadTrace { line: 3, reason: NotALine })",
             "",
         ),
     ];
     for &(case, text, answer, written) in CASES {
-        let (found, out) = replayed(&rt, text)?;
-        same(&rt, case, found, answer);
-        same(&rt, case, out.as_slice(), written.as_bytes());
+        let out = stream(rt.alloc(), 1000, 1_000_000, true);
+        is_replayed(&rt, case, text.as_bytes(), out, answer, written);
     }
-    Ok(())
 }
 
 #[test]
-fn writers_of_worlds_that_fail(rt: HostRuntime) -> Result<(), Fail> {
+fn writers_of_worlds_that_fail(rt: HostRuntime) {
     for fails in [true, false] {
-        let mut out = stream(rt.alloc(), 1000, 7, fails);
-        let input = b"heap 512 1\n".as_slice();
-        let answer = run_replay(rt.alloc(), input, &mut out);
-        same(&rt, "the answer", answer, Err(Fault::Io));
-        same(
-            &rt,
-            "the front",
-            out.taken.as_slice(),
-            b"world 5".as_slice(),
+        let (input, out) = (
+            b"heap 512 1\n".as_slice(),
+            stream(rt.alloc(), 1000, 7, fails),
         );
+        is_replayed(&rt, "the front", input, out, "Err(Io)", "world 5");
     }
-    Ok(())
 }
 
 /// Gives one byte a read, and fails at the read with this number.
@@ -523,25 +484,23 @@ impl Read for Slow {
 }
 
 #[test]
-fn slow_and_failing_readers(rt: HostRuntime) -> Result<(), Fail> {
-    const CASES: &[(&str, u32, Result<bool, Fault>, &str)] = &[
+fn slow_and_failing_readers(rt: HostRuntime) {
+    const CASES: &[(&str, u32, &str, &str)] = &[
         (
             "one byte a read",
             1000,
-            Ok(false),
+            "Ok(false)",
             "world 512 1\nledger 0 0 0\n",
         ),
-        ("the second read fails", 2, Err(Fault::Io), ""),
-        ("the first read fails", 1, Err(Fault::Io), ""),
+        ("the second read fails", 2, "Err(Io)", ""),
+        ("the first read fails", 1, "Err(Io)", ""),
     ];
     for &(case, until_failure, answer, written) in CASES {
         let reader = Slow {
             rest: b"heap 512 1\n",
             until_failure,
         };
-        let mut out = stream(rt.alloc(), 1000, 1000, true);
-        same(&rt, case, run_replay(rt.alloc(), reader, &mut out), answer);
-        same(&rt, case, out.taken.as_slice(), written.as_bytes());
+        let out = stream(rt.alloc(), 1000, 1000, true);
+        is_replayed(&rt, case, reader, out, answer, written);
     }
-    Ok(())
 }

@@ -1,14 +1,44 @@
 //! The names of faults as they are shown, and words worked by hand.
 
-use crate::tests::comparing::{holds, same};
+use crate::tests::comparing::{holds, same, shows};
 use brc_words::*;
 use std::alloc::{AllocError, Allocator, Global};
 use std::hash::{DefaultHasher, Hash, Hasher};
 use std::process::Abort;
 use std::test::*;
 
+/// The fault with this number.
+fn fault_of(number: u8) -> Fault {
+    match number {
+        1 => Fault::OutOfMemory,
+        2 => Fault::HeapFull,
+        3 => Fault::FrameFull,
+        4 => Fault::Busy,
+        5 => Fault::WrongKind,
+        6 => Fault::NoSuchPlace,
+        7 => Fault::NoSuchKey,
+        8 => Fault::Full,
+        9 => Fault::TooManyThreads,
+        10 => Fault::NotIdle,
+        11 => Fault::Missing {
+            registered: 3,
+            gathered: 2,
+        },
+        12 => Fault::BadTrace {
+            line: 7,
+            reason: Reason::NotEnabled,
+        },
+        13 => Fault::BadScript { line: 2 },
+        14 => Fault::BadOptions,
+        15 => Fault::Io,
+        16 => Fault::Overflow,
+        _ => Fault::LedgerFull,
+    }
+}
+
 /// What is shown of a fault.
-fn shows(rt: &impl Abort, alloc: Global, fault: Fault, number: u8, name: &str) -> Result<(), Fail> {
+fn is_named(rt: &impl Abort, alloc: Global, number: u8, name: &str) -> Result<(), Fail> {
+    let fault = fault_of(number);
     same(rt, name, fault.number(), number);
     same(rt, name, fault.name(), name);
     same(rt, name, fault.to_string(alloc)?.as_str(), name);
@@ -17,72 +47,59 @@ fn shows(rt: &impl Abort, alloc: Global, fault: Fault, number: u8, name: &str) -
 
 #[test]
 fn faults_show_their_names(rt: HostRuntime) -> Result<(), Fail> {
-    const FAULTS: &[(Fault, u8, &str)] = &[
-        (Fault::OutOfMemory, 1, "OutOfMemory"),
-        (Fault::HeapFull, 2, "HeapFull"),
-        (Fault::FrameFull, 3, "FrameFull"),
-        (Fault::Busy, 4, "Busy"),
-        (Fault::WrongKind, 5, "WrongKind"),
-        (Fault::NoSuchPlace, 6, "NoSuchPlace"),
-        (Fault::NoSuchKey, 7, "NoSuchKey"),
-        (Fault::Full, 8, "Full"),
-        (Fault::TooManyThreads, 9, "TooManyThreads"),
-        (Fault::NotIdle, 10, "NotIdle"),
-        (
-            Fault::Missing {
-                registered: 3,
-                gathered: 2,
-            },
-            11,
-            "Missing",
-        ),
-        (
-            Fault::BadTrace {
-                line: 7,
-                reason: Reason::NotEnabled,
-            },
-            12,
-            "BadTrace",
-        ),
-        (Fault::BadScript { line: 2 }, 13, "BadScript"),
-        (Fault::BadOptions, 14, "BadOptions"),
-        (Fault::Io, 15, "Io"),
-        (Fault::Overflow, 16, "Overflow"),
-        (Fault::LedgerFull, 17, "LedgerFull"),
+    const NAMES: &[(u8, &str)] = &[
+        (1, "OutOfMemory"),
+        (2, "HeapFull"),
+        (3, "FrameFull"),
+        (4, "Busy"),
+        (5, "WrongKind"),
+        (6, "NoSuchPlace"),
+        (7, "NoSuchKey"),
+        (8, "Full"),
+        (9, "TooManyThreads"),
+        (10, "NotIdle"),
+        (11, "Missing"),
+        (12, "BadTrace"),
+        (13, "BadScript"),
+        (14, "BadOptions"),
+        (15, "Io"),
+        (16, "Overflow"),
+        (17, "LedgerFull"),
     ];
-    for &(fault, number, name) in FAULTS {
-        shows(&rt, rt.alloc(), fault, number, name)?;
+    for &(number, name) in NAMES {
+        is_named(&rt, rt.alloc(), number, name)?;
     }
     Ok(())
 }
 
 #[test]
 fn shared_words(rt: HostRuntime) {
-    let cases = [
-        ("a new object", 0, State::Default, 4398046511104),
-        ("asked for below zero", -1, State::Queued, 4398046511102),
-        ("merged with one reference", 1, State::Merged, 4398046511111),
+    const CASES: &[(&str, i64, &str, u64)] = &[
+        ("a new object", 0, "Default", 4398046511104),
+        ("asked for below zero", -1, "Queued", 4398046511102),
+        ("merged with one reference", 1, "Merged", 4398046511111),
     ];
-    for (case, count, state, word) in cases {
-        same(&rt, case, shared_word(count, state), word);
+    for &(case, count, state, word) in CASES {
+        let found = state_of(word).expect(&rt, "a state");
+        shows(&rt, case, &found, state);
         same(&rt, case, count_of(word), count);
-        same(&rt, case, state_of(word), Some(state));
+        same(&rt, case, shared_word(count, found), word);
     }
     same(&rt, "no state", state_of(4398046511105), None);
 }
 
 #[test]
 fn owner_words(rt: HostRuntime) {
-    const CASES: &[(&str, u64, Option<Owner>)] = &[
-        ("nobody", 0, Some(Owner::Nobody)),
-        ("the last thread", 64, Some(Owner::Thread(64))),
-        ("no thread", 65, None),
-        ("claimed", 4294967297, Some(Owner::Claimed(1))),
-        ("claimed by nobody", 4294967296, None),
-        ("free", 18446744073709551615, Some(Owner::Free)),
+    const CASES: &[(&str, u64, &str)] = &[
+        ("nobody", 0, "Some(Nobody)"),
+        ("the last thread", 64, "Some(Thread(64))"),
+        ("no thread", 65, "None"),
+        ("claimed", 4294967297, "Some(Claimed(1))"),
+        ("claimed by nobody", 4294967296, "None"),
+        ("free", 18446744073709551615, "Some(Free)"),
     ];
     for &(case, word, owner) in CASES {
-        same(&rt, case, OwnerWord::read(word), owner);
+        shows(&rt, case, &OwnerWord::read(word), owner);
     }
 }
 

@@ -1,15 +1,14 @@
 //! Each call once on its way, and each growth refused. Whole runs are replayed as texts, in `worked_runs.rt`.
 
-use crate::tests::comparing::{all_hold, holds, same};
+use crate::tests::comparing::{all_hold, holds, same, shows};
 use brc_core::{
     Change, Event, Hand, Ledger, Phase, Refusal, ReplayFault, Source, Status, Step, StepFault,
     World, replay,
 };
-use brc_model::Holder;
 use brc_trace::read_trace;
 use brc_words::{Fault, Kind, Owner, State};
 use linked_list_allocator::LocalHeap;
-use std::alloc::{Allocator, Global};
+use std::alloc::{AllocGlobal, Allocator, Global};
 use std::process::Abort;
 
 #[test]
@@ -42,35 +41,33 @@ fn an_event_is_made_or_refused(rt: HostRuntime) -> Result<(), Fault> {
     Ok(())
 }
 
-/// How many threads there are behind these events, or why there is no world.
-fn registered(alloc: Global, events: &[Event], cells: u32) -> Result<u32, ReplayFault> {
-    let world = replay(alloc, events, cells, 7)?;
-    Ok(world.registered())
+/// How many threads there are behind the events of a trace in a heap of so many cells, or why there is no world.
+fn registered(alloc: Global, lines: &[u8], cells: u32) -> Result<Result<u32, ReplayFault>, Fault> {
+    let trace = read_trace(alloc, lines)?;
+    match replay(alloc, trace.events.as_slice(), cells, 7) {
+        Ok(world) => Ok(Ok(world.registered())),
+        Err(fault) => Ok(Err(fault)),
+    }
 }
 
 #[test]
-fn a_replay_answers_a_world_or_a_fault(rt: HostRuntime) {
-    const REGISTER: Event = Event {
-        thread: 0,
-        step: Step::Register(1),
-    };
-    const WAKE: Event = Event {
-        thread: 1,
-        step: Step::Wake,
-    };
-    const CASES: &[(&str, &[Event], u32, Result<u32, ReplayFault>)] = &[
-        ("a world", &[REGISTER, WAKE], 512, Ok(1)),
+fn a_replay_answers_a_world_or_a_fault(rt: HostRuntime) -> Result<(), Fault> {
+    const REGISTERED: &str = "heap 512 7\n0 register 1\n1 wake\n";
+    const CASES: &[(&str, &str, u32, &str)] = &[
+        ("a world", REGISTERED, 512, "Ok(1)"),
         (
             "no thread",
-            &[WAKE],
+            "heap 512 7\n1 wake\n",
             512,
-            Err(ReplayFault::NotEnabled { at: 0 }),
+            "Err(NotEnabled { at: 0 })",
         ),
-        ("no heap", &[REGISTER, WAKE], 511, Err(ReplayFault::Options)),
+        ("no heap", REGISTERED, 511, "Err(Options)"),
     ];
-    for &(case, events, cells, wanted) in CASES {
-        same(&rt, case, registered(rt.alloc(), events, cells), wanted);
+    for &(case, lines, cells, wanted) in CASES {
+        let found = registered(rt.alloc(), lines.as_bytes(), cells)?;
+        shows(&rt, case, &found, wanted);
     }
+    Ok(())
 }
 
 /// The world that a trace leads to.
@@ -90,18 +87,12 @@ fn world_behind(alloc: Global, lines: &[u8]) -> Result<World<Global>, Fault> {
 const BUSY: &[u8] =
     b"heap 512 7\n0 register 1\n0 register 2\n1 claim 267\n1 local 267\n1 shared 267\n1 born 267 text 1\n1 down f1\n1 see 267\n1 free 267\n1 claim 266\n1 local 266\n1 shared 266\n1 born 266 list 0\n1 claim 300\n1 local 300\n1 shared 300\n1 born 300 list 1\n1 claim 267\n1 local 267\n1 shared 267\n1 born 267 text 5\n1 up f0 2\n1 up i265 3\n1 lock 3\n1 unlock put 2\n1 lock 3\n1 unlock put 1\n2 up i265 0\n2 lock 0\n2 unlock take 0 1\n2 ask f1\n2 enq 266\n2 lock 0\n2 unlock take 0 1\n2 ask f1\n2 enq 300\n1 drain 9\n1 down f5\n1 see 267\n1 lock 3\n2 claim 301\n2 local 301\n2 shared 301\n2 born 301 dict 1\n2 down f1\n";
 
-fn threads_stand(rt: &impl Abort, world: &World<Global>) {
+fn threads_stand<R: Abort + AllocGlobal>(rt: &R, world: &World<Global>) {
     let cases = [
         ("cells", world.cells() == 512),
         ("local_limit", world.local_limit() == 7),
         ("registered", world.registered() == 2),
         ("the root has no status", world.status(0).is_none()),
-        ("status", matches!(world.status(1), Some(Status::Active))),
-        ("a free hand", matches!(world.hand(1), Some(Hand::Free))),
-        (
-            "a hand",
-            matches!(world.hand(2), Some(Hand::Busy(Phase::Zero, 301))),
-        ),
         ("locked", world.locked(1) == Some(3)),
         ("nothing locked", world.locked(2) == None),
         ("places", world.places(1) == 6),
@@ -109,6 +100,9 @@ fn threads_stand(rt: &impl Abort, world: &World<Global>) {
         ("a vacant place", world.place(1, 5) == None),
     ];
     all_hold(rt, cases.as_slice());
+    shows(rt, "status", &world.status(1), "Some(Active)");
+    let hands = (world.hand(1), world.hand(2));
+    shows(rt, "hands", &hands, "(Some(Free), Some(Busy(Zero, 301)))");
 }
 
 fn piles_stand(rt: &impl Abort, world: &World<Global>) {
@@ -129,69 +123,43 @@ fn piles_stand(rt: &impl Abort, world: &World<Global>) {
     all_hold(rt, cases.as_slice());
 }
 
-fn cells_stand(rt: &impl Abort, world: &World<Global>) {
+fn cells_stand<R: Abort + AllocGlobal>(rt: &R, world: &World<Global>) {
     let cases = [
         ("is_live", world.is_live(266)),
         ("not is_live", !world.is_live(268)),
-        ("owner", matches!(world.owner(266), Some(Owner::Thread(1)))),
-        ("kind", matches!(world.kind(266), Some(Kind::List))),
-        (
-            "an immortal's kind",
-            matches!(world.kind(13), Some(Kind::Int)),
-        ),
         ("local", world.local(266) == Some(2)),
         ("count", world.count(266) == Some(0)),
-        ("state", matches!(world.state(266), Some(State::Queued))),
         ("total", world.total(266) == Some(2)),
         ("no total", world.total(268) == None),
         ("entries", world.entries(266).len() == 0),
         ("no entry", world.entry(265, 0) == None),
     ];
     all_hold(rt, cases.as_slice());
+    let words = (world.owner(266), world.state(266));
+    shows(rt, "words", &words, "(Some(Thread(1)), Some(Queued))");
+    // The second is an immortal.
+    let kinds = (world.kind(266), world.kind(13));
+    shows(rt, "kinds", &kinds, "(Some(List), Some(Int))");
 }
 
-fn ledgers_stand(rt: &impl Abort, world: &World<Global>) {
-    const WANTED: Ledger = Ledger {
-        allocs: 5,
-        frees: 1,
-    };
-    same(rt, "ledgers", world.ledgers(), WANTED);
-    let own = world.ledger(2);
-    let cases = [
-        (
-            "ledger",
-            matches!(
-                own,
-                Some(Ledger {
-                    allocs: 1,
-                    frees: 0,
-                })
-            ),
-        ),
-        ("live", world.live() == 4),
-    ];
-    all_hold(rt, cases.as_slice());
+fn ledgers_stand<R: Abort + AllocGlobal>(rt: &R, world: &World<Global>) {
+    // Of all threads, and of the second.
+    let ledgers = (world.ledgers(), world.ledger(2));
+    let wanted = "(Ledger { allocs: 5, frees: 1 }, Some(Ledger { allocs: 1, frees: 0 }))";
+    shows(rt, "ledgers", &ledgers, wanted);
+    same(rt, "live", world.live(), 4);
 }
 
 #[test]
 fn readers_of_a_world(rt: HostRuntime) -> Result<(), Fault> {
-    const WANTED: &[Holder] = &[
-        Holder::Frame {
-            thread: 1,
-            place: 0,
-        },
-        Holder::Queue {
-            thread: 1,
-            cell: 266,
-        },
-    ];
+    const HOLDERS: &str = "[Frame { thread: 1, place: 0 }, Queue { thread: 1, cell: 266 }]";
     let world = world_behind(rt.alloc(), BUSY)?;
     threads_stand(&rt, &world);
     piles_stand(&rt, &world);
     cells_stand(&rt, &world);
     ledgers_stand(&rt, &world);
     let holders = world.holders(rt.alloc(), 266)?;
-    same(&rt, "the holders", holders.as_slice(), WANTED);
+    shows(&rt, "the holders", &holders.as_slice(), HOLDERS);
     Ok(())
 }
 
