@@ -1,5 +1,8 @@
 //! A script, from its bytes to the text of what came of it.
 
+ghost use Rattle.std.specs.Prelude.{◌≡◌, ◌↔◌, Err};
+ghost use Rattle.brc_words.specs.declared.fault.Fault.TheVariants as faults;
+ghost use Rattle.brc_run.specs.Options.{AreRunOptions};
 ghost use Rattle.brc_run_text.specs.Scripts_Run.{Runs};
 
 use crate::telling::{has_fault, write_run};
@@ -34,7 +37,8 @@ pub fn run_script<T: Threads + Wait + Sync, R: Read + Drop, W: Write, G: Gate>(
     writer: &mut W,
     gate: &G,
 ) -> Result<Ended, Fault>
-    ensures { Runs options (G.may_refuse gate.now) (R.remaining reader) (W.contents writer.old) (W.contents writer.new) result }
+    ensures runs { Runs options (G.may_refuse gate.now) (R.remaining reader) (W.contents writer.old) (W.contents writer.new) result }
+    ensures options { (result ≡ Err faults.BadOptions) ↔ ¬ (AreRunOptions options) }
 {
     if !options.are_within() {
         return Err(Fault::BadOptions);

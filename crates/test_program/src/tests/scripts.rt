@@ -155,10 +155,10 @@ fn each_list_that_is_handed_over_ends(rt: HostRuntime) -> Result<(), Fail> {
     Ok(())
 }
 
-/// A section that plays 4,000 turns, of numbers from 1,001 up. In each turn a number is put in place of another in a dictionary, and one
+/// A section that plays 10,000 turns, of numbers from 1,001 up. In each turn a number is put in place of another in a dictionary, and one
 /// in a list; one is pushed and one popped, one is sent and one received. At the end it sends the sum of what it got.
 const PLAYS: &str =
-    "fetch r0 list\nfetch r1 box\nfetch r2 dict\nint r4 0\nint r5 1000\nint r6 1\nrepeat 4000\nadd r7 r5 r6\nput r2 'k r7\nadd r8 r4 r7\ncopy r4 r8\nadd r7 r5 r6\nset r0 0 r7\nadd r8 r4 r7\ncopy r4 r8\nadd r7 r5 r6\npush r0 r7\npop r7 r0\nadd r8 r4 r7\ncopy r4 r8\nadd r7 r5 r6\nsend r1 r7\nrecv r7 r1\nadd r8 r4 r7\ncopy r4 r8\nadd r7 r5 r6\ncopy r5 r7\nend\nfetch r9 sums\nsend r9 r4\n";
+    "fetch r0 list\nfetch r1 box\nfetch r2 dict\nint r4 0\nint r5 1000\nint r6 1\nrepeat 10000\nadd r7 r5 r6\nput r2 'k r7\nadd r8 r4 r7\ncopy r4 r8\nadd r7 r5 r6\nset r0 0 r7\nadd r8 r4 r7\ncopy r4 r8\nadd r7 r5 r6\npush r0 r7\npop r7 r0\nadd r8 r4 r7\ncopy r4 r8\nadd r7 r5 r6\nsend r1 r7\nrecv r7 r1\nadd r8 r4 r7\ncopy r4 r8\nadd r7 r5 r6\ncopy r5 r7\nend\nfetch r9 sums\nsend r9 r4\n";
 
 /// What the last section shares: a list with one number, an empty mailbox, a dictionary with one number, and a mailbox for the sums.
 const SHARES: &str =
@@ -169,7 +169,7 @@ const ADDS_LEFT: &str =
     "pop r5 r0\nadd r6 r4 r5\ncopy r4 r6\ndel r5 r2 'k\nadd r6 r4 r5\nprint r6\nprint r0\nprint r1\nprint r2\n";
 
 /// So many sections play, and so it ends. Each number that was given is got once or left, so the sum is theirs: a section gives 4 times
-/// the numbers from 1,001 to 5,000, which is 48,008,000, and there were 2,000 at first. A section makes 9 integers in a turn and one before;
+/// the numbers from 1,001 to 11,000, which is 240,020,000, and there were 2,000 at first. A section makes 9 integers in a turn and one before;
 /// the last one makes 6 objects, and an integer for each number that it adds.
 fn play<T: Abort + AllocGlobal + Threads + Wait + Sync>(
     rt: &T,
@@ -198,7 +198,7 @@ fn two_sections_share_for_many_turns(rt: HostRuntime) -> Result<(), Fail> {
     play(
         &rt,
         2,
-        "last: 96018000\nlast: list 0\nlast: mailbox 0\nlast: dict 0\nledger 72012 72012 0\n",
+        "last: 480042000\nlast: list 0\nlast: mailbox 0\nlast: dict 0\nledger 180012 180012 0\n",
     )
 }
 
@@ -207,7 +207,7 @@ fn four_sections_share_for_many_turns(rt: HostRuntime) -> Result<(), Fail> {
     play(
         &rt,
         4,
-        "last: 192034000\nlast: list 0\nlast: mailbox 0\nlast: dict 0\nledger 144016 144016 0\n",
+        "last: 960082000\nlast: list 0\nlast: mailbox 0\nlast: dict 0\nledger 360016 360016 0\n",
     )
 }
 
@@ -216,7 +216,7 @@ fn eight_sections_share_for_many_turns(rt: HostRuntime) -> Result<(), Fail> {
     play(
         &rt,
         8,
-        "last: 384066000\nlast: list 0\nlast: mailbox 0\nlast: dict 0\nledger 288024 288024 0\n",
+        "last: 1920162000\nlast: list 0\nlast: mailbox 0\nlast: dict 0\nledger 720024 720024 0\n",
     )
 }
 

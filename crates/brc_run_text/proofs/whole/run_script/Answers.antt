@@ -7,8 +7,8 @@ use Rattle.brc_run_text.specs.Tellings.{ends_by_fault}
 use Rattle.brc_run_text.proofs.Run_Laws.{not_spelled, run_of, not_written}
 use Rattle.brc_run_text.proofs.whole.run_script.Goals as goal
 
-pub returns-in_err-script : goal.returns-in_err-script
-returns-in_err-script g c =
+pub returns-in_err-script-clause-runs : goal.returns-in_err-script-clause-runs
+returns-in_err-script-clause-runs g c =
     let p = err_from_is_err_and c.from_residual-in_err-script.result c.from_residual-in_err-script.ensures.1 in
     rw (p.1, p.2) (
     not_spelled c.args.options (g.G.Gate.may_refuse c.args.gate.now) (g.R.Read.remaining c.args.reader) (g.W.Write.contents c.args.writer.now)
@@ -16,8 +16,8 @@ returns-in_err-script g c =
     (subst (λ (b : List ℕ). Refuses c.in_err-script.field-0.0 (script_at {A = Global} b)) c.as_slice.ensures.value c.in_err-script.ensures.exact)
     )
 
-pub returns-in_err-write_run : goal.returns-in_err-write_run
-returns-in_err-write_run g c =
+pub returns-in_err-write_run-clause-runs : goal.returns-in_err-write_run-clause-runs
+returns-in_err-write_run-clause-runs g c =
     let p = err_from_is_err_and c.from_residual-in_err-write_run.result c.from_residual-in_err-write_run.ensures.1 in
     let refuses = g.G.Gate.may_refuse c.args.gate.now in
     let input = g.R.Read.remaining c.args.reader in
@@ -32,8 +32,8 @@ returns-in_err-write_run g c =
     c.in_err-write_run.ensures.0 c.in_err-write_run.ensures.2
     )
 
-pub returns : goal.returns
-returns g c =
+pub returns-clause-runs : goal.returns-clause-runs
+returns-clause-runs g c =
     let refuses = g.G.Gate.may_refuse c.args.gate.now in
     let input = g.R.Read.remaining c.args.reader in
     let script = c.in_ok-script.script in
