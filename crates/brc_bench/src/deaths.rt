@@ -6,7 +6,7 @@ ghost use Rattle.brc_count.specs.Owned.{Keeps, Gains, Loses, Trades};
 
 use crate::handles::{a_list, release, work};
 use crate::lists::push;
-use crate::timing::{Span, this_moment};
+use crate::timing::{Span, refused, this_moment};
 use brc_count::{Frame, Handle};
 use brc_counter::Home;
 use std::alloc::Allocator;
@@ -78,6 +78,33 @@ pub fn a_chain<R: Wait, H: Home<A>, A: Allocator + Copy>(
     match a_list(alloc, frame) {
         Some(end) => links(rt, alloc, frame, end, count.saturating_sub(1)),
         None => None,
+    }
+}
+
+/// When the making of a chain of so many lists began, and when it stood; or why it can't be had. It is taken apart afterwards.
+pub fn times_making<R: Wait + Clock + CpuClock, H: Home<A>, A: Allocator + Copy>(
+    rt: &R,
+    alloc: A,
+    frame: &mut Frame<H, A>,
+    count: u64,
+) -> io::Result<Span>
+    requires unlocked { IsUnlocked frame.old }
+    ensures keeps { Keeps frame.old frame.new }
+    ensures unlocked { IsUnlocked frame.new }
+{
+    let began = this_moment(rt);
+    let made = a_chain(rt, alloc, frame, count);
+    let ended = this_moment(rt);
+    match made {
+        Some(chain) => {
+            release(frame, chain);
+            work(frame, 1 << 30);
+            Ok(Span {
+                began: began?,
+                ended: ended?,
+            })
+        }
+        None => Err(refused()),
     }
 }
 

@@ -23,7 +23,7 @@ const UNDER_WAY: u64 = 1_024;
 /// What the threads tell each other beside the heap.
 #[derive(Drop)]
 pub struct Post {
-    /// How many threads are ready to begin.
+    /// How often threads were ready to begin.
     pub ready: AtomicU64,
     /// How many letters have been received, as of the last 64th.
     pub received: AtomicU64,
@@ -41,11 +41,11 @@ impl Post {
         }
     }
 
-    /// Waits until so many threads are ready to begin, as this one is.
-    pub fn begin_together(&self, rt: &impl Wait, threads: u32) {
+    /// Waits until so many threads are ready to begin, as this one is, for the first time or the second.
+    pub fn begin_together(&self, rt: &impl Wait, threads: u32, time: u64) {
         self.ready.fetch_add(1, Ordering::Relaxed);
         for _ in rt.forever() {
-            if self.ready.load(Ordering::Relaxed) >= u64::from(threads) {
+            if self.ready.load(Ordering::Relaxed) >= u64::from(threads).saturating_mul(time) {
                 return;
             }
             thread::yield_now();

@@ -5,31 +5,36 @@ ghost use Rattle.brc_count.specs.Frames.{IsUnlocked};
 ghost use Rattle.brc_count.specs.Owned.{Keeps, Gains};
 ghost use Rattle.brc_handles.specs.Handles.{Holds};
 
-use crate::deaths::{a_chain, times_death};
-use crate::dicts::puts_and_finds;
+use crate::deaths::{a_chain, times_death, times_making};
+use crate::dicts::{Keys, puts_and_finds};
 use crate::letters::{Post, mails};
 use crate::lists::{a_full_list, lists, pushes_and_pops};
 use crate::many::{makes, makes_dict, makes_list, takes};
-use crate::operations::{integers, pairs, pairs_in_turn, polled_pairs, texts};
+use crate::operations::{integers, pairs, pairs_in_turn, pairs_strewn, polled_pairs, texts};
 use crate::request::Case;
-use crate::timing::{Span, this_moment};
+use crate::timing::{Span, refused, this_moment};
 use brc_count::{Frame, Handle, Ledger};
 use brc_counter::Home;
 use brc_handles::Handles;
 use brc_thread::{Heap, Mutator, Resting};
+use brc_words::FIRST_MORTAL;
 use std::alloc::{Allocator, Global};
 use std::io;
 use std::rt::Clock;
 use std::sync::Wait;
 use std::time::CpuClock;
 
+/// How many cells a heap has.
+pub const CELLS: u32 = 65_536;
+
+/// How many of them are free while `claim_full` is timed.
+const LEFT_FREE: u32 = 16;
+
+/// How many integers leave so many cells free.
+const NEARLY_ALL: u32 = CELLS - FIRST_MORTAL - LEFT_FREE;
+
 /// How many objects `pair_foreign` counts in turn.
 pub const FOREIGN: u32 = 64;
-
-/// A case that can't be run.
-pub fn refused() -> io::Error {
-    io::ErrorKind::OutOfMemory.into()
-}
 
 /// The first of the keys under which the thread of this number puts integers of its own into the globals.
 pub fn first_key(thread: u32) -> u32 {
@@ -54,6 +59,8 @@ fn fills<R: Wait, H: Home<A>, A: Allocator + Copy>(
     match asked.case {
         Case::PairOwn | Case::NewList10 => makes(alloc, frame, handles, 1),
         Case::PairOwn8 => makes(alloc, frame, handles, 8),
+        Case::PairOwn256 => makes(alloc, frame, handles, 256),
+        Case::ClaimFull => makes(alloc, frame, handles, NEARLY_ALL),
         Case::PairShared | Case::ListShared | Case::Mail => takes(rt, frame, handles, thread, 1),
         Case::PairForeign => {
             // The idle threads, as many as these, are the first ones.
@@ -61,8 +68,10 @@ fn fills<R: Wait, H: Home<A>, A: Allocator + Copy>(
             takes(rt, frame, handles, first_key(owner), FOREIGN)
         }
         Case::List => makes_list(rt, alloc, frame, handles),
-        Case::Dict => makes_dict(rt, alloc, frame, handles),
-        Case::NewInt | Case::NewText16 | Case::Chain | Case::Wide => true,
+        Case::Dict => makes_dict(rt, alloc, frame, handles, Keys::Many),
+        Case::Dict4 => makes_dict(rt, alloc, frame, handles, Keys::Few),
+        Case::NewInt | Case::NewText16 => true,
+        Case::Chain | Case::MakeChain | Case::Wide => true,
     }
 }
 
@@ -90,7 +99,9 @@ fn counts<R: Wait, H: Home<A>, A: Allocator + Copy>(
         Case::PairShared => polled_pairs(frame, first, n),
         Case::NewList10 => lists(rt, alloc, frame, first, n),
         Case::List | Case::ListShared => pushes_and_pops(rt, alloc, frame, first, n),
-        Case::Dict => puts_and_finds(rt, alloc, frame, first, n),
+        Case::Dict => puts_and_finds(rt, alloc, frame, first, Keys::Many, n),
+        Case::Dict4 => puts_and_finds(rt, alloc, frame, first, Keys::Few, n),
+        Case::PairOwn256 => pairs_strewn(frame, handles, n),
         Case::Mail => mails(rt, alloc, frame, first, post, n),
         _ => pairs_in_turn(frame, handles, n),
     }
@@ -112,7 +123,7 @@ fn operates<R: Wait, H: Home<A>, A: Allocator + Copy>(
     ensures unlocked { IsUnlocked frame.new }
 {
     match case {
-        Case::NewInt => integers(alloc, frame, n),
+        Case::NewInt | Case::ClaimFull => integers(alloc, frame, n),
         Case::NewText16 => texts(alloc, frame, n),
         _ => counts(rt, alloc, frame, handles, post, case, n),
     }
@@ -153,6 +164,23 @@ fn measures_death<R: Wait + Clock + CpuClock, H: Home<A>, A: Allocator + Copy>(
     }
 }
 
+/// When the thread began and ended what the case times of one object; or why it couldn't.
+fn measures_one<R: Wait + Clock + CpuClock, H: Home<A>, A: Allocator + Copy>(
+    rt: &R,
+    alloc: A,
+    frame: &mut Frame<H, A>,
+    asked: Asked,
+) -> io::Result<Span>
+    requires unlocked { IsUnlocked frame.old }
+    ensures keeps { Keeps frame.old frame.new }
+    ensures unlocked { IsUnlocked frame.new }
+{
+    match asked.case {
+        Case::MakeChain => times_making(rt, alloc, frame, asked.n),
+        _ => measures_death(rt, alloc, frame, asked),
+    }
+}
+
 /// When the thread began and ended its operations; or why it couldn't do them all. It has no handle before and afterwards.
 fn measures<R: Wait + Clock + CpuClock, H: Home<A>, A: Allocator + Copy>(
     rt: &R,
@@ -168,8 +196,9 @@ fn measures<R: Wait + Clock + CpuClock, H: Home<A>, A: Allocator + Copy>(
     ensures unlocked { IsUnlocked frame.new }
 {
     let mut handles = Handles::new(alloc);
+    post.begin_together(rt, asked.threads, 1);
     let filled = fills(rt, alloc, frame, &mut handles, asked);
-    post.begin_together(rt, asked.threads);
+    post.begin_together(rt, asked.threads, 2);
     let began = this_moment(rt);
     let whole = operates(rt, alloc, frame, &handles, post, asked.case, asked.n);
     let ended = this_moment(rt);
@@ -227,7 +256,12 @@ pub fn lives<R: Wait + Clock + CpuClock>(
         Ok(None)
     } else {
         let span = match asked.case {
-            Case::Chain | Case::Wide => measures_death(rt, alloc, mutator.frame(), asked),
+            Case::Chain | Case::MakeChain | Case::Wide => measures_one(
+                rt,
+                alloc,
+                mutator.frame(),
+                asked,
+            ),
             _ => measures(rt, alloc, mutator.frame(), post, asked),
         };
         match span {

@@ -4,7 +4,7 @@ ghost use Rattle.std.specs.Prelude.{◌≡◌};
 ghost use Rattle.brc_count.specs.Frames.{IsUnlocked};
 ghost use Rattle.brc_handles.specs.Handles.{Holds};
 
-use crate::dicts::a_full_dict;
+use crate::dicts::{Keys, a_full_dict};
 use crate::globals::take_from_globals;
 use crate::handles::an_integer;
 use crate::lists::a_full_list;
@@ -13,6 +13,7 @@ use brc_counter::Home;
 use brc_handles::Handles;
 use std::alloc::Allocator;
 use std::sync::Wait;
+use std::thread;
 
 /// A list of ten references more; false where it can't be had.
 pub fn makes_list<R: Wait, H: Home<A>, A: Allocator + Copy>(
@@ -33,12 +34,13 @@ pub fn makes_list<R: Wait, H: Home<A>, A: Allocator + Copy>(
     }
 }
 
-/// A dictionary of 256 keys more; false where it can't be had.
+/// A dictionary of so many keys more; false where it can't be had.
 pub fn makes_dict<R: Wait, H: Home<A>, A: Allocator + Copy>(
     rt: &R,
     alloc: A,
     frame: &mut Frame<H, A>,
     handles: &mut Handles<A>,
+    keys: Keys,
 ) -> bool
     requires holds { Holds 0 frame.old handles.old }
     requires unlocked { IsUnlocked frame.old }
@@ -46,13 +48,13 @@ pub fn makes_dict<R: Wait, H: Home<A>, A: Allocator + Copy>(
     ensures heap { frame.new.heap ≡ frame.old.heap }
     ensures unlocked { IsUnlocked frame.new }
 {
-    match a_full_dict(rt, alloc, frame) {
+    match a_full_dict(rt, alloc, frame, keys) {
         Some(handle) => handles.keep(frame, handle).is_ok(),
         None => false,
     }
 }
 
-/// So many integers more, of the thread's own; false where one can't be had.
+/// So many integers more, of the thread's own, with other threads let on now and then; false where one can't be had.
 pub fn makes<H: Home<A>, A: Allocator + Copy>(
     alloc: A,
     frame: &mut Frame<H, A>,
@@ -71,6 +73,9 @@ pub fn makes<H: Home<A>, A: Allocator + Copy>(
         };
         if handles.keep(frame, handle).is_err() {
             return false;
+        }
+        if i % 4 == 3 {
+            thread::yield_now();
         }
     }
     true

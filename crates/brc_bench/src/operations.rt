@@ -113,6 +113,30 @@ pub fn pairs_in_turn<H: Home<A>, A: Allocator>(
     pairs_of_first(frame, handles, (n % count as u64) as usize)
 }
 
+/// So many pairs on these objects, each in its turn, far from the one before; false where there is none.
+pub fn pairs_strewn<H: Home<A>, A: Allocator>(
+    frame: &mut Frame<H, A>,
+    handles: &Handles<A>,
+    n: u64,
+) -> bool
+    requires holds { Holds 0 frame.old handles.now }
+    requires unlocked { IsUnlocked frame.old }
+    ensures keeps { Keeps frame.old frame.new }
+    ensures unlocked { IsUnlocked frame.new }
+{
+    for i in 0..n {
+        match handles.get((i % 256 * 37 % 256) as usize) {
+            Some(handle) => {
+                if !pair(frame, handle) {
+                    return false;
+                }
+            }
+            None => return false,
+        }
+    }
+    true
+}
+
 /// So many turns of work follow each object that is made.
 pub const TURNS: usize = 64;
 

@@ -7,6 +7,8 @@ pub enum Case {
     PairOwn,
     /// The same of eight integers in turn.
     PairOwn8,
+    /// The same of 256 integers in turn, which the threads made at the same time.
+    PairOwn256,
     /// The same of one integer that all threads hold, with a poll at each 256th.
     PairShared,
     /// The same of 64 integers in turn, whose owner is idle.
@@ -23,17 +25,23 @@ pub enum Case {
     ListShared,
     /// A put into a dictionary of the thread's own of 256 integer keys, and a find.
     Dict,
+    /// The same of 4 keys.
+    Dict4,
     /// A send of a new integer by each of two threads, and its receiving by a third.
     Mail,
     /// One of so many lists, of which each holds the next, is taken apart.
     Chain,
+    /// Such a chain is made.
+    MakeChain,
     /// One of so many entries of a list is released.
     Wide,
+    /// An integer is made and released, and taken apart, in a heap that has 16 free cells.
+    ClaimFull,
 }
 
 /// The names of the cases.
 pub const CASES: &str =
-    "pair_own pair_own8 pair_shared pair_foreign new_int new_text16 new_list10 list list_shared dict mail chain wide";
+    "pair_own pair_own8 pair_own256 pair_shared pair_foreign new_int new_text16 new_list10 list list_shared dict dict4 mail chain make_chain wide claim_full";
 
 /// What a line asks for.
 #[derive(Clone, Copy, Debug, PartialEq, Eq)]
@@ -51,6 +59,7 @@ fn case_of(name: &str) -> Option<Case> {
     match name {
         "pair_own" => Some(Case::PairOwn),
         "pair_own8" => Some(Case::PairOwn8),
+        "pair_own256" => Some(Case::PairOwn256),
         "pair_shared" => Some(Case::PairShared),
         "pair_foreign" => Some(Case::PairForeign),
         "new_int" => Some(Case::NewInt),
@@ -59,9 +68,12 @@ fn case_of(name: &str) -> Option<Case> {
         "list" => Some(Case::List),
         "list_shared" => Some(Case::ListShared),
         "dict" => Some(Case::Dict),
+        "dict4" => Some(Case::Dict4),
         "mail" => Some(Case::Mail),
         "chain" => Some(Case::Chain),
+        "make_chain" => Some(Case::MakeChain),
         "wide" => Some(Case::Wide),
+        "claim_full" => Some(Case::ClaimFull),
         _ => None,
     }
 }

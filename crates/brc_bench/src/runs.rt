@@ -8,9 +8,9 @@ ghost use Rattle.brc_count.specs.Owned.{Keeps, Gains};
 use crate::globals::put_into_globals;
 use crate::handles::{a_list, a_mailbox, an_integer, another, release};
 use crate::letters::{Post, SENDERS};
-use crate::lives::{Asked, Done, FOREIGN, first_key, lives, refused, rests};
+use crate::lives::{Asked, CELLS, Done, FOREIGN, first_key, lives, rests};
 use crate::request::Case;
-use crate::timing::{Times, times_of};
+use crate::timing::{Times, refused, times_of};
 use brc_count::{Frame, Handle};
 use brc_counter::Home;
 use brc_thread::{Heap, Options, Resting, Root, give_back, take_apart};
@@ -63,7 +63,7 @@ fn gives_integers<R: Wait, H: Home<A>, A: Allocator + Copy>(
 }
 
 /// One reference more to the handle's object goes into the globals; false where there is no room.
-fn shares<R: Wait, H: Home<A>, A: Allocator>(
+fn shares<R: Wait, H: Home<A>, A: Allocator + Copy>(
     rt: &R,
     frame: &mut Frame<H, A>,
     handle: &Handle<A>,
@@ -81,7 +81,7 @@ fn shares<R: Wait, H: Home<A>, A: Allocator>(
 }
 
 /// So many of them do, under the numbers of the threads from 1 on.
-fn shares_often<R: Wait, H: Home<A>, A: Allocator>(
+fn shares_often<R: Wait, H: Home<A>, A: Allocator + Copy>(
     rt: &R,
     frame: &mut Frame<H, A>,
     handle: &Handle<A>,
@@ -302,7 +302,7 @@ fn answer_on<R: Threads + Wait + Clock + CpuClock + Sync>(
 fn threads_of(case: Case, threads: u32) -> u32 {
     match case {
         Case::Mail => SENDERS + 1,
-        Case::Chain | Case::Wide => 1,
+        Case::Chain | Case::MakeChain | Case::Wide | Case::ClaimFull => 1,
         _ => threads,
     }
 }
@@ -316,7 +316,7 @@ pub fn run_case<R: Threads + Wait + Clock + CpuClock + Sync>(
     n: u64,
 ) -> io::Result<Answer> {
     let options = Options {
-        cells: 65_536,
+        cells: CELLS,
         local_limit: 4_294_967_294,
     };
     let asked = Asked {

@@ -4,6 +4,11 @@ use std::io;
 use std::rt::Clock;
 use std::time::{CpuClock, Duration, Instant};
 
+/// A case that can't be run.
+pub fn refused() -> io::Error {
+    io::ErrorKind::OutOfMemory.into()
+}
+
 /// A moment, and the processor time that the thread had had by then.
 #[derive(Clone, Copy, Debug)]
 pub struct Moment {

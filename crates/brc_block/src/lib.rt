@@ -8,6 +8,7 @@
 mod block;
 mod cells;
 mod entries;
+mod key_map;
 mod letters;
 mod pairs;
 mod payload;

@@ -1,65 +1,84 @@
 //! The entries of a dictionary.
 
-ghost use Rattle.std.specs.Prelude.{◌≡◌, ◌≢◌, ◌+◌, ◌-◌, ◌<◌, ◌≤◌, ◌++◌, [], ◌∷◌, length, vec_len, take, All, Some, OnOk, OnErr, OnSome, IfErr, IfSome, IfNone, slice_get, slice_set, remove};
+ghost use Rattle.std.specs.Prelude.{◌≡◌, ◌≢◌, ◌+◌, ◌<◌, ◌≤◌, ◌++◌, [], ◌∷◌, length, take, All, Some, None, OnOk, OnErr, IfOk, IfErr, IfSome, IfNone, slice_get, slice_set, remove};
 ghost use Rattle.std.specs.Option.{option_to_list};
-ghost use Rattle.std.specs.Vec.{vec_capacity};
 ghost use Rattle.brc_block.specs.Pairs.{keys_in, cells_in};
 
+use crate::key_map::KeyMap;
 use brc_words::Key;
 use std::alloc::{AllocError, Allocator};
 use std::marker::Model;
 
 /// The entries of a dictionary: each key with its cell, in the order in which the keys came.
+///
+/// The map stands in memory of its own, so that blocks stay small, and is made for the first entry.
 #[derive(Drop)]
 pub struct Pairs<A: Allocator> {
-    list: Vec<(Key<A>, u32), A>,
+    alloc: A,
+    map: Option<Box<KeyMap<A>, A>>,
 }
 
 impl<A: Allocator> Model for Pairs<A> {
-    ghost use Rattle.std.specs.Prelude.{ℕ, ◌-◌, vec_len};
-    ghost use Rattle.std.specs.Vec.{vec_capacity};
+    ghost use Rattle.std.specs.Prelude.{ℕ};
     ghost use Rattle.brc_words.specs.declared.key.Key.{Key};
     ghost use Rattle.brc_block.specs.Row.{Row};
+    ghost use Rattle.brc_block.specs.Pairs.{row_of};
 
     ghost Value = { Row (Key A × ℕ) };
 
-    ghost view = { λ p. record {
-      items = p.list.items;
-      spare = vec_capacity p.list - vec_len p.list;
-    } };
+    ghost view = { λ p. row_of p.map };
+}
+
+/// A map without pairs and with room for one.
+fn first_map<A: Allocator + Copy>(alloc: A) -> Result<Box<KeyMap<A>, A>, AllocError>
+    ensures items { IfOk result (λ map. map.value.items ≡ []) }
+    ensures room { IfOk result (λ map. 0 < map.value.spare) }
+{
+    let mut map = KeyMap::new(alloc);
+    map.reserve()?;
+    match Box::new(alloc, map) {
+        Ok(map) => Ok(map),
+        Err(_refused) => Err(AllocError),
+    }
 }
 
 impl<A: Allocator> Pairs<A> {
-    /// The vector as entries; its spare capacity stays spare.
-    pub fn new(list: Vec<(Key<A>, u32), A>) -> Self
-        ensures items { result.items ≡ list.items }
-        ensures spare { result.spare ≡ vec_capacity list - vec_len list }
+    /// No entries; nothing is allocated.
+    pub fn new(alloc: A) -> Self
+        ensures items { result.items ≡ [] }
+        ensures spare { result.spare ≡ 0 }
     {
-        Pairs { list }
-    }
-
-    /// The pairs in their order.
-    pub fn as_slice(&self) -> &[(Key<A>, u32)]
-        ensures { result.now ≡ self.now.items }
-    {
-        self.list.as_slice()
+        Pairs { alloc, map: None }
     }
 
     pub fn len(&self) -> usize
         ensures { result ≡ length self.now.items }
     {
-        self.as_slice().len()
+        match &self.map {
+            None => 0,
+            Some(map) => map.len(),
+        }
+    }
+
+    /// The key and the cell of an entry, or None past the end.
+    pub fn pair(&self, index: usize) -> Option<(&Key<A>, u32)>
+        ensures there { IfSome result
+            (λ pair. slice_get self.now.items index ≡ Some (pair.0.now, pair.1)) }
+        ensures past { IfNone result (slice_get self.now.items index ≡ None) }
+    {
+        match &self.map {
+            None => None,
+            Some(map) => map.pair(index),
+        }
     }
 
     /// The cell of an entry, or None past the end.
     pub fn entry(&self, index: usize) -> Option<u32>
         ensures { result ≡ slice_get (cells_in self.now.items) index }
     {
-        let pairs = self.as_slice();
-        if index < pairs.len() {
-            Some(pairs[index].1)
-        } else {
-            None
+        match self.pair(index) {
+            None => None,
+            Some((_key, cell)) => Some(cell),
         }
     }
 
@@ -71,51 +90,22 @@ impl<A: Allocator> Pairs<A> {
             (λ index. All (λ other. other ≢ key.now) (take index (keys_in self.now.items))) }
         ensures none { IfNone result (All (λ other. other ≢ key.now) (keys_in self.now.items)) }
     {
-        let pairs = self.as_slice();
-        for (index, pair) in pairs.iter().enumerate() {
-            if pair.0.is_same(key) {
-                return Some(index);
-            }
+        match &self.map {
+            None => None,
+            Some(map) => map.find(key),
         }
-        None
     }
 
-    /// Makes room for one more entry: the next put takes no memory then.
-    pub fn reserve(&mut self) -> Result<(), AllocError>
-        ensures items { self.new.items ≡ self.old.items }
-        ensures kept { self.old.spare ≤ self.new.spare }
-        ensures made { OnOk result (0 < self.new.spare) }
-
-        // A growth is refused only where one was needed.
-        ensures needed { OnErr result (self.old.spare ≡ 0) }
-        ensures unchanged { OnErr result (self.new ≡ self.old) }
-    {
-        self.list.reserve(1)
-    }
-
-    /// One more entry, at the end, in the room that was made for it.
+    /// One more entry, of a key that isn't there, at the end, in the room that was made for it.
     pub fn put_reserved(&mut self, key: Key<A>, cell: u32)
         requires room { 0 < self.old.spare }
+        requires absent { All (λ other. other ≢ key) (keys_in self.old.items) }
         ensures put { self.new.items ≡ self.old.items ++ (key, cell) ∷ [] }
-        ensures used { self.new.spare + 1 ≡ self.old.spare }
+        ensures used { self.old.spare ≤ self.new.spare + 1 }
     {
-        self.list.push_reserved((key, cell));
-    }
-
-    /// One more entry, at the end, or its key back.
-    pub fn put(&mut self, key: Key<A>, cell: u32) -> Result<(), Key<A>>
-        ensures put { OnOk result (self.new.items ≡ self.old.items ++ (key, cell) ∷ []) }
-        ensures left { OnOk result (self.old.spare ≤ self.new.spare + 1) }
-        ensures back { IfErr result (λ back. back ≡ key) }
-        ensures needed { OnErr result (self.old.spare ≡ 0) }
-        ensures unchanged { OnErr result (self.new ≡ self.old) }
-    {
-        match self.reserve() {
-            Err(AllocError) => Err(key),
-            Ok(()) => {
-                self.put_reserved(key, cell);
-                Ok(())
-            }
+        match &mut self.map {
+            None => unreachable!(),
+            Some(map) => map.put_reserved(key, cell),
         }
     }
 
@@ -126,7 +116,10 @@ impl<A: Allocator> Pairs<A> {
         ensures keys { keys_in self.new.items ≡ keys_in self.old.items }
         ensures spare { self.new.spare ≡ self.old.spare }
     {
-        self.list[index].1 = cell;
+        match &mut self.map {
+            None => unreachable!(),
+            Some(map) => map.set(index, cell),
+        }
     }
 
     /// Takes a pair, and the later ones close up.
@@ -134,18 +127,63 @@ impl<A: Allocator> Pairs<A> {
         requires within { index < length self.old.items }
         ensures taken { slice_get self.old.items index ≡ Some result }
         ensures left { self.new.items ≡ remove self.old.items index }
-        ensures spare { self.new.spare ≡ self.old.spare + 1 }
+        ensures spare { self.old.spare ≤ self.new.spare }
     {
-        self.list.remove(index)
+        match &mut self.map {
+            None => unreachable!(),
+            Some(map) => map.remove(index),
+        }
     }
 
     /// Takes the last pair.
     pub fn pop(&mut self) -> Option<(Key<A>, u32)>
         ensures last { self.old.items ≡ self.new.items ++ option_to_list result }
-        ensures spare { OnSome result (self.new.spare ≡ self.old.spare + 1) }
+        ensures spare { self.old.spare ≤ self.new.spare }
         ensures empty { IfNone result (self.old.items ≡ []) }
         ensures unchanged { IfNone result (self.new ≡ self.old) }
     {
-        self.list.pop()
+        match &mut self.map {
+            None => None,
+            Some(map) => map.pop(),
+        }
+    }
+}
+
+impl<A: Allocator + Copy> Pairs<A> {
+    /// Makes room for one more entry: the next put takes no memory then.
+    pub fn reserve(&mut self) -> Result<(), AllocError>
+        ensures items { self.new.items ≡ self.old.items }
+        ensures kept { self.old.spare ≤ self.new.spare }
+        ensures made { OnOk result (0 < self.new.spare) }
+
+        // A growth is refused only where one was needed. The room may be more after it, since the table of a map
+        // grows before its columns.
+        ensures needed { OnErr result (self.old.spare ≡ 0) }
+    {
+        match &mut self.map {
+            Some(map) => map.reserve(),
+            None => {
+                self.map = Some(first_map(self.alloc)?);
+                Ok(())
+            }
+        }
+    }
+
+    /// One more entry, of a key that isn't there, at the end, or its key back.
+    pub fn put(&mut self, key: Key<A>, cell: u32) -> Result<(), Key<A>>
+        requires absent { All (λ other. other ≢ key) (keys_in self.old.items) }
+        ensures put { OnOk result (self.new.items ≡ self.old.items ++ (key, cell) ∷ []) }
+        ensures left { OnOk result (self.old.spare ≤ self.new.spare + 1) }
+        ensures back { IfErr result (λ back. back ≡ key) }
+        ensures needed { OnErr result (self.old.spare ≡ 0) }
+        ensures unchanged { OnErr result (self.new.items ≡ self.old.items) }
+    {
+        match self.reserve() {
+            Err(AllocError) => Err(key),
+            Ok(()) => {
+                self.put_reserved(key, cell);
+                Ok(())
+            }
+        }
     }
 }

@@ -1,6 +1,6 @@
 //! What an object holds.
 
-ghost use Rattle.std.specs.Prelude.{◌≡◌, ◌≢◌, ◌+◌, ◌<◌, ◌≤◌, ◌++◌, [], ◌∷◌, length, take, IsTrue, Some, OnOk, OnErr, OnSome, IfNone, slice_get, slice_set, remove};
+ghost use Rattle.std.specs.Prelude.{◌≡◌, ◌≢◌, ◌+◌, ◌<◌, ◌≤◌, ◌++◌, [], ◌∷◌, length, take, All, IsTrue, Some, OnOk, OnErr, IfNone, slice_get, slice_set, remove};
 ghost use Rattle.std.specs.Option.{option_to_list};
 ghost use Rattle.brc_words.specs.Kinds.{is_container};
 ghost use Rattle.brc_words.specs.declared.kind.Kind.TheVariants as kinds;
@@ -70,28 +70,6 @@ impl<A: Allocator> Payload<A> {
         }
     }
 
-    /// Makes room for one more entry: the next put takes no memory then.
-    #[inline(always)]
-    pub fn reserve(&mut self) -> Result<(), AllocError>
-        requires container { IsTrue (is_container (kind_of self.old)) }
-        ensures kind { kind_of self.new ≡ kind_of self.old }
-        ensures entries { entries_of self.new ≡ entries_of self.old }
-        ensures keys { keys_of self.new ≡ keys_of self.old }
-        ensures kept { spare_of self.old ≤ spare_of self.new }
-        ensures made { OnOk result (0 < spare_of self.new) }
-
-        // A growth is refused only where one was needed.
-        ensures needed { OnErr result (spare_of self.old ≡ 0) }
-        ensures unchanged { OnErr result (self.new ≡ self.old) }
-    {
-        match self {
-            Payload::List(cells) => cells.reserve(),
-            Payload::Dict(pairs) => pairs.reserve(),
-            Payload::Mailbox(letters) => letters.reserve(),
-            _ => unreachable!(),
-        }
-    }
-
     /// One more entry of a list or a mailbox, at the end, in the room that was made for it.
     #[inline(always)]
     pub fn put_reserved(&mut self, cell: u32)
@@ -109,13 +87,14 @@ impl<A: Allocator> Payload<A> {
         }
     }
 
-    /// One more entry of a dictionary, at the end, in the room that was made for it.
+    /// One more entry of a dictionary, of a key that isn't there, at the end, in the room that was made for it.
     pub fn put_pair_reserved(&mut self, key: Key<A>, cell: u32)
         requires keyed { kind_of self.old ≡ kinds.Dict }
         requires room { 0 < spare_of self.old }
+        requires absent { All (λ other. other ≢ key) (keys_of self.old) }
         ensures put { entries_of self.new ≡ entries_of self.old ++ cell ∷ [] }
         ensures keys { keys_of self.new ≡ keys_of self.old ++ key ∷ [] }
-        ensures used { spare_of self.new + 1 ≡ spare_of self.old }
+        ensures used { spare_of self.old ≤ spare_of self.new + 1 }
         ensures kind { kind_of self.new ≡ kind_of self.old }
     {
         match self {
@@ -149,7 +128,7 @@ impl<A: Allocator> Payload<A> {
         ensures left { entries_of self.new ≡ remove (entries_of self.old) index }
         ensures keys { keys_of self.new ≡ remove (keys_of self.old) index }
         ensures kind { kind_of self.new ≡ kind_of self.old }
-        ensures spare { spare_of self.new ≡ spare_of self.old + 1 }
+        ensures spare { spare_of self.old ≤ spare_of self.new }
     {
         match self {
             Payload::List(cells) => cells.remove(index),
@@ -168,7 +147,7 @@ impl<A: Allocator> Payload<A> {
         ensures last { entries_of self.old ≡ entries_of self.new ++ option_to_list result }
         ensures keys { keys_of self.new ≡ take (length (entries_of self.new)) (keys_of self.old) }
         ensures kind { kind_of self.new ≡ kind_of self.old }
-        ensures spare { OnSome result (spare_of self.new ≡ spare_of self.old + 1) }
+        ensures spare { spare_of self.old ≤ spare_of self.new }
         ensures empty { IfNone result (entries_of self.old ≡ []) }
         ensures unchanged { IfNone result (self.new ≡ self.old) }
     {
@@ -180,6 +159,31 @@ impl<A: Allocator> Payload<A> {
             },
             Payload::Mailbox(letters) => letters.pop(),
             _ => None,
+        }
+    }
+}
+
+impl<A: Allocator + Copy> Payload<A> {
+    ghost use Rattle.brc_block.specs.Payload.{kind_of, entries_of, keys_of, spare_of};
+
+    /// Makes room for one more entry: the next put takes no memory then.
+    #[inline(always)]
+    pub fn reserve(&mut self) -> Result<(), AllocError>
+        requires container { IsTrue (is_container (kind_of self.old)) }
+        ensures kind { kind_of self.new ≡ kind_of self.old }
+        ensures entries { entries_of self.new ≡ entries_of self.old }
+        ensures keys { keys_of self.new ≡ keys_of self.old }
+        ensures kept { spare_of self.old ≤ spare_of self.new }
+        ensures made { OnOk result (0 < spare_of self.new) }
+
+        // A growth is refused only where one was needed.
+        ensures needed { OnErr result (spare_of self.old ≡ 0) }
+    {
+        match self {
+            Payload::List(cells) => cells.reserve(),
+            Payload::Dict(pairs) => pairs.reserve(),
+            Payload::Mailbox(letters) => letters.reserve(),
+            _ => unreachable!(),
         }
     }
 }

@@ -37,9 +37,9 @@ module _ {A : Type 0} where
     pub works : new.works ≡ old.works
     pub rest : KeepsRest old new
 
-  -- all mortal cells were passed over, each with a note of its owner word; nothing else was done
+  -- of each mortal cell there is a note that it wasn't free, its free word with its bit 0; nothing else was done
   pub record FoundNone (old new : FrameSeen A) : Type 0 where
-    pub passed : PassesOver old.seat.log FIRST_MORTAL old.heap.cells new.seat.log
+    pub passed : PassesOver old.seat.log old.heap.cells new.seat.log
     pub keeps : KeepsHandles old new
     pub works : new.works ≡ old.works
 

@@ -1,25 +1,76 @@
--- What a search for a free cell keeps from cell to cell.
-use Rattle.std.proofs.Common.{◌≡◌, ◌+◌, ℕ, List, refl, sym, ◌∙◌, ap}
+-- What a search for a free cell keeps from word to word, and in a word from cell to cell.
+use Rattle.std.proofs.Common.{◌≡◌, ◌≢◌, ◌≤◌, ◌<◌, ◌+◌, ◌*◌, ◌/◌, ◌%◌, ◌==◌, ◌&&◌, ◌||◌, min, max, ℕ, Bool, true, false, List, [], ◌∷◌, ◌++◌, refl, sym, ◌∙◌, ap, subst, inl, inr, arith}
+use Rattle.std.specs.Cmp.Derive.{both_true}
+use Rattle.std.specs.Int.{bit_at}
+use Rattle.std.proofs.lemmas.Bool.{cases_lt, cases_eq, and_parts, eq-eqb, true≢false}
+use Rattle.std.proofs.lemmas.List.{append_assoc}
+use Rattle.std.proofs.lemmas.Nat.Bits.{bit_at-lt, bit_at-zero, bit_at-trailing_zeros}
 use Rattle.brc_words.specs.declared.limits.TheConstants.{FIRST_MORTAL}
 use Rattle.brc_runs.specs.Lists.{names}
+use Rattle.brc_known.specs.declared.word.Word.TheVariants.{FreeWord}
 use Rattle.brc_known.specs.Items.{Part}
 use Rattle.brc_known.specs.Going_On.{Known}
 use Rattle.brc_known.specs.Risen.{drop_in}
 use Rattle.brc_known.proofs.Risen_Law.{risen_named}
 use Rattle.brc_rule.specs.declared.told.Told.{Told}
+use Rattle.brc_rule.specs.declared.told.Told.TheVariants.{Saw, Lost}
 use Rattle.brc_rule.specs.Logs.{log_items}
 use Rattle.brc_rule.specs.Seen.{part_seen}
 use Rattle.brc_table.specs.Knowing.{known_seen, Keeps}
 use Rattle.brc_table.specs.Seated.{Continues}
 use Rattle.brc_counter.specs.Counter.{CounterSeen}
-use Rattle.brc_counter.specs.Seeking.{PassedOver, PassesOver, NoneYet, OneMore}
+use Rattle.brc_counter.specs.Seeking.{lacks_cell, tells_taken, are_free_looks, have_told_taken, PassesFrom, ClaimsFrom, Takes, Misses}
 use Rattle.brc_counter.specs.Up.{IsKnown}
 
--- the search has come to this cell
-pub record IsSeeking {A : Type 0} (start : CounterSeen A) (cell : ℕ) (now : CounterSeen A) : Type 0 where
+-- ---- notes
+
+all_looks : (more looks : List Told) → are_free_looks more ≡ true → are_free_looks looks ≡ true → are_free_looks (more ++ looks) ≡ true
+all_looks [] looks first second = second
+all_looks (x ∷ more) looks first second = let parts = and_parts _ _ first in both_true parts.0 (all_looks more looks parts.1 second)
+
+one_true : (a b : Bool) → a ≡ true → (a || b) ≡ true
+one_true true b is = refl
+one_true false b is = absurd (true≢false (sym is))
+
+other_true : (a b : Bool) → b ≡ true → (a || b) ≡ true
+other_true true b is = refl
+other_true false b is = is
+
+told_before : (d : ℕ) (more looks : List Told) → have_told_taken d looks ≡ true → have_told_taken d (more ++ looks) ≡ true
+told_before d [] looks told = told
+told_before d (x ∷ more) looks told = other_true (tells_taken d x) _ (told_before d more looks told)
+
+one_more : (a b b' : Bool) → (b ≡ true → b' ≡ true) → (a || b) ≡ true → (a || b') ≡ true
+one_more true b b' more told = refl
+one_more false b b' more told = more told
+
+told_since : (d : ℕ) (more looks : List Told) → have_told_taken d more ≡ true → have_told_taken d (more ++ looks) ≡ true
+told_since d [] looks told = absurd (true≢false (sym told))
+told_since d (x ∷ more) looks told = one_more (tells_taken d x) _ _ (told_since d more looks) told
+
+-- the cell's free word, found without its bit
+lacks : (d word number : ℕ) → d / 64 ≡ word → bit_at number (d % 64) ≡ 0 → lacks_cell d (FreeWord word) number ≡ true
+lacks d word number there none = both_true (eq-eqb word (d / 64) (sym there)) (eq-eqb (bit_at number (d % 64)) 0 none)
+
+-- what two searches passed over, the second beginning where the first had come to
+passes_on : {first c from to : ℕ} {before mid log : List Told} → ((d : ℕ) → d < to → c ≤ d → from ≤ d) → PassesFrom first before c mid → PassesFrom from mid to log → PassesFrom first before to log
+passes_on {first} {c} {from} {to} {before} {mid} {log} meets old new = record {
+  looks = new.looks ++ old.looks;
+  above = new.above ∙ ap (λ l. new.looks ++ l) old.above ∙ sym (append_assoc new.looks old.looks before);
+  only = all_looks new.looks old.looks new.only old.only;
+  taken = λ d mortal low high. elim (cases_lt d c) [
+    | inl below ↦ told_before d new.looks old.looks (old.taken d mortal low below)
+    | inr past ↦ told_since d new.looks old.looks (new.taken d mortal (meets d high past) high)
+  ];
+}
+
+-- ---- what is kept
+
+-- the search that began with cell `first` has come to this cell
+pub record IsSeeking {A : Type 0} (start : CounterSeen A) (first cell : ℕ) (now : CounterSeen A) : Type 0 where
   pub heap : now.heap ≡ start.heap
   pub seat : Continues start.seat now.seat
-  pub passed : PassesOver start.seat.log FIRST_MORTAL cell now.seat.log
+  pub passed : PassesFrom first start.seat.log cell now.seat.log
   pub slots : now.seat.slots ≡ start.seat.slots
   pub knows : IsKnown start.heap.cells now.seat.log (known_seen start.heap.cells start.seat.log)
   pub keeps : Keeps start.heap.cells start.seat.log now.seat.log
@@ -28,7 +79,7 @@ keeps_same : (n : ℕ) (log : List Told) → Keeps n log log
 keeps_same n log = record { risen = λ drop c seen. seen ∙ sym (risen_named n (log_items log) drop c seen); owners = λ q seen. seen }
 
 -- what was seen risen in a place that still has the cell is seen so by both logs
-pub keeps_through : {n : ℕ} {before log later : List Told} → part_seen n log ≡ part_seen n before → Keeps n before log → Keeps n log later → Keeps n before later
+keeps_through : {n : ℕ} {before log later : List Told} → part_seen n log ≡ part_seen n before → Keeps n before log → Keeps n log later → Keeps n before later
 keeps_through {n} {before} {log} {later} same first second = record {
   risen = λ drop c seen. second.risen drop c (first.risen drop c seen ∙ ap (λ (p : Part). names c (drop_in p drop)) same ∙ risen_named n (log_items before) drop c seen);
   owners = λ q seen. second.owners q (first.owners q seen);
@@ -37,25 +88,126 @@ keeps_through {n} {before} {log} {later} same first second = record {
 known_through : {n : ℕ} {log later : List Told} {old : Known} → IsKnown n log old → IsKnown n later (known_seen n log) → IsKnown n later old
 known_through {n} {log} {later} {old} first second = record { part = second.part ∙ first.part; blocks = second.blocks ∙ first.blocks; lock = second.lock ∙ first.lock }
 
-pub begins : {A : Type 0} (start : CounterSeen A) → IsSeeking start FIRST_MORTAL start
-begins start = record {
+-- ---- words
+
+-- a search has come to its first cell
+pub begins : {A : Type 0} (start : CounterSeen A) (cells : ℕ) → IsSeeking start FIRST_MORTAL (min (FIRST_MORTAL / 64 * 64) cells) start
+begins start cells = record {
   heap = refl;
   seat = (refl, refl);
-  passed = NoneYet;
+  passed = record { looks = []; above = refl; only = refl; taken = λ d mortal low high. absurd (omega (arith, mortal, high)) };
   slots = refl;
   knows = record { part = refl; blocks = refl; lock = refl };
   keeps = keeps_same start.heap.cells start.seat.log;
 }
 
--- one cell more is passed over
-pub goes_on : {A : Type 0} {start now new : CounterSeen A} (cell : ℕ) → IsSeeking start cell now → new.heap ≡ now.heap → Continues now.seat new.seat → PassedOver cell now.seat.log new.seat.log
+-- one more step of a search
+abbrev goes_on : {A : Type 0} {start now new : CounterSeen A} {first cell next : ℕ} → IsSeeking start first cell now → new.heap ≡ now.heap → Continues now.seat new.seat → PassesFrom first start.seat.log next new.seat.log
     → new.seat.slots ≡ now.seat.slots → IsKnown start.heap.cells new.seat.log (known_seen start.heap.cells now.seat.log) → Keeps start.heap.cells now.seat.log new.seat.log
-    → IsSeeking start (cell + 1) new
-goes_on {A} {start} {now} {new} cell seeks heap seat passed slots knows keeps = record {
+    → IsSeeking start first next new
+goes_on seeks heap seat passed slots knows keeps = record {
   heap = heap ∙ seeks.heap;
   seat = (seat.0 ∙ seeks.seat.0, seat.1 ∙ seeks.seat.1);
-  passed = OneMore cell now.seat.log new.seat.log seeks.passed passed;
+  passed = passed;
   slots = slots ∙ seeks.slots;
   knows = known_through seeks.knows knows;
   keeps = keeps_through seeks.knows.part seeks.keeps keeps;
 }
+
+-- one more word is passed over
+pub next_word : {A : Type 0} {start now new : CounterSeen A} (cells word : ℕ) → IsSeeking start FIRST_MORTAL (min (word * 64) cells) now → new.heap ≡ now.heap → Continues now.seat new.seat
+    → PassesFrom (word * 64) now.seat.log (min (word * 64 + 64) cells) new.seat.log
+    → new.seat.slots ≡ now.seat.slots → IsKnown start.heap.cells new.seat.log (known_seen start.heap.cells now.seat.log) → Keeps start.heap.cells now.seat.log new.seat.log
+    → IsSeeking start FIRST_MORTAL (min ((word + 1) * 64) cells) new
+next_word {A} {start} {now} {new} cells word seeks heap seat passed slots knows keeps =
+    let next : min (word * 64 + 64) cells ≡ min ((word + 1) * 64) cells = omega arith in
+    goes_on seeks heap seat
+    (subst (λ c. PassesFrom FIRST_MORTAL start.seat.log c new.seat.log) next (passes_on (λ d low past. omega (arith, low, past)) seeks.passed passed)) slots knows keeps
+
+-- a cell of the next word is claimed
+pub claims_first : {A : Type 0} {start now : CounterSeen A} {log : List Told} (cells word cell : ℕ) → IsSeeking start FIRST_MORTAL (min (word * 64) cells) now → cell < cells → ClaimsFrom (word * 64) cell now.seat.log log
+    → ClaimsFrom FIRST_MORTAL cell start.seat.log log
+claims_first cells word cell seeks inside claims = record {
+  mid = claims.mid;
+  number = claims.number;
+  passed = passes_on (λ d low past. omega (arith, low, past, inside)) seeks.passed claims.passed;
+  told = claims.told;
+  was_free = claims.was_free;
+}
+
+-- all words are passed over, and so all cells
+pub passes_all : {before log : List Told} (cells words : ℕ) → cells ≤ words * 64 → PassesFrom FIRST_MORTAL before (min (words * 64) cells) log → PassesFrom FIRST_MORTAL before cells log
+passes_all {before} {log} cells words enough passed = let all : min (words * 64) cells ≡ cells = omega (arith, enough) in subst (λ c. PassesFrom FIRST_MORTAL before c log) all passed
+
+-- ---- the cells of a word
+
+-- the word was found so, and the search has come to this cell of it
+pub record IsInWord {A : Type 0} (start : CounterSeen A) (word found cell : ℕ) (now : CounterSeen A) : Type 0 where
+  pub seeks : IsSeeking start (word * 64) cell now
+  pub seen : (d : ℕ) → d / 64 ≡ word → bit_at found (d % 64) ≡ 0 → have_told_taken d seeks.passed.looks ≡ true
+
+-- the cells below the lowest bit that was found
+pub begins_word : {A : Type 0} {start now : CounterSeen A} (word found zeros first : ℕ) → now.heap ≡ start.heap → Continues start.seat now.seat → now.seat.log ≡ Saw (FreeWord word) found ∷ start.seat.log
+    → now.seat.slots ≡ start.seat.slots → IsKnown start.heap.cells now.seat.log (known_seen start.heap.cells start.seat.log) → Keeps start.heap.cells start.seat.log now.seat.log
+    → zeros ≤ 64 → ((i : ℕ) → i < zeros → bit_at found i ≡ 0) → first ≤ max (word * 64 + zeros) FIRST_MORTAL → IsInWord start word found first now
+begins_word {A} {start} {now} word found zeros first heap seat told slots knows keeps few none lowest = record {
+  seeks = record {
+    heap = heap;
+    seat = seat;
+    passed = record {
+      looks = Saw (FreeWord word) found ∷ [];
+      above = told;
+      only = refl;
+      taken = λ d mortal low high. one_true (lacks_cell d (FreeWord word) found) false
+          (lacks d word found (omega (arith, low, high, lowest, few, mortal)) (none (d % 64) (omega (arith, low, high, lowest, few, mortal))));
+    };
+    slots = slots;
+    knows = knows;
+    keeps = keeps;
+  };
+  seen = λ d there no_bit. one_true (lacks_cell d (FreeWord word) found) false (lacks d word found there no_bit);
+}
+
+-- the cell's bit wasn't found
+pub skips : {A : Type 0} {start now : CounterSeen A} {word found cell : ℕ} → IsInWord start word found cell now → cell / 64 ≡ word → bit_at found (cell % 64) ≢ 1 → IsInWord start word found (cell + 1) now
+skips {A} {start} {now} {word} {found} {cell} at there missing = record {
+  seeks = record {
+    heap = at.seeks.heap;
+    seat = at.seeks.seat;
+    passed = record {
+      looks = at.seeks.passed.looks;
+      above = at.seeks.passed.above;
+      only = at.seeks.passed.only;
+      taken = λ d mortal low high. elim (cases_eq d cell) [
+        | inl same ↦ subst (λ e. have_told_taken e at.seeks.passed.looks ≡ true) (sym same) (at.seen cell there (omega (arith, missing, bit_at-lt found (cell % 64))))
+        | inr other ↦ at.seeks.passed.taken d mortal low (omega (arith, high, other))
+      ];
+    };
+    slots = at.seeks.slots;
+    knows = at.seeks.knows;
+    keeps = at.seeks.keeps;
+  };
+  seen = at.seen;
+}
+
+-- the cell was tried, and another had it
+pub misses : {A : Type 0} {start now new : CounterSeen A} {word found cell : ℕ} → IsInWord start word found cell now → new.heap ≡ now.heap → Continues now.seat new.seat → Misses cell now.seat.log new.seat.log
+    → new.seat.slots ≡ now.seat.slots → IsKnown start.heap.cells new.seat.log (known_seen start.heap.cells now.seat.log) → Keeps start.heap.cells now.seat.log new.seat.log
+    → IsInWord start word found (cell + 1) new
+misses {A} {start} {now} {new} {word} {found} {cell} at heap seat missed slots knows keeps = record {
+  seeks = goes_on at.seeks heap seat (record {
+    looks = Lost (FreeWord (cell / 64)) missed.number ∷ at.seeks.passed.looks;
+    above = missed.told ∙ ap (λ l. Lost (FreeWord (cell / 64)) missed.number ∷ l) at.seeks.passed.above;
+    only = at.seeks.passed.only;
+    taken = λ d mortal low high. elim (cases_eq d cell) [
+      | inl same ↦ one_true (lacks_cell d (FreeWord (cell / 64)) missed.number) _
+          (subst (λ e. lacks_cell e (FreeWord (cell / 64)) missed.number ≡ true) (sym same) (lacks cell (cell / 64) missed.number refl missed.taken))
+      | inr other ↦ other_true (lacks_cell d (FreeWord (cell / 64)) missed.number) _ (at.seeks.passed.taken d mortal low (omega (arith, high, other)))
+    ];
+  }) slots knows keeps;
+  seen = λ d there no_bit. other_true (lacks_cell d (FreeWord (cell / 64)) missed.number) _ (at.seen d there no_bit);
+}
+
+-- or it is claimed
+pub claims : {A : Type 0} {start now : CounterSeen A} {log : List Told} {word found cell : ℕ} → IsInWord start word found cell now → Takes cell now.seat.log log → ClaimsFrom (word * 64) cell start.seat.log log
+claims {A} {start} {now} at takes = record { mid = now.seat.log; number = takes.number; passed = at.seeks.passed; told = takes.told; was_free = takes.was_free }

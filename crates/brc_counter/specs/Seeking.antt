@@ -1,32 +1,78 @@
--- A search for a free cell. The owner words of the mortal cells are looked at from the lowest on, and each that is found free is
--- tried once, until the thread has one. That the lowest is taken first is this heap's own choice.
-use Rattle.std.specs.Prelude.{◌≡◌, ◌≢◌, ◌+◌, ◌-◌, ◌^◌, ℕ, List, ◌∷◌}
+-- A search for a free cell: the free words are looked at from the lowest on, and of each the bits that were found are tried,
+-- lowest first, until the thread has a cell. That the lowest is taken first is this heap's own choice, and it holds in the
+-- sense of notes: of each mortal cell below the one claimed the thread has found that it wasn't free.
+use Rattle.std.specs.Prelude.{◌≡◌, ◌≤◌, ◌<◌, ◌==◌, ◌&&◌, ◌||◌, ◌/◌, ◌%◌, ℕ, Bool, true, false, List, [], ◌∷◌, ◌++◌}
+use Rattle.std.specs.Int.{bit_at}
 use Rattle.brc_words.specs.declared.limits.TheConstants.{FIRST_MORTAL}
 use Rattle.brc_runs.specs.declared.event.Step.TheVariants.{Claim}
-use Rattle.brc_known.specs.declared.word.Field.TheVariants.{Owner}
-use Rattle.brc_known.specs.declared.word.Word.TheVariants.{Of}
+use Rattle.brc_known.specs.declared.word.Word.{Word}
+use Rattle.brc_known.specs.declared.word.Word.TheVariants.{FreeWord}
 use Rattle.brc_rule.specs.declared.told.Moved.TheVariants.{Nothing}
 use Rattle.brc_rule.specs.declared.told.Told.{Told}
 use Rattle.brc_rule.specs.declared.told.Told.TheVariants.{Did, Saw, Lost}
 
--- the owner word of a free cell
-abbrev pub FREE : ℕ
-FREE = 2 ^ 64 - 1
+-- the cell's free word, with the cell's bit 0
+abbrev pub lacks_cell : ℕ → Word → ℕ → Bool
+lacks_cell c (FreeWord k) number = (k == c / 64) && (bit_at number (c % 64) == 0)
+lacks_cell c _ number = false
 
--- The cell wasn't to be had: its owner word had another number, when it was looked at, or when it was tried after it had been
--- found free.
-pub data PassedOver (c : ℕ) (before log : List Told) : Type 0 where
-  SeenTaken : (number : ℕ) → number ≢ FREE → log ≡ Saw (Of Owner c) number ∷ before → PassedOver c before log
-  LostToAnother : (number : ℕ) → number ≢ FREE → log ≡ Lost (Of Owner c) number ∷ Saw (Of Owner c) FREE ∷ before
-      → PassedOver c before log
+-- a note that the cell wasn't free: its free word was looked at, or it was tried, and its bit was 0
+abbrev pub tells_taken : ℕ → Told → Bool
+tells_taken c (Saw word number) = lacks_cell c word number
+tells_taken c (Lost word number) = lacks_cell c word number
+tells_taken c (Did s number moved) = false
 
--- the cells from the first on, up to but not with this one, were passed over, one after the other
-pub data PassesOver (before : List Told) (first : ℕ) : ℕ → List Told → Type 0 where
-  NoneYet : PassesOver before first first before
-  OneMore : (c : ℕ) (mid log : List Told) → PassesOver before first c mid → PassedOver c mid log → PassesOver before first (c + 1) log
+abbrev pub is_free_word : Word → Bool
+is_free_word (FreeWord k) = true
+is_free_word _ = false
 
--- the cell is the first that was to be had: all mortal ones below it were passed over, it was found free, and is claimed
-pub record ClaimsFirst (c : ℕ) (before log : List Told) : Type 0 where
+-- a note of a free word
+abbrev pub is_free_look : Told → Bool
+is_free_look (Saw word number) = is_free_word word
+is_free_look (Lost word number) = is_free_word word
+is_free_look (Did s number moved) = false
+
+abbrev pub are_free_looks : List Told → Bool
+are_free_looks [] = true
+are_free_looks (x ∷ looks) = is_free_look x && are_free_looks looks
+
+-- one of the notes tells that the cell wasn't free
+abbrev pub have_told_taken : ℕ → List Told → Bool
+have_told_taken c [] = false
+have_told_taken c (x ∷ looks) = tells_taken c x || have_told_taken c looks
+
+-- The thread has only looked at free words since, and of each mortal cell from the first on, up to but not with this one, it
+-- has a note that it wasn't free.
+pub record PassesFrom (first : ℕ) (before : List Told) (c : ℕ) (log : List Told) : Type 0 where
+  pub looks : List Told
+  pub above : log ≡ looks ++ before
+  pub only : are_free_looks looks ≡ true
+  pub taken : (d : ℕ) → FIRST_MORTAL ≤ d → first ≤ d → d < c → have_told_taken d looks ≡ true
+
+-- of each mortal cell below this one
+abbrev pub PassesOver : List Told → ℕ → List Told → Type 0
+PassesOver = PassesFrom FIRST_MORTAL
+
+-- the cell's bit was there, and so the cell is claimed; those from the first on were passed over
+pub record ClaimsFrom (first c : ℕ) (before log : List Told) : Type 0 where
   pub mid : List Told
-  pub passed : PassesOver before FIRST_MORTAL c mid
-  pub told : log ≡ Did (Claim c) FREE Nothing ∷ Saw (Of Owner c) FREE ∷ mid
+  pub number : ℕ
+  pub passed : PassesFrom first before c mid
+  pub told : log ≡ Did (Claim c) number Nothing ∷ mid
+  pub was_free : bit_at number (c % 64) ≡ 1
+
+-- the cell is the first that was to be had
+abbrev pub ClaimsFirst : ℕ → List Told → List Told → Type 0
+ClaimsFirst = ClaimsFrom FIRST_MORTAL
+
+-- one try: the cell is claimed
+pub record Takes (c : ℕ) (before log : List Told) : Type 0 where
+  pub number : ℕ
+  pub told : log ≡ Did (Claim c) number Nothing ∷ before
+  pub was_free : bit_at number (c % 64) ≡ 1
+
+-- or its bit was taken before
+pub record Misses (c : ℕ) (before log : List Told) : Type 0 where
+  pub number : ℕ
+  pub told : log ≡ Lost (FreeWord (c / 64)) number ∷ before
+  pub taken : bit_at number (c % 64) ≡ 0

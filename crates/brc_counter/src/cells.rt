@@ -1,6 +1,6 @@
 //! Cells: an object is born in one that the thread has claimed, and one that is dead and empty is given back.
 
-ghost use Rattle.std.specs.Prelude.{◌≡◌, ◌<◌, ◌≤◌, ◌-◌, ◌^◌, ◌∷◌, [], ℕ, true, None, Some};
+ghost use Rattle.std.specs.Prelude.{◌≡◌, ◌<◌, ◌≤◌, ◌^◌, ◌∷◌, [], ℕ, true, None, Some};
 ghost use Rattle.atomic_table.specs.Table.{rest};
 ghost use Rattle.brc_words.specs.declared.limits.TheConstants.{FIRST_MORTAL};
 ghost use Rattle.brc_words.specs.Kinds.{is_mortal};
@@ -64,22 +64,23 @@ impl<H: Home<A>, A: Allocator> Counter<H, A> {
         table.birth(&mut self.seat, block, kind, place);
     }
 
-    /// The cell of a dead object without entries is free again; 64 bits count what the thread has freed.
+    /// The cell of a dead object without entries is free again, and its free word is told as it was found; 64 bits count
+    /// what the thread has freed.
     #[inline(always)]
-    pub fn free(&mut self, cell: u32)
+    pub fn free(&mut self, cell: u32) -> u64
         requires inside { cell < self.old.heap.cells }
         requires slot { self.old.seat.slots ≡ (cell, None) ∷ rest self.old.seat.slots }
         requires carries { Carries self.old.heap.cells self.old.seat.log (steps.Free cell) cell }
         ensures heap { self.new.heap ≡ self.old.heap }
         ensures seat { Continues self.old.seat self.new.seat }
         ensures told { self.new.seat.log ≡
-            told.Did (steps.Free cell) (2 ^ 64 - 1) moves.Nothing ∷ self.old.seat.log }
+            told.Did (steps.Free cell) result moves.Nothing ∷ self.old.seat.log }
         ensures home { self.new.seat.slots ≡ rest self.old.seat.slots }
         ensures knows { IsKnown self.old.heap.cells self.new.seat.log
             (giving_back cell (known_seen self.old.heap.cells self.old.seat.log)) }
         ensures keeps { Keeps self.old.heap.cells self.old.seat.log self.new.seat.log }
         ensures few { (part_seen self.old.heap.cells self.new.seat.log).row.frees < 2 ^ 64 }
     {
-        self.heap.table().free(&mut self.seat, cell);
+        self.heap.table().free(&mut self.seat, cell)
     }
 }

@@ -1,21 +1,18 @@
 //! The search for a free cell to make an object in.
 
-ghost use Rattle.std.specs.Prelude.{◌≡◌, ◌<◌, ◌≤◌, ◌∷◌, true, None, IfSome, IfNone, IsTrue, IsFalse};
+ghost use Rattle.std.specs.Prelude.{◌≡◌, ◌+◌, ◌*◌, ◌%◌, ◌<◌, ◌≤◌, ◌==◌, ◌∷◌, ℕ, min, true, None, IfSome, IfNone, IsTrue, IsFalse};
 ghost use Rattle.brc_words.specs.declared.limits.TheConstants.{FIRST_MORTAL, MOST_BIRTHS};
-ghost use Rattle.brc_known.specs.declared.word.Field.TheVariants as fields;
-ghost use Rattle.brc_known.specs.declared.word.Word.TheVariants as words;
+ghost use Rattle.std.specs.Int.{bit_at};
+ghost use Rattle.brc_known.specs.Free_Words.{free_words_for};
 ghost use Rattle.brc_known.specs.Going_On.{handing};
 ghost use Rattle.brc_known.specs.Taken.{listed_at};
-ghost use Rattle.brc_rule.specs.declared.told.Moved.TheVariants as moves;
-ghost use Rattle.brc_rule.specs.declared.told.Told.TheVariants as told;
 ghost use Rattle.brc_rule.specs.Seen.{part_seen, taken_seen};
-ghost use Rattle.brc_runs.specs.declared.event.Step.TheVariants as steps;
 ghost use Rattle.brc_runs.specs.declared.row.Hand.TheVariants as hands;
 ghost use Rattle.brc_runs.specs.declared.row.Phase.TheVariants as phases;
 ghost use Rattle.brc_runs.specs.Steps.{is_active};
 ghost use Rattle.brc_table.specs.Knowing.{known_seen, Keeps};
 ghost use Rattle.brc_table.specs.Seated.{Continues};
-ghost use Rattle.brc_counter.specs.Seeking.{FREE, PassedOver, PassesOver, ClaimsFirst};
+ghost use Rattle.brc_counter.specs.Seeking.{PassesFrom, PassesOver, ClaimsFrom, ClaimsFirst, Takes, Misses};
 ghost use Rattle.brc_counter.specs.Standing.{Stands};
 ghost use Rattle.brc_counter.specs.Up.{IsKnown};
 
@@ -24,8 +21,30 @@ use crate::home::Home;
 use brc_words::FIRST_MORTAL;
 use std::alloc::Allocator;
 
+/// How many of the number's lowest bits are 0.
+#[inline(always)]
+fn zeros_below(number: u64) -> u32
+    ensures few { result ≤ 64 }
+    ensures zeros { (i : ℕ) → i < result → bit_at number i ≡ 0 }
+{
+    if number == 0 {
+        64
+    } else {
+        number.trailing_zeros()
+    }
+}
+
+/// Whether the number has this bit.
+#[inline(always)]
+fn has_bit(number: u64, at: u32) -> bool
+    requires { at < 64 }
+    ensures { result ≡ (bit_at number at == 1) }
+{
+    (number >> at) & 1 == 1
+}
+
 impl<H: Home<A>, A: Allocator> Counter<H, A> {
-    /// One cell is looked at, and tried where it is found free; true where it is the thread's.
+    /// One cell is tried; true where it is the thread's.
     #[inline(always)]
     fn try_cell(&mut self, cell: u32) -> bool
         requires inside { cell < self.old.heap.cells }
@@ -37,29 +56,62 @@ impl<H: Home<A>, A: Allocator> Counter<H, A> {
         ensures seat { Continues self.old.seat self.new.seat }
         ensures fresh { IsTrue result →
             listed_at (taken_seen self.old.heap.cells self.old.seat.log) cell ≡ None }
-        ensures claimed { IsTrue result → self.new.seat.log ≡ told.Did (steps.Claim cell) FREE moves.Nothing
-            ∷ told.Saw (words.Of fields.Owner cell) FREE ∷ self.old.seat.log }
+        ensures claimed { IsTrue result → Takes cell self.old.seat.log self.new.seat.log }
         ensures out { IsTrue result → self.new.seat.slots ≡ (cell, None) ∷ self.old.seat.slots }
         ensures claimed_knows { IsTrue result → IsKnown self.old.heap.cells self.new.seat.log
             (handing (hands.Busy phases.Claimed cell) (known_seen self.old.heap.cells self.old.seat.log)) }
-        ensures passed { IsFalse result → PassedOver cell self.old.seat.log self.new.seat.log }
+        ensures missed { IsFalse result → Misses cell self.old.seat.log self.new.seat.log }
         ensures still { IsFalse result → self.new.seat.slots ≡ self.old.seat.slots }
-        ensures passed_knows { IsFalse result → IsKnown self.old.heap.cells self.new.seat.log
+        ensures missed_knows { IsFalse result → IsKnown self.old.heap.cells self.new.seat.log
             (known_seen self.old.heap.cells self.old.seat.log) }
         ensures keeps { Keeps self.old.heap.cells self.old.seat.log self.new.seat.log }
     {
-        let owner = self.heap.table().load_owner(&mut self.seat, cell);
-        if owner != u64::MAX {
-            return false;
-        }
         match self.claim(cell) {
-            Ok(()) => true,
-            Err(_owner) => false,
+            Ok(_found) => true,
+            Err(_found) => false,
         }
     }
 
-    /// Claims the first free cell that the thread gets: the owner words of the mortal cells are looked at from the lowest on,
-    /// and each that is found free is tried once. None where all of them were passed over, though one that was looked at
+    /// The cells of one free word: it is looked at, and each bit that it had is tried once, the lowest first.
+    #[inline(always)]
+    fn seek_word(&mut self, word: u32) -> Option<u32>
+        requires inside { word < free_words_for self.old.heap.cells }
+        requires stands { Stands self.old.heap.cells self.old.seat.log hands.Free }
+        requires active { is_active (part_seen self.old.heap.cells self.old.seat.log).row.stage ≡ true }
+        requires more { (part_seen self.old.heap.cells self.old.seat.log).row.allocs < MOST_BIRTHS }
+        ensures heap { self.new.heap ≡ self.old.heap }
+        ensures seat { Continues self.old.seat self.new.seat }
+        ensures mortal { IfSome result (λ cell. FIRST_MORTAL ≤ cell) }
+        ensures inside { IfSome result (λ cell. cell < self.old.heap.cells) }
+        ensures fresh { IfSome result (λ cell.
+            listed_at (taken_seen self.old.heap.cells self.old.seat.log) cell ≡ None) }
+        ensures claimed { IfSome result (λ cell.
+            ClaimsFrom (word * 64) cell self.old.seat.log self.new.seat.log) }
+        ensures out { IfSome result (λ cell. self.new.seat.slots ≡ (cell, None) ∷ self.old.seat.slots) }
+        ensures claimed_knows { IfSome result (λ cell. IsKnown self.old.heap.cells self.new.seat.log
+            (handing (hands.Busy phases.Claimed cell)
+            (known_seen self.old.heap.cells self.old.seat.log))) }
+        ensures full { IfNone result (PassesFrom (word * 64) self.old.seat.log
+            (min (word * 64 + 64) self.old.heap.cells) self.new.seat.log) }
+        ensures still { IfNone result (self.new.seat.slots ≡ self.old.seat.slots) }
+        ensures full_knows { IfNone result (IsKnown self.old.heap.cells self.new.seat.log
+            (known_seen self.old.heap.cells self.old.seat.log)) }
+        ensures keeps { Keeps self.old.heap.cells self.old.seat.log self.new.seat.log }
+    {
+        let cells = self.heap.table().cells();
+        let found = self.heap.table().load_free(&mut self.seat, word);
+        let last = (word * 64 + 64).min(cells);
+        let first = (word * 64 + zeros_below(found)).max(FIRST_MORTAL).min(last);
+        for cell in first..last {
+            if has_bit(found, cell % 64) && self.try_cell(cell) {
+                return Some(cell);
+            }
+        }
+        None
+    }
+
+    /// Claims the first free cell that the thread gets: the free words are looked at from the lowest on, and each bit that was
+    /// found is tried once. None where of each mortal cell it was found that it wasn't free, though one that was looked at
     /// early may be free by then.
     #[inline(always)]
     pub fn seek(&mut self) -> Option<u32>
@@ -82,15 +134,15 @@ impl<H: Home<A>, A: Allocator> Counter<H, A> {
 
         // Or none was to be had.
         ensures full { IfNone result
-            (PassesOver self.old.seat.log FIRST_MORTAL self.old.heap.cells self.new.seat.log) }
+            (PassesOver self.old.seat.log self.old.heap.cells self.new.seat.log) }
         ensures still { IfNone result (self.new.seat.slots ≡ self.old.seat.slots) }
         ensures full_knows { IfNone result (IsKnown self.old.heap.cells self.new.seat.log
             (known_seen self.old.heap.cells self.old.seat.log)) }
         ensures keeps { Keeps self.old.heap.cells self.old.seat.log self.new.seat.log }
     {
-        let cells = self.heap.table().cells();
-        for cell in FIRST_MORTAL..cells {
-            if self.try_cell(cell) {
+        let words = self.heap.table().free_words();
+        for word in FIRST_MORTAL / 64..words {
+            if let Some(cell) = self.seek_word(word) {
                 return Some(cell);
             }
         }

@@ -1,6 +1,7 @@
 //! Steps that count nothing: a cell is claimed, an object locked and unlocked, and the thread's merge queue drained.
 
-ghost use Rattle.std.specs.Prelude.{◌≡◌, ◌≢◌, ◌<◌, ◌≤◌, ◌-◌, ◌^◌, ◌∷◌, None, Some, length, OnOk, OnErr, IfOk, IfErr};
+ghost use Rattle.std.specs.Prelude.{◌≡◌, ◌/◌, ◌%◌, ◌<◌, ◌≤◌, ◌∷◌, None, Some, length, OnOk, OnErr, IfOk, IfErr};
+ghost use Rattle.std.specs.Int.{bit_at};
 ghost use Rattle.atomic_table.specs.Table.{rest};
 ghost use Rattle.brc_words.specs.declared.limits.TheConstants.{MOST_ENTRIES};
 ghost use Rattle.brc_runs.specs.Heap.{words_for};
@@ -30,23 +31,24 @@ use brc_runs::Change;
 use std::alloc::Allocator;
 
 impl<H: Home<A>, A: Allocator> Counter<H, A> {
-    /// Claims a free cell, which is none of the thread's dead blocks, to make an object in; or answers the number of its owner
-    /// word.
+    /// Claims a free cell, which is none of the thread's dead blocks, to make an object in; or the cell wasn't free. Either
+    /// answer tells the cell's free word as it was found.
     #[inline(always)]
-    pub fn claim(&mut self, cell: u32) -> Result<(), u64>
+    pub fn claim(&mut self, cell: u32) -> Result<u64, u64>
         requires inside { cell < self.old.heap.cells }
         requires claims { Claims self.old.heap.cells self.old.seat.log cell }
         ensures heap { self.new.heap ≡ self.old.heap }
         ensures seat { Continues self.old.seat self.new.seat }
         ensures fresh { OnOk result
             (listed_at (taken_seen self.old.heap.cells self.old.seat.log) cell ≡ None) }
-        ensures won { OnOk result (self.new.seat.log ≡
-            told.Did (steps.Claim cell) (2 ^ 64 - 1) moves.Nothing ∷ self.old.seat.log) }
+        ensures won { IfOk result (λ found. self.new.seat.log ≡
+            told.Did (steps.Claim cell) found moves.Nothing ∷ self.old.seat.log) }
+        ensures was_free { IfOk result (λ found. bit_at found (cell % 64) ≡ 1) }
         ensures out { OnOk result (self.new.seat.slots ≡ (cell, None) ∷ self.old.seat.slots) }
         ensures lost { IfErr result (λ found.
-            self.new.seat.log ≡ told.Lost (words.Of fields.Owner cell) found ∷ self.old.seat.log) }
+            self.new.seat.log ≡ told.Lost (words.FreeWord (cell / 64)) found ∷ self.old.seat.log) }
+        ensures taken { IfErr result (λ found. bit_at found (cell % 64) ≡ 0) }
         ensures still { OnErr result (self.new.seat.slots ≡ self.old.seat.slots) }
-        ensures taken { IfErr result (λ found. found ≢ 2 ^ 64 - 1) }
         ensures won_knows { OnOk result (IsKnown self.old.heap.cells self.new.seat.log
             (handing (hands.Busy phases.Claimed cell)
             (known_seen self.old.heap.cells self.old.seat.log))) }

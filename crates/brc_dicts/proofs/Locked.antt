@@ -221,10 +221,12 @@ same_cell same = cc
 module _ {A : Type 0} where
   -- what an unlocking put home is what was found
   pub ended_same : (now new : FrameSeen A) (change : Change) (block : ℕ × Payload A) (left : Payload A) → Ended now new change (block.0, left)
-      → left ≡ block.1 → Ended now new change block
-  ended_same now new change block left ended same =
-      let P : Payload A → Type 0 = λ p. Ended now new change (block.0, p) in
-      subst P same ended
+      → contents_of left ≡ contents_of block.1 → Ended now new change block
+  ended_same now new change block left ended same = record {
+    event = ended.event ∙ ap (λ put. Did (Unlock change) 0 (moves.Put block.0 put) ∷ now.seat.log) same;
+    unlocked = ended.unlocked;
+    keeps = ended.keeps;
+  }
 
   -- room for a new key was refused
   pub refused_append : (before now new : FrameSeen A) (k : ℕ) (block : ℕ × Payload A) (key : Key A) (value : ℕ) (fault : Fault)

@@ -98,6 +98,16 @@ module _ {A : Type 0} where
   same_shown : (pairs left : List (Key A × ℕ)) → keys_in pairs ≡ keys_in left → cells_in pairs ≡ cells_in left → dict_of left ≡ dict_of pairs
   same_shown pairs left keys cells = ap dict_of (sym (same_columns pairs left keys cells))
 
+  -- a dictionary with the same keys and cells shows the same
+  pub shown_again : (old new : Payload A) → kind_of old ≡ kinds.Dict → kind_of new ≡ kind_of old → keys_of new ≡ keys_of old
+      → entries_of new ≡ entries_of old → contents_of new ≡ contents_of old
+  shown_again old new dict kind keys entries =
+      let (before, was) = dict_is old dict in
+      let (after, is) = dict_is new (kind ∙ dict) in
+      let same_keys : keys_in before.items ≡ keys_in after.items = sym (ap keys_of (sym is) ∙ keys ∙ ap keys_of was) in
+      let same_cells : cells_in before.items ≡ cells_in after.items = sym (ap entries_of (sym is) ∙ entries ∙ ap entries_of was) in
+      ap contents_of is ∙ same_shown before.items after.items same_keys same_cells ∙ ap contents_of (sym was)
+
   pub put_there : (key : Key A) (value : ℕ) (old new : Payload A) (index cell : ℕ) → IsThere old key index cell
       → kind_of new ≡ kind_of old → keys_of new ≡ keys_of old → entries_of new ≡ slice_set (entries_of old) index value
       → plain_put key value (contents_of old) ≡ Ok (Some cell, contents_of new)

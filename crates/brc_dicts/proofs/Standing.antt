@@ -1,30 +1,19 @@
 -- Where a key stands among pairs, and what the plain calls make of them, by their keys and their cells.
-use Rattle.std.proofs.Common.{◌≡◌, ◌≢◌, ℕ, zero, suc, Bool, true, false, List, [], ◌∷◌, All, Some, None, refl, sym, ◌∙◌, ap, subst, arith, take, slice_get, slice_set, remove}
-use Rattle.std.proofs.lemmas.Bool.Decides.{Decides-int_eq}
-use Rattle.std.proofs.lemmas.Slice.Eq.{bytes_eq-Decides}
+use Rattle.std.proofs.Common.{◌≡◌, ◌≢◌, ℕ, zero, suc, Bool, true, false, List, [], ◌∷◌, All, Some, None, refl, sym, ◌∙◌, ap, subst, arith, take, slice_get, slice_set, remove, true≢false}
 use Rattle.brc_words.specs.declared.key.Key.{Key}
-use Rattle.brc_words.specs.declared.key.Key.TheVariants.{Int, Text}
+use Rattle.brc_words.specs.Keys.{same_key, same_key-exact, same_key-itself}
 use Rattle.brc_block.specs.Pairs.{keys_in, cells_in}
 use Rattle.brc_block.proofs.Columns.{map-remove}
-use Rattle.brc_plain.specs.Dicts.{same_key, value_at, Stands, replaced, without}
-use Rattle.brc_plain.proofs.Pairs.{without_there}
-
-not_true : (b : Bool) → (b ≡ true → ⊥) → b ≡ false
-not_true true isnt = absurd (isnt refl)
-not_true false isnt = refl
+use Rattle.brc_plain.specs.Dicts.{value_at, Stands, replaced, without}
+use Rattle.brc_plain.proofs.Pairs.{none_apart, without_there}
 
 module _ {A : Type 0} where
-  -- ---- two keys are the same exactly where they are equal
-
-  pub same_itself : (key : Key A) → same_key key key ≡ true
-  same_itself (Int number) = (Decides-int_eq number number).1 refl
-  same_itself (Text bytes) = (bytes_eq-Decides bytes bytes).1 refl
-
-  pub never_same : (other key : Key A) → other ≢ key → same_key other key ≡ false
-  never_same (Int number) (Int other) else = not_true _ (λ same. else (ap Int ((Decides-int_eq number other).0 same)))
-  never_same (Int number) (Text others) else = refl
-  never_same (Text bytes) (Int other) else = refl
-  never_same (Text bytes) (Text others) else = not_true _ (λ same. else (ap Text ((bytes_eq-Decides bytes others).0 same)))
+  never_same : (other key : Key A) → other ≢ key → same_key other key ≡ false
+  never_same other key else = by (same_key other key) refl
+    where
+      by : (b : Bool) → same_key other key ≡ b → same_key other key ≡ false
+      by true told = absurd (else (same_key-exact other key told))
+      by false told = told
 
   -- the first index with the key is where it stands, and a key that is at no index stands beside nothing
   pub first_stands : (key : Key A) (pairs : List (Key A × ℕ)) (index : ℕ) → slice_get (keys_in pairs) index ≡ Some key
@@ -32,7 +21,7 @@ module _ {A : Type 0} where
   first_stands key [] index at before = cc
   first_stands key (pair ∷ pairs) zero at before =
       let same : key ≡ pair.0 = cc in
-      subst (λ k. same_key pair.0 k ≡ true) (sym same) (same_itself pair.0)
+      subst (λ k. same_key pair.0 k ≡ true) (sym same) (same_key-itself pair.0)
   first_stands key (pair ∷ pairs) (suc index) at before = (
     never_same pair.0 key (before 0 pair.0 (omega arith)),
     first_stands key pairs index at (λ k d below. before (suc k) d (omega arith)),
@@ -42,6 +31,13 @@ module _ {A : Type 0} where
   none_stands key [] none = refl
   none_stands key (pair ∷ pairs) none =
       rw (never_same pair.0 key (none 0 pair.0 (omega arith))) (none_stands key pairs (λ k d below. none (suc k) d (omega arith)))
+
+  -- where nothing stands beside the key, each key is another
+  pub others_than : (key : Key A) (pairs : List (Key A × ℕ)) → value_at key pairs ≡ None → All (λ other. other ≢ key) (keys_in pairs)
+  others_than key [] none k d below = absurd (omega arith)
+  others_than key (pair ∷ pairs) none zero d below = λ same.
+      true≢false (sym (subst (λ k. same_key pair.0 k ≡ true) same (same_key-itself pair.0)) ∙ (none_apart key pair pairs none).0)
+  others_than key (pair ∷ pairs) none (suc k) d below = others_than key pairs (none_apart key pair pairs none).1 k d (omega arith)
 
   -- beside each key there is a cell
   pub cell_beside : (key : Key A) (pairs : List (Key A × ℕ)) (index : ℕ) → slice_get (keys_in pairs) index ≡ Some key

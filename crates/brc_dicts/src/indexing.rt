@@ -14,7 +14,7 @@ ghost use Rattle.brc_dicts.specs.Indexing.{IsAt, NoPair, Reads, SharesPair, Miss
 ghost use Rattle.brc_dicts.specs.Plain.{plain_key_at, plain_value_at};
 ghost use Rattle.brc_dicts.specs.Since.{Since};
 
-use brc_block::{Block, Pairs, Payload};
+use brc_block::{Block, Payload};
 use brc_count::{Frame, Handle};
 use brc_counter::Home;
 use brc_lock::begin_late;
@@ -22,30 +22,16 @@ use brc_words::{Fault, Key, Text};
 use std::alloc::Allocator;
 use std::sync::Wait;
 
-/// The pair at the place.
-#[inline]
-fn pair_at<A: Allocator>(pairs: &Pairs<A>, index: usize) -> Option<&(Key<A>, u32)>
-    ensures there { IfSome result (λ pair. slice_get pairs.now.items index ≡ Some pair.now) }
-    ensures past { IfNone result (slice_get pairs.now.items index ≡ None) }
-{
-    let pairs = pairs.as_slice();
-    if index < pairs.len() {
-        Some(&pairs[index])
-    } else {
-        None
-    }
-}
-
 /// The pair at the place: WrongKind where the object is no dictionary, NoSuchPlace past its end.
 #[inline]
-fn pair_in<A: Allocator>(payload: &Payload<A>, index: usize) -> Result<&(Key<A>, u32), Fault>
-    ensures there { IfOk result (λ pair. IsAt payload.now index pair.now.0 pair.now.1) }
+fn pair_in<A: Allocator>(payload: &Payload<A>, index: usize) -> Result<(&Key<A>, u32), Fault>
+    ensures there { IfOk result (λ pair. IsAt payload.now index pair.0.now pair.1) }
     ensures refused { IfErr result (NoPair payload.now index) }
 {
     let Payload::Dict(pairs) = payload else {
         return Err(Fault::WrongKind);
     };
-    match pair_at(pairs, index) {
+    match pairs.pair(index) {
         Some(pair) => Ok(pair),
         None => Err(Fault::NoSuchPlace),
     }
@@ -69,8 +55,8 @@ fn key_in<A: Allocator>(alloc: A, payload: &Payload<A>, index: usize) -> Result<
     ensures found { IfOk result (λ key. plain_key_at index (contents_of payload.now) ≡ Ok (key, contents_of payload.now)) }
     ensures refused { IfErr result (MissesKey A (contents_of payload.now) index) }
 {
-    let pair = pair_in(payload, index)?;
-    match copy_of_key(alloc, &pair.0) {
+    let (key, _cell) = pair_in(payload, index)?;
+    match copy_of_key(alloc, key) {
         Some(key) => Ok(key),
         None => Err(Fault::OutOfMemory),
     }
@@ -153,10 +139,10 @@ fn pair_and_place<H: Home<A>, A: Allocator>(
     ensures there { IfOk result (λ pair. IsAt block.now.1 index pair.0 pair.1) }
     ensures refused { IfErr result (MissesPair frame.old (contents_of block.now.1) index) }
 {
-    let pair = pair_in(block.payload(), index)?;
+    let (key, cell) = pair_in(block.payload(), index)?;
     frame.place()?;
-    match copy_of_key(alloc, &pair.0) {
-        Some(key) => Ok((key, pair.1)),
+    match copy_of_key(alloc, key) {
+        Some(key) => Ok((key, cell)),
         None => Err(Fault::OutOfMemory),
     }
 }

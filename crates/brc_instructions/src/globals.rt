@@ -54,7 +54,7 @@ fn delete_global<R: Wait, H: Home<A>, A: Allocator>(
 }
 
 /// The handle goes under the name, and what had it comes out; or the handle is handed back.
-fn put_global<R: Wait, H: Home<A>, A: Allocator>(
+fn put_global<R: Wait, H: Home<A>, A: Allocator + Copy>(
     rt: &R,
     frame: &mut Frame<H, A>,
     registers: &Registers<A>,
@@ -90,7 +90,7 @@ fn put_global<R: Wait, H: Home<A>, A: Allocator>(
 }
 
 /// `share`: the value goes under the name; an old one is released.
-pub fn share<R: Wait, H: Home<A>, A: Allocator>(
+pub fn share<R: Wait, H: Home<A>, A: Allocator + Copy>(
     rt: &R,
     alloc: A,
     frame: &mut Frame<H, A>,

@@ -3,6 +3,7 @@ pub mod Items_Queues
 pub mod Items_Own
 pub mod Items_Law
 pub mod Items_Numbers
+pub mod Free_Law
 pub mod Words_Law
 pub mod Items_Runs
 pub mod Items_Tells

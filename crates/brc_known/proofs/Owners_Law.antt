@@ -1,6 +1,7 @@
 -- Who was found as an owner is registered, then and ever after.
-use Rattle.std.proofs.Common.{◌≡◌, ℕ, ◌<◌, ◌≤◌, ◌==◌, ◌&&◌, nat_lt, true, List, sym, ◌∙◌, ap, inl, inr, arith}
-use Rattle.std.proofs.lemmas.Bool.{or_cases, eqb-true, true≢false}
+use Rattle.std.proofs.Common.{◌≡◌, ℕ, ◌<◌, ◌≤◌, ◌==◌, ◌&&◌, nat_lt, true, List, length, sym, ◌∙◌, ap, inl, inr, arith}
+use Rattle.std.proofs.lemmas.Bool.{or_cases, eqb-true, lt-ltb, true≢false}
+use Rattle.std.specs.Cmp.Derive.{both_true}
 use Rattle.brc_words.specs.declared.limits.TheConstants.{MOST_THREADS}
 use Rattle.brc_words.specs.declared.owner.Owner as owner
 use Rattle.brc_words.specs.declared.owner.Owner.TheVariants as owners
@@ -10,20 +11,24 @@ use Rattle.brc_runs.specs.Steps.{target_at}
 use Rattle.brc_runs.specs.Runs.{IsReached}
 use Rattle.brc_known.specs.Items.{Item, Word, Of, Owner, ItemRun, AreItems, world_of_items, own, Shows}
 use Rattle.brc_known.specs.Owners_Seen.{is_owner_word, has_seen_owner}
-use Rattle.brc_lasting.proofs.Ranges_Law.{same_rows, registered_stays, owner_registered}
+use Rattle.brc_runs.proofs.Reached.{reached_sound}
+use Rattle.brc_lasting.proofs.Ranges_Law.{same_rows, registered_stays, reached_owners}
+use Rattle.brc_known.proofs.Free_Law.{shown_below}
 use Rattle.brc_known.proofs.Items_Tells.{Follows, tells}
 
--- a thread's number in an owner word is that of the thread that owns the cell
+-- an owner word that is a thread's says that this thread owns the cell
 pub thread_spelled : (o : owner.Owner) (q : ℕ) → q ≡ word_of o → 0 < q → q ≤ MOST_THREADS → o ≡ owners.Thread q
 thread_spelled owners.Nobody q is low few = absurd (omega (arith, is, low))
 thread_spelled (owners.Thread s) q is low few = ap owners.Thread (sym is)
 thread_spelled (owners.Claimed s) q is low few = absurd (omega (arith, is, few))
 thread_spelled owners.Free q is low few = absurd (omega (arith, is, few))
 
-found_registered : (h : Heap) (word : Word) (number q : ℕ) → IsReached h → Shows h word number → (is_owner_word word && (number == q)) ≡ true → 0 < q → q ≤ MOST_THREADS → is_registered h q ≡ true
-found_registered h (Of Owner c) number q reached shows found low few =
-    owner_registered h c q reached (thread_spelled (cell_at h c).owner q (sym (eqb-true number q found) ∙ shows) low few)
-found_registered h _ number q reached shows found low few = absurd (true≢false (sym found))
+-- a word of a cell in which nobody lives may have it too: it was registered
+found_registered : (h : Heap) (word : Word) (number q : ℕ) → IsReached h → Shows h word number → (is_owner_word word && (number == q)) ≡ true → 0 < q → is_registered h q ≡ true
+found_registered h (Of Owner c) number q reached shows found low =
+    both_true (lt-ltb 0 q low) (lt-ltb q (length h.rows)
+    (omega (arith, eqb-true number q found, shown_below (length h.rows) (cell_at h c).owner number (omega (arith, (reached_sound h reached).shaped.root)) (reached_owners h reached c) shows)))
+found_registered h _ number q reached shows found low = absurd (true≢false (sym found))
 
 AreRegistered : Heap → List Item → Type 0
 AreRegistered h log = (q : ℕ) → has_seen_owner log q ≡ true → 0 < q → q ≤ MOST_THREADS → is_registered h q ≡ true
@@ -37,11 +42,11 @@ owners_follow t cells = record {
       ap (λ n. nat_lt 0 q && nat_lt q n) (same_rows h t s (target_at h t s)) ∙ before q seen low few;
   gathers = λ h u log before. before;
   saw = λ h word number log reached shows before q seen low few. elim (or_cases (is_owner_word word && (number == q)) (has_seen_owner log q) seen) [
-    | inl now ↦ found_registered h word number q reached shows now low few
+    | inl now ↦ found_registered h word number q reached shows now low
     | inr since ↦ before q since low few
   ];
   lost = λ h word number log reached shows before q seen low few. elim (or_cases (is_owner_word word && (number == q)) (has_seen_owner log q) seen) [
-    | inl now ↦ found_registered h word number q reached shows now low few
+    | inl now ↦ found_registered h word number q reached shows now low
     | inr since ↦ before q since low few
   ];
 }

@@ -1,7 +1,7 @@
 -- Items: what a thread's table answers to each of its steps and looks, and what the thread knows from its own items.
 --
 -- A run of items is a list of (thread, item), newest first. Its events are a run; its notes change nothing.
-use Rattle.std.specs.Prelude.{◌≡◌, ℕ, ◌+◌, ◌-◌, ◌*◌, ◌/◌, ◌%◌, ◌==◌, nat_le, Bool, true, false, if◌then◌else◌, ℤ, pos, negsuc, ◌-ℤ◌, List, [], ◌∷◌, replicate, bit_or, Option, Some, None, slice_set, ◌^◌, ◌≤◌, ◌<◌}
+use Rattle.std.specs.Prelude.{◌≡◌, ℕ, ◌+◌, ◌-◌, ◌*◌, ◌/◌, ◌%◌, ◌==◌, nat_le, Bool, true, false, if◌then◌else◌, ℤ, pos, negsuc, ◌-ℤ◌, List, [], ◌∷◌, length, replicate, bit_or, Option, Some, None, slice_set, ◌^◌, ◌≤◌, ◌<◌}
 use Rattle.brc_words.specs.declared.limits.TheConstants.{MOST_THREADS}
 use Rattle.brc_words.specs.Owners.{word_of}
 use Rattle.brc_words.specs.Shared.{bits_of}
@@ -18,10 +18,11 @@ use Rattle.brc_runs.specs.Lists.{front_of, word_at, is_marked, number_in}
 use Rattle.brc_runs.specs.Heap.{Heap, no_cell, new_row, cell_at, entries_at, row_at, frame_at, popped_at, worklist_at, queue_at, words_for, is_registered}
 use Rattle.brc_runs.specs.Steps.{enabled, target, target_at, cell_after, takes_block, is_closed, row_after, frame_after, popped_after, worklist_after, gone, entries_changed, stage_after, drained_word, is_shut, locked_at}
 use Rattle.brc_runs.specs.Runs.{world_after}
+use Rattle.brc_known.specs.Free_Words.{free_words_for, free_bits, ShowsOwner}
 pub use Rattle.brc_known.specs.declared.word.Field.{Field}
 pub use Rattle.brc_known.specs.declared.word.Field.TheVariants.{Owner, Local, Shared, Mutex}
 pub use Rattle.brc_known.specs.declared.word.Word.{Word}
-pub use Rattle.brc_known.specs.declared.word.Word.TheVariants.{Of, Queue, NotifyWord}
+pub use Rattle.brc_known.specs.declared.word.Word.TheVariants.{Of, Queue, NotifyWord, FreeWord}
 
 -- ---- the numbers that words spell
 
@@ -49,17 +50,16 @@ abbrev pub spelled : Heap → Word → ℕ
 spelled h (Of field c) = word_in field (cell_at h c)
 spelled h (Queue t k) = word_at (queue_at h t) k + closing_bit (is_closed (row_at h t).stage k)
 spelled h (NotifyWord t) = word_at h.notify_words t
+spelled h (FreeWord k) = free_bits h k
 
 -- ---- what a step is told
 
--- the word of its cell that a step works on; that of Enqueue is no cell's
+-- the word of its cell that a step works on; those of Claim, Free and Enqueue are no cell's
 abbrev pub field_of : Step → Field
-field_of (Claim c) = Owner
 field_of (InitLocal c) = Local
 field_of (Birth c kind k) = Owner
 field_of (LocalUp source k) = Local
 field_of (LocalDown drop) = Local
-field_of (Free c) = Owner
 field_of (Untie c) = Owner
 field_of (Lock k) = Mutex
 field_of (Unlock change) = Mutex
@@ -80,12 +80,13 @@ is_store (InitShared c) = true
 is_store (Birth c kind k) = true
 is_store (LocalUp source k) = true
 is_store (LocalDown drop) = true
-is_store (Free c) = true
 is_store (Untie c) = true
 is_store (Unlock change) = true
 is_store _ = false
 
 abbrev pub told_of : Heap → ℕ → Step → ℕ → ℕ
+told_of h t (Claim d) c = spelled h (FreeWord (c / 64))
+told_of h t (Free d) c = spelled h (FreeWord (c / 64))
 told_of h t (Enqueue d) c = spelled h (Queue (cell_at h c).bearer (c / 32))
 told_of h t s c = word_in (field_of s) (if is_store s then cell_after t s c (cell_at h c) else cell_at h c)
 
@@ -126,10 +127,13 @@ ShowsQueue true closed bits number = ToldBy closed bits number
 
 abbrev pub Shows : Heap → Word → ℕ → Type 0
 Shows h (Queue t k) number = ShowsQueue (is_registered h t) (is_closed (row_at h t).stage k) (word_at (queue_at h t) k) number
+Shows h (Of Owner c) number = ShowsOwner (length h.rows) (cell_at h c).owner number
 Shows h word number = number ≡ spelled h word
 
 -- the one word that a thread's step works on
 abbrev pub works_on : Heap → ℕ → Step → Option ℕ → Word
+works_on h t (Claim d) (Some c) = FreeWord (c / 64)
+works_on h t (Free d) (Some c) = FreeWord (c / 64)
 works_on h t (Enqueue d) (Some c) = Queue (cell_at h c).bearer (c / 32)
 works_on h t s (Some c) = Of (field_of s) c
 works_on h t (Nudge u k) None = NotifyWord u
@@ -141,6 +145,7 @@ abbrev pub IsWord : ℕ → Word → Type 0
 IsWord cells (Of field c) = c < cells
 IsWord cells (Queue t k) = (t < MOST_THREADS + 1) × (k < words_for cells)
 IsWord cells (NotifyWord t) = t < MOST_THREADS + 1
+IsWord cells (FreeWord k) = k < free_words_for cells
 
 -- a step that locks the cell finds its entries, and so does one that takes its block
 abbrev pub finds : Step → Cell → Bool

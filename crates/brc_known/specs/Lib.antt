@@ -1,3 +1,4 @@
+pub mod Free_Words
 pub mod Items
 pub mod Counts
 pub mod Risen

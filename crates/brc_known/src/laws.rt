@@ -11,7 +11,9 @@ ghost use Rattle.brc_runs.specs.declared.event.Source.{Source as source};
 ghost use Rattle.brc_runs.specs.declared.event.Step.{Step as step};
 ghost use Rattle.brc_runs.specs.declared.event.Step.TheVariants as steps;
 ghost use Rattle.brc_runs.specs.declared.event.Event.{Event as event};
-ghost use Rattle.brc_runs.specs.Lists.{names, place_at, word_at, is_marked, is_bare, is_unmarked, is_blank};
+ghost use Rattle.brc_runs.specs.Lists.{one, names, place_at, word_at, is_marked, is_bare, is_unmarked, is_blank};
+ghost use Rattle.brc_words.specs.Owners.{word_of};
+ghost use Rattle.brc_runs.specs.Holding.{lives};
 ghost use Rattle.brc_runs.specs.Heap.{Heap, opening, cell_at, entries_at, row_at, frame_at, popped_at, queue_at, worklist_at, is_registered, is_gathered, AreOptions};
 ghost use Rattle.brc_runs.specs.Steps.{is_mine, needs_no_cell, takes_block, thread_may, after_target, target_at};
 ghost use Rattle.brc_runs.specs.Runs.{IsRun, IsReached};
@@ -26,7 +28,8 @@ ghost use Rattle.brc_runs.specs.Sound.{held};
 ghost use Rattle.brc_runs.specs.declared.row.Stage.{Stage as stage};
 ghost use Rattle.brc_words.specs.declared.limits.TheConstants.{FIRST_MORTAL, MOST_THREADS};
 ghost use Rattle.brc_lasting.specs.Staying.{rank};
-ghost use Rattle.brc_known.specs.Items.{Word as word, IsWord, Shows, works_on, Of, Shared, Item, Did, Saw, Lost, ItemRun, MayCome, AreItems, IsPart, events_of, world_of_items, part_of, meant, cell_told, own};
+ghost use Rattle.brc_known.specs.Free_Words.{is_free_cell};
+ghost use Rattle.brc_known.specs.Items.{Word as word, IsWord, Shows, works_on, Of, Owner, Shared, FreeWord, Item, Did, Saw, Lost, ItemRun, MayCome, AreItems, IsPart, events_of, world_of_items, part_of, meant, cell_told, own};
 
 /// Items are runs with what each step was told: the events of items are a run, and each run is the events of items. A
 /// thread's own part of the world, with the entries of what it has locked and of its worklist, is a function of its own
@@ -243,8 +246,18 @@ pub fn own_looks_tell_the_owners()
 
 /// A thread's step works on one word, and every other word of the table shows what it showed.
 pub fn a_step_changes_one_word()
-    ensures { (h : Heap) (t : ℕ) (s : step) (w : word) (number : ℕ)
+    ensures { (h : Heap) (t : ℕ) (s : step) (w : word) (number : ℕ) → IsReached h
         → thread_may h t s ≡ true → IsWord (length h.cells) w
         → w ≢ works_on h t s (target_at h t s) → Shows h w number
         → Shows (after_target h t s (target_at h t s)) w number }
+{}
+
+/// A free word tells of each of its 64 bits whether that cell is free: a cell of the heap in which no object lives and
+/// which nobody has claimed. While an object lives, its owner word tells its owner.
+pub fn free_words_tell_the_free_cells()
+    ensures free { (h : Heap) (k i number : ℕ) → i < 64 → Shows h (FreeWord k) number
+        → bit_at number i ≡ one (is_free_cell h (k * 64 + i)) }
+    ensures small { (h : Heap) (k number : ℕ) → Shows h (FreeWord k) number → number < 2 ^ 64 }
+    ensures owner { (h : Heap) (c number : ℕ) → lives (cell_at h c).owner ≡ true
+        → Shows h (Of Owner c) number → number ≡ word_of (cell_at h c).owner }
 {}

@@ -13,10 +13,10 @@ mod laws;
 mod word;
 
 pub use laws::{
-    a_step_changes_one_word, counts_say_who_counts, own_items_tell_few_frees,
-    own_items_tell_the_blocks, own_items_tell_the_counts, own_items_tell_the_lock,
-    own_items_tell_the_part, own_items_tell_what_has_risen, own_items_tell_what_is_left,
-    own_looks_tell_the_owners, own_steps_go_on, queue_words_name_cells,
-    root_items_tell_the_threads, what_has_risen_stays_seen,
+    a_step_changes_one_word, counts_say_who_counts, free_words_tell_the_free_cells,
+    own_items_tell_few_frees, own_items_tell_the_blocks, own_items_tell_the_counts,
+    own_items_tell_the_lock, own_items_tell_the_part, own_items_tell_what_has_risen,
+    own_items_tell_what_is_left, own_looks_tell_the_owners, own_steps_go_on,
+    queue_words_name_cells, root_items_tell_the_threads, what_has_risen_stays_seen,
 };
 pub use word::{Field, Word};

@@ -18,4 +18,6 @@ pub enum Word {
     Queue(u32, u32),
     /// The notify word of this thread.
     NotifyWord(u32),
+    /// Which of 64 cells are free, from 64 times this number on.
+    FreeWord(u32),
 }

@@ -5,7 +5,7 @@ ghost use Rattle.brc_words.specs.declared.limits.TheConstants.{MOST_ENTRIES};
 ghost use Rattle.brc_block.specs.Payload.{kind_of, entries_of, spare_of};
 ghost use Rattle.brc_lists.specs.Rows.{is_row, NoRoom, NoEntry};
 
-use brc_block::Payload;
+use brc_block::{Entries, Payload};
 use brc_words::{Fault, Kind, MOST_ENTRIES};
 use std::alloc::Allocator;
 
@@ -28,10 +28,15 @@ pub(crate) fn make_room<A: Allocator>(payload: &mut Payload<A>, kind: Kind) -> R
     if payload.len() >= MOST_ENTRIES as usize {
         return Err(Fault::Full);
     }
-    if payload.reserve().is_err() {
-        return Err(Fault::OutOfMemory);
+    let made = match payload {
+        Payload::List(cells) => cells.reserve(),
+        Payload::Mailbox(letters) => letters.reserve(),
+        _ => unreachable!(),
+    };
+    match made {
+        Ok(()) => Ok(()),
+        Err(_) => Err(Fault::OutOfMemory),
     }
-    Ok(())
 }
 
 /// The cell of an entry of an object of this kind: WrongKind for any other, NoSuchPlace past the end.

@@ -15,7 +15,7 @@ use std::process::Abort;
 use std::sync::Wait;
 
 /// The handle's reference goes into the dictionary, beside a key that it hasn't.
-fn put_beside<R: Abort + Wait, H: Home<A>, A: Allocator>(
+fn put_beside<R: Abort + Wait, H: Home<A>, A: Allocator + Copy>(
     rt: &R,
     frame: &mut Frame<H, A>,
     dict: &Handle<A>,
@@ -37,7 +37,7 @@ fn put_beside<R: Abort + Wait, H: Home<A>, A: Allocator>(
 }
 
 /// The handle's reference goes into the globals, beside this key.
-pub(crate) fn put_into_globals<R: Abort + Wait, H: Home<A>, A: Allocator>(
+pub(crate) fn put_into_globals<R: Abort + Wait, H: Home<A>, A: Allocator + Copy>(
     rt: &R,
     frame: &mut Frame<H, A>,
     handle: Handle<A>,

@@ -1,5 +1,5 @@
 -- Contents of an edited payload: its kind stays, and its entries are those of a plain list that is edited so.
-use Rattle.std.proofs.Common.{◌≡◌, ℕ, List, [], ◌∷◌, ◌++◌, Option, Some, None, map, refl, sym, ◌∙◌, ap, slice_get, slice_set, remove, zero, suc, length, ◌<◌, arith}
+use Rattle.std.proofs.Common.{◌≡◌, ◌≢◌, All, ℕ, List, [], ◌∷◌, ◌++◌, Option, Some, None, map, refl, sym, ◌∙◌, ap, slice_get, slice_set, remove, zero, suc, length, ◌<◌, arith}
 use Rattle.brc_words.specs.declared.key.Key.{Key}
 use Rattle.brc_block.specs.Pairs.{keys_in, cells_in}
 use Rattle.brc_block.specs.Payload.{entries_of}
@@ -10,7 +10,7 @@ use Rattle.brc_rule.specs.declared.contents.Contents.{Contents}
 use Rattle.brc_rule.specs.declared.contents.Contents.TheVariants.{Nothing, Truth, Int, Text, «List» as Cells, Dict, Mailbox}
 use Rattle.brc_rule.specs.Logs.{entries_in}
 use Rattle.brc_table.specs.Shown.{contents_of, plain_key}
-use Rattle.brc_lock.specs.Edits.{with_value, without, replaced}
+use Rattle.brc_lock.specs.Edits.{with_value, with_last, without, replaced, KeyFits}
 
 first_same : {X : Type 0} {x y : X} {xs ys : List X} → x ∷ xs ≡ y ∷ ys → x ≡ y
 first_same e = cc
@@ -40,6 +40,13 @@ module _ {A : Type 0} where
   plain_remove [] (suc index) = refl
   plain_remove (pair ∷ pairs) zero = refl
   plain_remove (pair ∷ pairs) (suc index) = ap (λ xs. plain pair ∷ xs) (plain_remove pairs index)
+
+  -- a key that isn't among the plain ones isn't among the keys
+  pub absent_plainly : (pairs : List (Key A × ℕ)) (key : Key A) → All (λ (pair : PlainKey × ℕ). pair.0 ≢ plain_key key) (map plain pairs)
+      → All (λ other. other ≢ key) (keys_in pairs)
+  absent_plainly [] key none k d below = absurd (omega arith)
+  absent_plainly (pair ∷ pairs) key none zero d below = λ same. none 0 (plain pair) (omega arith) (ap plain_key same)
+  absent_plainly (pair ∷ pairs) key none (suc k) d below = absent_plainly pairs key (λ j e low. none (suc j) e (omega arith)) k d (omega arith)
 
   same_pair : (a p : Key A × ℕ) (cell : ℕ) → a.0 ≡ p.0 → a.1 ≡ cell → plain a ≡ (plain_key p.0, cell)
   same_pair a p cell key value = ap (λ k. (plain_key k, a.1)) key ∙ ap (λ v. (plain_key p.0, v)) value
@@ -91,6 +98,25 @@ none_removed : (index : ℕ) → [] ≡ remove {X = ℕ} [] index
 none_removed zero = refl
 none_removed (suc index) = refl
 
+put_values : (pairs : List (PlainKey × ℕ)) (key : PlainKey) (cell : ℕ)
+    → map (λ (p : PlainKey × ℕ). p.1) (pairs ++ (key, cell) ∷ []) ≡ map (λ (p : PlainKey × ℕ). p.1) pairs ++ cell ∷ []
+put_values [] key cell = refl
+put_values (pair ∷ pairs) key cell = ap (λ xs. pair.1 ∷ xs) (put_values pairs key cell)
+
+-- one entry more
+with_entry : {A : Type 0} (found : Contents) (key : Option (Key A)) (cell : ℕ) → KeyFits found key
+    → entries_in (with_last found key cell) ≡ entries_in found ++ cell ∷ []
+with_entry (Cells cells) None cell fits = refl
+with_entry (Mailbox letters) None cell fits = refl
+with_entry (Dict pairs) (Some key) cell fits = put_values pairs (plain_key key) cell
+with_entry (Cells cells) (Some key) cell fits = absurd fits
+with_entry (Mailbox letters) (Some key) cell fits = absurd fits
+with_entry (Dict pairs) None cell fits = absurd fits
+with_entry Nothing key cell fits = absurd fits
+with_entry (Truth truth) key cell fits = absurd fits
+with_entry (Int number) key cell fits = absurd fits
+with_entry (Text text) key cell fits = absurd fits
+
 -- one entry fewer
 pub without_entry : (found : Contents) (index : ℕ) → entries_in (without found index) ≡ remove (entries_in found) index
 without_entry (Cells cells) index = refl
@@ -133,6 +159,13 @@ module _ {A : Type 0} where
       sym (at ∙ ap (λ x. slice_get (entries_of x) index) same ∙ sym (ap (λ entries. slice_get entries index) (contents_have p)) ∙ ap (λ f. slice_get (entries_in f) index) is)
 
   -- the payload's entries after an edit, by those that were found
+  pub put_found : (p q after : Payload A) (found : Contents) (key : Option (Key A)) (cell value : ℕ) → contents_of p ≡ found → q ≡ p
+      → KeyFits (contents_of p) key → contents_of after ≡ with_last (contents_of q) key cell → cell ≡ value
+      → entries_in (contents_of after) ≡ entries_in found ++ value ∷ []
+  put_found p q after found key cell value is same fits put here =
+      ap entries_in put ∙ ap (λ x. entries_in (with_last (contents_of x) key cell)) same ∙ with_entry (contents_of p) key cell fits
+      ∙ ap (λ f. entries_in f ++ cell ∷ []) is ∙ ap (λ v. entries_in found ++ v ∷ []) here
+
   pub without_found : (p q after : Payload A) (found : Contents) (index : ℕ) → contents_of p ≡ found → q ≡ p → contents_of after ≡ without (contents_of q) index
       → entries_in (contents_of after) ≡ remove (entries_in found) index
   without_found p q after found index is same left =

@@ -12,12 +12,11 @@ use brc_words::Key;
 use std::alloc::{AllocError, Allocator};
 
 /// Makes room for one entry more.
-pub(crate) fn make_room<A: Allocator>(payload: &mut Payload<A>) -> Result<(), AllocError>
+pub(crate) fn make_room<A: Allocator + Copy>(payload: &mut Payload<A>) -> Result<(), AllocError>
     requires container { is_container (kind_in (contents_of payload.old)) ≡ true }
     ensures contents { contents_of payload.new ≡ contents_of payload.old }
     ensures made { OnOk result (0 < spare_of payload.new) }
     ensures needed { OnErr result (spare_of payload.old ≡ 0) }
-    ensures unchanged { OnErr result (payload.new ≡ payload.old) }
 {
     match payload {
         Payload::List(cells) => cells.reserve(),

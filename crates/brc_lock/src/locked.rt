@@ -1,6 +1,6 @@
 //! The guard.
 
-ghost use Rattle.std.specs.Prelude.{◌≡◌, ◌≢◌, ◌<◌, ◌+◌, ◌≤◌, ℕ, Some, None, true, length, slice_get, IfOk, IfErr, OnErr};
+ghost use Rattle.std.specs.Prelude.{◌≡◌, ◌≢◌, ◌<◌, ◌+◌, ◌≤◌, ℕ, Some, None, true, length, slice_get, IfOk, IfErr};
 ghost use Rattle.brc_words.specs.Kinds.{is_container};
 ghost use Rattle.brc_words.specs.declared.limits.TheConstants.{MOST_PLACES};
 ghost use Rattle.brc_runs.specs.declared.event.Change.TheVariants as changes;
@@ -46,29 +46,6 @@ impl<'f, H: Home<A>, A: Allocator> Locked<'f, H, A, Block<A>> {
         ensures { result.now ≡ self.now.block.1 }
     {
         self.block.payload()
-    }
-
-    /// Makes sure that a list, a dictionary or a mailbox may have an entry more, without memory then. Full where it has 1,048,576
-    /// entries, looked at first; OutOfMemory where memory for one more can't be had.
-    pub fn room(&mut self) -> Result<(), Fault>
-        requires holds { Holds self.old.frame.now self.old.handle.now self.old.block }
-        requires container { is_container (kind_in (contents_of self.old.block.1)) ≡ true }
-        ensures same_reference { self.new.frame.ghost_name ≡ self.old.frame.ghost_name }
-        ensures frame { self.new.frame.now ≡ self.old.frame.now }
-        ensures handle { self.new.handle.now ≡ self.old.handle.now }
-        ensures contents { contents_of self.new.block.1 ≡ contents_of self.old.block.1 }
-        ensures holds { Holds self.new.frame.now self.new.handle.now self.new.block }
-        ensures room { IfOk result (λ ok. HasRoom self.new.block) }
-        ensures refused { IfErr result (RefusedRoom self.old.block) }
-        ensures unchanged { OnErr result (self.new.block ≡ self.old.block) }
-    {
-        if self.block.payload().len() >= MOST_ENTRIES as usize {
-            return Err(Fault::Full);
-        }
-        match make_room(self.block.payload_mut()) {
-            Ok(()) => Ok(()),
-            Err(_) => Err(Fault::OutOfMemory),
-        }
     }
 
     /// Makes sure of the next place, for `entry` and `unlock_take`. FrameFull where it isn't below 65,536, looked at first;
@@ -203,5 +180,29 @@ impl<'f, H: Home<A>, A: Allocator> Locked<'f, H, A, Block<A>> {
         };
         set_at(block.payload_mut(), index as usize, cell);
         frame.end_swap(block, index, old, value)
+    }
+}
+
+impl<'f, H: Home<A>, A: Allocator + Copy> Locked<'f, H, A, Block<A>> {
+    /// Makes sure that a list, a dictionary or a mailbox may have an entry more, without memory then. Full where it has 1,048,576
+    /// entries, looked at first; OutOfMemory where memory for one more can't be had.
+    pub fn room(&mut self) -> Result<(), Fault>
+        requires holds { Holds self.old.frame.now self.old.handle.now self.old.block }
+        requires container { is_container (kind_in (contents_of self.old.block.1)) ≡ true }
+        ensures same_reference { self.new.frame.ghost_name ≡ self.old.frame.ghost_name }
+        ensures frame { self.new.frame.now ≡ self.old.frame.now }
+        ensures handle { self.new.handle.now ≡ self.old.handle.now }
+        ensures contents { contents_of self.new.block.1 ≡ contents_of self.old.block.1 }
+        ensures holds { Holds self.new.frame.now self.new.handle.now self.new.block }
+        ensures room { IfOk result (λ ok. HasRoom self.new.block) }
+        ensures refused { IfErr result (RefusedRoom self.old.block) }
+    {
+        if self.block.payload().len() >= MOST_ENTRIES as usize {
+            return Err(Fault::Full);
+        }
+        match make_room(self.block.payload_mut()) {
+            Ok(()) => Ok(()),
+            Err(_) => Err(Fault::OutOfMemory),
+        }
     }
 }

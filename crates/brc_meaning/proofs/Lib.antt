@@ -4,4 +4,5 @@ pub mod Turns
 pub mod WrittenOut
 pub mod Oks
 pub mod WholeCalls
+pub mod Keeping
 pub mod WholeSteps

@@ -23,7 +23,7 @@ module _ {X Y E : Type 0} where
   bind_same (Err e) f g same = refl
 
 module _ {A : Type 0} where
-  lines_append : (lines later : List (NumberedLine A)) (s : State A)
+  pub lines_append : (lines later : List (NumberedLine A)) (s : State A)
       → (lines_after lines s >>= λ next. lines_after later next) ≡ lines_after (lines ++ later) s
   lines_append [] later s = refl
   lines_append (line ∷ lines) later s =

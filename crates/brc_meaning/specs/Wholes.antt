@@ -18,12 +18,16 @@ abbrev pub IsHeld : ℕ → Option Reference → Type 0
 IsHeld made held = IfSome held (IsThere made)
 
 module _ {A : Type 0} where
+  -- it is so of each of an object's references
+  abbrev pub Each : (Reference → Type 0) → Object A → Type 0
+  Each P (objects.List entries) = All P entries
+  Each P (objects.Dict pairs) = All (λ pair. P pair.1) pairs
+  Each P (objects.Mailbox entries) = All P entries
+  Each P _ = Unit {0}
+
   -- what an object refers to is there
   abbrev pub IsSound : ℕ → Object A → Type 0
-  IsSound made (objects.List entries) = All (IsThere made) entries
-  IsSound made (objects.Dict pairs) = All (λ pair. IsThere made pair.1) pairs
-  IsSound made (objects.Mailbox entries) = All (IsThere made) entries
-  IsSound made _ = Unit {0}
+  IsSound made object = Each (IsThere made) object
 
   pub record IsWhole (s : State A) : Type 0 where
     pub held : All (IsHeld (length s.objects)) s.registers

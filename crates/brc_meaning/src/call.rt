@@ -4,7 +4,7 @@ use crate::reference::Reference;
 
 /// A call on a list or a mailbox.
 #[derive(Clone, Copy)]
-pub(crate) enum Call {
+pub enum Call {
     // On a list.
     Push(Reference),
     Pop,
@@ -18,7 +18,7 @@ pub(crate) enum Call {
 
 /// A call on a dictionary, at a key.
 #[derive(Clone, Copy)]
-pub(crate) enum KeyedCall {
+pub enum KeyedCall {
     Put(Reference),
     Find,
     Delete,

@@ -21,3 +21,13 @@ mod stepping;
 
 pub use laws::{references_mean_objects, repeats_are_written_out};
 pub use plain::{Plain, plain_run};
+
+// What a section has while it runs: `law_means` speaks of it, and nobody else makes a value of it.
+pub use call::{Call, KeyedCall};
+pub use object::Object;
+pub use objects::Objects;
+pub use printed::Printed;
+pub use reference::Reference;
+pub use registers::Registers;
+pub use running::Halt;
+pub use state::State;

@@ -16,7 +16,7 @@ use std::alloc::Allocator;
 
 /// An object that a section made.
 #[derive(Drop)]
-pub(crate) enum Object<A: Allocator> {
+pub enum Object<A: Allocator> {
     Int(i64),
     Text(Text<A>),
     List(PlainList<Reference, A>),

@@ -18,7 +18,7 @@ use std::marker::Model;
 
 /// The objects in the order in which they were made; nothing is ever taken out.
 #[derive(Drop)]
-pub(crate) struct Objects<A: Allocator> {
+pub struct Objects<A: Allocator> {
     made: Vec<Object<A>, A>,
 }
 

@@ -11,7 +11,7 @@ use std::marker::Model;
 
 /// The printed bytes, each line ended by a line feed.
 #[derive(Drop)]
-pub(crate) struct Printed<A: Allocator> {
+pub struct Printed<A: Allocator> {
     bytes: Vec<u8, A>,
 }
 

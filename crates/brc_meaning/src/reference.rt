@@ -10,7 +10,7 @@ const MOST_SMALL: i64 = 256;
 
 /// A reference to an integer that is there always, or to an object by its place in the list of all objects.
 #[derive(Clone, Copy)]
-pub(crate) enum Reference {
+pub enum Reference {
     Small(i64),
     Object(usize),
 }

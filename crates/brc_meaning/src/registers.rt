@@ -10,7 +10,7 @@ use std::marker::Model;
 
 /// What each of the sixteen registers holds, by its number.
 #[derive(Drop)]
-pub(crate) struct Registers {
+pub struct Registers {
     held: [Option<Reference>; 16],
 }
 

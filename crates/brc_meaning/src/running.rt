@@ -11,9 +11,9 @@ use std::alloc::Allocator;
 
 /// Why a section ended before its last line: the first fault, and the number of the line that met it.
 #[derive(Clone, Copy)]
-pub(crate) struct Halt {
-    pub(crate) fault: Fault,
-    pub(crate) line: u32,
+pub struct Halt {
+    pub fault: Fault,
+    pub line: u32,
 }
 
 fn run_line<A: Allocator + Copy>(alloc: A, state: &mut State<A>, line: &Line<A>) -> Result<(), Halt>

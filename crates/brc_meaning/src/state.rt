@@ -18,10 +18,10 @@ use std::alloc::Allocator;
 
 /// The registers, all objects made, and the printed bytes.
 #[derive(Drop)]
-pub(crate) struct State<A: Allocator> {
-    pub(crate) registers: Registers,
-    pub(crate) objects: Objects<A>,
-    pub(crate) printed: Printed<A>,
+pub struct State<A: Allocator> {
+    pub registers: Registers,
+    pub objects: Objects<A>,
+    pub printed: Printed<A>,
 }
 
 impl<A: Allocator + Copy> State<A> {

@@ -8,7 +8,8 @@ use Rattle.std.proofs.lemmas.Bool.Decides.{Decides-int_eq}
 use Rattle.std.proofs.lemmas.Slice.Eq.{bytes_eq-Decides}
 use Rattle.brc_words.specs.declared.key.Key.{Key}
 use Rattle.brc_words.specs.declared.key.Key.TheVariants.{Int, Text}
-use Rattle.brc_plain.specs.Dicts.{same_key, value_at, Stands, HasDistinctKeys, replaced, without, put, delete}
+use Rattle.brc_words.specs.Keys.{same_key}
+use Rattle.brc_plain.specs.Dicts.{value_at, Stands, HasDistinctKeys, replaced, without, put, delete}
 use Rattle.brc_plain.specs.Outcomes.{Does, DoesIfRoom}
 use Rattle.brc_words.specs.declared.fault.Fault.TheVariants as faults
 use Rattle.brc_words.specs.declared.limits.TheConstants.{MOST_ENTRIES}

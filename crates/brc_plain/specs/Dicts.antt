@@ -1,21 +1,12 @@
 -- The calls of a dictionary, as its pairs of key and value in the order in which the keys came: what each answers, and
 -- the pairs after it.
-use Rattle.std.specs.Prelude.{◌≡◌, ℕ, ◌++◌, List, [], ◌∷◌, length, nat_lt, Bool, true, false, zero, suc, if◌then◌else◌, Option, Some, None, Result, Ok, Err, slice_get}
-use Rattle.std.specs.Ordering.{int_eq}
-use Rattle.std.specs.Str.{bytes_eq}
+use Rattle.std.specs.Prelude.{◌≡◌, ℕ, ◌++◌, List, [], ◌∷◌, length, nat_lt, true, false, zero, suc, if◌then◌else◌, Option, Some, None, Result, Ok, Err, slice_get}
 use Rattle.brc_words.specs.declared.fault.Fault.{Fault}
 use Rattle.brc_words.specs.declared.fault.Fault.TheVariants as faults
 use Rattle.brc_words.specs.declared.key.Key.{Key}
-use Rattle.brc_words.specs.declared.key.Key.TheVariants.{Int, Text}
+use Rattle.brc_words.specs.Keys.{same_key}
 use Rattle.brc_words.specs.declared.limits.TheConstants.{MOST_ENTRIES}
 use Rattle.brc_plain.specs.Outcomes.{or_fault, leaving}
-
-module _ {A : Type 0} where
-  -- two keys are the same: two equal integers, or two texts with the same bytes
-  abbrev pub same_key : Key A → Key A → Bool
-  same_key (Int number) (Int other) = int_eq number other
-  same_key (Text bytes) (Text others) = bytes_eq bytes others
-  same_key _ _ = false
 
 module _ {A E : Type 0} where
   -- the value that stands beside the key, if one does

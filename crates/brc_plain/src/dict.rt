@@ -4,19 +4,12 @@ ghost use Rattle.std.specs.Prelude.{◌≡◌, ◌≤◌, ◌==◌, [], length, 
 ghost use Rattle.brc_words.specs.declared.limits.TheConstants.{MOST_ENTRIES};
 ghost use Rattle.brc_plain.specs.Outcomes.{Does, DoesIfRoom, fault_alone};
 ghost use Rattle.brc_plain.specs.Dicts as dicts;
-ghost use Rattle.brc_plain.specs.Dicts.{same_key};
+ghost use Rattle.brc_words.specs.Keys.{same_key};
 
 use brc_words::{Fault, Key, MOST_ENTRIES};
 use std::alloc::Allocator;
 use std::marker::Model;
 use std::mem;
-
-/// Whether two keys are the same.
-fn is_same<A: Allocator>(key: &Key<A>, other: &Key<A>) -> bool
-    ensures { result ≡ same_key key.now other.now }
-{
-    key.is_same(other)
-}
 
 /// Values by their keys, in the order in which the keys came; no key stands twice.
 #[derive(Drop)]
@@ -71,10 +64,7 @@ impl<E: Drop, A: Allocator> PlainDict<E, A> {
     fn place(&self, key: &Key<A>) -> Option<usize>
         ensures { result ≡ position (λ pair. same_key pair.0 key.now) self.now }
     {
-        self.pairs
-            .as_slice()
-            .iter()
-            .position(|pair| is_same(&pair.0, key))
+        self.pairs.as_slice().iter().position(|pair| pair.0 == *key)
     }
 
     /// The value beside the key, in the place of the one that stood there; a new key comes last. A refusal hands both

@@ -4,9 +4,11 @@ ghost use Rattle.std.specs.Prelude.{◌≤◌, IfOk};
 
 use crate::command::{Invocation, read_words};
 use crate::explanations::put_why;
+use crate::firm::Firm;
 use crate::gate::Open;
 use brc_run::RunOptions;
 use brc_run_text::run_script;
+use brc_text::put_bytes;
 use brc_trace::{Unreplayed, run_replay, run_replay_explained};
 use brc_words::{Fault, Reason};
 use std::alloc::Global;
@@ -52,11 +54,11 @@ pub fn refuse<E: Write>(errors: &mut E, fault: Fault) -> u8
     refuse_with_why(errors, &unexplained(fault))
 }
 
-/// Tells of a fault, and of why it came where that is known, and answers its status.
+/// Tells of a fault, and of why it came where that is known, and answers its status. The first write that fails is the last.
 fn refuse_with_why<E: Write>(errors: &mut E, failed: &Unreplayed) -> u8
     ensures { result ≤ 5 }
 {
-    match tell_all(errors, failed) {
+    match tell_all(&mut Firm { writer: errors }, failed) {
         Ok(()) => status_of(failed.fault),
         Err(_) => STREAM,
     }
@@ -124,9 +126,9 @@ fn answer<T: Threads + Wait + Sync, R: Read + Drop, W: Write>(
         Err(fault) => return Err(unexplained(fault)),
     };
     let status = match asked {
-        Invocation::Help(text) => match writer.write_all(text.as_bytes()) {
+        Invocation::Help(text) => match put_bytes(writer, text.as_bytes()) {
             Ok(()) => NOTHING_LIVE,
-            Err(_) => return Err(unexplained(Fault::Io)),
+            Err(fault) => return Err(unexplained(fault)),
         },
         Invocation::Replay { explain } => match replay(alloc, explain, reader, writer) {
             Ok(status) => status,

@@ -9,6 +9,7 @@
 mod answering;
 mod command;
 mod explanations;
+mod firm;
 mod gate;
 mod help;
 

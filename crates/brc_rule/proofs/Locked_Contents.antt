@@ -109,7 +109,7 @@ own_lock h t s (Some c) d sound may target now = by_lock (row_at h t).locked ref
 -- ---- over runs
 
 -- what isn't put home is as it was
-not_put : (run : Run) (t : ℕ) (s : Step) (number : ℕ) (moved : Moved) (h : Heap) (c : ℕ) → MovesWith h run t s moved → (puts h t s ≡ Some c → ⊥)
+pub not_put : (run : Run) (t : ℕ) (s : Step) (number : ℕ) (moved : Moved) (h : Heap) (c : ℕ) → MovesWith h run t s moved → (puts h t s ≡ Some c → ⊥)
     → contents_at ((t, Did s number moved) ∷ run) c ≡ contents_at run c
 not_put run t s number moves.Nothing h c goes other = refl
 not_put run t s number (moves.Found d contents) h c goes other = refl

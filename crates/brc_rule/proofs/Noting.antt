@@ -1,5 +1,5 @@
 -- What a note tells of its cell, and what its thread's part says of hand and popped bits.
-use Rattle.std.proofs.Common.{◌≡◌, ◌≢◌, ◌⊎◌, ℕ, ◌%◌, ◌||◌, true, ℤ, List, refl, ◌∙◌, ap, inl, inr, arith}
+use Rattle.std.proofs.Common.{◌≡◌, ◌≢◌, ◌⊎◌, ℕ, ◌%◌, ◌||◌, true, ℤ, List, length, refl, ◌∙◌, ap, inl, inr, arith}
 use Rattle.std.proofs.lemmas.Bool.{and_parts, or_cases, eq-eqb}
 use Rattle.std.specs.Cmp.Derive.{both_true}
 use Rattle.brc_words.specs.declared.owner.Owner.{Owner}
@@ -21,10 +21,15 @@ use Rattle.brc_runs.specs.Holding.{carries}
 use Rattle.brc_runs.specs.Runs.{IsReached}
 use Rattle.brc_runs.specs.Steps.{hand_ok, own_ok, is_at}
 use Rattle.brc_runs.proofs.Naming.{busy_hand}
+use Rattle.brc_runs.proofs.Reached.{reached_sound}
 use Rattle.brc_lasting.specs.Ranges.{OwnerFits}
 use Rattle.brc_lasting.specs.Staying.{Has}
+use Rattle.brc_lasting.proofs.Lasting.{held_live, has_held}
 use Rattle.brc_lasting.proofs.Telling.{hand_tells}
-use Rattle.brc_known.specs.Items.{Part, shared_word}
+use Rattle.brc_known.specs.declared.word.Field.TheVariants.{Owner as OwnerWord}
+use Rattle.brc_known.specs.declared.word.Word.TheVariants.{Of}
+use Rattle.brc_known.specs.Items.{Part, Shows, shared_word}
+use Rattle.brc_known.proofs.Free_Law.{live_shown}
 use Rattle.brc_rule.specs.declared.told.Told.{Told}
 use Rattle.brc_rule.specs.Seen.{part_seen, own_may}
 use Rattle.brc_rule.proofs.Knowing.{Known}
@@ -69,6 +74,10 @@ has_popped h t c bit = inr (inr (inl bit))
 
 pub has_in_hand : (h : Heap) (t c : ℕ) (p : Phase) → (row_at h t).hand ≡ hands.Busy p c → has_reference p ≡ true → Has h t c
 has_in_hand h t c p busy refers = inr (inl (ap (carries c) busy ∙ both_true refers (eq-eqb c c refl)))
+
+-- the owner word of an object that the thread has tells its owner
+pub owner_told : (h : Heap) (t c number : ℕ) → IsReached h → Has h t c → Shows h (Of OwnerWord c) number → number ≡ word_of (cell_at h c).owner
+owner_told h t c number reached has shown = live_shown (length h.rows) (cell_at h c).owner number (held_live h c (reached_sound h reached) (has_held h t c has)) shown
 
 -- ---- a merge by a note of the local count
 

@@ -21,7 +21,7 @@ use Rattle.brc_lasting.proofs.Standing.{run_reached}
 use Rattle.brc_known.specs.declared.word.Field.{Field}
 use Rattle.brc_known.specs.declared.word.Field.TheVariants.{Owner, Local, Shared, Mutex}
 use Rattle.brc_known.specs.declared.word.Word.{Word}
-use Rattle.brc_known.specs.declared.word.Word.TheVariants.{Of, Queue, NotifyWord}
+use Rattle.brc_known.specs.declared.word.Word.TheVariants.{Of, Queue, NotifyWord, FreeWord}
 use Rattle.brc_known.specs.Items.{Shows, MayCome, is_start, same_field, events_of}
 use Rattle.brc_known.proofs.Items_Runs.{events_run}
 use Rattle.brc_rule.specs.declared.told.Moved.{Moved}
@@ -107,6 +107,7 @@ word_is f c (Of g d) is =
     ap (λ k. Of k d) (sym (field_is f g parts.0)) ∙ ap (Of f) (eqb-true d c parts.1)
 word_is f c (Queue u k) is = absurd (true≢false (sym is))
 word_is f c (NotifyWord u) is = absurd (true≢false (sym is))
+word_is f c (FreeWord k) is = absurd (true≢false (sym is))
 
 field_again : (f : Field) → same_field f f ≡ true
 field_again Owner = refl

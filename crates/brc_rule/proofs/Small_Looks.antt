@@ -23,6 +23,7 @@ use Rattle.brc_known.specs.declared.word.Field.TheVariants.{Owner as OwnerWord, 
 use Rattle.brc_known.specs.declared.word.Word.{Word}
 use Rattle.brc_known.specs.declared.word.Word.TheVariants.{Of}
 use Rattle.brc_known.specs.Items.{IsWord, Shows}
+use Rattle.brc_known.proofs.Free_Law.{live_shown}
 use Rattle.brc_rule.specs.declared.contents.Contents.{Contents}
 use Rattle.brc_rule.specs.declared.told.Told.{Told}
 use Rattle.brc_rule.specs.declared.told.Told.TheVariants.{Saw}
@@ -46,7 +47,8 @@ carried_owner : (n limit : ℕ) (h : Heap) (t : ℕ) (log : List Told) (c number
 carried_owner n limit h t log c number known carried shown =
     let sound : IsSound h = reached_sound h known.reached in
     let carrying : carries c (row_at h t).hand ≡ true = ap (λ (r : Row). carries c r.hand) known.part.row_is ∙ carried in
-    owner_small (length h.rows) (cell_at h c).owner number sound.shaped.threads (reached_owners h known.reached c) (held_live h c sound (carried_held h t c (one-true _ carrying))) shown
+    let live : lives (cell_at h c).owner ≡ true = held_live h c sound (carried_held h t c (one-true _ carrying)) in
+    owner_small (length h.rows) (cell_at h c).owner number sound.shaped.threads (reached_owners h known.reached c) live (live_shown (length h.rows) (cell_at h c).owner number live shown)
 
 merging_local : (n limit : ℕ) (h : Heap) (t : ℕ) (log : List Told) (c number : ℕ) → Known n limit h t log → own_may n (part_seen n log) (MergeAdd c) ≡ true → Shows h (Of Local c) number → number ≤ limit
 merging_local n limit h t log c number known own shown =

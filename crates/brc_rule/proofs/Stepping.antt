@@ -8,13 +8,15 @@ use lib.ListN.{get_elem?}
 use Rattle.atomic_table.specs.Table.{State}
 use Rattle.brc_runs.specs.declared.event.Step.{Step}
 use Rattle.brc_runs.specs.declared.event.Step.TheVariants.{Register, Gather}
-use Rattle.brc_runs.specs.Heap.{Heap}
+use Rattle.brc_runs.specs.Heap.{Heap, opening}
 use Rattle.brc_runs.specs.Steps.{enabled, after, after_target, root_after, root_may, thread_may, target_at}
 use Rattle.brc_known.specs.declared.word.Word.{Word}
 use Rattle.brc_known.specs.Items.{IsWord, Shows, IsTold, found, works_on, is_start, events_of}
 use Rattle.brc_runs.proofs.Asking.{May, may_parts}
 use Rattle.brc_runs.proofs.Changes.{read_there}
 use Rattle.brc_known.proofs.Items_Queues.{run_cells}
+use Rattle.brc_known.proofs.Items_Runs.{events_run}
+use Rattle.brc_lasting.proofs.Standing.{run_reached}
 use Rattle.brc_lasting.proofs.Ranges_Law.{same_rows}
 use Rattle.brc_known.proofs.Words_Law.{others_shown}
 use Rattle.brc_rule.specs.declared.contents.Contents.{Contents}
@@ -101,7 +103,7 @@ module _ {B : Type 0} (shows : B → ℕ × Contents) (n limit : ℕ) where
             (subst (Shows (moved_on (world n limit r.run) t s) w) (sym (get_or-set_same st.words (spot n w) written 0 (omega (arith, inside n w did.is_word, r.wide)))) did.shown)
         | inr other ↦
             subst (Shows (moved_on (world n limit r.run) t s) u) (sym (read_there st.words (spot n w) (spot n u) written 0 other))
-            (others_shown (world n limit r.run) t s (target_at (world n limit r.run) t s) u (get_or st.words (spot n u) 0) may.own
+            (others_shown (world n limit r.run) t s u (get_or st.words (spot n u) 0) (run_reached n limit (events_of (items_of r.run)) r.options (events_run (opening n limit) (items_of r.run) r.legal.items)) may
             (subst (λ m. IsWord m u) (sym (run_cells n limit (events_of (items_of r.run)))) there)
             (λ e. other (ap (spot n) (e ∙ did.word))) (r.each_word u there))
       ]

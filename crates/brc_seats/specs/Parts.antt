@@ -30,7 +30,7 @@ born_log thread =
     Did (Birth 266 kinds.List 0) thread (moves.Put 266 (contents.«List» []))
     ∷ Did (InitShared 266) 4398046511104 moves.Nothing
     ∷ Did (InitLocal 266) 1 moves.Nothing
-    ∷ Did (Claim 266) 18446744073709551615 moves.Nothing
+    ∷ Did (Claim 266) 18446744073709550592 moves.Nothing
     ∷ []
 
 -- it has the globals in place 1, and has put the list into them

@@ -1,6 +1,7 @@
 //! What the worked runs share: a table that opens, the blocks of a list and of the globals, and an object's end.
 
-ghost use Rattle.std.specs.Prelude.{◌≡◌, ◌<◌, [], ◌∷◌, None, IfSome, true};
+ghost use Rattle.std.specs.Prelude.{◌≡◌, ◌<◌, ◌++◌, [], ◌∷◌, None, IfSome, true};
+ghost use Rattle.brc_words.specs.declared.key.Key.TheVariants as keys;
 ghost use Rattle.brc_runs.specs.Lists.{is_marked};
 ghost use Rattle.brc_runs.specs.Steps.{is_free_hand, stage_ok, lock_ok};
 ghost use Rattle.brc_runs.specs.declared.event.Step.TheVariants as steps;
@@ -15,6 +16,7 @@ ghost use Rattle.brc_table.specs.Seated.{Continues};
 ghost use Rattle.brc_table.specs.Shown.{contents_of};
 ghost use Rattle.brc_seats.specs.Parts.{bare_globals, with_entry, with_entries};
 
+use crate::comparing::is;
 use crate::ends::end_all;
 use crate::globals::{has_one, has_two, is_bare};
 use brc_block::{Block, Cells, Entries, Pairs, Payload};
@@ -71,7 +73,7 @@ pub(crate) fn a_list<A: Allocator + Copy>(rt: &impl Abort, alloc: A, cell: u32) 
     }
 }
 
-/// The cell is free, and claimed.
+/// The cell is free, as all mortal cells are, and claimed.
 pub(crate) fn claimed<A: Allocator>(
     rt: &impl Abort,
     table: &HeapTable<A>,
@@ -81,12 +83,13 @@ pub(crate) fn claimed<A: Allocator>(
     requires table { seat.old.table ≡ table.now.table }
     requires inside { cell < table.now.cells }
     requires claims { Claims table.now.cells seat.old.log cell }
-    ensures told { seat.new.log ≡ told.Did (steps.Claim cell) 18446744073709551615 moves.Nothing ∷ seat.old.log }
+    ensures told { seat.new.log ≡ told.Did (steps.Claim cell) 18446744073709550592 moves.Nothing ∷ seat.old.log }
     ensures out { seat.new.slots ≡ (cell, None) ∷ seat.old.slots }
     ensures seat { Continues seat.old seat.new }
 {
-    if table.claim(seat, cell).is_err() {
-        panic!(rt; "the cell is taken")
+    match table.claim(seat, cell) {
+        Ok(found) => is(rt, found, 18_446_744_073_709_550_592),
+        Err(_) => panic!(rt; "the cell is taken"),
     }
 }
 
@@ -174,12 +177,23 @@ pub(crate) fn bare<A: Allocator>(alloc: A, block: Block<A>) -> Block<A>
     ensures contents { contents_of result.1 ≡ bare_globals }
 {
     let mut block = block;
-    *block.payload_mut() = Payload::Dict(Pairs::new(Vec::new(alloc)));
+    *block.payload_mut() = Payload::Dict(Pairs::new(alloc));
     block
 }
 
+/// A pair more, whose key isn't there yet.
+fn put_last<A: Allocator + Copy>(rt: &impl Abort, pairs: &mut Pairs<A>, key: i64, cell: u32)
+    ensures { pairs.new.items ≡ pairs.old.items ++ (keys.Int key, cell) ∷ [] }
+{
+    let key = Key::Int(key);
+    match pairs.find(&key) {
+        Some(_) => panic!(rt; "the key is there"),
+        None => assert!(rt; pairs.put(key, cell).is_ok()),
+    }
+}
+
 /// One with this entry.
-pub(crate) fn with_one<A: Allocator>(
+pub(crate) fn with_one<A: Allocator + Copy>(
     rt: &impl Abort,
     alloc: A,
     block: Block<A>,
@@ -189,15 +203,15 @@ pub(crate) fn with_one<A: Allocator>(
     ensures cell { result.0 ≡ block.0 }
     ensures contents { contents_of result.1 ≡ with_entry key cell }
 {
-    let mut pairs = Pairs::new(Vec::new(alloc));
-    assert!(rt; pairs.put(Key::Int(key), cell).is_ok());
+    let mut pairs = Pairs::new(alloc);
+    put_last(rt, &mut pairs, key, cell);
     let mut block = block;
     *block.payload_mut() = Payload::Dict(pairs);
     block
 }
 
 /// One with the cell under the keys 1 and 2.
-pub(crate) fn with_two<A: Allocator>(
+pub(crate) fn with_two<A: Allocator + Copy>(
     rt: &impl Abort,
     alloc: A,
     block: Block<A>,
@@ -206,9 +220,9 @@ pub(crate) fn with_two<A: Allocator>(
     ensures cell { result.0 ≡ block.0 }
     ensures contents { contents_of result.1 ≡ with_entries cell }
 {
-    let mut pairs = Pairs::new(Vec::new(alloc));
-    assert!(rt; pairs.put(Key::Int(1), cell).is_ok());
-    assert!(rt; pairs.put(Key::Int(2), cell).is_ok());
+    let mut pairs = Pairs::new(alloc);
+    put_last(rt, &mut pairs, 1, cell);
+    put_last(rt, &mut pairs, 2, cell);
     let mut block = block;
     *block.payload_mut() = Payload::Dict(pairs);
     block
@@ -227,7 +241,8 @@ pub(crate) fn alive<A: Allocator>(rt: &impl Abort, block: Option<Block<A>>)
     }
 }
 
-/// The object is dead, and was a list without entries: its memory goes back, and its cell is free.
+/// The object is dead, and was a list without entries: its memory goes back, and its cell is free. It was the only mortal
+/// cell that wasn't: cell 266.
 pub(crate) fn gone<A: Allocator>(
     rt: &impl Abort,
     table: &HeapTable<A>,
@@ -243,7 +258,7 @@ pub(crate) fn gone<A: Allocator>(
     requires hand { is_free_hand (part_seen table.now.cells seat.old.log).row.hand ≡ true }
     requires stage { stage_ok (part_seen table.now.cells seat.old.log).row.stage (steps.Free cell) ≡ true }
     requires lock { lock_ok (part_seen table.now.cells seat.old.log).row.locked (steps.Free cell) ≡ true }
-    ensures told { seat.new.log ≡ told.Did (steps.Free cell) 18446744073709551615 moves.Nothing ∷ seat.old.log }
+    ensures told { seat.new.log ≡ told.Did (steps.Free cell) 18446744073709549568 moves.Nothing ∷ seat.old.log }
     ensures slots { seat.new.slots ≡ [] }
     ensures seat { Continues seat.old seat.new }
 {
@@ -254,7 +269,7 @@ pub(crate) fn gone<A: Allocator>(
         Payload::List(cells) => assert!(rt; cells.len() == 0),
         _ => panic!(rt; "another payload comes back"),
     }
-    table.free(seat, cell);
+    is(rt, table.free(seat, cell), 18_446_744_073_709_549_568);
 }
 
 /// The memory of a dead list goes back, and its cell is free.

@@ -38,12 +38,12 @@ fn lives(rt: &impl Abort, alloc: Global, table: &HeapTable<Global>, seat: &mut T
                         Payload::Int(number) => assert_eq!(rt; number, 7),
                         _ => panic!(rt; "another payload comes back"),
                     }
-                    table.free(seat, 266);
+                    is(rt, table.free(seat, 266), 18_446_744_073_709_549_568);
                 }
             }
         }
     }
-    is(rt, table.load_owner(seat, 266), u64::MAX);
+    is(rt, table.load_free(seat, 4), 18_446_744_073_709_550_592);
 }
 
 #[test]

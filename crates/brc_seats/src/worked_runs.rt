@@ -42,7 +42,7 @@ fn ends_what_was_merged(
     let Found { number, block } = table.last_down(two, Dropped::Frame(1), 266);
     is(rt, number, 4_398_046_511_111);
     gone(rt, table, two, block, 266);
-    is(rt, table.load_owner(one, 266), u64::MAX);
+    is(rt, table.load_free(one, 4), 18_446_744_073_709_550_592);
 }
 
 #[test]
@@ -92,7 +92,7 @@ fn puts_back_a_merged_list(
     let Found { number, block } = table.last_down(two, Dropped::Frame(1), 266);
     is(rt, number, 4_398_046_511_111);
     gone(rt, table, two, block, 266);
-    is(rt, table.load_owner(one, 266), u64::MAX);
+    is(rt, table.load_free(one, 4), 18_446_744_073_709_550_592);
 }
 
 #[test]
@@ -249,7 +249,7 @@ fn counts_below_zero(
     let Found { number, block } = table.last_added(one, 266);
     is(rt, number, 4_398_046_511_111);
     gone(rt, table, one, block, 266);
-    is(rt, table.load_owner(two, 266), u64::MAX);
+    is(rt, table.load_free(two, 4), 18_446_744_073_709_550_592);
 }
 
 #[test]

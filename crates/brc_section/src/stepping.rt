@@ -26,7 +26,7 @@ enum Shared {
 }
 
 /// What it does under this name.
-fn step_under<R: Wait, H: Home<A>, A: Allocator>(
+fn step_under<R: Wait, H: Home<A>, A: Allocator + Copy>(
     rt: &R,
     alloc: A,
     frame: &mut Frame<H, A>,

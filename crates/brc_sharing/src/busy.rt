@@ -34,7 +34,7 @@ fn has_an_empty_list<R: Abort + Wait, H: Home<A>, A: Allocator>(
 
 /// While the first thread has the globals locked, with room and a place, the second one finds them Busy; its own list it can use.
 /// It answers its list.
-fn locks_meanwhile<R: Abort + Wait, H: Home<A>, A: Allocator>(
+fn locks_meanwhile<R: Abort + Wait, H: Home<A>, A: Allocator + Copy>(
     rt: &R,
     frame: &mut Frame<H, A>,
     globals: &Handle<A>,
@@ -72,7 +72,7 @@ fn locks_meanwhile<R: Abort + Wait, H: Home<A>, A: Allocator>(
 }
 
 /// A new key gets the list, which is found there and taken out again.
-fn puts_then<R: Abort + Wait, H: Home<A>, A: Allocator>(
+fn puts_then<R: Abort + Wait, H: Home<A>, A: Allocator + Copy>(
     rt: &R,
     frame: &mut Frame<H, A>,
     globals: &Handle<A>,

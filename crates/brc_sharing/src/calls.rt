@@ -64,7 +64,7 @@ pub(crate) enum Exchanging {
 }
 
 /// A put, which answers the old value, if there was one, by the handle that the value had.
-fn put<R: Abort + Wait, H: Home<A>, A: Allocator>(
+fn put<R: Abort + Wait, H: Home<A>, A: Allocator + Copy>(
     rt: &R,
     frame: &mut Frame<H, A>,
     dict: &Handle<A>,
@@ -89,7 +89,7 @@ fn put<R: Abort + Wait, H: Home<A>, A: Allocator>(
 }
 
 /// A put of a new key. A refusal hands key and value back.
-fn put_new<R: Abort + Wait, H: Home<A>, A: Allocator>(
+fn put_new<R: Abort + Wait, H: Home<A>, A: Allocator + Copy>(
     rt: &R,
     frame: &mut Frame<H, A>,
     dict: &Handle<A>,
@@ -122,7 +122,7 @@ fn put_new<R: Abort + Wait, H: Home<A>, A: Allocator>(
 }
 
 /// What the call answers. A refusal hands the value back.
-pub(crate) fn given<R: Abort + Wait, H: Home<A>, A: Allocator>(
+pub(crate) fn given<R: Abort + Wait, H: Home<A>, A: Allocator + Copy>(
     rt: &R,
     frame: &mut Frame<H, A>,
     container: &Handle<A>,
@@ -150,7 +150,7 @@ pub(crate) fn given<R: Abort + Wait, H: Home<A>, A: Allocator>(
 }
 
 /// The value goes in.
-pub(crate) fn gives<R: Abort + Wait, H: Home<A>, A: Allocator>(
+pub(crate) fn gives<R: Abort + Wait, H: Home<A>, A: Allocator + Copy>(
     rt: &R,
     frame: &mut Frame<H, A>,
     container: &Handle<A>,
@@ -171,7 +171,7 @@ pub(crate) fn gives<R: Abort + Wait, H: Home<A>, A: Allocator>(
 }
 
 /// The value is refused so; it is the answer.
-pub(crate) fn refuses<R: Abort + Wait, H: Home<A>, A: Allocator>(
+pub(crate) fn refuses<R: Abort + Wait, H: Home<A>, A: Allocator + Copy>(
     rt: &R,
     frame: &mut Frame<H, A>,
     container: &Handle<A>,
@@ -306,7 +306,7 @@ pub(crate) fn exchanges<R: Abort + Wait, H: Home<A>, A: Allocator>(
 }
 
 /// The value goes into the globals, beside a new key.
-pub(crate) fn shares<R: Abort + Wait, H: Home<A>, A: Allocator>(
+pub(crate) fn shares<R: Abort + Wait, H: Home<A>, A: Allocator + Copy>(
     rt: &R,
     frame: &mut Frame<H, A>,
     key: i64,

@@ -147,7 +147,7 @@ fn copied<H: Home<A>, A: Allocator>(
 }
 
 /// None goes beside a new key.
-fn puts_none<R: Abort, H: Home<A>, A: Allocator>(
+fn puts_none<R: Abort, H: Home<A>, A: Allocator + Copy>(
     rt: &R,
     frame: &mut Frame<H, A>,
     dict: &Handle<A>,

@@ -45,7 +45,7 @@ fn locked<'f, R: Abort + Wait, H: Home<A>, A: Allocator>(
 }
 
 /// The value goes into a list, last. Where room for it is refused the list is unlocked as it was found.
-pub(crate) fn put_by_guard<R: Abort + Wait, H: Home<A>, A: Allocator>(
+pub(crate) fn put_by_guard<R: Abort + Wait, H: Home<A>, A: Allocator + Copy>(
     rt: &R,
     frame: &mut Frame<H, A>,
     list: &Handle<A>,
@@ -78,7 +78,7 @@ pub(crate) fn put_by_guard<R: Abort + Wait, H: Home<A>, A: Allocator>(
 }
 
 /// The value goes into an empty dictionary, beside the key 7.
-pub(crate) fn puts_a_pair<R: Abort + Wait, H: Home<A>, A: Allocator>(
+pub(crate) fn puts_a_pair<R: Abort + Wait, H: Home<A>, A: Allocator + Copy>(
     rt: &R,
     frame: &mut Frame<H, A>,
     dict: &Handle<A>,

@@ -46,7 +46,7 @@ fn with_key(giving: Giving, key: u32) -> Giving {
 }
 
 /// A call that puts a reference to None into the container. A refusal hands back what the call took.
-fn put<R: Abort + Wait, H: Home<A>, A: Allocator>(
+fn put<R: Abort + Wait, H: Home<A>, A: Allocator + Copy>(
     rt: &R,
     frame: &mut Frame<H, A>,
     container: &Handle<A>,
@@ -68,7 +68,7 @@ fn put<R: Abort + Wait, H: Home<A>, A: Allocator>(
 }
 
 /// Puts until one is refused, which leaves as many entries and handles as before; the answer is how many passed.
-fn puts_until_refused<R: Abort + Wait, H: Home<A>, A: Allocator>(
+fn puts_until_refused<R: Abort + Wait, H: Home<A>, A: Allocator + Copy>(
     rt: &R,
     frame: &mut Frame<H, A>,
     container: &Handle<A>,

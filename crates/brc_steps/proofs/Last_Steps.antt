@@ -42,7 +42,7 @@ use Rattle.brc_rule.proofs.Knowing.{Known}
 use Rattle.brc_steps.proofs.Local_Steps.{read_cell}
 use Rattle.brc_rule.proofs.Stepping.{moved_on}
 use Rattle.brc_rule.proofs.Since.{since, since_step}
-use Rattle.brc_rule.proofs.Noting.{merged_word, nobodys_word, part_hand, part_own, hand_in, bit_in, has_popped, has_in_hand}
+use Rattle.brc_rule.proofs.Noting.{merged_word, nobodys_word, part_hand, part_own, hand_in, bit_in, has_popped, has_in_hand, owner_told}
 use Rattle.brc_steps.proofs.Ending_Steps.{LastFits, last_down}
 use Rattle.brc_steps.proofs.Taking_Steps.{end_step}
 
@@ -180,7 +180,7 @@ module _ {B : Type 0} (shows : B → ℕ × Contents) (n limit : ℕ) where
       noted_nobodys h t c p reached busy ends found = record {
         held = has_in_hand h t c p busy (ending_reference p ends);
         mortal = (hand_tells h t c p reached busy).0;
-        owner = nobodys_word (length h.rows) (cell_at h c).owner (reached_owners h reached c) found;
+        owner = nobodys_word (length h.rows) (cell_at h c).owner (reached_owners h reached c) (owner_told h t c 0 reached (has_in_hand h t c p busy (ending_reference p ends)) found);
       }
 
   pub ends_nobodys : (id : ℕ) (v : View) (slots : List (ℕ × Option B)) (c : ℕ) → v.active ≡ true → 0 < v.thread → c < n → EndsNobodys n v.log c

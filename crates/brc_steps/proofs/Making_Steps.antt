@@ -1,36 +1,37 @@
 -- The life of a cell's block: Claim, InitLocal, InitShared and Birth make an object, and Free gives its cell back.
-use Rattle.std.proofs.Common.{◌≡◌, ◌≢◌, ℕ, ◌+◌, ◌-◌, ◌<◌, ◌≤◌, ◌^◌, ◌==◌, nat_le, ◌&&◌, true, false, if◌then◌else◌, pos, List, [], ◌∷◌, length, set, get_or, Option, Some, None, refl, sym, ◌∙◌, ap, subst, inl, inr, arith}
-use Rattle.std.proofs.lemmas.Bool.{cases_Bool, cases_eq, eq-eqb, ne_eqb, le-leb, true≢false}
+use Rattle.std.proofs.Common.{◌≡◌, ◌≢◌, ℕ, ◌+◌, ◌-◌, ◌*◌, ◌/◌, ◌%◌, ◌<◌, ◌≤◌, ◌^◌, ◌==◌, nat_le, ◌&&◌, Bool, true, false, if◌then◌else◌, pos, List, [], ◌∷◌, length, set, get_or, Option, Some, None, refl, sym, ◌∙◌, ap, subst, inl, inr, arith}
+use Rattle.std.specs.Prelude.{bit_and, bit_or}
+use Rattle.std.specs.Int.{bit_at}
+use Rattle.std.proofs.lemmas.Bool.{cases_Bool, cases_eq, eq-eqb, ne_eqb, le-leb, lt-ltb, and_parts, true≢false}
+use Rattle.std.proofs.lemmas.List.{length-set}
 use Rattle.std.specs.Cmp.Derive.{both_true}
 use mathlib.Core.Option.{some, none}
 use lib.ListN.{get_elem?}
-use prog.Atomic.{either}
 use Rattle.atomic_table.specs.Table.{State as Table, Allows, keeps, takes, gives}
 use Rattle.atomic_table.proofs.Lists.{set_here}
 use Rattle.brc_words.specs.declared.kind.Kind.{Kind}
-use Rattle.brc_words.specs.declared.owner.Owner.{Owner}
 use Rattle.brc_words.specs.declared.owner.Owner.TheVariants as owners
-use Rattle.brc_words.specs.Owners.{word_of}
 use Rattle.brc_runs.specs.declared.cell.Cell.{Cell}
 use Rattle.brc_runs.specs.declared.event.Step.{Step}
 use Rattle.brc_runs.specs.declared.event.Step.TheVariants.{Claim, InitLocal, InitShared, Birth, Free}
 use Rattle.brc_runs.specs.declared.row.Hand.TheVariants as hands
 use Rattle.brc_runs.specs.declared.row.Phase.TheVariants as phases
-use Rattle.brc_runs.specs.Lists.{is_marked}
+use Rattle.brc_runs.specs.Lists.{is_marked, one}
 use Rattle.brc_runs.specs.Heap.{Heap, cell_at, row_at, worklist_at}
 use Rattle.brc_runs.specs.Holding.{lives}
 use Rattle.brc_runs.specs.Sound.{IsSound}
 use Rattle.brc_runs.specs.Steps.{cell_after, is_free, stepped}
-use Rattle.brc_runs.proofs.Naming.{busy_hand}
+use Rattle.brc_runs.proofs.Naming.{busy_hand, free_owner}
 use Rattle.brc_runs.proofs.Reached.{reached_sound}
-use Rattle.brc_lasting.specs.Ranges.{OwnerFits}
 use Rattle.brc_lasting.proofs.Progress.{inside}
-use Rattle.brc_lasting.proofs.Ranges_Law.{reached_owners}
 use Rattle.brc_lasting.proofs.Telling.{hand_tells}
 use Rattle.brc_known.specs.declared.word.Field.TheVariants.{Owner as OwnerWord, Local, Shared}
-use Rattle.brc_known.specs.declared.word.Word.TheVariants.{Of}
-use Rattle.brc_known.specs.Items.{shared_word}
+use Rattle.brc_known.specs.declared.word.Word.TheVariants.{Of, FreeWord}
+use Rattle.brc_known.specs.Free_Words.{is_free_cell, ShowsOwner}
+use Rattle.brc_known.specs.Items.{shared_word, IsWord, Shows}
 use Rattle.brc_known.specs.Taken.{listed_at}
+use Rattle.brc_known.proofs.Free_Law.{told_true, told_bit, bit_taken, bit_given, cell_of_bit, bit_of_cell}
+use Rattle.brc_known.proofs.Words_Law.{cell_free}
 use Rattle.brc_rule.specs.declared.contents.Contents.{Contents}
 use Rattle.brc_rule.specs.declared.told.Moved.TheVariants as moves
 use Rattle.brc_rule.specs.declared.told.Told.{Told}
@@ -57,12 +58,50 @@ making_low h t c is = inside h c (λ free. claimed_free (sym is ∙ free))
     claimed_free : owners.Claimed t ≡ owners.Free → ⊥
     claimed_free bad = absurd (cc)
 
--- an owner word of all ones is a free cell's
-free_word : (threads : ℕ) (owner : Owner) → threads ≤ 65 → OwnerFits threads owner → 2 ^ 64 - 1 ≡ word_of owner → owner ≡ owners.Free
-free_word threads owners.Nobody few fits is = absurd (omega (arith, is))
-free_word threads (owners.Thread t) few fits is = absurd (omega (arith, is, few, fits.1))
-free_word threads (owners.Claimed t) few fits is = absurd (omega (arith, is, few, fits.1))
-free_word threads owners.Free few fits is = refl
+-- a cell's free word is one of the table's
+free_inside : (n c : ℕ) → c < n → IsWord n (FreeWord (c / 64))
+free_inside n c low = omega (arith, low)
+
+-- a cell whose bit is 1 is free
+bit_free : (h : Heap) (c there : ℕ) → Shows h (FreeWord (c / 64)) there → bit_at there (c % 64) ≡ 1 → (cell_at h c).owner ≡ owners.Free
+bit_free h c there shows bit =
+    let told : is_free_cell h (c / 64 * 64 + c % 64) ≡ true = told_true (λ i. is_free_cell h (c / 64 * 64 + i)) 64 (c % 64) (omega arith) (ap (λ m. bit_at m (c % 64)) (sym shows) ∙ bit) in
+    free_owner _ (and_parts _ _ (sym (ap (is_free_cell h) (cell_of_bit c)) ∙ told)).1
+
+-- the bits of other cells stay
+other_bits : (h : Heap) (t : ℕ) (s : Step) (c i : ℕ) → i < 64 → i ≢ c % 64 → is_free_cell (stepped h t s c) (c / 64 * 64 + i) ≡ is_free_cell h (c / 64 * 64 + i)
+other_bits h t s c i low other = cell_free h t s c (c / 64 * 64 + i) (λ e. other (bit_of_cell c (c / 64) i low e).1)
+
+-- the free word after a claim, which takes the cell's bit
+bit_is_taken : (h : Heap) (t : ℕ) (s : Step) (c there : ℕ) → Shows h (FreeWord (c / 64)) there → is_free (cell_at (stepped h t s c) c).owner ≡ false
+    → Shows (stepped h t s c) (FreeWord (c / 64)) (bit_and there (2 ^ 64 - 1 - 2 ^ (c % 64)))
+bit_is_taken h t s c there shows gone =
+    ap (λ m. bit_and m (2 ^ 64 - 1 - 2 ^ (c % 64))) shows
+    ∙ bit_taken (λ i. is_free_cell h (c / 64 * 64 + i)) (λ i. is_free_cell (stepped h t s c) (c / 64 * 64 + i)) (c % 64) (omega arith) (λ i low other. other_bits h t s c i low other)
+    (ap (is_free_cell (stepped h t s c)) (cell_of_bit c) ∙ both_false _ _ gone)
+  where
+    both_false : (a b : Bool) → b ≡ false → (a && b) ≡ false
+    both_false true b is = is
+    both_false false b is = refl
+
+-- and after a free, which gives it
+bit_is_given : (h : Heap) (t : ℕ) (s : Step) (c there : ℕ) → Shows h (FreeWord (c / 64)) there → c < length h.cells → is_free (cell_at (stepped h t s c) c).owner ≡ true
+    → Shows (stepped h t s c) (FreeWord (c / 64)) (bit_or there (2 ^ (c % 64)))
+bit_is_given h t s c there shows low given =
+    ap (λ m. bit_or m (2 ^ (c % 64))) shows
+    ∙ bit_given (λ i. is_free_cell h (c / 64 * 64 + i)) (λ i. is_free_cell (stepped h t s c) (c / 64 * 64 + i)) (c % 64) (omega arith) (λ i inside other. other_bits h t s c i inside other)
+    (ap (is_free_cell (stepped h t s c)) (cell_of_bit c) ∙ both_true (lt-ltb c _ (omega (arith, low, length-set h.cells c (cell_after t s c (cell_at h c))))) given)
+
+-- a claim of a cell that has no bit leaves the word
+bit_missed : (h : Heap) (c there : ℕ) → Shows h (FreeWord (c / 64)) there → bit_at there (c % 64) ≢ 1 → bit_and there (2 ^ 64 - 1 - 2 ^ (c % 64)) ≡ there
+bit_missed h c there shows missing =
+    let f : ℕ → Bool = λ i. is_free_cell h (c / 64 * 64 + i) in
+    ap (λ m. bit_and m (2 ^ 64 - 1 - 2 ^ (c % 64))) shows
+    ∙ bit_taken f f (c % 64) (omega arith) (λ i low other. refl) (no_one (f (c % 64)) (λ e. missing (ap (λ m. bit_at m (c % 64)) shows ∙ told_bit f 64 (c % 64) (omega arith) ∙ e))) ∙ sym shows
+  where
+    no_one : (b : Bool) → one b ≢ 1 → b ≡ false
+    no_one true bad = absurd (bad refl)
+    no_one false bad = refl
 
 -- what is on a worklist lives, so a free cell is on none
 free_unmarked : (h : Heap) (u c : ℕ) → IsSound h → (cell_at h c).owner ≡ owners.Free → is_marked (worklist_at h u) c ≡ false
@@ -127,38 +166,36 @@ module _ {B : Type 0} (shows : B → ℕ × Contents) (n limit : ℕ) where
 
   -- ---- Claim
 
-  found_free : (st : Table (Option B) View) (r : Rule st) (id : ℕ) (v : View) (c : ℕ) → get_elem? st.views id ≡ some v → v.active ≡ true → 0 < v.thread → c < n
-      → get_or st.words (spot n (Of OwnerWord c)) 0 ≡ 2 ^ 64 - 1 → (cell_at (world n limit r.run) c).owner ≡ owners.Free
-  found_free st r id v c at active some_thread low found =
-      let h : Heap = world n limit r.run in
-      let known : Known n limit h v.thread v.log = knows shows n limit st r id v at active some_thread in
-      free_word (length h.rows) (cell_at h c).owner (omega (arith, (reached_sound h known.reached).shaped.threads)) (reached_owners h known.reached c)
-      (sym found ∙ r.each_word (Of OwnerWord c) low)
+  found_free : (st : Table (Option B) View) (r : Rule st) (c : ℕ) → c < n
+      → bit_at (get_or st.words (spot n (FreeWord (c / 64))) 0) (c % 64) ≡ 1 → (cell_at (world n limit r.run) c).owner ≡ owners.Free
+  found_free st r c low found =
+      bit_free (world n limit r.run) c (get_or st.words (spot n (FreeWord (c / 64))) 0) (r.each_word (FreeWord (c / 64)) (free_inside n c low)) found
 
   -- it is none of the dead blocks that the log tells
   found_fresh : (st : Table (Option B) View) (r : Rule st) (id : ℕ) (v : View) (c : ℕ) → get_elem? st.views id ≡ some v → v.active ≡ true → 0 < v.thread → c < n
-      → get_or st.words (spot n (Of OwnerWord c)) 0 ≡ 2 ^ 64 - 1 → listed_at (taken_seen n v.log) c ≡ None
+      → bit_at (get_or st.words (spot n (FreeWord (c / 64))) 0) (c % 64) ≡ 1 → listed_at (taken_seen n v.log) c ≡ None
   found_fresh st r id v c at active some_thread low found =
       let h : Heap = world n limit r.run in
       let known : Known n limit h v.thread v.log = knows shows n limit st r id v at active some_thread in
       unlisted_seen n limit h v.thread v.log c known some_thread
-      (free_unmarked h v.thread c (reached_sound h known.reached) (found_free st r id v c at active some_thread low found))
+      (free_unmarked h v.thread c (reached_sound h known.reached) (found_free st r c low found))
 
-  claiming : (st : Table (Option B) View) (r : Rule st) (id : ℕ) (v : View) (c : ℕ) → get_elem? st.views id ≡ some v → v.active ≡ true → 0 < v.thread → c < n → Claims n v.log c
-      → get_or st.words (spot n (Of OwnerWord c)) 0 ≡ 2 ^ 64 - 1
+  claiming : (st : Table (Option B) View) (r : Rule st) (id : ℕ) (v : View) (c there : ℕ) → get_elem? st.views id ≡ some v → v.active ≡ true → 0 < v.thread → c < n → Claims n v.log c
+      → get_or st.words (spot n (FreeWord (c / 64))) 0 ≡ there → bit_at there (c % 64) ≡ 1
       → (get_elem? st.homes c ≡ some (some None))
-      × Rule (record { words = set st.words (spot n (Of OwnerWord c)) (2 ^ 32 + v.thread); homes = set st.homes c none; views = set st.views id (with_told (Did (Claim c) (2 ^ 64 - 1) moves.Nothing) v) })
-  claiming st r id v c at active some_thread low claims found =
+      × Rule (record { words = set st.words (spot n (FreeWord (c / 64))) (bit_and there (2 ^ 64 - 1 - 2 ^ (c % 64))); homes = set st.homes c none; views = set st.views id (with_told (Did (Claim c) there moves.Nothing) v) })
+  claiming st r id v c there at active some_thread low claims is found =
       let t : ℕ = v.thread in
       let s : Step = Claim c in
       let h : Heap = world n limit r.run in
       let x : Cell = cell_at h c in
       let known : Known n limit h t v.log = knows shows n limit st r id v at active some_thread in
       let inside_is : c < length h.cells = omega (arith, known.cells, low) in
-      let free : x.owner ≡ owners.Free = found_free st r id v c at active some_thread low found in
+      let shows_word : Shows h (FreeWord (c / 64)) there = sym is ∙ r.each_word (FreeWord (c / 64)) (free_inside n c low) in
+      let free : x.owner ≡ owners.Free = bit_free h c there shows_word found in
       let now : (cell_at (stepped h t s c) c).owner ≡ owners.Claimed t = ap (λ (y : Cell). y.owner) (read_cell h t s c inside_is) in (
         (r.each_home c low).bare free,
-        block_moved shows n limit st r id v s c (Of OwnerWord c) (2 ^ 32 + t) (2 ^ 64 - 1) moves.Nothing none at active low
+        block_moved shows n limit st r id v s c (FreeWord (c / 64)) (bit_and there (2 ^ 64 - 1 - 2 ^ (c % 64))) there moves.Nothing none at active (free_inside n c low)
             (record {
               some_thread = some_thread;
               may = is_enabled n limit h t v.log s some_thread known claims.own refl
@@ -166,13 +203,13 @@ module _ {B : Type 0} (shows : B → ℕ × Contents) (n limit : ℕ) where
               target = refl;
               low = inside_is;
               word = refl;
-              shown = sym (ap word_of now);
-              told = sym found ∙ r.each_word (Of OwnerWord c) low;
+              shown = bit_is_taken h t s c there shows_word (ap is_free now);
+              told = shows_word;
               entries = refl;
               moves = (refl, refl);
               elsewhere = λ d other. refl;
             })
-            (home_out shows (set st.homes c none) (stepped h t s c) ((t, Did s (2 ^ 64 - 1) moves.Nothing) ∷ r.run) c
+            (home_out shows (set st.homes c none) (stepped h t s c) ((t, Did s there moves.Nothing) ∷ r.run) c
             (λ bad. claimed_free t (sym now ∙ bad)) (λ live unlocked off. true≢false (sym live ∙ ap lives now))),
       )
     where
@@ -180,28 +217,28 @@ module _ {B : Type 0} (shows : B → ℕ × Contents) (n limit : ℕ) where
       claimed_free t bad = absurd (cc)
 
   pub claims_cell : (id : ℕ) (v : View) (slots : List (ℕ × Option B)) (c : ℕ) → v.active ≡ true → 0 < v.thread → c < n → Claims n v.log c
-      → Allows Rule n id (v, slots) (spot n (Of OwnerWord c)) (λ there. either (there == 2 ^ 64 - 1) (2 ^ 32 + v.thread) there) (λ there me. Claimed n v slots c there (there == 2 ^ 64 - 1) me)
+      → Allows Rule n id (v, slots) (spot n (FreeWord (c / 64))) (λ there. bit_and there (2 ^ 64 - 1 - 2 ^ (c % 64))) (λ there me. Claimed n v slots c there (bit_at there (c % 64) == 1) me)
   claims_cell id v slots c active some_thread low claims st r deep at small =
-      let w = Of OwnerWord c in
+      let w = FreeWord (c / 64) in
       let there : ℕ = get_or st.words (spot n w) 0 in
-      elim (cases_eq there (2 ^ 64 - 1)) [
+      elim (cases_eq (bit_at there (c % 64)) 1) [
         | inl same ↦
-            let done = claiming st r id v c at active some_thread low claims same in (
-              with_told (Did (Claim c) (2 ^ 64 - 1) moves.Nothing) v,
+            let done = claiming st r id v c there at active some_thread low claims refl same in (
+              with_told (Did (Claim c) there moves.Nothing) v,
               takes c None,
               done.0,
-              subst (λ b. Rule (record { words = set st.words (spot n w) (either b (2 ^ 32 + v.thread) there); homes = set st.homes c none; views = set st.views id (with_told (Did (Claim c) (2 ^ 64 - 1) moves.Nothing) v) }))
-                  (sym (eq-eqb there (2 ^ 64 - 1) same)) done.1,
-              subst (λ b. Claimed n v slots c there b (with_told (Did (Claim c) (2 ^ 64 - 1) moves.Nothing) v, (c, None) ∷ slots)) (sym (eq-eqb there (2 ^ 64 - 1) same))
+              done.1,
+              subst (λ b. Claimed n v slots c there b (with_told (Did (Claim c) there moves.Nothing) v, (c, None) ∷ slots)) (sym (eq-eqb (bit_at there (c % 64)) 1 same))
                   (record { fresh = found_fresh st r id v c at active some_thread low same; after_is = refl }),
             )
         | inr other ↦ (
           with_told (Lost w there) v,
           keeps,
           tt,
-          subst (λ b. Rule (record { words = set st.words (spot n w) (either b (2 ^ 32 + v.thread) there); homes = st.homes; views = set st.views id (with_told (Lost w there) v) })) (sym (ne_eqb there (2 ^ 64 - 1) other))
-              (unmoved shows n limit st r id v w (Lost w there) at active low lost),
-          subst (λ b. Claimed n v slots c there b (with_told (Lost w there) v, slots)) (sym (ne_eqb there (2 ^ 64 - 1) other)) refl,
+          subst (λ m. Rule (record { words = set st.words (spot n w) m; homes = st.homes; views = set st.views id (with_told (Lost w there) v) }))
+              (sym (bit_missed (world n limit r.run) c there (r.each_word w (free_inside n c low)) other))
+              (unmoved shows n limit st r id v w (Lost w there) at active (free_inside n c low) lost),
+          subst (λ b. Claimed n v slots c there b (with_told (Lost w there) v, slots)) (sym (ne_eqb (bit_at there (c % 64)) 1 other)) refl,
         )
       ]
 
@@ -229,7 +266,7 @@ module _ {B : Type 0} (shows : B → ℕ × Contents) (n limit : ℕ) where
         target = refl;
         low = inside_is;
         word = refl;
-        shown = sym (ap (λ (y : Cell). word_of y.owner) now);
+        shown = subst (λ o. ShowsOwner (length (stepped h t s c).rows) o t) (sym (ap (λ (y : Cell). y.owner) now)) refl;
         told = refl;
         entries = refl;
         moves = record {
@@ -267,24 +304,26 @@ module _ {B : Type 0} (shows : B → ℕ × Contents) (n limit : ℕ) where
 
   -- ---- Free
 
-  freeing : (st : Table (Option B) View) (r : Rule st) (id : ℕ) (v : View) (c : ℕ) → get_elem? st.views id ≡ some v → v.active ≡ true → 0 < v.thread → c < n → Carries n v.log (Free c) c
-      → Rule (record { words = set st.words (spot n (Of OwnerWord c)) (2 ^ 64 - 1); homes = set st.homes c (some None); views = set st.views id (with_told (Did (Free c) (2 ^ 64 - 1) moves.Nothing) v) })
-  freeing st r id v c at active some_thread low carries =
+  freeing : (st : Table (Option B) View) (r : Rule st) (id : ℕ) (v : View) (c there : ℕ) → get_elem? st.views id ≡ some v → v.active ≡ true → 0 < v.thread → c < n → Carries n v.log (Free c) c
+      → get_or st.words (spot n (FreeWord (c / 64))) 0 ≡ there
+      → Rule (record { words = set st.words (spot n (FreeWord (c / 64))) (bit_or there (2 ^ (c % 64))); homes = set st.homes c (some None); views = set st.views id (with_told (Did (Free c) there moves.Nothing) v) })
+  freeing st r id v c there at active some_thread low carries is =
       let t : ℕ = v.thread in
       let s : Step = Free c in
       let h : Heap = world n limit r.run in
       let known : Known n limit h t v.log = knows shows n limit st r id v at active some_thread in
       let inside_is : c < length h.cells = omega (arith, known.cells, low) in
+      let shows_word : Shows h (FreeWord (c / 64)) there = sym is ∙ r.each_word (FreeWord (c / 64)) (free_inside n c low) in
       let now : (cell_at (stepped h t s c) c).owner ≡ owners.Free = ap (λ (y : Cell). y.owner) (read_cell h t s c inside_is) in
-      block_moved shows n limit st r id v s c (Of OwnerWord c) (2 ^ 64 - 1) (2 ^ 64 - 1) moves.Nothing (some None) at active low
+      block_moved shows n limit st r id v s c (FreeWord (c / 64)) (bit_or there (2 ^ (c % 64))) there moves.Nothing (some None) at active (free_inside n c low)
       (record {
         some_thread = some_thread;
         may = is_enabled n limit h t v.log s some_thread known carries.own refl (fits_cell n limit h t v.log s c known refl inside_is refl);
         target = refl;
         low = inside_is;
         word = refl;
-        shown = sym (ap word_of now);
-        told = refl;
+        shown = bit_is_given h t s c there shows_word inside_is (ap is_free now);
+        told = shows_word;
         entries = refl;
         moves = (refl, refl);
         elsewhere = λ d other. refl;
@@ -295,6 +334,7 @@ module _ {B : Type 0} (shows : B → ℕ × Contents) (n limit : ℕ) where
       })
 
   pub frees_cell : (id : ℕ) (v : View) (rest : List (ℕ × Option B)) (c : ℕ) → v.active ≡ true → 0 < v.thread → c < n → Carries n v.log (Free c) c
-      → Allows Rule n id (v, (c, None) ∷ rest) (spot n (Of OwnerWord c)) (λ there. 2 ^ 64 - 1) (λ there me. me ≡ (with_told (Did (Free c) (2 ^ 64 - 1) moves.Nothing) v, rest))
+      → Allows Rule n id (v, (c, None) ∷ rest) (spot n (FreeWord (c / 64))) (λ there. bit_or there (2 ^ (c % 64))) (λ there me. me ≡ (with_told (Did (Free c) there moves.Nothing) v, rest))
   frees_cell id v rest c active some_thread low carries st r deep at small =
-      (with_told (Did (Free c) (2 ^ 64 - 1) moves.Nothing) v, gives, tt, freeing st r id v c at active some_thread low carries, refl)
+      let there : ℕ = get_or st.words (spot n (FreeWord (c / 64))) 0 in
+      (with_told (Did (Free c) there moves.Nothing) v, gives, tt, freeing st r id v c there at active some_thread low carries refl, refl)

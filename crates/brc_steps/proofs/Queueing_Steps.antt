@@ -45,7 +45,7 @@ use Rattle.brc_rule.proofs.Knowing.{Known, is_enabled}
 use Rattle.brc_steps.proofs.Local_Steps.{fits_cell}
 use Rattle.brc_steps.proofs.Plain_Steps.{IsPlain, plain_on, same_owner, stays_on, plain_step}
 use Rattle.brc_rule.proofs.Since.{since}
-use Rattle.brc_rule.proofs.Noting.{part_hand, hand_in, has_in_hand}
+use Rattle.brc_rule.proofs.Noting.{part_hand, hand_in, has_in_hand, owner_told}
 
 -- ---- who bore the object
 
@@ -62,7 +62,7 @@ noted_bearer : (h : Heap) (t c q : ℕ) → IsReached h → (row_at h t).hand �
 noted_bearer h t c q reached busy found some_thread few =
     let sound : IsSound h = reached_sound h reached in
     let mortal : FIRST_MORTAL ≤ c = (sound.hands t c phases.Asked busy).mortal in
-    let owner : (cell_at h c).owner ≡ owners.Thread q = thread_spelled (cell_at h c).owner q found some_thread few in
+    let owner : (cell_at h c).owner ≡ owners.Thread q = thread_spelled (cell_at h c).owner q (owner_told h t c q reached (has_in_hand h t c phases.Asked busy refl) found) some_thread few in
     record {
       kind = (cell_at h c).kind;
       keeps = record {

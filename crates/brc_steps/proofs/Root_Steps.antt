@@ -10,7 +10,7 @@ use Rattle.atomic_table.proofs.Lists.{at_set, set_here, set_else, at_longer, at_
 use Rattle.brc_runs.specs.declared.event.Step.TheVariants.{Register, Gather}
 use Rattle.brc_runs.specs.declared.row.Row.{Row}
 use Rattle.brc_runs.specs.Lists.{word_at, is_blank, is_unmarked}
-use Rattle.brc_runs.specs.Heap.{Heap, opening, row_at, queue_at, new_row, no_row, is_registered, is_gathered, words_for}
+use Rattle.brc_runs.specs.Heap.{Heap, opening, cell_at, row_at, queue_at, new_row, no_row, is_registered, is_gathered, words_for}
 use Rattle.brc_runs.specs.Runs.{IsReached}
 use Rattle.brc_runs.specs.Sound.{IsSound}
 use Rattle.brc_runs.specs.Steps.{root_may, registered, gathered_in, is_closed, is_left, is_free_hand}
@@ -19,7 +19,9 @@ use Rattle.brc_runs.proofs.Reached.{reached_sound}
 use Rattle.brc_runs.proofs.Registering.{push_else, length-push, new_word}
 use Rattle.brc_lasting.proofs.Standing.{run_reached}
 use Rattle.brc_known.specs.declared.word.Word.{Word}
-use Rattle.brc_known.specs.declared.word.Word.TheVariants.{Of, Queue, NotifyWord}
+use Rattle.brc_known.specs.declared.word.Field.TheVariants.{Owner, Local, Shared, Mutex}
+use Rattle.brc_known.specs.declared.word.Word.TheVariants.{Of, Queue, NotifyWord, FreeWord}
+use Rattle.brc_known.proofs.Free_Law.{shown_longer}
 use Rattle.brc_known.specs.Items.{Shows, ShowsQueue, events_of}
 use Rattle.brc_known.specs.Root.{rows_of}
 use Rattle.brc_known.proofs.Items_Runs.{events_run}
@@ -85,7 +87,11 @@ gathered_inside h w out = elim (cases_lt w (length h.gathered)) [
 
 -- each word shows what it showed
 shown_registered : (n : ℕ) (h : Heap) (w : Word) (m : ℕ) → IsSound h → Shows h w m → Shows (registered h) w m
-shown_registered n h (Of f c) m sound shown = shown
+shown_registered n h (Of Owner c) m sound shown = shown_longer (length h.rows) (length (registered h).rows) (cell_at h c).owner m (omega (arith, length-push h.rows new_row)) shown
+shown_registered n h (Of Local c) m sound shown = shown
+shown_registered n h (Of Shared c) m sound shown = shown
+shown_registered n h (Of Mutex c) m sound shown = shown
+shown_registered n h (FreeWord k) m sound shown = shown
 shown_registered n h (NotifyWord t) m sound shown = shown ∙ sym (elim (cases_eq t (length h.notify_words)) [
   | inl last ↦ get_or_push h.notify_words 0 0 t (sym last) ∙ sym (get_or_past h.notify_words t 0 (omega (arith, last)))
   | inr other ↦ push_else h.notify_words 0 0 t other
@@ -126,7 +132,11 @@ same_stood : (h : Heap) (u t : ℕ) → t ≢ u → stands (gathered_in h u) t �
 same_stood h u t other = ap (λ b. (t == 0) || (is_registered h t && not b)) (read_there h.gathered u t true false other)
 
 shown_gathered : (h : Heap) (u : ℕ) (w : Word) (m : ℕ) → Shows h w m → Shows (gathered_in h u) w m
-shown_gathered h u (Of f c) m shown = shown
+shown_gathered h u (Of Owner c) m shown = shown
+shown_gathered h u (Of Local c) m shown = shown
+shown_gathered h u (Of Shared c) m shown = shown
+shown_gathered h u (Of Mutex c) m shown = shown
+shown_gathered h u (FreeWord k) m shown = shown
 shown_gathered h u (Queue t k) m shown = shown
 shown_gathered h u (NotifyWord t) m shown = shown
 

@@ -14,13 +14,14 @@ use Rattle.brc_runs.specs.Lists.{bit_of}
 use Rattle.brc_runs.specs.Heap.{Heap, cell_at, row_at, popped_at}
 use Rattle.brc_runs.specs.Holding.{lives}
 use Rattle.brc_runs.specs.Runs.{IsReached}
-use Rattle.brc_runs.specs.Steps.{untie_ok, untied_ok, is_owned_by, is_queued, is_nobody}
+use Rattle.brc_runs.specs.Steps.{stepped, untie_ok, untied_ok, is_owned_by, is_queued, is_nobody}
 use Rattle.brc_lasting.specs.Staying.{Lasts, Adopts, PoppedOwn}
 use Rattle.brc_lasting.proofs.Lasting.{live_owner}
 use Rattle.brc_lasting.proofs.Progress.{inside}
 use Rattle.brc_lasting.proofs.Telling.{hand_tells, popped_tells, adopting_lasts, popped_lasts}
 use Rattle.brc_known.specs.declared.word.Field.TheVariants.{Owner, Shared}
 use Rattle.brc_known.specs.declared.word.Word.TheVariants.{Of}
+use Rattle.brc_known.specs.Free_Words.{ShowsOwner}
 use Rattle.brc_known.specs.Items.{Shows}
 use Rattle.brc_rule.specs.declared.contents.Contents.{Contents}
 use Rattle.brc_rule.specs.declared.told.Moved.TheVariants as moves
@@ -35,7 +36,7 @@ use Rattle.brc_rule.proofs.Knowing.{Known, is_enabled}
 use Rattle.brc_steps.proofs.Local_Steps.{fits_cell, read_cell}
 use Rattle.brc_steps.proofs.Plain_Steps.{IsPlain, plain_on, stays_on, plain_step}
 use Rattle.brc_rule.proofs.Since.{since}
-use Rattle.brc_rule.proofs.Noting.{unmerged_word, part_own, hand_in, bit_in}
+use Rattle.brc_rule.proofs.Noting.{unmerged_word, part_own, hand_in, bit_in, has_in_hand, owner_told}
 
 -- ---- what the three ways have in common
 
@@ -53,7 +54,7 @@ unties n limit h t log c some_thread known own ways =
       may = is_enabled n limit h t log s some_thread known own refl (fits_cell n limit h t log s c known refl low ways.ok);
       target = refl;
       word = refl;
-      shown = sym (ap (λ (y : Cell). word_of y.owner) (read_cell h t s c low));
+      shown = subst (λ o. ShowsOwner (length (stepped h t s c).rows) o 0) (sym (ap (λ (y : Cell). y.owner) (read_cell h t s c low))) refl;
       told = refl;
       finds_none = refl;
       puts_none = refl;
@@ -91,7 +92,7 @@ adoptable_lasts t c h e reached ok others was = record {
 
 noted_owned : (h : Heap) (t c number : ℕ) → IsReached h → (row_at h t).hand ≡ hands.Busy phases.Shut c → Shows h (Of Owner c) number → 0 < number → Adoptable h t c
 noted_owned h t c number reached busy found owned = elim (hand_tells h t c phases.Shut reached busy).1 [
-  | inl nobody ↦ absurd (omega (arith, found, owned, ap word_of nobody.0))
+  | inl nobody ↦ absurd (omega (arith, owner_told h t c number reached (has_in_hand h t c phases.Shut busy refl) found, owned, ap word_of nobody.0))
   | inr theirs ↦ record {
     from = theirs.0;
     local = (cell_at h c).local;

@@ -1,13 +1,13 @@
 -- What a step that may take a block tells its seat.
-use Rattle.std.specs.Prelude.{◌≡◌, ℕ, ◌<◌, ◌≤◌, ◌+◌, ◌*◌, Bool, true, false, List, ◌∷◌, length, Option, Some, None, ◌^◌, ◌-◌, slice_get}
+use Rattle.std.specs.Prelude.{◌≡◌, ℕ, ◌<◌, ◌≤◌, ◌+◌, ◌*◌, ◌/◌, Bool, true, false, List, ◌∷◌, length, Option, Some, None, slice_get}
 use Rattle.std.specs.Int.{bit_at}
 use Rattle.atomic_table.specs.Table.{Me}
 use Rattle.brc_words.specs.declared.limits.TheConstants.{MOST_ENTRIES}
 use Rattle.brc_runs.specs.declared.event.Step.{Step}
 use Rattle.brc_runs.specs.declared.event.Step.TheVariants.{Claim, Lock}
 use Rattle.brc_known.specs.Taken.{listed_at}
-use Rattle.brc_known.specs.declared.word.Field.TheVariants.{Owner as OwnerWord, Mutex}
-use Rattle.brc_known.specs.declared.word.Word.TheVariants.{Of}
+use Rattle.brc_known.specs.declared.word.Field.TheVariants.{Mutex}
+use Rattle.brc_known.specs.declared.word.Word.TheVariants.{Of, FreeWord}
 use Rattle.brc_rule.specs.declared.contents.Contents.{Contents}
 use Rattle.brc_rule.specs.declared.told.Moved.TheVariants as moves
 use Rattle.brc_rule.specs.declared.told.Told.TheVariants.{Did, Lost}
@@ -38,15 +38,17 @@ abbrev pub Ended : {B : Type 0} → (B → ℕ × Contents) → ℕ → View →
 Ended shows n v slots s c number false me = me ≡ (with_told (Did s number moves.Nothing) v, slots)
 Ended shows n v slots s c number true me = TookBlock shows n v slots s c number me
 
--- The seat has the cell's empty slot now. The cell was none of the dead blocks that the seat had.
-pub record TookSlot {B : Type 0} (n : ℕ) (v : View) (slots : List (ℕ × Option B)) (c : ℕ) (me : Me (Option B) View) : Type 0 where
+-- The seat has the cell's empty slot now, and its log the free word as it was. The cell was none of the dead blocks that
+-- the seat had.
+pub record TookSlot {B : Type 0} (n : ℕ) (v : View) (slots : List (ℕ × Option B)) (c number : ℕ) (me : Me (Option B) View) : Type 0 where
   pub fresh : listed_at (taken_seen n v.log) c ≡ None
-  pub after_is : me ≡ (with_told (Did (Claim c) (2 ^ 64 - 1) moves.Nothing) v, (c, None) ∷ slots)
+  pub after_is : me ≡ (with_told (Did (Claim c) number moves.Nothing) v, (c, None) ∷ slots)
 
--- The cell is the thread's to make an object in, and its empty slot is out with the seat; or it wasn't free.
+-- The cell is the thread's to make an object in, and its empty slot is out with the seat; or it wasn't free, and the step is
+-- a note.
 abbrev pub Claimed : {B : Type 0} → ℕ → View → List (ℕ × Option B) → ℕ → ℕ → Bool → Me (Option B) View → Type 0
-Claimed n v slots c number true me = TookSlot n v slots c me
-Claimed n v slots c number false me = me ≡ (with_told (Lost (Of OwnerWord c) number) v, slots)
+Claimed n v slots c number true me = TookSlot n v slots c number me
+Claimed n v slots c number false me = me ≡ (with_told (Lost (FreeWord (c / 64)) number) v, slots)
 
 -- The object is locked, and the seat has its block with the contents found; or its mutex wasn't 0.
 abbrev pub Locked : {B : Type 0} → (B → ℕ × Contents) → ℕ → View → List (ℕ × Option B) → ℕ → ℕ → ℕ → Bool → Me (Option B) View → Type 0

@@ -1,7 +1,8 @@
 //! Each kind of step keeps the rule: what it asks of its seat's log, the word that it works on and what becomes of it, and
 //! what its seat knows afterwards. In each clause `there` is the number that the word had.
 
-ghost use Rattle.std.specs.Prelude.{◌≡◌, ℕ, ◌+◌, ◌-◌, ◌*◌, ◌/◌, ◌%◌, ◌^◌, ◌<◌, ◌≤◌, ◌==◌, if◌then◌else◌, List, ◌∷◌, Option, Some, None, true, bit_or};
+ghost use Rattle.std.specs.Prelude.{◌≡◌, ℕ, ◌+◌, ◌-◌, ◌*◌, ◌/◌, ◌%◌, ◌^◌, ◌<◌, ◌≤◌, ◌==◌, if◌then◌else◌, List, ◌∷◌, Option, Some, None, true, bit_and, bit_or};
+ghost use Rattle.std.specs.Int.{bit_at};
 ghost use prog.Atomic.{either};
 ghost use Rattle.atomic_table.specs.Table.{Allows, Splits, Joins};
 ghost use Rattle.brc_words.specs.declared.kind.Kind.{Kind as kind};
@@ -89,14 +90,15 @@ pub fn objects_end<B>()
         (takes_block (steps.LastDown (lasts.Dropped drop)) (cell_told (steps.LastDown (lasts.Dropped drop)) there)) me) }
 {}
 
-/// A free cell, which is none of the thread's dead blocks, is claimed by a compare-exchange, its words are set by plain
-/// stores, and its birth puts the block home; its end gives the empty slot back.
+/// A free cell, which is none of the thread's dead blocks, is claimed by taking its bit from the free word, which tells
+/// whether it had it; its words are set by plain stores, and its birth puts the block home; its end gives the empty slot
+/// back, and the bit.
 #[tactic(auto, using(crate::proofs::Making_Steps::claims_cell, crate::proofs::Making_Steps::sets_local, crate::proofs::Making_Steps::sets_shared, crate::proofs::Making_Steps::bears_object, crate::proofs::Making_Steps::frees_cell))]
 pub fn cells_are_used_again<B>()
     ensures claim { (shows : B → ℕ × contents) (n limit id : ℕ) (v : view) (slots : List (ℕ × Option B)) (c : ℕ)
         → v.active ≡ true → 0 < v.thread → c < n → Claims n v.log c
-        → Allows (Kept shows n limit) n id (v, slots) (spot n (words.Of fields.Owner c)) (λ there. either (there == 2 ^ 64 - 1) (2 ^ 32 + v.thread) there)
-        (λ there me. Claimed n v slots c there (there == 2 ^ 64 - 1) me) }
+        → Allows (Kept shows n limit) n id (v, slots) (spot n (words.FreeWord (c / 64))) (λ there. bit_and there (2 ^ 64 - 1 - 2 ^ (c % 64)))
+        (λ there me. Claimed n v slots c there (bit_at there (c % 64) == 1) me) }
     ensures init_local { (shows : B → ℕ × contents) (n limit id : ℕ) (v : view) (slots : List (ℕ × Option B)) (c : ℕ)
         → v.active ≡ true → 0 < v.thread → c < n → Carries n v.log (steps.InitLocal c) c
         → Allows (Kept shows n limit) n id (v, slots) (spot n (words.Of fields.Local c)) (λ there. 1)
@@ -111,8 +113,8 @@ pub fn cells_are_used_again<B>()
         (λ there me. me ≡ (with_told (told.Did (steps.Birth c kind k) v.thread (moves.Put c (shows block).1)) v, rest)) }
     ensures free { (shows : B → ℕ × contents) (n limit id : ℕ) (v : view) (rest : List (ℕ × Option B)) (c : ℕ)
         → v.active ≡ true → 0 < v.thread → c < n → Carries n v.log (steps.Free c) c
-        → Allows (Kept shows n limit) n id (v, (c, None) ∷ rest) (spot n (words.Of fields.Owner c)) (λ there. 2 ^ 64 - 1)
-        (λ there me. me ≡ (with_told (told.Did (steps.Free c) (2 ^ 64 - 1) moves.Nothing) v, rest)) }
+        → Allows (Kept shows n limit) n id (v, (c, None) ∷ rest) (spot n (words.FreeWord (c / 64))) (λ there. bit_or there (2 ^ (c % 64)))
+        (λ there me. me ≡ (with_told (told.Did (steps.Free c) there moves.Nothing) v, rest)) }
 {}
 
 /// A lock is taken by a compare-exchange of 0, with the block and the contents that were put home last; its unlocking puts

@@ -1,24 +1,32 @@
 -- Words and slots that open as they should show the opening world, and keep the rule.
-use Rattle.std.proofs.Common.{◌≡◌, ℕ, zero, suc, ◌+◌, ◌-◌, ◌*◌, ◌/◌, ◌%◌, ◌^◌, ◌<◌, ◌≤◌, nat_lt, ◌&&◌, Bool, true, false, if◌then◌else◌, List, [], ◌∷◌, ◌++◌, map, length, get_or, Option, Some, None, refl, sym, ◌∙◌, ap, subst, inl, inr, arith}
+use Rattle.std.proofs.Common.{◌≡◌, ℕ, zero, suc, ◌+◌, ◌-◌, ◌*◌, ◌/◌, ◌%◌, ◌^◌, ◌<◌, ◌≤◌, nat_lt, ◌&&◌, Bool, true, false, if◌then◌else◌, List, [], ◌∷◌, ◌++◌, map, length, min, get_or, Option, Some, None, refl, sym, ◌∙◌, ap, subst, inl, inr, arith}
 use Rattle.std.proofs.lemmas.Bool.{cases_lt, lt-ltb, le-ltb}
+use Rattle.std.specs.Cmp.Derive.{both_true}
+use Rattle.std.specs.Int.{bit_at}
 use Rattle.std.proofs.lemmas.List.{length-map, map-append}
+use Rattle.std.proofs.lemmas.Nat.{pow_pos}
+use Rattle.std.proofs.lemmas.Nat.Bits.{same_from_bits_below, bit_at_mask_below, bit_at_mask_inside, bit_at_mask_above}
+use lib.Pow.{pow_mono}
 use mathlib.Core.Option.{some}
 use lib.ListN.{get_elem?}
 use Rattle.atomic_table.specs.Table as tables
 use Rattle.brc_words.specs.declared.limits.TheConstants.{FIRST_MORTAL, IMMORTAL_LOCAL}
-use Rattle.brc_runs.specs.Lists.{word_at}
+use Rattle.brc_runs.specs.declared.cell.Cell.{Cell}
+use Rattle.brc_runs.specs.Lists.{word_at, one}
 use Rattle.brc_runs.specs.Heap.{opening, immortal, no_cell, cell_at, row_at, queue_at, is_registered, AreOptions}
-use Rattle.brc_runs.specs.Steps.{is_closed}
-use Rattle.brc_runs.proofs.Beginning.{free_cell, immortal_cell}
+use Rattle.brc_runs.specs.Steps.{is_closed, is_free}
+use Rattle.brc_runs.proofs.Beginning.{length-opening, free_cell, immortal_cell}
 use Rattle.brc_runs.proofs.Registering.{length-push, read_push}
 use Rattle.brc_known.specs.declared.word.Field.{Field}
 use Rattle.brc_known.specs.declared.word.Field.TheVariants.{Owner, Local, Shared, Mutex}
 use Rattle.brc_known.specs.declared.word.Word.{Word}
-use Rattle.brc_known.specs.declared.word.Word.TheVariants.{Of, Queue, NotifyWord}
+use Rattle.brc_known.specs.declared.word.Word.TheVariants.{Of, Queue, NotifyWord, FreeWord}
+use Rattle.brc_known.specs.Free_Words.{free_words_for, is_free_cell, free_bits, ShowsOwner}
+use Rattle.brc_known.proofs.Free_Law.{told_below, told_bit}
 use Rattle.brc_known.specs.Items.{IsWord, Shows, ShowsQueue, word_in}
 use Rattle.brc_block.specs.declared.payload.Payload.{Payload}
 use Rattle.brc_rule.specs.declared.contents.Contents.{Contents}
-use Rattle.brc_rule.specs.Layout.{owners_from, queues_from, spot, extent}
+use Rattle.brc_rule.specs.Layout.{owners_from, free_from, queues_from, spot, extent}
 use Rattle.brc_rule.specs.Logs.{opening_contents}
 use Rattle.brc_rule.specs.Homes.{LiesThere}
 use Rattle.brc_rule.specs.Rule.{Kept}
@@ -26,7 +34,7 @@ use Rattle.brc_rule.specs.Opening.{first_view, Opens}
 use Rattle.brc_rule.proofs.Spots.{inside}
 use Rattle.brc_rule.proofs.Opening_Law.{opens}
 use Rattle.brc_table.specs.Shown.{shows}
-use Rattle.brc_table.specs.Opening.{opening_owner, opening_count, opening_word, opening_words, slot_shows, opening_slot, opening_slots}
+use Rattle.brc_table.specs.Opening.{bits_below, opening_free, opening_count, opening_else, opening_word, opening_words, slot_shows, opening_slot, opening_slots}
 
 if_so : {A : Type 0} (b : Bool) (x y : A) → b ≡ true → (if b then x else y) ≡ x
 if_so b x y is = ap (λ z. if z then x else y) is
@@ -40,23 +48,33 @@ among_counts : (n at c part : ℕ) → c < n → part < 16 → at ≡ c * 16 + p
 among_counts n at c part low small there =
     let cell : at / 16 ≡ c = omega (arith, small, there) in
     let of_it : at % 16 ≡ part = omega (arith, small, there) in
-    ap (λ z. if z then opening_count (at / 16) (at % 16) else (if nat_lt at (owners_from n + n) then opening_owner (at - owners_from n) else 0)) (lt-ltb at (owners_from n) (omega (arith, low, small, there)))
+    ap (λ z. if z then opening_count (at / 16) (at % 16) else opening_else n at) (lt-ltb at (owners_from n) (omega (arith, low, small, there)))
     ∙ (λ i. opening_count (cell i) (of_it i))
 
-past_counts : (n at : ℕ) → owners_from n ≤ at → opening_word n at ≡ (if nat_lt at (owners_from n + n) then opening_owner (at - owners_from n) else 0)
-past_counts n at high = ap (λ z. if z then opening_count (at / 16) (at % 16) else (if nat_lt at (owners_from n + n) then opening_owner (at - owners_from n) else 0)) (le-ltb at (owners_from n) high)
+past_counts : (n at : ℕ) → owners_from n ≤ at → opening_word n at ≡ opening_else n at
+past_counts n at high = ap (λ z. if z then opening_count (at / 16) (at % 16) else opening_else n at) (le-ltb at (owners_from n) high)
 
-among_owners : (n at c : ℕ) → c < n → at ≡ owners_from n + c → opening_word n at ≡ opening_owner c
+among_owners : (n at c : ℕ) → c < n → at ≡ owners_from n + c → opening_word n at ≡ 0
 among_owners n at c low there =
-    let cell : at - owners_from n ≡ c = omega (arith, there) in
     past_counts n at (omega (arith, there))
-    ∙ ap (λ z. if z then opening_owner (at - owners_from n) else 0) (lt-ltb at (owners_from n + n) (omega (arith, low, there)))
-    ∙ ap opening_owner cell
+    ∙ ap (λ z. if z then 0 else (if nat_lt at (free_from n + free_words_for n) then opening_free n (at - free_from n) else 0)) (lt-ltb at (free_from n) (omega (arith, low, there)))
 
-past_owners : (n at : ℕ) → queues_from n ≤ at → opening_word n at ≡ 0
+past_owners : (n at : ℕ) → free_from n ≤ at → opening_word n at ≡ (if nat_lt at (free_from n + free_words_for n) then opening_free n (at - free_from n) else 0)
 past_owners n at high =
     past_counts n at (omega (arith, high))
-    ∙ ap (λ z. if z then opening_owner (at - owners_from n) else 0) (le-ltb at (owners_from n + n) (omega (arith, high)))
+    ∙ ap (λ z. if z then 0 else (if nat_lt at (free_from n + free_words_for n) then opening_free n (at - free_from n) else 0)) (le-ltb at (free_from n) high)
+
+among_free : (n at k : ℕ) → k < free_words_for n → at ≡ free_from n + k → opening_word n at ≡ opening_free n k
+among_free n at k low there =
+    let word : at - free_from n ≡ k = omega (arith, there) in
+    past_owners n at (omega (arith, there))
+    ∙ ap (λ z. if z then opening_free n (at - free_from n) else 0) (lt-ltb at (free_from n + free_words_for n) (omega (arith, low, there)))
+    ∙ ap (opening_free n) word
+
+past_free : (n at : ℕ) → queues_from n ≤ at → opening_word n at ≡ 0
+past_free n at high =
+    past_owners n at (omega (arith, high))
+    ∙ ap (λ z. if z then opening_free n (at - free_from n) else 0) (le-ltb at (free_from n + free_words_for n) (omega (arith, high)))
 
 -- ---- the opening world's words
 
@@ -86,17 +104,47 @@ none_registered n limit t = elim (cases_lt 0 t) [
   | inr high ↦ left_false (nat_lt 0 t) (nat_lt t 1) (le-ltb 0 t high)
 ]
 
+-- nobody has an immortal, and a free cell's owner word means nothing
+opens_owner : (n limit c : ℕ) → FIRST_MORTAL ≤ n → ShowsOwner 1 (cell_at (opening n limit) c).owner 0
+opens_owner n limit c enough = elim (cases_lt c FIRST_MORTAL) [
+  | inl low ↦ subst (λ (x : Cell). ShowsOwner 1 x.owner 0) (sym (immortal_cell n c enough low)) refl
+  | inr high ↦ subst (λ (x : Cell). ShowsOwner 1 x.owner 0) (sym (free_cell n c high)) (omega arith)
+]
+
+-- a bit of a free word is its cell's
+opens_bit : (n limit k i : ℕ) → FIRST_MORTAL ≤ n → i < 64 → bit_at (opening_free n k) i ≡ one (is_free_cell (opening n limit) (k * 64 + i))
+opens_bit n limit k i enough inside = elim (cases_lt (k * 64 + i) FIRST_MORTAL) [
+  | inl low ↦ bit_at_mask_below (bits_below FIRST_MORTAL k) (bits_below n k) i (omega (arith, low, inside))
+      ∙ sym (ap one (ap (λ (x : Cell). nat_lt (k * 64 + i) (length (opening n limit).cells) && is_free x.owner) (immortal_cell n (k * 64 + i) enough low)
+      ∙ right_false (nat_lt (k * 64 + i) (length (opening n limit).cells)) false refl))
+  | inr high ↦ elim (cases_lt (k * 64 + i) n) [
+    | inl low ↦ bit_at_mask_inside (bits_below FIRST_MORTAL k) (bits_below n k) i (omega (arith, high, inside)) (omega (arith, low, inside))
+        ∙ sym (ap one (both_true (lt-ltb (k * 64 + i) (length (opening n limit).cells) (omega (arith, low, length-opening n))) (ap (λ (x : Cell). is_free x.owner) (free_cell n (k * 64 + i) high))))
+    | inr past ↦ bit_at_mask_above (bits_below FIRST_MORTAL k) (bits_below n k) i (omega (arith, past, inside))
+        ∙ sym (ap one (left_false (nat_lt (k * 64 + i) (length (opening n limit).cells)) _ (le-ltb (k * 64 + i) (length (opening n limit).cells) (omega (arith, past, length-opening n)))))
+  ]
+]
+
+opens_free : (n limit k : ℕ) → FIRST_MORTAL ≤ n → opening_free n k ≡ free_bits (opening n limit) k
+opens_free n limit k enough =
+    let f : ℕ → Bool = λ i. is_free_cell (opening n limit) (k * 64 + i) in
+    same_from_bits_below 64 (opening_free n k) (free_bits (opening n limit) k) (mask_small (bits_below FIRST_MORTAL k) (bits_below n k) (omega arith)) (told_below f 64)
+    (λ i inside. opens_bit n limit k i enough inside ∙ sym (told_bit f 64 i inside))
+  where
+    mask_small : (lo hi : ℕ) → hi ≤ 64 → 2 ^ hi - 2 ^ lo < 2 ^ 64
+    mask_small lo hi few = let most : 2 ^ hi ≤ 2 ^ 64 = pow_mono few in omega (arith, most, pow_pos lo)
+
 opens_word : (n limit : ℕ) (w : Word) → FIRST_MORTAL ≤ n → IsWord n w → Shows (opening n limit) w (opening_word n (spot n w))
-opens_word n limit (Of Owner c) enough is = among_owners n (spot n (Of Owner c)) c is (omega arith) ∙ by_cell n limit Owner c (opening_owner c) enough
-    (λ low. ap (λ z. if z then 0 else 2 ^ 64 - 1) (lt-ltb c FIRST_MORTAL low)) (λ high. ap (λ z. if z then 0 else 2 ^ 64 - 1) (le-ltb c FIRST_MORTAL high))
+opens_word n limit (Of Owner c) enough is = subst (ShowsOwner 1 (cell_at (opening n limit) c).owner) (sym (among_owners n (spot n (Of Owner c)) c is (omega arith))) (opens_owner n limit c enough)
+opens_word n limit (FreeWord k) enough is = among_free n (spot n (FreeWord k)) k is (omega arith) ∙ opens_free n limit k enough
 opens_word n limit (Of Local c) enough is = among_counts n (spot n (Of Local c)) c 0 is (omega arith) (omega arith) ∙ by_cell n limit Local c (opening_count c 0) enough
     (λ low. ap (λ z. if z then IMMORTAL_LOCAL else 0) (lt-ltb c FIRST_MORTAL low)) (λ high. ap (λ z. if z then IMMORTAL_LOCAL else 0) (le-ltb c FIRST_MORTAL high))
 opens_word n limit (Of Shared c) enough is = among_counts n (spot n (Of Shared c)) c 8 is (omega arith) refl ∙ by_cell n limit Shared c (2 ^ 42) enough (λ low. refl) (λ high. refl)
 opens_word n limit (Of Mutex c) enough is = among_counts n (spot n (Of Mutex c)) c 9 is (omega arith) refl ∙ by_cell n limit Mutex c 0 enough (λ low. refl) (λ high. refl)
 opens_word n limit (Queue t k) enough is =
     subst (λ b. ShowsQueue b (is_closed (row_at (opening n limit) t).stage k) (word_at (queue_at (opening n limit) t) k) (opening_word n (spot n (Queue t k)))) (sym (none_registered n limit t))
-    (past_owners n (spot n (Queue t k)) (omega arith))
-opens_word n limit (NotifyWord t) enough is = past_owners n (spot n (NotifyWord t)) (omega arith) ∙ sym (lone t)
+    (past_free n (spot n (Queue t k)) (omega arith))
+opens_word n limit (NotifyWord t) enough is = past_free n (spot n (NotifyWord t)) (omega arith) ∙ sym (lone t)
 
 -- ---- lists
 

@@ -5,7 +5,7 @@ use prog.Atomic.{either}
 use Rattle.atomic_table.specs.Seated.{TableId}
 use Rattle.atomic_table.specs.Table.{Me, Allows, Splits, Joins}
 use Rattle.brc_known.specs.declared.word.Word.{Word}
-use Rattle.brc_known.specs.declared.word.Word.TheVariants.{Queue, NotifyWord}
+use Rattle.brc_known.specs.declared.word.Word.TheVariants.{Queue, NotifyWord, FreeWord}
 use Rattle.brc_known.specs.Items.{IsWord}
 use Rattle.brc_runs.specs.Heap.{words_for}
 use Rattle.brc_steps.specs.Owing.{Tells}
@@ -111,3 +111,7 @@ told_inside n log thread word tells = omega (arith, tells.few)
 
 pub notify_bit : (n : ℕ) (log : List Told) (thread word : ℕ) → n ≤ MOST_CELLS → Tells n log thread word → word / 32 < 64
 notify_bit n log thread word few tells = omega (arith, few, tells.word)
+
+-- the free word of a cell
+pub free_inside : (n cell : ℕ) → cell < n → IsWord n (FreeWord (cell / 64))
+free_inside n cell low = omega (arith, low)

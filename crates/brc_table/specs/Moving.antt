@@ -1,13 +1,14 @@
 -- Blocks that move: out of the table with a seat, and home.
-use Rattle.std.specs.Prelude.{◌≡◌, ℕ, ◌-◌, ◌^◌, ◌==◌, ◌<◌, Bool, true, false, List, [], ◌∷◌, Option, Some, None}
+use Rattle.std.specs.Prelude.{◌≡◌, ℕ, ◌/◌, ◌%◌, ◌^◌, ◌==◌, ◌<◌, bit_and, Bool, true, false, List, [], ◌∷◌, Option, Some, None}
+use Rattle.std.specs.Int.{bit_at}
 use prog.Atomic.{either}
 use Rattle.atomic_table.specs.Table.{Me, Allows, rest}
 use Rattle.brc_block.specs.declared.payload.Payload.{Payload}
 use Rattle.brc_runs.specs.declared.event.Step.{Step}
 use Rattle.brc_runs.specs.Steps.{takes_block}
-use Rattle.brc_known.specs.declared.word.Field.TheVariants.{Owner, Shared, Mutex}
+use Rattle.brc_known.specs.declared.word.Field.TheVariants.{Shared, Mutex}
 use Rattle.brc_known.specs.declared.word.Word.{Word}
-use Rattle.brc_known.specs.declared.word.Word.TheVariants.{Of}
+use Rattle.brc_known.specs.declared.word.Word.TheVariants.{Of, FreeWord}
 use Rattle.brc_known.specs.Items.{cell_told}
 use Rattle.brc_rule.specs.declared.contents.Contents.{Contents}
 use Rattle.brc_rule.specs.declared.contents.Contents.TheVariants.{Nothing}
@@ -74,18 +75,25 @@ module _ {A : Type 0} where
     abbrev pub MayEnd : ℕ → (ℕ → ℕ) → ℕ → Step → ℕ → Type 0
     MayEnd c f m s d = Allows (Kept shows n limit) n id me (spot n (Of Shared c)) f (λ there after. Ended shows m me.0 me.1 s d there (takes_block s (cell_told s there)) after)
 
-    -- a free cell's owner word becomes the new number, and the seat has its slot
+    -- the cell's free word keeps the bits of the mask, and where it had the cell's bit the seat has its slot
     abbrev pub MayClaim : ℕ → ℕ → ℕ → ℕ → Type 0
-    MayClaim c new m d = Allows (Kept shows n limit) n id me (spot n (Of Owner c)) (λ there. either (there == 2 ^ 64 - 1) new there) (λ there after. Claimed m me.0 me.1 d there (there == 2 ^ 64 - 1) after)
+    MayClaim c mask m d = Allows (Kept shows n limit) n id me (spot n (FreeWord (c / 64))) (λ there. bit_and there mask) (λ there after. Claimed m me.0 me.1 d there (bit_at there (d % 64) == 1) after)
 
     -- an unlocked object's mutex word becomes the new number, and the seat has its block
     abbrev pub MayLock : ℕ → ℕ → ℕ → ℕ → ℕ → Type 0
     MayLock c new m k d = Allows (Kept shows n limit) n id me (spot n (Of Mutex c)) (λ there. either (there == 0) new there) (λ there after. Locked shows m me.0 me.1 k d there (there == 0) after)
 
-    -- a word becomes the new number, as the item, and the slot that the seat took last is home
-    abbrev pub MayGive : Word → ℕ → Told → Type 0
-    MayGive w new item = Allows (Kept shows n limit) n id me (spot n w) (λ _. new) (λ _ after. after ≡ (with_told item me.0, rest me.1))
+    -- A word becomes f of what it was, as the item that this tells, and the slot that the seat took last is home; what the
+    -- thread has given back so far is a number of 64 bits.
+    abbrev pub MayGiveBy : Word → (ℕ → ℕ) → (ℕ → Told) → Type 0
+    MayGiveBy w f item = Allows (Kept shows n limit) n id me (spot n w) f (λ there after. after ≡ (with_told (item there) me.0, rest me.1))
 
-    -- the same, and what the thread has given back so far is a number of 64 bits
+    abbrev pub MayGiveByOfFew : Word → (ℕ → ℕ) → (ℕ → Told) → ℕ → Type 0
+    MayGiveByOfFew w f item m = Allows (Kept shows n limit) n id me (spot n w) f (λ there after. (after ≡ (with_told (item there) me.0, rest me.1)) × FewFrees m after.0.log)
+
+    -- the same by a store
+    abbrev pub MayGive : Word → ℕ → Told → Type 0
+    MayGive w new item = MayGiveBy w (λ _. new) (λ _. item)
+
     abbrev pub MayGiveOfFew : Word → ℕ → Told → ℕ → Type 0
-    MayGiveOfFew w new item m = Allows (Kept shows n limit) n id me (spot n w) (λ _. new) (λ _ after. (after ≡ (with_told item me.0, rest me.1)) × FewFrees m after.0.log)
+    MayGiveOfFew w new item m = MayGiveByOfFew w (λ _. new) (λ _. item) m

@@ -1,24 +1,33 @@
 -- What a table opens with: the words of the opening world, and the block of each immortal.
-use Rattle.std.specs.Prelude.{ℕ, zero, suc, ◌+◌, ◌-◌, ◌/◌, ◌%◌, ◌^◌, ◌==◌, nat_lt, if◌then◌else◌, List, [], ◌∷◌, ◌++◌, Option, Some, None}
+use Rattle.std.specs.Prelude.{ℕ, zero, suc, ◌+◌, ◌-◌, ◌*◌, ◌/◌, ◌%◌, ◌^◌, ◌==◌, nat_lt, min, if◌then◌else◌, List, [], ◌∷◌, ◌++◌, Option, Some, None}
 use Rattle.brc_words.specs.declared.limits.TheConstants.{FIRST_MORTAL, IMMORTAL_LOCAL}
 use Rattle.brc_block.specs.declared.payload.Payload.{Payload}
 use Rattle.brc_rule.specs.declared.contents.Contents.{Contents}
-use Rattle.brc_rule.specs.Layout.{owners_from}
+use Rattle.brc_known.specs.Free_Words.{free_words_for}
+use Rattle.brc_rule.specs.Layout.{owners_from, free_from}
 use Rattle.brc_rule.specs.Logs.{opening_contents}
 use Rattle.brc_table.specs.Shown.{shows}
 
--- an immortal is nobody's, and all other cells are free
-abbrev pub opening_owner : ℕ → ℕ
-opening_owner c = if nat_lt c FIRST_MORTAL then 0 else 2 ^ 64 - 1
+-- how many of a free word's 64 bits stand for cells below this one
+abbrev pub bits_below : ℕ → ℕ → ℕ
+bits_below c k = min 64 (c - k * 64)
+
+-- A free word has the bits of the cells from the first mortal one to the last: of 512 cells word 4 is
+-- 18446744073709550592, and word 7 is all ones.
+abbrev pub opening_free : ℕ → ℕ → ℕ
+opening_free n k = 2 ^ bits_below n k - 2 ^ bits_below FIRST_MORTAL k
 
 -- a local word opens as it is for immortals, and 0 else; a shared word with the count 0; and no mutex is locked
 abbrev pub opening_count : ℕ → ℕ → ℕ
 opening_count c part = if part == 0 then (if nat_lt c FIRST_MORTAL then IMMORTAL_LOCAL else 0) else (if part == 8 then 2 ^ 42 else 0)
 
--- the word at a spot; nothing is queued, and nobody is told anything
+-- the word at a spot after the counts: owner words are 0, nothing is queued, and nobody is told anything
+abbrev pub opening_else : ℕ → ℕ → ℕ
+opening_else n at = if nat_lt at (free_from n) then 0 else (if nat_lt at (free_from n + free_words_for n) then opening_free n (at - free_from n) else 0)
+
+-- the word at a spot
 abbrev pub opening_word : ℕ → ℕ → ℕ
-opening_word n at =
-    if nat_lt at (owners_from n) then opening_count (at / 16) (at % 16) else (if nat_lt at (owners_from n + n) then opening_owner (at - owners_from n) else 0)
+opening_word n at = if nat_lt at (owners_from n) then opening_count (at / 16) (at % 16) else opening_else n at
 
 -- so many of the words, from the first on
 abbrev pub opening_words : ℕ → ℕ → List ℕ

@@ -1,10 +1,12 @@
 //! Where the words lie.
 
-ghost use Rattle.std.specs.Prelude.{◌^◌, ◌≡◌, ◌<◌, ◌≤◌};
+ghost use Rattle.std.specs.Prelude.{◌-◌, ◌^◌, ◌≡◌, ◌==◌, ◌<◌, ◌≤◌};
+ghost use Rattle.std.specs.Int.{bit_at};
 ghost use Rattle.brc_words.specs.declared.limits.TheConstants.{MOST_CELLS};
 ghost use Rattle.brc_runs.specs.Heap.{words_for as queue_words};
+ghost use Rattle.brc_known.specs.Free_Words.{free_words_for as free_words};
 ghost use Rattle.brc_known.specs.Items.{IsWord};
-ghost use Rattle.brc_rule.specs.Layout.{owners_from as owners_begin, queues_from as queues_begin, notify_from as notify_begin, extent as extent_of, spot};
+ghost use Rattle.brc_rule.specs.Layout.{owners_from as owners_begin, free_from as free_begin, queues_from as queues_begin, notify_from as notify_begin, extent as extent_of, spot};
 
 use brc_known::{Field, Word};
 use brc_runs::words_for;
@@ -18,11 +20,27 @@ pub(crate) fn owners_from(cells: u32) -> usize
 }
 
 /// The first word after the owner words that begins a line.
+pub(crate) fn free_from(cells: u32) -> usize
+    requires { cells ≤ MOST_CELLS }
+    ensures { result ≡ free_begin cells }
+{
+    owners_from(cells) + (cells as usize + 7) / 8 * 8
+}
+
+/// How many free words the table has.
+pub(crate) fn free_words_for(cells: u32) -> u32
+    requires { cells ≤ MOST_CELLS }
+    ensures { result ≡ free_words cells }
+{
+    cells.div_ceil(64)
+}
+
+/// The first word after the free words that begins a line.
 fn queues_from(cells: u32) -> usize
     requires { cells ≤ MOST_CELLS }
     ensures { result ≡ queues_begin cells }
 {
-    owners_from(cells) + (cells as usize + 7) / 8 * 8
+    free_from(cells) + (free_words_for(cells) as usize + 7) / 8 * 8
 }
 
 /// The first word after the queue words.
@@ -57,6 +75,7 @@ pub(crate) fn spot_of(cells: u32, word: Word) -> usize
             queues_from(cells) + (k / 32 * 65 + thread) * 32 + k % 32
         }
         Word::NotifyWord(thread) => notify_from(cells) + thread as usize * 8,
+        Word::FreeWord(k) => free_from(cells) + k as usize,
     }
 }
 
@@ -66,4 +85,20 @@ pub(crate) fn bit(at: u32) -> u64
     ensures { result ≡ 2 ^ at }
 {
     1 << at
+}
+
+/// The number with all bits but this one.
+pub(crate) fn all_but(at: u32) -> u64
+    requires { at < 64 }
+    ensures { result ≡ 2 ^ 64 - 1 - 2 ^ at }
+{
+    u64::MAX - bit(at)
+}
+
+/// Whether the number has this bit.
+pub(crate) fn has_bit(number: u64, at: u32) -> bool
+    requires { at < 64 }
+    ensures { result ≡ (bit_at number at == 1) }
+{
+    (number >> at) & 1 == 1
 }

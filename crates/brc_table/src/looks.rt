@@ -6,6 +6,7 @@ ghost use Rattle.brc_runs.specs.declared.event.Step.TheVariants as steps;
 ghost use Rattle.brc_runs.specs.Holding.{carries};
 ghost use Rattle.brc_known.specs.declared.word.Field.TheVariants as fields;
 ghost use Rattle.brc_known.specs.declared.word.Word.TheVariants as words;
+ghost use Rattle.brc_known.specs.Free_Words.{free_words_for};
 ghost use Rattle.brc_known.specs.Owners_Seen.{has_seen_owner};
 ghost use Rattle.brc_rule.specs.declared.told.Told.TheVariants as told;
 ghost use Rattle.brc_rule.specs.Logs.{log_items};
@@ -92,5 +93,18 @@ impl<A: Allocator> HeapTable<A> {
     {
         let word = Word::NotifyWord(seat.thread);
         look(self, &mut seat.place, word)
+    }
+
+    /// Which of 64 cells are free.
+    pub fn load_free(&self, seat: &mut ThreadSeat<A>, word: u32) -> u64
+        requires table { seat.old.table ≡ self.now.table }
+        requires inside { word < free_words_for self.now.cells }
+        ensures told { seat.new.log ≡ told.Saw (words.FreeWord word) result ∷ seat.old.log }
+        ensures seat { Stays seat.old seat.new }
+        ensures knows { Knows self.now.cells seat.new.log (known_seen self.now.cells seat.old.log) }
+        ensures keeps { Keeps self.now.cells seat.old.log seat.new.log }
+        ensures found { contents_locked seat.new.log ≡ contents_locked seat.old.log }
+    {
+        look(self, &mut seat.place, Word::FreeWord(word))
     }
 }

@@ -1,11 +1,11 @@
 //! Cells: one is claimed, its words are set, and an object is born in it; a dead one's cell is free again.
 
-ghost use Rattle.std.specs.Prelude.{◌≡◌, ◌≢◌, ◌-◌, ◌<◌, ◌≤◌, ◌∷◌, ◌^◌, None, OnOk, OnErr, IfErr};
+ghost use Rattle.std.specs.Prelude.{◌≡◌, ◌/◌, ◌%◌, ◌<◌, ◌∷◌, ◌^◌, None, OnOk, OnErr, IfOk, IfErr};
+ghost use Rattle.std.specs.Int.{bit_at};
 ghost use Rattle.atomic_table.specs.Table.{rest};
 ghost use Rattle.brc_runs.specs.declared.event.Step.TheVariants as steps;
 ghost use Rattle.brc_runs.specs.declared.row.Hand.TheVariants as hands;
 ghost use Rattle.brc_runs.specs.declared.row.Phase.TheVariants as phases;
-ghost use Rattle.brc_known.specs.declared.word.Field.TheVariants as fields;
 ghost use Rattle.brc_known.specs.declared.word.Word.TheVariants as words;
 ghost use Rattle.brc_known.specs.Going_On.{handing, filling, counting, bearing, giving_back};
 ghost use Rattle.brc_known.specs.Taken.{listed_at};
@@ -13,12 +13,13 @@ ghost use Rattle.brc_rule.specs.declared.told.Moved.TheVariants as moves;
 ghost use Rattle.brc_rule.specs.declared.told.Told.TheVariants as told;
 ghost use Rattle.brc_rule.specs.Seen.{part_seen, taken_seen};
 ghost use Rattle.brc_steps.specs.Owing.{Claims, Bears, Carries};
-ghost use Rattle.brc_table.specs.Knowing.{known_seen, Knows, Keeps, Notes};
+ghost use Rattle.brc_table.specs.Knowing.{known_seen, Knows, Keeps};
 ghost use Rattle.brc_table.specs.Seated.{Stays, Continues};
 ghost use Rattle.brc_table.specs.Shown.{shows, contents_of};
 
+use crate::layout::{all_but, bit, has_bit};
 use crate::machine::store;
-use crate::moving::{claim_by, give, put_in};
+use crate::moving::{claim_by, give, give_bit, put_in};
 use crate::seats::ThreadSeat;
 use crate::table::HeapTable;
 use brc_block::Block;
@@ -29,27 +30,27 @@ use std::alloc::Allocator;
 
 impl<A: Allocator> HeapTable<A> {
     /// Claim: a free cell, which is none of the thread's dead blocks, is the thread's to make an object in, and its empty
-    /// slot is out with the seat; or the number of its owner word.
-    pub fn claim(&self, seat: &mut ThreadSeat<A>, cell: u32) -> Result<(), u64>
+    /// slot is out with the seat. Either answer tells the cell's free word as it was found.
+    pub fn claim(&self, seat: &mut ThreadSeat<A>, cell: u32) -> Result<u64, u64>
         requires table { seat.old.table ≡ self.now.table }
         requires inside { cell < self.now.cells }
         requires claims { Claims self.now.cells seat.old.log cell }
         ensures fresh { OnOk result (listed_at (taken_seen self.now.cells seat.old.log) cell ≡ None) }
-        ensures won { OnOk result (seat.new.log ≡ told.Did (steps.Claim cell) (2 ^ 64 - 1) moves.Nothing ∷ seat.old.log) }
+        ensures won { IfOk result (λ found. seat.new.log ≡ told.Did (steps.Claim cell) found moves.Nothing ∷ seat.old.log) }
+        ensures was_free { IfOk result (λ found. bit_at found (cell % 64) ≡ 1) }
         ensures out { OnOk result (seat.new.slots ≡ (cell, None) ∷ seat.old.slots) }
-        ensures lost { IfErr result (λ found. seat.new.log ≡ told.Lost (words.Of fields.Owner cell) found ∷ seat.old.log) }
+        ensures lost { IfErr result (λ found. seat.new.log ≡ told.Lost (words.FreeWord (cell / 64)) found ∷ seat.old.log) }
+        ensures taken { IfErr result (λ found. bit_at found (cell % 64) ≡ 0) }
         ensures still { IfErr result (λ found. seat.new.slots ≡ seat.old.slots) }
-        ensures taken { IfErr result (λ found. found ≢ 2 ^ 64 - 1) }
         ensures seat { Continues seat.old seat.new }
         ensures won_knows { OnOk result (Knows self.now.cells seat.new.log (handing (hands.Busy phases.Claimed cell) (known_seen self.now.cells seat.old.log))) }
         ensures lost_knows { OnErr result (Knows self.now.cells seat.new.log (known_seen self.now.cells seat.old.log)) }
         ensures keeps { Keeps self.now.cells seat.old.log seat.new.log }
-        ensures lost_notes { IfErr result (λ found. Notes fields.Owner cell found seat.old.log seat.new.log) }
     {
-        let mine = (1 << 32) + u64::from(seat.thread);
-        let found = claim_by(self, &mut seat.place, cell, mine);
-        if found == u64::MAX {
-            Ok(())
+        let mask = all_but(cell % 64);
+        let found = claim_by(self, &mut seat.place, cell, mask);
+        if has_bit(found, cell % 64) {
+            Ok(found)
         } else {
             Err(found)
         }
@@ -105,21 +106,22 @@ impl<A: Allocator> HeapTable<A> {
         give(self, &mut seat.place, word, u64::from(seat.thread), step);
     }
 
-    /// Free: the cell of a dead object without entries is free again. Births less frees are the objects that live, so 64 bits
-    /// count what a thread has freed.
-    pub fn free(&self, seat: &mut ThreadSeat<A>, cell: u32)
+    /// Free: the cell of a dead object without entries is free again, and its free word is told as it was found. Births less
+    /// frees are the objects that live, so 64 bits count what a thread has freed.
+    pub fn free(&self, seat: &mut ThreadSeat<A>, cell: u32) -> u64
         requires table { seat.old.table ≡ self.now.table }
         requires inside { cell < self.now.cells }
         requires slot { seat.old.slots ≡ (cell, None) ∷ rest seat.old.slots }
         requires carries { Carries self.now.cells seat.old.log (steps.Free cell) cell }
-        ensures told { seat.new.log ≡ told.Did (steps.Free cell) (2 ^ 64 - 1) moves.Nothing ∷ seat.old.log }
+        ensures told { seat.new.log ≡ told.Did (steps.Free cell) result moves.Nothing ∷ seat.old.log }
         ensures home { seat.new.slots ≡ rest seat.old.slots }
         ensures seat { Continues seat.old seat.new }
         ensures knows { Knows self.now.cells seat.new.log (giving_back cell (known_seen self.now.cells seat.old.log)) }
         ensures keeps { Keeps self.now.cells seat.old.log seat.new.log }
         ensures few { (part_seen self.now.cells seat.new.log).row.frees < 2 ^ 64 }
     {
-        let word = Word::Of(Field::Owner, cell);
-        give(self, &mut seat.place, word, u64::MAX, Step::Free(cell));
+        let word = Word::FreeWord(cell / 64);
+        let bits = bit(cell % 64);
+        give_bit(self, &mut seat.place, word, bits, Step::Free(cell))
     }
 }

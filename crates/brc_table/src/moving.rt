@@ -1,6 +1,7 @@
 //! One function for each operation by which a block may move: out of the table with the seat, or home.
 
 ghost use Rattle.std.specs.Prelude.{◌≡◌, ◌+◌, ◌-◌, ◌%◌, ◌^◌, ◌==◌, ◌<◌, ◌∷◌, ℕ, Option, Some, None, true, false, IfSome, OnOk, IfErr, bit_or};
+ghost use Rattle.std.specs.Int.{bit_at};
 ghost use prog.Atomic.{either};
 ghost use Rattle.atomic_table.specs.Table.{Allows, rest};
 ghost use Rattle.brc_runs.specs.declared.event.Step.{Step as step_data};
@@ -18,7 +19,7 @@ ghost use Rattle.brc_rule.specs.Rule.{with_told, Kept};
 ghost use Rattle.brc_rule.specs.Seen.{taken_seen};
 ghost use Rattle.brc_steps.specs.Taking.{AreCells, Ended, Claimed, Locked};
 ghost use Rattle.brc_table.specs.Knowing.{entries_of};
-ghost use Rattle.brc_table.specs.Moving.{MayEnd, MayClaim, MayLock, MayGive, MayGiveOfFew, FewFrees, found_in, out_with, emptied, put_home, is_there, HasBlock};
+ghost use Rattle.brc_table.specs.Moving.{MayEnd, MayClaim, MayLock, MayGive, MayGiveOfFew, MayGiveBy, MayGiveByOfFew, FewFrees, found_in, out_with, emptied, put_home, is_there, HasBlock};
 ghost use Rattle.brc_table.specs.Shown.{shows, contents_of};
 
 use crate::layout::spot_of;
@@ -224,7 +225,7 @@ pub(crate) fn end_by_sub<A: Allocator>(
     Found { number, block }
 }
 
-// ---- a compare-exchange that takes a slot
+// ---- steps that take a slot
 
 /// Of how many cells the heap is, on which cell it is, and for a locking which place of the frame has it. A caller's proof
 /// picks it.
@@ -250,7 +251,7 @@ pub(crate) struct Claims<M> {
 }
 
 impl<A: Allocator, M: Winning> Play<Option<Block<A>>, View> for Claims<M> {
-    ghost then = { λ step me number after. Claimed M.cells me.0 me.1 M.cell number (number == 2 ^ 64 - 1) after };
+    ghost then = { λ step me number after. Claimed M.cells me.0 me.1 M.cell number (bit_at number (M.cell % 64) == 1) after };
 }
 
 /// The seat has the block of an object that nobody had locked.
@@ -266,35 +267,32 @@ fn claim_as<A: Allocator, M: Winning>(
     table: &HeapTable<A>,
     seat: &mut Place<A>,
     cell: u32,
-    new: u64,
+    mask: u64,
 ) -> u64
     requires same { seat.old.table_id ≡ table.now.table }
     requires inside { cell < table.now.cells }
-    requires allowed { MayClaim table.now.cells table.now.local_limit seat.old.id seat.old.me cell new M.cells M.cell }
+    requires allowed { MayClaim table.now.cells table.now.local_limit seat.old.id seat.old.me cell mask M.cells M.cell }
     ensures same { (seat.new.table_id ≡ seat.old.table_id) × (seat.new.id ≡ seat.old.id) }
-    ensures claimed { Claimed M.cells seat.old.me.0 seat.old.me.1 M.cell result (result == 2 ^ 64 - 1) seat.new.me }
+    ensures claimed { Claimed M.cells seat.old.me.0 seat.old.me.1 M.cell result (bit_at result (M.cell % 64) == 1) seat.new.me }
 {
-    let at = spot_of(table.cells, Word::Of(Field::Owner, cell));
-    table
-        .table
-        .shared
-        .compare_exchange::<Claims<M>>(seat, at, u64::MAX, new)
+    let at = spot_of(table.cells, Word::FreeWord(cell / 64));
+    table.table.shared.fetch_and::<Claims<M>>(seat, at, mask)
 }
 
-/// The owner word of a free cell becomes this number, and the seat has the cell's empty slot.
+/// The free word of the cell keeps the bits of the mask, and where it had the cell's bit the seat has its empty slot.
 pub(crate) fn claim_by<A: Allocator>(
     table: &HeapTable<A>,
     seat: &mut Place<A>,
     cell: u32,
-    new: u64,
+    mask: u64,
 ) -> u64
     requires same { seat.old.table_id ≡ table.now.table }
     requires inside { cell < table.now.cells }
-    requires allowed { MayClaim table.now.cells table.now.local_limit seat.old.id seat.old.me cell new table.now.cells cell }
+    requires allowed { MayClaim table.now.cells table.now.local_limit seat.old.id seat.old.me cell mask table.now.cells cell }
     ensures same { (seat.new.table_id ≡ seat.old.table_id) × (seat.new.id ≡ seat.old.id) }
-    ensures claimed { Claimed table.now.cells seat.old.me.0 seat.old.me.1 cell result (result == 2 ^ 64 - 1) seat.new.me }
+    ensures claimed { Claimed table.now.cells seat.old.me.0 seat.old.me.1 cell result (bit_at result (cell % 64) == 1) seat.new.me }
 {
-    claim_as::<A, Brand>(table, seat, cell, new)
+    claim_as::<A, Brand>(table, seat, cell, mask)
 }
 
 fn lock_as<A: Allocator, M: Winning>(
@@ -354,7 +352,7 @@ pub(crate) fn take_out<A: Allocator>(
     }
 }
 
-// ---- a plain store that gives the slot that the seat took last back
+// ---- steps that give the slot that the seat took last back
 
 /// Which item it is, and of how many cells the heap is. A caller's proof picks it.
 pub(crate) trait Giving {
@@ -415,6 +413,45 @@ pub(crate) fn give<A: Allocator>(
     ensures few { FewFrees table.now.cells seat.new.me.0.log }
 {
     give_as::<A, Brand>(table, seat, word, new, step)
+}
+
+fn give_bit_as<A: Allocator, M: Giving>(
+    table: &HeapTable<A>,
+    seat: &mut Place<A>,
+    word: Word,
+    bits: u64,
+    step: Step,
+) -> u64
+    requires same { seat.old.table_id ≡ table.now.table }
+    requires inside { IsWord table.now.cells word }
+    requires allowed { MayGiveByOfFew table.now.cells table.now.local_limit seat.old.id seat.old.me word (λ there. bit_or there bits) M.item M.cells }
+    ensures same { (seat.new.table_id ≡ seat.old.table_id) × (seat.new.id ≡ seat.old.id) }
+    ensures told { seat.new.me ≡ (with_told (M.item result) seat.old.me.0, rest seat.old.me.1) }
+    ensures few { FewFrees M.cells seat.new.me.0.log }
+{
+    let _step = step;
+    let at = spot_of(table.cells, word);
+    table.table.shared.fetch_or::<Gives<M>>(seat, at, bits)
+}
+
+/// The same by a setting of bits, which tells the word as it was.
+pub(crate) fn give_bit<A: Allocator>(
+    table: &HeapTable<A>,
+    seat: &mut Place<A>,
+    word: Word,
+    bits: u64,
+    step: Step,
+) -> u64
+    requires same { seat.old.table_id ≡ table.now.table }
+    requires inside { IsWord table.now.cells word }
+    requires allowed { MayGiveBy table.now.cells table.now.local_limit seat.old.id seat.old.me word (λ there. bit_or there bits) (λ there. told.Did step there (put_home seat.old.me.1)) }
+    requires active { seat.old.me.0.active ≡ true }
+    requires some_thread { 0 < seat.old.me.0.thread }
+    ensures same { (seat.new.table_id ≡ seat.old.table_id) × (seat.new.id ≡ seat.old.id) }
+    ensures told { seat.new.me ≡ (with_told (told.Did step result (put_home seat.old.me.1)) seat.old.me.0, rest seat.old.me.1) }
+    ensures few { FewFrees table.now.cells seat.new.me.0.log }
+{
+    give_bit_as::<A, Brand>(table, seat, word, bits, step)
 }
 
 /// A block is put into the empty slot that the seat took last.

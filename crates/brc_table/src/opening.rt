@@ -1,15 +1,16 @@
 //! What a table opens with: its words and its blocks.
 
-ghost use Rattle.std.specs.Prelude.{◌≡◌, ◌↔◌, ◌<◌, ◌≤◌, map, IfOk, IfErr, IsTrue};
+ghost use Rattle.std.specs.Prelude.{◌≡◌, ◌↔◌, ◌-◌, ◌*◌, ◌^◌, ◌<◌, ◌≤◌, map, IfOk, IfErr, IsTrue};
 ghost use Rattle.brc_words.specs.declared.fault.Fault.TheVariants as fault;
 ghost use Rattle.brc_words.specs.declared.limits.TheConstants.{FIRST_MORTAL, MOST_CELLS};
 ghost use Rattle.brc_runs.specs.Heap.{AreOptions};
+ghost use Rattle.brc_known.specs.Free_Words.{free_words_for};
 ghost use Rattle.brc_rule.specs.Layout.{extent as extent_of};
 ghost use Rattle.brc_rule.specs.Logs.{opening_contents};
-ghost use Rattle.brc_table.specs.Opening.{opening_owner, opening_count, opening_word, opening_words, slot_shows, opening_slot, opening_slots};
+ghost use Rattle.brc_table.specs.Opening.{bits_below, opening_free, opening_count, opening_word, opening_words, slot_shows, opening_slot, opening_slots};
 ghost use Rattle.brc_table.specs.Shown.{contents_of};
 
-use crate::layout::{extent, owners_from};
+use crate::layout::{bit, extent, free_from, free_words_for as free_words, owners_from};
 use brc_block::{Block, Pairs, Payload};
 use brc_words::{
     FEWEST_CELLS, FIRST_MORTAL, Fault, GLOBALS, IMMORTAL_LOCAL, MOST_CELLS, MOST_LOCAL,
@@ -23,15 +24,30 @@ pub(crate) fn are_options(cells: u32, local_limit: u32) -> bool
     FEWEST_CELLS <= cells && cells <= MOST_CELLS && 1 <= local_limit && local_limit <= MOST_LOCAL
 }
 
-/// The owner word of a cell.
-fn opening_owner(cell: usize) -> u64
-    ensures { result ≡ opening_owner cell }
+/// How many bits of a free word stand for cells below this one.
+fn bits_below(cell: u32, word: u32) -> u32
+    requires { word * 64 < 2 ^ 32 }
+    ensures { result ≡ bits_below cell word }
 {
-    if cell < FIRST_MORTAL as usize {
-        0
-    } else {
-        u64::MAX
-    }
+    cell.saturating_sub(word * 64).min(64)
+}
+
+/// The number whose so many lowest bits are 1, and no other.
+fn ones(bits: u32) -> u64
+    requires { bits ≤ 64 }
+    ensures { result ≡ 2 ^ bits - 1 }
+{
+    if bits == 64 { u64::MAX } else { bit(bits) - 1 }
+}
+
+/// A free word.
+fn opening_free(cells: u32, word: u32) -> u64
+    requires few { cells ≤ MOST_CELLS }
+    requires some { FIRST_MORTAL ≤ cells }
+    requires inside { word < free_words_for cells }
+    ensures { result ≡ opening_free cells word }
+{
+    ones(bits_below(cells, word)) - ones(bits_below(FIRST_MORTAL, word))
 }
 
 /// A word among the counts of a cell.
@@ -53,13 +69,15 @@ fn opening_count(cell: usize, part: usize) -> u64
 
 /// The word at a spot.
 fn opening_word(cells: u32, at: usize) -> u64
-    requires { cells ≤ MOST_CELLS }
+    requires few { cells ≤ MOST_CELLS }
+    requires some { FIRST_MORTAL ≤ cells }
     ensures { result ≡ opening_word cells at }
 {
+    let free = free_from(cells);
     if at < owners_from(cells) {
         opening_count(at / 16, at % 16)
-    } else if at < owners_from(cells) + cells as usize {
-        opening_owner(at - owners_from(cells))
+    } else if free <= at && at < free + free_words(cells) as usize {
+        opening_free(cells, (at - free) as u32)
     } else {
         0
     }
@@ -67,7 +85,8 @@ fn opening_word(cells: u32, at: usize) -> u64
 
 /// All words.
 pub(crate) fn opening_words<A: Allocator>(alloc: A, cells: u32) -> Result<Vec<u64, A>, AllocError>
-    requires { cells ≤ MOST_CELLS }
+    requires few { cells ≤ MOST_CELLS }
+    requires some { FIRST_MORTAL ≤ cells }
     ensures { IfOk result (λ made. made.items ≡ opening_words cells (extent_of cells)) }
 {
     let wide = extent(cells);
@@ -90,7 +109,7 @@ fn opening_payload<A: Allocator>(alloc: A, cell: u32) -> Payload<A>
     } else if cell == 2 {
         Payload::Truth(true)
     } else if cell == GLOBALS {
-        Payload::Dict(Pairs::new(Vec::new(alloc)))
+        Payload::Dict(Pairs::new(alloc))
     } else {
         Payload::Int(i64::from(cell) - 8)
     }

@@ -1,11 +1,13 @@
 //! The table, and how it opens.
 
-ghost use Rattle.std.specs.Prelude.{◌≡◌, ◌↔◌, ◌⊎◌, ◌≤◌, Err, IfOk, IfErr};
+ghost use Rattle.std.specs.Prelude.{◌≡◌, ◌↔◌, ◌⊎◌, ◌*◌, ◌≤◌, Err, IfOk, IfErr};
 ghost use Rattle.brc_words.specs.declared.fault.Fault.TheVariants as faults;
 ghost use Rattle.brc_words.specs.declared.limits.TheConstants.{FEWEST_CELLS, MOST_CELLS, MOST_LOCAL};
 ghost use Rattle.brc_runs.specs.Heap.{AreOptions};
+ghost use Rattle.brc_known.specs.Free_Words.{free_words_for};
 ghost use Rattle.brc_rule.specs.Opening.{first_view};
 
+use crate::layout::free_words_for;
 use crate::opening::{are_options, give_all_back, opening_slots, opening_words};
 use crate::root::RootSeat;
 use crate::rule::{HeapRule, Sizes};
@@ -77,6 +79,14 @@ impl<A: Allocator> HeapTable<A> {
         ensures few { result ≤ MOST_CELLS }
     {
         self.cells
+    }
+
+    /// How many free words it has, one for 64 cells.
+    pub fn free_words(&self) -> u32
+        ensures words { result ≡ free_words_for self.now.cells }
+        ensures enough { FEWEST_CELLS ≤ result * 64 }
+    {
+        free_words_for(self.cells)
     }
 
     /// How far an owner counts on its own.

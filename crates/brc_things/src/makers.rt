@@ -152,7 +152,7 @@ pub fn new_dict<H: Home<A>, A: Allocator + Copy>(
     ensures keeps { OnErr result (Keeps frame.old frame.new) }
     ensures unlocked { IsUnlocked frame.new }
 {
-    match frame.born(alloc, Payload::Dict(Pairs::new(Vec::new(alloc)))) {
+    match frame.born(alloc, Payload::Dict(Pairs::new(alloc))) {
         Ok(handle) => Ok(handle),
         Err(handed) => Err(handed.fault),
     }

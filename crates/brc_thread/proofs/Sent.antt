@@ -12,6 +12,8 @@ use Rattle.std.proofs.option.Option.TheSendSync as option
 use Rattle.std.specs.contracts.alloc.Global as Global
 use Rattle.std.specs.contracts.impls.GlobalAllocator.TheImpl.{ghosts}
 use Rattle.brc_block.specs.contracts.block.Block as Block
+use Rattle.brc_block.specs.contracts.key_map.KeyMap as KeyMap
+use Rattle.brc_block.specs.contracts.pairs.Pairs as Pairs
 use Rattle.brc_block.specs.contracts.payload.Payload as Payload
 use Rattle.brc_block.specs.contracts.worklist.Node as Node
 use Rattle.brc_block.proofs.worklist.Worklist.TheLaws.TheKnot.{send-Node, send-Worklist}
@@ -25,11 +27,17 @@ use Rattle.brc_thread.specs.contracts.resting.Resting as Resting
 use Rattle.brc_thread.specs.contracts.heap.Heap as Heap
 use Rattle.brc_thread.specs.contracts.leaving.Retired as Retired
 
-payload_send : IsSend (Payload.the_row Global.the_row ghosts)
-payload_send = search (sendable, crosses) depth 40
-
 boxed_send : (R : RattleType) → IsSend R → IsSend (Option.the_row (Box.the_row R Global.the_row ghosts))
 boxed_send R s = option.the_send _ (Box-send R s)
+
+map_send : IsSend (KeyMap.the_row Global.the_row ghosts)
+map_send = search (sendable, crosses, frees) depth 40 fits 20000
+
+pairs_send : IsSend (Pairs.the_row Global.the_row ghosts)
+pairs_send = search (sendable, crosses, global_send, frees, map_send) depth 40 fits 20000
+
+payload_send : IsSend (Payload.the_row Global.the_row ghosts)
+payload_send = search (sendable, crosses, pairs_send) depth 40 fits 20000
 
 payload_field_send : IsSend (as_row (Payload.the_field Global.the_row ghosts))
 payload_field_send = search (sendable, crosses, payload.the_field_send, global_send, frees) depth 40

@@ -2,3 +2,4 @@ pub mod Faults
 pub mod Shared
 pub mod Owners
 pub mod Kinds
+pub mod Keys

@@ -9,6 +9,7 @@ ghost use Rattle.std.specs.Hash as fed;
 ghost use Rattle.std.specs.Ordering.{nat_cmp, as_partial_cmp};
 ghost use Rattle.std.proofs.Common.{rules};
 ghost use Rattle.std.proofs.lemmas.Cmp.{nat_list_eq_equiv, nat_list_cmp_total};
+ghost use Rattle.brc_words.specs.Keys.{same_key, same_key-equiv};
 
 use std::alloc::Allocator;
 use std::cmp::Ordering;
@@ -99,7 +100,7 @@ impl<A: Allocator> Hash for Text<A> {
 
 /// What a dictionary finds an entry by. Integers come before texts.
 #[derive(Drop)]
-#[derive_where(Debug, PartialEq, Eq, PartialOrd, Ord, Hash)]
+#[derive_where(Debug, PartialOrd, Ord, Hash)]
 pub enum Key<A: Allocator> {
     Int(i64),
     Text(Text<A>),
@@ -110,10 +111,24 @@ impl<A: Allocator> Key<A> {
     pub fn is_same(&self, other: &Self) -> bool
         ensures { IsTrue result ↔ (self.now ≡ other.now) }
     {
+        self == other
+    }
+}
+
+impl<A: Allocator> PartialEq for Key<A> {
+    ghost eq = { same_key };
+
+    ghost laws = { partial_equiv_from_equiv same_key-equiv };
+
+    fn eq(&self, other: &Self) -> bool {
         match (self, other) {
             (Key::Int(number), Key::Int(other)) => number == other,
             (Key::Text(text), Key::Text(other)) => text == other,
             _ => false,
         }
     }
+}
+
+impl<A: Allocator> Eq for Key<A> {
+    ghost laws = { same_key-equiv };
 }

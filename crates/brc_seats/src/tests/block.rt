@@ -3,6 +3,9 @@
 //! A test makes the values that have destructors, and lends them to the function that makes the calls, which then cost the
 //! proof less.
 
+ghost use Rattle.std.specs.Prelude.{◌≡◌, ◌≢◌, false, All};
+ghost use Rattle.brc_block.specs.Payload.{keys_of};
+
 use crate::comparing::{holds, same};
 use brc_block::{Block, Cells, Entries, Letters, Pairs, Payload, Worklist};
 use brc_words::{Fault, Key, Kind, is_container_kind};
@@ -111,10 +114,23 @@ fn a_mailbox_keeps_its_order(rt: HostRuntime) {
     same(&rt, "no third", letters.entry(2), None);
 }
 
+/// A pair more, whose key isn't there yet, or the key back.
+fn put_new<A: Allocator + Copy>(
+    rt: &impl Abort,
+    pairs: &mut Pairs<A>,
+    key: Key<A>,
+    cell: u32,
+) -> Result<(), Key<A>> {
+    match pairs.find(&key) {
+        Some(_) => panic!(rt; "the key is there"),
+        None => pairs.put(key, cell),
+    }
+}
+
 /// A cell more, under the key that is so much below its number.
-fn put_pair<A: Allocator>(rt: &impl Abort, pairs: &mut Pairs<A>, cell: u32, below: i64) {
+fn put_pair<A: Allocator + Copy>(rt: &impl Abort, pairs: &mut Pairs<A>, cell: u32, below: i64) {
     let key = Key::Int(i64::from(cell).wrapping_sub(below));
-    holds(rt, "put", pairs.put(key, cell).is_ok());
+    holds(rt, "put", put_new(rt, pairs, key, cell).is_ok());
 }
 
 /// The last pair has this number as its key and as its cell, and is taken.
@@ -139,7 +155,7 @@ fn keeps_order_of_keys(rt: &impl Abort, pairs: &mut Pairs<Global>) {
 
 #[test]
 fn a_dictionary_keeps_its_order(rt: HostRuntime) {
-    let mut pairs = Pairs::new(Vec::new(rt.alloc()));
+    let mut pairs = Pairs::new(rt.alloc());
     keeps_order_of_keys(&rt, &mut pairs);
 }
 
@@ -164,17 +180,31 @@ fn finds_keys(rt: &impl Abort, pairs: &mut Pairs<Global>) {
 
 #[test]
 fn a_key_is_found_by_its_value(rt: HostRuntime) {
-    let mut pairs = Pairs::new(Vec::new(rt.alloc()));
+    let mut pairs = Pairs::new(rt.alloc());
     finds_keys(&rt, &mut pairs);
 }
 
+/// Whether the payload has the key.
+fn has_key<A: Allocator>(payload: &Payload<A>, key: &Key<A>) -> bool
+    ensures { result ≡ false → All (λ other. other ≢ key.now) (keys_of payload.now) }
+{
+    match payload {
+        Payload::Dict(pairs) => match pairs.find(key) {
+            Some(_) => true,
+            None => false,
+        },
+        _ => false,
+    }
+}
+
 /// One more entry, in room that is made for it first; a dictionary's key is its cell's number.
-fn put<A: Allocator>(payload: &mut Payload<A>, cell: u32) -> bool {
-    if !is_container_kind(payload.kind()) || payload.reserve().is_err() {
+fn put<A: Allocator + Copy>(payload: &mut Payload<A>, cell: u32) -> bool {
+    let key = Key::Int(i64::from(cell));
+    if !is_container_kind(payload.kind()) || payload.reserve().is_err() || has_key(payload, &key) {
         return false;
     }
     match payload.kind() {
-        Kind::Dict => payload.put_pair_reserved(Key::Int(i64::from(cell)), cell),
+        Kind::Dict => payload.put_pair_reserved(key, cell),
         _ => payload.put_reserved(cell),
     }
     true
@@ -200,7 +230,7 @@ fn is_edited(rt: &impl Abort, payload: &mut Payload<Global>) {
 fn payloads_are_edited_by_index(rt: HostRuntime) {
     let payloads = [
         Payload::List(Cells::new(Vec::new(rt.alloc()))),
-        Payload::Dict(Pairs::new(Vec::new(rt.alloc()))),
+        Payload::Dict(Pairs::new(rt.alloc())),
         Payload::Mailbox(Letters::new(VecDeque::new(rt.alloc()))),
     ];
     for payload in payloads {
@@ -288,29 +318,84 @@ fn a_mailbox_without_memory_stays(rt: HostRuntime) {
     holds(&rt, "in its place", letters.put(268).is_ok());
 }
 
-/// No room is made for a third pair, and the two stay; the place of the one that is taken serves the next.
-fn pairs_stay<A: Allocator>(rt: &impl Abort, pairs: &mut Pairs<A>) {
+/// Pairs go in until there is no memory for one, whose key comes back; the answer is its number.
+fn puts_until_refused<A: Allocator + Copy>(rt: &impl Abort, pairs: &mut Pairs<A>) -> u32 {
+    for cell in 268..1_268u32 {
+        if let Err(back) = put_new(rt, pairs, Key::Int(i64::from(cell)), cell) {
+            holds(rt, "handed back", back == Key::Int(i64::from(cell)));
+            return cell;
+        }
+    }
+    panic!(rt; "memory that is never missing")
+}
+
+/// No room is made for one pair more, and those that are there stay; what takes none of them in wants no memory.
+fn pairs_stay<A: Allocator + Copy>(rt: &impl Abort, pairs: &mut Pairs<A>) {
+    let refused = puts_until_refused(rt, pairs);
     holds(rt, "no room is made", pairs.reserve().is_err());
-    holds(
+    same(
         rt,
-        "nothing is put",
-        matches!(pairs.put(Key::Int(268), 268), Err(Key::Int(268))),
+        "its length",
+        pairs.len() as u32,
+        refused.saturating_sub(266),
     );
-    same(rt, "its length", pairs.len(), 2);
     same(rt, "where it was", pairs.find(&Key::Int(267)), Some(1));
-    pops_pair(rt, pairs, 267);
-    holds(rt, "in its place", pairs.put(Key::Int(268), 268).is_ok());
+    pops_pair(rt, pairs, refused.saturating_sub(1));
+    if pairs.len() > 1 {
+        pairs.set(1, 400);
+        holds(
+            rt,
+            "removed",
+            matches!(pairs.remove(0), (Key::Int(266), 266)),
+        );
+    }
+    same(rt, "where it is now", pairs.find(&Key::Int(267)), Some(0));
+    same(rt, "its cell", pairs.entry(0), Some(400));
 }
 
 #[test]
 fn a_dictionary_without_memory_stays(rt: HostRuntime) {
     let heap = small_heap(&rt, rt.alloc());
-    let mut pairs = Pairs::new(Vec::with_capacity(&heap, 2).expect(&rt, "memory"));
+    let mut pairs = Pairs::new(&heap);
     for cell in [266, 267] {
         put_pair(&rt, &mut pairs, cell, 0);
     }
     let _filler = fill(&rt, rt.alloc(), &heap);
     pairs_stay(&rt, &mut pairs);
+}
+
+#[test]
+fn a_first_pair_without_memory_is_refused(rt: HostRuntime) {
+    let heap = small_heap(&rt, rt.alloc());
+    let _filler = fill(&rt, rt.alloc(), &heap);
+    let mut pairs = Pairs::new(&heap);
+    holds(&rt, "refused", pairs.put(Key::Int(266), 266).is_err());
+    same(&rt, "its length", pairs.len(), 0);
+    same(&rt, "no entry", pairs.entry(0), None);
+}
+
+/// The keys 1, 2 and 3, of which 2 goes and comes again, and 1 gets another cell.
+fn orders_keys(rt: &impl Abort, pairs: &mut Pairs<Global>) {
+    for cell in [267, 268, 269] {
+        put_pair(rt, pairs, cell, 266);
+    }
+    if pairs.len() == 3 {
+        holds(rt, "removed", matches!(pairs.remove(1), (Key::Int(2), 268)));
+    }
+    put_pair(rt, pairs, 268, 266);
+    if pairs.len() == 3 {
+        pairs.set(0, 400);
+    }
+    for (number, place, cell) in [(1, 0, 400), (3, 1, 269), (2, 2, 268)] {
+        same(rt, "its place", pairs.find(&Key::Int(number)), Some(place));
+        same(rt, "its cell", pairs.entry(place), Some(cell));
+    }
+}
+
+#[test]
+fn a_key_that_comes_again_comes_last(rt: HostRuntime) {
+    let mut pairs = Pairs::new(rt.alloc());
+    orders_keys(&rt, &mut pairs);
 }
 
 #[test]

@@ -24,7 +24,10 @@ fn counts_an_immortal(rt: &impl Abort, table: &HeapTable<Global>, seat: &mut Thr
     let found = table.immortal_down(seat, Dropped::Frame(0), 2);
     is(rt, found, 4_294_967_295);
     is(rt, table.load_shared(seat, 2), 4_398_046_511_104);
-    is(rt, table.load_owner(seat, 300), u64::MAX);
+    is(rt, table.load_owner(seat, 300), 0);
+    is(rt, table.load_free(seat, 3), 0);
+    is(rt, table.load_free(seat, 4), 18_446_744_073_709_550_592);
+    is(rt, table.load_free(seat, 7), u64::MAX);
     is(rt, table.load_mutex(seat, 300), 0);
     is(rt, table.load_notify(seat), 0);
 }

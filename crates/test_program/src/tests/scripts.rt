@@ -1,7 +1,7 @@
 //! `brc run`: what worked scripts print, the reports of their heaps, and how sections wait for one another.
 
 use crate::tests::running::{ran, same};
-use std::alloc::AllocGlobal;
+use std::alloc::{AllocError, AllocGlobal, Global};
 use std::process::Abort;
 use std::sync::Wait;
 use std::test::*;
@@ -326,6 +326,76 @@ fn long_scripts(rt: HostRuntime) -> Result<(), Fail> {
     for &(case, line, script, output) in CASES {
         let found = ran(&rt, line, script, 0, "")?;
         same(&rt, case, found.as_slice(), output);
+    }
+    Ok(())
+}
+
+/// A list that one section hands to the other while both let it go: at the same time its maker releases, works and leaves, and the other one
+/// releases, works and leaves.
+const LEFT_AT_ONCE: Case = (
+    "two sections leave while both let a list go",
+    "section a\nlist r0\ncopy r1 r0\nshare box r1\nfetch r1 taken\ndrop r0\nsection b\nfetch r0 box\nunshare r1 box\nint r2 1\nshare taken r2\ndrop r0\ndrop r1\n",
+    0,
+    "ledger 1 1 0\n",
+);
+
+#[test]
+fn two_sections_leave_at_the_same_time(rt: HostRuntime) -> Result<(), Fail> {
+    let (case, script, status, output) = LEFT_AT_ONCE;
+    for _run in 0..1_000 {
+        let found = ran(&rt, "brc run --cells 512", script, status, "")?;
+        same(&rt, case, found.as_slice(), output);
+    }
+    Ok(())
+}
+
+/// Sixty-three sections find one list and let it go, a hundred times each; the first of them made it. One more thread clears the globals.
+#[test]
+fn all_find_one_list(rt: HostRuntime) -> Result<(), Fail> {
+    let mut script = String::new(rt.alloc());
+    script.push_str("section s0\nlist r0\nshare box r0\n")?;
+    for section in 1..63 {
+        let finds = format!(in rt.alloc();
+            "section s{section}\nrepeat 100\nfetch r0 box\ndrop r0\nend\n"
+        )?;
+        script.push_str(finds.as_str())?;
+    }
+    let found = ran(&rt, "brc run --cells 512", script.as_str(), 0, "")?;
+    same(&rt, "one list", found.as_slice(), "ledger 1 1 0\n");
+    Ok(())
+}
+
+/// So many turns of work, one an instruction, are more than a structure of 60,000 containers takes to die.
+const GOES_ON: &str = "repeat 120000\nint r2 1\nend\n";
+
+/// A chain of 60,000 lists, each of which holds the one before.
+const DEEP: &str =
+    "section a\nlist r0\nrepeat 59999\nlist r1\npush r1 r0\ncopy r0 r1\nend\ndrop r1\ndrop r0\n";
+
+/// A mailbox of 59,999 mailboxes.
+const WIDE: &str = "section a\nmailbox r0\nrepeat 59999\nmailbox r1\nsend r0 r1\nend\ndrop r0\n";
+
+/// A dictionary of 59,999 dictionaries.
+fn wide_dictionary(alloc: Global) -> Result<String, AllocError> {
+    let mut script = String::from_str(alloc, "section a\ndict r0\n")?;
+    for key in 1..60_000 {
+        let puts = format!(in alloc; "dict r1\nput r0 {key} r1\n")?;
+        script.push_str(puts.as_str())?;
+    }
+    script.push_str("drop r0\n")?;
+    Ok(script)
+}
+
+/// Each dies by one turn of work an instruction.
+#[test]
+fn deep_and_wide(rt: HostRuntime) -> Result<(), Fail> {
+    let dictionary = wide_dictionary(rt.alloc())?;
+    for makes in [DEEP, WIDE, dictionary.as_str()] {
+        let mut script = String::from_str(rt.alloc(), makes)?;
+        script.push_str(GOES_ON)?;
+        let line = "brc run --cells 65536 --budget 1";
+        let found = ran(&rt, line, script.as_str(), 0, "")?;
+        same(&rt, line, found.as_slice(), "ledger 60000 60000 0\n");
     }
     Ok(())
 }

@@ -1,6 +1,6 @@
 //! What comes of a trace: the status, the world, the error line.
 
-use crate::tests::running::{ran, same};
+use crate::tests::running::{ended, ran, same, status_of};
 use std::test::*;
 
 /// A list is made, given up, and freed.
@@ -73,6 +73,20 @@ fn statuses_and_lines(rt: HostRuntime) -> Result<(), Fail> {
             "brc: line 2: not enabled\n",
         ),
         (
+            "a thread that no heap has",
+            "heap 512 4294967294\n0 register 65\n",
+            3,
+            "",
+            "brc: line 2: not a trace line\n",
+        ),
+        (
+            "a cell that no heap has",
+            "heap 512 4294967294\n0 register 1\n1 claim 65536\n",
+            3,
+            "",
+            "brc: line 3: not a trace line\n",
+        ),
+        (
             "a cell past the last",
             "heap 512 4294967294\n0 register 1\n1 claim 512\n",
             3,
@@ -90,6 +104,26 @@ fn statuses_and_lines(rt: HostRuntime) -> Result<(), Fail> {
     for &(case, input, status, output, errors) in CASES {
         let found = ran(&rt, "brc replay", input, status, errors)?;
         same(&rt, case, found.as_slice(), output);
+    }
+    Ok(())
+}
+
+/// An input of one byte more than the most, 16,777,216, all of it lines that are empty or comments: it is looked at before its lines are.
+#[test]
+fn an_input_that_is_too_long(rt: HostRuntime) -> Result<(), Fail> {
+    const CASES: &[(&str, &str)] = &[
+        ("brc replay", "brc: line 0: not a trace line\n"),
+        ("brc run", "brc: line 0: not a script line\n"),
+    ];
+    let mut input = Vec::new(rt.alloc());
+    input.resize(16_777_217, b'\n')?;
+    for &(line, told) in CASES {
+        let mut output = Vec::new(rt.alloc());
+        let mut errors = Vec::new(rt.alloc());
+        let found = status_of(&rt, line, input.as_slice(), &mut output, &mut errors)?;
+        ended(&rt, line, found, 3);
+        same(&rt, line, output.as_slice(), "");
+        same(&rt, line, errors.as_slice(), told);
     }
     Ok(())
 }

@@ -5,11 +5,9 @@ use Rattle.brc_dicts.proofs.indexing.key_in.Goals as goal
 
 pub returns-in-Some-clause-found : goal.returns-in-Some-clause-found
 returns-in-Some-clause-found g c =
-    let pair = c.in_ok-pair.pair.now in
-    key_there c.args.payload.now c.args.index pair.0 pair.1 c.in_ok-pair.ensures.there
+    key_there c.args.payload.now c.args.index c.in_ok-key.key.now c.in_ok-key._cell c.in_ok-key.ensures.there
     ∙ ap (λ key. Ok (key, contents_of c.args.payload.now)) (sym c.in-Some.ensures)
 
 pub returns-in-None-clause-refused : goal.returns-in-None-clause-refused
 returns-in-None-clause-refused g c =
-    let pair = c.in_ok-pair.pair.now in
-    key_may c.args.payload.now c.args.index pair.0 pair.1 c.in_ok-pair.ensures.there
+    key_may c.args.payload.now c.args.index c.in_ok-key.key.now c.in_ok-key._cell c.in_ok-key.ensures.there

@@ -1,8 +1,10 @@
-use Rattle.std.proofs.Common.{◌<◌, ◌++◌, [], ◌∷◌, None, subst, sym, ◌∙◌, ap, length}
+use Rattle.std.proofs.Common.{All, ◌≢◌, ◌<◌, ◌++◌, [], ◌∷◌, None, subst, sym, ◌∙◌, ap, length}
 use Rattle.brc_words.specs.declared.limits.TheConstants.{MOST_ENTRIES}
 use Rattle.brc_block.specs.Payload.{entries_of, keys_of, kind_of}
+use Rattle.brc_table.specs.Shown.{contents_of}
 use Rattle.brc_dicts.specs.Plain.{plain_put}
 use Rattle.brc_dicts.specs.Putting.{RefusedRoom}
+use Rattle.brc_dicts.proofs.Standing.{others_than}
 use Rattle.brc_dicts.proofs.Shown.{put_new}
 use Rattle.brc_dicts.proofs.Locked.{stood, ended_same, refused_append, entries_put, puts_since}
 use Rattle.brc_dicts.proofs.putting.append_locked.Goals as goal
@@ -12,9 +14,16 @@ returns-in-Err-clause-refused g c = λ before k since value at.
     let lent = c.payload_mut.ensures.value in
     refused_append before c.args.frame.now c.end_keep.new.self k c.args.block c.args.key value c.in-Err.fault
     (stood before c.args.frame.now k c.args.block since)
-    (ended_same c.args.frame.now c.end_keep.new.self _ c.args.block c.make_room.new.payload c.end_keep.ensures.ended (c.in-Err.ensures.unchanged ∙ lent))
+    (ended_same c.args.frame.now c.end_keep.new.self _ c.args.block c.make_room.new.payload c.end_keep.ensures.ended (c.make_room.ensures.contents ∙ ap contents_of lent))
     c.requires.absent
     (subst (λ p. RefusedRoom (length (entries_of p)) c.in-Err.fault) lent c.in-Err.ensures.refused)
+
+pub put_pair_reserved-requires-clause-absent : goal.put_pair_reserved-requires-clause-absent
+put_pair_reserved-requires-clause-absent g c =
+    let absent = c.requires.absent in
+    subst (All (λ other. other ≢ c.args.key))
+    (sym (ap keys_of c.payload_mut-2.ensures.value ∙ c.make_room.ensures.keys ∙ ap keys_of c.payload_mut.ensures.value ∙ ap keys_of absent.is))
+    (others_than c.args.key absent.pairs.items absent.none)
 
 pub end_put-requires-clause-entries : goal.end_put-requires-clause-entries
 end_put-requires-clause-entries g c = λ value at.

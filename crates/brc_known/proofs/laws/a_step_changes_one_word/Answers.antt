@@ -1,7 +1,6 @@
-use Rattle.brc_runs.specs.Steps.{target_at}
 use Rattle.brc_runs.proofs.Asking.{may_parts}
 use Rattle.brc_known.proofs.Words_Law.{others_shown}
 use Rattle.brc_known.proofs.laws.a_step_changes_one_word.Goals as goal
 
 pub returns : goal.returns
-returns c = λ h t s w number may is other shows. others_shown h t s (target_at h t s) w number (may_parts h t s may).own is other shows
+returns c = λ h t s w number reached may is other shows. others_shown h t s w number reached (may_parts h t s may) is other shows

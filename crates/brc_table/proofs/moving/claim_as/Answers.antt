@@ -1,14 +1,15 @@
-use Rattle.std.proofs.Common.{◌==◌}
-use prog.Atomic.{either}
-use Rattle.brc_known.specs.declared.word.Field.TheVariants.{Owner}
-use Rattle.brc_known.specs.declared.word.Word.TheVariants.{Of}
+use Rattle.std.proofs.Common.{◌==◌, ◌/◌, ◌%◌}
+use Rattle.std.specs.Prelude.{bit_and}
+use Rattle.std.specs.Int.{bit_at}
+use Rattle.brc_known.specs.declared.word.Word.TheVariants.{FreeWord}
 use Rattle.brc_steps.specs.Taking.{Claimed}
 use Rattle.brc_table.specs.Shown.{shows}
-use Rattle.brc_table.proofs.Placing.{step_allowed}
+use Rattle.brc_table.proofs.Placing.{step_allowed, free_inside}
 use Rattle.brc_table.proofs.moving.claim_as.Goals as goal
 
-pub compare_exchange-requires : goal.compare_exchange-requires
-compare_exchange-requires g c =
+pub fetch_and-requires : goal.fetch_and-requires
+fetch_and-requires g c =
     let me = c.args.seat.now.me in
-    step_allowed shows me (λ there. either (there == 18446744073709551615) c.args.new there) (λ there after. Claimed g.M.Winning.cells me.0 me.1 g.M.Winning.cell there (there == 18446744073709551615) after) (Of Owner c.args.cell)
-    c.table.invariant c.table.view_is c.spot_of-at.ensures c.requires.same c.requires.inside c.requires.allowed
+    step_allowed shows me (λ there. bit_and there c.args.mask)
+    (λ there after. Claimed g.M.Winning.cells me.0 me.1 g.M.Winning.cell there (bit_at there (g.M.Winning.cell % 64) == 1) after) (FreeWord (c.args.cell / 64))
+    c.table.invariant c.table.view_is c.spot_of-at.ensures c.requires.same (free_inside c.args.table.now.cells c.args.cell c.requires.inside) c.requires.allowed

@@ -75,4 +75,4 @@ pub returns-clause-turned : goal.returns-clause-turned
 returns-clause-turned g c = λ is.
     let front = sym c.in_default.ensures.unchanged ∙ c.in-Some-pop.ensures.some in
     let none = ap front_entries (sym front) ∙ c.in_default.ensures.none in
-    rw (← c.self.view_is) (BlockFreed c.in-Some-pop.block (2 ^ 64 - 1) c.free.ensures.heap front none (rw c.cell.ensures at c.free.ensures.told))
+    rw (← c.self.view_is) (BlockFreed c.in-Some-pop.block c.free.result c.free.ensures.heap front none (rw c.cell.ensures at c.free.ensures.told))

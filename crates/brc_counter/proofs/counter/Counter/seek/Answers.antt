@@ -1,11 +1,14 @@
 use Rattle.std.proofs.Common.{rules}
-use Rattle.brc_counter.proofs.Searching.{begins, goes_on}
+use Rattle.brc_counter.proofs.Searching.{begins, next_word, claims_first}
 use Rattle.brc_counter.proofs.counter.Counter.seek.Goals as goal
 
-pub loop-cell-init : goal.loop-cell-init
-loop-cell-init g c = begins c.args.self.now
+pub loop-word-init : goal.loop-word-init
+loop-word-init g c = begins c.args.self.now c.args.self.now.heap.cells
 
-pub loop-cell-preserved : goal.loop-cell-preserved
-loop-cell-preserved g c =
-    let tried = c.if-try_cell.ensures in
-    goes_on c.loop-cell.cell c.loop-cell.invariant tried.heap tried.seat (tried.passed (search rules)) (tried.still (search rules)) (search rules) (search rules)
+pub returns-in-Some-clause-claimed : goal.returns-in-Some-clause-claimed
+returns-in-Some-clause-claimed g c = claims_first c.args.self.now.heap.cells c.loop-word.word c.in-Some.cell c.loop-word.invariant (search rules) (search rules)
+
+pub loop-word-preserved : goal.loop-word-preserved
+loop-word-preserved g c =
+    let passed = c.seek_word.ensures in
+    next_word c.args.self.now.heap.cells c.loop-word.word c.loop-word.invariant passed.heap passed.seat (search rules) (search rules) (search rules) (search rules)

@@ -1,0 +1,132 @@
+//! Cells by their keys, in the order in which the keys came.
+
+ghost use Rattle.std.specs.Prelude.{◌≡◌, ◌≢◌, ◌+◌, ◌<◌, ◌≤◌, ◌++◌, [], ◌∷◌, length, take, All, Some, OnOk, OnErr, IfSome, IfNone, slice_get, slice_set, remove};
+ghost use Rattle.std.specs.Option.{option_to_list};
+ghost use Rattle.brc_block.specs.Pairs.{keys_in, cells_in};
+
+use brc_words::Key;
+use indexmap::IndexMap;
+use std::alloc::{AllocError, Allocator};
+use std::hash::{BuildHasherDefault, FoldHasher};
+use std::marker::Model;
+
+/// The map of a dictionary. No key stands twice, and a removal keeps the order.
+#[derive(Drop)]
+pub(crate) struct KeyMap<A: Allocator> {
+    map: IndexMap<Key<A>, u32, BuildHasherDefault<FoldHasher>, A>,
+}
+
+impl<A: Allocator> Model for KeyMap<A> {
+    ghost use Rattle.std.specs.Prelude.{ℕ};
+    ghost use Rattle.brc_words.specs.declared.key.Key.{Key};
+    ghost use Rattle.indexmap.specs.IndexMap.{spare};
+    ghost use Rattle.brc_block.specs.Row.{Row};
+
+    ghost Value = { Row (Key A × ℕ) };
+
+    ghost view = { λ m. record {
+      items = m.map.entries;
+      spare = spare m.map;
+    } };
+}
+
+impl<A: Allocator + Copy> KeyMap<A> {
+    /// No pairs; nothing is allocated.
+    pub(crate) fn new(alloc: A) -> Self
+        ensures { result.items ≡ [] }
+    {
+        KeyMap {
+            map: IndexMap::new(alloc),
+        }
+    }
+}
+
+impl<A: Allocator> KeyMap<A> {
+    pub(crate) fn len(&self) -> usize
+        ensures { result ≡ length self.now.items }
+    {
+        self.map.len()
+    }
+
+    /// The key and the cell at an index, or None past the end.
+    pub(crate) fn pair(&self, index: usize) -> Option<(&Key<A>, u32)>
+        ensures there { IfSome result
+            (λ pair. slice_get self.now.items index ≡ Some (pair.0.now, pair.1)) }
+        ensures past { IfNone result (length self.now.items ≤ index) }
+    {
+        match self.map.get_index(index) {
+            Some((key, cell)) => Some((key, *cell)),
+            None => None,
+        }
+    }
+
+    /// The index of the key.
+    pub(crate) fn find(&self, key: &Key<A>) -> Option<usize>
+        ensures found { IfSome result
+            (λ index. slice_get (keys_in self.now.items) index ≡ Some key.now) }
+        ensures first { IfSome result
+            (λ index. All (λ other. other ≢ key.now) (take index (keys_in self.now.items))) }
+        ensures none { IfNone result (All (λ other. other ≢ key.now) (keys_in self.now.items)) }
+    {
+        self.map.get_index_of(key)
+    }
+
+    /// Makes room for one more pair. Where the memory is refused the room may still be more than it was.
+    pub(crate) fn reserve(&mut self) -> Result<(), AllocError>
+        ensures items { self.new.items ≡ self.old.items }
+        ensures kept { self.old.spare ≤ self.new.spare }
+        ensures made { OnOk result (0 < self.new.spare) }
+        ensures needed { OnErr result (self.old.spare ≡ 0) }
+    {
+        self.map.reserve(1)
+    }
+
+    /// One more pair, of a key that isn't there, at the end, in the room that was made for it.
+    pub(crate) fn put_reserved(&mut self, key: Key<A>, cell: u32)
+        requires room { 0 < self.old.spare }
+        requires absent { All (λ other. other ≢ key) (keys_in self.old.items) }
+        ensures put { self.new.items ≡ self.old.items ++ (key, cell) ∷ [] }
+        ensures used { self.old.spare ≤ self.new.spare + 1 }
+    {
+        match self.map.insert(key, cell) {
+            Ok(_old) => {}
+            Err(_refused) => unreachable!(),
+        }
+    }
+
+    /// Another cell for a key; its place stays.
+    pub(crate) fn set(&mut self, index: usize, cell: u32)
+        requires within { index < length self.old.items }
+        ensures set { cells_in self.new.items ≡ slice_set (cells_in self.old.items) index cell }
+        ensures keys { keys_in self.new.items ≡ keys_in self.old.items }
+        ensures spare { self.new.spare ≡ self.old.spare }
+    {
+        self.map[index] = cell;
+    }
+
+    /// Takes a pair, and the later ones close up.
+    pub(crate) fn remove(&mut self, index: usize) -> (Key<A>, u32)
+        requires within { index < length self.old.items }
+        ensures taken { slice_get self.old.items index ≡ Some result }
+        ensures left { self.new.items ≡ remove self.old.items index }
+        ensures spare { self.old.spare ≤ self.new.spare }
+    {
+        match self.map.shift_remove_index(index) {
+            Some(pair) => pair,
+            None => unreachable!(),
+        }
+    }
+
+    /// Takes the last pair.
+    pub(crate) fn pop(&mut self) -> Option<(Key<A>, u32)>
+        ensures last { self.old.items ≡ self.new.items ++ option_to_list result }
+        ensures spare { self.old.spare ≤ self.new.spare }
+        ensures empty { IfNone result (self.old.items ≡ []) }
+        ensures unchanged { IfNone result (self.new ≡ self.old) }
+    {
+        if self.map.is_empty() {
+            return None;
+        }
+        self.map.pop()
+    }
+}

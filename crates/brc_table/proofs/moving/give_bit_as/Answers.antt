@@ -1,0 +1,13 @@
+use Rattle.std.proofs.Common.{◌≡◌, bit_or}
+use Rattle.atomic_table.specs.Table.{rest}
+use Rattle.brc_rule.specs.Rule.{with_told}
+use Rattle.brc_table.specs.Moving.{FewFrees}
+use Rattle.brc_table.specs.Shown.{shows}
+use Rattle.brc_table.proofs.Placing.{step_allowed}
+use Rattle.brc_table.proofs.moving.give_bit_as.Goals as goal
+
+pub fetch_or-requires : goal.fetch_or-requires
+fetch_or-requires g c =
+    let me = c.args.seat.now.me in
+    step_allowed shows me (λ there. bit_or there c.args.bits) (λ there after. (after ≡ (with_told (g.M.Giving.item there) me.0, rest me.1)) × FewFrees g.M.Giving.cells after.0.log) c.args.word
+    c.table.invariant c.table.view_is c.spot_of-at.ensures c.requires.same c.requires.inside c.requires.allowed

@@ -1,0 +1,15 @@
+pub mod Others_Leave
+pub mod In_Frames
+pub mod In_Queues
+pub mod In_Entries
+pub mod In_Hands
+pub mod Brought
+pub mod Others_Steps
+pub mod Going_On
+pub mod Own_Steps
+pub mod Births_Frees
+pub mod Queue_Steps
+pub mod Root_Steps
+pub mod Small_Immortals
+pub mod Private_Law
+pub mod Own_Entries_Law

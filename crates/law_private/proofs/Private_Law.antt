@@ -1,0 +1,168 @@
+-- The cells that a thread's own items call private are its own, after every list of items.
+use Rattle.std.proofs.Common.{◌≡◌, ◌≢◌, ℕ, ◌+◌, ◌==◌, not, Bool, true, false, if◌then◌else◌, List, length, Option, Some, None, refl, sym, ◌∙◌, ap, subst, inl, inr}
+use Rattle.std.proofs.lemmas.Bool.{cases_Bool, lt-ltb, true≢false}
+use Rattle.std.specs.Cmp.Derive.{both_true}
+use Rattle.brc_runs.specs.declared.event.Event.{Event}
+use Rattle.brc_runs.specs.declared.event.Step.{Step}
+use Rattle.brc_runs.specs.declared.event.Step.TheVariants.{Birth, Free, Close, Unlock, Register, Gather}
+use Rattle.brc_runs.specs.declared.row.Row.{Row}
+use Rattle.brc_runs.specs.declared.row.Stage.{Stage}
+use Rattle.brc_runs.specs.declared.row.Stage.TheVariants as stages
+use Rattle.brc_runs.specs.Heap.{Heap, opening, row_at, frame_at, no_row, words_for, is_registered, AreOptions}
+use Rattle.brc_runs.specs.Steps.{enabled, after, after_target, root_after, root_may, thread_may, target_at, target_ok, needs_no_cell, locked_cell, locked_at, is_active, stage_after, registered, stepped, kept_cells}
+use Rattle.brc_runs.specs.Sound.{IsSound}
+use Rattle.brc_runs.proofs.Asking.{May, may_parts}
+use Rattle.brc_runs.proofs.Changes.{read_here}
+use Rattle.brc_runs.proofs.Reached.{reached_sound}
+use Rattle.brc_lasting.specs.Staying.{IsAnothers}
+use Rattle.brc_lasting.proofs.Lasting.{others_own}
+use Rattle.brc_lasting.proofs.Standing.{run_reached}
+use Rattle.brc_known.specs.Items.{Item, ItemRun, AreItems, events_of, world_of_items, own, Part, part_of, IsPart}
+use Rattle.brc_known.proofs.Items_Law.{part_follows}
+use Rattle.brc_known.proofs.Items_Runs.{events_run}
+use Rattle.brc_known.proofs.Items_Tells.{Follows, tells}
+use Rattle.law_private.specs.Private.{Isolated, private_by, private_of}
+use Rattle.law_private.proofs.Others_Leave.{others_leave}
+use Rattle.law_private.proofs.Others_Steps.{others_step}
+use Rattle.law_private.proofs.Own_Steps.{own_unlock, own_plain}
+use Rattle.law_private.proofs.Births_Frees.{own_birth, own_free}
+use Rattle.law_private.proofs.Queue_Steps.{apart_kept}
+use Rattle.law_private.proofs.Root_Steps.{apart_registered, apart_gathered}
+
+-- ---- others' events
+
+others_target : (h : Heap) (t u : ℕ) (s : Step) (mine : ℕ → Bool) (o : Option ℕ) → IsSound h → u ≢ t → thread_may h u s ≡ true → target_at h u s ≡ o → Isolated h t mine → Isolated (after_target h u s o) t mine
+others_target h t u s mine None sound other may named apart = apart_kept h t u mine s (may_parts h u s may).inside apart
+others_target h t u s mine (Some d) sound other may named apart = others_step h t u mine sound apart other s d may named
+
+roots_event : (h : Heap) (t : ℕ) (s : Step) (mine : ℕ → Bool) → root_may h s ≡ true → Isolated h t mine → Isolated (root_after h s) t mine
+roots_event h t (Register u) mine may apart = apart_registered h t mine apart
+roots_event h t (Gather u) mine may apart = apart_gathered h u t mine apart
+roots_event h t s mine may apart = absurd (true≢false (sym may))
+
+others_event : (h : Heap) (t : ℕ) (e : Event) (mine : ℕ → Bool) → IsSound h → enabled h e ≡ true → IsAnothers t e → Isolated h t mine → Isolated (after h e) t mine
+others_event h t e mine sound ok others apart =
+    let moved : Heap = after_target h e.thread e.step (target_at h e.thread e.step) in
+    elim (cases_Bool (e.thread == 0)) [
+      | inl root ↦ subst (λ b. Isolated (if b then root_after h e.step else moved) t mine) (sym root)
+          (roots_event h t e.step mine (subst (λ b. (if b then root_may h e.step else thread_may h e.thread e.step) ≡ true) root ok) apart)
+      | inr thread ↦ subst (λ b. Isolated (if b then root_after h e.step else moved) t mine) (sym thread)
+          (others_target h t e.thread e.step mine (target_at h e.thread e.step) sound others.other (subst (λ b. (if b then root_may h e.step else thread_may h e.thread e.step) ≡ true) thread ok) refl apart)
+    ]
+
+-- ---- own steps
+
+never_open : (b : Bool) (k : ℕ) → is_active (if b then stages.Left else stages.Closing k) ≡ false
+never_open true k = refl
+never_open false k = refl
+
+-- the tests of a thread's step, together
+pub joined : (h : Heap) (t : ℕ) (s : Step) → May h t s → thread_may h t s ≡ true
+joined h t s may =
+    let there : is_registered h t ≡ true = both_true (lt-ltb 0 t may.some_thread) (lt-ltb t (length h.rows) may.inside) in
+    both_true (both_true (both_true (both_true (both_true (both_true (both_true there (ap not may.not_gathered)) may.stage) may.lock) may.hand) may.own) may.others) may.on_target
+
+-- no step makes a thread active again
+was_active : (words : ℕ) (s : Step) (g : Stage) → is_active (stage_after words s g) ≡ true → is_active g ≡ true
+was_active words (Close k) g active = absurd (true≢false (sym active ∙ never_open (k + 1 == words) (k + 1)))
+was_active words s g active = active
+
+pub active_before : (h : Heap) (t : ℕ) (s : Step) (o : Option ℕ) → May h t s → is_active (row_at (after_target h t s o) t).stage ≡ true → is_active (row_at h t).stage ≡ true
+active_before h t s None may active = was_active (words_for (length h.cells)) s (row_at h t).stage (ap (λ (r : Row). is_active r.stage) (sym (read_here h.rows t _ no_row may.inside)) ∙ active)
+active_before h t s (Some d) may active = ap (λ (r : Row). is_active r.stage) (sym (read_here h.rows t _ no_row may.inside)) ∙ active
+
+-- a step on no cell makes none private, and ends it for none
+same_apart : (h : Heap) (t u : ℕ) (s : Step) (mine : ℕ → Bool) (frame : List (Option ℕ)) (into : Option ℕ) → needs_no_cell s ≡ true → Isolated h t mine → Isolated h t (private_by frame into s mine)
+same_apart h t u (Birth d kind k) mine frame into none apart = absurd (true≢false (sym none))
+same_apart h t u (Free d) mine frame into none apart = absurd (true≢false (sym none))
+same_apart h t u (Unlock change) mine frame into none apart = absurd (true≢false (sym none))
+same_apart h t u s mine frame into none apart = apart
+
+own_on_cell : (h : Heap) (t : ℕ) (s : Step) (mine : ℕ → Bool) (d : ℕ) → IsSound h → Isolated h t mine → is_active (row_at h t).stage ≡ true → thread_may h t s ≡ true → target_at h t s ≡ Some d
+    → Isolated (stepped h t s d) t (private_by (frame_at h t) (locked_at h t) s mine)
+own_on_cell h t (Birth e kind k) mine d sound apart active may named = own_birth h t mine sound apart active e kind k d may named
+own_on_cell h t (Free e) mine d sound apart active may named = own_free h t mine sound apart active e d may named
+own_on_cell h t (Unlock change) mine d sound apart active may named = own_unlock h t mine sound apart active change d may named
+own_on_cell h t s mine d sound apart active may named = own_plain h t mine sound apart active s d refl may named
+
+own_target : (h : Heap) (t : ℕ) (s : Step) (mine : ℕ → Bool) (o : Option ℕ) → IsSound h → Isolated h t mine → is_active (row_at h t).stage ≡ true → thread_may h t s ≡ true → target_at h t s ≡ o
+    → Isolated (after_target h t s o) t (private_by (frame_at h t) (locked_at h t) s mine)
+own_target h t s mine None sound apart active may named =
+    let parts : May h t s = may_parts h t s may in
+    same_apart (kept_cells h t s) t t s mine (frame_at h t) (locked_at h t) (subst (λ o. target_ok h t (row_at h t) s o ≡ true) named parts.on_target)
+    (apart_kept h t t mine s parts.inside apart)
+own_target h t s mine (Some d) sound apart active may named = own_on_cell h t s mine d sound apart active may named
+
+-- the frame and the lock are those of the thread's part
+pub by_part : (h : Heap) (t : ℕ) (Q : List (Option ℕ) → Option ℕ → Type 0) (part : Part) → IsPart h t part → Q (frame_at h t) (locked_at h t) → Q part.frame (locked_cell part.frame part.row.locked)
+by_part h t Q part is holds =
+    subst (λ (f : List (Option ℕ)). Q f (locked_cell f part.row.locked)) is.frame_is
+    (subst (λ (r : Row). Q (frame_at h t) (locked_cell (frame_at h t) r.locked)) is.row_is holds)
+
+pub to_world : (h : Heap) (t : ℕ) (Q : List (Option ℕ) → Option ℕ → Type 0) (part : Part) → IsPart h t part → Q part.frame (locked_cell part.frame part.row.locked) → Q (frame_at h t) (locked_at h t)
+to_world h t Q part is holds =
+    subst (λ (r : Row). Q (frame_at h t) (locked_cell (frame_at h t) r.locked)) (sym is.row_is)
+    (subst (λ (f : List (Option ℕ)). Q f (locked_cell f part.row.locked)) (sym is.frame_is) holds)
+
+-- ---- the law
+
+-- the thread's part is what its items say, and so are its private cells while it is active
+pub record ApartNow (t cells : ℕ) (h : Heap) (log : List Item) : Type 0 where
+  pub part : IsPart h t (part_of cells log)
+  pub apart : is_active (row_at h t).stage ≡ true → Isolated h t (private_of cells log)
+
+-- nothing is private yet
+none_private : (h : Heap) (t : ℕ) → Isolated h t (λ c. false)
+none_private h t = record {
+  mortal = λ c is. absurd (true≢false (sym is));
+  cells = λ c is. absurd (true≢false (sym is));
+  frames = λ u k c is. absurd (true≢false (sym is));
+  hands = λ u c p is. absurd (true≢false (sym is));
+  popped = λ u c is. absurd (true≢false (sym is));
+  queues = λ u c is. absurd (true≢false (sym is));
+  worklists = λ u c is. absurd (true≢false (sym is));
+  entries = λ d i c is. absurd (true≢false (sym is));
+}
+
+pub apart_follows : (t cells : ℕ) → Follows t cells (ApartNow t cells)
+apart_follows t cells = record {
+  starts = λ h reached size last. record {
+    part = (part_follows t cells).starts h reached size last;
+    apart = λ active. none_private (registered h) t;
+  };
+  others = λ h e log reached ok others before. record {
+    part = (part_follows t cells).others h e log reached ok others before.part;
+    apart = λ active. others_event h t e (private_of cells log) (reached_sound h reached) ok others
+        (before.apart (ap (λ (r : Row). is_active r.stage) (sym (others_own h e t (reached_sound h reached) ok others).row) ∙ active));
+  };
+  owns = λ h s number entries log reached size fit may told_is found_is before. record {
+    part = (part_follows t cells).owns h s number entries log reached size fit may told_is found_is before.part;
+    apart = λ active.
+        let was : is_active (row_at h t).stage ≡ true = active_before h t s (target_at h t s) may active in
+        by_part h t (λ frame into. Isolated (after_target h t s (target_at h t s)) t (private_by frame into s (private_of cells log))) (part_of cells log) before.part
+        (own_target h t s (private_of cells log) (target_at h t s) (reached_sound h reached) (before.apart was) was (joined h t s may) refl);
+  };
+  gathers = λ h u log before. record {
+    part = (part_follows t cells).gathers h u log before.part;
+    apart = λ active. apart_gathered h u t (private_of cells log) (before.apart active);
+  };
+  saw = λ h word number log reached shows before. record { part = before.part; apart = before.apart };
+  lost = λ h word number log reached shows before. record { part = before.part; apart = before.apart };
+}
+
+-- the private cells that an active thread's items tell are its own in the world
+pub private_cells_stay : (cells limit : ℕ) (items : ItemRun) (t : ℕ) → AreOptions cells limit → AreItems (opening cells limit) items
+    → is_registered (world_of_items (opening cells limit) items) t ≡ true → is_active (row_at (world_of_items (opening cells limit) items) t).stage ≡ true
+    → Isolated (world_of_items (opening cells limit) items) t (private_of cells (own t items))
+private_cells_stay cells limit items t options are there active =
+    (tells t cells (ApartNow t cells) (apart_follows t cells) limit items options are there).apart active
+
+-- no step of another thread's means one
+pub others_never_mean : (cells limit : ℕ) (items : ItemRun) (t u : ℕ) (s : Step) (c : ℕ) → AreOptions cells limit → AreItems (opening cells limit) items
+    → is_registered (world_of_items (opening cells limit) items) t ≡ true → is_active (row_at (world_of_items (opening cells limit) items) t).stage ≡ true
+    → u ≢ t → thread_may (world_of_items (opening cells limit) items) u s ≡ true → target_at (world_of_items (opening cells limit) items) u s ≡ Some c
+    → private_of cells (own t items) c ≢ true
+others_never_mean cells limit items t u s c options are there active other may named =
+    let h : Heap = world_of_items (opening cells limit) items in
+    others_leave h t u (private_of cells (own t items)) s c (reached_sound h (run_reached cells limit (events_of items) options (events_run (opening cells limit) items are)))
+    (private_cells_stay cells limit items t options are there active) other may named

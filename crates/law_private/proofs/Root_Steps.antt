@@ -1,0 +1,46 @@
+-- The root's steps keep private cells apart: a new thread names no cell, and gathering one changes nothing of cells.
+use Rattle.std.proofs.Common.{◌≡◌, ℕ, ◌++◌, ◌∷◌, Bool, true, false, List, [], length, get_or, replicate, Some, None, sym, ◌∙◌, subst, inl, inr}
+use Rattle.std.proofs.lemmas.Bool.{cases_eq, true≢false}
+use Rattle.std.proofs.lemmas.List.{get_or_push}
+use Rattle.brc_runs.specs.Phases.{is_active_phase}
+use Rattle.brc_runs.specs.declared.row.Hand.TheVariants as hands
+use Rattle.brc_runs.specs.declared.row.Row.{Row}
+use Rattle.brc_runs.specs.Lists.{place_at, bit_of, is_marked}
+use Rattle.brc_runs.specs.Heap.{Heap, new_row, no_row, words_for}
+use Rattle.brc_runs.specs.Steps.{registered, gathered_in}
+use Rattle.brc_runs.proofs.Registering.{push_else, new_bit, new_mark}
+use Rattle.law_private.specs.Private.{Isolated}
+
+-- a list grows by one, and what is said of each stays
+pushed : {A : Type 0} (P : A → Type 0) (xs : List A) (new d : A) (v : ℕ) → P new → P (get_or xs v d) → P (get_or (xs ++ new ∷ []) v d)
+pushed P xs new d v here there = elim (cases_eq v (length xs)) [
+  | inl last ↦ subst P (sym (get_or_push xs new d v (sym last))) here
+  | inr other ↦ subst P (sym (push_else xs new d v other)) there
+]
+
+pub apart_registered : (h : Heap) (t : ℕ) (mine : ℕ → Bool) → Isolated h t mine → Isolated (registered h) t mine
+apart_registered h t mine apart = record {
+  mortal = apart.mortal;
+  cells = apart.cells;
+  frames = λ v k c is. pushed (λ frame. place_at frame k ≡ Some c → v ≡ t) h.frames [] [] v (λ at. absurd (none_there k c at)) (apart.frames v k c is);
+  hands = λ v c p is. pushed (λ (r : Row). r.hand ≡ hands.Busy p c → (v ≡ t) × (is_active_phase p ≡ true)) h.rows new_row no_row v (λ at. absurd (let bad : hands.Free ≡ hands.Busy p c = at in cc)) (apart.hands v c p is);
+  popped = λ v c is. pushed (λ (ws : List ℕ). bit_of ws c ≡ 0) h.popped (replicate (words_for (length h.cells)) 0) [] v (new_bit (words_for (length h.cells)) c) (apart.popped v c is);
+  queues = λ v c is. pushed (λ (ws : List ℕ). bit_of ws c ≡ 0) h.queues (replicate (words_for (length h.cells)) 0) [] v (new_bit (words_for (length h.cells)) c) (apart.queues v c is);
+  worklists = λ v c is. pushed (λ (ws : List Bool). is_marked ws c ≡ true → v ≡ t) h.worklists (replicate (length h.cells) false) [] v (λ on. absurd (true≢false (sym on ∙ new_mark (length h.cells) c))) (apart.worklists v c is);
+  entries = apart.entries;
+}
+  where
+    none_there : (k c : ℕ) → place_at [] k ≡ Some c → ⊥
+    none_there k c at = let bad : None ≡ Some c = at in cc
+
+pub apart_gathered : (h : Heap) (u t : ℕ) (mine : ℕ → Bool) → Isolated h t mine → Isolated (gathered_in h u) t mine
+apart_gathered h u t mine apart = record {
+  mortal = apart.mortal;
+  cells = apart.cells;
+  frames = apart.frames;
+  hands = apart.hands;
+  popped = apart.popped;
+  queues = apart.queues;
+  worklists = apart.worklists;
+  entries = apart.entries;
+}

@@ -1,0 +1,8 @@
+use Rattle.law_private.proofs.Root_Steps.{apart_registered, apart_gathered}
+use Rattle.law_private.proofs.laws.root_steps_keep_private_cells_apart.Goals as goal
+
+pub returns-clause-registers : goal.returns-clause-registers
+returns-clause-registers c = apart_registered
+
+pub returns-clause-gathers : goal.returns-clause-gathers
+returns-clause-gathers c = apart_gathered
