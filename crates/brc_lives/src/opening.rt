@@ -1,5 +1,7 @@
 //! A heap that has too little memory to open, and a thread that has too little to be registered, with a bit more each time.
 
+ghost use Rattle.std.specs.Prelude.{◌≡◌};
+
 use crate::memory::a_heap;
 use brc_thread::{Heap, Options, Root, give_back, take_apart};
 use brc_words::Fault;

@@ -111,7 +111,7 @@ fn ends_without_memory<'h, R: Abort + Wait>(
     assert!(rt; thread.is_idle());
     let _others = Pieces::take_all(rt, alloc, memory);
     let ledger = thread.end(rt, &mut root, &heap);
-    assert_eq!(rt; (ledger.allocs, ledger.frees), (3, 3));
+    assert_eq!(rt; (ledger.allocs, ledger.frees), (4, 4));
     is_empty(rt, heap, root);
 }
 
