@@ -3,6 +3,9 @@
 use rand::RngExt;
 use rand_core::Rng;
 
+/// A heap registers 64 threads: the players, the last section, and the program's own, which clears the globals.
+const MOST_PLAYERS: u32 = 62;
+
 /// How many sections play; one more shares what they play with, and adds up what they got.
 #[derive(Clone, Copy, Debug, PartialEq, Eq)]
 pub struct Plan {
@@ -19,7 +22,7 @@ pub struct Plan {
 impl Plan {
     /// A plan; few players have many turns, so that runs take about as long as each other.
     pub fn drawn<R: Rng>(rng: &mut R) -> Plan {
-        let players = rng.random_range(1u32..63);
+        let players = rng.random_range(1u32..MOST_PLAYERS + 1);
         let local_limit = match rng.random_range(0u32..3) {
             0 => 1,
             1 => 10,
