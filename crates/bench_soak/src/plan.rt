@@ -43,14 +43,19 @@ impl Plan {
     pub fn sum(&self) -> u64 {
         let turns = u64::from(self.turns);
         let of_turns = 1_000 * turns + turns * (turns + 1) / 2;
-        u64::from(self.players) * (4 * of_turns + 7) + 2_000
+        let of_player = of_turns.wrapping_mul(4).wrapping_add(7);
+        of_player
+            .wrapping_mul(u64::from(self.players))
+            .wrapping_add(2_000)
     }
 
     /// How many objects are made: by a player 9 in a turn, its first number, its gift, and the lists that it leaves; for a player 2 sums; and by
     /// the last section 5 containers, 2 numbers and 2 sums.
     pub fn births(&self) -> u64 {
         let of_player = 9 * u64::from(self.turns) + 4 + u64::from(self.left);
-        u64::from(self.players) * of_player + 9
+        of_player
+            .wrapping_mul(u64::from(self.players))
+            .wrapping_add(9)
     }
 
     /// How many of them stay.
