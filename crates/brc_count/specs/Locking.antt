@@ -13,6 +13,7 @@ use Rattle.brc_rule.specs.declared.told.Told.{Told}
 use Rattle.brc_rule.specs.declared.told.Told.TheVariants.{Did, Lost}
 use Rattle.brc_rule.specs.Logs.{entries_in}
 use Rattle.brc_rule.specs.Seen.{part_seen, taken_seen, contents_locked}
+use Rattle.law_payloads.specs.Payloads.{FindsOwn}
 use Rattle.brc_steps.specs.Taking.{AreCells}
 use Rattle.brc_table.specs.Moving.{found_locked}
 use Rattle.brc_table.specs.Shown.{contents_of}
@@ -82,7 +83,7 @@ pub record KeepsLock {A : Type 0} (old new : FrameSeen A) : Type 0 where
   pub contents : contents_locked new.seat.log ≡ contents_locked old.seat.log
 
 -- The object in the place is locked, by one event, and its block is the thread's until the unlocking, with the contents that
--- were found.
+-- were found: those that the thread put home there last, where the object is private to it.
 pub record Began {A : Type 0} (old new : FrameSeen A) (k : ℕ) (block : ℕ × Payload A) : Type 0 where
   pub cell : cell_in old k ≡ Some block.0
   pub event : new.seat.log ≡ Did (Lock k) 0 (moves.Found block.0 (contents_of block.1)) ∷ old.seat.log
@@ -90,6 +91,7 @@ pub record Began {A : Type 0} (old new : FrameSeen A) (k : ℕ) (block : ℕ × 
   pub locks_place : place_locked new ≡ Some k
   pub locks_cell : cell_locked new ≡ Some block.0
   pub found : contents_found new ≡ contents_of block.1
+  pub own : FindsOwn old.heap.cells old.seat.log block.0 (contents_of block.1)
 
 -- The object in the place was found locked, by the number of its mutex word, and nothing was done.
 pub record Busy {A : Type 0} (old new : FrameSeen A) (k : ℕ) : Type 0 where

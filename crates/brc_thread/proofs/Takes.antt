@@ -42,6 +42,7 @@ module _ {A : Type 0} where
           locks_place = began.locks_place;
           locks_cell = began.locks_cell;
           found = began.found;
+          own = began.own;
         };
         keeps = record { heap = keeps.heap; thread = keeps.thread; stage = keeps.stage; popped = keeps.popped; works = keeps.works };
         places = frame.places;
@@ -75,6 +76,7 @@ module _ {A : Type 0} where
           cell = block.0;
           of_place = was.began.cell;
           events = ended.event ∙ ap (λ log. Did (Unlock (Take index given.place)) 0 (moves.Put block.0 (contents_of left)) ∷ log) was.began.event;
+          own = was.began.own;
           unlocked = ended.unlocked;
           keeps = thread_kept_on was.keeps ended.keeps;
         });
