@@ -1,5 +1,7 @@
 //! A writer of which the first error ends what is written.
 
+ghost use Rattle.std.specs.Prelude.{◌≡◌, Ok, IfOk};
+
 use std::io;
 use std::io::{Error, ErrorKind, Write};
 
@@ -12,7 +14,9 @@ pub(crate) struct Firm<'a, W> {
 }
 
 /// An interruption as an error that ends what is written.
-fn firmly<T>(done: io::Result<T>) -> io::Result<T> {
+fn firmly<T>(done: io::Result<T>) -> io::Result<T>
+    ensures same { IfOk result (λ value. done ≡ Ok value) }
+{
     match done {
         Err(error) if error.kind() == ErrorKind::Interrupted => {
             Err(Error::from(ErrorKind::Other))

@@ -336,8 +336,8 @@ fn pairs_stay<A: Allocator + Copy>(rt: &impl Abort, pairs: &mut Pairs<A>) {
     same(
         rt,
         "its length",
-        pairs.len() as u32,
-        refused.saturating_sub(266),
+        pairs.len(),
+        refused.saturating_sub(266) as usize,
     );
     same(rt, "where it was", pairs.find(&Key::Int(267)), Some(1));
     pops_pair(rt, pairs, refused.saturating_sub(1));
