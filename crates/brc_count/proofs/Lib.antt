@@ -3,6 +3,7 @@ pub mod Changes
 mod Framings
 mod Locks
 mod Locked_Entries
+pub mod Keys_Shown
 mod Popping
 mod Leaving
 mod Bearing

@@ -7,10 +7,12 @@ use Rattle.brc_runs.specs.declared.event.Step.TheVariants.{Lock, Unlock}
 use Rattle.brc_known.specs.declared.word.Field.TheVariants.{Mutex}
 use Rattle.brc_known.specs.declared.word.Word.TheVariants.{Of}
 use Rattle.brc_known.specs.Taken.{listed_at}
+use Rattle.brc_rule.specs.declared.contents.PlainKey.{PlainKey}
 use Rattle.brc_rule.specs.declared.contents.Contents.{Contents}
 use Rattle.brc_rule.specs.declared.told.Moved.TheVariants as moves
 use Rattle.brc_rule.specs.declared.told.Told.{Told}
 use Rattle.brc_rule.specs.declared.told.Told.TheVariants.{Did, Lost}
+use Rattle.brc_rule.specs.Keys.{keys_in}
 use Rattle.brc_rule.specs.Logs.{entries_in}
 use Rattle.brc_rule.specs.Seen.{part_seen, taken_seen, contents_locked}
 use Rattle.law_payloads.specs.Payloads.{FindsOwn}
@@ -43,7 +45,7 @@ module _ {A : Type 0} where
   abbrev pub place_locked : FrameSeen A → Option ℕ
   place_locked frame = locked_place frame.heap.cells frame.seat.log
 
-  -- the locked object's cell; what its locking found; and which entries
+  -- the locked object's cell; what its locking found; which entries; and which keys
   abbrev pub cell_locked : FrameSeen A → Option ℕ
   cell_locked frame = lock_seen frame.heap.cells frame.seat.log
 
@@ -52,6 +54,9 @@ module _ {A : Type 0} where
 
   abbrev pub entries_found : FrameSeen A → List ℕ
   entries_found frame = entries_in (contents_found frame)
+
+  abbrev pub keys_found : FrameSeen A → List PlainKey
+  keys_found frame = keys_in (contents_found frame)
 
 -- ---- what calls do
 

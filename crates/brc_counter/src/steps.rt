@@ -97,7 +97,7 @@ impl<H: Home<A>, A: Allocator> Counter<H, A> {
         self.heap.table().lock(&mut self.seat, place, cell)
     }
 
-    /// Unlocks the object whose block this is, with the entries that the change makes of those found.
+    /// Unlocks the object whose block this is, with the entries and the keys that the change makes of those found.
     #[inline(always)]
     pub fn unlock(&mut self, block: Block<A>, change: Change)
         requires inside { block.0 < self.old.heap.cells }

@@ -33,6 +33,7 @@ use Rattle.brc_rule.specs.declared.told.Told.{Told}
 use Rattle.brc_rule.specs.declared.told.Told.TheVariants.{Did, Lost}
 use Rattle.brc_rule.specs.declared.view.View.{View}
 use Rattle.brc_rule.specs.Layout.{spot}
+use Rattle.brc_rule.specs.Keys.{KeysGo}
 use Rattle.brc_rule.specs.Logs.{kind_in, entries_in, Run, own_of, world, contents_at, takes_of}
 use Rattle.brc_rule.specs.Homes.{LiesThere}
 use Rattle.brc_rule.specs.Rule.{with_told, Kept}
@@ -206,6 +207,7 @@ module _ {B : Type 0} (shows : B → ℕ × Contents) (n limit : ℕ) where
           kind = unlocks.same_kind ∙ kind_is ∙ sym (ap (λ (y : Cell). y.kind) now) ∙ sym (ap (λ z. (cell_at z c).kind) on_cell);
           entries = unlocks.entries ∙ ap (λ (f : List (Option ℕ)). entries_changed change f (entries_in found)) (sym known.part.frame_is) ∙ ap (entries_changed change (frame_at h t)) entries_are
               ∙ sym (changed_entries h t c change (omega (arith, sound.shaped.entries, cell.low))) ∙ sym (ap (λ z. entries_at z c) on_cell);
+          keys = subst (λ f. KeysGo change f p) there unlocks.keys;
           kept = λ keep. kept_there change keep unlocks.kept ∙ there;
         };
         elsewhere = λ d other. ap (λ b. if b then p else contents_at r.run d) (ne_eqb c d (λ e. other (sym e)));

@@ -61,7 +61,7 @@ impl<A: Allocator> HeapTable<A> {
         }
     }
 
-    /// Unlock: the block goes home, with the entries that the change makes of those found.
+    /// Unlock: the block goes home, with the entries and the keys that the change makes of those found.
     #[inline(always)]
     pub fn unlock(&self, seat: &mut ThreadSeat<A>, block: Block<A>, change: Change)
         requires table { seat.old.table ≡ self.now.table }

@@ -1,4 +1,4 @@
-use Rattle.std.proofs.Common.{◌∙◌, ◌^◌, ◌-◌, sym, ap, subst, false}
+use Rattle.std.proofs.Common.{◌∙◌, sym, ap, subst, false}
 use Rattle.brc_block.specs.Blocks.{front_cell, front_entries}
 use Rattle.brc_runs.specs.declared.event.Dropped.TheVariants as drops
 use Rattle.brc_counter.specs.Standing.{Holds}
