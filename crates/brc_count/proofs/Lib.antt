@@ -7,3 +7,4 @@ mod Popping
 mod Leaving
 mod Bearing
 pub mod Owning
+mod Unasked

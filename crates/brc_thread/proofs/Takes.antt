@@ -43,7 +43,15 @@ module _ {A : Type 0} where
           locks_cell = began.locks_cell;
           found = began.found;
         };
-        keeps = record { heap = keeps.heap; thread = keeps.thread; stage = keeps.stage; popped = keeps.popped; works = keeps.works };
+        keeps = record {
+          heap = keeps.heap;
+          thread = keeps.thread;
+          stage = keeps.stage;
+          popped = keeps.popped;
+          works = keeps.works;
+          from = keeps.from;
+          near = keeps.near;
+        };
         places = frame.places;
       })
 
