@@ -8,3 +8,4 @@ mod Popping
 mod Leaving
 mod Bearing
 pub mod Owning
+mod Unasked

@@ -60,13 +60,16 @@ module _ {A : Type 0} where
 
 -- ---- what calls do
 
--- Locking and unlocking leave this as it is: the heap, the thread and its stage, its popped entries, and the dead blocks.
+-- Locking and unlocking leave this as it is: the heap, the thread and its stage, its popped entries, the dead blocks, and where
+-- claims begin.
 pub record KeepsThread {A : Type 0} (old new : FrameSeen A) : Type 0 where
   pub heap : new.heap ≡ old.heap
   pub thread : new.seat.thread ≡ old.seat.thread
   pub stage : (part_seen new.heap.cells new.seat.log).row.stage ≡ (part_seen old.heap.cells old.seat.log).row.stage
   pub popped : popped_seen new ≡ popped_seen old
   pub works : new.works ≡ old.works
+  pub from : new.from ≡ old.from
+  pub near : new.near ≡ old.near
 
 -- every place has what it had, and the next one is the same
 pub record KeepsFrame {A : Type 0} (old new : FrameSeen A) : Type 0 where

@@ -58,6 +58,8 @@ module _ {A : Type 0} where
       stage = was.keeps.stage;
       popped = was.keeps.popped;
       works = was.keeps.works;
+      from = was.keeps.from;
+      near = was.keeps.near;
     };
     places = record { places = was.places.places; len = was.places.len; next = was.places.next };
   }
