@@ -12,6 +12,7 @@ use brc_known::{Field, Word};
 use brc_runs::words_for;
 
 /// The first word after the counts.
+#[inline(always)]
 pub(crate) fn owners_from(cells: u32) -> usize
     requires { cells ≤ MOST_CELLS }
     ensures { result ≡ owners_begin cells }
@@ -20,6 +21,7 @@ pub(crate) fn owners_from(cells: u32) -> usize
 }
 
 /// The first word after the owner words that begins a line.
+#[inline(always)]
 pub(crate) fn free_from(cells: u32) -> usize
     requires { cells ≤ MOST_CELLS }
     ensures { result ≡ free_begin cells }
@@ -28,6 +30,7 @@ pub(crate) fn free_from(cells: u32) -> usize
 }
 
 /// How many free words the table has.
+#[inline(always)]
 pub(crate) fn free_words_for(cells: u32) -> u32
     requires { cells ≤ MOST_CELLS }
     ensures { result ≡ free_words cells }
@@ -36,6 +39,7 @@ pub(crate) fn free_words_for(cells: u32) -> u32
 }
 
 /// The first word after the free words that begins a line.
+#[inline(always)]
 fn queues_from(cells: u32) -> usize
     requires { cells ≤ MOST_CELLS }
     ensures { result ≡ queues_begin cells }
@@ -44,6 +48,7 @@ fn queues_from(cells: u32) -> usize
 }
 
 /// The first word after the queue words.
+#[inline(always)]
 fn notify_from(cells: u32) -> usize
     requires { cells ≤ MOST_CELLS }
     ensures { result ≡ notify_begin cells }
@@ -60,6 +65,7 @@ pub(crate) fn extent(cells: u32) -> usize
 }
 
 /// Where a word lies.
+#[inline(always)]
 pub(crate) fn spot_of(cells: u32, word: Word) -> usize
     requires few { cells ≤ MOST_CELLS }
     requires inside { IsWord cells word }
@@ -80,6 +86,7 @@ pub(crate) fn spot_of(cells: u32, word: Word) -> usize
 }
 
 /// The number with this bit alone.
+#[inline(always)]
 pub(crate) fn bit(at: u32) -> u64
     requires { at < 64 }
     ensures { result ≡ 2 ^ at }
@@ -88,6 +95,7 @@ pub(crate) fn bit(at: u32) -> u64
 }
 
 /// The number with all bits but this one.
+#[inline(always)]
 pub(crate) fn all_but(at: u32) -> u64
     requires { at < 64 }
     ensures { result ≡ 2 ^ 64 - 1 - 2 ^ at }
@@ -96,6 +104,7 @@ pub(crate) fn all_but(at: u32) -> u64
 }
 
 /// Whether the number has this bit.
+#[inline(always)]
 pub(crate) fn has_bit(number: u64, at: u32) -> bool
     requires { at < 64 }
     ensures { result ≡ (bit_at number at == 1) }
