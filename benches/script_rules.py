@@ -129,9 +129,9 @@ def bad_line(text):
             bad.append(at)
     if repeat is not None:
         bad.append(repeat)
-    if bad:
-        return min(bad)
-    return None if names else 1
+    if not names:
+        return 1
+    return min(bad) if bad else None
 
 
 def section_names(text):

@@ -3,6 +3,9 @@
 use rand::RngExt;
 use rand_core::Rng;
 
+/// A heap registers 64 threads: the players, the last section, and the program's own, which clears the globals.
+const MOST_PLAYERS: u32 = 62;
+
 /// How many sections play; one more shares what they play with, and adds up what they got.
 #[derive(Clone, Copy, Debug, PartialEq, Eq)]
 pub struct Plan {
@@ -19,7 +22,7 @@ pub struct Plan {
 impl Plan {
     /// A plan; few players have many turns, so that runs take about as long as each other.
     pub fn drawn<R: Rng>(rng: &mut R) -> Plan {
-        let players = rng.random_range(1u32..63);
+        let players = rng.random_range(1u32..MOST_PLAYERS + 1);
         let local_limit = match rng.random_range(0u32..3) {
             0 => 1,
             1 => 10,
@@ -40,14 +43,19 @@ impl Plan {
     pub fn sum(&self) -> u64 {
         let turns = u64::from(self.turns);
         let of_turns = 1_000 * turns + turns * (turns + 1) / 2;
-        u64::from(self.players) * (4 * of_turns + 7) + 2_000
+        let of_player = of_turns.wrapping_mul(4).wrapping_add(7);
+        of_player
+            .wrapping_mul(u64::from(self.players))
+            .wrapping_add(2_000)
     }
 
     /// How many objects are made: by a player 9 in a turn, its first number, its gift, and the lists that it leaves; for a player 2 sums; and by
     /// the last section 5 containers, 2 numbers and 2 sums.
     pub fn births(&self) -> u64 {
         let of_player = 9 * u64::from(self.turns) + 4 + u64::from(self.left);
-        u64::from(self.players) * of_player + 9
+        of_player
+            .wrapping_mul(u64::from(self.players))
+            .wrapping_add(9)
     }
 
     /// How many of them stay.

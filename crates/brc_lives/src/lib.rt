@@ -11,9 +11,9 @@ mod sums;
 pub use sums::comes_out;
 
 #[cfg(test)]
-mod client;
+mod chains;
 #[cfg(test)]
-mod deaths;
+mod client;
 #[cfg(test)]
 mod ends;
 #[cfg(test)]
@@ -34,6 +34,8 @@ mod makers;
 mod many;
 #[cfg(test)]
 mod memory;
+#[cfg(test)]
+mod opening;
 #[cfg(test)]
 mod phases;
 #[cfg(test)]

@@ -12,7 +12,7 @@ use crate::phases::{entered, leaves, opened, says};
 use crate::things::a_none;
 use brc_count::{Frame, Handed, Handle};
 use brc_counter::Home;
-use brc_things::{new_int, new_list, new_text, none};
+use brc_things::{new_dict, new_int, new_list, new_mailbox, new_text, none, truth};
 use brc_words::{Fault, Text};
 use linked_list_allocator::LocalHeap;
 use std::alloc::{Allocator, Global};
@@ -23,9 +23,12 @@ use std::process::Abort;
 enum Call {
     Retain,
     Immortal,
+    Truth,
     Int,
     Text,
     List,
+    Dict,
+    Mailbox,
 }
 
 /// A new text; where it is refused it is handed back as it was.
@@ -74,9 +77,12 @@ fn make<H: Home<A>, A: Allocator + Copy>(
     match call {
         Call::Retain => frame.retain(first),
         Call::Immortal => none(frame),
+        Call::Truth => truth(frame, true),
         Call::Int => new_int(memories.scarce, frame, 257),
         Call::Text => text_of(rt, memories.scarce, frame, some_text(rt, memories.ample)),
         Call::List => new_list(memories.scarce, frame),
+        Call::Dict => new_dict(memories.scarce, frame),
+        Call::Mailbox => new_mailbox(memories.scarce, frame),
     }
 }
 
@@ -224,9 +230,12 @@ fn a_refused_growth_changes_nothing(rt: HostRuntime) {
     let cases = [
         (Call::Retain, 0, 0),
         (Call::Immortal, 0, 0),
+        (Call::Truth, 2, 0),
         (Call::Int, 266, 1),
         (Call::Text, 266, 1),
         (Call::List, 266, 1),
+        (Call::Dict, 266, 1),
+        (Call::Mailbox, 266, 1),
     ];
     for (call, cell, births) in cases {
         let ample = a_heap(&rt, rt.alloc(), 1 << 20);
@@ -236,5 +245,6 @@ fn a_refused_growth_changes_nothing(rt: HostRuntime) {
             scarce: &scarce,
         };
         is_refused_in_turn(&rt, rt.alloc(), memories, call, cell, births);
+        assert_eq!(rt; (ample.used(), scarce.used()), (0, 0));
     }
 }

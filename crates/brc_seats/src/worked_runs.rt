@@ -11,7 +11,6 @@ use crate::ends::end_all;
 use crate::helpers::{
     alive, bare, ends, gone, locked_bare, locked_with, opened, opened_for_two, with_one,
 };
-use crate::leaving::closes_all;
 use crate::parts::{
     counts_what_is_shared, keeps_and_shares_a_list, makes_a_list, merges_at_zero, shares_a_list,
     shares_both_references, takes_back, takes_the_first, takes_what_is_shared,
@@ -266,93 +265,6 @@ fn counts_go_below_zero(rt: HostRuntime) {
     ends(&rt, table, root);
 }
 
-/// The owner has left when the asker would enqueue.
-fn asks_one_that_left(
-    rt: &impl Abort,
-    alloc: Global,
-    table: &HeapTable<Global>,
-    one: &mut ThreadSeat<Global>,
-    two: &mut ThreadSeat<Global>,
-)
-    requires table { (one.old.table ≡ table.now.table) × (two.old.table ≡ table.now.table) }
-    requires cells { table.now.cells ≡ 512 }
-    requires first { (one.old.log ≡ []) × (one.old.slots ≡ []) }
-    requires second { (two.old.log ≡ []) × (two.old.slots ≡ []) }
-{
-    shares_a_list(rt, alloc, table, one);
-    takes_what_is_shared(rt, alloc, table, two, 1);
-    let _found = table.immortal_down(one, Dropped::Frame(1), 265);
-    is(
-        rt,
-        table.ask(two, Dropped::Frame(1), 266),
-        4_398_046_511_104,
-    );
-    closes_all(rt, table, one, 0);
-
-    // The asker meets a closed word, merges in the owner's place, and has the last reference in its hand.
-    is(rt, table.load_owner(two, 266), 1);
-    is(rt, table.enqueue(two, 266, 1), 9_223_372_036_854_775_808);
-    is(rt, table.load_owner(two, 266), 1);
-    table.untie_shut(two, 266, 1);
-    is(rt, table.load_local(two, 266), 1);
-    is(rt, table.merge_add(two, 266, 1), 4_398_046_511_106);
-    let Found { number, block } = table.last_held(two, 266);
-    is(rt, number, 4_398_046_511_111);
-    gone(rt, table, two, block, 266);
-}
-
-#[test]
-fn orphan_is_adopted(rt: HostRuntime) {
-    let ((table, root), (one, two)) = opened_for_two(&rt, rt.alloc());
-    let (mut one, mut two) = (one, two);
-    asks_one_that_left(&rt, rt.alloc(), &table, &mut one, &mut two);
-    drop(one);
-    drop(two);
-    ends(&rt, table, root);
-}
-
-#[test]
-fn a_thread_leaves_and_is_gathered(rt: HostRuntime) {
-    let (table, root) = opened(&rt, rt.alloc(), 4_294_967_294);
-    let mut root = root;
-    let mut one = table.split(&mut root);
-    closes_all(&rt, &table, &mut one, 0);
-    table.join(&mut root, one);
-    assert_eq!(rt; root.next(), 2);
-    ends(&rt, table, root);
-}
-
-#[test]
-fn a_thread_leaves_with_an_entry(rt: HostRuntime) {
-    let (table, root) = opened(&rt, rt.alloc(), 4_294_967_294);
-    let mut root = root;
-    let mut one = table.split(&mut root);
-    let mut two = table.split(&mut root);
-    shares_a_list(&rt, rt.alloc(), &table, &mut one);
-    takes_what_is_shared(&rt, rt.alloc(), &table, &mut two, 1);
-    let _found = table.immortal_down(&mut one, Dropped::Frame(1), 265);
-    is(
-        &rt,
-        table.ask(&mut two, Dropped::Frame(1), 266),
-        4_398_046_511_104,
-    );
-    is(&rt, table.load_owner(&mut two, 266), 1);
-    is(&rt, table.enqueue(&mut two, 266, 1), 0);
-
-    // The owner leaves, and finds the entry in its queue's word; it merges, and the entry is the last reference.
-    closes_all(&rt, &table, &mut one, 1_024);
-    is(&rt, table.load_shared(&mut one, 266), 4_398_046_511_106);
-    table.untie_popped(&mut one, 266, 4_398_046_511_106);
-    is(&rt, table.load_local(&mut one, 266), 1);
-    is(&rt, table.merge_add(&mut one, 266, 1), 4_398_046_511_106);
-    let Found { number, block } = table.last_added(&mut one, 266);
-    is(&rt, number, 4_398_046_511_111);
-    gone(&rt, &table, &mut one, block, 266);
-    table.join(&mut root, one);
-    drop(two);
-    ends(&rt, table, root);
-}
-
 /// At its limit the owner counts in the shared word, and at count 0 it merges.
 fn counts_in_the_shared_word(
     rt: &impl Abort,
@@ -424,6 +336,44 @@ fn an_exchange_is_lost(rt: HostRuntime) {
     let ((table, root), (one, two)) = opened_for_two(&rt, rt.alloc());
     let (mut one, mut two) = (one, two);
     loses_an_exchange(&rt, rt.alloc(), &table, &mut one, &mut two);
+    drop(one);
+    drop(two);
+
+    // The list is still there.
+    assert_eq!(rt; end_all(&rt, table.take_apart(root)), 267);
+}
+
+/// The second has counted the list up three times, and asks where the count is above zero, as one does that lost an exchange.
+fn asks_above_zero(
+    rt: &impl Abort,
+    alloc: Global,
+    table: &HeapTable<Global>,
+    one: &mut ThreadSeat<Global>,
+    two: &mut ThreadSeat<Global>,
+)
+    requires table { (one.old.table ≡ table.now.table) × (two.old.table ≡ table.now.table) }
+    requires cells { table.now.cells ≡ 512 }
+    requires first { (one.old.log ≡ []) × (one.old.slots ≡ []) }
+    requires second { (two.old.log ≡ []) × (two.old.slots ≡ []) }
+{
+    shares_a_list(rt, alloc, table, one);
+    counts_what_is_shared(rt, table, two);
+    let found = table.shared_up(two, Source::Frame(1), 2, 266);
+    is(rt, found, 4_398_046_511_108);
+    let found = table.shared_up(two, Source::Frame(1), 3, 266);
+    is(rt, found, 4_398_046_511_112);
+    let found = table.ask(two, Dropped::Frame(1), 266);
+    is(rt, found, 4_398_046_511_116);
+    is(rt, table.load_owner(two, 266), 1);
+    is(rt, table.enqueue(two, 266, 1), 0);
+    is(rt, table.load_shared(one, 266), 4_398_046_511_118);
+}
+
+#[test]
+fn a_counted_object_is_asked_for(rt: HostRuntime) {
+    let ((table, root), (one, two)) = opened_for_two(&rt, rt.alloc());
+    let (mut one, mut two) = (one, two);
+    asks_above_zero(&rt, rt.alloc(), &table, &mut one, &mut two);
     drop(one);
     drop(two);
 

@@ -12,7 +12,7 @@ use brc_count::{Frame, Handed, Handle};
 use brc_counter::Home;
 use brc_dicts::{dict_del, dict_find, dict_put, try_dict_del, try_dict_find, try_dict_put};
 use brc_lists::{
-    list_get, list_pop, list_push, list_take, recv, send, try_list_get, try_list_pop,
+    list_get, list_pop, list_push, list_set, list_take, recv, send, try_list_get, try_list_pop,
     try_list_push, try_list_set, try_list_take, try_recv, try_send,
 };
 use brc_words::{Fault, Key};
@@ -58,6 +58,7 @@ pub(crate) enum Getting {
 /// A call that puts a value in an entry's place, and answers the entry.
 #[derive(Clone, Copy)]
 pub(crate) enum Exchanging {
+    Set(u32),
     TrySet(u32),
     /// In a list, by a guard.
     Swap(u32, Way),
@@ -297,6 +298,10 @@ pub(crate) fn exchanges<R: Abort + Wait, H: Home<A>, A: Allocator>(
     ensures same { result ≡ value }
 {
     match exchanging {
+        Exchanging::Set(index) => match list_set(rt, frame, container, index, value) {
+            Ok(old) => old,
+            Err(_handed) => panic!(rt; "an exchange is refused"),
+        },
         Exchanging::TrySet(index) => match try_list_set(frame, container, index, value) {
             Ok(old) => old,
             Err(_handed) => panic!(rt; "an exchange that doesn't wait is refused"),

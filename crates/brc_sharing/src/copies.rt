@@ -1,13 +1,15 @@
-//! A copy refused for want of memory, of a text or of a dictionary's key: the frame and the object are as before, and with memory the
-//! copy is had. Memory is all taken at first, and comes back a piece at a time.
+//! A copy refused for want of memory, of a text or of a dictionary's key, or the place of the value beside it: the frame and the object
+//! are as before, and with memory the copy is had. Memory is all taken at first, with the frame's places, and comes back a piece at a
+//! time.
 
+ghost use Rattle.std.specs.Prelude.{◌≡◌};
 ghost use Rattle.brc_count.specs.Frames.{IsUnlocked, Owns};
-ghost use Rattle.brc_count.specs.Owned.{Keeps, Gains};
+ghost use Rattle.brc_count.specs.Owned.{Keeps, Gains, GoesOn};
 
 use crate::guards::Way;
 use crate::memory::Pieces;
 use crate::objects::{Thing, a_text, made};
-use crate::refused::a_none;
+use crate::refused::{a_none, fills_places, give_all_back};
 use brc_containers::{text_into, text_of, try_text_into, try_text_of};
 use brc_count::{Frame, Handle};
 use brc_counter::Home;
@@ -217,6 +219,7 @@ fn copies_with_memory<'h, R: Abort + Wait, H: Home<&'h LocalHeap>>(
     ensures keeps { Keeps frame.old frame.new }
     ensures unlocked { IsUnlocked frame.new }
 {
+    let handles = frame.len();
     for tried in 0..1_000 {
         match copied(rt, scarce, frame, object, copying, way) {
             Ok(is_right) => {
@@ -225,7 +228,7 @@ fn copies_with_memory<'h, R: Abort + Wait, H: Home<&'h LocalHeap>>(
             }
             Err(fault) => assert_eq!(rt; fault, Fault::OutOfMemory),
         }
-        assert_eq!(rt; frame.len(), 1);
+        assert_eq!(rt; frame.len(), handles);
         pieces.give_one(rt);
     }
     panic!(rt; "the copy is never had")
@@ -242,11 +245,15 @@ pub(crate) fn refuses_a_copy<'h, R: Abort + Wait, H: Home<&'h LocalHeap>>(
     way: Way,
 )
     requires unlocked { IsUnlocked frame.old }
-    ensures keeps { Keeps frame.old frame.new }
-    ensures unlocked { IsUnlocked frame.new }
+    ensures goes_on { GoesOn frame.old frame.new }
+    ensures bare { frame.new.len ≡ 0 }
 {
     let object = an_object(rt, ample, frame, copying);
+    let mut handles = Vec::new(alloc);
     let mut pieces = Pieces::take_all(rt, alloc, scarce);
+    fills_places(rt, frame, &mut handles);
     copies_with_memory(rt, scarce, &mut pieces, frame, &object, copying, way);
     frame.release(object);
+    give_all_back(rt, frame, handles);
+    assert_eq!(rt; frame.len(), 0);
 }

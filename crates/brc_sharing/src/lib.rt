@@ -17,6 +17,8 @@ mod busy;
 #[cfg(test)]
 mod calls;
 #[cfg(test)]
+mod clearing;
+#[cfg(test)]
 mod copies;
 #[cfg(test)]
 mod departing;
@@ -30,5 +32,7 @@ mod memory;
 mod objects;
 #[cfg(test)]
 mod refused;
+#[cfg(test)]
+mod starving;
 #[cfg(test)]
 mod threads;

@@ -41,6 +41,7 @@ pub(crate) fn a_none<H: Home<A>, A: Allocator>(
 fn with_key(giving: Giving, key: u32) -> Giving {
     match giving {
         Giving::Put(_) => Giving::Put(key as i64),
+        Giving::TryPut(_) => Giving::TryPut(key as i64),
         other => other,
     }
 }
@@ -119,7 +120,7 @@ fn puts_with_memory<'h, R: Abort + Wait, H: Home<&'h LocalHeap>>(
 }
 
 /// References to None until there is no memory for one more place.
-fn fills_places<H: Home<A>, A: Allocator, B: Allocator>(
+pub(crate) fn fills_places<H: Home<A>, A: Allocator, B: Allocator>(
     rt: &impl Abort,
     frame: &mut Frame<H, A>,
     handles: &mut Vec<Handle<A>, B>,
@@ -158,7 +159,11 @@ fn keep<A: Allocator, B: Allocator>(
 }
 
 /// A reference goes. Of what a vector has, proofs know the heap alone, so whether the frame owns it is looked at.
-fn give_back<H: Home<A>, A: Allocator>(rt: &impl Abort, frame: &mut Frame<H, A>, handle: Handle<A>)
+pub(crate) fn give_back<H: Home<A>, A: Allocator>(
+    rt: &impl Abort,
+    frame: &mut Frame<H, A>,
+    handle: Handle<A>,
+)
     requires at_heap { handle.heap ≡ frame.old.heap }
     requires unlocked { IsUnlocked frame.old }
     ensures { GoesOn frame.old frame.new }
@@ -168,7 +173,7 @@ fn give_back<H: Home<A>, A: Allocator>(rt: &impl Abort, frame: &mut Frame<H, A>,
 }
 
 /// All references that are kept go, the last one first.
-fn give_all_back<H: Home<A>, A: Allocator, B: Allocator>(
+pub(crate) fn give_all_back<H: Home<A>, A: Allocator, B: Allocator>(
     rt: &impl Abort,
     frame: &mut Frame<H, A>,
     handles: Vec<Handle<A>, B>,
@@ -226,9 +231,9 @@ fn container_for(giving: Giving) -> Thing {
 /// The call that puts into the container that this one is for.
 fn putting(getting: Getting) -> Giving {
     match getting {
-        Getting::Recv => Giving::Send,
-        Getting::Find(key) => Giving::Put(key),
-        Getting::Del(key) => Giving::Put(key),
+        Getting::Recv | Getting::TryRecv => Giving::Send,
+        Getting::Find(key) | Getting::TryFind(key) => Giving::Put(key),
+        Getting::Del(key) | Getting::TryDel(key) => Giving::Put(key),
         _ => Giving::Push,
     }
 }
@@ -313,7 +318,7 @@ enum Wanted {
     Copy(Copying, Way),
 }
 
-/// One thread wants it, on a heap of its own. Where a place is wanted the thread's places are of scarce memory.
+/// One thread wants it, on a heap of its own. Its places are of scarce memory.
 fn wants_on_a_heap<'h, R: Abort + Wait>(
     rt: &R,
     alloc: Global,
@@ -323,11 +328,7 @@ fn wants_on_a_heap<'h, R: Abort + Wait>(
 ) {
     let (heap, root) = a_heap(rt, ample, 512);
     let mut root = root;
-    let places = match wanted {
-        Wanted::Place(_) => scarce,
-        Wanted::Copy(_, _) => ample,
-    };
-    let mut thread = a_thread(rt, places, &heap, &mut root);
+    let mut thread = a_thread(rt, scarce, &heap, &mut root);
     wants(rt, alloc, ample, scarce, thread.frame(), wanted);
     let ledger = thread.end(rt, &mut root, &heap);
     assert_eq!(rt; (ledger.allocs, ledger.frees), (1, 1));
@@ -362,19 +363,25 @@ fn is_wanted<R: Abort + Wait>(rt: &R, alloc: Global, bytes: usize, wanted: Wante
     let ample = a_local_heap(rt, alloc, 1 << 20);
     let scarce = a_local_heap(rt, alloc, bytes);
     wants_on_a_heap(rt, alloc, &ample, &scarce, wanted);
+    assert_eq!(rt; (ample.used(), scarce.used()), (0, 0));
 }
 
 #[test]
 fn a_refused_entry_changes_nothing(rt: HostRuntime) {
     for giving in [
         Giving::Push,
+        Giving::TryPush,
         Giving::Send,
+        Giving::TrySend,
         Giving::Put(0),
+        Giving::TryPut(0),
         Giving::Room(Way::Late),
+        Giving::Room(Way::AtOnce),
     ] {
         let ample = a_local_heap(&rt, rt.alloc(), 1 << 20);
         let scarce = a_local_heap(&rt, rt.alloc(), 1 << 14);
         puts_on_a_heap(&rt, rt.alloc(), &ample, &scarce, giving);
+        assert_eq!(rt; (ample.used(), scarce.used()), (0, 0));
     }
 }
 
@@ -382,12 +389,20 @@ fn a_refused_entry_changes_nothing(rt: HostRuntime) {
 fn a_refused_place_changes_nothing(rt: HostRuntime) {
     for getting in [
         Getting::Pop,
+        Getting::TryPop,
         Getting::Get(0),
+        Getting::TryGet(0),
+        Getting::TakeAt(0),
         Getting::TryTakeAt(0),
         Getting::Recv,
+        Getting::TryRecv,
         Getting::Find(0),
+        Getting::TryFind(0),
         Getting::Del(0),
+        Getting::TryDel(0),
         Getting::Entry(0, Way::AtOnce),
+        Getting::Entry(0, Way::Late),
+        Getting::Take(0, Way::AtOnce),
         Getting::Take(0, Way::Late),
     ] {
         is_wanted(&rt, rt.alloc(), 1 << 16, Wanted::Place(getting));
@@ -398,7 +413,7 @@ fn a_refused_place_changes_nothing(rt: HostRuntime) {
 fn a_refused_copy_changes_nothing(rt: HostRuntime) {
     for copying in [Copying::Text, Copying::Into, Copying::Key, Copying::Pair] {
         for way in [Way::AtOnce, Way::Late] {
-            is_wanted(&rt, rt.alloc(), 1 << 12, Wanted::Copy(copying, way));
+            is_wanted(&rt, rt.alloc(), 1 << 15, Wanted::Copy(copying, way));
         }
     }
 }

@@ -349,16 +349,17 @@ fn two_sections_leave_at_the_same_time(rt: HostRuntime) -> Result<(), Fail> {
     Ok(())
 }
 
-/// Sixty-three sections find one list and let it go, a hundred times each; the first of them made it. One more thread clears the globals.
+/// Sixty-three sections find one list and let it go, a hundred times each; the first of them made it. The 64th thread clears the globals.
 #[test]
 fn all_find_one_list(rt: HostRuntime) -> Result<(), Fail> {
     let mut script = String::new(rt.alloc());
-    script.push_str("section s0\nlist r0\nshare box r0\n")?;
-    for section in 1..63 {
-        let finds = format!(in rt.alloc();
-            "section s{section}\nrepeat 100\nfetch r0 box\ndrop r0\nend\n"
-        )?;
-        script.push_str(finds.as_str())?;
+    for section in 0..63 {
+        let begins = format!(in rt.alloc(); "section s{section}\n")?;
+        script.push_str(begins.as_str())?;
+        if section == 0 {
+            script.push_str("list r0\nshare box r0\n")?;
+        }
+        script.push_str("repeat 100\nfetch r0 box\ndrop r0\nend\n")?;
     }
     let found = ran(&rt, "brc run --cells 512", script.as_str(), 0, "")?;
     same(&rt, "one list", found.as_slice(), "ledger 1 1 0\n");
@@ -400,22 +401,27 @@ fn deep_and_wide(rt: HostRuntime) -> Result<(), Fail> {
     Ok(())
 }
 
-/// A list gets as many entries as it may have, 1,048,576, and takes no more.
+/// A list gets as many entries as it may have, 1,048,576, and takes no more: the last turn of a loop is one too many, or the instruction
+/// behind it.
 #[test]
 fn a_full_list_takes_no_entry(rt: HostRuntime) -> Result<(), Fail> {
-    let found = ran(
-        &rt,
-        "brc run",
-        "section a\nlist r0\nrepeat 1000000\nint r1 1\npush r0 r1\nend\nrepeat 48576\nint r1 1\npush r0 r1\nend\nprint r0\nint r1 1\npush r0 r1\n",
-        4,
-        "",
-    )?;
-    same(
-        &rt,
-        "a full list",
-        found.as_slice(),
-        "a: list 1048576\na: fault 8 Full line 13\nledger 1 1 0\n",
-    );
+    const FILLS: &str = "section a\nlist r0\nrepeat 1000000\nint r1 1\npush r0 r1\nend\n";
+    const CASES: &[(&str, &str)] = &[
+        (
+            "repeat 48577\nint r1 1\npush r0 r1\nend\n",
+            "a: fault 8 Full line 9\nledger 1 1 0\n",
+        ),
+        (
+            "repeat 48576\nint r1 1\npush r0 r1\nend\nprint r0\nint r1 1\npush r0 r1\n",
+            "a: list 1048576\na: fault 8 Full line 13\nledger 1 1 0\n",
+        ),
+    ];
+    for &(goes_on, output) in CASES {
+        let mut script = String::from_str(rt.alloc(), FILLS)?;
+        script.push_str(goes_on)?;
+        let found = ran(&rt, "brc run", script.as_str(), 4, "")?;
+        same(&rt, goes_on, found.as_slice(), output);
+    }
     Ok(())
 }
 

@@ -5,6 +5,7 @@ use std::alloc::{AllocGlobal, Global};
 use std::io::{self, Error, ErrorKind, Read, Write};
 use std::process::Abort;
 use std::sync::Wait;
+use std::sync::atomic::{AtomicU64, Ordering};
 use std::test::*;
 use std::thread::Threads;
 
@@ -342,6 +343,35 @@ fn help_that_cannot_be_written(rt: HostRuntime) -> Result<(), Fail> {
                 same(&rt, line, errors.as_slice(), IO);
             }
         }
+    }
+    Ok(())
+}
+
+/// Gives line ends without end, and counts them.
+#[derive(Drop)]
+struct Endless<'c> {
+    given: &'c AtomicU64,
+}
+
+impl<'c> Read for Endless<'c> {
+    fn read(&mut self, into: &mut [u8]) -> io::Result<usize> {
+        into.fill(b'\n');
+        self.given.fetch_add(into.len() as u64, Ordering::SeqCst);
+        Ok(into.len())
+    }
+}
+
+/// Of an input without end one byte more is read than an input may have.
+#[test]
+fn an_input_without_end(rt: HostRuntime) -> Result<(), Fail> {
+    for line in ["brc replay", "brc run"] {
+        let given = AtomicU64::new(0);
+        let input = Endless { given: &given };
+        let mut output = Vec::new(rt.alloc());
+        let mut errors = Vec::new(rt.alloc());
+        let found = status_of(&rt, line, input, &mut output, &mut errors)?;
+        ended(&rt, line, found, 3);
+        assert_eq!(rt; given.load(Ordering::SeqCst), 16_777_217, "{line}");
     }
     Ok(())
 }

@@ -2,8 +2,9 @@
 
 use crate::tests::comparing::{same, same_at, shows};
 use brc_trace::*;
+use brc_words::{Fault, Reason};
 use linked_list_allocator::LocalHeap;
-use std::alloc::{AllocError, Global};
+use std::alloc::{AllocError, Allocator, Global};
 use std::process::Abort;
 use std::test::*;
 
@@ -274,5 +275,48 @@ fn refused_memory(rt: HostRuntime) -> Result<(), Fail> {
     }
     // In some of the 63 sizes, and not in each.
     assert!(rt; 0 < told && told < 63);
+    Ok(())
+}
+
+/// What a replay that says why answers in the heap's memory: whether it says why; none where it is told that there was no more.
+fn says_why_in<A: Allocator + Copy>(
+    rt: &impl Abort,
+    alloc: Global,
+    size: usize,
+    heap: A,
+) -> Option<bool> {
+    let mut out = Vec::new(alloc);
+    let Err(Unreplayed { fault, why }) =
+        run_replay_explained(heap, CLAIMED_AGAIN.as_bytes(), &mut out)
+    else {
+        panic!(rt; "a cell is claimed twice")
+    };
+    same_at(rt, size, out.len(), 0);
+    if fault == Fault::OutOfMemory {
+        same_at(rt, size, why.is_none(), true);
+        return None;
+    }
+    let (line, reason) = (7, Reason::NotEnabled);
+    same_at(rt, size, fault, Fault::BadTrace { line, reason });
+    Some(why.is_some())
+}
+
+/// Each size of memory in turn.
+#[test]
+fn replays_without_memory(rt: HostRuntime) -> Result<(), Fail> {
+    let (mut refused, mut told) = (0u32, 0u32);
+    for size in 1..3_000usize {
+        let heap = LocalHeap::new(rt.alloc(), size * 32)?;
+        match says_why_in(&rt, rt.alloc(), size, &heap) {
+            None => refused = refused.saturating_add(1),
+            Some(says) => {
+                if says {
+                    told = told.saturating_add(1);
+                }
+            }
+        }
+        same_at(&rt, size, heap.used(), 0);
+    }
+    assert!(rt; refused > 0 && told > 0);
     Ok(())
 }

@@ -73,6 +73,13 @@ fn move_of(rt: &impl Abort, alloc: Global, asked: &str, object: u32) -> Move<Glo
             object,
             holder: FRAME,
         },
+        "let go by place 10" => Move::Remove {
+            object,
+            holder: Holder::Frame {
+                thread: 1,
+                place: 10,
+            },
+        },
         "let go by the hand" => Move::Remove {
             object,
             holder: hand,
@@ -172,21 +179,25 @@ fn references_are_handed_over_together(rt: HostRuntime) {
     has_alone(&rt, &world, 266, &NEXT, &FRAME);
 }
 
+/// The first entry of the list in cell 266.
+const FIRST: Holder = Holder::Entry {
+    cell: 266,
+    index: 0,
+};
+
+/// Two objects are born, and the second goes into the first.
+const IN: &[Row] = &[
+    ("a list", "born", 266, true),
+    ("an object", "born in the next place", 267, true),
+    ("it goes in", "put from the next place", 267, true),
+];
+
 #[test]
 fn entries_and_places_change_together(rt: HostRuntime) {
-    const FIRST: Holder = Holder::Entry {
-        cell: 266,
-        index: 0,
-    };
     const OUT: Holder = Holder::Frame {
         thread: 1,
         place: 2,
     };
-    const IN: &[Row] = &[
-        ("a list", "born", 266, true),
-        ("an object", "born in the next place", 267, true),
-        ("it goes in", "put from the next place", 267, true),
-    ];
     const AND_OUT: &[Row] = &[(
         "None goes in and it comes out",
         "swapped out for None",
@@ -244,4 +255,58 @@ fn what_is_refused_for_memory_changes_nothing(rt: HostRuntime) {
     follows(&rt, rt.alloc(), &mut world, rows.as_slice());
     holds(&rt, "the first lives", world.is_live(266));
     holds(&rt, "the last is dead", !world.is_live(last));
+}
+
+/// Object 266 is held by one place more after the other, until memory is refused for one.
+fn hold_until_refused<A: Allocator + Copy>(rt: &impl Abort, world: &mut HolderWorld<A>) {
+    for place in 10..400 {
+        let holder = Holder::Frame { thread: 1, place };
+        let object = 266;
+        match world.apply(&Move::<Global>::Add { object, holder }) {
+            Ok(()) => {}
+            Err(why) => {
+                holds(rt, "for memory", why == Refused::Memory);
+                holds(rt, "not held", !world.has(object, &holder));
+                return;
+            }
+        }
+    }
+    panic!(rt; "memory that is never missing")
+}
+
+/// Each of these is asked of the map in turn, and refused for memory.
+fn are_refused<A: Allocator + Copy>(
+    rt: &impl Abort,
+    alloc: Global,
+    world: &mut HolderWorld<A>,
+    asked: &[(&str, u32)],
+) {
+    for &(asked, object) in asked {
+        let found = world.apply(&move_of(rt, alloc, asked, object));
+        holds(rt, asked, found == Err(Refused::Memory));
+    }
+}
+
+#[test]
+fn each_move_that_grows_is_refused(rt: HostRuntime) {
+    const GROWING: &[(&str, u32)] = &[
+        ("born in the next place", 268),
+        ("put from the next place", 0),
+        ("swapped out for None", 267),
+    ];
+    // What goes leaves room for one.
+    const AFTERWARDS: &[Row] = &[
+        ("let go", "let go by place 10", 266, true),
+        ("None goes in", "put from the next place", 0, true),
+    ];
+    let heap = LocalHeap::new(rt.alloc(), 1024).expect(&rt, "memory");
+    let mut world = HolderWorld::new(&heap);
+    follows(&rt, rt.alloc(), &mut world, IN);
+    hold_until_refused(&rt, &mut world);
+    are_refused(&rt, rt.alloc(), &mut world, GROWING);
+    has_alone(&rt, &world, 267, &FIRST, &NEXT);
+    holds(&rt, "not born", !world.is_live(268));
+    follows(&rt, rt.alloc(), &mut world, AFTERWARDS);
+    drop(world);
+    assert_eq!(rt; heap.used(), 0);
 }

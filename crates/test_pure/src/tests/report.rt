@@ -6,7 +6,7 @@ use brc_report::{
 };
 use brc_words::{Fault, Kind};
 use linked_list_allocator::LocalHeap;
-use std::alloc::Global;
+use std::alloc::{Allocator, Global};
 use std::io::{self, Error, ErrorKind, Write};
 use std::process::Abort;
 
@@ -24,7 +24,11 @@ fn kind_of(name: &str) -> Kind {
 type Row = (u32, &'static str, &'static [u32]);
 
 /// The contents of these cells.
-fn contents_of(rt: &impl Abort, alloc: Global, rows: &[Row]) -> Vec<Content<Global>> {
+fn contents_of<A: Allocator + Copy>(
+    rt: &impl Abort,
+    alloc: A,
+    rows: &[Row],
+) -> Vec<Content<A>, A> {
     let mut contents = Vec::new(alloc);
     for &(cell, kind, entries) in rows {
         add(rt, alloc, &mut contents, cell, kind, entries);
@@ -33,10 +37,10 @@ fn contents_of(rt: &impl Abort, alloc: Global, rows: &[Row]) -> Vec<Content<Glob
 }
 
 /// The contents with one cell more.
-fn add(
+fn add<A: Allocator + Copy>(
     rt: &impl Abort,
-    alloc: Global,
-    contents: &mut Vec<Content<Global>>,
+    alloc: A,
+    contents: &mut Vec<Content<A>, A>,
     cell: u32,
     kind: &str,
     entries: &[u32],
@@ -157,9 +161,11 @@ fn is_report(
     check_report(alloc, remains.as_slice(), &cycles, contents).expect(rt, "memory")
 }
 
+/// What remains of the two lists and the text.
+const REMAINS: &[Left] = &[(266, "list", 267), (267, "list", 266), (268, "text", 266)];
+
 #[test]
 fn a_report_is_checked(rt: HostRuntime) {
-    const REMAINS: &[Left] = &[(266, "list", 267), (267, "list", 266), (268, "text", 266)];
     const CASES: &[(&str, &[Left], &[u32], bool)] = &[
         ("right", REMAINS, &[266, 267], true),
         ("a remain too few", EACH_OTHER, &[266, 267], false),
@@ -288,6 +294,46 @@ fn a_refused_growth_is_told(rt: HostRuntime) {
         let found = find_cycles(&heap, remains.as_slice()).err();
         same_at(&rt, size, found, refused);
     }
+}
+
+/// Whether a right report is found right in scarce memory; else it is told that there was no more.
+fn is_found_right<A: Allocator + Copy>(
+    rt: &impl Abort,
+    size: usize,
+    ample: A,
+    scarce: A,
+    remains: &[Remain],
+) -> bool {
+    let contents = contents_of(rt, ample, TWO_LISTS);
+    let cells = Vec::from_slice(ample, &[266, 267]).expect(rt, "memory");
+    let cycles = [Cells::new(cells)];
+    match check_report(scarce, remains, &cycles, contents.as_slice()) {
+        Ok(right) => {
+            same_at(rt, size, right, true);
+            true
+        }
+        Err(fault) => {
+            same_at(rt, size, fault, Fault::OutOfMemory);
+            false
+        }
+    }
+}
+
+/// Each size of memory in turn: every growth of the remains, of the cycles and of the check is refused at some of them.
+#[test]
+fn a_check_without_memory_is_refused(rt: HostRuntime) {
+    let remains = remains_of(&rt, rt.alloc(), REMAINS);
+    let ample = LocalHeap::new(rt.alloc(), 10_000).expect(&rt, "memory");
+    let mut right = 0u32;
+    for size in 1..1_000usize {
+        let scarce = LocalHeap::new(rt.alloc(), size * 16).expect(&rt, "memory");
+        if is_found_right(&rt, size, &ample, &scarce, remains.as_slice()) {
+            right = right.saturating_add(1);
+        }
+        same_at(&rt, size, scarce.used(), 0);
+        same_at(&rt, size, ample.used(), 0);
+    }
+    assert!(rt; 0 < right && right < 999);
 }
 
 /// Two texts that remain, and a cycle of 60 cells: its line has 246 bytes.

@@ -361,6 +361,47 @@ fn refused_memory(rt: HostRuntime) -> Result<(), Fail> {
     Ok(())
 }
 
+/// Whether a life is replayed in the heap's memory; else it is told that there was no more, and nothing was written.
+fn is_told_whole<A: Allocator + Copy>(
+    rt: &impl Abort,
+    alloc: Global,
+    size: usize,
+    heap: A,
+) -> bool {
+    let mut out = stream(alloc, 1000, 1000, true);
+    let answer = run_replay(heap, SHORT_LIFE.as_bytes(), &mut out);
+    let written = out.taken.as_slice();
+    match answer {
+        Ok(lives) => {
+            let world = "world 512 4294967294\nthread 1 active\nledger 1 1 0\n";
+            same_at(rt, size, lives, false);
+            same_at(rt, size, written, world.as_bytes());
+            true
+        }
+        Err(fault) => {
+            same_at(rt, size, fault, Fault::OutOfMemory);
+            same_at(rt, size, written.len(), 0);
+            false
+        }
+    }
+}
+
+/// Each size of memory in turn: every growth of the reading, the replay and the writing is refused at some of them.
+#[test]
+fn replays_without_memory(rt: HostRuntime) -> Result<(), Fail> {
+    let mut told = 0u32;
+    for size in 1..2_500usize {
+        let heap = LocalHeap::new(rt.alloc(), size * 32)?;
+        if is_told_whole(&rt, rt.alloc(), size, &heap) {
+            told = told.saturating_add(1);
+        }
+        same_at(&rt, size, heap.used(), 0);
+    }
+    // In some of the 2,499 sizes, and not in each.
+    assert!(rt; 0 < told && told < 2_499);
+    Ok(())
+}
+
 #[test]
 fn long_texts(rt: HostRuntime) -> Result<(), Fail> {
     let mut text = Vec::with_capacity(rt.alloc(), 16_777_217)?;

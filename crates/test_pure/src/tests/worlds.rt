@@ -1,6 +1,6 @@
 //! Each call once on its way, and each growth refused. Whole runs are replayed as texts, in `worked_runs.rt`.
 
-use crate::tests::comparing::{all_hold, holds, same, shows};
+use crate::tests::comparing::{all_hold, holds, same, same_at, shows};
 use brc_core::{
     Change, Event, Hand, Ledger, Phase, Refusal, ReplayFault, Source, Status, Step, StepFault,
     World, replay,
@@ -87,6 +87,11 @@ fn world_behind(alloc: Global, lines: &[u8]) -> Result<World<Global>, Fault> {
 const BUSY: &[u8] =
     b"heap 512 7\n0 register 1\n0 register 2\n1 claim 267\n1 local 267\n1 shared 267\n1 born 267 text 1\n1 down f1\n1 see 267\n1 free 267\n1 claim 266\n1 local 266\n1 shared 266\n1 born 266 list 0\n1 claim 300\n1 local 300\n1 shared 300\n1 born 300 list 1\n1 claim 267\n1 local 267\n1 shared 267\n1 born 267 text 5\n1 up f0 2\n1 up i265 3\n1 lock 3\n1 unlock put 2\n1 lock 3\n1 unlock put 1\n2 up i265 0\n2 lock 0\n2 unlock take 0 1\n2 ask f1\n2 enq 266\n2 lock 0\n2 unlock take 0 1\n2 ask f1\n2 enq 300\n1 drain 9\n1 down f5\n1 see 267\n1 lock 3\n2 claim 301\n2 local 301\n2 shared 301\n2 born 301 dict 1\n2 down f1\n";
 
+/// Thread 1 holds a list, and put a second reference to it into the globals; thread 2 took that out and gave it up, and it lies in the
+/// queue of thread 1.
+const ASKED: &[u8] =
+    b"heap 512 4294967294\n0 register 1\n0 register 2\n1 claim 266\n1 local 266\n1 shared 266\n1 born 266 list 0\n1 up f0 1\n1 up i265 2\n1 lock 2\n1 unlock put 1\n2 up i265 0\n2 lock 0\n2 unlock take 0 1\n2 ask f1\n2 enq 266\n2 nudge 1 8\n";
+
 fn threads_stand<R: Abort + AllocGlobal>(rt: &R, world: &World<Global>) {
     let cases = [
         ("cells", world.cells() == 512),
@@ -152,14 +157,23 @@ fn ledgers_stand<R: Abort + AllocGlobal>(rt: &R, world: &World<Global>) {
 
 #[test]
 fn readers_of_a_world(rt: HostRuntime) -> Result<(), Fault> {
-    const HOLDERS: &str = "[Frame { thread: 1, place: 0 }, Queue { thread: 1, cell: 266 }]";
     let world = world_behind(rt.alloc(), BUSY)?;
     threads_stand(&rt, &world);
     piles_stand(&rt, &world);
     cells_stand(&rt, &world);
     ledgers_stand(&rt, &world);
-    let holders = world.holders(rt.alloc(), 266)?;
-    shows(&rt, "the holders", &holders.as_slice(), HOLDERS);
+    Ok(())
+}
+
+/// In both worlds a place of thread 1 and its queue hold the first list.
+#[test]
+fn holders_of_an_object(rt: HostRuntime) -> Result<(), Fault> {
+    const HOLDERS: &str = "[Frame { thread: 1, place: 0 }, Queue { thread: 1, cell: 266 }]";
+    for trace in [ASKED, BUSY] {
+        let world = world_behind(rt.alloc(), trace)?;
+        let holders = world.holders(rt.alloc(), 266)?;
+        shows(&rt, "the holders", &holders.as_slice(), HOLDERS);
+    }
     Ok(())
 }
 
@@ -246,13 +260,77 @@ fn refused_growths_change_nothing(rt: HostRuntime) -> Result<(), Fault> {
     let mut next = 0u32;
     for size in 4_000..5_500usize {
         let heap = LocalHeap::new(rt.alloc(), size * 8)?;
-        let Ok(mut world) = World::new(&heap, 512, 2) else {
-            continue;
-        };
-        if growths(&mut world) == Ok(next) {
-            next = next.saturating_add(1);
+        match World::new(&heap, 512, 2) {
+            Ok(world) => {
+                let mut world = world;
+                if growths(&mut world) == Ok(next) {
+                    next = next.saturating_add(1);
+                }
+            }
+            Err(fault) => same_at(&rt, size, fault, Fault::OutOfMemory),
         }
+        same_at(&rt, size, heap.used(), 0);
     }
     assert_eq!(rt; next, 7);
+    Ok(())
+}
+
+/// Whether the events are replayed in this memory; else it is told that there was no more.
+fn is_replayed<A: Allocator + Copy>(
+    rt: &impl Abort,
+    size: usize,
+    heap: A,
+    events: &[Event],
+) -> bool {
+    match replay(heap, events, 512, 7) {
+        Ok(world) => {
+            same_at(rt, size, world.live(), 4);
+            true
+        }
+        Err(fault) => {
+            same_at(rt, size, fault, ReplayFault::Memory);
+            false
+        }
+    }
+}
+
+/// The same of a list of an object's holders.
+fn are_listed<A: Allocator + Copy>(
+    rt: &impl Abort,
+    size: usize,
+    heap: A,
+    world: &World<Global>,
+) -> bool {
+    match world.holders(heap, 266) {
+        Ok(holders) => {
+            same_at(rt, size, holders.len(), 2);
+            true
+        }
+        Err(fault) => {
+            same_at(rt, size, fault, Fault::OutOfMemory);
+            false
+        }
+    }
+}
+
+/// Each size of memory in turn, and none is left out afterwards.
+#[test]
+fn refused_growths_answer_no_world(rt: HostRuntime) -> Result<(), Fault> {
+    let trace = read_trace(rt.alloc(), BUSY)?;
+    let world = world_behind(rt.alloc(), BUSY)?;
+    let (mut replayed, mut listed) = (0u32, 0u32);
+    for size in 1..4_000usize {
+        let heap = LocalHeap::new(rt.alloc(), size * 16)?;
+        if is_replayed(&rt, size, &heap, trace.events.as_slice()) {
+            replayed = replayed.saturating_add(1);
+        }
+        same_at(&rt, size, heap.used(), 0);
+        if are_listed(&rt, size, &heap, &world) {
+            listed = listed.saturating_add(1);
+        }
+        same_at(&rt, size, heap.used(), 0);
+    }
+    // In some of the 3,999 sizes, and not in each.
+    assert!(rt; 0 < replayed && replayed < listed && listed < 3_999);
     Ok(())
 }

@@ -1,7 +1,7 @@
 use Rattle.std.proofs.Common.{◌<◌, sym, ap, subst, arith}
 use Rattle.brc_known.specs.Items.{Part}
 use Rattle.brc_seats.proofs.Marks.{marked_after}
-use Rattle.brc_seats.proofs.worked_runs.asks_one_that_left.Goals as goal
+use Rattle.brc_seats.proofs.leaving.asks_one_that_left.Goals as goal
 
 pub gone-requires-clause-marked : goal.gone-requires-clause-marked
 gone-requires-clause-marked g c =
