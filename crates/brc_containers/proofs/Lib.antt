@@ -1,1 +1,2 @@
 pub mod One_History
+mod Looking_Law
