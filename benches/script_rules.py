@@ -96,42 +96,45 @@ def is_instruction(line):
     return len(set(registers)) == len(registers)
 
 
+def first_word(line):
+    return line.partition(b" ")[0]
+
+
+def is_closed(lines):
+    """Whether the first of the lines that begins with `end`, `section` or `repeat` begins with `end`."""
+    words = (first_word(line) for line in lines)
+    return next((word for word in words if word in (b"end", b"section", b"repeat")), None) == b"end"
+
+
 def bad_line(text):
     """The least bad line of a script; None where it is one."""
     if len(text) > MOST_BYTES:
         return 0
-    bad, names, repeat = [], [], None
     lines = text.split(b"\n")
     if not lines[-1]:
         lines.pop()
+    if not any(first_word(line) == b"section" for line in lines):
+        return 1
+    names, is_open = [], False
     for at, line in enumerate(lines, 1):
         if not line or (line[:1] == b"#" and max(line) < 128):
             continue
         first, space, rest = line.partition(b" ")
-        if first == b"section" and space and SECTION_NAME.match(rest):
-            if repeat is not None:
-                bad.append(repeat)
-            repeat = None
-            if rest in names or len(names) == MOST_SECTIONS:
-                bad.append(at)
+        if first == b"section":
+            if not (space and SECTION_NAME.match(rest)) or rest in names or len(names) == MOST_SECTIONS:
+                return at
             names.append(rest)
-        elif first == b"repeat" and space and is_number(rest, MOST_TIMES):
-            if repeat is not None:
-                bad.append(repeat)
-            repeat = at
-            if not names:
-                bad.append(at)
-        elif line == b"end":
-            if repeat is None:
-                bad.append(at)
-            repeat = None
+        elif first == b"repeat":
+            if not (space and is_number(rest, MOST_TIMES)) or not names or not is_closed(lines[at:]):
+                return at
+            is_open = True
+        elif first == b"end":
+            if line != b"end" or not is_open:
+                return at
+            is_open = False
         elif not is_instruction(line) or not names:
-            bad.append(at)
-    if repeat is not None:
-        bad.append(repeat)
-    if not names:
-        return 1
-    return min(bad) if bad else None
+            return at
+    return None
 
 
 def section_names(text):

@@ -1,5 +1,7 @@
 //! Streams that fail at each read, each write and each flush in turn, that are interrupted there, and that give or take a byte at a time.
 
+ghost use Rattle.std.specs.Prelude.{◌≡◌, IfOk};
+
 use crate::tests::running::{ended, same, status_of};
 use std::alloc::{AllocGlobal, Global};
 use std::io::{self, Error, ErrorKind, Read, Write};
@@ -20,7 +22,9 @@ enum Stop {
 const STOPS: [Stop; 3] = [Stop::Fails, Stop::IsInterrupted, Stop::TakesNothing];
 
 impl Stop {
-    fn answer(self) -> io::Result<usize> {
+    fn answer(self) -> io::Result<usize>
+        ensures nothing { IfOk result (λ count. count ≡ 0) }
+    {
         match self {
             Stop::Fails => Err(Error::from(ErrorKind::Other)),
             Stop::IsInterrupted => Err(Error::from(ErrorKind::Interrupted)),

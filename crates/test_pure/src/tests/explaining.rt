@@ -286,9 +286,11 @@ fn says_why_in<A: Allocator + Copy>(
     heap: A,
 ) -> Option<bool> {
     let mut out = Vec::new(alloc);
-    let Err(Unreplayed { fault, why }) =
-        run_replay_explained(heap, CLAIMED_AGAIN.as_bytes(), &mut out)
-    else {
+    let Err(Unreplayed { fault, why }) = run_replay_explained(
+        heap,
+        CLAIMED_AGAIN.as_bytes(),
+        &mut out,
+    ) else {
         panic!(rt; "a cell is claimed twice")
     };
     same_at(rt, size, out.len(), 0);

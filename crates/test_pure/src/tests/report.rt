@@ -24,11 +24,7 @@ fn kind_of(name: &str) -> Kind {
 type Row = (u32, &'static str, &'static [u32]);
 
 /// The contents of these cells.
-fn contents_of<A: Allocator + Copy>(
-    rt: &impl Abort,
-    alloc: A,
-    rows: &[Row],
-) -> Vec<Content<A>, A> {
+fn contents_of<A: Allocator + Copy>(rt: &impl Abort, alloc: A, rows: &[Row]) -> Vec<Content<A>, A> {
     let mut contents = Vec::new(alloc);
     for &(cell, kind, entries) in rows {
         add(rt, alloc, &mut contents, cell, kind, entries);
@@ -306,8 +302,9 @@ fn is_found_right<A: Allocator + Copy>(
 ) -> bool {
     let contents = contents_of(rt, ample, TWO_LISTS);
     let cells = Vec::from_slice(ample, &[266, 267]).expect(rt, "memory");
-    let cycles = [Cells::new(cells)];
-    match check_report(scarce, remains, &cycles, contents.as_slice()) {
+    let mut cycles = Vec::new(ample);
+    cycles.push(Cells::new(cells)).expect(rt, "memory");
+    match check_report(scarce, remains, cycles.as_slice(), contents.as_slice()) {
         Ok(right) => {
             same_at(rt, size, right, true);
             true
