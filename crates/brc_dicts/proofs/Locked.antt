@@ -51,6 +51,7 @@ module _ {A : Type 0} where
       locks_place = was.began.locks_place;
       locks_cell = was.began.locks_cell;
       found = was.began.found;
+      own = was.began.own;
     };
     keeps = record {
       heap = was.keeps.heap;
