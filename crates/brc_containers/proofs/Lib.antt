@@ -1,2 +1,1 @@
 pub mod One_History
-mod Looking_Law

@@ -11,7 +11,6 @@ use Rattle.brc_rule.specs.declared.contents.Contents.{Contents}
 use Rattle.brc_rule.specs.declared.told.Moved.TheVariants as moves
 use Rattle.brc_rule.specs.declared.told.Told.TheVariants.{Did}
 use Rattle.brc_rule.specs.Logs.{entries_in}
-use Rattle.law_payloads.specs.Payloads.{FindsOwn}
 use Rattle.brc_count.specs.Frames.{FrameSeen, HandleSeen, IsUnlocked, Given, Refused}
 use Rattle.brc_count.specs.Locking.{Busy, KeepsThread, KeepsFrame, ChangesPlace, cell_in}
 
@@ -21,12 +20,11 @@ PlainCall R = Contents → Result (R × Contents) Fault
 
 module _ {A : Type 0} where
   -- The object in the place was locked, found with these contents, and put home with those; its unlocking moved a reference
-  -- as the change says. Nothing else was done. What was found is what the thread left there, where the object is private to it.
+  -- as the change says. Nothing else was done.
   pub record Changes (old new : FrameSeen A) (k : ℕ) (found : Contents) (change : Change) (put : Contents) : Type 0 where
     pub cell : ℕ
     pub of_place : cell_in old k ≡ Some cell
     pub events : new.seat.log ≡ Did (Unlock change) 0 (moves.Put cell put) ∷ Did (Lock k) 0 (moves.Found cell found) ∷ old.seat.log
-    pub own : FindsOwn old.heap.cells old.seat.log cell found
     pub unlocked : IsUnlocked new
     pub keeps : KeepsThread old new
 
@@ -96,7 +94,6 @@ module _ {A : Type 0} where
     pub same_heap : locked.heap ≡ old.heap
     pub shared_heap : shared.heap ≡ old.heap
     pub locks : locked.seat.log ≡ Did (Lock k) 0 (moves.Found cell found) ∷ old.seat.log
-    pub own : FindsOwn old.heap.cells old.seat.log cell found
     pub gives : Given locked shared (sources.Entry index) entry given
     pub unlocks : new.seat.log ≡ Did (Unlock Keep) 0 (moves.Put cell found) ∷ shared.seat.log
     pub before : KeepsPlaces old locked

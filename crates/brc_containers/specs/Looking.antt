@@ -14,7 +14,6 @@ use Rattle.brc_rule.specs.declared.contents.Contents.TheVariants as contents
 use Rattle.brc_rule.specs.declared.told.Moved.TheVariants as moves
 use Rattle.brc_rule.specs.declared.told.Told.TheVariants.{Did}
 use Rattle.brc_rule.specs.Logs.{kind_in, entries_in}
-use Rattle.law_payloads.specs.Payloads.{FindsOwn}
 use Rattle.brc_count.specs.Frames.{FrameSeen}
 use Rattle.brc_count.specs.Locking.{Busy, cell_in}
 use Rattle.brc_containers.specs.Called.{Looked}
@@ -30,13 +29,11 @@ abbrev pub IsContainer : Contents → Type 0
 IsContainer found = is_container (kind_in found) ≡ true
 
 module _ {A : Type 0} where
-  -- The object in the place was locked, found with these contents, and unlocked as it was found. Nothing else was done. What
-  -- was found is what the thread left there, where the object is private to it.
+  -- The object in the place was locked, found with these contents, and unlocked as it was found. Nothing else was done.
   pub record LooksAt (old new : FrameSeen A) (k : ℕ) (found : Contents) : Type 0 where
     pub cell : ℕ
     pub of_place : cell_in old k ≡ Some cell
     pub events : new.seat.log ≡ Did (Unlock Keep) 0 (moves.Put cell found) ∷ Did (Lock k) 0 (moves.Found cell found) ∷ old.seat.log
-    pub own : FindsOwn old.heap.cells old.seat.log cell found
 
   -- A call was refused: the object is locked by another thread, and nothing was done but to find that out; it was looked at,
   -- and is of a kind that the call isn't for; or it was looked at, and memory for the answer was missing.

@@ -96,7 +96,6 @@ module _ {A : Type 0} where
     cell = block.0;
     of_place = was.began.cell;
     events = ended.event ∙ ap (λ log. Did (Unlock change) 0 (moves.Put block.0 (contents_of left)) ∷ log) was.began.event;
-    own = was.began.own;
     unlocked = ended.unlocked;
     keeps = thread_kept_on was.keeps ended.keeps;
   }
@@ -172,7 +171,6 @@ module _ {A : Type 0} where
     shared = shared;
     shared_heap = heap ∙ was.keeps.heap;
     locks = was.began.event;
-    own = was.began.own;
     gives = gives;
     unlocks = ended.event;
     before = was.places;

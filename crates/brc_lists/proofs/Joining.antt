@@ -12,7 +12,6 @@ use Rattle.brc_rule.specs.declared.contents.Contents.{Contents}
 use Rattle.brc_rule.specs.declared.told.Moved.TheVariants as moves
 use Rattle.brc_rule.specs.declared.told.Told.{Told}
 use Rattle.brc_rule.specs.declared.told.Told.TheVariants.{Did}
-use Rattle.law_payloads.specs.Payloads.{FindsOwn}
 use Rattle.brc_table.specs.Seated.{SeatSeen}
 use Rattle.brc_table.specs.Shown.{contents_of}
 use Rattle.brc_count.specs.declared.handed.Handed.{Handed}
@@ -56,7 +55,6 @@ module _ {A : Type 0} where
         events = ends.ended.event ∙ ap (λ c. unlocks (contents_of ends.block.1) c locked.seat.log) cell
             ∙ ap (λ p. unlocks p block.0 locked.seat.log) ends.holds
             ∙ ap (unlocks put block.0) (began.event ∙ ap (λ p. Did (Lock k) 0 (moves.Found block.0 p) ∷ old.seat.log) (sym began.found));
-        own = subst (FindsOwn old.heap.cells old.seat.log block.0) (sym began.found) began.own;
         unlocked = ends.ended.unlocked;
         keeps = thread_kept_on thread ends.ended.keeps;
       }
@@ -133,7 +131,6 @@ module _ {A : Type 0} where
         shared_heap = shares.shared_heap ∙ thread.heap;
         locks = ap (λ (s : SeatSeen A). s.log) shares.same_seat ∙ began.event
             ∙ ap (λ p. Did (Lock k) 0 (moves.Found block.0 p) ∷ old.seat.log) (sym began.found);
-        own = subst (FindsOwn old.heap.cells old.seat.log block.0) (sym began.found) began.own;
         gives = shares.gives;
         unlocks = ends.ended.event
             ∙ ap (λ c. Did (Unlock Keep) 0 (moves.Put c (contents_of ends.block.1)) ∷ shares.shared.seat.log) cell

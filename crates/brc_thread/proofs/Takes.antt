@@ -84,7 +84,6 @@ module _ {A : Type 0} where
           cell = block.0;
           of_place = was.began.cell;
           events = ended.event ∙ ap (λ log. Did (Unlock (Take index given.place)) 0 (moves.Put block.0 (contents_of left)) ∷ log) was.began.event;
-          own = was.began.own;
           unlocked = ended.unlocked;
           keeps = thread_kept_on was.keeps ended.keeps;
         });
