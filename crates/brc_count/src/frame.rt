@@ -209,7 +209,7 @@ impl<H: Home<A>, A: Allocator> Frame<H, A> {
     /// From now on the thread's claims begin with the free word that has this cell (word k has the cells from 64 k on), go on
     /// to the heap's end, and then from the first mortal cell up to there. For a cell below 266, or past the heap's last, that
     /// is the first mortal cell's word, as for a frame that nobody asked. It is for threads that make objects at once: where
-    /// each begins with a part of the heap of its own, none comes upon bits that another takes.
+    /// each begins with a part of the heap of its own, they meet in one word only once such a part is full.
     pub fn claim_from(&mut self, cell: u32)
         ensures from { self.new.from ≡ word_asked self.old.heap.cells cell }
         ensures near { self.new.near ≡ false }
@@ -222,8 +222,8 @@ impl<H: Home<A>, A: Allocator> Frame<H, A> {
     }
 
     /// As `claim_from`, for the first claim; each later one begins with the word of the frame's last claim, or of a lower cell,
-    /// not below that word, that the frame has given back since. It is for heaps with few free cells: a claim finds what
-    /// the thread freed last, and doesn't pass over all that is taken.
+    /// not below the word of the cell named here, that the frame has given back since. It is for heaps with few free cells:
+    /// a claim finds what the thread freed last, and doesn't pass over all that is taken.
     pub fn claim_near(&mut self, cell: u32)
         ensures from { self.new.from ≡ word_asked self.old.heap.cells cell }
         ensures near { self.new.near ≡ true }
