@@ -427,7 +427,7 @@ module _ {A : Type 0} {heap : TableSeen} (before seat : SeatSeen A) {places : Sl
 
 module _ {A : Type 0} where
   pub kept : (frame : FrameSeen A) → KeepsHandles frame frame
-  kept frame = record { heap = refl; thread = refl; len = refl; next = refl; places = λ k. refl; rest = record { stage = refl; lock = refl } }
+  kept frame = record { heap = refl; thread = refl; len = refl; next = refl; places = λ k. refl; rest = record { stage = refl; lock = refl; from = refl; near = refl } }
 
   pub kept_on : {old mid new : FrameSeen A} → KeepsHandles old mid → KeepsHandles mid new → KeepsHandles old new
   kept_on first second = record {
@@ -436,7 +436,12 @@ module _ {A : Type 0} where
     len = second.len ∙ first.len;
     next = second.next ∙ first.next;
     places = λ k. second.places k ∙ first.places k;
-    rest = record { stage = second.rest.stage ∙ first.rest.stage; lock = second.rest.lock ∙ first.rest.lock };
+    rest = record {
+      stage = second.rest.stage ∙ first.rest.stage;
+      lock = second.rest.lock ∙ first.rest.lock;
+      from = second.rest.from ∙ first.rest.from;
+      near = second.rest.near ∙ first.rest.near;
+    };
   }
 
   -- one turn less is left, and one more was made

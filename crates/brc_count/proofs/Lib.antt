@@ -3,7 +3,9 @@ pub mod Changes
 mod Framings
 mod Locks
 mod Locked_Entries
+pub mod Keys_Shown
 mod Popping
 mod Leaving
 mod Bearing
 pub mod Owning
+mod Unasked

@@ -23,6 +23,7 @@ use Rattle.brc_known.specs.Going_On.{locking, unlocking}
 use Rattle.brc_known.specs.Taken.{Blocks, listed_at}
 use Rattle.brc_rule.specs.declared.contents.Contents.{Contents}
 use Rattle.brc_rule.specs.declared.contents.Contents.TheVariants as contents
+use Rattle.brc_rule.specs.Keys.{keys_in, KeysGo}
 use Rattle.brc_rule.specs.Logs.{entries_in, kind_in}
 use Rattle.brc_rule.specs.Seen.{part_seen, taken_seen, contents_locked}
 use Rattle.brc_steps.specs.Owing.{Carries, Unlocks}
@@ -34,7 +35,7 @@ use Rattle.brc_counter.specs.Up.{IsKnown}
 use Rattle.brc_count.specs.declared.held.Held.{Held}
 use Rattle.brc_count.specs.declared.ledger.Ledger.{Ledger}
 use Rattle.brc_count.specs.Frames.{place_seen, locked_place, lock_seen, cell_held, slots_out, Buried, Holding, FrameSeen, IsActive}
-use Rattle.brc_count.specs.Locking.{KnowsLock, IsLocked, ChangesPlace, cell_in, place_locked, cell_locked, contents_found, entries_found}
+use Rattle.brc_count.specs.Locking.{KnowsLock, IsLocked, ChangesPlace, cell_in, place_locked, cell_locked, contents_found, entries_found, keys_found}
 
 -- ---- places
 
@@ -289,9 +290,9 @@ module _ {A : Type 0} (frame : FrameSeen A) (block : ℕ × Payload A) where
       → ((k : ℕ) → place_locked frame ≡ Some k → cell_in frame k ≡ Some block.0
       → change_ok (Some k) (part_seen frame.heap.cells frame.seat.log).frame (entries_found frame) change ≡ true)
       → entries_in (contents_of block.1) ≡ entries_changed change (part_seen frame.heap.cells frame.seat.log).frame (entries_found frame)
-      → is_keep change ≡ false
+      → KeysGo change (contents_found frame) (contents_of block.1) → is_keep change ≡ false
       → Unlocks frame.heap.cells frame.seat.log (shows block) (found_locked frame.seat.log) change block.0
-  unlocks change active free lock locked container same_kind allowed entries changed =
+  unlocks change active free lock locked container same_kind allowed entries keys changed =
       let n = frame.heap.cells in
       let log = frame.seat.log in
       let (k, place, there) = locked_there (part_seen n log).frame (part_seen n log).row.locked block.0 locked in
@@ -303,6 +304,7 @@ module _ {A : Type 0} (frame : FrameSeen A) (block : ℕ × Payload A) where
         container = ap (λ t. is_keep change || t) container ∙ or_true (is_keep change);
         same_kind = same_kind;
         entries = entries;
+        keys = keys;
         kept = λ is. absurd (not_both is changed);
       }
 
@@ -311,9 +313,9 @@ module _ {A : Type 0} (frame : FrameSeen A) (block : ℕ × Payload A) where
       → cell_locked frame ≡ Some block.0 → is_container (kind_in (contents_found frame)) ≡ true
       → kind_in (contents_of block.1) ≡ kind_in (contents_found frame)
       → slice_get (entries_found frame) i ≡ Some c → j < MOST_PLACES → cell_in frame j ≡ None
-      → entries_in (contents_of block.1) ≡ remove (entries_found frame) i
+      → entries_in (contents_of block.1) ≡ remove (entries_found frame) i → keys_in (contents_of block.1) ≡ remove (keys_found frame) i
       → Unlocks frame.heap.cells frame.seat.log (shows block) (found_locked frame.seat.log) (changes.Take i j) block.0
-  unlocks_take i j c active free lock locked container same_kind entry low vacant entries =
+  unlocks_take i j c active free lock locked container same_kind entry low vacant entries keys =
       unlocks (changes.Take i j) active free lock locked container same_kind
       (λ k place there. rw (
         lt-ltb i (length (entries_found frame)) (slice_get_within (entries_found frame) i c entry),
@@ -321,7 +323,7 @@ module _ {A : Type 0} (frame : FrameSeen A) (block : ℕ × Payload A) where
         vacant,
         ne_eqb k j (λ same. nothing_there (sym vacant ∙ ap (cell_in frame) (sym same) ∙ there)),
       ) refl)
-      entries refl
+      entries keys refl
 
   -- an entry and the reference of another place than the locked one may be exchanged
   pub unlocks_swap : (i j c : ℕ) → IsActive frame → (part_seen frame.heap.cells frame.seat.log).row.hand ≡ hands.Free → IsLocked frame
@@ -329,8 +331,9 @@ module _ {A : Type 0} (frame : FrameSeen A) (block : ℕ × Payload A) where
       → kind_in (contents_of block.1) ≡ kind_in (contents_found frame)
       → slice_get (entries_found frame) i ≡ Some c → is_some (cell_in frame j) ≡ true → place_locked frame ≢ Some j
       → ((d : ℕ) → cell_in frame j ≡ Some d → entries_in (contents_of block.1) ≡ slice_set (entries_found frame) i d)
+      → keys_in (contents_of block.1) ≡ keys_found frame
       → Unlocks frame.heap.cells frame.seat.log (shows block) (found_locked frame.seat.log) (changes.Swap i j) block.0
-  unlocks_swap i j c active free lock locked container same_kind entry filled apart entries =
+  unlocks_swap i j c active free lock locked container same_kind entry filled apart entries keys =
       let (d, is) = some_of (cell_in frame j) filled in
       unlocks (changes.Swap i j) active free lock locked container same_kind
       (λ k place there. rw (
@@ -338,4 +341,4 @@ module _ {A : Type 0} (frame : FrameSeen A) (block : ℕ × Payload A) where
         filled,
         ne_eqb k j (λ same. apart (place ∙ ap Some same)),
       ) refl)
-      (entries d is ∙ ap (λ o. slice_set (entries_found frame) i (number_in o)) (sym is)) refl
+      (entries d is ∙ ap (λ o. slice_set (entries_found frame) i (number_in o)) (sym is)) keys refl

@@ -1,14 +1,9 @@
 -- Which handles a frame owns after a call, from what the call does to its places.
 use Rattle.std.proofs.Common.{◌≡◌, ◌≢◌, ℕ, ◌+◌, true, Option, Some, None, is_some, refl, sym, ◌∙◌, ap}
 use Rattle.brc_runs.specs.declared.event.Source.{Source}
-use Rattle.brc_runs.specs.declared.event.Source.TheVariants as sources
-use Rattle.brc_words.specs.declared.fault.Fault.{Fault}
-use Rattle.brc_words.specs.declared.fault.Fault.TheVariants as faults
-use Rattle.brc_rule.specs.declared.contents.Contents.{Contents}
-use Rattle.brc_count.specs.Frames.{FrameSeen, HandleSeen, Owns, Given, ReleasedOf, IsUnlocked, IsAsBefore, KeepsHandles}
+use Rattle.brc_count.specs.Frames.{FrameSeen, HandleSeen, Owns, Given, ReleasedOf}
 use Rattle.brc_count.specs.Locking.{cell_in, KeepsThread, KeepsFrame, ChangesPlace}
-use Rattle.brc_count.specs.Making.{Made, RefusedMaking}
-use Rattle.brc_count.specs.Owned.{Keeps, Gains, Loses, Trades}
+use Rattle.brc_count.specs.Owned.{Keeps, Gains, Loses}
 
 none_filled : {X : Type 0} {o : Option X} → is_some o ≡ true → o ≡ None → ⊥
 none_filled filled none = cc

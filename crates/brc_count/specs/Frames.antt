@@ -1,5 +1,5 @@
 -- What contracts see of a frame and of its handles, and what a frame keeps.
-use Rattle.std.specs.Prelude.{◌≡◌, ◌≢◌, ◌<◌, ◌≤◌, ◌+◌, ◌-◌, ℕ, Bool, true, List, [], ◌∷◌, map, Option, Some, None, is_some, is_none, ◌&&◌, ◌*◌, length, false}
+use Rattle.std.specs.Prelude.{◌≡◌, ◌≢◌, ◌<◌, ◌≤◌, ◌+◌, ◌-◌, ℕ, Bool, true, List, [], ◌∷◌, map, Option, Some, None, is_some, is_none, ◌&&◌, ◌*◌, ◌/◌, nat_le, nat_lt, if◌then◌else◌, length, false}
 use Rattle.slab.specs.Slab.{Slab, get, slab_len}
 use Rattle.brc_words.specs.declared.limits.TheConstants.{FIRST_MORTAL, MOST_PLACES}
 use Rattle.brc_words.specs.declared.fault.Fault.{Fault}
@@ -88,8 +88,22 @@ pub record Buried (n : ℕ) (marks : List Bool) (has : ℕ → List ℕ) (blocks
   pub apart : are_apart blocks ≡ true
   pub only : (c : ℕ) → listed_at blocks c ≡ None → is_marked marks c ≡ false
 
+-- The free word at which a thread's claims begin, of which each has 64 cells; and whether they begin near the cells that the
+-- thread claimed and freed last.
+pub record StartSeen : Type 0 where
+  pub from : ℕ
+  pub near : Bool
+
+-- the word of the first mortal cell, at which claims begin of which nobody asked anything
+abbrev pub first_word : ℕ
+first_word = FIRST_MORTAL / 64
+
+-- the cell's word, where it is a mortal one of the heap's
+abbrev pub word_asked : ℕ → ℕ → ℕ
+word_asked cells cell = if nat_le FIRST_MORTAL cell && nat_lt cell cells then cell / 64 else first_word
+
 -- The heap; the thread's seat at it, with the log of all that it did; how many handles there are, how many more need no
--- memory, and which place the next one gets; and the dead blocks on the worklist, front first.
+-- memory, and which place the next one gets; the dead blocks on the worklist, front first; and where claims begin.
 pub record FrameSeen (A : Type 0) : Type 0 where
   pub heap : TableSeen
   pub seat : SeatSeen A
@@ -97,6 +111,8 @@ pub record FrameSeen (A : Type 0) : Type 0 where
   pub spare : ℕ
   pub next : ℕ
   pub works : List (ℕ × Payload A)
+  pub from : ℕ
+  pub near : Bool
 
 -- the thread has nothing locked
 abbrev pub IsUnlocked : {A : Type 0} → FrameSeen A → Type 0
@@ -171,22 +187,24 @@ pub record Leaving {A : Type 0} (holdings : FrameSeen A) (thread next : ℕ) : T
   pub done : (k : ℕ) → k < next → word_at (popped_seen holdings) k ≡ 0
 
 -- what contracts see of a frame at rest, without dead blocks
-abbrev pub resting_seen : {A : Type 0} → CounterSeen A → Slab Held → FrameSeen A
-resting_seen counter places = record { heap = counter.heap; seat = counter.seat; len = slab_len places; spare = places.capacity - slab_len places; next = places.vacant_key; works = [] }
+abbrev pub resting_seen : {A : Type 0} → CounterSeen A → Slab Held → StartSeen → FrameSeen A
+resting_seen counter places start = record { heap = counter.heap; seat = counter.seat; len = slab_len places; spare = places.capacity - slab_len places; next = places.vacant_key; works = []; from = start.from; near = start.near }
 
 -- what a frame at rest keeps: it is a frame's, without handles and dead blocks, and nothing is locked
-pub record Rests (A : Type 0) (counter : CounterSeen A) (places : Slab Held) (popped : List ℕ) (ledger : Ledger) (thread : ℕ) : Type 0 where
+pub record Rests (A : Type 0) (counter : CounterSeen A) (places : Slab Held) (popped : List ℕ) (ledger : Ledger) (start : StartSeen) (thread : ℕ) : Type 0 where
   pub holding : Holding A counter.heap counter.seat places [] popped ledger
-  pub framing : Framing (resting_seen counter places) thread
+  pub framing : Framing (resting_seen counter places start) thread
   pub bare : slab_len places ≡ 0
-  pub unlocked : IsUnlocked (resting_seen counter places)
+  pub unlocked : IsUnlocked (resting_seen counter places start)
 
 -- ---- what calls do
 
--- Counting leaves this as it is: whether the thread is active, and what it has locked.
+-- Counting leaves this as it is: whether the thread is active, what it has locked, and where its claims begin.
 pub record KeepsRest {A : Type 0} (old new : FrameSeen A) : Type 0 where
   pub stage : (part_seen new.heap.cells new.seat.log).row.stage ≡ (part_seen old.heap.cells old.seat.log).row.stage
   pub lock : locked_place new.heap.cells new.seat.log ≡ locked_place old.heap.cells old.seat.log
+  pub from : new.from ≡ old.from
+  pub near : new.near ≡ old.near
 
 -- how many objects the thread has made, and how many cells it has given back
 abbrev pub ledger_seen : {A : Type 0} → FrameSeen A → Ledger
@@ -198,6 +216,10 @@ ledger_seen frame = record {
 -- nothing changed, but that more places may need no memory
 abbrev pub IsAsBefore : {A : Type 0} → FrameSeen A → FrameSeen A → Type 0
 IsAsBefore old new = new ≡ record old { spare = new.spare }
+
+-- nothing changed, but where claims begin
+abbrev pub KeepsButStart : {A : Type 0} → FrameSeen A → FrameSeen A → Type 0
+KeepsButStart old new = new ≡ record old { from = new.from; near = new.near }
 
 -- The one event by which a reference is counted up: a look, where the cell is immortal; on the local word, where the thread
 -- counts the cell there and is below the limit; else on the shared word.

@@ -7,12 +7,15 @@ use Rattle.brc_runs.specs.declared.event.Step.TheVariants.{Lock, Unlock}
 use Rattle.brc_known.specs.declared.word.Field.TheVariants.{Mutex}
 use Rattle.brc_known.specs.declared.word.Word.TheVariants.{Of}
 use Rattle.brc_known.specs.Taken.{listed_at}
+use Rattle.brc_rule.specs.declared.contents.PlainKey.{PlainKey}
 use Rattle.brc_rule.specs.declared.contents.Contents.{Contents}
 use Rattle.brc_rule.specs.declared.told.Moved.TheVariants as moves
 use Rattle.brc_rule.specs.declared.told.Told.{Told}
 use Rattle.brc_rule.specs.declared.told.Told.TheVariants.{Did, Lost}
+use Rattle.brc_rule.specs.Keys.{keys_in}
 use Rattle.brc_rule.specs.Logs.{entries_in}
 use Rattle.brc_rule.specs.Seen.{part_seen, taken_seen, contents_locked}
+use Rattle.law_payloads.specs.Payloads.{FindsOwn}
 use Rattle.brc_steps.specs.Taking.{AreCells}
 use Rattle.brc_table.specs.Moving.{found_locked}
 use Rattle.brc_table.specs.Shown.{contents_of}
@@ -42,7 +45,7 @@ module _ {A : Type 0} where
   abbrev pub place_locked : FrameSeen A → Option ℕ
   place_locked frame = locked_place frame.heap.cells frame.seat.log
 
-  -- the locked object's cell; what its locking found; and which entries
+  -- the locked object's cell; what its locking found; which entries; and which keys
   abbrev pub cell_locked : FrameSeen A → Option ℕ
   cell_locked frame = lock_seen frame.heap.cells frame.seat.log
 
@@ -52,15 +55,21 @@ module _ {A : Type 0} where
   abbrev pub entries_found : FrameSeen A → List ℕ
   entries_found frame = entries_in (contents_found frame)
 
+  abbrev pub keys_found : FrameSeen A → List PlainKey
+  keys_found frame = keys_in (contents_found frame)
+
 -- ---- what calls do
 
--- Locking and unlocking leave this as it is: the heap, the thread and its stage, its popped entries, and the dead blocks.
+-- Locking and unlocking leave this as it is: the heap, the thread and its stage, its popped entries, the dead blocks, and where
+-- claims begin.
 pub record KeepsThread {A : Type 0} (old new : FrameSeen A) : Type 0 where
   pub heap : new.heap ≡ old.heap
   pub thread : new.seat.thread ≡ old.seat.thread
   pub stage : (part_seen new.heap.cells new.seat.log).row.stage ≡ (part_seen old.heap.cells old.seat.log).row.stage
   pub popped : popped_seen new ≡ popped_seen old
   pub works : new.works ≡ old.works
+  pub from : new.from ≡ old.from
+  pub near : new.near ≡ old.near
 
 -- every place has what it had, and the next one is the same
 pub record KeepsFrame {A : Type 0} (old new : FrameSeen A) : Type 0 where
@@ -82,7 +91,7 @@ pub record KeepsLock {A : Type 0} (old new : FrameSeen A) : Type 0 where
   pub contents : contents_locked new.seat.log ≡ contents_locked old.seat.log
 
 -- The object in the place is locked, by one event, and its block is the thread's until the unlocking, with the contents that
--- were found.
+-- were found: those that the thread put home there last, where the object is private to it.
 pub record Began {A : Type 0} (old new : FrameSeen A) (k : ℕ) (block : ℕ × Payload A) : Type 0 where
   pub cell : cell_in old k ≡ Some block.0
   pub event : new.seat.log ≡ Did (Lock k) 0 (moves.Found block.0 (contents_of block.1)) ∷ old.seat.log
@@ -90,6 +99,7 @@ pub record Began {A : Type 0} (old new : FrameSeen A) (k : ℕ) (block : ℕ × 
   pub locks_place : place_locked new ≡ Some k
   pub locks_cell : cell_locked new ≡ Some block.0
   pub found : contents_found new ≡ contents_of block.1
+  pub own : FindsOwn old.heap.cells old.seat.log block.0 (contents_of block.1)
 
 -- The object in the place was found locked, by the number of its mutex word, and nothing was done.
 pub record Busy {A : Type 0} (old new : FrameSeen A) (k : ℕ) : Type 0 where

@@ -1,5 +1,5 @@
 -- How an object is made: a cell is claimed, its words are set, and its block is put home; the first reference is the frame's.
-use Rattle.std.specs.Prelude.{◌≡◌, ◌≢◌, ◌<◌, ◌≤◌, ◌+◌, ◌^◌, ℕ, List, ◌∷◌, Some, None}
+use Rattle.std.specs.Prelude.{◌≡◌, ◌≢◌, ◌<◌, ◌≤◌, ◌+◌, ◌^◌, ℕ, false, List, ◌∷◌, Some, None}
 use Rattle.brc_words.specs.declared.fault.Fault.{Fault}
 use Rattle.brc_words.specs.declared.fault.Fault.TheVariants.{OutOfMemory, HeapFull, FrameFull, LedgerFull}
 use Rattle.brc_words.specs.declared.limits.TheConstants.{FIRST_MORTAL, MOST_PLACES, MOST_BIRTHS}
@@ -10,19 +10,22 @@ use Rattle.brc_rule.specs.declared.told.Moved.TheVariants.{Nothing, Put}
 use Rattle.brc_rule.specs.declared.told.Told.{Told}
 use Rattle.brc_rule.specs.declared.told.Told.TheVariants.{Did}
 use Rattle.brc_table.specs.Seated.{Continues}
-use Rattle.brc_counter.specs.Seeking.{PassesOver, ClaimsFirst}
+use Rattle.brc_counter.specs.Seeking.{PassesOver, ClaimsAround}
 use Rattle.brc_count.specs.Frames.{FrameSeen, HandleSeen, KeepsRest, KeepsHandles, IsAsBefore, place_seen, ledger_seen}
 
 module _ {A : Type 0} where
-  -- An object with these contents is made, in the first cell that was to be had: the thread claims it, sets its local word and
-  -- its shared one, and puts its block home. The new handle is of the frame's heap and thread, in the place that was next; every
-  -- other place has what it had, and no block came or went.
+  -- An object with these contents is made, in the first cell that was to be had from the word on with which the search began;
+  -- that is the frame's own, unless claims were asked for near the last ones. The thread claims the cell, sets its local word
+  -- and its shared one, and puts its block home. The new handle is of the frame's heap and thread, in the place that was next;
+  -- every other place has what it had, and no block came or went.
   pub record Made (old new : FrameSeen A) (contents : Contents) (given : HandleSeen) : Type 0 where
     pub cell : ℕ
     pub mortal : FIRST_MORTAL ≤ cell
     pub inside : cell < old.heap.cells
     pub mid : List Told
-    pub claimed : ClaimsFirst cell old.seat.log mid
+    pub start : ℕ
+    pub claimed : ClaimsAround old.heap.cells start cell old.seat.log mid
+    pub as_asked : old.near ≡ false → start ≡ old.from
     pub told : new.seat.log ≡ Did (Birth cell (kind_in contents) given.place) old.seat.thread (Put cell contents)
         ∷ Did (InitShared cell) (2 ^ 42) Nothing ∷ Did (InitLocal cell) 1 Nothing ∷ mid
     pub heap : given.heap ≡ old.heap

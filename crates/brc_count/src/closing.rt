@@ -75,6 +75,7 @@ impl<H: Home<A>, A: Allocator> Holdings<H, A> {
             works,
             popped: _popped,
             ledger: _ledger,
+            start: _start,
         } = self;
         works.end();
         let (_heap, seat) = counter.into_parts();

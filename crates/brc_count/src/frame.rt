@@ -1,6 +1,6 @@
 //! A frame: the references of one thread that is there.
 
-ghost use Rattle.std.specs.Prelude.{◌≡◌, ◌+◌, ◌-◌, ◌<◌, ◌≤◌, ℕ, Some, None, IsTrue, IsFalse, [], length, replicate, ◌⊎◌, IfOk, IfErr, OnOk, OnErr, true};
+ghost use Rattle.std.specs.Prelude.{◌≡◌, ◌+◌, ◌-◌, ◌<◌, ◌≤◌, ℕ, Some, None, IsTrue, IsFalse, [], length, replicate, ◌⊎◌, IfOk, IfErr, OnOk, OnErr, true, false};
 ghost use Rattle.brc_words.specs.declared.limits.TheConstants.{FIRST_MORTAL, MOST_THREADS};
 ghost use Rattle.brc_words.specs.declared.fault.Fault.TheVariants.{OutOfMemory};
 ghost use Rattle.brc_runs.specs.declared.event.Source.TheVariants as sources;
@@ -8,7 +8,7 @@ ghost use Rattle.brc_runs.specs.Heap.{words_for};
 ghost use Rattle.brc_counter.specs.Bounded.{IsBounded};
 ghost use Rattle.brc_steps.specs.Joining.{next_thread, registering};
 ghost use Rattle.brc_table.specs.Seated.{Continues};
-ghost use Rattle.brc_count.specs.Frames.{place_seen, handle_at, Owns, Given, Refused, ReleasedOf, IsAsBefore, IsUnlocked, Turns, KeepsHandles, ledger_seen};
+ghost use Rattle.brc_count.specs.Frames.{place_seen, handle_at, Owns, Given, Refused, ReleasedOf, IsAsBefore, IsUnlocked, Turns, KeepsHandles, KeepsButStart, first_word, word_asked, ledger_seen};
 ghost use Rattle.brc_count.specs.Polling.{Polled};
 ghost use Rattle.brc_count.specs.Closing.{Closes};
 ghost use Rattle.brc_count.specs.Making.{Made, RefusedMaking};
@@ -67,6 +67,7 @@ impl<H: Home<A> + Drop, A: Allocator + Copy> Frame<H, A> {
         ensures new { IfOk result (λ frame. frame.seat.log ≡ []) }
         ensures bare { IfOk result (λ frame. (frame.len ≡ 0) × (frame.works ≡ [])) }
         ensures unlocked { IfOk result (λ frame. IsUnlocked frame) }
+        ensures first { IfOk result (λ frame. (frame.from ≡ first_word) × (frame.near ≡ false)) }
         ensures root { OnOk result (root.new.view ≡ registering root.old.view) }
         ensures same_root { (root.new.table ≡ root.old.table) × (root.new.id ≡ root.old.id) }
         ensures refused { IfErr result (λ fault. fault ≡ OutOfMemory) }
@@ -203,6 +204,35 @@ impl<H: Home<A>, A: Allocator> Frame<H, A> {
         self.holdings.reserve()?;
         let place = self.holdings.fill(Source::Immortal(cell), cell);
         Ok(self.handle(place))
+    }
+
+    /// From now on the thread's claims begin with the free word that has this cell (word k has the cells from 64 k on), go on
+    /// to the heap's end, and then from the first mortal cell up to there. For a cell below 266, or past the heap's last, that
+    /// is the first mortal cell's word, as for a frame that nobody asked. It is for threads that make objects at once: where
+    /// each begins with a part of the heap of its own, they meet in one word only once such a part is full.
+    pub fn claim_from(&mut self, cell: u32)
+        ensures from { self.new.from ≡ word_asked self.old.heap.cells cell }
+        ensures near { self.new.near ≡ false }
+        ensures same { KeepsButStart self.old self.new }
+
+        ensures keeps { Keeps self.old self.new }
+        ensures unlocked { IsUnlocked self.old → IsUnlocked self.new }
+    {
+        self.holdings.claim_at(cell, false);
+    }
+
+    /// As `claim_from`, for the first claim; each later one begins with the word of the frame's last claim, or of a lower cell,
+    /// not below the word of the cell named here, that the frame has given back since. It is for heaps with few free cells:
+    /// a claim finds what the thread freed last, and doesn't pass over all that is taken.
+    pub fn claim_near(&mut self, cell: u32)
+        ensures from { self.new.from ≡ word_asked self.old.heap.cells cell }
+        ensures near { self.new.near ≡ true }
+        ensures same { KeepsButStart self.old self.new }
+
+        ensures keeps { Keeps self.old self.new }
+        ensures unlocked { IsUnlocked self.old → IsUnlocked self.new }
+    {
+        self.holdings.claim_at(cell, true);
     }
 
     /// A new object with this payload, and a handle to it: a cell is claimed, its words are set, and the block is put home

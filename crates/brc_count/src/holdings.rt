@@ -1,6 +1,6 @@
 //! What one thread holds of the heap: references in places, popped entries of its merge queue, and dead blocks.
 
-ghost use Rattle.std.specs.Prelude.{◌≡◌, ◌≢◌, ◌+◌, ◌-◌, ◌<◌, ◌≤◌, ℕ, [], replicate, IfOk, IfErr, OnOk, IfSome, Some, None, true, IsTrue, IsFalse, ◌⊎◌, length};
+ghost use Rattle.std.specs.Prelude.{◌≡◌, ◌≢◌, ◌+◌, ◌-◌, ◌<◌, ◌≤◌, ℕ, [], replicate, IfOk, IfErr, OnOk, IfSome, Some, None, true, false, IsTrue, IsFalse, ◌⊎◌, length};
 ghost use Rattle.brc_words.specs.declared.limits.TheConstants.{MOST_PLACES};
 ghost use Rattle.brc_runs.specs.declared.event.Step.TheVariants as steps;
 ghost use Rattle.brc_runs.specs.Heap.{words_for};
@@ -10,10 +10,11 @@ ghost use Rattle.brc_counter.specs.Bounded.{IsBounded};
 ghost use Rattle.brc_counter.specs.Standing.{may_give_up};
 ghost use Rattle.brc_rule.specs.Seen.{part_seen};
 ghost use Rattle.brc_table.specs.Seated.{Continues};
-ghost use Rattle.brc_count.specs.Frames.{IsActive, MayGiveUp, SourceFits, SourceNames, place_seen, locked_place, Given, Refused, ReleasedOf, handle_at, IsAsBefore, KeepsRest, ledger_seen, popped_seen, IsUnlocked};
+ghost use Rattle.brc_count.specs.Frames.{IsActive, MayGiveUp, SourceFits, SourceNames, place_seen, locked_place, Given, Refused, ReleasedOf, handle_at, IsAsBefore, KeepsRest, ledger_seen, popped_seen, IsUnlocked, KeepsButStart, first_word, word_asked};
 
 use crate::held::Held;
 use crate::ledger::Ledger;
+use crate::start::ClaimStart;
 use brc_block::Worklist;
 use brc_counter::{Counter, Home};
 use brc_runs::{Dropped, Source};
@@ -22,14 +23,15 @@ use slab::Slab;
 use std::alloc::Allocator;
 use std::marker::Model;
 
-/// A thread's counter, the places of its frame, its dead blocks with the last that died in front, and one word of popped
-/// entries for each of its queue words.
+/// A thread's counter, the places of its frame, its dead blocks with the last that died in front, one word of popped entries
+/// for each of its queue words, what it has made and given back, and where its claims begin.
 pub(crate) struct Holdings<H: Home<A>, A: Allocator> {
     pub(crate) counter: Counter<H, A>,
     pub(crate) places: Slab<Held, A>,
     pub(crate) works: Worklist<A>,
     pub(crate) popped: Vec<u64, A>,
     pub(crate) ledger: Ledger,
+    pub(crate) start: ClaimStart,
 }
 
 impl<H: Home<A>, A: Allocator> Model for Holdings<H, A> {
@@ -39,7 +41,7 @@ impl<H: Home<A>, A: Allocator> Model for Holdings<H, A> {
 
     ghost Value = { FrameSeen A };
 
-    ghost view = { λ f. record { heap = f.counter.heap; seat = f.counter.seat; len = slab_len f.places; spare = f.places.capacity - slab_len f.places; next = f.places.vacant_key; works = f.works } };
+    ghost view = { λ f. record { heap = f.counter.heap; seat = f.counter.seat; len = slab_len f.places; spare = f.places.capacity - slab_len f.places; next = f.places.vacant_key; works = f.works; from = f.start.from; near = f.start.near } };
 
     ghost invariant = { λ f. Holding A f.counter.heap f.counter.seat f.places f.works f.popped.items f.ledger };
 }
@@ -54,6 +56,7 @@ impl<H: Home<A>, A: Allocator> Holdings<H, A> {
         ensures heap { result.heap ≡ counter.heap }
         ensures seat { result.seat ≡ counter.seat }
         ensures none { (result.len ≡ 0) × (result.works ≡ []) }
+        ensures first { (result.from ≡ first_word) × (result.near ≡ false) }
     {
         Holdings {
             counter,
@@ -64,7 +67,18 @@ impl<H: Home<A>, A: Allocator> Holdings<H, A> {
                 allocs: 0,
                 frees: 0,
             },
+            start: ClaimStart::first(),
         }
+    }
+
+    /// Claims begin with the word of this cell from now on, and near the last ones, or not.
+    pub(crate) fn claim_at(&mut self, cell: u32, near: bool)
+        ensures from { self.new.from ≡ word_asked self.old.heap.cells cell }
+        ensures near { self.new.near ≡ near }
+        ensures same { KeepsButStart self.old self.new }
+    {
+        let cells = self.counter.home().table().cells();
+        self.start = ClaimStart::at(cell, cells, near);
     }
 
     /// What the thread has made, and given back.

@@ -17,6 +17,7 @@ mod locking;
 mod making;
 mod polling;
 mod resting;
+mod start;
 mod work;
 
 pub use closed::ClosedFrame;
@@ -26,3 +27,4 @@ pub use handle::Handle;
 pub use held::Held;
 pub use ledger::Ledger;
 pub use resting::RestingFrame;
+pub use start::unasked_claims_take_the_lowest_cell;

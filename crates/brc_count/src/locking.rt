@@ -9,10 +9,11 @@ ghost use Rattle.brc_words.specs.Kinds.{is_container};
 ghost use Rattle.brc_words.specs.declared.limits.TheConstants.{MOST_ENTRIES, MOST_PLACES};
 ghost use Rattle.brc_runs.specs.declared.event.Change.TheVariants as changes;
 ghost use Rattle.brc_runs.specs.declared.event.Source.TheVariants as sources;
+ghost use Rattle.brc_rule.specs.Keys.{keys_in, KeyPut};
 ghost use Rattle.brc_rule.specs.Logs.{entries_in, kind_in};
 ghost use Rattle.brc_table.specs.Shown.{contents_of};
 ghost use Rattle.brc_count.specs.Frames.{Owns, handle_at, IsActive, Given, Refused, IsAsBefore, IsUnlocked, popped_seen};
-ghost use Rattle.brc_count.specs.Locking.{IsLocked, cell_in, place_locked, cell_locked, contents_found, entries_found, KeepsThread, KeepsFrame, ChangesPlace, KeepsLock, Began, Busy, Ended};
+ghost use Rattle.brc_count.specs.Locking.{IsLocked, cell_in, place_locked, cell_locked, contents_found, entries_found, keys_found, KeepsThread, KeepsFrame, ChangesPlace, KeepsLock, Began, Busy, Ended};
 
 use crate::frame::Frame;
 use crate::handle::Handle;
@@ -101,6 +102,7 @@ impl<H: Home<A>, A: Allocator> Holdings<H, A> {
         requires same_kind { kind_in (contents_of block.1) ≡ kind_in (contents_found self.old) }
         requires entries { (c : ℕ) → cell_in self.old place ≡ Some c →
             entries_in (contents_of block.1) ≡ entries_found self.old ++ c ∷ [] }
+        requires keys { KeyPut (contents_found self.old) (contents_of block.1) }
         ensures ended { Ended self.old self.new (changes.Put place) block }
         ensures places { ChangesPlace self.old self.new place None }
         ensures len { self.new.len + 1 ≡ self.old.len }
@@ -121,6 +123,7 @@ impl<H: Home<A>, A: Allocator> Holdings<H, A> {
         requires container { is_container (kind_in (contents_found self.old)) ≡ true }
         requires same_kind { kind_in (contents_of block.1) ≡ kind_in (contents_found self.old) }
         requires entries { entries_in (contents_of block.1) ≡ remove (entries_found self.old) index }
+        requires keys { keys_in (contents_of block.1) ≡ remove (keys_found self.old) index }
         ensures next { result ≡ self.old.next }
         ensures vacant { cell_in self.old result ≡ None }
         ensures ended { Ended self.old self.new (changes.Take index result) block }
@@ -147,6 +150,7 @@ impl<H: Home<A>, A: Allocator> Holdings<H, A> {
         requires same_kind { kind_in (contents_of block.1) ≡ kind_in (contents_found self.old) }
         requires entries { (c : ℕ) → cell_in self.old place ≡ Some c →
             entries_in (contents_of block.1) ≡ slice_set (entries_found self.old) index c }
+        requires keys { keys_in (contents_of block.1) ≡ keys_found self.old }
         ensures ended { Ended self.old self.new (changes.Swap index place) block }
         ensures places { ChangesPlace self.old self.new place (Some cell) }
         ensures len { self.new.len ≡ self.old.len }
@@ -222,6 +226,7 @@ impl<H: Home<A>, A: Allocator> Frame<H, A> {
         requires same_kind { kind_in (contents_of block.1) ≡ kind_in (contents_found self.old) }
         requires entries { (c : ℕ) → cell_in self.old handle.place ≡ Some c →
             entries_in (contents_of block.1) ≡ entries_found self.old ++ c ∷ [] }
+        requires keys { KeyPut (contents_found self.old) (contents_of block.1) }
         ensures ended { Ended self.old self.new (changes.Put handle.place) block }
         ensures places { ChangesPlace self.old self.new handle.place None }
         ensures len { self.new.len + 1 ≡ self.old.len }
@@ -241,6 +246,7 @@ impl<H: Home<A>, A: Allocator> Frame<H, A> {
         requires container { is_container (kind_in (contents_found self.old)) ≡ true }
         requires same_kind { kind_in (contents_of block.1) ≡ kind_in (contents_found self.old) }
         requires entries { entries_in (contents_of block.1) ≡ remove (entries_found self.old) index }
+        requires keys { keys_in (contents_of block.1) ≡ remove (keys_found self.old) index }
         ensures heap { result.heap ≡ self.old.heap }
         ensures thread { result.thread ≡ self.old.seat.thread }
         ensures next { result.place ≡ self.old.next }
@@ -272,6 +278,7 @@ impl<H: Home<A>, A: Allocator> Frame<H, A> {
         requires same_kind { kind_in (contents_of block.1) ≡ kind_in (contents_found self.old) }
         requires entries { (c : ℕ) → cell_in self.old handle.place ≡ Some c →
             entries_in (contents_of block.1) ≡ slice_set (entries_found self.old) index c }
+        requires keys { keys_in (contents_of block.1) ≡ keys_found self.old }
         ensures same { result ≡ handle }
         ensures ended { Ended self.old self.new (changes.Swap index handle.place) block }
         ensures places { ChangesPlace self.old self.new handle.place (Some cell) }

@@ -39,7 +39,8 @@ impl<H: Home<A>, A: Allocator> Holdings<H, A> {
         Block::new(alloc, 0, payload)
     }
 
-    /// The block becomes a new object, in the first cell that is to be had; it is answered where none is.
+    /// The block becomes a new object, in the first cell that is to be had from where claims begin; it is answered where none
+    /// is.
     #[inline(always)]
     fn make(&mut self, block: Block<A>) -> Result<u32, Block<A>>
         requires low { self.old.next < MOST_PLACES }
@@ -57,9 +58,10 @@ impl<H: Home<A>, A: Allocator> Holdings<H, A> {
         ensures popped { popped_seen self.new ≡ popped_seen self.old }
     {
         let kind = block.payload().kind();
-        let Some(cell) = self.counter.seek() else {
+        let Some(cell) = self.counter.seek_from(self.start.word()) else {
             return Err(block);
         };
+        self.start.claimed(cell);
         let place = self.places.vacant_key() as u32;
         let mut block = block;
         block.set_cell(cell);

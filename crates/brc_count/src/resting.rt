@@ -8,6 +8,7 @@ use crate::frame::Frame;
 use crate::held::Held;
 use crate::holdings::Holdings;
 use crate::ledger::Ledger;
+use crate::start::ClaimStart;
 use brc_block::Worklist;
 use brc_counter::{Home, RestingCounter};
 use slab::Slab;
@@ -21,6 +22,7 @@ pub struct RestingFrame<A: Allocator> {
     places: Slab<Held, A>,
     popped: Vec<u64, A>,
     ledger: Ledger,
+    start: ClaimStart,
     thread: u32,
 }
 
@@ -29,9 +31,9 @@ impl<A: Allocator> Model for RestingFrame<A> {
 
     ghost Value = { FrameSeen A };
 
-    ghost view = { λ f. resting_seen f.counter f.places };
+    ghost view = { λ f. resting_seen f.counter f.places f.start };
 
-    ghost invariant = { λ f. Rests A f.counter f.places f.popped.items f.ledger f.thread };
+    ghost invariant = { λ f. Rests A f.counter f.places f.popped.items f.ledger f.start f.thread };
 }
 
 impl<H: Home<A> + Drop, A: Allocator> Frame<H, A> {
@@ -48,6 +50,7 @@ impl<H: Home<A> + Drop, A: Allocator> Frame<H, A> {
             works,
             popped,
             ledger,
+            start,
         } = holdings;
         works.end();
         RestingFrame {
@@ -55,6 +58,7 @@ impl<H: Home<A> + Drop, A: Allocator> Frame<H, A> {
             places,
             popped,
             ledger,
+            start,
             thread,
         }
     }
@@ -80,6 +84,7 @@ impl<A: Allocator> RestingFrame<A> {
             places,
             popped,
             ledger,
+            start,
             thread,
         } = self;
         Frame {
@@ -89,6 +94,7 @@ impl<A: Allocator> RestingFrame<A> {
                 works: Worklist::new(),
                 popped,
                 ledger,
+                start,
             },
             thread,
         }

@@ -39,7 +39,9 @@ impl<H: Home<A>, A: Allocator> Holdings<H, A> {
         let Some(block) = self.works.pop() else {
             return false;
         };
-        self.counter.free(block.cell());
+        let cell = block.cell();
+        self.counter.free(cell);
+        self.start.freed(cell);
         self.ledger.frees += 1;
         let _payload = block.into_payload();
         true

@@ -1,10 +1,10 @@
 -- What a search for a free cell keeps from word to word, and in a word from cell to cell.
-use Rattle.std.proofs.Common.{◌≡◌, ◌≢◌, ◌≤◌, ◌<◌, ◌+◌, ◌*◌, ◌/◌, ◌%◌, ◌==◌, ◌&&◌, ◌||◌, min, max, ℕ, Bool, true, false, List, [], ◌∷◌, ◌++◌, refl, sym, ◌∙◌, ap, subst, inl, inr, arith}
+use Rattle.std.proofs.Common.{◌≡◌, ◌≢◌, ◌≤◌, ◌<◌, ◌+◌, ◌*◌, ◌/◌, ◌%◌, ◌||◌, min, max, ℕ, Bool, true, false, List, [], ◌∷◌, ◌++◌, Option, Some, None, IfSome, IfNone, refl, sym, ◌∙◌, ap, subst, inl, inr, arith}
 use Rattle.std.specs.Cmp.Derive.{both_true}
 use Rattle.std.specs.Int.{bit_at}
 use Rattle.std.proofs.lemmas.Bool.{cases_lt, cases_eq, and_parts, eq-eqb, true≢false}
 use Rattle.std.proofs.lemmas.List.{append_assoc}
-use Rattle.std.proofs.lemmas.Nat.Bits.{bit_at-lt, bit_at-zero, bit_at-trailing_zeros}
+use Rattle.std.proofs.lemmas.Nat.Bits.{bit_at-lt}
 use Rattle.brc_words.specs.declared.limits.TheConstants.{FIRST_MORTAL}
 use Rattle.brc_runs.specs.Lists.{names}
 use Rattle.brc_known.specs.declared.word.Word.TheVariants.{FreeWord}
@@ -19,7 +19,7 @@ use Rattle.brc_rule.specs.Seen.{part_seen}
 use Rattle.brc_table.specs.Knowing.{known_seen, Keeps}
 use Rattle.brc_table.specs.Seated.{Continues}
 use Rattle.brc_counter.specs.Counter.{CounterSeen}
-use Rattle.brc_counter.specs.Seeking.{lacks_cell, tells_taken, are_free_looks, have_told_taken, PassesFrom, ClaimsFrom, Takes, Misses}
+use Rattle.brc_counter.specs.Seeking.{lacks_cell, tells_taken, are_free_looks, have_told_taken, PassesFrom, ClaimsFrom, ClaimsFirst, ClaimsAround, Takes, Misses}
 use Rattle.brc_counter.specs.Up.{IsKnown}
 
 -- ---- notes
@@ -79,7 +79,7 @@ keeps_same : (n : ℕ) (log : List Told) → Keeps n log log
 keeps_same n log = record { risen = λ drop c seen. seen ∙ sym (risen_named n (log_items log) drop c seen); owners = λ q seen. seen }
 
 -- what was seen risen in a place that still has the cell is seen so by both logs
-keeps_through : {n : ℕ} {before log later : List Told} → part_seen n log ≡ part_seen n before → Keeps n before log → Keeps n log later → Keeps n before later
+pub keeps_through : {n : ℕ} {before log later : List Told} → part_seen n log ≡ part_seen n before → Keeps n before log → Keeps n log later → Keeps n before later
 keeps_through {n} {before} {log} {later} same first second = record {
   risen = λ drop c seen. second.risen drop c (first.risen drop c seen ∙ ap (λ (p : Part). names c (drop_in p drop)) same ∙ risen_named n (log_items before) drop c seen);
   owners = λ q seen. second.owners q (first.owners q seen);
@@ -91,11 +91,11 @@ known_through {n} {log} {later} {old} first second = record { part = second.part
 -- ---- words
 
 -- a search has come to its first cell
-pub begins : {A : Type 0} (start : CounterSeen A) (cells : ℕ) → IsSeeking start FIRST_MORTAL (min (FIRST_MORTAL / 64 * 64) cells) start
-begins start cells = record {
+pub begins : {A : Type 0} (start : CounterSeen A) (first cells : ℕ) → IsSeeking start first (min first cells) start
+begins start first cells = record {
   heap = refl;
   seat = (refl, refl);
-  passed = record { looks = []; above = refl; only = refl; taken = λ d mortal low high. absurd (omega (arith, mortal, high)) };
+  passed = record { looks = []; above = refl; only = refl; taken = λ d mortal low high. absurd (omega (arith, low, high)) };
   slots = refl;
   knows = record { part = refl; blocks = refl; lock = refl };
   keeps = keeps_same start.heap.cells start.seat.log;
@@ -115,19 +115,19 @@ goes_on seeks heap seat passed slots knows keeps = record {
 }
 
 -- one more word is passed over
-pub next_word : {A : Type 0} {start now new : CounterSeen A} (cells word : ℕ) → IsSeeking start FIRST_MORTAL (min (word * 64) cells) now → new.heap ≡ now.heap → Continues now.seat new.seat
+pub next_word : {A : Type 0} {start now new : CounterSeen A} {first : ℕ} (cells word : ℕ) → IsSeeking start first (min (word * 64) cells) now → new.heap ≡ now.heap → Continues now.seat new.seat
     → PassesFrom (word * 64) now.seat.log (min (word * 64 + 64) cells) new.seat.log
     → new.seat.slots ≡ now.seat.slots → IsKnown start.heap.cells new.seat.log (known_seen start.heap.cells now.seat.log) → Keeps start.heap.cells now.seat.log new.seat.log
-    → IsSeeking start FIRST_MORTAL (min ((word + 1) * 64) cells) new
-next_word {A} {start} {now} {new} cells word seeks heap seat passed slots knows keeps =
+    → IsSeeking start first (min ((word + 1) * 64) cells) new
+next_word {A} {start} {now} {new} {first} cells word seeks heap seat passed slots knows keeps =
     let next : min (word * 64 + 64) cells ≡ min ((word + 1) * 64) cells = omega arith in
     goes_on seeks heap seat
-    (subst (λ c. PassesFrom FIRST_MORTAL start.seat.log c new.seat.log) next (passes_on (λ d low past. omega (arith, low, past)) seeks.passed passed)) slots knows keeps
+    (subst (λ c. PassesFrom first start.seat.log c new.seat.log) next (passes_on (λ d low past. omega (arith, low, past)) seeks.passed passed)) slots knows keeps
 
 -- a cell of the next word is claimed
-pub claims_first : {A : Type 0} {start now : CounterSeen A} {log : List Told} (cells word cell : ℕ) → IsSeeking start FIRST_MORTAL (min (word * 64) cells) now → cell < cells → ClaimsFrom (word * 64) cell now.seat.log log
-    → ClaimsFrom FIRST_MORTAL cell start.seat.log log
-claims_first cells word cell seeks inside claims = record {
+pub claims_later : {A : Type 0} {start now : CounterSeen A} {log : List Told} {first : ℕ} (cells word cell : ℕ) → IsSeeking start first (min (word * 64) cells) now → cell < cells → ClaimsFrom (word * 64) cell now.seat.log log
+    → ClaimsFrom first cell start.seat.log log
+claims_later cells word cell seeks inside claims = record {
   mid = claims.mid;
   number = claims.number;
   passed = passes_on (λ d low past. omega (arith, low, past, inside)) seeks.passed claims.passed;
@@ -135,9 +135,85 @@ claims_first cells word cell seeks inside claims = record {
   was_free = claims.was_free;
 }
 
--- all words are passed over, and so all cells
-pub passes_all : {before log : List Told} (cells words : ℕ) → cells ≤ words * 64 → PassesFrom FIRST_MORTAL before (min (words * 64) cells) log → PassesFrom FIRST_MORTAL before cells log
-passes_all {before} {log} cells words enough passed = let all : min (words * 64) cells ≡ cells = omega (arith, enough) in subst (λ c. PassesFrom FIRST_MORTAL before c log) all passed
+-- who passed over some cells passed over fewer
+pub passes_fewer : {first c fewer : ℕ} {before log : List Told} → fewer ≤ c → PassesFrom first before c log → PassesFrom first before fewer log
+passes_fewer few passed = record { looks = passed.looks; above = passed.above; only = passed.only; taken = λ d mortal low high. passed.taken d mortal low (omega (arith, few, high)) }
+
+-- ---- words from one on, to the last and then from the first
+
+-- a cell from the first word on is claimed
+pub claims_ahead : {n start c : ℕ} {before log : List Told} → start * 64 ≤ c → ClaimsFrom (start * 64) c before log → ClaimsAround n start c before log
+claims_ahead {n} {start} {c} ahead claims = record {
+  mid = claims.mid;
+  number = claims.number;
+  passed = record {
+    looks = claims.passed.looks;
+    above = claims.passed.above;
+    only = claims.passed.only;
+    taken = λ d mortal between. elim between [
+      | inl first ↦ claims.passed.taken d mortal first.0 first.1
+      | inr past ↦ absurd (omega (arith, ahead, past.0))
+    ];
+  };
+  told = claims.told;
+  was_free = claims.was_free;
+}
+
+-- all from the first word on were passed over
+pub passes_end : {first n : ℕ} {before log : List Told} (words : ℕ) → n ≤ words * 64 → PassesFrom first before (min (words * 64) n) log → PassesFrom first before n log
+passes_end words enough passed = passes_fewer (omega (arith, enough)) passed
+
+-- and then a cell from the lowest on is claimed
+pub claims_behind : {n first : ℕ} {before mid : List Told} (start : ℕ) (log : List Told) (o : Option ℕ) → first ≤ FIRST_MORTAL → PassesFrom (start * 64) before n mid → IfSome o (λ c. c < n) → IfSome o (λ c. ClaimsFrom first c mid log)
+    → IfSome o (λ c. ClaimsAround n start c before log)
+claims_behind start log None low passed inside claims = tt
+claims_behind start log (Some c) low passed inside claims = record {
+  mid = claims.mid;
+  number = claims.number;
+  passed = record {
+    looks = claims.passed.looks ++ passed.looks;
+    above = claims.passed.above ∙ ap (λ l. claims.passed.looks ++ l) passed.above ∙ sym (append_assoc claims.passed.looks passed.looks _);
+    only = all_looks claims.passed.looks passed.looks claims.passed.only passed.only;
+    taken = λ d mortal between. elim between [
+      | inl ahead ↦ told_before d claims.passed.looks passed.looks (passed.taken d mortal ahead.0 (omega (arith, ahead.1, inside)))
+      | inr past ↦ elim past.1 [
+        | inl ahead ↦ told_before d claims.passed.looks passed.looks (passed.taken d mortal ahead.0 ahead.1)
+        | inr below ↦ told_since d claims.passed.looks passed.looks (claims.passed.taken d mortal (omega (arith, low, mortal)) below)
+      ]
+    ];
+  };
+  told = claims.told;
+  was_free = claims.was_free;
+}
+
+-- or all below the first word were passed over too
+pub passes_behind : {n first to : ℕ} {before mid : List Told} (start : ℕ) (log : List Told) (o : Option ℕ) → first ≤ FIRST_MORTAL → ((d : ℕ) → d < n → d < start * 64 → d < to) → PassesFrom (start * 64) before n mid
+    → IfNone o (PassesFrom first mid to log) → IfNone o (PassesFrom FIRST_MORTAL before n log)
+passes_behind start log (Some c) low meets old new = tt
+passes_behind start log None low meets old new = record {
+  looks = new.looks ++ old.looks;
+  above = new.above ∙ ap (λ l. new.looks ++ l) old.above ∙ sym (append_assoc new.looks old.looks _);
+  only = all_looks new.looks old.looks new.only old.only;
+  taken = λ d mortal same high. elim (cases_lt d (start * 64)) [
+    | inl below ↦ told_since d new.looks old.looks (new.taken d mortal (omega (arith, low, mortal)) (meets d high below))
+    | inr past ↦ told_before d new.looks old.looks (old.taken d mortal past high)
+  ];
+}
+
+-- from the first free word on that is the first cell to be had
+pub claims_first : {n c : ℕ} {before log : List Told} → ClaimsAround n (FIRST_MORTAL / 64) c before log → ClaimsFirst c before log
+claims_first claims = record {
+  mid = claims.mid;
+  number = claims.number;
+  passed = record {
+    looks = claims.passed.looks;
+    above = claims.passed.above;
+    only = claims.passed.only;
+    taken = λ d mortal low high. claims.passed.taken d mortal (inl (omega (arith, mortal), high));
+  };
+  told = claims.told;
+  was_free = claims.was_free;
+}
 
 -- ---- the cells of a word
 

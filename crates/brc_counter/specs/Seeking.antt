@@ -1,7 +1,8 @@
--- A search for a free cell: the free words are looked at from the lowest on, and of each the bits that were found are tried,
--- lowest first, until the thread has a cell. That the lowest is taken first is this heap's own choice, and it holds in the
--- sense of notes: of each mortal cell below the one claimed the thread has found that it wasn't free.
-use Rattle.std.specs.Prelude.{◌≡◌, ◌≤◌, ◌<◌, ◌==◌, ◌&&◌, ◌||◌, ◌/◌, ◌%◌, ℕ, Bool, true, false, List, [], ◌∷◌, ◌++◌}
+-- A search for a free cell: the free words are looked at from one on, to the last and then from the first, and of each the bits
+-- that were found are tried, lowest first, until the thread has a cell. A search that begins with the first word takes the
+-- lowest. That is this heap's own choice, and it holds in the sense of notes: of each mortal cell to which the search came
+-- before the one claimed the thread has found that it wasn't free.
+use Rattle.std.specs.Prelude.{◌≡◌, ◌≤◌, ◌<◌, ◌==◌, ◌&&◌, ◌||◌, ◌*◌, ◌/◌, ◌%◌, ◌⊎◌, ℕ, Bool, true, false, List, [], ◌∷◌, ◌++◌}
 use Rattle.std.specs.Int.{bit_at}
 use Rattle.brc_words.specs.declared.limits.TheConstants.{FIRST_MORTAL}
 use Rattle.brc_runs.specs.declared.event.Step.TheVariants.{Claim}
@@ -64,6 +65,27 @@ pub record ClaimsFrom (first c : ℕ) (before log : List Told) : Type 0 where
 -- the cell is the first that was to be had
 abbrev pub ClaimsFirst : ℕ → List Told → List Told → Type 0
 ClaimsFirst = ClaimsFrom FIRST_MORTAL
+
+-- Cell d is one to which a search from cell s on comes before cell c, in a heap of n cells: where c stands at s or past it,
+-- those from s on; else those from s to the end, and then those below c.
+abbrev pub IsBetween : ℕ → ℕ → ℕ → ℕ → Type 0
+IsBetween n s d c = ((s ≤ d) × (d < c)) ⊎ ((c < s) × (((s ≤ d) × (d < n)) ⊎ (d < c)))
+
+-- The thread has only looked at free words since, and of each mortal cell to which a search from this word on comes before
+-- cell c it has a note that it wasn't free.
+pub record PassesAround (n start c : ℕ) (before log : List Told) : Type 0 where
+  pub looks : List Told
+  pub above : log ≡ looks ++ before
+  pub only : are_free_looks looks ≡ true
+  pub taken : (d : ℕ) → FIRST_MORTAL ≤ d → IsBetween n (start * 64) d c → have_told_taken d looks ≡ true
+
+-- the cell's bit was there, and so the cell is claimed; those before it, from this word on, were passed over
+pub record ClaimsAround (n start c : ℕ) (before log : List Told) : Type 0 where
+  pub mid : List Told
+  pub number : ℕ
+  pub passed : PassesAround n start c before mid
+  pub told : log ≡ Did (Claim c) number Nothing ∷ mid
+  pub was_free : bit_at number (c % 64) ≡ 1
 
 -- one try: the cell is claimed
 pub record Takes (c : ℕ) (before log : List Told) : Type 0 where

@@ -12,7 +12,7 @@ ghost use Rattle.brc_runs.specs.declared.row.Phase.TheVariants as phases;
 ghost use Rattle.brc_runs.specs.Steps.{is_active};
 ghost use Rattle.brc_table.specs.Knowing.{known_seen, Keeps};
 ghost use Rattle.brc_table.specs.Seated.{Continues};
-ghost use Rattle.brc_counter.specs.Seeking.{PassesFrom, PassesOver, ClaimsFrom, ClaimsFirst, Takes, Misses};
+ghost use Rattle.brc_counter.specs.Seeking.{PassesFrom, PassesOver, ClaimsFrom, ClaimsAround, Takes, Misses};
 ghost use Rattle.brc_counter.specs.Standing.{Stands};
 ghost use Rattle.brc_counter.specs.Up.{IsKnown};
 
@@ -83,6 +83,7 @@ impl<H: Home<A>, A: Allocator> Counter<H, A> {
         ensures seat { Continues self.old.seat self.new.seat }
         ensures mortal { IfSome result (λ cell. FIRST_MORTAL ≤ cell) }
         ensures inside { IfSome result (λ cell. cell < self.old.heap.cells) }
+        ensures ahead { IfSome result (λ cell. word * 64 ≤ cell) }
         ensures fresh { IfSome result (λ cell.
             listed_at (taken_seen self.old.heap.cells self.old.seat.log) cell ≡ None) }
         ensures claimed { IfSome result (λ cell.
@@ -110,11 +111,48 @@ impl<H: Home<A>, A: Allocator> Counter<H, A> {
         None
     }
 
-    /// Claims the first free cell that the thread gets: the free words are looked at from the lowest on, and each bit that was
-    /// found is tried once. None where of each mortal cell it was found that it wasn't free, though one that was looked at
-    /// early may be free by then.
+    /// The cells of the free words from one on, up to but not with another: word by word, the lowest first.
     #[inline(always)]
-    pub fn seek(&mut self) -> Option<u32>
+    fn seek_words(&mut self, from: u32, to: u32) -> Option<u32>
+        requires inside { to ≤ free_words_for self.old.heap.cells }
+        requires stands { Stands self.old.heap.cells self.old.seat.log hands.Free }
+        requires active { is_active (part_seen self.old.heap.cells self.old.seat.log).row.stage ≡ true }
+        requires more { (part_seen self.old.heap.cells self.old.seat.log).row.allocs < MOST_BIRTHS }
+        ensures heap { self.new.heap ≡ self.old.heap }
+        ensures seat { Continues self.old.seat self.new.seat }
+        ensures mortal { IfSome result (λ cell. FIRST_MORTAL ≤ cell) }
+        ensures inside { IfSome result (λ cell. cell < self.old.heap.cells) }
+        ensures ahead { IfSome result (λ cell. from * 64 ≤ cell) }
+        ensures fresh { IfSome result (λ cell.
+            listed_at (taken_seen self.old.heap.cells self.old.seat.log) cell ≡ None) }
+        ensures claimed { IfSome result (λ cell.
+            ClaimsFrom (from * 64) cell self.old.seat.log self.new.seat.log) }
+        ensures out { IfSome result (λ cell. self.new.seat.slots ≡ (cell, None) ∷ self.old.seat.slots) }
+        ensures claimed_knows { IfSome result (λ cell. IsKnown self.old.heap.cells self.new.seat.log
+            (handing (hands.Busy phases.Claimed cell)
+            (known_seen self.old.heap.cells self.old.seat.log))) }
+        ensures full { IfNone result (PassesFrom (from * 64) self.old.seat.log
+            (min (to * 64) self.old.heap.cells) self.new.seat.log) }
+        ensures still { IfNone result (self.new.seat.slots ≡ self.old.seat.slots) }
+        ensures full_knows { IfNone result (IsKnown self.old.heap.cells self.new.seat.log
+            (known_seen self.old.heap.cells self.old.seat.log)) }
+        ensures keeps { Keeps self.old.heap.cells self.old.seat.log self.new.seat.log }
+    {
+        for word in from..to {
+            if let Some(cell) = self.seek_word(word) {
+                return Some(cell);
+            }
+        }
+        None
+    }
+
+    /// Claims the first free cell that the thread gets: the free words are looked at from `start` on (word k has the cells
+    /// from 64 k on), to the last and then from the first up to it, and each bit that was found is tried once, the lowest of
+    /// a word first. From word 4 on, or from one past the last, that is from the first mortal cell on; threads that make
+    /// objects at once come upon fewer bits that another takes where each begins with a word of its own. None where of each
+    /// mortal cell it was found that it wasn't free, though one that was looked at early may be free by then.
+    #[inline(always)]
+    pub fn seek_from(&mut self, start: u32) -> Option<u32>
         requires stands { Stands self.old.heap.cells self.old.seat.log hands.Free }
         requires active { is_active (part_seen self.old.heap.cells self.old.seat.log).row.stage ≡ true }
         requires more { (part_seen self.old.heap.cells self.old.seat.log).row.allocs < MOST_BIRTHS }
@@ -126,7 +164,8 @@ impl<H: Home<A>, A: Allocator> Counter<H, A> {
         ensures inside { IfSome result (λ cell. cell < self.old.heap.cells) }
         ensures fresh { IfSome result (λ cell.
             listed_at (taken_seen self.old.heap.cells self.old.seat.log) cell ≡ None) }
-        ensures claimed { IfSome result (λ cell. ClaimsFirst cell self.old.seat.log self.new.seat.log) }
+        ensures claimed { IfSome result (λ cell.
+            ClaimsAround self.old.heap.cells start cell self.old.seat.log self.new.seat.log) }
         ensures out { IfSome result (λ cell. self.new.seat.slots ≡ (cell, None) ∷ self.old.seat.slots) }
         ensures claimed_knows { IfSome result (λ cell. IsKnown self.old.heap.cells self.new.seat.log
             (handing (hands.Busy phases.Claimed cell)
@@ -141,11 +180,9 @@ impl<H: Home<A>, A: Allocator> Counter<H, A> {
         ensures keeps { Keeps self.old.heap.cells self.old.seat.log self.new.seat.log }
     {
         let words = self.heap.table().free_words();
-        for word in FIRST_MORTAL / 64..words {
-            if let Some(cell) = self.seek_word(word) {
-                return Some(cell);
-            }
+        if let Some(cell) = self.seek_words(start, words) {
+            return Some(cell);
         }
-        None
+        self.seek_words(FIRST_MORTAL / 64, start.min(words))
     }
 }

@@ -16,6 +16,7 @@ ghost use Rattle.brc_rule.specs.declared.told.Moved.TheVariants as moves;
 ghost use Rattle.brc_rule.specs.declared.told.Told.TheVariants as told;
 ghost use Rattle.brc_rule.specs.Logs.{entries_in};
 ghost use Rattle.brc_rule.specs.Seen.{contents_locked, taken_seen};
+ghost use Rattle.law_payloads.specs.Payloads.{FindsOwn};
 ghost use Rattle.brc_steps.specs.Owing.{Allowed, Carries, Claims, Unlocks};
 ghost use Rattle.brc_steps.specs.Taking.{AreCells, AreQueued};
 ghost use Rattle.brc_table.specs.Knowing.{known_seen, Keeps};
@@ -80,6 +81,8 @@ impl<H: Home<A>, A: Allocator> Counter<H, A> {
             self.new.seat.log ≡ told.Lost (words.Of fields.Mutex cell) found ∷ self.old.seat.log) }
         ensures still { OnErr result (self.new.seat.slots ≡ self.old.seat.slots) }
         ensures locked { IfErr result (λ found. 0 < found) }
+        ensures won_own { IfOk result (λ block. FindsOwn self.old.heap.cells self.old.seat.log cell
+            (contents_of block.1)) }
         ensures won_knows { IfOk result (λ block. IsKnown self.old.heap.cells self.new.seat.log
             (locking place cell (entries_in (contents_of block.1))
             (known_seen self.old.heap.cells self.old.seat.log))) }
@@ -94,7 +97,7 @@ impl<H: Home<A>, A: Allocator> Counter<H, A> {
         self.heap.table().lock(&mut self.seat, place, cell)
     }
 
-    /// Unlocks the object whose block this is, with the entries that the change makes of those found.
+    /// Unlocks the object whose block this is, with the entries and the keys that the change makes of those found.
     #[inline(always)]
     pub fn unlock(&mut self, block: Block<A>, change: Change)
         requires inside { block.0 < self.old.heap.cells }

@@ -51,6 +51,7 @@ module _ {A : Type 0} where
       locks_place = was.began.locks_place;
       locks_cell = was.began.locks_cell;
       found = was.began.found;
+      own = was.began.own;
     };
     keeps = record {
       heap = was.keeps.heap;
@@ -58,6 +59,8 @@ module _ {A : Type 0} where
       stage = was.keeps.stage;
       popped = was.keeps.popped;
       works = was.keeps.works;
+      from = was.keeps.from;
+      near = was.keeps.near;
     };
     places = record { places = was.places.places; len = was.places.len; next = was.places.next };
   }

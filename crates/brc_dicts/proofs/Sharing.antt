@@ -53,4 +53,6 @@ given_keeps old new source c given gives heap = record {
   popped = ap (λ (h : TableSeen). (part_seen h.cells new.seat.log).popped) heap
       ∙ pops_none old.heap.cells source given.place old.seat.log new.seat.log (one_up old new source given.place c gives.counted);
   works = gives.works;
+  from = gives.rest.from;
+  near = gives.rest.near;
 }

@@ -1,6 +1,6 @@
 -- What the plain calls on lists and mailboxes come to, from an object's kind and entries.
-use Rattle.std.proofs.Common.{suc, ◌≡◌, ◌<◌, ◌-◌, ℕ, true, false, List, [], ◌∷◌, ◌++◌, Some, Result, Ok, Err, length, take, map, remove, slice_get, if◌then◌else◌, refl, sym, ◌∙◌, ap, arith}
-use Rattle.std.proofs.lemmas.Bool.{lt-ltb}
+use Rattle.std.proofs.Common.{suc, ◌≡◌, ◌≢◌, ◌<◌, ◌-◌, ℕ, true, false, List, [], ◌∷◌, ◌++◌, Some, Result, Ok, Err, length, take, map, remove, slice_get, if◌then◌else◌, refl, sym, ◌∙◌, ap, arith}
+use Rattle.std.proofs.lemmas.Bool.{lt-ltb, true≢false}
 use Rattle.std.proofs.lemmas.List.{append-nil}
 use Rattle.std.proofs.Math.ListN.{drop_of_length-le}
 use Rattle.brc_words.specs.declared.fault.Fault.{Fault}
@@ -69,6 +69,10 @@ row_is : (kind : Kind) → is_row kind ≡ true → (found : Contents) → kind_
 row_is kinds.«List» is found same = list_is found same
 row_is kinds.Mailbox is found same = mailbox_is found same
 row_is _ is found same = cc
+
+-- a list or a mailbox is no dictionary
+pub row_keyless : (kind : Kind) → is_row kind ≡ true → kind ≢ kinds.Dict
+row_keyless kind row dict = true≢false (sym row ∙ ap is_row dict)
 
 module _ {R : Type 0} where
   on_its_row : (kind : Kind) (call : List ℕ → Result (R × List ℕ) Fault) (cells : List ℕ)

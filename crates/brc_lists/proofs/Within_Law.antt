@@ -90,6 +90,8 @@ module _ {A : Type 0} where
       stage = ended.keeps.stage ∙ ap (λ (f : FrameSeen A). (part_seen f.heap.cells f.seat.log).row.stage) same;
       popped = ended.keeps.popped ∙ ap (λ (f : FrameSeen A). popped_seen f) same;
       works = ended.keeps.works ∙ ap (λ (f : FrameSeen A). f.works) same;
+      from = ended.keeps.from ∙ ap (λ (f : FrameSeen A). f.from) same;
+      near = ended.keeps.near ∙ ap (λ (f : FrameSeen A). f.near) same;
     };
   }
 

@@ -16,7 +16,7 @@ use std::alloc::Allocator;
 use std::process::Abort;
 
 /// So many new lists.
-fn lists<H: Home<A>, A: Allocator + Copy>(
+pub(crate) fn lists<H: Home<A>, A: Allocator + Copy>(
     rt: &impl Abort,
     alloc: A,
     frame: &mut Frame<H, A>,
@@ -62,7 +62,7 @@ fn is_refused<A: Allocator>(rt: &impl Abort, answer: Result<Handle<A>, Fault>, f
 }
 
 /// No list is made, for this reason.
-fn no_list<H: Home<A>, A: Allocator + Copy>(
+pub(crate) fn no_list<H: Home<A>, A: Allocator + Copy>(
     rt: &impl Abort,
     alloc: A,
     frame: &mut Frame<H, A>,
@@ -134,28 +134,44 @@ fn no_handle<H: Home<A>, A: Allocator>(
     is_refused(rt, none(frame), fault);
 }
 
-/// The list of cell 300 goes, and the next list has that cell.
-fn gives_cell_back<H: Home<A>, A: Allocator + Copy>(
+/// The list with this number goes, which has this cell; the last one has its number now.
+pub(crate) fn goes<H: Home<A>, A: Allocator>(
     rt: &impl Abort,
-    alloc: A,
     frame: &mut Frame<H, A>,
     handles: &mut Vec<Handle<A>, A>,
+    number: usize,
+    cell: u32,
 )
     requires at_heap { All (λ h. h.heap ≡ frame.old.heap) handles.old.items }
     requires unlocked { IsUnlocked frame.old }
     ensures at_heap { All (λ h. h.heap ≡ frame.old.heap) handles.new.items }
     ensures goes_on { GoesOn frame.old frame.new }
 {
-    if handles.len() <= 34 {
+    if handles.len() <= number {
         panic!(rt; "so many handles aren't kept");
     }
-    let gone = handles.swap_remove(34);
+    let gone = handles.swap_remove(number);
     assert!(rt; frame.owns(&gone));
-    assert_eq!(rt; frame.cell(&gone), 300);
+    assert_eq!(rt; frame.cell(&gone), cell);
     frame.release(gone);
     assert_eq!(rt; frame.work(2), 1);
+}
+
+/// The next list has this cell.
+pub(crate) fn next_has<H: Home<A>, A: Allocator + Copy>(
+    rt: &impl Abort,
+    alloc: A,
+    frame: &mut Frame<H, A>,
+    handles: &mut Vec<Handle<A>, A>,
+    cell: u32,
+)
+    requires at_heap { All (λ h. h.heap ≡ frame.old.heap) handles.old.items }
+    requires unlocked { IsUnlocked frame.old }
+    ensures at_heap { All (λ h. h.heap ≡ frame.old.heap) handles.new.items }
+    ensures goes_on { GoesOn frame.old frame.new }
+{
     let list = an_empty_list(rt, alloc, frame);
-    assert_eq!(rt; frame.cell(&list), 300);
+    assert_eq!(rt; frame.cell(&list), cell);
     keep(rt, handles, list);
 }
 
@@ -167,7 +183,8 @@ fn a_full_heap_has_room_again(rt: HostRuntime) {
     let mut handles = lists(&rt, rt.alloc(), &mut frame, 246);
     no_list(&rt, rt.alloc(), &mut frame, Fault::HeapFull);
     assert_eq!(rt; frame.len(), 246);
-    gives_cell_back(&rt, rt.alloc(), &mut frame, &mut handles);
+    goes(&rt, &mut frame, &mut handles, 34, 300);
+    next_has(&rt, rt.alloc(), &mut frame, &mut handles, 300);
     assert_eq!(rt; frame.len(), 246);
     give_all_back(&rt, &mut frame, handles);
     assert_eq!(rt; frame.work(300), 54);

@@ -43,6 +43,8 @@ mod readings;
 #[cfg(test)]
 mod refused;
 #[cfg(test)]
+mod starts;
+#[cfg(test)]
 mod starved;
 #[cfg(test)]
 mod things;

@@ -1,13 +1,16 @@
 -- Contents of an edited payload: its kind stays, and its entries are those of a plain list that is edited so.
-use Rattle.std.proofs.Common.{◌≡◌, ◌≢◌, All, ℕ, List, [], ◌∷◌, ◌++◌, Option, Some, None, map, refl, sym, ◌∙◌, ap, slice_get, slice_set, remove, zero, suc, length, ◌<◌, arith}
+use Rattle.std.proofs.Common.{◌≡◌, ◌≢◌, All, ℕ, List, [], ◌∷◌, ◌++◌, Option, Some, None, map, refl, sym, ◌∙◌, ap, subst, slice_get, slice_set, remove, zero, suc, length, ◌<◌, arith}
+use Rattle.std.proofs.lemmas.List.Elements.{All-map}
 use Rattle.brc_words.specs.declared.key.Key.{Key}
-use Rattle.brc_block.specs.Pairs.{keys_in, cells_in}
+use Rattle.brc_block.specs.Pairs.{keys_in as pair_keys, cells_in}
 use Rattle.brc_block.specs.Payload.{entries_of}
+use Rattle.brc_block.proofs.Columns.{map-remove}
 use Rattle.brc_block.specs.declared.payload.Payload.{Payload}
 use Rattle.brc_block.specs.declared.payload.Payload.TheVariants as payloads
 use Rattle.brc_rule.specs.declared.contents.PlainKey.{PlainKey}
 use Rattle.brc_rule.specs.declared.contents.Contents.{Contents}
 use Rattle.brc_rule.specs.declared.contents.Contents.TheVariants.{Nothing, Truth, Int, Text, «List» as Cells, Dict, Mailbox}
+use Rattle.brc_rule.specs.Keys.{keys_in, KeyPut}
 use Rattle.brc_rule.specs.Logs.{entries_in}
 use Rattle.brc_table.specs.Shown.{contents_of, plain_key}
 use Rattle.brc_lock.specs.Edits.{with_value, with_last, without, replaced, KeyFits}
@@ -43,7 +46,7 @@ module _ {A : Type 0} where
 
   -- a key that isn't among the plain ones isn't among the keys
   pub absent_plainly : (pairs : List (Key A × ℕ)) (key : Key A) → All (λ (pair : PlainKey × ℕ). pair.0 ≢ plain_key key) (map plain pairs)
-      → All (λ other. other ≢ key) (keys_in pairs)
+      → All (λ other. other ≢ key) (pair_keys pairs)
   absent_plainly [] key none k d below = absurd (omega arith)
   absent_plainly (pair ∷ pairs) key none zero d below = λ same. none 0 (plain pair) (omega arith) (ap plain_key same)
   absent_plainly (pair ∷ pairs) key none (suc k) d below = absent_plainly pairs key (λ j e low. none (suc j) e (omega arith)) k d (omega arith)
@@ -52,7 +55,7 @@ module _ {A : Type 0} where
   same_pair a p cell key value = ap (λ k. (plain_key k, a.1)) key ∙ ap (λ v. (plain_key p.0, v)) value
 
   -- pairs with the same keys and cells
-  same_pairs : (after pairs : List (Key A × ℕ)) → keys_in after ≡ keys_in pairs → cells_in after ≡ cells_in pairs → map plain after ≡ map plain pairs
+  same_pairs : (after pairs : List (Key A × ℕ)) → pair_keys after ≡ pair_keys pairs → cells_in after ≡ cells_in pairs → map plain after ≡ map plain pairs
   same_pairs [] [] keys cells = refl
   same_pairs [] (pair ∷ pairs) keys cells = absurd (cc)
   same_pairs (a ∷ after) [] keys cells = absurd (cc)
@@ -60,7 +63,7 @@ module _ {A : Type 0} where
       joined (same_pair a pair pair.1 (first_same keys) (first_same cells)) (same_pairs after pairs (rest_same keys) (rest_same cells))
 
   -- the pairs after it have the same keys, and the cells with one exchanged
-  pub plain_set : (pairs after : List (Key A × ℕ)) (index cell : ℕ) → keys_in after ≡ keys_in pairs → cells_in after ≡ slice_set (cells_in pairs) index cell
+  pub plain_set : (pairs after : List (Key A × ℕ)) (index cell : ℕ) → pair_keys after ≡ pair_keys pairs → cells_in after ≡ slice_set (cells_in pairs) index cell
       → map plain after ≡ with_value (map plain pairs) index cell
   plain_set [] [] index cell keys cells = refl
   plain_set [] (a ∷ after) index cell keys cells = absurd (cc)
@@ -137,6 +140,59 @@ replaced_entry (Truth truth) index cell = refl
 replaced_entry (Int number) index cell = refl
 replaced_entry (Text text) index cell = refl
 
+-- ---- keys
+
+put_keys : (pairs : List (PlainKey × ℕ)) (key : PlainKey) (cell : ℕ)
+    → map (λ (p : PlainKey × ℕ). p.0) (pairs ++ (key, cell) ∷ []) ≡ map (λ (p : PlainKey × ℕ). p.0) pairs ++ key ∷ []
+put_keys [] key cell = refl
+put_keys (pair ∷ pairs) key cell = ap (λ ks. pair.0 ∷ ks) (put_keys pairs key cell)
+
+set_keys : (pairs : List (PlainKey × ℕ)) (index cell : ℕ) → map (λ (p : PlainKey × ℕ). p.0) (with_value pairs index cell) ≡ map (λ (p : PlainKey × ℕ). p.0) pairs
+set_keys [] index cell = refl
+set_keys (pair ∷ pairs) zero cell = refl
+set_keys (pair ∷ pairs) (suc index) cell = ap (λ ks. pair.0 ∷ ks) (set_keys pairs index cell)
+
+no_key_removed : (index : ℕ) → [] ≡ remove {X = PlainKey} [] index
+no_key_removed zero = refl
+no_key_removed (suc index) = refl
+
+-- one key more, in a dictionary
+with_key : {A : Type 0} (found : Contents) (key : Option (Key A)) (cell : ℕ) → KeyFits found key → KeyPut found (with_last found key cell)
+with_key (Cells cells) None cell fits = refl
+with_key (Mailbox letters) None cell fits = refl
+with_key (Dict pairs) (Some key) cell fits = record {
+  key = plain_key key;
+  absent = All-map (λ other. other ≢ plain_key key) (λ (p : PlainKey × ℕ). p.0) pairs fits;
+  last = put_keys pairs (plain_key key) cell;
+}
+with_key (Cells cells) (Some key) cell fits = absurd fits
+with_key (Mailbox letters) (Some key) cell fits = absurd fits
+with_key (Dict pairs) None cell fits = absurd fits
+with_key Nothing key cell fits = absurd fits
+with_key (Truth truth) key cell fits = absurd fits
+with_key (Int number) key cell fits = absurd fits
+with_key (Text text) key cell fits = absurd fits
+
+-- one key fewer
+without_key : (found : Contents) (index : ℕ) → keys_in (without found index) ≡ remove (keys_in found) index
+without_key (Dict pairs) index = map-remove (λ (p : PlainKey × ℕ). p.0) pairs index
+without_key (Cells cells) index = no_key_removed index
+without_key (Mailbox letters) index = no_key_removed index
+without_key Nothing index = no_key_removed index
+without_key (Truth truth) index = no_key_removed index
+without_key (Int number) index = no_key_removed index
+without_key (Text text) index = no_key_removed index
+
+-- the same keys
+replaced_key : (found : Contents) (index cell : ℕ) → keys_in (replaced found index cell) ≡ keys_in found
+replaced_key (Dict pairs) index cell = set_keys pairs index cell
+replaced_key (Cells cells) index cell = refl
+replaced_key (Mailbox letters) index cell = refl
+replaced_key Nothing index cell = refl
+replaced_key (Truth truth) index cell = refl
+replaced_key (Int number) index cell = refl
+replaced_key (Text text) index cell = refl
+
 -- ---- an entry
 
 pub plain_get : {A : Type 0} (pairs : List (Key A × ℕ)) (index : ℕ) (pair : Key A × ℕ) → slice_get pairs index ≡ Some pair
@@ -175,6 +231,23 @@ module _ {A : Type 0} where
       → entries_in (contents_of after) ≡ slice_set (entries_in found) index cell
   replaced_found p q after found index cell is same set =
       ap entries_in set ∙ replaced_entry (contents_of q) index cell ∙ ap (λ x. slice_set (entries_in (contents_of x)) index cell) same ∙ ap (λ f. slice_set (entries_in f) index cell) is
+
+  -- and its keys, by those that were found
+  pub key_put_found : (p q after : Payload A) (found : Contents) (key : Option (Key A)) (cell : ℕ) → contents_of p ≡ found → q ≡ p
+      → KeyFits (contents_of p) key → contents_of after ≡ with_last (contents_of q) key cell → KeyPut found (contents_of after)
+  key_put_found p q after found key cell is same fits put =
+      subst (λ f. KeyPut f (contents_of after)) is
+      (subst (KeyPut (contents_of p)) (sym (put ∙ ap (λ x. with_last (contents_of x) key cell) same)) (with_key (contents_of p) key cell fits))
+
+  pub key_left_found : (p q after : Payload A) (found : Contents) (index : ℕ) → contents_of p ≡ found → q ≡ p → contents_of after ≡ without (contents_of q) index
+      → keys_in (contents_of after) ≡ remove (keys_in found) index
+  key_left_found p q after found index is same left =
+      ap keys_in left ∙ without_key (contents_of q) index ∙ ap (λ x. remove (keys_in (contents_of x)) index) same ∙ ap (λ f. remove (keys_in f) index) is
+
+  pub keys_found_again : (p q after : Payload A) (found : Contents) (index cell : ℕ) → contents_of p ≡ found → q ≡ p → contents_of after ≡ replaced (contents_of q) index cell
+      → keys_in (contents_of after) ≡ keys_in found
+  keys_found_again p q after found index cell is same set =
+      ap keys_in set ∙ replaced_key (contents_of q) index cell ∙ ap (λ x. keys_in (contents_of x)) same ∙ ap keys_in is
 
 pub some_same : (a b : ℕ) → Some a ≡ Some b → a ≡ b
 some_same a b e = cc

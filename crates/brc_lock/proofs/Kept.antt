@@ -6,7 +6,7 @@ use Rattle.brc_lock.specs.Waiting.{Waits, NoTry, OneMore}
 
 module _ {A : Type 0} where
   pub thread_kept : (frame : FrameSeen A) → KeepsThread frame frame
-  thread_kept frame = record { heap = refl; thread = refl; stage = refl; popped = refl; works = refl }
+  thread_kept frame = record { heap = refl; thread = refl; stage = refl; popped = refl; works = refl; from = refl; near = refl }
 
   pub thread_kept_on : {old mid new : FrameSeen A} → KeepsThread old mid → KeepsThread mid new → KeepsThread old new
   thread_kept_on first second = record {
@@ -15,6 +15,8 @@ module _ {A : Type 0} where
     stage = second.stage ∙ first.stage;
     popped = second.popped ∙ first.popped;
     works = second.works ∙ first.works;
+    from = second.from ∙ first.from;
+    near = second.near ∙ first.near;
   }
 
   pub frame_kept : (frame : FrameSeen A) → KeepsFrame frame frame

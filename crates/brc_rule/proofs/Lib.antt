@@ -7,6 +7,7 @@ pub mod Homing
 pub mod Knowing
 pub mod Contents_Law
 pub mod Locked_Contents
+pub mod Keys_Law
 pub mod Opening_Law
 pub mod Since
 pub mod Noting

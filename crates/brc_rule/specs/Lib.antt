@@ -1,4 +1,5 @@
 pub mod Layout
+pub mod Keys
 pub mod Logs
 pub mod Homes
 pub mod Rule

@@ -17,6 +17,7 @@ use Rattle.brc_rule.specs.declared.told.Moved.{Moved}
 use Rattle.brc_rule.specs.declared.told.Moved.TheVariants as moves
 use Rattle.brc_rule.specs.declared.told.Told.{Told}
 use Rattle.brc_rule.specs.declared.told.Told.TheVariants.{Did, Saw, Lost}
+use Rattle.brc_rule.specs.Keys.{KeysAfter}
 
 -- ---- contents as the world has them
 
@@ -136,12 +137,14 @@ abbrev pub keeps : Step → Bool
 keeps (Unlock changes.Keep) = true
 keeps _ = false
 
--- what a step puts home is of the kind and has the entries that the cell has after it
+-- What a step puts home is of the kind and has the entries that the cell has after it, and has the keys that the step
+-- leaves of those that were put home last.
 pub record PutsHome (h : Heap) (run : Run) (t : ℕ) (s : Step) (c : ℕ) (contents : Contents) : Type 0 where
   pub cell : puts h t s ≡ Some c
   pub finds_none : takes h t s ≡ None
   pub kind : kind_in contents ≡ (cell_at (after_target h t s (target_at h t s)) c).kind
   pub entries : entries_in contents ≡ entries_at (after_target h t s (target_at h t s)) c
+  pub keys : KeysAfter s (contents_at run c) contents
   pub kept : keeps s ≡ true → contents ≡ contents_at run c
 
 -- what a step finds is what was put home last

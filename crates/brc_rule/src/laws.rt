@@ -8,7 +8,8 @@ ghost use Rattle.atomic_table.specs.Table.{State, Allows, opening as opens_with}
 ghost use Rattle.brc_words.specs.declared.limits.TheConstants.{MOST_THREADS};
 ghost use Rattle.brc_runs.specs.declared.event.Step.{Step as step};
 ghost use Rattle.brc_runs.specs.declared.event.Step.TheVariants as steps;
-ghost use Rattle.brc_runs.specs.Heap.{is_gathered, AreOptions};
+ghost use Rattle.brc_runs.specs.declared.event.Change.{Change as change};
+ghost use Rattle.brc_runs.specs.Heap.{cell_at, is_gathered, AreOptions};
 ghost use Rattle.brc_runs.specs.Holding.{carries, Headline};
 ghost use Rattle.brc_runs.specs.Runs.{IsReached};
 ghost use Rattle.brc_runs.specs.Steps.{locked_at};
@@ -21,6 +22,7 @@ ghost use Rattle.brc_rule.specs.declared.told.Moved.TheVariants as moves;
 ghost use Rattle.brc_rule.specs.declared.told.Told.TheVariants as told;
 ghost use Rattle.brc_rule.specs.declared.view.View.{View as view};
 ghost use Rattle.brc_rule.specs.Layout.{spot, extent};
+ghost use Rattle.brc_rule.specs.Keys.{HasDistinctKeys, KeysGo};
 ghost use Rattle.brc_rule.specs.Logs.{Run, world, own_of, all_of, lives_of, contents_at, keeps, IsLegal};
 ghost use Rattle.brc_rule.specs.Homes.{AtRest, ContentsFit};
 ghost use Rattle.brc_rule.specs.Rule.{log_in, with_told, StandsOnce, Kept};
@@ -108,4 +110,29 @@ pub fn lockings_find_what_was_put_home()
         → contents_locked (own_of t run) ≡ Some (contents_at run c) }
     ensures fit { (n limit : ℕ) (run : Run) (c : ℕ) → AreOptions n limit → IsLegal n limit run
         → AtRest (world n limit run) c → ContentsFit (world n limit run) run c }
+{}
+
+/// What an unlocking puts home has the keys that were put home last in that cell, which are those that its locking found: all
+/// of them, in a dictionary one more that wasn't there, or one fewer.
+#[tactic(auto, using(crate::proofs::Keys_Law::keys_unlocked))]
+pub fn unlockings_pin_the_keys()
+    ensures { (n limit : ℕ) (run : Run) (t : ℕ) (how : change) (number c : ℕ) (p : contents)
+        → IsLegal n limit ((t, told.Did (steps.Unlock how) number (moves.Put c p)) ∷ run)
+        → KeysGo how (contents_at run c) p }
+{}
+
+/// No key of a dictionary stands twice: in what was put home last in any cell, in what a thread's locking found, and so in the
+/// blocks of unlocked objects and in what each seat knows.
+pub fn no_key_stands_twice<B>()
+    ensures home { (n limit : ℕ) (run : Run) (c : ℕ) → IsLegal n limit run
+        → HasDistinctKeys (contents_at run c) }
+    ensures locked { (n limit : ℕ) (run : Run) (t : ℕ) (p : contents) → IsLegal n limit run
+        → contents_locked (own_of t run) ≡ Some p → HasDistinctKeys p }
+    ensures blocks { (shows : B → ℕ × contents) (n limit : ℕ) (s : State (Option B) view)
+        (r : Kept shows n limit s) (c : ℕ) (block : B) → c < n → AtRest (world n limit r.run) c
+        → (cell_at (world n limit r.run) c).mutex ≡ 0 → get_elem? s.homes c ≡ some (some (Some block))
+        → HasDistinctKeys (shows block).1 }
+    ensures seats { (shows : B → ℕ × contents) (n limit : ℕ) (s : State (Option B) view)
+        (r : Kept shows n limit s) (j : ℕ) (v : view) (p : contents) → get_elem? s.views j ≡ some v
+        → v.active ≡ true → contents_locked v.log ≡ Some p → HasDistinctKeys p }
 {}

@@ -15,7 +15,8 @@ mod view;
 pub use contents::{Contents, PlainKey};
 pub use laws::{
     each_item_stands_in_one_log, lockings_find_what_was_put_home, looks_keep_the_rule,
-    tables_open_by_the_rule, what_stands_here_is_one_run, words_lie_apart,
+    no_key_stands_twice, tables_open_by_the_rule, unlockings_pin_the_keys,
+    what_stands_here_is_one_run, words_lie_apart,
 };
 pub use told::{Moved, Told};
 pub use view::View;

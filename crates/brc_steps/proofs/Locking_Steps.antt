@@ -33,6 +33,7 @@ use Rattle.brc_rule.specs.declared.told.Told.{Told}
 use Rattle.brc_rule.specs.declared.told.Told.TheVariants.{Did, Lost}
 use Rattle.brc_rule.specs.declared.view.View.{View}
 use Rattle.brc_rule.specs.Layout.{spot}
+use Rattle.brc_rule.specs.Keys.{KeysGo}
 use Rattle.brc_rule.specs.Logs.{kind_in, entries_in, Run, own_of, world, contents_at, takes_of}
 use Rattle.brc_rule.specs.Homes.{LiesThere}
 use Rattle.brc_rule.specs.Rule.{with_told, Kept}
@@ -48,6 +49,9 @@ use Rattle.brc_steps.proofs.Taking_Steps.{unlisted_seen, found_cells, found_few}
 use Rattle.brc_rule.specs.Homes.{AtRest, ContentsFit}
 use Rattle.brc_rule.proofs.Contents_Law.{contents_fit}
 use Rattle.brc_rule.proofs.Locked_Contents.{locked_contents}
+use Rattle.brc_rule.proofs.Growing.{at_inside}
+use Rattle.law_payloads.specs.Payloads.{FindsOwn}
+use Rattle.law_payloads.proofs.Payloads_Law.{seats_own_locks}
 
 -- what a place of a frame names is one of the heap's cells, alive, and on no worklist
 record Named (h : Heap) (c : ℕ) : Type 0 where
@@ -109,6 +113,13 @@ module _ {B : Type 0} (shows : B → ℕ × Contents) (n limit : ℕ) where
       (λ bad. live_owner x.owner cell.rest.live (sym (ap (λ (y : Cell). y.owner) now) ∙ bad))
       (λ live unlocked off. omega (arith, some_thread, sym (ap (λ (y : Cell). y.mutex) now) ∙ unlocked)))
 
+  -- What was found is the thread's own, where it is private to it: in a state of the rule each log says so of its lockings.
+  found_own : (st : Table (Option B) View) (v : View) (id : ℕ) (k c : ℕ) (found : Contents) (words : List ℕ) (homes : List (mathlib.Core.Option.Option (Option B))) → get_elem? st.views id ≡ some v → v.active ≡ true
+      → Rule (record { words = words; homes = homes; views = set st.views id (with_told (Did (Lock k) 0 (moves.Found c found)) v) }) → FindsOwn n v.log c found
+  found_own st v id k c found words homes at active after =
+      let told : View = with_told (Did (Lock k) 0 (moves.Found c found)) v in
+      (seats_own_locks shows n limit _ after id told (set_here st.views id told (at_inside st.views id v at)) active).1
+
   pub locks_cell : (id : ℕ) (v : View) (slots : List (ℕ × Option B)) (k c : ℕ) → v.active ≡ true → 0 < v.thread → c < n → Carries n v.log (Lock k) c
       → Allows Rule n id (v, slots) (spot n (Of Mutex c)) (λ there. either (there == 0) v.thread there) (λ there me. Locked shows n v slots k c there (there == 0) me)
   locks_cell id v slots k c active some_thread low carries st r deep at small =
@@ -128,12 +139,15 @@ module _ {B : Type 0} (shows : B → ℕ × Contents) (n limit : ℕ) where
                   (sym (eq-eqb there 0 same)) (locking st r id v k c at active some_thread low carries same lies),
               subst (λ b. Locked shows n v slots k c there b (with_told (Did (Lock k) 0 (moves.Found c (shows lies.block).1)) v, (c, Some lies.block) ∷ slots)) (sym (eq-eqb there 0 same))
                   (record {
-                    block = lies.block;
-                    of_cell = lies.of_cell;
-                    fresh = unlisted_seen n limit h v.thread v.log c known some_thread (cell.rest.off v.thread);
-                    entries = found_cells n limit h v.thread v.log c _ known are;
-                    few = found_few n limit h v.thread v.log c _ known are;
-                    after_is = refl;
+                    took = record {
+                      block = lies.block;
+                      of_cell = lies.of_cell;
+                      fresh = unlisted_seen n limit h v.thread v.log c known some_thread (cell.rest.off v.thread);
+                      entries = found_cells n limit h v.thread v.log c _ known are;
+                      few = found_few n limit h v.thread v.log c _ known are;
+                      after_is = refl;
+                    };
+                    own = found_own st v id k c (shows lies.block).1 _ _ at active (locking st r id v k c at active some_thread low carries same lies);
                   }),
             )
         | inr other ↦ (
@@ -193,6 +207,7 @@ module _ {B : Type 0} (shows : B → ℕ × Contents) (n limit : ℕ) where
           kind = unlocks.same_kind ∙ kind_is ∙ sym (ap (λ (y : Cell). y.kind) now) ∙ sym (ap (λ z. (cell_at z c).kind) on_cell);
           entries = unlocks.entries ∙ ap (λ (f : List (Option ℕ)). entries_changed change f (entries_in found)) (sym known.part.frame_is) ∙ ap (entries_changed change (frame_at h t)) entries_are
               ∙ sym (changed_entries h t c change (omega (arith, sound.shaped.entries, cell.low))) ∙ sym (ap (λ z. entries_at z c) on_cell);
+          keys = subst (λ f. KeysGo change f p) there unlocks.keys;
           kept = λ keep. kept_there change keep unlocks.kept ∙ there;
         };
         elsewhere = λ d other. ap (λ b. if b then p else contents_at r.run d) (ne_eqb c d (λ e. other (sym e)));

@@ -44,6 +44,7 @@ use Rattle.brc_rule.specs.Seen.{taken_seen}
 use Rattle.brc_steps.specs.Owing.{Carries, Claims, Bears}
 use Rattle.brc_steps.specs.Taking.{Claimed}
 use Rattle.brc_rule.proofs.Homing.{home_out}
+use Rattle.brc_rule.proofs.Keys_Law.{bare_keys}
 use Rattle.brc_rule.proofs.Knowing.{Known, knows, is_enabled, hand_there}
 use Rattle.brc_steps.proofs.Local_Steps.{fits_cell, read_cell}
 use Rattle.brc_rule.proofs.Looking.{lost, unmoved}
@@ -274,6 +275,7 @@ module _ {B : Type 0} (shows : B → ℕ × Contents) (n limit : ℕ) where
           finds_none = refl;
           kind = bears.kind_is ∙ sym (ap (λ (y : Cell). y.kind) now);
           entries = bears.empty ∙ sym (set_empty h.entries c);
+          keys = bare_keys p bears.empty;
           kept = λ bad. absurd (true≢false (sym bad));
         };
         elsewhere = λ d other. ap (λ b. if b then p else contents_at r.run d) (ne_eqb c d (λ e. other (sym e)));

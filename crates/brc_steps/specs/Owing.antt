@@ -18,6 +18,7 @@ use Rattle.brc_known.specs.Owners_Seen.{has_seen_owner}
 use Rattle.brc_words.specs.declared.kind.Kind.{Kind}
 use Rattle.brc_rule.specs.declared.contents.Contents.{Contents}
 use Rattle.brc_rule.specs.declared.told.Told.{Told}
+use Rattle.brc_rule.specs.Keys.{KeysGo}
 use Rattle.brc_rule.specs.Logs.{kind_in, entries_in, log_items}
 use Rattle.brc_rule.specs.Seen.{part_seen, counts_seen, risen_seen, contents_locked, own_may}
 use Rattle.brc_rule.specs.Noted.{noted, newest_step}
@@ -89,7 +90,7 @@ pub record Bears (n : ℕ) (log : List Told) (block : ℕ × Contents) (kind : K
   pub empty : entries_in block.1 ≡ []
 
 -- The block of the locked object, changed as the unlock says: it is of the kind that the locking found, and has the
--- entries that the change makes of those found; where nothing changes it is as it was found.
+-- entries and the keys that the change makes of those found; where nothing changes it is as it was found.
 pub record Unlocks (n : ℕ) (log : List Told) (block : ℕ × Contents) (found : Contents) (change : Change) (c : ℕ) : Type 0 where
   pub own : own_may n (part_seen n log) (Unlock change) ≡ true
   pub cell : meant (part_seen n log) (Unlock change) ≡ Some c
@@ -98,6 +99,7 @@ pub record Unlocks (n : ℕ) (log : List Told) (block : ℕ × Contents) (found 
   pub container : (is_keep change || is_container (kind_in found)) ≡ true
   pub same_kind : kind_in block.1 ≡ kind_in found
   pub entries : entries_in block.1 ≡ entries_changed change (part_seen n log).frame (entries_in found)
+  pub keys : KeysGo change found block.1
   pub kept : is_keep change ≡ true → block.1 ≡ found
 
 -- the thread's own part allows a step on a word that is no cell's

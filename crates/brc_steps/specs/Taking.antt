@@ -15,6 +15,7 @@ use Rattle.brc_rule.specs.declared.view.View.{View}
 use Rattle.brc_rule.specs.Logs.{entries_in}
 use Rattle.brc_rule.specs.Rule.{with_told}
 use Rattle.brc_rule.specs.Seen.{taken_seen}
+use Rattle.law_payloads.specs.Payloads.{FindsOwn}
 
 -- each of the entries is one of so many cells
 abbrev pub AreCells : ℕ → List ℕ → Type 0
@@ -50,7 +51,13 @@ abbrev pub Claimed : {B : Type 0} → ℕ → View → List (ℕ × Option B) �
 Claimed n v slots c number true me = TookSlot n v slots c number me
 Claimed n v slots c number false me = me ≡ (with_told (Lost (FreeWord (c / 64)) number) v, slots)
 
--- The object is locked, and the seat has its block with the contents found; or its mutex wasn't 0.
+-- The object is locked, and the seat has its block with the contents found: of a cell that was private to the seat's thread the
+-- payload that it put home there last, and of one below the globals what the heap was opened with.
+pub record TookLocked {B : Type 0} (shows : B → ℕ × Contents) (n : ℕ) (v : View) (slots : List (ℕ × Option B)) (k c number : ℕ) (me : Me (Option B) View) : Type 0 where
+  pub took : TookBlock shows n v slots (Lock k) c number me
+  pub own : FindsOwn n v.log c (shows took.block).1
+
+-- The object is locked; or its mutex wasn't 0.
 abbrev pub Locked : {B : Type 0} → (B → ℕ × Contents) → ℕ → View → List (ℕ × Option B) → ℕ → ℕ → ℕ → Bool → Me (Option B) View → Type 0
-Locked shows n v slots k c number true me = TookBlock shows n v slots (Lock k) c 0 me
+Locked shows n v slots k c number true me = TookLocked shows n v slots k c 0 me
 Locked shows n v slots k c number false me = me ≡ (with_told (Lost (Of Mutex c) number) v, slots)

@@ -48,6 +48,7 @@ impl<S, M: Draining> Play<S, View> for Drains<M> {
 }
 
 /// A swap, which leaves an open word empty.
+#[inline(always)]
 pub(crate) fn take_bits<A: Allocator, M: Draining>(
     table: &HeapTable<A>,
     seat: &mut Place<A>,
@@ -67,6 +68,7 @@ pub(crate) fn take_bits<A: Allocator, M: Draining>(
 }
 
 /// A setting of bit 63, which closes the word.
+#[inline(always)]
 pub(crate) fn take_and_close<A: Allocator, M: Draining>(
     table: &HeapTable<A>,
     seat: &mut Place<A>,

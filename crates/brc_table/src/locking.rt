@@ -12,6 +12,7 @@ ghost use Rattle.brc_rule.specs.declared.told.Moved.TheVariants as moves;
 ghost use Rattle.brc_rule.specs.declared.told.Told.TheVariants as told;
 ghost use Rattle.brc_rule.specs.Logs.{entries_in};
 ghost use Rattle.brc_rule.specs.Seen.{contents_locked, taken_seen};
+ghost use Rattle.law_payloads.specs.Payloads.{FindsOwn};
 ghost use Rattle.brc_steps.specs.Owing.{Carries, Unlocks};
 ghost use Rattle.brc_steps.specs.Taking.{AreCells};
 ghost use Rattle.brc_table.specs.Knowing.{known_seen, Knows, Keeps};
@@ -28,7 +29,8 @@ use brc_runs::{Change, Step};
 use std::alloc::Allocator;
 
 impl<A: Allocator> HeapTable<A> {
-    /// Lock: the block of an object that nobody had locked, with the contents that were put home last; or who has it locked.
+    /// Lock: the block of an object that nobody had locked, with the contents that were put home last, by the seat's own thread where
+    /// the object is private to it; or who has it locked.
     #[inline(always)]
     pub fn lock(&self, seat: &mut ThreadSeat<A>, place: u32, cell: u32) -> Result<Block<A>, u64>
         requires table { seat.old.table ≡ self.now.table }
@@ -44,6 +46,7 @@ impl<A: Allocator> HeapTable<A> {
         ensures still { IfErr result (λ found. seat.new.slots ≡ seat.old.slots) }
         ensures locked { IfErr result (λ found. 0 < found) }
         ensures seat { Continues seat.old seat.new }
+        ensures won_own { IfOk result (λ block. FindsOwn self.now.cells seat.old.log cell (contents_of block.1)) }
         ensures won_knows { IfOk result (λ block. Knows self.now.cells seat.new.log (locking place cell (entries_in (contents_of block.1)) (known_seen self.now.cells seat.old.log))) }
         ensures won_found { IfOk result (λ block. contents_locked seat.new.log ≡ Some (contents_of block.1)) }
         ensures lost_knows { OnErr result (Knows self.now.cells seat.new.log (known_seen self.now.cells seat.old.log)) }
@@ -58,7 +61,7 @@ impl<A: Allocator> HeapTable<A> {
         }
     }
 
-    /// Unlock: the block goes home, with the entries that the change makes of those found.
+    /// Unlock: the block goes home, with the entries and the keys that the change makes of those found.
     #[inline(always)]
     pub fn unlock(&self, seat: &mut ThreadSeat<A>, block: Block<A>, change: Change)
         requires table { seat.old.table ≡ self.now.table }

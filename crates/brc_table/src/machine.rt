@@ -66,6 +66,7 @@ impl<S, M: Won> Play<S, View> for Exchanges<M> {
 pub(crate) type Place<A> = Seat<Option<Block<A>>, View>;
 
 /// A load, as an item.
+#[inline(always)]
 fn load_as<A: Allocator, M: Item>(
     table: &HeapTable<A>,
     seat: &mut Place<A>,
@@ -84,6 +85,7 @@ fn load_as<A: Allocator, M: Item>(
 }
 
 /// A load, as an event.
+#[inline(always)]
 pub(crate) fn load<A: Allocator>(
     table: &HeapTable<A>,
     seat: &mut Place<A>,
@@ -100,6 +102,7 @@ pub(crate) fn load<A: Allocator>(
 }
 
 /// A plain store, as an item.
+#[inline(always)]
 fn store_as<A: Allocator, M: Item>(
     table: &HeapTable<A>,
     seat: &mut Place<A>,
@@ -119,6 +122,7 @@ fn store_as<A: Allocator, M: Item>(
 }
 
 /// A plain store, as an event.
+#[inline(always)]
 pub(crate) fn store<A: Allocator>(
     table: &HeapTable<A>,
     seat: &mut Place<A>,
@@ -136,6 +140,7 @@ pub(crate) fn store<A: Allocator>(
 }
 
 /// A swap, as an item.
+#[inline(always)]
 fn swap_as<A: Allocator, M: Item>(
     table: &HeapTable<A>,
     seat: &mut Place<A>,
@@ -155,6 +160,7 @@ fn swap_as<A: Allocator, M: Item>(
 }
 
 /// A swap, as an event.
+#[inline(always)]
 pub(crate) fn swap<A: Allocator>(
     table: &HeapTable<A>,
     seat: &mut Place<A>,
@@ -172,6 +178,7 @@ pub(crate) fn swap<A: Allocator>(
 }
 
 /// An addition, as an item.
+#[inline(always)]
 fn add_as<A: Allocator, M: Item>(
     table: &HeapTable<A>,
     seat: &mut Place<A>,
@@ -191,6 +198,7 @@ fn add_as<A: Allocator, M: Item>(
 }
 
 /// An addition, as an event.
+#[inline(always)]
 pub(crate) fn add<A: Allocator>(
     table: &HeapTable<A>,
     seat: &mut Place<A>,
@@ -208,6 +216,7 @@ pub(crate) fn add<A: Allocator>(
 }
 
 /// A setting of bits, as an item.
+#[inline(always)]
 fn or_as<A: Allocator, M: Item>(
     table: &HeapTable<A>,
     seat: &mut Place<A>,
@@ -227,6 +236,7 @@ fn or_as<A: Allocator, M: Item>(
 }
 
 /// A setting of bits, as an event.
+#[inline(always)]
 pub(crate) fn or<A: Allocator>(
     table: &HeapTable<A>,
     seat: &mut Place<A>,
@@ -244,6 +254,7 @@ pub(crate) fn or<A: Allocator>(
 }
 
 /// A load, as an item of its word.
+#[inline(always)]
 fn look_as<A: Allocator, M: Item>(table: &HeapTable<A>, seat: &mut Place<A>, word: Word) -> u64
     requires same { seat.old.table_id ≡ table.now.table }
     requires inside { IsWord table.now.cells word }
@@ -257,6 +268,7 @@ fn look_as<A: Allocator, M: Item>(table: &HeapTable<A>, seat: &mut Place<A>, wor
 
 #[tactic(auto, using(brc_rule::proofs::Looking::looks))]
 /// A load, as a look, which is always allowed.
+#[inline(always)]
 pub(crate) fn look<A: Allocator>(table: &HeapTable<A>, seat: &mut Place<A>, word: Word) -> u64
     requires same { seat.old.table_id ≡ table.now.table }
     requires inside { IsWord table.now.cells word }
@@ -268,6 +280,7 @@ pub(crate) fn look<A: Allocator>(table: &HeapTable<A>, seat: &mut Place<A>, word
 }
 
 /// A compare-exchange, as an item or a note.
+#[inline(always)]
 fn exchange_as<A: Allocator, M: Won>(
     table: &HeapTable<A>,
     seat: &mut Place<A>,
@@ -291,6 +304,7 @@ fn exchange_as<A: Allocator, M: Won>(
 }
 
 /// A compare-exchange, as an event told the number expected, or a note of the number found.
+#[inline(always)]
 pub(crate) fn exchange<A: Allocator>(
     table: &HeapTable<A>,
     seat: &mut Place<A>,
@@ -335,6 +349,7 @@ impl<S, M: Bounded> Play<S, View> for Finds<M> {
 }
 
 /// A load, as a look at a word of which the log tells a bound.
+#[inline(always)]
 pub(crate) fn look_within<A: Allocator, M: Bounded>(
     table: &HeapTable<A>,
     seat: &mut Place<A>,

@@ -68,6 +68,7 @@ impl<A: Allocator, M: Ending> Play<Option<Block<A>>, View> for Ends<M> {
 }
 
 /// A load.
+#[inline(always)]
 fn load_ends<A: Allocator, M: Ending>(
     table: &HeapTable<A>,
     seat: &mut Place<A>,
@@ -86,6 +87,7 @@ fn load_ends<A: Allocator, M: Ending>(
 }
 
 /// A setting of bits.
+#[inline(always)]
 fn or_ends<A: Allocator, M: Ending>(
     table: &HeapTable<A>,
     seat: &mut Place<A>,
@@ -105,6 +107,7 @@ fn or_ends<A: Allocator, M: Ending>(
 }
 
 /// A subtraction.
+#[inline(always)]
 fn sub_ends<A: Allocator, M: Ending>(
     table: &HeapTable<A>,
     seat: &mut Place<A>,
@@ -124,6 +127,7 @@ fn sub_ends<A: Allocator, M: Ending>(
 }
 
 /// Whether the object is dead, by the number that the step found.
+#[inline(always)]
 fn takes(step: Step, number: u64) -> bool
     ensures { result ≡ takes_block step (cell_told step number) }
 {
@@ -136,6 +140,7 @@ fn takes(step: Step, number: u64) -> bool
 }
 
 /// The block of the slot that the seat took last, where the object is dead.
+#[inline(always)]
 fn take_if<A: Allocator>(
     table: &HeapTable<A>,
     seat: &mut Place<A>,
@@ -263,6 +268,7 @@ impl<A: Allocator, M: Winning> Play<Option<Block<A>>, View> for Locks<M> {
     ghost then = { λ step me number after. Locked shows M.cells me.0 me.1 M.place M.cell number (number == 0) after };
 }
 
+#[inline(always)]
 fn claim_as<A: Allocator, M: Winning>(
     table: &HeapTable<A>,
     seat: &mut Place<A>,
@@ -280,6 +286,7 @@ fn claim_as<A: Allocator, M: Winning>(
 }
 
 /// The free word of the cell keeps the bits of the mask, and where it had the cell's bit the seat has its empty slot.
+#[inline(always)]
 pub(crate) fn claim_by<A: Allocator>(
     table: &HeapTable<A>,
     seat: &mut Place<A>,
@@ -295,6 +302,7 @@ pub(crate) fn claim_by<A: Allocator>(
     claim_as::<A, Brand>(table, seat, cell, mask)
 }
 
+#[inline(always)]
 fn lock_as<A: Allocator, M: Winning>(
     table: &HeapTable<A>,
     seat: &mut Place<A>,
@@ -317,6 +325,7 @@ fn lock_as<A: Allocator, M: Winning>(
 }
 
 /// The mutex word of an object that nobody has locked becomes this number, and the seat has its block.
+#[inline(always)]
 pub(crate) fn lock_by<A: Allocator>(
     table: &HeapTable<A>,
     seat: &mut Place<A>,
@@ -334,6 +343,7 @@ pub(crate) fn lock_by<A: Allocator>(
 }
 
 /// The block of the slot that the seat took last.
+#[inline(always)]
 pub(crate) fn take_out<A: Allocator>(
     table: &HeapTable<A>,
     seat: &mut Place<A>,
@@ -376,6 +386,7 @@ impl<A: Allocator, M: Giving> Play<Option<Block<A>>, View> for Gives<M> {
     ghost then = { λ step me number after. (after ≡ (with_told (M.item number) me.0, rest me.1)) × FewFrees M.cells after.0.log };
 }
 
+#[inline(always)]
 fn give_as<A: Allocator, M: Giving>(
     table: &HeapTable<A>,
     seat: &mut Place<A>,
@@ -396,6 +407,7 @@ fn give_as<A: Allocator, M: Giving>(
 }
 
 /// The slot that the seat took last goes home with what is in it.
+#[inline(always)]
 pub(crate) fn give<A: Allocator>(
     table: &HeapTable<A>,
     seat: &mut Place<A>,
@@ -415,6 +427,7 @@ pub(crate) fn give<A: Allocator>(
     give_as::<A, Brand>(table, seat, word, new, step)
 }
 
+#[inline(always)]
 fn give_bit_as<A: Allocator, M: Giving>(
     table: &HeapTable<A>,
     seat: &mut Place<A>,
@@ -435,6 +448,7 @@ fn give_bit_as<A: Allocator, M: Giving>(
 }
 
 /// The same by a setting of bits, which tells the word as it was.
+#[inline(always)]
 pub(crate) fn give_bit<A: Allocator>(
     table: &HeapTable<A>,
     seat: &mut Place<A>,
@@ -455,6 +469,7 @@ pub(crate) fn give_bit<A: Allocator>(
 }
 
 /// A block is put into the empty slot that the seat took last.
+#[inline(always)]
 pub(crate) fn put_in<A: Allocator>(
     table: &HeapTable<A>,
     seat: &mut Place<A>,

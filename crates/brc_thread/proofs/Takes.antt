@@ -42,8 +42,17 @@ module _ {A : Type 0} where
           locks_place = began.locks_place;
           locks_cell = began.locks_cell;
           found = began.found;
+          own = began.own;
         };
-        keeps = record { heap = keeps.heap; thread = keeps.thread; stage = keeps.stage; popped = keeps.popped; works = keeps.works };
+        keeps = record {
+          heap = keeps.heap;
+          thread = keeps.thread;
+          stage = keeps.stage;
+          popped = keeps.popped;
+          works = keeps.works;
+          from = keeps.from;
+          near = keeps.near;
+        };
         places = frame.places;
       })
 

@@ -1,10 +1,10 @@
 //! A mutator: what a thread of the runtime works with.
 
-ghost use Rattle.std.specs.Prelude.{◌≡◌, ◌<◌, ◌≤◌, ◌-◌, [], ◌⊎◌, length, IsTrue, IsFalse, IfOk, IfErr, OnOk, OnErr};
+ghost use Rattle.std.specs.Prelude.{◌≡◌, ◌<◌, ◌≤◌, ◌-◌, [], ◌⊎◌, length, true, false, IsTrue, IsFalse, IfOk, IfErr, OnOk, OnErr};
 ghost use Rattle.brc_words.specs.declared.limits.TheConstants.{GLOBALS};
 ghost use Rattle.brc_runs.specs.declared.event.Source.TheVariants as sources;
 ghost use Rattle.brc_runs.specs.Heap.{words_for};
-ghost use Rattle.brc_count.specs.Frames.{Given, Refused, IsAsBefore, IsUnlocked, KeepsHandles, Turns, ledger_seen};
+ghost use Rattle.brc_count.specs.Frames.{Given, Refused, IsAsBefore, IsUnlocked, KeepsHandles, KeepsButStart, Turns, word_asked, ledger_seen};
 ghost use Rattle.brc_count.specs.Polling.{Polled};
 ghost use Rattle.brc_count.specs.Closing.{Closes};
 ghost use Rattle.brc_count.specs.Owned.{Keeps, Gains};
@@ -76,6 +76,33 @@ impl<H: Home<A>, A: Allocator> Mutator<H, A> {
         ensures unlocked { IsUnlocked self.new }
     {
         self.frame.immortal(GLOBALS)
+    }
+
+    /// From now on the thread's claims begin with the 64 cells that have this one, go on to the heap's end, and then from the
+    /// first mortal cell up to there. For a cell below 266, or past the heap's last, that is the first mortal cell, as for a
+    /// mutator that nobody asked. Threads that make objects at once each begin with a part of the heap of their own.
+    pub fn claim_from(&mut self, cell: u32)
+        ensures from { self.new.from ≡ word_asked self.old.heap.cells cell }
+        ensures near { self.new.near ≡ false }
+        ensures same { KeepsButStart self.old self.new }
+
+        ensures keeps { Keeps self.old self.new }
+        ensures unlocked { IsUnlocked self.old → IsUnlocked self.new }
+    {
+        self.frame.claim_from(cell);
+    }
+
+    /// As `claim_from`, for the first claim; each later one begins where the thread claimed or freed last: for a heap with few
+    /// free cells, in which a search from the same cell passes over all that is taken.
+    pub fn claim_near(&mut self, cell: u32)
+        ensures from { self.new.from ≡ word_asked self.old.heap.cells cell }
+        ensures near { self.new.near ≡ true }
+        ensures same { KeepsButStart self.old self.new }
+
+        ensures keeps { Keeps self.old self.new }
+        ensures unlocked { IsUnlocked self.old → IsUnlocked self.new }
+    {
+        self.frame.claim_near(cell);
     }
 
     /// Takes what the thread was told, drains the queue words that this names, and deals with each entry that was in them.

@@ -1,7 +1,7 @@
 //! The root: it registers threads, and gathers those that have left.
 
-ghost use Rattle.std.specs.Prelude.{◌≡◌, ◌≤◌, [], IfOk, IfErr, OnOk, OnErr};
-ghost use Rattle.brc_count.specs.Frames.{IsUnlocked, ledger_seen};
+ghost use Rattle.std.specs.Prelude.{◌≡◌, ◌≤◌, [], false, IfOk, IfErr, OnOk, OnErr};
+ghost use Rattle.brc_count.specs.Frames.{IsUnlocked, first_word, ledger_seen};
 ghost use Rattle.brc_words.specs.declared.limits.TheConstants.{MOST_THREADS};
 ghost use Rattle.brc_steps.specs.Joining.{next_thread, registering, gathering};
 ghost use Rattle.brc_table.specs.Seated.{view_of};
@@ -50,6 +50,7 @@ impl<A: Allocator + Copy> Root<A> {
         ensures new { IfOk result (λ mutator. mutator.seat.log ≡ []) }
         ensures idle { IfOk result (λ mutator. (mutator.len ≡ 0) × (mutator.works ≡ [])) }
         ensures unlocked { IfOk result (λ mutator. IsUnlocked mutator) }
+        ensures first { IfOk result (λ mutator. (mutator.from ≡ first_word) × (mutator.near ≡ false)) }
         ensures ledger { IfOk result (λ mutator. ledger_seen mutator ≡ record { allocs = 0; frees = 0 }) }
         ensures root { OnOk result (self.new.view ≡ registering self.old.view) }
         ensures same_root { (self.new.table ≡ self.old.table) × (self.new.id ≡ self.old.id) }

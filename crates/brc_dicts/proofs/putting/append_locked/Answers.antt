@@ -2,6 +2,8 @@ use Rattle.std.proofs.Common.{All, ◌≢◌, ◌<◌, ◌++◌, [], ◌∷◌, 
 use Rattle.brc_words.specs.declared.limits.TheConstants.{MOST_ENTRIES}
 use Rattle.brc_block.specs.Payload.{entries_of, keys_of, kind_of}
 use Rattle.brc_table.specs.Shown.{contents_of}
+use Rattle.brc_count.specs.Locking.{contents_found}
+use Rattle.brc_count.proofs.Keys_Shown.{keyed_put}
 use Rattle.brc_dicts.specs.Plain.{plain_put}
 use Rattle.brc_dicts.specs.Putting.{RefusedRoom}
 use Rattle.brc_dicts.proofs.Standing.{others_than}
@@ -31,6 +33,14 @@ end_put-requires-clause-entries g c = λ value at.
     (c.put_pair_reserved.ensures.put ∙ ap (λ es. es ++ c.cell-cell.result ∷ [])
     (ap entries_of c.payload_mut-2.ensures.value ∙ c.make_room.ensures.entries ∙ ap entries_of c.payload_mut.ensures.value))
     (sym c.cell-cell.ensures.cell ∙ at)
+
+pub end_put-requires-clause-keys : goal.end_put-requires-clause-keys
+end_put-requires-clause-keys g c =
+    let absent = c.requires.absent in
+    keyed_put c.args.block.1 c.put_pair_reserved.new.self (contents_found c.args.frame.now) c.args.key c.requires.found (ap kind_of absent.is)
+    (subst (All (λ other. other ≢ c.args.key)) (sym (ap keys_of absent.is)) (others_than c.args.key absent.pairs.items absent.none))
+    (c.put_pair_reserved.ensures.keys ∙ ap (λ ks. ks ++ c.args.key ∷ [])
+    (ap keys_of c.payload_mut-2.ensures.value ∙ c.make_room.ensures.keys ∙ ap keys_of c.payload_mut.ensures.value))
 
 pub returns-clause-put : goal.returns-clause-put
 returns-clause-put g c = λ before k since.

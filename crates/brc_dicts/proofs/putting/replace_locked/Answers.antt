@@ -1,5 +1,7 @@
 use Rattle.std.proofs.Common.{Some, arith, subst, sym, ◌∙◌, ap, slice_set}
 use Rattle.brc_block.specs.Payload.{entries_of, keys_of, kind_of}
+use Rattle.brc_count.specs.Locking.{contents_found}
+use Rattle.brc_count.proofs.Keys_Shown.{keys_stay}
 use Rattle.brc_dicts.specs.Plain.{plain_put}
 use Rattle.brc_dicts.specs.Seeking.{IsThere}
 use Rattle.brc_dicts.proofs.Shown.{put_there, entry_there, entry_within}
@@ -25,6 +27,11 @@ end_swap-old-requires-clause-entries g c = λ value at.
     entries_set c.args.frame.now c.args.block.1 c.set.new.self c.args.index c.cell-cell.result value c.requires.found
     (c.set.ensures.set ∙ ap (λ p. slice_set (entries_of p) c.args.index c.cell-cell.result) c.payload_mut.ensures.value)
     (sym c.cell-cell.ensures.cell ∙ at)
+
+pub end_swap-old-requires-clause-keys : goal.end_swap-old-requires-clause-keys
+end_swap-old-requires-clause-keys g c =
+    keys_stay c.args.block.1 c.set.new.self (contents_found c.args.frame.now) c.requires.found
+    (c.set.ensures.keys ∙ ap keys_of c.payload_mut.ensures.value)
 
 pub returns-clause-put : goal.returns-clause-put
 returns-clause-put g c = λ before k since.

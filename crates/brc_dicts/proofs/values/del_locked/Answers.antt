@@ -1,5 +1,7 @@
 use Rattle.std.proofs.Common.{arith, subst, sym, ◌∙◌, ap, remove}
 use Rattle.brc_block.specs.Payload.{entries_of, keys_of, kind_of}
+use Rattle.brc_count.specs.Locking.{contents_found}
+use Rattle.brc_count.proofs.Keys_Shown.{keys_left}
 use Rattle.brc_dicts.specs.Seeking.{IsThere, IsAbsent}
 use Rattle.brc_dicts.specs.Plain.{plain_del}
 use Rattle.brc_dicts.proofs.Shown.{del_there, del_may, del_absent, entry_there, entry_within, entries_shown}
@@ -43,6 +45,12 @@ end_take-requires-clause-entries g c =
     ∙ ap (λ p. remove (entries_of p) c.in-There.index) c.payload_mut.ensures.value
     ∙ ap (λ es. remove es c.in-There.index) (sym (entries_are c.place.new.self c.args.block.1
     (found_placed c.args.frame.now c.place.new.self _ c.place.ensures.same c.requires.found)))
+
+pub end_take-requires-clause-keys : goal.end_take-requires-clause-keys
+end_take-requires-clause-keys g c =
+    keys_left c.args.block.1 c.remove-cell.new.self (contents_found c.place.new.self) c.in-There.index
+    (found_placed c.args.frame.now c.place.new.self _ c.place.ensures.same c.requires.found)
+    (c.remove-cell.ensures.keys ∙ ap (λ p. remove (keys_of p) c.in-There.index) c.payload_mut.ensures.value)
 
 pub returns-clause-takes : goal.returns-clause-takes
 returns-clause-takes g c = λ before k since.

@@ -2,8 +2,20 @@ use Rattle.std.proofs.Common.{◌<◌, ◌++◌, ◌∷◌, [], length, sym, ◌
 use Rattle.brc_words.specs.declared.limits.TheConstants.{MOST_ENTRIES}
 use Rattle.brc_block.specs.declared.payload.Payload.{Payload}
 use Rattle.brc_block.specs.Payload.{kind_of, entries_of}
+use Rattle.brc_count.specs.Locking.{contents_found}
+use Rattle.brc_count.proofs.Keys_Shown.{keyless_put}
+use Rattle.brc_lists.proofs.Rows_Law.{row_keyless}
 use Rattle.brc_lists.proofs.Within_Law.{puts_in}
 use Rattle.brc_lists.proofs.within.put_locked.Goals as goal
+
+pub end_put-requires-clause-keys : goal.end_put-requires-clause-keys
+end_put-requires-clause-keys g c =
+    let room = c.in_default.ensures in
+    let here = c.payload_mut.ensures.value in
+    let there = c.payload_mut-2.ensures.value in
+    keyless_put c.args.block.1 c.put_reserved.new.self (contents_found c.args.frame.now) c.requires.has.found
+    (λ dict. row_keyless c.args.kind c.requires.row (sym room.is ∙ ap kind_of here ∙ dict))
+    (c.put_reserved.ensures.kind ∙ ap kind_of there ∙ room.kind ∙ ap kind_of here)
 
 pub returns-clause-put : goal.returns-clause-put
 returns-clause-put g c =

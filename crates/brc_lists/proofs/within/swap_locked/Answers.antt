@@ -1,8 +1,15 @@
 use Rattle.std.proofs.Common.{slice_get, slice_set, sym, ◌∙◌, ap}
 use Rattle.brc_block.specs.declared.payload.Payload.{Payload}
-use Rattle.brc_block.specs.Payload.{kind_of, entries_of}
+use Rattle.brc_block.specs.Payload.{kind_of, entries_of, keys_of}
+use Rattle.brc_count.specs.Locking.{contents_found}
+use Rattle.brc_count.proofs.Keys_Shown.{keys_stay}
 use Rattle.brc_lists.proofs.Within_Law.{swaps_in}
 use Rattle.brc_lists.proofs.within.swap_locked.Goals as goal
+
+pub end_swap-requires-clause-keys : goal.end_swap-requires-clause-keys
+end_swap-requires-clause-keys g c =
+    keys_stay c.args.block.1 c.set.new.self (contents_found c.args.frame.now) c.requires.has.found
+    (c.set.ensures.keys ∙ ap keys_of c.payload_mut.ensures.value)
 
 pub returns-in-Ok-clause-swapped : goal.returns-in-Ok-clause-swapped
 returns-in-Ok-clause-swapped g c =

@@ -1,8 +1,10 @@
 use Rattle.std.proofs.Common.{◌<◌, arith, length, remove, sym, ◌∙◌, ap, subst}
 use Rattle.std.proofs.lemmas.Option.{slice_get_within}
 use Rattle.brc_block.specs.declared.payload.Payload.{Payload}
-use Rattle.brc_block.specs.Payload.{kind_of, entries_of}
+use Rattle.brc_block.specs.Payload.{kind_of, entries_of, keys_of}
+use Rattle.brc_count.specs.Frames.{FrameSeen}
 use Rattle.brc_count.specs.Locking.{contents_found}
+use Rattle.brc_count.proofs.Keys_Shown.{keys_left}
 use Rattle.brc_lists.proofs.Within_Law.{few_entries, place_found, takes_out}
 use Rattle.brc_lists.proofs.within.take_locked.Goals as goal
 
@@ -20,6 +22,12 @@ remove-entry-requires g c = record {
   within = subst (λ (p : Payload g.row.A.Denot). c.args.index < length (entries_of p)) (sym c.payload_mut.ensures.value)
       (slice_get_within (entries_of c.args.block.1) c.args.index c.in-Ok.entry c.in-Ok.ensures.entry);
 }
+
+pub end_take-requires-clause-keys : goal.end_take-requires-clause-keys
+end_take-requires-clause-keys g c =
+    keys_left c.args.block.1 c.remove-entry.new.self (contents_found c.entry_and_place.new.frame) c.args.index
+    (ap (λ (f : FrameSeen g.row.A.Denot). contents_found f) c.in-Ok.ensures.same ∙ c.requires.has.found)
+    (c.remove-entry.ensures.keys ∙ ap (λ (p : Payload g.row.A.Denot). remove (keys_of p) c.args.index) c.payload_mut.ensures.value)
 
 pub returns-clause-taken : goal.returns-clause-taken
 returns-clause-taken g c =

@@ -1,4 +1,4 @@
-use Rattle.std.proofs.Common.{Some, subst}
+use Rattle.std.proofs.Common.{subst}
 use Rattle.brc_block.specs.declared.payload.Payload.TheVariants as payloads
 use Rattle.brc_table.specs.Shown.{contents_of}
 use Rattle.brc_lock.specs.Edits.{KeyFits}

@@ -1,5 +1,7 @@
 use Rattle.std.proofs.Common.{◌-◌, arith, ap, sym, ◌∙◌, length, slice_get, remove}
-use Rattle.brc_block.specs.Payload.{kind_of, entries_of}
+use Rattle.brc_block.specs.Payload.{kind_of, entries_of, keys_of}
+use Rattle.brc_count.specs.Locking.{contents_found}
+use Rattle.brc_count.proofs.Keys_Shown.{keys_left}
 use Rattle.brc_thread.proofs.Payloads.{entries_shown}
 use Rattle.brc_thread.proofs.Takes.{entries_mid, takes_last}
 use Rattle.brc_thread.proofs.clearing.take_last.Goals as goal
@@ -14,6 +16,12 @@ end_take-requires-clause-entries g c =
     entries_shown c.remove-cell.new.self ∙ c.remove-cell.ensures.left
     ∙ ap (λ p. remove (entries_of p) (c.len-len.result - 1)) c.payload_mut.ensures.value
     ∙ ap (λ es. remove es (c.len-len.result - 1)) (sym (entries_mid c.begin.new.self c.place.new.self c.in-Some.block.1 c.place.ensures.same c.in-Some.ensures.began.found))
+
+pub end_take-requires-clause-keys : goal.end_take-requires-clause-keys
+end_take-requires-clause-keys g c =
+    keys_left c.in-Some.block.1 c.remove-cell.new.self (contents_found c.place.new.self) (c.len-len.result - 1)
+    (ap contents_found c.place.ensures.same ∙ c.in-Some.ensures.began.found)
+    (c.remove-cell.ensures.keys ∙ ap (λ p. remove (keys_of p) (c.len-len.result - 1)) c.payload_mut.ensures.value)
 
 pub returns-clause-takes : goal.returns-clause-takes
 returns-clause-takes g c =

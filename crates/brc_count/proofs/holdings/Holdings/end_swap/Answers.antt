@@ -15,7 +15,7 @@ unlock-requires-clause-unlocks g c =
     let back : FrameSeen g.row.A.Denot → Type 0 = λ f. Unlocks f.heap.cells f.seat.log (shows c.args.block) (found_locked f.seat.log) (changes.Swap c.args.index c.args.place) c.args.block.0 in
     subst back (sym c.self.view_is) (unlocks_swap c.args.self.now c.args.block c.args.index c.args.place c.args.cell c.requires.active
     (subst (λ (f : FrameSeen g.row.A.Denot). (part_seen f.heap.cells f.seat.log).row.hand ≡ hands.Free) c.self.view_is c.self.invariant.hand_is)
-    c.requires.locked c.requires.of_cell c.requires.container c.requires.same_kind c.requires.entry c.requires.filled c.requires.apart c.requires.entries)
+    c.requires.locked c.requires.of_cell c.requires.container c.requires.same_kind c.requires.entry c.requires.filled c.requires.apart c.requires.entries c.requires.keys)
 
 pub invariant_of-self : goal.invariant_of-self
 invariant_of-self g c =

@@ -19,7 +19,7 @@ unlock-requires-clause-unlocks g c =
     (subst (λ (f : FrameSeen g.row.A.Denot). (part_seen f.heap.cells f.seat.log).row.hand ≡ hands.Free) c.self.view_is c.self.invariant.hand_is)
     c.requires.locked c.requires.of_cell c.requires.container c.requires.same_kind c.requires.entry (subst (λ k. k < MOST_PLACES) (ap (λ (f : FrameSeen g.row.A.Denot). f.next) (sym c.self.view_is) ∙ sym c.vacant_key-place.ensures.value) c.requires.low)
     (subst (λ (f : FrameSeen g.row.A.Denot). cell_in f c.vacant_key-place.result ≡ None) c.self.view_is
-    (c.self.invariant.placed c.vacant_key-place.result ∙ ap cell_held c.vacant_key-place.ensures.vacant)) c.requires.entries)
+    (c.self.invariant.placed c.vacant_key-place.result ∙ ap cell_held c.vacant_key-place.ensures.vacant)) c.requires.entries c.requires.keys)
 
 pub invariant_of-self : goal.invariant_of-self
 invariant_of-self g c =

@@ -37,5 +37,5 @@ returns-clause-given g c =
       seat = up.seat;
       len = c.insert_reserved-key.ensures.len;
       works = refl;
-      rest = record { stage = ap (λ (p : Part). p.row.stage) up.knows.part; lock = ap (λ (p : Part). p.row.locked) up.knows.part };
+      rest = record { stage = ap (λ (p : Part). p.row.stage) up.knows.part; lock = ap (λ (p : Part). p.row.locked) up.knows.part; from = refl; near = refl };
     }

@@ -1,4 +1,4 @@
-use Rattle.std.proofs.Common.{subst, ◌∙◌, sym, ap}
+use Rattle.std.proofs.Common.{subst, ◌∙◌, refl, sym, ap}
 use Rattle.brc_known.specs.Items.{Part}
 use Rattle.brc_count.specs.Frames.{IsUnlocked, cell_held, pushed}
 use Rattle.brc_count.proofs.Changes.{after_release, same_cell}
@@ -35,5 +35,5 @@ returns-in-Some-give_up-clause-released g c = λ d there.
       works = c.push.ensures ∙ ap (λ b. pushed b c.self.inside.works) (sym c.in-Some-give_up.is);
       vacant = all.placed c.args.place ∙ ap cell_held gone.changed;
       others = λ j other. all.placed j ∙ ap cell_held (gone.others j other) ∙ sym (c.self.invariant.placed j);
-      rest = record { stage = ap (λ (p : Part). p.row.stage) up.knows.part; lock = ap (λ (p : Part). p.row.locked) up.knows.part };
+      rest = record { stage = ap (λ (p : Part). p.row.stage) up.knows.part; lock = ap (λ (p : Part). p.row.locked) up.knows.part; from = refl; near = refl };
     }

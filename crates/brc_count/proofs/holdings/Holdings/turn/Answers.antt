@@ -1,4 +1,4 @@
-use Rattle.std.proofs.Common.{◌∙◌, ◌^◌, ◌-◌, sym, ap, subst, false}
+use Rattle.std.proofs.Common.{◌∙◌, sym, ap, subst, false}
 use Rattle.brc_block.specs.Blocks.{front_cell, front_entries}
 use Rattle.brc_runs.specs.declared.event.Dropped.TheVariants as drops
 use Rattle.brc_counter.specs.Standing.{Holds}
@@ -56,23 +56,23 @@ returns-in_default-give_up-clause-turned g c = λ is.
 pub free-requires-clause-inside : goal.free-requires-clause-inside
 free-requires-clause-inside g c =
     let front = sym c.in_default.ensures.unchanged ∙ c.in-Some-pop.ensures.some in
-    rw c.cell.ensures (front_inside c.self.inside.counter.seat c.self.inside.counter.seat c.in-Some-pop.block.0 c.in-Some-pop.block.1 c.pop.new.self c.self.invariant front)
+    rw c.cell-cell.ensures (front_inside c.self.inside.counter.seat c.self.inside.counter.seat c.in-Some-pop.block.0 c.in-Some-pop.block.1 c.pop.new.self c.self.invariant front)
 
 pub free-requires-clause-carries : goal.free-requires-clause-carries
 free-requires-clause-carries g c =
     let front = sym c.in_default.ensures.unchanged ∙ c.in-Some-pop.ensures.some in
     let none = ap front_entries (sym front) ∙ c.in_default.ensures.none in
-    rw c.cell.ensures (free_carries c.self.inside.counter.seat c.self.inside.counter.seat c.in-Some-pop.block.0 c.in-Some-pop.block.1 c.pop.new.self c.self.invariant
+    rw c.cell-cell.ensures (free_carries c.self.inside.counter.seat c.self.inside.counter.seat c.in-Some-pop.block.0 c.in-Some-pop.block.1 c.pop.new.self c.self.invariant
     (subst MayGiveUp (sym c.self.view_is) c.requires.stage) (subst IsUnlocked (sym c.self.view_is) c.requires.unlocked) front none)
 
 pub invariant_of-self-2 : goal.invariant_of-self-2
 invariant_of-self-2 g c =
     let front = sym c.in_default.ensures.unchanged ∙ c.in-Some-pop.ensures.some in
     rw c.free.ensures.heap (after_freeing c.self.inside.counter.seat c.free.new.self.seat c.in-Some-pop.block.0 c.in-Some-pop.block.1 c.pop.new.self
-    c.self.invariant (subst IsUnlocked (sym c.self.view_is) c.requires.unlocked) front c.free.ensures.seat c.free.ensures.home (rw c.cell.ensures at c.free.ensures.knows) c.free.ensures.keeps)
+    c.self.invariant (subst IsUnlocked (sym c.self.view_is) c.requires.unlocked) front c.free.ensures.seat c.free.ensures.home (rw c.cell-cell.ensures at c.free.ensures.knows) c.free.ensures.keeps)
 
 pub returns-clause-turned : goal.returns-clause-turned
 returns-clause-turned g c = λ is.
     let front = sym c.in_default.ensures.unchanged ∙ c.in-Some-pop.ensures.some in
     let none = ap front_entries (sym front) ∙ c.in_default.ensures.none in
-    rw (← c.self.view_is) (BlockFreed c.in-Some-pop.block c.free.result c.free.ensures.heap front none (rw c.cell.ensures at c.free.ensures.told))
+    rw (← c.self.view_is) (BlockFreed c.in-Some-pop.block c.free.result c.free.ensures.heap front none (rw c.cell-cell.ensures at c.free.ensures.told))

@@ -1,4 +1,4 @@
-use Rattle.std.proofs.Common.{rules, ◌≡◌, ◌/◌, ◌∙◌, sym, arith}
+use Rattle.std.proofs.Common.{rules, ◌≡◌, ◌∙◌, sym, arith}
 use Rattle.std.proofs.lemmas.Bool.{eq-eqb, true≢false}
 use Rattle.brc_counter.proofs.Searching.{begins_word, skips, misses}
 use Rattle.brc_counter.proofs.counter.Counter.seek_word.Goals.{else-has_bit-via-then-has_bit+else-try_cell, else-has_bit-via-else-has_bit}

@@ -1,0 +1,25 @@
+-- A call gave the frame one handle more, which is in no register.
+use Rattle.std.proofs.Common.{◌≡◌, ◌≢◌, ◌∙◌, ℕ, ◌+◌, List, Option, Some, None, arith, ap}
+use Rattle.std.specs.Option.{IfSome}
+use Rattle.brc_count.specs.Frames.{FrameSeen, HandleSeen, IsUnlocked, Owns}
+use Rattle.brc_count.specs.Owned.{Gains}
+use Rattle.brc_handles.specs.Handles.{slot, filled, Holds, IsApart}
+use Rattle.brc_instructions.specs.Registers.{Stands, Besides}
+
+-- what is so of each that is there stays so as another thing
+each : {P Q : HandleSeen → Type 0} → ((h : HandleSeen) → P h → Q h) → (found : Option HandleSeen) → IfSome found P → IfSome found Q
+each step None all = tt
+each step (Some h) all = step h all
+
+module _ {A : Type 0} where
+  pub gains_besides : {old new : FrameSeen A} {registers : List (Option HandleSeen)} {given : HandleSeen}
+      → Stands old registers → Gains old new given → IsUnlocked new → Besides new registers given
+  gains_besides {old = old} {new = new} {registers = registers} stands gains unlocked = record {
+    holds = record {
+      owned = λ k. each gains.owns (slot registers k) (stands.holds.owned k);
+      count = omega (arith, gains.len, stands.holds.count);
+    };
+    owned = gains.owned;
+    apart = λ k. each gains.apart (slot registers k) (stands.holds.owned k);
+    unlocked = unlocked;
+  }
