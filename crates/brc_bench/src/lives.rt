@@ -27,11 +27,20 @@ use std::time::CpuClock;
 /// How many cells a heap has.
 pub const CELLS: u32 = 65_536;
 
-/// How many of them are free while `claim_full` is timed.
+/// How many of them are free while `claim_full` and `claim_full_near` are timed.
 const LEFT_FREE: u32 = 16;
 
 /// How many integers leave so many cells free.
 const NEARLY_ALL: u32 = CELLS - FIRST_MORTAL - LEFT_FREE;
+
+/// How many cells a free word has.
+const IN_WORD: u32 = 64;
+
+/// The word that has the first mortal cell.
+const FIRST_WORD: u32 = FIRST_MORTAL / IN_WORD;
+
+/// How many words have mortal cells.
+const WORDS: u32 = CELLS / IN_WORD - FIRST_WORD;
 
 /// How many objects `pair_foreign` counts in turn.
 pub const FOREIGN: u32 = 64;
@@ -39,6 +48,32 @@ pub const FOREIGN: u32 = 64;
 /// The first of the keys under which the thread of this number puts integers of its own into the globals.
 pub fn first_key(thread: u32) -> u32 {
     thread.saturating_mul(1_000)
+}
+
+/// The cell with whose word the thread's part of the heap begins, where so many threads have each as many words.
+fn first_cell(thread: u32, threads: u32) -> u32 {
+    let before = thread.saturating_sub(1);
+    let words = WORDS
+        .saturating_mul(before)
+        .checked_div(threads)
+        .unwrap_or(0);
+    FIRST_WORD.saturating_add(words).saturating_mul(IN_WORD)
+}
+
+/// The thread's claims begin where the case has it.
+fn begins_claims<H: Home<A>, A: Allocator>(frame: &mut Frame<H, A>, asked: Asked)
+    requires unlocked { IsUnlocked frame.old }
+    ensures keeps { Keeps frame.old frame.new }
+    ensures unlocked { IsUnlocked frame.new }
+{
+    match asked.case {
+        Case::NewIntApart | Case::NewText16Apart | Case::NewList10Apart => {
+            let thread = frame.thread();
+            frame.claim_from(first_cell(thread, asked.threads));
+        }
+        Case::MakeChainNear | Case::ClaimFullNear => frame.claim_near(FIRST_MORTAL),
+        _ => {}
+    }
 }
 
 /// The thread gets the handles that the case needs; false where one can't be had.
@@ -57,10 +92,10 @@ fn fills<R: Wait, H: Home<A>, A: Allocator + Copy>(
 {
     let thread = frame.thread();
     match asked.case {
-        Case::PairOwn | Case::NewList10 => makes(alloc, frame, handles, 1),
+        Case::PairOwn | Case::NewList10 | Case::NewList10Apart => makes(alloc, frame, handles, 1),
         Case::PairOwn8 => makes(alloc, frame, handles, 8),
         Case::PairOwn256 => makes(alloc, frame, handles, 256),
-        Case::ClaimFull => makes(alloc, frame, handles, NEARLY_ALL),
+        Case::ClaimFull | Case::ClaimFullNear => makes(alloc, frame, handles, NEARLY_ALL),
         Case::PairShared | Case::ListShared | Case::Mail => takes(rt, frame, handles, thread, 1),
         Case::PairForeign => {
             // The idle threads, as many as these, are the first ones.
@@ -70,8 +105,8 @@ fn fills<R: Wait, H: Home<A>, A: Allocator + Copy>(
         Case::List => makes_list(rt, alloc, frame, handles),
         Case::Dict => makes_dict(rt, alloc, frame, handles, Keys::Many),
         Case::Dict4 => makes_dict(rt, alloc, frame, handles, Keys::Few),
-        Case::NewInt | Case::NewText16 => true,
-        Case::Chain | Case::MakeChain | Case::Wide => true,
+        Case::NewInt | Case::NewIntApart | Case::NewText16 | Case::NewText16Apart => true,
+        Case::Chain | Case::MakeChain | Case::MakeChainNear | Case::Wide => true,
     }
 }
 
@@ -97,7 +132,7 @@ fn counts<R: Wait, H: Home<A>, A: Allocator + Copy>(
     match case {
         Case::PairOwn => pairs(frame, first, n),
         Case::PairShared => polled_pairs(frame, first, n),
-        Case::NewList10 => lists(rt, alloc, frame, first, n),
+        Case::NewList10 | Case::NewList10Apart => lists(rt, alloc, frame, first, n),
         Case::List | Case::ListShared => pushes_and_pops(rt, alloc, frame, first, n),
         Case::Dict => puts_and_finds(rt, alloc, frame, first, Keys::Many, n),
         Case::Dict4 => puts_and_finds(rt, alloc, frame, first, Keys::Few, n),
@@ -123,8 +158,10 @@ fn operates<R: Wait, H: Home<A>, A: Allocator + Copy>(
     ensures unlocked { IsUnlocked frame.new }
 {
     match case {
-        Case::NewInt | Case::ClaimFull => integers(alloc, frame, n),
-        Case::NewText16 => texts(alloc, frame, n),
+        Case::NewInt | Case::NewIntApart | Case::ClaimFull | Case::ClaimFullNear => {
+            integers(alloc, frame, n)
+        }
+        Case::NewText16 | Case::NewText16Apart => texts(alloc, frame, n),
         _ => counts(rt, alloc, frame, handles, post, case, n),
     }
 }
@@ -176,7 +213,7 @@ fn measures_one<R: Wait + Clock + CpuClock, H: Home<A>, A: Allocator + Copy>(
     ensures unlocked { IsUnlocked frame.new }
 {
     match asked.case {
-        Case::MakeChain => times_making(rt, alloc, frame, asked.n),
+        Case::MakeChain | Case::MakeChainNear => times_making(rt, alloc, frame, asked.n),
         _ => measures_death(rt, alloc, frame, asked),
     }
 }
@@ -255,8 +292,9 @@ pub fn lives<R: Wait + Clock + CpuClock>(
     let span = if asked.idle {
         Ok(None)
     } else {
+        begins_claims(mutator.frame(), asked);
         let span = match asked.case {
-            Case::Chain | Case::MakeChain | Case::Wide => measures_one(
+            Case::Chain | Case::MakeChain | Case::MakeChainNear | Case::Wide => measures_one(
                 rt,
                 alloc,
                 mutator.frame(),

@@ -19,6 +19,12 @@ pub enum Case {
     NewText16,
     /// A list of ten references to one integer is.
     NewList10,
+    /// The same as `NewInt`, each thread in a part of the heap of its own.
+    NewIntApart,
+    /// The same as `NewText16`, each so.
+    NewText16Apart,
+    /// The same as `NewList10`, each so.
+    NewList10Apart,
     /// A push to a list of the thread's own, and a pop.
     List,
     /// The same of one list that all threads hold.
@@ -33,15 +39,19 @@ pub enum Case {
     Chain,
     /// Such a chain is made.
     MakeChain,
+    /// The same, where each claim begins near the last one.
+    MakeChainNear,
     /// One of so many entries of a list is released.
     Wide,
     /// An integer is made and released, and taken apart, in a heap that has 16 free cells.
     ClaimFull,
+    /// The same, where each claim begins near the last one.
+    ClaimFullNear,
 }
 
 /// The names of the cases.
 pub const CASES: &str =
-    "pair_own pair_own8 pair_own256 pair_shared pair_foreign new_int new_text16 new_list10 list list_shared dict dict4 mail chain make_chain wide claim_full";
+    "pair_own pair_own8 pair_own256 pair_shared pair_foreign new_int new_text16 new_list10 new_int_apart new_text16_apart new_list10_apart list list_shared dict dict4 mail chain make_chain make_chain_near wide claim_full claim_full_near";
 
 /// What a line asks for.
 #[derive(Clone, Copy, Debug, PartialEq, Eq)]
@@ -65,6 +75,9 @@ fn case_of(name: &str) -> Option<Case> {
         "new_int" => Some(Case::NewInt),
         "new_text16" => Some(Case::NewText16),
         "new_list10" => Some(Case::NewList10),
+        "new_int_apart" => Some(Case::NewIntApart),
+        "new_text16_apart" => Some(Case::NewText16Apart),
+        "new_list10_apart" => Some(Case::NewList10Apart),
         "list" => Some(Case::List),
         "list_shared" => Some(Case::ListShared),
         "dict" => Some(Case::Dict),
@@ -72,8 +85,10 @@ fn case_of(name: &str) -> Option<Case> {
         "mail" => Some(Case::Mail),
         "chain" => Some(Case::Chain),
         "make_chain" => Some(Case::MakeChain),
+        "make_chain_near" => Some(Case::MakeChainNear),
         "wide" => Some(Case::Wide),
         "claim_full" => Some(Case::ClaimFull),
+        "claim_full_near" => Some(Case::ClaimFullNear),
         _ => None,
     }
 }

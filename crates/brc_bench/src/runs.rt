@@ -302,7 +302,8 @@ fn answer_on<R: Threads + Wait + Clock + CpuClock + Sync>(
 fn threads_of(case: Case, threads: u32) -> u32 {
     match case {
         Case::Mail => SENDERS + 1,
-        Case::Chain | Case::MakeChain | Case::Wide | Case::ClaimFull => 1,
+        Case::Chain | Case::MakeChain | Case::MakeChainNear | Case::Wide => 1,
+        Case::ClaimFull | Case::ClaimFullNear => 1,
         _ => threads,
     }
 }
