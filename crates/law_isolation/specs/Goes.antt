@@ -1,0 +1,23 @@
+-- How an instruction of a running section stands to its plain meaning.
+use Rattle.std.specs.Prelude.{◌≡◌, ℕ, Bool, true, false, List, Option, Result, Ok, Err, MatchResult}
+use Rattle.brc_words.specs.declared.fault.Fault.{Fault}
+use Rattle.brc_words.specs.declared.fault.Fault.TheVariants as faults
+use Rattle.brc_count.specs.Frames.{FrameSeen, HandleSeen}
+use Rattle.brc_meaning.specs.declared.state.State.{State}
+use Rattle.law_isolation.specs.Means.{Means}
+
+-- a fault of the machine's: want of memory, of a cell, of a place, or of a birth more
+abbrev pub is_want : Fault → Bool
+is_want faults.OutOfMemory = true
+is_want faults.HeapFull = true
+is_want faults.FrameFull = true
+is_want faults.LedgerFull = true
+is_want _ = false
+
+module _ {A : Type 0} where
+  -- The instruction led where its plain meaning leads; or it was refused as that is, and nothing changed, unless something was
+  -- wanting.
+  abbrev pub Goes : ℕ → FrameSeen A → List (Option HandleSeen) → State A → Result (State A) Fault → Result (Unit {0}) Fault → Type 0
+  Goes base frame registers s meant answer = MatchResult answer
+      (λ _. (next : State A) × (meant ≡ Ok next) × Means base frame registers next)
+      (λ fault. is_want fault ≡ false → (meant ≡ Err fault) × Means base frame registers s)
