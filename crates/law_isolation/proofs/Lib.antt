@@ -1,1 +1,2 @@
-pub mod Quiet_Lives
+pub mod Lines_Go_On
+pub mod Later_Calls
