@@ -1,1 +1,2 @@
 pub mod Quiet_Lives
+pub mod Calls_Mean
