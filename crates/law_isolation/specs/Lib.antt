@@ -1,3 +1,4 @@
 pub mod Means
 pub mod Goes
+pub mod Calls
 pub mod Lines
