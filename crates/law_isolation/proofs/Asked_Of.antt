@@ -73,10 +73,10 @@ module _ {A : Type 0} where
   called_asks call container to s =
       bind_twice (held container s.registers) (λ reference. calling call reference s.objects) (answered to s)
 
-  pub called_of : {call : Object A → Result (Option Reference × Object A) Fault} {container to : ℕ} {s : State A}
-      {outcome : Result (Option Reference × List (Object A)) Fault} → asking call container s ≡ outcome
+  pub called_of : (call : Object A → Result (Option Reference × Object A) Fault) (container to : ℕ) (s : State A)
+      (outcome : Result (Option Reference × List (Object A)) Fault) → asking call container s ≡ outcome
       → called call container to s ≡ (outcome >>= answered to s)
-  called_of {call = call} {container = container} {to = to} {s = s} is =
+  called_of call container to s outcome is =
       called_asks call container to s ∙ ap (λ (r : Result (Option Reference × List (Object A)) Fault). r >>= answered to s) is
 
   -- ---- a value out of its register

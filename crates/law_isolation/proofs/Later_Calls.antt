@@ -20,8 +20,22 @@ use Rattle.brc_containers.specs.Looking.{LooksAt}
 use Rattle.law_living.specs.Later.{IsLater}
 use Rattle.law_living.proofs.Earlier.{later_same, later_one, later_both, later_is}
 
+-- the thread counts the cell on its local word, or doesn't
+here_or : (n limit : ℕ) (log : List Told) (c : ℕ) → (CountsHere n limit log c) ⊎ (¬ CountsHere n limit log c)
+here_or n limit log c = elim (leb_tells 1 (counts_seen n log c)) [
+  | inl some ↦ elim (leb_tells limit (counts_seen n log c)) [
+    | inl at_limit ↦ inr (λ here. omega (arith, here.below, at_limit.1))
+    | inr below ↦ inl (record { some_count = omega (arith, some.1); below = below.1 })
+  ]
+  | inr none ↦ inr (λ here. omega (arith, here.some_count, none.1))
+]
+
+-- one step more
+one_more : (old : List Told) (x : Told) (new : List Told) → new ≡ x ∷ old → IsLater old new
+one_more old x new is = later_is old new (x ∷ old) is (later_one x old old (later_same old))
+
 module _ {A : Type 0} where
-  pub later_waits : {old new : FrameSeen A} {k : ℕ} → Waits old k new → IsLater old.seat.log new.seat.log
+  pub later_waits : {old : FrameSeen A} {k : ℕ} {new : FrameSeen A} → Waits old k new → IsLater old.seat.log new.seat.log
   later_waits {old = old} Waits.NoTry = later_same old.seat.log
   later_waits {old = old} {new = new} (Waits.OneMore mid _ waits busy) =
       later_is old.seat.log new.seat.log _ busy.busy.note (later_one _ old.seat.log mid.seat.log (later_waits waits))
@@ -34,20 +48,6 @@ module _ {A : Type 0} where
   pub later_looks : {old new : FrameSeen A} {k : ℕ} {found : Contents} → LooksAt old new k found → IsLater old.seat.log new.seat.log
   later_looks {old = old} {new = new} looks =
       later_is old.seat.log new.seat.log _ looks.events (later_one _ old.seat.log _ (later_one _ old.seat.log old.seat.log (later_same old.seat.log)))
-
-  -- the thread counts the cell on its local word, or doesn't
-  here_or : (n limit : ℕ) (log : List Told) (c : ℕ) → (CountsHere n limit log c) ⊎ (¬ CountsHere n limit log c)
-  here_or n limit log c = elim (leb_tells 1 (counts_seen n log c)) [
-    | inl some ↦ elim (leb_tells limit (counts_seen n log c)) [
-      | inl at_limit ↦ inr (λ here. omega (arith, here.below, at_limit.1))
-      | inr below ↦ inl (record { some_count = omega (arith, some.1); below = below.1 })
-    ]
-    | inr none ↦ inr (λ here. omega (arith, here.some_count, none.1))
-  ]
-
-  -- one step more
-  one_more : (old : List Told) (x : Told) (new : List Told) → new ≡ x ∷ old → IsLater old new
-  one_more old x new is = later_is old new (x ∷ old) is (later_one x old old (later_same old))
 
   counted : (old new : FrameSeen A) (source : Source) (k c : ℕ) → CountsUp old new source k c → IsLater old.seat.log new.seat.log
   counted old new source k c up = elim (leb_tells FIRST_MORTAL c) [
@@ -78,7 +78,7 @@ module _ {A : Type 0} where
          (later_both is.locked.seat.log is.shared.seat.log new.seat.log (later_given is.gives) unlocks)
 
   -- after some lost tries
-  pub later_late : {old new : FrameSeen A} {k : ℕ} {done : FrameSeen A → Type 0}
+  pub later_late : {old : FrameSeen A} (new : FrameSeen A) {k : ℕ} {done : FrameSeen A → Type 0}
       → ((mid : FrameSeen A) → done mid → IsLater mid.seat.log new.seat.log) → Late old k done → IsLater old.seat.log new.seat.log
-  later_late {old = old} {new = new} then late =
+  later_late {old = old} new then late =
       later_both old.seat.log late.0.seat.log new.seat.log (later_waits late.1) (then late.0 late.2)
