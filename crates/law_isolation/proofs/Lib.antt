@@ -1,1 +1,2 @@
+pub mod Meant_Contents
 pub mod Quiet_Lives
