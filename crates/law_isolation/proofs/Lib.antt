@@ -1,2 +1,3 @@
 pub mod Meant_Contents
+pub mod Quiet_Frames
 pub mod Quiet_Lives
