@@ -1,4 +1,5 @@
 pub mod Dropping_References
+pub mod Making_Objects
 pub mod Meant_Contents
 pub mod Quiet_Frames
 pub mod Quiet_Lives
