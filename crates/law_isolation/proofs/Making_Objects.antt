@@ -1,5 +1,5 @@
 -- What a frame and its registers mean once an object is made: one object more, in a cell that was no private one.
-use Rattle.std.proofs.Common.{◌≡◌, ◌≢◌, ℕ, ◌+◌, ◌<◌, ◌≤◌, ◌==◌, ◌&&◌, Bool, true, false, if◌then◌else◌, List, [], ◌∷◌, ◌++◌, length, zero, suc, Option, Some, None, ℤ, slice_get, slice_set, slice_index_or, length-append, refl, sym, ◌∙◌, ap, subst, inl, inr, arith}
+use Rattle.std.proofs.Common.{◌≡◌, ◌≢◌, ℕ, ◌+◌, ◌<◌, ◌≤◌, ◌==◌, ◌^◌, ◌&&◌, Bool, true, false, if◌then◌else◌, List, [], ◌∷◌, ◌++◌, length, zero, suc, Option, Some, None, ℤ, slice_get, slice_set, slice_index_or, length-append, refl, sym, ◌∙◌, ap, subst, inl, inr, arith}
 use Rattle.std.specs.List.{All}
 use Rattle.std.proofs.lemmas.Bool.{cases_Bool, cases_eq, eq-eqb, eqb-true, ne_eqb, true≢false}
 use Rattle.std.proofs.lemmas.List.Elements.{All-nil}
@@ -35,7 +35,7 @@ use Rattle.law_payloads.specs.Payloads.{private_seen, payloads_of, last_put}
 use Rattle.law_payloads.proofs.Going_On.{born}
 use Rattle.law_living.specs.Living.{OwnLog, is_dead}
 use Rattle.law_living.specs.Quiet.{Quietly, NoItem, OneMore}
-use Rattle.law_living.proofs.Quiet_Items.{quietly_joined}
+use Rattle.law_living.proofs.Quiet_Items.{quiet_places}
 use Rattle.law_isolation.specs.Means.{Lives, LivesAt, HasAt, HeldAs, IsMeant, Shows, Means, MeansBesides, SIXTEEN, cell_meant, contents_meant, left}
 use Rattle.law_isolation.proofs.Meant_Contents.{meant_same, contents_agree}
 use Rattle.law_isolation.proofs.Quiet_Lives.{living, lives_quietly, held_quietly, allocs_quietly}
@@ -198,4 +198,111 @@ module _ {A : Type 0} (n : ℕ) (log : List Told) (cells : ℕ → ℕ) (part : 
   held_born (Some handle) (Some reference) held keeps = record {
     cell = keeps handle.place (cell_meant cells reference) held.cell ∙ ap Some (sym (means_what_it_meant reference held.meant));
     meant = meant_more part (length made) reference held.meant;
+  }
+
+-- ---- frames
+
+-- what a place has after quiet items it had before
+places_quietly : (n : ℕ) (before log : List Told) (k c : ℕ) → Quietly before log → place_seen n log k ≡ Some c → place_seen n before k ≡ Some c
+places_quietly n before log k c NoItem at = at
+places_quietly n before log k c (OneMore x older goes quiet) at = places_quietly n before older k c goes (quiet_places n x older k c quiet at)
+
+born_allocs : (n : ℕ) (log : List Told) (d : ℕ) (kind : Kind) (k number : ℕ) (put : Contents) → (part_seen n (Did (Birth d kind k) number (moves.Put d put) ∷ log)).row.allocs ≡ (part_seen n log).row.allocs + 1
+born_allocs n log d kind k number put = refl
+
+module _ {A : Type 0} (base : ℕ) (old new : FrameSeen A) (registers : List (Option HandleSeen)) (s : State A) (object : Object A) (given : HandleSeen)
+    (alone : Each (λ reference. ⊥) object) (means : Means base old registers s) (same : new.heap ≡ old.heap)
+    (made : Made old new (contents_meant (λ place. place) object) given) (own : OwnLog new.heap.cells new.seat.log) where
+  -- before the birth: the cell is claimed, and its words are set
+  abbrev claimed_log : List Told
+  claimed_log = Did (InitShared made.cell) (2 ^ 42) moves.Nothing ∷ Did (InitLocal made.cell) 1 moves.Nothing ∷ made.mid
+
+  abbrev born_log : List Told
+  born_log = Did (Birth made.cell (kind_in (contents_meant (λ place. place) object)) given.place) old.seat.thread (moves.Put made.cell (contents_meant means.cells object)) ∷ claimed_log
+
+  abbrev kept : ℕ → Bool
+  kept = left new.heap.cells claimed_log means.cells means.part
+
+  goes : Quietly old.seat.log claimed_log
+  goes = OneMore (Did (InitShared made.cell) (2 ^ 42) moves.Nothing) (Did (InitLocal made.cell) 1 moves.Nothing ∷ made.mid)
+      (OneMore (Did (InitLocal made.cell) 1 moves.Nothing) made.mid (claims_quietly old.heap.cells made.start made.cell old.seat.log made.mid made.claimed) refl) refl
+
+  born_told : new.seat.log ≡ born_log
+  born_told = made.told
+      ∙ ap (λ put. Did (Birth made.cell (kind_in (contents_meant (λ place. place) object)) given.place) old.seat.thread (moves.Put made.cell put) ∷ claimed_log)
+      (contents_agree means.cells (λ place. place) (λ reference. ⊥) object (λ reference none. absurd none) alone)
+
+  own_after : OwnLog new.heap.cells born_log
+  own_after = subst (OwnLog new.heap.cells) born_told own
+
+  shown : Shows base means.cells means.part (record old { heap = new.heap }) registers s
+  shown = subst (λ h. Shows base means.cells means.part (record old { heap = h }) registers s) (sym same) means.shows
+
+  lives_claimed : Lives new.heap.cells claimed_log means.cells kept s.objects
+  lives_claimed = lives_quietly new.heap.cells old.seat.log claimed_log means.cells means.part s.objects own_after.0 goes shown.lives
+
+  alone_claimed : Each (IsMeant kept) object
+  alone_claimed = each_weaker (λ reference. ⊥) (IsMeant kept) (λ reference none. absurd none) object alone
+
+  placed : place_seen new.heap.cells born_log given.place ≡ Some made.cell
+  placed = ap (λ log. place_seen new.heap.cells log given.place) (sym born_told) ∙ made.has
+
+  vacant : place_seen new.heap.cells old.seat.log given.place ≡ None
+  vacant = ap (λ (h : TableSeen). place_seen h.cells old.seat.log given.place) same ∙ made.vacant
+
+  -- every other place is as it was
+  untouched : (j : ℕ) → j ≢ given.place → place_seen new.heap.cells born_log j ≡ place_seen new.heap.cells claimed_log j
+  untouched j other =
+      places_kept new.heap.cells (log_items claimed_log) (Birth made.cell (kind_in (contents_meant (λ place. place) object)) given.place) made.cell old.seat.thread [] j refl
+      (λ is. other (let there : Some given.place ≡ Some j = is in cc))
+
+  claimed_places : (j : ℕ) → j ≢ given.place → place_seen new.heap.cells claimed_log j ≡ place_seen new.heap.cells old.seat.log j
+  claimed_places j other =
+      sym (untouched j other) ∙ ap (λ log. place_seen new.heap.cells log j) (sym born_told) ∙ made.others j other
+      ∙ sym (ap (λ (h : TableSeen). place_seen h.cells old.seat.log j) same)
+
+  keeps : (j c : ℕ) → place_seen new.heap.cells claimed_log j ≡ Some c → place_seen new.heap.cells born_log j ≡ Some c
+  keeps j c at = elim (cases_eq j given.place) [
+    | inr other ↦ untouched j other ∙ at
+    | inl here ↦ absurd (let none : None ≡ Some c = sym vacant ∙ ap (place_seen new.heap.cells old.seat.log) (sym here) ∙ places_quietly new.heap.cells old.seat.log claimed_log j c goes at in cc)
+  ]
+
+  held_claimed : (register : Option HandleSeen) (reference : Option Reference) → HeldAs new.heap.cells old.seat.log means.cells means.part register reference
+      → HeldAs new.heap.cells claimed_log means.cells kept register reference
+  held_claimed None None held = held
+  held_claimed None (Some reference) held = held
+  held_claimed (Some handle) None held = held
+  held_claimed (Some handle) (Some reference) held =
+      held_quietly new.heap.cells old.seat.log claimed_log means.cells means.part s.objects handle.place reference own_after.0 goes shown.lives held
+      (claimed_places handle.place (λ here. absurd (let none : None ≡ Some (cell_meant means.cells reference) = sym vacant ∙ ap (place_seen new.heap.cells old.seat.log) (sym here) ∙ held.cell in cc)) ∙ held.cell)
+
+  shows_born : Shows base (cells_with means.cells (length s.objects) made.cell) (part_with kept (length s.objects)) new registers (record s { objects = s.objects ++ object ∷ [] })
+  shows_born =
+      let kind : Kind = kind_in (contents_meant (λ place. place) object) in
+      record {
+        lives = subst (λ log. Lives new.heap.cells log (cells_with means.cells (length s.objects) made.cell) (part_with kept (length s.objects)) (s.objects ++ object ∷ [])) (sym born_told)
+            (lives_born new.heap.cells claimed_log means.cells kept s.objects made.cell kind given.place old.seat.thread object alone_claimed own_after placed lives_claimed);
+        held = λ r. subst (λ log. HeldAs new.heap.cells log (cells_with means.cells (length s.objects) made.cell) (part_with kept (length s.objects)) (slot registers r) (slice_index_or s.registers r None)) (sym born_told)
+            (held_born new.heap.cells claimed_log means.cells kept s.objects made.cell kind given.place old.seat.thread object alone_claimed own_after placed lives_claimed (slot registers r) (slice_index_or s.registers r None)
+            (held_claimed (slot registers r) (slice_index_or s.registers r None) (shown.held r)) keeps);
+        size = shown.size;
+        same_size = shown.same_size;
+        made =
+            let more : (part_seen new.heap.cells new.seat.log).row.allocs ≡ (part_seen new.heap.cells claimed_log).row.allocs + 1 =
+                ap (λ log. (part_seen new.heap.cells log).row.allocs) born_told
+                ∙ born_allocs new.heap.cells claimed_log made.cell kind given.place old.seat.thread (contents_meant means.cells object) in
+            let before : (part_seen new.heap.cells claimed_log).row.allocs ≡ base + length s.objects = allocs_quietly new.heap.cells old.seat.log claimed_log goes ∙ shown.made in
+            omega (arith, more, before, length-append s.objects (object ∷ []));
+      }
+
+  -- an object that refers to nothing is made
+  pub means_made : MeansBesides base new registers (record s { objects = s.objects ++ object ∷ [] }) given (references.Object (length s.objects))
+  means_made = record {
+    cells = cells_with means.cells (length s.objects) made.cell;
+    part = part_with kept (length s.objects);
+    shows = shows_born;
+    has = record {
+      cell = made.has ∙ ap Some (sym (cell_here means.cells (length s.objects) made.cell));
+      meant = part_here kept (length s.objects);
+    };
   }
