@@ -1,5 +1,6 @@
 pub mod Dropping_References
 pub mod Making_Objects
+pub mod Making_Things
 pub mod Meant_Contents
 pub mod Quiet_Frames
 pub mod Quiet_Lives
