@@ -9,7 +9,8 @@ use Rattle.brc_meaning.specs.declared.state.State.{State}
 use Rattle.law_living.specs.Living.{OwnLog}
 use Rattle.law_living.specs.Quiet.{Quietly}
 use Rattle.law_isolation.specs.Means.{Means, MeansBesides}
-use Rattle.law_isolation.proofs.Quiet_Frames.{KeepsPlace, KeepsRegisters, all_kept, means_quietly, besides_quietly}
+use Rattle.law_isolation.specs.Keeping.{KeepsPlace, KeepsRegisters}
+use Rattle.law_isolation.proofs.Quiet_Frames.{all_kept, means_quietly, besides_quietly}
 use Rattle.law_isolation.proofs.Registers_Kept.{besides_means}
 use Rattle.law_isolation.proofs.Temp_Count.{release_quietly, turns_quietly, polled_quietly}
 

@@ -8,3 +8,4 @@ pub mod Registers_Kept
 pub mod Retaining
 pub mod Temp_Count
 pub mod Temp_Counter
+pub mod Wants

@@ -21,17 +21,12 @@ use Rattle.brc_meaning.specs.States.{with_register, with_object, with_integer}
 use Rattle.brc_meaning.specs.Wholes.{Each}
 use Rattle.law_living.specs.Living.{OwnLog}
 use Rattle.law_isolation.specs.Means.{Means, MeansBesides, SIXTEEN, contents_meant}
+use Rattle.law_isolation.specs.Keeping.{HoldsNow}
 use Rattle.law_isolation.proofs.Registers_Kept.{means_held, besides_held}
 use Rattle.law_isolation.proofs.Retaining.{small_is, small_none, means_small, means_retained}
 use Rattle.law_isolation.proofs.Making_Objects.{means_made}
 
 module _ {A : Type 0} where
-  -- A register holds the handle, and the state is the next one; what the register held, if it held something, is loose.
-  pub record HoldsNow (base : ℕ) (new : FrameSeen A) (registers : List (Option HandleSeen)) (s next : State A) (to : ℕ) (given : HandleSeen) : Type 0 where
-    pub means : to < SIXTEEN → Means base new (slice_set registers to (Some given)) next
-    pub gone : (old : HandleSeen) → slot registers to ≡ Some old
-        → (was : Reference) × (slice_index_or s.registers to None ≡ Some was) × MeansBesides base new (slice_set registers to (Some given)) next old was
-
   pub held_now : (base : ℕ) (new : FrameSeen A) (registers : List (Option HandleSeen)) (s : State A) (to : ℕ) (given : HandleSeen) (reference : Reference)
       → MeansBesides base new registers s given reference → HoldsNow base new registers s (with_register to (Some reference) s) to given
   held_now base new registers s to given reference means = record {

@@ -11,17 +11,10 @@ use Rattle.brc_meaning.specs.declared.state.State.{State}
 use Rattle.law_living.specs.Living.{OwnLog}
 use Rattle.law_living.specs.Quiet.{Quietly, NoItem, OneMore}
 use Rattle.law_isolation.specs.Means.{Lives, HasAt, HeldAs, Shows, Means, MeansBesides, cell_meant, left}
+use Rattle.law_isolation.specs.Keeping.{KeepsPlace, KeepsRegisters}
 use Rattle.law_isolation.proofs.Quiet_Lives.{lives_quietly, held_quietly, allocs_quietly}
 
 module _ {A : Type 0} where
-  -- a register's place has in the new frame what it had in the old one
-  abbrev pub KeepsPlace : FrameSeen A → FrameSeen A → HandleSeen → Type 0
-  KeepsPlace old new handle = place_seen new.heap.cells new.seat.log handle.place ≡ place_seen old.heap.cells old.seat.log handle.place
-
-  -- so of each register that holds something
-  abbrev pub KeepsRegisters : FrameSeen A → FrameSeen A → List (Option HandleSeen) → Type 0
-  KeepsRegisters old new registers = (r : ℕ) → IfSome (slot registers r) (KeepsPlace old new)
-
   -- ---- one log
 
   register_quietly : (n : ℕ) (before log : List Told) (cells : ℕ → ℕ) (part : ℕ → Bool) (made : List (Object A)) → OwnLog n log → Quietly before log → Lives n before cells part made

@@ -1,16 +1,25 @@
 -- What registers show once one of them is given another handle, or its handle is taken out.
-use Rattle.std.proofs.Common.{◌≡◌, ◌≢◌, ℕ, ◌+◌, ◌<◌, ◌≤◌, Bool, true, false, List, [], length, Option, Some, None, IfSome, get_or, set, slice_index_or, slice_set, refl, sym, ◌∙◌, ap, subst, inl, inr, arith}
+use Rattle.std.proofs.Common.{◌≡◌, ◌≢◌, ℕ, ◌+◌, ◌<◌, ◌≤◌, Bool, true, false, List, [], length, Option, Some, None, Ok, Err, IfSome, get_or, set, slice_index_or, slice_set, refl, sym, ◌∙◌, ap, subst, inl, inr, arith}
 use Rattle.std.proofs.lemmas.Bool.{cases_eq, cases_lt}
 use Rattle.std.proofs.lemmas.List.{get_or_past, get_or-set_same, get_or-set_other, get_or-replicate, length-set, length-replicate}
+use Rattle.brc_words.specs.declared.fault.Fault.TheVariants as faults
+use Rattle.brc_plain.specs.Outcomes.{or_fault}
 use Rattle.brc_rule.specs.declared.told.Told.{Told}
 use Rattle.brc_count.specs.Frames.{FrameSeen, HandleSeen, ledger_seen}
 use Rattle.brc_handles.specs.Handles.{slot, IsBare}
 use Rattle.brc_meaning.specs.declared.reference.Reference.{Reference}
 use Rattle.brc_meaning.specs.declared.state.State.{State}
-use Rattle.brc_meaning.specs.States.{holding, start, no_registers}
+use Rattle.brc_meaning.specs.States.{held, holding, start, no_registers}
 use Rattle.law_isolation.specs.Means.{Lives, HasAt, HeldAs, Shows, Means, MeansBesides, SIXTEEN}
 
 -- ---- one list
+
+-- a register that refers to something holds it
+pub held_is : (registers : List (Option Reference)) (r : ℕ) (reference : Reference) → slice_index_or registers r None ≡ Some reference → held r registers ≡ Ok reference
+held_is registers r reference is = ap (or_fault faults.NoSuchPlace) is
+
+pub held_empty : (registers : List (Option Reference)) (r : ℕ) → slice_index_or registers r None ≡ None → held r registers ≡ Err faults.NoSuchPlace
+held_empty registers r is = ap (or_fault faults.NoSuchPlace) is
 
 -- past the end there is nothing
 pub some_inside : {X : Type 0} (xs : List (Option X)) (r : ℕ) (x : X) → get_or xs r None ≡ Some x → r < length xs
