@@ -1,13 +1,11 @@
 -- What a frame and its registers mean once a reference is let go, blocks are worked on, or the thread polls.
-use Rattle.std.proofs.Common.{◌≡◌, ◌≢◌, ℕ, List, Option, Some, None, IfSome, sym, ◌∙◌}
-use Rattle.brc_count.specs.Frames.{FrameSeen, HandleSeen, ReleasedOf, Turns, KeepsHandles, place_seen}
-use Rattle.brc_count.specs.Making.{FoundNone}
+use Rattle.std.proofs.Common.{◌≡◌, ◌≢◌, ℕ, List, Option, Some, None, IfSome, sym}
+use Rattle.brc_count.specs.Frames.{FrameSeen, HandleSeen, ReleasedOf, Turns, KeepsHandles}
 use Rattle.brc_count.specs.Polling.{Polled}
 use Rattle.brc_handles.specs.Handles.{slot, IsApart}
 use Rattle.brc_meaning.specs.declared.reference.Reference.{Reference}
 use Rattle.brc_meaning.specs.declared.state.State.{State}
 use Rattle.law_living.specs.Living.{OwnLog}
-use Rattle.law_living.specs.Quiet.{Quietly}
 use Rattle.law_isolation.specs.Means.{Means, MeansBesides}
 use Rattle.law_isolation.specs.Keeping.{KeepsPlace, KeepsRegisters}
 use Rattle.law_isolation.proofs.Quiet_Frames.{all_kept, means_quietly, besides_quietly}

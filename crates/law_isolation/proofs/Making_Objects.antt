@@ -1,16 +1,11 @@
 -- What a frame and its registers mean once an object is made: one object more, in a cell that was no private one.
-use Rattle.std.proofs.Common.{◌≡◌, ◌≢◌, ℕ, ◌+◌, ◌<◌, ◌≤◌, ◌==◌, ◌^◌, ◌&&◌, Bool, true, false, if◌then◌else◌, List, [], ◌∷◌, ◌++◌, length, zero, suc, Option, Some, None, ℤ, slice_get, slice_set, slice_index_or, length-append, refl, sym, ◌∙◌, ap, subst, inl, inr, arith}
-use Rattle.std.specs.List.{All}
-use Rattle.std.proofs.lemmas.Bool.{cases_Bool, cases_eq, eq-eqb, eqb-true, ne_eqb, true≢false}
-use Rattle.std.proofs.lemmas.List.Elements.{All-nil}
+use Rattle.std.proofs.Common.{◌≡◌, ◌≢◌, ℕ, ◌+◌, ◌==◌, ◌^◌, ◌&&◌, Bool, true, false, if◌then◌else◌, List, [], ◌∷◌, ◌++◌, length, zero, suc, Option, Some, None, slice_get, slice_index_or, length-append, refl, sym, ◌∙◌, ap, subst, inl, inr, arith}
+use Rattle.std.proofs.lemmas.Bool.{cases_eq, eq-eqb, ne_eqb, true≢false}
 use Rattle.std.proofs.lemmas.Option.{slice_get_within}
 use Rattle.brc_words.specs.declared.kind.Kind.{Kind}
-use Rattle.brc_words.specs.declared.key.Key.{Key}
 use Rattle.brc_runs.specs.declared.event.Step.TheVariants.{Birth, Claim, InitLocal, InitShared}
-use Rattle.brc_known.specs.Going_On.{touched_place}
 use Rattle.brc_known.proofs.Kept_Law.{places_kept}
 use Rattle.brc_rule.specs.declared.contents.Contents.{Contents}
-use Rattle.brc_rule.specs.declared.contents.Contents.TheVariants as contents
 use Rattle.brc_rule.specs.declared.told.Moved.TheVariants as moves
 use Rattle.brc_rule.specs.declared.told.Told.{Told}
 use Rattle.brc_rule.specs.declared.told.Told.TheVariants.{Did, Saw, Lost}
@@ -21,14 +16,10 @@ use Rattle.brc_counter.specs.Seeking.{ClaimsAround, are_free_looks, is_free_look
 use Rattle.brc_count.specs.Frames.{FrameSeen, HandleSeen, place_seen}
 use Rattle.brc_count.specs.Making.{Made}
 use Rattle.brc_handles.specs.Handles.{slot}
-use Rattle.brc_things.specs.Makers.{Answered, small_cell}
 use Rattle.brc_meaning.specs.declared.reference.Reference.{Reference}
 use Rattle.brc_meaning.specs.declared.reference.Reference.TheVariants as references
 use Rattle.brc_meaning.specs.declared.object.Object.{Object}
-use Rattle.brc_meaning.specs.declared.object.Object.TheVariants as objects
 use Rattle.brc_meaning.specs.declared.state.State.{State}
-use Rattle.brc_meaning.specs.Objects.{is_small}
-use Rattle.brc_meaning.specs.States.{holding, with_object, with_integer}
 use Rattle.brc_meaning.specs.Wholes.{Each}
 use Rattle.brc_meaning.proofs.WholeCalls.{each_weaker}
 use Rattle.law_payloads.specs.Payloads.{private_seen, payloads_of, last_put}
@@ -36,11 +27,9 @@ use Rattle.law_payloads.proofs.Going_On.{born}
 use Rattle.law_living.specs.Living.{OwnLog, is_dead}
 use Rattle.law_living.specs.Quiet.{Quietly, NoItem, OneMore}
 use Rattle.law_living.proofs.Quiet_Items.{quiet_places}
-use Rattle.law_isolation.specs.Means.{Lives, LivesAt, HasAt, HeldAs, IsMeant, Shows, Means, MeansBesides, SIXTEEN, cell_meant, contents_meant, left}
+use Rattle.law_isolation.specs.Means.{Lives, LivesAt, HeldAs, IsMeant, Shows, Means, MeansBesides, cell_meant, contents_meant, left}
 use Rattle.law_isolation.proofs.Meant_Contents.{meant_same, contents_agree}
 use Rattle.law_isolation.proofs.Quiet_Lives.{living, lives_quietly, held_quietly, allocs_quietly}
-use Rattle.law_isolation.proofs.Registers_Kept.{means_held, besides_held}
-use Rattle.law_isolation.proofs.Retaining.{small_is, small_none, means_small}
 
 -- ---- a list with one more at its end
 
@@ -110,7 +99,6 @@ no_payload b put is = ap (λ a. if a then Some put else None) is
 module _ {A : Type 0} (n : ℕ) (log : List Told) (cells : ℕ → ℕ) (part : ℕ → Bool) (made : List (Object A)) (d : ℕ) (kind : Kind) (k number : ℕ) (object : Object A)
     (alone : Each (IsMeant part) object) (own : OwnLog n (Did (Birth d kind k) number (moves.Put d (contents_meant cells object)) ∷ log))
     (placed : place_seen n (Did (Birth d kind k) number (moves.Put d (contents_meant cells object)) ∷ log) k ≡ Some d) (lives : Lives n log cells part made) where
-
   -- an object of the part comes before the new one
   pub comes_before : (place : ℕ) → part place ≡ true → place ≢ length made
   comes_before place of same =
@@ -289,8 +277,8 @@ module _ {A : Type 0} (base : ℕ) (old new : FrameSeen A) (registers : List (Op
         same_size = shown.same_size;
         made =
             let more : (part_seen new.heap.cells new.seat.log).row.allocs ≡ (part_seen new.heap.cells claimed_log).row.allocs + 1 =
-                ap (λ log. (part_seen new.heap.cells log).row.allocs) born_told
-                ∙ born_allocs new.heap.cells claimed_log made.cell kind given.place old.seat.thread (contents_meant means.cells object) in
+            ap (λ log. (part_seen new.heap.cells log).row.allocs) born_told
+            ∙ born_allocs new.heap.cells claimed_log made.cell kind given.place old.seat.thread (contents_meant means.cells object) in
             let before : (part_seen new.heap.cells claimed_log).row.allocs ≡ base + length s.objects = allocs_quietly new.heap.cells old.seat.log claimed_log goes ∙ shown.made in
             omega (arith, more, before, length-append s.objects (object ∷ []));
       }

@@ -1,11 +1,7 @@
 -- What a frame and its registers mean once a register holds a new object, an integer, or what another one holds.
-use Rattle.std.proofs.Common.{◌≡◌, ℕ, ◌<◌, Bool, true, false, if◌then◌else◌, List, [], ◌∷◌, ◌++◌, length, Option, Some, None, ℤ, slice_set, slice_index_or, refl, sym, ap, subst, inl, inr}
-use Rattle.std.specs.List.{All}
-use Rattle.std.proofs.lemmas.Bool.{cases_Bool}
+use Rattle.std.proofs.Common.{◌≡◌, ℕ, Bool, true, false, if◌then◌else◌, List, [], ◌∷◌, ◌++◌, length, Option, Some, None, ℤ, slice_index_or, refl, sym, subst}
 use Rattle.std.proofs.lemmas.List.Elements.{All-nil}
-use Rattle.brc_words.specs.declared.key.Key.{Key}
 use Rattle.brc_runs.specs.declared.event.Source.TheVariants as sources
-use Rattle.brc_rule.specs.declared.contents.Contents.{Contents}
 use Rattle.brc_rule.specs.declared.contents.Contents.TheVariants as contents
 use Rattle.brc_count.specs.Frames.{FrameSeen, HandleSeen, Given, place_seen}
 use Rattle.brc_count.specs.Making.{Made}
@@ -20,7 +16,7 @@ use Rattle.brc_meaning.specs.Objects.{is_small}
 use Rattle.brc_meaning.specs.States.{with_register, with_object, with_integer}
 use Rattle.brc_meaning.specs.Wholes.{Each}
 use Rattle.law_living.specs.Living.{OwnLog}
-use Rattle.law_isolation.specs.Means.{Means, MeansBesides, SIXTEEN, contents_meant}
+use Rattle.law_isolation.specs.Means.{Means, MeansBesides, contents_meant}
 use Rattle.law_isolation.specs.Keeping.{HoldsNow}
 use Rattle.law_isolation.proofs.Registers_Kept.{means_held, besides_held}
 use Rattle.law_isolation.proofs.Retaining.{small_is, small_none, means_small, means_retained}
@@ -40,7 +36,7 @@ module _ {A : Type 0} where
       → (reference : Reference) × (slice_index_or s.registers from None ≡ Some reference) × HoldsNow base new registers s (with_register to (Some reference) s) to given
   copied_now base old new registers s to from c h given means is at same gives =
       let kept : (reference : Reference) × (slice_index_or s.registers from None ≡ Some reference) × MeansBesides base new registers s given reference =
-          means_retained base old new registers s from c h given means is at same gives in
+      means_retained base old new registers s from c h given means is at same gives in
       (kept.0, kept.1, held_now base new registers s to given kept.0 kept.2)
 
 module _ {A : Type 0} (base : ℕ) (old new : FrameSeen A) (registers : List (Option HandleSeen)) (s : State A) (given : HandleSeen)
@@ -52,8 +48,8 @@ module _ {A : Type 0} (base : ℕ) (old new : FrameSeen A) (registers : List (Op
       → HoldsNow base new registers s (with_object object to s) to given
   made_now object to alone made =
       let now : HoldsNow base new registers (record s { objects = s.objects ++ object ∷ [] }) (with_object object to s) to given =
-          held_now base new registers (record s { objects = s.objects ++ object ∷ [] }) to given (references.Object (length s.objects))
-          (means_made base old new registers s object given alone means same made own) in
+      held_now base new registers (record s { objects = s.objects ++ object ∷ [] }) to given (references.Object (length s.objects))
+      (means_made base old new registers s object given alone means same made own) in
       record { means = now.means; gone = now.gone }
 
   pub text_now : (bytes : List ℕ) (to : ℕ) → Made old new (contents.Text bytes) given → HoldsNow base new registers s (with_object (objects.Text bytes) to s) to given
@@ -93,7 +89,7 @@ module _ {A : Type 0} (base : ℕ) (old new : FrameSeen A) (registers : List (Op
   pub integer_now : (number : ℤ) (to : ℕ) → Answered old new (small_cell number) (contents.Int number) given → HoldsNow base new registers s (with_integer number to s) to given
   integer_now number to answered =
       let now : HoldsNow base new registers (record s { objects = integer_objects number }) (with_register to (Some (integer_reference number)) (record s { objects = integer_objects number })) to given =
-          held_now base new registers (record s { objects = integer_objects number }) to given (integer_reference number) (means_integer number answered) in
+      held_now base new registers (record s { objects = integer_objects number }) to given (integer_reference number) (means_integer number answered) in
       subst (λ next. HoldsNow base new registers s next to given) (as_one (is_small number)) (record { means = now.means; gone = now.gone })
     where
       as_one : (small : Bool)

@@ -1,7 +1,7 @@
 -- What registers show once one of them is given another handle, or its handle is taken out.
-use Rattle.std.proofs.Common.{◌≡◌, ◌≢◌, ℕ, ◌+◌, ◌<◌, ◌≤◌, Bool, true, false, List, [], length, Option, Some, None, Ok, Err, IfSome, get_or, set, slice_index_or, slice_set, refl, sym, ◌∙◌, ap, subst, inl, inr, arith}
+use Rattle.std.proofs.Common.{◌≡◌, ℕ, ◌<◌, Bool, true, false, List, length, Option, Some, None, Ok, Err, get_or, slice_index_or, slice_set, refl, sym, ◌∙◌, ap, subst, inl, inr, arith}
 use Rattle.std.proofs.lemmas.Bool.{cases_eq, cases_lt}
-use Rattle.std.proofs.lemmas.List.{get_or_past, get_or-set_same, get_or-set_other, get_or-replicate, length-set, length-replicate}
+use Rattle.std.proofs.lemmas.List.{get_or_past, get_or-set_same, get_or-set_other, get_or-replicate, length-set}
 use Rattle.brc_words.specs.declared.fault.Fault.TheVariants as faults
 use Rattle.brc_plain.specs.Outcomes.{or_fault}
 use Rattle.brc_rule.specs.declared.told.Told.{Told}
@@ -10,7 +10,7 @@ use Rattle.brc_handles.specs.Handles.{slot, IsBare}
 use Rattle.brc_meaning.specs.declared.reference.Reference.{Reference}
 use Rattle.brc_meaning.specs.declared.state.State.{State}
 use Rattle.brc_meaning.specs.States.{held, holding, start, no_registers}
-use Rattle.law_isolation.specs.Means.{Lives, HasAt, HeldAs, Shows, Means, MeansBesides, SIXTEEN}
+use Rattle.law_isolation.specs.Means.{HasAt, HeldAs, Shows, Means, MeansBesides, SIXTEEN}
 
 -- ---- one list
 
@@ -99,13 +99,16 @@ module _ {A : Type 0} where
       × MeansBesides base frame (slice_set registers to (Some handle)) (record s { registers = holding to (Some reference) s.registers }) gone was
   besides_held base frame registers s to handle gone reference means is =
       let shown : (was : Reference) × (slice_index_or s.registers to None ≡ Some was) × HasAt frame.heap.cells frame.seat.log means.cells means.part gone.place was = shown_in base means.cells means.part frame registers s to gone means.shows is in
-      let below : to < SIXTEEN = omega (arith, some_inside registers to gone is, means.shows.same_size) in
-      (shown.0, shown.1, record {
-        cells = means.cells;
-        part = means.part;
-        shows = shows_set base means.cells means.part frame registers s to (Some handle) (Some reference) means.shows below means.has;
-        has = shown.2;
-      })
+      let below : to < SIXTEEN = omega (arith, some_inside registers to gone is, means.shows.same_size) in (
+        shown.0,
+        shown.1,
+        record {
+          cells = means.cells;
+          part = means.part;
+          shows = shows_set base means.cells means.part frame registers s to (Some handle) (Some reference) means.shows below means.has;
+          has = shown.2;
+        },
+      )
 
   -- its handle is taken out of a register
   pub means_taken : (base : ℕ) (frame : FrameSeen A) (registers : List (Option HandleSeen)) (s : State A) (from : ℕ) (h : HandleSeen)
@@ -114,13 +117,16 @@ module _ {A : Type 0} where
       × MeansBesides base frame (slice_set registers from None) (record s { registers = holding from None s.registers }) h reference
   means_taken base frame registers s from h means is =
       let shown : (reference : Reference) × (slice_index_or s.registers from None ≡ Some reference) × HasAt frame.heap.cells frame.seat.log means.cells means.part h.place reference = shown_in base means.cells means.part frame registers s from h means.shows is in
-      let below : from < SIXTEEN = omega (arith, some_inside registers from h is, means.shows.same_size) in
-      (shown.0, shown.1, record {
-        cells = means.cells;
-        part = means.part;
-        shows = shows_set base means.cells means.part frame registers s from None None means.shows below tt;
-        has = shown.2;
-      })
+      let below : from < SIXTEEN = omega (arith, some_inside registers from h is, means.shows.same_size) in (
+        shown.0,
+        shown.1,
+        record {
+          cells = means.cells;
+          part = means.part;
+          shows = shows_set base means.cells means.part frame registers s from None None means.shows below tt;
+          has = shown.2;
+        },
+      )
 
   -- a handle is put back into the register that it was taken from
   pub means_register : (base : ℕ) (frame : FrameSeen A) (registers : List (Option HandleSeen)) (s : State A) (r : ℕ) (h : HandleSeen)

@@ -1,6 +1,6 @@
 -- What a frame and its registers mean once one place more has a reference: to what a register holds, or to an integer that is
 -- there always.
-use Rattle.std.proofs.Common.{◌≡◌, ◌≢◌, ℕ, ◌+◌, ◌<◌, ◌≤◌, ◌-◌, ◌&&◌, nat_le, if◌then◌else◌, Bool, true, false, List, [], ◌∷◌, Option, Some, None, slice_index_or, ℤ, pos, negsuc, refl, sym, ◌∙◌, ap, subst, inl, inr, arith}
+use Rattle.std.proofs.Common.{◌≡◌, ℕ, ◌+◌, ◌-◌, ◌&&◌, nat_le, if◌then◌else◌, Bool, true, false, List, [], ◌∷◌, Option, Some, None, slice_index_or, ℤ, pos, negsuc, refl, sym, ◌∙◌, ap, subst, inl, inr, arith}
 use Rattle.std.proofs.lemmas.Bool.{cases_eq, cases_lt, true≢false}
 use Rattle.brc_words.specs.declared.limits.TheConstants.{FIRST_MORTAL}
 use Rattle.brc_runs.specs.declared.event.Source.{Source}
@@ -23,11 +23,10 @@ use Rattle.brc_meaning.specs.declared.reference.Reference.TheVariants as referen
 use Rattle.brc_meaning.specs.declared.object.Object.{Object}
 use Rattle.brc_meaning.specs.declared.state.State.{State}
 use Rattle.brc_meaning.specs.Objects.{is_small}
-use Rattle.law_private.specs.Private.{is_plain}
 use Rattle.law_payloads.specs.Payloads.{payloads_of}
 use Rattle.law_payloads.proofs.Going_On.{plain}
-use Rattle.law_living.specs.Living.{OwnLog, is_dead}
-use Rattle.law_isolation.specs.Means.{Lives, LivesAt, HasAt, HeldAs, IsMeant, Shows, Means, MeansBesides, cell_meant, cell_of_small}
+use Rattle.law_living.specs.Living.{is_dead}
+use Rattle.law_isolation.specs.Means.{Lives, LivesAt, HasAt, HeldAs, Shows, Means, MeansBesides, cell_meant, cell_of_small}
 use Rattle.law_isolation.proofs.Registers_Kept.{shown_in}
 
 -- ---- one item that fills a place
@@ -155,7 +154,7 @@ module _ {A : Type 0} where
       let n : ℕ = new.heap.cells in
       let was : Shows base cells part (record old { heap = new.heap }) registers s = subst (λ h. Shows base cells part (record old { heap = h }) registers s) (sym same) shows in
       let kept : (k d : ℕ) → place_seen n old.seat.log k ≡ Some d → place_seen n new.seat.log k ≡ Some d =
-          subst (λ (h : TableSeen). (k d : ℕ) → place_seen h.cells old.seat.log k ≡ Some d → place_seen n new.seat.log k ≡ Some d) (sym same) keeps in
+      subst (λ (h : TableSeen). (k d : ℕ) → place_seen h.cells old.seat.log k ≡ Some d → place_seen n new.seat.log k ≡ Some d) (sym same) keeps in
       record {
         lives = subst (λ log. Lives n log cells part s.objects) (sym up.is) (lives_up n old.seat.log cells part s.objects up.step up.number up.up was.lives);
         held = λ r. held_still n old.seat.log new.seat.log cells part (slot registers r) (slice_index_or s.registers r None) kept (was.held r);
@@ -175,13 +174,16 @@ module _ {A : Type 0} where
       → (reference : Reference) × (slice_index_or s.registers from None ≡ Some reference) × MeansBesides base new registers s given reference
   means_retained base old new registers s from c h given means is at same gives =
       let shown : (reference : Reference) × (slice_index_or s.registers from None ≡ Some reference) × HasAt old.heap.cells old.seat.log means.cells means.part h.place reference = shown_in base means.cells means.part old registers s from h means.shows is in
-      let cell : Some c ≡ Some (cell_meant means.cells shown.0) = sym at ∙ shown.2.cell in
-      (shown.0, shown.1, record {
-        cells = means.cells;
-        part = means.part;
-        shows = shows_given base means.cells means.part old new registers s (sources.Frame h.place) c given means.shows same gives;
-        has = record { cell = gives.has ∙ cell; meant = shown.2.meant };
-      })
+      let cell : Some c ≡ Some (cell_meant means.cells shown.0) = sym at ∙ shown.2.cell in (
+        shown.0,
+        shown.1,
+        record {
+          cells = means.cells;
+          part = means.part;
+          shows = shows_given base means.cells means.part old new registers s (sources.Frame h.place) c given means.shows same gives;
+          has = record { cell = gives.has ∙ cell; meant = shown.2.meant };
+        },
+      )
 
   -- ---- integers that are there always
 
