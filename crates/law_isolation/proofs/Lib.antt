@@ -1,4 +1,5 @@
 pub mod Dropping_References
+pub mod Holding
 pub mod Making_Objects
 pub mod Making_Things
 pub mod Meant_Contents

@@ -1,3 +1,4 @@
 pub mod Means
 pub mod Goes
 pub mod Keeping
+pub mod Integers

@@ -11,11 +11,13 @@ ghost use Rattle.brc_handles.specs.Handles.{slot, IsApart, IsBare};
 ghost use Rattle.brc_lock.specs.Waiting.{Waits};
 ghost use Rattle.brc_meaning.specs.declared.object.Object.{Object as object};
 ghost use Rattle.brc_meaning.specs.declared.reference.Reference.{Reference as reference};
+ghost use Rattle.brc_meaning.specs.declared.reference.Reference.TheVariants as references;
 ghost use Rattle.brc_meaning.specs.declared.state.State.{State as state};
-ghost use Rattle.brc_meaning.specs.States.{holding, start, with_register, with_object, with_integer};
+ghost use Rattle.brc_meaning.specs.States.{start, with_register};
 ghost use Rattle.brc_meaning.specs.Wholes.{Each};
 ghost use Rattle.brc_things.specs.Makers.{Answered, small_cell};
-ghost use Rattle.law_isolation.specs.Keeping.{KeepsRegisters, HoldsNow};
+ghost use Rattle.law_isolation.specs.Integers.{with_made, integer_reference, integer_made};
+ghost use Rattle.law_isolation.specs.Keeping.{KeepsRegisters};
 ghost use Rattle.law_isolation.specs.Means.{Means, MeansBesides, SIXTEEN, contents_meant};
 ghost use Rattle.law_living.specs.Living.{OwnLog};
 ghost use Rattle.law_living.specs.Quiet.{Quietly};
@@ -50,33 +52,38 @@ pub fn letting_go_keeps_what_is_meant<A>()
 pub fn registers_hold_what_they_are_given<A>()
     ensures begins { (frame : frame A) (registers : List (Option handle)) → IsBare registers
         → length registers ≡ SIXTEEN → Means (ledger_seen frame).allocs frame registers start }
-    ensures given { (base : ℕ) (new : frame A) (registers : List (Option handle)) (s : state A)
-        (to : ℕ) (given : handle) (reference : reference)
-        → MeansBesides base new registers s given reference
-        → HoldsNow base new registers s (with_register to (Some reference) s) to given }
+    ensures held { (base : ℕ) (frame : frame A) (registers : List (Option handle)) (s : state A)
+        (to : ℕ) (h : handle) (r : reference) → MeansBesides base frame registers s h r → to < SIXTEEN
+        → Means base frame (slice_set registers to (Some h)) (with_register to (Some r) s) }
+    ensures gone { (base : ℕ) (frame : frame A) (registers : List (Option handle)) (s : state A)
+        (to : ℕ) (h gone : handle) (r : reference)
+        → MeansBesides base frame registers s h r → slot registers to ≡ Some gone
+        → (was : reference) × (slice_index_or s.registers to None ≡ Some was)
+        × MeansBesides base frame (slice_set registers to (Some h)) (with_register to (Some r) s) gone was }
     ensures taken { (base : ℕ) (frame : frame A) (registers : List (Option handle)) (s : state A)
         (from : ℕ) (h : handle) → Means base frame registers s → slot registers from ≡ Some h
-        → (reference : reference) × (slice_index_or s.registers from None ≡ Some reference)
-        × MeansBesides base frame (slice_set registers from None) (with_register from None s) h reference }
+        → (r : reference) × (slice_index_or s.registers from None ≡ Some r)
+        × MeansBesides base frame (slice_set registers from None) (with_register from None s) h r }
 {}
 
-/// A register that is given one reference more to what another one holds, a new object that refers to nothing, or an integer,
-/// holds what the plain one holds then.
-pub fn registers_hold_what_is_made<A>()
-    ensures copied { (base : ℕ) (old new : frame A) (registers : List (Option handle)) (s : state A)
-        (to from c : ℕ) (h given : handle) → Means base old registers s
-        → slot registers from ≡ Some h → place_seen old.heap.cells old.seat.log h.place ≡ Some c
-        → new.heap ≡ old.heap → Given old new (sources.Frame h.place) c given
-        → (reference : reference) × (slice_index_or s.registers from None ≡ Some reference)
-        × HoldsNow base new registers s (with_register to (Some reference) s) to given }
+/// A new handle has what it is given: what a register's handle has, a new object that refers to nothing, or an integer, which is
+/// there always or is a new object.
+pub fn handles_have_what_they_are_given<A>()
+    ensures retained { (base : ℕ) (old new : frame A) (registers : List (Option handle)) (s : state A)
+        (from c : ℕ) (h given : handle) → Means base old registers s → slot registers from ≡ Some h
+        → place_seen old.heap.cells old.seat.log h.place ≡ Some c → new.heap ≡ old.heap
+        → Given old new (sources.Frame h.place) c given
+        → (r : reference) × (slice_index_or s.registers from None ≡ Some r)
+        × MeansBesides base new registers s given r }
     ensures made { (base : ℕ) (old new : frame A) (registers : List (Option handle)) (s : state A)
-        (given : handle) → Means base old registers s → new.heap ≡ old.heap
-        → OwnLog new.heap.cells new.seat.log → (object : object A) (to : ℕ)
-        → Each (λ reference. ⊥) object → Made old new (contents_meant (λ place. place) object) given
-        → HoldsNow base new registers s (with_object object to s) to given }
+        (object : object A) (given : handle) → Each (λ reference. ⊥) object
+        → Means base old registers s → new.heap ≡ old.heap
+        → Made old new (contents_meant (λ place. place) object) given
+        → OwnLog new.heap.cells new.seat.log
+        → MeansBesides base new registers (with_made object s) given (references.Object (length s.objects)) }
     ensures integer { (base : ℕ) (old new : frame A) (registers : List (Option handle)) (s : state A)
         (given : handle) → Means base old registers s → new.heap ≡ old.heap
-        → OwnLog new.heap.cells new.seat.log → (number : ℤ) (to : ℕ)
+        → OwnLog new.heap.cells new.seat.log → (number : ℤ)
         → Answered old new (small_cell number) (contents.Int number) given
-        → HoldsNow base new registers s (with_integer number to s) to given }
+        → MeansBesides base new registers (integer_made number s) given (integer_reference number s) }
 {}
