@@ -1,3 +1,4 @@
+-- A copy of brc_count/proofs/Quiet.antt, until that crate is built with it.
 -- By a release, by the turns of the work on dead blocks and by a poll a thread only lets go.
 use Rattle.std.proofs.Common.{◌≡◌, ℕ, ◌+◌, ◌*◌, ◌/◌, true, min, ◌∷◌, refl, sym, subst}
 use Rattle.brc_runs.specs.declared.event.Dropped.TheVariants as drops

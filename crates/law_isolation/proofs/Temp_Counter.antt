@@ -1,3 +1,4 @@
+-- A copy of brc_counter/proofs/Quiet.antt, until that crate is built with it.
 -- By the events of a release, and by those of a popped entry, a thread only lets go.
 use Rattle.std.proofs.Common.{◌≡◌, ℕ, ◌-◌, ◌/◌, ◌&&◌, Bool, true, List, ◌∷◌, Option, Some, None, refl, sym, ap, subst}
 use Rattle.brc_block.specs.declared.payload.Payload.{Payload}
