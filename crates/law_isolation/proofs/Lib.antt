@@ -1,3 +1,15 @@
 pub mod Lines_Go_On
 pub mod Later_Calls
 pub mod Asked_Of
+pub mod Dropping_References
+pub mod Holding
+pub mod Making_Objects
+pub mod Making_Things
+pub mod Meant_Contents
+pub mod Quiet_Frames
+pub mod Quiet_Lives
+pub mod Registers_Kept
+pub mod Retaining
+pub mod Temp_Count
+pub mod Temp_Counter
+pub mod Wants

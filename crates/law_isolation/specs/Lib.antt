@@ -3,3 +3,5 @@ pub mod Goes
 pub mod Calls
 pub mod Lines
 pub mod Asked
+pub mod Keeping
+pub mod Integers
