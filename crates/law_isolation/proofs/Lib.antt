@@ -1,2 +1,6 @@
 pub mod Quiet_Lives
+pub mod Left_Alone
+pub mod Mapped_Lists
+pub mod Mapped_Dicts
+pub mod Found_There
 pub mod Calls_Mean
