@@ -37,7 +37,7 @@ pub record Leaves (n : ℕ) (before : List Told) (m : ℕ) (log : List Told) : T
   pub allocs : (part_seen m log).row.allocs ≡ (part_seen n before).row.allocs
 
 -- the same, but one cell has this payload now
-pub record Changes (n : ℕ) (before : List Told) (m : ℕ) (log : List Told) (cell : ℕ) (put : Contents) : Type 0 where
+pub record Replaces (n : ℕ) (before : List Told) (m : ℕ) (log : List Told) (cell : ℕ) (put : Contents) : Type 0 where
   pub payloads : (c : ℕ) → payloads_of m log c ≡ cond (eqb cell c) (Some put) (payloads_of n before c)
   pub dead : (c : ℕ) → is_dead m log c ≡ is_dead n before c
   pub allocs : (part_seen m log).row.allocs ≡ (part_seen n before).row.allocs
@@ -52,8 +52,8 @@ leaves_on first second = record {
   allocs = second.allocs ∙ first.allocs;
 }
 
-pub changes_on : {n m q cell : ℕ} {one other log : List Told} {put : Contents} → Leaves n one m other → Changes m other q log cell put → Changes n one q log cell put
-changes_on {cell = cell} {put = put} first second = record {
+pub replaces_on : {n m q cell : ℕ} {one other log : List Told} {put : Contents} → Leaves n one m other → Replaces m other q log cell put → Replaces n one q log cell put
+replaces_on {cell = cell} {put = put} first second = record {
   payloads = λ c. second.payloads c ∙ ap (cond (eqb cell c) (Some put)) (first.payloads c);
   dead = λ c. second.dead c ∙ first.dead c;
   allocs = second.allocs ∙ first.allocs;
@@ -106,10 +106,10 @@ module _ (n : ℕ) (log : List Told) where
       (shared_up_spares n (part_seen n log) source k number (entries_found moves.Nothing) (meant (part_seen n log) (SharedUp source k)))
 
   -- an unlocking that shares nothing changes the payload of the cell that it puts home, where that is private
-  pub unlock_changes : (change : Change) (number d : ℕ) (put : Contents)
+  pub unlock_replaces : (change : Change) (number d : ℕ) (put : Contents)
       → is_shared (private_seen n log) (part_seen n log).frame (locked_seen n log) change ≡ false → private_seen n log d ≡ true
-      → Changes n log n (Did (Unlock change) number (moves.Put d put) ∷ log) d put
-  unlock_changes change number d put kept own =
+      → Replaces n log n (Did (Unlock change) number (moves.Put d put) ∷ log) d put
+  unlock_replaces change number d put kept own =
       let spares : Spares (part_seen n log) (part_seen n (Did (Unlock change) number (moves.Put d put) ∷ log)) =
       unlock_spares n (part_seen n log) change number (entries_found (moves.Put d put)) (meant (part_seen n log) (Unlock change)) in
       record {
@@ -177,8 +177,8 @@ module _ {A : Type 0} where
   abbrev pub LeavesAll : FrameSeen A → FrameSeen A → Type 0
   LeavesAll old new = Leaves old.heap.cells old.seat.log new.heap.cells new.seat.log
 
-  abbrev pub ChangesIn : FrameSeen A → FrameSeen A → ℕ → Contents → Type 0
-  ChangesIn old new cell put = Changes old.heap.cells old.seat.log new.heap.cells new.seat.log cell put
+  abbrev pub ReplacesIn : FrameSeen A → FrameSeen A → ℕ → Contents → Type 0
+  ReplacesIn old new cell put = Replaces old.heap.cells old.seat.log new.heap.cells new.seat.log cell put
 
   -- what is so of the log that the new frame has, in the old one's heap
   pub on_frame : (old new : FrameSeen A) (log : List Told) (P : ℕ → List Told → Type 0) → new.heap ≡ old.heap → new.seat.log ≡ log → P old.heap.cells log → P new.heap.cells new.seat.log
