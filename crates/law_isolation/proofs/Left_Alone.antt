@@ -164,7 +164,7 @@ never_shares set frame into d change is own =
 -- ---- frames
 
 -- either the thread counts the cell here, or it doesn't
-counts_here : (n limit : ℕ) (log : List Told) (c : ℕ) → CountsHere n limit log c ⊎ ¬ CountsHere n limit log c
+pub counts_here : (n limit : ℕ) (log : List Told) (c : ℕ) → CountsHere n limit log c ⊎ ¬ CountsHere n limit log c
 counts_here n limit log c = elim (cases_lt 0 (counts_seen n log c)) [
   | inr none ↦ inr (λ (here : CountsHere n limit log c). omega (arith, none, here.some_count))
   | inl some ↦ elim (cases_lt (counts_seen n log c) limit) [

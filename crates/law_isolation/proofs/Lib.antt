@@ -5,4 +5,6 @@ pub mod Mapped_Dicts
 pub mod Found_There
 pub mod Showing
 pub mod Matching
+pub mod Turning
+pub mod Coming
 pub mod Calls_Mean
