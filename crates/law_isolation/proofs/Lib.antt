@@ -7,4 +7,5 @@ pub mod Showing
 pub mod Matching
 pub mod Turning
 pub mod Coming
+pub mod Joining
 pub mod Calls_Mean
