@@ -8,4 +8,5 @@ pub mod Matching
 pub mod Turning
 pub mod Coming
 pub mod Joining
+pub mod Reading
 pub mod Calls_Mean
