@@ -13,3 +13,14 @@ pub mod Retaining
 pub mod Temp_Count
 pub mod Temp_Counter
 pub mod Wants
+pub mod Left_Alone
+pub mod Mapped_Lists
+pub mod Mapped_Dicts
+pub mod Found_There
+pub mod Showing
+pub mod Matching
+pub mod Turning
+pub mod Coming
+pub mod Joining
+pub mod Reading
+pub mod Calls_Mean
