@@ -21,7 +21,7 @@ use Rattle.brc_rule.specs.Logs.{entries_found}
 use Rattle.brc_rule.specs.Seen.{part_seen}
 use Rattle.law_payloads.specs.Payloads.{private_seen, last_put, payloads_of, locked_seen}
 use Rattle.law_living.specs.Living.{is_dead}
-use Rattle.law_living.specs.Quiet.{only_lets_go, puts_nothing, is_quiet, frees}
+use Rattle.law_living.specs.Quiet.{only_lets_go, puts_nothing, is_quiet, frees, Quietly, NoItem, OneMore}
 
 both : (a b : Bool) → (a && b) ≡ true → (a ≡ true) × (b ≡ true)
 both true b is = (refl, is)
@@ -142,3 +142,10 @@ quiet_payloads n (Lost word number) log c quiet = refl
 pub lock_names : (n : ℕ) (log : List Told) (k number c : ℕ) (moved : Moved) → place_at (part_seen n log).frame k ≡ Some c → locked_seen n (Did (Lock k) number moved ∷ log) ≡ Some c
 lock_names n log k number c moved at =
     ap (λ o. locked_cell (part_by n (part_seen n log) (Lock k) number (entries_found moved) o).frame (part_by n (part_seen n log) (Lock k) number (entries_found moved) o).row.locked) at ∙ at
+
+-- ---- lists of such items
+
+-- one list of them after another
+pub quietly_joined : (a b c : List Told) → Quietly a b → Quietly b c → Quietly a c
+quietly_joined a b c first NoItem = first
+quietly_joined a b c first (OneMore x log more quiet) = OneMore x log (quietly_joined a b log first more) quiet
