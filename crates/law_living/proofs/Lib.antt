@@ -1,1 +1,2 @@
 pub mod Quiet_Items
+pub mod Own_Logs_Law
