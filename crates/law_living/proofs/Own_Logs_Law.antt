@@ -34,7 +34,7 @@ use Rattle.brc_rule.specs.Logs.{item_of, Run, items_of, own_of, world, entries_i
 use Rattle.brc_rule.specs.Rule.{Kept}
 use Rattle.brc_rule.specs.Seen.{part_seen}
 use Rattle.brc_rule.proofs.Contents_Law.{contents_fit}
-use Rattle.brc_rule.proofs.Knowing.{kept_part}
+use Rattle.brc_rule.proofs.Knowing.{Known, kept_part}
 use Rattle.brc_rule.proofs.Once.{rule_logs}
 use Rattle.brc_rule.proofs.Own_Logs.{own_items, own_more}
 use Rattle.brc_rule.proofs.Stepping.{moved_on}
@@ -196,6 +196,13 @@ module _ (n limit : ℕ) (options : AreOptions n limit) where
         fits run t x.1 older some_thread (before off) (subst (λ v. MayCome (world n limit run) v (item_of x.1)) same legal.items.1) locks.1,
         subst (Living n) own (living (x ∷ run) t legal some_thread active),
       ))
+
+-- whoever knows its part of a run, and is active, has an own log
+pub known_own_log : (n limit : ℕ) (h : Heap) (t : ℕ) (log : List Told) → Known n limit h t log → 0 < t → is_active (part_seen n log).row.stage ≡ true → OwnLog n log
+known_own_log n limit h t log known some_thread stage =
+    subst (OwnLog n) known.is_own
+    (own_log n limit known.options known.run t known.legal some_thread
+    (ap (λ w. is_active (row_at w t).stage) known.is_world ∙ ap (λ (row : Row). is_active row.stage) known.part.row_is ∙ stage))
 
 module _ {B : Type 0} (shows : B → ℕ × Contents) (n limit : ℕ) where
   -- so is that of the seat of an active thread
