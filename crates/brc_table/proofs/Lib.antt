@@ -4,4 +4,4 @@ pub mod Remaining
 pub mod Bounding
 pub mod Giving
 pub mod Showing
-pub mod Waking
+pub mod Wakes_Own

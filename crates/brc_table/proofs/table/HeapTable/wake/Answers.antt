@@ -7,7 +7,7 @@ use Rattle.brc_table.specs.Machine.{MayWake}
 use Rattle.brc_table.specs.Seated.{SeatSeen}
 use Rattle.brc_table.specs.Shown.{shows}
 use Rattle.brc_steps.specs.Owing.{Allowed}
-use Rattle.brc_table.proofs.Waking.{wakes_own}
+use Rattle.brc_table.proofs.Wakes_Own.{wakes_own}
 use Rattle.brc_table.proofs.table.HeapTable.wake.Goals as goal
 
 pub take_told-requires-clause-allowed : goal.take_told-requires-clause-allowed
