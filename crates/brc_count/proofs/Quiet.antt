@@ -1,5 +1,6 @@
 -- By a release, by the turns of the work on dead blocks and by a poll a thread only lets go.
-use Rattle.std.proofs.Common.{◌≡◌, ℕ, ◌+◌, ◌*◌, ◌/◌, true, min, ◌∷◌, refl, sym, subst}
+use Rattle.std.proofs.Common.{◌≡◌, ℕ, ◌+◌, ◌*◌, ◌/◌, true, min, List, ◌∷◌, Option, Some, None, is_some, refl, sym, ◌∙◌, ap, subst}
+use Rattle.std.proofs.lemmas.Bool.{true≢false}
 use Rattle.brc_runs.specs.declared.event.Dropped.TheVariants as drops
 use Rattle.brc_runs.specs.declared.event.Step.TheVariants.{Free, Drain, Wake}
 use Rattle.brc_runs.specs.Heap.{words_for}
@@ -7,12 +8,19 @@ use Rattle.brc_rule.specs.declared.told.Moved.TheVariants.{Nothing}
 use Rattle.brc_rule.specs.declared.told.Told.{Told}
 use Rattle.brc_rule.specs.declared.told.Told.TheVariants.{Did}
 use Rattle.law_living.specs.Quiet.{is_quiet, Quietly, NoItem, OneMore}
+use Rattle.law_living.specs.Living.{OwnLog}
 use Rattle.law_living.proofs.Quiet_Items.{quietly_joined}
+use Rattle.brc_table.specs.Seated.{TableSeen}
 use Rattle.brc_counter.proofs.Quiet.{released_quietly, settled_quietly}
-use Rattle.brc_count.specs.Frames.{FrameSeen, ReleasedOf, Turned, EntryReleased, BlockFreed, Turns}
+use Rattle.brc_count.specs.Frames.{FrameSeen, HandleSeen, Owns, place_seen, ReleasedOf, Turned, EntryReleased, BlockFreed, Turns}
 use Rattle.brc_count.specs.Frames as frames
 use Rattle.brc_count.specs.Polling.{Deals, DealsBits, NoBit, NotSet, Dealt, Drains, DrainsEach, NoWord, DrainsNamed, NoName, NotNamed, Named, Polled}
 use Rattle.brc_count.specs.Polling as polling
+
+-- what was an own log once it went on is one
+pub own_before : (n : ℕ) (before log : List Told) → Quietly before log → OwnLog n log → OwnLog n before
+own_before n before log NoItem own = own
+own_before n before _ (OneMore x log more quiet) own = own_before n before log more own.0
 
 module _ {A : Type 0} where
   -- a frame's log goes on quietly
@@ -28,6 +36,15 @@ module _ {A : Type 0} where
 
   pub release_quietly : (old new : FrameSeen A) (k c : ℕ) → ReleasedOf old new k c → GoesQuietly old new
   release_quietly old new k c released = released_quietly old.heap.cells (drops.Frame k) c released.seen released.block old.seat.log new.seat.log released.events
+
+  -- whatever cell the handle is to
+  pub let_go_quietly : (old new : FrameSeen A) (handle : HandleSeen) → Owns old handle
+      → ((c : ℕ) → place_seen old.heap.cells old.seat.log handle.place ≡ Some c → ReleasedOf old new handle.place c) → GoesQuietly old new
+  let_go_quietly old new handle owns released = by_cell (place_seen old.heap.cells old.seat.log handle.place) refl owns.filled
+    where
+      by_cell : (o : Option ℕ) → place_seen old.heap.cells old.seat.log handle.place ≡ o → is_some (place_seen old.heap.cells old.seat.log handle.place) ≡ true → GoesQuietly old new
+      by_cell None is filled = absurd (true≢false (sym filled ∙ ap is_some is))
+      by_cell (Some c) is filled = release_quietly old new handle.place c (released c is)
 
   pub turned_quietly : (old new : FrameSeen A) → Turned old new → GoesQuietly old new
   turned_quietly old new (EntryReleased entry mid pops seen block same released works) =
@@ -66,3 +83,9 @@ module _ {A : Type 0} where
   polled_quietly old new told polled =
       joined old polled.mid new (one (Did Wake told Nothing) old polled.mid refl polled.woken)
       (named_quietly told (words_for old.heap.cells) polled.mid ((words_for old.heap.cells + 31) / 32) new polled.drains)
+
+  -- ---- own logs
+
+  -- what was an own log once it went on is one
+  pub own_earlier : (old new : FrameSeen A) → new.heap ≡ old.heap → GoesQuietly old new → OwnLog new.heap.cells new.seat.log → OwnLog old.heap.cells old.seat.log
+  own_earlier old new heap quiet own = own_before old.heap.cells old.seat.log new.seat.log quiet (subst (λ (h : TableSeen). OwnLog h.cells new.seat.log) heap own)
