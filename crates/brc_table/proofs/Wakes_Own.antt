@@ -5,15 +5,14 @@ use Rattle.brc_words.specs.declared.limits.TheConstants.{MOST_THREADS}
 use Rattle.brc_runs.specs.declared.event.Step.TheVariants.{Wake}
 use Rattle.brc_runs.specs.declared.row.Stage.{Stage}
 use Rattle.brc_runs.specs.declared.row.Stage.TheVariants as stages
-use Rattle.brc_runs.specs.Steps.{stage_ok, lock_ok, hand_ok, own_ok, is_active}
+use Rattle.brc_runs.specs.Steps.{stage_ok, is_active}
 use Rattle.brc_known.specs.declared.word.Word.TheVariants.{NotifyWord}
 use Rattle.brc_rule.specs.declared.contents.Contents.{Contents}
 use Rattle.brc_rule.specs.declared.told.Moved.TheVariants.{Nothing}
-use Rattle.brc_rule.specs.declared.told.Told.{Told}
 use Rattle.brc_rule.specs.declared.told.Told.TheVariants.{Did}
 use Rattle.brc_rule.specs.declared.view.View.{View}
 use Rattle.brc_rule.specs.Rule.{with_told}
-use Rattle.brc_rule.specs.Seen.{part_seen, own_may}
+use Rattle.brc_rule.specs.Seen.{part_seen}
 use Rattle.law_living.specs.Living.{OwnLog}
 use Rattle.law_living.proofs.Own_Logs_Law.{known_own_log}
 use Rattle.brc_steps.specs.Owing.{Allowed}
