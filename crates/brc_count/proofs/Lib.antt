@@ -9,3 +9,4 @@ mod Leaving
 mod Bearing
 pub mod Owning
 mod Unasked
+pub mod Quiet

@@ -8,6 +8,7 @@ ghost use Rattle.brc_runs.specs.Heap.{words_for};
 ghost use Rattle.brc_counter.specs.Bounded.{IsBounded};
 ghost use Rattle.brc_steps.specs.Joining.{next_thread, registering};
 ghost use Rattle.brc_table.specs.Seated.{Continues};
+ghost use Rattle.law_living.specs.Living.{OwnLog};
 ghost use Rattle.brc_count.specs.Frames.{place_seen, handle_at, Owns, Given, Refused, ReleasedOf, IsAsBefore, IsUnlocked, Turns, KeepsHandles, KeepsButStart, first_word, word_asked, ledger_seen};
 ghost use Rattle.brc_count.specs.Polling.{Polled};
 ghost use Rattle.brc_count.specs.Closing.{Closes};
@@ -297,12 +298,14 @@ impl<H: Home<A>, A: Allocator> Frame<H, A> {
 
     /// Takes what the thread was told, drains the queue words that this names, and deals with each entry that was in them:
     /// an object that isn't merged is merged, and the entry's reference counted down (PEP 703, "Biased Reference Counting").
-    /// The answer is what it was told, 0 where nobody put anything into the queue since the last poll. It takes no memory.
+    /// The answer is what it was told, 0 where nobody put anything into the queue since the last poll. It takes no memory. What
+    /// the thread's own log before tells of what lives is so.
     pub fn poll(&mut self) -> u64
         requires unlocked { IsUnlocked self.old }
         ensures handles { KeepsHandles self.old self.new }
         ensures polled { Polled self.old self.new result }
         ensures quiet { result ≡ 0 → self.new.works ≡ self.old.works }
+        ensures own { OwnLog self.old.heap.cells self.old.seat.log }
 
         ensures keeps { Keeps self.old self.new }
         ensures unlocked { IsUnlocked self.new }

@@ -9,6 +9,7 @@ ghost use Rattle.brc_runs.specs.Lists.{bit_of, word_at, without_bit, is_blank};
 ghost use Rattle.brc_known.specs.Items.{popped_told};
 ghost use Rattle.brc_rule.specs.declared.told.Moved.TheVariants as moves;
 ghost use Rattle.brc_rule.specs.declared.told.Told.TheVariants as told;
+ghost use Rattle.law_living.specs.Living.{OwnLog};
 ghost use Rattle.brc_count.specs.Frames.{IsActive, MayGiveUp, IsUnlocked, KeepsHandles, popped_seen};
 ghost use Rattle.brc_count.specs.Polling.{Deals, DealsBits, Drains, DrainsEach, Polled};
 
@@ -68,7 +69,7 @@ impl<H: Home<A>, A: Allocator> Holdings<H, A> {
         self.counter.home().table().cells().div_ceil(32)
     }
 
-    /// Takes what the thread was told to drain.
+    /// Takes what the thread was told to drain. Its own log before tells what lives.
     fn wake(&mut self) -> u64
         requires active { IsActive self.old }
         requires unlocked { IsUnlocked self.old }
@@ -76,6 +77,7 @@ impl<H: Home<A>, A: Allocator> Holdings<H, A> {
         ensures told { self.new.seat.log ≡ told.Did steps.Wake result moves.Nothing ∷ self.old.seat.log }
         ensures works { self.new.works ≡ self.old.works }
         ensures popped { popped_seen self.new ≡ popped_seen self.old }
+        ensures own { OwnLog self.old.heap.cells self.old.seat.log }
     {
         self.counter.wake()
     }
@@ -227,7 +229,7 @@ impl<H: Home<A>, A: Allocator> Holdings<H, A> {
     }
 
     /// Takes what the thread was told, drains the words that this names, and deals with each of their entries. It answers
-    /// what it was told: 0 where nobody put anything into its queue since the last time.
+    /// what it was told: 0 where nobody put anything into its queue since the last time. Its own log before tells what lives.
     pub(crate) fn poll(&mut self) -> u64
         requires active { IsActive self.old }
         requires unlocked { IsUnlocked self.old }
@@ -236,6 +238,7 @@ impl<H: Home<A>, A: Allocator> Holdings<H, A> {
         ensures polled { Polled self.old self.new result }
         ensures quiet { result ≡ 0 → self.new.works ≡ self.old.works }
         ensures blank { is_blank (popped_seen self.new) ≡ true }
+        ensures own { OwnLog self.old.heap.cells self.old.seat.log }
     {
         let named = self.wake();
         if named == 0 {

@@ -16,6 +16,7 @@ ghost use Rattle.brc_rule.specs.declared.told.Moved.TheVariants as moves;
 ghost use Rattle.brc_rule.specs.declared.told.Told.TheVariants as told;
 ghost use Rattle.brc_rule.specs.Logs.{entries_in};
 ghost use Rattle.brc_rule.specs.Seen.{contents_locked, taken_seen};
+ghost use Rattle.law_living.specs.Living.{OwnLog};
 ghost use Rattle.law_payloads.specs.Payloads.{FindsOwn};
 ghost use Rattle.brc_steps.specs.Owing.{Allowed, Carries, Claims, Unlocks};
 ghost use Rattle.brc_steps.specs.Taking.{AreCells, AreQueued};
@@ -132,7 +133,7 @@ impl<H: Home<A>, A: Allocator> Counter<H, A> {
         self.heap.table().drain(&mut self.seat, word)
     }
 
-    /// Takes what the thread was told to drain.
+    /// Takes what the thread was told to drain. Its own log before tells what lives.
     pub fn wake(&mut self) -> u64
         requires allowed { Allowed self.old.heap.cells self.old.seat.log steps.Wake }
         ensures heap { self.new.heap ≡ self.old.heap }
@@ -141,6 +142,7 @@ impl<H: Home<A>, A: Allocator> Counter<H, A> {
         ensures knows { IsKnown self.old.heap.cells self.new.seat.log
             (known_seen self.old.heap.cells self.old.seat.log) }
         ensures keeps { Keeps self.old.heap.cells self.old.seat.log self.new.seat.log }
+        ensures own { OwnLog self.old.heap.cells self.old.seat.log }
     {
         self.heap.table().wake(&mut self.seat)
     }

@@ -2,6 +2,7 @@
 
 ghost use Rattle.std.specs.Prelude.{◌≡◌, ◌≢◌, ◌+◌, ◌<◌, ◌⊎◌, Some, None, [], ◌∷◌, ◌++◌, OnOk, OnErr, IfErr, IsSome, length, slice_set};
 ghost use Rattle.brc_words.specs.declared.fault.Fault.TheVariants.{OutOfMemory};
+ghost use Rattle.law_living.specs.Quiet.{Quietly};
 ghost use Rattle.brc_count.specs.Frames.{HandleSeen, IsUnlocked, Owns, Refused};
 ghost use Rattle.brc_count.specs.Owned.{Keeps, Loses};
 ghost use Rattle.brc_handles.specs.Handles.{slot, filled, IsApart, OwnsEach, ComesIn, Retains};
@@ -85,6 +86,7 @@ impl<A: Allocator> Handles<A> {
         ensures unlocked { IsUnlocked frame.new }
         ensures owns { (h : HandleSeen) → Owns frame.old h → IsApart h self.old → Owns frame.new h }
         ensures set { self.new ≡ slice_set self.old index None }
+        ensures quiet { Quietly frame.old.seat.log frame.new.seat.log }
     {
         match self.take(index) {
             None => {}
@@ -92,7 +94,7 @@ impl<A: Allocator> Handles<A> {
         }
     }
 
-    /// All of them are released, by rising number. It takes no memory, and waits for nobody.
+    /// All of them are released, by rising number: the thread only lets go. It takes no memory, and waits for nobody.
     pub fn release_all<H: Home<A>>(self, frame: &mut Frame<H, A>)
         requires each { OwnsEach frame.old self }
         requires unlocked { IsUnlocked frame.old }
@@ -101,6 +103,7 @@ impl<A: Allocator> Handles<A> {
         ensures owns { (h : HandleSeen) → Owns frame.old h → IsApart h self → Owns frame.new h }
         ensures heap { frame.new.heap ≡ frame.old.heap }
         ensures unlocked { IsUnlocked frame.new }
+        ensures quiet { Quietly frame.old.seat.log frame.new.seat.log }
     {
         let mut handles = self;
         for index in 0..handles.len() {

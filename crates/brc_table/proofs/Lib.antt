@@ -4,3 +4,4 @@ pub mod Remaining
 pub mod Bounding
 pub mod Giving
 pub mod Showing
+pub mod Wakes_Own

@@ -9,6 +9,7 @@ use Rattle.brc_rule.specs.declared.told.Told.TheVariants.{Saw, Lost}
 use Rattle.brc_rule.specs.declared.view.View.{View}
 use Rattle.brc_rule.specs.Layout.{spot}
 use Rattle.brc_rule.specs.Rule.{with_told, Kept}
+use Rattle.law_living.specs.Living.{OwnLog}
 use Rattle.brc_steps.specs.Taking.{AreQueued}
 
 -- the view after a compare-exchange that found this number: the item where it was the one expected, else a note
@@ -28,6 +29,11 @@ module _ {B : Type 0} (shows : B → ℕ × Contents) (n limit id : ℕ) (me : M
   -- a ghost value gives it to what is told, and k the queue word's number.
   abbrev pub MayTake : (ℕ → ℕ) → (ℕ → Told) → ℕ → ℕ → Type 0
   MayTake f item m k = Allows (Kept shows n limit) n id me (spot n w) f (λ there after. (after ≡ (with_told (item there) me.0, me.1)) × AreQueued m k there)
+
+  -- The rule allows that a notify word becomes f of what it was, as the item, and the log before is an own log. m is n, as a
+  -- ghost value gives it to what is told.
+  abbrev pub MayWake : (ℕ → ℕ) → (ℕ → Told) → ℕ → Type 0
+  MayWake f item m = Allows (Kept shows n limit) n id me (spot n w) f (λ there after. (after ≡ (with_told (item there) me.0, me.1)) × OwnLog m me.0.log)
 
   -- the rule allows a look, as a note of the word, and where the log tells a bound, the number found is within it
   abbrev pub MayFind : Word → Bool → ℕ → Type 0

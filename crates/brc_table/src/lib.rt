@@ -25,6 +25,7 @@ mod root;
 mod rule;
 mod seats;
 mod table;
+mod waking;
 
 pub use laws::at_any_moment_the_words_show_one_run;
 pub use moving::Found;

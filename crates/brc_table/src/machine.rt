@@ -139,44 +139,6 @@ pub(crate) fn store<A: Allocator>(
     store_as::<A, Brand>(table, seat, word, new, step)
 }
 
-/// A swap, as an item.
-#[inline(always)]
-fn swap_as<A: Allocator, M: Item>(
-    table: &HeapTable<A>,
-    seat: &mut Place<A>,
-    word: Word,
-    new: u64,
-    step: Step,
-) -> u64
-    requires same { seat.old.table_id ≡ table.now.table }
-    requires inside { IsWord table.now.cells word }
-    requires allowed { MayTell shows table.now.cells table.now.local_limit seat.old.id seat.old.me word (λ _. new) (M.item) }
-    ensures same { (seat.new.table_id ≡ seat.old.table_id) × (seat.new.id ≡ seat.old.id) }
-    ensures told { seat.new.me ≡ (with_told (M.item result) seat.old.me.0, seat.old.me.1) }
-{
-    let _step = step;
-    let at = spot_of(table.cells, word);
-    table.table.shared.swap::<Tells<M>>(seat, at, new)
-}
-
-/// A swap, as an event.
-#[inline(always)]
-pub(crate) fn swap<A: Allocator>(
-    table: &HeapTable<A>,
-    seat: &mut Place<A>,
-    word: Word,
-    new: u64,
-    step: Step,
-) -> u64
-    requires same { seat.old.table_id ≡ table.now.table }
-    requires inside { IsWord table.now.cells word }
-    requires allowed { MayTell shows table.now.cells table.now.local_limit seat.old.id seat.old.me word (λ _. new) (λ there. told.Did step there moves.Nothing) }
-    ensures same { (seat.new.table_id ≡ seat.old.table_id) × (seat.new.id ≡ seat.old.id) }
-    ensures told { seat.new.me ≡ (with_told (told.Did step result moves.Nothing) seat.old.me.0, seat.old.me.1) }
-{
-    swap_as::<A, Brand>(table, seat, word, new, step)
-}
-
 /// An addition, as an item.
 #[inline(always)]
 fn add_as<A: Allocator, M: Item>(

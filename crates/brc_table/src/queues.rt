@@ -8,14 +8,16 @@ ghost use Rattle.brc_rule.specs.declared.told.Moved.TheVariants as moves;
 ghost use Rattle.brc_rule.specs.declared.told.Told.TheVariants as told;
 ghost use Rattle.brc_steps.specs.Owing.{Allowed, Tells};
 ghost use Rattle.brc_steps.specs.Taking.{AreQueued};
+ghost use Rattle.law_living.specs.Living.{OwnLog};
 ghost use Rattle.brc_table.specs.Knowing.{known_seen, Knows, Keeps};
 ghost use Rattle.brc_table.specs.Seated.{Stays};
 
 use crate::draining::{take_and_close, take_bits};
 use crate::layout::bit;
-use crate::machine::{or, swap};
+use crate::machine::or;
 use crate::seats::ThreadSeat;
 use crate::table::HeapTable;
+use crate::waking::take_told;
 use brc_known::Word;
 use brc_runs::Step;
 use std::alloc::Allocator;
@@ -76,7 +78,7 @@ impl<A: Allocator> HeapTable<A> {
         )
     }
 
-    /// Wake: the thread takes what it was told.
+    /// Wake: the thread takes what it was told. Its own log before tells what lives.
     pub fn wake(&self, seat: &mut ThreadSeat<A>) -> u64
         requires table { seat.old.table ≡ self.now.table }
         requires allowed { Allowed self.now.cells seat.old.log steps.Wake }
@@ -84,8 +86,9 @@ impl<A: Allocator> HeapTable<A> {
         ensures seat { Stays seat.old seat.new }
         ensures knows { Knows self.now.cells seat.new.log (known_seen self.now.cells seat.old.log) }
         ensures keeps { Keeps self.now.cells seat.old.log seat.new.log }
+        ensures own { OwnLog self.now.cells seat.old.log }
     {
         let at = Word::NotifyWord(seat.thread);
-        swap(self, &mut seat.place, at, 0, Step::Wake)
+        take_told::<A, Brand>(self, &mut seat.place, at, Step::Wake)
     }
 }

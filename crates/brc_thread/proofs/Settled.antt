@@ -1,6 +1,9 @@
 -- Polls and turns of work, joined.
 use Rattle.std.proofs.Common.{◌≡◌, ℕ, [], ◌∙◌, IsTrue, nat_eq, subst}
 use Rattle.std.proofs.lemmas.Bool.{eqb-true}
+use Rattle.law_living.specs.Quiet.{Quietly, NoItem}
+use Rattle.law_living.proofs.Quiet_Items.{quietly_joined}
+use Rattle.brc_count.proofs.Quiet.{turns_quietly, polled_quietly}
 use Rattle.brc_count.specs.Frames.{FrameSeen, Turns}
 use Rattle.brc_count.specs.Polling.{Polled}
 use Rattle.brc_thread.specs.Settling.{PollsAndWorks, Nothing, Worked, Polls, Settles}
@@ -31,3 +34,13 @@ module _ {A : Type 0} where
         last = subst (Polled mid new) none polled;
         done = quiet none ∙ done;
       }
+
+  -- by all of them the thread only lets go
+  pub goes_quietly : (old new : FrameSeen A) → PollsAndWorks old new → Quietly old.seat.log new.seat.log
+  goes_quietly old _ Nothing = NoItem
+  goes_quietly old new (Worked n mid _ before turns) = quietly_joined old.seat.log mid.seat.log new.seat.log (goes_quietly old mid before) (turns_quietly mid n new turns)
+  goes_quietly old new (Polls told mid _ before polled) = quietly_joined old.seat.log mid.seat.log new.seat.log (goes_quietly old mid before) (polled_quietly mid new told polled)
+
+  pub settles_quietly : (old new : FrameSeen A) → Settles old new → Quietly old.seat.log new.seat.log
+  settles_quietly old new settled =
+      quietly_joined old.seat.log settled.mid.seat.log new.seat.log (goes_quietly old settled.mid settled.before) (polled_quietly settled.mid new 0 settled.last)

@@ -1,6 +1,5 @@
 -- How a thread without handles ends: what it does from its last call as a mutator until the root can gather it.
-use Rattle.std.specs.Prelude.{◌≡◌, ◌≤◌, ◌<◌, ℕ, [], length}
-use Rattle.brc_rule.specs.declared.view.View.{View}
+use Rattle.std.specs.Prelude.{◌≡◌, ◌≤◌, ◌<◌, ℕ, length}
 use Rattle.brc_runs.specs.Heap.{words_for}
 use Rattle.brc_steps.specs.Joining.{gathering}
 use Rattle.brc_table.specs.Seated.{RootSeen, view_of}

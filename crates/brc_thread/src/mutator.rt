@@ -4,6 +4,7 @@ ghost use Rattle.std.specs.Prelude.{◌≡◌, ◌<◌, ◌≤◌, ◌-◌, [], 
 ghost use Rattle.brc_words.specs.declared.limits.TheConstants.{GLOBALS};
 ghost use Rattle.brc_runs.specs.declared.event.Source.TheVariants as sources;
 ghost use Rattle.brc_runs.specs.Heap.{words_for};
+ghost use Rattle.law_living.specs.Living.{OwnLog};
 ghost use Rattle.brc_count.specs.Frames.{Given, Refused, IsAsBefore, IsUnlocked, KeepsHandles, KeepsButStart, Turns, word_asked, ledger_seen};
 ghost use Rattle.brc_count.specs.Polling.{Polled};
 ghost use Rattle.brc_count.specs.Closing.{Closes};
@@ -107,12 +108,14 @@ impl<H: Home<A>, A: Allocator> Mutator<H, A> {
 
     /// Takes what the thread was told, drains the queue words that this names, and deals with each entry that was in them.
     /// The answer is what it was told: 0 where nobody put anything into its queue since the last poll. A runtime polls where
-    /// it can let other threads' requests in: between instructions, say. It takes no memory.
+    /// it can let other threads' requests in: between instructions, say. It takes no memory. What the thread's own log before
+    /// tells of what lives is so.
     pub fn poll(&mut self) -> u64
         requires unlocked { IsUnlocked self.old }
         ensures handles { KeepsHandles self.old self.new }
         ensures polled { Polled self.old self.new result }
         ensures quiet { result ≡ 0 → self.new.works ≡ self.old.works }
+        ensures own { OwnLog self.old.heap.cells self.old.seat.log }
 
         ensures keeps { Keeps self.old self.new }
         ensures unlocked { IsUnlocked self.new }

@@ -1,15 +1,37 @@
 //! The law of own logs, each part as the contract of a function with nothing to do.
 
-ghost use Rattle.std.specs.Prelude.{◌≡◌, ℕ, if◌then◌else◌, List, ◌∷◌, Some, None, true, false};
+ghost use Rattle.std.specs.Prelude.{◌≡◌, ℕ, ◌<◌, if◌then◌else◌, List, ◌∷◌, Option, Some, None, true, false};
+ghost use mathlib.Core.Option.{some};
+ghost use lib.ListN.{get_elem?};
+ghost use Rattle.atomic_table.specs.Table.{State};
 ghost use Rattle.brc_runs.specs.declared.event.Step.TheVariants as steps;
 ghost use Rattle.brc_runs.specs.Lists.{place_at};
+ghost use Rattle.brc_runs.specs.Heap.{row_at, AreOptions};
+ghost use Rattle.brc_runs.specs.Steps.{is_active};
+ghost use Rattle.brc_rule.specs.declared.contents.Contents.{Contents as contents};
 ghost use Rattle.brc_rule.specs.declared.told.Moved.{Moved as moved};
 ghost use Rattle.brc_rule.specs.declared.told.Told.{Told as told};
 ghost use Rattle.brc_rule.specs.declared.told.Told.TheVariants as tells;
+ghost use Rattle.brc_rule.specs.declared.view.View.{View as view};
+ghost use Rattle.brc_rule.specs.Logs.{Run, world, own_of, IsLegal};
+ghost use Rattle.brc_rule.specs.Rule.{Kept};
 ghost use Rattle.brc_rule.specs.Seen.{part_seen};
 ghost use Rattle.law_payloads.specs.Payloads.{payloads_of, locked_seen};
-ghost use Rattle.law_living.specs.Living.{is_dead};
+ghost use Rattle.law_living.specs.Living.{is_dead, OwnLog};
 ghost use Rattle.law_living.specs.Quiet.{is_quiet, frees};
+
+/// The log of an active thread, in every run: each locking found what was the thread's own, each cell that was given back was
+/// dead, none in which an object was born was private, and at each time what a place had wasn't dead, nor what a private cell
+/// had that wasn't.
+pub fn own_logs_tell_what_lives<B>()
+    ensures runs { (n limit : ℕ) (run : Run) (t : ℕ) → AreOptions n limit → IsLegal n limit run
+        → 0 < t → is_active (row_at (world n limit run) t).stage ≡ true → OwnLog n (own_of t run) }
+
+    // Of a table that keeps the rule.
+    ensures seats { (shows : B → ℕ × contents) (n limit : ℕ) (s : State (Option B) view)
+        (r : Kept shows n limit s) (j : ℕ) (v : view) → get_elem? s.views j ≡ some v → v.active ≡ true
+        → 0 < v.thread → is_active (part_seen n v.log).row.stage ≡ true → OwnLog n v.log }
+{}
 
 /// After an item by which the thread only lets go, each place has what it had, or nothing; nothing was born; and each payload
 /// is as it was, or its cell was given back. Whatever the item is: what isn't dead after it wasn't dead before, but for the

@@ -1,4 +1,5 @@
 use Rattle.std.proofs.Common.{◌≡◌, ◌+◌, ◌<◌, ◌⊎◌, ℕ, None, length}
+use Rattle.law_living.specs.Quiet.{Quietly}
 use Rattle.brc_count.specs.Frames.{HandleSeen, IsUnlocked, Owns}
 use Rattle.brc_handles.specs.Handles.{slot, filled, IsApart, OwnsEach}
 use Rattle.brc_handles.proofs.handles.Handles.release_all.Given as goal
@@ -13,4 +14,5 @@ invariant-loop-index g l = record {
   empty : (k : ℕ) → k < l.index → slot l.handles k ≡ None;
   places : (k : ℕ) → (slot l.handles k ≡ slot l.fn.self k) ⊎ (slot l.handles k ≡ None);
   owns : (h : HandleSeen) → Owns l.fn.frame h → IsApart h l.fn.self → Owns l.frame h;
+  quiet : Quietly l.fn.frame.seat.log l.frame.seat.log;
 }

@@ -1,4 +1,4 @@
-use Rattle.std.proofs.Common.{◌≡◌, ℕ, ◌/◌, ◌%◌, ◌<◌, ◌∷◌, None, sym, subst}
+use Rattle.std.proofs.Common.{◌≡◌, ℕ, ◌/◌, ◌<◌, ◌∷◌, None, sym, subst}
 use Rattle.std.specs.Prelude.{bit_or}
 use Rattle.atomic_table.specs.Table.{rest}
 use Rattle.brc_runs.specs.declared.event.Step.TheVariants.{Free}

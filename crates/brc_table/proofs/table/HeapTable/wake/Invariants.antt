@@ -1,0 +1,6 @@
+use Rattle.brc_rule.specs.declared.told.Moved.TheVariants.{Nothing}
+use Rattle.brc_rule.specs.declared.told.Told.TheVariants.{Did}
+use Rattle.brc_table.proofs.table.HeapTable.wake.Given as goal
+
+abbrev pub ghosts-take_told : goal.ghosts-take_told
+ghosts-take_told g a = record { item = λ there. Did a.step there Nothing; cells = a.table.now.cells }
