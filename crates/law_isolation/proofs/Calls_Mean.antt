@@ -45,7 +45,6 @@ module _ {A : Type 0} (old new : FrameSeen A) (k : ℕ) (call : PlainCall (Optio
 
 module _ {A : Type 0} (base : ℕ) (old new : FrameSeen A) (registers : List (Option HandleSeen)) (s : State A) (own : OwnLog new.heap.cells new.seat.log)
     (container : ℕ) (h : HandleSeen) (in_register : slot registers container ≡ Some h) where
-
   -- ---- a value goes in
 
   module _ (value : HandleSeen) (reference : Reference) (means : MeansBesides base old registers s value reference) (apart : IsApart value registers) where

@@ -103,7 +103,6 @@ module _ {A : Type 0} (cells : ℕ → ℕ) (part : ℕ → Bool) (s : State A) 
 
 module _ {A : Type 0} (base : ℕ) (cells : ℕ → ℕ) (part : ℕ → Bool) (old new : FrameSeen A) (registers : List (Option HandleSeen)) (s : State A) (shows : Shows base cells part old registers s)
     (own : OwnLog new.heap.cells new.seat.log) (container : ℕ) (h : HandleSeen) (in_register : slot registers container ≡ Some h) (call : ObjectCall A) (places : KeepsPlacesOf old new registers) where
-
   -- ---- the call is refused
 
   pub refused : {R : Type 0} (plain : PlainCall R) (answered : R → Option ℕ) → Matches cells call plain answered → (fault : Fault) → RefusedPlainly old new h.place plain fault
@@ -111,10 +110,11 @@ module _ {A : Type 0} (base : ℕ) (cells : ℕ → ℕ) (part : ℕ → Bool) (
   refused plain answered matches fault why =
       let looks : LooksOn old new h.place why.found = keep_looks old new h.place why.found own why.looks in
       let there : FoundAs cells part s container looks.cell why.found =
-      found_as base cells part old registers s shows container h in_register looks.cell why.found looks.of_place looks.finds in
-      (comes_refused cells part s container looks.cell why.found there call fault
-      (is_refused cells call plain answered matches there.object fault (ap plain (sym there.found_is) ∙ why.plain)),
-      shows_left base cells part old new registers s shows looks.leaves places)
+      found_as base cells part old registers s shows container h in_register looks.cell why.found looks.of_place looks.finds in (
+        comes_refused cells part s container looks.cell why.found there call fault
+            (is_refused cells call plain answered matches there.object fault (ap plain (sym there.found_is) ∙ why.plain)),
+        shows_left base cells part old new registers s shows looks.leaves places,
+      )
 
   -- ---- the call is done
 
@@ -135,9 +135,9 @@ module _ {A : Type 0} (base : ℕ) (cells : ℕ → ℕ) (part : ℕ → Bool) (
         → Shows base cells part new registers (with_objects (changed reference done.1 s.objects) s)
     shown_after cell found put replaces (references.Small number) is_meant object stands cell_is done went leaves leads =
         absurd (
-          let bad : ◌≡◌ {A = Result (Option Reference × Object A) Fault} (Ok done) (Err faults.WrongKind) =
-          sym went ∙ ap call (sym (same_Some (objects.Int number) object stands)) ∙ no_int number in
-          cc
+        let bad : ◌≡◌ {A = Result (Option Reference × Object A) Fault} (Ok done) (Err faults.WrongKind) =
+        sym went ∙ ap call (sym (same_Some (objects.Int number) object stands)) ∙ no_int number in
+        cc
         )
     shown_after cell found put replaces (references.Object place) is_meant object stands cell_is done went leaves leads =
         let at = shows.lives.there place is_meant in

@@ -32,12 +32,14 @@ abbrev IsSmallCell : ℤ → ℕ → Type 0
 IsSmallCell number c = (c < GLOBALS) × (opening_contents c ≡ contents.Int number)
 
 opens_with : (c : ℕ) (number : ℤ) → 3 ≤ c → c < GLOBALS → pos c -ℤ pos 8 ≡ number → IsSmallCell number c
-opens_with c number low high is = (high,
-    cond-false (eqb c 0) _ _ (ne_eqb c 0 (λ e. omega (arith, e, low)))
-    ∙ cond-false (eqb c 1) _ _ (ne_eqb c 1 (λ e. omega (arith, e, low)))
-    ∙ cond-false (eqb c 2) _ _ (ne_eqb c 2 (λ e. omega (arith, e, low)))
-    ∙ cond-false (eqb c GLOBALS) _ _ (ne_eqb c GLOBALS (λ e. omega (arith, e, high)))
-    ∙ ap contents.Int is)
+opens_with c number low high is = (
+  high,
+  cond-false (eqb c 0) _ _ (ne_eqb c 0 (λ e. omega (arith, e, low)))
+      ∙ cond-false (eqb c 1) _ _ (ne_eqb c 1 (λ e. omega (arith, e, low)))
+      ∙ cond-false (eqb c 2) _ _ (ne_eqb c 2 (λ e. omega (arith, e, low)))
+      ∙ cond-false (eqb c GLOBALS) _ _ (ne_eqb c GLOBALS (λ e. omega (arith, e, high)))
+      ∙ ap contents.Int is,
+)
 
 at_most : (n : ℕ) → is_small (pos n) ≡ true → n ≤ 256
 at_most n is = grind (arith, ints, and_parts)

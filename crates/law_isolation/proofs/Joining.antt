@@ -71,7 +71,6 @@ module _ {A : Type 0} where
 
 module _ {A : Type 0} (base : ℕ) (old new : FrameSeen A) (registers : List (Option HandleSeen)) (s : State A) (own : OwnLog new.heap.cells new.seat.log)
     (container : ℕ) (h : HandleSeen) (in_register : slot registers container ≡ Some h) (call : ObjectCall A) (no_int : (number : ℤ) → call (objects.Int number) ≡ Err faults.WrongKind) where
-
   shows_waited : (cells : ℕ → ℕ) (part : ℕ → Bool) (k : ℕ) (mid : FrameSeen A) → Waits old k mid → Shows base cells part old registers s → Shows base cells part mid registers s
   shows_waited cells part k mid waits shows =
       shows_left base cells part old mid registers s shows (waits_leave waits) (all_places old mid registers (waits_frame waits).places)
@@ -95,13 +94,15 @@ module _ {A : Type 0} (base : ℕ) (old new : FrameSeen A) (registers : List (Op
         → (handed : Handed V) → (is_want handed.fault ≡ false → RefusedPlainly mid new h.place plain handed.fault)
         → HandedMeant call container base new registers s value reference handed
     handed_back plain answered matches mid waits keeps_frame handed why want =
-        let turned = refused base means.cells means.part mid new registers s (shown_mid h.place mid waits) own container h in_register call (all_places mid new registers keeps_frame.places) plain answered matches handed.fault (why want) in
-        (turned.0, record {
-          cells = means.cells;
-          part = means.part;
-          shows = turned.1;
-          has = has_kept mid new means.cells means.part value.place reference (keeps_frame.places value.place) (has_waited h.place mid waits);
-        })
+        let turned = refused base means.cells means.part mid new registers s (shown_mid h.place mid waits) own container h in_register call (all_places mid new registers keeps_frame.places) plain answered matches handed.fault (why want) in (
+          turned.0,
+          record {
+            cells = means.cells;
+            part = means.part;
+            shows = turned.1;
+            has = has_kept mid new means.cells means.part value.place reference (keeps_frame.places value.place) (has_waited h.place mid waits);
+          },
+        )
 
     -- the value went in
     pub put_in : {R : Type 0} (plain : ℕ → PlainCall R) (answered : R → Option ℕ) (answer : R) → answered answer ≡ None

@@ -134,6 +134,7 @@ module _ (n : ℕ) (log : List Told) where
             cond-true (eqb d c) (Some found) (payloads_of n log c) on ∙ ap Some (own (last_put log d) there) ∙ sym there
             ∙ ap (payloads_of n log) (eqb-true d c on)
       ])
+
       keeps : (c : ℕ) → payloads_of n (Did (Unlock changes.Keep) number (moves.Put d found) ∷ log) c ≡ payloads_of n log c
       keeps c = was_there (private_seen n log d) refl c
 
