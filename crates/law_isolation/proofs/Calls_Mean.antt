@@ -17,7 +17,6 @@ use Rattle.brc_dicts.specs.Calls.{DictPut, DictFind, DictDel}
 use Rattle.brc_meaning.specs.declared.reference.Reference.{Reference}
 use Rattle.brc_meaning.specs.declared.call.Call.TheVariants as calls
 use Rattle.brc_meaning.specs.declared.call.KeyedCall.TheVariants as keyed
-use Rattle.brc_meaning.specs.declared.object.Object.{Object}
 use Rattle.brc_meaning.specs.declared.object.Object.TheVariants as objects
 use Rattle.brc_meaning.specs.declared.state.State.{State}
 use Rattle.brc_meaning.specs.Objects.{object_call, keyed_call, entries_in, number_in}

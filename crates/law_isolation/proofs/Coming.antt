@@ -1,5 +1,5 @@
 -- A call on the object that a register refers to: what it comes to by the plain meaning, and what is shown after the heap's.
-use Rattle.std.proofs.Common.{◌≡◌, ◌∙◌, refl, sym, ap, subst, ℕ, ℤ, Bool, true, List, Option, Some, None, IfSome, Result, Ok, Err, IfOk, set, get_or}
+use Rattle.std.proofs.Common.{◌≡◌, ◌∙◌, refl, sym, ap, subst, ℕ, ℤ, Bool, List, Option, Some, None, IfSome, Result, Ok, Err, IfOk}
 use Rattle.std.specs.Option.{option_map}
 use Rattle.std.proofs.lemmas.Option.{same_Some}
 use Rattle.brc_words.specs.declared.fault.Fault.{Fault}
@@ -16,14 +16,13 @@ use Rattle.brc_meaning.specs.declared.object.Object.{Object}
 use Rattle.brc_meaning.specs.declared.object.Object.TheVariants as objects
 use Rattle.brc_meaning.specs.declared.state.State.{State}
 use Rattle.brc_meaning.specs.Outcomes.{◌>>=◌}
-use Rattle.brc_meaning.specs.States.{meant, changed, calling}
+use Rattle.brc_meaning.specs.States.{meant, changed}
 use Rattle.brc_meaning.specs.Wholes.{Each}
 use Rattle.brc_meaning.proofs.WholeCalls.{IsKept}
 use Rattle.law_payloads.specs.Payloads.{payloads_of}
 use Rattle.law_living.specs.Living.{OwnLog}
-use Rattle.law_isolation.specs.Means.{cell_meant, contents_meant, IsMeant, HasAt, Shows, Means, MeansBesides}
+use Rattle.law_isolation.specs.Means.{cell_meant, contents_meant, IsMeant, Shows}
 use Rattle.law_isolation.specs.Calls.{with_objects, Comes, GivesNone, GivesOne}
-use Rattle.law_isolation.proofs.Mapped_Lists.{outcome_mapped, same}
 use Rattle.law_isolation.proofs.Matching.{ObjectCall, Matches, told, outcome_meant}
 use Rattle.law_isolation.proofs.Left_Alone.{ReplacesIn}
 use Rattle.law_isolation.proofs.Found_There.{FoundAs, found_as}

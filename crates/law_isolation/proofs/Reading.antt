@@ -1,5 +1,5 @@
 -- What calls that look at the object of a register tell of the object that the register refers to.
-use Rattle.std.proofs.Common.{◌≡◌, ◌≢◌, ◌∙◌, refl, sym, ap, subst, ℕ, ℤ, Bool, true, false, List, length, map, Option, Some, None, Result, Ok, Err, IfErr}
+use Rattle.std.proofs.Common.{◌≡◌, ◌≢◌, ◌∙◌, refl, sym, ap, subst, ℕ, ℤ, true, false, List, length, map, Option, Some, Result, Ok, Err, IfErr}
 use Rattle.std.specs.Prelude.{MatchResult}
 use Rattle.std.proofs.lemmas.List.{length-map}
 use Rattle.brc_words.specs.declared.fault.Fault.{Fault}
@@ -14,7 +14,7 @@ use Rattle.brc_rule.specs.Logs.{kind_in}
 use Rattle.brc_rule.specs.Logs as logs
 use Rattle.brc_table.specs.Shown.{plain_key}
 use Rattle.brc_count.specs.Frames.{FrameSeen, HandleSeen}
-use Rattle.brc_count.specs.Locking.{KeepsThread, KeepsFrame, cell_in}
+use Rattle.brc_count.specs.Locking.{KeepsThread, KeepsFrame}
 use Rattle.brc_handles.specs.Handles.{slot}
 use Rattle.brc_lock.specs.Waiting.{Waits}
 use Rattle.brc_lock.proofs.Kept.{waits_frame}
