@@ -1,6 +1,15 @@
 -- What `print` shows of an object, as the plain meaning of a section words it.
-use Rattle.std.specs.Prelude.{ℕ, List, ◌++◌, codes, decimal}
+use Rattle.std.specs.Prelude.{◌≡◌, ℕ, true, false, List, [], ◌∷◌, ◌++◌, codes, decimal, Option, Result, Ok, Err, MatchResult}
 use Rattle.std.specs.Fmt.{signed_decimal}
+use Rattle.brc_words.specs.declared.fault.Fault.{Fault}
+use Rattle.brc_script.specs.declared.instruction.Instruction.TheVariants as does
+use Rattle.brc_count.specs.Frames.{FrameSeen, HandleSeen}
+use Rattle.brc_meaning.specs.declared.state.State.{State}
+use Rattle.brc_meaning.specs.Objects.{text_in}
+use Rattle.brc_meaning.specs.Steps.{after}
+use Rattle.law_isolation.specs.Means.{Means}
+use Rattle.law_isolation.specs.Goes.{is_want}
+use Rattle.law_isolation.specs.Calls.{Finds}
 use Rattle.brc_instructions.specs.declared.shown.Shown.{Shown}
 use Rattle.brc_instructions.specs.declared.shown.Shown.TheVariants as shown
 
@@ -12,3 +21,19 @@ module _ {A : Type 0} where
   text_shown (shown.List entries) = codes "list " ++ decimal entries
   text_shown (shown.Dict entries) = codes "dict " ++ decimal entries
   text_shown (shown.Mailbox entries) = codes "mailbox " ++ decimal entries
+
+  -- ---- by the plain meaning of a section
+
+  -- the state, with this line printed after all others
+  abbrev pub with_line : List ℕ → State A → State A
+  with_line text s = record s { printed = s.printed ++ (text ++ 10 ∷ []) }
+
+  -- what is shown is the text of the object that the register refers to; nothing but want is in the way
+  abbrev pub ShownAs : ℕ → State A → Result (Shown A) Fault → Type 0
+  ShownAs r s result = MatchResult result (λ shown. Finds r s (λ object. text_in object ≡ text_shown shown)) (λ fault. is_want fault ≡ true)
+
+  -- `print` shows what it is meant to print; or it is refused as it is meant to be, unless something was wanting
+  abbrev pub PrintsAs : ℕ → FrameSeen A → List (Option HandleSeen) → ℕ → State A → Result (Shown A) Fault → Type 0
+  PrintsAs base frame registers from s result = MatchResult result
+      (λ shown. (after (does.Print from) s ≡ Ok (with_line (text_shown shown) s)) × Means base frame registers s)
+      (λ fault. is_want fault ≡ false → (after (does.Print from) s ≡ Err fault) × Means base frame registers s)

@@ -1,7 +1,16 @@
 //! Instructions on dictionaries.
 
-ghost use Rattle.std.specs.Prelude.{◌≡◌, ◌≢◌, MatchOption, IfOk, IfErr};
+ghost use Rattle.std.specs.Prelude.{◌≡◌, ◌≢◌, ℕ, MatchOption, IfOk, IfErr};
 ghost use Rattle.brc_words.specs.declared.fault.Fault.TheVariants as faults;
+ghost use Rattle.brc_script.specs.declared.instruction.Instruction.TheVariants as does;
+ghost use Rattle.brc_meaning.specs.declared.call.KeyedCall.TheVariants as keyed;
+ghost use Rattle.brc_meaning.specs.declared.state.State.{State as state};
+ghost use Rattle.brc_meaning.specs.declared.reference.Reference.{Reference as reference};
+ghost use Rattle.law_living.specs.Living.{OwnLog};
+ghost use Rattle.law_living.specs.Later.{IsLater};
+ghost use Rattle.brc_meaning.specs.Objects.{keyed_call};
+ghost use Rattle.law_isolation.specs.Asked.{PutsAsked, Follows};
+ghost use Rattle.law_isolation.specs.Means.{MeansBesides};
 ghost use Rattle.brc_instructions.specs.Registers.{Stands, Besides};
 
 use crate::holding::hold;
@@ -46,6 +55,11 @@ fn put_taken<R: Wait, H: Home<A>, A: Allocator + Copy>(
     ensures back { IfErr result (λ handed. Besides frame.new registers.now handed.back) }
     ensures heap { frame.new.heap ≡ frame.old.heap }
     ensures waits { IfErr result (λ handed. handed.fault ≢ faults.Busy) }
+    ensures same { IfErr result (λ handed. handed.back ≡ given) }
+    ensures later { IsLater frame.old.seat.log frame.new.seat.log }
+    ensures asked { (base : ℕ) (s : state A) (reference : reference) → OwnLog frame.new.heap.cells frame.new.seat.log
+        → MeansBesides base frame.old registers.now s given reference
+        → PutsAsked (keyed_call key.now (keyed.Put reference)) dict base frame.new registers.now s given reference result }
 {
     let Some(dict) = registers.get(dict) else {
         return Err(Handed {
@@ -82,6 +96,8 @@ pub fn put<R: Wait, H: Home<A>, A: Allocator + Copy>(
     ensures stands { Stands frame.new registers.new }
     ensures heap { frame.new.heap ≡ frame.old.heap }
     ensures waits { IfErr result (λ fault. fault ≢ faults.Busy) }
+    ensures later { IsLater frame.old.seat.log frame.new.seat.log }
+    ensures follows { dict ≢ value → Follows frame.old frame.new registers.old registers.new (does.Put dict key.now value) result }
 {
     let Some(given) = registers.take(value) else {
         return Err(Fault::NoSuchPlace);
@@ -112,6 +128,8 @@ pub fn find<R: Wait, H: Home<A>, A: Allocator>(
     ensures stands { Stands frame.new registers.new }
     ensures heap { frame.new.heap ≡ frame.old.heap }
     ensures waits { IfErr result (λ fault. fault ≢ faults.Busy) }
+    ensures later { IsLater frame.old.seat.log frame.new.seat.log }
+    ensures follows { Follows frame.old frame.new registers.old registers.new (does.Find to dict key.now) result }
 {
     let Some(dict) = registers.get(dict) else {
         return Err(Fault::NoSuchPlace);
@@ -134,6 +152,8 @@ pub fn delete<R: Wait, H: Home<A>, A: Allocator>(
     ensures stands { Stands frame.new registers.new }
     ensures heap { frame.new.heap ≡ frame.old.heap }
     ensures waits { IfErr result (λ fault. fault ≢ faults.Busy) }
+    ensures later { IsLater frame.old.seat.log frame.new.seat.log }
+    ensures follows { Follows frame.old frame.new registers.old registers.new (does.Delete to dict key.now) result }
 {
     let Some(dict) = registers.get(dict) else {
         return Err(Fault::NoSuchPlace);

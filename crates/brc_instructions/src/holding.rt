@@ -1,7 +1,16 @@
 //! Handles into registers and out of them, and the instructions that do nothing else.
 
-ghost use Rattle.std.specs.Prelude.{◌≡◌, ◌≢◌, IfErr};
+ghost use Rattle.std.specs.Prelude.{◌≡◌, ◌≢◌, ℕ, Some, IfErr};
 ghost use Rattle.brc_words.specs.declared.fault.Fault.TheVariants as faults;
+ghost use Rattle.brc_script.specs.declared.instruction.Instruction.TheVariants as does;
+ghost use Rattle.brc_meaning.specs.declared.state.State.{State as state};
+ghost use Rattle.brc_meaning.specs.declared.reference.Reference.{Reference as reference};
+ghost use Rattle.law_living.specs.Living.{OwnLog};
+ghost use Rattle.law_living.specs.Later.{IsLater};
+ghost use Rattle.law_living.specs.Quiet.{Quietly};
+ghost use Rattle.brc_meaning.specs.States.{with_register};
+ghost use Rattle.law_isolation.specs.Asked.{Follows};
+ghost use Rattle.law_isolation.specs.Means.{Means, MeansBesides};
 ghost use Rattle.brc_instructions.specs.Registers.{Stands, Besides};
 
 use crate::registers::Registers;
@@ -22,6 +31,10 @@ pub fn hold<H: Home<A>, A: Allocator>(
     requires besides { Besides frame.old registers.old handle }
     ensures stands { Stands frame.new registers.new }
     ensures heap { frame.new.heap ≡ frame.old.heap }
+    ensures quiet { Quietly frame.old.seat.log frame.new.seat.log }
+    ensures means { (base : ℕ) (s : state A) (reference : reference) → OwnLog frame.new.heap.cells frame.new.seat.log
+        → MeansBesides base frame.old registers.old s handle reference
+        → Means base frame.new registers.new (with_register to (Some reference) s) }
 {
     if let Some(old) = registers.put(to, handle) {
         frame.release(old);
@@ -39,6 +52,8 @@ pub fn copy<H: Home<A>, A: Allocator>(
     ensures stands { Stands frame.new registers.new }
     ensures heap { frame.new.heap ≡ frame.old.heap }
     ensures waits { IfErr result (λ fault. fault ≢ faults.Busy) }
+    ensures later { IsLater frame.old.seat.log frame.new.seat.log }
+    ensures follows { Follows frame.old frame.new registers.old registers.new (does.Copy to from) result }
 {
     let Some(handle) = registers.get(from) else {
         return Err(Fault::NoSuchPlace);
@@ -58,6 +73,8 @@ pub fn drop_held<H: Home<A>, A: Allocator>(
     ensures stands { Stands frame.new registers.new }
     ensures heap { frame.new.heap ≡ frame.old.heap }
     ensures waits { IfErr result (λ fault. fault ≢ faults.Busy) }
+    ensures later { IsLater frame.old.seat.log frame.new.seat.log }
+    ensures follows { Follows frame.old frame.new registers.old registers.new (does.Drop from) result }
 {
     let Some(handle) = registers.take(from) else {
         return Err(Fault::NoSuchPlace);

@@ -1,7 +1,16 @@
 //! Instructions on mailboxes.
 
-ghost use Rattle.std.specs.Prelude.{◌≡◌, ◌≢◌, IfErr, OnOk};
+ghost use Rattle.std.specs.Prelude.{◌≡◌, ◌≢◌, ℕ, IfErr, OnOk};
 ghost use Rattle.brc_words.specs.declared.fault.Fault.TheVariants as faults;
+ghost use Rattle.brc_script.specs.declared.instruction.Instruction.TheVariants as does;
+ghost use Rattle.brc_meaning.specs.declared.call.Call.TheVariants as calls;
+ghost use Rattle.brc_meaning.specs.declared.state.State.{State as state};
+ghost use Rattle.brc_meaning.specs.declared.reference.Reference.{Reference as reference};
+ghost use Rattle.law_living.specs.Living.{OwnLog};
+ghost use Rattle.law_living.specs.Later.{IsLater};
+ghost use Rattle.brc_meaning.specs.Objects.{object_call};
+ghost use Rattle.law_isolation.specs.Asked.{TakesAsked, Follows};
+ghost use Rattle.law_isolation.specs.Means.{MeansBesides};
 ghost use Rattle.brc_instructions.specs.Registers.{Stands, Besides};
 
 use crate::holding::hold;
@@ -28,6 +37,11 @@ fn post_taken<R: Wait, H: Home<A>, A: Allocator>(
     ensures besides { IfErr result (λ handed. Besides frame.new registers.now handed.back) }
     ensures heap { frame.new.heap ≡ frame.old.heap }
     ensures waits { IfErr result (λ handed. handed.fault ≢ faults.Busy) }
+    ensures same { IfErr result (λ handed. handed.back ≡ given) }
+    ensures later { IsLater frame.old.seat.log frame.new.seat.log }
+    ensures asked { (base : ℕ) (s : state A) (reference : reference) → OwnLog frame.new.heap.cells frame.new.seat.log
+        → MeansBesides base frame.old registers.now s given reference
+        → TakesAsked (object_call (calls.Send reference)) mailbox base frame.new registers.now s given reference result }
 {
     match registers.get(mailbox) {
         None => Err(Handed {
@@ -51,6 +65,8 @@ pub fn post<R: Wait, H: Home<A>, A: Allocator>(
     ensures stands { Stands frame.new registers.new }
     ensures heap { frame.new.heap ≡ frame.old.heap }
     ensures waits { IfErr result (λ fault. fault ≢ faults.Busy) }
+    ensures later { IsLater frame.old.seat.log frame.new.seat.log }
+    ensures follows { mailbox ≢ value → Follows frame.old frame.new registers.old registers.new (does.Send mailbox value) result }
 {
     let Some(given) = registers.take(value) else {
         return Err(Fault::NoSuchPlace);
@@ -77,6 +93,8 @@ pub fn receive<R: Wait, H: Home<A>, A: Allocator>(
     ensures stands { Stands frame.new registers.new }
     ensures heap { frame.new.heap ≡ frame.old.heap }
     ensures waits { IfErr result (λ fault. fault ≢ faults.Busy) }
+    ensures later { IsLater frame.old.seat.log frame.new.seat.log }
+    ensures follows { Follows frame.old frame.new registers.old registers.new (does.Receive to mailbox) result }
 {
     let Some(mailbox) = registers.get(mailbox) else {
         return Err(Fault::NoSuchPlace);

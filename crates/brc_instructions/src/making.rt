@@ -2,6 +2,9 @@
 
 ghost use Rattle.std.specs.Prelude.{◌≡◌, ◌≢◌, IfOk, IfErr};
 ghost use Rattle.brc_words.specs.declared.fault.Fault.TheVariants as faults;
+ghost use Rattle.brc_script.specs.declared.instruction.Instruction.TheVariants as does;
+ghost use Rattle.law_living.specs.Later.{IsLater};
+ghost use Rattle.law_isolation.specs.Asked.{Follows};
 ghost use Rattle.brc_instructions.specs.Registers.{Stands};
 
 use crate::holding::hold;
@@ -26,6 +29,8 @@ pub fn int<H: Home<A>, A: Allocator>(
     ensures stands { Stands frame.new registers.new }
     ensures heap { frame.new.heap ≡ frame.old.heap }
     ensures waits { IfErr result (λ fault. fault ≢ faults.Busy) }
+    ensures later { IsLater frame.old.seat.log frame.new.seat.log }
+    ensures follows { Follows frame.old frame.new registers.old registers.new (does.Int to number) result }
 {
     let made = new_int(alloc, frame, number)?;
     hold(frame, registers, to, made);
@@ -53,6 +58,8 @@ pub fn text<H: Home<A>, A: Allocator + Copy>(
     ensures stands { Stands frame.new registers.new }
     ensures heap { frame.new.heap ≡ frame.old.heap }
     ensures waits { IfErr result (λ fault. fault ≢ faults.Busy) }
+    ensures later { IsLater frame.old.seat.log frame.new.seat.log }
+    ensures follows { Follows frame.old frame.new registers.old registers.new (does.Text to text.now) result }
 {
     let copy = copy_text(alloc, text)?;
     match new_text(alloc, frame, copy) {
@@ -75,6 +82,8 @@ pub fn list<H: Home<A>, A: Allocator + Copy>(
     ensures stands { Stands frame.new registers.new }
     ensures heap { frame.new.heap ≡ frame.old.heap }
     ensures waits { IfErr result (λ fault. fault ≢ faults.Busy) }
+    ensures later { IsLater frame.old.seat.log frame.new.seat.log }
+    ensures follows { Follows frame.old frame.new registers.old registers.new (does.List to) result }
 {
     let made = new_list(alloc, frame)?;
     hold(frame, registers, to, made);
@@ -92,6 +101,8 @@ pub fn dict<H: Home<A>, A: Allocator + Copy>(
     ensures stands { Stands frame.new registers.new }
     ensures heap { frame.new.heap ≡ frame.old.heap }
     ensures waits { IfErr result (λ fault. fault ≢ faults.Busy) }
+    ensures later { IsLater frame.old.seat.log frame.new.seat.log }
+    ensures follows { Follows frame.old frame.new registers.old registers.new (does.Dict to) result }
 {
     let made = new_dict(alloc, frame)?;
     hold(frame, registers, to, made);
@@ -109,6 +120,8 @@ pub fn mailbox<H: Home<A>, A: Allocator + Copy>(
     ensures stands { Stands frame.new registers.new }
     ensures heap { frame.new.heap ≡ frame.old.heap }
     ensures waits { IfErr result (λ fault. fault ≢ faults.Busy) }
+    ensures later { IsLater frame.old.seat.log frame.new.seat.log }
+    ensures follows { Follows frame.old frame.new registers.old registers.new (does.Mailbox to) result }
 {
     let made = new_mailbox(alloc, frame)?;
     hold(frame, registers, to, made);

@@ -1,9 +1,16 @@
 //! `print`: what an object is and holds, as a value.
 
-ghost use Rattle.std.specs.Prelude.{◌≡◌, ◌≢◌, IfErr};
+ghost use Rattle.std.specs.Prelude.{◌≡◌, ◌≢◌, ℕ, List, Option, Some, IfErr};
 ghost use Rattle.brc_words.specs.declared.fault.Fault.TheVariants as faults;
 ghost use Rattle.brc_count.specs.Frames.{IsUnlocked, Owns};
 ghost use Rattle.brc_count.specs.Owned.{Keeps};
+ghost use Rattle.brc_meaning.specs.declared.state.State.{State as state};
+ghost use Rattle.law_living.specs.Living.{OwnLog};
+ghost use Rattle.law_living.specs.Later.{IsLater};
+ghost use Rattle.brc_count.specs.Frames.{HandleSeen as handle_seen};
+ghost use Rattle.brc_handles.specs.Handles.{slot};
+ghost use Rattle.law_isolation.specs.Means.{Means};
+ghost use Rattle.brc_instructions.specs.Printing.{ShownAs, PrintsAs};
 ghost use Rattle.brc_instructions.specs.Registers.{Stands};
 
 use crate::registers::Registers;
@@ -29,6 +36,10 @@ fn show<R: Wait, H: Home<A>, A: Allocator>(
     ensures keeps { Keeps frame.old frame.new }
     ensures unlocked { IsUnlocked frame.new }
     ensures waits { IfErr result (λ fault. fault ≢ faults.Busy) }
+    ensures later { IsLater frame.old.seat.log frame.new.seat.log }
+    ensures shows { (base : ℕ) (registers : List (Option handle_seen)) (r : ℕ) (s : state A) → OwnLog frame.new.heap.cells frame.new.seat.log
+        → slot registers r ≡ Some handle.now → Means base frame.old registers s
+        → Means base frame.new registers s × ShownAs r s result }
 {
     match kind_of(rt, frame, handle) {
         Kind::Int => Ok(Shown::Integer(int_of(rt, frame, handle)?)),
@@ -52,6 +63,9 @@ pub fn print<R: Wait, H: Home<A>, A: Allocator>(
     ensures stands { Stands frame.new registers.now }
     ensures heap { frame.new.heap ≡ frame.old.heap }
     ensures waits { IfErr result (λ fault. fault ≢ faults.Busy) }
+    ensures later { IsLater frame.old.seat.log frame.new.seat.log }
+    ensures follows { (base : ℕ) (s : state A) → OwnLog frame.new.heap.cells frame.new.seat.log → Means base frame.old registers.now s
+        → PrintsAs base frame.new registers.now from s result }
 {
     let Some(handle) = registers.get(from) else {
         return Err(Fault::NoSuchPlace);

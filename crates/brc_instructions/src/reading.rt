@@ -1,7 +1,14 @@
 //! Instructions that read objects and make an integer of what they find.
 
-ghost use Rattle.std.specs.Prelude.{◌≡◌, ◌≢◌, IfErr};
+ghost use Rattle.std.specs.Prelude.{◌≡◌, ◌≢◌, ℕ, IfErr};
 ghost use Rattle.brc_words.specs.declared.fault.Fault.TheVariants as faults;
+ghost use Rattle.brc_script.specs.declared.instruction.Instruction.TheVariants as does;
+ghost use Rattle.brc_meaning.specs.declared.state.State.{State as state};
+ghost use Rattle.law_living.specs.Living.{OwnLog};
+ghost use Rattle.law_living.specs.Later.{IsLater};
+ghost use Rattle.brc_meaning.specs.Objects.{number_in};
+ghost use Rattle.law_isolation.specs.Asked.{read, summed, Follows};
+ghost use Rattle.law_isolation.specs.Means.{Means};
 ghost use Rattle.brc_instructions.specs.Registers.{Stands};
 
 use crate::making::int;
@@ -27,6 +34,8 @@ pub fn len<R: Wait, H: Home<A>, A: Allocator>(
     ensures stands { Stands frame.new registers.new }
     ensures heap { frame.new.heap ≡ frame.old.heap }
     ensures waits { IfErr result (λ fault. fault ≢ faults.Busy) }
+    ensures later { IsLater frame.old.seat.log frame.new.seat.log }
+    ensures follows { Follows frame.old frame.new registers.old registers.new (does.Len to container) result }
 {
     let Some(container) = registers.get(container) else {
         return Err(Fault::NoSuchPlace);
@@ -50,6 +59,9 @@ fn number_of<R: Wait, H: Home<A>, A: Allocator>(
     ensures stands { Stands frame.new registers.now }
     ensures heap { frame.new.heap ≡ frame.old.heap }
     ensures waits { IfErr result (λ fault. fault ≢ faults.Busy) }
+    ensures later { IsLater frame.old.seat.log frame.new.seat.log }
+    ensures reads { (base : ℕ) (s : state A) → OwnLog frame.new.heap.cells frame.new.seat.log → Means base frame.old registers.now s
+        → Means base frame.new registers.now s × (read number_in from s ≡ result) }
 {
     let Some(handle) = registers.get(from) else {
         return Err(Fault::NoSuchPlace);
@@ -69,6 +81,9 @@ fn sum<R: Wait, H: Home<A>, A: Allocator>(
     ensures stands { Stands frame.new registers.now }
     ensures heap { frame.new.heap ≡ frame.old.heap }
     ensures waits { IfErr result (λ fault. fault ≢ faults.Busy) }
+    ensures later { IsLater frame.old.seat.log frame.new.seat.log }
+    ensures reads { (base : ℕ) (s : state A) → OwnLog frame.new.heap.cells frame.new.seat.log → Means base frame.old registers.now s
+        → Means base frame.new registers.now s × (summed first second s ≡ result) }
 {
     // Both registers are looked at before either kind is.
     if registers.get(first).is_none() || registers.get(second).is_none() {
@@ -96,6 +111,8 @@ pub fn add<R: Wait, H: Home<A>, A: Allocator>(
     ensures stands { Stands frame.new registers.new }
     ensures heap { frame.new.heap ≡ frame.old.heap }
     ensures waits { IfErr result (λ fault. fault ≢ faults.Busy) }
+    ensures later { IsLater frame.old.seat.log frame.new.seat.log }
+    ensures follows { Follows frame.old frame.new registers.old registers.new (does.Add to first second) result }
 {
     let sum = sum(rt, frame, registers, first, second)?;
     int(alloc, frame, registers, to, sum)

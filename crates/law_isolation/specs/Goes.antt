@@ -21,3 +21,8 @@ module _ {A : Type 0} where
   Goes base frame registers s meant answer = MatchResult answer
       (λ _. (next : State A) × (meant ≡ Ok next) × Means base frame registers next)
       (λ fault. is_want fault ≡ false → (meant ≡ Err fault) × Means base frame registers s)
+
+-- a fault that a section's plain meaning never has: one of the machine's, or that the gate let a line not through
+abbrev pub is_machines : Fault → Bool
+is_machines faults.Busy = true
+is_machines fault = is_want fault

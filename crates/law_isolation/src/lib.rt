@@ -2,3 +2,4 @@
 #![tactic(auto)]
 
 pub mod containers;
+pub mod laws;

@@ -1,16 +1,33 @@
 -- Items by which a thread only lets go, gives back and looks.
-use Rattle.std.specs.Prelude.{◌≡◌, Bool, true, false, List, ◌∷◌}
-use Rattle.brc_runs.specs.declared.event.Step.TheVariants.{Birth, Unlock, LocalUp, SharedUp}
+use Rattle.std.specs.Prelude.{◌≡◌, ℕ, ◌==◌, ◌&&◌, Bool, true, false, List, ◌∷◌}
+use Rattle.brc_runs.specs.declared.event.Step.{Step}
+use Rattle.brc_runs.specs.declared.event.Step.TheVariants.{Birth, Free, Unlock, LocalUp, SharedUp}
+use Rattle.brc_rule.specs.declared.told.Moved.{Moved}
+use Rattle.brc_rule.specs.declared.told.Moved.TheVariants as moves
 use Rattle.brc_rule.specs.declared.told.Told.{Told}
 use Rattle.brc_rule.specs.declared.told.Told.TheVariants.{Did}
 
--- it neither bears, nor unlocks, nor fills a place
+-- the step neither bears, nor unlocks, nor fills a place
+abbrev pub only_lets_go : Step → Bool
+only_lets_go (Birth c kind k) = false
+only_lets_go (Unlock change) = false
+only_lets_go (LocalUp source k) = false
+only_lets_go (SharedUp source k) = false
+only_lets_go _ = true
+
+abbrev pub puts_nothing : Moved → Bool
+puts_nothing (moves.Put c contents) = false
+puts_nothing _ = true
+
+-- such a step, which puts nothing home, or a note
 abbrev pub is_quiet : Told → Bool
-is_quiet (Did (Birth c kind k) number moved) = false
-is_quiet (Did (Unlock change) number moved) = false
-is_quiet (Did (LocalUp source k) number moved) = false
-is_quiet (Did (SharedUp source k) number moved) = false
+is_quiet (Did s number moved) = only_lets_go s && puts_nothing moved
 is_quiet x = true
+
+-- it gives the cell back
+abbrev pub frees : Told → ℕ → Bool
+frees (Did (Free d) number moved) c = d == c
+frees x c = false
 
 -- the second log is the first with such items after it
 pub data Quietly (old : List Told) : List Told → Type 0 where

@@ -1,0 +1,69 @@
+-- A copy of brc_count/proofs/Quiet.antt, until that crate is built with it.
+-- By a release, by the turns of the work on dead blocks and by a poll a thread only lets go.
+use Rattle.std.proofs.Common.{◌≡◌, ℕ, ◌+◌, ◌*◌, ◌/◌, true, min, ◌∷◌, refl, sym, subst}
+use Rattle.brc_runs.specs.declared.event.Dropped.TheVariants as drops
+use Rattle.brc_runs.specs.declared.event.Step.TheVariants.{Free, Drain, Wake}
+use Rattle.brc_runs.specs.Heap.{words_for}
+use Rattle.brc_rule.specs.declared.told.Moved.TheVariants.{Nothing}
+use Rattle.brc_rule.specs.declared.told.Told.{Told}
+use Rattle.brc_rule.specs.declared.told.Told.TheVariants.{Did}
+use Rattle.law_living.specs.Quiet.{is_quiet, Quietly, NoItem, OneMore}
+use Rattle.law_living.proofs.Quiet_Items.{quietly_joined}
+use Rattle.law_isolation.proofs.Temp_Counter.{released_quietly, settled_quietly}
+use Rattle.brc_count.specs.Frames.{FrameSeen, ReleasedOf, Turned, EntryReleased, BlockFreed, Turns}
+use Rattle.brc_count.specs.Frames as frames
+use Rattle.brc_count.specs.Polling.{Deals, DealsBits, NoBit, NotSet, Dealt, Drains, DrainsEach, NoWord, DrainsNamed, NoName, NotNamed, Named, Polled}
+use Rattle.brc_count.specs.Polling as polling
+
+module _ {A : Type 0} where
+  -- a frame's log goes on quietly
+  abbrev pub GoesQuietly : FrameSeen A → FrameSeen A → Type 0
+  GoesQuietly old new = Quietly old.seat.log new.seat.log
+
+  joined : (a b c : FrameSeen A) → GoesQuietly a b → GoesQuietly b c → GoesQuietly a c
+  joined a b c = quietly_joined a.seat.log b.seat.log c.seat.log
+
+  -- one such item
+  one : (x : Told) (old new : FrameSeen A) → is_quiet x ≡ true → new.seat.log ≡ x ∷ old.seat.log → GoesQuietly old new
+  one x old new quiet is = subst (Quietly old.seat.log) (sym is) (OneMore x old.seat.log NoItem quiet)
+
+  pub release_quietly : (old new : FrameSeen A) (k c : ℕ) → ReleasedOf old new k c → GoesQuietly old new
+  release_quietly old new k c released = released_quietly old.heap.cells (drops.Frame k) c released.seen released.block old.seat.log new.seat.log released.events
+
+  pub turned_quietly : (old new : FrameSeen A) → Turned old new → GoesQuietly old new
+  turned_quietly old new (EntryReleased entry mid pops seen block same released works) =
+      released_quietly old.heap.cells (drops.Work pops.cell) entry seen block old.seat.log new.seat.log released
+  turned_quietly old new (BlockFreed front found same works empty is) = one (Did (Free front.0) found Nothing) old new refl is
+
+  pub turns_quietly : (old : FrameSeen A) (n : ℕ) (new : FrameSeen A) → Turns old n new → GoesQuietly old new
+  turns_quietly old _ _ frames.NoTurn = NoItem
+  turns_quietly old _ new (frames.OneMore n mid _ more turned) = joined old mid new (turns_quietly old n mid more) (turned_quietly mid new turned)
+
+  -- ---- polls
+
+  deals_quietly : (old new : FrameSeen A) (c : ℕ) → Deals old new c → GoesQuietly old new
+  deals_quietly old new c deals = settled_quietly c deals.block old.seat.log new.seat.log deals.events
+
+  bits_quietly : (k bits : ℕ) (old : FrameSeen A) (i : ℕ) (new : FrameSeen A) → DealsBits k bits old i new → GoesQuietly old new
+  bits_quietly k bits old _ _ NoBit = NoItem
+  bits_quietly k bits old _ new (NotSet i _ more off) = bits_quietly k bits old i new more
+  bits_quietly k bits old _ new (Dealt i mid _ more on deals) = joined old mid new (bits_quietly k bits old i mid more) (deals_quietly mid new (k * 32 + i) deals)
+
+  drains_quietly : (old new : FrameSeen A) (k : ℕ) → Drains old new k → GoesQuietly old new
+  drains_quietly old new k drains =
+      joined old drains.mid new (one (Did (Drain k) drains.bits Nothing) old drains.mid refl drains.drained) (bits_quietly k drains.bits drains.mid 32 new drains.dealt)
+
+  each_quietly : (from : ℕ) (old : FrameSeen A) (to : ℕ) (new : FrameSeen A) → DrainsEach from old to new → GoesQuietly old new
+  each_quietly from old _ _ NoWord = NoItem
+  each_quietly from old _ new (polling.OneMore k mid _ more drains) = joined old mid new (each_quietly from old k mid more) (drains_quietly mid new k drains)
+
+  named_quietly : (told words : ℕ) (old : FrameSeen A) (i : ℕ) (new : FrameSeen A) → DrainsNamed told words old i new → GoesQuietly old new
+  named_quietly told words old _ _ NoName = NoItem
+  named_quietly told words old _ new (NotNamed i _ more off) = named_quietly told words old i new more
+  named_quietly told words old _ new (Named i mid _ more on each) =
+      joined old mid new (named_quietly told words old i mid more) (each_quietly (i * 32) mid (min words (i * 32 + 32)) new each)
+
+  pub polled_quietly : (old new : FrameSeen A) (told : ℕ) → Polled old new told → GoesQuietly old new
+  polled_quietly old new told polled =
+      joined old polled.mid new (one (Did Wake told Nothing) old polled.mid refl polled.woken)
+      (named_quietly told (words_for old.heap.cells) polled.mid ((words_for old.heap.cells + 31) / 32) new polled.drains)
