@@ -17,7 +17,6 @@ use Rattle.brc_dicts.specs.Calls.{DictPut, DictFind, DictDel}
 use Rattle.brc_meaning.specs.declared.reference.Reference.{Reference}
 use Rattle.brc_meaning.specs.declared.call.Call.TheVariants as calls
 use Rattle.brc_meaning.specs.declared.call.KeyedCall.TheVariants as keyed
-use Rattle.brc_meaning.specs.declared.object.Object.{Object}
 use Rattle.brc_meaning.specs.declared.object.Object.TheVariants as objects
 use Rattle.brc_meaning.specs.declared.state.State.{State}
 use Rattle.brc_meaning.specs.Objects.{object_call, keyed_call, entries_in, number_in}
@@ -45,7 +44,6 @@ module _ {A : Type 0} (old new : FrameSeen A) (k : ℕ) (call : PlainCall (Optio
 
 module _ {A : Type 0} (base : ℕ) (old new : FrameSeen A) (registers : List (Option HandleSeen)) (s : State A) (own : OwnLog new.heap.cells new.seat.log)
     (container : ℕ) (h : HandleSeen) (in_register : slot registers container ≡ Some h) where
-
   -- ---- a value goes in
 
   module _ (value : HandleSeen) (reference : Reference) (means : MeansBesides base old registers s value reference) (apart : IsApart value registers) where

@@ -1,5 +1,5 @@
 -- A call on the object that a register refers to: what it comes to by the plain meaning, and what is shown after the heap's.
-use Rattle.std.proofs.Common.{◌≡◌, ◌∙◌, refl, sym, ap, subst, ℕ, ℤ, Bool, true, List, Option, Some, None, IfSome, Result, Ok, Err, IfOk, set, get_or}
+use Rattle.std.proofs.Common.{◌≡◌, ◌∙◌, refl, sym, ap, subst, ℕ, ℤ, Bool, List, Option, Some, None, IfSome, Result, Ok, Err, IfOk}
 use Rattle.std.specs.Option.{option_map}
 use Rattle.std.proofs.lemmas.Option.{same_Some}
 use Rattle.brc_words.specs.declared.fault.Fault.{Fault}
@@ -16,14 +16,13 @@ use Rattle.brc_meaning.specs.declared.object.Object.{Object}
 use Rattle.brc_meaning.specs.declared.object.Object.TheVariants as objects
 use Rattle.brc_meaning.specs.declared.state.State.{State}
 use Rattle.brc_meaning.specs.Outcomes.{◌>>=◌}
-use Rattle.brc_meaning.specs.States.{meant, changed, calling}
+use Rattle.brc_meaning.specs.States.{meant, changed}
 use Rattle.brc_meaning.specs.Wholes.{Each}
 use Rattle.brc_meaning.proofs.WholeCalls.{IsKept}
 use Rattle.law_payloads.specs.Payloads.{payloads_of}
 use Rattle.law_living.specs.Living.{OwnLog}
-use Rattle.law_isolation.specs.Means.{cell_meant, contents_meant, IsMeant, HasAt, Shows, Means, MeansBesides}
+use Rattle.law_isolation.specs.Means.{cell_meant, contents_meant, IsMeant, Shows}
 use Rattle.law_isolation.specs.Calls.{with_objects, Comes, GivesNone, GivesOne}
-use Rattle.law_isolation.proofs.Mapped_Lists.{outcome_mapped, same}
 use Rattle.law_isolation.proofs.Matching.{ObjectCall, Matches, told, outcome_meant}
 use Rattle.law_isolation.proofs.Left_Alone.{ReplacesIn}
 use Rattle.law_isolation.proofs.Found_There.{FoundAs, found_as}
@@ -103,7 +102,6 @@ module _ {A : Type 0} (cells : ℕ → ℕ) (part : ℕ → Bool) (s : State A) 
 
 module _ {A : Type 0} (base : ℕ) (cells : ℕ → ℕ) (part : ℕ → Bool) (old new : FrameSeen A) (registers : List (Option HandleSeen)) (s : State A) (shows : Shows base cells part old registers s)
     (own : OwnLog new.heap.cells new.seat.log) (container : ℕ) (h : HandleSeen) (in_register : slot registers container ≡ Some h) (call : ObjectCall A) (places : KeepsPlacesOf old new registers) where
-
   -- ---- the call is refused
 
   pub refused : {R : Type 0} (plain : PlainCall R) (answered : R → Option ℕ) → Matches cells call plain answered → (fault : Fault) → RefusedPlainly old new h.place plain fault
@@ -111,10 +109,11 @@ module _ {A : Type 0} (base : ℕ) (cells : ℕ → ℕ) (part : ℕ → Bool) (
   refused plain answered matches fault why =
       let looks : LooksOn old new h.place why.found = keep_looks old new h.place why.found own why.looks in
       let there : FoundAs cells part s container looks.cell why.found =
-      found_as base cells part old registers s shows container h in_register looks.cell why.found looks.of_place looks.finds in
-      (comes_refused cells part s container looks.cell why.found there call fault
-      (is_refused cells call plain answered matches there.object fault (ap plain (sym there.found_is) ∙ why.plain)),
-      shows_left base cells part old new registers s shows looks.leaves places)
+      found_as base cells part old registers s shows container h in_register looks.cell why.found looks.of_place looks.finds in (
+        comes_refused cells part s container looks.cell why.found there call fault
+            (is_refused cells call plain answered matches there.object fault (ap plain (sym there.found_is) ∙ why.plain)),
+        shows_left base cells part old new registers s shows looks.leaves places,
+      )
 
   -- ---- the call is done
 
@@ -135,9 +134,9 @@ module _ {A : Type 0} (base : ℕ) (cells : ℕ → ℕ) (part : ℕ → Bool) (
         → Shows base cells part new registers (with_objects (changed reference done.1 s.objects) s)
     shown_after cell found put replaces (references.Small number) is_meant object stands cell_is done went leaves leads =
         absurd (
-          let bad : ◌≡◌ {A = Result (Option Reference × Object A) Fault} (Ok done) (Err faults.WrongKind) =
-          sym went ∙ ap call (sym (same_Some (objects.Int number) object stands)) ∙ no_int number in
-          cc
+        let bad : ◌≡◌ {A = Result (Option Reference × Object A) Fault} (Ok done) (Err faults.WrongKind) =
+        sym went ∙ ap call (sym (same_Some (objects.Int number) object stands)) ∙ no_int number in
+        cc
         )
     shown_after cell found put replaces (references.Object place) is_meant object stands cell_is done went leaves leads =
         let at = shows.lives.there place is_meant in

@@ -1,14 +1,13 @@
 -- What a locking finds in the cell of a register's handle: the object that the register refers to.
-use Rattle.std.proofs.Common.{◌≡◌, ◌∙◌, refl, sym, ap, subst, ℕ, zero, suc, ◌+◌, ◌-◌, ◌<◌, ◌≤◌, ℤ, pos, negsuc, ◌-ℤ◌, Bool, true, false, ◌&&◌, eqb, cond, arith, List, ◌∷◌, Option, Some, None, Result, Ok, Err, get_or, slice_get}
-use Rattle.std.specs.Prelude.{int_le}
+use Rattle.std.proofs.Common.{◌≡◌, ◌∙◌, refl, sym, ap, subst, ℕ, ◌+◌, ◌-◌, ◌<◌, ◌≤◌, ℤ, pos, negsuc, ◌-ℤ◌, Bool, true, eqb, arith, List, Option, Some, None, Ok, get_or}
 use Rattle.std.proofs.lemmas.Int.{ints}
-use Rattle.std.proofs.lemmas.Bool.{and_parts, true≢false, ne_eqb, cond-false}
+use Rattle.std.proofs.lemmas.Bool.{and_parts, ne_eqb, cond-false}
 use Rattle.brc_words.specs.declared.limits.TheConstants.{GLOBALS}
 use Rattle.brc_rule.specs.declared.contents.Contents.{Contents}
 use Rattle.brc_rule.specs.declared.contents.Contents.TheVariants as contents
 use Rattle.brc_rule.specs.declared.told.Told.{Told}
 use Rattle.brc_rule.specs.Logs.{opening_contents}
-use Rattle.brc_count.specs.Frames.{FrameSeen, HandleSeen, place_seen}
+use Rattle.brc_count.specs.Frames.{FrameSeen, HandleSeen}
 use Rattle.brc_count.specs.Locking.{cell_in}
 use Rattle.brc_handles.specs.Handles.{slot}
 use Rattle.brc_meaning.specs.declared.reference.Reference.{Reference}
@@ -23,7 +22,7 @@ use Rattle.brc_plain.specs.Outcomes.{or_fault}
 use Rattle.brc_words.specs.declared.fault.Fault.TheVariants as faults
 use Rattle.std.proofs.lemmas.Option.{same_Some}
 use Rattle.law_payloads.specs.Payloads.{payloads_of, FindsOwn}
-use Rattle.law_isolation.specs.Means.{cell_of_small, cell_meant, contents_meant, IsMeant, HasAt, HeldAs, Lives, Shows}
+use Rattle.law_isolation.specs.Means.{cell_of_small, cell_meant, contents_meant, IsMeant, HasAt, HeldAs, Shows}
 
 -- ---- the integers that are there always
 
@@ -32,12 +31,14 @@ abbrev IsSmallCell : ℤ → ℕ → Type 0
 IsSmallCell number c = (c < GLOBALS) × (opening_contents c ≡ contents.Int number)
 
 opens_with : (c : ℕ) (number : ℤ) → 3 ≤ c → c < GLOBALS → pos c -ℤ pos 8 ≡ number → IsSmallCell number c
-opens_with c number low high is = (high,
-    cond-false (eqb c 0) _ _ (ne_eqb c 0 (λ e. omega (arith, e, low)))
-    ∙ cond-false (eqb c 1) _ _ (ne_eqb c 1 (λ e. omega (arith, e, low)))
-    ∙ cond-false (eqb c 2) _ _ (ne_eqb c 2 (λ e. omega (arith, e, low)))
-    ∙ cond-false (eqb c GLOBALS) _ _ (ne_eqb c GLOBALS (λ e. omega (arith, e, high)))
-    ∙ ap contents.Int is)
+opens_with c number low high is = (
+  high,
+  cond-false (eqb c 0) _ _ (ne_eqb c 0 (λ e. omega (arith, e, low)))
+      ∙ cond-false (eqb c 1) _ _ (ne_eqb c 1 (λ e. omega (arith, e, low)))
+      ∙ cond-false (eqb c 2) _ _ (ne_eqb c 2 (λ e. omega (arith, e, low)))
+      ∙ cond-false (eqb c GLOBALS) _ _ (ne_eqb c GLOBALS (λ e. omega (arith, e, high)))
+      ∙ ap contents.Int is,
+)
 
 at_most : (n : ℕ) → is_small (pos n) ≡ true → n ≤ 256
 at_most n is = grind (arith, ints, and_parts)

@@ -1,6 +1,5 @@
 -- What calls of one form make of what is meant, from the frame before lost tries to the one after the call.
-use Rattle.std.proofs.Common.{◌≡◌, ◌≢◌, ◌∙◌, refl, sym, ap, subst, ℕ, ◌+◌, ℤ, Bool, true, false, List, Option, Some, None, IfSome, Result, Ok, Err, IfOk, IfErr, set, get_or}
-use Rattle.std.specs.Prelude.{MatchOption}
+use Rattle.std.proofs.Common.{◌≡◌, ◌≢◌, ◌∙◌, refl, sym, subst, ℕ, ℤ, Bool, true, false, List, Option, Some, None, IfSome, Result, Ok, Err, IfOk, IfErr}
 use Rattle.std.proofs.lemmas.Option.{same_Some}
 use Rattle.brc_words.specs.declared.fault.Fault.{Fault}
 use Rattle.brc_words.specs.declared.fault.Fault.TheVariants as faults
@@ -8,11 +7,11 @@ use Rattle.brc_runs.specs.declared.event.Change.TheVariants as changes
 use Rattle.brc_rule.specs.declared.contents.Contents.{Contents}
 use Rattle.brc_count.specs.declared.handed.Handed.{Handed}
 use Rattle.brc_count.specs.Frames.{FrameSeen, HandleSeen}
-use Rattle.brc_count.specs.Locking.{KeepsFrame, ChangesPlace, cell_in}
+use Rattle.brc_count.specs.Locking.{KeepsFrame, cell_in}
 use Rattle.brc_handles.specs.Handles.{slot, IsApart}
 use Rattle.brc_lock.specs.Waiting.{Waits}
 use Rattle.brc_lock.proofs.Kept.{waits_frame}
-use Rattle.brc_containers.specs.Called.{Late, HandsOut, TakesIn}
+use Rattle.brc_containers.specs.Called.{Late}
 use Rattle.brc_containers.specs.Changing.{PlainCall, Puts, Swaps, Takes, Shares, RefusedPlainly, RefusedCall, RefusedEntry, RefusedPlace, KeepsPlaces}
 use Rattle.brc_lists.specs.Calls.{PutsValue, SwapsValue, TakesEntry, SharesEntry}
 use Rattle.brc_meaning.specs.declared.reference.Reference.{Reference}
@@ -22,11 +21,11 @@ use Rattle.brc_meaning.specs.declared.state.State.{State}
 use Rattle.brc_meaning.specs.Wholes.{Each}
 use Rattle.brc_meaning.proofs.WholeCalls.{IsKept}
 use Rattle.law_living.specs.Living.{OwnLog}
-use Rattle.law_isolation.specs.Means.{cell_meant, contents_meant, IsMeant, HasAt, Shows, Means, MeansBesides}
+use Rattle.law_isolation.specs.Means.{cell_meant, IsMeant, HasAt, Shows, Means, MeansBesides}
 use Rattle.law_isolation.specs.Goes.{is_want}
-use Rattle.law_isolation.specs.Calls.{with_objects, Comes, GivesNone, GivesOne, HandsMeant, HandedMeant, TakesMeant, SwapsMeant, PutsMeant}
+use Rattle.law_isolation.specs.Calls.{Comes, GivesNone, GivesOne, HandsMeant, HandedMeant, TakesMeant, SwapsMeant}
 use Rattle.law_isolation.proofs.Matching.{ObjectCall, Matches, no_cell, one_cell}
-use Rattle.law_isolation.proofs.Left_Alone.{LeavesAll, waits_leave}
+use Rattle.law_isolation.proofs.Left_Alone.{waits_leave}
 use Rattle.law_isolation.proofs.Showing.{KeepsPlacesOf, has_kept, shows_left, vacant_apart}
 use Rattle.law_isolation.proofs.Turning.{Turns, changes_turn, shares_turn}
 use Rattle.law_isolation.proofs.Coming.{Went, refused, went, gives_none, gives_one}
@@ -71,7 +70,6 @@ module _ {A : Type 0} where
 
 module _ {A : Type 0} (base : ℕ) (old new : FrameSeen A) (registers : List (Option HandleSeen)) (s : State A) (own : OwnLog new.heap.cells new.seat.log)
     (container : ℕ) (h : HandleSeen) (in_register : slot registers container ≡ Some h) (call : ObjectCall A) (no_int : (number : ℤ) → call (objects.Int number) ≡ Err faults.WrongKind) where
-
   shows_waited : (cells : ℕ → ℕ) (part : ℕ → Bool) (k : ℕ) (mid : FrameSeen A) → Waits old k mid → Shows base cells part old registers s → Shows base cells part mid registers s
   shows_waited cells part k mid waits shows =
       shows_left base cells part old mid registers s shows (waits_leave waits) (all_places old mid registers (waits_frame waits).places)
@@ -95,13 +93,15 @@ module _ {A : Type 0} (base : ℕ) (old new : FrameSeen A) (registers : List (Op
         → (handed : Handed V) → (is_want handed.fault ≡ false → RefusedPlainly mid new h.place plain handed.fault)
         → HandedMeant call container base new registers s value reference handed
     handed_back plain answered matches mid waits keeps_frame handed why want =
-        let turned = refused base means.cells means.part mid new registers s (shown_mid h.place mid waits) own container h in_register call (all_places mid new registers keeps_frame.places) plain answered matches handed.fault (why want) in
-        (turned.0, record {
-          cells = means.cells;
-          part = means.part;
-          shows = turned.1;
-          has = has_kept mid new means.cells means.part value.place reference (keeps_frame.places value.place) (has_waited h.place mid waits);
-        })
+        let turned = refused base means.cells means.part mid new registers s (shown_mid h.place mid waits) own container h in_register call (all_places mid new registers keeps_frame.places) plain answered matches handed.fault (why want) in (
+          turned.0,
+          record {
+            cells = means.cells;
+            part = means.part;
+            shows = turned.1;
+            has = has_kept mid new means.cells means.part value.place reference (keeps_frame.places value.place) (has_waited h.place mid waits);
+          },
+        )
 
     -- the value went in
     pub put_in : {R : Type 0} (plain : ℕ → PlainCall R) (answered : R → Option ℕ) (answer : R) → answered answer ≡ None

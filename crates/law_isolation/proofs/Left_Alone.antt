@@ -1,10 +1,9 @@
 -- What items that neither bear nor free leave alone: private cells' payloads, but that of an unlocked one; dead cells; births.
 use Rattle.std.proofs.Common.{◌≡◌, ◌∙◌, refl, sym, ap, subst, ℕ, ◌+◌, eqb, Bool, true, false, ◌&&◌, not, cond, arith, List, ◌∷◌, Option, Some, None, ◌⊎◌, inl, inr}
-use Rattle.std.proofs.lemmas.Bool.{cases_Bool, cases_lt, eqb-true, true≢false, cond-true, cond-false}
+use Rattle.std.proofs.lemmas.Bool.{cases_Bool, cases_lt, eqb-true, cond-true, cond-false}
 use Rattle.brc_runs.specs.declared.event.Change.{Change}
 use Rattle.brc_runs.specs.declared.event.Change.TheVariants as changes
 use Rattle.brc_runs.specs.declared.event.Source.{Source}
-use Rattle.brc_runs.specs.declared.event.Step.{Step}
 use Rattle.brc_runs.specs.declared.event.Step.TheVariants.{Lock, Unlock, LocalUp, SharedUp}
 use Rattle.brc_runs.specs.Lists.{place_at, is_marked}
 use Rattle.brc_runs.specs.Steps.{locked_cell}
@@ -17,7 +16,7 @@ use Rattle.brc_rule.specs.declared.contents.Contents.{Contents}
 use Rattle.brc_rule.specs.declared.told.Moved.{Moved}
 use Rattle.brc_rule.specs.declared.told.Moved.TheVariants as moves
 use Rattle.brc_rule.specs.declared.told.Told.{Told}
-use Rattle.brc_rule.specs.declared.told.Told.TheVariants.{Did, Saw, Lost}
+use Rattle.brc_rule.specs.declared.told.Told.TheVariants.{Did, Lost}
 use Rattle.brc_rule.specs.Logs.{entries_found}
 use Rattle.brc_rule.specs.Seen.{part_seen, counts_seen}
 use Rattle.brc_counter.specs.Up.{CountsHere}
@@ -27,7 +26,6 @@ use Rattle.brc_lock.specs.Waiting.{Waits, NoTry, OneMore}
 use Rattle.law_private.specs.Private.{is_shared, is_in, place_put}
 use Rattle.law_payloads.specs.Payloads.{private_seen, last_put, payloads_of, locked_seen}
 use Rattle.law_payloads.proofs.Going_On as payloads
-use Rattle.law_payloads.proofs.Payloads_Law.{has_payload}
 use Rattle.law_living.specs.Living.{is_dead}
 
 -- the second log, in a heap of m cells, has the payloads, the dead cells and the births of the first, in one of n
@@ -134,6 +132,7 @@ module _ (n : ℕ) (log : List Told) where
             cond-true (eqb d c) (Some found) (payloads_of n log c) on ∙ ap Some (own (last_put log d) there) ∙ sym there
             ∙ ap (payloads_of n log) (eqb-true d c on)
       ])
+
       keeps : (c : ℕ) → payloads_of n (Did (Unlock changes.Keep) number (moves.Put d found) ∷ log) c ≡ payloads_of n log c
       keeps c = was_there (private_seen n log d) refl c
 

@@ -1,5 +1,5 @@
 -- What calls that look at the object of a register tell of the object that the register refers to.
-use Rattle.std.proofs.Common.{◌≡◌, ◌≢◌, ◌∙◌, refl, sym, ap, subst, ℕ, ℤ, Bool, true, false, List, length, map, Option, Some, None, Result, Ok, Err, IfErr}
+use Rattle.std.proofs.Common.{◌≡◌, ◌≢◌, ◌∙◌, refl, sym, ap, subst, ℕ, ℤ, true, false, List, length, map, Option, Some, Result, Ok, Err, IfErr}
 use Rattle.std.specs.Prelude.{MatchResult}
 use Rattle.std.proofs.lemmas.List.{length-map}
 use Rattle.brc_words.specs.declared.fault.Fault.{Fault}
@@ -14,7 +14,7 @@ use Rattle.brc_rule.specs.Logs.{kind_in}
 use Rattle.brc_rule.specs.Logs as logs
 use Rattle.brc_table.specs.Shown.{plain_key}
 use Rattle.brc_count.specs.Frames.{FrameSeen, HandleSeen}
-use Rattle.brc_count.specs.Locking.{KeepsThread, KeepsFrame, cell_in}
+use Rattle.brc_count.specs.Locking.{KeepsThread, KeepsFrame}
 use Rattle.brc_handles.specs.Handles.{slot}
 use Rattle.brc_lock.specs.Waiting.{Waits}
 use Rattle.brc_lock.proofs.Kept.{waits_frame}
@@ -115,18 +115,20 @@ module _ {A : Type 0} (base : ℕ) (old new : FrameSeen A) (registers : List (Op
       shows_left base means.cells means.part old mid registers s means.shows (waits_leave waits) (all_places old mid registers (waits_frame waits).places) in
       let on : LooksOn mid new h.place found = look_looks mid new h.place found own keeps_thread.heap looks in
       let there : FoundAs means.cells means.part s container on.cell found =
-      found_as base means.cells means.part mid registers s shows container h in_register on.cell found on.of_place on.finds in
-      (record {
-        cells = means.cells;
-        part = means.part;
-        shows = shows_left base means.cells means.part mid new registers s shows on.leaves (all_places mid new registers keeps_frame.places);
-      }, record {
-        reference = there.reference;
-        refers = there.refers;
-        object = there.object;
-        stands = there.stands;
-        is = tells there.object there.found_is;
-      })
+      found_as base means.cells means.part mid registers s shows container h in_register on.cell found on.of_place on.finds in (
+        record {
+          cells = means.cells;
+          part = means.part;
+          shows = shows_left base means.cells means.part mid new registers s shows on.leaves (all_places mid new registers keeps_frame.places);
+        },
+        record {
+          reference = there.reference;
+          refers = there.refers;
+          object = there.object;
+          stands = there.stands;
+          is = tells there.object there.found_is;
+        },
+      )
 
   pub kind_read : (kind : Kind) → Late old h.place (λ mid. KindOf mid new h.place (Ok kind))
       → Means base new registers s × Finds container s (λ object. kind_meant object ≡ kind)

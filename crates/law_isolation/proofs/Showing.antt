@@ -1,23 +1,16 @@
 -- What the frame and the registers show stays where payloads and dead cells do, and follows a payload that is another one's now.
-use Rattle.std.proofs.Common.{◌≡◌, ◌∙◌, refl, sym, ap, subst, ℕ, ◌+◌, ◌<◌, Bool, true, false, eqb, cond, List, length, set, get_or, Option, Some, None, IfSome, Result, Ok, Err, slice_get, ◌⊎◌, inl, inr}
+use Rattle.std.proofs.Common.{◌≡◌, ◌∙◌, sym, ap, subst, ℕ, ◌+◌, ◌<◌, Bool, true, eqb, List, length, set, get_or, Option, Some, None, IfSome, slice_get, ◌⊎◌, inl, inr}
 use Rattle.std.proofs.lemmas.Bool.{cases_eq, eq-eqb, ne_eqb, cond-true, cond-false}
 use Rattle.std.proofs.lemmas.List.{length-set, get_or-set_same, get_or-set_other}
-use Rattle.std.proofs.lemmas.Option.{slice_get-get_or, slice_get_within, get_or_from_slice_get, same_Some}
-use Rattle.brc_rule.specs.declared.contents.Contents.{Contents}
+use Rattle.std.proofs.lemmas.Option.{slice_get-get_or, slice_get_within, get_or_from_slice_get}
 use Rattle.brc_rule.specs.declared.told.Told.{Told}
-use Rattle.brc_count.specs.Frames.{FrameSeen, HandleSeen, place_seen}
+use Rattle.brc_count.specs.Frames.{FrameSeen, HandleSeen}
 use Rattle.brc_count.specs.Locking.{cell_in}
 use Rattle.brc_handles.specs.Handles.{slot}
-use Rattle.brc_words.specs.declared.fault.Fault.TheVariants as faults
-use Rattle.brc_plain.specs.Outcomes.{or_fault}
 use Rattle.brc_meaning.specs.declared.reference.Reference.{Reference}
-use Rattle.brc_meaning.specs.declared.reference.Reference.TheVariants as references
 use Rattle.brc_meaning.specs.declared.object.Object.{Object}
-use Rattle.brc_meaning.specs.declared.object.Object.TheVariants as objects
 use Rattle.brc_meaning.specs.declared.state.State.{State}
-use Rattle.brc_meaning.specs.States.{held, meant}
 use Rattle.brc_meaning.specs.Wholes.{Each}
-use Rattle.law_payloads.specs.Payloads.{payloads_of, FindsOwn}
 use Rattle.law_isolation.specs.Means.{cell_meant, contents_meant, IsMeant, HasAt, HeldAs, LivesAt, Lives, Shows}
 use Rattle.law_isolation.specs.Calls.{with_objects}
 use Rattle.law_isolation.proofs.Left_Alone.{Leaves, Replaces, LeavesAll, ReplacesIn}

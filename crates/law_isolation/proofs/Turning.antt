@@ -1,6 +1,6 @@
 -- What a call on the object of a place makes of payloads: what it puts home is the payload of the object's cell, where that is
 -- private; and where it keeps what it found, all is left alone.
-use Rattle.std.proofs.Common.{◌≡◌, ◌∙◌, refl, sym, ap, subst, ℕ, ◌+◌, ◌<◌, eqb, cond, Bool, true, false, List, ◌∷◌, Option, Some, None, ◌⊎◌, inl, inr}
+use Rattle.std.proofs.Common.{◌≡◌, ◌∙◌, sym, ap, ℕ, ◌+◌, eqb, cond, true, List, ◌∷◌, Some, inl, inr}
 use Rattle.std.proofs.lemmas.Bool.{cases_Bool, cases_lt, eqb-true, cond-true, cond-false}
 use Rattle.brc_runs.specs.declared.event.Change.{Change}
 use Rattle.brc_runs.specs.declared.event.Change.TheVariants as changes
