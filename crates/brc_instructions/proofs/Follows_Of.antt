@@ -1,5 +1,5 @@
 -- What answers of several instructions share: from a call's clauses to what the frame and the registers mean after it.
-use Rattle.std.proofs.Common.{◌≡◌, ◌≢◌, ◌∙◌, ℕ, ℤ, ◌<◌, true, false, List, [], ◌∷◌, Option, Some, None, is_some, Result, Ok, Err, slice_index_or, slice_set, refl, sym, ap, subst}
+use Rattle.std.proofs.Common.{◌≡◌, ◌≢◌, ◌∙◌, ℕ, ℤ, true, false, List, [], Option, Some, None, is_some, Result, Ok, Err, slice_index_or, slice_set, refl, sym, ap, subst}
 use Rattle.std.specs.Prelude.{IfSome}
 use Rattle.brc_words.specs.declared.fault.Fault.{Fault}
 use Rattle.brc_words.specs.declared.fault.Fault.TheVariants as faults
@@ -16,9 +16,7 @@ use Rattle.brc_containers.specs.Called.{Late}
 use Rattle.brc_containers.specs.Changing.{PlainCall, RefusedCall, RefusedEntry, RefusedPlace}
 use Rattle.brc_lists.specs.Calls.{PutsValue, SwapsValue, TakesEntry, SharesEntry}
 use Rattle.brc_meaning.specs.declared.reference.Reference.{Reference}
-use Rattle.brc_meaning.specs.declared.reference.Reference.TheVariants as references
 use Rattle.brc_meaning.specs.declared.object.Object.{Object}
-use Rattle.brc_meaning.specs.declared.object.Object.TheVariants as objects
 use Rattle.brc_meaning.specs.declared.state.State.{State}
 use Rattle.brc_meaning.specs.Outcomes.{◌>>=◌}
 use Rattle.brc_meaning.specs.States.{held, holding, called, with_register}
@@ -179,8 +177,8 @@ module _ {A : Type 0} where
   pub copies_nothing : (base : ℕ) (frame : FrameSeen A) (registers : List (Option HandleSeen)) (s : State A) (to from : ℕ)
       → Means base frame registers s → slot registers from ≡ None → Left base frame registers s (after (does.Copy to from) s) faults.NoSuchPlace
   copies_nothing base frame registers s to from means none = (
-      ap (λ (r : Result Reference Fault). r >>= λ reference. Ok (with_register to (Some reference) s)) (held_empty s.registers from (means_empty base frame registers s from means none)),
-      means,
+    ap (λ (r : Result Reference Fault). r >>= λ reference. Ok (with_register to (Some reference) s)) (held_empty s.registers from (means_empty base frame registers s from means none)),
+    means,
   )
 
   pub copies : (base : ℕ) (mid new : FrameSeen A) (before now : List (Option HandleSeen)) (s : State A) (to from : ℕ) (given : HandleSeen)
@@ -188,16 +186,16 @@ module _ {A : Type 0} where
       → OwnLog new.heap.cells new.seat.log → HoldsInto mid new before now to given
       → Led base new now (after (does.Copy to from) s)
   copies base mid new before now s to from given more own holds = (
-      with_register to (Some more.0) s,
-      ap (λ (r : Result Reference Fault). r >>= λ reference. Ok (with_register to (Some reference) s)) (held_is s.registers from more.0 more.1),
-      holds base s more.0 own more.2,
+    with_register to (Some more.0) s,
+    ap (λ (r : Result Reference Fault). r >>= λ reference. Ok (with_register to (Some reference) s)) (held_is s.registers from more.0 more.1),
+    holds base s more.0 own more.2,
   )
 
   pub drops_nothing : (base : ℕ) (frame : FrameSeen A) (before now : List (Option HandleSeen)) (s : State A) (from : ℕ)
       → Means base frame before s → slot before from ≡ None → now ≡ before → Left base frame now s (after (does.Drop from) s) faults.NoSuchPlace
   drops_nothing base frame before now s from means none same = (
-      ap (λ (r : Result Reference Fault). r >>= λ reference. Ok (with_register from None s)) (held_empty s.registers from (means_empty base frame before s from means none)),
-      subst (λ registers. Means base frame registers s) (sym same) means,
+    ap (λ (r : Result Reference Fault). r >>= λ reference. Ok (with_register from None s)) (held_empty s.registers from (means_empty base frame before s from means none)),
+    subst (λ registers. Means base frame registers s) (sym same) means,
   )
 
   pub drops : (base : ℕ) (old new : FrameSeen A) (before now : List (Option HandleSeen)) (s : State A) (from : ℕ) (gone : HandleSeen) (c : ℕ)
@@ -249,9 +247,9 @@ module _ {A : Type 0} where
         → GivesOne call container base mid before s given → OwnLog new.heap.cells new.seat.log → HoldsInto mid new before now to given
         → Led base new now (called call container to s)
     called_gives mid new before now s given one own holds = (
-        with_register to (Some one.reference) (with_objects one.made s),
-        called_of call container to s (Ok (Some one.reference, one.made)) (asks one.comes),
-        holds base (with_objects one.made s) one.reference own one.means,
+      with_register to (Some one.reference) (with_objects one.made s),
+      called_of call container to s (Ok (Some one.reference, one.made)) (asks one.comes),
+      holds base (with_objects one.made s) one.reference own one.means,
     )
 
     pub called_refused : (frame : FrameSeen A) (registers : List (Option HandleSeen)) (s : State A) (fault : Fault)
@@ -265,8 +263,8 @@ module _ {A : Type 0} where
       (value : HandleSeen) (reference : Reference) → MeansBesides base frame registers s value reference → slot registers container ≡ None
       → (asking call container s ≡ Err faults.NoSuchPlace) × MeansBesides base frame registers s value reference
   asked_nothing call container base frame registers s value reference means none = (
-      asks_nothing call container s (means_empty base frame registers s container (besides_means base frame registers s value reference means) none),
-      means,
+    asks_nothing call container s (means_empty base frame registers s container (besides_means base frame registers s value reference means) none),
+    means,
   )
 
   -- the value's register is empty
@@ -274,8 +272,8 @@ module _ {A : Type 0} where
       → Means base frame before s → slot before value ≡ None → now ≡ before
       → Left base frame now s (held value s.registers >>= then) faults.NoSuchPlace
   given_nothing then base frame before now s value means none same = (
-      ap (λ (r : Result Reference Fault). r >>= then) (held_empty s.registers value (means_empty base frame before s value means none)),
-      subst (λ registers. Means base frame registers s) (sym same) means,
+    ap (λ (r : Result Reference Fault). r >>= then) (held_empty s.registers value (means_empty base frame before s value means none)),
+    subst (λ registers. Means base frame registers s) (sym same) means,
   )
 
   module _ (call : Reference → Object A → Result (Option Reference × Object A) Fault) (container value base : ℕ)

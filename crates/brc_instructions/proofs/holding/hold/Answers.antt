@@ -1,4 +1,3 @@
-use Rattle.std.proofs.Common.{rules, arith, ◌∙◌, sym}
 use Rattle.law_living.specs.Quiet.{NoItem}
 use Rattle.law_isolation.proofs.Holding.{holds_into_empty, holds_and_releases}
 use Rattle.law_isolation.proofs.Temp_Count.{release_quietly}

@@ -4,7 +4,7 @@ use Rattle.brc_meaning.specs.declared.call.Call.TheVariants as calls
 use Rattle.brc_meaning.specs.Objects.{object_call}
 use Rattle.law_isolation.proofs.Asked_Of.{takes_asked}
 use Rattle.law_isolation.proofs.Calls_Mean.{push_means}
-use Rattle.brc_instructions.proofs.Follows_Of.{late_puts, asked_nothing}
+use Rattle.brc_instructions.proofs.Follows_Of.{late_puts}
 use Rattle.brc_instructions.proofs.lists.push_taken.Goals as goal
 
 pub returns-in-Some-clause-later : goal.returns-in-Some-clause-later

@@ -1,4 +1,3 @@
-use Rattle.std.proofs.Common.{sym}
 use Rattle.brc_meaning.specs.declared.call.Call.TheVariants as calls
 use Rattle.brc_meaning.specs.Objects.{object_call}
 use Rattle.brc_instructions.proofs.Follows_Of.{later_held, own_before, swapped, handed_back}

@@ -4,7 +4,7 @@ use Rattle.brc_meaning.specs.declared.call.Call.TheVariants as calls
 use Rattle.brc_meaning.specs.Objects.{object_call}
 use Rattle.law_isolation.proofs.Asked_Of.{swaps_asked}
 use Rattle.law_isolation.proofs.Calls_Mean.{set_means}
-use Rattle.brc_instructions.proofs.Follows_Of.{late_swaps, asked_nothing}
+use Rattle.brc_instructions.proofs.Follows_Of.{late_swaps}
 use Rattle.brc_instructions.proofs.lists.set_taken.Goals as goal
 
 pub returns-in-Some-clause-later : goal.returns-in-Some-clause-later
