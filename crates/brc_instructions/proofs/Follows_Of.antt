@@ -30,8 +30,8 @@ use Rattle.law_isolation.specs.Goes.{is_want}
 use Rattle.law_isolation.specs.Calls.{with_objects, Comes, GivesOne}
 use Rattle.law_isolation.specs.Asked.{asking, AsksNone, AsksOne}
 use Rattle.law_isolation.proofs.Later_Calls.{later_waits, later_changes, later_given, later_made, later_shares}
-use Rattle.law_isolation.proofs.Asked_Of.{asks, asks_nothing, called_of, emptied, asks_emptied, set_twice, put_back}
-use Rattle.law_isolation.proofs.Registers_Kept.{held_is, held_empty, means_taken, means_empty, besides_means}
+use Rattle.law_isolation.proofs.Asked_Of.{asks, called_of, emptied, asks_emptied, set_twice, put_back}
+use Rattle.law_isolation.proofs.Registers_Kept.{held_is, means_taken}
 use Rattle.law_isolation.proofs.Making_Things.{means_text, means_list, means_dict, means_mailbox, means_integer, integer_held}
 use Rattle.law_isolation.proofs.Holding.{empties_and_releases}
 use Rattle.law_isolation.proofs.Quiet_Frames.{waited}
@@ -174,13 +174,6 @@ module _ {A : Type 0} where
 
   -- ---- registers alone
 
-  pub copies_nothing : (base : ℕ) (frame : FrameSeen A) (registers : List (Option HandleSeen)) (s : State A) (to from : ℕ)
-      → Means base frame registers s → slot registers from ≡ None → Left base frame registers s (after (does.Copy to from) s) faults.NoSuchPlace
-  copies_nothing base frame registers s to from means none = (
-    ap (λ (r : Result Reference Fault). r >>= λ reference. Ok (with_register to (Some reference) s)) (held_empty s.registers from (means_empty base frame registers s from means none)),
-    means,
-  )
-
   pub copies : (base : ℕ) (mid new : FrameSeen A) (before now : List (Option HandleSeen)) (s : State A) (to from : ℕ) (given : HandleSeen)
       → (reference : Reference) × (slice_index_or s.registers from None ≡ Some reference) × MeansBesides base mid before s given reference
       → OwnLog new.heap.cells new.seat.log → HoldsInto mid new before now to given
@@ -189,13 +182,6 @@ module _ {A : Type 0} where
     with_register to (Some more.0) s,
     ap (λ (r : Result Reference Fault). r >>= λ reference. Ok (with_register to (Some reference) s)) (held_is s.registers from more.0 more.1),
     holds base s more.0 own more.2,
-  )
-
-  pub drops_nothing : (base : ℕ) (frame : FrameSeen A) (before now : List (Option HandleSeen)) (s : State A) (from : ℕ)
-      → Means base frame before s → slot before from ≡ None → now ≡ before → Left base frame now s (after (does.Drop from) s) faults.NoSuchPlace
-  drops_nothing base frame before now s from means none same = (
-    ap (λ (r : Result Reference Fault). r >>= λ reference. Ok (with_register from None s)) (held_empty s.registers from (means_empty base frame before s from means none)),
-    subst (λ registers. Means base frame registers s) (sym same) means,
   )
 
   pub drops : (base : ℕ) (old new : FrameSeen A) (before now : List (Option HandleSeen)) (s : State A) (from : ℕ) (gone : HandleSeen) (c : ℕ)
@@ -238,11 +224,6 @@ module _ {A : Type 0} where
   -- ---- a reference comes out
 
   module _ (call : Object A → Result (Option Reference × Object A) Fault) (container to base : ℕ) where
-    pub called_nothing : (frame : FrameSeen A) (registers : List (Option HandleSeen)) (s : State A)
-        → Means base frame registers s → slot registers container ≡ None → Left base frame registers s (called call container to s) faults.NoSuchPlace
-    called_nothing frame registers s means none =
-        (called_of call container to s (Err faults.NoSuchPlace) (asks_nothing call container s (means_empty base frame registers s container means none)), means)
-
     pub called_gives : (mid new : FrameSeen A) (before now : List (Option HandleSeen)) (s : State A) (given : HandleSeen)
         → GivesOne call container base mid before s given → OwnLog new.heap.cells new.seat.log → HoldsInto mid new before now to given
         → Led base new now (called call container to s)
@@ -257,24 +238,6 @@ module _ {A : Type 0} where
     called_refused frame registers s fault refused = (called_of call container to s (Err fault) (asks refused.0), refused.1)
 
   -- ---- a value goes in
-
-  -- the container's register is empty
-  pub asked_nothing : (call : Object A → Result (Option Reference × Object A) Fault) (container base : ℕ) (frame : FrameSeen A) (registers : List (Option HandleSeen)) (s : State A)
-      (value : HandleSeen) (reference : Reference) → MeansBesides base frame registers s value reference → slot registers container ≡ None
-      → (asking call container s ≡ Err faults.NoSuchPlace) × MeansBesides base frame registers s value reference
-  asked_nothing call container base frame registers s value reference means none = (
-    asks_nothing call container s (means_empty base frame registers s container (besides_means base frame registers s value reference means) none),
-    means,
-  )
-
-  -- the value's register is empty
-  pub given_nothing : (then : Reference → Result (State A) Fault) (base : ℕ) (frame : FrameSeen A) (before now : List (Option HandleSeen)) (s : State A) (value : ℕ)
-      → Means base frame before s → slot before value ≡ None → now ≡ before
-      → Left base frame now s (held value s.registers >>= then) faults.NoSuchPlace
-  given_nothing then base frame before now s value means none same = (
-    ap (λ (r : Result Reference Fault). r >>= then) (held_empty s.registers value (means_empty base frame before s value means none)),
-    subst (λ registers. Means base frame registers s) (sym same) means,
-  )
 
   module _ (call : Reference → Object A → Result (Option Reference × Object A) Fault) (container value base : ℕ)
       (old : FrameSeen A) (before taken : List (Option HandleSeen)) (s : State A) (given : HandleSeen)
