@@ -1,1 +1,2 @@
 mod Gained
+mod Follows_Of
