@@ -9,6 +9,7 @@ use Rattle.brc_rule.specs.declared.told.Told.{Told}
 use Rattle.brc_rule.specs.declared.told.Told.TheVariants.{Did}
 use Rattle.law_living.specs.Quiet.{is_quiet, Quietly, NoItem, OneMore}
 use Rattle.law_living.specs.Living.{OwnLog}
+use Rattle.law_living.proofs.Earlier.{own_before}
 use Rattle.law_living.proofs.Quiet_Items.{quietly_joined}
 use Rattle.brc_table.specs.Seated.{TableSeen}
 use Rattle.brc_counter.proofs.Quiet.{released_quietly, settled_quietly}
@@ -16,11 +17,6 @@ use Rattle.brc_count.specs.Frames.{FrameSeen, HandleSeen, Owns, place_seen, Rele
 use Rattle.brc_count.specs.Frames as frames
 use Rattle.brc_count.specs.Polling.{Deals, DealsBits, NoBit, NotSet, Dealt, Drains, DrainsEach, NoWord, DrainsNamed, NoName, NotNamed, Named, Polled}
 use Rattle.brc_count.specs.Polling as polling
-
--- what was an own log once it went on is one
-pub own_before : (n : ℕ) (before log : List Told) → Quietly before log → OwnLog n log → OwnLog n before
-own_before n before log NoItem own = own
-own_before n before _ (OneMore x log more quiet) own = own_before n before log more own.0
 
 module _ {A : Type 0} where
   -- a frame's log goes on quietly

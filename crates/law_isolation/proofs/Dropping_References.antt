@@ -10,7 +10,7 @@ use Rattle.law_isolation.specs.Means.{Means, MeansBesides}
 use Rattle.law_isolation.specs.Keeping.{KeepsPlace, KeepsRegisters}
 use Rattle.law_isolation.proofs.Quiet_Frames.{all_kept, means_quietly, besides_quietly}
 use Rattle.law_isolation.proofs.Registers_Kept.{besides_means}
-use Rattle.law_isolation.proofs.Temp_Count.{release_quietly, turns_quietly, polled_quietly}
+use Rattle.brc_count.proofs.Quiet.{release_quietly, turns_quietly, polled_quietly}
 
 module _ {A : Type 0} where
   -- registers that are apart from the place that is vacated

@@ -67,7 +67,7 @@ module _ {A : Type 0} where
       let looked : IsLater old.seat.log made.claimed.mid = record { items = made.claimed.passed.looks; is = made.claimed.passed.above }
       in let claimed : IsLater old.seat.log made.mid = later_is old.seat.log made.mid _ made.claimed.told (later_one _ old.seat.log made.claimed.mid looked)
       in later_is old.seat.log new.seat.log _ made.told
-         (later_one _ old.seat.log _ (later_one _ old.seat.log _ (later_one _ old.seat.log made.mid claimed)))
+      (later_one _ old.seat.log _ (later_one _ old.seat.log _ (later_one _ old.seat.log made.mid claimed)))
 
   pub later_shares : {old new : FrameSeen A} {k : ℕ} {call : PlainCall ℕ} {given : HandleSeen} → Shares old new k call given
       → IsLater old.seat.log new.seat.log
@@ -75,7 +75,7 @@ module _ {A : Type 0} where
       let locks : IsLater old.seat.log is.locked.seat.log = one_more old.seat.log _ is.locked.seat.log is.locks
       in let unlocks : IsLater is.shared.seat.log new.seat.log = one_more is.shared.seat.log _ new.seat.log is.unlocks
       in later_both old.seat.log is.locked.seat.log new.seat.log locks
-         (later_both is.locked.seat.log is.shared.seat.log new.seat.log (later_given is.gives) unlocks)
+      (later_both is.locked.seat.log is.shared.seat.log new.seat.log (later_given is.gives) unlocks)
 
   -- after some lost tries
   pub later_late : {old : FrameSeen A} (new : FrameSeen A) {k : ℕ} {done : FrameSeen A → Type 0}

@@ -10,8 +10,6 @@ pub mod Quiet_Frames
 pub mod Quiet_Lives
 pub mod Registers_Kept
 pub mod Retaining
-pub mod Temp_Count
-pub mod Temp_Counter
 pub mod Wants
 pub mod Left_Alone
 pub mod Mapped_Lists

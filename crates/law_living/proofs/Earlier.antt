@@ -36,3 +36,6 @@ later_is old new same is later = record { items = later.items; is = is ∙ later
 pub quietly_later : (old new : List Told) → Quietly old new → IsLater old new
 quietly_later old new Quietly.NoItem = later_same old
 quietly_later old new (Quietly.OneMore x log quiet is) = later_one x old log (quietly_later old log quiet)
+
+pub own_before : (n : ℕ) (before log : List Told) → Quietly before log → OwnLog n log → OwnLog n before
+own_before n before log quiet own = own_earlier n before log (quietly_later before log quiet) own

@@ -1,5 +1,5 @@
 use Rattle.law_living.proofs.Earlier.{quietly_later}
-use Rattle.law_isolation.proofs.Temp_Count.{release_quietly}
+use Rattle.brc_count.proofs.Quiet.{release_quietly}
 use Rattle.brc_instructions.proofs.Follows_Of.{owned_at, released_of, drops}
 use Rattle.brc_instructions.proofs.holding.drop_held.Goals as goal
 

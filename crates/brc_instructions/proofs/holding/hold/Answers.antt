@@ -1,6 +1,6 @@
 use Rattle.law_living.specs.Quiet.{NoItem}
 use Rattle.law_isolation.proofs.Holding.{holds_into_empty, holds_and_releases}
-use Rattle.law_isolation.proofs.Temp_Count.{release_quietly}
+use Rattle.brc_count.proofs.Quiet.{release_quietly}
 use Rattle.brc_instructions.proofs.Follows_Of.{owned_at, released_of}
 use Rattle.brc_instructions.proofs.holding.hold.Goals as goal
 
