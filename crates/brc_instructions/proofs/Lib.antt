@@ -1,1 +1,3 @@
 mod Gained
+mod Whole_Calls
+mod Calls_Follow
