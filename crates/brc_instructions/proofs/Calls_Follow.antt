@@ -1,5 +1,5 @@
 -- From what the heap's call means to what the instruction means that makes it.
-use Rattle.std.proofs.Common.{◌≡◌, ◌≢◌, ◌∙◌, ℕ, false, List, Option, Some, None, Result, Ok, Err, slice_index_or, refl, sym, ap, subst}
+use Rattle.std.proofs.Common.{◌≡◌, ◌≢◌, ◌∙◌, ℕ, false, List, Option, Some, None, Result, Ok, Err, MatchOption, slice_index_or, refl, sym, ap, subst}
 use Rattle.brc_words.specs.declared.fault.Fault.{Fault}
 use Rattle.brc_words.specs.declared.fault.Fault.TheVariants as faults
 use Rattle.brc_count.specs.declared.handed.Handed.{Handed}
@@ -11,6 +11,7 @@ use Rattle.brc_meaning.specs.declared.state.State.{State}
 use Rattle.brc_meaning.specs.Outcomes.{◌>>=◌}
 use Rattle.brc_meaning.specs.States.{held, holding, called, with_register}
 use Rattle.law_living.specs.Living.{OwnLog}
+use Rattle.law_living.specs.Later.{IsLater}
 use Rattle.law_living.specs.Quiet.{Quietly}
 use Rattle.law_living.proofs.Earlier.{own_earlier, quietly_later}
 use Rattle.law_isolation.specs.Means.{Means, MeansBesides}
@@ -21,12 +22,16 @@ use Rattle.law_isolation.proofs.Asked_Of.{asks, asks_nothing, asks_emptied, call
 use Rattle.law_isolation.proofs.Registers_Kept.{held_is, held_empty, means_empty}
 
 module _ {A : Type 0} where
-  -- before the handle went into its register the log was the thread's own too
+  -- before a later call the log was the thread's own too
+  pub own_at : (mid new : FrameSeen A) → new.heap ≡ mid.heap → IsLater mid.seat.log new.seat.log → OwnLog new.heap.cells new.seat.log
+      → OwnLog mid.heap.cells mid.seat.log
+  own_at mid new same later own =
+      subst (λ heap. OwnLog heap.cells mid.seat.log) same (own_earlier new.heap.cells mid.seat.log new.seat.log later own)
+
+  -- and before the handle went into its register
   pub own_before : (mid new : FrameSeen A) → new.heap ≡ mid.heap → Quietly mid.seat.log new.seat.log → OwnLog new.heap.cells new.seat.log
       → OwnLog mid.heap.cells mid.seat.log
-  own_before mid new same quiet own =
-      subst (λ heap. OwnLog heap.cells mid.seat.log) same
-      (own_earlier new.heap.cells mid.seat.log new.seat.log (quietly_later mid.seat.log new.seat.log quiet) own)
+  own_before mid new same quiet own = own_at mid new same (quietly_later mid.seat.log new.seat.log quiet) own
 
   -- the handle goes into the register, whatever is meant
   abbrev pub HoldsIn : ℕ → FrameSeen A → FrameSeen A → List (Option HandleSeen) → List (Option HandleSeen) → ℕ → HandleSeen → Type 0
@@ -115,3 +120,15 @@ module _ {A : Type 0} where
         moved reference refers ∙ called_of (call reference) container value s (Err handed.fault) (sym (asks_emptied (call reference) container value s apart) ∙ (back own).0),
         subst (Means base new now) (put_back value reference s refers) (holds (emptied value s) reference (back own).1),
       )
+
+  -- ---- what a put answers
+
+  module _ (call : Object A → Result (Option Reference × Object A) Fault) (container base : ℕ) (new : FrameSeen A) (registers : List (Option HandleSeen)) (s : State A) where
+    abbrev Answers : Option HandleSeen → Type 0
+    Answers answer = MatchOption answer (AsksNone call container base new registers s) (AsksOne call container base new registers s)
+
+    pub put_none : (answer : Option HandleSeen) → answer ≡ None → Answers answer → AsksNone call container base new registers s
+    put_none answer is asks = subst Answers is asks
+
+    pub put_one : (answer : Option HandleSeen) (given : HandleSeen) → answer ≡ Some given → Answers answer → AsksOne call container base new registers s given
+    put_one answer given is asks = subst Answers is asks

@@ -1,3 +1,4 @@
 mod Gained
 mod Whole_Calls
 mod Calls_Follow
+mod Sums_Read
