@@ -1,5 +1,5 @@
 -- What is read off the objects of registers, and the sum of two integers.
-use Rattle.std.proofs.Common.{◌≡◌, ◌∙◌, ℕ, ℤ, pos, Option, Some, None, List, Result, Ok, Err, slice_index_or, refl, sym, ap, subst}
+use Rattle.std.proofs.Common.{◌≡◌, ◌∙◌, ℕ, ℤ, pos, Bool, true, false, not, Option, Some, None, is_some, option_copied, Bor, List, Result, Ok, Err, slice_index_or, refl, sym, ap, subst}
 use Rattle.brc_words.specs.declared.fault.Fault.{Fault}
 use Rattle.brc_words.specs.declared.fault.Fault.TheVariants as faults
 use Rattle.brc_plain.specs.Outcomes.{or_fault}
@@ -28,6 +28,12 @@ module _ {A X : Type 0} (ask : Object A → Result X Fault) (container : ℕ) (s
       ap (λ (o : Option Reference). or_fault faults.NoSuchPlace o >>= λ reference. asked ask reference s.objects) none
 
 -- ---- two registers
+
+-- what was looked at, and isn't nothing
+pub filled_of : {X : Type 0} (found : Option (Bor X)) (register : Option X) (empty : Bool) → option_copied found ≡ register → is_some found ≡ not empty → empty ≡ false
+    → (x : X) × (register ≡ Some x)
+filled_of None register empty copied is filled = absurd (let bad : false ≡ true = is ∙ ap not filled in cc)
+filled_of (Some at) register empty copied is filled = (at.now, sym copied)
 
 module _ {A : Type 0} (s : State A) where
   -- their sum, by what each has

@@ -1,6 +1,8 @@
-use Rattle.std.proofs.Common.{◌≡◌, pos, true, false, Ok, Err, sym, subst}
+use Rattle.std.proofs.Common.{◌≡◌, ◌∙◌, pos, true, false, Ok, Err, FitsSigned, w64, sym, subst}
+use Rattle.std.proofs.lemmas.Int.{to_z-of_z}
 use Rattle.std.proofs.lemmas.Result.{err_from_is_err_and}
 use Rattle.brc_meaning.specs.Objects.{entries_in}
+use Rattle.brc_meaning.specs.States.{with_integer}
 use Rattle.law_living.proofs.Earlier.{later_both}
 use Rattle.law_isolation.specs.Goes.{Goes}
 use Rattle.law_isolation.proofs.Calls_Mean.{len_means}
@@ -34,7 +36,11 @@ returns-in-Ok-clause-follows g c base s own means =
         c.args.container c.in-Some.container.now (sym c.in-Some.ensures) means (Ok c.in_ok-entries.entries) c.in_ok-entries.ensures.looked c.in_ok-entries.ensures.waited in
     subst (λ meant. Goes base c.int.new.frame c.int.new.registers s meant c.int.result)
     (sym (counts s c.args.to c.args.container (Ok c.in_ok-entries.entries) (found_read entries_in c.args.container s (Ok c.in_ok-entries.entries) told.1)))
-    ?
+    (let number = c.in-Ok.entries in
+    let is : number ≡ pos c.in_ok-entries.entries = (c.in-Ok.ensures).1 in
+    let fits : FitsSigned w64 number = subst (FitsSigned w64) (sym is) (c.in-Ok.ensures).0 in
+    subst (λ z. Goes base c.int.new.frame c.int.new.registers s (Ok (with_integer z c.args.to s)) c.int.result) (to_z-of_z w64 number fits ∙ is)
+    (c.int.ensures.follows base s own told.0))
 
 pub returns-in-Err-clause-later : goal.returns-in-Err-clause-later
 returns-in-Err-clause-later g c =
