@@ -2,3 +2,4 @@ mod Gained
 mod Whole_Calls
 mod Calls_Follow
 mod Sums_Read
+mod Shows_As
