@@ -41,10 +41,10 @@ pub fn len<R: Wait, H: Home<A>, A: Allocator>(
         return Err(Fault::NoSuchPlace);
     };
     let entries = len_of(rt, frame, container)?;
-    // A container has at most 1,048,576 entries.
+    // A container has at most 1,048,576 entries: more than an i64 counts would be past all memory.
     match i64::try_from(entries) {
         Ok(entries) => int(alloc, frame, registers, to, entries),
-        Err(_past) => Err(Fault::Overflow),
+        Err(_past) => Err(Fault::OutOfMemory),
     }
 }
 

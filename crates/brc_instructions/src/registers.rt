@@ -1,9 +1,10 @@
 //! The sixteen registers of a section.
 
-ghost use Rattle.std.specs.Prelude.{◌≡◌, ◌<◌, ◌+◌, None, Some, IfOk, IfErr, IfSome, IfNone, slice_set};
+ghost use Rattle.std.specs.Prelude.{◌≡◌, ◌<◌, ◌+◌, None, Some, IfOk, IfErr, IfSome, IfNone, slice_set, length};
 ghost use Rattle.std.specs.Option.{option_copied};
 ghost use Rattle.brc_words.specs.declared.fault.Fault.TheVariants.{OutOfMemory};
 ghost use Rattle.brc_count.specs.Frames.{IsUnlocked};
+ghost use Rattle.law_living.specs.Quiet.{Quietly};
 ghost use Rattle.brc_handles.specs.Handles.{slot, filled, IsApart, IsBare, OwnsEach, ComesIn, ComesOut, Exchanges};
 
 use brc_count::{Frame, Handle};
@@ -35,6 +36,7 @@ impl<A: Allocator> Registers<A> {
     /// All empty, as a section starts.
     pub fn empty(alloc: A) -> Result<Registers<A>, Fault>
         ensures bare { IfOk result IsBare }
+        ensures size { IfOk result (λ registers. length registers ≡ 16) }
         ensures refused { IfErr result (λ fault. fault ≡ OutOfMemory) }
     {
         match Handles::with_places(alloc, REGISTERS as usize) {
@@ -81,6 +83,7 @@ impl<A: Allocator> Registers<A> {
         requires unlocked { IsUnlocked frame.old }
         ensures count { frame.new.len + filled self ≡ frame.old.len }
         ensures heap { frame.new.heap ≡ frame.old.heap }
+        ensures quiet { Quietly frame.old.seat.log frame.new.seat.log }
         ensures unlocked { IsUnlocked frame.new }
     {
         let Registers { handles } = self;
