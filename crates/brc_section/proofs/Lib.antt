@@ -1,1 +1,5 @@
-pub mod Lines
+mod Lines
+mod Runs
+mod Line_Did
+mod Plainly
+mod Tries

@@ -1,1 +1,6 @@
 pub mod Ends
+pub mod Waiting
+pub mod Tries
+pub mod Stepping
+pub mod Running
+pub mod Isolation

@@ -1,9 +1,16 @@
 //! A section, line by line.
 
-ghost use Rattle.std.specs.Prelude.{◌≡◌, ◌≢◌, ◌∷◌, [], IfErr};
+ghost use Rattle.std.specs.Prelude.{◌≡◌, ◌≢◌, ℕ, ◌∷◌, [], false, IfErr};
+ghost use Rattle.std.specs.List.{repeat};
 ghost use Rattle.brc_words.specs.declared.fault.Fault.TheVariants as faults;
 ghost use Rattle.brc_instructions.specs.Registers.{Stands};
+ghost use Rattle.brc_script.specs.Instructions.{is_shared};
+ghost use Rattle.brc_meaning.specs.declared.state.State.{State as state};
+ghost use Rattle.brc_meaning.specs.Sections.{written_out};
+ghost use Rattle.brc_meaning.specs.Steps.{after};
+ghost use Rattle.law_isolation.specs.Lines.{At};
 ghost use Rattle.brc_section.specs.Ends.{IsLineIn, IsLineOf};
+ghost use Rattle.brc_section.specs.Running.{Notes, Did, RunsOn};
 
 use crate::gate::Gate;
 use crate::names::{Names, name_at};
@@ -11,7 +18,7 @@ use crate::stepping::step;
 use crate::waiting::Seated;
 use brc_count::Frame;
 use brc_counter::Home;
-use brc_instructions::{Lines, Registers};
+use brc_instructions::{Lines, Registers, Shown};
 use brc_script::{Line, Piece};
 use brc_words::{Fault, Key};
 use std::alloc::Allocator;
@@ -22,6 +29,21 @@ use std::sync::Wait;
 pub(crate) struct Halt {
     pub(crate) fault: Fault,
     pub(crate) line: u32,
+}
+
+/// What was shown, as one line more; OutOfMemory where it can't be had. A fault stays a fault.
+#[inline(always)]
+fn note<A: Allocator>(
+    lines: &mut Lines<A>,
+    done: Result<Option<Shown<A>>, Fault>,
+) -> Result<(), Fault>
+    ensures { Notes done lines.old lines.new result }
+{
+    match done {
+        Ok(None) => Ok(()),
+        Ok(Some(shown)) => lines.add(&shown),
+        Err(fault) => Err(fault),
+    }
 }
 
 /// The instruction of a line, what it prints, one poll, and work.
@@ -40,13 +62,17 @@ fn do_line<R: Wait, H: Home<A>, A: Allocator + Copy>(
     ensures stands { Stands frame.new registers.new }
     ensures heap { frame.new.heap ≡ frame.old.heap }
     ensures waits { IfErr result (λ fault. fault ≢ faults.Busy) }
+    ensures follows { (base : ℕ) (s : state A) → is_shared line.now.instruction ≡ false
+        → At base frame.old registers.old lines.old s
+        → Did base frame.new registers.new lines.new s (after line.now.instruction s) result }
 {
-    match step(rt, alloc, frame, registers, line.instruction(), key, seated) {
-        Ok(None) => {}
-        Ok(Some(shown)) => lines.add(&shown)?,
+    let done = step(rt, alloc, frame, registers, line.instruction(), key, seated);
+    // After a refused instruction too: what its calls found is told by the log that the poll finds.
+    let _told = frame.poll();
+    match note(lines, done) {
+        Ok(()) => {}
         Err(fault) => return Err(fault),
     }
-    let _told = frame.poll();
     let _left = frame.work(seated.budget);
     Ok(())
 }
@@ -69,6 +95,7 @@ fn run_line<R: Wait, G: Gate, H: Home<A>, A: Allocator + Copy>(
     ensures heap { frame.new.heap ≡ frame.old.heap }
     ensures line { IfErr result (λ halt. line.now.number ≡ halt.line) }
     ensures busy { IfErr result (λ halt. halt.fault ≡ faults.Busy → G.may_refuse gate.now seated.now.number halt.line) }
+    ensures runs { RunsOn frame.old registers.old lines.old frame.new registers.new lines.new (line.now ∷ []) result }
 {
     let number = line.number();
     if !gate.at(rt, seated.number, number) {
@@ -104,6 +131,7 @@ fn run_lines<R: Wait, G: Gate, H: Home<A>, A: Allocator + Copy>(
     ensures heap { frame.new.heap ≡ frame.old.heap }
     ensures line { IfErr result (λ halt. IsLineIn halt.line body.now) }
     ensures busy { IfErr result (λ halt. halt.fault ≡ faults.Busy → G.may_refuse gate.now seated.now.number halt.line) }
+    ensures runs { RunsOn frame.old registers.old lines.old frame.new registers.new lines.new (body.now) result }
 {
     for (at, line) in body.iter().enumerate() {
         let key = name_at(keys, at);
@@ -133,8 +161,10 @@ fn run_times<R: Wait, G: Gate, H: Home<A>, A: Allocator + Copy>(
     ensures heap { frame.new.heap ≡ frame.old.heap }
     ensures line { IfErr result (λ halt. IsLineIn halt.line body.now) }
     ensures busy { IfErr result (λ halt. halt.fault ≡ faults.Busy → G.may_refuse gate.now seated.now.number halt.line) }
+    ensures runs { RunsOn frame.old registers.old lines.old frame.new registers.new lines.new (repeat times body.now) result }
 {
-    for _ in 0..times {
+    for turn in 0..times {
+        let _done = turn;
         match run_lines(rt, alloc, frame, registers, lines, body, keys, seated, gate) {
             Ok(()) => {}
             Err(halt) => return Err(halt),
@@ -160,6 +190,7 @@ fn run_piece<R: Wait, G: Gate, H: Home<A>, A: Allocator + Copy>(
     ensures heap { frame.new.heap ≡ frame.old.heap }
     ensures line { IfErr result (λ halt. IsLineOf halt.line (piece.now ∷ [])) }
     ensures busy { IfErr result (λ halt. halt.fault ≡ faults.Busy → G.may_refuse gate.now seated.now.number halt.line) }
+    ensures runs { RunsOn frame.old registers.old lines.old frame.new registers.new lines.new (written_out (piece.now ∷ [])) result }
 {
     match piece {
         Piece::One(line) => {
@@ -199,6 +230,7 @@ pub(crate) fn run_pieces<R: Wait, G: Gate, H: Home<A>, A: Allocator + Copy>(
     ensures heap { frame.new.heap ≡ frame.old.heap }
     ensures line { IfErr result (λ halt. IsLineOf halt.line pieces.now) }
     ensures busy { IfErr result (λ halt. halt.fault ≡ faults.Busy → G.may_refuse gate.now seated.now.number halt.line) }
+    ensures runs { RunsOn frame.old registers.old lines.old frame.new registers.new lines.new (written_out pieces.now) result }
 {
     for (at, piece) in pieces.iter().enumerate() {
         let keys = names.piece(at);

@@ -1,10 +1,14 @@
 //! A section from its first line to its end.
 
-ghost use Rattle.std.specs.Prelude.{◌≡◌, ℕ, [], ◌∷◌, Some, IfSome};
+ghost use Rattle.std.specs.Prelude.{◌≡◌, ℕ, true, [], ◌∷◌, Some, IfSome, IfNone};
 ghost use Rattle.brc_words.specs.declared.fault.Fault.TheVariants as faults;
 ghost use Rattle.brc_words.specs.Faults.{number_of};
-ghost use Rattle.brc_count.specs.Frames.{IsUnlocked};
+ghost use Rattle.brc_script.specs.Scripts.{is_private};
+ghost use Rattle.brc_meaning.specs.Sections.{written_out};
+ghost use Rattle.brc_count.specs.Frames.{IsUnlocked, ledger_seen};
 ghost use Rattle.brc_section.specs.Ends.{IsLineOf};
+ghost use Rattle.brc_section.specs.Running.{AreOwn, HaltOf, Ended};
+ghost use Rattle.brc_section.specs.Isolation.{PrintsPlainly};
 
 use crate::board::Board;
 use crate::gate::Gate;
@@ -31,7 +35,8 @@ pub struct SectionEnd<A: Allocator> {
 
 /// The number of the piece's first line, if it has one.
 fn first_in<A: Allocator>(piece: &Piece<A>) -> Option<u32>
-    ensures { IfSome result (λ line. IsLineOf line (piece.now ∷ [])) }
+    ensures line { IfSome result (λ line. IsLineOf line (piece.now ∷ [])) }
+    ensures none { IfNone result (written_out (piece.now ∷ []) ≡ []) }
 {
     match piece {
         Piece::One(line) => Some(line.number()),
@@ -45,14 +50,26 @@ fn first_in<A: Allocator>(piece: &Piece<A>) -> Option<u32>
 /// The number of the first line of these pieces, if they have one.
 #[tactic(auto, using(crate::proofs::Lines::piece_at))]
 fn first_line<A: Allocator>(pieces: &[Piece<A>]) -> Option<u32>
-    ensures { IfSome result (λ line. IsLineOf line pieces.now) }
+    ensures line { IfSome result (λ line. IsLineOf line pieces.now) }
+    ensures none { IfNone result (written_out pieces.now ≡ []) }
 {
-    for piece in pieces {
+    for (at, piece) in pieces.iter().enumerate() {
+        let _at = at;
         if let Some(line) = first_in(piece) {
             return Some(line);
         }
     }
     None
+}
+
+/// The halt, where the lines came to one.
+fn halt_of(ran: Result<(), Halt>) -> Option<Halt>
+    ensures { HaltOf ran result }
+{
+    match ran {
+        Ok(()) => None,
+        Err(halt) => Some(halt),
+    }
 }
 
 /// The lines of the section over its frame, which has no handle before and after. The registers are made at the first line, whose
@@ -73,6 +90,8 @@ fn run_over<R: Wait, G: Gate, H: Home<A>, A: Allocator + Copy>(
     ensures heap { frame.new.heap ≡ frame.old.heap }
     ensures line { IfSome result (λ halt. IsLineOf halt.line section.now.pieces) }
     ensures busy { IfSome result (λ halt. halt.fault ≡ faults.Busy → G.may_refuse gate.now seated.now.number halt.line) }
+    ensures ended { lines.old ≡ [] → AreOwn (written_out section.now.pieces) →
+        Ended (ledger_seen frame.old).allocs frame.new lines.new (written_out section.now.pieces) result }
 {
     let pieces = section.pieces.as_slice();
     let Some(first) = first_line(pieces) else {
@@ -95,7 +114,7 @@ fn run_over<R: Wait, G: Gate, H: Home<A>, A: Allocator + Copy>(
         gate,
     );
     registers.release_all(frame);
-    ran.err()
+    halt_of(ran)
 }
 
 /// Runs a section on a thread of the heap: each line once the gate lets it through, with one poll and at most so many turns of work
@@ -123,6 +142,10 @@ pub fn run_section<R: Wait, G: Gate, H: Home<A>, A: Allocator + Copy>(
     // The fault is that of a line of the section, and Busy only of one at which the gate may answer false.
     ensures line { IfSome result.fault (λ fault. IsLineOf fault.1 section.now.pieces) }
     ensures busy { (line : ℕ) → result.fault ≡ Some (number_of faults.Busy, line) → G.may_refuse gate.now number line }
+
+    // A section that shares nothing prints its plain meaning, whatever other threads do.
+    ensures isolated { is_private section.now ≡ true →
+        PrintsPlainly section.now (ledger_seen mutator.old).allocs (ledger_seen mutator.new).allocs result.lines.items result.fault }
 {
     let mut lines = Lines::none(alloc);
     let seated = Seated {

@@ -1,8 +1,12 @@
 //! What one instruction does.
 
-ghost use Rattle.std.specs.Prelude.{◌≡◌, ◌≢◌, IfErr};
+ghost use Rattle.std.specs.Prelude.{◌≡◌, ◌≢◌, true, false, IfErr};
 ghost use Rattle.brc_words.specs.declared.fault.Fault.TheVariants as faults;
+ghost use Rattle.brc_script.specs.Instructions.{is_shared, registers_differ};
+ghost use Rattle.law_living.specs.Later.{IsLater};
+ghost use Rattle.law_isolation.specs.Asked.{Follows};
 ghost use Rattle.brc_instructions.specs.Registers.{Stands};
+ghost use Rattle.brc_section.specs.Stepping.{is_print, StepsAs};
 
 use crate::names::key_of;
 use crate::waiting::{Awaited, Seated, await_it};
@@ -102,6 +106,9 @@ fn step_silent<R: Wait, H: Home<A>, A: Allocator + Copy>(
     ensures stands { Stands frame.new registers.new }
     ensures heap { frame.new.heap ≡ frame.old.heap }
     ensures waits { IfErr result (λ fault. fault ≢ faults.Busy) }
+    ensures later { is_shared instruction.now ≡ false → IsLater frame.old.seat.log frame.new.seat.log }
+    ensures follows { is_shared instruction.now ≡ false → registers_differ instruction.now ≡ true → is_print instruction.now ≡ false →
+        Follows frame.old frame.new registers.old registers.new instruction.now result }
 {
     match instruction {
         Instruction::Int { to, number } => int(alloc, frame, registers, *to, *number),
@@ -190,6 +197,9 @@ pub(crate) fn step<R: Wait, H: Home<A>, A: Allocator + Copy>(
     ensures stands { Stands frame.new registers.new }
     ensures heap { frame.new.heap ≡ frame.old.heap }
     ensures waits { IfErr result (λ fault. fault ≢ faults.Busy) }
+    ensures later { is_shared instruction.now ≡ false → IsLater frame.old.seat.log frame.new.seat.log }
+    ensures follows { is_shared instruction.now ≡ false → registers_differ instruction.now ≡ true →
+        StepsAs frame.old frame.new registers.old registers.new instruction.now result }
 {
     if let Instruction::Print { from } = instruction {
         return match print(rt, alloc, frame, registers, *from) {

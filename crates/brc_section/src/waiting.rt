@@ -1,8 +1,13 @@
 //! `fetch` and `recv`, which wait where what they look for isn't there.
 
-ghost use Rattle.std.specs.Prelude.{◌≡◌, ◌≢◌, IfErr};
+ghost use Rattle.std.specs.Prelude.{◌≡◌, ◌≢◌, ℕ, IsTrue, IfErr};
 ghost use Rattle.brc_words.specs.declared.fault.Fault.TheVariants as faults;
+ghost use Rattle.brc_script.specs.declared.instruction.Instruction.TheVariants as does;
+ghost use Rattle.law_living.specs.Later.{IsLater};
+ghost use Rattle.law_isolation.specs.Asked.{Follows};
 ghost use Rattle.brc_instructions.specs.Registers.{Stands};
+ghost use Rattle.brc_section.specs.declared.waiting.Awaited.TheVariants as awaits;
+ghost use Rattle.brc_section.specs.Waiting.{FoundNothing};
 
 use crate::board::Board;
 use brc_count::Frame;
@@ -40,6 +45,9 @@ fn look<R: Wait, H: Home<A>, A: Allocator>(
     ensures stands { Stands frame.new registers.new }
     ensures heap { frame.new.heap ≡ frame.old.heap }
     ensures waits { IfErr result (λ fault. fault ≢ faults.Busy) }
+    ensures later { (mailbox : ℕ) → awaited.now ≡ awaits.Letter mailbox → IsLater frame.old.seat.log frame.new.seat.log }
+    ensures follows { (mailbox : ℕ) → awaited.now ≡ awaits.Letter mailbox →
+        Follows frame.old frame.new registers.old registers.new (does.Receive to mailbox) result }
 {
     match awaited {
         Awaited::Name(name) => fetch(rt, frame, registers, to, *name),
@@ -48,7 +56,9 @@ fn look<R: Wait, H: Home<A>, A: Allocator>(
 }
 
 /// Whether the try found nothing, so that another may find something.
-fn is_nothing(tried: &Result<(), Fault>) -> bool {
+fn is_nothing(tried: &Result<(), Fault>) -> bool
+    ensures { IsTrue result → FoundNothing tried.now }
+{
     matches!(tried, Err(Fault::NoSuchKey | Fault::NoSuchPlace))
 }
 
@@ -66,6 +76,9 @@ fn look_again<R: Wait, H: Home<A>, A: Allocator>(
     ensures stands { Stands frame.new registers.new }
     ensures heap { frame.new.heap ≡ frame.old.heap }
     ensures waits { IfErr result (λ fault. fault ≢ faults.Busy) }
+    ensures later { (mailbox : ℕ) → awaited.now ≡ awaits.Letter mailbox → IsLater frame.old.seat.log frame.new.seat.log }
+    ensures follows { (mailbox : ℕ) → awaited.now ≡ awaits.Letter mailbox →
+        Follows frame.old frame.new registers.old registers.new (does.Receive to mailbox) result }
 {
     for _ in rt.forever() {
         let _told = frame.poll();
@@ -97,6 +110,9 @@ pub(crate) fn await_it<R: Wait, H: Home<A>, A: Allocator>(
     ensures stands { Stands frame.new registers.new }
     ensures heap { frame.new.heap ≡ frame.old.heap }
     ensures waits { IfErr result (λ fault. fault ≢ faults.Busy) }
+    ensures later { (mailbox : ℕ) → awaited.now ≡ awaits.Letter mailbox → IsLater frame.old.seat.log frame.new.seat.log }
+    ensures follows { (mailbox : ℕ) → awaited.now ≡ awaits.Letter mailbox →
+        Follows frame.old frame.new registers.old registers.new (does.Receive to mailbox) result }
 {
     // An empty register is no mailbox without letters: nobody can change that.
     if let Awaited::Letter(mailbox) = awaited {

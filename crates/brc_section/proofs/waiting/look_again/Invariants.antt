@@ -1,8 +1,11 @@
-use Rattle.std.proofs.Common.{◌≡◌}
+use Rattle.std.proofs.Common.{◌≡◌, ℕ}
 use Rattle.brc_instructions.specs.Registers.{Stands}
+use Rattle.brc_section.specs.declared.waiting.Awaited.TheVariants as awaits
+use Rattle.brc_section.specs.Tries.{StaysMeant}
 use Rattle.brc_section.proofs.waiting.look_again.Given as goal
 
 abbrev pub invariant-loop : goal.invariant-loop
 invariant-loop g l =
     (goal.iterator-loop g).can_next l.iterator' × (goal.iterator-loop g).is_finite l.iterator'
     × (l.frame.heap ≡ l.fn.frame.heap) × Stands l.frame l.registers
+    × ((mailbox : ℕ) → l.awaited ≡ awaits.Letter mailbox → StaysMeant l.fn.frame l.fn.registers l.frame l.registers)
