@@ -1,10 +1,12 @@
 -- What a script's sections come to, on threads of one heap.
-use Rattle.std.specs.Prelude.{◌≡◌, ◌+◌, ℕ, suc, List, [], ◌∷◌, length, Some, IfSome}
+use Rattle.std.specs.Prelude.{◌≡◌, ◌+◌, ℕ, suc, true, List, [], ◌∷◌, length, Some, IfSome}
 use Rattle.std.specs.declared.alloc.Global.{Global}
 use Rattle.brc_words.specs.declared.fault.Fault.TheVariants as faults
 use Rattle.brc_words.specs.Faults.{number_of}
 use Rattle.brc_script.specs.declared.script.Section.{Section}
+use Rattle.brc_script.specs.Scripts.{is_private}
 use Rattle.brc_section.specs.Ends.{IsLineOf}
+use Rattle.brc_section.specs.Isolation.{Prints}
 use Rattle.brc_section.specs.declared.section.SectionEnd.{SectionEnd}
 use Rattle.brc_report.specs.declared.report.Report.{Report}
 use Rattle.brc_rule.specs.declared.view.View.{View}
@@ -25,10 +27,12 @@ InOrder IsSo number (x ∷ xs) [] = ⊥
 InOrder IsSo number (x ∷ xs) (y ∷ ys) = IsSo number x y × InOrder IsSo (suc number) xs ys
 
 module _ {A : Type 0} where
-  -- A section's fault is that of one of its lines, and Busy only of one at which its gate may refuse.
+  -- A section's fault is that of one of its lines, and Busy only of one at which its gate may refuse. One that shares nothing prints
+  -- its plain meaning, whatever the others do.
   pub record EndsAs (refuses : ℕ → ℕ → Type 0) (number : ℕ) (section : Section A) (end : SectionEnd A) : Type 0 where
     pub line : IfSome end.fault (λ fault. IsLineOf fault.1 section.pieces)
     pub busy : (line : ℕ) → end.fault ≡ Some (number_of faults.Busy, line) → refuses number line
+    pub prints : is_private section ≡ true → Prints section end.lines.items end.fault
 
 module _ {A : Type 0} where
   -- A section's thread came back from this heap, and its section, if it ran, ended so.

@@ -27,7 +27,7 @@ use Rattle.law_isolation.specs.Lines.{At, WentOn, BrokeOff, Stopped, Faulted}
 use Rattle.law_isolation.proofs.Quiet_Lives.{allocs_quietly}
 use Rattle.law_isolation.proofs.Registers_Kept.{means_begins}
 use Rattle.brc_section.specs.declared.running.Halt.{Halt}
-use Rattle.brc_section.specs.Isolation.{is_own_end, PrintsPlainly}
+use Rattle.brc_section.specs.Isolation.{is_own_end, Prints, PrintsPlainly}
 use Rattle.brc_section.specs.Running.{AreOwn, RunsOn, Ran, HaltOf, FaultOf, Bore, RanAll, MetFault, Ended}
 use Rattle.brc_section.proofs.Runs.{all_own}
 
@@ -114,9 +114,11 @@ module _ {A : Type 0} where
     prints_all ran =
         let meant = section_written_out section ∙ ap told ran.meant
         in record {
-          front = subst (IsFront printed) (sym ran.same ∙ sym (ap (λ (m : Meaning). m.lines) meant)) (whole_front printed);
-          lines = λ _. sym ran.same ∙ sym (ap (λ (m : Meaning). m.lines) meant);
-          fault = λ _. sym (ap (λ (m : Meaning). m.fault) meant);
+          prints = record {
+            front = subst (IsFront printed) (sym ran.same ∙ sym (ap (λ (m : Meaning). m.lines) meant)) (whole_front printed);
+            lines = λ _. sym ran.same ∙ sym (ap (λ (m : Meaning). m.lines) meant);
+            fault = λ _. sym (ap (λ (m : Meaning). m.fault) meant);
+          };
           births = λ _. same ∙ ran.bore own ∙ ap (λ (n : ℕ). base + n) (sym (ap (λ (m : Meaning). m.made) meant));
         }
 
@@ -132,9 +134,11 @@ module _ {A : Type 0} where
     fault_meant halt met =
         let meant = section_written_out section ∙ ap told met.meant
         in record {
-          front = subst (IsFront printed) (sym met.same ∙ sym (ap (λ (m : Meaning). m.lines) meant)) (whole_front printed);
-          lines = λ _. sym met.same ∙ sym (ap (λ (m : Meaning). m.lines) meant);
-          fault = λ _. sym (ap (λ (m : Meaning). m.fault) meant);
+          prints = record {
+            front = subst (IsFront printed) (sym met.same ∙ sym (ap (λ (m : Meaning). m.lines) meant)) (whole_front printed);
+            lines = λ _. sym met.same ∙ sym (ap (λ (m : Meaning). m.lines) meant);
+            fault = λ _. sym (ap (λ (m : Meaning). m.fault) meant);
+          };
           births = λ _. same ∙ met.bore own ∙ ap (λ (n : ℕ). base + n) (sym (ap (λ (m : Meaning). m.made) meant));
         }
 
@@ -144,9 +148,11 @@ module _ {A : Type 0} where
         let no_own : is_own_end (Some (number_of halt.fault, halt.line)) ≡ true → ⊥
               = λ claims. true≢false (sym is ∙ own_fault halt.fault halt.line claims)
         in record {
-          front = broke_front halt (ends.0 is);
-          lines = λ claims. absurd (no_own claims);
-          fault = λ claims. absurd (no_own claims);
+          prints = record {
+            front = broke_front halt (ends.0 is);
+            lines = λ claims. absurd (no_own claims);
+            fault = λ claims. absurd (no_own claims);
+          };
           births = λ claims. absurd (no_own claims);
         }
     by_machines halt false is ends = fault_meant halt (ends.1 is)
@@ -200,3 +206,18 @@ fault_some halt met h number is told same =
 
 pub fault_none : (halt : Option Halt) (met : Option (ℕ × ℕ)) → halt ≡ None → met ≡ None → FaultOf halt met
 fault_none halt met is none = subst (λ (o : Option Halt). FaultOf o met) (sym is) none
+
+module _ {A : Type 0} where
+  -- a section from its first line to its thread's rest: `began` is the frame that its lines began with, `ran` the one they left
+  pub plainly : (section : Section A) (old began ran new : FrameSeen A) (none lines printed : List ℕ) (halt : Option Halt) (met : Option (ℕ × ℕ))
+      → began ≡ old → none ≡ [] → printed ≡ lines
+      → (none ≡ [] → AreOwn (written_out section.pieces) → Ended (ledger_seen began).allocs ran lines (written_out section.pieces) halt)
+      → OwnLog ran.heap.cells ran.seat.log → new.heap ≡ ran.heap → Quietly ran.seat.log new.seat.log → FaultOf halt met
+      → is_private section ≡ true → PrintsPlainly section (ledger_seen old).allocs (ledger_seen new).allocs printed met
+  plainly section old began ran new none lines printed halt met same empty is ends own heap quiet told private =
+      let ended : Ended (ledger_seen began).allocs ran lines (written_out section.pieces) halt = ends empty (own_section section private)
+      in let from : Ended (ledger_seen old).allocs ran lines (written_out section.pieces) halt
+           = subst (λ (f : FrameSeen A). Ended (ledger_seen f).allocs ran lines (written_out section.pieces) halt) same ended
+      in let shown : Ended (ledger_seen old).allocs ran printed (written_out section.pieces) halt
+           = subst (λ (bytes : List ℕ). Ended (ledger_seen old).allocs ran bytes (written_out section.pieces) halt) (sym is) from
+      in prints_of section (ledger_seen old).allocs ran (ledger_seen new).allocs printed own (same_allocs ran new heap quiet) halt met told shown

@@ -1,14 +1,14 @@
 //! A section from its first line to its end.
 
-ghost use Rattle.std.specs.Prelude.{◌≡◌, ℕ, true, [], ◌∷◌, Some, IfSome, IfNone};
+ghost use Rattle.std.specs.Prelude.{◌≡◌, ℕ, ◌+◌, true, [], ◌∷◌, Some, IfSome, IfNone};
 ghost use Rattle.brc_words.specs.declared.fault.Fault.TheVariants as faults;
 ghost use Rattle.brc_words.specs.Faults.{number_of};
 ghost use Rattle.brc_script.specs.Scripts.{is_private};
-ghost use Rattle.brc_meaning.specs.Sections.{written_out};
+ghost use Rattle.brc_meaning.specs.Sections.{written_out, meaning};
 ghost use Rattle.brc_count.specs.Frames.{IsUnlocked, ledger_seen};
 ghost use Rattle.brc_section.specs.Ends.{IsLineOf};
 ghost use Rattle.brc_section.specs.Running.{AreOwn, HaltOf, Ended};
-ghost use Rattle.brc_section.specs.Isolation.{PrintsPlainly};
+ghost use Rattle.brc_section.specs.Isolation.{is_own_end, Prints};
 
 use crate::board::Board;
 use crate::gate::Gate;
@@ -143,9 +143,11 @@ pub fn run_section<R: Wait, G: Gate, H: Home<A>, A: Allocator + Copy>(
     ensures line { IfSome result.fault (λ fault. IsLineOf fault.1 section.now.pieces) }
     ensures busy { (line : ℕ) → result.fault ≡ Some (number_of faults.Busy, line) → G.may_refuse gate.now number line }
 
-    // A section that shares nothing prints its plain meaning, whatever other threads do.
-    ensures isolated { is_private section.now ≡ true →
-        PrintsPlainly section.now (ledger_seen mutator.old).allocs (ledger_seen mutator.new).allocs result.lines.items result.fault }
+    // A section that shares nothing prints its plain meaning, whatever other threads do and whichever cells are used again; and its
+    // thread bears as many objects as the section makes.
+    ensures prints { is_private section.now ≡ true → Prints section.now result.lines.items result.fault }
+    ensures births { is_private section.now ≡ true → is_own_end result.fault ≡ true →
+        (ledger_seen mutator.new).allocs ≡ (ledger_seen mutator.old).allocs + (meaning section.now).made }
 {
     let mut lines = Lines::none(alloc);
     let seated = Seated {
