@@ -1,4 +1,5 @@
 mod Gained
+mod Follows_Of
 mod Whole_Calls
 mod Calls_Follow
 mod Sums_Read

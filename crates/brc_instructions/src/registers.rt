@@ -1,6 +1,6 @@
 //! The sixteen registers of a section.
 
-ghost use Rattle.std.specs.Prelude.{◌≡◌, ◌+◌, None, Some, IfOk, IfErr, IfSome, IfNone, slice_set};
+ghost use Rattle.std.specs.Prelude.{◌≡◌, ◌<◌, ◌+◌, None, Some, IfOk, IfErr, IfSome, IfNone, slice_set};
 ghost use Rattle.std.specs.Option.{option_copied};
 ghost use Rattle.brc_words.specs.declared.fault.Fault.TheVariants.{OutOfMemory};
 ghost use Rattle.brc_count.specs.Frames.{IsUnlocked};
@@ -70,6 +70,7 @@ impl<A: Allocator> Registers<A> {
         ensures set { self.new ≡ slice_set self.old register (Some handle) }
         ensures comes { IfNone result (ComesIn self.old self.new handle) }
         ensures exchanges { IfSome result (Exchanges self.old self.new register handle) }
+        ensures below { register < REGISTERS }
     {
         self.handles.put(register.number() as usize, handle)
     }

@@ -1,0 +1,18 @@
+use Rattle.std.proofs.Common.{sym}
+use Rattle.law_isolation.proofs.Later_Calls.{later_given}
+use Rattle.law_isolation.proofs.Retaining.{means_retained}
+use Rattle.brc_instructions.proofs.Follows_Of.{owned_at, cell_of, later_held, copies}
+use Rattle.brc_instructions.proofs.holding.copy.Goals as goal
+
+pub returns-clause-later : goal.returns-clause-later
+returns-clause-later g c =
+    let at = cell_of (owned_at c.args.frame.now c.args.registers.now c.args.from c.requires.stands.holds.owned (sym c.in-Some.ensures)) in
+    later_held c.args.frame.now c.retain.new.self c.hold.new.frame (later_given (c.in_ok-more.ensures.given at.0 at.1)) c.hold.ensures.quiet
+
+pub returns-clause-follows : goal.returns-clause-follows
+returns-clause-follows g c base s own means =
+    let at = cell_of (owned_at c.args.frame.now c.args.registers.now c.args.from c.requires.stands.holds.owned (sym c.in-Some.ensures)) in
+    copies base c.retain.new.self c.hold.new.frame c.args.registers.now c.hold.new.registers s c.args.to c.args.from c.in_ok-more.more
+    (means_retained base c.args.frame.now c.retain.new.self c.args.registers.now s c.args.from at.0 c.in-Some.handle.now c.in_ok-more.more
+    means (sym c.in-Some.ensures) at.1 c.retain.ensures.heap (c.in_ok-more.ensures.given at.0 at.1))
+    own c.hold.ensures.means
