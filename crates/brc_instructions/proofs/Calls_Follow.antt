@@ -1,5 +1,5 @@
 -- From what the heap's call means to what the instruction means that makes it.
-use Rattle.std.proofs.Common.{◌≡◌, ◌≢◌, ◌∙◌, ℕ, false, List, Option, Some, None, Result, Ok, Err, MatchOption, slice_index_or, refl, sym, ap, subst}
+use Rattle.std.proofs.Common.{◌≡◌, ◌≢◌, ◌∙◌, ℕ, false, List, Option, Some, None, Result, Ok, Err, MatchOption, slice_index_or, sym, ap, subst}
 use Rattle.brc_words.specs.declared.fault.Fault.{Fault}
 use Rattle.brc_words.specs.declared.fault.Fault.TheVariants as faults
 use Rattle.brc_count.specs.declared.handed.Handed.{Handed}
@@ -9,14 +9,14 @@ use Rattle.brc_meaning.specs.declared.reference.Reference.{Reference}
 use Rattle.brc_meaning.specs.declared.object.Object.{Object}
 use Rattle.brc_meaning.specs.declared.state.State.{State}
 use Rattle.brc_meaning.specs.Outcomes.{◌>>=◌}
-use Rattle.brc_meaning.specs.States.{held, holding, called, with_register}
+use Rattle.brc_meaning.specs.States.{held, called, with_register}
 use Rattle.law_living.specs.Living.{OwnLog}
 use Rattle.law_living.specs.Later.{IsLater}
 use Rattle.law_living.specs.Quiet.{Quietly}
 use Rattle.law_living.proofs.Earlier.{own_earlier, quietly_later}
 use Rattle.law_isolation.specs.Means.{Means, MeansBesides}
 use Rattle.law_isolation.specs.Goes.{is_want}
-use Rattle.law_isolation.specs.Calls.{with_objects, GivesOne, HandsMeant}
+use Rattle.law_isolation.specs.Calls.{with_objects, HandsMeant}
 use Rattle.law_isolation.specs.Asked.{AsksNone, AsksOne, HandsBack}
 use Rattle.law_isolation.proofs.Asked_Of.{asks, asks_nothing, asks_emptied, called_of, emptied, set_twice, put_back}
 use Rattle.law_isolation.proofs.Registers_Kept.{held_is, held_empty, means_empty}

@@ -1,9 +1,9 @@
 -- A call gave the frame one handle more, which is in no register.
-use Rattle.std.proofs.Common.{◌≡◌, ◌≢◌, ◌∙◌, ℕ, ◌+◌, List, Option, Some, None, arith, ap}
+use Rattle.std.proofs.Common.{List, Option, Some, None, arith}
 use Rattle.std.specs.Option.{IfSome}
-use Rattle.brc_count.specs.Frames.{FrameSeen, HandleSeen, IsUnlocked, Owns}
+use Rattle.brc_count.specs.Frames.{FrameSeen, HandleSeen, IsUnlocked}
 use Rattle.brc_count.specs.Owned.{Gains}
-use Rattle.brc_handles.specs.Handles.{slot, filled, Holds, IsApart}
+use Rattle.brc_handles.specs.Handles.{slot}
 use Rattle.brc_instructions.specs.Registers.{Stands, Besides}
 
 -- what is so of each that is there stays so as another thing

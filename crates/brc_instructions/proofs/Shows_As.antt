@@ -1,5 +1,5 @@
 -- What is shown of an object is its text by the plain meaning.
-use Rattle.std.proofs.Common.{◌≡◌, ◌≢◌, ◌∙◌, ℕ, ℤ, Bool, true, false, List, [], ◌∷◌, ◌++◌, Option, Some, None, Result, Ok, Err, MatchResult, FitsSigned, w64, to_z, of_z, ◌⊎◌, inl, inr, codes, decimal, refl, sym, ap, subst}
+use Rattle.std.proofs.Common.{◌≡◌, ◌≢◌, ◌∙◌, ℕ, ℤ, Bool, true, false, List, [], ◌∷◌, ◌++◌, Option, Some, Result, Ok, Err, FitsSigned, w64, to_z, of_z, ◌⊎◌, inl, inr, codes, decimal, refl, sym, ap, subst}
 use Rattle.std.specs.Fmt.{signed_decimal}
 use Rattle.std.proofs.lemmas.Int.{to_z-of_z}
 use Rattle.brc_words.specs.declared.fault.Fault.{Fault}
@@ -7,7 +7,6 @@ use Rattle.brc_words.specs.declared.fault.Fault.TheVariants as faults
 use Rattle.brc_words.specs.declared.kind.Kind.{Kind}
 use Rattle.brc_words.specs.declared.kind.Kind.TheVariants as kinds
 use Rattle.brc_plain.specs.Outcomes.{or_fault}
-use Rattle.brc_script.specs.declared.instruction.Instruction.TheVariants as does
 use Rattle.brc_count.specs.Frames.{FrameSeen, HandleSeen}
 use Rattle.brc_meaning.specs.declared.reference.Reference.{Reference}
 use Rattle.brc_meaning.specs.declared.object.Object.{Object}
@@ -16,13 +15,12 @@ use Rattle.brc_meaning.specs.declared.state.State.{State}
 use Rattle.brc_meaning.specs.Outcomes.{◌>>=◌}
 use Rattle.brc_meaning.specs.Objects.{number_in, entries_in, text_in}
 use Rattle.brc_meaning.specs.States.{meant, printing}
-use Rattle.brc_meaning.specs.Steps.{after}
 use Rattle.law_isolation.specs.Means.{Means}
 use Rattle.law_isolation.specs.Goes.{is_want}
 use Rattle.law_isolation.specs.Calls.{kind_meant, Finds}
 use Rattle.brc_instructions.specs.declared.shown.Shown.{Shown}
 use Rattle.brc_instructions.specs.declared.shown.Shown.TheVariants as shown
-use Rattle.brc_instructions.specs.Printing.{text_shown, with_line, ShownAs, PrintsAs}
+use Rattle.brc_instructions.specs.Printing.{with_line, ShownAs, PrintsAs}
 
 -- ---- kinds
 

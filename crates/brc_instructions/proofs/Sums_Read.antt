@@ -1,5 +1,5 @@
 -- What is read off the objects of registers, and the sum of two integers.
-use Rattle.std.proofs.Common.{◌≡◌, ◌∙◌, ℕ, ℤ, pos, Bool, true, false, not, Option, Some, None, is_some, option_copied, Bor, List, Result, Ok, Err, slice_index_or, refl, sym, ap, subst}
+use Rattle.std.proofs.Common.{◌≡◌, ◌∙◌, ℕ, ℤ, pos, Bool, true, false, not, Option, Some, None, is_some, option_copied, Bor, Result, Ok, Err, slice_index_or, refl, sym, ap}
 use Rattle.brc_words.specs.declared.fault.Fault.{Fault}
 use Rattle.brc_words.specs.declared.fault.Fault.TheVariants as faults
 use Rattle.brc_plain.specs.Outcomes.{or_fault}
@@ -9,7 +9,7 @@ use Rattle.brc_meaning.specs.declared.object.Object.{Object}
 use Rattle.brc_meaning.specs.declared.state.State.{State}
 use Rattle.brc_meaning.specs.Outcomes.{◌>>=◌}
 use Rattle.brc_meaning.specs.Objects.{number_in, entries_in}
-use Rattle.brc_meaning.specs.States.{held, asked, with_integer}
+use Rattle.brc_meaning.specs.States.{asked, with_integer}
 use Rattle.brc_meaning.specs.Steps.{after, integer_sum}
 use Rattle.law_isolation.specs.Calls.{Finds}
 use Rattle.law_isolation.specs.Asked.{read, summed}
@@ -105,7 +105,7 @@ module _ {A : Type 0} (s : State A) where
   -- the same steps, one after another
   joined : (first second : Option Reference) (to : ℕ)
       → (or_fault faults.NoSuchPlace first >>= λ one. or_fault faults.NoSuchPlace second >>= λ other. asked number_in one s.objects >>= λ number.
-         asked number_in other s.objects >>= λ more. integer_sum number more >>= λ sum. Ok (with_integer sum to s))
+      asked number_in other s.objects >>= λ more. integer_sum number more >>= λ sum. Ok (with_integer sum to s))
       ≡ (Summed first second >>= λ sum. Ok (with_integer sum to s))
   joined None second to = refl
   joined (Some a) None to = refl

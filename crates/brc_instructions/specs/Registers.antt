@@ -1,5 +1,5 @@
 -- The registers of a section beside its frame, and what stands between two instructions.
-use Rattle.std.specs.Prelude.{◌≡◌, ℕ, ◌+◌, List, Option}
+use Rattle.std.specs.Prelude.{List, Option}
 use Rattle.brc_count.specs.Frames.{FrameSeen, HandleSeen, IsUnlocked, Owns}
 use Rattle.brc_handles.specs.Handles.{Holds, IsApart}
 

@@ -1,4 +1,4 @@
-use Rattle.std.proofs.Common.{◌∙◌, Ok, Err, Some, sym, subst}
+use Rattle.std.proofs.Common.{◌∙◌, sym, subst}
 use Rattle.brc_count.specs.Frames.{HandleSeen}
 use Rattle.brc_meaning.specs.declared.call.Call.TheVariants as calls
 use Rattle.brc_meaning.specs.Objects.{object_call}

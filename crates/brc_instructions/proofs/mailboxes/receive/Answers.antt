@@ -6,7 +6,7 @@ use Rattle.law_living.proofs.Earlier.{later_both, quietly_later}
 use Rattle.law_isolation.proofs.Calls_Mean.{receive_means}
 use Rattle.brc_instructions.proofs.Gained.{gains_besides}
 use Rattle.brc_instructions.proofs.Whole_Calls.{later_receive}
-use Rattle.brc_instructions.proofs.Calls_Follow.{own_before, given_follows, refused_follows, empty_follows}
+use Rattle.brc_instructions.proofs.Calls_Follow.{own_before, given_follows, refused_follows}
 use Rattle.brc_instructions.proofs.mailboxes.receive.Goals as goal
 
 pub hold-requires : goal.hold-requires

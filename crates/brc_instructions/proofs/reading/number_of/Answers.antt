@@ -11,5 +11,5 @@ returns-clause-later g c = later_int c.args.frame.now c.int_of.new.frame c.in-So
 pub returns-clause-reads : goal.returns-clause-reads
 returns-clause-reads g c base s own means =
     let told = int_means base c.args.frame.now c.int_of.new.frame c.args.registers.now s own c.args.from c.in-Some.handle.now (sym c.in-Some.ensures)
-        means c.int_of.result c.int_of.ensures.looked c.int_of.ensures.waited in
+    means c.int_of.result c.int_of.ensures.looked c.int_of.ensures.waited in
     (told.0, found_read number_in c.args.from s c.int_of.result told.1)

@@ -43,8 +43,7 @@ returns-in-Some-clause-reads g c base s own means =
     let number_fits : FitsSigned w64 number = search rules in
     let more_fits : FitsSigned w64 more = search rules in
     let told = c.in_ok-number.ensures.reads base s (own_at mid c.number_of-2.new.frame c.number_of-2.ensures.heap c.number_of-2.ensures.later own) means in
-    let then = c.in_ok-more.ensures.reads base s own told.0 in
-    (
+    let then = c.in_ok-more.ensures.reads base s own told.0 in (
       then.0,
       numbers_summed s c.args.first c.args.second number more told.1 then.1
           ∙ sym (sum_found number more c.in-Some.sum number_fits more_fits (c.in-Some.ensures).0 (c.in-Some.ensures).1),
@@ -62,8 +61,7 @@ returns-in-None-clause-reads g c base s own means =
     let number_fits : FitsSigned w64 number = search rules in
     let more_fits : FitsSigned w64 more = search rules in
     let told = c.in_ok-number.ensures.reads base s (own_at mid c.number_of-2.new.frame c.number_of-2.ensures.heap c.number_of-2.ensures.later own) means in
-    let then = c.in_ok-more.ensures.reads base s own told.0 in
-    (
+    let then = c.in_ok-more.ensures.reads base s own told.0 in (
       then.0,
       numbers_summed s c.args.first c.args.second number more told.1 then.1 ∙ sym (sum_refused number more number_fits more_fits c.in-None.ensures),
     )
