@@ -3,3 +3,6 @@ mod Runs
 mod Line_Did
 mod Plainly
 mod Tries
+mod Instructions_Led
+mod Silent
+mod Steps_As

@@ -16,6 +16,8 @@ use Rattle.law_isolation.specs.Goes.{is_want, Goes}
 use Rattle.law_isolation.specs.Asked.{Follows}
 use Rattle.brc_count.proofs.Quiet.{turns_quietly, polled_quietly}
 use Rattle.law_isolation.proofs.Dropping_References.{means_polled, means_worked}
+use Rattle.brc_section.specs.declared.waiting.Awaited.{Awaited}
+use Rattle.brc_section.specs.declared.waiting.Awaited.TheVariants as awaits
 use Rattle.brc_section.specs.Waiting.{FoundNothing}
 use Rattle.brc_section.specs.Tries.{StaysMeant}
 
@@ -70,3 +72,12 @@ module _ {A : Type 0} where
       → Follows frame new registers now instruction tried → Follows old new before now instruction tried
   follows_on old frame new before registers now instruction tried stays heap later follows base s own means =
       follows base s own (stays.means base s (own_at frame new heap later own) means)
+
+module _ {A : Type 0} where
+  -- the register in which a letter is awaited
+  abbrev letter_in : Awaited A → ℕ
+  letter_in (awaits.Name key) = 0
+  letter_in (awaits.Letter mailbox) = mailbox
+
+  pub same_letter : (a b : ℕ) (awaited : Awaited A) → awaited ≡ awaits.Letter a → awaited ≡ awaits.Letter b → a ≡ b
+  same_letter a b awaited one other = sym (ap letter_in one) ∙ ap letter_in other

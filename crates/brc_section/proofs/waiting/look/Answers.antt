@@ -1,0 +1,10 @@
+use Rattle.std.proofs.Common.{◌≡◌, ℕ, subst}
+use Rattle.brc_script.specs.declared.instruction.Instruction.TheVariants as does
+use Rattle.law_isolation.specs.Asked.{Follows}
+use Rattle.brc_section.proofs.Tries.{same_letter}
+use Rattle.brc_section.proofs.waiting.look.Goals as goal
+
+pub returns-in-Letter-clause-follows : goal.returns-in-Letter-clause-follows
+returns-in-Letter-clause-follows g c = λ mailbox is.
+    subst (λ (m : ℕ). Follows c.args.frame.now c.receive.new.frame c.args.registers.now c.receive.new.registers (does.Receive c.args.to m) c.receive.result)
+    (same_letter c.in-Letter.mailbox mailbox c.args.awaited.now c.in-Letter.is is) c.receive.ensures.follows
