@@ -1,5 +1,5 @@
 -- An instruction that doesn't print leaves what was printed as it is.
-use Rattle.std.proofs.Common.{◌≡◌, ℕ, ℤ, Bool, true, false, if◌then◌else◌, List, Option, Some, Result, Ok, Err, IfOk, refl, sym, ap, subst, true≢false}
+use Rattle.std.proofs.Common.{◌≡◌, ℕ, ℤ, pos, Bool, true, false, if◌then◌else◌, List, Option, Some, Result, Ok, Err, IfOk, refl, sym, ap, subst, true≢false}
 use Rattle.brc_words.specs.declared.fault.Fault.{Fault}
 use Rattle.brc_script.specs.declared.instruction.Instruction.{Instruction}
 use Rattle.brc_script.specs.declared.instruction.Instruction.TheVariants as does
@@ -51,7 +51,7 @@ module _ {A : Type 0} where
   prints_nothing (does.Set list index value) s silent =
       through (Same s) (held value s.registers) _ (λ given. called_same (object_call (calls.Set index given)) list value s)
   prints_nothing (does.Len to container) s silent =
-      through (Same s) (held container s.registers) _ (λ reference. through (Same s) (asked entries_in reference s.objects) _ (λ entries. integer_same _ to s))
+      through (Same s) (held container s.registers) _ (λ reference. through (Same s) (asked entries_in reference s.objects) _ (λ entries. integer_same (pos entries) to s))
   prints_nothing (does.Put dict key value) s silent =
       through (Same s) (held value s.registers) _ (λ given. called_same (keyed_call key (keyed.Put given)) dict value s)
   prints_nothing (does.Find to dict key) s silent = called_same (keyed_call key keyed.Find) dict to s
@@ -70,25 +70,25 @@ module _ {A : Type 0} where
 
   -- one that isn't `print`
   pub silent_of : (instruction : Instruction A) → ((from : ℕ) → instruction ≡ does.Print from → ⊥) → is_print instruction ≡ false
-  silent_of (does.Int to number) else = refl
-  silent_of (does.Text to text) else = refl
-  silent_of (does.List to) else = refl
-  silent_of (does.Dict to) else = refl
-  silent_of (does.Mailbox to) else = refl
-  silent_of (does.Copy to from) else = refl
-  silent_of (does.Drop from) else = refl
-  silent_of (does.Push list value) else = refl
-  silent_of (does.Pop to list) else = refl
-  silent_of (does.Get to list index) else = refl
-  silent_of (does.Set list index value) else = refl
-  silent_of (does.Len to container) else = refl
-  silent_of (does.Put dict key value) else = refl
-  silent_of (does.Find to dict key) else = refl
-  silent_of (does.Delete to dict key) else = refl
-  silent_of (does.Send mailbox value) else = refl
-  silent_of (does.Receive to mailbox) else = refl
-  silent_of (does.Add to first second) else = refl
-  silent_of (does.Print from) else = absurd (else from refl)
-  silent_of (does.Share name value) else = refl
-  silent_of (does.Fetch to name) else = refl
-  silent_of (does.Unshare to name) else = refl
+  silent_of (does.Int to number) other = refl
+  silent_of (does.Text to text) other = refl
+  silent_of (does.List to) other = refl
+  silent_of (does.Dict to) other = refl
+  silent_of (does.Mailbox to) other = refl
+  silent_of (does.Copy to from) other = refl
+  silent_of (does.Drop from) other = refl
+  silent_of (does.Push list value) other = refl
+  silent_of (does.Pop to list) other = refl
+  silent_of (does.Get to list index) other = refl
+  silent_of (does.Set list index value) other = refl
+  silent_of (does.Len to container) other = refl
+  silent_of (does.Put dict key value) other = refl
+  silent_of (does.Find to dict key) other = refl
+  silent_of (does.Delete to dict key) other = refl
+  silent_of (does.Send mailbox value) other = refl
+  silent_of (does.Receive to mailbox) other = refl
+  silent_of (does.Add to first second) other = refl
+  silent_of (does.Print from) other = absurd (other from refl)
+  silent_of (does.Share name value) other = refl
+  silent_of (does.Fetch to name) other = refl
+  silent_of (does.Unshare to name) other = refl

@@ -2,6 +2,7 @@
 
 ghost use Rattle.std.specs.Prelude.{◌≡◌, ◌≢◌, true, false, IfErr};
 ghost use Rattle.brc_words.specs.declared.fault.Fault.TheVariants as faults;
+ghost use Rattle.brc_script.specs.declared.instruction.Instruction.TheVariants as does;
 ghost use Rattle.brc_script.specs.Instructions.{is_shared, registers_differ};
 ghost use Rattle.law_living.specs.Later.{IsLater};
 ghost use Rattle.law_isolation.specs.Asked.{Follows};
@@ -91,6 +92,26 @@ fn stirs<R: Wait, A: Allocator>(
     done
 }
 
+/// `int`, with the number that the line has.
+#[inline(always)]
+fn int_of_line<H: Home<A>, A: Allocator>(
+    alloc: A,
+    frame: &mut Frame<H, A>,
+    registers: &mut Registers<A>,
+    to: Register,
+    number: &i64,
+) -> Result<(), Fault>
+    requires stands { Stands frame.old registers.old }
+    ensures stands { Stands frame.new registers.new }
+    ensures heap { frame.new.heap ≡ frame.old.heap }
+    ensures waits { IfErr result (λ fault. fault ≢ faults.Busy) }
+    ensures later { IsLater frame.old.seat.log frame.new.seat.log }
+    ensures follows { Follows frame.old frame.new registers.old registers.new (does.Int to number.now) result }
+{
+    let number = *number;
+    int(alloc, frame, registers, to, number)
+}
+
 /// Does what the instruction says, where it is none that prints.
 #[inline(always)]
 fn step_silent<R: Wait, H: Home<A>, A: Allocator + Copy>(
@@ -111,7 +132,7 @@ fn step_silent<R: Wait, H: Home<A>, A: Allocator + Copy>(
         Follows frame.old frame.new registers.old registers.new instruction.now result }
 {
     match instruction {
-        Instruction::Int { to, number } => int(alloc, frame, registers, *to, *number),
+        Instruction::Int { to, number } => int_of_line(alloc, frame, registers, *to, number),
         Instruction::Text { to, text: bytes } => text(alloc, frame, registers, *to, bytes),
         Instruction::List { to } => list(alloc, frame, registers, *to),
         Instruction::Dict { to } => dict(alloc, frame, registers, *to),

@@ -5,9 +5,9 @@ use Rattle.brc_section.proofs.stepping.step_silent.Goals as goal
 
 pub returns-in-Int-clause-follows : goal.returns-in-Int-clause-follows
 returns-in-Int-clause-follows g c = λ own differ silent.
-    led c.args.frame.now c.int.new.frame c.args.registers.now c.int.new.registers c.args.instruction.now
-    (does.Int c.in-Int.to c.in-Int.number) c.int.result c.int.result c.in-Int.is refl
-    (λ base s log means. c.int.ensures.follows base s log means)
+    led c.args.frame.now c.int_of_line.new.frame c.args.registers.now c.int_of_line.new.registers c.args.instruction.now
+    (does.Int c.in-Int.to c.in-Int.number) c.int_of_line.result c.int_of_line.result c.in-Int.is refl
+    c.int_of_line.ensures.follows
 
 pub returns-in-Push-clause-follows : goal.returns-in-Push-clause-follows
 returns-in-Push-clause-follows g c = λ own differ silent.
