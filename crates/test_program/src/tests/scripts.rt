@@ -18,6 +18,14 @@ const TAKEN_OVER: Case = (
     "b: 1000\nc: 1\nledger 3 3 0\n",
 );
 
+/// A section that makes and drops two objects a thousand times, and one beside it that keeps its own.
+const BESIDE_ANOTHER: Case = (
+    "a section that makes and drops a thousand times beside another",
+    "section a\nrepeat 1000\nlist r0\nint r1 1000\npush r0 r1\ndrop r0\nend\nsection b\nlist r0\ntext r1 one\npush r0 r1\nget r2 r0 0\nprint r2\nlen r3 r0\nprint r3\n",
+    0,
+    "b: one\nb: 1\nledger 2002 2002 0\n",
+);
+
 const WORKED: &[Case] = &[
     TAKEN_OVER,
     (
@@ -74,12 +82,7 @@ const WORKED: &[Case] = &[
         4,
         "a: fault 6 NoSuchPlace line 2\nb: 1\nc: fault 6 NoSuchPlace line 8\nledger 1 1 0\n",
     ),
-    (
-        "a section that makes and drops a thousand times beside another",
-        "section a\nrepeat 1000\nlist r0\nint r1 1000\npush r0 r1\ndrop r0\nend\nsection b\nlist r0\ntext r1 one\npush r0 r1\nget r2 r0 0\nprint r2\nlen r3 r0\nprint r3\n",
-        0,
-        "b: one\nb: 1\nledger 2002 2002 0\n",
-    ),
+    BESIDE_ANOTHER,
     (
         "what one section pushes another reads",
         "section a\nlist r0\ncopy r1 r0\nshare box r1\nfetch r2 done\nget r1 r0 0\nprint r1\npop r1 r0\nprint r1\nprint r0\nsection b\nfetch r0 box\nint r1 1000\npush r0 r1\nunshare r1 box\nint r2 1\nshare done r2\n",
@@ -123,13 +126,14 @@ fn worked_scripts(rt: HostRuntime) -> Result<(), Fail> {
     Ok(())
 }
 
-/// A hundred runs, each alike.
+/// A hundred runs of each, all alike.
 #[test]
-fn a_taken_over_list_is_alike_in_each_run(rt: HostRuntime) -> Result<(), Fail> {
-    let (case, script, status, output) = TAKEN_OVER;
-    for _run in 0..100 {
-        let found = ran(&rt, "brc run", script, status, "")?;
-        same(&rt, case, found.as_slice(), output);
+fn worked_scripts_are_alike_in_each_run(rt: HostRuntime) -> Result<(), Fail> {
+    for (case, script, status, output) in [TAKEN_OVER, BESIDE_ANOTHER] {
+        for _run in 0..100 {
+            let found = ran(&rt, "brc run", script, status, "")?;
+            same(&rt, case, found.as_slice(), output);
+        }
     }
     Ok(())
 }
@@ -363,6 +367,40 @@ fn all_find_one_list(rt: HostRuntime) -> Result<(), Fail> {
     }
     let found = ran(&rt, "brc run --cells 512", script.as_str(), 0, "")?;
     same(&rt, "one list", found.as_slice(), "ledger 1 1 0\n");
+    Ok(())
+}
+
+/// A section that shares nothing makes a thousand numbers, and a thousand sums of them; each goes through a container of its own.
+const OWN: &str =
+    "section own\nlist r0\ndict r1\nmailbox r2\nint r3 0\nrepeat 1000\nint r4 1000\nadd r5 r3 r4\ncopy r3 r5\npush r0 r4\nsend r2 r5\npop r4 r0\nput r1 'k r4\nrecv r5 r2\nend\nprint r3\nfind r4 r1 'k\nprint r4\nprint r0\nprint r1\nprint r2\n";
+
+/// It prints what it would print alone, beside 62 sections that lock one list, push to it and pop from it a hundred times each, and so
+/// free cells and use them again. Ten runs.
+#[test]
+fn a_section_of_its_own_beside_all_others(rt: HostRuntime) -> Result<(), Fail> {
+    let mut script = String::new(rt.alloc());
+    for section in 0..62 {
+        if section == 31 {
+            script.push_str(OWN)?;
+        }
+        let begins = format!(in rt.alloc(); "section s{section}\n")?;
+        script.push_str(begins.as_str())?;
+        if section == 0 {
+            script.push_str("list r0\nshare box r0\n")?;
+        }
+        script.push_str(
+            "fetch r0 box\nrepeat 100\nint r1 1000\npush r0 r1\npop r1 r0\ndrop r1\nend\n",
+        )?;
+    }
+    for _run in 0..10 {
+        let found = ran(&rt, "brc run", script.as_str(), 0, "")?;
+        same(
+            &rt,
+            "beside all others",
+            found.as_slice(),
+            "own: 1000000\nown: 1000\nown: list 0\nown: dict 1\nown: mailbox 0\nledger 8204 8204 0\n",
+        );
+    }
     Ok(())
 }
 
