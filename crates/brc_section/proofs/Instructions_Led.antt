@@ -23,5 +23,5 @@ module _ {A : Type 0} where
   two_apart instruction is a b same names differ equal =
       let all : all_differ (registers_of instruction) ≡ true = all_of instruction differ
       in let two : all_differ (a ∷ b ∷ []) ≡ true
-           = subst (λ (registers : List ℕ). all_differ registers ≡ true) (ap registers_of same ∙ names) all
+      = subst (λ (registers : List ℕ). all_differ registers ≡ true) (ap registers_of same ∙ names) all
       in absurd (true≢false (sym two ∙ ap (λ (t : Bool). not (t || false) && (not false && true)) (eq-eqb a b equal)))

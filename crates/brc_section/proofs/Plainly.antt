@@ -85,6 +85,7 @@ module _ {A : Type 0} where
       let before : OwnLog new.heap.cells frame.seat.log = own_before new.heap.cells frame.seat.log new.seat.log quiet own
       in let meant : Means base frame registers s = means (subst (λ (h : TableSeen). OwnLog h.cells frame.seat.log) heap before)
       in same_allocs frame new heap quiet ∙ meant.shows.made
+
   pub ended_all : (base : ℕ) (frame new : FrameSeen A) (registers : List (Option HandleSeen)) (printed : List ℕ) (lines : List (NumberedLine A))
       → new.heap ≡ frame.heap → Quietly frame.seat.log new.seat.log → WentOn base frame registers printed start lines → Ended base new printed lines None
   ended_all base frame new registers printed lines heap quiet went = record {
@@ -97,14 +98,17 @@ module _ {A : Type 0} where
   pub ended_early : (base : ℕ) (frame new : FrameSeen A) (registers : List (Option HandleSeen)) (printed : List ℕ) (lines : List (NumberedLine A)) (halt : Halt)
       → new.heap ≡ frame.heap → Quietly frame.seat.log new.seat.log → Stopped base frame registers printed start lines halt.fault halt.line
       → Ended base new printed lines (Some halt)
-  ended_early base frame new registers printed lines halt heap quiet stopped = (stopped.broke, λ own.
-      let faulted : Faulted base frame registers printed start lines halt.fault halt.line = stopped.faulted own
-      in record {
-        next = faulted.next;
-        meant = faulted.meant;
-        same = faulted.here.same;
-        bore = bore_before base frame new registers faulted.next heap quiet faulted.here.means;
-      })
+  ended_early base frame new registers printed lines halt heap quiet stopped = (
+    stopped.broke,
+    λ own.
+        let faulted : Faulted base frame registers printed start lines halt.fault halt.line = stopped.faulted own
+        in record {
+          next = faulted.next;
+          meant = faulted.meant;
+          same = faulted.here.same;
+          bore = bore_before base frame new registers faulted.next heap quiet faulted.here.means;
+        },
+  )
 
   -- ---- the section
 
@@ -146,7 +150,7 @@ module _ {A : Type 0} where
         → PrintsPlainly section base after printed (Some (number_of halt.fault, halt.line))
     by_machines halt true is ends =
         let no_own : is_own_end (Some (number_of halt.fault, halt.line)) ≡ true → ⊥
-              = λ claims. true≢false (sym is ∙ own_fault halt.fault halt.line claims)
+        = λ claims. true≢false (sym is ∙ own_fault halt.fault halt.line claims)
         in record {
           prints = record {
             front = broke_front halt (ends.0 is);
@@ -181,8 +185,9 @@ module _ {A : Type 0} where
   pub ended_first : (base : ℕ) (frame : FrameSeen A) (printed : List ℕ) (lines : List (NumberedLine A)) (halt : Halt) → printed ≡ []
       → is_machines halt.fault ≡ true → Ended base frame printed lines (Some halt)
   ended_first base frame printed lines halt none machines = (
-      λ _. record { front = []; later = lines; whole = refl; next = start; meant = refl; same = sym none },
-      λ own. absurd (true≢false (sym machines ∙ own)))
+    λ _. record { front = []; later = lines; whole = refl; next = start; meant = refl; same = sym none },
+    λ own. absurd (true≢false (sym machines ∙ own)),
+  )
 
   -- there is no line
   pub ended_without : (frame : FrameSeen A) (printed : List ℕ) (lines : List (NumberedLine A)) → printed ≡ [] → lines ≡ []
@@ -217,7 +222,7 @@ module _ {A : Type 0} where
   plainly section old began ran new none lines printed halt met same empty is ends own heap quiet told private =
       let ended : Ended (ledger_seen began).allocs ran lines (written_out section.pieces) halt = ends empty (own_section section private)
       in let from : Ended (ledger_seen old).allocs ran lines (written_out section.pieces) halt
-           = subst (λ (f : FrameSeen A). Ended (ledger_seen f).allocs ran lines (written_out section.pieces) halt) same ended
+      = subst (λ (f : FrameSeen A). Ended (ledger_seen f).allocs ran lines (written_out section.pieces) halt) same ended
       in let shown : Ended (ledger_seen old).allocs ran printed (written_out section.pieces) halt
-           = subst (λ (bytes : List ℕ). Ended (ledger_seen old).allocs ran bytes (written_out section.pieces) halt) (sym is) from
+      = subst (λ (bytes : List ℕ). Ended (ledger_seen old).allocs ran bytes (written_out section.pieces) halt) (sym is) from
       in prints_of section (ledger_seen old).allocs ran (ledger_seen new).allocs printed own (same_allocs ran new heap quiet) halt met told shown

@@ -71,10 +71,10 @@ module _ {A : Type 0} where
     runs_stop halt runs base s own here =
         let went : WentOn base frame registers printed s done = run base s own here
         in let stopped : Stopped base new now has s (done ++ part) halt.fault halt.line =
-             stopped_after s went.next done part went.meant (runs base went.next (part_own whole done part rest is own) went.here)
+        stopped_after s went.next done part went.meant (runs base went.next (part_own whole done part rest is own) went.here)
         in let more : Stopped base new now has s ((done ++ part) ++ rest) halt.fault halt.line = stopped_before s (done ++ part) rest stopped
         in subst (λ (lines : List (NumberedLine A)). Stopped base new now has s lines halt.fault halt.line)
-           (append_assoc done part rest ∙ sym is) more
+        (append_assoc done part rest ∙ sym is) more
 
   -- ---- one line
 
@@ -125,7 +125,7 @@ module _ {A : Type 0} where
   line_between body k line inside is =
       sym (take-append-drop (suc k) body)
       ∙ ap (λ (front : List (NumberedLine A)). front ++ drop (suc k) body)
-        (take-suc body k line inside ∙ ap (λ (l : NumberedLine A). take k body ++ (l ∷ [])) (sym is))
+      (take-suc body k line inside ∙ ap (λ (l : NumberedLine A). take k body ++ (l ∷ [])) (sym is))
       ∙ append_assoc (take k body) (line ∷ []) (drop (suc k) body)
 
   line_more : (body : List (NumberedLine A)) (k : ℕ) (line : NumberedLine A) → k < length body → line ≡ get_or body k line
@@ -203,7 +203,7 @@ module _ {A : Type 0} where
       ap (λ (p : List (Piece A)). written_out p) (sym (take-append-drop (suc k) all))
       ∙ written_both (take (suc k) all) (drop (suc k) all)
       ∙ ap (λ (front : List (NumberedLine A)). front ++ written_out (drop (suc k) all))
-        (ap (λ (p : List (Piece A)). written_out p) (sym (piece_more all k piece inside is)) ∙ written_both (take k all) (piece ∷ []))
+      (ap (λ (p : List (Piece A)). written_out p) (sym (piece_more all k piece inside is)) ∙ written_both (take k all) (piece ∷ []))
       ∙ append_assoc (written_out (take k all)) (written_out (piece ∷ [])) (written_out (drop (suc k) all))
 
   module _ {old : FrameSeen A} {before : List (Option HandleSeen)} {had : List ℕ} {frame : FrameSeen A} {registers : List (Option HandleSeen)} {printed : List ℕ}

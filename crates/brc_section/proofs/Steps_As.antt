@@ -46,8 +46,13 @@ module _ {A : Type 0} where
     pub silent_done : Follows old new before now instruction (Ok tt) → StepsAs old new before now instruction (Ok None)
     silent_done follows base s own means =
         let led = follows base s own means
-        in (led.0, led.1, subst (λ (r : Result (State A) Fault). IfOk r (λ next. next.printed ≡ s.printed)) led.1
-          (prints_nothing instruction s (silent_of instruction other)), led.2)
+        in (
+          led.0,
+          led.1,
+          subst (λ (r : Result (State A) Fault). IfOk r (λ next. next.printed ≡ s.printed)) led.1
+              (prints_nothing instruction s (silent_of instruction other)),
+          led.2,
+        )
 
     pub silent_refused : (fault : Fault) → Follows old new before now instruction (Err fault) → StepsAs old new before now instruction (Err fault)
     silent_refused fault follows base s own means plain = follows base s own means plain

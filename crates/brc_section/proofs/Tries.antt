@@ -48,7 +48,7 @@ module _ {A : Type 0} where
             let at_poll : OwnLog polled.heap.cells polled.seat.log = own_at polled new keeps.heap more own
             in let at_frame : OwnLog frame.heap.cells frame.seat.log = own_at frame polled kept.heap on at_poll
             in means_worked base polled new registers s turns
-               (means_polled base frame polled registers s told (stays.means base s at_frame means) polls kept at_poll) worked keeps own;
+            (means_polled base frame polled registers s told (stays.means base s at_frame means) polls kept at_poll) worked keeps own;
       }
 
   -- a try that found nothing
@@ -62,7 +62,7 @@ module _ {A : Type 0} where
         later = later_both old.seat.log frame.seat.log new.seat.log stays.later later;
         means = λ base s own means.
             let goes : Goes base new now s (after instruction s) (Err fault.0)
-                  = subst (Goes base new now s (after instruction s)) fault.1 (follows base s own (stays.means base s (own_at frame new heap later own) means))
+            = subst (Goes base new now s (after instruction s)) fault.1 (follows base s own (stays.means base s (own_at frame new heap later own) means))
             in (goes fault.2).1;
       }
 

@@ -73,7 +73,7 @@ module _ {A : Type 0} where
   Ended base frame printed lines result = MatchOption result
       (RanAll base frame printed lines)
       (λ halt. (is_machines halt.fault ≡ true → BrokeOff printed start lines)
-        × (is_machines halt.fault ≡ false → MetFault base frame printed lines halt.fault halt.line))
+      × (is_machines halt.fault ≡ false → MetFault base frame printed lines halt.fault halt.line))
 
 -- the halt, where the lines came to one
 abbrev pub HaltOf : Result (Unit {0}) Halt → Option Halt → Type 0

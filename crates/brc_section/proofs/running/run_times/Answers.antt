@@ -6,8 +6,11 @@ pub returns-in-Err-clause-runs : goal.returns-in-Err-clause-runs
 returns-in-Err-clause-runs g c = times_stop c.args.times c.loop-turn.turn c.args.body.now c.loop-turn-test.true c.loop-turn.invariant.2 c.in-Err.halt c.in-Err.ensures.runs
 
 pub loop-turn-preserved : goal.loop-turn-preserved
-loop-turn-preserved g c = (c.in-Ok.ensures.heap ∙ c.loop-turn.invariant.0, c.in-Ok.ensures.stands,
-    times_next c.args.times c.loop-turn.turn c.args.body.now c.loop-turn-test.true c.loop-turn.invariant.2 c.in-Ok.ensures.runs)
+loop-turn-preserved g c = (
+  c.in-Ok.ensures.heap ∙ c.loop-turn.invariant.0,
+  c.in-Ok.ensures.stands,
+  times_next c.args.times c.loop-turn.turn c.args.body.now c.loop-turn-test.true c.loop-turn.invariant.2 c.in-Ok.ensures.runs,
+)
 
 pub returns-clause-runs : goal.returns-clause-runs
 returns-clause-runs g c = times_end c.args.times c.loop-turn.turn c.args.body.now c.loop-turn-test.false c.loop-turn.auto.turn-end c.loop-turn.invariant.2

@@ -19,12 +19,12 @@ returns-in-Err-clause-ended g c = λ none own. ended_first (ledger_seen c.args.f
 pub returns-clause-ended : goal.returns-clause-ended
 returns-clause-ended g c = λ none own.
     let runs : RunsOn c.args.frame.now c.in-Ok.registers c.args.lines.now c.run_pieces-ran.new.frame c.run_pieces-ran.new.registers c.run_pieces-ran.new.lines
-          (written_out c.args.section.now.pieces) c.run_pieces-ran.result
-      = subst (λ (pieces : List (Piece g.row.A.Denot)). RunsOn c.args.frame.now c.in-Ok.registers c.args.lines.now c.run_pieces-ran.new.frame
-          c.run_pieces-ran.new.registers c.run_pieces-ran.new.lines (written_out pieces) c.run_pieces-ran.result)
-        c.as_slice-pieces.ensures c.run_pieces-ran.ensures.runs
+    (written_out c.args.section.now.pieces) c.run_pieces-ran.result
+    = subst (λ (pieces : List (Piece g.row.A.Denot)). RunsOn c.args.frame.now c.in-Ok.registers c.args.lines.now c.run_pieces-ran.new.frame
+    c.run_pieces-ran.new.registers c.run_pieces-ran.new.lines (written_out pieces) c.run_pieces-ran.result)
+    c.as_slice-pieces.ensures c.run_pieces-ran.ensures.runs
     in ended_of (ledger_seen c.args.frame.now).allocs c.run_pieces-ran.new.frame c.release_all.new.frame c.run_pieces-ran.new.registers
-       c.run_pieces-ran.new.lines (written_out c.args.section.now.pieces) c.run_pieces-ran.result c.halt_of.result c.halt_of.ensures
-       c.release_all.ensures.heap c.release_all.ensures.quiet
-       (runs (ledger_seen c.args.frame.now).allocs start own
-         (begins_at c.args.frame.now c.in-Ok.registers c.args.lines.now c.in-Ok.ensures.bare c.in-Ok.ensures.size none))
+    c.run_pieces-ran.new.lines (written_out c.args.section.now.pieces) c.run_pieces-ran.result c.halt_of.result c.halt_of.ensures
+    c.release_all.ensures.heap c.release_all.ensures.quiet
+    (runs (ledger_seen c.args.frame.now).allocs start own
+    (begins_at c.args.frame.now c.in-Ok.registers c.args.lines.now c.in-Ok.ensures.bare c.in-Ok.ensures.size none))
