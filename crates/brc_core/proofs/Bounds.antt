@@ -1,12 +1,20 @@
 -- How large the numbers of a reached world get.
-use Rattle.std.proofs.Common.{◌≡◌, ℕ, ◌<◌, ◌≤◌, ◌^◌, List, [], ◌∷◌, length, drop, sum_by, count_by, cond, pos, ◌+◌, true, false, refl, arith, length-drop}
+use Rattle.std.proofs.Common.{◌≡◌, ℕ, ◌<◌, ◌≤◌, ◌^◌, List, [], ◌∷◌, length, drop, sum_by, count_by, cond, pos, ◌+◌, true, false, refl, sym, subst, inl, inr, arith, length-drop}
 use Rattle.std.proofs.lemmas.List.Sums.{sum_by-cons, count_by-le-length}
-use Rattle.brc_words.specs.declared.limits.TheConstants.{FIRST_MORTAL, MOST_CELLS, MOST_ENTRIES, MOST_PLACES, MOST_THREADS}
+use Rattle.brc_words.specs.declared.limits.TheConstants.{FIRST_MORTAL, MOST_CELLS, MOST_ENTRIES, MOST_PLACES, MOST_THREADS, MOST_REGISTRATIONS}
 use Rattle.brc_runs.proofs.Sizes.{reached_births, reached_entries}
 use Rattle.brc_runs.proofs.Reached.{reached_sound, reached_headline}
+use Rattle.brc_runs.proofs.Headlines.{sums_fit, past_fits}
+use Rattle.brc_runs.proofs.Lifetimes.{by_whom}
+use Rattle.brc_runs.proofs.Asking.{may_parts}
+use Rattle.brc_runs.proofs.Reusing.{fresh, reused, registers}
+use Rattle.brc_runs.specs.declared.event.Event.{Event}
+use Rattle.brc_runs.specs.declared.event.Step.TheVariants.{Register}
+use Rattle.brc_runs.specs.Steps.{enabled, root_may, thread_may}
+use Rattle.std.proofs.lemmas.Bool.{true≢false}
 use Rattle.brc_runs.specs.declared.cell.Cell.{Cell}
 use Rattle.brc_runs.specs.Lists.{one}
-use Rattle.brc_runs.specs.Heap.{Heap, cell_at, entries_at, frame_at}
+use Rattle.brc_runs.specs.Heap.{Heap, cell_at, row_at, entries_at, frame_at}
 use Rattle.brc_runs.specs.Holding.{lives, lives_at, total_of, holders_of}
 use Rattle.brc_runs.specs.Runs.{IsReached}
 
@@ -31,7 +39,30 @@ pub allocs_fit : (h : Heap) → IsReached h → sum_by (λ row. row.allocs) h.ro
 allocs_fit h reached = reached_births h reached
 
 pub frees_fit : (h : Heap) → IsReached h → sum_by (λ row. row.frees) h.rows < 2 ^ 64
-frees_fit h reached = omega (arith, reached_births h reached, (reached_headline h reached).ledger)
+frees_fit h reached = omega (arith, (sums_fit h (reached_sound h reached)).1)
+
+-- with those of registrations that are over
+pub all_allocs_fit : (h : Heap) → IsReached h → sum_by (λ row. row.allocs) h.rows + h.past_allocs < 2 ^ 64
+all_allocs_fit h reached = (sums_fit h (reached_sound h reached)).0
+
+pub all_frees_fit : (h : Heap) → IsReached h → sum_by (λ row. row.frees) h.rows + h.past_frees < 2 ^ 64
+all_frees_fit h reached = (sums_fit h (reached_sound h reached)).1
+
+pub past_allocs_fit : (h : Heap) → IsReached h → (t : ℕ) → h.past_allocs + (row_at h t).allocs < 2 ^ 64
+past_allocs_fit h reached t = (past_fits h (reached_sound h reached) t).0
+
+pub past_frees_fit : (h : Heap) → IsReached h → (t : ℕ) → h.past_frees + (row_at h t).frees < 2 ^ 64
+past_frees_fit h reached t = (past_fits h (reached_sound h reached) t).1
+
+-- one more registration can be counted
+pub registers_few : (h : Heap) (e : Event) → IsReached h → enabled h e ≡ true → (u : ℕ) → e.step ≡ Register u → h.registrations < MOST_REGISTRATIONS
+registers_few h e reached ok u is = elim (by_whom h e ok) [
+  | inl root ↦ elim (registers h u (reached_sound h reached) (subst (λ s. root_may h s ≡ true) is root.may)) [
+    | fresh new most few leads ↦ few
+    | reused v few leads ↦ few
+  ]
+  | inr thread ↦ absurd (true≢false (sym (may_parts h e.thread (Register u) (subst (λ s. thread_may h e.thread s ≡ true) is thread.may)).hand))
+]
 
 pub references : (h : Heap) → IsReached h → (c : ℕ) → lives_at h c ≡ true → total_of (cell_at h c) ≡ pos (length (holders_of h c))
 references h reached c lives = (reached_headline h reached).counted c lives

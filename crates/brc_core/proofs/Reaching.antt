@@ -1,12 +1,14 @@
 -- The opening world is reached, and so is the world after an event that is enabled in a reached one.
 use Rattle.std.proofs.Common.{◌≡◌, ℕ, true, [], ◌∷◌, ap, subst, sym, refl}
+use Rattle.brc_runs.specs.declared.edition.Edition.{Edition}
 use Rattle.brc_runs.specs.declared.event.Event.{Event}
-use Rattle.brc_runs.specs.Heap.{Heap, opening, AreOptions}
+use Rattle.brc_runs.specs.Heap.{Heap, opening_in, AreOptions}
 use Rattle.brc_runs.specs.Steps.{enabled, after}
 use Rattle.brc_runs.specs.Runs.{IsReached}
 
-pub reached_opening : (cells limit : ℕ) → AreOptions cells limit → IsReached (opening cells limit)
-reached_opening cells limit options = record {
+pub reached_opening : (edition : Edition) (cells limit : ℕ) → AreOptions cells limit → IsReached (opening_in edition cells limit)
+reached_opening edition cells limit options = record {
+  edition = edition;
   cells = cells;
   limit = limit;
   options = options;
@@ -19,6 +21,7 @@ pub reached_after : (h : Heap) (e : Event) → IsReached h → enabled h e ≡ t
 reached_after h e reached may =
     let P : Heap → Type 0 = λ world. enabled world e ≡ true in
     record {
+      edition = reached.edition;
       cells = reached.cells;
       limit = reached.limit;
       options = reached.options;

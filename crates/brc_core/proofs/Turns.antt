@@ -3,8 +3,9 @@ use Rattle.std.proofs.Common.{◌≡◌, ℕ, ◌+◌, ◌<◌, ◌≤◌, true,
 use Rattle.std.proofs.lemmas.List.{take_more, reverse-append, take_all}
 use Rattle.std.proofs.lemmas.Option.{slice_get-get_or}
 use Rattle.brc_core.specs.Replays.{IsFirstNotEnabled}
+use Rattle.brc_runs.specs.declared.edition.Edition.{Edition}
 use Rattle.brc_runs.specs.declared.event.Event.{Event}
-use Rattle.brc_runs.specs.Heap.{Heap, opening, AreOptions}
+use Rattle.brc_runs.specs.Heap.{Heap, opening_in, AreOptions}
 use Rattle.brc_runs.specs.Steps.{enabled, after}
 use Rattle.brc_runs.specs.Runs.{IsRun, IsReached, world_after}
 
@@ -54,8 +55,9 @@ leads_whole start events at world leads past =
     let P : List Event → Type 0 = λ run. LeadsTo start (reverse run) world in
     subst P (take_all at events past) leads
 
-pub leads_reached : (cells limit : ℕ) (run : List Event) (world : Heap) → AreOptions cells limit → LeadsTo (opening cells limit) run world → IsReached world
-leads_reached cells limit run world options leads = record {
+pub leads_reached : (edition : Edition) (cells limit : ℕ) (run : List Event) (world : Heap) → AreOptions cells limit → LeadsTo (opening_in edition cells limit) run world → IsReached world
+leads_reached edition cells limit run world options leads = record {
+  edition = edition;
   cells = cells;
   limit = limit;
   options = options;

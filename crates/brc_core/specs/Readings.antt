@@ -1,5 +1,5 @@
 -- What the readers of a world say, where the world's lists don't say it at once.
-use Rattle.std.specs.Prelude.{ℕ, ◌&&◌, ◌||◌, not, Bool, true, false, Option, Some, None, List, [], if◌then◌else◌, sum_by}
+use Rattle.std.specs.Prelude.{ℕ, ◌+◌, ◌&&◌, ◌||◌, not, Bool, true, false, Option, Some, None, List, [], if◌then◌else◌, sum_by}
 use Rattle.brc_core.specs.declared.readers.Status.{Status}
 use Rattle.brc_core.specs.declared.readers.Status.TheVariants as statuses
 use Rattle.brc_core.specs.declared.totals.Ledger.{Ledger}
@@ -24,6 +24,8 @@ status_of stages.Left false = statuses.Left
 status_of stages.Active true = statuses.Gathered
 status_of (stages.Closing n) true = statuses.Gathered
 status_of stages.Left true = statuses.Gathered
+status_of (stages.Opening n) false = statuses.Opening
+status_of (stages.Opening n) true = statuses.Gathered
 
 -- an object is in the cell: an immortal, or a mortal one that lives
 abbrev pub has_object : Heap → ℕ → Bool
@@ -37,11 +39,15 @@ counts_locally h c = has_object h c && not (is_merged (cell_at h c).state)
 abbrev pub ledger_of : Row → Ledger
 ledger_of row = record { allocs = row.allocs; frees = row.frees }
 
--- the ledgers of all threads together
+-- the ledger of all registrations that are over
+abbrev pub past_of : Heap → Ledger
+past_of h = record { allocs = h.past_allocs; frees = h.past_frees }
+
+-- the ledgers of all threads and registrations together
 abbrev pub ledgers_of : Heap → Ledger
 ledgers_of h = record {
-  allocs = sum_by (λ row. row.allocs) h.rows;
-  frees = sum_by (λ row. row.frees) h.rows;
+  allocs = sum_by (λ row. row.allocs) h.rows + h.past_allocs;
+  frees = sum_by (λ row. row.frees) h.rows + h.past_frees;
 }
 
 -- how far the life of a registered thread is

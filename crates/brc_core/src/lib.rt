@@ -13,9 +13,9 @@ mod totals;
 mod world;
 
 // What callers write and read.
-pub use brc_runs::{Cell, Change, Dropped, Event, Hand, LastDropped, Phase, Source, Step};
+pub use brc_runs::{Cell, Change, Dropped, Edition, Event, Hand, LastDropped, Phase, Source, Step};
 pub use brc_state::Refusal;
 pub use readers::Status;
-pub use replaying::{ReplayFault, replay};
+pub use replaying::{ReplayFault, replay, replay_in};
 pub use totals::Ledger;
 pub use world::{StepFault, World};

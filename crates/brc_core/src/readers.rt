@@ -6,7 +6,7 @@ ghost use Rattle.brc_runs.specs.Lists.{bit_of, place_at, is_marked, is_blank, is
 ghost use Rattle.brc_runs.specs.Heap.{cell_at, entries_at, row_at, frame_at, popped_at, worklist_at, queue_at, is_registered};
 
 use crate::world::World;
-use brc_runs::{Hand, Stage, is_immortal};
+use brc_runs::{Edition, Hand, Stage, is_immortal};
 use brc_words::{Kind, Owner, State};
 use std::alloc::Allocator;
 
@@ -21,6 +21,8 @@ pub enum Status {
     Left,
     /// The root knows that it holds nothing.
     Gathered,
+    /// Its number was used before, and not all its queue words are open again.
+    Opening,
 }
 
 impl<A: Allocator + Copy> World<A> {
@@ -30,6 +32,13 @@ impl<A: Allocator + Copy> World<A> {
         ensures { result ≡ length self.now.cells }
     {
         self.tables.cell_count() as u32
+    }
+
+    /// Which events there are.
+    pub fn edition(&self) -> Edition
+        ensures { result ≡ self.now.edition }
+    {
+        self.tables.edition()
     }
 
     /// The local count at which an owner counts up on the shared word.
@@ -63,6 +72,7 @@ impl<A: Allocator + Copy> World<A> {
             Stage::Active => Some(Status::Active),
             Stage::Closing(_) => Some(Status::Closing),
             Stage::Left => Some(Status::Left),
+            Stage::Opening(_) => Some(Status::Opening),
         }
     }
 

@@ -1,13 +1,13 @@
 //! Replay: the world that a list of events leads to from the opening one.
 
 ghost use Rattle.std.specs.Prelude.{◌≡◌, ◌↔◌, Err, IfOk, IfErr, OnOk, reverse};
-ghost use Rattle.brc_core.specs.Replays.{IsRight, line_of, fault_of};
-ghost use Rattle.brc_runs.specs.Heap.{AreOptions, opening};
+ghost use Rattle.brc_core.specs.Replays.{IsRight, IsRightIn, line_of, fault_of};
+ghost use Rattle.brc_runs.specs.Heap.{AreOptions, opening, opening_in};
 ghost use Rattle.brc_runs.specs.Runs.{IsRun, world_after};
 ghost use Rattle.brc_runs.specs.Holding.{Headline, Histories};
 
 use crate::world::{StepFault, World};
-use brc_runs::Event;
+use brc_runs::{Edition, Event};
 use brc_words::{Fault, Reason};
 use std::alloc::Allocator;
 
@@ -66,6 +66,41 @@ pub fn replay<A: Allocator + Copy>(
     ensures refused { IfErr result (λ fault. IsRight fault cells local_limit events.now) }
 {
     let mut world = match World::new(alloc, cells, local_limit) {
+        Ok(world) => world,
+        Err(Fault::BadOptions) => return Err(ReplayFault::Options),
+        Err(_) => return Err(ReplayFault::Memory),
+    };
+    for (at, event) in events.iter().enumerate() {
+        match world.step(event) {
+            Ok(()) => {}
+            Err(StepFault::NotEnabled) => return Err(ReplayFault::NotEnabled { at }),
+            Err(StepFault::Memory) => return Err(ReplayFault::Memory),
+        }
+    }
+    Ok(world)
+}
+
+/// The same in a heap of this edition.
+#[tactic(auto, using(crate::proofs::Turns::turn, crate::proofs::Turns::first_not_enabled))]
+pub fn replay_in<A: Allocator + Copy>(
+    alloc: A,
+    edition: Edition,
+    events: &[Event],
+    cells: u32,
+    local_limit: u32,
+) -> Result<World<A>, ReplayFault>
+    ensures sizes { OnOk result (AreOptions cells local_limit) }
+    ensures run { OnOk result (IsRun (opening_in edition cells local_limit) (reverse events.now)) }
+    ensures world { IfOk result
+        (λ world. world ≡ world_after (opening_in edition cells local_limit) (reverse events.now)) }
+
+    // Counts are references, nothing is lost, and births less frees are the live objects.
+    ensures headline { IfOk result Headline }
+
+    ensures options { (result ≡ Err ReplayFault.Options) ↔ ¬ (AreOptions cells local_limit) }
+    ensures refused { IfErr result (λ fault. IsRightIn edition fault cells local_limit events.now) }
+{
+    let mut world = match World::opening(alloc, cells, local_limit, edition) {
         Ok(world) => world,
         Err(Fault::BadOptions) => return Err(ReplayFault::Options),
         Err(_) => return Err(ReplayFault::Memory),

@@ -1,7 +1,7 @@
 //! The numbers of a world: a cell's total count, the ledgers, and how many objects live.
 
 ghost use Rattle.std.specs.Prelude.{◌≡◌, ◌+◌, ◌<◌, ◌^◌, pos, length, drop, sum_by, count_by, IfSome};
-ghost use Rattle.brc_core.specs.Readings.{only_if, ledger_of, ledgers_of};
+ghost use Rattle.brc_core.specs.Readings.{only_if, ledger_of, ledgers_of, past_of};
 ghost use Rattle.brc_runs.specs.Heap.{cell_at, row_at, is_registered};
 ghost use Rattle.brc_runs.specs.Holding.{lives, lives_at, total_of, holders_of, live_count};
 ghost use Rattle.brc_words.specs.Shared.{CountFits};
@@ -113,8 +113,18 @@ impl<A: Allocator + Copy> World<A> {
         ensures { result ≡ ledgers_of self.now }
     {
         Ledger {
-            allocs: allocs(self.tables.rows()),
-            frees: frees(self.tables.rows()),
+            allocs: allocs(self.tables.rows()) + self.tables.past_allocs(),
+            frees: frees(self.tables.rows()) + self.tables.past_frees(),
+        }
+    }
+
+    /// The ledger of all registrations whose number is used again.
+    pub fn past(&self) -> Ledger
+        ensures { result ≡ past_of self.now }
+    {
+        Ledger {
+            allocs: self.tables.past_allocs(),
+            frees: self.tables.past_frees(),
         }
     }
 

@@ -2,12 +2,12 @@
 
 ghost use Rattle.std.specs.Prelude.{◌≡◌, ◌↔◌, ◌⊎◌, true, false, None, Err, IfOk, IfErr, OnOk, OnErr};
 ghost use Rattle.brc_core.specs.Moves.{MovesOn};
-ghost use Rattle.brc_runs.specs.Heap.{AreOptions, opening};
+ghost use Rattle.brc_runs.specs.Heap.{AreOptions, opening, opening_in};
 ghost use Rattle.brc_runs.specs.Steps.{enabled, after};
 ghost use Rattle.brc_state.specs.Memory.{needs_memory};
 ghost use Rattle.brc_state.specs.Refusals.{refusal_of};
 
-use brc_runs::{Event, Step};
+use brc_runs::{Edition, Event, Step};
 use brc_state::{Refusal, Tables, are_options};
 use brc_words::Fault;
 use std::alloc::Allocator;
@@ -72,10 +72,28 @@ impl<A: Allocator + Copy> World<A> {
         ensures sizes { OnOk result (AreOptions cells local_limit) }
         ensures world { IfOk result (λ world. world ≡ opening cells local_limit) }
     {
+        World::opening(alloc, cells, local_limit, Edition::One)
+    }
+
+    /// The opening world of a heap of this edition.
+    #[tactic(auto, using(crate::proofs::Reaching::reached_opening))]
+    pub fn opening(
+        alloc: A,
+        cells: u32,
+        local_limit: u32,
+        edition: Edition,
+    ) -> Result<World<A>, Fault>
+        ensures options { (result ≡ Err Fault.BadOptions) ↔ ¬ (AreOptions cells local_limit) }
+        ensures refused { IfErr result
+            (λ fault. (fault ≡ Fault.BadOptions) ⊎ (fault ≡ Fault.OutOfMemory)) }
+
+        ensures sizes { OnOk result (AreOptions cells local_limit) }
+        ensures world { IfOk result (λ world. world ≡ opening_in edition cells local_limit) }
+    {
         if !are_options(cells, local_limit) {
             return Err(Fault::BadOptions);
         }
-        let tables = Tables::opening(alloc, cells, local_limit)?;
+        let tables = Tables::opening(alloc, edition, cells, local_limit)?;
         Ok(World { tables })
     }
 

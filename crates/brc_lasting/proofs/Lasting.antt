@@ -10,22 +10,23 @@ use Rattle.brc_words.specs.declared.state.State.TheVariants as states
 use Rattle.brc_runs.specs.declared.cell.Cell.{Cell}
 use Rattle.brc_runs.specs.declared.event.Event.{Event}
 use Rattle.brc_runs.specs.declared.event.Step.{Step}
-use Rattle.brc_runs.specs.declared.event.Step.TheVariants.{Claim, InitLocal, InitShared, Birth, LocalUp, LocalDown, SeeZero, Free, Untie, MergeZero, SharedUp, SharedDown, Ask, LastDown, Enqueue, Drain, MergeAdd, Close, Nudge, Wake, Lock, Unlock, Register, Gather}
+use Rattle.brc_runs.specs.declared.event.Step.TheVariants.{Claim, InitLocal, InitShared, Birth, LocalUp, LocalDown, SeeZero, Free, Untie, MergeZero, SharedUp, SharedDown, Ask, LastDown, Enqueue, Drain, MergeAdd, Close, Nudge, Wake, Lock, Unlock, Register, Gather, Offer, Reopen}
 use Rattle.brc_runs.specs.declared.row.Row.{Row}
 use Rattle.brc_runs.specs.declared.row.Hand.TheVariants as hands
 use Rattle.brc_runs.specs.declared.row.Phase.{Phase}
 use Rattle.brc_runs.specs.declared.row.Phase.TheVariants as phases
 use Rattle.brc_runs.specs.Lists.{one, is_marked, place_at, bit_of}
-use Rattle.brc_runs.specs.Heap.{Heap, cell_at, entries_at, row_at, frame_at, worklist_at, no_row, new_row, is_immortal}
-use Rattle.brc_runs.specs.Steps.{enabled, after, after_target, root_after, root_may, thread_may, target_at, cell_after, locked_cell, is_at, is_default, target_ok, locked_at}
+use Rattle.brc_runs.specs.Heap.{Heap, cell_at, entries_at, row_at, frame_at, worklist_at, no_row, new_row, is_immortal, again_row}
+use Rattle.brc_runs.specs.Steps.{enabled, after, after_target, root_after, root_may, thread_may, target_at, cell_after, locked_cell, is_at, is_default, target_ok, locked_at, is_merged}
 use Rattle.brc_runs.specs.Runs.{IsReached}
 use Rattle.brc_runs.specs.Holding.{carries, lives}
 use Rattle.brc_runs.specs.Sound.{IsSound, HandFits, WorklistFits, Locks, grips, held}
 use Rattle.brc_lasting.specs.Staying.{is_about, IsAnothers, Lasts, SameOwn, Has, rank, Bears, Buries, Locked, Keeps, Foreign, OwnedOrNot, Nobodys}
-use Rattle.brc_runs.proofs.Naming.{free_owner, Ungripped, Unheld, dead_unheld, sole_grip, one-true, busy_hand}
+use Rattle.brc_runs.proofs.Naming.{free_owner, Ungripped, Unheld, dead_unheld, sole_grip, one-true, busy_hand, ungripped, thread_owner}
 use Rattle.brc_runs.proofs.Asking.{May, OnCell, on_cell}
 use Rattle.brc_runs.proofs.Changes.{read_there}
 use Rattle.brc_runs.proofs.Registering.{push_else}
+use Rattle.brc_runs.proofs.Reusing.{fresh, reused, registers}
 use Rattle.brc_runs.proofs.Counting.{marked_unheld}
 use Rattle.brc_runs.proofs.Merging.{hand_grips, carried_held, popped_held, held_owner}
 use Rattle.brc_runs.proofs.Dropping.{held_by_place, held_by_entry}
@@ -42,16 +43,26 @@ pub other_number : (u t : ℕ) → (u == t) ≡ false → t ≢ u
 other_number u t apart same = true≢false (sym (eq-eqb u t (sym same)) ∙ apart)
 
 root_own : (h : Heap) (s : Step) (t : ℕ) → IsSound h → root_may h s ≡ true → is_about t s ≡ false → SameOwn t h (root_after h s)
-root_own h (Register u) t sound ok apart =
-    let next : u ≡ length h.rows = eqb-true u (length h.rows) (and_parts _ _ ok).0 in
-    let other : t ≢ length h.rows = λ same. other_number u t apart (same ∙ sym next) in
-    record {
-      row = push_else h.rows new_row no_row t other;
-      frame = push_else h.frames [] [] t (λ e. other (e ∙ sound.shaped.frames));
-      popped = push_else h.popped _ [] t (λ e. other (e ∙ sound.shaped.popped));
-      worklist = push_else h.worklists _ [] t (λ e. other (e ∙ sound.shaped.worklists));
-      gathered = push_else h.gathered false false t (λ e. other (e ∙ sound.shaped.gathered));
-    }
+root_own h (Register u) t sound ok apart = elim (registers h u sound ok) [
+  | fresh next most few is ↦
+      let other : t ≢ length h.rows = λ same. other_number u t apart (same ∙ sym next) in
+      subst (SameOwn t h) (sym is) (record {
+        row = push_else h.rows new_row no_row t other;
+        frame = push_else h.frames [] [] t (λ e. other (e ∙ sound.shaped.frames));
+        popped = push_else h.popped _ [] t (λ e. other (e ∙ sound.shaped.popped));
+        worklist = push_else h.worklists _ [] t (λ e. other (e ∙ sound.shaped.worklists));
+        gathered = push_else h.gathered false false t (λ e. other (e ∙ sound.shaped.gathered));
+      })
+  | reused v few is ↦
+      let other : t ≢ u = other_number u t apart in
+      subst (SameOwn t h) (sym is) (record {
+        row = read_there h.rows u t again_row no_row other;
+        frame = read_there h.frames u t [] [] other;
+        popped = read_there h.popped u t _ [] other;
+        worklist = read_there h.worklists u t _ [] other;
+        gathered = read_there h.gathered u t false false other;
+      })
+]
 root_own h (Gather u) t sound ok apart = record {
   row = refl;
   frame = refl;
@@ -97,7 +108,10 @@ alone_stays h e t c sound ok other mortal grip none owner =
       | inl claim ↦ owner claim.1
       | inr rest ↦ elim rest [
         | inl some ↦ omega (arith, some, none)
-        | inr his ↦ omega (arith, grip_of h e.thread c his, alone.mark, alone.hand)
+        | inr more ↦ elim more [
+          | inl his ↦ omega (arith, grip_of h e.thread c his, alone.mark, alone.hand)
+          | inr nobody ↦ omega (arith, grip, (ungripped h c nobody t).mark, (ungripped h c nobody t).hand)
+        ]
       ]
     ] in (
       elim (event_cell h e c ok) [ inl same ↦ same | inr at ↦ absurd (no_step at.0) ],
@@ -205,6 +219,11 @@ rank_most states.Default = omega arith
 rank_most states.Queued = omega arith
 rank_most states.Merged = omega arith
 
+unmerged_rank : (s : State) → is_merged s ≡ false → rank s ≤ 1
+unmerged_rank states.Default off = omega arith
+unmerged_rank states.Queued off = omega arith
+unmerged_rank states.Merged off = absurd (true≢false off)
+
 asked_keeps : (s : Step) (b : Bool) (x : Cell) → is_default x.state ≡ b → StepKeeps s x (if b then record x { state = states.Queued } else x)
 asked_keeps s true x default = record { kind = refl; bearer = refl; state = by_state x.state default; owner = inl refl; mutex = λ _. refl }
   where
@@ -250,6 +269,15 @@ live_step h u (Enqueue d) c sound may named live some = keeps_all (Enqueue d) (c
 live_step h u (Drain k) c sound may named live some = keeps_all (Drain k) (cell_at h c)
 live_step h u (MergeAdd d) c sound may named live some = record { kind = refl; bearer = refl; state = rank_most (cell_at h c).state; owner = inl refl; mutex = λ _. refl }
 live_step h u (Close k) c sound may named live some = keeps_all (Close k) (cell_at h c)
+live_step h u (Reopen k) c sound may named live some = keeps_all (Reopen k) (cell_at h c)
+live_step h u (Offer d) c sound may named live some =
+    let target : OnCell h u (Offer d) c = on_cell h u (Offer d) c (subst (λ o. target_ok h u (row_at h u) (Offer d) o ≡ true) named may.on_target) in
+    let owner : (cell_at h c).owner ≡ owners.Thread u = thread_owner u _ target.fits in
+    let mortal : FIRST_MORTAL ≤ c = elim (cases_lt c FIRST_MORTAL) [
+      | inr high ↦ high
+      | inl low ↦ absurd (let bad : owners.Thread u ≡ owners.Nobody = sym owner ∙ (sound.immortals c low).owner in cc)
+    ] in
+    record { kind = refl; bearer = refl; state = unmerged_rank (cell_at h c).state ((sound.cells c mortal).owned_unmerged u owner); owner = inl refl; mutex = λ _. refl }
 live_step h u (Nudge v k) c sound may named live some = keeps_all (Nudge v k) (cell_at h c)
 live_step h u Wake c sound may named live some = keeps_all Wake (cell_at h c)
 live_step h u (Lock k) c sound may named live some = record { kind = refl; bearer = refl; state = omega arith; owner = inl refl; mutex = λ off. absurd (true≢false off) }

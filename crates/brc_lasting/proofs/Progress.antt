@@ -8,6 +8,7 @@ use Rattle.brc_words.specs.declared.kind.Kind.{Kind}
 use Rattle.brc_words.specs.Kinds.{is_mortal}
 use Rattle.brc_runs.specs.Phases.{is_active_phase}
 use Rattle.brc_runs.specs.declared.cell.Cell.{Cell}
+use Rattle.brc_runs.specs.declared.edition.Edition.TheVariants as editions
 use Rattle.brc_runs.specs.declared.event.Step.{Step}
 use Rattle.brc_runs.specs.declared.event.Step.TheVariants.{InitLocal, InitShared, Birth, LocalDown, SeeZero, Free, Untie, MergeZero, Ask, LastDown, Enqueue, MergeAdd, Unlock, Close, Gather}
 use Rattle.brc_runs.specs.declared.event.Dropped.{Dropped}
@@ -21,7 +22,7 @@ use Rattle.brc_runs.specs.declared.row.Stage.{Stage}
 use Rattle.brc_runs.specs.declared.row.Stage.TheVariants as stages
 use Rattle.brc_runs.specs.Lists.{is_marked, bit_of, is_bare, is_unmarked, place_at, word_at, is_blank}
 use Rattle.brc_runs.specs.Heap.{Heap, cell_at, entries_at, row_at, frame_at, popped_at, worklist_at, no_cell, is_immortal, words_for}
-use Rattle.brc_runs.specs.Steps.{enabled, root_may, thread_may, stage_ok, lock_ok, hand_ok, own_ok_at, others_ok, target_at, target_ok, cell_ok, dropped_cell, may_after_leaving, needs_lock, is_at, is_active, is_vacant, is_mine, is_default, is_merged, is_nobody, is_queued, is_owned_by, cell_in_hand, untie_ok, untied_ok, ends_ok, is_free_hand, closes_next, is_left, locked_cell}
+use Rattle.brc_runs.specs.Steps.{enabled, root_may, thread_may, stage_ok, lock_ok, hand_ok, own_ok_at, others_ok, target_at, target_ok, cell_ok, dropped_cell, may_after_leaving, needs_lock, is_at, is_active, is_vacant, is_mine, is_default, is_merged, is_nobody, is_queued, is_owned_by, cell_in_hand, untie_ok, untied_ok, ends_ok, is_free_hand, closes_next, is_left, locked_cell, edition_ok, may_leave}
 use Rattle.brc_runs.specs.Runs.{IsReached}
 use Rattle.brc_runs.specs.Sound.{IsSound, held}
 use Rattle.brc_lasting.specs.Staying.{Tells, PoppedTells}
@@ -49,21 +50,24 @@ inside h c taken = elim (cases_lt c (length h.cells)) [
 ]
 
 -- a thread that isn't closing may make a step that runs on after leaving, and any step while it is active
-stage_fits : (stage : Stage) (s : Step) → ((n : ℕ) → stage ≢ stages.Closing n) → (is_active stage ≡ true) ⊎ (may_after_leaving s ≡ true) → stage_ok stage s ≡ true
-stage_fits stages.Active s apart ok = refl
-stage_fits (stages.Closing n) s apart ok = absurd (apart n refl)
-stage_fits stages.Left s apart ok = elim ok [ inl active ↦ absurd (true≢false (sym active)) | inr may ↦ may ]
+stage_fits : (stage : Stage) (s : Step) → ((n : ℕ) → stage ≢ stages.Closing n) → ((n : ℕ) → stage ≢ stages.Opening n) → (is_active stage ≡ true) ⊎ (may_after_leaving s ≡ true) → stage_ok stage s ≡ true
+stage_fits stages.Active s apart opened ok = refl
+stage_fits (stages.Closing n) s apart opened ok = absurd (apart n refl)
+stage_fits (stages.Opening n) s apart opened ok = absurd (opened n refl)
+stage_fits stages.Left s apart opened ok = elim ok [ inl active ↦ absurd (true≢false (sym active)) | inr may ↦ may ]
 
 -- what a thread's step on a cell asks, one test a field
 record Asks (h : Heap) (t : ℕ) (s : Step) (c : ℕ) : Type 0 where
   stands : Stands h t
   unlocked : (row_at h t).locked ≡ None
   not_closing : (n : ℕ) → (row_at h t).stage ≢ stages.Closing n
+  not_opening : (n : ℕ) → (row_at h t).stage ≢ stages.Opening n
   stage : (is_active (row_at h t).stage ≡ true) ⊎ (may_after_leaving s ≡ true)
   no_lock : needs_lock s ≡ false
   hand : hand_ok (row_at h t).hand s ≡ true
   own : own_ok_at h t s ≡ true
-  others : others_ok h s ≡ true
+  others : others_ok h t s ≡ true
+  edition : edition_ok h.edition (row_at h t) s ≡ true
   named : target_at h t s ≡ Some c
   taken : (cell_at h c).owner ≢ owners.Free
   cell : cell_ok h.limit t (row_at h t) s c (cell_at h c) ≡ true
@@ -77,16 +81,17 @@ is_enabled h t s c asks =
     let target : target_ok h t (row_at h t) s (target_at h t s) ≡ true =
     ap (target_ok h t (row_at h t) s) asks.named ∙ and_both _ _ (lt-ltb c (length h.cells) (inside h c asks.taken)) asks.cell in
     ap (λ b. if b then root_may h s else thread_may h t s) thread
-    ∙ and_both _ _ (and_both _ _ (and_both _ _ (and_both _ _ (and_both _ _ (and_both _ _ (and_both _ _ asks.stands.registered (ap not asks.stands.here))
-    (stage_fits (row_at h t).stage s asks.not_closing asks.stage)) lock) asks.hand) asks.own) asks.others) target
+    ∙ and_both _ _ (and_both _ _ (and_both _ _ (and_both _ _ (and_both _ _ (and_both _ _ (and_both _ _ (and_both _ _ asks.stands.registered (ap not asks.stands.here))
+    (stage_fits (row_at h t).stage s asks.not_closing asks.not_opening asks.stage)) lock) asks.hand) asks.own) asks.others) asks.edition) target
 
 -- ---- a hand goes on
 
 -- a busy hand is no closing thread's, and its thread has no lock
-busy_thread : (h : Heap) (t c : ℕ) (p : Phase) → IsSound h → (row_at h t).hand ≡ hands.Busy p c → ((n : ℕ) → (row_at h t).stage ≢ stages.Closing n) × ((row_at h t).locked ≡ None)
+busy_thread : (h : Heap) (t c : ℕ) (p : Phase) → IsSound h → (row_at h t).hand ≡ hands.Busy p c → ((n : ℕ) → (row_at h t).stage ≢ stages.Closing n) × ((row_at h t).locked ≡ None) × ((n : ℕ) → (row_at h t).stage ≢ stages.Opening n)
 busy_thread h t c p sound busy = (
   λ n closing. let bad : hands.Free ≡ hands.Busy p c = sym ((sound.threads t).closing n closing).2 ∙ busy in cc,
   unlocked (row_at h t).locked refl,
+  λ n opening. let bad : hands.Free ≡ hands.Busy p c = sym ((sound.threads t).opening n opening).1 ∙ busy in cc,
 )
   where
     unlocked : (o : Option ℕ) → (row_at h t).locked ≡ o → o ≡ None
@@ -114,19 +119,24 @@ hand_taken h t c p reached busy = by_phase p busy (hand_tells h t c p reached bu
     by_phase phases.Shut at tells free = live (hand_tells h t c phases.Shut reached at).0 (carried_held h t c (busy_carrier phases.Shut c _ refl at)) free
     by_phase phases.Taking at tells free = let bad : owners.Nobody ≡ owners.Free = sym tells.0 ∙ free in cc
     by_phase phases.Held at tells free = let bad : owners.Nobody ≡ owners.Free = sym tells.0 ∙ free in cc
+    by_phase phases.Offered at tells free = let bad : owners.Thread t ≡ owners.Free = sym tells.0 ∙ free in cc
+    by_phase phases.Yielding at tells free = let bad : owners.Nobody ≡ owners.Free = sym tells.0 ∙ free in cc
     by_phase phases.Popping at tells free = let bad : owners.Nobody ≡ owners.Free = sym tells.0 ∙ free in cc
 
 -- what is common to all phases
-goes_on : (h : Heap) (t c : ℕ) (p : Phase) (s : Step) → IsReached h → Stands h t → (row_at h t).hand ≡ hands.Busy p c → (is_active_phase p ≡ true) ⊎ (may_after_leaving s ≡ true) → needs_lock s ≡ false
-    → hand_ok (hands.Busy p c) s ≡ true → own_ok_at h t s ≡ true → others_ok h s ≡ true → target_at h t s ≡ Some c → cell_ok h.limit t (row_at h t) s c (cell_at h c) ≡ true
+goes_on : (h : Heap) (t c : ℕ) (p : Phase) (s : Step) → IsReached h → h.edition ≡ editions.One → Stands h t → (row_at h t).hand ≡ hands.Busy p c → (is_active_phase p ≡ true) ⊎ (may_after_leaving s ≡ true) → needs_lock s ≡ false
+    → edition_ok editions.One (row_at h t) s ≡ true
+    → hand_ok (hands.Busy p c) s ≡ true → own_ok_at h t s ≡ true → others_ok h t s ≡ true → target_at h t s ≡ Some c → cell_ok h.limit t (row_at h t) s c (cell_at h c) ≡ true
     → enabled h (record { thread = t; step = s }) ≡ true
-goes_on h t c p s reached stands busy stage plain hand own others named cell =
+goes_on h t c p s reached first stands busy stage plain edition hand own others named cell =
     let sound : IsSound h = reached_sound h reached in
     let thread = busy_thread h t c p sound busy in
     is_enabled h t s c (record {
       stands = stands;
       unlocked = thread.1;
       not_closing = thread.0;
+      not_opening = thread.2;
+      edition = ap (λ e. edition_ok e (row_at h t) s) first ∙ edition;
       stage = elim stage [ inl active ↦ inl (active_now h t c p sound busy active) | inr may ↦ inr may ];
       no_lock = plain;
       hand = ap (λ g. hand_ok g s) busy ∙ hand;
@@ -141,59 +151,72 @@ here : (c : ℕ) → (c == c) ≡ true
 here c = eq-eqb c c refl
 
 -- an untying hand passes the test on popped entries, and one of the other two as well
-untie_hand : (b : Bool) → b ≡ true → (b || false || false) ≡ true
+untie_hand : (b : Bool) → b ≡ true → (b || false || false || false) ≡ true
 untie_hand true e = refl
 untie_hand false e = absurd (true≢false (sym e))
 
 -- the next step of a hand is enabled; a ready object may be born in any vacant place
-pub hands_go_on : (h : Heap) (t c : ℕ) (p : Phase) → IsReached h → Stands h t → (row_at h t).hand ≡ hands.Busy p c → p ≢ phases.Ready
+pub hands_go_on : (h : Heap) (t c : ℕ) (p : Phase) → IsReached h → h.edition ≡ editions.One → Stands h t → (row_at h t).hand ≡ hands.Busy p c → p ≢ phases.Ready
     → enabled h (record { thread = t; step = next_step p c (cell_at h c) }) ≡ true
-hands_go_on h t c phases.Claimed reached stands busy other = goes_on h t c phases.Claimed (InitLocal c) reached stands busy (inl refl) refl (here c) refl refl refl refl
-hands_go_on h t c phases.Counted reached stands busy other = goes_on h t c phases.Counted (InitShared c) reached stands busy (inl refl) refl (here c) refl refl refl refl
-hands_go_on h t c phases.Ready reached stands busy other = absurd (other refl)
-hands_go_on h t c phases.Zero reached stands busy other = goes_on h t c phases.Zero (SeeZero c) reached stands busy (inl refl) refl (here c) refl refl refl refl
-hands_go_on h t c phases.Over reached stands busy other =
-    goes_on h t c phases.Over (Untie c) reached stands busy (inr refl) refl (untie_hand (c == c) (here c)) (ap (λ g. untie_ok g (popped_at h t) c) busy) refl refl (ap (λ g. untied_ok t g (cell_at h c)) busy)
-hands_go_on h t c phases.Untied reached stands busy other = goes_on h t c phases.Untied (MergeZero c) reached stands busy (inl refl) refl (here c) refl refl refl refl
-hands_go_on h t c phases.Asked reached stands busy other = goes_on h t c phases.Asked (Enqueue c) reached stands busy (inr refl) refl (here c) refl refl refl refl
-hands_go_on h t c phases.Shut reached stands busy other =
+hands_go_on h t c phases.Claimed reached first stands busy other = goes_on h t c phases.Claimed (InitLocal c) reached first stands busy (inl refl) refl refl (here c) refl refl refl refl
+hands_go_on h t c phases.Counted reached first stands busy other = goes_on h t c phases.Counted (InitShared c) reached first stands busy (inl refl) refl refl (here c) refl refl refl refl
+hands_go_on h t c phases.Ready reached first stands busy other = absurd (other refl)
+hands_go_on h t c phases.Zero reached first stands busy other = goes_on h t c phases.Zero (SeeZero c) reached first stands busy (inl refl) refl refl (here c) refl refl refl refl
+hands_go_on h t c phases.Over reached first stands busy other =
+    goes_on h t c phases.Over (Untie c) reached first stands busy (inr refl) refl refl (untie_hand (c == c) (here c)) (ap (λ g. untie_ok g (popped_at h t) c) busy) refl refl (ap (λ g. untied_ok t g (cell_at h c)) busy)
+hands_go_on h t c phases.Untied reached first stands busy other = goes_on h t c phases.Untied (MergeZero c) reached first stands busy (inl refl) refl refl (here c) refl refl refl refl
+hands_go_on h t c phases.Asked reached first stands busy other = goes_on h t c phases.Asked (Enqueue c) reached first stands busy (inr refl) refl refl (here c) refl refl refl refl
+hands_go_on h t c phases.Shut reached first stands busy other =
     let tells : Tells t phases.Shut (cell_at h c) = (hand_tells h t c phases.Shut reached busy).1 in
     elim tells [
       | inl nobodys ↦ subst (λ b. enabled h (record { thread = t; step = if b then LastDown lasts.Hand else Untie c }) ≡ true) (sym (ap is_nobody nobodys.0))
-          (goes_on h t c phases.Shut (LastDown lasts.Hand) reached stands busy (inr refl) refl refl refl refl (ap cell_in_hand busy)
-          (and_both _ _ (ap (λ s. not (is_default s)) nobodys.1) (ap (λ g. ends_ok g (cell_at h c)) busy ∙ ap is_nobody nobodys.0)))
+          (goes_on h t c phases.Shut (LastDown lasts.Hand) reached first stands busy (inr refl) refl refl refl refl refl (ap cell_in_hand busy)
+          (and_both _ _ (ap not nobodys.1) (ap (λ g. ends_ok g (cell_at h c)) busy ∙ ap is_nobody nobodys.0)))
       | inr owned ↦ subst (λ b. enabled h (record { thread = t; step = if b then LastDown lasts.Hand else Untie c }) ≡ true) (sym (ap is_nobody owned.1))
-          (goes_on h t c phases.Shut (Untie c) reached stands busy (inr refl) refl (shut_hand (c == c) (here c)) (ap (λ g. untie_ok g (popped_at h t) c) busy) refl refl
+          (goes_on h t c phases.Shut (Untie c) reached first stands busy (inr refl) refl refl (shut_hand (c == c) (here c)) (ap (λ g. untie_ok g (popped_at h t) c) busy) refl refl
           (ap (λ g. untied_ok t g (cell_at h c)) busy ∙ ap (λ o. not (is_nobody o)) owned.1))
     ]
   where
-    shut_hand : (b : Bool) → b ≡ true → (false || b || false) ≡ true
+    shut_hand : (b : Bool) → b ≡ true → (false || b || false || false) ≡ true
     shut_hand true e = refl
     shut_hand false e = absurd (true≢false (sym e))
-hands_go_on h t c phases.Taking reached stands busy other = goes_on h t c phases.Taking (MergeAdd c) reached stands busy (inr refl) refl (add_hand (c == c) (here c)) refl refl refl refl
+hands_go_on h t c phases.Taking reached first stands busy other = goes_on h t c phases.Taking (MergeAdd c) reached first stands busy (inr refl) refl refl (add_hand (c == c) (here c)) refl refl refl refl
   where
-    add_hand : (b : Bool) → b ≡ true → (b || false) ≡ true
+    add_hand : (b : Bool) → b ≡ true → (b || false || false) ≡ true
     add_hand true e = refl
     add_hand false e = absurd (true≢false (sym e))
-hands_go_on h t c phases.Held reached stands busy other =
+hands_go_on h t c phases.Held reached first stands busy other =
     let tells : Tells t phases.Held (cell_at h c) = (hand_tells h t c phases.Held reached busy).1 in
-    goes_on h t c phases.Held (LastDown lasts.Hand) reached stands busy (inr refl) refl refl refl refl (ap cell_in_hand busy)
+    goes_on h t c phases.Held (LastDown lasts.Hand) reached first stands busy (inr refl) refl refl refl refl refl (ap cell_in_hand busy)
     (and_both _ _ (ap (λ s. not (is_default s)) tells.1) (ap (λ g. ends_ok g (cell_at h c)) busy))
-hands_go_on h t c phases.Popping reached stands busy other = goes_on h t c phases.Popping (MergeAdd c) reached stands busy (inr refl) refl (here c) refl refl refl refl
+hands_go_on h t c phases.Popping reached first stands busy other = goes_on h t c phases.Popping (MergeAdd c) reached first stands busy (inr refl) refl refl (popped_hand (c == c) (here c)) refl refl refl refl
+  where
+    popped_hand : (b : Bool) → b ≡ true → (b || false) ≡ true
+    popped_hand true e = refl
+    popped_hand false e = absurd (true≢false (sym e))
+hands_go_on h t c phases.Offered reached first stands busy other =
+    goes_on h t c phases.Offered (Untie c) reached first stands busy (inr refl) refl refl (offered_hand (c == c) (here c)) (ap (λ g. untie_ok g (popped_at h t) c) busy) refl refl (ap (λ g. untied_ok t g (cell_at h c)) busy)
+  where
+    offered_hand : (b : Bool) → b ≡ true → (b || false) ≡ true
+    offered_hand true e = refl
+    offered_hand false e = absurd (true≢false (sym e))
+hands_go_on h t c phases.Yielding reached first stands busy other = goes_on h t c phases.Yielding (MergeAdd c) reached first stands busy (inl refl) refl refl (here c) refl refl refl refl
 
-pub births_go_on : (h : Heap) (t c k : ℕ) (kind : Kind) → IsReached h → Stands h t → (row_at h t).hand ≡ hands.Busy phases.Ready c → is_mortal kind ≡ true → is_vacant (frame_at h t) k ≡ true
+pub births_go_on : (h : Heap) (t c k : ℕ) (kind : Kind) → IsReached h → h.edition ≡ editions.One → Stands h t → (row_at h t).hand ≡ hands.Busy phases.Ready c → is_mortal kind ≡ true → is_vacant (frame_at h t) k ≡ true
     → enabled h (record { thread = t; step = Birth c kind k }) ≡ true
-births_go_on h t c k kind reached stands busy mortal vacant =
-    goes_on h t c phases.Ready (Birth c kind k) reached stands busy (inl refl) refl (here c) (and_both _ _ mortal vacant) refl refl refl
+births_go_on h t c k kind reached first stands busy mortal vacant =
+    goes_on h t c phases.Ready (Birth c kind k) reached first stands busy (inl refl) refl refl (here c) (and_both _ _ mortal vacant) refl refl refl
 
 -- ---- what a thread holds it can give up
 
-at_rest : (h : Heap) (t c : ℕ) (s : Step) → IsAtRest h t → may_after_leaving s ≡ true → needs_lock s ≡ false → hand_ok hands.Free s ≡ true → own_ok_at h t s ≡ true → others_ok h s ≡ true
+at_rest : (h : Heap) (t c : ℕ) (s : Step) → IsAtRest h t → h.edition ≡ editions.One → may_after_leaving s ≡ true → needs_lock s ≡ false → edition_ok editions.One (row_at h t) s ≡ true → hand_ok hands.Free s ≡ true → own_ok_at h t s ≡ true → others_ok h t s ≡ true
     → target_at h t s ≡ Some c → (cell_at h c).owner ≢ owners.Free → cell_ok h.limit t (row_at h t) s c (cell_at h c) ≡ true → enabled h (record { thread = t; step = s }) ≡ true
-at_rest h t c s rest may plain hand own others named taken cell = is_enabled h t s c (record {
+at_rest h t c s rest first may plain edition hand own others named taken cell = is_enabled h t s c (record {
   stands = rest.stands;
   unlocked = rest.unlocked;
   not_closing = rest.not_closing;
+  not_opening = rest.not_opening;
+  edition = ap (λ e. edition_ok e (row_at h t) s) first ∙ edition;
   stage = inr may;
   no_lock = plain;
   hand = ap (λ g. hand_ok g s) rest.hand ∙ hand;
@@ -204,21 +227,21 @@ at_rest h t c s rest may plain hand own others named taken cell = is_enabled h t
   cell = cell;
 })
 
-pub references_go : (h : Heap) (t c : ℕ) (drop : Dropped) → IsReached h → IsAtRest h t → dropped_cell (frame_at h t) (worklist_at h t) (entries_at h) drop ≡ Some c
+pub references_go : (h : Heap) (t c : ℕ) (drop : Dropped) → IsReached h → h.edition ≡ editions.One → IsAtRest h t → dropped_cell (frame_at h t) (worklist_at h t) (entries_at h) drop ≡ Some c
     → enabled h (record { thread = t; step = release_step t (row_at h t).stage c (cell_at h c) drop }) ≡ true
-references_go h t c drop reached rest named =
+references_go h t c drop reached first rest named =
     let sound : IsSound h = reached_sound h reached in
     let taken : (cell_at h c).owner ≢ owners.Free = live_owner _ (held_live h c sound (dropped_held h t c drop named)) in
     let P : Bool → Type 0 = λ b. enabled h (record { thread = t; step = if b then LocalDown drop else (if is_default (cell_at h c).state then Ask drop else LastDown (lasts.Dropped drop)) }) ≡ true in
     elim (cases_Bool (is_immortal c || is_mine t (row_at h t).stage (cell_at h c))) [
-      | inl owns ↦ subst P (sym owns) (at_rest h t c (LocalDown drop) rest refl refl refl refl refl named taken owns)
+      | inl owns ↦ subst P (sym owns) (at_rest h t c (LocalDown drop) rest first refl refl refl refl refl refl named taken owns)
       | inr apart ↦
           let others : (not (is_immortal c) && not (is_mine t (row_at h t).stage (cell_at h c))) ≡ true = neither (is_immortal c) (is_mine t (row_at h t).stage (cell_at h c)) apart in
           subst P (sym apart) (elim (cases_Bool (is_default (cell_at h c).state)) [
             | inl default ↦ subst (λ b. enabled h (record { thread = t; step = if b then Ask drop else LastDown (lasts.Dropped drop) }) ≡ true) (sym default)
-                (at_rest h t c (Ask drop) rest refl refl refl refl refl named taken others)
+                (at_rest h t c (Ask drop) rest first refl refl refl refl refl refl named taken others)
             | inr asked ↦ subst (λ b. enabled h (record { thread = t; step = if b then Ask drop else LastDown (lasts.Dropped drop) }) ≡ true) (sym asked)
-                (at_rest h t c (LastDown (lasts.Dropped drop)) rest refl refl refl refl refl named taken (and_both _ _ (ap not asked) others))
+                (at_rest h t c (LastDown (lasts.Dropped drop)) rest first refl refl refl refl refl refl named taken (and_both _ _ (ap not asked) others))
           ])
     ]
   where
@@ -227,24 +250,24 @@ references_go h t c drop reached rest named =
     neither false true off = absurd (true≢false off)
     neither false false off = refl
 
-pub popped_go : (h : Heap) (t c : ℕ) → IsReached h → IsAtRest h t → bit_of (popped_at h t) c ≡ 1 → enabled h (record { thread = t; step = popped_step c (cell_at h c) }) ≡ true
-popped_go h t c reached rest popped =
+pub popped_go : (h : Heap) (t c : ℕ) → IsReached h → h.edition ≡ editions.One → IsAtRest h t → bit_of (popped_at h t) c ≡ 1 → enabled h (record { thread = t; step = popped_step c (cell_at h c) }) ≡ true
+popped_go h t c reached first rest popped =
     let sound : IsSound h = reached_sound h reached in
     let tells : PoppedTells t (cell_at h c) = popped_tells h t c reached rest.hand popped in
     let taken : (cell_at h c).owner ≢ owners.Free = live_owner _ (held_live h c sound (popped_held h t c popped)) in
     let bit : (bit_of (popped_at h t) c == 1) ≡ true = eq-eqb _ _ popped in
     elim tells [
       | inl merged ↦ subst (λ b. enabled h (record { thread = t; step = if b then LastDown (lasts.Popped c) else Untie c }) ≡ true) (sym (ap is_merged merged))
-          (at_rest h t c (LastDown (lasts.Popped c)) rest refl refl refl bit refl refl taken (and_both _ _ (ap (λ s. not (is_default s)) merged) (ap is_merged merged)))
+          (at_rest h t c (LastDown (lasts.Popped c)) rest first refl refl refl refl bit refl refl taken (and_both _ _ (ap (λ s. not (is_default s)) merged) (ap is_merged merged)))
       | inr own ↦ subst (λ b. enabled h (record { thread = t; step = if b then LastDown (lasts.Popped c) else Untie c }) ≡ true) (sym (ap is_merged own.1))
-          (at_rest h t c (Untie c) rest refl refl refl (ap (λ g. untie_ok g (popped_at h t) c) rest.hand ∙ bit) refl refl taken
+          (at_rest h t c (Untie c) rest first refl refl refl refl (ap (λ g. untie_ok g (popped_at h t) c) rest.hand ∙ bit) refl refl taken
           (ap (λ g. untied_ok t g (cell_at h c)) rest.hand ∙ and_both _ _ (ap (is_owned_by t) own.0 ∙ here t) (ap is_queued own.1)))
     ]
 
-pub blocks_go : (h : Heap) (t c : ℕ) → IsReached h → IsAtRest h t → is_marked (worklist_at h t) c ≡ true → entries_at h c ≡ [] → enabled h (record { thread = t; step = Free c }) ≡ true
-blocks_go h t c reached rest marked empty =
+pub blocks_go : (h : Heap) (t c : ℕ) → IsReached h → h.edition ≡ editions.One → IsAtRest h t → is_marked (worklist_at h t) c ≡ true → entries_at h c ≡ [] → enabled h (record { thread = t; step = Free c }) ≡ true
+blocks_go h t c reached first rest marked empty =
     let sound : IsSound h = reached_sound h reached in
-    at_rest h t c (Free c) rest refl refl refl (and_both _ _ marked (ap (λ (xs : List ℕ). length xs == 0) empty)) refl refl (live_owner _ (sound.worklists t c marked).lives) refl
+    at_rest h t c (Free c) rest first refl refl refl refl (and_both _ _ marked (ap (λ (xs : List ℕ). length xs == 0) empty)) refl refl (live_owner _ (sound.worklists t c marked).lives) refl
 
 -- ---- a lock is let go, and a thread that leaves goes on leaving
 
@@ -269,7 +292,8 @@ record AsksNone (h : Heap) (t : ℕ) (s : Step) : Type 0 where
   lock : lock_ok (row_at h t).locked s ≡ true
   hand : hand_ok (row_at h t).hand s ≡ true
   own : own_ok_at h t s ≡ true
-  others : others_ok h s ≡ true
+  others : others_ok h t s ≡ true
+  edition : edition_ok h.edition (row_at h t) s ≡ true
   target : target_ok h t (row_at h t) s (target_at h t s) ≡ true
 
 may_step : (h : Heap) (t : ℕ) (s : Step) → AsksNone h t s → enabled h (record { thread = t; step = s }) ≡ true
@@ -278,12 +302,12 @@ may_step h t s asks =
     let low : 0 < t = ltb-true 0 t number.0 in
     let thread : (t == 0) ≡ false = ne_eqb t 0 (λ e. omega (arith, low, e)) in
     ap (λ b. if b then root_may h s else thread_may h t s) thread
-    ∙ and_both _ _ (and_both _ _ (and_both _ _ (and_both _ _ (and_both _ _ (and_both _ _ (and_both _ _ asks.stands.registered (ap not asks.stands.here))
-    asks.stage) asks.lock) asks.hand) asks.own) asks.others) asks.target
+    ∙ and_both _ _ (and_both _ _ (and_both _ _ (and_both _ _ (and_both _ _ (and_both _ _ (and_both _ _ (and_both _ _ asks.stands.registered (ap not asks.stands.here))
+    asks.stage) asks.lock) asks.hand) asks.own) asks.others) asks.edition) asks.target
 
-pub locks_go : (h : Heap) (t k : ℕ) → IsReached h → Stands h t → (row_at h t).locked ≡ Some k
+pub locks_go : (h : Heap) (t k : ℕ) → IsReached h → h.edition ≡ editions.One → Stands h t → (row_at h t).locked ≡ Some k
     → enabled h (record { thread = t; step = Unlock changes.Keep }) ≡ true
-locks_go h t k reached stands locked =
+locks_go h t k reached first stands locked =
     let sound : IsSound h = reached_sound h reached in
     let lock = sound.locks t k locked in
     let named : locked_cell (frame_at h t) (row_at h t).locked ≡ Some lock.0 = ap (locked_cell (frame_at h t)) locked ∙ lock.1.names in
@@ -294,6 +318,7 @@ locks_go h t k reached stands locked =
       hand = ap is_free_hand ((sound.threads t).locked_hand k locked);
       own = refl;
       others = refl;
+      edition = ap (λ e. edition_ok e (row_at h t) (Unlock changes.Keep)) first;
       target = ap (target_ok h t (row_at h t) (Unlock changes.Keep)) named
           ∙ and_both _ _ (lt-ltb lock.0 (length h.cells) (locked_inside lock.0 lock.1.names)) refl;
     })
@@ -302,6 +327,7 @@ locks_go h t k reached stands locked =
     by_stage : (stage : Stage) → (row_at h t).stage ≡ stage → stage_ok stage (Unlock changes.Keep) ≡ true
     by_stage stages.Active at = refl
     by_stage stages.Left at = let bad : None ≡ Some k = sym (((reached_sound h reached).threads t).inactive_lock (ap is_active at)) ∙ locked in absurd (cc)
+    by_stage (stages.Opening n) at = let bad : None ≡ Some k = sym (((reached_sound h reached).threads t).inactive_lock (ap is_active at)) ∙ locked in absurd (cc)
     by_stage (stages.Closing n) at = let bad : None ≡ Some k = sym (((reached_sound h reached).threads t).inactive_lock (ap is_active at)) ∙ locked in absurd (cc)
 
     -- what a place has is an immortal or lives, so it is one of the heap
@@ -312,8 +338,8 @@ locks_go h t k reached stands locked =
     ])
 
 -- the next word of a closing thread may be closed
-pub closings_go : (h : Heap) (t n : ℕ) → IsReached h → Stands h t → (row_at h t).stage ≡ stages.Closing n → enabled h (record { thread = t; step = Close n }) ≡ true
-closings_go h t n reached stands closing =
+pub closings_go : (h : Heap) (t n : ℕ) → IsReached h → h.edition ≡ editions.One → Stands h t → (row_at h t).stage ≡ stages.Closing n → enabled h (record { thread = t; step = Close n }) ≡ true
+closings_go h t n reached first stands closing =
     let fits = (reached_sound h reached).threads t in
     let closes = fits.closing n closing in
     let off : is_active (row_at h t).stage ≡ false = ap is_active closing in
@@ -322,11 +348,11 @@ closings_go h t n reached stands closing =
       stage = ap (λ g. stage_ok g (Close n)) closing;
       lock = ap (λ o. lock_ok o (Close n)) (fits.inactive_lock off);
       hand = ap is_free_hand closes.2;
-      own = and_both _ _ (and_both _ _ (and_both _ _ (and_both _ _ (lt-ltb n _ closes.1) (ap (λ g. closes_next g n) closing ∙ eq-eqb n n refl))
+      own = and_both _ _ (and_both _ _ (and_both _ _ (lt-ltb n _ closes.1) (ap (λ g. closes_next g n) closing ∙ eq-eqb n n refl))
           (all_vacant (frame_at h t) (fits.inactive_frame off)))
-          (none_marked (worklist_at h t) (λ q. fits.closing_work n q closing)))
           (first_of_two _ _ (lt-ltb 0 n closes.0));
-      others = refl;
+      others = ap (λ e. may_leave e t h.cells (worklist_at h t)) first ∙ none_marked (worklist_at h t) (λ q. fits.closing_work n q first closing);
+      edition = ap (λ e. edition_ok e (row_at h t) (Close n)) first;
       target = refl;
     })
   where
@@ -335,18 +361,19 @@ closings_go h t n reached stands closing =
     first_of_two false b x = absurd (true≢false (sym x))
 
 -- an active thread that has nothing left may begin to close
-pub leavings_begin : (h : Heap) (t : ℕ) → IsReached h → IsAtRest h t → (row_at h t).stage ≡ stages.Active
+pub leavings_begin : (h : Heap) (t : ℕ) → IsReached h → h.edition ≡ editions.One → IsAtRest h t → (row_at h t).stage ≡ stages.Active
     → is_bare (frame_at h t) ≡ true → is_unmarked (worklist_at h t) ≡ true → is_blank (popped_at h t) ≡ true
     → enabled h (record { thread = t; step = Close 0 }) ≡ true
-leavings_begin h t reached rest active bare unmarked blank =
+leavings_begin h t reached first rest active bare unmarked blank =
     let options = (reached_sound h reached).shaped.options in
     may_step h t (Close 0) (record {
       stands = rest.stands;
       stage = ap (λ g. stage_ok g (Close 0)) active;
       lock = ap (λ o. lock_ok o (Close 0)) rest.unlocked;
       hand = ap is_free_hand rest.hand;
-      own = and_both _ _ (and_both _ _ (and_both _ _ (and_both _ _ (lt-ltb 0 (words_for (length h.cells)) (omega (arith, options.enough))) (ap (λ g. closes_next g 0) active)) bare) unmarked) blank;
-      others = refl;
+      own = and_both _ _ (and_both _ _ (and_both _ _ (lt-ltb 0 (words_for (length h.cells)) (omega (arith, options.enough))) (ap (λ g. closes_next g 0) active)) bare) blank;
+      others = ap (λ e. may_leave e t h.cells (worklist_at h t)) first ∙ unmarked;
+      edition = ap (λ e. edition_ok e (row_at h t) (Close 0)) first;
       target = refl;
     })
 

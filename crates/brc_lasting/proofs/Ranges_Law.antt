@@ -1,13 +1,16 @@
 -- Numbers that a reached world holds are numbers of its own: owners are registered threads, entries are cells.
-use Rattle.std.proofs.Common.{◌≡◌, ℕ, ◌<◌, ◌≤◌, ◌==◌, ◌&&◌, nat_lt, Bool, true, false, if◌then◌else◌, List, [], ◌∷◌, length, Option, Some, None, refl, sym, ◌∙◌, ap, subst, inl, inr, arith, get_or-set_same, true≢false}
+use Rattle.std.proofs.Common.{◌≡◌, ℕ, ◌<◌, ◌≤◌, ◌==◌, ◌&&◌, nat_lt, Bool, true, false, if◌then◌else◌, List, [], ◌∷◌, length, Option, Some, None, refl, sym, ◌∙◌, ap, subst, inl, inr, arith, get_or-set_same, true≢false, ◌⊎◌}
 use Rattle.std.proofs.lemmas.List.{length-set, get_or_past, get_or-set_same}
-use Rattle.std.proofs.lemmas.Bool.{cases_lt, cases_eq, cases_Bool, and_parts, ltb-true, lt-ltb}
+use Rattle.std.proofs.lemmas.Bool.{cases_lt, cases_eq, cases_Bool, and_parts, ltb-true, lt-ltb, true≢false}
 use Rattle.std.specs.Prelude.{slice_get}
 use Rattle.brc_words.specs.declared.limits.TheConstants.{FIRST_MORTAL}
 use Rattle.brc_words.specs.declared.owner.Owner.{Owner}
 use Rattle.brc_words.specs.declared.owner.Owner.TheVariants as owners
 use Rattle.brc_runs.specs.Phases.{is_gripping, has_reference, merges, refers, role_of}
 use Rattle.brc_runs.specs.declared.cell.Cell.{Cell}
+use Rattle.brc_runs.specs.declared.edition.Edition.{Edition}
+use Rattle.brc_runs.specs.declared.row.Phase.TheVariants as phases
+use Rattle.brc_lasting.proofs.Reasons.{offered_alone}
 use Rattle.brc_runs.specs.declared.event.Event.{Event}
 use Rattle.brc_runs.specs.declared.event.Step.{Step}
 use Rattle.brc_runs.specs.declared.event.Step.TheVariants.{Claim, Birth, LocalUp, LocalDown, Free, Untie, Ask, Register, Gather}
@@ -16,10 +19,10 @@ use Rattle.brc_runs.specs.declared.row.Phase.{Phase}
 use Rattle.brc_runs.specs.declared.row.Role.{Role}
 use Rattle.brc_runs.specs.declared.row.Role.TheVariants as roles
 use Rattle.brc_runs.specs.Lists.{is_marked, one}
-use Rattle.brc_runs.specs.Heap.{Heap, opening, cell_at, entries_at, row_at, worklist_at, no_cell, is_immortal, is_registered, new_row, AreOptions}
-use Rattle.brc_runs.specs.Steps.{enabled, after, after_target, root_after, root_may, thread_may, target_at, cell_after, is_default}
+use Rattle.brc_runs.specs.Heap.{Heap, opening, cell_at, entries_at, row_at, worklist_at, no_cell, is_immortal, is_registered, new_row, AreOptions, opening_in, again_row}
+use Rattle.brc_runs.specs.Steps.{enabled, after, after_target, root_after, root_may, thread_may, target_at, cell_after, is_default, registered, registered_again}
 use Rattle.brc_runs.specs.Runs.{IsReached, IsRun, world_after}
-use Rattle.brc_runs.specs.Sound.{IsSound, held, grips}
+use Rattle.brc_runs.specs.Sound.{IsSound, held, grips, Offered}
 use Rattle.brc_lasting.specs.Ranges.{OwnerFits}
 use Rattle.brc_lasting.proofs.Lasting.{held_live, live_owner}
 use Rattle.brc_runs.proofs.Asking.{May, may_parts}
@@ -28,7 +31,7 @@ use Rattle.brc_runs.proofs.Changes.{read_there}
 use Rattle.brc_runs.proofs.Dropping.{held_by_entry}
 use Rattle.brc_runs.proofs.Counting.{held_unmarked}
 use Rattle.brc_runs.proofs.Merging.{hand_grips, carried_held}
-use Rattle.brc_runs.proofs.Naming.{grips_once, one-false, busy_carrier, sole_grip}
+use Rattle.brc_runs.proofs.Naming.{grips_once, one-false, busy_carrier, sole_grip, ungripped}
 use Rattle.brc_runs.proofs.Reached.{reached_sound}
 use Rattle.brc_runs.proofs.Registering.{length-push}
 
@@ -76,7 +79,11 @@ target_owners h t s (Some c) low inside fits d = still_fits (length h.rows) _ _ 
 
 root_owners : (h : Heap) (s : Step) → Owners h → Owners (root_after h s)
 unfolding Owners
-root_owners h (Register u) fits d = still_fits _ _ _ (omega (arith, length-push h.rows new_row)) (fits d)
+root_owners h (Register u) fits d = by_number (nat_lt u (length h.rows))
+  where
+    by_number : (b : Bool) → OwnerFits (length (if b then registered_again h u else registered h).rows) (cell_at (if b then registered_again h u else registered h) d).owner
+    by_number true = still_fits (length h.rows) _ _ (omega (arith, length-set h.rows u again_row)) (fits d)
+    by_number false = still_fits (length h.rows) _ _ (omega (arith, length-push h.rows new_row)) (fits d)
 root_owners h (Gather u) fits d = fits d
 root_owners h _ fits d = fits d
 
@@ -90,25 +97,29 @@ event_owners h e ok fits =
           subst (λ b. Owners (if b then root_after h e.step else moved)) (sym thread) (target_owners h e.thread e.step (target_at h e.thread e.step) may.some_thread may.inside fits)
     ]
 
-opening_owners : (cells limit : ℕ) → AreOptions cells limit → Owners (opening cells limit)
+opening_owners : (edition : Edition) (cells limit : ℕ) → AreOptions cells limit → Owners (opening_in edition cells limit)
 unfolding Owners
-opening_owners cells limit options c = elim (cases_lt c FIRST_MORTAL) [
+opening_owners edition cells limit options c = elim (cases_lt c FIRST_MORTAL) [
   | inl low ↦ subst (λ (x : Cell). OwnerFits 1 x.owner) (sym (immortal_cell cells c (omega (arith, options.enough)) low)) tt
   | inr high ↦ subst (λ (x : Cell). OwnerFits 1 x.owner) (sym (free_cell cells c high)) tt
 ]
 
-run_owners : (cells limit : ℕ) (run : List Event) → AreOptions cells limit → IsRun (opening cells limit) run → Owners (world_after (opening cells limit) run)
-run_owners cells limit [] options is_run = opening_owners cells limit options
-run_owners cells limit (e ∷ run) options is_run = event_owners (world_after (opening cells limit) run) e is_run.1 (run_owners cells limit run options is_run.0)
+run_owners : (edition : Edition) (cells limit : ℕ) (run : List Event) → AreOptions cells limit → IsRun (opening_in edition cells limit) run → Owners (world_after (opening_in edition cells limit) run)
+run_owners edition cells limit [] options is_run = opening_owners edition cells limit options
+run_owners edition cells limit (e ∷ run) options is_run = event_owners (world_after (opening_in edition cells limit) run) e is_run.1 (run_owners edition cells limit run options is_run.0)
 
 pub reached_owners : (h : Heap) → IsReached h → (c : ℕ) → OwnerFits (length h.rows) (cell_at h c).owner
 unfolding Owners
-reached_owners h reached = subst (λ (w : Heap). (c : ℕ) → OwnerFits (length w.rows) (cell_at w c).owner) reached.leads_here (run_owners reached.cells reached.limit reached.run reached.options reached.is_run)
+reached_owners h reached = subst (λ (w : Heap). (c : ℕ) → OwnerFits (length w.rows) (cell_at w c).owner) reached.leads_here (run_owners reached.edition reached.cells reached.limit reached.run reached.options reached.is_run)
 
 -- ---- registered numbers
 
 root_rows : (h : Heap) (s : Step) → length h.rows ≤ length (root_after h s).rows
-root_rows h (Register u) = omega (arith, length-push h.rows new_row)
+root_rows h (Register u) = by_number (nat_lt u (length h.rows))
+  where
+    by_number : (b : Bool) → length h.rows ≤ length (if b then registered_again h u else registered h).rows
+    by_number true = omega (arith, length-set h.rows u again_row)
+    by_number false = omega (arith, length-push h.rows new_row)
 root_rows h (Gather u) = omega arith
 root_rows h _ = omega arith
 
@@ -156,7 +167,12 @@ hand_unmarked h t s c p reached busy =
     let sound : IsSound h = reached_sound h reached in
     let mortal : FIRST_MORTAL ≤ c = (sound.hands t c p busy).mortal in
     elim (cases_Bool (is_gripping p)) [
-      | inr off ↦ one-false _ (held_unmarked h s c sound (carried_held h t c (busy_carrier p c _ (not_gripping p off) busy)))
+      | inr off ↦ elim (not_gripping p off) [
+        | inl has ↦ one-false _ (held_unmarked h s c sound (carried_held h t c (busy_carrier p c _ has busy)))
+        | inr offers ↦
+            let at : (row_at h t).hand ≡ hands.Busy phases.Offered c = busy ∙ ap (λ q. hands.Busy q c) offers in
+            one-false _ (ungripped h c (offered_alone h t c sound at (offered_owner h t c sound at)) s).mark
+      ]
       | inl grip ↦
           let own : one (grips c (row_at h t).hand) ≡ 1 = hand_grips h t c p busy grip in
           elim (cases_eq s t) [
@@ -165,17 +181,24 @@ hand_unmarked h t s c p reached busy =
           ]
     ]
   where
-    not_gripping : (p : Phase) → is_gripping p ≡ false → has_reference p ≡ true
-    not_gripping p = by_role (role_of p)
-      where
-        by_role : (r : Role) → merges r ≡ false → refers r ≡ true
-        by_role roles.Carries off = refl
-        by_role _ off = absurd (true≢false off)
+    not_gripping : (q : Phase) → is_gripping q ≡ false → (has_reference q ≡ true) ⊎ (q ≡ phases.Offered)
+    not_gripping phases.Asked off = inl refl
+    not_gripping phases.Shut off = inl refl
+    not_gripping phases.Held off = inl refl
+    not_gripping phases.Offered off = inr refl
+    not_gripping _ off = absurd (true≢false off)
+
+    offered_owner : (h : Heap) (t c : ℕ) → IsSound h → (row_at h t).hand ≡ hands.Busy phases.Offered c → (cell_at h c).owner ≡ owners.Thread t
+    offered_owner h t c sound at = let fits : Offered t (cell_at h c) = (sound.hands t c phases.Offered at).fits in fits.owner
 
 -- ---- what stays
 
 root_limit : (h : Heap) (s : Step) → (root_after h s).limit ≡ h.limit
-root_limit h (Register u) = refl
+root_limit h (Register u) = by_number (nat_lt u (length h.rows))
+  where
+    by_number : (b : Bool) → (if b then registered_again h u else registered h).limit ≡ h.limit
+    by_number true = refl
+    by_number false = refl
 root_limit h (Gather u) = refl
 root_limit h _ = refl
 

@@ -1,6 +1,6 @@
 -- Which cell an event writes, and why its thread may: the thread holds it, grips it, or claims it.
-use Rattle.std.proofs.Common.{◌≡◌, ℕ, ◌+◌, ◌≤◌, ◌==◌, Bool, true, false, if◌then◌else◌, [], get_or, set, Option, Some, None, refl, sym, ◌∙◌, ap, subst, inl, inr, ◌⊎◌, arith}
-use Rattle.std.proofs.lemmas.Bool.{cases_eq, cases_Bool, eqb-true, and_parts}
+use Rattle.std.proofs.Common.{◌≡◌, ℕ, ◌+◌, ◌≤◌, ◌==◌, Bool, true, false, if◌then◌else◌, [], get_or, set, Option, Some, None, refl, sym, ◌∙◌, ap, subst, inl, inr, ◌⊎◌, arith, nat_lt, length}
+use Rattle.std.proofs.lemmas.Bool.{cases_eq, cases_Bool, eqb-true, and_parts, not-true, ne_eqb}
 use Rattle.brc_words.specs.declared.limits.TheConstants.{FIRST_MORTAL}
 use Rattle.brc_words.specs.declared.kind.Kind.{Kind}
 use Rattle.brc_words.specs.declared.owner.Owner.TheVariants as owners
@@ -11,18 +11,18 @@ use Rattle.brc_runs.specs.declared.event.Dropped.{Dropped}
 use Rattle.brc_runs.specs.declared.event.Dropped.TheVariants as dropped
 use Rattle.brc_runs.specs.declared.event.LastDropped.TheVariants as lasts
 use Rattle.brc_runs.specs.declared.event.Step.{Step}
-use Rattle.brc_runs.specs.declared.event.Step.TheVariants.{Claim, InitLocal, InitShared, Birth, LocalUp, LocalDown, SeeZero, Free, Untie, MergeZero, SharedUp, SharedDown, Ask, LastDown, Enqueue, Drain, MergeAdd, Close, Nudge, Wake, Lock, Unlock, Register, Gather}
+use Rattle.brc_runs.specs.declared.event.Step.TheVariants.{Claim, InitLocal, InitShared, Birth, LocalUp, LocalDown, SeeZero, Free, Untie, MergeZero, SharedUp, SharedDown, Ask, LastDown, Enqueue, Drain, MergeAdd, Close, Nudge, Wake, Lock, Unlock, Register, Gather, Offer, Reopen}
 use Rattle.brc_runs.specs.declared.row.Hand.TheVariants as hands
 use Rattle.brc_runs.specs.declared.row.Phase.{Phase}
 use Rattle.brc_runs.specs.declared.row.Phase.TheVariants as phases
 use Rattle.brc_runs.specs.Lists.{one, is_marked}
 use Rattle.brc_runs.specs.Heap.{Heap, cell_at, entries_at, row_at, frame_at, worklist_at, no_cell}
-use Rattle.brc_runs.specs.Steps.{enabled, after, after_target, root_after, thread_may, target_at, target_ok, cell_after, entries_without, entries_after, root_may, dropped_cell, locked_cell, is_at, is_default}
-use Rattle.brc_runs.specs.Sound.{IsSound, grips, held}
-use Rattle.brc_runs.proofs.Naming.{second, busy_hand, busy_carrier, free_owner, one-true}
-use Rattle.brc_runs.proofs.Asking.{May, may_parts, OnCell, on_cell, at_end, shut_out, from_queue, untie_way}
+use Rattle.brc_runs.specs.Steps.{enabled, after, after_target, root_after, thread_may, target_at, target_ok, cell_after, entries_without, entries_after, root_may, dropped_cell, locked_cell, is_at, is_default, registered, registered_again}
+use Rattle.brc_runs.specs.Sound.{IsSound, grips, held, gripped, HandFits, Offered, grips_by_owner}
+use Rattle.brc_runs.proofs.Naming.{second, busy_hand, busy_carrier, free_owner, one-true, third, thread_owner, free_hand, grips_free}
+use Rattle.brc_runs.proofs.Asking.{May, may_parts, OnCell, on_cell, at_end, shut_out, from_queue, untie_way, handed_over}
 use Rattle.brc_runs.proofs.Changes.{read_here, read_there}
-use Rattle.brc_runs.proofs.Merging.{hand_grips, carried_held, popped_held}
+use Rattle.brc_runs.proofs.Merging.{hand_grips, carried_held, popped_held, owner_alone}
 use Rattle.brc_runs.proofs.Sharing.{ending_hand, ending_reference}
 use Rattle.brc_runs.proofs.Dropping.{held_by_place, source_held, dropped_held}
 
@@ -34,7 +34,11 @@ pub record At (h : Heap) (e : Event) (c : ℕ) : Type 0 where
 -- ---- the cell that an event writes
 
 root_cells : (h : Heap) (s : Step) (c : ℕ) → cell_at (root_after h s) c ≡ cell_at h c
-root_cells h (Register u) c = refl
+root_cells h (Register u) c = by_number (nat_lt u (length h.rows))
+  where
+    by_number : (b : Bool) → cell_at (if b then registered_again h u else registered h) c ≡ cell_at h c
+    by_number true = refl
+    by_number false = refl
 root_cells h (Gather u) c = refl
 root_cells h _ c = refl
 
@@ -80,12 +84,19 @@ pub grip_of : (h : Heap) (u c : ℕ) → Grips h u c → 1 ≤ one (is_marked (w
 unfolding Grips
 grip_of h u c grip = grip
 
--- claimed, held, or gripped
+-- claimed, held, gripped, or its own and gripped by nobody
 abbrev pub Reason : Heap → ℕ → Step → ℕ → Type 0
-Reason h u s c = ((s ≡ Claim c) × ((cell_at h c).owner ≡ owners.Free)) ⊎ ((1 ≤ held h c) ⊎ Grips h u c)
+Reason h u s c = ((s ≡ Claim c) × ((cell_at h c).owner ≡ owners.Free)) ⊎ ((1 ≤ held h c) ⊎ (Grips h u c ⊎ (gripped h c ≡ 0)))
 
 hand_reason : (h : Heap) (u c : ℕ) (s : Step) (p : Phase) → is_at p c (row_at h u).hand ≡ true → is_gripping p ≡ true → Reason h u s c
-hand_reason h u c s p at gripping = inr (inr (by_grip h u c (omega (arith, hand_grips h u c p (busy_hand p c _ at) gripping))))
+hand_reason h u c s p at gripping = inr (inr (inl (by_grip h u c (omega (arith, hand_grips h u c p (busy_hand p c _ at) gripping)))))
+
+-- what a hand is about to hand over is gripped by nobody
+pub offered_alone : (h : Heap) (u c : ℕ) → IsSound h → (row_at h u).hand ≡ hands.Busy phases.Offered c → (cell_at h c).owner ≡ owners.Thread u → gripped h c ≡ 0
+offered_alone h u c sound busy owner =
+    let said : HandFits h u phases.Offered c = sound.hands u c phases.Offered busy in
+    let offer : Offered u (cell_at h c) = said.fits in
+    sound.gripped c said.mortal ∙ ap (λ o. grips_by_owner o (cell_at h c).state (cell_at h c).local (cell_at h c).count) owner ∙ ap one (ne_eqb (cell_at h c).local 0 (λ e. omega (arith, e, offer.local)))
 
 pub step_reason : (h : Heap) (u : ℕ) (s : Step) (c : ℕ) → IsSound h → May h u s → target_at h u s ≡ Some c → FIRST_MORTAL ≤ c → Reason h u s c
 step_reason h u (Claim d) c sound may named mortal =
@@ -100,12 +111,13 @@ step_reason h u (LocalDown drop) c sound may named mortal = inr (inl (dropped_he
 step_reason h u (SeeZero d) c sound may named mortal = let e : d ≡ c = cc in subst (Reason h u (SeeZero d)) e (hand_reason h u d (SeeZero d) phases.Zero may.hand refl)
 step_reason h u (Free d) c sound may named mortal =
     let e : d ≡ c = cc in
-    subst (Reason h u (Free d)) e (inr (inr (by_grip h u d (omega (arith, one-true (is_marked (worklist_at h u) d) (and_parts _ _ may.own).0)))))
+    subst (Reason h u (Free d)) e (inr (inr (inl (by_grip h u d (omega (arith, one-true (is_marked (worklist_at h u) d) (and_parts _ _ may.own).0))))))
 step_reason h u (Untie d) c sound may named mortal =
     let e : d ≡ c = cc in
     subst (Reason h u (Untie d)) e (elim (untie_way h u d sound may) [
-      | at_end busy owner ↦ inr (inr (by_grip h u d (omega (arith, hand_grips h u d phases.Over busy refl))))
-      | shut_out busy some ↦ inr (inl (carried_held h u d (busy_carrier phases.Shut d _ refl busy)))
+      | at_end busy owner ↦ inr (inr (inl (by_grip h u d (omega (arith, hand_grips h u d phases.Over busy refl)))))
+      | handed_over busy owner ↦ inr (inr (inr (offered_alone h u d sound busy owner)))
+      | shut_out busy some first ↦ inr (inl (carried_held h u d (busy_carrier phases.Shut d _ refl busy)))
       | from_queue free on owner ↦ inr (inl (popped_held h u d on))
     ])
 step_reason h u (MergeZero d) c sound may named mortal = let e : d ≡ c = cc in subst (Reason h u (MergeZero d)) e (hand_reason h u d (MergeZero d) phases.Untied may.hand refl)
@@ -127,9 +139,18 @@ step_reason h u (MergeAdd d) c sound may named mortal =
     let e : d ≡ c = cc in
     subst (Reason h u (MergeAdd d)) e (elim (cases_Bool (is_at phases.Taking d (row_at h u).hand)) [
       | inl taking ↦ hand_reason h u d (MergeAdd d) phases.Taking taking refl
-      | inr off ↦ hand_reason h u d (MergeAdd d) phases.Popping (second _ _ off may.hand) refl
+      | inr off ↦ elim (cases_Bool (is_at phases.Popping d (row_at h u).hand)) [
+        | inl popping ↦ hand_reason h u d (MergeAdd d) phases.Popping popping refl
+        | inr still ↦ hand_reason h u d (MergeAdd d) phases.Yielding (third _ _ _ off still may.hand) refl
+      ]
     ])
 step_reason h u (Close k) c sound may named mortal = absurd (cc)
+step_reason h u (Reopen k) c sound may named mortal = absurd (cc)
+step_reason h u (Offer d) c sound may named mortal =
+    let e : d ≡ c = cc in
+    let at_cell : OnCell h u (Offer d) d = on_cell h u (Offer d) d may.on_target in
+    let hand : (row_at h u).hand ≡ hands.Free = free_hand _ may.hand in
+    subst (Reason h u (Offer d)) e (inr (inr (inr (owner_alone h u d sound (subst (λ i. FIRST_MORTAL ≤ i) (sym e) mortal) (thread_owner u _ at_cell.fits) (not-true _ may.own) (grips_free d _ hand)))))
 step_reason h u (Nudge v k) c sound may named mortal = absurd (cc)
 step_reason h u Wake c sound may named mortal = absurd (cc)
 step_reason h u (Lock k) c sound may named mortal = inr (inl (held_by_place h u k c named))
@@ -149,7 +170,11 @@ Meddles h e c = ((kind : Kind) × (k : ℕ) × (e.step ≡ Birth c kind k) × Ma
     ⊎ (((change : Change) × (e.step ≡ Unlock change) × At h e c) ⊎ (is_marked (worklist_at h e.thread) c ≡ true))
 
 root_entries : (h : Heap) (s : Step) (c : ℕ) → entries_at (root_after h s) c ≡ entries_at h c
-root_entries h (Register u) c = refl
+root_entries h (Register u) c = by_number (nat_lt u (length h.rows))
+  where
+    by_number : (b : Bool) → entries_at (if b then registered_again h u else registered h) c ≡ entries_at h c
+    by_number true = refl
+    by_number false = refl
 root_entries h (Gather u) c = refl
 root_entries h _ c = refl
 

@@ -7,15 +7,17 @@ use Rattle.std.proofs.lemmas.Nat.Bits.{bit_at-zero}
 use Rattle.std.specs.Int.{bit_at}
 use Rattle.brc_words.specs.declared.kind.Kind.{Kind}
 use Rattle.brc_runs.specs.declared.cell.Cell.{Cell}
+use Rattle.brc_runs.specs.declared.edition.Edition.TheVariants as editions
+use Rattle.brc_runs.proofs.Reusing.{fresh, reused, registers}
 use Rattle.brc_runs.specs.declared.event.Event.{Event}
 use Rattle.brc_runs.specs.declared.event.Step.{Step}
-use Rattle.brc_runs.specs.declared.event.Step.TheVariants.{Birth, SeeZero, Free, MergeZero, LastDown, Enqueue, Register, Gather}
+use Rattle.brc_runs.specs.declared.event.Step.TheVariants.{Birth, SeeZero, Free, MergeZero, LastDown, Enqueue, Register, Gather, MergeAdd}
 use Rattle.brc_runs.specs.declared.event.LastDropped.TheVariants as lasts
 use Rattle.brc_runs.specs.declared.row.Phase.TheVariants as phases
 use Rattle.brc_runs.specs.declared.row.Stage.TheVariants as stages
 use Rattle.brc_runs.specs.Lists.{is_marked, bit_of, with_bit}
 use Rattle.brc_runs.specs.Heap.{Heap, opening, cell_at, row_at, popped_at, worklist_at, queue_at, is_gathered, no_cell, AreOptions}
-use Rattle.brc_runs.specs.Steps.{enabled, after, after_target, root_after, root_may, thread_may, target_at, cell_after, worklist_after, takes_block, is_active, is_closed, is_shut, queues_after, target_ok, locked_at}
+use Rattle.brc_runs.specs.Steps.{enabled, after, after_target, root_after, root_may, thread_may, target_at, cell_after, worklist_after, takes_block, is_active, is_closed, is_shut, queues_after, target_ok, locked_at, is_at}
 use Rattle.brc_runs.specs.Runs.{IsRun, IsReached, world_after}
 use Rattle.brc_runs.specs.Sound.{IsSound, held}
 use Rattle.brc_lasting.specs.Staying.{is_about, AreAnothers, Lasts, HoldsNothing}
@@ -27,7 +29,7 @@ use Rattle.brc_runs.proofs.Merging.{popped_held}
 use Rattle.brc_runs.proofs.Sharing.{ending_hand}
 use Rattle.brc_runs.proofs.Registering.{push_else}
 use Rattle.brc_runs.proofs.Asking.{May, may_parts, on_cell}
-use Rattle.brc_runs.proofs.Naming.{no_bit, busy_hand, one-false}
+use Rattle.brc_runs.proofs.Naming.{no_bit, busy_hand, one-false, third}
 use Rattle.brc_lasting.proofs.Lasting.{unheld_unlocked, other_number, not_bearing, held_live, locked_mutex}
 use Rattle.brc_lasting.proofs.Ranges_Law.{hand_unmarked}
 use Rattle.brc_runs.proofs.Reached.{event_sound, reached_sound}
@@ -36,7 +38,7 @@ use Rattle.brc_runs.proofs.Reached.{event_sound, reached_sound}
 
 -- each world of a run is reached
 pub run_reached : (cells limit : ℕ) (run : List Event) → AreOptions cells limit → IsRun (opening cells limit) run → IsReached (world_after (opening cells limit) run)
-run_reached cells limit run options is_run = record { cells = cells; limit = limit; options = options; run = run; is_run = is_run; leads_here = refl }
+run_reached cells limit run options is_run = record { edition = editions.One; cells = cells; limit = limit; options = options; run = run; is_run = is_run; leads_here = refl }
 
 -- what lasts over one event of another's lasts over any number of them
 pub lasts_over : (t : ℕ) (P : Heap → Type 0) → Lasts t P → (cells limit : ℕ) (later earlier : List Event) → AreOptions cells limit → AreAnothers t later → IsRun (opening cells limit) (later ++ earlier)
@@ -53,12 +55,14 @@ taken_mutex : (t : ℕ) (s : Step) (c : ℕ) (x : Cell) → takes_block s x ≡ 
 taken_mutex t (SeeZero d) c x takes = refl
 taken_mutex t (MergeZero d) c x takes = refl
 taken_mutex t (LastDown last) c x takes = refl
+taken_mutex t (MergeAdd d) c x takes = refl
 taken_mutex t _ c x takes = absurd (true≢false (sym takes))
 
 taken_work : (s : Step) (c : ℕ) (x : Cell) (worklist : List Bool) → takes_block s x ≡ true → worklist_after s c x worklist ≡ set worklist c true
 taken_work (Free d) c x worklist takes = absurd (true≢false (sym takes))
 taken_work (SeeZero d) c x worklist takes = ap (λ b. if b then set worklist c true else worklist) takes
 taken_work (MergeZero d) c x worklist takes = ap (λ b. if b then set worklist c true else worklist) takes
+taken_work (MergeAdd d) c x worklist takes = ap (λ b. if b then set worklist c true else worklist) takes
 taken_work (LastDown last) c x worklist takes = ap (λ b. if b then set worklist c true else worklist) takes
 taken_work _ c x worklist takes = absurd (true≢false (sym takes))
 
@@ -95,6 +99,15 @@ taken_unmarked h t (LastDown (lasts.Popped d)) c u reached may named takes =
 taken_unmarked h t (LastDown lasts.Hand) c u reached may named takes =
     let hand = ending_hand (row_at h t).hand c may.hand named in
     hand_unmarked h t u c hand.0 reached hand.1
+taken_unmarked h t (MergeAdd d) c u reached may named takes =
+    let e : d ≡ c = cc in
+    ap (is_marked (worklist_at h u)) (sym e) ∙ elim (cases_Bool (is_at phases.Taking d (row_at h t).hand)) [
+      | inl taking ↦ hand_unmarked h t u d phases.Taking reached (busy_hand phases.Taking d _ taking)
+      | inr off ↦ elim (cases_Bool (is_at phases.Popping d (row_at h t).hand)) [
+        | inl popping ↦ hand_unmarked h t u d phases.Popping reached (busy_hand phases.Popping d _ popping)
+        | inr still ↦ hand_unmarked h t u d phases.Yielding reached (busy_hand phases.Yielding d _ (third _ _ _ off still may.hand))
+      ]
+    ]
 taken_unmarked h t _ c u reached may named takes = absurd (true≢false (sym takes))
 
 -- a thread's event, test by test
@@ -157,9 +170,10 @@ queued_lasts t q h e reached ok others on =
     ]
   where
     by_root : (s : Step) → root_may h s ≡ true → is_about t s ≡ false → IsSound h → bit_of (queue_at (root_after h s) t) q ≡ 1
-    by_root (Register u) ok apart sound =
-        let next : u ≡ length h.rows = eqb-true u (length h.rows) (and_parts _ _ ok).0 in
-        ap (λ ws. bit_of ws q) (push_else h.queues _ [] t (λ same. other_number u t apart (same ∙ sound.shaped.queues ∙ sym next))) ∙ on
+    by_root (Register u) ok apart sound = elim (registers h u sound ok) [
+      | fresh next most few is ↦ ap (λ w. bit_of (queue_at w t) q) is ∙ ap (λ ws. bit_of ws q) (push_else h.queues _ [] t (λ same. other_number u t apart (same ∙ sound.shaped.queues ∙ sym next))) ∙ on
+      | reused v few is ↦ ap (λ w. bit_of (queue_at w t) q) is ∙ ap (λ (ws : List ℕ). bit_of ws q) (read_there h.queues u t _ [] (other_number u t apart)) ∙ on
+    ]
     by_root (Gather u) ok apart sound = on
     by_root _ ok apart sound = on
 

@@ -8,22 +8,25 @@ use Rattle.brc_words.specs.declared.state.State.{State}
 use Rattle.brc_words.specs.declared.state.State.TheVariants as states
 use Rattle.brc_runs.specs.Phases.{is_gripping}
 use Rattle.brc_runs.specs.declared.cell.Cell.{Cell}
+use Rattle.brc_runs.specs.declared.edition.Edition.{Edition}
+use Rattle.brc_runs.specs.declared.edition.Edition.TheVariants as editions
+use Rattle.brc_runs.specs.declared.row.Stage.{Stage}
 use Rattle.brc_runs.specs.declared.event.Event.{Event}
 use Rattle.brc_runs.specs.declared.event.Step.{Step}
-use Rattle.brc_runs.specs.declared.event.Step.TheVariants.{Claim, InitLocal, InitShared, Birth, LocalUp, LocalDown, SeeZero, Free, Untie, MergeZero, SharedUp, SharedDown, Ask, LastDown, Enqueue, Drain, MergeAdd, Close, Nudge, Wake, Lock, Unlock, Register, Gather}
+use Rattle.brc_runs.specs.declared.event.Step.TheVariants.{Claim, InitLocal, InitShared, Birth, LocalUp, LocalDown, SeeZero, Free, Untie, MergeZero, SharedUp, SharedDown, Ask, LastDown, Enqueue, Drain, MergeAdd, Close, Nudge, Wake, Lock, Unlock, Register, Gather, Offer, Reopen}
 use Rattle.brc_runs.specs.declared.row.Row.{Row}
 use Rattle.brc_runs.specs.declared.row.Hand.TheVariants as hands
 use Rattle.brc_runs.specs.declared.row.Phase.{Phase}
 use Rattle.brc_runs.specs.declared.row.Phase.TheVariants as phases
 use Rattle.brc_runs.specs.Lists.{one, is_marked, bit_of}
 use Rattle.brc_runs.specs.Heap.{Heap, cell_at, row_at, popped_at, worklist_at, no_row, is_immortal}
-use Rattle.brc_runs.specs.Steps.{enabled, after, target_at, cell_after, is_at, is_active, is_default, is_merged, is_mine, is_nobody, is_zero, counts_up_locally, target_ok}
+use Rattle.brc_runs.specs.Steps.{enabled, after, target_at, cell_after, is_at, is_active, is_default, is_merged, is_mine, is_nobody, is_zero, counts_up_locally, target_ok, is_closed}
 use Rattle.brc_runs.specs.Runs.{IsReached}
 use Rattle.brc_runs.specs.Holding.{carries, lives}
-use Rattle.brc_runs.specs.Sound.{IsSound, HandFits, WorklistFits, Untied, grips, grips_by_owner, gripped, held, asks}
+use Rattle.brc_runs.specs.Sound.{IsSound, HandFits, WorklistFits, Untied, grips, grips_by_owner, gripped, held, asks, Offered, Yielding, ShutFits}
 use Rattle.brc_lasting.specs.Staying.{Lasts, SameOwn, Owns, Merges, Adopts, PoppedOwn, Tells, PoppedTells}
-use Rattle.brc_runs.proofs.Naming.{second, merged_state, nobody_owner, Ungripped, sole_grip, one-le, one-true, sum_one, sum_two, no_bit, busy_hand, busy_carrier, free_owner}
-use Rattle.brc_runs.proofs.Asking.{May, OnCell, on_cell, Mine, mine, at_end, shut_out, from_queue, untie_way}
+use Rattle.brc_runs.proofs.Naming.{second, merged_state, nobody_owner, Ungripped, sole_grip, one-le, one-true, sum_one, sum_two, no_bit, busy_hand, busy_carrier, free_owner, third}
+use Rattle.brc_runs.proofs.Asking.{May, OnCell, on_cell, Mine, mine, at_end, shut_out, from_queue, untie_way, handed_over}
 use Rattle.brc_runs.proofs.Merging.{hand_grips, hand_gripped, gripped_local, gripped_unmerged, carried_held, popped_held, held_owner, closed_idle, active_now, live_thread}
 use Rattle.brc_lasting.proofs.Reasons.{event_cell}
 use Rattle.brc_lasting.proofs.Lasting.{others_own, not_bearing}
@@ -72,12 +75,13 @@ untier h c sound mortal owner unmerged =
 
 -- and it is a hand that has let it go and not yet added its counts
 Unties : Heap → ℕ → ℕ → Phase → Type 0
-Unties h u c p = ((row_at h u).hand ≡ hands.Busy p c) × ((p ≡ phases.Untied) ⊎ ((p ≡ phases.Taking) ⊎ (p ≡ phases.Popping)))
+Unties h u c p = ((row_at h u).hand ≡ hands.Busy p c) × ((p ≡ phases.Untied) ⊎ ((p ≡ phases.Taking) ⊎ ((p ≡ phases.Popping) ⊎ (p ≡ phases.Yielding))))
 
-untying_phase : (h : Heap) (u c : ℕ) (p : Phase) → (cell_at h c).owner ≡ owners.Nobody → is_gripping p ≡ true → HandFits h u p c → (p ≡ phases.Untied) ⊎ ((p ≡ phases.Taking) ⊎ (p ≡ phases.Popping))
+untying_phase : (h : Heap) (u c : ℕ) (p : Phase) → (cell_at h c).owner ≡ owners.Nobody → is_gripping p ≡ true → HandFits h u p c → (p ≡ phases.Untied) ⊎ ((p ≡ phases.Taking) ⊎ ((p ≡ phases.Popping) ⊎ (p ≡ phases.Yielding)))
 untying_phase h u c phases.Untied owner grip fits = inl refl
 untying_phase h u c phases.Taking owner grip fits = inr (inl refl)
-untying_phase h u c phases.Popping owner grip fits = inr (inr refl)
+untying_phase h u c phases.Popping owner grip fits = inr (inr (inl refl))
+untying_phase h u c phases.Yielding owner grip fits = inr (inr (inr refl))
 untying_phase h u c phases.Claimed owner grip fits = absurd (let e : owners.Nobody ≡ owners.Claimed u = sym owner ∙ fits.fits.claimed in cc)
 untying_phase h u c phases.Counted owner grip fits = absurd (let e : owners.Nobody ≡ owners.Claimed u = sym owner ∙ fits.fits.0.claimed in cc)
 untying_phase h u c phases.Ready owner grip fits = absurd (let e : owners.Nobody ≡ owners.Claimed u = sym owner ∙ fits.fits.0.claimed in cc)
@@ -108,26 +112,7 @@ shut_tells h t c sound busy =
           let thread : (s : ℕ) × ((cell_at h c).owner ≡ owners.Thread s) = live_thread (cell_at h c).owner live owned in
           inr (thread.0, thread.1, between (cell_at h c).state asked ((sound.cells c said.mortal).owned_unmerged thread.0 thread.1))
       | inl nobody ↦
-          let owner : (cell_at h c).owner ≡ owners.Nobody = nobody_owner (cell_at h c).owner nobody in
-          elim (cases_Bool (is_merged (cell_at h c).state)) [
-            | inl merged ↦ inl (owner, merged_state (cell_at h c).state merged)
-            | inr unmerged ↦
-                let who : (u : ℕ) × (p : Phase) × Unties h u c p = who_unties h c sound said.mortal owner unmerged some in
-                absurd (elim who.2.1 [
-                  | inl untied ↦
-                      let at : (row_at h who.0).hand ≡ hands.Busy phases.Untied c = who.2.0 ∙ ap (λ q. hands.Busy q c) untied in
-                      let fits : Untied who.0 (cell_at h c) = (sound.hands who.0 c phases.Untied at).fits in
-                      true≢false (sym (active_now h who.0 c phases.Untied sound at refl) ∙ ap (λ b. is_active (row_at h b).stage) (sym fits.bearer) ∙ closed_idle _ (c / 32) said.fits)
-                  | inr more ↦ elim more [
-                    | inl taking ↦
-                        let at : (row_at h who.0).hand ≡ hands.Busy phases.Taking c = who.2.0 ∙ ap (λ q. hands.Busy q c) taking in
-                        two_carry h t who.0 c sound said.mortal (λ same. let bad : hands.Busy phases.Taking c ≡ hands.Busy phases.Shut c = sym at ∙ ap (λ i. (row_at h i).hand) same ∙ busy in cc) carried (busy_carrier phases.Taking c _ refl at)
-                    | inr popping ↦
-                        let at : (row_at h who.0).hand ≡ hands.Busy phases.Popping c = who.2.0 ∙ ap (λ q. hands.Busy q c) popping in
-                        carry_popped h t who.0 c sound said.mortal carried (sound.hands who.0 c phases.Popping at).fits.1
-                  ]
-                ])
-          ]
+          inl (nobody_owner (cell_at h c).owner nobody, asked)
     ]
 
 -- a hand that merges an asked object finds it queued
@@ -167,6 +152,8 @@ sound_tells h t c phases.Taking sound busy =
 sound_tells h t c phases.Held sound busy =
     let said : HandFits h t phases.Held c = sound.hands t c phases.Held busy in
     (merged_nobody h c sound said.mortal (held_owner h c sound said.mortal (carried_held h t c (busy_carrier phases.Held c _ refl busy))) said.fits, said.fits)
+sound_tells h t c phases.Offered sound busy = let fits : Offered t (cell_at h c) = (sound.hands t c phases.Offered busy).fits in (fits.owner, fits.local, fits.state)
+sound_tells h t c phases.Yielding sound busy = let fits : Yielding t (cell_at h c) = (sound.hands t c phases.Yielding busy).fits in (fits.owner, fits.state)
 sound_tells h t c phases.Popping sound busy =
     let said : HandFits h t phases.Popping c = sound.hands t c phases.Popping busy in
     (said.fits.0, merging_tells h t c phases.Popping sound busy refl said.mortal said.fits.0 (popped_held h t c said.fits.1) (popped_asks h t c said.fits.1))
@@ -202,9 +189,15 @@ sound_popped h t c sound free popped =
                 | inl taking ↦
                     let at : (row_at h who.0).hand ≡ hands.Busy phases.Taking c = who.2.0 ∙ ap (λ q. hands.Busy q c) taking in
                     carry_popped h who.0 t c sound bit.0 (busy_carrier phases.Taking c _ refl at) popped
-                | inr popping ↦
-                    let at : (row_at h who.0).hand ≡ hands.Busy phases.Popping c = who.2.0 ∙ ap (λ q. hands.Busy q c) popping in
-                    his who.0 phases.Popping at (sound.bits who.0 c (omega (arith, (sound.hands who.0 c phases.Popping at).fits.1))).1
+                | inr rest ↦ elim rest [
+                  | inl popping ↦
+                      let at : (row_at h who.0).hand ≡ hands.Busy phases.Popping c = who.2.0 ∙ ap (λ q. hands.Busy q c) popping in
+                      his who.0 phases.Popping at (sound.bits who.0 c (omega (arith, (sound.hands who.0 c phases.Popping at).fits.1))).1
+                  | inr yielding ↦
+                      let at : (row_at h who.0).hand ≡ hands.Busy phases.Yielding c = who.2.0 ∙ ap (λ q. hands.Busy q c) yielding in
+                      let fits : Yielding who.0 (cell_at h c) = (sound.hands who.0 c phases.Yielding at).fits in
+                      his who.0 phases.Yielding at fits.bearer
+                ]
               ]
             ])
       ])
@@ -271,6 +264,8 @@ fixed_step h u (Enqueue d) c sound may named kept = fixed_all (cell_at h c)
 fixed_step h u (Drain k) c sound may named kept = fixed_all (cell_at h c)
 fixed_step h u (MergeAdd d) c sound may named kept = let e : d ≡ c = cc in absurd (kept.add (subst (λ i. May h u (MergeAdd i)) e may))
 fixed_step h u (Close k) c sound may named kept = fixed_all (cell_at h c)
+fixed_step h u (Reopen k) c sound may named kept = fixed_all (cell_at h c)
+fixed_step h u (Offer d) c sound may named kept = record { owner = refl; local = refl; queued = λ _. refl }
 fixed_step h u (Nudge v k) c sound may named kept = fixed_all (cell_at h c)
 fixed_step h u Wake c sound may named kept = fixed_all (cell_at h c)
 fixed_step h u (Lock k) c sound may named kept = record { owner = refl; local = refl; queued = λ q. q }
@@ -293,7 +288,10 @@ merges_nobodys h u c sound ways = elim ways [
   | inl zero ↦ let fits : Untied u (cell_at h c) = (sound.hands u c phases.Untied (busy_hand phases.Untied c _ zero.hand)).fits in fits.owner
   | inr add ↦ elim (cases_Bool (is_at phases.Taking c (row_at h u).hand)) [
     | inl taking ↦ (sound.hands u c phases.Taking (busy_hand phases.Taking c _ taking)).fits
-    | inr off ↦ (sound.hands u c phases.Popping (busy_hand phases.Popping c _ (second _ _ off add.hand))).fits.0
+    | inr off ↦ elim (cases_Bool (is_at phases.Popping c (row_at h u).hand)) [
+      | inl popping ↦ (sound.hands u c phases.Popping (busy_hand phases.Popping c _ popping)).fits.0
+      | inr still ↦ let fits : Yielding u (cell_at h c) = (sound.hands u c phases.Yielding (busy_hand phases.Yielding c _ (third _ _ _ off still add.hand))).fits in fits.owner
+    ]
   ]
 ]
 
@@ -338,8 +336,10 @@ owns_lasts t c local h e reached ok others owns =
     let fixed : Fixed (cell_at h c) (cell_at (after h e) c) = fixed_event h e c sound ok (owned_kept h t e.thread c sound owns.mortal owns.owner others.other
     (λ may. elim (untie_way h e.thread c sound may) [
       | at_end busy owner ↦ others.other (one_owner h c owner owns.owner)
-      | shut_out busy some ↦
-          let closed : is_active (row_at h (cell_at h c).bearer).stage ≡ false = closed_idle _ (c / 32) (sound.hands e.thread c phases.Shut busy).fits in
+      | handed_over busy owner ↦ others.other (one_owner h c owner owns.owner)
+      | shut_out busy some first ↦
+          let shut : is_closed (row_at h (cell_at h c).bearer).stage (c / 32) ≡ true = subst (λ d. ShutFits d (cell_at h c) (row_at h (cell_at h c).bearer).stage c) first (sound.hands e.thread c phases.Shut busy).fits in
+          let closed : is_active (row_at h (cell_at h c).bearer).stage ≡ false = closed_idle _ (c / 32) shut in
           true≢false (sym owns.active ∙ ap (λ b. is_active (row_at h b).stage) (sym ((sound.cells c owns.mortal).owned_by_bearer t owns.owner)) ∙ closed)
       | from_queue free on owner ↦ others.other (one_owner h c owner owns.owner)
     ])) in
@@ -351,6 +351,11 @@ owns_lasts t c local h e reached ok others owns =
       count = fixed.local ∙ owns.count;
     }
 
+-- a hand that was shut out of what a thread still owns: in the first edition alone, and the word is closed
+still_owned : (e : Edition) (x : Cell) (g : Stage) (c s : ℕ) → x.owner ≡ owners.Thread s → ShutFits e x g c → is_closed g (c / 32) ≡ true
+still_owned editions.One x g c s owner fits = fits
+still_owned editions.Two x g c s owner fits = let bad : owners.Thread s ≡ owners.Nobody = sym owner ∙ fits in absurd (cc)
+
 -- what an absent owner's object is to the one thread that may adopt it
 pub adopting_lasts : (t c s local : ℕ) → Lasts t (λ h. Adopts h t c s local)
 adopting_lasts t c s local h e reached ok others adopts =
@@ -358,10 +363,12 @@ adopting_lasts t c s local h e reached ok others adopts =
     let own : SameOwn t h (after h e) = others_own h e t sound ok others in
     let said : HandFits h t phases.Shut c = sound.hands t c phases.Shut adopts.hand in
     let carried : one (carries c (row_at h t).hand) ≡ 1 = busy_carrier phases.Shut c _ refl adopts.hand in
-    let idle : is_active (row_at h s).stage ≡ false = subst (λ b. is_active (row_at h b).stage ≡ false) ((sound.cells c said.mortal).owned_by_bearer s adopts.owner) (closed_idle _ (c / 32) said.fits) in
+    let shut : is_closed (row_at h (cell_at h c).bearer).stage (c / 32) ≡ true = still_owned h.edition (cell_at h c) (row_at h (cell_at h c).bearer).stage c s adopts.owner said.fits in
+    let idle : is_active (row_at h s).stage ≡ false = subst (λ b. is_active (row_at h b).stage ≡ false) ((sound.cells c said.mortal).owned_by_bearer s adopts.owner) (closed_idle _ (c / 32) shut) in
     let no_untie : May h e.thread (Untie c) → ⊥ = λ may. elim (untie_way h e.thread c sound may) [
       | at_end busy owner ↦ true≢false (sym (active_now h e.thread c phases.Over sound busy refl) ∙ ap (λ i. is_active (row_at h i).stage) (one_owner h c owner adopts.owner) ∙ idle)
-      | shut_out busy some ↦ two_carry h t e.thread c sound said.mortal others.other carried (busy_carrier phases.Shut c _ refl busy)
+      | handed_over busy owner ↦ true≢false (sym (active_now h e.thread c phases.Offered sound busy refl) ∙ ap (λ i. is_active (row_at h i).stage) (one_owner h c owner adopts.owner) ∙ idle)
+      | shut_out busy some first ↦ two_carry h t e.thread c sound said.mortal others.other carried (busy_carrier phases.Shut c _ refl busy)
       | from_queue free on owner ↦ carry_popped h t e.thread c sound said.mortal carried on
     ] in
     let fixed : Fixed (cell_at h c) (cell_at (after h e) c) = fixed_event h e c sound ok (idle_kept h s e.thread c sound said.mortal adopts.owner idle (carried_held h t c carried) no_untie) in
@@ -383,13 +390,17 @@ merging_kept h t u c p sound mortal owner other busy gripping =
       owner = λ his. let bad : owners.Nobody ≡ owners.Thread u = sym owner ∙ his.owner in cc;
       untie = λ may. elim (untie_way h u c sound may) [
         | at_end busy his ↦ let bad : owners.Nobody ≡ owners.Thread u = sym owner ∙ his in cc
-        | shut_out busy some ↦ true≢false (sym (ap is_nobody owner) ∙ some)
+        | handed_over busy his ↦ let bad : owners.Nobody ≡ owners.Thread u = sym owner ∙ his in cc
+        | shut_out busy some first ↦ true≢false (sym (ap is_nobody owner) ∙ some)
         | from_queue free on his ↦ let bad : owners.Nobody ≡ owners.Thread u = sym owner ∙ his in cc
       ];
       zero = λ may. grips_not phases.Untied (busy_hand phases.Untied c _ may.hand) refl;
       add = λ may. elim (cases_Bool (is_at phases.Taking c (row_at h u).hand)) [
         | inl taking ↦ grips_not phases.Taking (busy_hand phases.Taking c _ taking) refl
-        | inr off ↦ grips_not phases.Popping (busy_hand phases.Popping c _ (second _ _ off may.hand)) refl
+        | inr off ↦ elim (cases_Bool (is_at phases.Popping c (row_at h u).hand)) [
+          | inl popping ↦ grips_not phases.Popping (busy_hand phases.Popping c _ popping) refl
+          | inr still ↦ grips_not phases.Yielding (busy_hand phases.Yielding c _ (third _ _ _ off still may.hand)) refl
+        ]
       ];
       unmarked = alone.mark;
     }
@@ -419,7 +430,8 @@ popped_lasts t c local h e reached ok others his =
     let fixed : Fixed (cell_at h c) (cell_at (after h e) c) = fixed_event h e c sound ok (owned_kept h t e.thread c sound mortal his.owner others.other
     (λ may. elim (untie_way h e.thread c sound may) [
       | at_end busy owner ↦ others.other (one_owner h c owner his.owner)
-      | shut_out busy some ↦ carry_popped h e.thread t c sound mortal (busy_carrier phases.Shut c _ refl busy) his.popped
+      | handed_over busy owner ↦ others.other (one_owner h c owner his.owner)
+      | shut_out busy some first ↦ carry_popped h e.thread t c sound mortal (busy_carrier phases.Shut c _ refl busy) his.popped
       | from_queue free on owner ↦ others.other (one_owner h c owner his.owner)
     ])) in
     record {

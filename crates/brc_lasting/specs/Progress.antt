@@ -19,12 +19,13 @@ pub record Stands (h : Heap) (t : ℕ) : Type 0 where
   pub registered : is_registered h t ≡ true
   pub here : is_gathered h t ≡ false
 
--- with nothing in its hand, no lock, and not closing
+-- with nothing in its hand, no lock, neither closing nor opening
 pub record IsAtRest (h : Heap) (t : ℕ) : Type 0 where
   pub stands : Stands h t
   pub hand : (row_at h t).hand ≡ hands.Free
   pub unlocked : (row_at h t).locked ≡ None
   pub not_closing : (n : ℕ) → (row_at h t).stage ≢ stages.Closing n
+  pub not_opening : (n : ℕ) → (row_at h t).stage ≢ stages.Opening n
 
 -- what a thread does next with the cell in its hand; a ready one is born in any vacant place
 abbrev pub next_step : Phase → ℕ → Cell → Step
@@ -39,6 +40,8 @@ next_step phases.Shut c x = if is_nobody x.owner then LastDown lasts.Hand else U
 next_step phases.Taking c x = MergeAdd c
 next_step phases.Held c x = LastDown lasts.Hand
 next_step phases.Popping c x = MergeAdd c
+next_step phases.Offered c x = Untie c
+next_step phases.Yielding c x = MergeAdd c
 
 -- how a place or an entry is given up at the least: by the owner; by asking; once asked for or merged, by the shared word
 abbrev pub release_step : ℕ → Stage → ℕ → Cell → Dropped → Step

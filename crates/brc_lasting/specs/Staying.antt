@@ -154,10 +154,12 @@ Tells t phases.Zero x = (x.owner ≡ owners.Thread t) × (x.local ≡ 0) × (is_
 Tells t phases.Over x = (x.owner ≡ owners.Thread t) × (x.local ≡ 0) × (is_merged x.state ≡ false)
 Tells t phases.Untied x = (x.owner ≡ owners.Nobody) × (x.local ≡ 0) × (is_merged x.state ≡ false)
 Tells t phases.Asked x = is_default x.state ≡ false
-Tells t phases.Shut x = ((x.owner ≡ owners.Nobody) × (x.state ≡ states.Merged)) ⊎ ((s : ℕ) × (x.owner ≡ owners.Thread s) × (x.state ≡ states.Queued))
+Tells t phases.Shut x = ((x.owner ≡ owners.Nobody) × (is_default x.state ≡ false)) ⊎ ((s : ℕ) × (x.owner ≡ owners.Thread s) × (x.state ≡ states.Queued))
 Tells t phases.Taking x = (x.owner ≡ owners.Nobody) × (x.state ≡ states.Queued)
 Tells t phases.Held x = (x.owner ≡ owners.Nobody) × (x.state ≡ states.Merged)
 Tells t phases.Popping x = (x.owner ≡ owners.Nobody) × (x.state ≡ states.Queued)
+Tells t phases.Offered x = (x.owner ≡ owners.Thread t) × (1 ≤ x.local) × (x.state ≡ states.Queued)
+Tells t phases.Yielding x = (x.owner ≡ owners.Nobody) × (x.state ≡ states.Queued)
 
 -- of a popped entry, between two calls: merged, or its own and asked for; so the shared word alone decides
 abbrev pub PoppedTells : ℕ → Cell → Type 0

@@ -9,6 +9,7 @@ ghost use Rattle.brc_runs.specs.declared.cell.Cell.{Cell as cell};
 ghost use Rattle.brc_runs.specs.declared.row.Phase.{Phase as phase};
 ghost use Rattle.brc_runs.specs.declared.row.Phase.TheVariants as phases;
 ghost use Rattle.brc_runs.specs.declared.row.Hand.TheVariants as hands;
+ghost use Rattle.brc_runs.specs.declared.edition.Edition.TheVariants as editions;
 ghost use Rattle.brc_runs.specs.declared.event.Dropped.{Dropped as dropped};
 ghost use Rattle.brc_runs.specs.declared.event.Step.{Step as step};
 ghost use Rattle.brc_runs.specs.declared.event.Step.TheVariants as steps;
@@ -115,37 +116,37 @@ pub fn numbers_name_what_is_there()
         → (world_after (opening cells limit) run).limit ≡ limit }
 {}
 
-/// No thread is stuck by a condition. Whatever is in its hand it can go on with, for which a ready object wants a vacant
+/// In the first edition no thread is stuck by a condition. Whatever is in its hand it can go on with, for which a ready object wants a vacant
 /// place: a thread whose places are all filled must not claim. A lock it can let go. At rest it can give up every place
 /// and every last entry of a dead block, deal with every popped entry, and give back every block without entries; with
 /// nothing left it can begin to leave, go on leaving, and then be gathered.
 pub fn no_thread_is_stuck()
-    ensures hands { (h : Heap) (t c : ℕ) (p : phase) → IsReached h → Stands h t
+    ensures hands { (h : Heap) (t c : ℕ) (p : phase) → IsReached h → h.edition ≡ editions.One → Stands h t
         → (row_at h t).hand ≡ hands.Busy p c → p ≢ phases.Ready
         → enabled h (record { thread = t; step = next_step p c (cell_at h c) }) ≡ true }
-    ensures births { (h : Heap) (t c k : ℕ) (of : kind) → IsReached h → Stands h t
+    ensures births { (h : Heap) (t c k : ℕ) (of : kind) → IsReached h → h.edition ≡ editions.One → Stands h t
         → (row_at h t).hand ≡ hands.Busy phases.Ready c → is_mortal of ≡ true
         → is_vacant (frame_at h t) k ≡ true
         → enabled h (record { thread = t; step = steps.Birth c of k }) ≡ true }
-    ensures references { (h : Heap) (t c : ℕ) (drop : dropped) → IsReached h → IsAtRest h t
+    ensures references { (h : Heap) (t c : ℕ) (drop : dropped) → IsReached h → h.edition ≡ editions.One → IsAtRest h t
         → dropped_cell (frame_at h t) (worklist_at h t) (entries_at h) drop ≡ Some c
         → enabled h (record {
           thread = t;
           step = release_step t (row_at h t).stage c (cell_at h c) drop;
         }) ≡ true }
-    ensures popped { (h : Heap) (t c : ℕ) → IsReached h → IsAtRest h t
+    ensures popped { (h : Heap) (t c : ℕ) → IsReached h → h.edition ≡ editions.One → IsAtRest h t
         → bit_of (popped_at h t) c ≡ 1
         → enabled h (record { thread = t; step = popped_step c (cell_at h c) }) ≡ true }
-    ensures blocks { (h : Heap) (t c : ℕ) → IsReached h → IsAtRest h t
+    ensures blocks { (h : Heap) (t c : ℕ) → IsReached h → h.edition ≡ editions.One → IsAtRest h t
         → is_marked (worklist_at h t) c ≡ true → entries_at h c ≡ []
         → enabled h (record { thread = t; step = steps.Free c }) ≡ true }
-    ensures locks { (h : Heap) (t k : ℕ) → IsReached h → Stands h t → (row_at h t).locked ≡ Some k
+    ensures locks { (h : Heap) (t k : ℕ) → IsReached h → h.edition ≡ editions.One → Stands h t → (row_at h t).locked ≡ Some k
         → enabled h (record { thread = t; step = steps.Unlock changes.Keep }) ≡ true }
-    ensures begins { (h : Heap) (t : ℕ) → IsReached h → IsAtRest h t
+    ensures begins { (h : Heap) (t : ℕ) → IsReached h → h.edition ≡ editions.One → IsAtRest h t
         → (row_at h t).stage ≡ stages.Active → is_bare (frame_at h t) ≡ true
         → is_unmarked (worklist_at h t) ≡ true → is_blank (popped_at h t) ≡ true
         → enabled h (record { thread = t; step = steps.Close 0 }) ≡ true }
-    ensures closes { (h : Heap) (t n : ℕ) → IsReached h → Stands h t
+    ensures closes { (h : Heap) (t n : ℕ) → IsReached h → h.edition ≡ editions.One → Stands h t
         → (row_at h t).stage ≡ stages.Closing n
         → enabled h (record { thread = t; step = steps.Close n }) ≡ true }
     ensures gathered { (h : Heap) (t : ℕ) → IsReached h → IsAtRest h t

@@ -12,7 +12,7 @@ use Rattle.brc_model.proofs.Maps.{Same-refl}
 use Rattle.brc_runs.specs.declared.cell.Cell.{Cell}
 use Rattle.brc_runs.specs.declared.event.Event.{Event}
 use Rattle.brc_runs.specs.declared.event.Step.{Step}
-use Rattle.brc_runs.specs.declared.event.Step.TheVariants.{Claim, InitLocal, InitShared, Birth, LocalUp, LocalDown, SeeZero, Free, Untie, MergeZero, SharedUp, SharedDown, Ask, LastDown, Enqueue, Drain, MergeAdd, Close, Nudge, Wake, Lock, Unlock, Register, Gather}
+use Rattle.brc_runs.specs.declared.event.Step.TheVariants.{Claim, InitLocal, InitShared, Birth, LocalUp, LocalDown, SeeZero, Free, Untie, MergeZero, SharedUp, SharedDown, Ask, LastDown, Enqueue, Drain, MergeAdd, Close, Nudge, Wake, Lock, Unlock, Register, Gather, Offer, Reopen}
 use Rattle.brc_runs.specs.declared.event.Source.{Source}
 use Rattle.brc_runs.specs.declared.event.Source.TheVariants as sources
 use Rattle.brc_runs.specs.declared.event.Dropped.{Dropped}
@@ -23,19 +23,20 @@ use Rattle.brc_runs.specs.declared.row.Hand.{Hand}
 use Rattle.brc_runs.specs.declared.row.Hand.TheVariants as hands
 use Rattle.brc_runs.specs.declared.row.Phase.TheVariants as phases
 use Rattle.brc_runs.specs.Lists.{one, bit_of, is_marked, place_at, filled, last_of}
-use Rattle.brc_runs.specs.Heap.{Heap, cell_at, entries_at, row_at, frame_at, popped_at, worklist_at, queue_at, no_cell, no_row, new_row, is_immortal, words_for}
-use Rattle.brc_runs.specs.Steps.{enabled, after, after_target, stepped, kept_cells, registered, root_after, thread_may, root_may, target_at, source_cell, dropped_cell, locked_cell, entry_of, frame_without, entries_without, is_default, hand_ok, is_at, untied_hand, added_hand, drained_word, with_drained, without_drained}
+use Rattle.brc_runs.specs.Heap.{Heap, cell_at, entries_at, row_at, frame_at, popped_at, worklist_at, queue_at, no_cell, no_row, new_row, is_immortal, words_for, again_row}
+use Rattle.brc_runs.specs.Steps.{enabled, after, after_target, stepped, kept_cells, registered, root_after, thread_may, root_may, target_at, source_cell, dropped_cell, locked_cell, entry_of, frame_without, entries_without, is_default, hand_ok, is_at, untied_hand, added_hand, drained_word, with_drained, without_drained, registered_again}
 use Rattle.brc_runs.specs.Holding.{lives, lives_at, carries}
 use Rattle.brc_moves.specs.Moves.{moves_by, map_of, moves_of, of_mortal, removal, asking, MakesMoves}
 use Rattle.brc_runs.specs.Sound.{IsSound, held, HandFits, WorklistFits, Births}
 use Rattle.brc_runs.proofs.Naming.{no_bit, Unheld, unheld, dead_unheld, free_hand, busy_hand, busy_carrier}
 use Rattle.brc_runs.proofs.Bitwise.{without_bit_here, without_bit_else}
-use Rattle.brc_runs.proofs.Asking.{May, may_parts, on_cell, Vacant, vacant, at_end, shut_out, from_queue, untie_way}
+use Rattle.brc_runs.proofs.Asking.{May, may_parts, on_cell, Vacant, vacant, at_end, shut_out, from_queue, untie_way, handed_over}
 use Rattle.brc_runs.proofs.Changes.{read_by, read_here, read_there}
 use Rattle.brc_runs.proofs.Counting.{marked_unheld}
 use Rattle.brc_runs.proofs.Framing.{found_inside, place_at-filled_here}
 use Rattle.brc_runs.proofs.Dropping.{source_held, held_by_place, held_by_entry}
 use Rattle.brc_runs.proofs.Registering.{read_push, new_bit}
+use Rattle.brc_runs.proofs.Reusing.{Vacated, fresh, reused, registers}
 use Rattle.brc_runs.proofs.Lifetimes.{step_lives, either_way, held_lives, alive_lives, by_whom}
 use Rattle.brc_runs.proofs.Merging.{carried_held, popped_held}
 use Rattle.brc_runs.proofs.Sharing.{ending_hand, ending_reference}
@@ -324,14 +325,18 @@ untied_carries h t c q sound may =
     let P : Hand → Type 0 = λ hand. carries q (untied_hand c hand) ≡ carries q hand in
     elim (untie_way h t c sound may) [
       | at_end busy owner ↦ subst P (sym busy) refl
-      | shut_out busy some ↦ subst P (sym busy) refl
+      | shut_out busy some first ↦ subst P (sym busy) refl
+      | handed_over busy owner ↦ subst P (sym busy) refl
       | from_queue free on owner ↦ subst P (sym free) refl
     ]
 
 added_carries : (q c : ℕ) (hand : Hand) → hand_ok hand (MergeAdd c) ≡ true → carries q (added_hand c hand) ≡ carries q hand
-added_carries q c hand ok = elim (or_cases (is_at phases.Taking c hand) (is_at phases.Popping c hand) ok) [
-  | inl taking ↦ subst (λ x. carries q (added_hand c x) ≡ carries q x) (sym (busy_hand phases.Taking c hand taking)) refl
-  | inr popping ↦ subst (λ x. carries q (added_hand c x) ≡ carries q x) (sym (busy_hand phases.Popping c hand popping)) refl
+added_carries q c hand ok = elim (or_cases (is_at phases.Taking c hand || is_at phases.Popping c hand) (is_at phases.Yielding c hand) ok) [
+  | inl others ↦ elim (or_cases (is_at phases.Taking c hand) (is_at phases.Popping c hand) others) [
+    | inl taking ↦ subst (λ x. carries q (added_hand c x) ≡ carries q x) (sym (busy_hand phases.Taking c hand taking)) refl
+    | inr popping ↦ subst (λ x. carries q (added_hand c x) ≡ carries q x) (sym (busy_hand phases.Popping c hand popping)) refl
+  ]
+  | inr yielding ↦ subst (λ x. carries q (added_hand c x) ≡ carries q x) (sym (busy_hand phases.Yielding c hand yielding)) refl
 ]
 
 -- ---- steps on no cell that move nothing
@@ -394,8 +399,12 @@ step_moves A h t (MergeAdd c) sound ok =
     quiet_step h t (MergeAdd c) c at refl refl (λ q. added_carries q c _ at.may.hand) refl (λ q. refl)
 step_moves A h t (Close k) sound ok =
     let may = may_parts h t (Close k) ok in
-    let first = and_parts _ _ (and_parts _ _ (and_parts _ _ (and_parts _ _ may.own).0).0).0 in
+    let first = and_parts _ _ (and_parts _ _ (and_parts _ _ may.own).0).0 in
     pop_moves h (kept_cells h t (Close k)) t k sound (taken_by h t (Close k) k sound may refl (ltb-true k _ first.0) (lasting h t (Close k) sound ok refl))
+step_moves A h t (Offer c) sound ok =
+    let at = at_named h t (Offer c) c refl sound ok refl in
+    quiet_step h t (Offer c) c at refl refl (λ q. sym (ap (carries q) (free_hand _ at.may.hand))) refl (λ q. refl)
+step_moves A h t (Reopen k) sound ok = still_moves h t (Reopen k) sound (may_parts h t (Reopen k) ok) refl (lasting h t (Reopen k) sound ok refl)
 step_moves A h t (Nudge u k) sound ok =
     still_moves h t (Nudge u k) sound (may_parts h t (Nudge u k) ok) refl (lasting h t (Nudge u k) sound ok refl)
 step_moves A h t Wake sound ok = still_moves h t Wake sound (may_parts h t Wake ok) refl (lasting h t Wake sound ok refl)
@@ -419,10 +428,28 @@ registered_elsewhere h = record {
       (sym (ap (λ (row : Row). carries q row.hand) (get_or_past h.rows (length h.rows) no_row (omega arith)))) (λ j _. refl) t;
 }
 
-root_moves : (A : Type 0) (h : Heap) (s : Step) → root_may h s ≡ true → MakesMoves {A = A} (map_of h) (moves_of h 0 s (target_at h 0 s)) (map_of (root_after h s))
-root_moves A h (Register u) ok = same_map h (registered h) (record { live = λ q. refl; kind = λ q. refl }) (λ q. refl) (registered_elsewhere h)
-root_moves A h (Gather u) ok = Same-refl (map_of h)
-root_moves A h _ ok = absurd (true≢false (sym ok))
+-- a number that is used again had no reference, and has none
+again_elsewhere : (h : Heap) (u : ℕ) → IsSound h → Vacated h u → Elsewhere h (registered_again h u) is_none
+again_elsewhere h u sound v =
+    let blank : List ℕ = replicate (words_for (length h.cells)) 0 in
+    record {
+      frames = λ t k q _ _. read_by (λ j (frame : List (Option ℕ)). is_number (place_at frame k) q ≡ is_number (place_at (frame_at h j) k) q) h.frames u [] []
+          (omega (arith, sound.shaped.frames, v.inside)) (sym (ap (λ o. is_number o q) (v.frame k))) (λ j _. refl) t;
+      queues = λ t q _. read_by (λ j (words : List ℕ). bit_of words q ≡ bit_of (queue_at h j) q) h.queues u blank []
+          (omega (arith, sound.shaped.queues, v.inside)) (new_bit (words_for (length h.cells)) q ∙ sym (v.queue q)) (λ j _. refl) t;
+      popped = λ t q _. read_by (λ j (words : List ℕ). bit_of words q ≡ bit_of (popped_at h j) q) h.popped u blank []
+          (omega (arith, sound.shaped.popped, v.inside)) (new_bit (words_for (length h.cells)) q ∙ sym (v.popped q)) (λ j _. refl) t;
+      hands = λ t q _. read_by (λ j (row : Row). carries q row.hand ≡ carries q (row_at h j).hand) h.rows u again_row no_row
+          v.inside (sym (ap (carries q) v.hand)) (λ j _. refl) t;
+    }
+
+root_moves : (A : Type 0) (h : Heap) (s : Step) → IsSound h → root_may h s ≡ true → MakesMoves {A = A} (map_of h) (moves_of h 0 s (target_at h 0 s)) (map_of (root_after h s))
+root_moves A h (Register u) sound ok = elim (registers h u sound ok) [
+  | fresh new most few is ↦ subst (λ w. Same (map_of h) (map_of w)) (sym is) (same_map h (registered h) (record { live = λ q. refl; kind = λ q. refl }) (λ q. refl) (registered_elsewhere h))
+  | reused v few is ↦ subst (λ w. Same (map_of h) (map_of w)) (sym is) (same_map h (registered_again h u) (record { live = λ q. refl; kind = λ q. refl }) (λ q. refl) (again_elsewhere h u sound v))
+]
+root_moves A h (Gather u) sound ok = Same-refl (map_of h)
+root_moves A h _ sound ok = absurd (true≢false (sym ok))
 
 pub event_moves : (A : Type 0) (h : Heap) (e : Event) → IsSound h → enabled h e ≡ true
     → MakesMoves {A = A} (map_of h) (moves_of h e.thread e.step (target_at h e.thread e.step)) (map_of (after h e))
@@ -430,7 +457,7 @@ event_moves A h e sound ok =
     elim (by_whom h e ok) [
       | inl root ↦
           subst (λ w. MakesMoves {A = A} (map_of h) (moves_of h e.thread e.step (target_at h e.thread e.step)) (map_of w)) (sym root.leads)
-          (subst (λ n. MakesMoves {A = A} (map_of h) (moves_of h n e.step (target_at h n e.step)) (map_of (root_after h e.step))) (sym root.root) (root_moves A h e.step root.may))
+          (subst (λ n. MakesMoves {A = A} (map_of h) (moves_of h n e.step (target_at h n e.step)) (map_of (root_after h e.step))) (sym root.root) (root_moves A h e.step sound root.may))
       | inr thread ↦
           subst (λ w. MakesMoves {A = A} (map_of h) (moves_of h e.thread e.step (target_at h e.thread e.step)) (map_of w)) (sym thread.leads)
           (step_moves A h e.thread e.step sound thread.may)

@@ -1,9 +1,12 @@
 -- What it means that a thread's step is enabled, test by test.
-use Rattle.std.proofs.Common.{◌≡◌, ℕ, ◌<◌, true, false, List, length, Option, Some, None, is_none, refl, sym, subst, inl, inr}
+use Rattle.std.proofs.Common.{◌≡◌, ℕ, ◌<◌, true, false, List, length, Option, Some, None, is_none, refl, sym, subst, inl, inr, ap, ◌∙◌, not}
 use Rattle.std.proofs.lemmas.Bool.{cases_Bool, and_parts, not-true, eqb-true, ltb-true, true≢false}
 use Rattle.brc_words.specs.declared.limits.TheConstants.{MOST_PLACES}
 use Rattle.brc_words.specs.declared.owner.Owner.TheVariants as owners
 use Rattle.brc_runs.specs.declared.cell.Cell.{Cell}
+use Rattle.brc_runs.specs.declared.edition.Edition.{Edition}
+use Rattle.brc_runs.specs.declared.edition.Edition.TheVariants as editions
+use Rattle.brc_runs.specs.declared.row.Row.{Row}
 use Rattle.brc_runs.specs.declared.event.Step.{Step}
 use Rattle.brc_runs.specs.declared.event.Step.TheVariants.{Untie}
 use Rattle.brc_runs.specs.declared.row.Hand.TheVariants as hands
@@ -12,9 +15,9 @@ use Rattle.brc_runs.specs.declared.row.Stage.{Stage}
 use Rattle.brc_runs.specs.declared.row.Stage.TheVariants as stages
 use Rattle.brc_runs.specs.Lists.{place_at, bit_of}
 use Rattle.brc_runs.specs.Heap.{Heap, cell_at, row_at, popped_at, is_gathered}
-use Rattle.brc_runs.specs.Steps.{thread_may, stage_ok, lock_ok, hand_ok, own_ok_at, others_ok, target_ok, target_at, cell_ok, is_vacant, is_mine, is_at, is_nobody, untie_ok, untied_ok}
+use Rattle.brc_runs.specs.Steps.{thread_may, stage_ok, lock_ok, hand_ok, own_ok_at, others_ok, target_ok, target_at, cell_ok, is_vacant, is_mine, is_at, is_nobody, untie_ok, untied_ok, edition_ok, is_shut_hand}
 use Rattle.brc_runs.specs.Sound.{IsSound}
-use Rattle.brc_runs.proofs.Naming.{third, busy_hand, free_hand, thread_owner, active_stage}
+use Rattle.brc_runs.proofs.Naming.{third, busy_hand, free_hand, thread_owner, active_stage, fourth}
 
 -- the tests of a thread's step
 pub record May (h : Heap) (t : ℕ) (s : Step) : Type 0 where
@@ -25,7 +28,8 @@ pub record May (h : Heap) (t : ℕ) (s : Step) : Type 0 where
   pub lock : lock_ok (row_at h t).locked s ≡ true
   pub hand : hand_ok (row_at h t).hand s ≡ true
   pub own : own_ok_at h t s ≡ true
-  pub others : others_ok h s ≡ true
+  pub others : others_ok h t s ≡ true
+  pub edition : edition_ok h.edition (row_at h t) s ≡ true
   pub on_target : target_ok h t (row_at h t) s (target_at h t s) ≡ true
 
 pub may_parts : (h : Heap) (t : ℕ) (s : Step) → thread_may h t s ≡ true → May h t s
@@ -38,15 +42,17 @@ may_parts h t s may =
     let f = and_parts _ _ e.0 in
     let g = and_parts _ _ f.0 in
     let i = and_parts _ _ g.0 in
+    let j = and_parts _ _ i.0 in
     record {
-      some_thread = ltb-true _ _ i.0;
-      inside = ltb-true _ _ i.1;
-      not_gathered = not-true _ g.1;
-      stage = f.1;
-      lock = e.1;
-      hand = d.1;
-      own = c.1;
-      others = b.1;
+      some_thread = ltb-true _ _ j.0;
+      inside = ltb-true _ _ j.1;
+      not_gathered = not-true _ i.1;
+      stage = g.1;
+      lock = f.1;
+      hand = e.1;
+      own = d.1;
+      others = c.1;
+      edition = b.1;
       on_target = a.1;
     }
 
@@ -78,11 +84,17 @@ pub record Mine (t : ℕ) (stage : Stage) (x : Cell) : Type 0 where
 pub mine : (t : ℕ) (stage : Stage) (x : Cell) → is_mine t stage x ≡ true → Mine t stage x
 mine t stage x h = let parts = and_parts _ _ h in record { owner = thread_owner t _ parts.0; active = active_stage _ parts.1 }
 
--- how a thread lets an object go: its own at count 0, one whose owner closed its merge queue to the thread, or its own
--- that it popped
+-- a thread unties in place of another in the first edition alone
+shut_first : (e : Edition) (row : Row) (c d : ℕ) → row.hand ≡ hands.Busy phases.Shut d → edition_ok e row (Untie c) ≡ true → e ≡ editions.One
+shut_first editions.One row c d busy ok = refl
+shut_first editions.Two row c d busy ok = absurd (true≢false (sym (and_parts _ _ ok).1 ∙ ap (λ hand. not (is_shut_hand hand)) busy))
+
+-- how a thread lets an object go: its own at count 0, one whose owner closed its merge queue to the thread, its own that
+-- it hands over, or its own that it popped
 pub data UntieWay (h : Heap) (t c : ℕ) : Type 0 where
   at_end : (row_at h t).hand ≡ hands.Busy phases.Over c → (cell_at h c).owner ≡ owners.Thread t → UntieWay h t c
-  shut_out : (row_at h t).hand ≡ hands.Busy phases.Shut c → is_nobody (cell_at h c).owner ≡ false → UntieWay h t c
+  shut_out : (row_at h t).hand ≡ hands.Busy phases.Shut c → is_nobody (cell_at h c).owner ≡ false → h.edition ≡ editions.One → UntieWay h t c
+  handed_over : (row_at h t).hand ≡ hands.Busy phases.Offered c → (cell_at h c).owner ≡ owners.Thread t → UntieWay h t c
   from_queue : (row_at h t).hand ≡ hands.Free → bit_of (popped_at h t) c ≡ 1 → (cell_at h c).owner ≡ owners.Thread t → UntieWay h t c
 
 pub untie_way : (h : Heap) (t c : ℕ) → IsSound h → May h t (Untie c) → UntieWay h t c
@@ -91,10 +103,13 @@ untie_way h t c sound may =
     elim (cases_Bool (is_at phases.Over c (row_at h t).hand)) [
       | inl over ↦ let busy = busy_hand phases.Over c _ over in at_end busy (sound.hands t c phases.Over busy).fits
       | inr apart ↦ elim (cases_Bool (is_at phases.Shut c (row_at h t).hand)) [
-        | inl shut ↦ let busy = busy_hand phases.Shut c _ shut in shut_out busy (not-true _ (subst (λ g. untied_ok t g (cell_at h c) ≡ true) busy at_cell.fits))
-        | inr off ↦
-            let free = free_hand _ (third _ _ _ apart off may.hand) in
-            from_queue free (eqb-true _ _ (subst (λ g. untie_ok g (popped_at h t) c ≡ true) free may.own))
-            (thread_owner t _ (and_parts _ _ (subst (λ g. untied_ok t g (cell_at h c) ≡ true) free at_cell.fits)).0)
+        | inl shut ↦ let busy = busy_hand phases.Shut c _ shut in shut_out busy (not-true _ (subst (λ g. untied_ok t g (cell_at h c) ≡ true) busy at_cell.fits)) (shut_first h.edition (row_at h t) c c busy may.edition)
+        | inr off ↦ elim (cases_Bool (is_at phases.Offered c (row_at h t).hand)) [
+          | inl over ↦ let busy = busy_hand phases.Offered c _ over in handed_over busy (sound.hands t c phases.Offered busy).fits.owner
+          | inr still ↦
+              let free = free_hand _ (fourth _ _ _ _ apart off still may.hand) in
+              from_queue free (eqb-true _ _ (subst (λ g. untie_ok g (popped_at h t) c ≡ true) free may.own))
+              (thread_owner t _ (and_parts _ _ (subst (λ g. untied_ok t g (cell_at h c) ≡ true) free at_cell.fits)).0)
+        ]
       ]
     ]

@@ -6,13 +6,14 @@ use Rattle.std.proofs.lemmas.Int.{ints}
 use Rattle.brc_words.specs.declared.limits.TheConstants.{FIRST_MORTAL, MOST_PLACES}
 use Rattle.brc_words.specs.declared.owner.Owner.TheVariants as owners
 use Rattle.brc_runs.specs.declared.cell.Cell.{Cell}
+use Rattle.brc_runs.specs.declared.edition.Edition.{Edition}
 use Rattle.brc_runs.specs.declared.row.Row.{Row}
 use Rattle.brc_runs.specs.declared.row.Hand.TheVariants as hands
 use Rattle.brc_runs.specs.declared.row.Stage.TheVariants as stages
 use Rattle.brc_runs.specs.Lists.{one, entry_times, bit_of, is_marked, place_at}
-use Rattle.brc_runs.specs.Heap.{Heap, cell_at, entries_at, row_at, frame_at, popped_at, worklist_at, queue_at, is_gathered, no_cell, no_row, opening, opening_cell, opening_cells, immortal, words_for, AreOptions}
+use Rattle.brc_runs.specs.Heap.{Heap, cell_at, entries_at, row_at, frame_at, popped_at, worklist_at, queue_at, is_gathered, no_cell, no_row, opening, opening_cell, opening_cells, immortal, words_for, AreOptions, opening_in}
 use Rattle.brc_runs.specs.Holding.{lives, live_count}
-use Rattle.brc_runs.specs.Sound.{IsSound, IsShaped, CellFits, ImmortalFits, ThreadFits, in_entries, counted_in, held, gripped, grips_of, asks, asks_least}
+use Rattle.brc_runs.specs.Sound.{IsSound, IsShaped, CellFits, ImmortalFits, ThreadFits, in_entries, counted_in, held, gripped, grips_of, asks, asks_least, rests_at, offered}
 use Rattle.brc_runs.proofs.Naming.{no_bit}
 use Rattle.brc_runs.proofs.Counting.{sum_none}
 use Rattle.brc_runs.proofs.Registering.{length-push, read_push}
@@ -65,8 +66,8 @@ lone : {A : Type 0} (d : A) (j : ℕ) → get_or (d ∷ []) j d ≡ d
 lone d zero = refl
 lone d (suc j) = refl
 
-opening_shape : (n limit : ℕ) → AreOptions n limit → IsShaped (opening n limit)
-opening_shape n limit options = record {
+opening_shape : (e : Edition) (n limit : ℕ) → AreOptions n limit → IsShaped (opening_in e n limit)
+opening_shape e n limit options = record {
   options = subst (λ m. AreOptions m limit) (sym (length-opening n)) options;
   entries = length-replicate n [] ∙ sym (length-opening n);
   root = omega arith;
@@ -82,9 +83,9 @@ opening_shape n limit options = record {
   queue_words = λ t low high. absurd (omega (arith, low, high));
 }
 
-pub opening_sound : (n limit : ℕ) → AreOptions n limit → IsSound (opening n limit)
-opening_sound n limit options =
-    let h : Heap = opening n limit in
+pub opening_sound : (e : Edition) (n limit : ℕ) → AreOptions n limit → IsSound (opening_in e n limit)
+opening_sound e n limit options =
+    let h : Heap = opening_in e n limit in
     let row : (t : ℕ) → row_at h t ≡ no_row = lone no_row in
     let frame : (t : ℕ) → frame_at h t ≡ [] = lone [] in
     let popped : (t : ℕ) → popped_at h t ≡ [] = lone [] in
@@ -97,16 +98,17 @@ opening_sound n limit options =
     let no_live : live_count h ≡ 0 = sum_none (λ (x : Cell). one (lives x.owner)) (drop FIRST_MORTAL (opening_cells n)) no_cell
     (λ i. ap (λ (x : Cell). one (lives x.owner)) (get_or-drop FIRST_MORTAL (opening_cells n) i no_cell ∙ free_cell n (FIRST_MORTAL + i) (omega arith))) in
     record {
-      shaped = opening_shape n limit options;
+      shaped = opening_shape e n limit options;
       counted = λ q mortal. subst (λ x. counted_in x ≡ pos (held h q)) (sym (cell q mortal)) (ap pos (omega (arith, no_entry q, no_bit q)));
       gripped = λ q mortal. subst (λ x. gripped h q ≡ grips_of x) (sym (cell q mortal)) refl;
       most = λ q mortal. omega (arith, no_bit q);
-      least = λ q mortal. subst (λ x. asks_least x ≤ asks h q) (sym (cell q mortal)) (omega arith);
+      least = λ q mortal. subst (λ x. asks_least x ≤ asks h q + offered h q) (sym (cell q mortal)) (omega arith);
       hands = λ t d p busy. absurd (let e : hands.Free ≡ hands.Busy p d = sym (ap (λ (r : Row). r.hand) (row t)) ∙ busy in cc);
-      cells = λ q mortal. subst (λ x. CellFits 1 limit x (entries_at h q)) (sym (cell q mortal)) (record {
+      cells = λ q mortal. subst (λ x. CellFits 1 limit (rests_at h) x (entries_at h q)) (sym (cell q mortal)) (record {
         default = λ _. omega (arith, ints);
         owned_unmerged = λ t _. refl;
         owned_by_bearer = λ t e. let bad : owners.Free ≡ owners.Thread t = e in absurd (cc);
+        rested = λ t e _. let bad : owners.Free ≡ owners.Thread t = e in absurd (cc);
         dead_empty = λ _. entries q;
         dead_count = λ _. refl;
         born = λ live. absurd (true≢false (sym live));
@@ -125,12 +127,14 @@ opening_sound n limit options =
       });
       worklists = λ t q on. absurd (true≢false (sym on ∙ ap (λ marks. is_marked marks q) (worklist t)));
       threads = λ t.
-          subst (λ r. ThreadFits (words_for (length (opening_cells n))) r (frame_at h t) (popped_at h t) (worklist_at h t) (queue_at h t) (is_gathered h t)) (sym (row t)) (record {
+          subst (λ r. ThreadFits h.edition (words_for (length (opening_cells n))) r (frame_at h t) (popped_at h t) (worklist_at h t) (queue_at h t) (is_gathered h t)) (sym (row t)) (record {
             inactive_hand = λ _. refl;
             inactive_frame = λ _ k. ap (λ f. place_at f k) (frame t);
             inactive_lock = λ _. refl;
             closing = λ m e. let bad : stages.Left ≡ stages.Closing m = e in absurd (cc);
-            closing_work = λ m q e. let bad : stages.Left ≡ stages.Closing m = e in absurd (cc);
+            closing_work = λ m q _ e. let bad : stages.Left ≡ stages.Closing m = e in absurd (cc);
+            opening = λ m e. let bad : stages.Left ≡ stages.Opening m = e in absurd (cc);
+            opening_rest = λ m q e. let bad : stages.Left ≡ stages.Opening m = e in absurd (cc);
             closed = λ k _. ap (λ words. get_or words k 0) (queue t);
             gathered_left = λ _. refl;
             gathered_hand = λ _. refl;
@@ -146,4 +150,6 @@ opening_sound n limit options =
         | inr high ↦ omega (arith, some, mutex, ap (λ (x : Cell). x.mutex) (cell q high))
       ]);
       ledger = omega (arith, no_live);
+      past = (omega arith, omega arith);
+      first = λ _. refl;
     }

@@ -8,8 +8,9 @@ use Rattle.brc_words.specs.declared.limits.TheConstants.{FIRST_MORTAL, MOST_BIRT
 use Rattle.brc_words.specs.declared.kind.Kind.{Kind}
 use Rattle.brc_words.specs.declared.owner.Owner.TheVariants as owners
 use Rattle.brc_words.specs.declared.state.State.TheVariants as states
-use Rattle.brc_runs.specs.Phases.{has_reference, is_gripping}
+use Rattle.brc_runs.specs.Phases.{has_reference, is_gripping, is_offering}
 use Rattle.brc_runs.specs.declared.cell.Cell.{Cell}
+use Rattle.brc_runs.specs.declared.edition.Edition.{Edition}
 use Rattle.brc_runs.specs.declared.event.Step.{Step}
 use Rattle.brc_runs.specs.declared.event.Step.TheVariants.{Claim, InitLocal, InitShared, Birth}
 use Rattle.brc_runs.specs.declared.row.Row.{Row}
@@ -20,10 +21,10 @@ use Rattle.brc_runs.specs.declared.row.Stage.{Stage}
 use Rattle.brc_runs.specs.declared.row.Stage.TheVariants as stages
 use Rattle.brc_runs.specs.Lists.{one, entry_times, is_marked, filled}
 use Rattle.brc_runs.specs.Heap.{Heap, cell_at, entries_at, row_at, frame_at, popped_at, worklist_at}
-use Rattle.brc_runs.specs.Steps.{thread_may, is_shut, stepped, cell_after, row_after, stage_ok, lock_ok, may_after_leaving, is_close, needs_lock, is_active, is_closed, is_queued, is_merged}
+use Rattle.brc_runs.specs.Steps.{thread_may, is_shut, stepped, cell_after, row_after, stage_ok, lock_ok, may_after_leaving, is_close, needs_lock, is_active, is_closed, is_queued, is_merged, is_open}
 use Rattle.brc_runs.specs.Holding.{lives, carries, count_of_state}
-use Rattle.brc_runs.specs.Sound.{IsSound, ThreadFits, PhaseFits, Births, HandFits, counted_in, grips_of, grips_by_owner, grips, is_threads, asks_least, in_entries}
-use Rattle.brc_runs.proofs.Naming.{Unheld, Ungripped, dead_unheld, ungripped, sole_grip, unnamed, no_mark, grips_free, carries_free, free_hand, busy_hand, free_owner, dead_counts, grips_once}
+use Rattle.brc_runs.specs.Sound.{IsSound, ThreadFits, PhaseFits, Births, HandFits, counted_in, grips_of, grips_by_owner, grips, is_threads, asks_least, in_entries, Offered, offering, rests_at}
+use Rattle.brc_runs.proofs.Naming.{Unheld, Ungripped, dead_unheld, ungripped, sole_grip, unnamed, no_mark, grips_free, carries_free, free_hand, busy_hand, free_owner, dead_counts, grips_once, active_works, offers_free, offers_none, offers_else, unoffered}
 use Rattle.brc_runs.proofs.Framing.{times-filled, length-filled}
 use Rattle.brc_runs.proofs.Asking.{May, OnCell, on_cell, may_parts, Vacant, vacant}
 use Rattle.brc_runs.proofs.Changes.{same_entries, Fewer}
@@ -32,10 +33,11 @@ use Rattle.brc_runs.proofs.Plainly.{Plain, plain_sound}
 -- ---- threads
 
 -- only an active thread makes these steps
-pub active_from : (stage : Stage) (s : Step) → stage_ok stage s ≡ true → may_after_leaving s ≡ false → is_close s ≡ false → stage ≡ stages.Active
-active_from stages.Active s ok more close = refl
-active_from (stages.Closing n) s ok more close = absurd (true≢false (sym ok ∙ close))
-active_from stages.Left s ok more close = absurd (true≢false (sym ok ∙ more))
+pub active_from : (stage : Stage) (s : Step) → stage_ok stage s ≡ true → may_after_leaving s ≡ false → is_close s ≡ false → is_open s ≡ false → stage ≡ stages.Active
+active_from stages.Active s ok more close opens = refl
+active_from (stages.Closing n) s ok more close opens = absurd (true≢false (sym ok ∙ close))
+active_from stages.Left s ok more close opens = absurd (true≢false (sym ok ∙ more))
+active_from (stages.Opening n) s ok more close opens = absurd (true≢false (sym ok ∙ opens))
 
 -- without a lock
 pub no_lock : (locked : Option ℕ) (s : Step) → lock_ok locked s ≡ true → needs_lock s ≡ false → locked ≡ None
@@ -43,11 +45,11 @@ no_lock None s ok plain = refl
 no_lock (Some k) s ok plain = absurd (true≢false (sym ok ∙ plain))
 
 -- what an active thread's own part owes when its row, frame and worklist change
-pub active_fits : (words : ℕ) (row row' : Row) (frame frame' : List (Option ℕ)) (popped : List ℕ) (worklist work' : List Bool) (queue : List ℕ) (gathered : Bool)
+pub active_fits : (e : Edition) (words : ℕ) (row row' : Row) (frame frame' : List (Option ℕ)) (popped : List ℕ) (worklist work' : List Bool) (queue : List ℕ) (gathered : Bool)
     → row.stage ≡ stages.Active → gathered ≡ false → row'.stage ≡ row.stage
     → ((k : ℕ) → row'.locked ≡ Some k → row'.hand ≡ hands.Free) → row'.allocs ≤ MOST_BIRTHS → length frame' ≤ MOST_PLACES
-    → ThreadFits words row' frame' popped work' queue gathered
-active_fits words row row' frame frame' popped worklist work' queue gathered active here same lock births places =
+    → ThreadFits e words row' frame' popped work' queue gathered
+active_fits e words row row' frame frame' popped worklist work' queue gathered active here same lock births places =
     let now : row'.stage ≡ stages.Active = same ∙ active in
     let no : is_active row'.stage ≡ false → ⊥ = λ h. true≢false (sym (ap is_active now) ∙ h) in
     record {
@@ -55,7 +57,9 @@ active_fits words row row' frame frame' popped worklist work' queue gathered act
       inactive_frame = λ h. absurd (no h);
       inactive_lock = λ h. absurd (no h);
       closing = λ n h. let e : stages.Active ≡ stages.Closing n = sym now ∙ h in absurd (cc);
-      closing_work = λ n q h. let e : stages.Active ≡ stages.Closing n = sym now ∙ h in absurd (cc);
+      closing_work = λ n q _ h. let e : stages.Active ≡ stages.Closing n = sym now ∙ h in absurd (cc);
+      opening = λ n h. let e : stages.Active ≡ stages.Opening n = sym now ∙ h in absurd (cc);
+      opening_rest = λ n q h. let e : stages.Active ≡ stages.Opening n = sym now ∙ h in absurd (cc);
       closed = λ k h. absurd (true≢false (sym h ∙ ap (λ stage. is_closed stage k) now));
       gathered_left = λ h. absurd (true≢false (sym h ∙ here));
       gathered_hand = λ h. absurd (true≢false (sym h ∙ here));
@@ -91,17 +95,18 @@ pub record Bears (h : Heap) (t c : ℕ) : Type 0 where
   pub hand_here : one (grips c (row_at h t).hand) ≡ grips_of (cell_at h c)
   pub mark : one (is_marked (worklist_at h t) c) ≡ 0
   pub others : (s : ℕ) → s ≢ t → Ungripped h c s
+  pub offers : (q : ℕ) → one (offering q (row_at h t).hand) ≡ 0
 
 -- claimed and the two words set: the cell stays without an object, in the thread's hand
-claim_fits : (h : Heap) (t c : ℕ) (s : Step) (x : Cell) (r : Row) (p : Phase) → IsSound h → May h t s → may_after_leaving s ≡ false → is_close s ≡ false → needs_lock s ≡ false → c < length h.cells → Bears h t c
+claim_fits : (h : Heap) (t c : ℕ) (s : Step) (x : Cell) (r : Row) (p : Phase) → IsSound h → May h t s → may_after_leaving s ≡ false → is_close s ≡ false → is_open s ≡ false → needs_lock s ≡ false → c < length h.cells → Bears h t c
     → x.owner ≡ owners.Claimed t → x.mutex ≡ (cell_at h c).mutex → x.bearer ≡ (cell_at h c).bearer → x.count ≡ pos 0
     → r.stage ≡ (row_at h t).stage → r.locked ≡ (row_at h t).locked → r.allocs ≡ (row_at h t).allocs → r.frees ≡ (row_at h t).frees
-    → r.hand ≡ hands.Busy p c → is_gripping p ≡ true → has_reference p ≡ false
-    → ((g : Stage) → PhaseFits t r (popped_at h t) x g c p)
+    → r.hand ≡ hands.Busy p c → is_gripping p ≡ true → has_reference p ≡ false → is_offering p ≡ false
+    → ((g : Stage) → PhaseFits h.edition t r (popped_at h t) x g c p)
     → Plain h t c x r (frame_at h t) (worklist_at h t) h.entries
-claim_fits h t c s x r p sound may runs opens plain inside bears owner mutex bearer count stage locked allocs frees hand gripping no_reference phase =
+claim_fits h t c s x r p sound may runs opens reopens plain inside bears owner mutex bearer count stage locked allocs frees hand gripping no_reference no_offer phase =
     let none : Unheld h c = dead_unheld h c sound bears.mortal bears.dead in
-    let active : (row_at h t).stage ≡ stages.Active = active_from _ s may.stage runs opens in
+    let active : (row_at h t).stage ≡ stages.Active = active_from _ s may.stage runs opens reopens in
     let unlocked : r.locked ≡ None = locked ∙ no_lock _ s may.lock plain in
     let dead : lives x.owner ≡ false = ap lives owner in
     let old_count : counted_in (cell_at h c) ≡ pos 0 = dead_counts (cell_at h c) bears.dead in
@@ -130,16 +135,18 @@ claim_fits h t c s x r p sound may runs opens plain inside bears owner mutex bea
       gripped_here = λ _. omega (arith, grip, bears.hand_here, new_grips);
       gripped_else = λ q _ ne. omega (arith, (bears.hand_else q ne).0, (new_else q ne).0);
       most_here = λ _. omega (arith, none.asks, old_carries, new_carries);
-      least_here = λ _. omega (arith, none.asks, old_carries, new_carries, asked);
+      least_here = λ _. omega (arith, none.asks, old_carries, new_carries, asked, bears.offers c);
+      offers_else = λ q _ ne. offers_none p c q r.hand no_offer hand ∙ sym (bears.offers q);
       asks_else = λ q _ ne. (new_else q ne).1 ∙ sym (bears.hand_else q ne).1;
       hand = λ q d busy. let e : hands.Busy q d ≡ hands.Busy p c = sym busy ∙ hand in
           let same_phase : q ≡ p = cc in let same_cell : d ≡ c = cc in
-          (same_cell, bears.mortal, subst (λ z. PhaseFits t r (popped_at h t) x (row_at h x.bearer).stage c z) (sym same_phase) (phase (row_at h x.bearer).stage));
-      hands_else = λ j q ne busy. absurd (unnamed q c (row_at h j).hand (bears.others j ne).hand (none.hands j) busy);
+          (same_cell, bears.mortal, subst (λ z. PhaseFits h.edition t r (popped_at h t) x (row_at h x.bearer).stage c z) (sym same_phase) (phase (row_at h x.bearer).stage));
+      hands_else = λ j q ne busy. absurd (unnamed q c (row_at h j).hand (bears.others j ne).hand (none.hands j) (unoffered h j c _ sound refl (λ (o : Offered j (cell_at h c)). true≢false (sym (ap lives o.owner) ∙ bears.dead))) busy);
       cell = λ mortal. record {
         default = λ _. subst (λ z. pos 0 ≤ℤ z) (sym count) (omega (arith, ints));
         owned_unmerged = λ j e. let bad : owners.Claimed t ≡ owners.Thread j = sym owner ∙ e in absurd (cc);
         owned_by_bearer = λ j e. let bad : owners.Claimed t ≡ owners.Thread j = sym owner ∙ e in absurd (cc);
+        rested = λ j e _. let bad : owners.Claimed t ≡ owners.Thread j = sym owner ∙ e in absurd (cc);
         dead_empty = λ _. (sound.cells c mortal).dead_empty bears.dead;
         dead_count = λ _. count;
         born = λ live. absurd (true≢false (sym live ∙ dead));
@@ -151,7 +158,7 @@ claim_fits h t c s x r p sound may runs opens plain inside bears owner mutex bea
       works_here = λ on. absurd (no_mark _ bears.mark on);
       works_own = λ q _ on. on;
       works_else = λ j ne on. absurd (no_mark _ (bears.others j ne).mark on);
-      own = active_fits _ (row_at h t) r (frame_at h t) (frame_at h t) _ (worklist_at h t) (worklist_at h t) _ _ active may.not_gathered stage
+      own = active_fits _ _ (row_at h t) r (frame_at h t) (frame_at h t) _ (worklist_at h t) (worklist_at h t) _ _ active may.not_gathered stage
           (λ k e. let bad : None ≡ Some k = sym unlocked ∙ e in absurd (cc)) (subst (λ n. n ≤ MOST_BIRTHS) (sym allocs) (sound.threads t).births) (sound.threads t).places;
       ledger = omega (arith, allocs, frees, ap one bears.dead, ap one dead);
     }
@@ -171,7 +178,7 @@ claim_sound h t c sound ok =
     let x : Cell = cell_after t (Claim c) c (cell_at h c) in
     let r : Row = row_after (Claim c) c (cell_at h c) (is_shut h c) (row_at h t) in
     plain_sound h t c x r (frame_at h t) (worklist_at h t) h.entries sound
-    (claim_fits h t c (Claim c) x r phases.Claimed sound may refl refl refl at_cell.inside
+    (claim_fits h t c (Claim c) x r phases.Claimed sound may refl refl refl refl at_cell.inside
     (record {
       mortal = mortal;
       dead = ap lives free;
@@ -179,14 +186,15 @@ claim_sound h t c sound ok =
       hand_here = grips_free c _ hand ∙ sym grip;
       mark = (alone t).mark;
       others = λ s _. alone s;
+      offers = λ q. offers_free q _ hand;
     })
     refl refl refl ((sound.cells c mortal).dead_count (ap lives free)) refl refl refl refl refl refl refl
-    (λ g. record { claimed = refl; more = ltb-true _ _ may.own }))
+    refl (λ g. record { claimed = refl; more = ltb-true _ _ may.own }))
 
 -- what holds while a birth is in the thread's hand
-birth_bears : (h : Heap) (t c : ℕ) (p : Phase) → IsSound h → (row_at h t).hand ≡ hands.Busy p c → is_gripping p ≡ true → FIRST_MORTAL ≤ c
+birth_bears : (h : Heap) (t c : ℕ) (p : Phase) → IsSound h → (row_at h t).hand ≡ hands.Busy p c → is_gripping p ≡ true → is_offering p ≡ false → FIRST_MORTAL ≤ c
     → (cell_at h c).owner ≡ owners.Claimed t → Bears h t c
-birth_bears h t c p sound busy gripping mortal owner =
+birth_bears h t c p sound busy gripping no_offer mortal owner =
     let grip : grips_of (cell_at h c) ≡ 1 = ap (λ o. grips_by_owner o (cell_at h c).state (cell_at h c).local (cell_at h c).count) owner in
     let here : one (grips c (row_at h t).hand) ≡ 1 = ap (λ z. one (grips c z)) busy ∙ busy_grips p c gripping in
     record {
@@ -196,6 +204,7 @@ birth_bears h t c p sound busy gripping mortal owner =
       hand_here = here ∙ sym grip;
       mark = omega (arith, grips_once h c t sound mortal, here);
       others = sole_grip h c t sound mortal (omega (arith, here));
+      offers = λ q. offers_none p c q _ no_offer busy;
     }
 
 pub local_sound : (h : Heap) (t c : ℕ) → IsSound h → thread_may h t (InitLocal c) ≡ true → IsSound (stepped h t (InitLocal c) c)
@@ -205,13 +214,13 @@ local_sound h t c sound ok =
     let busy : (row_at h t).hand ≡ hands.Busy phases.Claimed c = busy_hand phases.Claimed c _ may.hand in
     let said : HandFits h t phases.Claimed c = sound.hands t c phases.Claimed busy in
     let births : Births t (row_at h t) (cell_at h c) = said.fits in
-    let bears : Bears h t c = birth_bears h t c phases.Claimed sound busy refl said.mortal births.claimed in
+    let bears : Bears h t c = birth_bears h t c phases.Claimed sound busy refl refl said.mortal births.claimed in
     let x : Cell = cell_after t (InitLocal c) c (cell_at h c) in
     let r : Row = row_after (InitLocal c) c (cell_at h c) (is_shut h c) (row_at h t) in
     plain_sound h t c x r (frame_at h t) (worklist_at h t) h.entries sound
-    (claim_fits h t c (InitLocal c) x r phases.Counted sound may refl refl refl at_cell.inside bears
+    (claim_fits h t c (InitLocal c) x r phases.Counted sound may refl refl refl refl at_cell.inside bears
     births.claimed refl refl ((sound.cells c said.mortal).dead_count bears.dead) refl refl refl refl refl refl refl
-    (λ g. (record { claimed = births.claimed; more = births.more }, refl)))
+    refl (λ g. (record { claimed = births.claimed; more = births.more }, refl)))
 
 pub shared_sound : (h : Heap) (t c : ℕ) → IsSound h → thread_may h t (InitShared c) ≡ true → IsSound (stepped h t (InitShared c) c)
 shared_sound h t c sound ok =
@@ -221,13 +230,13 @@ shared_sound h t c sound ok =
     let said : HandFits h t phases.Counted c = sound.hands t c phases.Counted busy in
     let fits : Births t (row_at h t) (cell_at h c) × ((cell_at h c).local ≡ 1) = said.fits in
     let births : Births t (row_at h t) (cell_at h c) = fits.0 in
-    let bears : Bears h t c = birth_bears h t c phases.Counted sound busy refl said.mortal births.claimed in
+    let bears : Bears h t c = birth_bears h t c phases.Counted sound busy refl refl said.mortal births.claimed in
     let x : Cell = cell_after t (InitShared c) c (cell_at h c) in
     let r : Row = row_after (InitShared c) c (cell_at h c) (is_shut h c) (row_at h t) in
     plain_sound h t c x r (frame_at h t) (worklist_at h t) h.entries sound
-    (claim_fits h t c (InitShared c) x r phases.Ready sound may refl refl refl at_cell.inside bears
+    (claim_fits h t c (InitShared c) x r phases.Ready sound may refl refl refl refl at_cell.inside bears
     births.claimed refl refl refl refl refl refl refl refl refl refl
-    (λ g. (record { claimed = births.claimed; more = births.more }, fits.1, refl)))
+    refl (λ g. (record { claimed = births.claimed; more = births.more }, fits.1, refl)))
 
 -- the object is there: its first reference is in the frame, and its local count is 1
 pub birth_sound : (h : Heap) (t c : ℕ) (kind : Kind) (k : ℕ) → IsSound h → thread_may h t (Birth c kind k) ≡ true → IsSound (stepped h t (Birth c kind k) c)
@@ -238,10 +247,10 @@ birth_sound h t c kind k sound ok =
     let said : HandFits h t phases.Ready c = sound.hands t c phases.Ready busy in
     let fits : Births t (row_at h t) (cell_at h c) × ((cell_at h c).local ≡ 1) × ((cell_at h c).state ≡ states.Default) = said.fits in
     let births : Births t (row_at h t) (cell_at h c) = fits.0 in
-    let bears : Bears h t c = birth_bears h t c phases.Ready sound busy refl said.mortal births.claimed in
+    let bears : Bears h t c = birth_bears h t c phases.Ready sound busy refl refl said.mortal births.claimed in
     let none : Unheld h c = dead_unheld h c sound bears.mortal bears.dead in
     let place : Vacant (frame_at h t) k = vacant _ k (and_parts _ _ may.own).1 in
-    let active : (row_at h t).stage ≡ stages.Active = active_from _ (Birth c kind k) may.stage refl refl in
+    let active : (row_at h t).stage ≡ stages.Active = active_from _ (Birth c kind k) may.stage refl refl refl in
     let unlocked : (row_at h t).locked ≡ None = no_lock _ (Birth c kind k) may.lock refl in
     let x : Cell = cell_after t (Birth c kind k) c (cell_at h c) in
     let r : Row = row_after (Birth c kind k) c (cell_at h c) (is_shut h c) (row_at h t) in
@@ -276,14 +285,16 @@ birth_sound h t c kind k sound ok =
       gripped_here = λ _. omega (arith, grip, bears.hand_here);
       gripped_else = λ q _ ne. omega (arith, (bears.hand_else q ne).0);
       most_here = λ _. omega (arith, none.asks, none.hands t);
-      least_here = λ _. omega (arith, none.asks, none.hands t, asked);
+      least_here = λ _. omega (arith, none.asks, none.hands t, asked, bears.offers c);
+      offers_else = λ q _ ne. sym (bears.offers q);
       asks_else = λ q _ ne. sym (bears.hand_else q ne).1;
       hand = λ q d busy. let bad : hands.Free ≡ hands.Busy q d = busy in absurd (cc);
-      hands_else = λ j q ne busy. absurd (unnamed q c (row_at h j).hand (bears.others j ne).hand (none.hands j) busy);
+      hands_else = λ j q ne busy. absurd (unnamed q c (row_at h j).hand (bears.others j ne).hand (none.hands j) (unoffered h j c _ sound refl (λ (o : Offered j (cell_at h c)). true≢false (sym (ap lives o.owner) ∙ bears.dead))) busy);
       cell = λ mortal. record {
         default = λ _. subst (λ z. pos 0 ≤ℤ z) (sym count) (omega (arith, ints));
         owned_unmerged = λ j _. ap is_merged fits.2;
         owned_by_bearer = λ j e. cc;
+        rested = λ j e rest. let same : t ≡ j = cc in absurd (true≢false (sym rest ∙ ap (rests_at h) (sym same) ∙ active_works h.edition _ active));
         dead_empty = λ dead. absurd (true≢false dead);
         dead_count = λ _. count;
         born = λ _. (may.some_thread, may.inside);
@@ -298,7 +309,7 @@ birth_sound h t c kind k sound ok =
       works_here = λ on. absurd (no_mark _ bears.mark on);
       works_own = λ q _ on. on;
       works_else = λ j ne on. absurd (no_mark _ (bears.others j ne).mark on);
-      own = active_fits _ (row_at h t) r (frame_at h t) f _ (worklist_at h t) (worklist_at h t) _ _ active may.not_gathered refl
+      own = active_fits _ _ (row_at h t) r (frame_at h t) f _ (worklist_at h t) (worklist_at h t) _ _ active may.not_gathered refl
           (λ j _. refl) (omega (arith, births.more)) (length-filled (frame_at h t) k c place.low (sound.threads t).places);
       ledger = omega (arith, ap one bears.dead);
     })

@@ -1,11 +1,14 @@
 -- One thread's part and one cell change, with entries and queue words: what every clause becomes, once for all steps.
-use Rattle.std.proofs.Common.{◌≡◌, ◌≢◌, ℕ, ◌+◌, ◌-◌, ◌/◌, ◌<◌, ◌≤◌, Bool, true, ℤ, pos, ◌+ℤ◌, List, [], length, get_or, set, drop, Option, Some, sum_by, refl, sym, ◌∙◌, ap, subst, inl, inr, ◌⊎◌, arith}
+use Rattle.std.proofs.Common.{◌≡◌, ◌≢◌, ℕ, ◌+◌, ◌-◌, ◌/◌, ◌<◌, ◌≤◌, Bool, true, ℤ, pos, ◌+ℤ◌, List, [], length, get_or, set, drop, Option, Some, sum_by, refl, sym, ◌∙◌, ap, subst, inl, inr, ◌⊎◌, arith, ◌*◌}
 use Rattle.std.proofs.lemmas.List.{get_or-set_same, get_or-set_other, length-set, drop-set-lt, drop-set-add, get_or-drop, length-drop}
 use Rattle.std.proofs.lemmas.List.Sums.{sum_by-set}
 use Rattle.std.proofs.lemmas.Bool.{cases_eq, cases_lt}
 use Rattle.std.proofs.lemmas.Int.{ints}
-use Rattle.brc_words.specs.declared.limits.TheConstants.{FIRST_MORTAL, MOST_THREADS}
+use Rattle.brc_words.specs.declared.limits.TheConstants.{FIRST_MORTAL, MOST_THREADS, MOST_BIRTHS}
 use Rattle.brc_runs.specs.declared.cell.Cell.{Cell}
+use Rattle.brc_words.specs.declared.owner.Owner.TheVariants as owners
+use Rattle.brc_runs.specs.declared.edition.Edition.{Edition}
+use Rattle.brc_runs.specs.declared.edition.Edition.TheVariants as editions
 use Rattle.brc_runs.specs.declared.row.Row.{Row}
 use Rattle.brc_runs.specs.declared.row.Hand.TheVariants as hands
 use Rattle.brc_runs.specs.declared.row.Phase.{Phase}
@@ -15,7 +18,7 @@ use Rattle.brc_runs.specs.Lists.{one, times, entry_times, bit_of, is_marked, pla
 use Rattle.brc_runs.specs.Heap.{Heap, cell_at, entries_at, row_at, frame_at, popped_at, worklist_at, queue_at, no_cell, no_row, is_gathered, words_for, AreOptions}
 use Rattle.brc_runs.specs.Steps.{is_closed}
 use Rattle.brc_runs.specs.Holding.{lives, carries, live_count}
-use Rattle.brc_runs.specs.Sound.{IsSound, IsShaped, CellFits, ImmortalFits, WorklistFits, ThreadFits, HandFits, PhaseFits, Locks, counted_in, grips_of, grips, gripped, held, asks, asks_most, asks_least, in_frames, in_popped, in_queues, in_hands, in_entries}
+use Rattle.brc_runs.specs.Sound.{IsSound, IsShaped, CellFits, ImmortalFits, WorklistFits, ThreadFits, HandFits, PhaseFits, Locks, counted_in, grips_of, grips, gripped, held, asks, asks_most, asks_least, in_frames, in_popped, in_queues, in_hands, in_entries, ShutFits, offering, offered, rests, rests_at}
 
 -- what a step puts in place of one cell, of one thread's parts, of all entries and of all queue words
 pub record New : Type 0 where
@@ -26,6 +29,8 @@ pub record New : Type 0 where
   pub worklist : List Bool
   pub entries : List (List ℕ)
   pub queues : List (List ℕ)
+  pub past_allocs : ℕ
+  pub past_frees : ℕ
 
 abbrev pub changed : Heap → ℕ → ℕ → New → Heap
 changed h t c n = record h {
@@ -36,6 +41,8 @@ changed h t c n = record h {
   popped = set h.popped t n.popped;
   worklists = set h.worklists t n.worklist;
   queues = n.queues;
+  past_allocs = n.past_allocs;
+  past_frees = n.past_frees;
 }
 
 -- ---- reading a list after a write
@@ -97,27 +104,31 @@ pub record Fits (h : Heap) (t c : ℕ) (n : New) : Type 0 where
   pub gripped_else : (q : ℕ) → FIRST_MORTAL ≤ q → q ≢ c → one (is_marked (worklist_at h t) q) + one (grips q (row_at h t).hand)
       ≡ one (is_marked n.worklist q) + one (grips q n.row.hand)
   pub most_here : FIRST_MORTAL ≤ c → asks h c + new_asks n c ≤ asks_most n.cell + old_asks h t c
-  pub least_here : FIRST_MORTAL ≤ c → asks_least n.cell + old_asks h t c ≤ asks h c + new_asks n c
+  pub least_here : FIRST_MORTAL ≤ c → asks_least n.cell + old_asks h t c + one (offering c (row_at h t).hand) ≤ asks h c + offered h c + new_asks n c + one (offering c n.row.hand)
+  pub offers_else : (q : ℕ) → FIRST_MORTAL ≤ q → q ≢ c → one (offering q n.row.hand) ≡ one (offering q (row_at h t).hand)
   pub asks_else : (q : ℕ) → FIRST_MORTAL ≤ q → q ≢ c → new_asks n q ≡ old_asks h t q
   -- hands
-  pub hand : (p : Phase) (d : ℕ) → n.row.hand ≡ hands.Busy p d → (d ≡ c) × (FIRST_MORTAL ≤ c) × PhaseFits t n.row n.popped n.cell (row_at h n.cell.bearer).stage c p
-  pub hands_else : (s : ℕ) (p : Phase) → s ≢ t → (row_at h s).hand ≡ hands.Busy p c → PhaseFits s (row_at h s) (popped_at h s) n.cell (row_at h n.cell.bearer).stage c p
+  pub hand : (p : Phase) (d : ℕ) → n.row.hand ≡ hands.Busy p d → (d ≡ c) × (FIRST_MORTAL ≤ c) × PhaseFits h.edition t n.row n.popped n.cell (row_at h n.cell.bearer).stage c p
+  pub hands_else : (s : ℕ) (p : Phase) → s ≢ t → (row_at h s).hand ≡ hands.Busy p c → PhaseFits h.edition s (row_at h s) (popped_at h s) n.cell (row_at h n.cell.bearer).stage c p
   -- cells, entries and worklists
-  pub cell : FIRST_MORTAL ≤ c → CellFits (length h.rows) h.limit n.cell (get_or n.entries c [])
+  pub cell : FIRST_MORTAL ≤ c → CellFits (length h.rows) h.limit (rests_at h) n.cell (get_or n.entries c [])
   pub immortal : c < FIRST_MORTAL → ImmortalFits c n.cell (get_or n.entries c [])
   pub fewer : (q : ℕ) → q ≢ c → Fewer (entries_at h q) (get_or n.entries q [])
   pub works_here : is_marked n.worklist c ≡ true → WorklistFits t c n.cell
   pub works_own : (q : ℕ) → q ≢ c → is_marked n.worklist q ≡ true → is_marked (worklist_at h t) q ≡ true
   pub works_else : (s : ℕ) → s ≢ t → is_marked (worklist_at h s) c ≡ true → WorklistFits s c n.cell
-  -- threads: closed words stay closed and hold nothing
-  pub closes : (k : ℕ) → is_closed (row_at h t).stage k ≡ true → is_closed n.row.stage k ≡ true
-  pub own : ThreadFits (words_for (length h.cells)) n.row n.frame n.popped n.worklist (get_or n.queues t []) (is_gathered h t)
+  -- threads: closed words hold nothing, and in the first edition they stay closed; a thread that rests owns nothing alive
+  pub closes : h.edition ≡ editions.One → (k : ℕ) → is_closed (row_at h t).stage k ≡ true → is_closed n.row.stage k ≡ true
+  pub resting : (q : ℕ) → FIRST_MORTAL ≤ q → (get_or (set h.cells c n.cell) q no_cell).owner ≡ owners.Thread t → rests h.edition n.row.stage ≡ true
+      → (get_or (set h.cells c n.cell) q no_cell).local ≡ 0
+  pub own : ThreadFits h.edition (words_for (length h.cells)) n.row n.frame n.popped n.worklist (get_or n.queues t []) (is_gathered h t)
   pub queues_else : (s k : ℕ) → s ≢ t → is_closed (row_at h s).stage k ≡ true → word_at (get_or n.queues s []) k ≡ 0
   -- bits are of objects that the thread bore; locks
   pub bits : (s q : ℕ) → 0 < bit_of (get_or n.queues s []) q + bit_of (get_or (set h.popped t n.popped) s []) q
       → (FIRST_MORTAL ≤ q) × ((get_or (set h.cells c n.cell) q no_cell).bearer ≡ s)
   pub locks : LocksFit (changed h t c n)
-  pub ledger : n.row.allocs + (row_at h t).frees + one (lives (cell_at h c).owner) ≡ (row_at h t).allocs + n.row.frees + one (lives n.cell.owner)
+  pub ledger : n.row.allocs + (row_at h t).frees + one (lives (cell_at h c).owner) + (n.past_allocs + h.past_frees) ≡ (row_at h t).allocs + n.row.frees + one (lives n.cell.owner) + (h.past_allocs + n.past_frees)
+  pub past : n.past_allocs ≤ h.registrations * MOST_BIRTHS
 
 -- ---- sums
 
@@ -132,6 +143,10 @@ popped_sum h t q words inside = sum_by-set (λ words. bit_of words q) h.popped t
 hands_sum : (h : Heap) (t q : ℕ) (r : Row) → t < length h.rows
     → sum_by (λ row. one (carries q row.hand)) (set h.rows t r) + one (carries q (row_at h t).hand) ≡ in_hands h q + one (carries q r.hand)
 hands_sum h t q r inside = sum_by-set (λ row. one (carries q row.hand)) h.rows t r no_row inside
+
+offers_sum : (h : Heap) (t q : ℕ) (r : Row) → t < length h.rows
+    → sum_by (λ row. one (offering q row.hand)) (set h.rows t r) + one (offering q (row_at h t).hand) ≡ sum_by (λ row. one (offering q row.hand)) h.rows + one (offering q r.hand)
+offers_sum h t q r inside = sum_by-set (λ row. one (offering q row.hand)) h.rows t r no_row inside
 
 grips_sum : (h : Heap) (t q : ℕ) (r : Row) → t < length h.rows
     → sum_by (λ row. one (grips q row.hand)) (set h.rows t r) + one (grips q (row_at h t).hand) ≡ sum_by (λ row. one (grips q row.hand)) h.rows + one (grips q r.hand)
@@ -158,26 +173,46 @@ else_balance old frames' popped' hands' queues' entries' frames popped hands que
 
 -- what a hand says of a cell, whichever row and cell are read
 PhaseHolds : Heap → ℕ → Row → List ℕ → ℕ → Phase → Cell → Type 0
-PhaseHolds h' s row popped d p y = (FIRST_MORTAL ≤ d) × PhaseFits s row popped y (row_at h' y.bearer).stage d p
+PhaseHolds h' s row popped d p y = (FIRST_MORTAL ≤ d) × PhaseFits h'.edition s row popped y (row_at h' y.bearer).stage d p
 
--- only a shut hand looks at the bearer's stage, and closed words stay closed
-pub other_bearer : (t : ℕ) (row : Row) (popped : List ℕ) (x : Cell) (old new : Stage) (d : ℕ) (p : Phase)
-    → (p ≡ phases.Shut → is_closed old (d / 32) ≡ true → is_closed new (d / 32) ≡ true) → PhaseFits t row popped x old d p → PhaseFits t row popped x new d p
-other_bearer t row popped x old new d phases.Shut same fits = same refl fits
-other_bearer t row popped x old new d _ same fits = fits
+shut_elsewhere : (e : Edition) (x : Cell) (old new : Stage) (d : ℕ) → (e ≡ editions.One → is_closed old (d / 32) ≡ true → is_closed new (d / 32) ≡ true) → ShutFits e x old d → ShutFits e x new d
+shut_elsewhere editions.One x old new d same fits = same refl fits
+shut_elsewhere editions.Two x old new d same fits = fits
+
+-- only a shut hand looks at the bearer's stage, in the first edition, where closed words stay closed
+pub other_bearer : (e : Edition) (t : ℕ) (row : Row) (popped : List ℕ) (x : Cell) (old new : Stage) (d : ℕ) (p : Phase)
+    → (p ≡ phases.Shut → e ≡ editions.One → is_closed old (d / 32) ≡ true → is_closed new (d / 32) ≡ true) → PhaseFits e t row popped x old d p → PhaseFits e t row popped x new d p
+other_bearer e t row popped x old new d phases.Shut same fits = shut_elsewhere e x old new d (same refl) fits
+other_bearer e t row popped x old new d _ same fits = fits
 
 -- fewer entries break nothing that a cell says
-other_entries : (threads limit : ℕ) (y : Cell) (old new : List ℕ) → Fewer old new → CellFits threads limit y old → CellFits threads limit y new
-other_entries threads limit y old new fewer fits = record {
+other_entries : (threads limit : ℕ) (resting : ℕ → Bool) (y : Cell) (old new : List ℕ) → Fewer old new → CellFits threads limit resting y old → CellFits threads limit resting y new
+other_entries threads limit resting y old new fewer fits = record {
   default = fits.default;
   owned_unmerged = fits.owned_unmerged;
   owned_by_bearer = fits.owned_by_bearer;
+  rested = fits.rested;
   dead_empty = λ dead. fewer.empty (fits.dead_empty dead);
   dead_count = fits.dead_count;
   born = fits.born;
   limited = fits.limited;
   plain = λ plain. fewer.empty (fits.plain plain);
   few = omega (arith, fits.few, fewer.few);
+}
+
+resting_cell : (threads limit : ℕ) (before after : ℕ → Bool) (y : Cell) (entries : List ℕ) → ((t : ℕ) → y.owner ≡ owners.Thread t → after t ≡ true → y.local ≡ 0)
+    → CellFits threads limit before y entries → CellFits threads limit after y entries
+resting_cell threads limit before after y entries rested fits = record {
+  default = fits.default;
+  owned_unmerged = fits.owned_unmerged;
+  owned_by_bearer = fits.owned_by_bearer;
+  rested = rested;
+  dead_empty = fits.dead_empty;
+  dead_count = fits.dead_count;
+  born = fits.born;
+  limited = fits.limited;
+  plain = fits.plain;
+  few = fits.few;
 }
 
 pub immortal_entries : (c : ℕ) (y : Cell) (old new : List ℕ) → Fewer old new → ImmortalFits c y old → ImmortalFits c y new
@@ -192,14 +227,16 @@ immortal_entries c y old new fewer fits = record {
 }
 
 -- another thread's queue may change, where its closed words stay empty
-pub other_queue : (words : ℕ) (row : Row) (frame : List (Option ℕ)) (popped : List ℕ) (worklist : List Bool) (old new : List ℕ) (gathered : Bool)
-    → ((k : ℕ) → is_closed row.stage k ≡ true → word_at new k ≡ 0) → ThreadFits words row frame popped worklist old gathered → ThreadFits words row frame popped worklist new gathered
-other_queue words row frame popped worklist old new gathered empty fits = record {
+pub other_queue : (e : Edition) (words : ℕ) (row : Row) (frame : List (Option ℕ)) (popped : List ℕ) (worklist : List Bool) (old new : List ℕ) (gathered : Bool)
+    → ((k : ℕ) → is_closed row.stage k ≡ true → word_at new k ≡ 0) → ThreadFits e words row frame popped worklist old gathered → ThreadFits e words row frame popped worklist new gathered
+other_queue e words row frame popped worklist old new gathered empty fits = record {
   inactive_hand = fits.inactive_hand;
   inactive_frame = fits.inactive_frame;
   inactive_lock = fits.inactive_lock;
   closing = fits.closing;
   closing_work = fits.closing_work;
+  opening = fits.opening;
+  opening_rest = fits.opening_rest;
   closed = empty;
   gathered_left = fits.gathered_left;
   gathered_hand = fits.gathered_hand;
@@ -288,22 +325,22 @@ module _ (h : Heap) (t c : ℕ) (n : New) (sound : IsSound h) (fits : Fits h t c
       (λ mortal. omega (arith, hands_sum h t c n.row fits.thread_inside, popped_sum h t c n.popped at_popped, fits.most_here mortal))
       (λ q ne mortal. omega (arith, hands_sum h t q n.row fits.thread_inside, popped_sum h t q n.popped at_popped, fits.asks_else q mortal ne, sound.most q mortal))
 
-  changed_least : (q : ℕ) → FIRST_MORTAL ≤ q → asks_least (cell_at h' q) ≤ asks h' q
+  changed_least : (q : ℕ) → FIRST_MORTAL ≤ q → asks_least (cell_at h' q) ≤ asks h' q + offered h' q
   changed_least =
-      read_by (λ q y. FIRST_MORTAL ≤ q → asks_least y ≤ asks h' q) h.cells c n.cell no_cell fits.cell_inside
-      (λ mortal. omega (arith, hands_sum h t c n.row fits.thread_inside, popped_sum h t c n.popped at_popped, fits.least_here mortal))
-      (λ q ne mortal. omega (arith, hands_sum h t q n.row fits.thread_inside, popped_sum h t q n.popped at_popped, fits.asks_else q mortal ne, sound.least q mortal))
+      read_by (λ q y. FIRST_MORTAL ≤ q → asks_least y ≤ asks h' q + offered h' q) h.cells c n.cell no_cell fits.cell_inside
+      (λ mortal. omega (arith, hands_sum h t c n.row fits.thread_inside, popped_sum h t c n.popped at_popped, offers_sum h t c n.row fits.thread_inside, fits.least_here mortal))
+      (λ q ne mortal. omega (arith, hands_sum h t q n.row fits.thread_inside, popped_sum h t q n.popped at_popped, offers_sum h t q n.row fits.thread_inside, fits.asks_else q mortal ne, fits.offers_else q mortal ne, sound.least q mortal))
 
-  stays_closed : (j k : ℕ) → is_closed (row_at h j).stage k ≡ true → is_closed (row_at h' j).stage k ≡ true
-  stays_closed j k = read_by (λ i row. is_closed (row_at h i).stage k ≡ true → is_closed row.stage k ≡ true) h.rows t n.row no_row fits.thread_inside (fits.closes k) (λ i _ closed. closed) j
+  stays_closed : h.edition ≡ editions.One → (j k : ℕ) → is_closed (row_at h j).stage k ≡ true → is_closed (row_at h' j).stage k ≡ true
+  stays_closed first j k = read_by (λ i row. is_closed (row_at h i).stage k ≡ true → is_closed row.stage k ≡ true) h.rows t n.row no_row fits.thread_inside (fits.closes first k) (λ i _ closed. closed) j
 
   changed_hands : (s d : ℕ) (p : Phase) → (row_at h' s).hand ≡ hands.Busy p d → HandFits h' s p d
   unfolding PhaseHolds
   changed_hands s d p busy =
-      let bearer : (j : ℕ) (row : Row) (popped : List ℕ) (y : Cell) (e : ℕ) → PhaseFits j row popped y (row_at h y.bearer).stage e p → PhaseFits j row popped y (row_at h' y.bearer).stage e p =
-      λ j row popped y e. other_bearer j row popped y (row_at h y.bearer).stage (row_at h' y.bearer).stage e p (λ _. stays_closed y.bearer (e / 32)) in
+      let bearer : (j : ℕ) (row : Row) (popped : List ℕ) (y : Cell) (e : ℕ) → PhaseFits h.edition j row popped y (row_at h y.bearer).stage e p → PhaseFits h.edition j row popped y (row_at h' y.bearer).stage e p =
+      λ j row popped y e. other_bearer h.edition j row popped y (row_at h y.bearer).stage (row_at h' y.bearer).stage e p (λ _ first. stays_closed first y.bearer (e / 32)) in
       let own : n.row.hand ≡ hands.Busy p d → PhaseHolds h' t n.row (popped_at h' t) d p (cell_at h' d) = λ busy.
-      let said : (d ≡ c) × (FIRST_MORTAL ≤ c) × PhaseFits t n.row n.popped n.cell (row_at h n.cell.bearer).stage c p = fits.hand p d busy in
+      let said : (d ≡ c) × (FIRST_MORTAL ≤ c) × PhaseFits h.edition t n.row n.popped n.cell (row_at h n.cell.bearer).stage c p = fits.hand p d busy in
       subst (λ e. PhaseHolds h' t n.row (popped_at h' t) e p (cell_at h' e)) (sym said.0)
       (subst (λ words. PhaseHolds h' t n.row words c p (cell_at h' c)) (sym (read_here h.popped t n.popped [] at_popped))
       (subst (λ y. PhaseHolds h' t n.row n.popped c p y) (sym (read_here h.cells c n.cell no_cell fits.cell_inside))
@@ -318,13 +355,21 @@ module _ (h : Heap) (t c : ℕ) (n : New) (sound : IsSound h) (fits : Fits h t c
       read_by (λ j row. row.hand ≡ hands.Busy p d → PhaseHolds h' j row (popped_at h' j) d p (cell_at h' d)) h.rows t n.row no_row fits.thread_inside own others s busy in
       record { mortal = holds.0; fits = holds.1 }
 
-  changed_cells : (q : ℕ) → FIRST_MORTAL ≤ q → CellFits (length (set h.rows t n.row)) h.limit (cell_at h' q) (get_or n.entries q [])
+  changed_cells : (q : ℕ) → FIRST_MORTAL ≤ q → CellFits (length (set h.rows t n.row)) h.limit (rests_at h') (cell_at h' q) (get_or n.entries q [])
   changed_cells q mortal =
-      subst (λ m. CellFits m h.limit (cell_at h' q) (get_or n.entries q [])) (sym (length-set h.rows t n.row))
-      (read_by (λ j y. FIRST_MORTAL ≤ j → CellFits (length h.rows) h.limit y (get_or n.entries j [])) h.cells c n.cell no_cell fits.cell_inside
+      let kept : CellFits (length h.rows) h.limit (rests_at h) (cell_at h' q) (get_or n.entries q []) =
+      read_by (λ j y. FIRST_MORTAL ≤ j → CellFits (length h.rows) h.limit (rests_at h) y (get_or n.entries j [])) h.cells c n.cell no_cell fits.cell_inside
       fits.cell
-      (λ j ne mortal. other_entries (length h.rows) h.limit (cell_at h j) (entries_at h j) (get_or n.entries j []) (fits.fewer j ne) (sound.cells j mortal))
-      q mortal)
+      (λ j ne mortal. other_entries (length h.rows) h.limit (rests_at h) (cell_at h j) (entries_at h j) (get_or n.entries j []) (fits.fewer j ne) (sound.cells j mortal))
+      q mortal in
+      subst (λ m. CellFits m h.limit (rests_at h') (cell_at h' q) (get_or n.entries q [])) (sym (length-set h.rows t n.row))
+      (resting_cell (length h.rows) h.limit (rests_at h) (rests_at h') (cell_at h' q) (get_or n.entries q [])
+      (λ s owner rest. elim (cases_eq s t) [
+        | inl same ↦ fits.resting q mortal (owner ∙ ap owners.Thread same)
+            (sym (ap (λ (row : Row). rests h.edition row.stage) (read_here h.rows t n.row no_row fits.thread_inside)) ∙ ap (rests_at h') (sym same) ∙ rest)
+        | inr other ↦ kept.rested s owner (sym (ap (λ (row : Row). rests h.edition row.stage) (read_there h.rows t s n.row no_row other)) ∙ rest)
+      ])
+      kept)
 
   changed_immortals : (q : ℕ) → q < FIRST_MORTAL → ImmortalFits q (cell_at h' q) (get_or n.entries q [])
   changed_immortals =
@@ -342,25 +387,25 @@ module _ (h : Heap) (t c : ℕ) (n : New) (sound : IsSound h) (fits : Fits h t c
       s marked
 
   changed_threads : (s : ℕ)
-      → ThreadFits (words_for (length (set h.cells c n.cell))) (row_at h' s) (frame_at h' s) (popped_at h' s) (worklist_at h' s) (get_or n.queues s []) (is_gathered h s)
+      → ThreadFits h.edition (words_for (length (set h.cells c n.cell))) (row_at h' s) (frame_at h' s) (popped_at h' s) (worklist_at h' s) (get_or n.queues s []) (is_gathered h s)
   changed_threads s =
       let m : ℕ = words_for (length h.cells) in
-      subst (λ i. ThreadFits (words_for i) (row_at h' s) (frame_at h' s) (popped_at h' s) (worklist_at h' s) (get_or n.queues s []) (is_gathered h s)) (sym (length-set h.cells c n.cell))
+      subst (λ i. ThreadFits h.edition (words_for i) (row_at h' s) (frame_at h' s) (popped_at h' s) (worklist_at h' s) (get_or n.queues s []) (is_gathered h s)) (sym (length-set h.cells c n.cell))
       (elim (cases_eq s t) [
-        | inl same ↦ subst (λ j. ThreadFits m (row_at h' j) (frame_at h' j) (popped_at h' j) (worklist_at h' j) (get_or n.queues j []) (is_gathered h j)) (sym same)
-            (subst (λ row. ThreadFits m row (frame_at h' t) (popped_at h' t) (worklist_at h' t) (get_or n.queues t []) (is_gathered h t)) (sym (read_here h.rows t n.row no_row fits.thread_inside))
-            (subst (λ frame. ThreadFits m n.row frame (popped_at h' t) (worklist_at h' t) (get_or n.queues t []) (is_gathered h t)) (sym (read_here h.frames t n.frame [] at_frames))
-            (subst (λ words. ThreadFits m n.row n.frame words (worklist_at h' t) (get_or n.queues t []) (is_gathered h t)) (sym (read_here h.popped t n.popped [] at_popped))
-            (subst (λ worklist. ThreadFits m n.row n.frame n.popped worklist (get_or n.queues t []) (is_gathered h t)) (sym (read_here h.worklists t n.worklist [] at_works)) fits.own))))
+        | inl same ↦ subst (λ j. ThreadFits h.edition m (row_at h' j) (frame_at h' j) (popped_at h' j) (worklist_at h' j) (get_or n.queues j []) (is_gathered h j)) (sym same)
+            (subst (λ row. ThreadFits h.edition m row (frame_at h' t) (popped_at h' t) (worklist_at h' t) (get_or n.queues t []) (is_gathered h t)) (sym (read_here h.rows t n.row no_row fits.thread_inside))
+            (subst (λ frame. ThreadFits h.edition m n.row frame (popped_at h' t) (worklist_at h' t) (get_or n.queues t []) (is_gathered h t)) (sym (read_here h.frames t n.frame [] at_frames))
+            (subst (λ words. ThreadFits h.edition m n.row n.frame words (worklist_at h' t) (get_or n.queues t []) (is_gathered h t)) (sym (read_here h.popped t n.popped [] at_popped))
+            (subst (λ worklist. ThreadFits h.edition m n.row n.frame n.popped worklist (get_or n.queues t []) (is_gathered h t)) (sym (read_here h.worklists t n.worklist [] at_works)) fits.own))))
         | inr other ↦
-            (subst (λ row. ThreadFits m row (frame_at h' s) (popped_at h' s) (worklist_at h' s) (get_or n.queues s []) (is_gathered h s)) (sym (read_there h.rows t s n.row no_row other))
-            (subst (λ frame. ThreadFits m (row_at h s) frame (popped_at h' s) (worklist_at h' s) (get_or n.queues s []) (is_gathered h s)) (sym (read_there h.frames t s n.frame [] other))
-            (subst (λ words. ThreadFits m (row_at h s) (frame_at h s) words (worklist_at h' s) (get_or n.queues s []) (is_gathered h s)) (sym (read_there h.popped t s n.popped [] other))
-            (subst (λ worklist. ThreadFits m (row_at h s) (frame_at h s) (popped_at h s) worklist (get_or n.queues s []) (is_gathered h s)) (sym (read_there h.worklists t s n.worklist [] other))
-            (other_queue m (row_at h s) (frame_at h s) (popped_at h s) (worklist_at h s) (queue_at h s) (get_or n.queues s []) (is_gathered h s) (λ k. fits.queues_else s k other) (sound.threads s))))))
+            (subst (λ row. ThreadFits h.edition m row (frame_at h' s) (popped_at h' s) (worklist_at h' s) (get_or n.queues s []) (is_gathered h s)) (sym (read_there h.rows t s n.row no_row other))
+            (subst (λ frame. ThreadFits h.edition m (row_at h s) frame (popped_at h' s) (worklist_at h' s) (get_or n.queues s []) (is_gathered h s)) (sym (read_there h.frames t s n.frame [] other))
+            (subst (λ words. ThreadFits h.edition m (row_at h s) (frame_at h s) words (worklist_at h' s) (get_or n.queues s []) (is_gathered h s)) (sym (read_there h.popped t s n.popped [] other))
+            (subst (λ worklist. ThreadFits h.edition m (row_at h s) (frame_at h s) (popped_at h s) worklist (get_or n.queues s []) (is_gathered h s)) (sym (read_there h.worklists t s n.worklist [] other))
+            (other_queue h.edition m (row_at h s) (frame_at h s) (popped_at h s) (worklist_at h s) (queue_at h s) (get_or n.queues s []) (is_gathered h s) (λ k. fits.queues_else s k other) (sound.threads s))))))
       ])
 
-  changed_ledger : sum_by (λ row. row.allocs) (set h.rows t n.row) ≡ sum_by (λ row. row.frees) (set h.rows t n.row) + live_count h'
+  changed_ledger : sum_by (λ row. row.allocs) (set h.rows t n.row) + n.past_allocs ≡ sum_by (λ row. row.frees) (set h.rows t n.row) + n.past_frees + live_count h'
   changed_ledger =
       let allocs = sum_by-set (λ (row : Row). row.allocs) h.rows t n.row no_row fits.thread_inside in
       let frees = sum_by-set (λ (row : Row). row.frees) h.rows t n.row no_row fits.thread_inside in
@@ -383,7 +428,20 @@ module _ (h : Heap) (t c : ℕ) (n : New) (sound : IsSound h) (fits : Fits h t c
     locks = fits.locks.locks;
     mutexes = fits.locks.mutexes;
     ledger = changed_ledger;
+    past = (fits.past, sound.past.1);
+    first = λ one. sound.first one ∙ sym (length-set h.rows t n.row);
   }
+
+-- a thread whose stage stays rests as before
+pub kept_resting : (h : Heap) (t c : ℕ) (x : Cell) (es : List (List ℕ)) (stage : Stage) → IsSound h → c < length h.cells → stage ≡ (row_at h t).stage
+    → (FIRST_MORTAL ≤ c → CellFits (length h.rows) h.limit (rests_at h) x (get_or es c []))
+    → (q : ℕ) → FIRST_MORTAL ≤ q → (get_or (set h.cells c x) q no_cell).owner ≡ owners.Thread t → rests h.edition stage ≡ true
+    → (get_or (set h.cells c x) q no_cell).local ≡ 0
+kept_resting h t c x es stage sound inside same here q =
+    read_by (λ j y. FIRST_MORTAL ≤ j → y.owner ≡ owners.Thread t → rests h.edition stage ≡ true → y.local ≡ 0) h.cells c x no_cell inside
+    (λ mortal owner rest. (here mortal).rested t owner (ap (rests h.edition) (sym same) ∙ rest))
+    (λ j _ mortal owner rest. (sound.cells j mortal).rested t owner (ap (rests h.edition) (sym same) ∙ rest))
+    q
 
 -- ---- what most steps leave alone
 

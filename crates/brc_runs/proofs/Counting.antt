@@ -9,6 +9,7 @@ use Rattle.brc_words.specs.declared.state.State.{State}
 use Rattle.brc_words.specs.declared.state.State.TheVariants as states
 use Rattle.brc_runs.specs.Phases.{is_gripping}
 use Rattle.brc_runs.specs.declared.cell.Cell.{Cell}
+use Rattle.brc_runs.specs.declared.edition.Edition.{Edition}
 use Rattle.brc_runs.specs.declared.row.Row.{Row}
 use Rattle.brc_runs.specs.declared.row.Hand.{Hand}
 use Rattle.brc_runs.specs.declared.row.Hand.TheVariants as hands
@@ -20,8 +21,8 @@ use Rattle.brc_runs.specs.Lists.{one, times, entry_times, is_marked, place_at, f
 use Rattle.brc_runs.specs.Heap.{Heap, cell_at, entries_at, row_at, frame_at, popped_at, worklist_at, queue_at, is_gathered, words_for, no_row}
 use Rattle.brc_runs.specs.Steps.{is_merged, is_default, is_queued}
 use Rattle.brc_runs.specs.Holding.{lives, carries, count_of_state}
-use Rattle.brc_runs.specs.Sound.{IsSound, CellFits, ThreadFits, PhaseFits, HandFits, WorklistFits, Locks, counted_in, grips_of, grips_by_owner, grips, gripped, held, in_entries, is_threads, asks_least, asks_most}
-use Rattle.brc_runs.proofs.Naming.{no_mark, grips_free, carries_free, live_counts, sum_one, gripping_owner}
+use Rattle.brc_runs.specs.Sound.{IsSound, CellFits, ThreadFits, PhaseFits, HandFits, WorklistFits, Locks, counted_in, grips_of, grips_by_owner, grips, gripped, held, in_entries, is_threads, asks_least, asks_most, Offered, offering, rests_at}
+use Rattle.brc_runs.proofs.Naming.{no_mark, grips_free, carries_free, live_counts, sum_one, gripping_owner, active_works, offers_free, offers_none, same_shut}
 use Rattle.brc_runs.proofs.Framing.{place_at-filled_else, times-filled, length-filled}
 use Rattle.brc_runs.proofs.Birthing.{active_fits, busy_else}
 use Rattle.brc_runs.proofs.Asking.{Vacant}
@@ -31,12 +32,12 @@ use Rattle.brc_runs.proofs.Plainly.{Plain}
 -- ---- an owned object that somebody holds is gripped by nobody, so its local count isn't 0
 
 -- what another thread's hand says of a cell that a thread owns is no birth, merge or burial
-others_phase : (s t : ℕ) (row : Row) (popped : List ℕ) (x : Cell) (g : Stage) (c : ℕ) (p : Phase) → PhaseFits s row popped x g c p
+others_phase : (e : Edition) (s t : ℕ) (row : Row) (popped : List ℕ) (x : Cell) (g : Stage) (c : ℕ) (p : Phase) → PhaseFits e s row popped x g c p
     → x.owner ≡ owners.Thread t → s ≢ t → is_gripping p ≡ false
-others_phase s t row popped x g c p fits owner ne =
+others_phase e s t row popped x g c p fits owner ne =
     elim (cases_Bool (is_gripping p)) [
       | inr off ↦ off
-      | inl grip ↦ absurd (elim (gripping_owner s row popped x g c p fits grip) [
+      | inl grip ↦ absurd (elim (gripping_owner e s row popped x g c p fits grip) [
         | inl claimed ↦ let e : owners.Thread t ≡ owners.Claimed s = sym owner ∙ claimed in cc
         | inr (inl owned) ↦ let e : owners.Thread t ≡ owners.Thread s = sym owner ∙ owned in ne (cc)
         | inr (inr nobody) ↦ let e : owners.Thread t ≡ owners.Nobody = sym owner ∙ nobody in cc
@@ -44,13 +45,16 @@ others_phase s t row popped x g c p fits owner ne =
     ]
 
 -- it says the same of the cell with another local count
-others_local : (s t n : ℕ) (row : Row) (popped : List ℕ) (x : Cell) (g : Stage) (c : ℕ) (p : Phase) → PhaseFits s row popped x g c p
-    → x.owner ≡ owners.Thread t → s ≢ t → PhaseFits s row popped (record x { local = n }) g c p
-others_local s t n row popped x g c phases.Claimed fits owner ne = let e : owners.Thread t ≡ owners.Claimed s = sym owner ∙ fits.claimed in absurd (cc)
-others_local s t n row popped x g c phases.Counted fits owner ne = let e : owners.Thread t ≡ owners.Claimed s = sym owner ∙ fits.0.claimed in absurd (cc)
-others_local s t n row popped x g c phases.Ready fits owner ne = let e : owners.Thread t ≡ owners.Claimed s = sym owner ∙ fits.0.claimed in absurd (cc)
-others_local s t n row popped x g c phases.Untied fits owner ne = let e : owners.Thread t ≡ owners.Nobody = sym owner ∙ fits.owner in absurd (cc)
-others_local s t n row popped x g c _ fits owner ne = fits
+others_local : (e : Edition) (s t n : ℕ) (row : Row) (popped : List ℕ) (x : Cell) (g : Stage) (c : ℕ) (p : Phase) → PhaseFits e s row popped x g c p
+    → x.owner ≡ owners.Thread t → s ≢ t → PhaseFits e s row popped (record x { local = n }) g c p
+others_local e s t n row popped x g c phases.Claimed fits owner ne = let e : owners.Thread t ≡ owners.Claimed s = sym owner ∙ fits.claimed in absurd (cc)
+others_local e s t n row popped x g c phases.Counted fits owner ne = let e : owners.Thread t ≡ owners.Claimed s = sym owner ∙ fits.0.claimed in absurd (cc)
+others_local e s t n row popped x g c phases.Ready fits owner ne = let e : owners.Thread t ≡ owners.Claimed s = sym owner ∙ fits.0.claimed in absurd (cc)
+others_local e s t n row popped x g c phases.Untied fits owner ne = let e : owners.Thread t ≡ owners.Nobody = sym owner ∙ fits.owner in absurd (cc)
+others_local e s t n row popped x g c phases.Shut fits owner ne = same_shut e x (record x { local = n }) g c (λ is. is) fits
+others_local e s t n row popped x g c phases.Offered fits owner ne = let e : owners.Thread t ≡ owners.Thread s = sym owner ∙ fits.owner in absurd (ne (cc))
+others_local e s t n row popped x g c phases.Yielding fits owner ne = let e : owners.Thread t ≡ owners.Nobody = sym owner ∙ fits.owner in absurd (cc)
+others_local e s t n row popped x g c _ fits owner ne = fits
 
 -- terms that are all 0 add up to 0
 pub sum_none : {A : Type 0} (f : A → ℕ) (xs : List A) (d : A) → ((i : ℕ) → f (get_or xs i d) ≡ 0) → sum_by f xs ≡ 0
@@ -71,13 +75,13 @@ held_unmarked h s c sound some =
     ]
 
 -- a hand of a thread that doesn't own the cell
-hand_apart : (h : Heap) (t s c : ℕ) (hand : Hand) → IsSound h → (cell_at h c).owner ≡ owners.Thread t → s ≢ t → (row_at h s).hand ≡ hand → one (grips c hand) ≡ 0
+pub hand_apart : (h : Heap) (t s c : ℕ) (hand : Hand) → IsSound h → (cell_at h c).owner ≡ owners.Thread t → s ≢ t → (row_at h s).hand ≡ hand → one (grips c hand) ≡ 0
 hand_apart h t s c hands.Free sound owner ne e = refl
 hand_apart h t s c (hands.Busy p d) sound owner ne e =
     elim (cases_eq d c) [
       | inl same ↦
           let fits : HandFits h s p c = sound.hands s c p (e ∙ ap (hands.Busy p) same) in
-          ap (λ b. one (b && (d == c))) (others_phase s t (row_at h s) (popped_at h s) (cell_at h c) _ c p fits.fits owner ne)
+          ap (λ b. one (b && (d == c))) (others_phase h.edition s t (row_at h s) (popped_at h s) (cell_at h c) _ c p fits.fits owner ne)
       | inr other ↦ (busy_else p d c (λ e. other (sym e))).0
     ]
 
@@ -114,12 +118,13 @@ pub owned_counts : (x : Cell) (t n : ℕ) → x.owner ≡ owners.Thread t → is
 owned_counts x t n owner unmerged = live_counts (record x { local = n }) (ap lives owner) ∙ total_unmerged x.state n x.count unmerged
 
 -- what the cell says of itself, at another local count and with entries that are no more
-local_cell : (threads limit : ℕ) (x : Cell) (n : ℕ) (old new : List ℕ) → CellFits threads limit x old → (lives x.owner ≡ true → n ≤ limit) → Fewer old new
-    → CellFits threads limit (record x { local = n }) new
-local_cell threads limit x n old new fits limited fewer = record {
+local_cell : (threads limit : ℕ) (resting : ℕ → Bool) (x : Cell) (n : ℕ) (old new : List ℕ) → CellFits threads limit resting x old → (lives x.owner ≡ true → n ≤ limit) → ((s : ℕ) → x.owner ≡ owners.Thread s → resting s ≡ true → n ≡ 0) → Fewer old new
+    → CellFits threads limit resting (record x { local = n }) new
+local_cell threads limit resting x n old new fits limited rested fewer = record {
   default = fits.default;
   owned_unmerged = fits.owned_unmerged;
   owned_by_bearer = fits.owned_by_bearer;
+  rested = rested;
   dead_empty = λ dead. fewer.empty (fits.dead_empty dead);
   dead_count = fits.dead_count;
   born = fits.born;
@@ -127,6 +132,13 @@ local_cell threads limit x n old new fits limited fewer = record {
   plain = λ plain. fewer.empty (fits.plain plain);
   few = omega (arith, fits.few, fewer.few);
 }
+
+-- an active thread doesn't rest
+resting_never : (h : Heap) (t : ℕ) (x : Cell) (n : ℕ) → x.owner ≡ owners.Thread t → (row_at h t).stage ≡ stages.Active → (s : ℕ) → x.owner ≡ owners.Thread s → rests_at h s ≡ true → n ≡ 0
+resting_never h t x n owner active s e rest =
+    let both : owners.Thread t ≡ owners.Thread s = sym owner ∙ e in
+    let same : t ≡ s = cc in
+    absurd (true≢false (sym rest ∙ ap (rests_at h) (sym same) ∙ active_works h.edition _ active))
 
 -- ---- up
 
@@ -157,8 +169,8 @@ pub record Raises (h : Heap) (t c : ℕ) (x : Cell) : Type 0 where
   pub state : x.state ≡ (cell_at h c).state
   pub counted : FIRST_MORTAL ≤ c → counted_in x ≡ counted_in (cell_at h c) +ℤ pos 1
   pub gripped : FIRST_MORTAL ≤ c → grips_of x ≡ grips_of (cell_at h c)
-  pub hands_else : (s : ℕ) (p : Phase) → s ≢ t → (row_at h s).hand ≡ hands.Busy p c → PhaseFits s (row_at h s) (popped_at h s) x (row_at h x.bearer).stage c p
-  pub cell : FIRST_MORTAL ≤ c → CellFits (length h.rows) h.limit x (entries_at h c)
+  pub hands_else : (s : ℕ) (p : Phase) → s ≢ t → (row_at h s).hand ≡ hands.Busy p c → PhaseFits h.edition s (row_at h s) (popped_at h s) x (row_at h x.bearer).stage c p
+  pub cell : FIRST_MORTAL ≤ c → CellFits (length h.rows) h.limit (rests_at h) x (entries_at h c)
   pub worklists : (s : ℕ) → is_marked (worklist_at h s) c ≡ true → WorklistFits s c x
 
 pub up_fits : (h : Heap) (t c k : ℕ) (x : Cell) → IsSound h → Ups h t c k → Raises h t c x
@@ -182,6 +194,7 @@ up_fits h t c k x sound ups raises = record {
   most_here = λ mortal. omega (arith, sound.most c mortal, ap (λ s. one (not (is_default s))) raises.state);
   least_here = λ mortal. omega (arith, sound.least c mortal, same_least x (cell_at h c) raises.owner raises.state);
   asks_else = λ q _ ne. refl;
+  offers_else = λ q _ ne. refl;
   hand = λ p d busy. let bad : hands.Free ≡ hands.Busy p d = sym ups.hand ∙ busy in absurd (cc);
   hands_else = raises.hands_else;
   cell = raises.cell;
@@ -189,7 +202,7 @@ up_fits h t c k x sound ups raises = record {
   works_here = raises.worklists t;
   works_own = λ q _ on. on;
   works_else = λ s _ on. raises.worklists s on;
-  own = active_fits _ (row_at h t) (row_at h t) (frame_at h t) _ _ (worklist_at h t) _ _ _ ups.active ups.here refl
+  own = active_fits _ _ (row_at h t) (row_at h t) (frame_at h t) _ _ (worklist_at h t) _ _ _ ups.active ups.here refl
       (λ _ _. ups.hand) (sound.threads t).births (length-filled (frame_at h t) k c ups.place.low (sound.threads t).places);
   ledger = omega (arith, ap (λ o. one (lives o)) raises.owner);
 }
@@ -214,12 +227,12 @@ raises_immortal h t c sound low = record {
 
 -- the owner counts on the local word
 pub raises_local : (h : Heap) (t c : ℕ) → IsSound h → (row_at h t).hand ≡ hands.Free → FIRST_MORTAL ≤ c → (cell_at h c).owner ≡ owners.Thread t
-    → (cell_at h c).local < h.limit → 1 ≤ held h c
+    → (row_at h t).stage ≡ stages.Active → (cell_at h c).local < h.limit → 1 ≤ held h c
     → Raises h t c (record (cell_at h c) { local = (cell_at h c).local + 1 })
-raises_local h t c sound free mortal owner below some =
+raises_local h t c sound free mortal owner active below some =
     let x : Cell = cell_at h c in
     let none : gripped h c ≡ 0 = owned_ungripped h t c sound mortal owner some (grips_free c _ free) in
-    let fits : CellFits (length h.rows) h.limit x (entries_at h c) = sound.cells c mortal in
+    let fits : CellFits (length h.rows) h.limit (rests_at h) x (entries_at h c) = sound.cells c mortal in
     let unmerged = fits.owned_unmerged t owner in
     let old_grip : grips_of x ≡ 0 = sym (sound.gripped c mortal) ∙ none in
     let new_grip : grips_of (record x { local = x.local + 1 }) ≡ 0 =
@@ -232,8 +245,8 @@ raises_local h t c sound free mortal owner below some =
       state = refl;
       counted = λ _. omega (arith, ints, owned_counts x t x.local owner unmerged, owned_counts x t (x.local + 1) owner unmerged);
       gripped = λ _. new_grip ∙ sym old_grip;
-      hands_else = λ s p ne busy. others_local s t (x.local + 1) (row_at h s) (popped_at h s) x _ c p (sound.hands s c p busy).fits owner ne;
-      cell = λ _. local_cell _ _ x (x.local + 1) _ _ fits (λ _. omega (arith, below)) (same_entries _);
+      hands_else = λ s p ne busy. others_local h.edition s t (x.local + 1) (row_at h s) (popped_at h s) x _ c p (sound.hands s c p busy).fits owner ne;
+      cell = λ _. local_cell _ _ _ x (x.local + 1) _ _ fits (λ _. omega (arith, below)) (resting_never h t (cell_at h c) _ owner active) (same_entries _);
       worklists = λ s on. absurd (no_mark _ (held_unmarked h s c sound some) on);
     }
 
@@ -265,12 +278,13 @@ pub record Lowers (h : Heap) (t c : ℕ) (x : Cell) (now : Hand) (f : List (Opti
   pub gripped : FIRST_MORTAL ≤ c → grips_of x ≡ grips_of (cell_at h c) + one (grips c now)
   pub grips_else : (q : ℕ) → q ≢ c → one (grips q now) ≡ 0
   pub carries_none : (q : ℕ) → one (carries q now) ≡ 0
+  pub offers_now : (q : ℕ) → one (offering q now) ≡ 0
   pub hand : (p : Phase) (d : ℕ) → now ≡ hands.Busy p d
-      → (d ≡ c) × (FIRST_MORTAL ≤ c) × PhaseFits t (record (row_at h t) { hand = now }) (popped_at h t) x (row_at h x.bearer).stage c p
-  pub hands_else : (s : ℕ) (p : Phase) → s ≢ t → (row_at h s).hand ≡ hands.Busy p c → PhaseFits s (row_at h s) (popped_at h s) x (row_at h x.bearer).stage c p
-  pub cell : FIRST_MORTAL ≤ c → CellFits (length h.rows) h.limit x (get_or es c [])
+      → (d ≡ c) × (FIRST_MORTAL ≤ c) × PhaseFits h.edition t (record (row_at h t) { hand = now }) (popped_at h t) x (row_at h x.bearer).stage c p
+  pub hands_else : (s : ℕ) (p : Phase) → s ≢ t → (row_at h s).hand ≡ hands.Busy p c → PhaseFits h.edition s (row_at h s) (popped_at h s) x (row_at h x.bearer).stage c p
+  pub cell : FIRST_MORTAL ≤ c → CellFits (length h.rows) h.limit (rests_at h) x (get_or es c [])
   pub worklists : (s : ℕ) → is_marked (worklist_at h s) c ≡ true → WorklistFits s c x
-  pub own : ThreadFits (words_for (length h.cells)) (record (row_at h t) { hand = now }) f (popped_at h t) (worklist_at h t) (queue_at h t) (is_gathered h t)
+  pub own : ThreadFits h.edition (words_for (length h.cells)) (record (row_at h t) { hand = now }) f (popped_at h t) (worklist_at h t) (queue_at h t) (is_gathered h t)
 
 pub down_fits : (h : Heap) (t c : ℕ) (x : Cell) (now : Hand) (f : List (Option ℕ)) (es : List (List ℕ)) → IsSound h → Downs h t c f es → Lowers h t c x now f es
     → Plain h t c x (record (row_at h t) { hand = now }) f (worklist_at h t) es
@@ -291,7 +305,8 @@ down_fits h t c x now f es sound downs lowers = record {
   gripped_here = λ mortal. omega (arith, lowers.gripped mortal, grips_free c _ downs.hand);
   gripped_else = λ q _ ne. omega (arith, grips_free q _ downs.hand, lowers.grips_else q ne);
   most_here = λ mortal. omega (arith, sound.most c mortal, lowers.most, lowers.carries_none c, carries_free c _ downs.hand);
-  least_here = λ mortal. omega (arith, sound.least c mortal, lowers.least, lowers.carries_none c, carries_free c _ downs.hand);
+  least_here = λ mortal. omega (arith, sound.least c mortal, lowers.least, lowers.carries_none c, carries_free c _ downs.hand, offers_free c _ downs.hand);
+  offers_else = λ q _ ne. lowers.offers_now q ∙ sym (offers_free q _ downs.hand);
   asks_else = λ q _ ne. lowers.carries_none q ∙ sym (carries_free q _ downs.hand);
   hand = lowers.hand;
   hands_else = lowers.hands_else;
@@ -308,7 +323,7 @@ down_fits h t c x now f es sound downs lowers = record {
 pub lowers_immortal : (h : Heap) (t c : ℕ) (f : List (Option ℕ)) (es : List (List ℕ)) → IsSound h → Downs h t c f es → c < FIRST_MORTAL
     → Lowers h t c (cell_at h c) (row_at h t).hand f es
 lowers_immortal h t c f es sound downs low =
-    let old : ThreadFits (words_for (length h.cells)) (row_at h t) (frame_at h t) (popped_at h t) (worklist_at h t) (queue_at h t) (is_gathered h t) = sound.threads t in
+    let old : ThreadFits h.edition (words_for (length h.cells)) (row_at h t) (frame_at h t) (popped_at h t) (worklist_at h t) (queue_at h t) (is_gathered h t) = sound.threads t in
     record {
       immortal = λ _. refl;
       mutex = refl;
@@ -320,6 +335,7 @@ lowers_immortal h t c f es sound downs low =
       gripped = λ high. absurd (omega (arith, low, high));
       grips_else = λ q _. grips_free q _ downs.hand;
       carries_none = λ q. carries_free q _ downs.hand;
+      offers_now = λ q. offers_free q _ downs.hand;
       hand = λ p d busy. let bad : hands.Free ≡ hands.Busy p d = sym downs.hand ∙ busy in absurd (cc);
       hands_else = λ s p ne busy. (sound.hands s c p busy).fits;
       cell = λ high. absurd (omega (arith, low, high));
@@ -330,6 +346,8 @@ lowers_immortal h t c f es sound downs low =
         inactive_lock = old.inactive_lock;
         closing = old.closing;
         closing_work = old.closing_work;
+        opening = old.opening;
+        opening_rest = old.opening_rest;
         closed = old.closed;
         gathered_left = old.gathered_left;
         gathered_hand = old.gathered_hand;
@@ -354,7 +372,7 @@ lowers_local h t c f es sound downs mortal owner active =
     let some : 1 ≤ held h c = omega (arith, downs.let_go c, here, sum_one (times c) h.frames t [] refl) in
     let none : gripped h c ≡ 0 = owned_ungripped h t c sound mortal owner some (grips_free c _ downs.hand) in
     let positive : 1 ≤ x.local = local_positive h t c sound mortal owner none in
-    let fits : CellFits (length h.rows) h.limit x (entries_at h c) = sound.cells c mortal in
+    let fits : CellFits (length h.rows) h.limit (rests_at h) x (entries_at h c) = sound.cells c mortal in
     let unmerged = fits.owned_unmerged t owner in
     let old_grip : grips_of x ≡ 0 = sym (sound.gripped c mortal) ∙ none in
     let new_grip : grips_of (record x { local = x.local - 1 }) ≡ one (x.local - 1 == 0) = ap (λ o. grips_by_owner o x.state (x.local - 1) x.count) owner in
@@ -379,6 +397,10 @@ lowers_local h t c f es sound downs mortal owner active =
             λ p d busy. let bad : hands.Free ≡ hands.Busy p d = sym e ∙ busy in absurd (cc),
           )
     ] in
+    let offers_now : (q : ℕ) → one (offering q hand') ≡ 0 = λ q. elim (cases_eq x.local 1) [
+      | inl last ↦ offers_none phases.Zero c q hand' refl (ap (λ b. if b then hands.Busy phases.Zero c else (row_at h t).hand) (eq-eqb x.local 1 last))
+      | inr more ↦ offers_free q hand' (ap (λ b. if b then hands.Busy phases.Zero c else (row_at h t).hand) (ne_eqb x.local 1 more) ∙ downs.hand)
+    ] in
     record {
       immortal = λ low. absurd (omega (arith, low, mortal));
       mutex = refl;
@@ -390,11 +412,12 @@ lowers_local h t c f es sound downs mortal owner active =
       gripped = λ _. omega (arith, old_grip, new_grip, hands_now.0);
       grips_else = hands_now.1;
       carries_none = hands_now.2;
+      offers_now = offers_now;
       hand = λ p d busy. let said = hands_now.3 p d busy in
-          (said.0, mortal, subst (λ z. PhaseFits t (record (row_at h t) { hand = hand' }) (popped_at h t) (record x { local = x.local - 1 }) (row_at h x.bearer).stage c z) (sym said.1) owner);
-      hands_else = λ s p ne busy. others_local s t (x.local - 1) (row_at h s) (popped_at h s) x _ c p (sound.hands s c p busy).fits owner ne;
-      cell = λ _. local_cell _ _ x (x.local - 1) _ _ fits (λ live. omega (arith, fits.limited live)) (downs.fewer c);
+          (said.0, mortal, subst (λ z. PhaseFits h.edition t (record (row_at h t) { hand = hand' }) (popped_at h t) (record x { local = x.local - 1 }) (row_at h x.bearer).stage c z) (sym said.1) owner);
+      hands_else = λ s p ne busy. others_local h.edition s t (x.local - 1) (row_at h s) (popped_at h s) x _ c p (sound.hands s c p busy).fits owner ne;
+      cell = λ _. local_cell _ _ _ x (x.local - 1) _ _ fits (λ live. omega (arith, fits.limited live)) (resting_never h t (cell_at h c) _ owner active) (downs.fewer c);
       worklists = λ s on. absurd (no_mark _ (held_unmarked h s c sound some) on);
-      own = active_fits _ (row_at h t) _ (frame_at h t) f _ (worklist_at h t) _ _ _ active downs.here refl
+      own = active_fits _ _ (row_at h t) _ (frame_at h t) f _ (worklist_at h t) _ _ _ active downs.here refl
           (λ j e. let bad : None ≡ Some j = sym downs.unlocked ∙ e in absurd (cc)) (sound.threads t).births downs.places;
     }

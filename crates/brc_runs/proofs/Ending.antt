@@ -16,8 +16,8 @@ use Rattle.brc_runs.specs.Lists.{one, is_marked}
 use Rattle.brc_runs.specs.Heap.{Heap, cell_at, entries_at, row_at, frame_at, popped_at, worklist_at, queue_at, is_gathered, words_for, no_row}
 use Rattle.brc_runs.specs.Steps.{thread_may, is_shut, stepped, cell_after, row_after, is_untouched, is_queued}
 use Rattle.brc_runs.specs.Holding.{lives, carries, count_of_state}
-use Rattle.brc_runs.specs.Sound.{IsSound, ThreadFits, PhaseFits, HandFits, WorklistFits, counted_in, grips_of, grips_by_owner, grips, gripped}
-use Rattle.brc_runs.proofs.Naming.{Unheld, Ungripped, unheld, sole_grip, grips_once, unnamed, no_mark, one-true, free_hand, busy_hand, live_counts, zero_count, default_state, sum_one, grips_of-le}
+use Rattle.brc_runs.specs.Sound.{IsSound, ThreadFits, PhaseFits, HandFits, WorklistFits, counted_in, grips_of, grips_by_owner, grips, gripped, offering}
+use Rattle.brc_runs.proofs.Naming.{Unheld, Ungripped, unheld, sole_grip, grips_once, unnamed, no_mark, one-true, free_hand, busy_hand, live_counts, zero_count, default_state, sum_one, grips_of-le, offers_none, unoffered, gripped_unoffered, offers_free}
 use Rattle.brc_runs.proofs.Birthing.{active_from, active_fits, no_lock, busy_else, busy_grips, one_and}
 use Rattle.brc_runs.proofs.Counting.{marked_unheld, total_unmerged}
 use Rattle.brc_runs.proofs.Asking.{May, OnCell, on_cell, may_parts}
@@ -54,7 +54,7 @@ zero_parts h t c sound ok =
       busy = busy;
       mortal = said.mortal;
       owner = owner;
-      active = active_from _ (SeeZero c) may.stage refl refl;
+      active = active_from _ (SeeZero c) may.stage refl refl refl;
       unlocked = no_lock _ (SeeZero c) may.lock refl;
       grip = grip;
       mark = omega (arith, grips_once h c t sound said.mortal, grip);
@@ -94,7 +94,8 @@ taken_fits h t c sound zero untouched =
       gripped_here = λ _. omega (arith, zero.grip, zero.mark, marked);
       gripped_else = λ q _ ne. omega (arith, hand_else q ne, ap one (else_marked q ne));
       most_here = λ _. omega (arith, sound.most c zero.mortal, no_carry c);
-      least_here = λ _. omega (arith, sound.least c zero.mortal, no_carry c);
+      least_here = λ _. omega (arith, sound.least c zero.mortal, no_carry c, offers_none phases.Zero c c _ refl zero.busy);
+      offers_else = λ q _ ne. sym (offers_none phases.Zero c q _ refl zero.busy);
       asks_else = λ q _ _. sym (no_carry q);
       hand = λ p d busy. let bad : hands.Free ≡ hands.Busy p d = busy in absurd (cc);
       hands_else = λ s p ne busy. (sound.hands s c p busy).fits;
@@ -108,7 +109,7 @@ taken_fits h t c sound zero untouched =
       };
       works_own = λ q ne on. sym (else_marked q ne) ∙ on;
       works_else = λ s ne on. sound.worklists s c on;
-      own = active_fits _ (row_at h t) _ (frame_at h t) (frame_at h t) _ (worklist_at h t) _ _ _ zero.active zero.may.not_gathered refl
+      own = active_fits _ _ (row_at h t) _ (frame_at h t) (frame_at h t) _ (worklist_at h t) _ _ _ zero.active zero.may.not_gathered refl
           (λ _ _. refl) (sound.threads t).births (sound.threads t).places;
       ledger = refl;
     }
@@ -137,18 +138,19 @@ over_fits h t c sound zero =
       gripped_here = λ _. omega (arith, zero.grip, here);
       gripped_else = λ q _ ne. omega (arith, hand_else q ne, (busy_else phases.Over c q ne).0);
       most_here = λ _. omega (arith, sound.most c zero.mortal, no_carry c);
-      least_here = λ _. omega (arith, sound.least c zero.mortal, no_carry c);
+      least_here = λ _. omega (arith, sound.least c zero.mortal, no_carry c, offers_none phases.Zero c c _ refl zero.busy);
+      offers_else = λ q _ ne. sym (offers_none phases.Zero c q _ refl zero.busy);
       asks_else = λ q _ _. sym (no_carry q);
       hand = λ p d busy. let same : hands.Busy phases.Over c ≡ hands.Busy p d = busy in
           let phase : p ≡ phases.Over = cc in
-          (cc, zero.mortal, subst (λ z. PhaseFits t (record (row_at h t) { hand = hands.Busy phases.Over c }) (popped_at h t) (cell_at h c) (row_at h (cell_at h c).bearer).stage c z) (sym phase) zero.owner);
+          (cc, zero.mortal, subst (λ z. PhaseFits h.edition t (record (row_at h t) { hand = hands.Busy phases.Over c }) (popped_at h t) (cell_at h c) (row_at h (cell_at h c).bearer).stage c z) (sym phase) zero.owner);
       hands_else = λ s p ne busy. (sound.hands s c p busy).fits;
       cell = sound.cells c;
       fewer = λ q _. same_entries _;
       works_here = sound.worklists t c;
       works_own = λ q _ on. on;
       works_else = λ s ne on. sound.worklists s c on;
-      own = active_fits _ (row_at h t) _ (frame_at h t) (frame_at h t) _ (worklist_at h t) _ _ _ zero.active zero.may.not_gathered refl
+      own = active_fits _ _ (row_at h t) _ (frame_at h t) (frame_at h t) _ (worklist_at h t) _ _ _ zero.active zero.may.not_gathered refl
           (λ k e. let bad : None ≡ Some k = sym zero.unlocked ∙ e in absurd (cc)) (sound.threads t).births (sound.threads t).places;
       ledger = refl;
     }
@@ -217,11 +219,12 @@ free_sound h t c sound ok =
     elim (cases_eq q c) [ inl same ↦ ap (is_marked (set (worklist_at h t) c false)) same ∙ off | inr ne ↦ else_marked q ne ∙ e ] in
     let old_grip : grips_of (cell_at h c) ≡ 1 =
     omega (arith, sound.gripped c fits.mortal, one-true _ on, sum_one (λ (marks : List Bool). one (is_marked marks c)) h.worklists t [] refl, grips_of-le (cell_at h c).owner (cell_at h c).state (cell_at h c).local (cell_at h c).count) in
+    let some_grip : 1 ≤ gripped h c = omega (arith, one-true _ on, sum_one (λ (marks : List Bool). one (is_marked marks c)) h.worklists t [] refl) in
     let old_count : counted_in (cell_at h c) ≡ pos 0 = live_counts (cell_at h c) fits.lives ∙ fits.total in
     let empty : entries_at h c ≡ [] = no_entries (entries_at h c) parts.1 in
     let count : (cell_at h c).count ≡ pos 0 = dead_count h t c sound on in
     let asked : one (is_queued (cell_at h c).state && false) ≡ 0 = one_and (is_queued (cell_at h c).state) false refl in
-    let old : ThreadFits (words_for (length h.cells)) (row_at h t) (frame_at h t) (popped_at h t) (worklist_at h t) (queue_at h t) (is_gathered h t) = sound.threads t in
+    let old : ThreadFits h.edition (words_for (length h.cells)) (row_at h t) (frame_at h t) (popped_at h t) (worklist_at h t) (queue_at h t) (is_gathered h t) = sound.threads t in
     plain_sound h t c (cell_after t (Free c) c (cell_at h c)) (row_after (Free c) c (cell_at h c) (is_shut h c) (row_at h t)) (frame_at h t) (set (worklist_at h t) c false) h.entries sound (record {
       thread = may.some_thread;
       thread_inside = may.inside;
@@ -239,14 +242,16 @@ free_sound h t c sound ok =
       gripped_here = λ _. omega (arith, old_grip, one-true _ on, ap one off);
       gripped_else = λ q _ ne. omega (arith, ap one (else_marked q ne));
       most_here = λ _. omega (arith, none.asks);
-      least_here = λ _. omega (arith, none.asks, asked);
+      least_here = λ _. omega (arith, none.asks, asked, offers_free c _ hand);
+      offers_else = λ q _ ne. refl;
       asks_else = λ q _ _. refl;
       hand = λ p d busy. let bad : hands.Free ≡ hands.Busy p d = sym hand ∙ busy in absurd (cc);
-      hands_else = λ s p ne busy. absurd (unnamed p c (row_at h s).hand (others s ne).hand (none.hands s) busy);
+      hands_else = λ s p ne busy. absurd (unnamed p c (row_at h s).hand (others s ne).hand (none.hands s) (unoffered h s c _ sound refl (gripped_unoffered h s c sound fits.mortal some_grip)) busy);
       cell = λ _. record {
         default = λ _. subst (λ z. pos 0 ≤ℤ z) (sym count) (omega (arith, ints));
         owned_unmerged = λ s e. let bad : owners.Free ≡ owners.Thread s = e in absurd (cc);
         owned_by_bearer = λ s e. let bad : owners.Free ≡ owners.Thread s = e in absurd (cc);
+        rested = λ s e _. let bad : owners.Free ≡ owners.Thread s = e in absurd (cc);
         dead_empty = λ _. empty;
         dead_count = λ _. count;
         born = λ live. absurd (true≢false (sym live));
@@ -263,7 +268,9 @@ free_sound h t c sound ok =
         inactive_frame = old.inactive_frame;
         inactive_lock = old.inactive_lock;
         closing = old.closing;
-        closing_work = λ n q e. fewer q (old.closing_work n q e);
+        closing_work = λ n q one e. fewer q (old.closing_work n q one e);
+        opening = old.opening;
+        opening_rest = λ n q e. (fewer q (old.opening_rest n q e).0, (old.opening_rest n q e).1);
         closed = old.closed;
         gathered_left = old.gathered_left;
         gathered_hand = old.gathered_hand;

@@ -10,7 +10,7 @@ use Rattle.brc_words.specs.declared.owner.Owner.{Owner}
 use Rattle.brc_words.specs.declared.owner.Owner.TheVariants as owners
 use Rattle.brc_words.specs.declared.state.State.{State}
 use Rattle.brc_words.specs.declared.state.State.TheVariants as states
-use Rattle.brc_runs.specs.Phases.{is_gripping}
+use Rattle.brc_runs.specs.Phases.{is_gripping, is_offering}
 use Rattle.brc_runs.specs.declared.cell.Cell.{Cell}
 use Rattle.brc_runs.specs.declared.row.Row.{Row}
 use Rattle.brc_runs.specs.declared.row.Hand.{Hand}
@@ -21,7 +21,7 @@ use Rattle.brc_runs.specs.Lists.{one, times, names, entry_times, bit_of, is_mark
 use Rattle.brc_runs.specs.Heap.{Heap, cell_at, row_at, popped_at, worklist_at, no_row}
 use Rattle.brc_runs.specs.Steps.{is_at, is_zero, is_queued, is_merged}
 use Rattle.brc_runs.specs.Holding.{Headline, IsInHand, buries, each, if_so, holders_of, lives, lives_at, carries, count_of_state}
-use Rattle.brc_runs.specs.Sound.{IsSound, PhaseFits, grips_by_owner, grips, gripped, held, is_threads}
+use Rattle.brc_runs.specs.Sound.{IsSound, PhaseFits, grips_by_owner, grips, gripped, held, is_threads, offering, offered}
 use Rattle.brc_runs.proofs.Naming.{Unheld, unheld, live_counts, sum_one, busy_carrier}
 
 -- ---- the list of holders is as long as the sums say
@@ -109,26 +109,40 @@ grip_of_owner (owners.Thread t) states.Merged local count live asked unmerged de
 grip_of_owner (owners.Claimed t) state local count live asked unmerged default total = absurd (true≢false (sym live))
 grip_of_owner owners.Free state local count live asked unmerged default total = absurd (true≢false (sym live))
 
-buried_by_hand : (h : Heap) (t c : ℕ) (p : Phase) → (is_at phases.Zero c (hands.Busy p c) || is_at phases.Over c (hands.Busy p c) || is_at phases.Untied c (hands.Busy p c)) ≡ true
-    → (row_at h t).hand ≡ hands.Busy p c → buries h c t ≡ true
-buried_by_hand h t c p buries busy =
-    ap (λ hand. is_at phases.Zero c hand || is_at phases.Over c hand || is_at phases.Untied c hand || is_marked (worklist_at h t) c) busy
-    ∙ ap (λ b. b || is_marked (worklist_at h t) c) buries
+-- the phases in which a hand is about to bury its cell
+abbrev burying : ℕ → Hand → Bool
+burying c hand = is_at phases.Zero c hand || is_at phases.Over c hand || is_at phases.Untied c hand || is_at phases.Offered c hand || is_at phases.Yielding c hand
+
+buried_by_hand : (h : Heap) (t c : ℕ) (p : Phase) → burying c (hands.Busy p c) ≡ true → (row_at h t).hand ≡ hands.Busy p c → buries h c t ≡ true
+buried_by_hand h t c p soon busy =
+    ap (λ hand. burying c hand || is_marked (worklist_at h t) c) busy
+    ∙ ap (λ b. b || is_marked (worklist_at h t) c) soon
 
 -- a hand that grips a live object which nothing holds is about to bury it
 buried_by_grip : (h : Heap) (t c : ℕ) (p : Phase) → IsSound h → Unheld h c → lives (cell_at h c).owner ≡ true → (row_at h t).hand ≡ hands.Busy p c → is_gripping p ≡ true
-    → PhaseFits t (row_at h t) (popped_at h t) (cell_at h c) (row_at h (cell_at h c).bearer).stage c p → buries h c t ≡ true
+    → PhaseFits h.edition t (row_at h t) (popped_at h t) (cell_at h c) (row_at h (cell_at h c).bearer).stage c p → buries h c t ≡ true
 buried_by_grip h t c phases.Claimed sound none live busy grip fits = absurd (true≢false (sym live ∙ ap lives fits.claimed))
 buried_by_grip h t c phases.Counted sound none live busy grip fits = absurd (true≢false (sym live ∙ ap lives fits.0.claimed))
 buried_by_grip h t c phases.Ready sound none live busy grip fits = absurd (true≢false (sym live ∙ ap lives fits.0.claimed))
-buried_by_grip h t c phases.Zero sound none live busy grip fits = buried_by_hand h t c phases.Zero (ap (λ b. b || is_at phases.Over c (hands.Busy phases.Zero c) || is_at phases.Untied c (hands.Busy phases.Zero c)) (eq-eqb c c refl)) busy
-buried_by_grip h t c phases.Over sound none live busy grip fits = buried_by_hand h t c phases.Over (ap (λ b. b || is_at phases.Untied c (hands.Busy phases.Over c)) (eq-eqb c c refl)) busy
-buried_by_grip h t c phases.Untied sound none live busy grip fits = buried_by_hand h t c phases.Untied (eq-eqb c c refl) busy
+buried_by_grip h t c phases.Zero sound none live busy grip fits = buried_by_hand h t c phases.Zero (ap (λ b. b || false || false || false || false) (eq-eqb c c refl)) busy
+buried_by_grip h t c phases.Over sound none live busy grip fits = buried_by_hand h t c phases.Over (ap (λ b. b || false || false || false) (eq-eqb c c refl)) busy
+buried_by_grip h t c phases.Untied sound none live busy grip fits = buried_by_hand h t c phases.Untied (ap (λ b. b || false || false) (eq-eqb c c refl)) busy
 buried_by_grip h t c phases.Asked sound none live busy grip fits = absurd (true≢false (sym grip))
 buried_by_grip h t c phases.Shut sound none live busy grip fits = absurd (true≢false (sym grip))
 buried_by_grip h t c phases.Taking sound none live busy grip fits = absurd (omega (arith, none.hands t, busy_carrier phases.Taking c (row_at h t).hand refl busy))
 buried_by_grip h t c phases.Held sound none live busy grip fits = absurd (true≢false (sym grip))
 buried_by_grip h t c phases.Popping sound none live busy grip fits = absurd (omega (arith, none.bits t, fits.1))
+buried_by_grip h t c phases.Offered sound none live busy grip fits = absurd (true≢false (sym grip))
+buried_by_grip h t c phases.Yielding sound none live busy grip fits = buried_by_hand h t c phases.Yielding (eq-eqb c c refl) busy
+
+-- so is a hand that is about to hand it over
+offering_hand : (c : ℕ) (hand : Hand) → offering c hand ≡ true → hand ≡ hands.Busy phases.Offered c
+offering_hand c hands.Free is = absurd (true≢false (sym is))
+offering_hand c (hands.Busy phases.Offered d) is = ap (hands.Busy phases.Offered) (eqb-true d c is)
+offering_hand c (hands.Busy p d) is = absurd (true≢false (sym is))
+
+buried_by_offer : (h : Heap) (t c : ℕ) → offering c (row_at h t).hand ≡ true → buries h c t ≡ true
+buried_by_offer h t c is = buried_by_hand h t c phases.Offered (ap (λ b. b || false) (eq-eqb c c refl)) (offering_hand c _ is)
 
 or_true : (a b : Bool) → b ≡ true → (a || b) ≡ true
 or_true true b h = refl
@@ -146,17 +160,28 @@ found_in_hand h c sound live empty =
     let x : Cell = cell_at h c in
     let fits = sound.cells c alive.mortal in
     let total : count_of_state x.state x.local x.count ≡ pos 0 = sym (live_counts x alive.owner) ∙ sound.counted c alive.mortal ∙ ap pos empty in
-    let asked : one (is_queued x.state && is_threads x.owner) ≡ 0 = omega (arith, sound.least c alive.mortal, none.asks) in
-    let grip : 1 ≤ gripped h c = omega (arith, sound.gripped c alive.mortal, grip_of_owner x.owner x.state x.local x.count alive.owner asked fits.owned_unmerged fits.default total) in
-    elim (cases_lt 0 (sum_by (λ (marks : List Bool). one (is_marked marks c)) h.worklists)) [
+    elim (cases_lt 0 (offered h c)) [
       | inl some ↦
-          let found : (t : ℕ) × (1 ≤ one (is_marked (worklist_at h t) c)) = sum_some (λ (marks : List Bool). one (is_marked marks c)) h.worklists [] (omega (arith, some)) in
-          (found.0, or_true _ _ (from_one _ found.1))
-      | inr no_marks ↦
-          let found : (t : ℕ) × (1 ≤ one (grips c (row_at h t).hand)) = sum_some (λ (row : Row). one (grips c row.hand)) h.rows no_row (omega (arith, no_marks, grip)) in
-          let hand : (p : Phase) × ((row_at h found.0).hand ≡ hands.Busy p c) × (is_gripping p ≡ true) = gripping_hand c _ (from_one _ found.1) in
-          (found.0, buried_by_grip h found.0 c hand.0 sound none alive.owner hand.1 hand.2 (sound.hands found.0 c hand.0 hand.1).fits)
+          let found : (t : ℕ) × (1 ≤ one (offering c (row_at h t).hand)) = sum_some (λ (row : Row). one (offering c row.hand)) h.rows no_row (omega (arith, some)) in
+          (found.0, buried_by_offer h found.0 c (from_one _ found.1))
+      | inr quiet ↦ found_gripped h c sound alive none total (omega (arith, sound.least c alive.mortal, none.asks, quiet))
     ]
+  where
+    found_gripped : (h : Heap) (c : ℕ) → IsSound h → Lives h c → Unheld h c → count_of_state (cell_at h c).state (cell_at h c).local (cell_at h c).count ≡ pos 0
+        → one (is_queued (cell_at h c).state && is_threads (cell_at h c).owner) ≡ 0 → IsInHand h c
+    found_gripped h c sound alive none total asked =
+        let x : Cell = cell_at h c in
+        let fits = sound.cells c alive.mortal in
+        let grip : 1 ≤ gripped h c = omega (arith, sound.gripped c alive.mortal, grip_of_owner x.owner x.state x.local x.count alive.owner asked fits.owned_unmerged fits.default total) in
+        elim (cases_lt 0 (sum_by (λ (marks : List Bool). one (is_marked marks c)) h.worklists)) [
+          | inl some ↦
+              let found : (t : ℕ) × (1 ≤ one (is_marked (worklist_at h t) c)) = sum_some (λ (marks : List Bool). one (is_marked marks c)) h.worklists [] (omega (arith, some)) in
+              (found.0, or_true _ _ (from_one _ found.1))
+          | inr no_marks ↦
+              let found : (t : ℕ) × (1 ≤ one (grips c (row_at h t).hand)) = sum_some (λ (row : Row). one (grips c row.hand)) h.rows no_row (omega (arith, no_marks, grip)) in
+              let hand : (p : Phase) × ((row_at h found.0).hand ≡ hands.Busy p c) × (is_gripping p ≡ true) = gripping_hand c _ (from_one _ found.1) in
+              (found.0, buried_by_grip h found.0 c hand.0 sound none alive.owner hand.1 hand.2 (sound.hands found.0 c hand.0 hand.1).fits)
+        ]
 
 pub sound_headline : (h : Heap) → IsSound h → Headline h
 sound_headline h sound = record {
@@ -183,4 +208,20 @@ frees_fit h sound t =
       sound.ledger,
       sum_bound (λ (row : Row). row.allocs) h.rows no_row (λ s. (sound.threads s).births),
       sound.shaped.threads,
+      sound.past.0,
+      sound.past.1,
+    )
+
+-- the births, and the frees, of all registrations together
+pub sums_fit : (h : Heap) → IsSound h → (sum_by (λ row. row.allocs) h.rows + h.past_allocs < 2 ^ 64) × (sum_by (λ row. row.frees) h.rows + h.past_frees < 2 ^ 64)
+sums_fit h sound =
+    let allocs : sum_by (λ row. row.allocs) h.rows ≤ length h.rows * MOST_BIRTHS = sum_bound (λ (row : Row). row.allocs) h.rows no_row (λ s. (sound.threads s).births) in
+    (omega (arith, allocs, sound.shaped.threads, sound.past.0, sound.past.1), omega (arith, allocs, sound.ledger, sound.shaped.threads, sound.past.0, sound.past.1))
+
+-- one thread's ledger can join the past
+pub past_fits : (h : Heap) → IsSound h → (t : ℕ) → (h.past_allocs + (row_at h t).allocs < 2 ^ 64) × (h.past_frees + (row_at h t).frees < 2 ^ 64)
+past_fits h sound t =
+    let sums = sums_fit h sound in (
+      omega (arith, sums.0, sum_one (λ (row : Row). row.allocs) h.rows t no_row refl),
+      omega (arith, sums.1, sum_one (λ (row : Row). row.frees) h.rows t no_row refl),
     )

@@ -18,6 +18,8 @@ pub mod Locking
 pub mod Resting
 pub mod Preserving
 pub mod Registering
+pub mod Reusing
 pub mod Beginning
 pub mod Headlines
 pub mod Lifetimes
+pub mod Recounting

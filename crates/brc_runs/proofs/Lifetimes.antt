@@ -1,10 +1,12 @@
 -- Lives, births and frees: what each event does to them, so that the run alone tells them.
-use Rattle.std.proofs.Common.{◌≡◌, ℕ, ◌+◌, ◌<◌, ◌≤◌, ◌==◌, ◌&&◌, ◌||◌, not, Bool, true, false, if◌then◌else◌, List, length, get_or, set, Option, Some, None, refl, sym, ◌∙◌, ap, subst, inl, inr, ◌⊎◌, arith}
+use Rattle.std.proofs.Common.{◌≡◌, ℕ, ◌+◌, ◌<◌, ◌≤◌, ◌==◌, ◌&&◌, ◌||◌, not, Bool, true, false, if◌then◌else◌, List, length, get_or, set, Option, Some, None, refl, sym, ◌∙◌, ap, subst, inl, inr, ◌⊎◌, arith, [], ◌∷◌, nat_lt}
 use Rattle.std.proofs.lemmas.List.{get_or_past}
 use Rattle.std.proofs.lemmas.Bool.{cases_Bool, eq-eqb, ne_eqb, eqb-true, and_parts, and_right, or_parts, le-ltb, true≢false}
 use Rattle.brc_words.specs.declared.limits.TheConstants.{FIRST_MORTAL}
 use Rattle.brc_runs.specs.declared.cell.Cell.{Cell}
+use Rattle.brc_runs.specs.declared.edition.Edition.TheVariants as editions
 use Rattle.brc_runs.specs.declared.event.Event.{Event}
+use Rattle.brc_runs.specs.Runs.{world_after}
 use Rattle.brc_runs.specs.declared.event.Step.{Step}
 use Rattle.brc_runs.specs.declared.event.Step.TheVariants.{Claim, Birth, LocalUp, LocalDown, Free, Untie, Ask, Register}
 use Rattle.brc_runs.specs.declared.row.Row.{Row}
@@ -12,12 +14,12 @@ use Rattle.brc_runs.specs.declared.row.Phase.TheVariants as phases
 use Rattle.brc_runs.specs.declared.row.Stage.{Stage}
 use Rattle.brc_runs.specs.Lists.{one, is_marked}
 use Rattle.brc_runs.specs.Heap.{Heap, cell_at, row_at, worklist_at, no_cell, no_row, new_row, is_immortal, words_for}
-use Rattle.brc_runs.specs.Steps.{enabled, after, after_target, root_after, needs_no_cell, cell_after, row_after, is_shut, thread_may, root_may, target_at, target_ok, allocs_after, frees_after, stage_after}
+use Rattle.brc_runs.specs.Steps.{enabled, after, after_target, root_after, needs_no_cell, cell_after, row_after, is_shut, thread_may, root_may, target_at, target_ok, allocs_after, frees_after, stage_after, number_ok, registered, registered_again}
 use Rattle.brc_runs.specs.Holding.{lives, lives_at, lives_since, lives_by, is_birth, holders_of, DiesUnheld}
 use Rattle.brc_runs.specs.Steps.{is_free_step}
 use Rattle.brc_runs.specs.Sound.{IsSound, HandFits, WorklistFits, Births, held}
 use Rattle.brc_runs.proofs.Naming.{busy_hand, busy_carrier, free_owner}
-use Rattle.brc_runs.proofs.Asking.{May, may_parts, on_cell, OnCell, at_end, shut_out, from_queue, untie_way}
+use Rattle.brc_runs.proofs.Asking.{May, may_parts, on_cell, OnCell, at_end, shut_out, handed_over, from_queue, untie_way}
 use Rattle.brc_runs.proofs.Changes.{read_by}
 use Rattle.brc_runs.proofs.Registering.{read_push}
 use Rattle.brc_runs.proofs.Counting.{marked_unheld}
@@ -83,7 +85,8 @@ kept_lives h t s (Some c) q plain ok =
 untied_alive : (h : Heap) (t c : ℕ) → IsSound h → May h t (Untie c) → lives (cell_at h c).owner ≡ true
 untied_alive h t c sound may = elim (untie_way h t c sound may) [
   | at_end busy owner ↦ ap lives owner
-  | shut_out busy some ↦ held_owner h c sound (sound.hands t c phases.Shut busy).mortal (carried_held h t c (busy_carrier phases.Shut c _ refl busy))
+  | shut_out busy some first ↦ held_owner h c sound (sound.hands t c phases.Shut busy).mortal (carried_held h t c (busy_carrier phases.Shut c _ refl busy))
+  | handed_over busy owner ↦ ap lives owner
   | from_queue free on owner ↦ ap lives owner
 ]
 
@@ -114,19 +117,19 @@ abbrev pub is_of_life : Step → Bool
 is_of_life s = is_birth s || is_free_step s
 
 -- steps on no cell aren't among them
-no_cell_step : (s : Step) → needs_no_cell s ≡ true → is_of_life s ≡ false
+pub no_cell_step : (s : Step) → needs_no_cell s ≡ true → is_of_life s ≡ false
 no_cell_step (Birth c kind k) none = absurd (true≢false (sym none))
 no_cell_step (Free c) none = absurd (true≢false (sym none))
 no_cell_step _ none = refl
 
 -- nor are the root's
-root_step : (h : Heap) (s : Step) → root_may h s ≡ true → is_of_life s ≡ false
+pub root_step : (h : Heap) (s : Step) → root_may h s ≡ true → is_of_life s ≡ false
 root_step h (Birth c kind k) ok = absurd (true≢false (sym ok))
 root_step h (Free c) ok = absurd (true≢false (sym ok))
 root_step h _ ok = refl
 
 -- a ledger's number rises exactly at the thread's own steps that count
-counted_step : (f : Row → ℕ) (counts : Step → Bool) (h : Heap) (t : ℕ) (s : Step) (o : Option ℕ) (q : ℕ)
+pub counted_step : (f : Row → ℕ) (counts : Step → Bool) (h : Heap) (t : ℕ) (s : Step) (o : Option ℕ) (q : ℕ)
     → t < length h.rows → ((c : ℕ) (x : Cell) (shut : Bool) (row : Row) → f (row_after s c x shut row) ≡ f row + one (counts s))
     → ((row : Row) (stage : Stage) → f (record row { stage = stage }) ≡ f row) → (needs_no_cell s ≡ true → counts s ≡ false)
     → target_ok h t (row_at h t) s o ≡ true
@@ -142,11 +145,11 @@ counted_step f counts h t s (Some c) q inside more kept none ok =
     (λ j other. omega (arith, ap (λ b. one (b && counts s)) (ne_eqb t j (λ e. other (sym e)))))
     q
 
-allocs_step : (s : Step) (n : ℕ) → allocs_after s n ≡ n + one (is_birth s)
+pub allocs_step : (s : Step) (n : ℕ) → allocs_after s n ≡ n + one (is_birth s)
 allocs_step (Birth c kind k) n = refl
 allocs_step _ n = omega arith
 
-frees_step : (s : Step) (n : ℕ) → frees_after s n ≡ n + one (is_free_step s)
+pub frees_step : (s : Step) (n : ℕ) → frees_after s n ≡ n + one (is_free_step s)
 frees_step (Free c) n = refl
 frees_step _ n = omega arith
 
@@ -155,19 +158,25 @@ frees_step _ n = omega arith
 -- what one event does to lives and ledgers
 pub record Turns (h : Heap) (e : Event) : Type 0 where
   pub lives : (q : ℕ) → lives_at (after h e) q ≡ lives_since e.step q (lives_at h q)
-  pub allocs : (q : ℕ) → (row_at (after h e) q).allocs ≡ (row_at h q).allocs + one ((e.thread == q) && is_birth e.step)
-  pub frees : (q : ℕ) → (row_at (after h e) q).frees ≡ (row_at h q).frees + one ((e.thread == q) && is_free_step e.step)
+  pub allocs : h.edition ≡ editions.One → (q : ℕ) → (row_at (after h e) q).allocs ≡ (row_at h q).allocs + one ((e.thread == q) && is_birth e.step)
+  pub frees : h.edition ≡ editions.One → (q : ℕ) → (row_at (after h e) q).frees ≡ (row_at h q).frees + one ((e.thread == q) && is_free_step e.step)
 
 -- a root's step changes no life and no ledger; a new thread has the numbers of none
 root_lives : (h : Heap) (s : Step) (q : ℕ) → lives_at (root_after h s) q ≡ lives_at h q
-root_lives h (Register u) q = refl
+root_lives h (Register u) q = by_number (nat_lt u (length h.rows))
+  where
+    by_number : (b : Bool) → lives_at (if b then registered_again h u else registered h) q ≡ lives_at h q
+    by_number true = refl
+    by_number false = refl
 root_lives h _ q = refl
 
-root_counted : (f : Row → ℕ) (h : Heap) (s : Step) (q : ℕ) → f new_row ≡ f no_row → f (row_at (root_after h s) q) ≡ f (row_at h q)
-root_counted f h (Register u) q none =
-    read_push (λ j (row : Row). f row ≡ f (row_at h j)) h.rows new_row no_row
+root_counted : (f : Row → ℕ) (h : Heap) (s : Step) (q : ℕ) → f new_row ≡ f no_row → h.edition ≡ editions.One → root_may h s ≡ true → f (row_at (root_after h s) q) ≡ f (row_at h q)
+root_counted f h (Register u) q none first ok =
+    let new : u ≡ length h.rows = eqb-true u (length h.rows) (subst (λ e. number_ok e h u ≡ true) first (and_parts _ _ ok).0) in
+    ap (λ b. f (row_at (if b then registered_again h u else registered h) q)) (le-ltb u (length h.rows) (omega (arith, new)))
+    ∙ read_push (λ j (row : Row). f row ≡ f (row_at h j)) h.rows new_row no_row
     (none ∙ sym (ap f (get_or_past h.rows (length h.rows) no_row (omega arith)))) (λ j _. refl) q
-root_counted f h _ q none = refl
+root_counted f h _ q none first ok = refl
 
 pub lives_stay : (s : Step) (q : ℕ) (b : Bool) → is_of_life s ≡ false → lives_since s q b ≡ b
 lives_stay (Birth c kind k) q b plain = absurd (true≢false plain)
@@ -218,16 +227,16 @@ event_turns h e sound ok =
           let plain : is_of_life e.step ≡ false = root_step h e.step root.may in
           record {
             lives = λ q. ap (λ w. lives_at w q) root.leads ∙ root_lives h e.step q ∙ sym (lives_stay e.step q (lives_at h q) plain);
-            allocs = λ q. omega (
+            allocs = λ first q. omega (
               arith,
               ap (λ w. (row_at w q).allocs) root.leads,
-              root_counted (λ (r : Row). r.allocs) h e.step q refl,
+              root_counted (λ (r : Row). r.allocs) h e.step q refl first root.may,
               ap one (and_right (e.thread == q) (is_birth e.step) (or_parts _ _ plain).0),
             );
-            frees = λ q. omega (
+            frees = λ first q. omega (
               arith,
               ap (λ w. (row_at w q).frees) root.leads,
-              root_counted (λ (r : Row). r.frees) h e.step q refl,
+              root_counted (λ (r : Row). r.frees) h e.step q refl first root.may,
               ap one (and_right (e.thread == q) (is_free_step e.step) (or_parts _ _ plain).1),
             );
           }
@@ -236,14 +245,38 @@ event_turns h e sound ok =
           let o : Option ℕ = target_at h e.thread e.step in
           record {
             lives = λ q. ap (λ w. lives_at w q) thread.leads ∙ step_lives h e.thread e.step q sound thread.may;
-            allocs = λ q. ap (λ w. (row_at w q).allocs) thread.leads
+            allocs = λ _ q. ap (λ w. (row_at w q).allocs) thread.leads
                 ∙ counted_step (λ (r : Row). r.allocs) is_birth h e.thread e.step o q may.inside (λ c x shut row. allocs_step e.step row.allocs) (λ row stage. refl)
                 (λ none. (or_parts _ _ (no_cell_step e.step none)).0) may.on_target;
-            frees = λ q. ap (λ w. (row_at w q).frees) thread.leads
+            frees = λ _ q. ap (λ w. (row_at w q).frees) thread.leads
                 ∙ counted_step (λ (r : Row). r.frees) is_free_step h e.thread e.step o q may.inside (λ c x shut row. frees_step e.step row.frees) (λ row stage. refl)
                 (λ none. (or_parts _ _ (no_cell_step e.step none)).1) may.on_target;
           }
     ]
+
+-- no event changes the edition
+pub edition_stays : (h : Heap) (e : Event) → (after h e).edition ≡ h.edition
+edition_stays h e = by_thread (e.thread == 0)
+  where
+    by_number : (u : ℕ) (b : Bool) → (if b then registered_again h u else registered h).edition ≡ h.edition
+    by_number u true = refl
+    by_number u false = refl
+
+    by_step : (s : Step) → (root_after h s).edition ≡ h.edition
+    by_step (Register u) = by_number u (nat_lt u (length h.rows))
+    by_step _ = refl
+
+    by_target : (t : ℕ) (s : Step) (o : Option ℕ) → (after_target h t s o).edition ≡ h.edition
+    by_target t s None = refl
+    by_target t s (Some c) = refl
+
+    by_thread : (b : Bool) → (if b then root_after h e.step else after_target h e.thread e.step (target_at h e.thread e.step)).edition ≡ h.edition
+    by_thread true = by_step e.step
+    by_thread false = by_target e.thread e.step (target_at h e.thread e.step)
+
+pub run_edition : (start : Heap) (run : List Event) → (world_after start run).edition ≡ start.edition
+run_edition start [] = refl
+run_edition start (e ∷ run) = edition_stays (world_after start run) e ∙ run_edition start run
 
 -- ---- deaths
 

@@ -21,12 +21,12 @@ use Rattle.brc_runs.specs.Lists.{one, times, names, entry_times, place_at, fille
 use Rattle.brc_runs.specs.Heap.{Heap, cell_at, entries_at, row_at, frame_at, popped_at, worklist_at, no_cell, no_row, is_gathered, immortal_kind}
 use Rattle.brc_runs.specs.Steps.{after_target, target_ok, locked_cell, change_ok, locked_entries, is_keep, frame_changed, entries_changed}
 use Rattle.brc_runs.specs.Holding.{lives}
-use Rattle.brc_runs.specs.Sound.{IsSound, CellFits, ImmortalFits, WorklistFits, Locks, in_entries}
+use Rattle.brc_runs.specs.Sound.{IsSound, CellFits, ImmortalFits, WorklistFits, Locks, in_entries, rests_at}
 use Rattle.brc_runs.proofs.Naming.{some_there, free_hand, same_phase}
 use Rattle.brc_runs.proofs.Framing.{times-filled, times-vacated, length-filled, length-vacated}
 use Rattle.brc_runs.proofs.Asking.{May, OnCell, on_cell, Vacant, vacant}
 use Rattle.brc_runs.proofs.Birthing.{active_from, active_fits, no_lock}
-use Rattle.brc_runs.proofs.Changes.{New, Fits, Fewer, LocksFit, changed, changed_sound, same_entries, same_bits, kept_bits, read_by, read_here, read_there}
+use Rattle.brc_runs.proofs.Changes.{New, Fits, Fewer, LocksFit, changed, changed_sound, same_entries, same_bits, kept_bits, read_by, read_here, read_there, kept_resting}
 use Rattle.brc_runs.proofs.Merging.{held_owner}
 use Rattle.brc_runs.proofs.Dropping.{held_by_place}
 
@@ -35,12 +35,13 @@ use Rattle.brc_runs.proofs.Dropping.{held_by_place}
 mutex_work : (m t q : ℕ) (x : Cell) → WorklistFits t q x → WorklistFits t q (record x { mutex = m })
 mutex_work m t q x fits = record { mortal = fits.mortal; lives = fits.lives; total = fits.total; whose = fits.whose }
 
-mutex_cell : (m threads limit : ℕ) (x : Cell) (old new : List ℕ) → (lives x.owner ≡ false → new ≡ []) → (is_container x.kind ≡ false → new ≡ []) → length new ≤ MOST_ENTRIES
-    → CellFits threads limit x old → CellFits threads limit (record x { mutex = m }) new
-mutex_cell m threads limit x old new dead plain few fits = record {
+mutex_cell : (m threads limit : ℕ) (resting : ℕ → Bool) (x : Cell) (old new : List ℕ) → (lives x.owner ≡ false → new ≡ []) → (is_container x.kind ≡ false → new ≡ []) → length new ≤ MOST_ENTRIES
+    → CellFits threads limit resting x old → CellFits threads limit resting (record x { mutex = m }) new
+mutex_cell m threads limit resting x old new dead plain few fits = record {
   default = fits.default;
   owned_unmerged = fits.owned_unmerged;
   owned_by_bearer = fits.owned_by_bearer;
+  rested = fits.rested;
   dead_empty = dead;
   dead_count = fits.dead_count;
   born = fits.born;
@@ -86,6 +87,8 @@ turned h t c m locked f es = record {
   worklist = worklist_at h t;
   entries = set h.entries c es;
   queues = h.queues;
+  past_allocs = h.past_allocs;
+  past_frees = h.past_frees;
 }
 
 turned_fits : (h : Heap) (t c m : ℕ) (locked : Option ℕ) (f : List (Option ℕ)) (es : List ℕ) → IsSound h → Turns h t c m locked f es → LocksFit (changed h t c (turned h t c m locked f es))
@@ -94,6 +97,9 @@ turned_fits h t c m locked f es sound turns locks =
     let at_entries : c < length h.entries = omega (arith, sound.shaped.entries, turns.cell_inside) in
     let here : get_or (set h.entries c es) c [] ≡ es = get_or-set_same h.entries c es [] at_entries in
     let sum : (q : ℕ) → sum_by (entry_times q) (set h.entries c es) + entry_times q (entries_at h c) ≡ in_entries h q + entry_times q es = λ q. sum_by-set (entry_times q) h.entries c es [] at_entries in
+    let here_fits : FIRST_MORTAL ≤ c → CellFits (length h.rows) h.limit (rests_at h) (record (cell_at h c) { mutex = m }) (get_or (set h.entries c es) c []) = λ mortal.
+    subst (λ xs. CellFits (length h.rows) h.limit (rests_at h) (record (cell_at h c) { mutex = m }) xs) (sym here)
+    (mutex_cell m _ _ _ (cell_at h c) (entries_at h c) es (turns.dead mortal) (turns.plain mortal) turns.few (sound.cells c mortal)) in
     record {
       thread = turns.thread;
       thread_inside = turns.inside;
@@ -110,23 +116,25 @@ turned_fits h t c m locked f es sound turns locks =
       most_here = λ mortal. omega (arith, sound.most c mortal);
       least_here = λ mortal. omega (arith, sound.least c mortal);
       asks_else = λ q _ _. refl;
+      offers_else = λ q _ _. refl;
       hand = λ p d e. let bad : hands.Free ≡ hands.Busy p d = sym turns.free ∙ e in absurd (cc);
-      hands_else = λ s p _ busy. same_phase s (row_at h s) (popped_at h s) (cell_at h c) (record (cell_at h c) { mutex = m }) _ c p refl refl refl refl (sound.hands s c p busy).fits;
-      cell = λ mortal. subst (λ xs. CellFits (length h.rows) h.limit (record (cell_at h c) { mutex = m }) xs) (sym here)
-          (mutex_cell m _ _ (cell_at h c) (entries_at h c) es (turns.dead mortal) (turns.plain mortal) turns.few (sound.cells c mortal));
+      hands_else = λ s p _ busy. same_phase h.edition s (row_at h s) (popped_at h s) (cell_at h c) (record (cell_at h c) { mutex = m }) _ c p refl refl refl refl (sound.hands s c p busy).fits;
+      cell = here_fits;
       immortal = λ low. subst (λ xs. ImmortalFits c (record (cell_at h c) { mutex = m }) xs) (sym here)
           (mutex_immortal m c (cell_at h c) (entries_at h c) es (turns.immortal low) turns.few (sound.immortals c low));
       fewer = λ q ne. subst (λ xs. Fewer (entries_at h q) xs) (sym (get_or-set_other h.entries c q es [] ne)) (same_entries (entries_at h q));
       works_here = λ on. mutex_work m t c (cell_at h c) (sound.worklists t c on);
       works_own = λ q _ on. on;
       works_else = λ s _ on. mutex_work m s c (cell_at h c) (sound.worklists s c on);
-      closes = λ k closed. closed;
-      own = active_fits _ (row_at h t) (record (row_at h t) { locked = locked }) (frame_at h t) f _ (worklist_at h t) (worklist_at h t) _ _ turns.active turns.here refl
+      closes = λ _ k closed. closed;
+      resting = kept_resting h t c (record (cell_at h c) { mutex = m }) (set h.entries c es) (row_at h t).stage sound turns.cell_inside refl here_fits;
+      own = active_fits _ _ (row_at h t) (record (row_at h t) { locked = locked }) (frame_at h t) f _ (worklist_at h t) (worklist_at h t) _ _ turns.active turns.here refl
           (λ k _. turns.free) (sound.threads t).births turns.places;
       queues_else = λ s k _. (sound.threads s).closed k;
       bits = same_bits h t c (turned h t c m locked f es) sound turns.cell_inside (kept_bits h t sound turns.inside) (inl refl);
       locks = locks;
       ledger = refl;
+      past = sound.past.0;
     }
 
 -- the place whose cell the thread has locked
@@ -188,7 +196,7 @@ lock_sound h t k (Some c) sound may named ok =
       thread = may.some_thread;
       inside = may.inside;
       cell_inside = at_cell.inside;
-      active = active_from _ (Lock k) may.stage refl refl;
+      active = active_from _ (Lock k) may.stage refl refl refl;
       here = may.not_gathered;
       free = free_hand _ may.hand;
       moved = λ q. refl;
@@ -329,7 +337,7 @@ unlock_sound h t change (Some c) sound may named ok =
       thread = may.some_thread;
       inside = may.inside;
       cell_inside = at_cell.inside;
-      active = active_from _ s may.stage refl refl;
+      active = active_from _ s may.stage refl refl refl;
       here = may.not_gathered;
       free = free_hand _ may.hand;
       moved = unlock_moved h t c (row_at h t).locked change fine;

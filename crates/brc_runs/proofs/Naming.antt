@@ -1,8 +1,8 @@
 -- Who names a cell: what the sums say of one place, one hand, one worklist.
-use Rattle.std.proofs.Common.{◌≡◌, ◌≢◌, ℕ, ◌+◌, ◌≤◌, ◌==◌, ◌%◌, ◌&&◌, ◌||◌, Bool, true, false, Option, Some, None, is_some, ℤ, pos, negsuc, List, [], length, get_or, set, sum_by, refl, sym, ◌∙◌, ap, inl, inr, arith, if◌then◌else◌, ◌⊎◌}
+use Rattle.std.proofs.Common.{◌≡◌, ◌≢◌, ℕ, ◌+◌, ◌≤◌, ◌==◌, ◌%◌, ◌&&◌, ◌||◌, Bool, true, false, Option, Some, None, is_some, ℤ, pos, negsuc, List, [], length, get_or, set, sum_by, refl, sym, ◌∙◌, ap, inl, inr, arith, if◌then◌else◌, ◌⊎◌, subst, not}
 use Rattle.std.proofs.lemmas.List.{get_or-set_other, get_or_past}
 use Rattle.std.proofs.lemmas.List.Sums.{sum_by-set, get_or-le-sum_by}
-use Rattle.std.proofs.lemmas.Bool.{cases_lt, eq-eqb, eqb-true, and_parts, true≢false}
+use Rattle.std.proofs.lemmas.Bool.{cases_lt, eq-eqb, eqb-true, and_parts, true≢false, cases_eq, ne_eqb}
 use Rattle.std.proofs.lemmas.Int.{ints}
 use Rattle.std.proofs.lemmas.Nat.Bits.{bit_at-zero}
 use Rattle.brc_words.specs.declared.limits.TheConstants.{FIRST_MORTAL}
@@ -12,8 +12,10 @@ use Rattle.brc_words.specs.declared.state.State.{State}
 use Rattle.brc_words.specs.declared.state.State.TheVariants as states
 use Rattle.brc_runs.specs.declared.row.Role.{Role}
 use Rattle.brc_runs.specs.declared.row.Role.TheVariants as roles
-use Rattle.brc_runs.specs.Phases.{role_of, merges, refers, is_gripping, has_reference}
+use Rattle.brc_runs.specs.Phases.{role_of, merges, refers, is_gripping, has_reference, is_offering, offers}
 use Rattle.brc_runs.specs.declared.cell.Cell.{Cell}
+use Rattle.brc_runs.specs.declared.edition.Edition.{Edition}
+use Rattle.brc_runs.specs.declared.edition.Edition.TheVariants as editions
 use Rattle.brc_runs.specs.declared.row.Row.{Row}
 use Rattle.brc_runs.specs.declared.row.Hand.{Hand}
 use Rattle.brc_runs.specs.declared.row.Hand.TheVariants as hands
@@ -25,7 +27,7 @@ use Rattle.brc_runs.specs.Lists.{one, times, bit_of, is_marked, number_in}
 use Rattle.brc_runs.specs.Heap.{Heap, cell_at, row_at, frame_at, popped_at, worklist_at, queue_at, no_row}
 use Rattle.brc_runs.specs.Steps.{is_free_hand, is_at, phase_number, is_free, is_owned_by, is_nobody, is_active, is_zero, is_default, is_merged}
 use Rattle.brc_runs.specs.Holding.{lives, total_of, carries}
-use Rattle.brc_runs.specs.Sound.{IsSound, counted_in, grips_by_owner, grips, gripped, held, asks, in_entries, PhaseFits}
+use Rattle.brc_runs.specs.Sound.{IsSound, counted_in, grips_by_owner, grips, gripped, held, asks, in_entries, PhaseFits, ShutFits, Offered, Yielding, offering, rests}
 
 -- ---- sums
 
@@ -71,6 +73,12 @@ pub second : (a b : Bool) → a ≡ false → (a || b) ≡ true → b ≡ true
 second true b off ok = absurd (true≢false off)
 second false b off ok = ok
 
+pub fourth : (a b c d : Bool) → a ≡ false → b ≡ false → c ≡ false → (a || b || c || d) ≡ true → d ≡ true
+fourth true b c d off apart more ok = absurd (true≢false off)
+fourth false true c d off apart more ok = absurd (true≢false apart)
+fourth false false true d off apart more ok = absurd (true≢false more)
+fourth false false false d off apart more ok = ok
+
 pub third : (a b c : Bool) → a ≡ false → b ≡ false → (a || b || c) ≡ true → c ≡ true
 third true b c off apart ok = absurd (true≢false off)
 third false true c off apart ok = absurd (true≢false apart)
@@ -84,7 +92,7 @@ some_there (Some c) is = refl
 -- ---- phases and hands
 
 phase_of : ℕ → Phase
-phase_of n = if n == 0 then phases.Claimed else (if n == 1 then phases.Counted else (if n == 2 then phases.Ready else (if n == 3 then phases.Zero else (if n == 4 then phases.Over else (if n == 5 then phases.Untied else (if n == 6 then phases.Asked else (if n == 7 then phases.Shut else (if n == 8 then phases.Taking else (if n == 9 then phases.Held else phases.Popping)))))))))
+phase_of n = if n == 0 then phases.Claimed else (if n == 1 then phases.Counted else (if n == 2 then phases.Ready else (if n == 3 then phases.Zero else (if n == 4 then phases.Over else (if n == 5 then phases.Untied else (if n == 6 then phases.Asked else (if n == 7 then phases.Shut else (if n == 8 then phases.Taking else (if n == 9 then phases.Held else (if n == 10 then phases.Popping else (if n == 11 then phases.Offered else phases.Yielding)))))))))))
 
 phase_of_number : (p : Phase) → phase_of (phase_number p) ≡ p
 unfolding phase_of
@@ -102,46 +110,63 @@ busy_hand p c (hands.Busy q d) h =
     let same : q ≡ p = sym (phase_of_number q) ∙ ap phase_of (eqb-true _ _ parts.0) ∙ phase_of_number p in
     ap (λ (x : Phase). hands.Busy x d) same ∙ ap (hands.Busy p) (eqb-true _ _ parts.1)
 
+-- what a hand that was shut out says hangs on the owner alone, or on the bearer's stage
+pub same_shut : (e : Edition) (x y : Cell) (g : Stage) (c : ℕ) → (x.owner ≡ owners.Nobody → y.owner ≡ owners.Nobody) → ShutFits e x g c → ShutFits e y g c
+same_shut editions.One x y g c nobody fits = fits
+same_shut editions.Two x y g c nobody fits = nobody fits
+
 -- a phase looks at the owner, the local count, the state and the bearer of its cell
-pub same_phase : (s : ℕ) (row : Row) (popped : List ℕ) (x y : Cell) (g : Stage) (c : ℕ) (p : Phase) → x.owner ≡ y.owner → x.local ≡ y.local → x.state ≡ y.state → x.bearer ≡ y.bearer
-    → PhaseFits s row popped x g c p → PhaseFits s row popped y g c p
-same_phase s row popped x y g c phases.Claimed owner local state bearer fits = record { claimed = sym owner ∙ fits.claimed; more = fits.more }
-same_phase s row popped x y g c phases.Counted owner local state bearer fits = (record { claimed = sym owner ∙ fits.0.claimed; more = fits.0.more }, sym local ∙ fits.1)
-same_phase s row popped x y g c phases.Ready owner local state bearer fits = (record { claimed = sym owner ∙ fits.0.claimed; more = fits.0.more }, sym local ∙ fits.1, sym state ∙ fits.2)
-same_phase s row popped x y g c phases.Zero owner local state bearer fits = sym owner ∙ fits
-same_phase s row popped x y g c phases.Over owner local state bearer fits = sym owner ∙ fits
-same_phase s row popped x y g c phases.Untied owner local state bearer fits = record {
+pub same_phase : (e : Edition) (s : ℕ) (row : Row) (popped : List ℕ) (x y : Cell) (g : Stage) (c : ℕ) (p : Phase) → x.owner ≡ y.owner → x.local ≡ y.local → x.state ≡ y.state → x.bearer ≡ y.bearer
+    → PhaseFits e s row popped x g c p → PhaseFits e s row popped y g c p
+same_phase e s row popped x y g c phases.Claimed owner local state bearer fits = record { claimed = sym owner ∙ fits.claimed; more = fits.more }
+same_phase e s row popped x y g c phases.Counted owner local state bearer fits = (record { claimed = sym owner ∙ fits.0.claimed; more = fits.0.more }, sym local ∙ fits.1)
+same_phase e s row popped x y g c phases.Ready owner local state bearer fits = (record { claimed = sym owner ∙ fits.0.claimed; more = fits.0.more }, sym local ∙ fits.1, sym state ∙ fits.2)
+same_phase e s row popped x y g c phases.Zero owner local state bearer fits = sym owner ∙ fits
+same_phase e s row popped x y g c phases.Over owner local state bearer fits = sym owner ∙ fits
+same_phase e s row popped x y g c phases.Untied owner local state bearer fits = record {
   owner = sym owner ∙ fits.owner;
   local = sym local ∙ fits.local;
   not_merged = ap is_merged (sym state) ∙ fits.not_merged;
   bearer = sym bearer ∙ fits.bearer;
 }
-same_phase s row popped x y g c phases.Taking owner local state bearer fits = sym owner ∙ fits
-same_phase s row popped x y g c phases.Held owner local state bearer fits = sym state ∙ fits
-same_phase s row popped x y g c phases.Popping owner local state bearer fits = (sym owner ∙ fits.0, fits.1)
-same_phase s row popped x y g c _ owner local state bearer fits = fits
+same_phase e s row popped x y g c phases.Shut owner local state bearer fits = same_shut e x y g c (λ is. sym owner ∙ is) fits
+same_phase e s row popped x y g c phases.Offered owner local state bearer fits = record {
+  owner = sym owner ∙ fits.owner;
+  local = subst (λ n. 1 ≤ n) local fits.local;
+  state = sym state ∙ fits.state;
+}
+same_phase e s row popped x y g c phases.Yielding owner local state bearer fits = record {
+  owner = sym owner ∙ fits.owner;
+  state = sym state ∙ fits.state;
+  bearer = sym bearer ∙ fits.bearer;
+}
+same_phase e s row popped x y g c phases.Taking owner local state bearer fits = sym owner ∙ fits
+same_phase e s row popped x y g c phases.Held owner local state bearer fits = sym state ∙ fits
+same_phase e s row popped x y g c phases.Popping owner local state bearer fits = (sym owner ∙ fits.0, fits.1)
+same_phase e s row popped x y g c _ owner local state bearer fits = fits
 
 -- whoever grips a cell has claimed it, owns it, or has let it go
-pub gripping_owner : (s : ℕ) (row : Row) (popped : List ℕ) (x : Cell) (g : Stage) (c : ℕ) (p : Phase) → PhaseFits s row popped x g c p → is_gripping p ≡ true
+pub gripping_owner : (e : Edition) (s : ℕ) (row : Row) (popped : List ℕ) (x : Cell) (g : Stage) (c : ℕ) (p : Phase) → PhaseFits e s row popped x g c p → is_gripping p ≡ true
     → (x.owner ≡ owners.Claimed s) ⊎ ((x.owner ≡ owners.Thread s) ⊎ (x.owner ≡ owners.Nobody))
-gripping_owner s row popped x g c phases.Claimed fits grip = inl fits.claimed
-gripping_owner s row popped x g c phases.Counted fits grip = inl fits.0.claimed
-gripping_owner s row popped x g c phases.Ready fits grip = inl fits.0.claimed
-gripping_owner s row popped x g c phases.Zero fits grip = inr (inl fits)
-gripping_owner s row popped x g c phases.Over fits grip = inr (inl fits)
-gripping_owner s row popped x g c phases.Untied fits grip = inr (inr fits.owner)
-gripping_owner s row popped x g c phases.Taking fits grip = inr (inr fits)
-gripping_owner s row popped x g c phases.Popping fits grip = inr (inr fits.0)
-gripping_owner s row popped x g c _ fits grip = absurd (true≢false (sym grip))
+gripping_owner e s row popped x g c phases.Claimed fits grip = inl fits.claimed
+gripping_owner e s row popped x g c phases.Counted fits grip = inl fits.0.claimed
+gripping_owner e s row popped x g c phases.Ready fits grip = inl fits.0.claimed
+gripping_owner e s row popped x g c phases.Zero fits grip = inr (inl fits)
+gripping_owner e s row popped x g c phases.Over fits grip = inr (inl fits)
+gripping_owner e s row popped x g c phases.Untied fits grip = inr (inr fits.owner)
+gripping_owner e s row popped x g c phases.Taking fits grip = inr (inr fits)
+gripping_owner e s row popped x g c phases.Popping fits grip = inr (inr fits.0)
+gripping_owner e s row popped x g c phases.Yielding fits grip = inr (inr fits.owner)
+gripping_owner e s row popped x g c _ fits grip = absurd (true≢false (sym grip))
 
--- a hand that names a cell grips it or has a reference to it
-pub hand_names : (p : Phase) (c : ℕ) → 1 ≤ one (grips c (hands.Busy p c)) + one (carries c (hands.Busy p c))
+-- a hand that names a cell grips it, has a reference to it, or is about to hand it over
+pub hand_names : (p : Phase) (c : ℕ) → 1 ≤ one (grips c (hands.Busy p c)) + one (carries c (hands.Busy p c)) + one (offering c (hands.Busy p c))
 hand_names p c = by_role (role_of p)
   where
     here : one (c == c) ≡ 1
     here = ap one (eq-eqb c c refl)
 
-    by_role : (r : Role) → 1 ≤ one (merges r && (c == c)) + one (refers r && (c == c))
+    by_role : (r : Role) → 1 ≤ one (merges r && (c == c)) + one (refers r && (c == c)) + one (offers r && (c == c))
     by_role roles.Owns = omega (arith, here)
     by_role _ = omega (arith, here)
 
@@ -155,10 +180,49 @@ grips_free c hand e = ap (λ x. one (grips c x)) e
 pub carries_free : (c : ℕ) (hand : Hand) → hand ≡ hands.Free → one (carries c hand) ≡ 0
 carries_free c hand e = ap (λ x. one (carries c x)) e
 
--- a hand that neither grips nor has a reference doesn't name the cell
-pub unnamed : (p : Phase) (c : ℕ) (hand : Hand) → one (grips c hand) ≡ 0 → one (carries c hand) ≡ 0 → hand ≡ hands.Busy p c → ⊥
-unnamed p c hand no_grip no_reference e =
-    omega (arith, hand_names p c, ap (λ x. one (grips c x)) e, ap (λ x. one (carries c x)) e, no_grip, no_reference)
+pub offers_free : (c : ℕ) (hand : Hand) → hand ≡ hands.Free → one (offering c hand) ≡ 0
+offers_free c hand e = ap (λ x. one (offering c x)) e
+
+-- a hand in another phase hands nothing over
+pub offers_none : (p : Phase) (c q : ℕ) (hand : Hand) → is_offering p ≡ false → hand ≡ hands.Busy p c → one (offering q hand) ≡ 0
+offers_none p c q hand off e = ap (λ x. one (offering q x)) e ∙ ap (λ b. one (b && (c == q))) off
+
+-- nor does a hand that has another cell
+pub offers_else : (c q : ℕ) (hand : Hand) → ((p : Phase) (d : ℕ) → hand ≡ hands.Busy p d → d ≡ c) → q ≢ c → one (offering q hand) ≡ 0
+offers_else c q hands.Free at_c ne = refl
+offers_else c q (hands.Busy p d) at_c ne = other (is_offering p)
+  where
+    other : (b : Bool) → one (b && (d == q)) ≡ 0
+    other true = ap one (ne_eqb d q (λ e. ne (sym e ∙ at_c p d refl)))
+    other false = refl
+
+-- a hand that neither grips, nor has a reference, nor hands over doesn't name the cell
+pub unnamed : (p : Phase) (c : ℕ) (hand : Hand) → one (grips c hand) ≡ 0 → one (carries c hand) ≡ 0 → one (offering c hand) ≡ 0 → hand ≡ hands.Busy p c → ⊥
+unnamed p c hand no_grip no_reference no_offer e =
+    omega (arith, hand_names p c, ap (λ x. one (grips c x)) e, ap (λ x. one (carries c x)) e, ap (λ x. one (offering c x)) e, no_grip, no_reference, no_offer)
+
+-- a cell that isn't as an offered one must be is offered by no hand
+pub unoffered : (h : Heap) (s c : ℕ) (hand : Hand) → IsSound h → (row_at h s).hand ≡ hand → (Offered s (cell_at h c) → ⊥) → one (offering c hand) ≡ 0
+unoffered h s c hands.Free sound e isnt = refl
+unoffered h s c (hands.Busy p d) sound e isnt =
+    elim (cases_eq d c) [
+      | inr other ↦ apart (is_offering p) (ne_eqb d c other)
+      | inl same ↦ ap (λ b. one (b && (d == c))) (by_phase p (sound.hands s c p (e ∙ ap (hands.Busy p) same)).fits)
+    ]
+  where
+    apart : (b : Bool) → (d == c) ≡ false → one (b && (d == c)) ≡ 0
+    apart true off = ap one off
+    apart false off = refl
+
+    by_phase : (p : Phase) → PhaseFits h.edition s (row_at h s) (popped_at h s) (cell_at h c) (row_at h (cell_at h c).bearer).stage c p → is_offering p ≡ false
+    by_phase phases.Offered fits = absurd (isnt fits)
+    by_phase _ fits = refl
+
+-- what somebody grips is offered by nobody
+pub gripped_unoffered : (h : Heap) (s c : ℕ) → IsSound h → FIRST_MORTAL ≤ c → 1 ≤ gripped h c → Offered s (cell_at h c) → ⊥
+gripped_unoffered h s c sound mortal some offer =
+    let x : Cell = cell_at h c in
+    omega (arith, some, sound.gripped c mortal, ap (λ o. grips_by_owner o x.state x.local x.count) offer.owner, ap one (ne_eqb x.local 0 (λ e. omega (arith, e, offer.local))))
 
 -- ---- cells
 
@@ -186,6 +250,11 @@ pub active_stage : (stage : Stage) → is_active stage ≡ true → stage ≡ st
 active_stage stages.Active h = refl
 active_stage (stages.Closing n) h = absurd (true≢false (sym h))
 active_stage stages.Left h = absurd (true≢false (sym h))
+active_stage (stages.Opening n) h = absurd (true≢false (sym h))
+
+pub active_works : (e : Edition) (stage : Stage) → stage ≡ stages.Active → rests e stage ≡ false
+active_works editions.One stage is = refl
+active_works editions.Two stage is = ap (λ s. not (is_active s)) is
 
 pub zero_count : (n : ℤ) → is_zero n ≡ true → n ≡ pos 0
 zero_count (pos n) h = ap pos (eqb-true n 0 h)

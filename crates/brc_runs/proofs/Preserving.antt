@@ -3,7 +3,7 @@ use Rattle.std.proofs.Common.{◌≡◌, ℕ, ◌+◌, ◌-◌, ◌≤◌, ◌==
 use Rattle.std.proofs.lemmas.Bool.{cases_Bool, and_parts, ltb-true, ltb-false, true≢false}
 use Rattle.brc_words.specs.declared.limits.TheConstants.{FIRST_MORTAL}
 use Rattle.brc_runs.specs.declared.event.Step.{Step}
-use Rattle.brc_runs.specs.declared.event.Step.TheVariants.{Claim, InitLocal, InitShared, Birth, LocalUp, LocalDown, SeeZero, Free, Untie, MergeZero, SharedUp, SharedDown, Ask, LastDown, Enqueue, Drain, MergeAdd, Close, Nudge, Wake, Lock, Unlock, Register, Gather}
+use Rattle.brc_runs.specs.declared.event.Step.TheVariants.{Claim, InitLocal, InitShared, Birth, LocalUp, LocalDown, SeeZero, Free, Untie, MergeZero, SharedUp, SharedDown, Ask, LastDown, Enqueue, Drain, MergeAdd, Close, Nudge, Wake, Lock, Unlock, Register, Gather, Offer, Reopen}
 use Rattle.brc_runs.specs.declared.event.Source.{Source}
 use Rattle.brc_runs.specs.declared.event.Dropped.{Dropped}
 use Rattle.brc_runs.specs.declared.event.LastDropped.TheVariants as lasts
@@ -21,9 +21,9 @@ use Rattle.brc_runs.proofs.Plainly.{plain_sound}
 use Rattle.brc_runs.proofs.Turning.{acts}
 use Rattle.brc_runs.proofs.Dropping.{source_held, drop_downs}
 use Rattle.brc_runs.proofs.Ending.{see_sound, free_sound}
-use Rattle.brc_runs.proofs.Merging.{untie_sound, merge_zero_sound, merge_add_sound}
+use Rattle.brc_runs.proofs.Merging.{untie_sound, merge_zero_sound, merge_add_sound, offer_sound}
 use Rattle.brc_runs.proofs.Sharing.{shared_up_sound, shared_down_sound, ask_sound, last_dropped_sound, last_hand_sound}
-use Rattle.brc_runs.proofs.Queueing.{enqueue_sound, last_popped_sound, drain_sound, close_sound}
+use Rattle.brc_runs.proofs.Queueing.{enqueue_sound, last_popped_sound, drain_sound, close_sound, reopen_sound}
 use Rattle.brc_runs.proofs.Locking.{lock_sound, unlock_sound}
 use Rattle.brc_runs.proofs.Resting.{nudge_sound, wake_sound}
 
@@ -40,7 +40,7 @@ up_target h t k source (Some c) sound may named ok =
       inside = may.inside;
       cell_inside = at_cell.inside;
       place = vacant _ k may.own;
-      active = active_from _ (LocalUp source k) may.stage refl refl;
+      active = active_from _ (LocalUp source k) may.stage refl refl refl;
       here = may.not_gathered;
       hand = free_hand _ may.hand;
     } in
@@ -60,7 +60,7 @@ up_target h t k source (Some c) sound may named ok =
           let parts = and_parts _ _ rest in
           let own : Mine t (row_at h t).stage (cell_at h c) = mine t _ _ parts.0 in
           subst P (sym mortal) (plain_sound h t c _ _ _ _ _ sound
-          (up_fits h t c k _ sound ups (raises_local h t c sound ups.hand high own.owner (ltb-true _ _ parts.1) (source_held h t c source named high))))
+          (up_fits h t c k _ sound ups (raises_local h t c sound ups.hand high own.owner own.active (ltb-true _ _ parts.1) (source_held h t c source named high))))
     ]
 
 -- ---- the owner counts down
@@ -73,7 +73,7 @@ down_target h t drop (Some c) sound may named ok =
     let at_cell : OnCell h t (LocalDown drop) c = on_cell h t (LocalDown drop) c ok in
     let f : List (Option ℕ) = frame_without (Some drop) (frame_at h t) in
     let es : List (List ℕ) = entries_without (Some drop) h.entries in
-    let downs : Downs h t c f es = drop_downs h t c drop sound (acts h t (LocalDown drop) may refl refl) at_cell.inside (free_hand _ may.hand) named in
+    let downs : Downs h t c f es = drop_downs h t c drop sound (acts h t (LocalDown drop) may refl refl refl) at_cell.inside (free_hand _ may.hand) named in
     let P : Bool → Type 0 = λ b. IsSound (record h {
       cells = set h.cells c (if b then cell_at h c else record (cell_at h c) { local = (cell_at h c).local - 1 });
       entries = es;
@@ -114,6 +114,8 @@ step_sound h t (Enqueue c) sound ok = enqueue_sound h t c sound ok
 step_sound h t (Drain k) sound ok = drain_sound h t k sound ok
 step_sound h t (MergeAdd c) sound ok = merge_add_sound h t c sound ok
 step_sound h t (Close k) sound ok = close_sound h t k sound ok
+step_sound h t (Offer c) sound ok = offer_sound h t c sound ok
+step_sound h t (Reopen k) sound ok = reopen_sound h t k sound ok
 step_sound h t (Nudge u k) sound ok = nudge_sound h t u k sound
 step_sound h t Wake sound ok = wake_sound h t sound
 step_sound h t (Lock k) sound ok = let may : May h t (Lock k) = may_parts h t (Lock k) ok in lock_sound h t k _ sound may refl may.on_target

@@ -4,31 +4,31 @@ use Rattle.std.proofs.lemmas.List.Sums.{sum_by-cons}
 use Rattle.std.proofs.lemmas.Bool.{cases_Bool, cases_lt, and_parts, eqb-true, leb-true, le-ltb, lt-ltb}
 use Rattle.brc_words.specs.declared.limits.TheConstants.{FIRST_MORTAL, MOST_THREADS}
 use Rattle.brc_runs.specs.declared.cell.Cell.{Cell}
+use Rattle.brc_runs.specs.declared.edition.Edition.{Edition}
+use Rattle.brc_runs.specs.declared.edition.Edition.TheVariants as editions
 use Rattle.brc_runs.specs.declared.event.Event.{Event}
 use Rattle.brc_runs.specs.declared.event.Step.{Step}
 use Rattle.brc_runs.specs.declared.event.Step.TheVariants.{Register, Gather}
 use Rattle.brc_runs.specs.declared.row.Row.{Row}
 use Rattle.brc_runs.specs.Lists.{one}
-use Rattle.brc_runs.specs.Heap.{Heap, opening, cell_at, row_at, no_row, AreOptions}
+use Rattle.brc_runs.specs.Heap.{Heap, opening, opening_in, cell_at, row_at, no_row, AreOptions}
 use Rattle.brc_runs.specs.Steps.{enabled, after, after_target, root_after, root_may, thread_may, target_at}
 use Rattle.brc_runs.specs.Runs.{IsRun, IsReached, world_after}
 use Rattle.brc_runs.specs.Holding.{Headline, Histories, lives, lives_at, lives_since, is_birth, births_by, frees_by}
 use Rattle.brc_runs.specs.Steps.{is_free_step}
 use Rattle.brc_runs.specs.Sound.{IsSound}
 use Rattle.brc_runs.proofs.Beginning.{opening_sound, free_cell}
-use Rattle.brc_runs.proofs.Registering.{registered_sound}
+use Rattle.brc_runs.proofs.Reusing.{register_sound}
 use Rattle.brc_runs.proofs.Resting.{gathered_sound}
 use Rattle.brc_runs.proofs.Preserving.{step_sound}
 use Rattle.brc_runs.proofs.Headlines.{sound_headline, allocs_fit, frees_fit}
-use Rattle.brc_runs.proofs.Lifetimes.{Turns, root_idle, event_turns, event_dies}
+use Rattle.brc_runs.proofs.Lifetimes.{Turns, root_idle, event_turns, event_dies, run_edition}
 
 -- ---- every reached world is sound
 
 -- the root's steps
 root_sound : (h : Heap) (s : Step) → IsSound h → root_may h s ≡ true → IsSound (root_after h s)
-root_sound h (Register u) sound ok =
-    let parts = and_parts (u == length h.rows) (nat_le u MOST_THREADS) ok in
-    registered_sound h sound (omega (arith, eqb-true u (length h.rows) parts.0, leb-true u MOST_THREADS parts.1))
+root_sound h (Register u) sound ok = register_sound h u sound ok
 root_sound h (Gather u) sound ok = gathered_sound h u sound ok
 root_sound h _ sound ok = sound
 
@@ -42,13 +42,13 @@ event_sound h e sound ok =
           (step_sound h e.thread e.step sound (subst (λ b. (if b then root_may h e.step else thread_may h e.thread e.step) ≡ true) thread ok))
     ]
 
-pub run_sound : (cells limit : ℕ) (run : List Event) → AreOptions cells limit → IsRun (opening cells limit) run → IsSound (world_after (opening cells limit) run)
-run_sound cells limit [] options is_run = opening_sound cells limit options
-run_sound cells limit (e ∷ run) options is_run =
-    event_sound (world_after (opening cells limit) run) e (run_sound cells limit run options is_run.0) is_run.1
+pub run_sound : (edition : Edition) (cells limit : ℕ) (run : List Event) → AreOptions cells limit → IsRun (opening_in edition cells limit) run → IsSound (world_after (opening_in edition cells limit) run)
+run_sound edition cells limit [] options is_run = opening_sound edition cells limit options
+run_sound edition cells limit (e ∷ run) options is_run =
+    event_sound (world_after (opening_in edition cells limit) run) e (run_sound edition cells limit run options is_run.0) is_run.1
 
 pub reached_sound : (h : Heap) → IsReached h → IsSound h
-reached_sound h reached = subst IsSound reached.leads_here (run_sound reached.cells reached.limit reached.run reached.options reached.is_run)
+reached_sound h reached = subst IsSound reached.leads_here (run_sound reached.edition reached.cells reached.limit reached.run reached.options reached.is_run)
 
 -- ---- the laws
 
@@ -57,7 +57,7 @@ pub reached_headline : (h : Heap) → IsReached h → Headline h
 reached_headline h reached = sound_headline h (reached_sound h reached)
 
 -- in the opening world no mortal object lives
-opening_lives : (cells limit q : ℕ) → lives_at (opening cells limit) q ≡ false
+pub opening_lives : (cells limit q : ℕ) → lives_at (opening cells limit) q ≡ false
 opening_lives cells limit q = elim (cases_lt q FIRST_MORTAL) [
   | inl low ↦ ap (λ b. not b && lives (cell_at (opening cells limit) q).owner) (lt-ltb q FIRST_MORTAL low)
   | inr high ↦ ap (λ b. not b && lives (cell_at (opening cells limit) q).owner) (le-ltb q FIRST_MORTAL high) ∙ ap (λ (x : Cell). lives x.owner) (free_cell cells q high)
@@ -78,12 +78,13 @@ run_histories cells limit [] options is_run = record {
 run_histories cells limit (e ∷ run) options is_run =
     let h : Heap = world_after (opening cells limit) run in
     let before : Histories (opening cells limit) run = run_histories cells limit run options is_run.0 in
-    let sound : IsSound h = run_sound cells limit run options is_run.0 in
+    let sound : IsSound h = run_sound editions.One cells limit run options is_run.0 in
     let turns : Turns h e = event_turns h e sound is_run.1 in
+    let first : h.edition ≡ editions.One = run_edition (opening cells limit) run in
     record {
       lives = λ q. turns.lives q ∙ ap (lives_since e.step q) (before.lives q);
-      allocs = λ q. turns.allocs q ∙ omega (arith, before.allocs q, sum_by-cons (λ (x : Event). if (x.thread == q) && is_birth x.step then 1 else 0) e run, one_is ((e.thread == q) && is_birth e.step));
-      frees = λ q. turns.frees q ∙ omega (arith, before.frees q, sum_by-cons (λ (x : Event). if (x.thread == q) && is_free_step x.step then 1 else 0) e run, one_is ((e.thread == q) && is_free_step e.step));
+      allocs = λ q. turns.allocs first q ∙ omega (arith, before.allocs q, sum_by-cons (λ (x : Event). if (x.thread == q) && is_birth x.step then 1 else 0) e run, one_is ((e.thread == q) && is_birth e.step));
+      frees = λ q. turns.frees first q ∙ omega (arith, before.frees q, sum_by-cons (λ (x : Event). if (x.thread == q) && is_free_step x.step then 1 else 0) e run, one_is ((e.thread == q) && is_free_step e.step));
       deaths = (before.deaths, event_dies h e run sound before.lives is_run.1);
     }
   where

@@ -1,20 +1,24 @@
 -- One more thread: empty lists are appended, and nothing else changes.
-use Rattle.std.proofs.Common.{◌≡◌, ◌≢◌, ℕ, ◌+◌, ◌/◌, ◌%◌, ◌<◌, ◌≤◌, Bool, true, false, pos, List, [], ◌∷◌, ◌++◌, length, get_or, replicate, Some, None, refl, sym, ◌∙◌, ap, subst, inl, inr, arith, length-append}
+use Rattle.std.proofs.Common.{◌≡◌, ◌≢◌, ℕ, ◌+◌, ◌/◌, ◌%◌, ◌<◌, ◌≤◌, Bool, true, false, pos, List, [], ◌∷◌, ◌++◌, length, get_or, replicate, Some, None, refl, sym, ◌∙◌, ap, subst, inl, inr, arith, length-append, ◌*◌, sum_by}
 use Rattle.std.proofs.lemmas.List.{get_or_append_left, get_or_past, get_or_push, get_or-replicate, length-replicate}
 use Rattle.std.proofs.lemmas.List.Sums.{sum_by_push}
 use Rattle.std.proofs.lemmas.Bool.{cases_eq, cases_lt, cases_Bool, true≢false}
 use Rattle.std.proofs.lemmas.Nat.Bits.{bit_at-zero}
 use Rattle.std.specs.Int.{bit_at}
-use Rattle.brc_words.specs.declared.limits.TheConstants.{FIRST_MORTAL, MOST_THREADS}
+use Rattle.brc_words.specs.declared.limits.TheConstants.{FIRST_MORTAL, MOST_THREADS, MOST_REGISTRATIONS, MOST_BIRTHS}
+use Rattle.brc_runs.specs.declared.edition.Edition.{Edition}
+use Rattle.brc_runs.specs.declared.edition.Edition.TheVariants as editions
+use Rattle.brc_words.specs.declared.owner.Owner.TheVariants as owners
+use Rattle.brc_runs.specs.declared.cell.Cell.{Cell}
 use Rattle.brc_runs.specs.declared.row.Row.{Row}
 use Rattle.brc_runs.specs.declared.row.Hand.TheVariants as hands
 use Rattle.brc_runs.specs.declared.row.Phase.{Phase}
 use Rattle.brc_runs.specs.declared.row.Phase.TheVariants as phases
 use Rattle.brc_runs.specs.Lists.{one, times, bit_of, is_marked, place_at}
-use Rattle.brc_runs.specs.Heap.{Heap, cell_at, entries_at, row_at, frame_at, popped_at, worklist_at, queue_at, is_gathered, no_row, new_row, words_for}
+use Rattle.brc_runs.specs.Heap.{Heap, cell_at, entries_at, row_at, frame_at, popped_at, worklist_at, queue_at, is_gathered, no_row, new_row, words_for, no_cell}
 use Rattle.brc_runs.specs.Steps.{registered, is_closed}
 use Rattle.brc_runs.specs.Holding.{lives, carries}
-use Rattle.brc_runs.specs.Sound.{IsSound, IsShaped, CellFits, ThreadFits, PhaseFits, HandFits, WorklistFits, Locks, grips, gripped, held, asks}
+use Rattle.brc_runs.specs.Sound.{IsSound, IsShaped, CellFits, ThreadFits, PhaseFits, HandFits, WorklistFits, Locks, grips, gripped, held, asks, rests, rests_at, offered, offering}
 use Rattle.brc_runs.proofs.Naming.{dead_unheld, Unheld, busy_carrier}
 use Rattle.brc_runs.proofs.Changes.{other_bearer}
 use Rattle.brc_runs.proofs.Birthing.{active_fits}
@@ -120,6 +124,9 @@ module _ (h : Heap) (sound : IsSound h) where
       )
 
   -- the bearer of an object that a hand refers to is registered
+  same_offered : (q : ℕ) → offered h' q ≡ offered h q
+  same_offered q = omega (arith, sum_by_push (λ (row : Row). one (offering q row.hand)) h.rows new_row)
+
   shut_bearer : (s d : ℕ) → (row_at h s).hand ≡ hands.Busy phases.Shut d → FIRST_MORTAL ≤ d → (cell_at h d).bearer ≢ length h.rows
   shut_bearer s d busy mortal e =
       elim (cases_Bool (lives (cell_at h d).owner)) [
@@ -135,26 +142,38 @@ module _ (h : Heap) (sound : IsSound h) where
       λ j at_d shut. ap (λ (row : Row). row.stage) (sym (push_else h.rows new_row no_row (cell_at h d).bearer
       (shut_bearer j d (at_d ∙ ap (λ z. hands.Busy z d) shut) (sound.hands j d p at_d).mortal))) in
       let old : (j : ℕ) → j ≢ length h.rows → (row_at h j).hand ≡ hands.Busy p d
-      → (FIRST_MORTAL ≤ d) × PhaseFits j (row_at h j) (popped_at h' j) (cell_at h d) (row_at h' (cell_at h d).bearer).stage d p =
+      → (FIRST_MORTAL ≤ d) × PhaseFits h.edition j (row_at h j) (popped_at h' j) (cell_at h d) (row_at h' (cell_at h d).bearer).stage d p =
       λ j other at_d.
       let fits : HandFits h j p d = sound.hands j d p at_d in (
         fits.mortal,
-        other_bearer j (row_at h j) (popped_at h' j) (cell_at h d) (row_at h (cell_at h d).bearer).stage (row_at h' (cell_at h d).bearer).stage d p (λ shut closed. subst (λ g. is_closed g (d / 32) ≡ true) (bearer j at_d shut) closed)
-            (subst (λ popped. PhaseFits j (row_at h j) popped (cell_at h d) (row_at h (cell_at h d).bearer).stage d p)
+        other_bearer h.edition j (row_at h j) (popped_at h' j) (cell_at h d) (row_at h (cell_at h d).bearer).stage (row_at h' (cell_at h d).bearer).stage d p (λ shut _ closed. subst (λ g. is_closed g (d / 32) ≡ true) (bearer j at_d shut) closed)
+            (subst (λ popped. PhaseFits h.edition j (row_at h j) popped (cell_at h d) (row_at h (cell_at h d).bearer).stage d p)
             (sym (push_else h.popped _ [] j (λ e. other (e ∙ sound.shaped.popped)))) fits.fits),
       ) in
-      let said : (FIRST_MORTAL ≤ d) × PhaseFits s (row_at h' s) (popped_at h' s) (cell_at h d) (row_at h' (cell_at h d).bearer).stage d p =
-      read_push (λ j (row : Row). row.hand ≡ hands.Busy p d → (FIRST_MORTAL ≤ d) × PhaseFits j row (popped_at h' j) (cell_at h d) (row_at h' (cell_at h d).bearer).stage d p) h.rows new_row no_row
+      let said : (FIRST_MORTAL ≤ d) × PhaseFits h.edition s (row_at h' s) (popped_at h' s) (cell_at h d) (row_at h' (cell_at h d).bearer).stage d p =
+      read_push (λ j (row : Row). row.hand ≡ hands.Busy p d → (FIRST_MORTAL ≤ d) × PhaseFits h.edition j row (popped_at h' j) (cell_at h d) (row_at h' (cell_at h d).bearer).stage d p) h.rows new_row no_row
       (λ bad. absurd (let e : hands.Free ≡ hands.Busy p d = bad in cc)) old s busy in
       record { mortal = said.0; fits = said.1 }
 
-  cells_fit : (q : ℕ) → FIRST_MORTAL ≤ q → CellFits (length h'.rows) h.limit (cell_at h q) (entries_at h q)
+  -- the new thread doesn't rest
+  new_works : (e : Edition) → rests e new_row.stage ≡ false
+  new_works editions.One = refl
+  new_works editions.Two = refl
+
+  rested_else : {x : Cell} {entries : List ℕ} → CellFits (length h.rows) h.limit (rests_at h) x entries → (s : ℕ) → x.owner ≡ owners.Thread s → rests_at h' s ≡ true → x.local ≡ 0
+  rested_else {x} {entries} fits s owner =
+      read_push (λ j (row : Row). x.owner ≡ owners.Thread j → rests h.edition row.stage ≡ true → x.local ≡ 0) h.rows new_row no_row
+      (λ _ rest. absurd (true≢false (sym rest ∙ new_works h.edition)))
+      (λ j _ e rest. fits.rested j e rest) s owner
+
+  cells_fit : (q : ℕ) → FIRST_MORTAL ≤ q → CellFits (length h'.rows) h.limit (rests_at h') (cell_at h q) (entries_at h q)
   cells_fit q mortal =
-      let fits : CellFits (length h.rows) h.limit (cell_at h q) (entries_at h q) = sound.cells q mortal in
+      let fits : CellFits (length h.rows) h.limit (rests_at h) (cell_at h q) (entries_at h q) = sound.cells q mortal in
       record {
         default = fits.default;
         owned_unmerged = fits.owned_unmerged;
         owned_by_bearer = fits.owned_by_bearer;
+        rested = λ s owner. rested_else fits s owner;
         dead_empty = fits.dead_empty;
         dead_count = fits.dead_count;
         born = λ live. ((fits.born live).0, omega (arith, (fits.born live).1, one_more));
@@ -164,7 +183,7 @@ module _ (h : Heap) (sound : IsSound h) where
       }
 
   threads_fit : (s : ℕ)
-      → ThreadFits (words_for (length h.cells)) (row_at h' s) (frame_at h' s) (popped_at h' s) (worklist_at h' s) (queue_at h' s) (is_gathered h' s)
+      → ThreadFits h.edition (words_for (length h.cells)) (row_at h' s) (frame_at h' s) (popped_at h' s) (worklist_at h' s) (queue_at h' s) (is_gathered h' s)
   threads_fit s =
       let n : ℕ = words_for (length h.cells) in
       let m : ℕ = length h.cells in
@@ -175,9 +194,9 @@ module _ (h : Heap) (sound : IsSound h) where
             let at_works : s ≡ length h.worklists = same ∙ sym sound.shaped.worklists in
             let at_queues : s ≡ length h.queues = same ∙ sym sound.shaped.queues in
             let at_gathered : s ≡ length h.gathered = same ∙ sym sound.shaped.gathered in
-            subst (λ row. ThreadFits n row (frame_at h' s) (popped_at h' s) (worklist_at h' s) (queue_at h' s) (is_gathered h' s)) (sym (get_or_push h.rows new_row no_row s (sym same)))
-            (subst (λ frame. ThreadFits n new_row frame (popped_at h' s) (worklist_at h' s) (queue_at h' s) (is_gathered h' s)) (sym (get_or_push h.frames [] [] s (sym at_frames)))
-            (active_fits n new_row new_row [] [] (popped_at h' s) (worklist_at h' s) (worklist_at h' s) (queue_at h' s) (is_gathered h' s) refl
+            subst (λ row. ThreadFits h.edition n row (frame_at h' s) (popped_at h' s) (worklist_at h' s) (queue_at h' s) (is_gathered h' s)) (sym (get_or_push h.rows new_row no_row s (sym same)))
+            (subst (λ frame. ThreadFits h.edition n new_row frame (popped_at h' s) (worklist_at h' s) (queue_at h' s) (is_gathered h' s)) (sym (get_or_push h.frames [] [] s (sym at_frames)))
+            (active_fits h.edition n new_row new_row [] [] (popped_at h' s) (worklist_at h' s) (worklist_at h' s) (queue_at h' s) (is_gathered h' s) refl
             (get_or_push h.gathered false false s (sym at_gathered)) refl (λ k _. refl) (omega arith) (omega arith)))
         | inr other ↦
             let not_frames : s ≢ length h.frames = λ e. other (e ∙ sound.shaped.frames) in
@@ -185,12 +204,12 @@ module _ (h : Heap) (sound : IsSound h) where
             let not_works : s ≢ length h.worklists = λ e. other (e ∙ sound.shaped.worklists) in
             let not_queues : s ≢ length h.queues = λ e. other (e ∙ sound.shaped.queues) in
             let not_gathered : s ≢ length h.gathered = λ e. other (e ∙ sound.shaped.gathered) in
-            subst (λ row. ThreadFits n row (frame_at h' s) (popped_at h' s) (worklist_at h' s) (queue_at h' s) (is_gathered h' s)) (sym (push_else h.rows new_row no_row s other))
-            (subst (λ frame. ThreadFits n (row_at h s) frame (popped_at h' s) (worklist_at h' s) (queue_at h' s) (is_gathered h' s)) (sym (push_else h.frames [] [] s not_frames))
-            (subst (λ popped. ThreadFits n (row_at h s) (frame_at h s) popped (worklist_at h' s) (queue_at h' s) (is_gathered h' s)) (sym (push_else h.popped _ [] s not_popped))
-            (subst (λ worklist. ThreadFits n (row_at h s) (frame_at h s) (popped_at h s) worklist (queue_at h' s) (is_gathered h' s)) (sym (push_else h.worklists _ [] s not_works))
-            (subst (λ queue. ThreadFits n (row_at h s) (frame_at h s) (popped_at h s) (worklist_at h s) queue (is_gathered h' s)) (sym (push_else h.queues _ [] s not_queues))
-            (subst (λ gathered. ThreadFits n (row_at h s) (frame_at h s) (popped_at h s) (worklist_at h s) (queue_at h s) gathered) (sym (push_else h.gathered false false s not_gathered))
+            subst (λ row. ThreadFits h.edition n row (frame_at h' s) (popped_at h' s) (worklist_at h' s) (queue_at h' s) (is_gathered h' s)) (sym (push_else h.rows new_row no_row s other))
+            (subst (λ frame. ThreadFits h.edition n (row_at h s) frame (popped_at h' s) (worklist_at h' s) (queue_at h' s) (is_gathered h' s)) (sym (push_else h.frames [] [] s not_frames))
+            (subst (λ popped. ThreadFits h.edition n (row_at h s) (frame_at h s) popped (worklist_at h' s) (queue_at h' s) (is_gathered h' s)) (sym (push_else h.popped _ [] s not_popped))
+            (subst (λ worklist. ThreadFits h.edition n (row_at h s) (frame_at h s) (popped_at h s) worklist (queue_at h' s) (is_gathered h' s)) (sym (push_else h.worklists _ [] s not_works))
+            (subst (λ queue. ThreadFits h.edition n (row_at h s) (frame_at h s) (popped_at h s) (worklist_at h s) queue (is_gathered h' s)) (sym (push_else h.queues _ [] s not_queues))
+            (subst (λ gathered. ThreadFits h.edition n (row_at h s) (frame_at h s) (popped_at h s) (worklist_at h s) (queue_at h s) gathered) (sym (push_else h.gathered false false s not_gathered))
             (sound.threads s))))))
       ]
 
@@ -242,13 +261,13 @@ module _ (h : Heap) (sound : IsSound h) where
             let e : None ≡ Some old.0 = sym (ap (λ (row : Row). row.locked) (get_or_past h.rows s no_row (omega (arith, same)))) ∙ old.1.place in absurd (cc)) old.1,
       )
 
-  pub registered_sound : length h.rows ≤ MOST_THREADS → IsSound h'
-  registered_sound room = record {
+  pub registered_sound : length h.rows ≤ MOST_THREADS → h.registrations < MOST_REGISTRATIONS → IsSound h'
+  registered_sound room few = record {
     shaped = shape room;
     counted = λ q mortal. sound.counted q mortal ∙ ap pos (sym (same_held q));
     gripped = λ q mortal. same_gripped q ∙ sound.gripped q mortal;
     most = λ q mortal. omega (arith, sound.most q mortal, same_asks q);
-    least = λ q mortal. omega (arith, sound.least q mortal, same_asks q);
+    least = λ q mortal. omega (arith, sound.least q mortal, same_asks q, same_offered q);
     hands = hands_fit;
     cells = cells_fit;
     immortals = sound.immortals;
@@ -258,4 +277,6 @@ module _ (h : Heap) (sound : IsSound h) where
     locks = locks_fit;
     mutexes = mutexes_fit;
     ledger = omega (arith, sound.ledger, sum_by_push (λ (row : Row). row.allocs) h.rows new_row, sum_by_push (λ (row : Row). row.frees) h.rows new_row);
+    past = (omega (arith, sound.past.0), omega (arith, few));
+    first = λ one. omega (arith, sound.first one, one_more);
   }

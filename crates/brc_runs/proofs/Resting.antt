@@ -1,7 +1,9 @@
 -- Steps that change no cell and no reference: a thread is told something, or is gathered.
-use Rattle.std.proofs.Common.{◌≡◌, ℕ, ◌<◌, Bool, true, false, List, [], length, set, refl, sym, ◌∙◌, subst, arith, slice_index_or}
+use Rattle.std.proofs.Common.{◌≡◌, ℕ, ◌<◌, ◌≤◌, Bool, true, false, List, [], length, set, refl, sym, ◌∙◌, subst, arith, slice_index_or}
 use Rattle.std.proofs.lemmas.List.{length-set, set-get_or}
 use Rattle.std.proofs.lemmas.Bool.{and_parts, ltb-true, true≢false}
+use Rattle.brc_words.specs.declared.limits.TheConstants.{MOST_REGISTRATIONS}
+use Rattle.brc_runs.specs.declared.edition.Edition.TheVariants as editions
 use Rattle.brc_runs.specs.declared.event.Step.TheVariants.{Nudge, Wake, Gather}
 use Rattle.brc_runs.specs.declared.row.Stage.{Stage}
 use Rattle.brc_runs.specs.declared.row.Stage.TheVariants as stages
@@ -14,10 +16,11 @@ use Rattle.brc_runs.proofs.Naming.{free_hand}
 use Rattle.brc_runs.proofs.Queueing.{no_marks}
 
 -- no clause speaks of notify words but for how many there are, and whether a thread is gathered is for its own part alone
-aside_sound : (h : Heap) (notify_words : List ℕ) (gathered : List Bool) → IsSound h → length notify_words ≡ length h.notify_words → length gathered ≡ length h.gathered
-    → ((t : ℕ) → ThreadFits (words_for (length h.cells)) (row_at h t) (frame_at h t) (popped_at h t) (worklist_at h t) (queue_at h t) (slice_index_or gathered t false))
-    → IsSound (record h { notify_words = notify_words; gathered = gathered })
-aside_sound h notify_words gathered sound same_words same_marks threads = record {
+pub aside_sound : (h : Heap) (notify_words : List ℕ) (gathered : List Bool) (registrations : ℕ) → IsSound h → length notify_words ≡ length h.notify_words → length gathered ≡ length h.gathered
+    → ((t : ℕ) → ThreadFits h.edition (words_for (length h.cells)) (row_at h t) (frame_at h t) (popped_at h t) (worklist_at h t) (queue_at h t) (slice_index_or gathered t false))
+    → h.registrations ≤ registrations → registrations ≤ MOST_REGISTRATIONS → (h.edition ≡ editions.One → registrations ≡ h.registrations)
+    → IsSound (record h { notify_words = notify_words; gathered = gathered; registrations = registrations })
+aside_sound h notify_words gathered registrations sound same_words same_marks threads more few once = record {
   shaped = record {
     options = sound.shaped.options;
     entries = sound.shaped.entries;
@@ -46,10 +49,12 @@ aside_sound h notify_words gathered sound same_words same_marks threads = record
   locks = λ t k locked. let old = sound.locks t k locked in (old.0, record { thread = old.1.thread; place = old.1.place; names = old.1.names }, old.2);
   mutexes = λ t q some mutex. let old = sound.mutexes t q some mutex in (old.0, record { thread = old.1.thread; place = old.1.place; names = old.1.names });
   ledger = sound.ledger;
+  past = (omega (arith, sound.past.0, more), few);
+  first = λ one. omega (arith, sound.first one, once one);
 }
 
 pub told_sound : (h : Heap) (notify_words : List ℕ) → IsSound h → length notify_words ≡ length h.notify_words → IsSound (record h { notify_words = notify_words })
-told_sound h notify_words sound same = aside_sound h notify_words h.gathered sound same refl sound.threads
+told_sound h notify_words sound same = aside_sound h notify_words h.gathered h.registrations sound same refl sound.threads (omega arith) sound.past.1 (λ _. refl)
 
 -- a step that takes no word writes back what it read
 untaken_sound : (h : Heap) (t : ℕ) (notify_words : List ℕ) → IsSound h → length notify_words ≡ length h.notify_words → IsSound (record h {
@@ -76,6 +81,7 @@ left_stage : (stage : Stage) → is_left stage ≡ true → stage ≡ stages.Lef
 left_stage stages.Active left = absurd (true≢false (sym left))
 left_stage (stages.Closing n) left = absurd (true≢false (sym left))
 left_stage stages.Left left = refl
+left_stage (stages.Opening n) left = absurd (true≢false (sym left))
 
 pub gathered_sound : (h : Heap) (u : ℕ) → IsSound h → root_may h (Gather u) ≡ true → IsSound (gathered_in h u)
 gathered_sound h u sound may =
@@ -86,14 +92,16 @@ gathered_sound h u sound may =
     let e = and_parts _ _ d.0 in
     let inside : u < length h.rows = ltb-true _ _ (and_parts _ _ e.0).1 in
     let at_gathered : u < length h.gathered = omega (arith, sound.shaped.gathered, inside) in
-    let own : (g : Bool) → ThreadFits (words_for (length h.cells)) (row_at h u) (frame_at h u) (popped_at h u) (worklist_at h u) (queue_at h u) g = λ g.
-    let old : ThreadFits (words_for (length h.cells)) (row_at h u) (frame_at h u) (popped_at h u) (worklist_at h u) (queue_at h u) (is_gathered h u) = sound.threads u in
+    let own : (g : Bool) → ThreadFits h.edition (words_for (length h.cells)) (row_at h u) (frame_at h u) (popped_at h u) (worklist_at h u) (queue_at h u) g = λ g.
+    let old : ThreadFits h.edition (words_for (length h.cells)) (row_at h u) (frame_at h u) (popped_at h u) (worklist_at h u) (queue_at h u) (is_gathered h u) = sound.threads u in
     record {
       inactive_hand = old.inactive_hand;
       inactive_frame = old.inactive_frame;
       inactive_lock = old.inactive_lock;
       closing = old.closing;
       closing_work = old.closing_work;
+      opening = old.opening;
+      opening_rest = old.opening_rest;
       closed = old.closed;
       gathered_left = λ _. left_stage (row_at h u).stage d.1;
       gathered_hand = λ _. free_hand (row_at h u).hand c.1;
@@ -102,5 +110,5 @@ gathered_sound h u sound may =
       births = old.births;
       places = old.places;
     } in
-    aside_sound h h.notify_words (set h.gathered u true) sound refl (length-set h.gathered u true)
-    (read_by (λ t g. ThreadFits (words_for (length h.cells)) (row_at h t) (frame_at h t) (popped_at h t) (worklist_at h t) (queue_at h t) g) h.gathered u true false at_gathered (own true) (λ t _. sound.threads t))
+    aside_sound h h.notify_words (set h.gathered u true) h.registrations sound refl (length-set h.gathered u true)
+    (read_by (λ t g. ThreadFits h.edition (words_for (length h.cells)) (row_at h t) (frame_at h t) (popped_at h t) (worklist_at h t) (queue_at h t) g) h.gathered u true false at_gathered (own true) (λ t _. sound.threads t)) (omega arith) sound.past.1 (λ _. refl)

@@ -11,6 +11,7 @@ use Rattle.brc_runs.specs.declared.row.Role.{Role}
 use Rattle.brc_runs.specs.declared.row.Role.TheVariants as roles
 use Rattle.brc_runs.specs.Phases.{role_of, refers, merges, ends, is_ending, has_reference, is_gripping}
 use Rattle.brc_runs.specs.declared.cell.Cell.{Cell}
+use Rattle.brc_runs.specs.declared.edition.Edition.{Edition}
 use Rattle.brc_runs.specs.declared.event.Dropped.{Dropped}
 use Rattle.brc_runs.specs.declared.event.LastDropped.TheVariants as lasts
 use Rattle.brc_runs.specs.declared.event.Step.{Step}
@@ -26,8 +27,8 @@ use Rattle.brc_runs.specs.Lists.{one, is_marked}
 use Rattle.brc_runs.specs.Heap.{Heap, cell_at, entries_at, row_at, frame_at, popped_at, worklist_at, is_immortal, no_row}
 use Rattle.brc_runs.specs.Steps.{after_target, target_ok, source_cell, dropped_cell, cell_in_hand, frame_without, entries_without, is_default, is_queued, is_merged, is_zero, is_positive, is_nobody, is_ending_hand, ends_ok}
 use Rattle.brc_runs.specs.Holding.{lives, carries, count_of_state}
-use Rattle.brc_runs.specs.Sound.{IsSound, CellFits, PhaseFits, WorklistFits, counted_in, grips_of, grips_by_owner, grips, is_active_hand, held, asks, asks_least, asks_most, is_threads}
-use Rattle.brc_runs.proofs.Naming.{merged_state, no_mark, one-le, free_hand, busy_carrier, live_counts, zero_count, default_state, grips_free, carries_free, sum_one, same_phase}
+use Rattle.brc_runs.specs.Sound.{IsSound, CellFits, PhaseFits, WorklistFits, counted_in, grips_of, grips_by_owner, grips, is_active_hand, held, asks, asks_least, asks_most, is_threads, rests_at, offering, offered, Offered}
+use Rattle.brc_runs.proofs.Naming.{merged_state, no_mark, one-le, free_hand, busy_carrier, live_counts, zero_count, default_state, grips_free, carries_free, sum_one, same_phase, offers_free, same_shut}
 use Rattle.brc_runs.proofs.Asking.{May, OnCell, on_cell, vacant}
 use Rattle.brc_runs.proofs.Birthing.{active_from, one_and}
 use Rattle.brc_runs.proofs.Counting.{Raises, up_fits, Downs, held_unmarked}
@@ -62,15 +63,16 @@ same_grips owners.Free s local n m same = refl
 
 -- no hand looks at the count
 pub count_hands : (h : Heap) (t c : ℕ) (n : ℤ) → IsSound h → (s : ℕ) (p : Phase) → s ≢ t → (row_at h s).hand ≡ hands.Busy p c
-    → PhaseFits s (row_at h s) (popped_at h s) (record (cell_at h c) { count = n }) (row_at h (cell_at h c).bearer).stage c p
-count_hands h t c n sound s p ne busy = same_phase s (row_at h s) (popped_at h s) (cell_at h c) (record (cell_at h c) { count = n }) _ c p refl refl refl refl (sound.hands s c p busy).fits
+    → PhaseFits h.edition s (row_at h s) (popped_at h s) (record (cell_at h c) { count = n }) (row_at h (cell_at h c).bearer).stage c p
+count_hands h t c n sound s p ne busy = same_phase h.edition s (row_at h s) (popped_at h s) (cell_at h c) (record (cell_at h c) { count = n }) _ c p refl refl refl refl (sound.hands s c p busy).fits
 
-pub count_cell : (threads limit : ℕ) (x : Cell) (n : ℤ) (old new : List ℕ) → lives x.owner ≡ true → (x.state ≡ states.Default → pos 0 ≤ℤ n) → (old ≡ [] → new ≡ []) → length new ≤ length old
-    → CellFits threads limit x old → CellFits threads limit (record x { count = n }) new
-count_cell threads limit x n old new live default empty few fits = record {
+pub count_cell : (threads limit : ℕ) (resting : ℕ → Bool) (x : Cell) (n : ℤ) (old new : List ℕ) → lives x.owner ≡ true → (x.state ≡ states.Default → pos 0 ≤ℤ n) → (old ≡ [] → new ≡ []) → length new ≤ length old
+    → CellFits threads limit resting x old → CellFits threads limit resting (record x { count = n }) new
+count_cell threads limit resting x n old new live default empty few fits = record {
   default = default;
   owned_unmerged = fits.owned_unmerged;
   owned_by_bearer = fits.owned_by_bearer;
+  rested = fits.rested;
   dead_empty = λ dead. absurd (true≢false (sym live ∙ dead));
   dead_count = λ dead. absurd (true≢false (sym live ∙ dead));
   born = fits.born;
@@ -108,7 +110,7 @@ raises_shared h t c sound mortal some =
       counted = λ _. omega (arith, ints, moved_counts x (x.count +ℤ pos 1) live);
       gripped = λ _. same_grips x.owner x.state x.local (x.count +ℤ pos 1) x.count merged;
       hands_else = count_hands h t c (x.count +ℤ pos 1) sound;
-      cell = λ _. count_cell _ _ x (x.count +ℤ pos 1) (entries_at h c) (entries_at h c) live (λ e. omega (arith, ints, (sound.cells c mortal).default e)) (λ e. e) (omega arith) (sound.cells c mortal);
+      cell = λ _. count_cell _ _ _ x (x.count +ℤ pos 1) (entries_at h c) (entries_at h c) live (λ e. omega (arith, ints, (sound.cells c mortal).default e)) (λ e. e) (omega arith) (sound.cells c mortal);
       worklists = λ s on. absurd (no_mark _ (held_unmarked h s c sound some) on);
     }
 
@@ -125,7 +127,7 @@ shared_up_sound h t k source (Some c) sound may named ok =
       inside = may.inside;
       cell_inside = at_cell.inside;
       place = vacant _ k may.own;
-      active = active_from _ (SharedUp source k) may.stage refl refl;
+      active = active_from _ (SharedUp source k) may.stage refl refl refl;
       here = may.not_gathered;
       hand = free_hand _ may.hand;
     }) (raises_shared h t c sound mortal (source_held h t c source named mortal)))
@@ -145,11 +147,11 @@ record Lets (h : Heap) (t c : ℕ) (x : Cell) (now : Hand) (f : List (Option ℕ
   gripped : grips_of x ≡ grips_of (cell_at h c) + one (is_marked w c)
   no_grip : one (grips c now) ≡ 0
   most : asks h c + one (carries c now) ≤ asks_most x
-  least : asks_least x ≤ asks h c + one (carries c now)
-  after : (p : Phase) (d : ℕ) → now ≡ hands.Busy p d → (d ≡ c) × PhaseFits t (record (row_at h t) { hand = now }) (popped_at h t) x (row_at h x.bearer).stage c p
+  least : asks_least x ≤ asks h c + offered h c + one (carries c now)
+  after : (p : Phase) (d : ℕ) → now ≡ hands.Busy p d → (d ≡ c) × PhaseFits h.edition t (record (row_at h t) { hand = now }) (popped_at h t) x (row_at h x.bearer).stage c p
   idle : is_active_hand now ≡ false
-  hands_else : (s : ℕ) (p : Phase) → s ≢ t → (row_at h s).hand ≡ hands.Busy p c → PhaseFits s (row_at h s) (popped_at h s) x (row_at h x.bearer).stage c p
-  cell : CellFits (length h.rows) h.limit x (get_or es c [])
+  hands_else : (s : ℕ) (p : Phase) → s ≢ t → (row_at h s).hand ≡ hands.Busy p c → PhaseFits h.edition s (row_at h s) (popped_at h s) x (row_at h x.bearer).stage c p
+  cell : CellFits (length h.rows) h.limit (rests_at h) x (get_or es c [])
   marks : length w ≡ length (worklist_at h t)
   works_here : is_marked w c ≡ true → WorklistFits t c x
   marks_else : (q : ℕ) → q ≢ c → is_marked w q ≡ is_marked (worklist_at h t) q
@@ -173,7 +175,7 @@ lets_turn h t c x now f w es sound lets =
       part_else = λ q ne. omega (arith, lets.downs.let_go q, ap one (ne_eqb c q (λ e. ne (sym e))));
       gripped_here = omega (arith, lets.gripped, lets.no_grip, grips_free c _ free, held_unmarked h t c sound lets.some);
       most_here = omega (arith, lets.most, carries_free c _ free);
-      least_here = omega (arith, lets.least, carries_free c _ free);
+      least_here = omega (arith, lets.least, carries_free c _ free, offers_free c _ free);
       before = λ p d e. let bad : hands.Free ≡ hands.Busy p d = sym free ∙ e in absurd (cc);
       after = lets.after;
       idle = λ _. lets.idle;
@@ -213,7 +215,7 @@ shared_down_sound h t drop (Some c) sound may named ok =
     let free : (row_at h t).hand ≡ hands.Free = free_hand _ may.hand in
     let some : 1 ≤ held h c = dropped_held h t c drop named in
     let live : lives x.owner ≡ true = held_owner h c sound mortal some in
-    let who : Acts h t = acts h t (SharedDown drop) may refl refl in
+    let who : Acts h t = acts h t (SharedDown drop) may refl refl refl in
     let downs : Downs h t c (frame_without (Some drop) (frame_at h t)) (entries_without (Some drop) h.entries) = drop_downs h t c drop sound who at_cell.inside free named in
     turn_sound h t c (record x { count = n }) (row_at h t).hand _ (worklist_at h t) _ sound (lets_turn h t c (record x { count = n }) (row_at h t).hand _ (worklist_at h t) _ sound (record {
       acts = who;
@@ -231,7 +233,7 @@ shared_down_sound h t drop (Some c) sound may named ok =
       after = λ p d e. let bad : hands.Free ≡ hands.Busy p d = sym free ∙ e in absurd (cc);
       idle = ap is_active_hand free;
       hands_else = count_hands h t c n sound;
-      cell = count_cell _ _ x n (entries_at h c) _ live (λ _. omega (arith, ints, positive_count x.count parts.1)) (downs.fewer c).empty (downs.fewer c).few (sound.cells c mortal);
+      cell = count_cell _ _ _ x n (entries_at h c) _ live (λ _. omega (arith, ints, positive_count x.count parts.1)) (downs.fewer c).empty (downs.fewer c).few (sound.cells c mortal);
       marks = refl;
       works_here = λ on. absurd (no_mark _ (held_unmarked h t c sound some) on);
       marks_else = λ q _. refl;
@@ -240,14 +242,17 @@ shared_down_sound h t drop (Some c) sound may named ok =
 -- ---- asking
 
 -- a hand that isn't bearing the object sees no difference between default and queued
-queued_phase : (s : ℕ) (row : Row) (popped : List ℕ) (x : Cell) (g : Stage) (c : ℕ) (p : Phase) → x.state ≡ states.Default → lives x.owner ≡ true
-    → PhaseFits s row popped x g c p → PhaseFits s row popped (record x { state = states.Queued }) g c p
-queued_phase s row popped x g c phases.Claimed default live fits = record { claimed = fits.claimed; more = fits.more }
-queued_phase s row popped x g c phases.Counted default live fits = (record { claimed = fits.0.claimed; more = fits.0.more }, fits.1)
-queued_phase s row popped x g c phases.Ready default live fits = absurd (true≢false (sym live ∙ ap lives fits.0.claimed))
-queued_phase s row popped x g c phases.Untied default live fits = record { owner = fits.owner; local = fits.local; not_merged = refl; bearer = fits.bearer }
-queued_phase s row popped x g c phases.Held default live fits = let bad : states.Default ≡ states.Merged = sym default ∙ fits in absurd (cc)
-queued_phase s row popped x g c _ default live fits = fits
+queued_phase : (e : Edition) (s : ℕ) (row : Row) (popped : List ℕ) (x : Cell) (g : Stage) (c : ℕ) (p : Phase) → x.state ≡ states.Default → lives x.owner ≡ true
+    → PhaseFits e s row popped x g c p → PhaseFits e s row popped (record x { state = states.Queued }) g c p
+queued_phase e s row popped x g c phases.Claimed default live fits = record { claimed = fits.claimed; more = fits.more }
+queued_phase e s row popped x g c phases.Counted default live fits = (record { claimed = fits.0.claimed; more = fits.0.more }, fits.1)
+queued_phase e s row popped x g c phases.Ready default live fits = absurd (true≢false (sym live ∙ ap lives fits.0.claimed))
+queued_phase e s row popped x g c phases.Untied default live fits = record { owner = fits.owner; local = fits.local; not_merged = refl; bearer = fits.bearer }
+queued_phase e s row popped x g c phases.Held default live fits = let bad : states.Default ≡ states.Merged = sym default ∙ fits in absurd (cc)
+queued_phase e s row popped x g c phases.Shut default live fits = same_shut e x (record x { state = states.Queued }) g c (λ is. is) fits
+queued_phase e s row popped x g c phases.Offered default live fits = let bad : states.Default ≡ states.Queued = sym default ∙ fits.state in absurd (cc)
+queued_phase e s row popped x g c phases.Yielding default live fits = let bad : states.Default ≡ states.Queued = sym default ∙ fits.state in absurd (cc)
+queued_phase e s row popped x g c _ default live fits = fits
 
 queued_grips : (o : Owner) (local : ℕ) (n : ℤ) → grips_by_owner o states.Queued local n ≡ grips_by_owner o states.Default local n
 queued_grips owners.Nobody local n = refl
@@ -265,7 +270,7 @@ asked_lets h t c drop sound who inside mortal free named default =
     let live : lives x.owner ≡ true = held_owner h c sound mortal some in
     let here : one (c == c) ≡ 1 = ap one (eq-eqb c c refl) in
     let downs : Downs h t c (frame_without (Some drop) (frame_at h t)) (entries_without (Some drop) h.entries) = drop_downs h t c drop sound who inside free named in
-    let fits : CellFits (length h.rows) h.limit x (entries_at h c) = sound.cells c mortal in
+    let fits : CellFits (length h.rows) h.limit (rests_at h) x (entries_at h c) = sound.cells c mortal in
     let none : asks h c ≡ 0 = omega (arith, sound.most c mortal, ap (λ s. one (not (is_default s))) default) in
     let same : counted_in y ≡ counted_in x = live_counts y live ∙ sym (live_counts x live ∙ ap (λ s. count_of_state s x.local x.count) default) in
     let grips : grips_of y ≡ grips_of x = queued_grips x.owner x.local x.count ∙ sym (ap (λ s. grips_by_owner x.owner s x.local x.count) default) in
@@ -283,13 +288,14 @@ asked_lets h t c drop sound who inside mortal free named default =
       most = omega (arith, none, here);
       least = omega (arith, none, here, one-le (is_threads x.owner));
       after = λ p d e. let same = busy_same phases.Asked c (hands.Busy phases.Asked c) refl p d e in
-          (same.0, subst (λ z. PhaseFits t (record (row_at h t) { hand = hands.Busy phases.Asked c }) (popped_at h t) y (row_at h x.bearer).stage c z) (sym same.1) tt);
+          (same.0, subst (λ z. PhaseFits h.edition t (record (row_at h t) { hand = hands.Busy phases.Asked c }) (popped_at h t) y (row_at h x.bearer).stage c z) (sym same.1) tt);
       idle = refl;
-      hands_else = λ s p ne busy. queued_phase s (row_at h s) (popped_at h s) x (row_at h x.bearer).stage c p default live (sound.hands s c p busy).fits;
+      hands_else = λ s p ne busy. queued_phase h.edition s (row_at h s) (popped_at h s) x (row_at h x.bearer).stage c p default live (sound.hands s c p busy).fits;
       cell = record {
         default = λ e. let bad : states.Queued ≡ states.Default = e in absurd (cc);
         owned_unmerged = λ s e. refl;
         owned_by_bearer = fits.owned_by_bearer;
+        rested = fits.rested;
         dead_empty = λ dead. (downs.fewer c).empty (fits.dead_empty dead);
         dead_count = fits.dead_count;
         born = fits.born;
@@ -341,7 +347,7 @@ ask_sound h t drop (Some c) sound may named ok =
     let x : Cell = cell_at h c in
     let mortal : FIRST_MORTAL ≤ c = others_mortal _ c at_cell.fits in
     let free : (row_at h t).hand ≡ hands.Free = free_hand _ may.hand in
-    let who : Acts h t = acts h t (Ask drop) may refl refl in
+    let who : Acts h t = acts h t (Ask drop) may refl refl refl in
     let P : Bool → Type 0 = λ b. IsSound (record h {
       cells = set h.cells c (if b then record x { state = states.Queued } else x);
       entries = entries_without (if b then Some drop else None) h.entries;
@@ -412,7 +418,7 @@ last_dropped_sound h t drop (Some c) sound may named ok =
     let free : (row_at h t).hand ≡ hands.Free = free_hand _ may.hand in
     let some : 1 ≤ held h c = dropped_held h t c drop named in
     let last : Lasts h t c = lasts_of h t c sound mortal some in
-    let who : Acts h t = acts h t s may refl refl in
+    let who : Acts h t = acts h t s may refl refl refl in
     let downs : Downs h t c (frame_without (Some drop) (frame_at h t)) (entries_without (Some drop) h.entries) = drop_downs h t c drop sound who at_cell.inside free named in
     let within : c < length (worklist_at h t) = omega (arith, sound.shaped.marks t may.some_thread may.inside, at_cell.inside) in
     let marks = taken_marks (worklist_at h t) c within (held_unmarked h t c sound some) takes in
@@ -432,7 +438,7 @@ last_dropped_sound h t drop (Some c) sound may named ok =
       after = λ p d e. let bad : hands.Free ≡ hands.Busy p d = sym free ∙ e in absurd (cc);
       idle = ap is_active_hand free;
       hands_else = count_hands h t c n sound;
-      cell = count_cell _ _ x n (entries_at h c) _ last.live (λ e. absurd (queued_or_merged x.state parts.0 e)) (downs.fewer c).empty (downs.fewer c).few (sound.cells c mortal);
+      cell = count_cell _ _ _ x n (entries_at h c) _ last.live (λ e. absurd (queued_or_merged x.state parts.0 e)) (downs.fewer c).empty (downs.fewer c).few (sound.cells c mortal);
       marks = marks.1;
       works_here = λ on. last.dead (marked_so takes _ (ap one on) marks.0);
       marks_else = marks.2;
@@ -492,7 +498,7 @@ last_hand_sound h t (Some c) sound may named ok =
     let within : c < length (worklist_at h t) = omega (arith, sound.shaped.marks t may.some_thread may.inside, at_cell.inside) in
     let marks = taken_marks (worklist_at h t) c within (held_unmarked h t c sound some) takes in
     turn_sound h t c (record x { count = n }) hands.Free (frame_at h t) (if takes then set (worklist_at h t) c true else worklist_at h t) h.entries sound (record {
-      acts = acts h t s may refl refl;
+      acts = acts h t s may refl refl refl;
       cell_inside = at_cell.inside;
       mortal = mortal;
       mutex = refl;
@@ -506,12 +512,12 @@ last_hand_sound h t (Some c) sound may named ok =
       part_else = λ q _. refl;
       gripped_here = omega (arith, last.gripped, marks.0, grip, held_unmarked h t c sound some);
       most_here = omega (arith, sound.most c mortal, carried);
-      least_here = omega (arith, least, carried, sum_one (λ (row : Row). one (carries c row.hand)) h.rows t no_row refl);
+      least_here = omega (arith, least, carried, sum_one (λ (row : Row). one (carries c row.hand)) h.rows t no_row refl, sum_one (λ (row : Row). one (offering c row.hand)) h.rows t no_row refl);
       before = λ p d e. (busy_same hand.0 c (row_at h t).hand hand.1 p d e).0;
       after = λ p d e. let bad : hands.Free ≡ hands.Busy p d = e in absurd (cc);
       idle = λ _. refl;
       hands_else = count_hands h t c n sound;
-      cell = count_cell _ _ x n (entries_at h c) (entries_at h c) last.live (λ e. absurd (queued_or_merged x.state parts.0 e)) (λ e. e) (omega arith) (sound.cells c mortal);
+      cell = count_cell _ _ _ x n (entries_at h c) (entries_at h c) last.live (λ e. absurd (queued_or_merged x.state parts.0 e)) (λ e. e) (omega arith) (sound.cells c mortal);
       fewer = λ q _. same_entries _;
       works_here = λ on. last.dead (marked_so takes _ (ap one on) marks.0);
       marks_else = marks.2;

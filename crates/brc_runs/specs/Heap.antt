@@ -6,12 +6,15 @@ use Rattle.brc_words.specs.declared.kind.Kind.TheVariants as kinds
 use Rattle.brc_words.specs.declared.owner.Owner.TheVariants as owners
 use Rattle.brc_words.specs.declared.state.State.TheVariants as states
 use Rattle.brc_runs.specs.declared.cell.Cell.{Cell}
+use Rattle.brc_runs.specs.declared.edition.Edition.{Edition}
+use Rattle.brc_runs.specs.declared.edition.Edition.TheVariants as editions
 use Rattle.brc_runs.specs.declared.row.Row.{Row}
 use Rattle.brc_runs.specs.declared.row.Hand.TheVariants as hands
 use Rattle.brc_runs.specs.declared.row.Stage.TheVariants as stages
 
 -- All lists but the first two are indexed by thread; number 0 is the root's. A thread's own part is its row, its
--- frame, its popped bits and its worklist's marks; others change its queue words and its notify word.
+-- frame, its popped bits and its worklist's marks; others change its queue words and its notify word. The past
+-- ledger is that of all registrations whose number is used again.
 pub record Heap : Type 0 where
   pub limit : ℕ
   pub cells : List Cell
@@ -23,6 +26,10 @@ pub record Heap : Type 0 where
   pub queues : List (List ℕ)
   pub notify_words : List ℕ
   pub gathered : List Bool
+  pub edition : Edition
+  pub registrations : ℕ
+  pub past_allocs : ℕ
+  pub past_frees : ℕ
 
 -- no object: what is read past the last cell, and what a free cell of the opening world is
 abbrev pub no_cell : Cell
@@ -35,6 +42,10 @@ no_row = record { stage = stages.Left; hand = hands.Free; locked = None; allocs 
 -- a thread as it is registered
 abbrev pub new_row : Row
 new_row = record { stage = stages.Active; hand = hands.Free; locked = None; allocs = 0; frees = 0 }
+
+-- a thread as its number is used again: all its queue words are closed
+abbrev pub again_row : Row
+again_row = record { stage = stages.Opening 0; hand = hands.Free; locked = None; allocs = 0; frees = 0 }
 
 abbrev pub cell_at : Heap → ℕ → Cell
 cell_at h c = slice_index_or h.cells c no_cell
@@ -100,7 +111,15 @@ opening cells limit = record {
   queues = [] ∷ [];
   notify_words = 0 ∷ [];
   gathered = false ∷ [];
+  edition = editions.One;
+  registrations = 0;
+  past_allocs = 0;
+  past_frees = 0;
 }
+
+-- the same for either edition
+abbrev pub opening_in : Edition → ℕ → ℕ → Heap
+opening_in edition cells limit = record (opening cells limit) { edition = edition }
 
 -- the sizes that a heap may have
 pub record AreOptions (cells limit : ℕ) : Type 0 where

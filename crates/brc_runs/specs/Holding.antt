@@ -67,10 +67,11 @@ holders_of h q =
     ++ each (λ t words. if_so (bit_of words q == 1) (holders.Popped t q)) 0 h.popped
     ++ each (λ t row. if_so (carries q row.hand) (holders.Hand t q)) 0 h.rows
 
--- the thread is about to bury the object: it merges at zero, or has it on its worklist
+-- the thread is about to bury the object: it merges at zero, has it on its worklist, or hands it over
 abbrev pub buries : Heap → ℕ → ℕ → Bool
 buries h c t = is_at phases.Zero c (row_at h t).hand || is_at phases.Over c (row_at h t).hand
-    || is_at phases.Untied c (row_at h t).hand || is_marked (worklist_at h t) c
+    || is_at phases.Untied c (row_at h t).hand || is_at phases.Offered c (row_at h t).hand
+    || is_at phases.Yielding c (row_at h t).hand || is_marked (worklist_at h t) c
 
 -- the object is in the hand of some thread
 abbrev pub IsInHand : Heap → ℕ → Type 0
@@ -85,7 +86,7 @@ live_count h = sum_by (λ x. one (lives x.owner)) (drop FIRST_MORTAL h.cells)
 pub record Headline (h : Heap) : Type 0 where
   pub counted : (c : ℕ) → lives_at h c ≡ true → total_of (cell_at h c) ≡ pos (length (holders_of h c))
   pub in_hand : (c : ℕ) → lives_at h c ≡ true → holders_of h c ≡ [] → IsInHand h c
-  pub ledger : sum_by (λ row. row.allocs) h.rows ≡ sum_by (λ row. row.frees) h.rows + live_count h
+  pub ledger : sum_by (λ row. row.allocs) h.rows + h.past_allocs ≡ sum_by (λ row. row.frees) h.rows + h.past_frees + live_count h
 
 -- ---- lives and ledgers, told by the run alone
 

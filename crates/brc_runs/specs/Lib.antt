@@ -5,3 +5,4 @@ pub mod Steps
 pub mod Runs
 pub mod Holding
 pub mod Sound
+pub mod Since

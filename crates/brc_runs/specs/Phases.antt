@@ -18,6 +18,8 @@ role_of phases.Shut = roles.Carries
 role_of phases.Taking = roles.Adopts
 role_of phases.Held = roles.Carries
 role_of phases.Popping = roles.Pops
+role_of phases.Offered = roles.Offers
+role_of phases.Yielding = roles.Owns
 
 -- the hand has a reference of its own
 abbrev pub refers : Role → Bool
@@ -31,14 +33,16 @@ has_reference p = refers (role_of p)
 -- the hand is about to bear, merge or bury its cell
 abbrev pub merges : Role → Bool
 merges roles.Carries = false
+merges roles.Offers = false
 merges _ = true
 
 abbrev pub is_gripping : Phase → Bool
 is_gripping p = merges (role_of p)
 
--- only an active thread has such a hand: a birth, or a merge at zero
+-- only an active thread has such a hand: a birth, a merge at zero, or a handing over
 abbrev pub owns : Role → Bool
 owns roles.Owns = true
+owns roles.Offers = true
 owns _ = false
 
 abbrev pub is_active_phase : Phase → Bool
@@ -51,3 +55,11 @@ ends _ = false
 
 abbrev pub is_ending : Phase → Bool
 is_ending p = ends (role_of p)
+
+-- the owner's hand says that the object was asked for, though no reference is on its way
+abbrev pub offers : Role → Bool
+offers roles.Offers = true
+offers _ = false
+
+abbrev pub is_offering : Phase → Bool
+is_offering p = offers (role_of p)

@@ -2,7 +2,8 @@
 -- event is one more case.
 use Rattle.std.specs.Prelude.{◌≡◌, ℕ, true, List, [], ◌∷◌}
 use Rattle.brc_runs.specs.declared.event.Event.{Event}
-use Rattle.brc_runs.specs.Heap.{Heap, opening, AreOptions}
+use Rattle.brc_runs.specs.declared.edition.Edition.{Edition}
+use Rattle.brc_runs.specs.Heap.{Heap, opening_in, AreOptions}
 use Rattle.brc_runs.specs.Steps.{enabled, after}
 
 -- the world that the events lead to from another
@@ -15,11 +16,12 @@ abbrev pub IsRun : Heap → List Event → Type 0
 IsRun start [] = Unit {0}
 IsRun start (e ∷ run) = IsRun start run × (enabled (world_after start run) e ≡ true)
 
--- some run of a heap with these options leads to the world
+-- some run of a heap of some edition with these options leads to the world
 pub record IsReached (h : Heap) : Type 0 where
+  pub edition : Edition
   pub cells : ℕ
   pub limit : ℕ
   pub options : AreOptions cells limit
   pub run : List Event
-  pub is_run : IsRun (opening cells limit) run
-  pub leads_here : world_after (opening cells limit) run ≡ h
+  pub is_run : IsRun (opening_in edition cells limit) run
+  pub leads_here : world_after (opening_in edition cells limit) run ≡ h

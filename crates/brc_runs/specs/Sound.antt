@@ -3,15 +3,17 @@
 --
 -- The picture: a cell has at most one reference on its way through a merge queue; the owner word goes from a thread to
 -- nobody once, by one hand; and an object without holders shows in exactly one hand or on one worklist.
-use Rattle.std.specs.Prelude.{◌≡◌, ◌≢◌, ℕ, ◌+◌, ◌/◌, ◌==◌, ◌<◌, ◌≤◌, ◌&&◌, not, Bool, true, false, if◌then◌else◌, ℤ, pos, ◌≤ℤ◌, List, [], length, Option, Some, None, slice_index_or, sum_by, ◌⊎◌}
-use Rattle.brc_words.specs.declared.limits.TheConstants.{FIRST_MORTAL, GLOBALS, MOST_ENTRIES, MOST_BIRTHS, IMMORTAL_LOCAL, MOST_PLACES, MOST_THREADS}
+use Rattle.std.specs.Prelude.{◌≡◌, ◌≢◌, ℕ, ◌+◌, ◌*◌, ◌/◌, ◌==◌, ◌<◌, ◌≤◌, ◌&&◌, not, Bool, true, false, if◌then◌else◌, ℤ, pos, ◌≤ℤ◌, List, [], length, Option, Some, None, slice_index_or, sum_by, ◌⊎◌}
+use Rattle.brc_words.specs.declared.limits.TheConstants.{FIRST_MORTAL, GLOBALS, MOST_ENTRIES, MOST_BIRTHS, IMMORTAL_LOCAL, MOST_PLACES, MOST_THREADS, MOST_REGISTRATIONS}
 use Rattle.brc_words.specs.declared.owner.Owner.{Owner}
 use Rattle.brc_words.specs.declared.owner.Owner.TheVariants as owners
 use Rattle.brc_words.specs.declared.state.State.{State}
 use Rattle.brc_words.specs.declared.state.State.TheVariants as states
 use Rattle.brc_words.specs.Kinds.{is_container}
-use Rattle.brc_runs.specs.Phases.{is_gripping, is_active_phase}
+use Rattle.brc_runs.specs.Phases.{is_gripping, is_active_phase, is_offering}
 use Rattle.brc_runs.specs.declared.cell.Cell.{Cell}
+use Rattle.brc_runs.specs.declared.edition.Edition.{Edition}
+use Rattle.brc_runs.specs.declared.edition.Edition.TheVariants as editions
 use Rattle.brc_runs.specs.declared.row.Row.{Row}
 use Rattle.brc_runs.specs.declared.row.Hand.{Hand}
 use Rattle.brc_runs.specs.declared.row.Hand.TheVariants as hands
@@ -58,6 +60,14 @@ grips q (hands.Busy phase c) = is_gripping phase && (c == q)
 abbrev pub gripped : Heap → ℕ → ℕ
 gripped h q = sum_by (λ marks. one (is_marked marks q)) h.worklists + sum_by (λ row. one (grips q row.hand)) h.rows
 
+abbrev pub offering : ℕ → Hand → Bool
+offering q hands.Free = false
+offering q (hands.Busy phase c) = is_offering phase && (c == q)
+
+-- hands that are about to hand the cell over
+abbrev pub offered : Heap → ℕ → ℕ
+offered h q = sum_by (λ row. one (offering q row.hand)) h.rows
+
 -- ---- the same, read off the cell
 
 -- the references that a cell's words count
@@ -78,7 +88,7 @@ grips_of x = grips_by_owner x.owner x.state x.local x.count
 abbrev pub asks_most : Cell → ℕ
 asks_most x = one (not (is_default x.state))
 
--- an object that was asked for and still has its owner has one on its way
+-- an object that was asked for and still has its owner has one on its way, or its owner is about to hand it over
 abbrev pub is_threads : Owner → Bool
 is_threads owners.Nobody = false
 is_threads (owners.Thread t) = true
@@ -100,25 +110,52 @@ pub record Untied (t : ℕ) (x : Cell) : Type 0 where
   pub not_merged : is_merged x.state ≡ false
   pub bearer : x.bearer ≡ t
 
+pub record Offered (t : ℕ) (x : Cell) : Type 0 where
+  pub owner : x.owner ≡ owners.Thread t
+  pub local : 1 ≤ x.local
+  pub state : x.state ≡ states.Queued
+
+pub record Yielding (t : ℕ) (x : Cell) : Type 0 where
+  pub owner : x.owner ≡ owners.Nobody
+  pub state : x.state ≡ states.Queued
+  pub bearer : x.bearer ≡ t
+
+-- what a hand that was shut out says: in the first edition the queue word stays closed, in the second the owner has
+-- handed the object over
+abbrev pub ShutFits : Edition → Cell → Stage → ℕ → Type 0
+ShutFits editions.One x bearer_stage d = is_closed bearer_stage (d / 32) ≡ true
+ShutFits editions.Two x bearer_stage d = x.owner ≡ owners.Nobody
+
 -- what a hand in this phase says of its cell x, whose number is d; the bearer is the thread that bore x
-abbrev pub PhaseFits : ℕ → Row → List ℕ → Cell → Stage → ℕ → Phase → Type 0
-PhaseFits t row popped x bearer_stage d phases.Claimed = Births t row x
-PhaseFits t row popped x bearer_stage d phases.Counted = Births t row x × (x.local ≡ 1)
-PhaseFits t row popped x bearer_stage d phases.Ready = Births t row x × (x.local ≡ 1) × (x.state ≡ states.Default)
-PhaseFits t row popped x bearer_stage d phases.Zero = x.owner ≡ owners.Thread t
-PhaseFits t row popped x bearer_stage d phases.Over = x.owner ≡ owners.Thread t
-PhaseFits t row popped x bearer_stage d phases.Untied = Untied t x
-PhaseFits t row popped x bearer_stage d phases.Asked = Unit {0}
-PhaseFits t row popped x bearer_stage d phases.Shut = is_closed bearer_stage (d / 32) ≡ true
-PhaseFits t row popped x bearer_stage d phases.Taking = x.owner ≡ owners.Nobody
-PhaseFits t row popped x bearer_stage d phases.Held = x.state ≡ states.Merged
-PhaseFits t row popped x bearer_stage d phases.Popping = (x.owner ≡ owners.Nobody) × (bit_of popped d ≡ 1)
+abbrev pub PhaseFits : Edition → ℕ → Row → List ℕ → Cell → Stage → ℕ → Phase → Type 0
+PhaseFits e t row popped x bearer_stage d phases.Claimed = Births t row x
+PhaseFits e t row popped x bearer_stage d phases.Counted = Births t row x × (x.local ≡ 1)
+PhaseFits e t row popped x bearer_stage d phases.Ready = Births t row x × (x.local ≡ 1) × (x.state ≡ states.Default)
+PhaseFits e t row popped x bearer_stage d phases.Zero = x.owner ≡ owners.Thread t
+PhaseFits e t row popped x bearer_stage d phases.Over = x.owner ≡ owners.Thread t
+PhaseFits e t row popped x bearer_stage d phases.Untied = Untied t x
+PhaseFits e t row popped x bearer_stage d phases.Asked = Unit {0}
+PhaseFits e t row popped x bearer_stage d phases.Shut = ShutFits e x bearer_stage d
+PhaseFits e t row popped x bearer_stage d phases.Taking = x.owner ≡ owners.Nobody
+PhaseFits e t row popped x bearer_stage d phases.Held = x.state ≡ states.Merged
+PhaseFits e t row popped x bearer_stage d phases.Popping = (x.owner ≡ owners.Nobody) × (bit_of popped d ≡ 1)
+PhaseFits e t row popped x bearer_stage d phases.Offered = Offered t x
+PhaseFits e t row popped x bearer_stage d phases.Yielding = Yielding t x
+
+-- a thread of the second edition that isn't active has seen to its objects
+abbrev pub rests : Edition → Stage → Bool
+rests editions.One stage = false
+rests editions.Two stage = not (is_active stage)
+
+abbrev pub rests_at : Heap → ℕ → Bool
+rests_at h t = rests h.edition (row_at h t).stage
 
 -- what a mortal cell says of itself
-pub record CellFits (threads limit : ℕ) (x : Cell) (entries : List ℕ) : Type 0 where
+pub record CellFits (threads limit : ℕ) (resting : ℕ → Bool) (x : Cell) (entries : List ℕ) : Type 0 where
   pub default : x.state ≡ states.Default → pos 0 ≤ℤ x.count
   pub owned_unmerged : (t : ℕ) → x.owner ≡ owners.Thread t → is_merged x.state ≡ false
   pub owned_by_bearer : (t : ℕ) → x.owner ≡ owners.Thread t → x.bearer ≡ t
+  pub rested : (t : ℕ) → x.owner ≡ owners.Thread t → resting t ≡ true → x.local ≡ 0
   pub dead_empty : lives x.owner ≡ false → entries ≡ []
   pub dead_count : lives x.owner ≡ false → x.count ≡ pos 0
   pub born : lives x.owner ≡ true → (0 < x.bearer) × (x.bearer < threads)
@@ -148,12 +185,14 @@ is_active_hand hands.Free = false
 is_active_hand (hands.Busy phase c) = is_active_phase phase
 
 -- what one thread's own part says, beside its queue words and whether it is gathered
-pub record ThreadFits (words : ℕ) (row : Row) (frame : List (Option ℕ)) (popped : List ℕ) (worklist : List Bool) (queue : List ℕ) (gathered : Bool) : Type 0 where
+pub record ThreadFits (edition : Edition) (words : ℕ) (row : Row) (frame : List (Option ℕ)) (popped : List ℕ) (worklist : List Bool) (queue : List ℕ) (gathered : Bool) : Type 0 where
   pub inactive_hand : is_active row.stage ≡ false → is_active_hand row.hand ≡ false
   pub inactive_frame : is_active row.stage ≡ false → (k : ℕ) → place_at frame k ≡ None
   pub inactive_lock : is_active row.stage ≡ false → row.locked ≡ None
   pub closing : (n : ℕ) → row.stage ≡ stages.Closing n → (0 < n) × (n < words) × (row.hand ≡ hands.Free)
-  pub closing_work : (n q : ℕ) → row.stage ≡ stages.Closing n → is_marked worklist q ≡ false
+  pub closing_work : (n q : ℕ) → edition ≡ editions.One → row.stage ≡ stages.Closing n → is_marked worklist q ≡ false
+  pub opening : (n : ℕ) → row.stage ≡ stages.Opening n → (n < words) × (row.hand ≡ hands.Free)
+  pub opening_rest : (n q : ℕ) → row.stage ≡ stages.Opening n → (is_marked worklist q ≡ false) × (bit_of popped q ≡ 0)
   pub closed : (k : ℕ) → is_closed row.stage k ≡ true → slice_index_or queue k 0 ≡ 0
   pub gathered_left : gathered ≡ true → row.stage ≡ stages.Left
   pub gathered_hand : gathered ≡ true → row.hand ≡ hands.Free
@@ -181,7 +220,7 @@ pub record IsShaped (h : Heap) : Type 0 where
 -- what a hand says of its cell, which is mortal
 pub record HandFits (h : Heap) (t : ℕ) (phase : Phase) (d : ℕ) : Type 0 where
   pub mortal : FIRST_MORTAL ≤ d
-  pub fits : PhaseFits t (row_at h t) (popped_at h t) (cell_at h d) (row_at h (cell_at h d).bearer).stage d phase
+  pub fits : PhaseFits h.edition t (row_at h t) (popped_at h t) (cell_at h d) (row_at h (cell_at h d).bearer).stage d phase
 
 -- a lock is told by the thread's place and by the cell's mutex alike
 pub record Locks (h : Heap) (t k q : ℕ) : Type 0 where
@@ -196,13 +235,15 @@ pub record IsSound (h : Heap) : Type 0 where
   pub counted : (q : ℕ) → FIRST_MORTAL ≤ q → counted_in (cell_at h q) ≡ pos (held h q)
   pub gripped : (q : ℕ) → FIRST_MORTAL ≤ q → gripped h q ≡ grips_of (cell_at h q)
   pub most : (q : ℕ) → FIRST_MORTAL ≤ q → asks h q ≤ asks_most (cell_at h q)
-  pub least : (q : ℕ) → FIRST_MORTAL ≤ q → asks_least (cell_at h q) ≤ asks h q
+  pub least : (q : ℕ) → FIRST_MORTAL ≤ q → asks_least (cell_at h q) ≤ asks h q + offered h q
   pub hands : (t d : ℕ) (phase : Phase) → (row_at h t).hand ≡ hands.Busy phase d → HandFits h t phase d
-  pub cells : (q : ℕ) → FIRST_MORTAL ≤ q → CellFits (length h.rows) h.limit (cell_at h q) (entries_at h q)
+  pub cells : (q : ℕ) → FIRST_MORTAL ≤ q → CellFits (length h.rows) h.limit (rests_at h) (cell_at h q) (entries_at h q)
   pub immortals : (q : ℕ) → q < FIRST_MORTAL → ImmortalFits q (cell_at h q) (entries_at h q)
   pub worklists : (t q : ℕ) → is_marked (worklist_at h t) q ≡ true → WorklistFits t q (cell_at h q)
-  pub threads : (t : ℕ) → ThreadFits (words_for (length h.cells)) (row_at h t) (frame_at h t) (popped_at h t) (worklist_at h t) (queue_at h t) (is_gathered h t)
+  pub threads : (t : ℕ) → ThreadFits h.edition (words_for (length h.cells)) (row_at h t) (frame_at h t) (popped_at h t) (worklist_at h t) (queue_at h t) (is_gathered h t)
   pub bits : (t q : ℕ) → 0 < bit_of (queue_at h t) q + bit_of (popped_at h t) q → (FIRST_MORTAL ≤ q) × ((cell_at h q).bearer ≡ t)
   pub locks : (t k : ℕ) → (row_at h t).locked ≡ Some k → (q : ℕ) × Locks h t k q × ((cell_at h q).mutex ≡ t)
   pub mutexes : (t q : ℕ) → 0 < t → (cell_at h q).mutex ≡ t → (k : ℕ) × Locks h t k q
-  pub ledger : sum_by (λ row. row.allocs) h.rows ≡ sum_by (λ row. row.frees) h.rows + live_count h
+  pub ledger : sum_by (λ row. row.allocs) h.rows + h.past_allocs ≡ sum_by (λ row. row.frees) h.rows + h.past_frees + live_count h
+  pub past : (h.past_allocs ≤ h.registrations * MOST_BIRTHS) × (h.registrations ≤ MOST_REGISTRATIONS)
+  pub first : h.edition ≡ editions.One → h.registrations + 1 ≡ length h.rows

@@ -4,8 +4,8 @@
 -- that cell must be; then what becomes of the cell, of the own part, of entries and of queue words. Counting, merging,
 -- asking and the merge queue are those of PEP 703, "Biased Reference Counting", and of Choi, Shull and Torrellas;
 -- claiming, the hand, closed queue words and the worklist are this heap's own.
-use Rattle.std.specs.Prelude.{ℕ, ◌+◌, ◌-◌, ◌/◌, ◌^◌, ◌==◌, nat_lt, nat_le, ◌&&◌, ◌||◌, not, Bool, true, false, if◌then◌else◌, ℤ, pos, negsuc, ◌+ℤ◌, ◌-ℤ◌, List, [], ◌∷◌, ◌++◌, length, replicate, remove, bit_or, Option, Some, None, is_none, is_some, slice_index_or, slice_get, slice_set}
-use Rattle.brc_words.specs.declared.limits.TheConstants.{FIRST_MORTAL, MOST_ENTRIES, MOST_BIRTHS, MOST_PLACES, MOST_THREADS}
+use Rattle.std.specs.Prelude.{ℕ, zero, suc, ◌+◌, ◌-◌, ◌/◌, ◌^◌, ◌==◌, nat_lt, nat_le, ◌&&◌, ◌||◌, not, Bool, true, false, if◌then◌else◌, ℤ, pos, negsuc, ◌+ℤ◌, ◌-ℤ◌, List, [], ◌∷◌, ◌++◌, length, replicate, remove, bit_or, Option, Some, None, is_none, is_some, slice_index_or, slice_get, slice_set}
+use Rattle.brc_words.specs.declared.limits.TheConstants.{FIRST_MORTAL, MOST_ENTRIES, MOST_BIRTHS, MOST_PLACES, MOST_THREADS, MOST_REGISTRATIONS}
 use Rattle.brc_words.specs.Kinds.{is_mortal, is_container}
 use Rattle.brc_words.specs.declared.owner.Owner.{Owner}
 use Rattle.brc_words.specs.declared.owner.Owner.TheVariants as owners
@@ -13,9 +13,11 @@ use Rattle.brc_words.specs.declared.state.State.{State}
 use Rattle.brc_words.specs.declared.state.State.TheVariants as states
 use Rattle.brc_runs.specs.Phases.{is_ending}
 use Rattle.brc_runs.specs.declared.cell.Cell.{Cell}
+use Rattle.brc_runs.specs.declared.edition.Edition.{Edition}
+use Rattle.brc_runs.specs.declared.edition.Edition.TheVariants as editions
 use Rattle.brc_runs.specs.declared.event.Event.{Event}
 use Rattle.brc_runs.specs.declared.event.Step.{Step}
-use Rattle.brc_runs.specs.declared.event.Step.TheVariants.{Claim, InitLocal, InitShared, Birth, LocalUp, LocalDown, SeeZero, Free, Untie, MergeZero, SharedUp, SharedDown, Ask, LastDown, Enqueue, Drain, MergeAdd, Close, Nudge, Wake, Lock, Unlock, Register, Gather}
+use Rattle.brc_runs.specs.declared.event.Step.TheVariants.{Claim, InitLocal, InitShared, Birth, LocalUp, LocalDown, SeeZero, Free, Untie, MergeZero, SharedUp, SharedDown, Ask, LastDown, Enqueue, Drain, MergeAdd, Close, Nudge, Wake, Lock, Unlock, Register, Gather, Offer, Reopen}
 use Rattle.brc_runs.specs.declared.event.Source.{Source}
 use Rattle.brc_runs.specs.declared.event.Source.TheVariants as sources
 use Rattle.brc_runs.specs.declared.event.Dropped.{Dropped}
@@ -32,7 +34,7 @@ use Rattle.brc_runs.specs.declared.row.Phase.TheVariants as phases
 use Rattle.brc_runs.specs.declared.row.Stage.{Stage}
 use Rattle.brc_runs.specs.declared.row.Stage.TheVariants as stages
 use Rattle.brc_runs.specs.Lists.{place_at, filled, vacated, is_marked, last_of, front_of, number_in, bit_of, word_at, with_bit, without_bit, is_bare, is_unmarked, is_blank}
-use Rattle.brc_runs.specs.Heap.{Heap, cell_at, entries_at, row_at, frame_at, popped_at, worklist_at, queue_at, new_row, is_registered, is_gathered, is_immortal, words_for}
+use Rattle.brc_runs.specs.Heap.{Heap, cell_at, entries_at, row_at, frame_at, popped_at, worklist_at, queue_at, no_cell, new_row, again_row, is_registered, is_gathered, is_immortal, words_for}
 
 -- ---- which cell a step means
 
@@ -93,6 +95,8 @@ target row frame worklist has (Lock k) = place_at frame k
 target row frame worklist has (Unlock change) = locked_cell frame row.locked
 target row frame worklist has (Register u) = None
 target row frame worklist has (Gather u) = None
+target row frame worklist has (Offer c) = Some c
+target row frame worklist has (Reopen k) = None
 
 abbrev pub locked_at : Heap → ℕ → Option ℕ
 locked_at h t = locked_cell (frame_at h t) (row_at h t).locked
@@ -103,6 +107,7 @@ needs_no_cell (Drain k) = true
 needs_no_cell (Close k) = true
 needs_no_cell (Nudge u k) = true
 needs_no_cell Wake = true
+needs_no_cell (Reopen k) = true
 needs_no_cell _ = false
 
 -- ---- the general conditions, one line a kind of step
@@ -123,6 +128,11 @@ abbrev pub is_close : Step → Bool
 is_close (Close k) = true
 is_close _ = false
 
+-- a thread whose number is used again only opens, until all is open
+abbrev pub is_open : Step → Bool
+is_open (Reopen k) = true
+is_open _ = false
+
 -- a thread that has left only gives up and deals with what it still has
 abbrev pub may_after_leaving : Step → Bool
 may_after_leaving (LocalDown drop) = true
@@ -140,6 +150,7 @@ abbrev pub stage_ok : Stage → Step → Bool
 stage_ok stages.Active s = true
 stage_ok (stages.Closing n) s = is_close s
 stage_ok stages.Left s = may_after_leaving s
+stage_ok (stages.Opening n) s = is_open s
 
 abbrev pub phase_number : Phase → ℕ
 phase_number phases.Claimed = 0
@@ -153,6 +164,8 @@ phase_number phases.Shut = 7
 phase_number phases.Taking = 8
 phase_number phases.Held = 9
 phase_number phases.Popping = 10
+phase_number phases.Offered = 11
+phase_number phases.Yielding = 12
 
 abbrev pub is_free_hand : Hand → Bool
 is_free_hand hands.Free = true
@@ -177,7 +190,7 @@ hand_ok hand (LocalUp source k) = is_free_hand hand
 hand_ok hand (LocalDown drop) = is_free_hand hand
 hand_ok hand (SeeZero c) = is_at phases.Zero c hand
 hand_ok hand (Free c) = is_free_hand hand
-hand_ok hand (Untie c) = is_at phases.Over c hand || is_at phases.Shut c hand || is_free_hand hand
+hand_ok hand (Untie c) = is_at phases.Over c hand || is_at phases.Shut c hand || is_at phases.Offered c hand || is_free_hand hand
 hand_ok hand (MergeZero c) = is_at phases.Untied c hand
 hand_ok hand (SharedUp source k) = is_free_hand hand
 hand_ok hand (SharedDown drop) = is_free_hand hand
@@ -187,7 +200,7 @@ hand_ok hand (LastDown (lasts.Popped c)) = is_free_hand hand
 hand_ok hand (LastDown lasts.Hand) = is_ending_hand hand
 hand_ok hand (Enqueue c) = is_at phases.Asked c hand
 hand_ok hand (Drain k) = is_free_hand hand
-hand_ok hand (MergeAdd c) = is_at phases.Taking c hand || is_at phases.Popping c hand
+hand_ok hand (MergeAdd c) = is_at phases.Taking c hand || is_at phases.Popping c hand || is_at phases.Yielding c hand
 hand_ok hand (Close k) = is_free_hand hand
 hand_ok hand (Nudge u k) = is_free_hand hand
 hand_ok hand Wake = is_free_hand hand
@@ -195,6 +208,8 @@ hand_ok hand (Lock k) = is_free_hand hand
 hand_ok hand (Unlock change) = is_free_hand hand
 hand_ok hand (Register u) = false
 hand_ok hand (Gather u) = false
+hand_ok hand (Offer c) = is_free_hand hand
+hand_ok hand (Reopen k) = is_free_hand hand
 
 -- ---- further conditions
 
@@ -209,27 +224,43 @@ abbrev pub is_active : Stage → Bool
 is_active stages.Active = true
 is_active (stages.Closing n) = false
 is_active stages.Left = false
+is_active (stages.Opening n) = false
 
 abbrev pub is_left : Stage → Bool
 is_left stages.Active = false
 is_left (stages.Closing n) = false
 is_left stages.Left = true
+is_left (stages.Opening n) = false
 
 -- the word is one of those that the thread has closed
 abbrev pub is_closed : Stage → ℕ → Bool
 is_closed stages.Active k = false
 is_closed (stages.Closing n) k = nat_lt k n
 is_closed stages.Left k = true
+is_closed (stages.Opening n) k = nat_le n k
 
 -- words are closed in rising order: this one is the next
 abbrev pub closes_next : Stage → ℕ → Bool
 closes_next stages.Active k = k == 0
 closes_next (stages.Closing n) k = k == n
 closes_next stages.Left k = false
+closes_next (stages.Opening n) k = false
+
+-- words are opened again in rising order: this one is the next
+abbrev pub opens_next : Stage → ℕ → Bool
+opens_next stages.Active k = false
+opens_next (stages.Closing n) k = false
+opens_next stages.Left k = false
+opens_next (stages.Opening n) k = k == n
 
 -- before the first is closed nothing popped is left
 abbrev pub may_begin_closing : List ℕ → ℕ → Bool
 may_begin_closing popped k = nat_lt 0 k || is_blank popped
+
+-- a queue word of the object's bearer was closed to the hand's reference
+abbrev pub is_shut_hand : Hand → Bool
+is_shut_hand hands.Free = false
+is_shut_hand (hands.Busy phase c) = phase_number phase == 7
 
 -- a place that isn't the locked one
 abbrev pub is_unlocked : Option ℕ → ℕ → Bool
@@ -263,8 +294,10 @@ own_ok words row frame popped worklist has (Untie c) = untie_ok row.hand popped 
 own_ok words row frame popped worklist has (SharedUp source k) = is_vacant frame k
 own_ok words row frame popped worklist has (LastDown (lasts.Popped c)) = bit_of popped c == 1
 own_ok words row frame popped worklist has (Drain k) = nat_lt k words
-own_ok words row frame popped worklist has (Close k) = nat_lt k words && closes_next row.stage k && is_bare frame && is_unmarked worklist && may_begin_closing popped k
+own_ok words row frame popped worklist has (Close k) = nat_lt k words && closes_next row.stage k && is_bare frame && may_begin_closing popped k
 own_ok words row frame popped worklist has (Unlock change) = change_ok row.locked frame (locked_entries has (locked_cell frame row.locked)) change
+own_ok words row frame popped worklist has (Offer c) = not (is_marked worklist c)
+own_ok words row frame popped worklist has (Reopen k) = nat_lt k words && opens_next row.stage k
 own_ok words row frame popped worklist has _ = true
 
 abbrev pub is_owned_by : ℕ → Owner → Bool
@@ -355,6 +388,7 @@ cell_ok limit t row (Ask drop) c x = is_others t row.stage c x
 cell_ok limit t row (LastDown last) c x = not (is_default x.state) && last_ok t row last c x
 cell_ok limit t row (Lock k) c x = x.mutex == 0
 cell_ok limit t row (Unlock change) c x = is_keep change || is_container x.kind
+cell_ok limit t row (Offer d) c x = is_owned_by t x.owner
 cell_ok limit t row _ c x = true
 
 -- the cell that is meant is one of the heap, and is as it must be
@@ -362,10 +396,32 @@ abbrev pub target_ok : Heap → ℕ → Row → Step → Option ℕ → Bool
 target_ok h t row s None = needs_no_cell s
 target_ok h t row s (Some c) = nat_lt c (length h.cells) && cell_ok h.limit t row s c (cell_at h c)
 
--- a thread that is told something is registered, and has the word
-abbrev pub others_ok : Heap → Step → Bool
-others_ok h (Nudge u k) = is_registered h u && nat_lt k (words_for (length h.cells))
-others_ok h _ = true
+-- what the editions differ in: in the first nothing is handed over and nothing opened again; in the second nobody
+-- unties in place of an owner that left, and no thread unties or adds once it has left
+abbrev pub edition_ok : Edition → Row → Step → Bool
+edition_ok editions.One row (Offer c) = false
+edition_ok editions.One row (Reopen k) = false
+edition_ok editions.One row _ = true
+edition_ok editions.Two row (Untie c) = is_active row.stage && not (is_shut_hand row.hand)
+edition_ok editions.Two row (MergeAdd c) = is_active row.stage
+edition_ok editions.Two row _ = true
+
+-- of the first so many cells each that the thread owns is on its worklist
+abbrev pub owned_are_marked : ℕ → List Cell → List Bool → ℕ → Bool
+owned_are_marked t cells worklist zero = true
+owned_are_marked t cells worklist (suc n) = owned_are_marked t cells worklist n && (not (is_owned_by t (slice_index_or cells n no_cell).owner) || is_marked worklist n)
+
+-- what a thread must have done with its objects before it closes: in the first edition its worklist is empty, in the
+-- second each object that it owns is on its worklist
+abbrev pub may_leave : Edition → ℕ → List Cell → List Bool → Bool
+may_leave editions.One t cells worklist = is_unmarked worklist
+may_leave editions.Two t cells worklist = owned_are_marked t cells worklist (length cells)
+
+-- a thread that is told something is registered, and has the word; a thread that closes has seen to its objects
+abbrev pub others_ok : Heap → ℕ → Step → Bool
+others_ok h t (Nudge u k) = is_registered h u && nat_lt k (words_for (length h.cells))
+others_ok h t (Close k) = may_leave h.edition t h.cells (worklist_at h t)
+others_ok h t _ = true
 
 abbrev pub target_at : Heap → ℕ → Step → Option ℕ
 target_at h t s = target (row_at h t) (frame_at h t) (worklist_at h t) (entries_at h) s
@@ -378,12 +434,24 @@ abbrev pub thread_may : Heap → ℕ → Step → Bool
 thread_may h t s =
     is_registered h t && not (is_gathered h t)
     && stage_ok (row_at h t).stage s && lock_ok (row_at h t).locked s && hand_ok (row_at h t).hand s
-    && own_ok_at h t s && others_ok h s
+    && own_ok_at h t s && others_ok h t s && edition_ok h.edition (row_at h t) s
     && target_ok h t (row_at h t) s (target_at h t s)
 
--- the root's steps: the next number is registered, of at most 64; a thread that left and holds nothing is gathered
+-- the lowest number that isn't in use: the first that is gathered, or the next after all
+abbrev pub first_gathered : List Bool → ℕ
+first_gathered [] = 0
+first_gathered (true ∷ gathered) = 0
+first_gathered (false ∷ gathered) = suc (first_gathered gathered)
+
+-- which number is registered next, of at most 64: in the first edition one more than there are, in the second the
+-- lowest that isn't in use, 65,536 times at most
+abbrev pub number_ok : Edition → Heap → ℕ → Bool
+number_ok editions.One h u = u == length h.rows
+number_ok editions.Two h u = nat_lt 0 u && (u == first_gathered h.gathered) && nat_lt h.registrations MOST_REGISTRATIONS
+
+-- the root's steps: a number is registered; a thread that left and holds nothing is gathered
 abbrev pub root_may : Heap → Step → Bool
-root_may h (Register u) = (u == length h.rows) && nat_le u MOST_THREADS
+root_may h (Register u) = number_ok h.edition h u && nat_le u MOST_THREADS
 root_may h (Gather u) =
     is_registered h u && not (is_gathered h u)
     && is_left (row_at h u).stage && is_free_hand (row_at h u).hand && is_blank (popped_at h u) && is_unmarked (worklist_at h u)
@@ -419,6 +487,8 @@ cell_after t (Lock k) c x = record x { mutex = t }
 cell_after t (Unlock change) c x = record x { mutex = 0 }
 cell_after t (Register u) c x = x
 cell_after t (Gather u) c x = x
+cell_after t (Offer d) c x = record x { state = states.Queued }
+cell_after t (Reopen k) c x = x
 
 -- the shared word is 0: nobody else ever counted, and nobody asked
 abbrev pub is_untouched : Cell → Bool
@@ -428,6 +498,7 @@ is_untouched x = is_zero x.count && is_default x.state
 abbrev pub untied_hand : ℕ → Hand → Hand
 untied_hand c hands.Free = hands.Busy phases.Popping c
 untied_hand c (hands.Busy phases.Shut d) = hands.Busy phases.Taking c
+untied_hand c (hands.Busy phases.Offered d) = hands.Busy phases.Yielding c
 untied_hand c (hands.Busy phase d) = hands.Busy phases.Untied c
 
 -- after the counts were added: a reference of the thread's own stays in its hand
@@ -450,6 +521,7 @@ hand_after (Ask drop) c x shut hand = if is_default x.state then hands.Busy phas
 hand_after (LastDown lasts.Hand) c x shut hand = hands.Free
 hand_after (Enqueue d) c x shut hand = if shut then hands.Busy phases.Shut c else hands.Free
 hand_after (MergeAdd d) c x shut hand = added_hand c hand
+hand_after (Offer d) c x shut hand = hands.Busy phases.Offered c
 hand_after _ c x shut hand = hand
 
 abbrev pub locked_after : Step → Option ℕ → Option ℕ
@@ -510,6 +582,7 @@ abbrev pub takes_block : Step → Cell → Bool
 takes_block (SeeZero d) x = is_untouched x
 takes_block (MergeZero d) x = is_zero x.count
 takes_block (LastDown last) x = is_merged x.state && is_zero (x.count -ℤ pos 1)
+takes_block (MergeAdd d) x = is_zero (x.count +ℤ pos x.local)
 takes_block _ x = false
 
 -- the locked object is changed
@@ -606,8 +679,13 @@ stepped h t s c = record h {
 abbrev pub closed_more : ℕ → ℕ → Stage
 closed_more words k = if k + 1 == words then stages.Left else stages.Closing (k + 1)
 
+-- the stage after one more word is opened again
+abbrev pub opened_more : ℕ → ℕ → Stage
+opened_more words k = if k + 1 == words then stages.Active else stages.Opening (k + 1)
+
 abbrev pub stage_after : ℕ → Step → Stage → Stage
 stage_after words (Close k) stage = closed_more words k
+stage_after words (Reopen k) stage = opened_more words k
 stage_after words _ stage = stage
 
 -- the queue word whose bits are taken
@@ -651,6 +729,21 @@ registered h = record h {
   queues = h.queues ++ replicate (words_for (length h.cells)) 0 ∷ [];
   notify_words = h.notify_words ++ 0 ∷ [];
   gathered = h.gathered ++ false ∷ [];
+  registrations = h.registrations + 1;
+}
+
+-- a number that was gathered is used again, and its ledger joins the past
+abbrev pub registered_again : Heap → ℕ → Heap
+registered_again h u = record h {
+  rows = slice_set h.rows u again_row;
+  frames = slice_set h.frames u [];
+  popped = slice_set h.popped u (replicate (words_for (length h.cells)) 0);
+  worklists = slice_set h.worklists u (replicate (length h.cells) false);
+  queues = slice_set h.queues u (replicate (words_for (length h.cells)) 0);
+  gathered = slice_set h.gathered u false;
+  registrations = h.registrations + 1;
+  past_allocs = h.past_allocs + (row_at h u).allocs;
+  past_frees = h.past_frees + (row_at h u).frees;
 }
 
 -- one thread is gathered
@@ -658,7 +751,7 @@ abbrev pub gathered_in : Heap → ℕ → Heap
 gathered_in h u = record h { gathered = slice_set h.gathered u true }
 
 abbrev pub root_after : Heap → Step → Heap
-root_after h (Register u) = registered h
+root_after h (Register u) = if nat_lt u (length h.rows) then registered_again h u else registered h
 root_after h (Gather u) = gathered_in h u
 root_after h _ = h
 

@@ -98,6 +98,12 @@ pub enum Step {
     /// A thread takes what it was told.
     Wake,
 
+    // Handing over.
+    /// The owner turns the state of its object to queued, to hand it over before it leaves.
+    Offer(u32),
+    /// A thread whose number was used before opens one word of its merge queue again.
+    Reopen(u32),
+
     // Locks.
     /// The object in a place of the frame is locked.
     Lock(u32),

@@ -3,7 +3,9 @@
 
 ghost use Rattle.std.specs.Prelude.{◌<◌, ◌≤◌, ◌^◌, ℕ, ℤ, pos, negsuc, ◌≤ℤ◌, ◌<ℤ◌, List, length, sum_by};
 ghost use Rattle.brc_runs.specs.declared.event.Event.{Event as event};
-ghost use Rattle.brc_runs.specs.Heap.{Heap, opening, cell_at, entries_at, AreOptions};
+ghost use Rattle.brc_runs.specs.Since.{HistoriesSince};
+ghost use Rattle.brc_runs.specs.declared.edition.Edition.{Edition as edition};
+ghost use Rattle.brc_runs.specs.Heap.{Heap, opening, opening_in, cell_at, entries_at, AreOptions};
 ghost use Rattle.brc_runs.specs.Steps.{enabled};
 ghost use Rattle.brc_runs.specs.Runs.{IsRun, IsReached};
 ghost use Rattle.brc_runs.specs.Holding.{Headline, Histories};
@@ -19,6 +21,12 @@ pub fn counts_are_references()
 pub fn lives_are_told_by_the_run()
     ensures { (cells limit : ℕ) (run : List event) → AreOptions cells limit → IsRun (opening cells limit) run
         → Histories (opening cells limit) run }
+{}
+
+/// The same in either edition: a thread's ledger is what the run says since its number was last registered.
+pub fn ledgers_are_told_since_registration()
+    ensures { (e : edition) (cells limit : ℕ) (run : List event) → AreOptions cells limit
+        → IsRun (opening_in e cells limit) run → HistoriesSince (opening_in e cells limit) run }
 {}
 
 /// Every reached world keeps the invariant, on which the running heap will rest.

@@ -12,6 +12,8 @@ pub enum Stage {
     Closing(u32),
     /// All its queue words are closed.
     Left,
+    /// Its number was used before. It has opened this many of its queue words again, and not yet all.
+    Opening(u32),
 }
 
 /// What a thread carries between two steps of one call.
@@ -44,6 +46,10 @@ pub enum Phase {
 
     // A popped entry, which counts itself.
     Popping,
+
+    // An object that its owner hands over before it leaves.
+    Offered,
+    Yielding,
 }
 
 /// What a thread does with the cell in its hand.
@@ -57,6 +63,8 @@ pub enum Role {
     Adopts,
     /// It merges its own object for a popped entry.
     Pops,
+    /// It is about to hand its own object over. Only an active thread does.
+    Offers,
 }
 
 impl Phase {
@@ -66,10 +74,11 @@ impl Phase {
     {
         match self {
             Phase::Claimed | Phase::Counted | Phase::Ready => Role::Owns,
-            Phase::Zero | Phase::Over | Phase::Untied => Role::Owns,
+            Phase::Zero | Phase::Over | Phase::Untied | Phase::Yielding => Role::Owns,
             Phase::Asked | Phase::Shut | Phase::Held => Role::Carries,
             Phase::Taking => Role::Adopts,
             Phase::Popping => Role::Pops,
+            Phase::Offered => Role::Offers,
         }
     }
 }

@@ -6,7 +6,7 @@ use Rattle.brc_words.specs.declared.limits.TheConstants.{MOST_CELLS}
 use Rattle.brc_runs.proofs.Asking.{may_parts, OnCell, on_cell}
 use Rattle.brc_runs.specs.declared.event.Change.{Change}
 use Rattle.brc_runs.specs.declared.event.Step.{Step}
-use Rattle.brc_runs.specs.declared.event.Step.TheVariants.{Close, Nudge, Unlock}
+use Rattle.brc_runs.specs.declared.event.Step.TheVariants.{Close, Nudge, Unlock, Reopen}
 use Rattle.brc_runs.specs.Heap.{Heap, cell_at, entries_at, row_at, frame_at, words_for}
 use Rattle.brc_runs.specs.Steps.{target_at, target_ok, cell_ok, change_ok, locked_entries, thread_may}
 use Rattle.brc_state.specs.Effects.{named_word}
@@ -45,6 +45,7 @@ words_few cells k few within = omega (arith, ltb-true k (words_for cells) within
 -- a queue word that is named is one of the heap's
 pub named_word_fits : (h : Heap) (t : ℕ) (s : Step) → thread_may h t s ≡ true → length h.cells ≤ MOST_CELLS → named_word s < MOST_CELLS / 32
 named_word_fits h t (Close k) may few =
-    words_few (length h.cells) k few ((and_parts _ _ ((and_parts _ _ ((and_parts _ _ ((and_parts _ _ (may_parts h t (Close k) may).own).0)).0)).0)).0)
+    words_few (length h.cells) k few ((and_parts _ _ ((and_parts _ _ ((and_parts _ _ (may_parts h t (Close k) may).own).0)).0)).0)
+named_word_fits h t (Reopen k) may few = words_few (length h.cells) k few ((and_parts _ _ (may_parts h t (Reopen k) may).own).0)
 named_word_fits h t (Nudge u k) may few = words_few (length h.cells) k few ((and_parts _ _ (may_parts h t (Nudge u k) may).others).1)
 named_word_fits h t _ may few = omega arith

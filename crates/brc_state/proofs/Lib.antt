@@ -1,3 +1,4 @@
 pub mod Enabling
 pub mod Parting
 pub mod Refused
+pub mod Numbers

@@ -3,7 +3,7 @@ use Rattle.std.specs.Prelude.{ℕ, Bool, List, [], Option, slice_index_or, slice
 use Rattle.brc_runs.specs.declared.event.Change.{Change}
 use Rattle.brc_runs.specs.declared.event.Dropped.{Dropped}
 use Rattle.brc_runs.specs.declared.event.Step.{Step}
-use Rattle.brc_runs.specs.declared.event.Step.TheVariants.{Close, Nudge}
+use Rattle.brc_runs.specs.declared.event.Step.TheVariants.{Close, Nudge, Reopen}
 use Rattle.brc_runs.specs.Heap.{Heap, entries_at, frame_at}
 use Rattle.brc_runs.specs.Steps.{frame_with, without_settled, worklist_with, frame_changed, entries_changed, with_drained, without_drained}
 
@@ -35,6 +35,7 @@ exchanged h t change c = record h {
 -- the queue word that a step of a thread names
 abbrev pub named_word : Step → ℕ
 named_word (Close k) = k
+named_word (Reopen k) = k
 named_word (Nudge u k) = k
 named_word _ = 0
 

@@ -4,7 +4,7 @@ use Rattle.brc_runs.specs.declared.event.Change.{Change}
 use Rattle.brc_runs.specs.declared.event.Source.{Source}
 use Rattle.brc_runs.specs.declared.event.Dropped.{Dropped}
 use Rattle.brc_runs.specs.declared.event.LastDropped.{LastDropped}
-use Rattle.brc_runs.specs.Lists.{is_bare, is_unmarked}
+use Rattle.brc_runs.specs.Lists.{is_bare}
 use Rattle.brc_runs.specs.Heap.{Heap, entries_at, row_at, frame_at, popped_at, worklist_at, words_for}
 use Rattle.brc_runs.specs.Steps.{locked_at, locked_cell, source_cell, dropped_cell, last_cell, locked_entries, change_ok, closes_next, may_begin_closing}
 
@@ -27,7 +27,7 @@ last_at h t = last_cell (row_at h t).hand (frame_at h t) (worklist_at h t) (entr
 abbrev pub close_ok_at : Heap → ℕ → ℕ → Bool
 close_ok_at h t k =
     nat_lt k (words_for (length h.cells)) && closes_next (row_at h t).stage k
-    && is_bare (frame_at h t) && is_unmarked (worklist_at h t) && may_begin_closing (popped_at h t) k
+    && is_bare (frame_at h t) && may_begin_closing (popped_at h t) k
 
 -- whether the change fits the thread's frame and the entries of the object that it has locked
 abbrev pub change_ok_at : Heap → ℕ → Change → Bool

@@ -6,7 +6,7 @@ use Rattle.brc_runs.specs.declared.event.Step.{Step}
 use Rattle.brc_runs.specs.declared.event.Step.TheVariants.{Register, Gather}
 use Rattle.brc_runs.specs.Heap.{Heap, cell_at, row_at, popped_at, worklist_at, is_registered, is_gathered}
 use Rattle.brc_runs.specs.Lists.{is_blank, is_unmarked}
-use Rattle.brc_runs.specs.Steps.{stage_ok, lock_ok, hand_ok, own_ok_at, others_ok, needs_no_cell, cell_ok, target_at, is_left, is_free_hand}
+use Rattle.brc_runs.specs.Steps.{stage_ok, lock_ok, hand_ok, own_ok_at, others_ok, edition_ok, number_ok, needs_no_cell, cell_ok, target_at, is_left, is_free_hand}
 use Rattle.brc_state.specs.declared.refusing.Refusal.{Refusal}
 use Rattle.brc_state.specs.declared.refusing.Refusal.TheVariants as refusals
 
@@ -38,12 +38,13 @@ thread_refusal h t s =
     (unless (lock_ok (row_at h t).locked s) refusals.Lock
     (unless (hand_ok (row_at h t).hand s) refusals.Hand
     (unless (own_ok_at h t s) refusals.OwnPart
-    (unless (others_ok h s) refusals.Told
-    (cell_refusal h t s (target_at h t s)))))))))
+    (unless (others_ok h t s) refusals.Told
+    (unless (edition_ok h.edition (row_at h t) s) refusals.Edition
+    (cell_refusal h t s (target_at h t s))))))))))
 
 -- the root's step
 abbrev pub root_refusal : Heap → Step → Option Refusal
-root_refusal h (Register u) = unless ((u == length h.rows) && nat_le u MOST_THREADS) refusals.NotNext None
+root_refusal h (Register u) = unless (number_ok h.edition h u && nat_le u MOST_THREADS) refusals.NotNext None
 root_refusal h (Gather u) =
     unless (is_registered h u) refusals.NotRegistered
     (unless (not (is_gathered h u)) refusals.Gathered

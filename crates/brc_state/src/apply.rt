@@ -42,6 +42,9 @@ impl<A: Allocator + Copy> Tables<A> {
         requires frees { (row_at self.old event.now.thread).frees + 1 < 2 ^ 64 }
         requires counts { (c : ℕ) → CountFits (cell_at self.old c).count }
         requires cells { length self.old.cells ≤ MOST_CELLS }
+        requires few { (u : ℕ) → event.now.step ≡ Step.Register u → self.old.registrations < 65536 }
+        requires past_allocs { (u : ℕ) → self.old.past_allocs + (row_at self.old u).allocs < 2 ^ 64 }
+        requires past_frees { (u : ℕ) → self.old.past_frees + (row_at self.old u).frees < 2 ^ 64 }
 
         ensures ok { OnOk result (self.new ≡ after self.old event.now) }
         ensures err { OnErr result (self.new ≡ self.old) }

@@ -9,7 +9,7 @@ use brc_words::{FIRST_MORTAL, Owner, State, is_container_kind};
 
 /// Whether the thread owns what has this owner.
 #[inline(always)]
-fn is_owned_by(thread: u32, owner: Owner) -> bool
+pub(crate) fn is_owned_by(thread: u32, owner: Owner) -> bool
     ensures { result ≡ is_owned_by thread owner }
 {
     match owner {
@@ -189,6 +189,7 @@ pub(crate) fn cell_ok(limit: u32, thread: u32, row: Row, step: Step, cell: u32, 
         }
         Step::Lock(_) => found.mutex == 0,
         Step::Unlock(change) => is_keep(change) || is_container_kind(found.kind),
+        Step::Offer(_) => is_owned_by(thread, found.owner),
         _ => true,
     }
 }

@@ -2,9 +2,9 @@
 
 ghost use Rattle.std.specs.Prelude.{◌≡◌};
 ghost use Rattle.brc_runs.specs.Phases.{is_ending};
-ghost use Rattle.brc_runs.specs.Steps.{needs_lock, lock_ok, is_close, may_after_leaving, stage_ok, phase_number, is_free_hand, is_at, is_ending_hand, hand_ok, is_active, is_left, is_closed, closes_next};
+ghost use Rattle.brc_runs.specs.Steps.{needs_lock, lock_ok, is_close, is_open, may_after_leaving, stage_ok, phase_number, is_free_hand, is_at, is_ending_hand, hand_ok, is_active, is_left, is_closed, closes_next, opens_next, is_shut_hand, edition_ok};
 
-use brc_runs::{Hand, LastDropped, Phase, Role, Source, Stage, Step};
+use brc_runs::{Edition, Hand, LastDropped, Phase, Role, Row, Source, Stage, Step};
 
 /// Whether the step is one of those that are made while an object is locked.
 #[inline(always)]
@@ -44,6 +44,14 @@ fn is_close(step: Step) -> bool
     matches!(step, Step::Close(_))
 }
 
+/// Whether the step opens a queue word again.
+#[inline(always)]
+fn is_open(step: Step) -> bool
+    ensures { result ≡ is_open step }
+{
+    matches!(step, Step::Reopen(_))
+}
+
 /// Whether a thread that has left may still make the step.
 #[inline(always)]
 fn may_after_leaving(step: Step) -> bool
@@ -72,6 +80,7 @@ pub(crate) fn stage_ok(stage: Stage, step: Step) -> bool
         Stage::Active => true,
         Stage::Closing(_) => is_close(step),
         Stage::Left => may_after_leaving(step),
+        Stage::Opening(_) => is_open(step),
     }
 }
 
@@ -92,6 +101,8 @@ fn phase_number(phase: Phase) -> u8
         Phase::Taking => 8,
         Phase::Held => 9,
         Phase::Popping => 10,
+        Phase::Offered => 11,
+        Phase::Yielding => 12,
     }
 }
 
@@ -150,7 +161,10 @@ pub(crate) fn hand_ok(hand: Hand, step: Step) -> bool
         Step::SeeZero(cell) => is_at(Phase::Zero, cell, hand),
         Step::Free(_) => is_free_hand(hand),
         Step::Untie(cell) => {
-            is_at(Phase::Over, cell, hand) || is_at(Phase::Shut, cell, hand) || is_free_hand(hand)
+            is_at(Phase::Over, cell, hand)
+                || is_at(Phase::Shut, cell, hand)
+                || is_at(Phase::Offered, cell, hand)
+                || is_free_hand(hand)
         }
         Step::MergeZero(cell) => is_at(Phase::Untied, cell, hand),
         Step::SharedUp { .. } => is_free_hand(hand),
@@ -162,7 +176,9 @@ pub(crate) fn hand_ok(hand: Hand, step: Step) -> bool
         Step::Enqueue(cell) => is_at(Phase::Asked, cell, hand),
         Step::Drain(_) => is_free_hand(hand),
         Step::MergeAdd(cell) => {
-            is_at(Phase::Taking, cell, hand) || is_at(Phase::Popping, cell, hand)
+            is_at(Phase::Taking, cell, hand)
+                || is_at(Phase::Popping, cell, hand)
+                || is_at(Phase::Yielding, cell, hand)
         }
         Step::Close(_) => is_free_hand(hand),
         Step::Nudge { .. } => is_free_hand(hand),
@@ -171,6 +187,8 @@ pub(crate) fn hand_ok(hand: Hand, step: Step) -> bool
         Step::Unlock(_) => is_free_hand(hand),
         Step::Register(_) => false,
         Step::Gather(_) => false,
+        Step::Offer(_) => is_free_hand(hand),
+        Step::Reopen(_) => is_free_hand(hand),
     }
 }
 
@@ -182,6 +200,7 @@ pub(crate) fn is_active(stage: Stage) -> bool
         Stage::Active => true,
         Stage::Closing(_) => false,
         Stage::Left => false,
+        Stage::Opening(_) => false,
     }
 }
 
@@ -193,6 +212,7 @@ pub(crate) fn is_left(stage: Stage) -> bool
         Stage::Active => false,
         Stage::Closing(_) => false,
         Stage::Left => true,
+        Stage::Opening(_) => false,
     }
 }
 
@@ -204,6 +224,7 @@ pub(crate) fn is_closed(stage: Stage, word: u32) -> bool
         Stage::Active => false,
         Stage::Closing(closed) => word < closed,
         Stage::Left => true,
+        Stage::Opening(opened) => opened <= word,
     }
 }
 
@@ -215,5 +236,47 @@ pub(crate) fn closes_next(stage: Stage, word: u32) -> bool
         Stage::Active => word == 0,
         Stage::Closing(closed) => word == closed,
         Stage::Left => false,
+        Stage::Opening(_) => false,
+    }
+}
+
+/// Whether the queue word is the next that the thread opens again.
+pub(crate) fn opens_next(stage: Stage, word: u32) -> bool
+    ensures { result ≡ opens_next stage word }
+{
+    match stage {
+        Stage::Active => false,
+        Stage::Closing(_) => false,
+        Stage::Left => false,
+        Stage::Opening(opened) => word == opened,
+    }
+}
+
+/// Whether a queue word was closed to the reference in the hand.
+fn is_shut_hand(hand: Hand) -> bool
+    ensures { result ≡ is_shut_hand hand }
+{
+    match hand {
+        Hand::Free => false,
+        Hand::Busy(phase, _) => phase_number(phase) == 7,
+    }
+}
+
+/// Whether the step is one of the edition.
+#[inline(always)]
+pub(crate) fn edition_ok(edition: Edition, row: Row, step: Step) -> bool
+    ensures { result ≡ edition_ok edition row step }
+{
+    match edition {
+        Edition::One => match step {
+            Step::Offer(_) => false,
+            Step::Reopen(_) => false,
+            _ => true,
+        },
+        Edition::Two => match step {
+            Step::Untie(_) => is_active(row.stage) && !is_shut_hand(row.hand),
+            Step::MergeAdd(_) => is_active(row.stage),
+            _ => true,
+        },
     }
 }

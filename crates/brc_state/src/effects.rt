@@ -22,6 +22,7 @@ fn untied_hand(cell: u32, hand: Hand) -> Hand
     match hand {
         Hand::Free => Hand::Busy(Phase::Popping, cell),
         Hand::Busy(Phase::Shut, _) => Hand::Busy(Phase::Taking, cell),
+        Hand::Busy(Phase::Offered, _) => Hand::Busy(Phase::Yielding, cell),
         Hand::Busy(_, _) => Hand::Busy(Phase::Untied, cell),
     }
 }
@@ -140,6 +141,10 @@ pub(crate) fn write_cell_and_row(
             found.state = State::Merged;
             row.hand = added_hand(cell, row.hand);
         }
+        Step::Offer(_) => {
+            found.state = State::Queued;
+            row.hand = Hand::Busy(Phase::Offered, cell);
+        }
         Step::Lock(place) => {
             found.mutex = thread;
             row.locked = Some(place);
@@ -163,6 +168,7 @@ pub(crate) fn takes_block(step: Step, found: Cell) -> bool
         Step::SeeZero(_) => is_untouched(found),
         Step::MergeZero(_) => is_zero(found.count),
         Step::LastDown(_) => is_merged(found.state) && is_zero(found.count - 1),
+        Step::MergeAdd(_) => is_zero(found.count + found.local as i64),
         _ => false,
     }
 }

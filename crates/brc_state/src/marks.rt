@@ -44,6 +44,13 @@ impl<A: Allocator> Marks<A> {
         self.marks.get(cell as usize).copied().unwrap_or(false)
     }
 
+    /// The same, where the cell is told as an index.
+    pub(crate) fn has_at(&self, cell: usize) -> bool
+        ensures { result ≡ is_marked self.now cell }
+    {
+        self.marks.get(cell).copied().unwrap_or(false)
+    }
+
     /// Whether no cell is marked.
     pub(crate) fn is_unmarked(&self) -> bool
         ensures { result ≡ is_unmarked self.now }

@@ -1,14 +1,14 @@
 //! The opening world: the immortals, all other cells free, and no thread but the root.
 
 ghost use Rattle.std.specs.Prelude.{◌≡◌, ◌↔◌, [], ◌∷◌, replicate, IfOk, IsTrue};
-ghost use Rattle.brc_runs.specs.Heap.{AreOptions, opening_cells, opening};
+ghost use Rattle.brc_runs.specs.Heap.{AreOptions, opening_cells, opening_in};
 
 use crate::entries::Entries;
 use crate::frames::Frame;
 use crate::marks::Marks;
 use crate::tables::Tables;
 use crate::words::Words;
-use brc_runs::{Cell, no_row, opening_cell};
+use brc_runs::{Cell, Edition, no_row, opening_cell};
 use brc_words::{FEWEST_CELLS, MOST_CELLS, MOST_LOCAL};
 use std::alloc::{AllocError, Allocator};
 
@@ -54,9 +54,14 @@ fn only<T: Drop, A: Allocator>(alloc: A, item: T) -> Result<Vec<T, A>, AllocErro
 }
 
 impl<A: Allocator + Copy> Tables<A> {
-    /// The tables as the heap opens.
-    pub fn opening(alloc: A, cells: u32, local_limit: u32) -> Result<Self, AllocError>
-        ensures { IfOk result (λ made. made ≡ opening cells local_limit) }
+    /// The tables as a heap of this edition opens.
+    pub fn opening(
+        alloc: A,
+        edition: Edition,
+        cells: u32,
+        local_limit: u32,
+    ) -> Result<Self, AllocError>
+        ensures { IfOk result (λ made. made ≡ opening_in edition cells local_limit) }
     {
         let cells_made = opening_cells(alloc, cells)?;
         let entries = opening_entries(alloc, cells)?;
@@ -79,6 +84,10 @@ impl<A: Allocator + Copy> Tables<A> {
             queues,
             notify_words,
             gathered,
+            edition,
+            registrations: 0,
+            past_allocs: 0,
+            past_frees: 0,
         })
     }
 }

@@ -6,7 +6,7 @@ ghost use Rattle.brc_runs.specs.Heap.{frame_at, popped_at, row_at};
 ghost use Rattle.brc_runs.specs.Steps.{cell_in_hand, target_at, is_vacant, may_begin_closing, is_unlocked, untie_ok, own_ok_at, locked_at};
 ghost use Rattle.brc_state.specs.OwnPart.{source_at, dropped_at, last_at, locked_entries_at, close_ok_at, change_ok_at};
 
-use crate::conditions::closes_next;
+use crate::conditions::{closes_next, opens_next};
 use crate::tables::Tables;
 use brc_runs::{Change, Dropped, Hand, LastDropped, Source, Step, is_immortal, words_for};
 use brc_words::{MOST_BIRTHS, MOST_ENTRIES, MOST_PLACES, is_mortal_kind};
@@ -122,6 +122,8 @@ impl<A: Allocator + Copy> Tables<A> {
             Step::Unlock(_) => self.locked_cell(thread),
             Step::Register(_) => None,
             Step::Gather(_) => None,
+            Step::Offer(cell) => Some(cell),
+            Step::Reopen(_) => None,
         }
     }
 
@@ -198,7 +200,6 @@ impl<A: Allocator + Copy> Tables<A> {
         (word as usize) < words_for(self.cells.len())
             && closes_next(self.row(thread).stage, word)
             && self.is_bare(thread)
-            && self.is_unmarked(thread)
             && self.may_begin_closing(thread, word)
     }
 
@@ -220,6 +221,11 @@ impl<A: Allocator + Copy> Tables<A> {
             Step::Drain(word) => (word as usize) < words_for(self.cells.len()),
             Step::Close(word) => self.close_ok(thread, word),
             Step::Unlock(change) => self.change_ok(thread, change),
+            Step::Offer(cell) => !self.is_on_worklist(thread, cell),
+            Step::Reopen(word) => {
+                (word as usize) < words_for(self.cells.len())
+                    && opens_next(self.row(thread).stage, word)
+            }
             _ => true,
         }
     }

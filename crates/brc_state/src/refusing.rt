@@ -1,14 +1,16 @@
 //! Whether an event is enabled, and if not, which of its conditions fails first.
 
 ghost use Rattle.std.specs.Prelude.{◌≡◌, ◌↔◌, true, None};
-ghost use Rattle.brc_runs.specs.Steps.{needs_no_cell, others_ok, target_at, enabled};
+ghost use Rattle.std.specs.Prelude.{length};
+ghost use Rattle.brc_runs.specs.Heap.{worklist_at};
+ghost use Rattle.brc_runs.specs.Steps.{needs_no_cell, others_ok, target_at, enabled, owned_are_marked, may_leave, first_gathered, number_ok};
 ghost use Rattle.brc_state.specs.Refusals.{is_roots, root_refusal, cell_refusal, thread_refusal, refusal_of};
 
-use crate::cell_conditions::cell_ok;
-use crate::conditions::{hand_ok, is_free_hand, is_left, lock_ok, stage_ok};
+use crate::cell_conditions::{cell_ok, is_owned_by};
+use crate::conditions::{edition_ok, hand_ok, is_free_hand, is_left, lock_ok, stage_ok};
 use crate::tables::Tables;
-use brc_runs::{Event, Step, words_for};
-use brc_words::MOST_THREADS;
+use brc_runs::{Edition, Event, Step, no_cell, words_for};
+use brc_words::{MOST_REGISTRATIONS, MOST_THREADS};
 use std::alloc::Allocator;
 
 /// Which condition of an event fails, of those of `docs/HEAP.md`, section 3, in the order in which they are looked at.
@@ -31,8 +33,10 @@ pub enum Refusal {
     /// The event's row, where it speaks of births, kinds, worklists, popped bits or queue words; the place that is filled is
     /// vacant; what an unlock's change asks of places and entries. Of `gather`: nothing is popped or on the worklist.
     OwnPart,
-    /// `nudge`: the thread that is told is registered, and has the queue word.
+    /// `nudge`: the thread that is told is registered, and has the queue word. `close`: the thread has seen to its objects.
     Told,
+    /// The event is one of this edition.
+    Edition,
     /// General: the event means a cell of the heap.
     NoCell,
     /// The event's row, where it speaks of the cell that is meant.
@@ -54,20 +58,74 @@ fn needs_no_cell(step: Step) -> bool
 {
     matches!(
         step,
-        Step::Drain(_) | Step::Close(_) | Step::Nudge { .. } | Step::Wake
+        Step::Drain(_) | Step::Close(_) | Step::Nudge { .. } | Step::Wake | Step::Reopen(_)
     )
 }
 
 impl<A: Allocator + Copy> Tables<A> {
-    /// Whether a thread that is told something is registered, and has the queue word.
+    /// Whether each cell that the thread owns is on its worklist.
+    fn owned_are_marked(&self, thread: u32) -> bool
+        ensures { result ≡ owned_are_marked thread self.now.cells (worklist_at self.now thread)
+            (length self.now.cells) }
+    {
+        let mut marked = true;
+        for cell in 0..self.cells.len() {
+            let found = self.cells.get(cell).copied().unwrap_or(no_cell());
+            let here = !is_owned_by(thread, found.owner) || self.is_marked_at(thread, cell);
+            marked = marked && here;
+        }
+        marked
+    }
+
+    /// Whether the thread has seen to its objects, as it must before it closes.
+    fn may_leave(&self, thread: u32) -> bool
+        ensures { result ≡ may_leave self.now.edition thread self.now.cells
+            (worklist_at self.now thread) }
+    {
+        match self.edition {
+            Edition::One => self.is_unmarked(thread),
+            Edition::Two => self.owned_are_marked(thread),
+        }
+    }
+
+    /// The lowest number of a thread that is gathered, or the next after all.
+    #[tactic(auto, using(crate::proofs::Numbers::search_begins, crate::proofs::Numbers::search_goes_on, crate::proofs::Numbers::search_finds, crate::proofs::Numbers::search_ends))]
+    fn first_gathered(&self) -> usize
+        ensures { result ≡ first_gathered self.now.gathered }
+    {
+        for number in 0..self.gathered.len() {
+            if self.gathered.get(number).copied().unwrap_or(false) {
+                return number;
+            }
+        }
+        self.gathered.len()
+    }
+
+    /// Whether this number may be registered next.
+    fn number_ok(&self, thread: u32) -> bool
+        ensures { result ≡ number_ok self.now.edition self.now thread }
+    {
+        match self.edition {
+            Edition::One => thread as usize == self.rows.len(),
+            Edition::Two => {
+                0 < thread
+                    && thread as usize == self.first_gathered()
+                    && self.registrations < MOST_REGISTRATIONS
+            }
+        }
+    }
+
+    /// Whether a thread that is told something is registered, and has the queue word; and a thread that closes has seen
+    /// to its objects.
     #[inline(always)]
-    fn others_ok(&self, step: Step) -> bool
-        ensures { result ≡ others_ok self.now step }
+    fn others_ok(&self, thread: u32, step: Step) -> bool
+        ensures { result ≡ others_ok self.now thread step }
     {
         match step {
             Step::Nudge { thread, word } => {
                 self.is_registered(thread) && (word as usize) < words_for(self.cells.len())
             }
+            Step::Close(_) => self.may_leave(thread),
             _ => true,
         }
     }
@@ -131,8 +189,11 @@ impl<A: Allocator + Copy> Tables<A> {
         if !self.own_ok(thread, step) {
             return Some(Refusal::OwnPart);
         }
-        if !self.others_ok(step) {
+        if !self.others_ok(thread, step) {
             return Some(Refusal::Told);
+        }
+        if !edition_ok(self.edition, row, step) {
+            return Some(Refusal::Edition);
         }
         self.cell_refusal(thread, step, means)
     }
@@ -169,7 +230,7 @@ impl<A: Allocator + Copy> Tables<A> {
     {
         match step {
             Step::Register(thread) => {
-                if thread as usize == self.rows.len() && thread <= MOST_THREADS {
+                if self.number_ok(thread) && thread <= MOST_THREADS {
                     None
                 } else {
                     Some(Refusal::NotNext)

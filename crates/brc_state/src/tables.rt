@@ -9,7 +9,7 @@ use crate::entries::Entries;
 use crate::frames::Frame;
 use crate::marks::Marks;
 use crate::words::Words;
-use brc_runs::{Cell, Row, no_cell, no_row};
+use brc_runs::{Cell, Edition, Row, no_cell, no_row};
 use std::alloc::Allocator;
 use std::marker::Model;
 
@@ -27,6 +27,10 @@ pub struct Tables<A: Allocator + Copy> {
     pub(crate) queues: Vec<Words<A>, A>,
     pub(crate) notify_words: Vec<u64, A>,
     pub(crate) gathered: Vec<bool, A>,
+    pub(crate) edition: Edition,
+    pub(crate) registrations: u32,
+    pub(crate) past_allocs: u64,
+    pub(crate) past_frees: u64,
 }
 
 impl<A: Allocator + Copy> Model for Tables<A> {
@@ -45,6 +49,10 @@ impl<A: Allocator + Copy> Model for Tables<A> {
       queues = t.queues.items;
       notify_words = t.notify_words.items;
       gathered = t.gathered.items;
+      edition = t.edition;
+      registrations = t.registrations;
+      past_allocs = t.past_allocs;
+      past_frees = t.past_frees;
     } };
 }
 
@@ -54,6 +62,27 @@ impl<A: Allocator + Copy> Tables<A> {
         ensures { result ≡ self.now.limit }
     {
         self.local_limit
+    }
+
+    /// Which events there are.
+    pub fn edition(&self) -> Edition
+        ensures { result ≡ self.now.edition }
+    {
+        self.edition
+    }
+
+    /// How many objects were made by registrations whose number is used again.
+    pub fn past_allocs(&self) -> u64
+        ensures { result ≡ self.now.past_allocs }
+    {
+        self.past_allocs
+    }
+
+    /// How many blocks these gave back.
+    pub fn past_frees(&self) -> u64
+        ensures { result ≡ self.now.past_frees }
+    {
+        self.past_frees
     }
 
     /// All cells.
@@ -124,6 +153,16 @@ impl<A: Allocator + Copy> Tables<A> {
     {
         match self.worklists.get(thread as usize) {
             Some(marks) => marks.has(cell),
+            None => false,
+        }
+    }
+
+    /// The same, where the cell is told as an index.
+    pub(crate) fn is_marked_at(&self, thread: u32, cell: usize) -> bool
+        ensures { result ≡ is_marked (worklist_at self.now thread) cell }
+    {
+        match self.worklists.get(thread as usize) {
+            Some(marks) => marks.has_at(cell),
             None => false,
         }
     }

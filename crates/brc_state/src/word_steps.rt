@@ -2,7 +2,7 @@
 //! changes.
 
 ghost use Rattle.std.specs.Prelude.{◌≡◌, ◌/◌, ◌<◌, length};
-ghost use Rattle.brc_runs.specs.Steps.{closed_more, stage_after, drained_word, notify_words_after, kept_cells};
+ghost use Rattle.brc_runs.specs.Steps.{closed_more, opened_more, stage_after, drained_word, notify_words_after, kept_cells};
 ghost use Rattle.brc_state.specs.Effects.{named_word};
 
 use crate::tables::Tables;
@@ -35,6 +35,19 @@ fn closed_more(words: usize, word: u32) -> Stage
     }
 }
 
+/// How far the thread's life is after one more of its queue words was opened again.
+fn opened_more(words: usize, word: u32) -> Stage
+    requires { word < MOST_CELLS / 32 }
+
+    ensures { result ≡ opened_more words word }
+{
+    if word as usize + 1 == words {
+        Stage::Active
+    } else {
+        Stage::Opening(word + 1)
+    }
+}
+
 /// How far the thread's life is after the step.
 fn stage_after(words: usize, step: Step, stage: Stage) -> Stage
     requires { named_word step < MOST_CELLS / 32 }
@@ -43,6 +56,7 @@ fn stage_after(words: usize, step: Step, stage: Stage) -> Stage
 {
     match step {
         Step::Close(word) => closed_more(words, word),
+        Step::Reopen(word) => opened_more(words, word),
         _ => stage,
     }
 }

@@ -10,6 +10,8 @@ pub const FEWEST_CELLS: u32 = 512;
 pub const MOST_CELLS: u32 = 65_536;
 /// A heap registers at most this many threads; the root is thread 0.
 pub const MOST_THREADS: u32 = 64;
+/// Where numbers of threads are used again, a heap registers threads at most this often.
+pub const MOST_REGISTRATIONS: u32 = 65_536;
 /// A frame has the places below this number.
 pub const MOST_PLACES: u32 = 65_536;
 /// A list, dictionary or mailbox has at most this many entries.

@@ -1,10 +1,11 @@
 use Rattle.std.proofs.Common.{reverse}
+use Rattle.brc_runs.specs.declared.edition.Edition.TheVariants as editions
 use Rattle.brc_runs.proofs.Reached.{reached_headline, run_histories}
 use Rattle.brc_core.proofs.Turns.{leads_whole, leads_reached}
 use Rattle.brc_core.proofs.replaying.replay.Goals as goal
 
 pub returns-clause-headline : goal.returns-clause-headline
-returns-clause-headline g c = reached_headline _ (leads_reached c.args.cells c.args.local_limit _ _ c.in-Ok.ensures.sizes c.loop-at.invariant)
+returns-clause-headline g c = reached_headline _ (leads_reached editions.One c.args.cells c.args.local_limit _ _ c.in-Ok.ensures.sizes c.loop-at.invariant)
 
 pub returns-clause-histories : goal.returns-clause-histories
 returns-clause-histories g c =

@@ -17,6 +17,6 @@ returns-clause-live g c =
 
 pub returns-clause-ledger : goal.returns-clause-ledger
 returns-clause-ledger g c =
-    let P : Heap → Type 0 = λ h. sum_by (λ row. row.allocs) h.rows ≡ sum_by (λ row. row.frees) h.rows + c.live.result in
+    let P : Heap → Type 0 = λ h. sum_by (λ row. row.allocs) h.rows + h.past_allocs ≡ sum_by (λ row. row.frees) h.rows + h.past_frees + c.live.result in
     let counted = rw c.cells.ensures at c.live.ensures in
     subst P c.self.view_is (rw (counted, live-count_by (drop FIRST_MORTAL c.self.inside.tables.cells)) ((reached_headline _ c.self.invariant).ledger))

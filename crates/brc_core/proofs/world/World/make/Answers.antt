@@ -7,7 +7,7 @@ use Rattle.brc_moves.specs.Moves.{MakesMoves, map_of, moves_by}
 use Rattle.brc_moves.proofs.Allowing.{reached_moves}
 use Rattle.brc_runs.proofs.Reached.{reached_allocs, reached_frees}
 use Rattle.brc_runs.proofs.Sizes.{reached_count_range}
-use Rattle.brc_core.proofs.Bounds.{cells_fit}
+use Rattle.brc_core.proofs.Bounds.{cells_fit, registers_few, past_allocs_fit, past_frees_fit}
 use Rattle.brc_core.proofs.Reaching.{reached_after}
 use Rattle.brc_core.proofs.world.World.make.Goals as goal
 use Rattle.brc_core.proofs.world.World.make.Goals.{in-Ok, in-Err}
@@ -30,6 +30,15 @@ apply-requires-clause-counts g c = reached_count_range c.self.inside.tables c.se
 
 pub apply-requires-clause-cells : goal.apply-requires-clause-cells
 apply-requires-clause-cells g c = cells_fit c.self.inside.tables c.self.invariant
+
+pub apply-requires-clause-few : goal.apply-requires-clause-few
+apply-requires-clause-few g c = registers_few c.self.inside.tables c.args.event.now c.self.invariant (sym c.enabled.ensures ∙ c.if-not-enabled.false)
+
+pub apply-requires-clause-past_allocs : goal.apply-requires-clause-past_allocs
+apply-requires-clause-past_allocs g c = past_allocs_fit c.self.inside.tables c.self.invariant
+
+pub apply-requires-clause-past_frees : goal.apply-requires-clause-past_frees
+apply-requires-clause-past_frees g c = past_frees_fit c.self.inside.tables c.self.invariant
 
 pub invariant_of-self : goal.invariant_of-self
 invariant_of-self g c =
