@@ -17,3 +17,4 @@ pub mod Kept_Law
 pub mod Risen_Kept
 pub mod Owners_Law
 pub mod Queued_Law
+pub mod Owned_Law

@@ -10,7 +10,7 @@ use Rattle.brc_words.specs.declared.state.State.TheVariants as states
 use Rattle.brc_runs.specs.declared.cell.Cell.{Cell}
 use Rattle.brc_runs.specs.declared.event.Event.{Event}
 use Rattle.brc_runs.specs.declared.event.Step.{Step}
-use Rattle.brc_runs.specs.declared.event.Step.TheVariants.{Claim, InitLocal, InitShared, Birth, LocalUp, LocalDown, Free, Untie, Enqueue, Drain, Close, Nudge, Wake, Lock, Unlock, Register}
+use Rattle.brc_runs.specs.declared.event.Step.TheVariants.{Claim, InitLocal, InitShared, Birth, LocalUp, LocalDown, Free, Untie, Enqueue, Drain, MergeAdd, Close, Nudge, Wake, Lock, Unlock, Register}
 use Rattle.brc_runs.specs.declared.event.Dropped.{Dropped}
 use Rattle.brc_runs.specs.declared.event.Dropped.TheVariants as dropped
 use Rattle.brc_runs.specs.declared.row.Row.{Row}
@@ -82,6 +82,7 @@ is_store (LocalUp source k) = true
 is_store (LocalDown drop) = true
 is_store (Untie c) = true
 is_store (Unlock change) = true
+is_store (MergeAdd c) = true
 is_store _ = false
 
 abbrev pub told_of : Heap → ℕ → Step → ℕ → ℕ

@@ -6,4 +6,5 @@ pub mod Taken
 pub mod Root
 pub mod Locked
 pub mod Going_On
+pub mod Owned
 pub mod Owners_Seen

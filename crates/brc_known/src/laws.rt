@@ -15,7 +15,9 @@ ghost use Rattle.brc_runs.specs.Lists.{one, names, place_at, word_at, is_marked,
 ghost use Rattle.brc_words.specs.Owners.{word_of};
 ghost use Rattle.brc_runs.specs.Holding.{lives};
 ghost use Rattle.brc_runs.specs.Heap.{Heap, opening, cell_at, entries_at, row_at, frame_at, popped_at, queue_at, worklist_at, is_registered, is_gathered, AreOptions};
-ghost use Rattle.brc_runs.specs.Steps.{is_mine, needs_no_cell, takes_block, thread_may, after_target, target_at};
+ghost use Rattle.brc_words.specs.declared.owner.Owner.TheVariants as owners;
+ghost use Rattle.brc_known.specs.Owned.{IsAlive, owned_are_marked};
+ghost use Rattle.brc_runs.specs.Steps.{is_mine, is_active, needs_no_cell, takes_block, thread_may, after_target, target_at};
 ghost use Rattle.brc_runs.specs.Runs.{IsRun, IsReached};
 ghost use Rattle.brc_known.specs.Going_On.{GoesOn, known_of, knows_after, knows_apart, given_up, touched_place};
 ghost use Rattle.brc_known.specs.Locked.{locked_of, place_locked, HasLocked};
@@ -83,6 +85,31 @@ pub fn own_items_tell_the_counts()
         → is_registered (world_of_items (opening cells limit) items) t ≡ true → FIRST_MORTAL ≤ c
         → own_count t (row_at (world_of_items (opening cells limit) items) t).stage
         (cell_at (world_of_items (opening cells limit) items) c) ≡ counts_of cells (own t items) c }
+{}
+
+/// What an active thread with a free hand owns are the cells that it counts, all alive, and dead ones on its own worklist.
+pub fn own_counts_tell_what_is_owned()
+    ensures alive { (cells limit : ℕ) (items : ItemRun) (t c : ℕ) → AreOptions cells limit
+        → AreItems (opening cells limit) items
+        → is_registered (world_of_items (opening cells limit) items) t ≡ true → FIRST_MORTAL ≤ c
+        → 0 < counts_of cells (own t items) c
+        → IsAlive (world_of_items (opening cells limit) items) t c }
+    ensures dead { (cells limit : ℕ) (items : ItemRun) (t c : ℕ) → AreOptions cells limit
+        → AreItems (opening cells limit) items
+        → is_registered (world_of_items (opening cells limit) items) t ≡ true → FIRST_MORTAL ≤ c
+        → is_active (row_at (world_of_items (opening cells limit) items) t).stage ≡ true
+        → (row_at (world_of_items (opening cells limit) items) t).hand ≡ hands.Free
+        → counts_of cells (own t items) c ≡ 0
+        → (cell_at (world_of_items (opening cells limit) items) c).owner ≡ owners.Thread t
+        → is_marked (worklist_at (world_of_items (opening cells limit) items) t) c ≡ true }
+    ensures all_dead { (cells limit : ℕ) (items : ItemRun) (t : ℕ) → AreOptions cells limit
+        → AreItems (opening cells limit) items
+        → is_registered (world_of_items (opening cells limit) items) t ≡ true
+        → is_active (row_at (world_of_items (opening cells limit) items) t).stage ≡ true
+        → (row_at (world_of_items (opening cells limit) items) t).hand ≡ hands.Free
+        → ((c : ℕ) → FIRST_MORTAL ≤ c → counts_of cells (own t items) c ≡ 0) → (n : ℕ)
+        → owned_are_marked t (world_of_items (opening cells limit) items).cells
+        (worklist_at (world_of_items (opening cells limit) items) t) n ≡ true }
 {}
 
 /// What a count says: a thread with a bare hand that holds an object and has no count of it doesn't count on its local

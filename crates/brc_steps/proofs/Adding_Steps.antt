@@ -55,7 +55,7 @@ merges_now n limit h t log c local some_thread known adds =
     )
 
 adds_up : (n limit : ℕ) (h : Heap) (t : ℕ) (log : List Told) (c local there : ℕ) → 0 < t → Known n limit h t log → AddsLocal n log c local → Shows h (Of Shared c) there
-    → IsPlain n h t (MergeAdd c) (Of Shared c) ((there + (local * 4 + 1)) % 2 ^ 64) there
+    → IsPlain n h t (MergeAdd c) (Of Shared c) ((there + (local * 4 + 1)) % 2 ^ 64) ((there + (local * 4 + 1)) % 2 ^ 64)
 adds_up n limit h t log c local there some_thread known adds shown =
     let s : Step = MergeAdd c in
     let x : Cell = cell_at h c in
@@ -69,13 +69,15 @@ adds_up n limit h t log c local there some_thread known adds shown =
     let more : CountFits (x.count +ℤ pos local) = subst (λ m. CountFits (x.count +ℤ pos m)) now.count
     (subst (λ (y : Cell). CountFits y.count) (read_cell h t s c low) (count_after h t s c c sound some_thread may refl)) in
     let few : local < 2 ^ 33 = omega (arith, (sound.cells c mortal).limited live, now.count, known.limit_is, known.options.below_immortal) in
-    plain_on n h t s c (Of Shared c) ((there + (local * 4 + 1)) % 2 ^ 64) there (record {
+    let sum : (there + (local * 4 + 1)) % 2 ^ 64 ≡ shared_word (x.count +ℤ pos x.local) states.Merged =
+    ap (λ m. (m + (local * 4 + 1)) % 2 ^ 64) (shown ∙ ap (shared_word x.count) now.state) ∙ sym (word_merged x.count local (reached_count_range h known.reached c) more few)
+    ∙ ap (λ m. shared_word (x.count +ℤ pos m) states.Merged) (sym now.count) in
+    plain_on n h t s c (Of Shared c) ((there + (local * 4 + 1)) % 2 ^ 64) ((there + (local * 4 + 1)) % 2 ^ 64) (record {
       may = may;
       target = refl;
       word = refl;
-      shown = ap (λ m. (m + (local * 4 + 1)) % 2 ^ 64) (shown ∙ ap (shared_word x.count) now.state) ∙ sym (word_merged x.count local (reached_count_range h known.reached c) more few)
-          ∙ ap (λ m. shared_word (x.count +ℤ pos m) states.Merged) (sym now.count) ∙ sym (ap (λ (y : Cell). shared_word y.count y.state) (read_cell h t s c low));
-      told = shown;
+      shown = sum ∙ sym (ap (λ (y : Cell). shared_word y.count y.state) (read_cell h t s c low));
+      told = sum;
       finds_none = refl;
       puts_none = refl;
       takes_none = refl;
@@ -87,7 +89,7 @@ module _ {B : Type 0} (shows : B → ℕ × Contents) (n limit : ℕ) where
   Rule = Kept shows n limit
 
   pub adds_local : (id : ℕ) (v : View) (slots : List (ℕ × Option B)) (c local : ℕ) → v.active ≡ true → 0 < v.thread → c < n → AddsLocal n v.log c local
-      → Allows Rule n id (v, slots) (spot n (Of Shared c)) (λ there. (there + (local * 4 + 1)) % 2 ^ 64) (λ there me. me ≡ (with_told (Did (MergeAdd c) there moves.Nothing) v, slots))
+      → Allows Rule n id (v, slots) (spot n (Of Shared c)) (λ there. (there + (local * 4 + 1)) % 2 ^ 64) (λ there me. me ≡ (with_told (Did (MergeAdd c) ((there + (local * 4 + 1)) % 2 ^ 64) moves.Nothing) v, slots))
   adds_local id v slots c local active some_thread low adds =
-      plain_step shows n limit id v slots (MergeAdd c) (Of Shared c) (λ there. (there + (local * 4 + 1)) % 2 ^ 64) (λ there. there) active some_thread low
+      plain_step shows n limit id v slots (MergeAdd c) (Of Shared c) (λ there. (there + (local * 4 + 1)) % 2 ^ 64) (λ there. (there + (local * 4 + 1)) % 2 ^ 64) active some_thread low
       (λ h there known shown small. adds_up n limit h v.thread v.log c local there some_thread known adds shown)

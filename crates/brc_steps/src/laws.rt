@@ -209,7 +209,7 @@ pub fn objects_are_merged<B>()
     ensures add { (shows : B → ℕ × contents) (n limit id : ℕ) (v : view) (slots : List (ℕ × Option B)) (c local : ℕ)
         → v.active ≡ true → 0 < v.thread → c < n → AddsLocal n v.log c local
         → Allows (Kept shows n limit) n id (v, slots) (spot n (words.Of fields.Shared c)) (λ there. (there + (local * 4 + 1)) % 2 ^ 64)
-        (λ there me. me ≡ (with_told (told.Did (steps.MergeAdd c) there moves.Nothing) v, slots)) }
+        (λ there me. me ≡ (with_told (told.Did (steps.MergeAdd c) ((there + (local * 4 + 1)) % 2 ^ 64) moves.Nothing) v, slots)) }
 {}
 
 /// An asked reference goes into the merge queue of the thread that was found as the owner, or meets a closed word.

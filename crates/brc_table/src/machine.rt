@@ -177,6 +177,23 @@ pub(crate) fn add<A: Allocator>(
     add_as::<A, Brand>(table, seat, word, more, step)
 }
 
+/// An addition, as an event that is told the sum.
+pub(crate) fn add_up<A: Allocator>(
+    table: &HeapTable<A>,
+    seat: &mut Place<A>,
+    word: Word,
+    more: u64,
+    step: Step,
+) -> u64
+    requires same { seat.old.table_id ≡ table.now.table }
+    requires inside { IsWord table.now.cells word }
+    requires allowed { MayTell shows table.now.cells table.now.local_limit seat.old.id seat.old.me word (λ there. (there + more) % 2 ^ 64) (λ there. told.Did step ((there + more) % 2 ^ 64) moves.Nothing) }
+    ensures same { (seat.new.table_id ≡ seat.old.table_id) × (seat.new.id ≡ seat.old.id) }
+    ensures told { seat.new.me ≡ (with_told (told.Did step ((result + more) % 2 ^ 64) moves.Nothing) seat.old.me.0, seat.old.me.1) }
+{
+    add_as::<A, Brand>(table, seat, word, more, step)
+}
+
 /// A setting of bits, as an item.
 #[inline(always)]
 fn or_as<A: Allocator, M: Item>(

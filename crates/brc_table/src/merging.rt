@@ -1,6 +1,6 @@
 //! Merging: an object is made nobody's, and its local count joins the shared one; who has asked for it puts it into a queue.
 
-ghost use Rattle.std.specs.Prelude.{◌≡◌, ◌<◌, ◌≤◌, ◌∷◌, if◌then◌else◌, Some};
+ghost use Rattle.std.specs.Prelude.{◌≡◌, ◌<◌, ◌≤◌, ◌∷◌, ◌+◌, ◌*◌, ◌%◌, ◌^◌, if◌then◌else◌, Some};
 ghost use Rattle.brc_words.specs.declared.limits.TheConstants.{MOST_THREADS};
 ghost use Rattle.brc_runs.specs.declared.event.Step.TheVariants as steps;
 ghost use Rattle.brc_runs.specs.declared.row.Hand.TheVariants as hands;
@@ -17,7 +17,7 @@ ghost use Rattle.brc_table.specs.Knowing.{known_seen, Knows, Keeps};
 ghost use Rattle.brc_table.specs.Seated.{Stays};
 
 use crate::layout::bit;
-use crate::machine::{add, or, store};
+use crate::machine::{add_up, or, store};
 use crate::seats::ThreadSeat;
 use crate::table::HeapTable;
 use brc_known::{Field, Word};
@@ -71,12 +71,13 @@ impl<A: Allocator> HeapTable<A> {
     }
 
     #[tactic(auto, using(brc_steps::proofs::Adding_Steps::adds_local))]
-    /// MergeAdd: the local count, as it was looked at, joins the shared one.
+    /// MergeAdd: the local count, as it was looked at, joins the shared one. It answers the number found; its item is told the
+    /// sum.
     pub fn merge_add(&self, seat: &mut ThreadSeat<A>, cell: u32, local: u32) -> u64
         requires table { seat.old.table ≡ self.now.table }
         requires inside { cell < self.now.cells }
         requires adds { AddsLocal self.now.cells seat.old.log cell local }
-        ensures told { seat.new.log ≡ told.Did (steps.MergeAdd cell) result moves.Nothing ∷ seat.old.log }
+        ensures told { seat.new.log ≡ told.Did (steps.MergeAdd cell) ((result + (local * 4 + 1)) % 2 ^ 64) moves.Nothing ∷ seat.old.log }
         ensures seat { Stays seat.old seat.new }
         ensures knows { Knows self.now.cells seat.new.log (handing (added_hand cell (part_seen self.now.cells seat.old.log).row.hand) (known_seen self.now.cells seat.old.log)) }
         ensures keeps { Keeps self.now.cells seat.old.log seat.new.log }
@@ -84,7 +85,7 @@ impl<A: Allocator> HeapTable<A> {
     {
         let word = Word::Of(Field::Shared, cell);
         let more = u64::from(local) * 4 + 1;
-        add(self, &mut seat.place, word, more, Step::MergeAdd(cell))
+        add_up(self, &mut seat.place, word, more, Step::MergeAdd(cell))
     }
 
     #[tactic(auto, using(crate::proofs::Placing::queue_inside))]
