@@ -97,14 +97,14 @@ module _ {B : Type 0} (shows : B → ℕ × Contents) (n limit : ℕ) where
   -- ---- Drain
 
   drained_open : (h : Heap) (t : ℕ) (log : List Told) (k : ℕ) → 0 < t → Known n limit h t log → Allowed n log (Drain k) → is_closed (row_at h t).stage k ≡ false
-  drained_open h t log k some_thread known allowed = drains_open (row_at h t).stage k (may_parts h t (Drain k) (is_enabled n limit h t log (Drain k) some_thread known allowed.own refl refl)).stage
+  drained_open h t log k some_thread known allowed = drains_open (row_at h t).stage k (may_parts h t (Drain k) (is_enabled n limit h t log (Drain k) some_thread known allowed.own refl refl refl)).stage
 
   drained : (h : Heap) (t : ℕ) (log : List Told) (k there : ℕ) → 0 < t → k < words_for n → Known n limit h t log → Allowed n log (Drain k) → Shows h (Queue t k) there
       → IsPlain n h t (Drain k) (Queue t k) 0 there
   drained h t log k there some_thread inside known allowed shown =
       let s : Step = Drain k in
       let sound : IsSound h = reached_sound h known.reached in
-      let may : thread_may h t s ≡ true = is_enabled n limit h t log s some_thread known allowed.own refl refl in
+      let may : thread_may h t s ≡ true = is_enabled n limit h t log s some_thread known allowed.own refl refl refl in
       let parts : May h t s = may_parts h t s may in
       let registered : is_registered h t ≡ true = stands_registered h t known.stood some_thread in
       let open_word : is_closed (row_at h t).stage k ≡ false = drained_open h t log k some_thread known allowed in
@@ -135,7 +135,7 @@ module _ {B : Type 0} (shows : B → ℕ × Contents) (n limit : ℕ) where
 
   closed_open : (h : Heap) (t : ℕ) (log : List Told) (k : ℕ) → 0 < t → Known n limit h t log → Allowed n log (Close k) → is_closed (row_at h t).stage k ≡ false
   closed_open h t log k some_thread known allowed =
-      let parts : May h t (Close k) = may_parts h t (Close k) (is_enabled n limit h t log (Close k) some_thread known allowed.own refl refl) in
+      let parts : May h t (Close k) = may_parts h t (Close k) (is_enabled n limit h t log (Close k) some_thread known allowed.own refl refl refl) in
       next_open (row_at h t).stage k (and_parts _ _ (and_parts _ _ (and_parts _ _ (and_parts _ _ parts.own).0).0).0).1
 
   closed : (h : Heap) (t : ℕ) (log : List Told) (k there : ℕ) → 0 < t → k < words_for n → Known n limit h t log → Allowed n log (Close k) → Shows h (Queue t k) there
@@ -143,7 +143,7 @@ module _ {B : Type 0} (shows : B → ℕ × Contents) (n limit : ℕ) where
   closed h t log k there some_thread inside known allowed shown =
       let s : Step = Close k in
       let sound : IsSound h = reached_sound h known.reached in
-      let may : thread_may h t s ≡ true = is_enabled n limit h t log s some_thread known allowed.own refl refl in
+      let may : thread_may h t s ≡ true = is_enabled n limit h t log s some_thread known allowed.own refl refl refl in
       let parts : May h t s = may_parts h t s may in
       let registered : is_registered h t ≡ true = stands_registered h t known.stood some_thread in
       let open_word : is_closed (row_at h t).stage k ≡ false = closed_open h t log k some_thread known allowed in
@@ -179,7 +179,7 @@ module _ {B : Type 0} (shows : B → ℕ × Contents) (n limit : ℕ) where
       let registered : is_registered h q ≡ true = known.owners q tells.seen tells.some_thread tells.few in
       let low : q < length h.rows = ltb-true _ _ (and_parts (nat_lt 0 q) (nat_lt q (length h.rows)) registered).1 in
       plain_off n h t s (NotifyWord q) (bit_or there (2 ^ (k / 32))) there (record {
-        may = is_enabled n limit h t log s some_thread known tells.own (both_true registered (lt-ltb _ _ (subst (λ m. k < words_for m) (sym known.cells) tells.word))) refl;
+        may = is_enabled n limit h t log s some_thread known tells.own refl (both_true registered (lt-ltb _ _ (subst (λ m. k < words_for m) (sym known.cells) tells.word))) refl;
         target = refl;
         word = refl;
         shown = ap (λ m. bit_or m (2 ^ (k / 32))) shown ∙ sym (read_here h.notify_words q _ 0 (omega (arith, sound.shaped.notify_words, low)));
@@ -196,7 +196,7 @@ module _ {B : Type 0} (shows : B → ℕ × Contents) (n limit : ℕ) where
   woken : (h : Heap) (t : ℕ) (log : List Told) (there : ℕ) → 0 < t → Known n limit h t log → Allowed n log Wake → Shows h (NotifyWord t) there → IsPlain n h t Wake (NotifyWord t) 0 there
   woken h t log there some_thread known allowed shown =
       let sound : IsSound h = reached_sound h known.reached in
-      let may : thread_may h t Wake ≡ true = is_enabled n limit h t log Wake some_thread known allowed.own refl refl in
+      let may : thread_may h t Wake ≡ true = is_enabled n limit h t log Wake some_thread known allowed.own refl refl refl in
       plain_off n h t Wake (NotifyWord t) 0 there (record {
         may = may;
         target = refl;
