@@ -38,7 +38,7 @@ use Rattle.brc_steps.proofs.Numbers.{word_merged}
 use Rattle.brc_steps.proofs.Plain_Steps.{IsPlain, plain_on, same_owner, stays_on, plain_step}
 use Rattle.brc_steps.proofs.Shared_Steps.{count_after}
 use Rattle.brc_rule.proofs.Since.{since}
-use Rattle.brc_rule.proofs.Noting.{part_hand, hand_in, IsMerging, merging_hand, merging_words}
+use Rattle.brc_rule.proofs.Noting.{hand_in, IsMerging, adding_hand, merging_words}
 
 noted_local : (h : Heap) (t c local : ℕ) (p : Phase) → IsReached h → (row_at h t).hand ≡ hands.Busy p c → IsMerging p → Shows h (Of Local c) local → Merges h t c local p
 noted_local h t c local p reached busy which found =
@@ -48,7 +48,7 @@ noted_local h t c local p reached busy which found =
 -- the local count is the one that was noted, since nobody else writes it
 merges_now : (n limit : ℕ) (h : Heap) (t : ℕ) (log : List Told) (c local : ℕ) → 0 < t → Known n limit h t log → AddsLocal n log c local → (p : Phase) × Merges h t c local p
 merges_now n limit h t log c local some_thread known adds =
-    let hand = merging_hand (part_seen n log).row.hand c (part_hand n (part_seen n log) (MergeAdd c) adds.own) in (
+    let hand = adding_hand n limit h t log c known adds.own in (
       hand.0,
       since n limit h t log Local c local (λ z. Merges z t c local hand.0) some_thread known adds.found (merging_lasts t c local hand.0)
           (λ old before was same found. noted_local old t c local hand.0 was.reached (hand_in n limit old t before log (hands.Busy hand.0 c) was same hand.1) hand.2 found),
@@ -65,7 +65,7 @@ adds_up n limit h t log c local there some_thread known adds shown =
     let live : lives x.owner ≡ true = ap lives now.owner in
     let low : c < length h.cells = inside h c (live_owner _ live) in
     let mortal : FIRST_MORTAL ≤ c = (hand_tells h t c merging.0 known.reached now.hand).0 in
-    let may : thread_may h t s ≡ true = is_enabled n limit h t log s some_thread known adds.own refl (fits_cell n limit h t log s c known refl low refl) in
+    let may : thread_may h t s ≡ true = is_enabled n limit h t log s some_thread known adds.own refl refl (fits_cell n limit h t log s c known refl low refl) in
     let more : CountFits (x.count +ℤ pos local) = subst (λ m. CountFits (x.count +ℤ pos m)) now.count
     (subst (λ (y : Cell). CountFits y.count) (read_cell h t s c low) (count_after h t s c c sound some_thread may refl)) in
     let few : local < 2 ^ 33 = omega (arith, (sound.cells c mortal).limited live, now.count, known.limit_is, known.options.below_immortal) in
