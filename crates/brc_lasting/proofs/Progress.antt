@@ -38,6 +38,8 @@ use Rattle.brc_lasting.proofs.Lasting.{held_live, live_owner}
 use Rattle.brc_lasting.proofs.Telling.{hand_tells, popped_tells}
 use Rattle.brc_lasting.proofs.Adding_Hands.{never_takes, pops_active}
 use Rattle.brc_runs.proofs.Reached.{reached_sound}
+use Rattle.brc_runs.proofs.Leaving.{owned_mortal, left_marked, none_counted, closing_leaves}
+pub use Rattle.brc_runs.proofs.Leaving.{none_marked}
 use Rattle.brc_runs.specs.declared.event.Change.TheVariants as changes
 
 -- ---- tests put together
@@ -283,32 +285,6 @@ references_go h t c drop reached rest named =
     neither false true off = absurd (true≢false off)
     neither false false off = refl
 
--- an owner is told by the test, and owns no immortal
-threads_owner : (t : ℕ) (owner : Owner) → is_owned_by t owner ≡ true → owner ≡ owners.Thread t
-threads_owner t (owners.Thread s) is = ap owners.Thread (eqb-true s t is)
-threads_owner t owners.Nobody is = absurd (true≢false (sym is))
-threads_owner t (owners.Claimed s) is = absurd (true≢false (sym is))
-threads_owner t owners.Free is = absurd (true≢false (sym is))
-
-owned_mortal : (h : Heap) (t c : ℕ) → IsSound h → (cell_at h c).owner ≡ owners.Thread t → FIRST_MORTAL ≤ c
-owned_mortal h t c sound owner = elim (cases_lt c FIRST_MORTAL) [
-  | inl low ↦ absurd (let bad : owners.Nobody ≡ owners.Thread t = sym (sound.immortals c low).owner ∙ owner in cc)
-  | inr high ↦ high
-]
-
--- in the second edition a thread that isn't active counts nothing of what it still owns: all of it is dead and on its worklist
-rests_two : (e : Edition) (stage : Stage) → e ≡ editions.Two → is_active stage ≡ false → rests e stage ≡ true
-rests_two editions.One stage is off = absurd (let bad : editions.One ≡ editions.Two = is in cc)
-rests_two editions.Two stage is off = ap not off
-
-left_marked : (h : Heap) (t c : ℕ) → IsSound h → h.edition ≡ editions.Two → is_active (row_at h t).stage ≡ false → FIRST_MORTAL ≤ c → (cell_at h c).owner ≡ owners.Thread t → is_marked (worklist_at h t) c ≡ true
-left_marked h t c sound two off mortal owner = elim (cases_Bool (is_marked (worklist_at h t) c)) [
-  | inl on ↦ on
-  | inr apart ↦
-      let none : gripped h c ≡ 0 = owner_alone h t c sound mortal owner apart (idle_apart h t c (row_at h t).hand sound off owner refl) in
-      absurd (omega (arith, local_positive h t c sound mortal owner none, (sound.cells c mortal).rested t owner (rests_two h.edition (row_at h t).stage two off)))
-]
-
 -- so a popped entry that is still the thread's own is an active thread's
 pops_own : (h : Heap) (t c : ℕ) → IsSound h → h.edition ≡ editions.Two → bit_of (popped_at h t) c ≡ 1 → FIRST_MORTAL ≤ c → (cell_at h c).owner ≡ owners.Thread t → is_active (row_at h t).stage ≡ true
 pops_own h t c sound two popped mortal owner = elim (cases_Bool (is_active (row_at h t).stage)) [
@@ -339,16 +315,9 @@ blocks_go h t c reached rest marked empty =
 
 -- ---- a lock is let go, and a thread that leaves goes on leaving
 
--- tests that none passes are passed by none
-none_counted : {A : Type 0} (f : A → Bool) (xs : List A) (d : A) → ((i : ℕ) → f (get_or xs i d) ≡ false) → (count_by f xs == 0) ≡ true
-none_counted {A} f xs d none = eq-eqb _ 0 (sum_none (λ x. if f x then 1 else 0) xs d (λ i. ap (λ b. if b then 1 else 0) (none i)))
-
 -- a frame without a filled place, marks without a mark, words without a bit
 pub all_vacant : (frame : List (Option ℕ)) → ((k : ℕ) → place_at frame k ≡ None) → is_bare frame ≡ true
 all_vacant frame vacant = none_counted is_some frame None (λ k. ap is_some (vacant k))
-
-pub none_marked : (marks : List Bool) → ((c : ℕ) → is_marked marks c ≡ false) → is_unmarked marks ≡ true
-none_marked marks none = none_counted (λ b. b) marks false none
 
 pub all_blank : (words : List ℕ) → ((k : ℕ) → word_at words k ≡ 0) → is_blank words ≡ true
 all_blank words none = none_counted (λ w. not (w == 0)) words 0 (λ k. ap (λ w. not (w == 0)) (none k))
@@ -404,23 +373,6 @@ locks_go h t k reached stands locked =
       | inl low ↦ (λ free. let bad : owners.Nobody ≡ owners.Free = sym ((reached_sound h reached).immortals c low).owner ∙ free in cc)
       | inr high ↦ live_owner _ (held_live h c (reached_sound h reached) (dropped_held h t c (dropped.Frame k) there))
     ])
-
--- whoever owns only what is on its worklist may leave
-all_marked : (t : ℕ) (cells : List Cell) (worklist : List Bool) (n : ℕ) → ((q : ℕ) → q < n → is_owned_by t (get_or cells q no_cell).owner ≡ true → is_marked worklist q ≡ true) → owned_are_marked t cells worklist n ≡ true
-all_marked t cells worklist zero marked = refl
-all_marked t cells worklist (suc n) marked =
-    and_both _ _ (all_marked t cells worklist n (λ q low. marked q (omega (arith, low)))) (implied (is_owned_by t (get_or cells n no_cell).owner) (is_marked worklist n) (marked n (omega arith)))
-  where
-    implied : (a b : Bool) → (a ≡ true → b ≡ true) → (not a || b) ≡ true
-    implied true b so = so refl
-    implied false b so = refl
-
--- a closing thread may go on: in the first edition it has no worklist, in the second it counts nothing of its own
-closing_leaves : (e : Edition) (h : Heap) (t n : ℕ) → IsSound h → h.edition ≡ e → (row_at h t).stage ≡ stages.Closing n → may_leave e t h.cells (worklist_at h t) ≡ true
-closing_leaves editions.One h t n sound is closing = none_marked (worklist_at h t) (λ q. (sound.threads t).closing_work n q is closing)
-closing_leaves editions.Two h t n sound is closing = all_marked t h.cells (worklist_at h t) (length h.cells)
-    (λ q low owned. let owner : (cell_at h q).owner ≡ owners.Thread t = threads_owner t (cell_at h q).owner owned in
-    left_marked h t q sound is (ap is_active closing) (owned_mortal h t q sound owner) owner)
 
 -- the next word of a closing thread may be closed
 pub closings_go : (h : Heap) (t n : ℕ) → IsReached h → Stands h t → (row_at h t).stage ≡ stages.Closing n → enabled h (record { thread = t; step = Close n }) ≡ true
