@@ -17,7 +17,7 @@ use Rattle.brc_runs.specs.declared.row.Stage.{Stage}
 use Rattle.brc_runs.specs.declared.row.Stage.TheVariants as stages
 use Rattle.brc_runs.specs.Lists.{is_marked, one}
 use Rattle.brc_runs.specs.Heap.{Heap, opening, words_for, cell_at, row_at, worklist_at, no_cell, no_row, is_immortal, is_registered, AreOptions}
-use Rattle.brc_runs.specs.Steps.{closed_more, opened_more, opens_next, edition_ok, stage_after, enabled, after, after_target, target_at, target_ok, cell_after, is_mine, is_owned_by, is_active, is_default, counts_up_locally, registered, is_merged, is_queued}
+use Rattle.brc_runs.specs.Steps.{closed_more, opens_next, edition_ok, stage_after, enabled, after, after_target, target_at, target_ok, cell_after, is_mine, is_owned_by, is_active, is_default, counts_up_locally, registered, is_merged, is_queued}
 use Rattle.brc_runs.specs.Runs.{IsReached}
 use Rattle.brc_words.specs.declared.state.State.{State}
 use Rattle.brc_words.specs.declared.state.State.TheVariants as states

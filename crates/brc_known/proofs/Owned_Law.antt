@@ -7,11 +7,10 @@ use Rattle.brc_words.specs.declared.limits.TheConstants.{FIRST_MORTAL}
 use Rattle.std.specs.Cmp.Derive.{both_true}
 use Rattle.brc_words.specs.declared.owner.Owner.{Owner}
 use Rattle.brc_words.specs.declared.owner.Owner.TheVariants as owners
-use Rattle.brc_runs.specs.declared.cell.Cell.{Cell}
 use Rattle.brc_runs.specs.declared.row.Row.{Row}
 use Rattle.brc_runs.specs.declared.row.Hand.TheVariants as hands
 use Rattle.brc_runs.specs.Lists.{one, is_marked}
-use Rattle.brc_runs.specs.Heap.{Heap, opening, cell_at, row_at, worklist_at, popped_at, is_registered, no_row, AreOptions}
+use Rattle.brc_runs.specs.Heap.{Heap, opening, cell_at, row_at, worklist_at, is_registered, no_row, AreOptions}
 use Rattle.brc_runs.specs.Steps.{is_mine, is_owned_by, is_active, is_merged}
 use Rattle.brc_runs.specs.Sound.{IsSound, grips, grips_by_owner, gripped}
 use Rattle.brc_runs.proofs.Asking.{mine}

@@ -12,10 +12,10 @@ use Rattle.brc_runs.specs.declared.event.Step.{Step}
 use Rattle.brc_runs.specs.declared.event.Step.TheVariants.{Register}
 use Rattle.brc_runs.specs.declared.row.Row.{Row}
 use Rattle.brc_runs.specs.Lists.{bit_of, word_at}
-use Rattle.brc_runs.specs.Heap.{Heap, row_at, queue_at, no_cell, no_row, opening, opening_in, is_registered, AreOptions}
+use Rattle.brc_runs.specs.Heap.{Heap, row_at, queue_at, no_cell, opening, is_registered, AreOptions}
 use Rattle.brc_runs.specs.Steps.{after, after_target, root_after, target_at, registered, registered_again}
 use Rattle.brc_runs.specs.Runs.{IsReached, world_after}
-use Rattle.brc_runs.specs.Sound.{IsSound, held}
+use Rattle.brc_runs.specs.Sound.{held}
 use Rattle.brc_runs.proofs.Naming.{sum_one}
 use Rattle.brc_runs.proofs.Reached.{reached_sound}
 use Rattle.brc_runs.proofs.Headlines.{frees_fit}

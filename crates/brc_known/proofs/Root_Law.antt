@@ -1,7 +1,7 @@
 -- The threads of the world, and which of them are gathered, are what the root's own items say.
 use Rattle.std.proofs.Common.{◌≡◌, ℕ, ◌+◌, ◌<◌, ◌==◌, ◌||◌, Bool, true, false, if◌then◌else◌, List, [], ◌∷◌, ◌++◌, length, get_or, set, zero, suc, Option, Some, None, refl, sym, ◌∙◌, ap, subst, inl, inr, arith}
 use Rattle.std.proofs.lemmas.List.{get_or_push, get_or_past}
-use Rattle.std.proofs.lemmas.Bool.{cases_eq, cases_Bool, eq-eqb, ne_eqb, eqb-true, ltb-true, and_parts, true≢false}
+use Rattle.std.proofs.lemmas.Bool.{cases_eq, cases_Bool, eq-eqb, ne_eqb, ltb-true, and_parts, true≢false}
 use Rattle.brc_runs.specs.declared.edition.Edition.TheVariants as editions
 use Rattle.brc_runs.specs.declared.event.Step.{Step}
 use Rattle.brc_runs.specs.declared.event.Step.TheVariants.{Register, Gather}
@@ -16,7 +16,7 @@ use Rattle.brc_runs.proofs.Changes.{read_here, read_there}
 use Rattle.brc_runs.proofs.Lifetimes.{run_edition}
 use Rattle.brc_runs.proofs.Reached.{reached_sound}
 use Rattle.brc_runs.proofs.Registering.{length-push, push_else}
-use Rattle.brc_runs.proofs.Reusing.{Vacated, fresh, reused, registers}
+use Rattle.brc_runs.proofs.Reusing.{fresh, reused, registers}
 use Rattle.brc_lasting.proofs.Standing.{run_reached}
 use Rattle.brc_lasting.proofs.Ranges_Law.{same_rows}
 use Rattle.brc_known.proofs.Items_Runs.{events_run}
@@ -99,7 +99,8 @@ item_says : (cells limit u : ℕ) (item : Item) (items : ItemRun) → AreOptions
     → RootSays (world_of_items (opening cells limit) items) (own 0 items)
     → RootSays (world_after (opening cells limit) (with_event u item (events_of items))) (with_item 0 u item (own 0 items))
 item_says cells limit u (Did s number entries) items options are comes says =
-    did_says (world_of_items (opening cells limit) items) u s number entries (own 0 items) (run_reached cells limit (events_of items) options (events_run (opening cells limit) items are)) (run_edition (opening cells limit) (events_of items)) comes.0 says
+    did_says (world_of_items (opening cells limit) items) u s number entries (own 0 items) (run_reached cells limit (events_of items) options (events_run (opening cells limit) items are))
+    (run_edition (opening cells limit) (events_of items)) comes.0 says
 item_says cells limit u (Saw word number) items options are comes says = noted_says (world_of_items (opening cells limit) items) u (Saw word number) (own 0 items) refl says says
 item_says cells limit u (Lost word number) items options are comes says = noted_says (world_of_items (opening cells limit) items) u (Lost word number) (own 0 items) refl says says
 

@@ -138,7 +138,8 @@ module _ (n limit : ℕ) (options : AreOptions n limit) where
 
   was_active : (run : Run) (t u : ℕ) (x : Told) → IsLegal n limit run → 0 < t → MayCome (world n limit run) u (item_of x) → is_start t (item_of x) ≡ false → IsActiveIn ((u, x) ∷ run) t → IsActiveIn run t
   unfolding IsActiveIn
-  was_active run t u (Did s number moved) legal some_thread comes older active = by_step (world n limit run) t u s number moved (legal_sound n limit options run legal) (run_edition (opening n limit) (events_of (items_of run))) some_thread comes.0 older active
+  was_active run t u (Did s number moved) legal some_thread comes older active =
+      by_step (world n limit run) t u s number moved (legal_sound n limit options run legal) (run_edition (opening n limit) (events_of (items_of run))) some_thread comes.0 older active
   was_active run t u (Saw word number) legal some_thread comes older active = active
   was_active run t u (Lost word number) legal some_thread comes older active = active
 

@@ -79,6 +79,10 @@ module _ (h : Heap) (t : ℕ) (mine : ℕ → Bool) (sound : IsSound h) (apart :
 
 -- ---- what a step leaves in a hand
 
+-- the hand has the step's cell in this phase
+left_so : (q p : Phase) (d c : ℕ) → hands.Busy q d ≡ hands.Busy p c → is_active_phase q ≡ true → (d ≡ c) × (is_active_phase p ≡ true)
+left_so q p d c at active = ((cc), (subst (λ z. is_active_phase z ≡ true) (let same : q ≡ p = cc in same) active))
+
 by_test : (b : Bool) (new hand : Hand) (d c : ℕ) (p q : Phase) → (if b then new else hand) ≡ hands.Busy p c → (b ≡ true → new ≡ hands.Busy q d) → is_active_phase q ≡ true → Leaves hand d c p
 by_test true new hand d c p q at is active = let e : hands.Busy q d ≡ hands.Busy p c = sym (is refl) ∙ at in inr ((cc), (subst (λ z. is_active_phase z ≡ true) (let same : q ≡ p = cc in same) active))
 by_test false new hand d c p q at is active = inl at
@@ -111,7 +115,7 @@ late h t mine (Untie e) d sound apart active may named is p c shut at =
     elim (untie_way h t e sound (may_parts h t (Untie e) may)) [
       | at_end busy owner ↦ let e : hands.Busy phases.Untied d ≡ hands.Busy p c = sym (ap (untied_hand d) busy) ∙ at in inr ((cc), (subst (λ z. is_active_phase z ≡ true) (let same : phases.Untied ≡ p = cc in same) refl))
       | shut_out busy some first ↦ absurd (no_phase h t mine sound apart e phases.Shut (ap mine same ∙ is) busy refl)
-      | handed_over busy owner ↦ let e : hands.Busy phases.Yielding d ≡ hands.Busy p c = sym (ap (untied_hand d) busy) ∙ at in inr ((cc), (subst (λ z. is_active_phase z ≡ true) (let same : phases.Yielding ≡ p = cc in same) refl))
+      | handed_over busy owner ↦ inr (left_so phases.Yielding p d c (sym (ap (untied_hand d) busy) ∙ at) refl)
       | from_queue free on owner ↦ absurd (omega (arith, on, apart.popped t e (ap mine same ∙ is)))
     ]
 late h t mine (Claim e) d sound apart active may named is p c shut at = let e : hands.Busy phases.Claimed d ≡ hands.Busy p c = at in inr ((cc), (subst (λ z. is_active_phase z ≡ true) (let same : phases.Claimed ≡ p = cc in same) refl))
@@ -127,5 +131,5 @@ late h t mine (SeeZero e) d sound apart active may named is p c shut at = elim (
   | inl none ↦ let bad : hands.Free ≡ hands.Busy p c = sym (ap (λ b. if b then hands.Free else hands.Busy phases.Over d) none) ∙ at in absurd (cc)
   | inr some ↦ let e : hands.Busy phases.Over d ≡ hands.Busy p c = sym (ap (λ b. if b then hands.Free else hands.Busy phases.Over d) some) ∙ at in inr ((cc), (subst (λ z. is_active_phase z ≡ true) (let same : phases.Over ≡ p = cc in same) refl))
 ]
-late h t mine (Offer e) d sound apart active may named is p c shut at = let e : hands.Busy phases.Offered d ≡ hands.Busy p c = at in inr ((cc), (subst (λ z. is_active_phase z ≡ true) (let same : phases.Offered ≡ p = cc in same) refl))
+late h t mine (Offer e) d sound apart active may named is p c shut at = inr (left_so phases.Offered p d c at refl)
 late h t mine s d sound apart active may named is p c shut at = inl at

@@ -19,7 +19,7 @@ use Rattle.brc_runs.specs.Lists.{place_at, bit_of, is_marked, last_of}
 use Rattle.brc_runs.specs.Heap.{Heap, cell_at, entries_at, row_at, frame_at, popped_at, worklist_at, is_immortal}
 use Rattle.brc_runs.specs.Steps.{target_at, thread_may, locked_cell, entry_of, source_cell, dropped_cell, is_at}
 use Rattle.brc_runs.specs.Sound.{IsSound}
-use Rattle.brc_runs.proofs.Naming.{third, busy_hand, free_hand, free_owner, thread_owner}
+use Rattle.brc_runs.proofs.Naming.{third, busy_hand, free_owner, thread_owner}
 use Rattle.brc_runs.proofs.Asking.{May, may_parts, on_cell, at_end, shut_out, handed_over, from_queue, untie_way}
 use Rattle.brc_runs.proofs.Dropping.{work_source}
 use Rattle.brc_runs.proofs.Sharing.{ending_hand}

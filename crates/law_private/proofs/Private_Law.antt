@@ -2,7 +2,6 @@
 use Rattle.std.proofs.Common.{◌≡◌, ◌≢◌, ℕ, ◌+◌, ◌==◌, not, nat_lt, Bool, true, false, if◌then◌else◌, List, [], ◌∷◌, length, Option, Some, None, refl, sym, ◌∙◌, ap, subst, inl, inr, ◌⊎◌}
 use Rattle.std.proofs.lemmas.Bool.{cases_Bool, and_parts, eqb-true, lt-ltb, true≢false}
 use Rattle.std.specs.Cmp.Derive.{both_true}
-use Rattle.brc_runs.specs.declared.edition.Edition.{Edition}
 use Rattle.brc_runs.specs.declared.edition.Edition.TheVariants as editions
 use Rattle.brc_runs.specs.declared.event.Event.{Event}
 use Rattle.brc_runs.specs.declared.event.Step.{Step}
@@ -11,7 +10,7 @@ use Rattle.brc_runs.specs.declared.row.Row.{Row}
 use Rattle.brc_runs.specs.declared.row.Stage.{Stage}
 use Rattle.brc_runs.specs.declared.row.Stage.TheVariants as stages
 use Rattle.brc_runs.specs.Heap.{Heap, opening, row_at, frame_at, no_row, words_for, is_registered, AreOptions}
-use Rattle.brc_runs.specs.Steps.{enabled, after, after_target, root_after, root_may, thread_may, target_at, target_ok, needs_no_cell, locked_cell, locked_at, is_active, is_open, opens_next, edition_ok, stage_after, stage_ok, closed_more, registered, registered_again, stepped, kept_cells}
+use Rattle.brc_runs.specs.Steps.{enabled, after, after_target, root_after, root_may, thread_may, target_at, target_ok, needs_no_cell, locked_cell, locked_at, is_active, is_open, opens_next, edition_ok, stage_after, stage_ok, registered, registered_again, stepped, kept_cells}
 use Rattle.brc_runs.specs.Sound.{IsSound}
 use Rattle.brc_runs.proofs.Asking.{May, may_parts}
 use Rattle.brc_runs.proofs.Changes.{read_here}
@@ -94,7 +93,8 @@ active_or_opens h t s None may active =
 active_or_opens h t s (Some d) may active = inl (ap (λ (r : Row). is_active r.stage) (sym (read_here h.rows t _ no_row may.inside)) ∙ active)
 
 -- in the first edition no step does
-pub active_before : (h : Heap) (t : ℕ) (s : Step) (o : Option ℕ) → h.edition ≡ editions.One → May h t s → is_active (row_at (after_target h t s o) t).stage ≡ true → is_active (row_at h t).stage ≡ true
+pub active_before : (h : Heap) (t : ℕ) (s : Step) (o : Option ℕ) → h.edition ≡ editions.One → May h t s → is_active (row_at (after_target h t s o) t).stage ≡ true
+    → is_active (row_at h t).stage ≡ true
 active_before h t s o first may active = elim (active_or_opens h t s o may active) [
   | inl was ↦ was
   | inr opens ↦ absurd (true≢false (sym (ap (λ e. edition_ok e (row_at h t) (Reopen opens.0)) (sym first) ∙ ap (edition_ok h.edition (row_at h t)) (sym opens.1) ∙ may.edition)))
@@ -169,7 +169,8 @@ pub record ApartNow (t cells : ℕ) (h : Heap) (log : List Item) : Type 0 where
   pub opening : (n : ℕ) → (row_at h t).stage ≡ stages.Opening n → (c : ℕ) → private_of cells log c ≡ false
 
 -- opening one more word makes nothing private
-pub opens_none : (cells : ℕ) (s : Step) (number : ℕ) (entries : List ℕ) (log : List Item) (k : ℕ) → s ≡ Reopen k → ((c : ℕ) → private_of cells log c ≡ false) → (c : ℕ) → private_of cells (Did s number entries ∷ log) c ≡ false
+pub opens_none : (cells : ℕ) (s : Step) (number : ℕ) (entries : List ℕ) (log : List Item) (k : ℕ) → s ≡ Reopen k → ((c : ℕ) → private_of cells log c ≡ false)
+    → (c : ℕ) → private_of cells (Did s number entries ∷ log) c ≡ false
 opens_none cells s number entries log k is none c =
     ap (λ (z : Step). private_by (part_of cells log).frame (locked_told cells log) z (private_of cells log) c) is ∙ none c
 

@@ -49,10 +49,12 @@ apart_registered_again h u t mine apart = record {
   mortal = apart.mortal;
   cells = apart.cells;
   frames = λ v k c is. put_again (λ frame. place_at frame k ≡ Some c → v ≡ t) h.frames u [] [] v (λ at. absurd (none_there k c at)) (apart.frames v k c is);
-  hands = λ v c p is. put_again (λ (r : Row). r.hand ≡ hands.Busy p c → (v ≡ t) × (is_active_phase p ≡ true)) h.rows u again_row no_row v (λ at. absurd (let bad : hands.Free ≡ hands.Busy p c = at in cc)) (apart.hands v c p is);
+  hands = λ v c p is. put_again (λ (r : Row). r.hand ≡ hands.Busy p c → (v ≡ t) × (is_active_phase p ≡ true)) h.rows u again_row no_row v
+      (λ at. absurd (let bad : hands.Free ≡ hands.Busy p c = at in cc)) (apart.hands v c p is);
   popped = λ v c is. put_again (λ (ws : List ℕ). bit_of ws c ≡ 0) h.popped u (replicate (words_for (length h.cells)) 0) [] v (new_bit (words_for (length h.cells)) c) (apart.popped v c is);
   queues = λ v c is. put_again (λ (ws : List ℕ). bit_of ws c ≡ 0) h.queues u (replicate (words_for (length h.cells)) 0) [] v (new_bit (words_for (length h.cells)) c) (apart.queues v c is);
-  worklists = λ v c is. put_again (λ (ws : List Bool). is_marked ws c ≡ true → v ≡ t) h.worklists u (replicate (length h.cells) false) [] v (λ on. absurd (true≢false (sym on ∙ new_mark (length h.cells) c))) (apart.worklists v c is);
+  worklists = λ v c is. put_again (λ (ws : List Bool). is_marked ws c ≡ true → v ≡ t) h.worklists u (replicate (length h.cells) false) [] v
+      (λ on. absurd (true≢false (sym on ∙ new_mark (length h.cells) c))) (apart.worklists v c is);
   entries = apart.entries;
 }
 
