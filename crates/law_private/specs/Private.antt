@@ -1,5 +1,5 @@
--- The private cells of a thread: those that it bore and never put into a cell that isn't private, as Go's and Java's escape
--- analysis call an object that doesn't escape its thread; here it is told by what the thread did.
+-- The private cells of a thread: those that it bore, and neither put into a cell that isn't private nor handed over, as Go's
+-- and Java's escape analysis call an object that doesn't escape its thread; here it is told by what the thread did.
 use Rattle.std.specs.Prelude.{◌≡◌, ◌⊎◌, ℕ, ◌≤◌, ◌==◌, ◌&&◌, not, Bool, true, false, if◌then◌else◌, List, [], ◌∷◌, Option, Some, None, slice_get}
 use Rattle.brc_words.specs.declared.limits.TheConstants.{FIRST_MORTAL}
 use Rattle.brc_runs.specs.Phases.{is_active_phase}
