@@ -15,8 +15,8 @@ use Rattle.brc_runs.specs.declared.row.Row.{Row}
 use Rattle.brc_runs.specs.Lists.{one, place_at, bit_of, is_marked}
 use Rattle.brc_runs.specs.Heap.{Heap, cell_at, entries_at, row_at, frame_at, popped_at, worklist_at, queue_at, no_row, no_cell}
 use Rattle.brc_runs.specs.Steps.{target_at, target_ok, thread_may, locked_at, is_active, is_queued, is_empty, cell_after, row_after, frame_after, worklist_after, stepped, is_shut}
-use Rattle.brc_runs.specs.Sound.{IsSound, HandFits, grips}
-use Rattle.brc_runs.proofs.Naming.{busy_hand, no_mark, unnamed, Unheld, dead_unheld, Ungripped, sole_grip}
+use Rattle.brc_runs.specs.Sound.{IsSound, HandFits, grips, Offered}
+use Rattle.brc_runs.proofs.Naming.{busy_hand, no_mark, unnamed, unoffered, Unheld, dead_unheld, Ungripped, sole_grip}
 use Rattle.brc_runs.proofs.Asking.{May, may_parts, on_cell}
 use Rattle.brc_runs.proofs.Changes.{read_here, read_there}
 use Rattle.brc_runs.proofs.Dropping.{held_by_place, held_by_entry}
@@ -98,7 +98,7 @@ module _ (h : Heap) (t : ℕ) (mine : ℕ → Bool) (sound : IsSound h) (apart :
           | inr off ↦
               let there : (row_at h v).hand ≡ hands.Busy p c = ap (λ (r : Row). r.hand) (sym (read_there h.rows t v row no_row off)) ∙ at in
               elim (now_or (e == c) (mine c) is) [
-                | inl born ↦ absurd (unnamed p e _ (alone v off).hand (none.hands v) (there ∙ ap (hands.Busy p) (sym (eqb-true e c born))))
+                | inl born ↦ absurd (unnamed p e _ (alone v off).hand (none.hands v) (unoffered h v e _ sound refl (λ (o : Offered v (cell_at h e)). true≢false (sym (ap lives o.owner) ∙ ap lives claimed.1))) (there ∙ ap (hands.Busy p) (sym (eqb-true e c born))))
                 | inr was ↦ apart.hands v c p was there
               ]
         ];
