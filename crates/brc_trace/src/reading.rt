@@ -2,7 +2,7 @@
 
 ghost use Rattle.std.specs.Prelude.{◌≡◌, ◌≤◌, length, Some, Ok, IfOk, MatchOption, MatchResult};
 ghost use Rattle.brc_text.specs.Lines.{pieces};
-ghost use Rattle.brc_trace.specs.Traces.{Listing, IsTrace, trace_text, mark_at, head_at, head_number as number_of_head, first_number, events_at, trace_at, by_line, bad_line, IsHead, Refuses, Gives, is_size as size_fits, is_limit as limit_fits};
+ghost use Rattle.brc_trace.specs.Traces.{Listing, IsTrace, trace_text, mark_at, head_at, head_number as number_of_head, first_number, events_at, headed_at, lines_at, trace_at, by_line, bad_line, IsHead, Refuses, Gives, is_size as size_fits, is_limit as limit_fits};
 ghost use Rattle.brc_trace.specs.View.{listing};
 
 use crate::event_line::read_event;
@@ -99,6 +99,17 @@ pub(crate) fn read_mark<'t>(words: &mut Words, text: &'t [u8]) -> Option<(Editio
     Some((edition, behind))
 }
 
+/// Reads the mark where there is one; the edition of the trace, and its text from the head on.
+fn read_edition<'t>(words: &mut Words, text: &'t [u8]) -> (Edition, &'t [u8])
+    ensures lines { lines_at (pieces text.now) ≡ headed_at result.0 (pieces result.1.now) }
+    ensures shorter { length result.1.now ≤ length text.now }
+{
+    match read_mark(words, text) {
+        Some((edition, below)) => (edition, below),
+        None => (Edition::One, text),
+    }
+}
+
 /// What a trace begins with: its edition and the heap that it asks for.
 #[derive(Clone, Copy, Debug, PartialEq, Eq)]
 pub(crate) struct Head {
@@ -117,10 +128,7 @@ pub(crate) fn read_head<'t>(words: &mut Words, text: &'t [u8]) -> Result<(Head, 
     if text.len() > MOST_INPUT {
         return Err(not_a_line(0));
     }
-    let (edition, headed) = match read_mark(words, text) {
-        Some((edition, below)) => (edition, below),
-        None => (Edition::One, text),
-    };
+    let (edition, headed) = read_edition(words, text);
     let Some(((cells, local_limit), behind)) = read_heap(words, headed) else {
         return Err(not_a_line(head_number(edition)));
     };
