@@ -193,11 +193,11 @@ own_follows t cells = record {
     own_entries = λ active keeps. elim (active_or_opens h t s (target_at h t s) may active) [
       | inr opens ↦ λ d i e is. absurd (true≢false (sym is ∙ opens_none cells s number entries log opens.0 opens.1 (before.now.opening opens.0 opens.2) d))
       | inl was ↦
-        let parts = and_parts _ _ keeps in
-        let part : Part = part_of cells log in
-        by_part h t (λ frame into. OwnEntries (after_target h t s (target_at h t s)) (private_by frame into s (private_of cells log))) part before.now.part
-        (own_target h t (private_of cells log) (reached_sound h reached) (before.own_entries was parts.0) s (target_at h t s) (joined h t s may) refl
-        (to_world h t (λ frame into. puts_own frame into (private_of cells log) s ≡ true) part before.now.part parts.1))
+          let parts = and_parts _ _ keeps in
+          let part : Part = part_of cells log in
+          by_part h t (λ frame into. OwnEntries (after_target h t s (target_at h t s)) (private_by frame into s (private_of cells log))) part before.now.part
+          (own_target h t (private_of cells log) (reached_sound h reached) (before.own_entries was parts.0) s (target_at h t s) (joined h t s may) refl
+          (to_world h t (λ frame into. puts_own frame into (private_of cells log) s ≡ true) part before.now.part parts.1))
     ];
   };
   gathers = λ h u log before. record {
