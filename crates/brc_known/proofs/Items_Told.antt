@@ -90,7 +90,7 @@ sum_back : (h : Heap) (c : ℕ) → IsSound h → count_told (shared_word ((cell
 sum_back h c sound =
     let x : Cell = cell_at h c in
     let count : count_told (shared_word (x.count +ℤ pos x.local) states.Merged) ≡ x.count +ℤ pos x.local =
-        count_back (x.count +ℤ pos x.local) (bits_of states.Merged) (bits_few states.Merged) (omega (arith, ints, (sound_range h sound c).0)) in
+    count_back (x.count +ℤ pos x.local) (bits_of states.Merged) (bits_few states.Merged) (omega (arith, ints, (sound_range h sound c).0)) in
     omega (arith, ints, count)
 
 down_back : (h : Heap) (t c : ℕ) (drop : Dropped) → IsSound h → May h t (LocalDown drop) → target_at h t (LocalDown drop) ≡ Some c → (g : Hand)

@@ -11,7 +11,7 @@ use Rattle.brc_runs.specs.declared.row.Row.{Row}
 use Rattle.brc_runs.specs.declared.row.Hand.TheVariants as hands
 use Rattle.brc_runs.specs.Lists.{one, is_marked}
 use Rattle.brc_runs.specs.Heap.{Heap, opening, cell_at, row_at, worklist_at, is_registered, no_row, AreOptions}
-use Rattle.brc_runs.specs.Steps.{is_mine, is_owned_by, is_active, is_merged}
+use Rattle.brc_runs.specs.Steps.{is_mine, is_owned_by, is_active, is_merged, owned_are_marked}
 use Rattle.brc_runs.specs.Sound.{IsSound, grips, grips_by_owner, gripped}
 use Rattle.brc_runs.proofs.Asking.{mine}
 use Rattle.brc_runs.proofs.Counting.{sum_none, hand_apart}
@@ -19,7 +19,7 @@ use Rattle.brc_runs.proofs.Reached.{reached_sound}
 use Rattle.brc_lasting.proofs.Standing.{run_reached}
 use Rattle.brc_known.specs.Items.{ItemRun, AreItems, world_of_items, events_of, own}
 use Rattle.brc_known.specs.Counts.{own_count, counts_of}
-use Rattle.brc_known.specs.Owned.{IsAlive, owned_are_marked}
+use Rattle.brc_known.specs.Owned.{IsAlive}
 use Rattle.brc_known.proofs.Items_Runs.{events_run}
 use Rattle.brc_known.proofs.Counts_Law.{counts_are_told, counted}
 

@@ -27,7 +27,7 @@ ghost use Rattle.brc_runs.specs.Sound.{held};
 ghost use Rattle.brc_lasting.specs.Ranges.{OwnerFits};
 ghost use Rattle.brc_runs.specs.declared.row.Stage.{Stage as stage};
 ghost use Rattle.brc_words.specs.declared.limits.TheConstants.{FIRST_MORTAL};
-ghost use Rattle.brc_lasting.specs.Staying.{IsAnothers, Lasts, SameOwn, Bears, Buries, Locked, Keeps, Foreign, OwnedOrNot, Nobodys, Owns, Merges, Adopts, PoppedOwn, Tells, PoppedTells, HoldsNothing};
+ghost use Rattle.brc_lasting.specs.Staying.{IsAnothers, Lasts, SameOwn, Bears, Buries, Locked, Keeps, Foreign, OwnedOrNot, Nobodys, Owns, Merges, Yields, Adopts, PoppedOwn, Tells, PoppedTells, HoldsNothing};
 
 /// While others step, a thread's own part stays as it is, and a bit of its merge queue stays set.
 pub fn own_parts_last()
@@ -49,13 +49,14 @@ pub fn held_words_last()
 {}
 
 /// While others step: an owner word goes from a thread to nobody alone, and never to the thread that looked; who owns,
-/// merges or adopts an object, or has popped it, is the one that writes its local word.
+/// merges, hands over or adopts an object, or has popped it, is the one that writes its local word.
 pub fn owners_last()
     ensures foreign { (t c : ℕ) → Lasts t (λ h. Foreign h t c) }
     ensures owned { (t c s : ℕ) → Lasts t (λ h. OwnedOrNot h t c s) }
     ensures nobodys { (t c : ℕ) → Lasts t (λ h. Nobodys h t c) }
     ensures own { (t c local : ℕ) → Lasts t (λ h. Owns h t c local) }
     ensures merging { (t c local : ℕ) (p : phase) → Lasts t (λ h. Merges h t c local p) }
+    ensures yielding { (t c local : ℕ) → Lasts t (λ h. Yields h t c local) }
     ensures adopting { (t c s local : ℕ) → Lasts t (λ h. Adopts h t c s local) }
     ensures popped { (t c local : ℕ) → Lasts t (λ h. PoppedOwn h t c local) }
 {}

@@ -1,6 +1,6 @@
 //! The second error line of `brc replay --explain`: why a trace is refused.
 
-use brc_core::{Hand, Phase, Refusal, Status};
+use brc_core::{Hand, Phase, Refusal, Status, Step};
 use brc_text::Keyword;
 use brc_trace::{Cause, Meant, Refused, Standing, Why};
 use brc_words::{Kind, Owner, State};
@@ -28,6 +28,8 @@ fn form_of(word: Keyword) -> &'static str {
         Keyword::Enq => "T enq C",
         Keyword::Drain => "T drain W",
         Keyword::Add => "T add C",
+        Keyword::Offer => "T offer C",
+        Keyword::Open => "T open W",
         Keyword::Close => "T close W",
         Keyword::Nudge => "T nudge U W",
         Keyword::Wake => "T wake",
@@ -45,7 +47,8 @@ fn put_cause<E: Write>(errors: &mut E, cause: Cause) -> io::Result<()> {
         Cause::Empty => "it is empty",
         Cause::WideSpace => "a space stands at one of its ends or behind another",
         Cause::LeadingZero => "a number begins with a zero",
-        Cause::NotAHead => "a head is heap CELLS LIMIT, 512 to 65536 and 1 to 4294967294",
+        Cause::NotAHead =>
+            "a head is heap CELLS LIMIT, 512 to 65536 and 1 to 4294967294; above it only trace 2",
         Cause::NoWords => "a word of it is in no trace, or it has more than 8",
         Cause::NotAnEvent => "no event begins so",
         Cause::OutOfRange => "a number is out of its range",
@@ -58,8 +61,10 @@ fn put_cause<E: Write>(errors: &mut E, cause: Cause) -> io::Result<()> {
 }
 
 /// Which condition of an event fails first.
-fn text_of_refusal(refusal: Refusal) -> &'static str {
+fn text_of_refusal(step: Step, refusal: Refusal) -> &'static str {
     match refusal {
+        Refusal::Told if matches!(step, Step::Close(_)) =>
+            "the thread has not seen to all that it is to leave behind",
         Refusal::NotItsOwn => "the root registers and gathers, and threads make all else",
         Refusal::NotNext => "the next thread has another number, or there are 64",
         Refusal::NotRegistered => "the thread is not registered",
@@ -70,6 +75,8 @@ fn text_of_refusal(refusal: Refusal) -> &'static str {
         Refusal::OwnPart =>
             "the thread's places, entries, worklist or queue words are not as it needs them",
         Refusal::Told => "whom it tells is not registered, or has no such queue word",
+        Refusal::Edition =>
+            "its format has no such event of a thread at this stage, or with this hand",
         Refusal::NoCell => "it means no cell of the heap",
         Refusal::Cell => "its cell is not as the event needs it",
     }
@@ -81,6 +88,7 @@ fn word_of_status(status: Status) -> &'static str {
         Status::Closing => "closing",
         Status::Left => "left",
         Status::Gathered => "gathered",
+        Status::Opening => "opening",
     }
 }
 
@@ -97,6 +105,8 @@ fn word_of_phase(phase: Phase) -> &'static str {
         Phase::Taking => "taking",
         Phase::Held => "held",
         Phase::Popping => "popping",
+        Phase::Offered => "offered",
+        Phase::Yielding => "yielding",
     }
 }
 
@@ -187,7 +197,7 @@ fn put_meant<E: Write>(errors: &mut E, meant: &Meant) -> io::Result<()> {
 /// Which condition the event fails first, and what stands there.
 fn put_refused<E: Write>(errors: &mut E, refused: &Refused) -> io::Result<()> {
     let standing = refused.standing;
-    let text = text_of_refusal(refused.refusal);
+    let text = text_of_refusal(refused.event.step, refused.refusal);
     let registered = standing.registered;
     write!(errors, "brc: why: {text}; threads {registered}")?;
     put_thread(errors, &standing)?;

@@ -59,6 +59,17 @@ further line is an event, of the root (0) or of a thread T:
     i<immortal>. D is f<place> or w<cell on T's worklist>; for last also
     q<popped cell> or h, the hand.
 
+Format 2 is of threads that hand their objects over before they leave, so that
+the root can give their numbers again. It has the line `trace 2` above the head,
+and two events more:
+
+    T offer C              T's own object: T will merge it for whoever asks next
+    T open W               T, which is there again, opens word W of its queue
+
+There untie and add follow an offer too, and are an active thread's alone; T may
+close its words once each of its objects is merged or dead; and 0 register T is
+of the least number that is gathered, or else of the next, 65536 times at most.
+
 A line is words with one space between them, ended by a line feed. Blank lines,
 comments, carriage returns and leading zeros are not in the grammar. Bad is the
 first line that isn't one of these; line 0 says that the input has more than
@@ -81,6 +92,8 @@ A whole life of one object, made and given up by thread 1:
     world 512 4294967294
     thread 1 active
     ledger 1 1 0           one birth, one free, none live
+
+A world of format 2 has the line `edition 2` above these.
 
 Where a trace stops, as with `brc: line 7: not enabled`, the lines before show
 the world that line 7 met:

@@ -29,6 +29,9 @@ keyword words.Wake = codes "wake"
 keyword words.Lock = codes "lock"
 keyword words.Unlock = codes "unlock"
 keyword words.Gather = codes "gather"
+keyword words.Offer = codes "offer"
+keyword words.Open = codes "open"
+keyword words.Trace = codes "trace"
 keyword words.InHand = codes "h"
 keyword words.Keep = codes "keep"
 keyword words.Put = codes "put"
@@ -50,10 +53,12 @@ keyword words.Work = codes "work"
 keyword words.Entry = codes "entry"
 keyword words.Object = codes "object"
 keyword words.Ledger = codes "ledger"
+keyword words.Edition = codes "edition"
 keyword words.Active = codes "active"
 keyword words.Closing = codes "closing"
 keyword words.Left = codes "left"
 keyword words.Gathered = codes "gathered"
+keyword words.Opening = codes "opening"
 keyword words.Claimed = codes "claimed"
 keyword words.Counted = codes "counted"
 keyword words.Ready = codes "ready"
@@ -65,6 +70,8 @@ keyword words.Shut = codes "shut"
 keyword words.Taking = codes "taking"
 keyword words.Held = codes "held"
 keyword words.Popping = codes "popping"
+keyword words.Offered = codes "offered"
+keyword words.Yielding = codes "yielding"
 keyword words.Default = codes "default"
 keyword words.Merged = codes "merged"
 keyword words.Dash = codes "-"
@@ -94,7 +101,7 @@ candidates_at first =
     else if first == 98 then words.Born ∷ []
     else if first == 99 then words.Claim ∷ words.Close ∷ words.Closing ∷ words.Claimed ∷ words.Counted ∷ []
     else if first == 100 then words.Down ∷ words.Drain ∷ words.Dict ∷ words.Default ∷ []
-    else if first == 101 then words.Enq ∷ words.Entry ∷ []
+    else if first == 101 then words.Enq ∷ words.Entry ∷ words.Edition ∷ []
     else if first == 102 then words.Free ∷ words.Frame ∷ []
     else if first == 103 then words.Gather ∷ words.Gathered ∷ []
     else if first == 104 then words.InHand ∷ words.Heap ∷ words.Hand ∷ words.Held ∷ []
@@ -103,14 +110,15 @@ candidates_at first =
     else if first == 108 then words.Local ∷ words.Last ∷ words.Lock ∷ words.List ∷ words.Locked ∷ words.Ledger ∷ words.Left ∷ []
     else if first == 109 then words.Mailbox ∷ words.Merged ∷ []
     else if first == 110 then words.Nudge ∷ []
-    else if first == 111 then words.Object ∷ words.Over ∷ []
+    else if first == 111 then words.Offer ∷ words.Open ∷ words.Object ∷ words.Over ∷ words.Offered ∷ words.Opening ∷ []
     else if first == 112 then words.Put ∷ words.Popped ∷ words.Popping ∷ []
     else if first == 113 then words.Queued ∷ []
     else if first == 114 then words.Register ∷ words.Ready ∷ []
     else if first == 115 then words.Shared ∷ words.See ∷ words.Shup ∷ words.Shdown ∷ words.Swap ∷ words.Shut ∷ []
-    else if first == 116 then words.Take ∷ words.Text ∷ words.Thread ∷ words.Taking ∷ []
+    else if first == 116 then words.Take ∷ words.Text ∷ words.Thread ∷ words.Taking ∷ words.Trace ∷ []
     else if first == 117 then words.Up ∷ words.Unlock ∷ words.Untie ∷ words.Untied ∷ []
     else if first == 119 then words.Wake ∷ words.World ∷ words.Work ∷ []
+    else if first == 121 then words.Yielding ∷ []
     else if first == 122 then words.Zero ∷ []
     else []
 

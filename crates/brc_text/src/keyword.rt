@@ -34,6 +34,11 @@ pub enum Keyword {
     Unlock,
     Gather,
 
+    // The mark of format 2, and the events that it alone has.
+    Trace,
+    Offer,
+    Open,
+
     /// `h`: the reference in the hand.
     InHand,
 
@@ -62,12 +67,14 @@ pub enum Keyword {
     Entry,
     Object,
     Ledger,
+    Edition,
 
     // The status of a thread.
     Active,
     Closing,
     Left,
     Gathered,
+    Opening,
 
     // What a hand carries; `free` and `popped` are above.
     Claimed,
@@ -81,6 +88,8 @@ pub enum Keyword {
     Taking,
     Held,
     Popping,
+    Offered,
+    Yielding,
 
     // The state of an object; `queued` is above.
     Default,
@@ -121,6 +130,9 @@ impl Keyword {
             Keyword::Lock => b"lock",
             Keyword::Unlock => b"unlock",
             Keyword::Gather => b"gather",
+            Keyword::Trace => b"trace",
+            Keyword::Offer => b"offer",
+            Keyword::Open => b"open",
             Keyword::InHand => b"h",
             Keyword::Keep => b"keep",
             Keyword::Put => b"put",
@@ -142,10 +154,12 @@ impl Keyword {
             Keyword::Entry => b"entry",
             Keyword::Object => b"object",
             Keyword::Ledger => b"ledger",
+            Keyword::Edition => b"edition",
             Keyword::Active => b"active",
             Keyword::Closing => b"closing",
             Keyword::Left => b"left",
             Keyword::Gathered => b"gathered",
+            Keyword::Opening => b"opening",
             Keyword::Claimed => b"claimed",
             Keyword::Counted => b"counted",
             Keyword::Ready => b"ready",
@@ -157,6 +171,8 @@ impl Keyword {
             Keyword::Taking => b"taking",
             Keyword::Held => b"held",
             Keyword::Popping => b"popping",
+            Keyword::Offered => b"offered",
+            Keyword::Yielding => b"yielding",
             Keyword::Default => b"default",
             Keyword::Merged => b"merged",
             Keyword::Dash => b"-",
@@ -194,6 +210,9 @@ impl Keyword {
             Keyword::Lock => u64::from_be_bytes(*b"\0\0\0\0lock"),
             Keyword::Unlock => u64::from_be_bytes(*b"\0\0unlock"),
             Keyword::Gather => u64::from_be_bytes(*b"\0\0gather"),
+            Keyword::Trace => u64::from_be_bytes(*b"\0\0\0trace"),
+            Keyword::Offer => u64::from_be_bytes(*b"\0\0\0offer"),
+            Keyword::Open => u64::from_be_bytes(*b"\0\0\0\0open"),
             Keyword::InHand => u64::from_be_bytes(*b"\0\0\0\0\0\0\0h"),
             Keyword::Keep => u64::from_be_bytes(*b"\0\0\0\0keep"),
             Keyword::Put => u64::from_be_bytes(*b"\0\0\0\0\0put"),
@@ -215,10 +234,12 @@ impl Keyword {
             Keyword::Entry => u64::from_be_bytes(*b"\0\0\0entry"),
             Keyword::Object => u64::from_be_bytes(*b"\0\0object"),
             Keyword::Ledger => u64::from_be_bytes(*b"\0\0ledger"),
+            Keyword::Edition => u64::from_be_bytes(*b"\0edition"),
             Keyword::Active => u64::from_be_bytes(*b"\0\0active"),
             Keyword::Closing => u64::from_be_bytes(*b"\0closing"),
             Keyword::Left => u64::from_be_bytes(*b"\0\0\0\0left"),
             Keyword::Gathered => u64::from_be_bytes(*b"gathered"),
+            Keyword::Opening => u64::from_be_bytes(*b"\0opening"),
             Keyword::Claimed => u64::from_be_bytes(*b"\0claimed"),
             Keyword::Counted => u64::from_be_bytes(*b"\0counted"),
             Keyword::Ready => u64::from_be_bytes(*b"\0\0\0ready"),
@@ -230,6 +251,8 @@ impl Keyword {
             Keyword::Taking => u64::from_be_bytes(*b"\0\0taking"),
             Keyword::Held => u64::from_be_bytes(*b"\0\0\0\0held"),
             Keyword::Popping => u64::from_be_bytes(*b"\0popping"),
+            Keyword::Offered => u64::from_be_bytes(*b"\0offered"),
+            Keyword::Yielding => u64::from_be_bytes(*b"yielding"),
             Keyword::Default => u64::from_be_bytes(*b"\0default"),
             Keyword::Merged => u64::from_be_bytes(*b"\0\0merged"),
             Keyword::Dash => u64::from_be_bytes(*b"\0\0\0\0\0\0\0-"),
@@ -344,7 +367,11 @@ fn sought_by(first: u8, text: &[u8], front: u64) -> Option<Keyword>
                 Keyword::Default,
             ],
         ),
-        b'e' => sought(text, front, &[Keyword::Enq, Keyword::Entry]),
+        b'e' => sought(
+            text,
+            front,
+            &[Keyword::Enq, Keyword::Entry, Keyword::Edition],
+        ),
         b'f' => sought(text, front, &[Keyword::Free, Keyword::Frame]),
         b'g' => sought(text, front, &[Keyword::Gather, Keyword::Gathered]),
         b'h' => sought(
@@ -369,7 +396,18 @@ fn sought_by(first: u8, text: &[u8], front: u64) -> Option<Keyword>
         ),
         b'm' => sought(text, front, &[Keyword::Mailbox, Keyword::Merged]),
         b'n' => sought(text, front, &[Keyword::Nudge]),
-        b'o' => sought(text, front, &[Keyword::Object, Keyword::Over]),
+        b'o' => sought(
+            text,
+            front,
+            &[
+                Keyword::Offer,
+                Keyword::Open,
+                Keyword::Object,
+                Keyword::Over,
+                Keyword::Offered,
+                Keyword::Opening,
+            ],
+        ),
         b'p' => sought(
             text,
             front,
@@ -397,6 +435,7 @@ fn sought_by(first: u8, text: &[u8], front: u64) -> Option<Keyword>
                 Keyword::Text,
                 Keyword::Thread,
                 Keyword::Taking,
+                Keyword::Trace,
             ],
         ),
         b'u' => sought(
@@ -410,6 +449,7 @@ fn sought_by(first: u8, text: &[u8], front: u64) -> Option<Keyword>
             ],
         ),
         b'w' => sought(text, front, &[Keyword::Wake, Keyword::World, Keyword::Work]),
+        b'y' => sought(text, front, &[Keyword::Yielding]),
         b'z' => sought(text, front, &[Keyword::Zero]),
         _ => None,
     }

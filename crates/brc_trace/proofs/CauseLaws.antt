@@ -4,6 +4,7 @@ use Rattle.std.specs.Prelude.{is_some, IfOk}
 use Rattle.std.proofs.lemmas.Bool.{ne_eqb}
 use Rattle.std.proofs.lemmas.List.{take_more, take_all, drop_more, take-append-drop, drop-drop, get_or-drop}
 use Rattle.brc_words.specs.declared.limits.TheConstants.{MOST_INPUT}
+use Rattle.brc_runs.specs.declared.edition.Edition.{Edition}
 use Rattle.brc_runs.specs.declared.event.Event.{Event}
 use Rattle.brc_text.specs.declared.token.Token.{Token}
 use Rattle.brc_text.specs.Tokens.{◌>>=◌}
@@ -13,8 +14,9 @@ use Rattle.brc_text.proofs.LineLaws.{lacks-append, cut_until, cut_whole, cut_par
 use Rattle.brc_trace.specs.declared.causes.Cause.{Cause}
 use Rattle.brc_trace.specs.Causes.{IsCause, first_piece, piece_at}
 use Rattle.brc_trace.specs.Events.{event_words}
-use Rattle.brc_trace.specs.Traces.{Listing, head_words, trace_text, trace_at}
+use Rattle.brc_trace.specs.Traces.{Listing, mark_text, head_words, headed_text, trace_text, trace_at, by_words, by_line}
 use Rattle.brc_trace.proofs.TextLaws.{events_text, trace_takes}
+use Rattle.brc_trace.proofs.ReadingLoop.{has_line, has_no_line}
 
 -- ---- the first line
 
@@ -113,18 +115,33 @@ no_words_there text rest ended none =
     by_words (Some ws) is = absurd cc
 
 -- what is so of the bytes of an ended line is so of the text's first line
-pub ended_cause : (cause : Cause) (number : ℕ) (text rest : List ℕ) → (cut 10 text).1 ≡ Some rest → IsCause cause number ((cut 10 text).0, true)
-    → IsCause cause number (first_piece text)
-ended_cause cause number text rest ended is =
-    subst (λ (b : Bool). IsCause cause number ((cut 10 text).0, b)) (sym (ap (λ (o : Option (List ℕ)). is_some o) ended)) is
+pub ended_cause : (edition : Edition) (cause : Cause) (number : ℕ) (text rest : List ℕ) → (cut 10 text).1 ≡ Some rest → IsCause edition cause number ((cut 10 text).0, true)
+    → IsCause edition cause number (first_piece text)
+ended_cause edition cause number text rest ended is =
+    subst (λ (b : Bool). IsCause edition cause number ((cut 10 text).0, b)) (sym (ap (λ (o : Option (List ℕ)). is_some o) ended)) is
 
-pub words_cause : {E : Type 0} (result : Result Cause E) (number : ℕ) (text rest behind : List ℕ) (words : List Token) → (cut 10 text).1 ≡ Some rest
+pub words_cause : {E : Type 0} (edition : Edition) (result : Result Cause E) (number : ℕ) (text rest behind : List ℕ) (words : List Token) → (cut 10 text).1 ≡ Some rest
     → first_line 8 text ≡ Some (words, behind)
-    → IfOk result (λ cause. (number : ℕ) (bytes : List ℕ) → tokens_at 8 bytes ≡ Some words → IsCause cause number (bytes, true))
-    → IfOk result (λ cause. IsCause cause number (first_piece text))
-words_cause (Err e) number text rest behind words ended read is = tt
-words_cause (Ok cause) number text rest behind words ended read is =
-    ended_cause cause number text rest ended (is number (cut 10 text).0 (words_there text rest behind words ended read))
+    → IfOk result (λ cause. (number : ℕ) (bytes : List ℕ) → tokens_at 8 bytes ≡ Some words → IsCause edition cause number (bytes, true))
+    → IfOk result (λ cause. IsCause edition cause number (first_piece text))
+words_cause edition (Err e) number text rest behind words ended read is = tt
+words_cause edition (Ok cause) number text rest behind words ended read is =
+    ended_cause edition cause number text rest ended (is number (cut 10 text).0 (words_there text rest behind words ended read))
+
+-- ---- the edition that the first line tells
+
+pub first_read : {A : Type 0} (read : List Token → Option A) (text rest : List ℕ) (x : A) → by_line read text ≡ Some (x, rest) → by_words read (first_piece text) ≡ Some x
+first_read read text rest x some =
+    let it = has_line read text x rest some in
+    ap (λ (o : Option (List ℕ)). by_words read ((cut 10 text).0, is_some o)) it.ended ∙ it.reads
+
+pub first_unread : {A : Type 0} (read : List Token → Option A) (text : List ℕ) → by_line read text ≡ None → by_words read (first_piece text) ≡ None
+unfolding cut
+first_unread read [] none = refl
+first_unread read (byte ∷ text) none =
+    let them = has_no_line read byte text none in
+    let first : them.0 ≡ first_piece (byte ∷ text) = sym (ap (λ (ps : List (List ℕ × Bool)). get_or ps 0 ([], false)) them.2) ∙ first_of_pieces (byte ∷ text) in
+    ap (by_words read) (sym first) ∙ them.3
 
 -- ---- how many events
 
@@ -142,5 +159,6 @@ events_are_few text trace read =
       is.short,
       ap length is.spelled,
       events_take_bytes trace.events,
+      length-append (mark_text trace.edition) (headed_text trace),
       length-append (line (head_words trace.cells trace.local_limit)) (events_text trace.events),
     )

@@ -10,7 +10,7 @@ use Rattle.brc_words.specs.declared.fault.Fault.TheVariants as faults
 use Rattle.brc_words.specs.declared.fault.Reason.{Reason}
 use Rattle.brc_words.specs.declared.fault.Reason.TheVariants as reasons
 use Rattle.brc_runs.specs.declared.event.Event.{Event}
-use Rattle.brc_runs.specs.Heap.{Heap, opening}
+use Rattle.brc_runs.specs.Heap.{Heap, opening_in}
 use Rattle.brc_runs.specs.Runs.{IsRun, world_after}
 use Rattle.brc_runs.specs.Steps.{enabled}
 use Rattle.brc_core.specs.Replays.{IsFirstNotEnabled}
@@ -19,18 +19,18 @@ use Rattle.brc_text.proofs.KeywordLaws.{same_some}
 use Rattle.brc_trace.specs.declared.explaining.Refused.{Refused}
 use Rattle.brc_trace.specs.declared.explaining.Why.{Why}
 use Rattle.brc_trace.specs.declared.explaining.Why.TheVariants as whys
-use Rattle.brc_trace.specs.Traces.{Listing}
+use Rattle.brc_trace.specs.Traces.{Listing, first_number}
 use Rattle.brc_trace.specs.Replaying.{IsReplayed, IsBad, Replays}
 use Rattle.brc_trace.specs.Explaining.{WhyRefused, IsRefused, Explains, Agrees, fault_of_why}
 use Rattle.brc_trace.proofs.TextLaws.{same_ok}
 use Rattle.brc_trace.proofs.ReadingLoop.{long_text}
 
-pub refused_at : (start : Heap) (events : List Event) (at : ℕ) (old here : Heap) (d : Event) (told : Refused)
+pub refused_at : (start : Heap) (number : ℕ) (events : List Event) (at : ℕ) (old here : Heap) (d : Event) (told : Refused)
     → LeadsTo start (reverse (take at events)) old → at < length events → enabled old (get_or events at d) ≡ false → here ≡ old
-    → WhyRefused here (get_or events at d) (at + 2) told → IsRefused start events told
-refused_at start events at old here d told leads within refused same why =
+    → WhyRefused here (get_or events at d) (at + number) told → IsRefused start number events told
+refused_at start number events at old here d told leads within refused same why =
     let P : Heap → Type 0 = λ h. enabled h (get_or events at d) ≡ false in
-    let Q : Heap → Type 0 = λ h. WhyRefused h (get_or events at d) (at + 2) told in
+    let Q : Heap → Type 0 = λ h. WhyRefused h (get_or events at d) (at + number) told in
     record {
       at = at;
       first = record {
@@ -109,10 +109,10 @@ one_first start events at other first second = by_order (cases_order at other)
 same_err : {A E : Type 0} {x y : E} → ◌≡◌ {A = Result A E} (Err x) (Err y) → x ≡ y
 same_err e = cc
 
-told_of_trace : (start : Heap) (events : List Event) (at line : ℕ) (told : Refused) → IsRefused start events told → IsFirstNotEnabled start events at → line ≡ at + 2
+told_of_trace : (start : Heap) (number : ℕ) (events : List Event) (at line : ℕ) (told : Refused) → IsRefused start number events told → IsFirstNotEnabled start events at → line ≡ at + number
     → line ≡ told.line
-told_of_trace start events at line told is first counted =
-    counted ∙ ap (λ (n : ℕ). n + 2) (one_first start events at is.at first is.first) ∙ sym is.why.line_is
+told_of_trace start number events at line told is first counted =
+    counted ∙ ap (λ (n : ℕ). n + number) (one_first start events at is.at first is.first) ∙ sym is.why.line_is
 
 -- a replay's fault and what is told of it have one line, and are of one sort
 pub told_alike : (bytes : List ℕ) (why : Why) (line : ℕ) (reason : Reason) → Explains bytes (Some why) → IsBad reason line bytes
@@ -129,9 +129,10 @@ told_alike bytes (whys.Refused told) line reasons.NotALine is bad =
     let neither : ◌≡◌ {A = Result Listing ℕ} (Ok is.trace) (Err line) = sym is.spelled ∙ bad in absurd cc
 told_alike bytes (whys.Refused told) line reasons.NotEnabled is bad =
     let same : bad.trace ≡ is.trace = same_ok (sym bad.spelled ∙ is.spelled) in
-    let first = subst (λ (t : Listing). IsFirstNotEnabled (opening t.cells t.local_limit) t.events bad.at) same bad.first in
+    let first = subst (λ (t : Listing). IsFirstNotEnabled (opening_in t.edition t.cells t.local_limit) t.events bad.at) same bad.first in
+    let counted = subst (λ (t : Listing). line ≡ bad.at + first_number t.edition) same bad.counted in
     ap (λ (n : ℕ). faults.BadTrace n reasons.NotEnabled)
-    (told_of_trace (opening is.trace.cells is.trace.local_limit) is.trace.events bad.at line told is.events first bad.counted)
+    (told_of_trace (opening_in is.trace.edition is.trace.cells is.trace.local_limit) (first_number is.trace.edition) is.trace.events bad.at line told is.events first counted)
 
 pub agrees_with : (bytes : List ℕ) (fault : Fault) (line : ℕ) (reason : Reason) (why : Option Why) → fault ≡ faults.BadTrace line reason → Explains bytes why
     → Agrees bytes fault why
@@ -158,5 +159,5 @@ told_of_none bytes world (Some (whys.Bad line cause)) is told =
     let neither : ◌≡◌ {A = Result Listing ℕ} (Ok is.trace) (Err line) = sym is.spelled ∙ told.0 in absurd cc
 told_of_none bytes world (Some (whys.Refused refused)) is told =
     let same : is.trace ≡ told.trace = same_ok (sym is.spelled ∙ told.spelled) in
-    let run = subst (λ (t : Listing). IsRun (opening t.cells t.local_limit) (reverse t.events)) same is.run in
-    absurd (refused_in_run (opening told.trace.cells told.trace.local_limit) told.trace.events told.events.at told.events.first run)
+    let run = subst (λ (t : Listing). IsRun (opening_in t.edition t.cells t.local_limit) (reverse t.events)) same is.run in
+    absurd (refused_in_run (opening_in told.trace.edition told.trace.cells told.trace.local_limit) told.trace.events told.events.at told.events.first run)

@@ -5,6 +5,8 @@ use Rattle.brc_words.specs.declared.fault.Fault.{Fault}
 use Rattle.brc_words.specs.declared.fault.Fault.TheVariants as faults
 use Rattle.brc_words.specs.declared.fault.Reason.TheVariants as reasons
 use Rattle.brc_words.specs.declared.limits.TheConstants.{MOST_INPUT}
+use Rattle.brc_runs.specs.declared.edition.Edition.{Edition}
+use Rattle.brc_runs.specs.declared.edition.Edition.TheVariants as editions
 use Rattle.brc_runs.specs.declared.event.Event.{Event}
 use Rattle.brc_text.specs.declared.token.Token.{Token}
 use Rattle.brc_text.specs.Tokens.{◌>>=◌}
@@ -13,7 +15,7 @@ use Rattle.brc_text.proofs.KeywordLaws.{same_some}
 use Rattle.brc_text.proofs.TokenLaws.{some_bind}
 use Rattle.brc_text.proofs.LineLaws.{pieces_ended, pieces_open, cut_shorter}
 use Rattle.brc_trace.specs.Events.{event_at}
-use Rattle.brc_trace.specs.Traces.{by_words, by_line, before_others, events_at, head_at, below_head, lines_at, trace_at, Refuses}
+use Rattle.brc_trace.specs.Traces.{Listing, by_words, by_line, before_others, events_at, mark_at, head_at, head_number, first_number, below_head, headed_at, below_mark, lines_at, trace_at, Refuses}
 
 -- ---- the first line of a text
 
@@ -38,6 +40,7 @@ words_read {A = A} read text words rest x some reads =
 
 -- the text's first line is read so, and the rest stands behind it
 pub record HasLine {A : Type 0} (read : List Token → Option A) (text : List ℕ) (x : A) (rest : List ℕ) : Type 0 where
+  pub ended : (cut 10 text).1 ≡ Some rest
   pub pieces_are : pieces text ≡ ((cut 10 text).0, true) ∷ pieces rest
   pub reads : by_words read ((cut 10 text).0, true) ≡ Some x
   pub words : List Token
@@ -58,6 +61,7 @@ has_line read text x rest e =
     let ended : (cut 10 text).1 ≡ Some rest = behind.1 ∙ ap (λ (l : List ℕ). Some l) left in
     let here : read line.0.0 ≡ Some x = reading.1 ∙ ap (λ p. Some (p.0)) result in
     record {
+      ended = ended;
       pieces_are = pieces_ended text rest ended;
       reads = ap (λ (o : Option (List Token)). o >>= read) words.1 ∙ ap read these ∙ here;
       words = line.0.0;
@@ -98,27 +102,28 @@ abbrev pub with_front : List Event → Result (List Event) ℕ → Result (List 
 with_front front (Ok events) = Ok (front ++ events)
 with_front front (Err bad) = Err bad
 
-pub bad_line : (number : ℕ) (rest : List ℕ) → 0 < length rest → by_line event_at rest ≡ None → events_at number (pieces rest) ≡ Err number
+pub bad_line : (edition : Edition) (number : ℕ) (rest : List ℕ) → 0 < length rest → by_line (event_at edition) rest ≡ None
+    → events_at edition number (pieces rest) ≡ Err number
 unfolding events_at
-bad_line number [] some none = absurd (omega arith)
-bad_line number (byte ∷ rest) some none =
-    let them = has_no_line event_at byte rest none in
-    ap (events_at number) them.2 ∙ ap (λ (o : Option Event). before_others number o (events_at (number + 1) them.1)) them.3
+bad_line edition number [] some none = absurd (omega arith)
+bad_line edition number (byte ∷ rest) some none =
+    let them = has_no_line (event_at edition) byte rest none in
+    ap (events_at edition number) them.2 ∙ ap (λ (o : Option Event). before_others number o (events_at edition (number + 1) them.1)) them.3
 
-pub good_line : (number : ℕ) (rest behind : List ℕ) (event : Event) → by_line event_at rest ≡ Some (event, behind)
-    → events_at number (pieces rest) ≡ before_others number (Some event) (events_at (number + 1) (pieces behind))
+pub good_line : (edition : Edition) (number : ℕ) (rest behind : List ℕ) (event : Event) → by_line (event_at edition) rest ≡ Some (event, behind)
+    → events_at edition number (pieces rest) ≡ before_others number (Some event) (events_at edition (number + 1) (pieces behind))
 unfolding events_at
-good_line number rest behind event some =
-    let it = has_line event_at rest event behind some in
-    ap (events_at number) it.pieces_are ∙ ap (λ (o : Option Event). before_others number o (events_at (number + 1) (pieces behind))) it.reads
+good_line edition number rest behind event some =
+    let it = has_line (event_at edition) rest event behind some in
+    ap (events_at edition number) it.pieces_are ∙ ap (λ (o : Option Event). before_others number o (events_at edition (number + 1) (pieces behind))) it.reads
 
-pub line_shorter : (rest behind : List ℕ) (event : Event) → by_line event_at rest ≡ Some (event, behind) → length behind < length rest
-line_shorter rest behind event some = (has_line event_at rest event behind some).shorter
+pub line_shorter : (edition : Edition) (rest behind : List ℕ) (event : Event) → by_line (event_at edition) rest ≡ Some (event, behind) → length behind < length rest
+line_shorter edition rest behind event some = (has_line (event_at edition) rest event behind some).shorter
 
-pub no_line : (number : ℕ) (rest : List ℕ) → length rest ≡ 0 → events_at number (pieces rest) ≡ Ok []
+pub no_line : (edition : Edition) (number : ℕ) (rest : List ℕ) → length rest ≡ 0 → events_at edition number (pieces rest) ≡ Ok []
 unfolding events_at pieces
-no_line number [] none = refl
-no_line number (byte ∷ rest) none = absurd (omega arith)
+no_line edition number [] none = refl
+no_line edition number (byte ∷ rest) none = absurd (omega arith)
 
 -- one more event in front
 pub joined : (front : List Event) (event : Event) (number : ℕ) (later : Result (List Event) ℕ)
@@ -140,25 +145,42 @@ pub short_text : (text : List ℕ) → length text ≤ MOST_INPUT → trace_at t
 unfolding trace_at
 short_text text short = rw (le-ltb MOST_INPUT (length text) short) refl
 
-pub bad_head : (text : List ℕ) → by_line head_at text ≡ None → lines_at (pieces text) ≡ Err 1
-unfolding lines_at pieces
-bad_head [] none = refl
-bad_head (byte ∷ text) none =
+pub bad_head : (edition : Edition) (text : List ℕ) → by_line head_at text ≡ None → headed_at edition (pieces text) ≡ Err (head_number edition)
+unfolding headed_at pieces
+bad_head edition [] none = refl
+bad_head edition (byte ∷ text) none =
     let them = has_no_line head_at byte text none in
-    ap lines_at them.2 ∙ ap (λ (o : Option (ℕ × ℕ)). below_head o (events_at 2 them.1)) them.3
+    ap (headed_at edition) them.2 ∙ ap (λ (o : Option (ℕ × ℕ)). below_head edition o (events_at edition (first_number edition) them.1)) them.3
 
-pub good_head : (text behind : List ℕ) (head : ℕ × ℕ) → by_line head_at text ≡ Some (head, behind)
-    → lines_at (pieces text) ≡ below_head (Some head) (events_at 2 (pieces behind))
-unfolding lines_at
-good_head text behind head some =
+pub good_head : (edition : Edition) (text behind : List ℕ) (head : ℕ × ℕ) → by_line head_at text ≡ Some (head, behind)
+    → headed_at edition (pieces text) ≡ below_head edition (Some head) (events_at edition (first_number edition) (pieces behind))
+unfolding headed_at
+good_head edition text behind head some =
     let it = has_line head_at text head behind some in
-    ap lines_at it.pieces_are ∙ ap (λ (o : Option (ℕ × ℕ)). below_head o (events_at 2 (pieces behind))) it.reads
+    ap (headed_at edition) it.pieces_are
+    ∙ ap (λ (o : Option (ℕ × ℕ)). below_head edition o (events_at edition (first_number edition) (pieces behind))) it.reads
+
+-- a text without a mark begins with its head
+pub no_mark : (text : List ℕ) → by_line mark_at text ≡ None → lines_at (pieces text) ≡ headed_at editions.One (pieces text)
+unfolding lines_at headed_at pieces
+no_mark [] none = refl
+no_mark (byte ∷ text) none =
+    let them = has_no_line mark_at byte text none in
+    ap lines_at them.2 ∙ ap (λ (o : Option Edition). below_mark o them.0 them.1) them.3 ∙ ap (headed_at editions.One) (sym them.2)
+
+-- behind a mark stands the head
+pub has_mark : (text behind : List ℕ) (edition : Edition) → by_line mark_at text ≡ Some (edition, behind) → lines_at (pieces text) ≡ headed_at edition (pieces behind)
+unfolding lines_at
+has_mark text behind edition some =
+    let it = has_line mark_at text edition behind some in
+    ap lines_at it.pieces_are ∙ ap (λ (o : Option Edition). below_mark o ((cut 10 text).0, true) (pieces behind)) it.reads
 
 -- a fault in the events is the fault of the trace
-pub refused_below : (fault : Fault) (head : ℕ × ℕ) (events : Result (List Event) ℕ) → Refuses fault events → Refuses fault (below_head (Some head) events)
-refused_below faults.OutOfMemory head events h = tt
-refused_below (faults.BadTrace bad reasons.NotALine) head events h = ap (below_head (Some head)) h
-refused_below _ head events h = absurd h
+pub refused_below : (edition : Edition) (fault : Fault) (head : ℕ × ℕ) (events : Result (List Event) ℕ) → Refuses fault events
+    → Refuses fault (below_head edition (Some head) events)
+refused_below edition faults.OutOfMemory head events h = tt
+refused_below edition (faults.BadTrace bad reasons.NotALine) head events h = ap (below_head edition (Some head)) h
+refused_below edition _ head events h = absurd h
 
 -- a fault told of one reading is that of an equal one
 pub refused_same : {X : Type 0} (fault : Fault) (a b : Result X ℕ) → a ≡ b → Refuses fault a → Refuses fault b

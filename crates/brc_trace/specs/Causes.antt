@@ -2,12 +2,15 @@
 use Rattle.std.specs.Prelude.{◌≡◌, ◌≤◌, ℕ, ◌+◌, ◌-◌, ◌==◌, Bool, true, false, if◌then◌else◌, List, [], ◌∷◌, length, map, Option, Some, None, is_some, slice_index_or}
 use Rattle.std.specs.Char.{is_ascii_digit}
 use Rattle.std.specs.List.{list_any}
+use Rattle.brc_runs.specs.declared.edition.Edition.{Edition}
+use Rattle.brc_runs.specs.declared.edition.Edition.TheVariants as editions
 use Rattle.brc_text.specs.declared.keyword.Keyword.{Keyword}
 use Rattle.brc_text.specs.declared.keyword.Keyword.TheVariants as words
 use Rattle.brc_text.specs.declared.token.Token.{Token}
 use Rattle.brc_text.specs.declared.token.Token.TheVariants as tokens
 use Rattle.brc_text.specs.Lines.{cut, tokens_at, pieces}
-use Rattle.brc_trace.specs.Events.{step_at}
+use Rattle.brc_trace.specs.Events.{is_two, step_at}
+use Rattle.brc_trace.specs.Traces.{head_number, mark_at, by_words}
 use Rattle.brc_trace.specs.declared.causes.Cause.{Cause}
 use Rattle.brc_trace.specs.declared.causes.Cause.TheVariants as causes
 
@@ -36,38 +39,40 @@ pub record HasLeadingZero (line : List ℕ) : Type 0 where
 
 -- ---- the words of a line
 
--- the words with which events go by, behind their thread
-abbrev pub is_step_word : Keyword → Bool
-is_step_word words.Claim = true
-is_step_word words.Local = true
-is_step_word words.Shared = true
-is_step_word words.Born = true
-is_step_word words.Up = true
-is_step_word words.Down = true
-is_step_word words.See = true
-is_step_word words.Free = true
-is_step_word words.Untie = true
-is_step_word words.Zero = true
-is_step_word words.Shup = true
-is_step_word words.Shdown = true
-is_step_word words.Ask = true
-is_step_word words.Last = true
-is_step_word words.Enq = true
-is_step_word words.Drain = true
-is_step_word words.Add = true
-is_step_word words.Close = true
-is_step_word words.Nudge = true
-is_step_word words.Wake = true
-is_step_word words.Lock = true
-is_step_word words.Unlock = true
-is_step_word words.Register = true
-is_step_word words.Gather = true
-is_step_word _ = false
+-- the words with which events of the edition go by, behind their thread
+abbrev pub is_step_word : Edition → Keyword → Bool
+is_step_word edition words.Claim = true
+is_step_word edition words.Local = true
+is_step_word edition words.Shared = true
+is_step_word edition words.Born = true
+is_step_word edition words.Up = true
+is_step_word edition words.Down = true
+is_step_word edition words.See = true
+is_step_word edition words.Free = true
+is_step_word edition words.Untie = true
+is_step_word edition words.Zero = true
+is_step_word edition words.Shup = true
+is_step_word edition words.Shdown = true
+is_step_word edition words.Ask = true
+is_step_word edition words.Last = true
+is_step_word edition words.Enq = true
+is_step_word edition words.Drain = true
+is_step_word edition words.Add = true
+is_step_word edition words.Close = true
+is_step_word edition words.Nudge = true
+is_step_word edition words.Wake = true
+is_step_word edition words.Lock = true
+is_step_word edition words.Unlock = true
+is_step_word edition words.Register = true
+is_step_word edition words.Gather = true
+is_step_word edition words.Offer = is_two edition
+is_step_word edition words.Open = is_two edition
+is_step_word edition _ = false
 
 -- the event's word, where the line begins with a number and such a word
-abbrev pub event_word : List Token → Option Keyword
-event_word (tokens.Number t ∷ tokens.Word word ∷ operands) = if is_step_word word then Some word else None
-event_word _ = None
+abbrev pub event_word : Edition → List Token → Option Keyword
+event_word edition (tokens.Number t ∷ tokens.Word word ∷ operands) = if is_step_word edition word then Some word else None
+event_word edition _ = None
 
 -- a number stands for any other in its place: 1 is in each range
 abbrev pub form : Token → Token
@@ -77,9 +82,9 @@ form (tokens.Place letter n) = tokens.Place letter 1
 form (tokens.Word word) = tokens.Word word
 
 -- the words are those of an event, but for the sizes of numbers
-abbrev pub has_form : List Token → Bool
-has_form (tokens.Number t ∷ tokens.Word word ∷ operands) = is_some (step_at word (map form operands))
-has_form _ = false
+abbrev pub has_form : Edition → List Token → Bool
+has_form edition (tokens.Number t ∷ tokens.Word word ∷ operands) = is_some (step_at edition word (map form operands))
+has_form edition _ = false
 
 -- ---- the cause
 
@@ -90,29 +95,41 @@ pub record Spells (IsSo : List Token → Type 0) (bytes : List ℕ) : Type 0 whe
   pub so : IsSo words
 
 -- the words have an event's word and not its form
-pub record LacksForm (word : Keyword) (words : List Token) : Type 0 where
-  pub begins : event_word words ≡ Some word
-  pub formless : has_form words ≡ false
+pub record LacksForm (edition : Edition) (word : Keyword) (words : List Token) : Type 0 where
+  pub begins : event_word edition words ≡ Some word
+  pub formless : has_form edition words ≡ false
 
--- This is so of the line with this number, by its bytes and whether a line feed ends it. It is told of bad lines alone: of
--- the first line that it is no head, and of one with the form of its event that a number is out of its range.
-abbrev pub IsCause : Cause → ℕ → List ℕ × Bool → Type 0
-IsCause causes.NoLineFeed number piece = piece.1 ≡ false
-IsCause causes.CarriageReturn number piece = list_any (λ byte. byte == 13) piece.0 ≡ true
-IsCause causes.Empty number piece = piece.0 ≡ []
-IsCause causes.WideSpace number piece = HasWideSpace piece.0
-IsCause causes.LeadingZero number piece = HasLeadingZero piece.0
-IsCause causes.NotAHead number piece = number ≡ 1
-IsCause causes.NoWords number piece = tokens_at 8 piece.0 ≡ None
-IsCause causes.NotAnEvent number piece = Spells (λ words. event_word words ≡ None) piece.0
-IsCause causes.OutOfRange number piece = Spells (λ words. has_form words ≡ true) piece.0
-IsCause (causes.NotItsForm word) number piece = Spells (LacksForm word) piece.0
+-- This is so of the line with this number, by its bytes and whether a line feed ends it, in a trace of this edition. It is
+-- told of bad lines alone: of the head's line that it is no head, and of one with the form of its event that a number is
+-- out of its range.
+abbrev pub IsCause : Edition → Cause → ℕ → List ℕ × Bool → Type 0
+IsCause edition causes.NoLineFeed number piece = piece.1 ≡ false
+IsCause edition causes.CarriageReturn number piece = list_any (λ byte. byte == 13) piece.0 ≡ true
+IsCause edition causes.Empty number piece = piece.0 ≡ []
+IsCause edition causes.WideSpace number piece = HasWideSpace piece.0
+IsCause edition causes.LeadingZero number piece = HasLeadingZero piece.0
+IsCause edition causes.NotAHead number piece = number ≡ head_number edition
+IsCause edition causes.NoWords number piece = tokens_at 8 piece.0 ≡ None
+IsCause edition causes.NotAnEvent number piece = Spells (λ words. event_word edition words ≡ None) piece.0
+IsCause edition causes.OutOfRange number piece = Spells (λ words. has_form edition words ≡ true) piece.0
+IsCause edition (causes.NotItsForm word) number piece = Spells (LacksForm edition word) piece.0
 
--- ---- which line
+-- ---- which edition
 
 -- the text's first line, without its line feed, and whether a line feed ends it
 abbrev pub first_piece : List ℕ → List ℕ × Bool
 first_piece text = ((cut 10 text).0, is_some (cut 10 text).1)
+
+-- the edition of a trace whose first line is a mark, or none
+abbrev pub edition_marked : Option Edition → Edition
+edition_marked None = editions.One
+edition_marked (Some edition) = edition
+
+-- the edition that a text's first line tells, whatever stands behind it
+abbrev pub edition_at : List ℕ → Edition
+edition_at text = edition_marked (by_words mark_at (first_piece text))
+
+-- ---- which line
 
 -- the line with this number, from 1 on; behind the text's end nothing, without a line feed
 abbrev pub piece_at : ℕ → List ℕ → List ℕ × Bool

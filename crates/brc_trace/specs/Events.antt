@@ -1,6 +1,8 @@
 -- The words of each event, which are the grammar of a line, and the event that words spell.
 use Rattle.std.specs.Prelude.{ℕ, Bool, true, false, List, [], ◌∷◌, Option, Some, None, ◌==◌, ◌&&◌, if◌then◌else◌}
 use Rattle.brc_words.specs.Kinds.{is_mortal}
+use Rattle.brc_runs.specs.declared.edition.Edition.{Edition}
+use Rattle.brc_runs.specs.declared.edition.Edition.TheVariants as editions
 use Rattle.brc_runs.specs.declared.event.Event.{Event}
 use Rattle.brc_runs.specs.declared.event.Step.{Step}
 use Rattle.brc_runs.specs.declared.event.Step.TheVariants as steps
@@ -10,6 +12,11 @@ use Rattle.brc_text.specs.declared.token.Token.{Token}
 use Rattle.brc_text.specs.declared.token.Token.TheVariants as tokens
 use Rattle.brc_text.specs.Tokens.{◌>>=◌}
 use Rattle.brc_trace.specs.Operands.{kind_token, source_token, dropped_token, last_token, change_words, is_thread, is_cell, is_place, is_queue_word, fits_source, fits_dropped, fits_last, fits_change, number_at, kind_at, source_at, dropped_at, last_at, change_at, is_bare, one_of, two_of}
+
+-- the edition that has offers, and queue words that are opened again; all other events are in both
+abbrev pub is_two : Edition → Bool
+is_two editions.One = false
+is_two editions.Two = true
 
 -- ---- the words of an event: its thread, the word of its step, and the operands
 
@@ -38,38 +45,42 @@ step_words (steps.Lock k) = tokens.Word words.Lock ∷ tokens.Number k ∷ []
 step_words (steps.Unlock change) = tokens.Word words.Unlock ∷ change_words change
 step_words (steps.Register r) = tokens.Word words.Register ∷ tokens.Number r ∷ []
 step_words (steps.Gather r) = tokens.Word words.Gather ∷ tokens.Number r ∷ []
+step_words (steps.Offer c) = tokens.Word words.Offer ∷ tokens.Number c ∷ []
+step_words (steps.Reopen k) = tokens.Word words.Open ∷ tokens.Number k ∷ []
 
 abbrev pub event_words : Event → List Token
 event_words event = tokens.Number event.thread ∷ step_words event.step
 
 -- ---- the events that have a spelling
 
--- the operands are in their ranges
-abbrev pub fits_step : Step → Bool
-fits_step (steps.Claim c) = is_cell c
-fits_step (steps.InitLocal c) = is_cell c
-fits_step (steps.InitShared c) = is_cell c
-fits_step (steps.Birth c kind k) = is_cell c && (is_mortal kind && is_place k)
-fits_step (steps.LocalUp source j) = fits_source source && is_place j
-fits_step (steps.LocalDown dropped) = fits_dropped dropped
-fits_step (steps.SeeZero c) = is_cell c
-fits_step (steps.Free c) = is_cell c
-fits_step (steps.Untie c) = is_cell c
-fits_step (steps.MergeZero c) = is_cell c
-fits_step (steps.SharedUp source j) = fits_source source && is_place j
-fits_step (steps.SharedDown dropped) = fits_dropped dropped
-fits_step (steps.Ask dropped) = fits_dropped dropped
-fits_step (steps.LastDown dropped) = fits_last dropped
-fits_step (steps.Enqueue c) = is_cell c
-fits_step (steps.Drain k) = is_queue_word k
-fits_step (steps.MergeAdd c) = is_cell c
-fits_step (steps.Close k) = is_queue_word k
-fits_step (steps.Nudge q k) = is_thread q && is_queue_word k
-fits_step steps.Wake = true
-fits_step (steps.Lock k) = is_place k
-fits_step (steps.Unlock change) = fits_change change
-fits_step (steps.Register r) = is_thread r
-fits_step (steps.Gather r) = is_thread r
+-- the operands are in their ranges, and the step is one of the edition's
+abbrev pub fits_step : Edition → Step → Bool
+fits_step edition (steps.Claim c) = is_cell c
+fits_step edition (steps.InitLocal c) = is_cell c
+fits_step edition (steps.InitShared c) = is_cell c
+fits_step edition (steps.Birth c kind k) = is_cell c && (is_mortal kind && is_place k)
+fits_step edition (steps.LocalUp source j) = fits_source source && is_place j
+fits_step edition (steps.LocalDown dropped) = fits_dropped dropped
+fits_step edition (steps.SeeZero c) = is_cell c
+fits_step edition (steps.Free c) = is_cell c
+fits_step edition (steps.Untie c) = is_cell c
+fits_step edition (steps.MergeZero c) = is_cell c
+fits_step edition (steps.SharedUp source j) = fits_source source && is_place j
+fits_step edition (steps.SharedDown dropped) = fits_dropped dropped
+fits_step edition (steps.Ask dropped) = fits_dropped dropped
+fits_step edition (steps.LastDown dropped) = fits_last dropped
+fits_step edition (steps.Enqueue c) = is_cell c
+fits_step edition (steps.Drain k) = is_queue_word k
+fits_step edition (steps.MergeAdd c) = is_cell c
+fits_step edition (steps.Close k) = is_queue_word k
+fits_step edition (steps.Nudge q k) = is_thread q && is_queue_word k
+fits_step edition steps.Wake = true
+fits_step edition (steps.Lock k) = is_place k
+fits_step edition (steps.Unlock change) = fits_change change
+fits_step edition (steps.Register r) = is_thread r
+fits_step edition (steps.Gather r) = is_thread r
+fits_step edition (steps.Offer c) = is_two edition && is_cell c
+fits_step edition (steps.Reopen k) = is_two edition && is_queue_word k
 
 -- threads are registered and gathered by the root, and make all other steps themselves
 abbrev pub is_root_step : Step → Bool
@@ -80,8 +91,8 @@ is_root_step _ = false
 abbrev pub fits_thread : ℕ → Step → Bool
 fits_thread t step = if is_root_step step then t == 0 else is_thread t
 
-abbrev pub fits : Event → Bool
-fits event = fits_thread event.thread event.step && fits_step event.step
+abbrev pub fits : Edition → Event → Bool
+fits edition event = fits_thread event.thread event.step && fits_step edition event.step
 
 -- ---- the event that words spell
 
@@ -90,38 +101,40 @@ unfoldable pub birth_at : List Token → Option Step
 birth_at (a ∷ b ∷ d ∷ []) = number_at is_cell a >>= λ c. kind_at b >>= λ kind. number_at is_place d >>= λ k. Some (steps.Birth c kind k)
 birth_at _ = None
 
--- each step by its word
-abbrev pub step_at : Keyword → List Token → Option Step
-step_at words.Claim operands = one_of (number_at is_cell) operands >>= λ c. Some (steps.Claim c)
-step_at words.Local operands = one_of (number_at is_cell) operands >>= λ c. Some (steps.InitLocal c)
-step_at words.Shared operands = one_of (number_at is_cell) operands >>= λ c. Some (steps.InitShared c)
-step_at words.Born operands = birth_at operands
-step_at words.Up operands = two_of source_at (number_at is_place) operands >>= λ by. Some (steps.LocalUp by.0 by.1)
-step_at words.Down operands = one_of dropped_at operands >>= λ dropped. Some (steps.LocalDown dropped)
-step_at words.See operands = one_of (number_at is_cell) operands >>= λ c. Some (steps.SeeZero c)
-step_at words.Free operands = one_of (number_at is_cell) operands >>= λ c. Some (steps.Free c)
-step_at words.Untie operands = one_of (number_at is_cell) operands >>= λ c. Some (steps.Untie c)
-step_at words.Zero operands = one_of (number_at is_cell) operands >>= λ c. Some (steps.MergeZero c)
-step_at words.Shup operands = two_of source_at (number_at is_place) operands >>= λ by. Some (steps.SharedUp by.0 by.1)
-step_at words.Shdown operands = one_of dropped_at operands >>= λ dropped. Some (steps.SharedDown dropped)
-step_at words.Ask operands = one_of dropped_at operands >>= λ dropped. Some (steps.Ask dropped)
-step_at words.Last operands = one_of last_at operands >>= λ dropped. Some (steps.LastDown dropped)
-step_at words.Enq operands = one_of (number_at is_cell) operands >>= λ c. Some (steps.Enqueue c)
-step_at words.Drain operands = one_of (number_at is_queue_word) operands >>= λ k. Some (steps.Drain k)
-step_at words.Add operands = one_of (number_at is_cell) operands >>= λ c. Some (steps.MergeAdd c)
-step_at words.Close operands = one_of (number_at is_queue_word) operands >>= λ k. Some (steps.Close k)
-step_at words.Nudge operands = two_of (number_at is_thread) (number_at is_queue_word) operands >>= λ to. Some (steps.Nudge to.0 to.1)
-step_at words.Wake operands = if is_bare operands then Some steps.Wake else None
-step_at words.Lock operands = one_of (number_at is_place) operands >>= λ k. Some (steps.Lock k)
-step_at words.Unlock operands = change_at operands >>= λ change. Some (steps.Unlock change)
-step_at words.Register operands = one_of (number_at is_thread) operands >>= λ r. Some (steps.Register r)
-step_at words.Gather operands = one_of (number_at is_thread) operands >>= λ r. Some (steps.Gather r)
-step_at _ operands = None
+-- each step by its word; a word that the edition hasn't spells none
+abbrev pub step_at : Edition → Keyword → List Token → Option Step
+step_at edition words.Claim operands = one_of (number_at is_cell) operands >>= λ c. Some (steps.Claim c)
+step_at edition words.Local operands = one_of (number_at is_cell) operands >>= λ c. Some (steps.InitLocal c)
+step_at edition words.Shared operands = one_of (number_at is_cell) operands >>= λ c. Some (steps.InitShared c)
+step_at edition words.Born operands = birth_at operands
+step_at edition words.Up operands = two_of source_at (number_at is_place) operands >>= λ by. Some (steps.LocalUp by.0 by.1)
+step_at edition words.Down operands = one_of dropped_at operands >>= λ dropped. Some (steps.LocalDown dropped)
+step_at edition words.See operands = one_of (number_at is_cell) operands >>= λ c. Some (steps.SeeZero c)
+step_at edition words.Free operands = one_of (number_at is_cell) operands >>= λ c. Some (steps.Free c)
+step_at edition words.Untie operands = one_of (number_at is_cell) operands >>= λ c. Some (steps.Untie c)
+step_at edition words.Zero operands = one_of (number_at is_cell) operands >>= λ c. Some (steps.MergeZero c)
+step_at edition words.Shup operands = two_of source_at (number_at is_place) operands >>= λ by. Some (steps.SharedUp by.0 by.1)
+step_at edition words.Shdown operands = one_of dropped_at operands >>= λ dropped. Some (steps.SharedDown dropped)
+step_at edition words.Ask operands = one_of dropped_at operands >>= λ dropped. Some (steps.Ask dropped)
+step_at edition words.Last operands = one_of last_at operands >>= λ dropped. Some (steps.LastDown dropped)
+step_at edition words.Enq operands = one_of (number_at is_cell) operands >>= λ c. Some (steps.Enqueue c)
+step_at edition words.Drain operands = one_of (number_at is_queue_word) operands >>= λ k. Some (steps.Drain k)
+step_at edition words.Add operands = one_of (number_at is_cell) operands >>= λ c. Some (steps.MergeAdd c)
+step_at edition words.Close operands = one_of (number_at is_queue_word) operands >>= λ k. Some (steps.Close k)
+step_at edition words.Nudge operands = two_of (number_at is_thread) (number_at is_queue_word) operands >>= λ to. Some (steps.Nudge to.0 to.1)
+step_at edition words.Wake operands = if is_bare operands then Some steps.Wake else None
+step_at edition words.Lock operands = one_of (number_at is_place) operands >>= λ k. Some (steps.Lock k)
+step_at edition words.Unlock operands = change_at operands >>= λ change. Some (steps.Unlock change)
+step_at edition words.Register operands = one_of (number_at is_thread) operands >>= λ r. Some (steps.Register r)
+step_at edition words.Gather operands = one_of (number_at is_thread) operands >>= λ r. Some (steps.Gather r)
+step_at edition words.Offer operands = if is_two edition then (one_of (number_at is_cell) operands >>= λ c. Some (steps.Offer c)) else None
+step_at edition words.Open operands = if is_two edition then (one_of (number_at is_queue_word) operands >>= λ k. Some (steps.Reopen k)) else None
+step_at edition _ operands = None
 
 -- a step by the thread that may make it
 abbrev pub made_by : ℕ → Step → Option Event
 made_by t step = if fits_thread t step then Some (record { thread = t; step = step }) else None
 
-abbrev pub event_at : List Token → Option Event
-event_at (tokens.Number t ∷ tokens.Word word ∷ operands) = step_at word operands >>= made_by t
-event_at _ = None
+abbrev pub event_at : Edition → List Token → Option Event
+event_at edition (tokens.Number t ∷ tokens.Word word ∷ operands) = step_at edition word operands >>= made_by t
+event_at edition _ = None

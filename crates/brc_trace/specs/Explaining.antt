@@ -2,14 +2,14 @@
 use Rattle.std.specs.Prelude.{◌≡◌, ◌<◌, ℕ, ◌+◌, Bool, List, length, take, reverse, Option, Some, None, Result, Ok, Err}
 use Rattle.brc_words.specs.declared.limits.TheConstants.{MOST_INPUT}
 use Rattle.brc_runs.specs.declared.event.Event.{Event}
-use Rattle.brc_runs.specs.Heap.{Heap, opening}
+use Rattle.brc_runs.specs.Heap.{Heap, opening_in}
 use Rattle.brc_runs.specs.Runs.{IsRun, world_after}
 use Rattle.brc_core.specs.Replays.{IsFirstNotEnabled}
 use Rattle.brc_state.specs.Refusals.{refusal_of}
-use Rattle.brc_trace.specs.Causes.{IsCause, piece_at}
+use Rattle.brc_trace.specs.Causes.{IsCause, edition_at, piece_at}
 use Rattle.brc_trace.specs.Replaying.{IsBad}
 use Rattle.brc_trace.specs.Standing.{seen}
-use Rattle.brc_trace.specs.Traces.{Listing, trace_at}
+use Rattle.brc_trace.specs.Traces.{Listing, first_number, trace_at}
 use Rattle.brc_words.specs.declared.fault.Fault.{Fault}
 use Rattle.brc_words.specs.declared.fault.Fault.TheVariants as faults
 use Rattle.brc_words.specs.declared.fault.Reason.TheVariants as reasons
@@ -25,28 +25,28 @@ pub record WhyRefused (world : Heap) (event : Event) (line : ℕ) (told : Refuse
   pub refusal_is : refusal_of world event ≡ Some told.refusal
   pub standing_is : told.standing ≡ seen world event
 
--- the events before are a run, the next one isn't enabled where they lead, and it is told why; the first event has line 2
-pub record IsRefused (start : Heap) (events : List Event) (told : Refused) : Type 0 where
+-- the events before are a run, the next one isn't enabled where they lead, and it is told why; the first has this line
+pub record IsRefused (start : Heap) (number : ℕ) (events : List Event) (told : Refused) : Type 0 where
   pub at : ℕ
   pub first : IsFirstNotEnabled start events at
-  pub why : WhyRefused (world_after start (reverse (take at events))) first.event (at + 2) told
+  pub why : WhyRefused (world_after start (reverse (take at events))) first.event (at + number) told
 
 -- what is told of events: none where they are a run
-abbrev pub ExplainsEvents : Heap → List Event → Option Refused → Type 0
-ExplainsEvents start events None = IsRun start (reverse events)
-ExplainsEvents start events (Some told) = IsRefused start events told
+abbrev pub ExplainsEvents : Heap → ℕ → List Event → Option Refused → Type 0
+ExplainsEvents start number events None = IsRun start (reverse events)
+ExplainsEvents start number events (Some told) = IsRefused start number events told
 
 -- what is told of the bytes' trace
 pub record ExplainsTrace (bytes : List ℕ) (told : Option Refused) : Type 0 where
   pub trace : Listing
   pub spelled : trace_at bytes ≡ Ok trace
-  pub events : ExplainsEvents (opening trace.cells trace.local_limit) trace.events told
+  pub events : ExplainsEvents (opening_in trace.edition trace.cells trace.local_limit) (first_number trace.edition) trace.events told
 
 -- What is told of bytes: that they are too many, their least bad line and what is wrong with it, the first event that
 -- isn't enabled and why, or nothing where they are a trace whose events are a run.
 abbrev pub Explains : List ℕ → Option Why → Type 0
 Explains bytes (Some whys.TooLong) = MOST_INPUT < length bytes
-Explains bytes (Some (whys.Bad line cause)) = (trace_at bytes ≡ Err line) × IsCause cause line (piece_at line bytes)
+Explains bytes (Some (whys.Bad line cause)) = (trace_at bytes ≡ Err line) × IsCause (edition_at bytes) cause line (piece_at line bytes)
 Explains bytes (Some (whys.Refused told)) = ExplainsTrace bytes (Some told)
 Explains bytes None = ExplainsTrace bytes None
 

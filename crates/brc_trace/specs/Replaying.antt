@@ -6,27 +6,27 @@ use Rattle.brc_words.specs.declared.fault.Fault.TheVariants as faults
 use Rattle.brc_words.specs.declared.fault.Reason.{Reason}
 use Rattle.brc_words.specs.declared.fault.Reason.TheVariants as reasons
 use Rattle.brc_runs.specs.declared.event.Event.{Event}
-use Rattle.brc_runs.specs.Heap.{Heap, opening}
+use Rattle.brc_runs.specs.Heap.{Heap, opening_in}
 use Rattle.brc_runs.specs.Runs.{IsRun, world_after}
 use Rattle.brc_runs.specs.Holding.{live_count}
 use Rattle.brc_core.specs.Replays.{IsFirstNotEnabled}
-use Rattle.brc_trace.specs.Traces.{Listing, trace_at}
+use Rattle.brc_trace.specs.Traces.{Listing, first_number, trace_at}
 use Rattle.brc_trace.specs.Worlds.{world_text}
 
 -- the bytes spell a trace, its events are a run, and the world is the one that the run leads to
 pub record IsReplayed (bytes : List ℕ) (world : Heap) : Type 0 where
   pub trace : Listing
   pub spelled : trace_at bytes ≡ Ok trace
-  pub run : IsRun (opening trace.cells trace.local_limit) (reverse trace.events)
-  pub leads : world ≡ world_after (opening trace.cells trace.local_limit) (reverse trace.events)
+  pub run : IsRun (opening_in trace.edition trace.cells trace.local_limit) (reverse trace.events)
+  pub leads : world ≡ world_after (opening_in trace.edition trace.cells trace.local_limit) (reverse trace.events)
 
--- the bytes spell a trace, and the line is that of its first event that isn't enabled; the first event has line 2
+-- the bytes spell a trace, and the line is that of its first event that isn't enabled
 pub record IsNotEnabled (bytes : List ℕ) (line : ℕ) : Type 0 where
   pub trace : Listing
   pub spelled : trace_at bytes ≡ Ok trace
   pub at : ℕ
-  pub first : IsFirstNotEnabled (opening trace.cells trace.local_limit) trace.events at
-  pub counted : line ≡ at + 2
+  pub first : IsFirstNotEnabled (opening_in trace.edition trace.cells trace.local_limit) trace.events at
+  pub counted : line ≡ at + first_number trace.edition
 
 -- ---- from line to line
 
@@ -37,26 +37,26 @@ pub record AreMade (start : Heap) (read : Result (List Event) ℕ) (world : Heap
   pub run : IsRun start (reverse events)
   pub leads : world ≡ world_after start (reverse events)
 
--- the lines are read as events, and the line is that of the first that isn't enabled
-pub record AreRefused (start : Heap) (read : Result (List Event) ℕ) (line : ℕ) : Type 0 where
+-- the lines, of which the first has this number, are read as events, and the line is that of the first that isn't enabled
+pub record AreRefused (start : Heap) (number : ℕ) (read : Result (List Event) ℕ) (line : ℕ) : Type 0 where
   pub events : List Event
   pub spelled : read ≡ Ok events
   pub at : ℕ
   pub first : IsFirstNotEnabled start events at
-  pub counted : line ≡ at + 2
+  pub counted : line ≡ at + number
 
 -- what is told of an event that isn't enabled, by the lines behind it: a bad one is told before it
 abbrev pub told : ℕ → Result (List Event) ℕ → Fault
 told refused (Ok later) = faults.BadTrace refused reasons.NotEnabled
 told refused (Err bad) = faults.BadTrace bad reasons.NotALine
 
--- what becomes of a world by lines of events, by the answer
-abbrev pub Steps : Result (Unit {0}) Fault → Heap → Heap → Result (List Event) ℕ → Type 0
-Steps (Ok u) old new read = AreMade old read new
-Steps (Err faults.OutOfMemory) old new read = Unit {0}
-Steps (Err (faults.BadTrace line reasons.NotALine)) old new read = read ≡ Err line
-Steps (Err (faults.BadTrace line reasons.NotEnabled)) old new read = AreRefused old read line
-Steps (Err _) old new read = ⊥
+-- what becomes of a world by lines of events, of which the first has this number, by the answer
+abbrev pub Steps : Result (Unit {0}) Fault → Heap → Heap → ℕ → Result (List Event) ℕ → Type 0
+Steps (Ok u) old new number read = AreMade old read new
+Steps (Err faults.OutOfMemory) old new number read = Unit {0}
+Steps (Err (faults.BadTrace line reasons.NotALine)) old new number read = read ≡ Err line
+Steps (Err (faults.BadTrace line reasons.NotEnabled)) old new number read = AreRefused old number read line
+Steps (Err _) old new number read = ⊥
 
 -- ---- the whole
 

@@ -6,6 +6,8 @@ use Rattle.brc_words.specs.declared.owner.Owner.TheVariants as owners
 use Rattle.brc_words.specs.declared.state.State.{State}
 use Rattle.brc_words.specs.declared.state.State.TheVariants as states
 use Rattle.brc_runs.specs.declared.cell.Cell.{Cell}
+use Rattle.brc_runs.specs.declared.edition.Edition.{Edition}
+use Rattle.brc_runs.specs.declared.edition.Edition.TheVariants as editions
 use Rattle.brc_runs.specs.declared.row.Hand.{Hand}
 use Rattle.brc_runs.specs.declared.row.Hand.TheVariants as hands
 use Rattle.brc_runs.specs.declared.row.Phase.{Phase}
@@ -38,6 +40,7 @@ status_word statuses.Active = words.Active
 status_word statuses.Closing = words.Closing
 status_word statuses.Left = words.Left
 status_word statuses.Gathered = words.Gathered
+status_word statuses.Opening = words.Opening
 
 abbrev pub phase_word : Phase → Keyword
 phase_word phases.Claimed = words.Claimed
@@ -51,6 +54,8 @@ phase_word phases.Shut = words.Shut
 phase_word phases.Taking = words.Taking
 phase_word phases.Held = words.Held
 phase_word phases.Popping = words.Popping
+phase_word phases.Offered = words.Offered
+phase_word phases.Yielding = words.Yielding
 
 abbrev pub state_word : State → Keyword
 state_word states.Default = words.Default
@@ -136,6 +141,7 @@ is_over statuses.Active = false
 is_over statuses.Closing = false
 is_over statuses.Left = false
 is_over statuses.Gathered = true
+is_over statuses.Opening = false
 
 abbrev pub status_at : Heap → ℕ → Status
 status_at h t = status_of (row_at h t).stage (is_gathered h t)
@@ -171,6 +177,11 @@ object_text h c = if lives_at h c then object_line c (cell_at h c) ++ entries_te
 
 -- ---- the whole
 
+-- of edition One nothing is said
+abbrev pub edition_text : Edition → List ℕ
+edition_text editions.One = []
+edition_text editions.Two = line (tokens.Word words.Edition ∷ tokens.Number 2 ∷ [])
+
 abbrev pub world_line : ℕ → ℕ → List ℕ
 world_line cells limit = line (tokens.Word words.World ∷ tokens.Number cells ∷ tokens.Number limit ∷ [])
 
@@ -181,8 +192,9 @@ ledger_line ledger live =
 -- Threads have the numbers from 1 on.
 unfoldable pub world_text : Heap → List ℕ
 world_text h =
-    world_line (length h.cells) h.limit
+    edition_text h.edition
+    ++ (world_line (length h.cells) h.limit
     ++ (over (thread_text h) 1 (length h.rows - 1)
     ++ (entries_text GLOBALS (entries_at h GLOBALS)
     ++ (over (object_text h) 0 (length h.cells)
-    ++ ledger_line (ledgers_of h) (live_count h))))
+    ++ ledger_line (ledgers_of h) (live_count h)))))

@@ -1,10 +1,13 @@
 //! What is wrong with a line that isn't one of a trace.
 
 ghost use Rattle.std.specs.Prelude.{◌≡◌, ◌-◌, ℕ, List, true, Some, None, IfOk, IfSome, MatchOption, drop, map};
+ghost use Rattle.brc_runs.specs.declared.edition.Edition.{Edition as TheEdition};
 ghost use Rattle.brc_text.specs.Lines.{cut, tokens_at, pieces};
-ghost use Rattle.brc_trace.specs.Causes.{byte_at as byte_there, byte_before as byte_in_front, HasWideSpace, HasLeadingZero, is_step_word as is_of_a_step, event_word as word_of_event, form as form_of_word, has_form as have_form, IsCause, first_piece, piece_at};
+ghost use Rattle.brc_trace.specs.Causes.{byte_at as byte_there, byte_before as byte_in_front, HasWideSpace, HasLeadingZero, is_step_word as is_of_a_step, event_word as word_of_event, form as form_of_word, has_form as have_form, IsCause, edition_at, first_piece, piece_at};
 
-use crate::event_line::step_of;
+use crate::event_line::{is_two, step_of};
+use crate::reading::{head_number, read_mark};
+use brc_runs::Edition;
 use brc_text::{Keyword, Token, Words};
 use std::alloc::{AllocError, Allocator};
 
@@ -21,7 +24,7 @@ pub enum Cause {
     WideSpace,
     /// A number begins with a zero and goes on.
     LeadingZero,
-    /// It is the first line, and no head of a trace.
+    /// It is the first line, or the one below a mark, and no head of a trace.
     NotAHead,
     /// A word of it is none that a trace has, or it has more than 8 words.
     NoWords,
@@ -81,7 +84,7 @@ fn has_leading_zero(line: &[u8]) -> bool
 
 /// What is wrong with the bytes of a line, by no look at its words.
 fn cause_of_bytes(line: &[u8]) -> Option<Cause>
-    ensures { IfSome result (λ cause. (number : ℕ) → IsCause cause number (line.now, true)) }
+    ensures { IfSome result (λ cause. (edition : TheEdition) (number : ℕ) → IsCause edition cause number (line.now, true)) }
 {
     if line.contains(&b'\r') {
         Some(Cause::CarriageReturn)
@@ -98,45 +101,47 @@ fn cause_of_bytes(line: &[u8]) -> Option<Cause>
 
 // ---- by words
 
-/// Whether events go by this word.
-fn is_step_word(word: Keyword) -> bool
-    ensures { result ≡ is_of_a_step word }
+/// Whether events of the edition go by this word.
+fn is_step_word(edition: Edition, word: Keyword) -> bool
+    ensures { result ≡ is_of_a_step edition word }
 {
-    matches!(
-        word,
+    match word {
         Keyword::Claim
-            | Keyword::Local
-            | Keyword::Shared
-            | Keyword::Born
-            | Keyword::Up
-            | Keyword::Down
-            | Keyword::See
-            | Keyword::Free
-            | Keyword::Untie
-            | Keyword::Zero
-            | Keyword::Shup
-            | Keyword::Shdown
-            | Keyword::Ask
-            | Keyword::Last
-            | Keyword::Enq
-            | Keyword::Drain
-            | Keyword::Add
-            | Keyword::Close
-            | Keyword::Nudge
-            | Keyword::Wake
-            | Keyword::Lock
-            | Keyword::Unlock
-            | Keyword::Register
-            | Keyword::Gather
-    )
+        | Keyword::Local
+        | Keyword::Shared
+        | Keyword::Born
+        | Keyword::Up
+        | Keyword::Down
+        | Keyword::See
+        | Keyword::Free
+        | Keyword::Untie
+        | Keyword::Zero
+        | Keyword::Shup
+        | Keyword::Shdown
+        | Keyword::Ask
+        | Keyword::Last
+        | Keyword::Enq
+        | Keyword::Drain
+        | Keyword::Add
+        | Keyword::Close
+        | Keyword::Nudge
+        | Keyword::Wake
+        | Keyword::Lock
+        | Keyword::Unlock
+        | Keyword::Register
+        | Keyword::Gather => true,
+        Keyword::Offer => is_two(edition),
+        Keyword::Open => is_two(edition),
+        _ => false,
+    }
 }
 
 /// The event's word, where the line begins with a number and such a word.
-fn event_word(words: &[Token]) -> Option<Keyword>
-    ensures { result ≡ word_of_event words.now }
+fn event_word(edition: Edition, words: &[Token]) -> Option<Keyword>
+    ensures { result ≡ word_of_event edition words.now }
 {
     match words {
-        [Token::Number(_), Token::Word(word), ..] if is_step_word(*word) => Some(*word),
+        [Token::Number(_), Token::Word(word), ..] if is_step_word(edition, *word) => Some(*word),
         _ => None,
     }
 }
@@ -160,28 +165,32 @@ fn forms<A: Allocator>(alloc: A, words: &[Token]) -> Result<Vec<Token, A>, Alloc
     words.iter().map(|word| form(*word)).collect(alloc)
 }
 
-/// Whether the words are those of an event, but for the sizes of numbers.
-fn has_form<A: Allocator>(alloc: A, words: &[Token]) -> Result<bool, AllocError>
-    ensures { IfOk result (λ has. has ≡ have_form words.now) }
+/// Whether the words are those of an event of the edition, but for the sizes of numbers.
+fn has_form<A: Allocator>(alloc: A, edition: Edition, words: &[Token]) -> Result<bool, AllocError>
+    ensures { IfOk result (λ has. has ≡ have_form edition words.now) }
 {
     match words {
         [Token::Number(_), Token::Word(word), operands @ ..] => {
             let forms = forms(alloc, operands)?;
-            Ok(step_of(*word, forms.as_slice()).is_some())
+            Ok(step_of(edition, *word, forms.as_slice()).is_some())
         }
         _ => Ok(false),
     }
 }
 
 /// What is wrong with the words of a line that is no event's.
-fn cause_of_words<A: Allocator>(alloc: A, words: &[Token]) -> Result<Cause, AllocError>
+fn cause_of_words<A: Allocator>(
+    alloc: A,
+    edition: Edition,
+    words: &[Token],
+) -> Result<Cause, AllocError>
     ensures { IfOk result (λ cause. (number : ℕ) (bytes : List ℕ) → tokens_at 8 bytes ≡ Some words.now →
-        IsCause cause number (bytes, true)) }
+        IsCause edition cause number (bytes, true)) }
 {
-    let Some(word) = event_word(words) else {
+    let Some(word) = event_word(edition, words) else {
         return Ok(Cause::NotAnEvent);
     };
-    if has_form(alloc, words)? {
+    if has_form(alloc, edition, words)? {
         Ok(Cause::OutOfRange)
     } else {
         Ok(Cause::NotItsForm(word))
@@ -227,8 +236,13 @@ fn text_from(text: &[u8], number: u32) -> &[u8]
 }
 
 /// What is wrong with the text's first line, which has this number and is bad.
-fn cause_of_line<A: Allocator>(alloc: A, text: &[u8], number: u32) -> Result<Cause, AllocError>
-    ensures { IfOk result (λ cause. IsCause cause number (first_piece text.now)) }
+fn cause_of_line<A: Allocator>(
+    alloc: A,
+    edition: Edition,
+    text: &[u8],
+    number: u32,
+) -> Result<Cause, AllocError>
+    ensures { IfOk result (λ cause. IsCause edition cause number (first_piece text.now)) }
 {
     let (line, behind) = first_line(text);
     let Some(_) = behind else {
@@ -237,14 +251,25 @@ fn cause_of_line<A: Allocator>(alloc: A, text: &[u8], number: u32) -> Result<Cau
     if let Some(cause) = cause_of_bytes(line) {
         return Ok(cause);
     }
-    if number == 1 {
+    if number == head_number(edition) {
         return Ok(Cause::NotAHead);
     }
     let mut words = Words::new();
     let Some(_) = words.read(text) else {
         return Ok(Cause::NoWords);
     };
-    cause_of_words(alloc, words.tokens())
+    cause_of_words(alloc, edition, words.tokens())
+}
+
+/// The edition that the text's first line tells.
+fn edition_of(text: &[u8]) -> Edition
+    ensures { result ≡ edition_at text.now }
+{
+    let mut words = Words::new();
+    match read_mark(&mut words, text) {
+        Some((edition, _)) => edition,
+        None => Edition::One,
+    }
 }
 
 /// What is wrong with the line that has this number, which is bad.
@@ -253,7 +278,7 @@ pub(crate) fn cause_of<A: Allocator>(
     text: &[u8],
     number: u32,
 ) -> Result<Cause, AllocError>
-    ensures { IfOk result (λ cause. IsCause cause number (piece_at number text.now)) }
+    ensures { IfOk result (λ cause. IsCause (edition_at text.now) cause number (piece_at number text.now)) }
 {
-    cause_of_line(alloc, text_from(text, number), number)
+    cause_of_line(alloc, edition_of(text), text_from(text, number), number)
 }

@@ -6,14 +6,14 @@ ghost use Rattle.brc_text.specs.Lines.{line as spelled};
 ghost use Rattle.brc_text.specs.Puts.{Puts};
 ghost use Rattle.brc_text.specs.declared.keyword.Keyword.TheVariants as words;
 ghost use Rattle.brc_trace.specs.Operands.{change_words};
-ghost use Rattle.brc_trace.specs.Events.{birth_at, step_at, is_root_step as is_of_the_root, made_by, event_at, event_words};
+ghost use Rattle.brc_trace.specs.Events.{birth_at, step_at, is_root_step as is_of_the_root, made_by, event_at, event_words, is_two as has_offers};
 ghost use Rattle.brc_trace.specs.Traces.{by_line};
 
 use crate::operands::{
     both, cell_of, change_of, dropped_of, dropped_token, is_bare, is_thread, kind_of, last_of,
     last_token, only, place_of, queue_word_of, source_of, source_token, thread_of, word_of_kind,
 };
-use brc_runs::{Change, Event, Step};
+use brc_runs::{Change, Edition, Event, Step};
 use brc_text::{Keyword, Token, Words, put_line};
 use brc_words::Fault;
 use std::io::Write;
@@ -36,10 +36,21 @@ fn birth_of(operands: &[Token]) -> Option<Step>
     }
 }
 
-/// The step that a word and the operands behind it spell; none where they spell none.
+/// Whether the edition has offers, and queue words that are opened again.
 #[inline(always)]
-pub(crate) fn step_of(word: Keyword, operands: &[Token]) -> Option<Step>
-    ensures { result ≡ step_at word operands.now }
+pub(crate) fn is_two(edition: Edition) -> bool
+    ensures { result ≡ has_offers edition }
+{
+    match edition {
+        Edition::One => false,
+        Edition::Two => true,
+    }
+}
+
+/// The step of the edition that a word and the operands behind it spell; none where they spell none.
+#[inline(always)]
+pub(crate) fn step_of(edition: Edition, word: Keyword, operands: &[Token]) -> Option<Step>
+    ensures { result ≡ step_at edition word operands.now }
 {
     match word {
         Keyword::Up => {
@@ -90,6 +101,20 @@ pub(crate) fn step_of(word: Keyword, operands: &[Token]) -> Option<Step>
         Keyword::Unlock => Some(Step::Unlock(change_of(operands)?)),
         Keyword::Register => Some(Step::Register(thread_of(only(operands)?)?)),
         Keyword::Gather => Some(Step::Gather(thread_of(only(operands)?)?)),
+        Keyword::Offer => {
+            if is_two(edition) {
+                Some(Step::Offer(cell_of(only(operands)?)?))
+            } else {
+                None
+            }
+        }
+        Keyword::Open => {
+            if is_two(edition) {
+                Some(Step::Reopen(queue_word_of(only(operands)?)?))
+            } else {
+                None
+            }
+        }
         _ => None,
     }
 }
@@ -120,30 +145,34 @@ fn made_by(thread: u64, step: Step) -> Option<Event>
     }
 }
 
-/// The event that the words spell; none where they spell none.
+/// The event of the edition that the words spell; none where they spell none.
 #[inline(always)]
-fn event_of_words(words: &[Token]) -> Option<Event>
-    ensures { result ≡ event_at words.now }
+fn event_of_words(edition: Edition, words: &[Token]) -> Option<Event>
+    ensures { result ≡ event_at edition words.now }
 {
     match words {
         [Token::Number(thread), Token::Word(word), operands @ ..] => {
-            made_by(*thread, step_of(*word, operands)?)
+            made_by(*thread, step_of(edition, *word, operands)?)
         }
         _ => None,
     }
 }
 
 /// Reads the event of the text's first line, and answers what stands behind that line; none where it is no line of an
-/// event.
+/// event of the edition.
 #[inline(always)]
-pub(crate) fn read_event<'t>(words: &mut Words, text: &'t [u8]) -> Option<(Event, &'t [u8])>
-    ensures { MatchOption result (by_line event_at text.now ≡ None)
-        (λ found. by_line event_at text.now ≡ Some (found.0, found.1.now)) }
+pub(crate) fn read_event<'t>(
+    edition: Edition,
+    words: &mut Words,
+    text: &'t [u8],
+) -> Option<(Event, &'t [u8])>
+    ensures { MatchOption result (by_line (event_at edition) text.now ≡ None)
+        (λ found. by_line (event_at edition) text.now ≡ Some (found.0, found.1.now)) }
 {
     let Some(behind) = words.read(text) else {
         return None;
     };
-    let Some(event) = event_of_words(words.tokens()) else {
+    let Some(event) = event_of_words(edition, words.tokens()) else {
         return None;
     };
     Some((event, behind))
@@ -295,5 +324,7 @@ pub fn put_event<W: Write>(writer: &mut W, event: Event) -> Result<(), Fault>
             put_one(writer, thread, Keyword::Register, number(registered))
         }
         Step::Gather(gathered) => put_one(writer, thread, Keyword::Gather, number(gathered)),
+        Step::Offer(cell) => put_one(writer, thread, Keyword::Offer, number(cell)),
+        Step::Reopen(word) => put_one(writer, thread, Keyword::Open, number(word)),
     }
 }

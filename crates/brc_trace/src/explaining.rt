@@ -2,14 +2,15 @@
 
 ghost use Rattle.std.specs.Prelude.{◌≡◌, ◌≤◌, ◌+◌, IfOk, IfErr, IfSome, Some, None, take, length, false};
 ghost use Rattle.brc_words.specs.declared.limits.TheConstants.{MOST_INPUT};
-ghost use Rattle.brc_runs.specs.Heap.{Heap, opening};
+ghost use Rattle.brc_runs.specs.Heap.{Heap, opening_in};
 ghost use Rattle.brc_runs.specs.Steps.{enabled};
 ghost use Rattle.brc_trace.specs.Explaining.{WhyRefused, ExplainsEvents, Explains, Agrees, fault_of_why, without_why};
 ghost use Rattle.brc_trace.specs.Replaying.{IsReplayed, Replays};
+ghost use Rattle.brc_trace.specs.Traces.{first_number};
 ghost use Rattle.brc_trace.specs.View.{listing};
 
 use crate::causes::{Cause, cause_of};
-use crate::reading::read_trace;
+use crate::reading::{head_number, read_trace};
 use crate::replaying::run_replay;
 use crate::standing::{Standing, seen};
 use crate::trace::Trace;
@@ -57,20 +58,22 @@ fn refused_here<A: Allocator + Copy>(world: &World<A>, event: Event, line: u32) 
     }
 }
 
-/// Why the first of these events that isn't enabled isn't; none where each is. The first has line 2.
+/// Why the first of these events that isn't enabled isn't; none where each is. The first has this line.
 fn explain_events<A: Allocator + Copy>(
     mut world: World<A>,
     events: &[Event],
+    first: u32,
 ) -> Result<Option<Refused>, AllocError>
-    requires { length events.now ≤ MOST_INPUT }
+    requires few { length events.now ≤ MOST_INPUT }
+    requires early { first ≤ 3 }
 
-    ensures { IfOk result (ExplainsEvents world events.now) }
+    ensures { IfOk result (ExplainsEvents world first events.now) }
 {
     for (at, event) in events.iter().enumerate() {
         match world.step(event) {
             Ok(()) => {}
             Err(StepFault::NotEnabled) => {
-                return Ok(Some(refused_here(&world, *event, at as u32 + 2)));
+                return Ok(Some(refused_here(&world, *event, at as u32 + first)));
             }
             Err(StepFault::Memory) => return Err(AllocError),
         }
@@ -85,10 +88,12 @@ fn explain_trace<A: Allocator + Copy>(
 ) -> Result<Option<Refused>, AllocError>
     requires { length trace.now.events.items ≤ MOST_INPUT }
 
-    ensures { IfOk result (ExplainsEvents (opening trace.now.cells trace.now.local_limit) trace.now.events.items) }
+    ensures { IfOk result (ExplainsEvents (opening_in trace.now.edition trace.now.cells trace.now.local_limit)
+        (first_number trace.now.edition) trace.now.events.items) }
 {
-    match World::new(alloc, trace.cells, trace.local_limit) {
-        Ok(world) => explain_events(world, trace.events.as_slice()),
+    let first = head_number(trace.edition) + 1;
+    match World::opening(alloc, trace.cells, trace.local_limit, trace.edition) {
+        Ok(world) => explain_events(world, trace.events.as_slice(), first),
         Err(_) => Err(AllocError),
     }
 }

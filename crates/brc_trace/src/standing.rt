@@ -156,6 +156,8 @@ fn meant_cell<A: Allocator + Copy>(world: &World<A>, thread: u32, step: Step) ->
         Step::Unlock(_) => locked_cell(world, thread),
         Step::Register(_) => None,
         Step::Gather(_) => None,
+        Step::Offer(cell) => Some(cell),
+        Step::Reopen(_) => None,
     }
 }
 

@@ -5,11 +5,11 @@ ghost use Rattle.brc_runs.specs.Heap.{cell_at, entries_at};
 ghost use Rattle.brc_runs.specs.Holding.{lives_at, live_count};
 ghost use Rattle.brc_core.specs.Readings.{ledgers_of};
 ghost use Rattle.brc_text.specs.Puts.{Puts};
-ghost use Rattle.brc_trace.specs.Worlds.{over, state_word, count_token, owner_number, local_token, entries_text, object_line, object_text, thread_text, world_line, ledger_line, world_text};
+ghost use Rattle.brc_trace.specs.Worlds.{over, state_word, count_token, owner_number, local_token, entries_text, object_line, object_text, thread_text, edition_text, world_line, ledger_line, world_text};
 
 use crate::operands::word_of_kind;
 use crate::world_thread::put_thread;
-use brc_core::World;
+use brc_core::{Edition, World};
 use brc_text::{Keyword, Token, put_line};
 use brc_words::{Fault, GLOBALS, Kind, Owner, State};
 use std::alloc::Allocator;
@@ -152,6 +152,16 @@ fn put_threads<A: Allocator + Copy, W: Write>(world: &World<A>, writer: &mut W) 
     Ok(())
 }
 
+/// Writes the edition of the heap's events, unless it is the first.
+fn put_edition<W: Write>(writer: &mut W, edition: Edition) -> Result<(), Fault>
+    ensures { Puts (W.contents writer.old) (W.contents writer.new) result (edition_text edition) }
+{
+    match edition {
+        Edition::One => Ok(()),
+        Edition::Two => put_line(writer, &[Token::Word(Keyword::Edition), Token::Number(2)]),
+    }
+}
+
 /// Writes how many cells the heap has, and its local limit.
 fn put_head<A: Allocator + Copy, W: Write>(world: &World<A>, writer: &mut W) -> Result<(), Fault>
     ensures { Puts (W.contents writer.old) (W.contents writer.new) result (world_line (length world.now.cells) world.now.limit) }
@@ -189,6 +199,7 @@ pub fn write_world<A: Allocator + Copy, W: Write>(
 ) -> Result<(), Fault>
     ensures { Puts (W.contents writer.old) (W.contents writer.new) result (world_text world.now) }
 {
+    put_edition(writer, world.edition())?;
     put_head(world, writer)?;
     put_threads(world, writer)?;
     put_entries(world, writer, GLOBALS)?;

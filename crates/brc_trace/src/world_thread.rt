@@ -30,6 +30,7 @@ fn word_of_status(status: Status) -> Keyword
         Status::Closing => Keyword::Closing,
         Status::Left => Keyword::Left,
         Status::Gathered => Keyword::Gathered,
+        Status::Opening => Keyword::Opening,
     }
 }
 
@@ -48,6 +49,8 @@ fn word_of_phase(phase: Phase) -> Keyword
         Phase::Taking => Keyword::Taking,
         Phase::Held => Keyword::Held,
         Phase::Popping => Keyword::Popping,
+        Phase::Offered => Keyword::Offered,
+        Phase::Yielding => Keyword::Yielding,
     }
 }
 
@@ -70,6 +73,7 @@ fn is_over(status: Status) -> bool
         Status::Closing => false,
         Status::Left => false,
         Status::Gathered => true,
+        Status::Opening => false,
     }
 }
 

@@ -140,6 +140,64 @@ fn causes(rt: HostRuntime) -> Result<(), Fail> {
 }
 
 #[test]
+fn causes_by_format(rt: HostRuntime) -> Result<(), Fail> {
+    const CASES: &[Case] = &[
+        ("another format", "trace 1\nheap 512 1\n", "1: NotAHead"),
+        ("a mark alone", "trace 2\n", "2: NoLineFeed"),
+        ("few cells", "trace 2\nheap 511 1\n", "2: NotAHead"),
+        ("an empty head", "trace 2\n\n", "2: Empty"),
+        (
+            "an event that format 1 hasn't",
+            "heap 512 1\n1 offer 266\n",
+            "2: NotAnEvent",
+        ),
+        (
+            "another that it hasn't",
+            "heap 512 1\n1 open 0 0\n",
+            "2: NotAnEvent",
+        ),
+        (
+            "its word below a mark",
+            "trace 2\nheap 512 1\n1 open 0 0\n",
+            "3: NotItsForm(Open)",
+        ),
+        (
+            "its number below a mark",
+            "trace 2\nheap 512 1\n1 offer 65536\n",
+            "3: OutOfRange",
+        ),
+        (
+            "two marks",
+            "trace 2\nheap 512 1\ntrace 2\n",
+            "3: NotAnEvent",
+        ),
+    ];
+    are_told(&rt, rt.alloc(), CASES)
+}
+
+#[test]
+fn refusals_below_a_mark(rt: HostRuntime) -> Result<(), Fail> {
+    const CASES: &[Case] = &[
+        (
+            "not registered",
+            "trace 2\nheap 512 1\n1 wake\n",
+            "3: NotRegistered",
+        ),
+        (
+            "offered without an owner",
+            "trace 2\nheap 512 1\n0 register 1\n1 offer 266\n",
+            "4: Cell",
+        ),
+        (
+            "a word that is open",
+            "trace 2\nheap 512 1\n0 register 1\n1 open 0\n",
+            "4: Stage",
+        ),
+    ];
+    are_told(&rt, rt.alloc(), CASES)
+}
+
+#[test]
 fn refusals(rt: HostRuntime) -> Result<(), Fail> {
     const CASES: &[Case] = &[
         ("not next", "heap 512 1\n0 register 2\n", "2: NotNext"),

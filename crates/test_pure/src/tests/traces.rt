@@ -30,6 +30,8 @@ fn traces(rt: HostRuntime) {
     const CASES: &[(&str, &str)] = &[
         ("no event", "heap 512 1\n"),
         ("largest head", "heap 65536 4294967294\n"),
+        ("second format", "trace 2\nheap 512 1\n"),
+        ("largest offer", "trace 2\nheap 512 1\n64 offer 65535\n"),
         ("largest numbers", "heap 512 1\n64 up e1048575 65535\n"),
         ("does not fit the world", "heap 512 1\n1 up i266 0\n"),
         (
@@ -56,7 +58,13 @@ fn lines(rt: HostRuntime) {
         ("large limit", "heap 512 4294967295\n", 1),
         ("leading zero in the head", "heap 512 01\n", 1),
         ("head without its line feed", "heap 512 1", 1),
-        ("second format", "trace 2\nheap 512 1\n", 1),
+        ("another format", "trace 1\nheap 512 1\n", 1),
+        ("a third format", "trace 3\nheap 512 1\n", 1),
+        ("a mark without its number", "trace\nheap 512 1\n", 1),
+        ("leading zero in the mark", "trace 02\nheap 512 1\n", 1),
+        ("a mark of two numbers", "trace 2 2\nheap 512 1\n", 1),
+        ("a mark without its line feed", "trace 2", 1),
+        ("a mark below the head", "heap 512 1\ntrace 2\n", 2),
         ("an empty line", "heap 512 1\n\n0 register 1\n", 2),
         (
             "last line without its line feed",
@@ -88,6 +96,48 @@ fn lines(rt: HostRuntime) {
         ("kind of a line", "heap 512 1\n1 born 266 claim 0\n", 2),
         ("source of a drop", "heap 512 1\n1 up w0 1\n", 2),
         ("drop of a source", "heap 512 1\n1 down i0\n", 2),
+        ("an offer", "heap 512 1\n1 offer 266\n", 2),
+        ("an opened word", "heap 512 1\n1 open 0\n", 2),
+    ];
+    for &(case, text, line) in CASES {
+        stops_at(&rt, rt.alloc(), case, text.as_bytes(), line);
+    }
+}
+
+#[test]
+fn lines_below_a_mark(rt: HostRuntime) {
+    const CASES: &[(&str, &str, u32)] = &[
+        ("nothing", "trace 2\n", 2),
+        ("two marks", "trace 2\ntrace 2\nheap 512 1\n", 2),
+        ("no head", "trace 2\n0 register 1\n", 2),
+        ("few cells", "trace 2\nheap 511 1\n", 2),
+        ("leading zero in the head", "trace 2\nheap 0512 1\n", 2),
+        ("head without its line feed", "trace 2\nheap 512 1", 2),
+        (
+            "leading zero",
+            "trace 2\nheap 512 1\n0 register 1\n1 offer 0266\n",
+            4,
+        ),
+        (
+            "last line without its line feed",
+            "trace 2\nheap 512 1\n1 open 0",
+            3,
+        ),
+        (
+            "offered by the root",
+            "trace 2\nheap 512 1\n0 offer 266\n",
+            3,
+        ),
+        ("offered by a place", "trace 2\nheap 512 1\n1 offer f0\n", 3),
+        (
+            "offered cell 65536",
+            "trace 2\nheap 512 1\n1 offer 65536\n",
+            3,
+        ),
+        ("opened word 2048", "trace 2\nheap 512 1\n1 open 2048\n", 3),
+        ("two opened words", "trace 2\nheap 512 1\n1 open 0 1\n", 3),
+        ("thread 65", "trace 2\nheap 512 1\n65 open 0\n", 3),
+        ("a phase", "trace 2\nheap 512 1\n1 offered 266\n", 3),
     ];
     for &(case, text, line) in CASES {
         stops_at(&rt, rt.alloc(), case, text.as_bytes(), line);
@@ -97,10 +147,13 @@ fn lines(rt: HostRuntime) {
 /// The first line of the traces of one event.
 const HEAD: &str = "heap 512 1\n";
 
+/// The same in format 2.
+const MARKED_HEAD: &str = "trace 2\nheap 512 1\n";
+
 /// The head, and this line.
-fn below_head<R: AllocGlobal>(rt: &R, line: &str) -> Result<Vec<u8>, Fail> {
+fn below<R: AllocGlobal>(rt: &R, head: &str, line: &str) -> Result<Vec<u8>, Fail> {
     let mut text = Vec::new(rt.alloc());
-    text.extend_from_slice(HEAD.as_bytes())?;
+    text.extend_from_slice(head.as_bytes())?;
     text.extend_from_slice(line.as_bytes())?;
     Ok(text)
 }
@@ -148,15 +201,20 @@ fn neighbours_of_lines(rt: HostRuntime) -> Result<(), Fail> {
         ("no step", "1 h\n"),
     ];
     for &(case, line) in CASES {
-        let text = below_head(&rt, line)?;
+        let text = below(&rt, HEAD, line)?;
         stops_at(&rt, rt.alloc(), case, text.as_slice(), 2);
     }
     Ok(())
 }
 
-/// The event is read from its line, and written as that line.
-fn is_spelled<R: Abort + AllocGlobal>(rt: &R, line: &str, event: &str) -> Result<(), Fail> {
-    let text = below_head(rt, line)?;
+/// The event is read from its line below this head, and written as that line.
+fn is_spelled<R: Abort + AllocGlobal>(
+    rt: &R,
+    head: &str,
+    line: &str,
+    event: &str,
+) -> Result<(), Fail> {
+    let text = below(rt, head, line)?;
     let trace = read_trace(rt.alloc(), text.as_slice())
         .ok()
         .ok_or("a line of a trace")?;
@@ -249,7 +307,26 @@ fn each_step(rt: HostRuntime) -> Result<(), Fail> {
         ("0 gather 64\n", "[Event { thread: 0, step: Gather(64) }]"),
     ];
     for &(line, event) in CASES {
-        is_spelled(&rt, line, event)?;
+        is_spelled(&rt, HEAD, line, event)?;
+    }
+    Ok(())
+}
+
+#[test]
+fn steps_of_the_second_format(rt: HostRuntime) -> Result<(), Fail> {
+    const CASES: &[(&str, &str)] = &[
+        (
+            "1 offer 65535\n",
+            "[Event { thread: 1, step: Offer(65535) }]",
+        ),
+        (
+            "64 open 2047\n",
+            "[Event { thread: 64, step: Reopen(2047) }]",
+        ),
+        ("1 close 0\n", "[Event { thread: 1, step: Close(0) }]"),
+    ];
+    for &(line, event) in CASES {
+        is_spelled(&rt, MARKED_HEAD, line, event)?;
     }
     Ok(())
 }

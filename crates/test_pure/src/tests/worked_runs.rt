@@ -30,6 +30,22 @@ const ASKED: &str =
 const ASKED_FOR_THE_LAST: &str =
     "1 up i265 1\n1 lock 1\n1 unlock put 0\n2 up i265 0\n2 lock 0\n2 unlock take 0 1\n1 down f1\n2 ask f1\n";
 
+/// Thread 1 puts its only reference into the globals and gives the globals up; thread 2 takes it out and keeps it.
+const LEFT_TO_ANOTHER: &str =
+    "1 up i265 1\n1 lock 1\n1 unlock put 0\n2 up i265 0\n2 lock 0\n2 unlock take 0 1\n1 down f1\n";
+
+/// The mark of format 2, above all other lines.
+const MARK: &str = "trace 2\n";
+
+/// Thread 1 offers the list for a merge, and merges it.
+const HANDED_OVER: &str = "1 offer 266\n1 untie 266\n1 add 266\n";
+
+/// The number of a thread that has left is used again, and its queue words are opened.
+const COMES_AGAIN: &str = "0 gather 1\n0 register 1\n";
+
+const OPENED: &str =
+    "1 open 0\n1 open 1\n1 open 2\n1 open 3\n1 open 4\n1 open 5\n1 open 6\n1 open 7\n1 open 8\n1 open 9\n1 open 10\n1 open 11\n1 open 12\n1 open 13\n1 open 14\n1 open 15\n";
+
 /// Thread 1 leaves.
 const CLOSED: &str =
     "1 close 0\n1 close 1\n1 close 2\n1 close 3\n1 close 4\n1 close 5\n1 close 6\n1 close 7\n1 close 8\n1 close 9\n1 close 10\n1 close 11\n1 close 12\n1 close 13\n1 close 14\n1 close 15\n";
@@ -261,5 +277,116 @@ fn a_dead_list_lets_its_entries_go(rt: HostRuntime) -> Result<(), Fail> {
         true,
         "world 512 4294967294\nthread 1 active\nframe 1 3 265\nthread 2 active\nframe 2 0 265\nentry 265 0 267\nobject 267 list 1 1 0 default 1\nledger 3 2 1\n",
     )];
+    lead_there(&rt, RUNS)
+}
+
+/// What is left where thread 1 has handed its list over and is there, and thread 2 has the globals.
+const HANDED_OVER_AND_FREED: &str =
+    "edition 2\nworld 512 4294967294\nthread 1 active\nthread 2 active\nframe 2 0 265\nledger 1 1 0\n";
+
+#[test]
+fn a_list_is_handed_over(rt: HostRuntime) -> Result<(), Fail> {
+    const RUNS: &[Run] = &[
+        (
+            "its owner offers it and leaves, and whoever asked counts it down",
+            &[
+                MARK,
+                BORN,
+                ASKED_FOR_THE_LAST,
+                HANDED_OVER,
+                CLOSED,
+                "2 enq 266\n2 last h\n2 free 266\n",
+            ],
+            false,
+            "edition 2\nworld 512 4294967294\nthread 1 left\nthread 2 active\nframe 2 0 265\nledger 1 1 0\n",
+        ),
+        (
+            "the last reference goes behind the offer",
+            &[MARK, BORN, LEFT_TO_ANOTHER, "1 offer 266\n2 last f1\n"],
+            true,
+            "edition 2\nworld 512 4294967294\nthread 1 active\nhand 1 offered 266\nthread 2 active\nframe 2 0 265\nobject 266 list 1 1 -1 queued 0\nledger 1 0 1\n",
+        ),
+        (
+            "the offered list has no owner any more",
+            &[
+                MARK,
+                BORN,
+                LEFT_TO_ANOTHER,
+                "1 offer 266\n2 last f1\n1 untie 266\n",
+            ],
+            true,
+            "edition 2\nworld 512 4294967294\nthread 1 active\nhand 1 yielding 266\nthread 2 active\nframe 2 0 265\nobject 266 list 0 1 -1 queued 0\nledger 1 0 1\n",
+        ),
+        (
+            "the merge finds no reference, and whoever offered frees",
+            &[
+                MARK,
+                BORN,
+                LEFT_TO_ANOTHER,
+                "1 offer 266\n2 last f1\n1 untie 266\n1 add 266\n1 free 266\n",
+            ],
+            false,
+            HANDED_OVER_AND_FREED,
+        ),
+    ];
+    lead_there(&rt, RUNS)?;
+    stops_at(
+        &rt,
+        "an owner can't leave",
+        &[MARK, BORN, ASKED_FOR_THE_LAST, "1 close 0\n"],
+        17,
+    )
+}
+
+#[test]
+fn a_number_is_used_again(rt: HostRuntime) -> Result<(), Fail> {
+    const RUNS: &[Run] = &[
+        (
+            "one queue word is open again",
+            &[
+                MARK,
+                BORN,
+                ASKED_FOR_THE_LAST,
+                HANDED_OVER,
+                CLOSED,
+                "2 enq 266\n2 last h\n2 free 266\n",
+                COMES_AGAIN,
+                "1 open 0\n",
+            ],
+            false,
+            "edition 2\nworld 512 4294967294\nthread 1 opening\nthread 2 active\nframe 2 0 265\nledger 1 1 0\n",
+        ),
+        (
+            "the ledger has the births of both threads with this number",
+            &[
+                MARK,
+                BORN,
+                ASKED_FOR_THE_LAST,
+                HANDED_OVER,
+                CLOSED,
+                "2 enq 266\n2 last h\n2 free 266\n",
+                COMES_AGAIN,
+                OPENED,
+                "1 claim 266\n1 local 266\n1 shared 266\n1 born 266 int 0\n1 down f0\n1 see 266\n1 free 266\n",
+            ],
+            false,
+            "edition 2\nworld 512 4294967294\nthread 1 active\nthread 2 active\nframe 2 0 265\nledger 2 2 0\n",
+        ),
+        (
+            "an ask to the thread that left comes to the one with its number",
+            &[
+                MARK,
+                BORN,
+                ASKED_FOR_THE_LAST,
+                HANDED_OVER,
+                CLOSED,
+                COMES_AGAIN,
+                OPENED,
+                "2 enq 266\n2 nudge 1 8\n1 wake\n1 drain 8\n1 last q266\n1 free 266\n",
+            ],
+            false,
+            HANDED_OVER_AND_FREED,
+        ),
+    ];
     lead_there(&rt, RUNS)
 }

@@ -2,8 +2,8 @@
 
 use crate::tests::comparing::{all_hold, holds, same, same_at, shows};
 use brc_core::{
-    Change, Event, Hand, Ledger, Phase, Refusal, ReplayFault, Source, Status, Step, StepFault,
-    World, replay,
+    Change, Edition, Event, Hand, Ledger, Phase, Refusal, ReplayFault, Source, Status, Step,
+    StepFault, World, replay, replay_in,
 };
 use brc_trace::read_trace;
 use brc_words::{Fault, Kind, Owner, State};
@@ -67,6 +67,91 @@ fn a_replay_answers_a_world_or_a_fault(rt: HostRuntime) -> Result<(), Fault> {
         let found = registered(rt.alloc(), lines.as_bytes(), cells)?;
         shows(&rt, case, &found, wanted);
     }
+    Ok(())
+}
+
+/// Thread 2 asks for the only reference to a list of thread 1, which offers it, merges it and leaves. The asker frees it, and
+/// another thread 1 makes an integer and frees it.
+const COMES_AGAIN: &str =
+    "trace 2\nheap 512 4294967294\n0 register 1\n0 register 2\n1 claim 266\n1 local 266\n1 shared 266\n1 born 266 list 0\n1 up i265 1\n1 lock 1\n1 unlock put 0\n2 up i265 0\n2 lock 0\n2 unlock take 0 1\n1 down f1\n2 ask f1\n1 offer 266\n1 untie 266\n1 add 266\n1 close 0\n1 close 1\n1 close 2\n1 close 3\n1 close 4\n1 close 5\n1 close 6\n1 close 7\n1 close 8\n1 close 9\n1 close 10\n1 close 11\n1 close 12\n1 close 13\n1 close 14\n1 close 15\n2 enq 266\n2 last h\n2 free 266\n0 gather 1\n0 register 1\n1 open 0\n1 open 1\n1 open 2\n1 open 3\n1 open 4\n1 open 5\n1 open 6\n1 open 7\n1 open 8\n1 open 9\n1 open 10\n1 open 11\n1 open 12\n1 open 13\n1 open 14\n1 open 15\n1 claim 266\n1 local 266\n1 shared 266\n1 born 266 int 0\n1 down f0\n1 see 266\n1 free 266\n";
+
+/// Thread 1 offers the list while thread 2 holds it, which counts it down before the merge.
+const OFFERED: &str =
+    "trace 2\nheap 512 4294967294\n0 register 1\n0 register 2\n1 claim 266\n1 local 266\n1 shared 266\n1 born 266 list 0\n1 up i265 1\n1 lock 1\n1 unlock put 0\n2 up i265 0\n2 lock 0\n2 unlock take 0 1\n1 down f1\n1 offer 266\n2 last f1\n1 untie 266\n1 add 266\n1 free 266\n";
+
+/// Thread 1 doesn't offer it.
+const LEFT: &str =
+    "trace 2\nheap 512 4294967294\n0 register 1\n0 register 2\n1 claim 266\n1 local 266\n1 shared 266\n1 born 266 list 0\n1 up i265 1\n1 lock 1\n1 unlock put 0\n2 up i265 0\n2 lock 0\n2 unlock take 0 1\n1 down f1\n2 ask f1\n1 close 0\n";
+
+/// How a world of either edition ends: its ledgers, with those of the threads before, those of these alone, how far thread 1
+/// is, and how many objects live.
+type End = (Ledger, Ledger, Option<Status>, u32);
+
+/// The end behind the events of a trace in a heap of this edition, or why there is no world.
+fn end_in(
+    alloc: Global,
+    edition: Edition,
+    lines: &[u8],
+) -> Result<Result<End, ReplayFault>, Fault> {
+    let trace = read_trace(alloc, lines)?;
+    let events = trace.events.as_slice();
+    match replay_in(alloc, edition, events, trace.cells, trace.local_limit) {
+        Ok(world) => Ok(Ok((world.ledgers(), world.past(), world.status(1), world.live()))),
+        Err(fault) => Ok(Err(fault)),
+    }
+}
+
+/// The events lead to these ends in the two editions.
+fn they_end<R: Abort + AllocGlobal>(
+    rt: &R,
+    case: &str,
+    lines: &str,
+    in_one: &str,
+    in_two: &str,
+) -> Result<(), Fault> {
+    let one = end_in(rt.alloc(), Edition::One, lines.as_bytes())?;
+    let two = end_in(rt.alloc(), Edition::Two, lines.as_bytes())?;
+    shows(rt, case, &one, in_one);
+    shows(rt, case, &two, in_two);
+    Ok(())
+}
+
+#[test]
+fn a_replay_in_either_edition(rt: HostRuntime) -> Result<(), Fault> {
+    const CASES: &[(&str, &str, &str, &str)] = &[
+        (
+            "thread 1 offers its list and leaves, and its number is used again",
+            COMES_AGAIN,
+            "Err(NotEnabled { at: 14 })",
+            "Ok((Ledger { allocs: 2, frees: 2 }, Ledger { allocs: 1, frees: 0 }, Some(Active), 0))",
+        ),
+        (
+            "the last reference goes behind the offer",
+            OFFERED,
+            "Err(NotEnabled { at: 13 })",
+            "Ok((Ledger { allocs: 1, frees: 1 }, Ledger { allocs: 0, frees: 0 }, Some(Active), 0))",
+        ),
+        (
+            "an owner leaves",
+            LEFT,
+            "Ok((Ledger { allocs: 1, frees: 0 }, Ledger { allocs: 0, frees: 0 }, Some(Closing), 1))",
+            "Err(NotEnabled { at: 14 })",
+        ),
+    ];
+    for &(case, lines, in_one, in_two) in CASES {
+        they_end(&rt, case, lines, in_one, in_two)?;
+    }
+    Ok(())
+}
+
+#[test]
+fn a_world_of_the_second_edition(rt: HostRuntime) -> Result<(), Fault> {
+    let world = World::opening(rt.alloc(), 512, 7, Edition::Two)?;
+    shows(&rt, "edition", &world.edition(), "Two");
+    shows(&rt, "past", &world.past(), "Ledger { allocs: 0, frees: 0 }");
+    same(&rt, "registered", world.registered(), 0);
+    let found = World::opening(rt.alloc(), 511, 7, Edition::Two).err();
+    same(&rt, "few cells", found, Some(Fault::BadOptions));
     Ok(())
 }
 

@@ -10,7 +10,7 @@ returns-in_default-read g c =
 
 pub returns : goal.returns
 returns g c =
-    words_cause c.cause_of_words.result c.args.number c.args.text.now c.in-Some.field-0.now c.in-Some-read.field-0.now c.tokens.result.now
+    words_cause c.args.edition c.cause_of_words.result c.args.number c.args.text.now c.in-Some.field-0.now c.in-Some-read.field-0.now c.tokens.result.now
     (rw c.in-Some.is at c.first_line.ensures.behind)
     (subst (λ (words : List Token). first_line 8 c.args.text.now ≡ Some (words, c.in-Some-read.field-0.now)) (sym c.tokens.ensures) c.in-Some-read.ensures)
     c.cause_of_words.ensures

@@ -7,13 +7,13 @@ use Rattle.brc_runs.specs.declared.event.Step.TheVariants as steps
 use Rattle.brc_text.specs.Lines.{line}
 use Rattle.brc_text.proofs.PutLaws.{starts, goes_on, fails, ends}
 use Rattle.brc_trace.specs.Events.{event_words}
-use Rattle.brc_trace.specs.Traces.{Listing, trace_text, head_words}
+use Rattle.brc_trace.specs.Traces.{Listing, mark_text, headed_text, trace_text, head_words}
 use Rattle.brc_trace.specs.View.{listing}
 use Rattle.brc_trace.proofs.TextLaws.{events_text}
 use Rattle.brc_trace.proofs.writing.write_trace.Goals as goal
 
--- the head and then the events
-text_is : (trace : Listing) → trace_text trace ≡ line (head_words trace.cells trace.local_limit) ++ events_text trace.events
+-- the mark, the head, and then the events
+text_is : (trace : Listing) → trace_text trace ≡ mark_text trace.edition ++ headed_text trace
 unfolding trace_text
 text_is trace = refl
 
@@ -30,21 +30,32 @@ split_of read events i d same within =
     subst (λ (es : List Event). events_text (drop i es) ≡ line (event_words (get_or read i d)) ++ events_text (drop (i + 1) es)) same
     (events_left read i d within)
 
-pub returns-in_err-put_line : goal.returns-in_err-put_line
-returns-in_err-put_line g c =
+pub returns-in_err-put_mark : goal.returns-in_err-put_mark
+returns-in_err-put_mark g c =
     let p = err_from_is_err_and c.from_residual.result c.from_residual.ensures.1 in
     let trace = listing c.args.trace.now in
-    let left = c.in_err-put_line.ensures.1 in
+    rw (p.1, p.2) (
+      c.in_err-put_mark.ensures.0,
+      c.in_err-put_mark.ensures.1 ++ headed_text trace,
+      fails (mark_text trace.edition) (headed_text trace) (starts (g.W.Write.contents c.args.writer.now) (trace_text trace)) (text_is trace) c.in_err-put_mark.ensures.2,
+    )
+
+pub returns-in_err-put_line : goal.returns-in_err-put_line
+returns-in_err-put_line g c =
+    let p = err_from_is_err_and c.from_residual-in_err-put_line.result c.from_residual-in_err-put_line.ensures.1 in
+    let trace = listing c.args.trace.now in
+    let after_mark = goes_on _ (mark_text trace.edition) (headed_text trace) (starts (g.W.Write.contents c.args.writer.now) (trace_text trace)) (text_is trace) c.in_ok-put_mark.ensures in
     rw (p.1, p.2) (
       c.in_err-put_line.ensures.0,
-      left ++ events_text trace.events,
-      fails (line (head_words trace.cells trace.local_limit)) (events_text trace.events) (starts (g.W.Write.contents c.args.writer.now) (trace_text trace)) (text_is trace) c.in_err-put_line.ensures.2,
+      c.in_err-put_line.ensures.1 ++ events_text trace.events,
+      fails (line (head_words trace.cells trace.local_limit)) (events_text trace.events) after_mark refl c.in_err-put_line.ensures.2,
     )
 
 pub loop-event-init : goal.loop-event-init
 loop-event-init g c =
     let trace = listing c.args.trace.now in
-    goes_on _ (line (head_words trace.cells trace.local_limit)) (events_text trace.events) (starts (g.W.Write.contents c.args.writer.now) (trace_text trace)) (text_is trace) c.in_ok-put_line.ensures
+    let after_mark = goes_on _ (mark_text trace.edition) (headed_text trace) (starts (g.W.Write.contents c.args.writer.now) (trace_text trace)) (text_is trace) c.in_ok-put_mark.ensures in
+    goes_on _ (line (head_words trace.cells trace.local_limit)) (events_text trace.events) after_mark refl c.in_ok-put_line.ensures
 
 pub returns-in_err-put_event : goal.returns-in_err-put_event
 returns-in_err-put_event g c =
