@@ -27,6 +27,7 @@ HERE = os.path.dirname(os.path.abspath(__file__))
 NUMBERS = [b"0", b"1", b"2", b"8", b"15", b"16", b"31", b"32", b"64", b"65", b"255", b"265", b"266", b"267", b"511", b"512"]
 NUMBERS += [b"65535", b"65536", b"1000000", b"4294967294", b"4294967295", b"9223372036854775807", b"-1", b"-0", b"00", b"01", b"+1", b""]
 TRACE_WORDS = [b"f0", b"f1", b"e0", b"e1", b"i265", b"i266", b"w266", b"q266", b"h", b"keep", b"put", b"take", b"swap", b"list", b"text"]
+TRACE_WORDS += [b"trace", b"heap", b"offer", b"open", b"untie", b"add", b"close"]
 SCRIPT_WORDS = [b"r0", b"r1", b"r2", b"r15", b"r16", b"'x", b"'", b"list", b"box", b"end", b"text"]
 
 
@@ -82,7 +83,8 @@ def joined(rng, texts, is_trace):
     text = rng.choice(texts)
     if rng.randrange(4) == 0:
         other = rng.choice(texts)
-        text += other.partition(b"\n")[2] if is_trace else other
+        lines_above = 2 if other.startswith(b"trace") else 1
+        text += b"\n".join(other.split(b"\n")[lines_above:]) if is_trace else other
     return text
 
 

@@ -10,6 +10,7 @@ import sys
 
 MOST_BYTES = 16_777_216
 MOST_ENTRIES = 1_048_576
+MOST_REGISTRATIONS = 65_536
 GLOBALS = 265
 FIRST_MORTAL = 266
 KINDS = ("int", "text", "list", "dict", "mailbox")
@@ -98,6 +99,12 @@ FORMS = {
     b"lock": ("place",),
 }
 
+# (the events that format 2 alone has)
+SECOND_FORMS = {
+    b"offer": ("cell",),
+    b"open": ("word",),
+}
+
 CHANGES = {
     b"keep": (),
     b"put": ("place",),
@@ -113,8 +120,8 @@ def operands(words, forms):
     return None if None in values else values
 
 
-def event_of(line):
-    """The event of a line, as its thread, its word and its operands; None where it isn't a trace line."""
+def event_of(edition, line):
+    """The event of a line, as its thread, its word and its operands; None where it isn't a trace line of this edition."""
     words = line.split(b" ")
     if len(words) < 2:
         return None
@@ -131,36 +138,45 @@ def event_of(line):
             return None
         values = operands(words[3:], CHANGES[words[2]])
         return None if values is None else (thread, "unlock", [words[2].decode(), *values])
-    if words[1] not in FORMS:
+    forms = {**FORMS, **SECOND_FORMS} if edition == 2 else FORMS
+    if words[1] not in forms:
         return None
-    values = operands(words[2:], FORMS[words[1]])
+    values = operands(words[2:], forms[words[1]])
     return None if values is None else (thread, words[1].decode(), values)
 
 
+def sizes_of(line):
+    """The cells and the limit of a head; None where the line is none."""
+    words = line.split(b" ")
+    if len(words) != 3 or words[0] != b"heap":
+        return None
+    sizes = (number(words[1], 512, 65_536), number(words[2], 1, 4_294_967_294))
+    return None if None in sizes else sizes
+
+
 def read_trace(text):
-    """The cells, the limit and the events of a trace."""
+    """The edition, the cells, the limit and the events of a trace."""
     if len(text) > MOST_BYTES:
         raise Refused(0, "not a trace line")
     lines = text.split(b"\n")
     unended = lines.pop()
-    head, events = None, []
+    edition = 2 if lines[:1] == [b"trace 2"] else 1
+    sizes, events = None, []
     for at, line in enumerate(lines, 1):
-        if at == 1:
-            words = line.split(b" ")
-            sizes = None
-            if len(words) == 3 and words[0] == b"heap":
-                sizes = (number(words[1], 512, 65_536), number(words[2], 1, 4_294_967_294))
-            if sizes is None or None in sizes:
-                raise Refused(1, "not a trace line")
-            head = sizes
+        if at < edition:
+            continue
+        if at == edition:
+            sizes = sizes_of(line)
+            if sizes is None:
+                raise Refused(at, "not a trace line")
         else:
-            event = event_of(line)
+            event = event_of(edition, line)
             if event is None:
                 raise Refused(at, "not a trace line")
             events.append(event)
-    if unended or head is None:
+    if unended or sizes is None:
         raise Refused(len(lines) + 1, "not a trace line")
-    return (*head, events)
+    return (edition, *sizes, events)
 
 
 # ---- the world
@@ -185,8 +201,9 @@ class Cell:
 
 
 class World:
-    def __init__(self, cells, limit):
-        self.size, self.limit = cells, limit
+    def __init__(self, edition, cells, limit):
+        self.edition, self.size, self.limit = edition, cells, limit
+        self.registrations = self.past_allocs = self.past_frees = 0
         self.cells = {}
         self.threads = {}
         self.globals = self.cell(GLOBALS)
@@ -217,6 +234,8 @@ class World:
             needs(values[0][0] != "e")
         if t.status == "closing":
             needs(word == "close")
+        if t.status == "opening":
+            needs(word == "open")
         if t.status == "left":
             needs(word in ("down", "shdown", "ask", "last", "enq", "untie", "add", "free", "nudge"))
         names_a_hand = word in ("local", "shared", "born", "see", "zero", "untie", "enq", "add")
@@ -277,8 +296,22 @@ class World:
     # ---- threads
 
     def register(self, new):
-        needs(new == len(self.threads) + 1)
-        self.threads[new] = Thread()
+        free = [n for n, t in sorted(self.threads.items()) if t.status == "gathered"]
+        if self.edition == 1 or not free:
+            needs(new == len(self.threads) + 1)
+            again = None
+        else:
+            needs(new == free[0])
+            again = self.threads[new]
+        if self.edition == 2:
+            needs(self.registrations < MOST_REGISTRATIONS)
+        self.registrations += 1
+        self.threads[new] = t = Thread()
+        if again is not None:
+            t.status = "opening"
+            t.closed, t.notified = set(range(self.words())), again.notified
+            self.past_allocs += again.allocs
+            self.past_frees += again.frees
 
     def gather(self, thread):
         t = self.threads.get(thread)
@@ -365,10 +398,14 @@ class World:
 
     def untie(self, thread, t, c):
         cell = self.cell(c)
+        if self.edition == 2:
+            needs(t.status == "active")
         if t.hand == ("over", c):
             t.hand = ("untied", c)
+        elif t.hand == ("offered", c):
+            t.hand = ("yielding", c)
         elif t.hand == ("shut", c):
-            needs(cell.owner != 0)
+            needs(self.edition == 1 and cell.owner != 0)
             t.hand = ("taking", c)
         else:
             needs(t.hand is None and c in t.popped and cell.owner == thread and cell.state == QUEUED)
@@ -382,6 +419,18 @@ class World:
         self.takes_if_dead(t, c)
 
     # ---- queues
+
+    def offer(self, thread, t, c):
+        needs(t.status == "active" and c < self.size and c not in t.work)
+        needs(self.cell(c).owner == thread)
+        self.cell(c).state = QUEUED
+        t.hand = ("offered", c)
+
+    def open(self, thread, t, k):
+        needs(t.status == "opening" and k < self.words() and k == self.words() - len(t.closed))
+        t.closed.remove(k)
+        if not t.closed:
+            t.status = "active"
 
     def ask(self, thread, t, named):
         x = self.dropped(t, named)
@@ -423,14 +472,21 @@ class World:
         t.popped |= drained
 
     def add(self, thread, t, c):
-        needs(t.hand in (("taking", c), ("popping", c)))
+        needs(t.hand in (("taking", c), ("popping", c), ("yielding", c)))
+        if self.edition == 2:
+            needs(t.status == "active")
         cell = self.cell(c)
         cell.count += cell.local
         cell.state = MERGED
         t.hand = ("held", c) if t.hand[0] == "taking" else None
+        self.takes_if_dead(t, c)
 
     def close(self, thread, t, k):
-        needs(not t.frame and t.hand is None and t.locked is None and not t.work)
+        needs(not t.frame and t.hand is None and t.locked is None)
+        if self.edition == 1:
+            needs(not t.work)
+        else:
+            needs(all(c in t.work for c in self.cells if self.cells[c].owner == thread))
         needs(k < self.words() and k == len(t.closed))
         needs(k > 0 or not t.popped)
         self.drain_closed(t, k)
@@ -486,7 +542,8 @@ class World:
         return [c for c in sorted(self.cells) if self.lives(c)]
 
     def shown(self):
-        lines = [f"world {self.size} {self.limit}"]
+        lines = ["edition 2"] if self.edition == 2 else []
+        lines.append(f"world {self.size} {self.limit}")
         for n, t in sorted(self.threads.items()):
             lines.append(f"thread {n} {t.status}")
             if t.hand is not None:
@@ -507,8 +564,8 @@ class World:
                 f"object {c} {cell.kind} {cell.owner} {local} {cell.count} {cell.state} {total}"
             )
             lines += [f"entry {c} {i} {x}" for i, x in enumerate(cell.entries)]
-        allocs = sum(t.allocs for t in self.threads.values())
-        frees = sum(t.frees for t in self.threads.values())
+        allocs = self.past_allocs + sum(t.allocs for t in self.threads.values())
+        frees = self.past_frees + sum(t.frees for t in self.threads.values())
         lines.append(f"ledger {allocs} {frees} {len(self.live())}")
         return "".join(line + "\n" for line in lines)
 
@@ -516,9 +573,9 @@ class World:
 def replay(text):
     """The status, the output and the error line that a trace comes to."""
     try:
-        cells, limit, events = read_trace(text)
-        world = World(cells, limit)
-        for at, event in enumerate(events, 2):
+        edition, cells, limit, events = read_trace(text)
+        world = World(edition, cells, limit)
+        for at, event in enumerate(events, edition + 1):
             try:
                 world.step(event)
             except NotEnabled:

@@ -13,18 +13,22 @@ use scripts::{SCRIPTS, read_script, tell};
 use std::{fs, io};
 
 /// The traces, by name.
-const NAMES: [&str; 11] = [
+const NAMES: [&str; 15] = [
     "adoption",
     "ask_and_drain",
     "asked_and_waiting",
     "below_zero",
     "counted_twice",
+    "handed_over",
     "in_hand",
     "local_limit",
     "merge_at_zero",
+    "number_again",
     "one_life",
+    "queue_again",
     "shared_at_the_limit",
     "stale_owner",
+    "yielded",
 ];
 
 /// Whether the example's text for its world is this one.

@@ -191,7 +191,17 @@ fn refusals_below_a_mark(rt: HostRuntime) -> Result<(), Fail> {
         (
             "a word that is open",
             "trace 2\nheap 512 1\n0 register 1\n1 open 0\n",
-            "4: Stage",
+            "4: OwnPart",
+        ),
+        (
+            "what is owned and lives",
+            "trace 2\nheap 512 4294967294\n0 register 1\n0 register 2\n1 claim 266\n1 local 266\n1 shared 266\n1 born 266 list 0\n1 up i265 1\n1 lock 1\n1 unlock put 0\n2 up i265 0\n2 lock 0\n2 unlock take 0 1\n1 down f1\n1 close 0\n",
+            "16: Told",
+        ),
+        (
+            "in place of a thread that left",
+            "trace 2\nheap 512 4294967294\n0 register 1\n0 register 2\n1 claim 266\n1 local 266\n1 shared 266\n1 born 266 list 0\n1 up i265 1\n1 lock 1\n1 unlock put 0\n2 up i265 0\n2 lock 0\n2 unlock take 0 1\n1 down f1\n2 ask f1\n1 offer 266\n1 untie 266\n1 add 266\n1 close 0\n1 close 1\n1 close 2\n1 close 3\n1 close 4\n1 close 5\n1 close 6\n1 close 7\n1 close 8\n1 close 9\n1 close 10\n1 close 11\n1 close 12\n1 close 13\n1 close 14\n1 close 15\n2 enq 266\n2 untie 266\n",
+            "37: Edition",
         ),
     ];
     are_told(&rt, rt.alloc(), CASES)
