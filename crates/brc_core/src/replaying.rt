@@ -78,7 +78,9 @@ pub fn replay_in<A: Allocator + Copy>(
     for (at, event) in events.iter().enumerate() {
         match world.step(event) {
             Ok(()) => {}
-            Err(StepFault::NotEnabled) => return Err(ReplayFault::NotEnabled { at }),
+            Err(StepFault::NotEnabled) => {
+                return Err(ReplayFault::NotEnabled { at });
+            }
             Err(StepFault::Memory) => return Err(ReplayFault::Memory),
         }
     }
