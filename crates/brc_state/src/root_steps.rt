@@ -9,7 +9,7 @@ use crate::frames::Frame;
 use crate::marks::Marks;
 use crate::tables::Tables;
 use crate::words::Words;
-use brc_runs::{Row, Stage, Hand, Step, new_row, words_for};
+use brc_runs::{Hand, Row, Stage, Step, new_row, words_for};
 use std::alloc::{AllocError, Allocator};
 
 /// Puts the item at the end of a vector that has room for it.
