@@ -146,6 +146,28 @@ fn is_ending_hand(hand: Hand) -> bool
     }
 }
 
+/// Whether the cell may be untied with this hand.
+// Apart, since it is long and seldom asked: what a step's copy has of it would be too much for all of a step to be copied.
+#[inline(never)]
+fn is_untying_hand(cell: u32, hand: Hand) -> bool
+    ensures { result ≡ hand_ok hand (Step.Untie cell) }
+{
+    is_at(Phase::Over, cell, hand)
+        || is_at(Phase::Shut, cell, hand)
+        || is_at(Phase::Offered, cell, hand)
+        || is_free_hand(hand)
+}
+
+/// Whether the cell's local count may be added with this hand.
+#[inline(never)]
+fn is_adding_hand(cell: u32, hand: Hand) -> bool
+    ensures { result ≡ hand_ok hand (Step.MergeAdd cell) }
+{
+    is_at(Phase::Taking, cell, hand)
+        || is_at(Phase::Popping, cell, hand)
+        || is_at(Phase::Yielding, cell, hand)
+}
+
 /// Whether the step fits what the thread carries.
 #[inline(always)]
 pub(crate) fn hand_ok(hand: Hand, step: Step) -> bool
@@ -160,12 +182,7 @@ pub(crate) fn hand_ok(hand: Hand, step: Step) -> bool
         Step::LocalDown(_) => is_free_hand(hand),
         Step::SeeZero(cell) => is_at(Phase::Zero, cell, hand),
         Step::Free(_) => is_free_hand(hand),
-        Step::Untie(cell) => {
-            is_at(Phase::Over, cell, hand)
-                || is_at(Phase::Shut, cell, hand)
-                || is_at(Phase::Offered, cell, hand)
-                || is_free_hand(hand)
-        }
+        Step::Untie(cell) => is_untying_hand(cell, hand),
         Step::MergeZero(cell) => is_at(Phase::Untied, cell, hand),
         Step::SharedUp { .. } => is_free_hand(hand),
         Step::SharedDown(_) => is_free_hand(hand),
@@ -175,11 +192,7 @@ pub(crate) fn hand_ok(hand: Hand, step: Step) -> bool
         Step::LastDown(LastDropped::Hand) => is_ending_hand(hand),
         Step::Enqueue(cell) => is_at(Phase::Asked, cell, hand),
         Step::Drain(_) => is_free_hand(hand),
-        Step::MergeAdd(cell) => {
-            is_at(Phase::Taking, cell, hand)
-                || is_at(Phase::Popping, cell, hand)
-                || is_at(Phase::Yielding, cell, hand)
-        }
+        Step::MergeAdd(cell) => is_adding_hand(cell, hand),
         Step::Close(_) => is_free_hand(hand),
         Step::Nudge { .. } => is_free_hand(hand),
         Step::Wake => is_free_hand(hand),
