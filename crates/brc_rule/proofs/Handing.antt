@@ -13,7 +13,7 @@ use Rattle.brc_runs.specs.declared.row.Phase.{Phase}
 use Rattle.brc_runs.specs.declared.row.Phase.TheVariants as phases
 use Rattle.brc_runs.specs.declared.row.Row.{Row}
 use Rattle.brc_runs.specs.Heap.{Heap, opening, row_at, new_row, again_row, no_row, is_immortal, AreOptions}
-use Rattle.brc_runs.specs.Steps.{enabled, after, after_target, root_after, root_may, thread_may, target_at, edition_ok, is_untouched, is_default, hand_after, untied_hand, added_hand, is_shut, row_after}
+use Rattle.brc_runs.specs.Steps.{enabled, after, after_target, root_after, root_may, target_at, edition_ok, is_untouched, is_default, hand_after, untied_hand, added_hand, is_shut, row_after}
 use Rattle.brc_runs.specs.Runs.{IsRun, world_after}
 use Rattle.brc_runs.specs.Sound.{IsSound}
 use Rattle.brc_runs.proofs.Asking.{may_parts}

@@ -34,7 +34,6 @@ use Rattle.brc_rule.specs.declared.told.Told.TheVariants.{Did}
 use Rattle.brc_rule.specs.declared.view.View.{View}
 use Rattle.brc_rule.specs.Layout.{spot}
 use Rattle.brc_rule.specs.Rule.{with_told, Kept}
-use Rattle.brc_rule.specs.Seen.{part_seen}
 use Rattle.brc_steps.specs.Owing.{AddsLocal}
 use Rattle.brc_steps.specs.Taking.{CountsSome}
 use Rattle.brc_rule.proofs.Knowing.{Known, is_enabled}
