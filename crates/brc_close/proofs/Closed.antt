@@ -34,6 +34,7 @@ use Rattle.brc_thread.proofs.At_Home.{IsIdle, root_rests, all_idle}
 use Rattle.brc_close.specs.Contents.{live_cells, contents_of_heap, contents_in}
 use Rattle.brc_close.specs.Closing.{Closes, Reports}
 use Rattle.brc_close.proofs.Mortal_Kinds.{kind_mortal}
+use Rattle.brc_close.proofs.Past.{NoPast, no_past}
 use Rattle.brc_close.proofs.Held.{held_by_entry, holder_used}
 use Rattle.brc_close.proofs.Listing.{contents_shown, holder_among, Remaining, all_remain, contents_begin, live_beside, live_counted}
 
@@ -66,6 +67,9 @@ module _ {A : Type 0} (n limit id : ℕ) (root : View) (slots : List (Option (�
   idle : (t : ℕ) → IsIdle (world n limit ends.remains.kept.run) t
   idle t = all_idle h t ends.reached
       (root_rests n limit (events_of (items_of run)) options (events_run (opening n limit) (items_of run) ends.remains.kept.legal.items)) everyone
+
+  past : NoPast (world n limit ends.remains.kept.run)
+  past = no_past n limit (events_of (items_of run)) options (events_run (opening n limit) (items_of run) ends.remains.kept.legal.items)
 
   enough : FIRST_MORTAL ≤ n
   enough = omega (arith, options.enough)
@@ -144,7 +148,7 @@ module _ {A : Type 0} (n limit id : ℕ) (root : View) (slots : List (Option (�
       let allocs : report.ledger.allocs ≡ births_of_all root.gathered =
       ap (λ (l : Ledger). l.allocs) reports.ledger_is ∙ births ∙ within (births_of_all root.gathered) (omega (arith, all_births, few)) in
       let frees : report.ledger.frees ≡ frees_of_all root.gathered =
-      ap (λ (l : Ledger). l.frees) reports.ledger_is ∙ deaths ∙ within (frees_of_all root.gathered) (omega (arith, all_deaths, few, ends.headline.ledger)) in
+      ap (λ (l : Ledger). l.frees) reports.ledger_is ∙ deaths ∙ within (frees_of_all root.gathered) (omega (arith, all_deaths, few, ends.headline.ledger, past.allocs)) in
       let contents : report.contents.items ≡ contents_of_heap h run n = reports.contents_are ∙ shown in
       let remains : remains_of report.contents.items ≡ Some report.remains.items = ap remains_of reports.contents_are ∙ reports.remains in
       let same_remains : report.remains.items ≡ remaining.remains = some_same (sym remains ∙ ap remains_of contents ∙ remaining.are) in
@@ -169,7 +173,7 @@ module _ {A : Type 0} (n limit id : ℕ) (root : View) (slots : List (Option (�
         all_allocs = allocs ∙ all_births;
         all_frees = frees ∙ all_deaths;
         live = live;
-        balance = omega (arith, allocs, frees, all_births, all_deaths, live, ends.headline.ledger);
+        balance = omega (arith, allocs, frees, all_births, all_deaths, live, ends.headline.ledger, past.allocs, past.frees);
         remain = reports.live;
         contents = contents;
         remains = remains;

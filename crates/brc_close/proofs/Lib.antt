@@ -1,4 +1,5 @@
 mod Mortal_Kinds
+mod Past
 mod Held
 mod Listing
 mod Collected

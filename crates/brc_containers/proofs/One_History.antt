@@ -1,20 +1,22 @@
 -- The calls on one object are one history.
-use Rattle.std.proofs.Common.{◌≡◌, ◌≢◌, ℕ, zero, suc, ◌<◌, ◌≤◌, ◌==◌, Bool, true, false, if◌then◌else◌, List, [], ◌∷◌, ◌++◌, length, Option, Some, None, refl, sym, ◌∙◌, ap, subst, append_assoc, inl, inr, arith}
+use Rattle.std.proofs.Common.{◌≡◌, ◌≢◌, ℕ, zero, suc, ◌<◌, ◌≤◌, ◌==◌, nat_le, Bool, true, false, if◌then◌else◌, List, [], ◌∷◌, ◌++◌, length, Option, Some, None, refl, sym, ◌∙◌, ap, subst, append_assoc, inl, inr, arith}
 use Rattle.std.proofs.lemmas.Bool.{cases_eq, cases_Bool, eq-eqb, ne_eqb, eqb-true, true≢false, and_parts}
+use Rattle.brc_words.specs.declared.limits.TheConstants.{MOST_THREADS}
 use Rattle.brc_runs.specs.declared.event.Change.{Change}
 use Rattle.brc_runs.specs.declared.event.Step.{Step}
 use Rattle.brc_runs.specs.declared.event.Step.TheVariants.{Birth, Unlock, Register}
-use Rattle.brc_runs.specs.Heap.{Heap, AreOptions}
-use Rattle.brc_runs.specs.Steps.{enabled, root_may, thread_may}
+use Rattle.brc_runs.specs.Heap.{Heap, opening, AreOptions}
+use Rattle.brc_runs.specs.Steps.{enabled, root_may, thread_may, number_ok}
 use Rattle.brc_runs.proofs.Asking.{may_parts}
+use Rattle.brc_runs.proofs.Lifetimes.{run_edition}
 use Rattle.brc_lasting.proofs.Ranges_Law.{event_rows}
-use Rattle.brc_known.specs.Items.{is_start}
+use Rattle.brc_known.specs.Items.{is_start, events_of}
 use Rattle.brc_rule.specs.declared.contents.Contents.{Contents}
 use Rattle.brc_rule.specs.declared.told.Moved.{Moved}
 use Rattle.brc_rule.specs.declared.told.Moved.TheVariants as moves
 use Rattle.brc_rule.specs.declared.told.Told.{Told}
 use Rattle.brc_rule.specs.declared.told.Told.TheVariants.{Did, Saw, Lost}
-use Rattle.brc_rule.specs.Logs.{Run, item_of, own_of, world, contents_at, puts, MovesWith, IsMoved, IsLegal}
+use Rattle.brc_rule.specs.Logs.{Run, item_of, items_of, own_of, world, contents_at, puts, MovesWith, IsMoved, IsLegal}
 use Rattle.brc_rule.specs.Seen.{contents_locked}
 use Rattle.brc_rule.proofs.Locked_Contents.{locked_contents}
 use Rattle.brc_rule.proofs.Own_Logs.{own_more, own_same}
@@ -200,6 +202,13 @@ module _ (n limit : ℕ) where
 
   -- ---- the calls of one thread
 
+  -- in the first edition the next number is registered
+  next_number : (run : Run) (v : ℕ) → root_may (world n limit run) (Register v) ≡ true → v ≡ length (world n limit run).rows
+  next_number run v may =
+      let h : Heap = world n limit run in
+      let number : number_ok h.edition h v ≡ true = (and_parts (number_ok h.edition h v) (nat_le v MOST_THREADS) may).0 in
+      eqb-true v (length h.rows) (subst (λ e. number_ok e h v ≡ true) (run_edition (opening n limit) (events_of (items_of run))) number)
+
   -- a thread is registered once, when as many were before it
   starts_last : (run : Run) (c t u : ℕ) (x : Told) (found : Option Contents) (older : List Call) → IsLegal n limit ((u, x) ∷ run) → is_start t (item_of x) ≡ true
       → (length (world n limit run).rows ≡ t) × (with_call c u x found older ≡ older)
@@ -211,7 +220,7 @@ module _ (n limit : ℕ) where
       passes (moves.Put d put) goes = absurd (none_some d goes.cell)
 
       rows : (u : ℕ) → enabled (world n limit run) (record { thread = u; step = Register v }) ≡ true → length (world n limit run).rows ≡ t
-      rows zero on = sym (eqb-true v (length (world n limit run).rows) (and_parts _ _ on).0) ∙ eqb-true v t starts
+      rows zero on = sym (next_number run v on) ∙ eqb-true v t starts
       rows (suc u) on =
           let h : Heap = world n limit run in
           let may : thread_may h (suc u) (Register v) ≡ true = subst (λ b. (if b then root_may h (Register v) else thread_may h (suc u) (Register v)) ≡ true)

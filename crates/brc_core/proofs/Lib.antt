@@ -1,4 +1,5 @@
 pub mod Bounds
 pub mod Eaches
-pub mod Reaching
+pub mod Closing
+mod Reaching
 pub mod Turns

@@ -1,5 +1,5 @@
 -- One turn of a replay: the events so far are a run to the world, and stay so with one more that is enabled.
-use Rattle.std.proofs.Common.{◌≡◌, ℕ, ◌+◌, ◌<◌, ◌≤◌, true, false, List, [], ◌∷◌, length, take, reverse, get_or, sym, subst, ap, ◌∙◌}
+use Rattle.std.proofs.Common.{◌≡◌, ℕ, ◌+◌, ◌<◌, ◌≤◌, true, false, List, [], ◌∷◌, length, take, reverse, get_or, Result, Ok, Err, OnOk, sym, subst, ap, ◌∙◌}
 use Rattle.std.proofs.lemmas.List.{take_more, reverse-append, take_all}
 use Rattle.std.proofs.lemmas.Option.{slice_get-get_or}
 use Rattle.brc_core.specs.Replays.{IsFirstNotEnabled}
@@ -8,6 +8,11 @@ use Rattle.brc_runs.specs.declared.event.Event.{Event}
 use Rattle.brc_runs.specs.Heap.{Heap, opening_in, AreOptions}
 use Rattle.brc_runs.specs.Steps.{enabled, after}
 use Rattle.brc_runs.specs.Runs.{IsRun, IsReached, world_after}
+
+-- what follows from two facts of a value
+pub both_ok : {T E P Q R : Type 0} (r : Result T E) → (P → Q → R) → OnOk r P → OnOk r Q → OnOk r R
+both_ok (Ok v) f p q = f p q
+both_ok (Err e) f p q = tt
 
 -- the events, the newest first, are a run and lead to the world
 pub record LeadsTo (start : Heap) (run : List Event) (world : Heap) : Type 0 where

@@ -7,7 +7,8 @@ use Rattle.brc_words.specs.declared.fault.Fault.TheVariants as words
 use Rattle.brc_words.specs.declared.fault.Reason.TheVariants as reasons
 use Rattle.brc_runs.specs.declared.event.Event.{Event}
 use Rattle.brc_runs.specs.declared.edition.Edition.{Edition}
-use Rattle.brc_runs.specs.Heap.{Heap, opening, opening_in, AreOptions}
+use Rattle.brc_runs.specs.declared.edition.Edition.TheVariants as editions
+use Rattle.brc_runs.specs.Heap.{Heap, opening_in, AreOptions}
 use Rattle.brc_runs.specs.Steps.{enabled}
 use Rattle.brc_runs.specs.Runs.{IsRun, world_after}
 
@@ -20,18 +21,15 @@ pub record IsFirstNotEnabled (start : Heap) (events : List Event) (at : ℕ) : T
 
 -- the fault is right: the sizes are none of a heap, or the named event is the first that isn't
 -- enabled; or memory is wanting, of which nothing can be said
-abbrev pub IsRight : ReplayFault → ℕ → ℕ → List Event → Type 0
-IsRight faults.Options cells limit events = ¬ (AreOptions cells limit)
-IsRight (faults.NotEnabled at) cells limit events =
-    IsFirstNotEnabled (opening cells limit) events at
-IsRight faults.Memory cells limit events = AreOptions cells limit
-
--- the same in a heap of either edition
 abbrev pub IsRightIn : Edition → ReplayFault → ℕ → ℕ → List Event → Type 0
 IsRightIn edition faults.Options cells limit events = ¬ (AreOptions cells limit)
 IsRightIn edition (faults.NotEnabled at) cells limit events =
     IsFirstNotEnabled (opening_in edition cells limit) events at
 IsRightIn edition faults.Memory cells limit events = AreOptions cells limit
+
+-- in a heap of the first edition
+abbrev pub IsRight : ReplayFault → ℕ → ℕ → List Event → Type 0
+IsRight = IsRightIn editions.One
 
 -- the line of a trace on which the event at this index stands, behind the head; lines are told up to this number
 abbrev pub line_of : ℕ → ℕ

@@ -5,6 +5,7 @@ ghost use Rattle.brc_core.specs.Replays.{IsRight, IsRightIn, line_of, fault_of};
 ghost use Rattle.brc_runs.specs.Heap.{AreOptions, opening, opening_in};
 ghost use Rattle.brc_runs.specs.Runs.{IsRun, world_after};
 ghost use Rattle.brc_runs.specs.Holding.{Headline, Histories};
+ghost use Rattle.brc_runs.specs.Since.{HistoriesSince};
 
 use crate::world::{StepFault, World};
 use brc_runs::{Edition, Event};
@@ -45,42 +46,7 @@ impl From<ReplayFault> for Fault {
     }
 }
 
-/// The world after these events, the oldest first.
-#[tactic(auto, using(crate::proofs::Turns::turn, crate::proofs::Turns::first_not_enabled))]
-pub fn replay<A: Allocator + Copy>(
-    alloc: A,
-    events: &[Event],
-    cells: u32,
-    local_limit: u32,
-) -> Result<World<A>, ReplayFault>
-    // The runs of the definitions have the newest event first.
-    ensures run { OnOk result (IsRun (opening cells local_limit) (reverse events.now)) }
-    ensures world { IfOk result
-        (λ world. world ≡ world_after (opening cells local_limit) (reverse events.now)) }
-
-    // Counts are references, nothing is lost, and lives and ledgers are what the run says.
-    ensures headline { IfOk result Headline }
-    ensures histories { OnOk result (Histories (opening cells local_limit) (reverse events.now)) }
-
-    ensures options { (result ≡ Err ReplayFault.Options) ↔ ¬ (AreOptions cells local_limit) }
-    ensures refused { IfErr result (λ fault. IsRight fault cells local_limit events.now) }
-{
-    let mut world = match World::new(alloc, cells, local_limit) {
-        Ok(world) => world,
-        Err(Fault::BadOptions) => return Err(ReplayFault::Options),
-        Err(_) => return Err(ReplayFault::Memory),
-    };
-    for (at, event) in events.iter().enumerate() {
-        match world.step(event) {
-            Ok(()) => {}
-            Err(StepFault::NotEnabled) => return Err(ReplayFault::NotEnabled { at }),
-            Err(StepFault::Memory) => return Err(ReplayFault::Memory),
-        }
-    }
-    Ok(world)
-}
-
-/// The same in a heap of this edition.
+/// The world after these events, the oldest first, in a heap of this edition.
 #[tactic(auto, using(crate::proofs::Turns::turn, crate::proofs::Turns::first_not_enabled))]
 pub fn replay_in<A: Allocator + Copy>(
     alloc: A,
@@ -89,13 +55,17 @@ pub fn replay_in<A: Allocator + Copy>(
     cells: u32,
     local_limit: u32,
 ) -> Result<World<A>, ReplayFault>
+    // The runs of the definitions have the newest event first.
     ensures sizes { OnOk result (AreOptions cells local_limit) }
     ensures run { OnOk result (IsRun (opening_in edition cells local_limit) (reverse events.now)) }
     ensures world { IfOk result
         (λ world. world ≡ world_after (opening_in edition cells local_limit) (reverse events.now)) }
 
-    // Counts are references, nothing is lost, and births less frees are the live objects.
+    // Counts are references and nothing is lost; and lives, ledgers since a number was last registered, and all ledgers
+    // together are what the run says.
     ensures headline { IfOk result Headline }
+    ensures histories { OnOk result (HistoriesSince (opening_in edition cells local_limit)
+        (reverse events.now)) }
 
     ensures options { (result ≡ Err ReplayFault.Options) ↔ ¬ (AreOptions cells local_limit) }
     ensures refused { IfErr result (λ fault. IsRightIn edition fault cells local_limit events.now) }
@@ -115,4 +85,26 @@ pub fn replay_in<A: Allocator + Copy>(
         }
     }
     Ok(world)
+}
+
+/// The world after these events, the oldest first, in a heap of the first edition.
+pub fn replay<A: Allocator + Copy>(
+    alloc: A,
+    events: &[Event],
+    cells: u32,
+    local_limit: u32,
+) -> Result<World<A>, ReplayFault>
+    // The runs of the definitions have the newest event first.
+    ensures run { OnOk result (IsRun (opening cells local_limit) (reverse events.now)) }
+    ensures world { IfOk result
+        (λ world. world ≡ world_after (opening cells local_limit) (reverse events.now)) }
+
+    // Counts are references, nothing is lost, and lives and ledgers are what the run says.
+    ensures headline { IfOk result Headline }
+    ensures histories { OnOk result (Histories (opening cells local_limit) (reverse events.now)) }
+
+    ensures options { (result ≡ Err ReplayFault.Options) ↔ ¬ (AreOptions cells local_limit) }
+    ensures refused { IfErr result (λ fault. IsRight fault cells local_limit events.now) }
+{
+    replay_in(alloc, Edition::One, events, cells, local_limit)
 }

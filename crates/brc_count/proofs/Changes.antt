@@ -74,12 +74,14 @@ active_may : (stage : Stage) (s : Step) → is_active stage ≡ true → stage_o
 active_may stages.Active s is = refl
 active_may (stages.Closing words) s is = cc
 active_may stages.Left s is = cc
+active_may (stages.Opening words) s is = cc
 
 -- giving up and freeing are for a thread that is active, and for one that has left
 giving_may : (stage : Stage) (c : ℕ) → may_give_up stage ≡ true → stage_ok stage (Free c) ≡ true
 giving_may stages.Active c is = refl
 giving_may (stages.Closing words) c is = cc
 giving_may stages.Left c is = refl
+giving_may (stages.Opening words) c is = cc
 
 -- a place that is vacant and below the limit may get a reference, from a source that fits what is locked
 pub raising : {A : Type 0} {heap : TableSeen} {seat : SeatSeen A} {places : Slab Held} {works : List (ℕ × Payload A)} {popped : List ℕ} {ledger : Ledger} (source : Source) (k c : ℕ)

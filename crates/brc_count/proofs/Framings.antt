@@ -35,6 +35,7 @@ module _ {A : Type 0} where
       may : (stage : Stage) → is_active stage ≡ true → may_give_up stage ≡ true
       may stages.Active is = refl
       may (stages.Closing words) is = cc
+      may (stages.Opening words) is = cc
       may stages.Left is = refl
 
   pub left_gives : (frame : FrameSeen A) → is_left (part_seen frame.heap.cells frame.seat.log).row.stage ≡ true → MayGiveUp frame
@@ -43,4 +44,5 @@ module _ {A : Type 0} where
       may : (stage : Stage) → is_left stage ≡ true → may_give_up stage ≡ true
       may stages.Active is = refl
       may (stages.Closing words) is = cc
+      may (stages.Opening words) is = cc
       may stages.Left is = refl

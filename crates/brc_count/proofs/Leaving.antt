@@ -75,9 +75,9 @@ module _ {A : Type 0} {heap : TableSeen} {seat : SeatSeen A} {places : Slab Held
       lt-ltb k (words_for heap.cells) low,
       next_fits (words_for heap.cells) k low,
       holds_bare keeps none,
-      holds_unmarked keeps,
       begins (part_seen heap.cells seat.log).popped k blank,
     ) refl;
+    done = holds_unmarked keeps;
   }
     where
       stage_fits : (words k : ℕ) → k < words → stage_ok (stage_with words k) (Close k) ≡ true
@@ -107,6 +107,7 @@ pub is_first : (stage : Stage) → is_active stage ≡ true → stage ≡ stages
 is_first stages.Active is = refl
 is_first (stages.Closing words) is = cc
 is_first stages.Left is = cc
+is_first (stages.Opening words) is = cc
 
 -- one word more is closed
 pub stage_next : (words k : ℕ) → closed_more words k ≡ stage_with words (k + 1)

@@ -55,11 +55,13 @@ may_lock : (stage : Stage) (k : ℕ) → is_active stage ≡ true → stage_ok s
 may_lock stages.Active k is = refl
 may_lock (stages.Closing words) k is = cc
 may_lock stages.Left k is = cc
+may_lock (stages.Opening words) k is = cc
 
 may_unlock : (stage : Stage) (change : Change) → is_active stage ≡ true → stage_ok stage (Unlock change) ≡ true
 may_unlock stages.Active change is = refl
 may_unlock (stages.Closing words) change is = cc
 may_unlock stages.Left change is = cc
+may_unlock (stages.Opening words) change is = cc
 
 some_of : (o : Option ℕ) → is_some o ≡ true → (c : ℕ) × (o ≡ Some c)
 some_of None is = cc

@@ -261,7 +261,7 @@ impl<H: Home<A>, A: Allocator> Frame<H, A> {
         }
     }
 
-    /// The reference goes, in at most five events whatever others do, with one lost exchange in the log; where the object ends,
+    /// The reference goes, in at most `MOST_EVENTS` events whatever others do, with one lost exchange in the log; where the object ends,
     /// its block is on the front of the worklist (PEP 703, "Biased Reference Counting"). It waits for nobody, unless its `Home`
     /// does to find the table.
     #[inline(always)]

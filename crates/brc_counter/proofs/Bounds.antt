@@ -1,4 +1,4 @@
--- Each list of a release has at most five events and one lost exchange.
+-- Each list of a release has at most `MOST_EVENTS` events and one lost exchange.
 use Rattle.std.proofs.Common.{ℕ, ◌+◌, ◌≤◌, Bool, List, Option, ap, arith}
 use Rattle.brc_block.specs.declared.payload.Payload.{Payload}
 use Rattle.brc_runs.specs.declared.event.Dropped.{Dropped}

@@ -4,7 +4,7 @@ use Rattle.std.specs.Cmp.Derive.{both_true}
 use Rattle.std.specs.Int.{bit_at}
 use Rattle.std.proofs.lemmas.Bool.{cases_lt, cases_eq, and_parts, eq-eqb, true≢false}
 use Rattle.std.proofs.lemmas.List.{append_assoc}
-use Rattle.std.proofs.lemmas.Nat.Bits.{bit_at-lt}
+use Rattle.std.proofs.lemmas.Nat.Bits.{bit_at-lt, bit_at-zero}
 use Rattle.brc_words.specs.declared.limits.TheConstants.{FIRST_MORTAL}
 use Rattle.brc_runs.specs.Lists.{names}
 use Rattle.brc_known.specs.declared.word.Word.TheVariants.{FreeWord}
@@ -242,6 +242,16 @@ begins_word {A} {start} {now} word found zeros first heap seat told slots knows 
     keeps = keeps;
   };
   seen = λ d there no_bit. one_true (lacks_cell d (FreeWord word) found) false (lacks d word found there no_bit);
+}
+
+-- a word without a bit is passed over by one look
+pub passes_blank : {before log : List Told} (word found cells : ℕ) → found ≡ 0 → log ≡ Saw (FreeWord word) found ∷ before → PassesFrom (word * 64) before (min (word * 64 + 64) cells) log
+passes_blank word found cells blank told = record {
+  looks = Saw (FreeWord word) found ∷ [];
+  above = told;
+  only = refl;
+  taken = λ d mortal low high. one_true (lacks_cell d (FreeWord word) found) false
+      (lacks d word found (omega (arith, low, high)) (ap (λ number. bit_at number (d % 64)) blank ∙ bit_at-zero (d % 64)));
 }
 
 -- the cell's bit wasn't found

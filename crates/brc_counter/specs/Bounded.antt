@@ -1,5 +1,6 @@
 -- How long a release is.
 use Rattle.std.specs.Prelude.{ℕ, suc, ◌+◌, ◌≤◌, List, [], ◌∷◌}
+use Rattle.brc_words.specs.declared.limits.TheConstants.{MOST_EVENTS}
 use Rattle.brc_rule.specs.declared.told.Told.{Told}
 use Rattle.brc_rule.specs.declared.told.Told.TheVariants.{Did, Saw, Lost}
 
@@ -17,7 +18,7 @@ losses_in (Did s number moved ∷ log) = losses_in log
 losses_in (Saw word number ∷ log) = losses_in log
 losses_in (Lost word number ∷ log) = suc (losses_in log)
 
--- at most five events more, and one lost exchange that the log has
+-- at most so many events more, and one lost exchange that the log has
 pub record IsBounded (before log : List Told) : Type 0 where
-  pub steps : steps_in log ≤ steps_in before + 5
+  pub steps : steps_in log ≤ steps_in before + MOST_EVENTS
   pub losses : losses_in log ≤ losses_in before + 1

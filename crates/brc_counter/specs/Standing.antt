@@ -18,6 +18,7 @@ abbrev pub may_give_up : Stage → Bool
 may_give_up stages.Active = true
 may_give_up (stages.Closing words) = false
 may_give_up stages.Left = true
+may_give_up (stages.Opening words) = false
 
 -- references may go: the thread isn't closing, and has nothing locked; and this is in its hand
 pub record Stands (n : ℕ) (log : List Told) (hand : Hand) : Type 0 where

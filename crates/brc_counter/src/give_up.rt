@@ -23,7 +23,7 @@ use brc_words::FIRST_MORTAL;
 use std::alloc::Allocator;
 
 impl<H: Home<A>, A: Allocator> Counter<H, A> {
-    /// Gives a reference up, in at most five events whatever others do, with one lost exchange in the log, and answers the block
+    /// Gives a reference up, in at most `MOST_EVENTS` events whatever others do, with one lost exchange in the log, and answers the block
     /// of the object that this ended, if it did (PEP 703, "Biased Reference Counting"). `has_risen` says that the object was seen
     /// queued or merged while the reference was there; then no look is needed. It waits for nobody, unless its `Home` does to
     /// find the table.
@@ -55,7 +55,7 @@ impl<H: Home<A>, A: Allocator> Counter<H, A> {
         ensures stands { Stands self.old.heap.cells self.new.seat.log hands.Free }
         ensures keeps { KeepsPlaces self.old.heap.cells self.old.seat.log self.new.seat.log }
     {
-        let count = self.counts.at(cell);
+        let count = self.counts[cell as usize];
         let table = self.heap.table();
         if cell < FIRST_MORTAL {
             let _found = table.immortal_down(&mut self.seat, drop, cell);
@@ -68,7 +68,7 @@ impl<H: Home<A>, A: Allocator> Counter<H, A> {
             return release_shared(table, &mut self.seat, drop, cell);
         }
         // The thread's own memory comes first: what is loaded after the word's store waits for it.
-        self.counts.lower(cell, count);
+        self.counts[cell as usize] = count - 1;
         release_own(table, &mut self.seat, drop, cell, count)
     }
 }

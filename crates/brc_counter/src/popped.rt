@@ -90,7 +90,7 @@ impl<H: Home<A>, A: Allocator> Counter<H, A> {
 
         // No immortal goes through a queue, but no log says so.
         if FIRST_MORTAL <= cell {
-            self.counts.end(cell);
+            self.counts[cell as usize] = 0;
         }
         block
     }

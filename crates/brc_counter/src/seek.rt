@@ -101,6 +101,10 @@ impl<H: Home<A>, A: Allocator> Counter<H, A> {
     {
         let cells = self.heap.table().cells();
         let found = self.heap.table().load_free(&mut self.seat, word);
+        // Most words of a heap that is almost full have no bit.
+        if found == 0 {
+            return None;
+        }
         let last = (word * 64 + 64).min(cells);
         let first = (word * 64 + zeros_below(found)).max(FIRST_MORTAL).min(last);
         for cell in first..last {

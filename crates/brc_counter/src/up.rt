@@ -49,11 +49,11 @@ impl<H: Home<A>, A: Allocator> Counter<H, A> {
         ensures risen { IsTrue result →
             risen_seen self.old.heap.cells self.new.seat.log (drops.Frame place) cell ≡ true }
     {
-        let count = self.counts.at(cell);
+        let count = self.counts[cell as usize];
         let table = self.heap.table();
         if 0 < count && count < table.local_limit() {
             // First, as in `give_up`.
-            self.counts.raise(cell, count);
+            self.counts[cell as usize] = count + 1;
             table.local_up(&mut self.seat, source, place, cell, count);
             return false;
         }

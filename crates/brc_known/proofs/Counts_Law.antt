@@ -1,13 +1,15 @@
 -- The local counts of a thread's own objects are what its own items say.
-use Rattle.std.proofs.Common.{◌≡◌, ◌≢◌, ℕ, ◌+◌, ◌-◌, ◌<◌, ◌≤◌, ◌==◌, ◌&&◌, ◌||◌, Bool, true, false, if◌then◌else◌, pos, ◌≤ℤ◌, List, length, Option, Some, None, refl, sym, ◌∙◌, ap, subst, inl, inr, arith}
+use Rattle.std.proofs.Common.{◌≡◌, ◌≢◌, ℕ, ◌+◌, ◌-◌, ◌<◌, ◌≤◌, ◌==◌, ◌&&◌, ◌||◌, not, Bool, true, false, if◌then◌else◌, pos, ◌≤ℤ◌, List, [], length, Option, Some, None, refl, sym, ◌∙◌, ap, subst, inl, inr, arith}
 use Rattle.std.proofs.lemmas.Bool.{cases_eq, cases_Bool, eq-eqb, ne_eqb, and_parts, le-ltb, true≢false}
 use Rattle.std.proofs.lemmas.Int.{ints}
 use Rattle.brc_words.specs.declared.limits.TheConstants.{FIRST_MORTAL}
 use Rattle.brc_words.specs.declared.owner.Owner.TheVariants as owners
 use Rattle.brc_runs.specs.declared.cell.Cell.{Cell}
+use Rattle.brc_runs.specs.declared.edition.Edition.{Edition}
+use Rattle.brc_runs.specs.declared.edition.Edition.TheVariants as editions
 use Rattle.brc_runs.specs.declared.event.Event.{Event}
 use Rattle.brc_runs.specs.declared.event.Step.{Step}
-use Rattle.brc_runs.specs.declared.event.Step.TheVariants.{Claim, InitLocal, Birth, LocalUp, LocalDown, Free, Untie, Ask, Close}
+use Rattle.brc_runs.specs.declared.event.Step.TheVariants.{Claim, InitLocal, Birth, LocalUp, LocalDown, Free, Untie, Ask, Close, Reopen}
 use Rattle.brc_runs.specs.declared.row.Row.{Row}
 use Rattle.brc_runs.specs.declared.row.Hand.TheVariants as hands
 use Rattle.brc_runs.specs.declared.row.Phase.TheVariants as phases
@@ -15,18 +17,18 @@ use Rattle.brc_runs.specs.declared.row.Stage.{Stage}
 use Rattle.brc_runs.specs.declared.row.Stage.TheVariants as stages
 use Rattle.brc_runs.specs.Lists.{is_marked, one}
 use Rattle.brc_runs.specs.Heap.{Heap, opening, words_for, cell_at, row_at, worklist_at, no_cell, no_row, is_immortal, is_registered, AreOptions}
-use Rattle.brc_runs.specs.Steps.{closed_more, stage_after, enabled, after, after_target, target_at, target_ok, cell_after, is_mine, is_owned_by, is_active, is_default, counts_up_locally, registered, is_merged, is_queued}
+use Rattle.brc_runs.specs.Steps.{closed_more, opens_next, edition_ok, stage_after, enabled, after, after_target, target_at, target_ok, cell_after, is_mine, is_owned_by, is_active, is_default, counts_up_locally, registered, is_merged, is_queued}
 use Rattle.brc_runs.specs.Runs.{IsReached}
 use Rattle.brc_words.specs.declared.state.State.{State}
 use Rattle.brc_words.specs.declared.state.State.TheVariants as states
-use Rattle.brc_runs.specs.Sound.{IsSound, held, gripped, WorklistFits, asks_least, is_threads}
+use Rattle.brc_runs.specs.Sound.{IsSound, held, gripped, offering, offered, rests, WorklistFits, asks_least, is_threads}
 use Rattle.brc_lasting.specs.Staying.{IsAnothers, SameOwn, Owns}
 use Rattle.brc_known.specs.Items.{Local, word_in, told_at, Item, ItemRun, AreItems, world_of_items, own, part_of, IsPart, IsTold, told}
 use Rattle.brc_known.specs.Counts.{own_count, counted_by, counted_apart, counts_by, counts_of}
 use Rattle.brc_runs.proofs.Asking.{May, OnCell, on_cell, Mine, mine}
 use Rattle.brc_runs.proofs.Changes.{read_there, read_here}
-use Rattle.brc_runs.proofs.Counting.{marked_unheld, total_unmerged, owned_ungripped, local_positive}
-use Rattle.brc_runs.proofs.Naming.{busy_hand, grips_free, one-true, thread_owner, free_owner}
+use Rattle.brc_runs.proofs.Counting.{marked_unheld, total_unmerged, owned_ungripped, local_positive, sum_none}
+use Rattle.brc_runs.proofs.Naming.{busy_hand, grips_free, one-true, sum_one, thread_owner, free_owner, unoffered, gripped_unoffered}
 use Rattle.brc_runs.proofs.Reached.{reached_sound}
 use Rattle.brc_lasting.proofs.Lasting.{bearing, others_own, alone_stays, live_owner}
 use Rattle.brc_lasting.proofs.Reasons.{event_cell}
@@ -56,6 +58,13 @@ not_owned t g x apart = elim (cases_Bool (is_owned_by t x.owner)) [
 counted_here : (t : ℕ) (g : Stage) (x : Cell) → is_mine t g x ≡ true → own_count t g x ≡ x.local
 counted_here t g x mine = ap (λ b. if b then x.local else 0) mine
 
+-- what is on a worklist is handed over by nobody
+marked_unoffered : (h : Heap) (t c : ℕ) → IsSound h → is_marked (worklist_at h t) c ≡ true → offered h c ≡ 0
+marked_unoffered h t c sound on =
+    let some : 1 ≤ gripped h c = omega (arith, one-true (is_marked (worklist_at h t) c) on, sum_one (λ (marks : List Bool). one (is_marked marks c)) h.worklists t [] refl) in
+    sum_none (λ (row : Row). one (offering c row.hand)) h.rows no_row
+    (λ s. unoffered h s c (row_at h s).hand sound refl (gripped_unoffered h s c sound (sound.worklists t c on).mortal some))
+
 -- a dead block that its owner still owns counts nothing
 marked_count : (h : Heap) (t c : ℕ) → IsSound h → is_marked (worklist_at h t) c ≡ true → (cell_at h c).owner ≡ owners.Thread t → (cell_at h c).local ≡ 0
 marked_count h t c sound on owner =
@@ -75,7 +84,7 @@ marked_count h t c sound on owner =
         by_state states.Merged is = absurd (true≢false (ap is_merged (sym is) ∙ (sound.cells c fits.mortal).owned_unmerged t owner))
         by_state states.Queued is =
             let asked : asks_least (cell_at h c) ≡ 1 = ap (λ z. one (is_queued z && is_threads (cell_at h c).owner)) is ∙ ap (λ o. one (is_threads o)) owner in
-            absurd (omega (arith, asked, sound.least c fits.mortal, marked_unheld h t c sound on))
+            absurd (omega (arith, asked, sound.least c fits.mortal, marked_unheld h t c sound on, marked_unoffered h t c sound on))
 
 -- ---- others change nothing of it
 
@@ -159,7 +168,7 @@ own_cell h t (InitLocal d) number c sound may named told mortal =
 own_cell h t (Birth d kind k) number c sound may named told mortal =
     let e : d ≡ c = cc in
     let ready = (sound.hands t c phases.Ready (busy_hand phases.Ready d _ may.hand ∙ ap (hands.Busy phases.Ready) e)).fits in
-    let active : (row_at h t).stage ≡ stages.Active = active_from _ (Birth d kind k) may.stage refl refl in
+    let active : (row_at h t).stage ≡ stages.Active = active_from _ (Birth d kind k) may.stage refl refl refl in
     let y : Cell = record (cell_at h c) { owner = owners.Thread t; bearer = t; kind = kind } in
     counted_here t _ y (mine_now t _ y refl (ap is_active active)) ∙ ready.1
 own_cell h t (LocalUp source k) number c sound may named told mortal =
@@ -204,21 +213,50 @@ closed_inactive words k = by_test (k + 1 == words)
     by_test true = refl
     by_test false = refl
 
--- a step that means no cell: a thread that closes a word counts as a stranger from then on
-apart_count : (words t : ℕ) (s : Step) (g : Stage) (x : Cell) → own_count t (stage_after words s g) x ≡ counted_apart s (own_count t g x)
-apart_count words t (Close k) g x = not_counted t _ x (ap (λ b. is_owned_by t x.owner && b) (closed_inactive words k) ∙ and_no (is_owned_by t x.owner))
+-- a thread that isn't active counts nothing
+inactive_count : (t : ℕ) (g : Stage) (x : Cell) → is_active g ≡ false → own_count t g x ≡ 0
+inactive_count t g x off = not_counted t g x (ap (λ b. is_owned_by t x.owner && b) off ∙ and_no (is_owned_by t x.owner))
   where
     and_no : (b : Bool) → (b && false) ≡ false
     and_no true = refl
     and_no false = refl
-apart_count words t _ g x = refl
+
+-- a thread that opens its words isn't active yet
+opening_inactive : (g : Stage) (k : ℕ) → opens_next g k ≡ true → is_active g ≡ false
+opening_inactive stages.Active k next = absurd (true≢false (sym next))
+opening_inactive (stages.Closing n) k next = refl
+opening_inactive stages.Left k next = refl
+opening_inactive (stages.Opening n) k next = refl
+
+-- and rests, since words are opened again in the second edition alone
+opening_rests : (e : Edition) (row : Row) (k : ℕ) → edition_ok e row (Reopen k) ≡ true → is_active row.stage ≡ false → rests e row.stage ≡ true
+opening_rests editions.One row k ok off = absurd (true≢false (sym ok))
+opening_rests editions.Two row k ok off = ap not off
+
+-- where the local count is 0 nothing is counted
+no_count : (t : ℕ) (g : Stage) (x : Cell) → (x.owner ≡ owners.Thread t → x.local ≡ 0) → own_count t g x ≡ 0
+no_count t g x none = elim (cases_Bool (is_mine t g x)) [
+  | inl his ↦ counted_here t g x his ∙ none (mine t g x his).owner
+  | inr apart ↦ not_counted t g x apart
+]
+
+-- a step that means no cell: a thread that closes a word counts as a stranger from then on, and one that has opened all of
+-- its words has no count of what it owned before
+apart_count : (h : Heap) (t d : ℕ) (s : Step) → IsSound h → May h t s → FIRST_MORTAL ≤ d
+    → own_count t (stage_after (words_for (length h.cells)) s (row_at h t).stage) (cell_at h d) ≡ counted_apart s (own_count t (row_at h t).stage (cell_at h d))
+apart_count h t d (Close k) sound may mortal = inactive_count t _ (cell_at h d) (closed_inactive (words_for (length h.cells)) k)
+apart_count h t d (Reopen k) sound may mortal =
+    let off : is_active (row_at h t).stage ≡ false = opening_inactive _ k (and_parts _ _ may.own).1 in
+    no_count t _ (cell_at h d) (λ owner. (sound.cells d mortal).rested t owner (opening_rests h.edition (row_at h t) k may.edition off))
+    ∙ sym (inactive_count t _ (cell_at h d) off)
+apart_count h t d _ sound may mortal = refl
 
 step_count : (h : Heap) (t : ℕ) (s : Step) (o : Option ℕ) (number d : ℕ) (counts : ℕ → ℕ) → IsSound h → May h t s → target_at h t s ≡ o → IsTold h t s number → FIRST_MORTAL ≤ d
     → own_count t (row_at h t).stage (cell_at h d) ≡ counts d
     → own_count t (row_at (after_target h t s o) t).stage (cell_at (after_target h t s o) d) ≡ counts_by s number o counts d
 step_count h t s None number d counts sound may named told mortal before =
     ap (λ (r : Row). own_count t r.stage (cell_at h d)) (read_here h.rows t _ no_row may.inside)
-    ∙ apart_count (words_for (length h.cells)) t s (row_at h t).stage (cell_at h d) ∙ ap (counted_apart s) before
+    ∙ apart_count h t d s sound may mortal ∙ ap (counted_apart s) before
 step_count h t s (Some c) number d counts sound may named told mortal before =
     let inside : c < length h.cells = (on_cell h t s c (subst (λ o. target_ok h t (row_at h t) s o ≡ true) named may.on_target)).inside in
     let stage : (row_at (after_target h t s (Some c)) t).stage ≡ (row_at h t).stage = ap (λ (r : Row). r.stage) (read_here h.rows t _ no_row may.inside) in

@@ -5,12 +5,12 @@ use Rattle.brc_words.specs.declared.limits.TheConstants.{FIRST_MORTAL}
 use Rattle.brc_runs.specs.declared.event.Dropped.{Dropped}
 use Rattle.brc_runs.specs.declared.event.LastDropped.TheVariants as lasts
 use Rattle.brc_runs.specs.declared.event.Step.{Step}
-use Rattle.brc_runs.specs.declared.event.Step.TheVariants.{Birth, LocalUp, LocalDown, SeeZero, Untie, MergeZero, Ask, LastDown, Enqueue, Drain, Close, Nudge, Wake, Register, Gather}
+use Rattle.brc_runs.specs.declared.event.Step.TheVariants.{Birth, LocalUp, LocalDown, SeeZero, Untie, MergeZero, MergeAdd, Ask, LastDown, Enqueue, Drain, Close, Reopen, Nudge, Wake, Register, Gather}
 use Rattle.brc_runs.specs.declared.row.Hand.TheVariants as hands
 use Rattle.brc_runs.specs.declared.row.Phase.{Phase}
 use Rattle.brc_runs.specs.declared.row.Phase.TheVariants as phases
 use Rattle.brc_runs.specs.Heap.{is_immortal}
-use Rattle.brc_runs.specs.Steps.{needs_no_cell, takes_block, cell_in_hand, is_default}
+use Rattle.brc_runs.specs.Steps.{needs_no_cell, takes_block, cell_in_hand, is_default, added_hand}
 use Rattle.brc_known.specs.Items.{Item, Did, Saw, Lost, Word, part_of, part_by, meant, cell_told, state_told, is_shut_word}
 use Rattle.brc_known.specs.Counts.{counts_by}
 use Rattle.brc_known.specs.Taken.{taken_by}
@@ -71,6 +71,7 @@ goes_apart cells items (Drain k) number entries apart = record { part_is = refl;
 goes_apart cells items (Close k) number entries apart = record { part_is = refl; counts_are = λ d. refl; blocks_are = refl; lock_is = refl }
 goes_apart cells items (Nudge u k) number entries apart = record { part_is = refl; counts_are = λ d. refl; blocks_are = refl; lock_is = refl }
 goes_apart cells items Wake number entries apart = record { part_is = refl; counts_are = λ d. refl; blocks_are = refl; lock_is = refl }
+goes_apart cells items (Reopen k) number entries apart = record { part_is = refl; counts_are = λ d. refl; blocks_are = refl; lock_is = refl }
 goes_apart cells items _ number entries apart = absurd (true≢false (sym apart))
 
 -- the root's steps, which are its items alone
@@ -126,6 +127,13 @@ pub merge_zero_goes : (cells : ℕ) (items : List Item) (c number : ℕ) (entrie
     → GoesOn cells items (Did (MergeZero c) number entries) (handing hands.Free (taking takes c entries (known_of cells items)))
 merge_zero_goes cells items c number entries takes is =
     subst (λ b. GoesOn cells items (Did (MergeZero c) number entries) (handing hands.Free (taking b c entries (known_of cells items)))) is (goes_on cells items (MergeZero c) c number entries refl)
+
+-- the local count joins the shared one, and the object is dead or not
+pub merge_add_goes : (cells : ℕ) (items : List Item) (c number : ℕ) (entries : List ℕ) (takes : Bool) → takes_block (MergeAdd c) (cell_told (MergeAdd c) number) ≡ takes
+    → GoesOn cells items (Did (MergeAdd c) number entries) (handing (added_hand c (part_of cells items).row.hand) (taking takes c entries (known_of cells items)))
+merge_add_goes cells items c number entries takes is =
+    subst (λ b. GoesOn cells items (Did (MergeAdd c) number entries) (handing (added_hand c (part_of cells items).row.hand) (taking b c entries (known_of cells items)))) is
+    (goes_on cells items (MergeAdd c) c number entries refl)
 
 -- the state is turned, or was already
 pub ask_goes : (cells : ℕ) (items : List Item) (drop : Dropped) (c number : ℕ) (entries : List ℕ) (turns : Bool) → meant (part_of cells items) (Ask drop) ≡ Some c

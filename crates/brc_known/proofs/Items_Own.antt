@@ -215,11 +215,13 @@ pub next_open : (stage : Stage) (k : ℕ) → closes_next stage k ≡ true → i
 next_open stages.Active k next = refl
 next_open (stages.Closing n) k next = le-ltb k n (omega (arith, eqb-true k n next))
 next_open stages.Left k next = absurd (true≢false (sym next))
+next_open (stages.Opening n) k next = absurd (true≢false (sym next))
 
 pub drains_open : (stage : Stage) (k : ℕ) → stage_ok stage (Drain k) ≡ true → is_closed stage k ≡ false
 drains_open stages.Active k ok = refl
 drains_open (stages.Closing n) k ok = absurd (true≢false (sym ok))
 drains_open stages.Left k ok = absurd (true≢false (sym ok))
+drains_open (stages.Opening n) k ok = absurd (true≢false (sym ok))
 
 -- the bits that are taken are those of the word, which is open
 taken_alike : (h : Heap) (t k : ℕ) → is_closed (row_at h t).stage k ≡ false
@@ -231,7 +233,7 @@ taken_alike h t k closed =
 popped_alike : (h : Heap) (t : ℕ) (s : Step) → May h t s → with_drained (drained_word s) (queue_at h t) (popped_at h t) ≡ popped_told (drained_word s) (told_apart h t s) (popped_at h t)
 popped_alike h t (Drain k) may = taken_alike h t k (drains_open (row_at h t).stage k may.stage)
 popped_alike h t (Close k) may =
-    let next : closes_next (row_at h t).stage k ≡ true = (and_parts _ _ (and_parts _ _ (and_parts _ _ (and_parts _ _ may.own).0).0).0).1 in
+    let next : closes_next (row_at h t).stage k ≡ true = (and_parts _ _ (and_parts _ _ (and_parts _ _ may.own).0).0).1 in
     taken_alike h t k (next_open (row_at h t).stage k next)
 popped_alike h t _ may = refl
 

@@ -1,5 +1,5 @@
 -- Queue words have bits of their 32 cells alone, and a heap has as many cells as it opened with.
-use Rattle.std.proofs.Common.{◌≡◌, ℕ, ◌/◌, ◌%◌, ◌<◌, ◌==◌, Bool, if◌then◌else◌, List, [], ◌∷◌, length, get_or, set, replicate, zero, suc, Option, Some, None, refl, sym, ◌∙◌, subst, inl, inr, arith}
+use Rattle.std.proofs.Common.{◌≡◌, ℕ, ◌/◌, ◌%◌, ◌<◌, ◌==◌, nat_lt, Bool, true, false, if◌then◌else◌, List, [], ◌∷◌, length, get_or, set, replicate, zero, suc, Option, Some, None, refl, sym, ◌∙◌, subst, inl, inr, arith}
 use Rattle.std.proofs.lemmas.List.{length-set, get_or_past}
 use Rattle.std.proofs.lemmas.Bool.{cases_eq, cases_lt, cases_Bool}
 use Rattle.std.proofs.lemmas.Nat.{or_lt, pow_below}
@@ -8,7 +8,7 @@ use Rattle.brc_runs.specs.declared.event.Step.{Step}
 use Rattle.brc_runs.specs.declared.event.Step.TheVariants.{Enqueue, Register, Gather}
 use Rattle.brc_runs.specs.Lists.{word_at, with_bit}
 use Rattle.brc_runs.specs.Heap.{Heap, opening, queue_at, cell_at, words_for}
-use Rattle.brc_runs.specs.Steps.{after, after_target, root_after, target_at, is_shut, queues_after, drained_word, without_drained}
+use Rattle.brc_runs.specs.Steps.{after, after_target, root_after, registered, registered_again, target_at, is_shut, queues_after, drained_word, without_drained}
 use Rattle.brc_runs.specs.Runs.{world_after}
 use Rattle.brc_runs.proofs.Changes.{read_by, read_there}
 use Rattle.brc_runs.proofs.Registering.{read_push, new_word}
@@ -63,7 +63,14 @@ queued_small h _ c small = small
 
 root_small : (h : Heap) (s : Step) → AllSmall h.queues → AllSmall (root_after h s).queues
 unfolding AllSmall Small
-root_small h (Register u) small = read_push (λ _ words. Small words) h.queues (replicate (words_for (length h.cells)) 0) [] (λ k. omega (arith, new_word (words_for (length h.cells)) k)) (λ j _. small j)
+root_small h (Register u) small = by_number (nat_lt u (length h.rows))
+  where
+    blank : Small (replicate (words_for (length h.cells)) 0)
+    blank k = omega (arith, new_word (words_for (length h.cells)) k)
+
+    by_number : (b : Bool) → AllSmall (if b then registered_again h u else registered h).queues
+    by_number true = put_small h.queues u _ blank small
+    by_number false = read_push (λ _ words. Small words) h.queues (replicate (words_for (length h.cells)) 0) [] blank (λ j _. small j)
 root_small h (Gather u) small = small
 root_small h _ small = small
 
@@ -97,7 +104,11 @@ run_queues cells limit run = record { small = run_small cells limit run }
 -- ---- as many cells
 
 root_cells : (h : Heap) (s : Step) → length (root_after h s).cells ≡ length h.cells
-root_cells h (Register u) = refl
+root_cells h (Register u) = by_number (nat_lt u (length h.rows))
+  where
+    by_number : (b : Bool) → length (if b then registered_again h u else registered h).cells ≡ length h.cells
+    by_number true = refl
+    by_number false = refl
 root_cells h (Gather u) = refl
 root_cells h _ = refl
 

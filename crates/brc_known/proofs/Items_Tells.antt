@@ -1,7 +1,8 @@
 -- One induction for all that is read off a thread's own items: what is so as the thread is registered, stays so while
 -- others step, and goes on with each own item, is so in the world of every list of items.
-use Rattle.std.proofs.Common.{◌≡◌, ◌≢◌, ℕ, ◌<◌, ◌==◌, true, false, if◌then◌else◌, List, [], ◌∷◌, length, refl, sym, ◌∙◌, ap, subst, inl, inr, arith}
+use Rattle.std.proofs.Common.{◌≡◌, ◌≢◌, ℕ, ◌<◌, ◌==◌, true, false, if◌then◌else◌, List, [], ◌∷◌, length, refl, sym, ◌∙◌, ap, subst, inl, inr, ◌⊎◌, arith}
 use Rattle.std.proofs.lemmas.Bool.{cases_eq, cases_Bool, eq-eqb, ne_eqb, eqb-true, ltb-true, and_parts, true≢false}
+use Rattle.brc_runs.specs.declared.edition.Edition.TheVariants as editions
 use Rattle.brc_runs.specs.declared.event.Event.{Event}
 use Rattle.brc_runs.specs.declared.event.Step.{Step}
 use Rattle.brc_runs.specs.declared.event.Step.TheVariants.{Register, Gather}
@@ -11,7 +12,10 @@ use Rattle.brc_runs.specs.Runs.{world_after, IsReached}
 use Rattle.brc_lasting.specs.Staying.{is_about, IsAnothers}
 use Rattle.brc_known.specs.Items.{Word, Item, Did, Saw, Lost, ItemRun, with_event, events_of, world_of_items, MayCome, AreItems, is_start, own, IsTold, Shows, found}
 use Rattle.brc_runs.proofs.Asking.{May, may_parts}
+use Rattle.brc_runs.proofs.Lifetimes.{run_edition}
+use Rattle.brc_runs.proofs.Reached.{reached_sound}
 use Rattle.brc_runs.proofs.Registering.{length-push}
+use Rattle.brc_runs.proofs.Reusing.{registers, fresh, reused}
 use Rattle.brc_lasting.proofs.Standing.{run_reached}
 use Rattle.brc_lasting.proofs.Lasting.{other_number}
 use Rattle.brc_lasting.proofs.Ranges_Law.{same_rows}
@@ -68,34 +72,39 @@ module _ (t cells : ℕ) (P : Heap → List Item → Type 0) (follows : Follows 
             (follows.others h (record { thread = u; step = s }) log reached comes.0 (record { other = other; apart = apart.1 }) was))
       ]
 
-  root_item : (h : Heap) (u : ℕ) (s : Step) (number : ℕ) (entries : List ℕ) (log : List Item) → IsReached h → length h.cells ≡ cells → enabled h (record { thread = u; step = s }) ≡ true
+  root_item : (h : Heap) (u : ℕ) (s : Step) (number : ℕ) (entries : List ℕ) (log : List Item) → IsReached h → h.edition ≡ editions.One → length h.cells ≡ cells → enabled h (record { thread = u; step = s }) ≡ true
       → after h (record { thread = u; step = s }) ≡ root_after h s → root_may h s ≡ true → u ≢ t → Holds h log
       → Holds (root_after h s) (with_item t u (Did s number entries) log)
   unfolding Holds
-  root_item h u (Register v) number entries log reached size ok is may other before inside =
-      let item : Item = Did (Register v) number entries in
-      let next : v ≡ length h.rows = eqb-true v (length h.rows) (and_parts _ _ may).0 in
-      elim (cases_Bool (v == t)) [
-        | inl mine ↦ subst (λ b. P (registered h) (if b then [] else (if u == t then item ∷ log else log))) (sym mine) (follows.starts h reached size (sym (eqb-true v t mine) ∙ next))
-        | inr apart ↦
-            let low : t < length h.rows = omega (arith, inside, length-push h.rows new_row, next, other_number v t apart) in
-            subst (P (registered h)) (sym (not_mine t u item log apart (ne_eqb u t other)))
-            (subst (λ w. P w log) is
-            (follows.others h (record { thread = u; step = Register v }) log reached ok (record { other = other; apart = apart }) (before low)))
-      ]
-  root_item h u (Gather v) number entries log reached size ok is may other before inside =
-      subst (P (gathered_in h v)) (sym (not_mine t u (Did (Gather v) number entries) log refl (ne_eqb u t other))) (follows.gathers h v log (before inside))
-  root_item h u _ number entries log reached size ok is may other before inside = absurd (true≢false (sym may))
+  root_item h u (Register v) number entries log reached one size ok is may other before inside = elim (registers h v (reached_sound h reached) may) [
+    | reused vacated few again ↦ let bad : editions.One ≡ editions.Two = sym one ∙ vacated.two in absurd (cc)
+    | fresh next most few new ↦ subst (λ w. P w (with_item t u item log)) (sym new) (by_owner next new (cases_Bool (v == t)))
+  ]
+    where
+      item : Item
+      item = Did (Register v) number entries
 
-  did_item : (h : Heap) (u : ℕ) (s : Step) (number : ℕ) (entries : List ℕ) (log : List Item) → IsReached h → length h.cells ≡ cells → QueuesFit h → MayCome h u (Did s number entries) → 0 < t
+      by_owner : v ≡ length h.rows → root_after h (Register v) ≡ registered h → ((v == t) ≡ true) ⊎ ((v == t) ≡ false) → P (registered h) (with_item t u item log)
+      by_owner next new (inl mine) = subst (λ b. P (registered h) (if b then [] else (if u == t then item ∷ log else log))) (sym mine) (follows.starts h reached size (sym (eqb-true v t mine) ∙ next))
+      by_owner next new (inr apart) =
+          let there : t < length (registered h).rows = subst (λ (w : Heap). t < length w.rows) new inside in
+          let low : t < length h.rows = omega (arith, there, length-push h.rows new_row, next, other_number v t apart) in
+          subst (P (registered h)) (sym (not_mine t u item log apart (ne_eqb u t other)))
+          (subst (λ w. P w log) (is ∙ new)
+          (follows.others h (record { thread = u; step = Register v }) log reached ok (record { other = other; apart = apart }) (before low)))
+  root_item h u (Gather v) number entries log reached one size ok is may other before inside =
+      subst (P (gathered_in h v)) (sym (not_mine t u (Did (Gather v) number entries) log refl (ne_eqb u t other))) (follows.gathers h v log (before inside))
+  root_item h u _ number entries log reached one size ok is may other before inside = absurd (true≢false (sym may))
+
+  did_item : (h : Heap) (u : ℕ) (s : Step) (number : ℕ) (entries : List ℕ) (log : List Item) → IsReached h → h.edition ≡ editions.One → length h.cells ≡ cells → QueuesFit h → MayCome h u (Did s number entries) → 0 < t
       → Holds h log → Holds (after h (record { thread = u; step = s })) (with_item t u (Did s number entries) log)
-  did_item h u s number entries log reached size fit comes some_thread before =
+  did_item h u s number entries log reached one size fit comes some_thread before =
       let moved : Heap = after_target h u s (target_at h u s) in
       elim (cases_Bool (u == 0)) [
         | inl root ↦
             let is : after h (record { thread = u; step = s }) ≡ root_after h s = ap (λ b. if b then root_after h s else moved) root in
             subst (λ w. Holds w (with_item t u (Did s number entries) log)) (sym is)
-            (root_item h u s number entries log reached size comes.0 is (subst (λ b. (if b then root_may h s else thread_may h u s) ≡ true) root comes.0)
+            (root_item h u s number entries log reached one size comes.0 is (subst (λ b. (if b then root_may h s else thread_may h u s) ≡ true) root comes.0)
             (λ same. omega (arith, some_thread, same, eqb-true u 0 root)) before)
         | inr thread ↦
             let is : after h (record { thread = u; step = s }) ≡ moved = ap (λ b. if b then root_after h s else moved) thread in
@@ -117,7 +126,7 @@ module _ (t cells : ℕ) (P : Heap → List Item → Type 0) (follows : Follows 
   item_holds limit u (Did s number entries) items options are comes some_thread before =
       let run : List Event = events_of items in
       did_item (world_after (opening cells limit) run) u s number entries (own t items) (run_reached cells limit run options (events_run (opening cells limit) items are))
-      (run_cells cells limit run) (run_queues cells limit run) comes some_thread before
+      (run_edition (opening cells limit) run) (run_cells cells limit run) (run_queues cells limit run) comes some_thread before
   item_holds limit u (Saw word number) items options are comes some_thread before = noted _ u (Saw word number) (own t items) refl (follows.saw _ word number (own t items) (run_reached cells limit (events_of items) options (events_run (opening cells limit) items are)) comes) before
   item_holds limit u (Lost word number) items options are comes some_thread before = noted _ u (Lost word number) (own t items) refl (follows.lost _ word number (own t items) (run_reached cells limit (events_of items) options (events_run (opening cells limit) items are)) comes) before
 

@@ -10,13 +10,13 @@ use Rattle.brc_runs.specs.declared.cell.Cell.{Cell}
 use Rattle.brc_runs.specs.declared.event.Dropped.{Dropped}
 use Rattle.brc_runs.specs.declared.event.LastDropped.TheVariants as lasts
 use Rattle.brc_runs.specs.declared.event.Step.{Step}
-use Rattle.brc_runs.specs.declared.event.Step.TheVariants.{LocalDown, SeeZero, MergeZero, Ask, LastDown, Enqueue, Lock}
+use Rattle.brc_runs.specs.declared.event.Step.TheVariants.{LocalDown, SeeZero, MergeZero, MergeAdd, Ask, LastDown, Enqueue, Lock}
 use Rattle.brc_runs.specs.declared.row.Hand.{Hand}
 use Rattle.brc_runs.specs.declared.row.Hand.TheVariants as hands
 use Rattle.brc_runs.specs.declared.row.Phase.TheVariants as phases
 use Rattle.brc_runs.specs.Lists.{word_at}
 use Rattle.brc_runs.specs.Heap.{Heap, cell_at, row_at, queue_at, no_cell, is_immortal}
-use Rattle.brc_runs.specs.Steps.{target_at, target_ok, hand_after, gone, takes_block, is_shut, is_mine}
+use Rattle.brc_runs.specs.Steps.{target_at, target_ok, hand_after, gone, takes_block, is_shut, is_mine, is_zero}
 use Rattle.brc_runs.specs.Runs.{IsReached}
 use Rattle.brc_runs.specs.Sound.{IsSound}
 use Rattle.brc_known.specs.Items.{raised, shared_word, closing_bit, told_of, finds, count_told, state_told, cell_told, is_shut_word}
@@ -85,6 +85,14 @@ both_back h c sound =
     let state : state_told (shared_word x.count x.state) ≡ x.state = state_back (raised x.count) x.state in
     ap (λ n. heard n (state_told (shared_word x.count x.state))) count ∙ ap (heard x.count) state
 
+-- the sum that an add is told is the one that it leaves
+sum_back : (h : Heap) (c : ℕ) → IsSound h → count_told (shared_word ((cell_at h c).count +ℤ pos (cell_at h c).local) states.Merged) +ℤ pos 0 ≡ (cell_at h c).count +ℤ pos (cell_at h c).local
+sum_back h c sound =
+    let x : Cell = cell_at h c in
+    let count : count_told (shared_word (x.count +ℤ pos x.local) states.Merged) ≡ x.count +ℤ pos x.local =
+    count_back (x.count +ℤ pos x.local) (bits_of states.Merged) (bits_few states.Merged) (omega (arith, ints, (sound_range h sound c).0)) in
+    omega (arith, ints, count)
+
 down_back : (h : Heap) (t c : ℕ) (drop : Dropped) → IsSound h → May h t (LocalDown drop) → target_at h t (LocalDown drop) ≡ Some c → (g : Hand)
     → hand_after (LocalDown drop) c (record no_cell { local = told_of h t (LocalDown drop) c + 1 }) false g ≡ hand_after (LocalDown drop) c (cell_at h c) false g
 down_back h t c drop sound may named g =
@@ -111,6 +119,7 @@ alike h t (SeeZero d) c sound fit may named = record {
   takes = ap (takes_block (SeeZero d)) (both_back h c sound);
 }
 alike h t (MergeZero d) c sound fit may named = record { hand = λ g. refl; gone_is = refl; takes = ap (takes_block (MergeZero d)) (both_back h c sound) }
+alike h t (MergeAdd d) c sound fit may named = record { hand = λ g. refl; gone_is = refl; takes = ap is_zero (sum_back h c sound) }
 alike h t (Ask drop) c sound fit may named = record {
   hand = λ g. ap (λ y. hand_after (Ask drop) c y false g) (both_back h c sound);
   gone_is = ap (gone (Ask drop)) (both_back h c sound);

@@ -7,7 +7,7 @@ use Rattle.brc_runs.specs.declared.event.Dropped.{Dropped}
 use Rattle.brc_runs.specs.declared.event.Dropped.TheVariants as dropped
 use Rattle.brc_runs.specs.declared.event.LastDropped.TheVariants as lasts
 use Rattle.brc_runs.specs.declared.event.Step.{Step}
-use Rattle.brc_runs.specs.declared.event.Step.TheVariants.{Birth, LocalUp, LocalDown, SeeZero, Free, MergeZero, SharedUp, SharedDown, Ask, LastDown, Drain, Close, Nudge, Wake, Lock, Unlock}
+use Rattle.brc_runs.specs.declared.event.Step.TheVariants.{Birth, LocalUp, LocalDown, SeeZero, Free, MergeZero, MergeAdd, SharedUp, SharedDown, Ask, LastDown, Drain, Close, Nudge, Wake, Lock, Unlock, Reopen}
 use Rattle.brc_runs.specs.Lists.{place_at, is_marked, last_of, front_of}
 use Rattle.brc_runs.specs.Steps.{needs_no_cell, takes_block, is_default, frame_without, frame_changed}
 use Rattle.brc_known.specs.Items.{Item, Did, Part, part_of, meant, cell_told, state_told, has_without, has_found}
@@ -96,6 +96,9 @@ table_entry cells (SeeZero d) c number entries old q named other apart =
 table_entry cells (MergeZero d) c number entries old q named other apart =
     let takes : Bool = takes_block (MergeZero d) (cell_told (MergeZero d) number) in
     same_entry old.part (knows_after (MergeZero d) c number entries old).part q (marked_else takes old.part.worklist c q other) (kept_found takes c q entries old.part.has other)
+table_entry cells (MergeAdd d) c number entries old q named other apart =
+    let takes : Bool = takes_block (MergeAdd d) (cell_told (MergeAdd d) number) in
+    same_entry old.part (knows_after (MergeAdd d) c number entries old).part q (marked_else takes old.part.worklist c q other) (kept_found takes c q entries old.part.has other)
 table_entry cells (LastDown (lasts.Dropped drop)) c number entries old q named other apart =
     let s : Step = LastDown (lasts.Dropped drop) in
     let takes : Bool = takes_block s (cell_told s number) in
@@ -129,4 +132,5 @@ apart_kept cells items (Drain k) number entries drop apart = refl
 apart_kept cells items (Close k) number entries drop apart = refl
 apart_kept cells items (Nudge u k) number entries drop apart = refl
 apart_kept cells items Wake number entries drop apart = refl
+apart_kept cells items (Reopen k) number entries drop apart = refl
 apart_kept cells items _ number entries drop apart = absurd (true≢false (sym apart))

@@ -7,26 +7,19 @@ use Rattle.brc_words.specs.declared.limits.TheConstants.{FIRST_MORTAL}
 use Rattle.std.specs.Cmp.Derive.{both_true}
 use Rattle.brc_words.specs.declared.owner.Owner.{Owner}
 use Rattle.brc_words.specs.declared.owner.Owner.TheVariants as owners
-use Rattle.brc_runs.specs.declared.cell.Cell.{Cell}
 use Rattle.brc_runs.specs.declared.row.Row.{Row}
-use Rattle.brc_runs.specs.declared.row.Stage.{Stage}
-use Rattle.brc_runs.specs.declared.row.Hand.{Hand}
 use Rattle.brc_runs.specs.declared.row.Hand.TheVariants as hands
-use Rattle.brc_runs.specs.declared.row.Phase.{Phase}
-use Rattle.brc_runs.specs.Phases.{is_gripping}
 use Rattle.brc_runs.specs.Lists.{one, is_marked}
-use Rattle.brc_runs.specs.Heap.{Heap, opening, cell_at, row_at, worklist_at, popped_at, is_registered, no_row, AreOptions}
-use Rattle.brc_runs.specs.Steps.{is_mine, is_owned_by, is_active, is_merged}
-use Rattle.brc_runs.specs.Sound.{IsSound, HandFits, PhaseFits, grips, grips_by_owner, gripped}
+use Rattle.brc_runs.specs.Heap.{Heap, opening, cell_at, row_at, worklist_at, is_registered, no_row, AreOptions}
+use Rattle.brc_runs.specs.Steps.{is_mine, is_owned_by, is_active, is_merged, owned_are_marked}
+use Rattle.brc_runs.specs.Sound.{IsSound, grips, grips_by_owner, gripped}
 use Rattle.brc_runs.proofs.Asking.{mine}
-use Rattle.brc_runs.proofs.Birthing.{busy_else}
-use Rattle.brc_runs.proofs.Counting.{sum_none}
-use Rattle.brc_runs.proofs.Naming.{gripping_owner}
+use Rattle.brc_runs.proofs.Counting.{sum_none, hand_apart}
 use Rattle.brc_runs.proofs.Reached.{reached_sound}
 use Rattle.brc_lasting.proofs.Standing.{run_reached}
 use Rattle.brc_known.specs.Items.{ItemRun, AreItems, world_of_items, events_of, own}
 use Rattle.brc_known.specs.Counts.{own_count, counts_of}
-use Rattle.brc_known.specs.Owned.{IsAlive, owned_are_marked}
+use Rattle.brc_known.specs.Owned.{IsAlive}
 use Rattle.brc_known.proofs.Items_Runs.{events_run}
 use Rattle.brc_known.proofs.Counts_Law.{counts_are_told, counted}
 
@@ -49,29 +42,6 @@ counted_off h t c u sound mortal owner some = elim (cases_Bool (is_marked (workl
   | inr off ↦ off
   | inl on ↦ absurd (omega (arith, mark_inside h u c, ap one on, grips_owned h t c sound mortal owner, ap one (ne_eqb (cell_at h c).local 0 (λ e. omega (arith, e, some)))))
 ]
-
--- what another thread's hand says of a cell that a thread owns is no birth, merge or burial
-others_phase : (s t : ℕ) (row : Row) (popped : List ℕ) (x : Cell) (g : Stage) (c : ℕ) (p : Phase) → PhaseFits s row popped x g c p
-    → x.owner ≡ owners.Thread t → s ≢ t → is_gripping p ≡ false
-others_phase s t row popped x g c p fits owner ne =
-    elim (cases_Bool (is_gripping p)) [
-      | inr off ↦ off
-      | inl grip ↦ absurd (elim (gripping_owner s row popped x g c p fits grip) [
-        | inl claimed ↦ let e : owners.Thread t ≡ owners.Claimed s = sym owner ∙ claimed in cc
-        | inr (inl owned) ↦ let e : owners.Thread t ≡ owners.Thread s = sym owner ∙ owned in ne (cc)
-        | inr (inr nobody) ↦ let e : owners.Thread t ≡ owners.Nobody = sym owner ∙ nobody in cc
-      ])
-    ]
-
-hand_apart : (h : Heap) (t s c : ℕ) (hand : Hand) → IsSound h → (cell_at h c).owner ≡ owners.Thread t → s ≢ t → (row_at h s).hand ≡ hand → one (grips c hand) ≡ 0
-hand_apart h t s c hands.Free sound owner ne e = refl
-hand_apart h t s c (hands.Busy p d) sound owner ne e =
-    elim (cases_eq d c) [
-      | inl same ↦
-          let fits : HandFits h s p c = sound.hands s c p (e ∙ ap (hands.Busy p) same) in
-          ap (λ b. one (b && (d == c))) (others_phase s t (row_at h s) (popped_at h s) (cell_at h c) _ c p fits.fits owner ne)
-      | inr other ↦ (busy_else p d c (λ e. other (sym e))).0
-    ]
 
 -- a worklist of another thread has no owned cell
 mark_apart : (h : Heap) (t s c : ℕ) → IsSound h → FIRST_MORTAL ≤ c → (cell_at h c).owner ≡ owners.Thread t → s ≢ t → one (is_marked (worklist_at h s) c) ≡ 0

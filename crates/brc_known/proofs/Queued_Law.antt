@@ -1,19 +1,24 @@
 -- What a queue word has is a reference of each cell whose bit is set, so these are cells of the heap; and how many objects a
 -- thread may have given back.
-use Rattle.std.proofs.Common.{◌≡◌, ℕ, ◌+◌, ◌*◌, ◌/◌, ◌%◌, ◌<◌, ◌≤◌, ◌^◌, true, List, [], length, refl, ◌∙◌, ap, subst, inl, inr, arith}
+use Rattle.std.proofs.Common.{◌≡◌, ℕ, ◌+◌, ◌*◌, ◌/◌, ◌%◌, ◌<◌, ◌≤◌, ◌^◌, ◌==◌, nat_lt, Bool, true, false, if◌then◌else◌, List, [], ◌∷◌, length, Option, Some, None, refl, sym, ◌∙◌, ap, subst, inl, inr, arith}
 use Rattle.std.specs.Int.{bit_at}
 use Rattle.std.proofs.lemmas.Bool.{cases_lt}
 use Rattle.std.proofs.lemmas.List.{get_or_past}
 use Rattle.std.proofs.lemmas.Nat.Bits.{bit_at-zero, bit_at_above}
 use Rattle.brc_runs.specs.declared.cell.Cell.{Cell}
+use Rattle.brc_runs.specs.declared.edition.Edition.{Edition}
+use Rattle.brc_runs.specs.declared.event.Event.{Event}
+use Rattle.brc_runs.specs.declared.event.Step.{Step}
+use Rattle.brc_runs.specs.declared.event.Step.TheVariants.{Register}
 use Rattle.brc_runs.specs.declared.row.Row.{Row}
 use Rattle.brc_runs.specs.Lists.{bit_of, word_at}
-use Rattle.brc_runs.specs.Heap.{Heap, row_at, queue_at, no_cell, no_row, opening, is_registered, AreOptions}
-use Rattle.brc_runs.specs.Runs.{IsReached}
-use Rattle.brc_runs.specs.Sound.{IsSound, held}
+use Rattle.brc_runs.specs.Heap.{Heap, row_at, queue_at, no_cell, opening, is_registered, AreOptions}
+use Rattle.brc_runs.specs.Steps.{after, after_target, root_after, target_at, registered, registered_again}
+use Rattle.brc_runs.specs.Runs.{IsReached, world_after}
+use Rattle.brc_runs.specs.Sound.{held}
 use Rattle.brc_runs.proofs.Naming.{sum_one}
 use Rattle.brc_runs.proofs.Reached.{reached_sound}
-use Rattle.brc_runs.proofs.Sizes.{reached_births}
+use Rattle.brc_runs.proofs.Headlines.{frees_fit}
 use Rattle.brc_lasting.proofs.Lasting.{held_live, live_owner}
 use Rattle.brc_lasting.proofs.Standing.{run_reached}
 use Rattle.brc_known.specs.Items.{ItemRun, AreItems, events_of, world_of_items, part_of, own}
@@ -34,8 +39,38 @@ queued_inside h t c reached on = elim (cases_lt c (length h.cells)) [
   | inr past ↦ absurd (live_owner _ (held_live h c (reached_sound h reached) (queued_held h t c on)) (ap (λ (x : Cell). x.owner) (get_or_past h.cells c no_cell past)))
 ]
 
+-- what an event does to a world is the same in either edition
+abbrev in_edition : Edition → Heap → Heap
+in_edition edition h = record h { edition = edition }
+
+event_alike : (edition : Edition) (h : Heap) (e : Event) → after (in_edition edition h) e ≡ in_edition edition (after h e)
+event_alike edition h e = by_thread (e.thread == 0)
+  where
+    by_number : (u : ℕ) (b : Bool) → (if b then registered_again (in_edition edition h) u else registered (in_edition edition h)) ≡ in_edition edition (if b then registered_again h u else registered h)
+    by_number u true = refl
+    by_number u false = refl
+
+    by_step : (s : Step) → root_after (in_edition edition h) s ≡ in_edition edition (root_after h s)
+    by_step (Register u) = by_number u (nat_lt u (length h.rows))
+    by_step _ = refl
+
+    by_target : (t : ℕ) (s : Step) (o : Option ℕ) → after_target (in_edition edition h) t s o ≡ in_edition edition (after_target h t s o)
+    by_target t s None = refl
+    by_target t s (Some c) = refl
+
+    by_thread : (b : Bool) → (if b then root_after (in_edition edition h) e.step else after_target (in_edition edition h) e.thread e.step (target_at (in_edition edition h) e.thread e.step))
+        ≡ in_edition edition (if b then root_after h e.step else after_target h e.thread e.step (target_at h e.thread e.step))
+    by_thread true = by_step e.step
+    by_thread false = by_target e.thread e.step (target_at h e.thread e.step)
+
+run_alike : (edition : Edition) (start : Heap) (run : List Event) → world_after (in_edition edition start) run ≡ in_edition edition (world_after start run)
+run_alike edition start [] = refl
+run_alike edition start (e ∷ run) = ap (λ w. after w e) (run_alike edition start run) ∙ event_alike edition (world_after start run) e
+
 pub reached_queues : (h : Heap) → IsReached h → QueuesFit h
-reached_queues h reached = subst QueuesFit reached.leads_here (run_queues reached.cells reached.limit reached.run)
+reached_queues h reached =
+    let same = run_alike reached.edition (opening reached.cells reached.limit) reached.run in
+    subst QueuesFit reached.leads_here (subst QueuesFit (sym same) (record { small = (run_queues reached.cells reached.limit reached.run).small }))
 
 bits_below : (word i : ℕ) → word < 4294967296 → bit_at word i ≡ 1 → i < 32
 bits_below word i small on = elim (cases_lt i 32) [
@@ -55,9 +90,7 @@ queue_bits h t k i reached on =
 
 -- no more than all threads have made
 pub reached_frees : (h : Heap) (t : ℕ) → IsReached h → (row_at h t).frees < 2 ^ 64
-reached_frees h t reached =
-    let sound : IsSound h = reached_sound h reached in
-    omega (arith, sound.ledger, reached_births h reached, sum_one (λ (row : Row). row.frees) h.rows t no_row refl)
+reached_frees h t reached = omega (arith, frees_fit h (reached_sound h reached) t)
 
 pub frees_are_few : (cells limit : ℕ) (items : ItemRun) (t : ℕ) → AreOptions cells limit → AreItems (opening cells limit) items
     → is_registered (world_of_items (opening cells limit) items) t ≡ true → (part_of cells (own t items)).row.frees < 2 ^ 64

@@ -1,19 +1,22 @@
 -- The threads of the world, and which of them are gathered, are what the root's own items say.
 use Rattle.std.proofs.Common.{◌≡◌, ℕ, ◌+◌, ◌<◌, ◌==◌, ◌||◌, Bool, true, false, if◌then◌else◌, List, [], ◌∷◌, ◌++◌, length, get_or, set, zero, suc, Option, Some, None, refl, sym, ◌∙◌, ap, subst, inl, inr, arith}
 use Rattle.std.proofs.lemmas.List.{get_or_push, get_or_past}
-use Rattle.std.proofs.lemmas.Bool.{cases_eq, cases_Bool, eq-eqb, ne_eqb, eqb-true, ltb-true, and_parts, true≢false}
+use Rattle.std.proofs.lemmas.Bool.{cases_eq, cases_Bool, eq-eqb, ne_eqb, ltb-true, and_parts, true≢false}
+use Rattle.brc_runs.specs.declared.edition.Edition.TheVariants as editions
 use Rattle.brc_runs.specs.declared.event.Step.{Step}
 use Rattle.brc_runs.specs.declared.event.Step.TheVariants.{Register, Gather}
 use Rattle.brc_runs.specs.Heap.{Heap, opening, new_row, is_gathered, is_registered, AreOptions}
-use Rattle.brc_runs.specs.Steps.{enabled, after, after_target, root_after, root_may, thread_may, target_at}
+use Rattle.brc_runs.specs.Steps.{enabled, after, after_target, root_after, root_may, thread_may, target_at, registered}
 use Rattle.brc_runs.specs.Runs.{world_after, IsReached}
 use Rattle.brc_runs.specs.Sound.{IsSound}
 use Rattle.brc_known.specs.Items.{Item, Did, Saw, Lost, ItemRun, with_event, events_of, world_of_items, MayCome, AreItems, is_start, own}
 use Rattle.brc_known.specs.Root.{rows_of, gathered_of}
 use Rattle.brc_runs.proofs.Asking.{May, may_parts}
 use Rattle.brc_runs.proofs.Changes.{read_here, read_there}
+use Rattle.brc_runs.proofs.Lifetimes.{run_edition}
 use Rattle.brc_runs.proofs.Reached.{reached_sound}
 use Rattle.brc_runs.proofs.Registering.{length-push, push_else}
+use Rattle.brc_runs.proofs.Reusing.{fresh, reused, registers}
 use Rattle.brc_lasting.proofs.Standing.{run_reached}
 use Rattle.brc_lasting.proofs.Ranges_Law.{same_rows}
 use Rattle.brc_known.proofs.Items_Runs.{events_run}
@@ -41,10 +44,16 @@ gathered_now h v u before inside is = elim (cases_eq u v) [
   | inr other ↦ read_there h.gathered v u true false other ∙ is ∙ sym (ap (λ b. b || before) (ne_eqb v u (λ e. other (sym e))))
 ]
 
-root_goes : (h : Heap) (s : Step) (number : ℕ) (entries : List ℕ) (log : List Item) → IsSound h → root_may h s ≡ true → RootSays h log → RootSays (root_after h s) (Did s number entries ∷ log)
-root_goes h (Register v) number entries log sound may says =
-    (length-push h.rows new_row ∙ ap (λ n. n + 1) says.0, λ u. push_false h.gathered u ∙ says.1 u)
-root_goes h (Gather v) number entries log sound may says =
+-- one more thread, which isn't gathered
+registered_says : (h : Heap) (v number : ℕ) (entries : List ℕ) (log : List Item) → RootSays h log → RootSays (registered h) (Did (Register v) number entries ∷ log)
+registered_says h v number entries log says = (length-push h.rows new_row ∙ ap (λ n. n + 1) says.0, λ u. push_false h.gathered u ∙ says.1 u)
+
+root_goes : (h : Heap) (s : Step) (number : ℕ) (entries : List ℕ) (log : List Item) → IsSound h → h.edition ≡ editions.One → root_may h s ≡ true → RootSays h log → RootSays (root_after h s) (Did s number entries ∷ log)
+root_goes h (Register v) number entries log sound first may says = elim (registers h v sound may) [
+  | fresh new most few is ↦ subst (λ w. RootSays w (Did (Register v) number entries ∷ log)) (sym is) (registered_says h v number entries log says)
+  | reused vacated few is ↦ let bad : editions.One ≡ editions.Two = sym first ∙ vacated.two in absurd (cc)
+]
+root_goes h (Gather v) number entries log sound first may says =
     let a = and_parts _ _ may in
     let b = and_parts _ _ a.0 in
     let c = and_parts _ _ b.0 in
@@ -52,16 +61,19 @@ root_goes h (Gather v) number entries log sound may says =
     let there : is_registered h v ≡ true = (and_parts _ _ d.0).0 in
     let inside : v < length h.gathered = omega (arith, ltb-true v (length h.rows) (and_parts _ _ there).1, sound.shaped.gathered) in
     (says.0, λ u. gathered_now h v u (gathered_of log u) inside (says.1 u))
-root_goes h _ number entries log sound may says = absurd (true≢false (sym may))
+root_goes h _ number entries log sound first may says = absurd (true≢false (sym may))
 
 -- nobody registers number 0, so the root's items never begin anew
 never_again : (h : Heap) (s : Step) (number : ℕ) (entries : List ℕ) → IsSound h → root_may h s ≡ true → is_start 0 (Did s number entries) ≡ false
-never_again h (Register v) number entries sound may = ne_eqb v 0 (λ e. omega (arith, e, eqb-true v (length h.rows) (and_parts _ _ may).0, sound.shaped.root))
+never_again h (Register v) number entries sound may = ne_eqb v 0 (λ e. elim (registers h v sound may) [
+  | fresh new most few is ↦ omega (arith, e, new, sound.shaped.root)
+  | reused vacated few is ↦ omega (arith, e, vacated.thread)
+])
 never_again h _ number entries sound may = refl
 
-did_says : (h : Heap) (u : ℕ) (s : Step) (number : ℕ) (entries : List ℕ) (log : List Item) → IsReached h → enabled h (record { thread = u; step = s }) ≡ true → RootSays h log
+did_says : (h : Heap) (u : ℕ) (s : Step) (number : ℕ) (entries : List ℕ) (log : List Item) → IsReached h → h.edition ≡ editions.One → enabled h (record { thread = u; step = s }) ≡ true → RootSays h log
     → RootSays (after h (record { thread = u; step = s })) (with_item 0 u (Did s number entries) log)
-did_says h u s number entries log reached ok says =
+did_says h u s number entries log reached first ok says =
     let item : Item = Did s number entries in
     let moved : Heap = after_target h u s (target_at h u s) in
     let sound : IsSound h = reached_sound h reached in
@@ -69,7 +81,7 @@ did_says h u s number entries log reached ok says =
       | inl root ↦
           let may : root_may h s ≡ true = subst (λ b. (if b then root_may h s else thread_may h u s) ≡ true) root ok in
           subst (λ b. RootSays (if b then root_after h s else moved) (with_item 0 u item log)) (sym root)
-          (subst (RootSays (root_after h s)) (sym (mine_too 0 u item log (never_again h s number entries sound may) root)) (root_goes h s number entries log sound may says))
+          (subst (RootSays (root_after h s)) (sym (mine_too 0 u item log (never_again h s number entries sound may) root)) (root_goes h s number entries log sound first may says))
       | inr thread ↦
           let may : May h u s = may_parts h u s (subst (λ b. (if b then root_may h s else thread_may h u s) ≡ true) thread ok) in
           subst (λ b. RootSays (if b then root_after h s else moved) (with_item 0 u item log)) (sym thread)
@@ -87,7 +99,8 @@ item_says : (cells limit u : ℕ) (item : Item) (items : ItemRun) → AreOptions
     → RootSays (world_of_items (opening cells limit) items) (own 0 items)
     → RootSays (world_after (opening cells limit) (with_event u item (events_of items))) (with_item 0 u item (own 0 items))
 item_says cells limit u (Did s number entries) items options are comes says =
-    did_says (world_of_items (opening cells limit) items) u s number entries (own 0 items) (run_reached cells limit (events_of items) options (events_run (opening cells limit) items are)) comes.0 says
+    did_says (world_of_items (opening cells limit) items) u s number entries (own 0 items) (run_reached cells limit (events_of items) options (events_run (opening cells limit) items are))
+    (run_edition (opening cells limit) (events_of items)) comes.0 says
 item_says cells limit u (Saw word number) items options are comes says = noted_says (world_of_items (opening cells limit) items) u (Saw word number) (own 0 items) refl says says
 item_says cells limit u (Lost word number) items options are comes says = noted_says (world_of_items (opening cells limit) items) u (Lost word number) (own 0 items) refl says says
 

@@ -7,7 +7,7 @@ use Rattle.brc_runs.specs.declared.event.Dropped.TheVariants as dropped
 use Rattle.brc_runs.specs.declared.event.LastDropped.TheVariants as lasts
 use Rattle.brc_runs.specs.declared.event.Event.{Event}
 use Rattle.brc_runs.specs.declared.event.Step.{Step}
-use Rattle.brc_runs.specs.declared.event.Step.TheVariants.{Birth, SeeZero, MergeZero, LastDown, Enqueue, Unlock, Lock}
+use Rattle.brc_runs.specs.declared.event.Step.TheVariants.{Birth, SeeZero, MergeZero, MergeAdd, LastDown, Enqueue, Unlock, Lock}
 use Rattle.brc_runs.specs.declared.cell.Cell.{Cell}
 use Rattle.brc_runs.specs.declared.row.Phase.TheVariants as phases
 use Rattle.brc_runs.specs.Lists.{is_marked, is_unmarked, front_of}
@@ -138,6 +138,7 @@ marked_entries h t s c q reached may named on =
 taken_entries : (h : Heap) (t : ℕ) (s : Step) (c : ℕ) → IsReached h → May h t s → target_at h t s ≡ Some c → takes_block s (cell_at h c) ≡ true → entries_at (stepped h t s c) c ≡ entries_at h c
 taken_entries h t (SeeZero d) c reached may named takes = refl
 taken_entries h t (MergeZero d) c reached may named takes = refl
+taken_entries h t (MergeAdd d) c reached may named takes = refl
 taken_entries h t (LastDown (lasts.Popped d)) c reached may named takes = refl
 taken_entries h t (LastDown lasts.Hand) c reached may named takes = refl
 taken_entries h t (LastDown (lasts.Dropped (dropped.Frame k))) c reached may named takes = refl

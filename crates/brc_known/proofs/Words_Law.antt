@@ -1,12 +1,12 @@
 -- A thread's step changes the number of one word alone.
 use Rattle.std.proofs.Common.{◌≡◌, ◌≢◌, ℕ, ◌+◌, ◌*◌, ◌/◌, ◌<◌, ◌&&◌, nat_lt, Bool, true, false, if◌then◌else◌, List, [], length, set, get_or, Option, Some, None, refl, sym, ◌∙◌, ap, subst, inl, inr, arith}
 use Rattle.std.proofs.lemmas.List.{length-set, get_or-set_same, get_or_past}
-use Rattle.std.proofs.lemmas.Bool.{le-ltb, lt-ltb, cases_lt, cases_eq, eq-eqb, ne_eqb, eqb-true, true≢false, and_parts}
+use Rattle.std.proofs.lemmas.Bool.{le-ltb, lt-ltb, le-leb, lt-leb, cases_lt, cases_eq, eq-eqb, ne_eqb, eqb-true, true≢false, and_parts}
 use Rattle.brc_words.specs.declared.owner.Owner.{Owner as Owners}
 use Rattle.brc_words.specs.declared.owner.Owner.TheVariants as owners
 use Rattle.brc_runs.specs.declared.cell.Cell.{Cell}
 use Rattle.brc_runs.specs.declared.event.Step.{Step}
-use Rattle.brc_runs.specs.declared.event.Step.TheVariants.{Claim, InitLocal, InitShared, Birth, LocalUp, LocalDown, Free, Untie, MergeZero, SharedUp, SharedDown, Ask, LastDown, Enqueue, Drain, MergeAdd, Close, Nudge, Wake, Lock, Unlock}
+use Rattle.brc_runs.specs.declared.event.Step.TheVariants.{Claim, InitLocal, InitShared, Birth, LocalUp, LocalDown, Free, Untie, MergeZero, SharedUp, SharedDown, Ask, LastDown, Enqueue, Drain, MergeAdd, Close, Nudge, Wake, Lock, Unlock, Offer, Reopen}
 use Rattle.brc_runs.specs.declared.row.Hand.TheVariants as hands
 use Rattle.brc_runs.specs.declared.row.Phase.TheVariants as phases
 use Rattle.brc_runs.specs.declared.row.Row.{Row}
@@ -16,11 +16,11 @@ use Rattle.brc_runs.specs.Lists.{word_at}
 use Rattle.brc_runs.specs.Heap.{Heap, cell_at, row_at, queue_at, no_cell, no_row, is_registered, is_immortal, words_for}
 use Rattle.brc_runs.specs.Holding.{lives}
 use Rattle.brc_runs.specs.Runs.{IsReached}
-use Rattle.brc_runs.specs.Steps.{cell_after, after_target, stepped, is_default, is_free, is_closed, is_shut, closed_more, closes_next, queues_with, own_ok_at, cell_ok, target_at, target_ok}
+use Rattle.brc_runs.specs.Steps.{cell_after, after_target, stepped, is_default, is_free, is_closed, is_shut, closed_more, closes_next, opened_more, opens_next, queues_with, own_ok_at, cell_ok, target_at, target_ok}
 use Rattle.brc_lasting.specs.Ranges.{OwnerFits}
 use Rattle.brc_known.specs.Free_Words.{is_free_cell, free_bits, ShowsOwner}
 use Rattle.brc_known.specs.Items.{Field, Owner, Local, Shared, Mutex, Word, Of, Queue, NotifyWord, FreeWord, word_in, field_of, same_field, works_on, IsWord, Shows, ShowsQueue}
-use Rattle.brc_runs.proofs.Asking.{May, OnCell, on_cell, UntieWay, at_end, shut_out, from_queue, untie_way}
+use Rattle.brc_runs.proofs.Asking.{May, OnCell, on_cell, UntieWay, at_end, shut_out, handed_over, from_queue, untie_way}
 use Rattle.brc_runs.proofs.Changes.{read_here, read_there}
 use Rattle.brc_runs.proofs.Merging.{carried_held}
 use Rattle.brc_runs.proofs.Naming.{busy_hand, busy_carrier}
@@ -63,6 +63,7 @@ field_kept Shared t (SharedDown drop) c x plain apart = absurd (true≢false apa
 field_kept Shared t (Ask drop) c x plain apart = absurd (true≢false apart)
 field_kept Shared t (LastDown last) c x plain apart = absurd (true≢false apart)
 field_kept Shared t (MergeAdd d) c x plain apart = absurd (true≢false apart)
+field_kept Shared t (Offer d) c x plain apart = absurd (true≢false apart)
 field_kept Mutex t (Lock k) c x plain apart = absurd (true≢false apart)
 field_kept Mutex t (Unlock change) c x plain apart = absurd (true≢false apart)
 field_kept Shared t (LocalUp source k) c x plain apart = either_way Shared (is_immortal c) x _ refl
@@ -181,7 +182,8 @@ untied_taken h t c reached may = by_way (untie_way h t c (reached_sound h reache
 
     by_way : UntieWay h t c → is_free (cell_at h c).owner ≡ false
     by_way (at_end hand owner) = ap is_free owner
-    by_way (shut_out hand owned) = taken_live (cell_at h c).owner (held_live h c (reached_sound h reached) (carried_held h t c (busy_carrier phases.Shut c (row_at h t).hand refl hand)))
+    by_way (shut_out hand owned first) = taken_live (cell_at h c).owner (held_live h c (reached_sound h reached) (carried_held h t c (busy_carrier phases.Shut c (row_at h t).hand refl hand)))
+    by_way (handed_over hand owner) = ap is_free owner
     by_way (from_queue hand bit owner) = ap is_free owner
 
 -- a step but these two leaves a cell free that is free, and makes none free
@@ -256,6 +258,23 @@ closed_else words k j (stages.Closing n) next inside other =
           ]
     ]
 closed_else words k j stages.Left next inside other = absurd (true≢false (sym next))
+closed_else words k j (stages.Opening n) next inside other = absurd (true≢false (sym next))
+
+-- the next word is opened again, and all others are as they were
+opened_else : (words k j : ℕ) (stage : Stage) → opens_next stage k ≡ true → j < words → j ≢ k → is_closed (opened_more words k) j ≡ is_closed stage j
+opened_else words k j stages.Active next inside other = absurd (true≢false (sym next))
+opened_else words k j (stages.Closing n) next inside other = absurd (true≢false (sym next))
+opened_else words k j stages.Left next inside other = absurd (true≢false (sym next))
+opened_else words k j (stages.Opening n) next inside other =
+    let same : k ≡ n = eqb-true k n next in
+    elim (cases_eq (k + 1) words) [
+      | inl last ↦ ap (λ b. is_closed (if b then stages.Active else stages.Opening (k + 1)) j) (eq-eqb (k + 1) words last) ∙ sym (lt-leb n j (omega (arith, last, inside, other, same)))
+      | inr more ↦ ap (λ b. is_closed (if b then stages.Active else stages.Opening (k + 1)) j) (ne_eqb (k + 1) words more)
+          ∙ elim (cases_lt j n) [
+            | inl low ↦ lt-leb (k + 1) j (omega (arith, low, same)) ∙ sym (lt-leb n j low)
+            | inr high ↦ le-leb (k + 1) j (omega (arith, high, same, other)) ∙ sym (le-leb n j high)
+          ]
+    ]
 
 queue_closed : (h : Heap) (t : ℕ) (s : Step) (o : Option ℕ) (u j : ℕ) → own_ok_at h t s ≡ true → j < words_for (length h.cells) → Queue u j ≢ works_on h t s o
     → is_closed (row_at (after_target h t s o) u).stage j ≡ is_closed (row_at h u).stage j
@@ -263,7 +282,12 @@ queue_closed h t s (Some c) u j own inside other = kept_by (λ (row : Row). is_c
 queue_closed h t (Close k) None u j own inside other = elim (cases_eq u t) [
   | inr apart ↦ ap (λ (row : Row). is_closed row.stage j) (read_there h.rows t u _ no_row apart)
   | inl same ↦ kept_by (λ (row : Row). is_closed row.stage j) h.rows t _ no_row
-      (closed_else (words_for (length h.cells)) k j (row_at h t).stage (and_parts _ _ (and_parts _ _ (and_parts _ _ (and_parts _ _ own).0).0).0).1 inside (λ e. other (ap (λ v. Queue v j) same ∙ ap (Queue t) e))) u
+      (closed_else (words_for (length h.cells)) k j (row_at h t).stage (and_parts _ _ (and_parts _ _ (and_parts _ _ own).0).0).1 inside (λ e. other (ap (λ v. Queue v j) same ∙ ap (Queue t) e))) u
+]
+queue_closed h t (Reopen k) None u j own inside other = elim (cases_eq u t) [
+  | inr apart ↦ ap (λ (row : Row). is_closed row.stage j) (read_there h.rows t u _ no_row apart)
+  | inl same ↦ kept_by (λ (row : Row). is_closed row.stage j) h.rows t _ no_row
+      (opened_else (words_for (length h.cells)) k j (row_at h t).stage (and_parts _ _ own).1 inside (λ e. other (ap (λ v. Queue v j) same ∙ ap (Queue t) e))) u
 ]
 queue_closed h t _ None u j own inside other = kept_by (λ (row : Row). is_closed row.stage j) h.rows t _ no_row refl u
 

@@ -7,13 +7,13 @@ use Rattle.brc_runs.specs.declared.event.Dropped.{Dropped}
 use Rattle.brc_runs.specs.declared.event.Dropped.TheVariants as dropped
 use Rattle.brc_runs.specs.declared.event.LastDropped.TheVariants as lasts
 use Rattle.brc_runs.specs.declared.event.Step.{Step}
-use Rattle.brc_runs.specs.declared.event.Step.TheVariants.{Claim, InitLocal, InitShared, Birth, LocalUp, LocalDown, SeeZero, Free, Untie, MergeZero, SharedUp, SharedDown, Ask, LastDown, Enqueue, Drain, MergeAdd, Close, Lock, Unlock}
+use Rattle.brc_runs.specs.declared.event.Step.TheVariants.{Claim, InitLocal, InitShared, Birth, LocalUp, LocalDown, SeeZero, Free, Untie, MergeZero, SharedUp, SharedDown, Ask, LastDown, Enqueue, Drain, MergeAdd, Close, Reopen, Offer, Lock, Unlock}
 use Rattle.brc_runs.specs.declared.row.Hand.{Hand}
 use Rattle.brc_runs.specs.declared.row.Hand.TheVariants as hands
 use Rattle.brc_runs.specs.declared.row.Phase.TheVariants as phases
 use Rattle.brc_runs.specs.Lists.{filled, without_bit}
 use Rattle.brc_runs.specs.Heap.{is_immortal, words_for}
-use Rattle.brc_runs.specs.Steps.{takes_block, is_default, untied_hand, added_hand, frame_without, frame_changed, entries_changed, closed_more}
+use Rattle.brc_runs.specs.Steps.{takes_block, is_default, untied_hand, added_hand, frame_without, frame_changed, entries_changed, closed_more, opened_more}
 use Rattle.brc_known.specs.Items.{Item, Part, part_of, cell_told, state_told, is_shut_word, put, has_found, has_without, popped_told}
 use Rattle.brc_known.specs.Counts.{counts_of}
 use Rattle.brc_known.specs.Taken.{Blocks, taken_of, cut_by, taken_on, off}
@@ -134,6 +134,10 @@ unlocking change c old = record old {
 abbrev pub closing : ℕ → ℕ → Known → Known
 closing cells k old = record old { part = record old.part { row = record old.part.row { stage = closed_more (words_for cells) k } }; counts = λ d. 0 }
 
+-- one queue word more of a number that is used again is open
+abbrev pub reopening : ℕ → ℕ → Known → Known
+reopening cells k old = record old { part = record old.part { row = record old.part.row { stage = opened_more (words_for cells) k } } }
+
 -- ---- the table
 
 -- after a step that means the cell c, with the number that it was told and the entries that it found
@@ -155,7 +159,8 @@ knows_after (LastDown (lasts.Dropped drop)) c number entries old = dropping_last
 knows_after (LastDown (lasts.Popped d)) c number entries old = settling d (taking (takes_block (LastDown (lasts.Popped d)) (cell_told (LastDown (lasts.Popped d)) number)) c entries old)
 knows_after (LastDown lasts.Hand) c number entries old = handing hands.Free (taking (takes_block (LastDown lasts.Hand) (cell_told (LastDown lasts.Hand) number)) c entries old)
 knows_after (Enqueue d) c number entries old = handing (if is_shut_word number then hands.Busy phases.Shut c else hands.Free) old
-knows_after (MergeAdd d) c number entries old = handing (added_hand c old.part.row.hand) old
+knows_after (MergeAdd d) c number entries old = handing (added_hand c old.part.row.hand) (taking (takes_block (MergeAdd d) (cell_told (MergeAdd d) number)) c entries old)
+knows_after (Offer d) c number entries old = handing (hands.Busy phases.Offered c) old
 knows_after (Lock k) c number entries old = locking k c entries old
 knows_after (Unlock change) c number entries old = unlocking change c old
 knows_after _ c number entries old = old
@@ -164,6 +169,7 @@ knows_after _ c number entries old = old
 abbrev pub knows_apart : ℕ → Step → ℕ → Known → Known
 knows_apart cells (Drain k) number old = popping k number old
 knows_apart cells (Close k) number old = closing cells k (popping k number old)
+knows_apart cells (Reopen k) number old = reopening cells k old
 knows_apart cells _ number old = old
 
 -- ---- what a step leaves as it was

@@ -10,7 +10,7 @@ use Rattle.brc_words.specs.declared.state.State.TheVariants as states
 use Rattle.brc_runs.specs.declared.cell.Cell.{Cell}
 use Rattle.brc_runs.specs.declared.event.Event.{Event}
 use Rattle.brc_runs.specs.declared.event.Step.{Step}
-use Rattle.brc_runs.specs.declared.event.Step.TheVariants.{Claim, InitLocal, InitShared, Birth, LocalUp, LocalDown, Free, Untie, Enqueue, Drain, MergeAdd, Close, Nudge, Wake, Lock, Unlock, Register}
+use Rattle.brc_runs.specs.declared.event.Step.TheVariants.{Claim, InitLocal, InitShared, Birth, LocalUp, LocalDown, Free, Untie, Enqueue, Drain, MergeAdd, Close, Nudge, Wake, Lock, Unlock, Register, Reopen}
 use Rattle.brc_runs.specs.declared.event.Dropped.{Dropped}
 use Rattle.brc_runs.specs.declared.event.Dropped.TheVariants as dropped
 use Rattle.brc_runs.specs.declared.row.Row.{Row}
@@ -139,6 +139,7 @@ works_on h t (Enqueue d) (Some c) = Queue (cell_at h c).bearer (c / 32)
 works_on h t s (Some c) = Of (field_of s) c
 works_on h t (Nudge u k) None = NotifyWord u
 works_on h t Wake None = NotifyWord t
+works_on h t (Reopen k) None = Queue t k
 works_on h t s None = Queue t (number_in (drained_word s))
 
 -- the words of a heap of so many cells

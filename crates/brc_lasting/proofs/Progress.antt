@@ -1,19 +1,22 @@
 -- What a thread has in its hand it can go on with, and what it holds it can give up: the conditions of the steps are met.
-use Rattle.std.proofs.Common.{◌≡◌, ◌≢◌, ℕ, ◌<◌, ◌≤◌, ◌==◌, ◌&&◌, ◌||◌, not, Bool, true, false, if◌then◌else◌, List, [], length, Option, Some, None, refl, sym, ◌∙◌, ap, subst, inl, inr, ◌⊎◌, arith, get_or, count_by, is_some}
+use Rattle.std.proofs.Common.{◌≡◌, ◌≢◌, ℕ, ◌<◌, ◌≤◌, ◌==◌, ◌&&◌, ◌||◌, not, Bool, true, false, if◌then◌else◌, List, [], zero, suc, length, Option, Some, None, refl, sym, ◌∙◌, ap, subst, inl, inr, ◌⊎◌, arith, get_or, count_by, is_some}
 use Rattle.std.proofs.lemmas.List.{get_or_past}
-use Rattle.std.proofs.lemmas.Bool.{cases_lt, cases_Bool, eq-eqb, ne_eqb, and_parts, ltb-true, lt-ltb, true≢false}
+use Rattle.std.proofs.lemmas.Bool.{cases_lt, cases_Bool, eq-eqb, eqb-true, ne_eqb, and_parts, ltb-true, lt-ltb, true≢false}
 use Rattle.brc_words.specs.declared.limits.TheConstants.{FIRST_MORTAL}
+use Rattle.brc_words.specs.declared.owner.Owner.{Owner}
 use Rattle.brc_words.specs.declared.owner.Owner.TheVariants as owners
 use Rattle.brc_words.specs.declared.kind.Kind.{Kind}
 use Rattle.brc_words.specs.Kinds.{is_mortal}
 use Rattle.brc_runs.specs.Phases.{is_active_phase}
 use Rattle.brc_runs.specs.declared.cell.Cell.{Cell}
+use Rattle.brc_runs.specs.declared.edition.Edition.{Edition}
 use Rattle.brc_runs.specs.declared.edition.Edition.TheVariants as editions
 use Rattle.brc_runs.specs.declared.event.Step.{Step}
-use Rattle.brc_runs.specs.declared.event.Step.TheVariants.{InitLocal, InitShared, Birth, LocalDown, SeeZero, Free, Untie, MergeZero, Ask, LastDown, Enqueue, MergeAdd, Unlock, Close, Gather}
+use Rattle.brc_runs.specs.declared.event.Step.TheVariants.{InitLocal, InitShared, Birth, LocalDown, SeeZero, Free, Untie, MergeZero, Ask, LastDown, Enqueue, MergeAdd, Unlock, Close, Reopen, Offer, Gather}
 use Rattle.brc_runs.specs.declared.event.Dropped.{Dropped}
 use Rattle.brc_runs.specs.declared.event.Dropped.TheVariants as dropped
 use Rattle.brc_runs.specs.declared.event.LastDropped.TheVariants as lasts
+use Rattle.brc_runs.specs.declared.row.Row.{Row}
 use Rattle.brc_runs.specs.declared.row.Hand.{Hand}
 use Rattle.brc_runs.specs.declared.row.Hand.TheVariants as hands
 use Rattle.brc_runs.specs.declared.row.Phase.{Phase}
@@ -22,18 +25,21 @@ use Rattle.brc_runs.specs.declared.row.Stage.{Stage}
 use Rattle.brc_runs.specs.declared.row.Stage.TheVariants as stages
 use Rattle.brc_runs.specs.Lists.{is_marked, bit_of, is_bare, is_unmarked, place_at, word_at, is_blank}
 use Rattle.brc_runs.specs.Heap.{Heap, cell_at, entries_at, row_at, frame_at, popped_at, worklist_at, no_cell, is_immortal, words_for}
-use Rattle.brc_runs.specs.Steps.{enabled, root_may, thread_may, stage_ok, lock_ok, hand_ok, own_ok_at, others_ok, target_at, target_ok, cell_ok, dropped_cell, may_after_leaving, needs_lock, is_at, is_active, is_vacant, is_mine, is_default, is_merged, is_nobody, is_queued, is_owned_by, cell_in_hand, untie_ok, untied_ok, ends_ok, is_free_hand, closes_next, is_left, locked_cell, edition_ok, may_leave}
+use Rattle.brc_runs.specs.Steps.{enabled, root_may, thread_may, stage_ok, lock_ok, hand_ok, own_ok_at, others_ok, target_at, target_ok, cell_ok, dropped_cell, may_after_leaving, needs_lock, is_at, is_active, is_vacant, is_mine, is_default, is_merged, is_nobody, is_queued, is_owned_by, cell_in_hand, untie_ok, untied_ok, ends_ok, is_free_hand, closes_next, opens_next, is_left, locked_cell, edition_ok, may_leave, owned_are_marked, is_shut_hand}
 use Rattle.brc_runs.specs.Runs.{IsReached}
-use Rattle.brc_runs.specs.Sound.{IsSound, held}
+use Rattle.brc_runs.specs.Sound.{IsSound, ShutFits, held, gripped, rests}
 use Rattle.brc_lasting.specs.Staying.{Tells, PoppedTells}
 use Rattle.brc_lasting.specs.Progress.{Stands, IsAtRest, next_step, release_step, popped_step}
-use Rattle.brc_runs.proofs.Naming.{busy_carrier}
-use Rattle.brc_runs.proofs.Merging.{active_now, held_owner, popped_held, carried_held}
-use Rattle.brc_runs.proofs.Counting.{sum_none}
+use Rattle.brc_runs.proofs.Naming.{busy_carrier, no_mark}
+use Rattle.brc_runs.proofs.Merging.{active_now, held_owner, popped_held, carried_held, idle_apart, owner_alone}
+use Rattle.brc_runs.proofs.Counting.{sum_none, local_positive, held_unmarked}
 use Rattle.brc_runs.proofs.Dropping.{dropped_held}
 use Rattle.brc_lasting.proofs.Lasting.{held_live, live_owner}
 use Rattle.brc_lasting.proofs.Telling.{hand_tells, popped_tells}
+use Rattle.brc_lasting.proofs.Adding_Hands.{never_takes, pops_active}
 use Rattle.brc_runs.proofs.Reached.{reached_sound}
+use Rattle.brc_runs.proofs.Leaving.{owned_mortal, left_marked, none_counted, closing_leaves}
+pub use Rattle.brc_runs.proofs.Leaving.{none_marked}
 use Rattle.brc_runs.specs.declared.event.Change.TheVariants as changes
 
 -- ---- tests put together
@@ -124,11 +130,11 @@ hand_taken h t c p reached busy = by_phase p busy (hand_tells h t c p reached bu
     by_phase phases.Popping at tells free = let bad : owners.Nobody ≡ owners.Free = sym tells.0 ∙ free in cc
 
 -- what is common to all phases
-goes_on : (h : Heap) (t c : ℕ) (p : Phase) (s : Step) → IsReached h → h.edition ≡ editions.One → Stands h t → (row_at h t).hand ≡ hands.Busy p c → (is_active_phase p ≡ true) ⊎ (may_after_leaving s ≡ true) → needs_lock s ≡ false
-    → edition_ok editions.One (row_at h t) s ≡ true
+goes_on : (h : Heap) (t c : ℕ) (p : Phase) (s : Step) → IsReached h → Stands h t → (row_at h t).hand ≡ hands.Busy p c → (is_active_phase p ≡ true) ⊎ (may_after_leaving s ≡ true) → needs_lock s ≡ false
+    → edition_ok h.edition (row_at h t) s ≡ true
     → hand_ok (hands.Busy p c) s ≡ true → own_ok_at h t s ≡ true → others_ok h t s ≡ true → target_at h t s ≡ Some c → cell_ok h.limit t (row_at h t) s c (cell_at h c) ≡ true
     → enabled h (record { thread = t; step = s }) ≡ true
-goes_on h t c p s reached first stands busy stage plain edition hand own others named cell =
+goes_on h t c p s reached stands busy stage plain edition hand own others named cell =
     let sound : IsSound h = reached_sound h reached in
     let thread = busy_thread h t c p sound busy in
     is_enabled h t s c (record {
@@ -136,7 +142,7 @@ goes_on h t c p s reached first stands busy stage plain edition hand own others 
       unlocked = thread.1;
       not_closing = thread.0;
       not_opening = thread.2;
-      edition = ap (λ e. edition_ok e (row_at h t) s) first ∙ edition;
+      edition = edition;
       stage = elim stage [ inl active ↦ inl (active_now h t c p sound busy active) | inr may ↦ inr may ];
       no_lock = plain;
       hand = ap (λ g. hand_ok g s) busy ∙ hand;
@@ -150,73 +156,102 @@ goes_on h t c p s reached first stands busy stage plain edition hand own others 
 here : (c : ℕ) → (c == c) ≡ true
 here c = eq-eqb c c refl
 
+-- a step that both editions have
+in_both : (e : Edition) (row : Row) (s : Step) → edition_ok editions.One row s ≡ true → edition_ok editions.Two row s ≡ true → edition_ok e row s ≡ true
+in_both editions.One row s one two = one
+in_both editions.Two row s one two = two
+
+-- an active thread may untie, but for what came late to a closed word
+unties_in : (e : Edition) (row : Row) (c : ℕ) → (e ≡ editions.Two → (is_active row.stage ≡ true) × (is_shut_hand row.hand ≡ false)) → edition_ok e row (Untie c) ≡ true
+unties_in editions.One row c fits = refl
+unties_in editions.Two row c fits = let both = fits refl in and_both _ _ both.0 (ap not both.1)
+
+adds_in : (e : Edition) (row : Row) (c : ℕ) → (e ≡ editions.Two → is_active row.stage ≡ true) → edition_ok e row (MergeAdd c) ≡ true
+adds_in editions.One row c fits = refl
+adds_in editions.Two row c fits = fits refl
+
 -- an untying hand passes the test on popped entries, and one of the other two as well
 untie_hand : (b : Bool) → b ≡ true → (b || false || false || false) ≡ true
 untie_hand true e = refl
 untie_hand false e = absurd (true≢false (sym e))
 
+-- what came late to a closed word is nobody's in the second edition
+shut_nobodys : (e : Edition) (h : Heap) (t c : ℕ) → e ≡ editions.Two → ShutFits e (cell_at h c) (row_at h (cell_at h c).bearer).stage c → is_nobody (cell_at h c).owner ≡ true
+shut_nobodys editions.One h t c is fits = absurd (cc)
+shut_nobodys editions.Two h t c is fits = ap is_nobody fits
+
 -- the next step of a hand is enabled; a ready object may be born in any vacant place
-pub hands_go_on : (h : Heap) (t c : ℕ) (p : Phase) → IsReached h → h.edition ≡ editions.One → Stands h t → (row_at h t).hand ≡ hands.Busy p c → p ≢ phases.Ready
+pub hands_go_on : (h : Heap) (t c : ℕ) (p : Phase) → IsReached h → Stands h t → (row_at h t).hand ≡ hands.Busy p c → p ≢ phases.Ready
     → enabled h (record { thread = t; step = next_step p c (cell_at h c) }) ≡ true
-hands_go_on h t c phases.Claimed reached first stands busy other = goes_on h t c phases.Claimed (InitLocal c) reached first stands busy (inl refl) refl refl (here c) refl refl refl refl
-hands_go_on h t c phases.Counted reached first stands busy other = goes_on h t c phases.Counted (InitShared c) reached first stands busy (inl refl) refl refl (here c) refl refl refl refl
-hands_go_on h t c phases.Ready reached first stands busy other = absurd (other refl)
-hands_go_on h t c phases.Zero reached first stands busy other = goes_on h t c phases.Zero (SeeZero c) reached first stands busy (inl refl) refl refl (here c) refl refl refl refl
-hands_go_on h t c phases.Over reached first stands busy other =
-    goes_on h t c phases.Over (Untie c) reached first stands busy (inr refl) refl refl (untie_hand (c == c) (here c)) (ap (λ g. untie_ok g (popped_at h t) c) busy) refl refl (ap (λ g. untied_ok t g (cell_at h c)) busy)
-hands_go_on h t c phases.Untied reached first stands busy other = goes_on h t c phases.Untied (MergeZero c) reached first stands busy (inl refl) refl refl (here c) refl refl refl refl
-hands_go_on h t c phases.Asked reached first stands busy other = goes_on h t c phases.Asked (Enqueue c) reached first stands busy (inr refl) refl refl (here c) refl refl refl refl
-hands_go_on h t c phases.Shut reached first stands busy other =
+hands_go_on h t c phases.Claimed reached stands busy other = goes_on h t c phases.Claimed (InitLocal c) reached stands busy (inl refl) refl (in_both h.edition (row_at h t) (InitLocal c) refl refl) (here c) refl refl refl refl
+hands_go_on h t c phases.Counted reached stands busy other = goes_on h t c phases.Counted (InitShared c) reached stands busy (inl refl) refl (in_both h.edition (row_at h t) (InitShared c) refl refl) (here c) refl refl refl refl
+hands_go_on h t c phases.Ready reached stands busy other = absurd (other refl)
+hands_go_on h t c phases.Zero reached stands busy other = goes_on h t c phases.Zero (SeeZero c) reached stands busy (inl refl) refl (in_both h.edition (row_at h t) (SeeZero c) refl refl) (here c) refl refl refl refl
+hands_go_on h t c phases.Over reached stands busy other =
+    goes_on h t c phases.Over (Untie c) reached stands busy (inl refl) refl
+    (unties_in h.edition (row_at h t) c (λ _. (active_now h t c phases.Over (reached_sound h reached) busy refl, ap is_shut_hand busy)))
+    (untie_hand (c == c) (here c)) (ap (λ g. untie_ok g (popped_at h t) c) busy) refl refl (ap (λ g. untied_ok t g (cell_at h c)) busy)
+hands_go_on h t c phases.Untied reached stands busy other = goes_on h t c phases.Untied (MergeZero c) reached stands busy (inl refl) refl (in_both h.edition (row_at h t) (MergeZero c) refl refl) (here c) refl refl refl refl
+hands_go_on h t c phases.Asked reached stands busy other = goes_on h t c phases.Asked (Enqueue c) reached stands busy (inr refl) refl (in_both h.edition (row_at h t) (Enqueue c) refl refl) (here c) refl refl refl refl
+hands_go_on h t c phases.Shut reached stands busy other =
     let tells : Tells t phases.Shut (cell_at h c) = (hand_tells h t c phases.Shut reached busy).1 in
     elim tells [
       | inl nobodys ↦ subst (λ b. enabled h (record { thread = t; step = if b then LastDown lasts.Hand else Untie c }) ≡ true) (sym (ap is_nobody nobodys.0))
-          (goes_on h t c phases.Shut (LastDown lasts.Hand) reached first stands busy (inr refl) refl refl refl refl refl (ap cell_in_hand busy)
+          (goes_on h t c phases.Shut (LastDown lasts.Hand) reached stands busy (inr refl) refl (in_both h.edition (row_at h t) (LastDown lasts.Hand) refl refl) refl refl refl (ap cell_in_hand busy)
           (and_both _ _ (ap not nobodys.1) (ap (λ g. ends_ok g (cell_at h c)) busy ∙ ap is_nobody nobodys.0)))
       | inr owned ↦ subst (λ b. enabled h (record { thread = t; step = if b then LastDown lasts.Hand else Untie c }) ≡ true) (sym (ap is_nobody owned.1))
-          (goes_on h t c phases.Shut (Untie c) reached first stands busy (inr refl) refl refl (shut_hand (c == c) (here c)) (ap (λ g. untie_ok g (popped_at h t) c) busy) refl refl
+          (goes_on h t c phases.Shut (Untie c) reached stands busy (inr refl) refl
+          (unties_in h.edition (row_at h t) c (λ two. absurd (true≢false (sym (shut_nobodys h.edition h t c two ((reached_sound h reached).hands t c phases.Shut busy).fits) ∙ ap is_nobody owned.1))))
+          (shut_hand (c == c) (here c)) (ap (λ g. untie_ok g (popped_at h t) c) busy) refl refl
           (ap (λ g. untied_ok t g (cell_at h c)) busy ∙ ap (λ o. not (is_nobody o)) owned.1))
     ]
   where
     shut_hand : (b : Bool) → b ≡ true → (false || b || false || false) ≡ true
     shut_hand true e = refl
     shut_hand false e = absurd (true≢false (sym e))
-hands_go_on h t c phases.Taking reached first stands busy other = goes_on h t c phases.Taking (MergeAdd c) reached first stands busy (inr refl) refl refl (add_hand (c == c) (here c)) refl refl refl refl
+hands_go_on h t c phases.Taking reached stands busy other =
+    goes_on h t c phases.Taking (MergeAdd c) reached stands busy (inr refl) refl (adds_in h.edition (row_at h t) c (λ two. absurd (never_takes h t c reached two busy))) (add_hand (c == c) (here c)) refl refl refl refl
   where
     add_hand : (b : Bool) → b ≡ true → (b || false || false) ≡ true
     add_hand true e = refl
     add_hand false e = absurd (true≢false (sym e))
-hands_go_on h t c phases.Held reached first stands busy other =
+hands_go_on h t c phases.Held reached stands busy other =
     let tells : Tells t phases.Held (cell_at h c) = (hand_tells h t c phases.Held reached busy).1 in
-    goes_on h t c phases.Held (LastDown lasts.Hand) reached first stands busy (inr refl) refl refl refl refl refl (ap cell_in_hand busy)
+    goes_on h t c phases.Held (LastDown lasts.Hand) reached stands busy (inr refl) refl (in_both h.edition (row_at h t) (LastDown lasts.Hand) refl refl) refl refl refl (ap cell_in_hand busy)
     (and_both _ _ (ap (λ s. not (is_default s)) tells.1) (ap (λ g. ends_ok g (cell_at h c)) busy))
-hands_go_on h t c phases.Popping reached first stands busy other = goes_on h t c phases.Popping (MergeAdd c) reached first stands busy (inr refl) refl refl (popped_hand (c == c) (here c)) refl refl refl refl
+hands_go_on h t c phases.Popping reached stands busy other =
+    goes_on h t c phases.Popping (MergeAdd c) reached stands busy (inr refl) refl (adds_in h.edition (row_at h t) c (λ two. pops_active h t c reached two busy)) (popped_hand (c == c) (here c)) refl refl refl refl
   where
     popped_hand : (b : Bool) → b ≡ true → (b || false) ≡ true
     popped_hand true e = refl
     popped_hand false e = absurd (true≢false (sym e))
-hands_go_on h t c phases.Offered reached first stands busy other =
-    goes_on h t c phases.Offered (Untie c) reached first stands busy (inr refl) refl refl (offered_hand (c == c) (here c)) (ap (λ g. untie_ok g (popped_at h t) c) busy) refl refl (ap (λ g. untied_ok t g (cell_at h c)) busy)
+hands_go_on h t c phases.Offered reached stands busy other =
+    goes_on h t c phases.Offered (Untie c) reached stands busy (inl refl) refl
+    (unties_in h.edition (row_at h t) c (λ _. (active_now h t c phases.Offered (reached_sound h reached) busy refl, ap is_shut_hand busy)))
+    (offered_hand (c == c) (here c)) (ap (λ g. untie_ok g (popped_at h t) c) busy) refl refl (ap (λ g. untied_ok t g (cell_at h c)) busy)
   where
     offered_hand : (b : Bool) → b ≡ true → (b || false) ≡ true
     offered_hand true e = refl
     offered_hand false e = absurd (true≢false (sym e))
-hands_go_on h t c phases.Yielding reached first stands busy other = goes_on h t c phases.Yielding (MergeAdd c) reached first stands busy (inl refl) refl refl (here c) refl refl refl refl
+hands_go_on h t c phases.Yielding reached stands busy other =
+    goes_on h t c phases.Yielding (MergeAdd c) reached stands busy (inl refl) refl
+    (adds_in h.edition (row_at h t) c (λ _. active_now h t c phases.Yielding (reached_sound h reached) busy refl)) (here c) refl refl refl refl
 
-pub births_go_on : (h : Heap) (t c k : ℕ) (kind : Kind) → IsReached h → h.edition ≡ editions.One → Stands h t → (row_at h t).hand ≡ hands.Busy phases.Ready c → is_mortal kind ≡ true → is_vacant (frame_at h t) k ≡ true
+pub births_go_on : (h : Heap) (t c k : ℕ) (kind : Kind) → IsReached h → Stands h t → (row_at h t).hand ≡ hands.Busy phases.Ready c → is_mortal kind ≡ true → is_vacant (frame_at h t) k ≡ true
     → enabled h (record { thread = t; step = Birth c kind k }) ≡ true
-births_go_on h t c k kind reached first stands busy mortal vacant =
-    goes_on h t c phases.Ready (Birth c kind k) reached first stands busy (inl refl) refl refl (here c) (and_both _ _ mortal vacant) refl refl refl
+births_go_on h t c k kind reached stands busy mortal vacant =
+    goes_on h t c phases.Ready (Birth c kind k) reached stands busy (inl refl) refl (in_both h.edition (row_at h t) (Birth c kind k) refl refl) (here c) (and_both _ _ mortal vacant) refl refl refl
 
 -- ---- what a thread holds it can give up
 
-at_rest : (h : Heap) (t c : ℕ) (s : Step) → IsAtRest h t → h.edition ≡ editions.One → may_after_leaving s ≡ true → needs_lock s ≡ false → edition_ok editions.One (row_at h t) s ≡ true → hand_ok hands.Free s ≡ true → own_ok_at h t s ≡ true → others_ok h t s ≡ true
+at_rest : (h : Heap) (t c : ℕ) (s : Step) → IsAtRest h t → may_after_leaving s ≡ true → needs_lock s ≡ false → edition_ok h.edition (row_at h t) s ≡ true → hand_ok hands.Free s ≡ true → own_ok_at h t s ≡ true → others_ok h t s ≡ true
     → target_at h t s ≡ Some c → (cell_at h c).owner ≢ owners.Free → cell_ok h.limit t (row_at h t) s c (cell_at h c) ≡ true → enabled h (record { thread = t; step = s }) ≡ true
-at_rest h t c s rest first may plain edition hand own others named taken cell = is_enabled h t s c (record {
+at_rest h t c s rest may plain edition hand own others named taken cell = is_enabled h t s c (record {
   stands = rest.stands;
   unlocked = rest.unlocked;
   not_closing = rest.not_closing;
   not_opening = rest.not_opening;
-  edition = ap (λ e. edition_ok e (row_at h t) s) first ∙ edition;
+  edition = edition;
   stage = inr may;
   no_lock = plain;
   hand = ap (λ g. hand_ok g s) rest.hand ∙ hand;
@@ -227,21 +262,21 @@ at_rest h t c s rest first may plain edition hand own others named taken cell = 
   cell = cell;
 })
 
-pub references_go : (h : Heap) (t c : ℕ) (drop : Dropped) → IsReached h → h.edition ≡ editions.One → IsAtRest h t → dropped_cell (frame_at h t) (worklist_at h t) (entries_at h) drop ≡ Some c
+pub references_go : (h : Heap) (t c : ℕ) (drop : Dropped) → IsReached h → IsAtRest h t → dropped_cell (frame_at h t) (worklist_at h t) (entries_at h) drop ≡ Some c
     → enabled h (record { thread = t; step = release_step t (row_at h t).stage c (cell_at h c) drop }) ≡ true
-references_go h t c drop reached first rest named =
+references_go h t c drop reached rest named =
     let sound : IsSound h = reached_sound h reached in
     let taken : (cell_at h c).owner ≢ owners.Free = live_owner _ (held_live h c sound (dropped_held h t c drop named)) in
     let P : Bool → Type 0 = λ b. enabled h (record { thread = t; step = if b then LocalDown drop else (if is_default (cell_at h c).state then Ask drop else LastDown (lasts.Dropped drop)) }) ≡ true in
     elim (cases_Bool (is_immortal c || is_mine t (row_at h t).stage (cell_at h c))) [
-      | inl owns ↦ subst P (sym owns) (at_rest h t c (LocalDown drop) rest first refl refl refl refl refl refl named taken owns)
+      | inl owns ↦ subst P (sym owns) (at_rest h t c (LocalDown drop) rest refl refl (in_both h.edition (row_at h t) (LocalDown drop) refl refl) refl refl refl named taken owns)
       | inr apart ↦
           let others : (not (is_immortal c) && not (is_mine t (row_at h t).stage (cell_at h c))) ≡ true = neither (is_immortal c) (is_mine t (row_at h t).stage (cell_at h c)) apart in
           subst P (sym apart) (elim (cases_Bool (is_default (cell_at h c).state)) [
             | inl default ↦ subst (λ b. enabled h (record { thread = t; step = if b then Ask drop else LastDown (lasts.Dropped drop) }) ≡ true) (sym default)
-                (at_rest h t c (Ask drop) rest first refl refl refl refl refl refl named taken others)
+                (at_rest h t c (Ask drop) rest refl refl (in_both h.edition (row_at h t) (Ask drop) refl refl) refl refl refl named taken others)
             | inr asked ↦ subst (λ b. enabled h (record { thread = t; step = if b then Ask drop else LastDown (lasts.Dropped drop) }) ≡ true) (sym asked)
-                (at_rest h t c (LastDown (lasts.Dropped drop)) rest first refl refl refl refl refl refl named taken (and_both _ _ (ap not asked) others))
+                (at_rest h t c (LastDown (lasts.Dropped drop)) rest refl refl (in_both h.edition (row_at h t) (LastDown (lasts.Dropped drop)) refl refl) refl refl refl named taken (and_both _ _ (ap not asked) others))
           ])
     ]
   where
@@ -250,37 +285,39 @@ references_go h t c drop reached first rest named =
     neither false true off = absurd (true≢false off)
     neither false false off = refl
 
-pub popped_go : (h : Heap) (t c : ℕ) → IsReached h → h.edition ≡ editions.One → IsAtRest h t → bit_of (popped_at h t) c ≡ 1 → enabled h (record { thread = t; step = popped_step c (cell_at h c) }) ≡ true
-popped_go h t c reached first rest popped =
+-- so a popped entry that is still the thread's own is an active thread's
+pops_own : (h : Heap) (t c : ℕ) → IsSound h → h.edition ≡ editions.Two → bit_of (popped_at h t) c ≡ 1 → FIRST_MORTAL ≤ c → (cell_at h c).owner ≡ owners.Thread t → is_active (row_at h t).stage ≡ true
+pops_own h t c sound two popped mortal owner = elim (cases_Bool (is_active (row_at h t).stage)) [
+  | inl on ↦ on
+  | inr off ↦ absurd (no_mark _ (held_unmarked h t c sound (popped_held h t c popped)) (left_marked h t c sound two off mortal owner))
+]
+
+pub popped_go : (h : Heap) (t c : ℕ) → IsReached h → IsAtRest h t → bit_of (popped_at h t) c ≡ 1 → enabled h (record { thread = t; step = popped_step c (cell_at h c) }) ≡ true
+popped_go h t c reached rest popped =
     let sound : IsSound h = reached_sound h reached in
     let tells : PoppedTells t (cell_at h c) = popped_tells h t c reached rest.hand popped in
     let taken : (cell_at h c).owner ≢ owners.Free = live_owner _ (held_live h c sound (popped_held h t c popped)) in
     let bit : (bit_of (popped_at h t) c == 1) ≡ true = eq-eqb _ _ popped in
     elim tells [
       | inl merged ↦ subst (λ b. enabled h (record { thread = t; step = if b then LastDown (lasts.Popped c) else Untie c }) ≡ true) (sym (ap is_merged merged))
-          (at_rest h t c (LastDown (lasts.Popped c)) rest first refl refl refl refl bit refl refl taken (and_both _ _ (ap (λ s. not (is_default s)) merged) (ap is_merged merged)))
+          (at_rest h t c (LastDown (lasts.Popped c)) rest refl refl (in_both h.edition (row_at h t) (LastDown (lasts.Popped c)) refl refl) refl bit refl refl taken (and_both _ _ (ap (λ s. not (is_default s)) merged) (ap is_merged merged)))
       | inr own ↦ subst (λ b. enabled h (record { thread = t; step = if b then LastDown (lasts.Popped c) else Untie c }) ≡ true) (sym (ap is_merged own.1))
-          (at_rest h t c (Untie c) rest first refl refl refl refl (ap (λ g. untie_ok g (popped_at h t) c) rest.hand ∙ bit) refl refl taken
+          (at_rest h t c (Untie c) rest refl refl
+          (unties_in h.edition (row_at h t) c (λ two. (pops_own h t c sound two popped (owned_mortal h t c sound own.0) own.0, ap is_shut_hand rest.hand)))
+          refl (ap (λ g. untie_ok g (popped_at h t) c) rest.hand ∙ bit) refl refl taken
           (ap (λ g. untied_ok t g (cell_at h c)) rest.hand ∙ and_both _ _ (ap (is_owned_by t) own.0 ∙ here t) (ap is_queued own.1)))
     ]
 
-pub blocks_go : (h : Heap) (t c : ℕ) → IsReached h → h.edition ≡ editions.One → IsAtRest h t → is_marked (worklist_at h t) c ≡ true → entries_at h c ≡ [] → enabled h (record { thread = t; step = Free c }) ≡ true
-blocks_go h t c reached first rest marked empty =
+pub blocks_go : (h : Heap) (t c : ℕ) → IsReached h → IsAtRest h t → is_marked (worklist_at h t) c ≡ true → entries_at h c ≡ [] → enabled h (record { thread = t; step = Free c }) ≡ true
+blocks_go h t c reached rest marked empty =
     let sound : IsSound h = reached_sound h reached in
-    at_rest h t c (Free c) rest first refl refl refl refl (and_both _ _ marked (ap (λ (xs : List ℕ). length xs == 0) empty)) refl refl (live_owner _ (sound.worklists t c marked).lives) refl
+    at_rest h t c (Free c) rest refl refl (in_both h.edition (row_at h t) (Free c) refl refl) refl (and_both _ _ marked (ap (λ (xs : List ℕ). length xs == 0) empty)) refl refl (live_owner _ (sound.worklists t c marked).lives) refl
 
 -- ---- a lock is let go, and a thread that leaves goes on leaving
-
--- tests that none passes are passed by none
-none_counted : {A : Type 0} (f : A → Bool) (xs : List A) (d : A) → ((i : ℕ) → f (get_or xs i d) ≡ false) → (count_by f xs == 0) ≡ true
-none_counted {A} f xs d none = eq-eqb _ 0 (sum_none (λ x. if f x then 1 else 0) xs d (λ i. ap (λ b. if b then 1 else 0) (none i)))
 
 -- a frame without a filled place, marks without a mark, words without a bit
 pub all_vacant : (frame : List (Option ℕ)) → ((k : ℕ) → place_at frame k ≡ None) → is_bare frame ≡ true
 all_vacant frame vacant = none_counted is_some frame None (λ k. ap is_some (vacant k))
-
-pub none_marked : (marks : List Bool) → ((c : ℕ) → is_marked marks c ≡ false) → is_unmarked marks ≡ true
-none_marked marks none = none_counted (λ b. b) marks false none
 
 pub all_blank : (words : List ℕ) → ((k : ℕ) → word_at words k ≡ 0) → is_blank words ≡ true
 all_blank words none = none_counted (λ w. not (w == 0)) words 0 (λ k. ap (λ w. not (w == 0)) (none k))
@@ -305,9 +342,9 @@ may_step h t s asks =
     ∙ and_both _ _ (and_both _ _ (and_both _ _ (and_both _ _ (and_both _ _ (and_both _ _ (and_both _ _ (and_both _ _ asks.stands.registered (ap not asks.stands.here))
     asks.stage) asks.lock) asks.hand) asks.own) asks.others) asks.edition) asks.target
 
-pub locks_go : (h : Heap) (t k : ℕ) → IsReached h → h.edition ≡ editions.One → Stands h t → (row_at h t).locked ≡ Some k
+pub locks_go : (h : Heap) (t k : ℕ) → IsReached h → Stands h t → (row_at h t).locked ≡ Some k
     → enabled h (record { thread = t; step = Unlock changes.Keep }) ≡ true
-locks_go h t k reached first stands locked =
+locks_go h t k reached stands locked =
     let sound : IsSound h = reached_sound h reached in
     let lock = sound.locks t k locked in
     let named : locked_cell (frame_at h t) (row_at h t).locked ≡ Some lock.0 = ap (locked_cell (frame_at h t)) locked ∙ lock.1.names in
@@ -318,7 +355,7 @@ locks_go h t k reached first stands locked =
       hand = ap is_free_hand ((sound.threads t).locked_hand k locked);
       own = refl;
       others = refl;
-      edition = ap (λ e. edition_ok e (row_at h t) (Unlock changes.Keep)) first;
+      edition = in_both h.edition (row_at h t) (Unlock changes.Keep) refl refl;
       target = ap (target_ok h t (row_at h t) (Unlock changes.Keep)) named
           ∙ and_both _ _ (lt-ltb lock.0 (length h.cells) (locked_inside lock.0 lock.1.names)) refl;
     })
@@ -338,8 +375,8 @@ locks_go h t k reached first stands locked =
     ])
 
 -- the next word of a closing thread may be closed
-pub closings_go : (h : Heap) (t n : ℕ) → IsReached h → h.edition ≡ editions.One → Stands h t → (row_at h t).stage ≡ stages.Closing n → enabled h (record { thread = t; step = Close n }) ≡ true
-closings_go h t n reached first stands closing =
+pub closings_go : (h : Heap) (t n : ℕ) → IsReached h → Stands h t → (row_at h t).stage ≡ stages.Closing n → enabled h (record { thread = t; step = Close n }) ≡ true
+closings_go h t n reached stands closing =
     let fits = (reached_sound h reached).threads t in
     let closes = fits.closing n closing in
     let off : is_active (row_at h t).stage ≡ false = ap is_active closing in
@@ -351,8 +388,8 @@ closings_go h t n reached first stands closing =
       own = and_both _ _ (and_both _ _ (and_both _ _ (lt-ltb n _ closes.1) (ap (λ g. closes_next g n) closing ∙ eq-eqb n n refl))
           (all_vacant (frame_at h t) (fits.inactive_frame off)))
           (first_of_two _ _ (lt-ltb 0 n closes.0));
-      others = ap (λ e. may_leave e t h.cells (worklist_at h t)) first ∙ none_marked (worklist_at h t) (λ q. fits.closing_work n q first closing);
-      edition = ap (λ e. edition_ok e (row_at h t) (Close n)) first;
+      others = closing_leaves h.edition h t n (reached_sound h reached) refl closing;
+      edition = in_both h.edition (row_at h t) (Close n) refl refl;
       target = refl;
     })
   where
@@ -360,11 +397,11 @@ closings_go h t n reached first stands closing =
     first_of_two true b x = refl
     first_of_two false b x = absurd (true≢false (sym x))
 
--- an active thread that has nothing left may begin to close
-pub leavings_begin : (h : Heap) (t : ℕ) → IsReached h → h.edition ≡ editions.One → IsAtRest h t → (row_at h t).stage ≡ stages.Active
-    → is_bare (frame_at h t) ≡ true → is_unmarked (worklist_at h t) ≡ true → is_blank (popped_at h t) ≡ true
+-- an active thread that has nothing left, and may leave what it owns, may begin to close
+pub leavings_begin : (h : Heap) (t : ℕ) → IsReached h → IsAtRest h t → (row_at h t).stage ≡ stages.Active
+    → is_bare (frame_at h t) ≡ true → may_leave h.edition t h.cells (worklist_at h t) ≡ true → is_blank (popped_at h t) ≡ true
     → enabled h (record { thread = t; step = Close 0 }) ≡ true
-leavings_begin h t reached first rest active bare unmarked blank =
+leavings_begin h t reached rest active bare leaves blank =
     let options = (reached_sound h reached).shaped.options in
     may_step h t (Close 0) (record {
       stands = rest.stands;
@@ -372,10 +409,53 @@ leavings_begin h t reached first rest active bare unmarked blank =
       lock = ap (λ o. lock_ok o (Close 0)) rest.unlocked;
       hand = ap is_free_hand rest.hand;
       own = and_both _ _ (and_both _ _ (and_both _ _ (lt-ltb 0 (words_for (length h.cells)) (omega (arith, options.enough))) (ap (λ g. closes_next g 0) active)) bare) blank;
-      others = ap (λ e. may_leave e t h.cells (worklist_at h t)) first ∙ unmarked;
-      edition = ap (λ e. edition_ok e (row_at h t) (Close 0)) first;
+      others = leaves;
+      edition = in_both h.edition (row_at h t) (Close 0) refl refl;
       target = refl;
     })
+
+-- in the second edition what it owns can be handed over before
+offers_two : (e : Edition) (row : Row) (c : ℕ) → e ≡ editions.Two → edition_ok e row (Offer c) ≡ true
+offers_two editions.One row c is = absurd (let bad : editions.One ≡ editions.Two = is in cc)
+offers_two editions.Two row c is = refl
+
+pub offers_go : (h : Heap) (t c : ℕ) → IsReached h → h.edition ≡ editions.Two → IsAtRest h t → (row_at h t).stage ≡ stages.Active
+    → (cell_at h c).owner ≡ owners.Thread t → is_marked (worklist_at h t) c ≡ false → enabled h (record { thread = t; step = Offer c }) ≡ true
+offers_go h t c reached two rest active owner unmarked = is_enabled h t (Offer c) c (record {
+  stands = rest.stands;
+  unlocked = rest.unlocked;
+  not_closing = rest.not_closing;
+  not_opening = rest.not_opening;
+  edition = offers_two h.edition (row_at h t) c two;
+  stage = inl (ap is_active active);
+  no_lock = refl;
+  hand = ap is_free_hand rest.hand;
+  own = ap not unmarked;
+  others = refl;
+  named = refl;
+  taken = λ free. let bad : owners.Thread t ≡ owners.Free = sym owner ∙ free in cc;
+  cell = ap (is_owned_by t) owner ∙ here t;
+})
+
+-- a number that is used again opens its words one by one
+pub openings_go : (h : Heap) (t n : ℕ) → IsReached h → h.edition ≡ editions.Two → Stands h t → (row_at h t).stage ≡ stages.Opening n → enabled h (record { thread = t; step = Reopen n }) ≡ true
+openings_go h t n reached two stands opening =
+    let fits = (reached_sound h reached).threads t in
+    let opens = fits.opening n opening in
+    may_step h t (Reopen n) (record {
+      stands = stands;
+      stage = ap (λ g. stage_ok g (Reopen n)) opening;
+      lock = ap (λ o. lock_ok o (Reopen n)) (fits.inactive_lock (ap is_active opening));
+      hand = ap is_free_hand opens.1;
+      own = and_both _ _ (lt-ltb n (words_for (length h.cells)) opens.0) (ap (λ g. opens_next g n) opening ∙ here n);
+      others = refl;
+      edition = reopens_two h.edition two;
+      target = refl;
+    })
+  where
+    reopens_two : (e : Edition) → e ≡ editions.Two → edition_ok e (row_at h t) (Reopen n) ≡ true
+    reopens_two editions.One is = absurd (let bad : editions.One ≡ editions.Two = is in cc)
+    reopens_two editions.Two is = refl
 
 -- a thread that has left and has nothing left may be gathered
 pub gatherings_go : (h : Heap) (t : ℕ) → IsReached h → IsAtRest h t → (row_at h t).stage ≡ stages.Left

@@ -24,7 +24,7 @@ use Rattle.brc_runs.specs.Steps.{enabled, after, target_at, cell_after, is_at, i
 use Rattle.brc_runs.specs.Runs.{IsReached}
 use Rattle.brc_runs.specs.Holding.{carries, lives}
 use Rattle.brc_runs.specs.Sound.{IsSound, HandFits, WorklistFits, Untied, grips, grips_by_owner, gripped, held, asks, Offered, Yielding, ShutFits}
-use Rattle.brc_lasting.specs.Staying.{Lasts, SameOwn, Owns, Merges, Adopts, PoppedOwn, Tells, PoppedTells}
+use Rattle.brc_lasting.specs.Staying.{Lasts, SameOwn, Owns, Merges, Yields, Adopts, PoppedOwn, Tells, PoppedTells}
 use Rattle.brc_runs.proofs.Naming.{second, merged_state, nobody_owner, Ungripped, sole_grip, one-le, one-true, sum_one, sum_two, no_bit, busy_hand, busy_carrier, free_owner, third}
 use Rattle.brc_runs.proofs.Asking.{May, OnCell, on_cell, Mine, mine, at_end, shut_out, from_queue, untie_way, handed_over}
 use Rattle.brc_runs.proofs.Merging.{hand_grips, hand_gripped, gripped_local, gripped_unmerged, carried_held, popped_held, held_owner, closed_idle, active_now, live_thread}
@@ -420,6 +420,19 @@ merging_lasts t c local p h e reached ok others merges =
       owner = fixed.owner ∙ merges.owner;
       state = fixed.queued merges.state;
       count = fixed.local ∙ merges.count;
+    }
+
+pub yielding_lasts : (t c local : ℕ) → Lasts t (λ h. Yields h t c local)
+yielding_lasts t c local h e reached ok others yields =
+    let sound : IsSound h = reached_sound h reached in
+    let own : SameOwn t h (after h e) = others_own h e t sound ok others in
+    let fixed : Fixed (cell_at h c) (cell_at (after h e) c) = fixed_event h e c sound ok
+    (merging_kept h t e.thread c phases.Yielding sound (sound.hands t c phases.Yielding yields.hand).mortal yields.owner others.other yields.hand refl) in
+    record {
+      hand = ap (λ (row : Row). row.hand) own.row ∙ yields.hand;
+      owner = fixed.owner ∙ yields.owner;
+      state = fixed.queued yields.state;
+      count = fixed.local ∙ yields.count;
     }
 
 pub popped_lasts : (t c local : ℕ) → Lasts t (λ h. PoppedOwn h t c local)

@@ -129,6 +129,13 @@ pub record Merges (h : Heap) (t c local : ℕ) (p : Phase) : Type 0 where
   pub state : (cell_at h c).state ≡ states.Queued
   pub count : (cell_at h c).local ≡ local
 
+-- an object that its owner has handed over and not yet merged, in the second edition: nobody else writes its local word
+pub record Yields (h : Heap) (t c local : ℕ) : Type 0 where
+  pub hand : (row_at h t).hand ≡ hands.Busy phases.Yielding c
+  pub owner : (cell_at h c).owner ≡ owners.Nobody
+  pub state : (cell_at h c).state ≡ states.Queued
+  pub count : (cell_at h c).local ≡ local
+
 -- an object whose owner has left, before it is adopted: only the thread that was shut out can adopt it
 pub record Adopts (h : Heap) (t c s local : ℕ) : Type 0 where
   pub hand : (row_at h t).hand ≡ hands.Busy phases.Shut c

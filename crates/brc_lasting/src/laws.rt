@@ -5,6 +5,7 @@
 
 ghost use Rattle.std.specs.Prelude.{[], ◌≡◌, ◌≢◌, ◌≤◌, ℕ, ◌<◌, List, Some, true, false, length, slice_get};
 ghost use Rattle.brc_words.specs.declared.kind.Kind.{Kind as kind};
+ghost use Rattle.brc_words.specs.declared.owner.Owner.TheVariants as owners;
 ghost use Rattle.brc_runs.specs.declared.cell.Cell.{Cell as cell};
 ghost use Rattle.brc_runs.specs.declared.row.Phase.{Phase as phase};
 ghost use Rattle.brc_runs.specs.declared.row.Phase.TheVariants as phases;
@@ -20,13 +21,13 @@ ghost use Rattle.brc_runs.specs.Lists.{bit_of, is_marked, is_bare, is_unmarked, 
 ghost use Rattle.brc_runs.specs.Heap.{Heap, opening, cell_at, entries_at, row_at, frame_at, popped_at, worklist_at, queue_at, is_registered, is_gathered};
 ghost use Rattle.brc_words.specs.Kinds.{is_mortal};
 ghost use Rattle.brc_lasting.specs.Progress.{Stands, IsAtRest, next_step, release_step, popped_step};
-ghost use Rattle.brc_runs.specs.Steps.{locked_at, dropped_cell, is_vacant, enabled, after, target_at, takes_block};
+ghost use Rattle.brc_runs.specs.Steps.{locked_at, dropped_cell, is_vacant, enabled, after, target_at, takes_block, may_leave};
 ghost use Rattle.brc_runs.specs.Runs.{IsReached, world_after};
 ghost use Rattle.brc_runs.specs.Sound.{held};
 ghost use Rattle.brc_lasting.specs.Ranges.{OwnerFits};
 ghost use Rattle.brc_runs.specs.declared.row.Stage.{Stage as stage};
 ghost use Rattle.brc_words.specs.declared.limits.TheConstants.{FIRST_MORTAL};
-ghost use Rattle.brc_lasting.specs.Staying.{IsAnothers, Lasts, SameOwn, Bears, Buries, Locked, Keeps, Foreign, OwnedOrNot, Nobodys, Owns, Merges, Adopts, PoppedOwn, Tells, PoppedTells, HoldsNothing};
+ghost use Rattle.brc_lasting.specs.Staying.{IsAnothers, Lasts, SameOwn, Bears, Buries, Locked, Keeps, Foreign, OwnedOrNot, Nobodys, Owns, Merges, Yields, Adopts, PoppedOwn, Tells, PoppedTells, HoldsNothing};
 
 /// While others step, a thread's own part stays as it is, and a bit of its merge queue stays set.
 pub fn own_parts_last()
@@ -48,13 +49,14 @@ pub fn held_words_last()
 {}
 
 /// While others step: an owner word goes from a thread to nobody alone, and never to the thread that looked; who owns,
-/// merges or adopts an object, or has popped it, is the one that writes its local word.
+/// merges, hands over or adopts an object, or has popped it, is the one that writes its local word.
 pub fn owners_last()
     ensures foreign { (t c : ℕ) → Lasts t (λ h. Foreign h t c) }
     ensures owned { (t c s : ℕ) → Lasts t (λ h. OwnedOrNot h t c s) }
     ensures nobodys { (t c : ℕ) → Lasts t (λ h. Nobodys h t c) }
     ensures own { (t c local : ℕ) → Lasts t (λ h. Owns h t c local) }
     ensures merging { (t c local : ℕ) (p : phase) → Lasts t (λ h. Merges h t c local p) }
+    ensures yielding { (t c local : ℕ) → Lasts t (λ h. Yields h t c local) }
     ensures adopting { (t c s local : ℕ) → Lasts t (λ h. Adopts h t c s local) }
     ensures popped { (t c local : ℕ) → Lasts t (λ h. PoppedOwn h t c local) }
 {}
@@ -116,41 +118,49 @@ pub fn numbers_name_what_is_there()
         → (world_after (opening cells limit) run).limit ≡ limit }
 {}
 
-/// In the first edition no thread is stuck by a condition. Whatever is in its hand it can go on with, for which a ready object wants a vacant
-/// place: a thread whose places are all filled must not claim. A lock it can let go. At rest it can give up every place
-/// and every last entry of a dead block, deal with every popped entry, and give back every block without entries; with
-/// nothing left it can begin to leave, go on leaving, and then be gathered.
+/// No thread is stuck by a condition, in either edition. Whatever is in its hand it can go on with, for which a ready object wants a
+/// vacant place: a thread whose places are all filled must not claim. A lock it can let go. At rest it can give up every
+/// place and every last entry of a dead block, deal with every popped entry, and give back every block without entries;
+/// with nothing left it can begin to leave, go on leaving, and then be gathered. In the second edition it can hand over
+/// before whatever it owns, and a number that is used again opens its words one by one.
 pub fn no_thread_is_stuck()
-    ensures hands { (h : Heap) (t c : ℕ) (p : phase) → IsReached h → h.edition ≡ editions.One → Stands h t
+    ensures hands { (h : Heap) (t c : ℕ) (p : phase) → IsReached h → Stands h t
         → (row_at h t).hand ≡ hands.Busy p c → p ≢ phases.Ready
         → enabled h (record { thread = t; step = next_step p c (cell_at h c) }) ≡ true }
-    ensures births { (h : Heap) (t c k : ℕ) (of : kind) → IsReached h → h.edition ≡ editions.One → Stands h t
+    ensures births { (h : Heap) (t c k : ℕ) (of : kind) → IsReached h → Stands h t
         → (row_at h t).hand ≡ hands.Busy phases.Ready c → is_mortal of ≡ true
         → is_vacant (frame_at h t) k ≡ true
         → enabled h (record { thread = t; step = steps.Birth c of k }) ≡ true }
-    ensures references { (h : Heap) (t c : ℕ) (drop : dropped) → IsReached h → h.edition ≡ editions.One → IsAtRest h t
+    ensures references { (h : Heap) (t c : ℕ) (drop : dropped) → IsReached h → IsAtRest h t
         → dropped_cell (frame_at h t) (worklist_at h t) (entries_at h) drop ≡ Some c
         → enabled h (record {
           thread = t;
           step = release_step t (row_at h t).stage c (cell_at h c) drop;
         }) ≡ true }
-    ensures popped { (h : Heap) (t c : ℕ) → IsReached h → h.edition ≡ editions.One → IsAtRest h t
+    ensures popped { (h : Heap) (t c : ℕ) → IsReached h → IsAtRest h t
         → bit_of (popped_at h t) c ≡ 1
         → enabled h (record { thread = t; step = popped_step c (cell_at h c) }) ≡ true }
-    ensures blocks { (h : Heap) (t c : ℕ) → IsReached h → h.edition ≡ editions.One → IsAtRest h t
+    ensures blocks { (h : Heap) (t c : ℕ) → IsReached h → IsAtRest h t
         → is_marked (worklist_at h t) c ≡ true → entries_at h c ≡ []
         → enabled h (record { thread = t; step = steps.Free c }) ≡ true }
-    ensures locks { (h : Heap) (t k : ℕ) → IsReached h → h.edition ≡ editions.One → Stands h t → (row_at h t).locked ≡ Some k
+    ensures locks { (h : Heap) (t k : ℕ) → IsReached h → Stands h t → (row_at h t).locked ≡ Some k
         → enabled h (record { thread = t; step = steps.Unlock changes.Keep }) ≡ true }
-    ensures begins { (h : Heap) (t : ℕ) → IsReached h → h.edition ≡ editions.One → IsAtRest h t
+    ensures begins { (h : Heap) (t : ℕ) → IsReached h → IsAtRest h t
         → (row_at h t).stage ≡ stages.Active → is_bare (frame_at h t) ≡ true
-        → is_unmarked (worklist_at h t) ≡ true → is_blank (popped_at h t) ≡ true
+        → may_leave h.edition t h.cells (worklist_at h t) ≡ true → is_blank (popped_at h t) ≡ true
         → enabled h (record { thread = t; step = steps.Close 0 }) ≡ true }
-    ensures closes { (h : Heap) (t n : ℕ) → IsReached h → h.edition ≡ editions.One → Stands h t
+    ensures offers { (h : Heap) (t c : ℕ) → IsReached h → h.edition ≡ editions.Two → IsAtRest h t
+        → (row_at h t).stage ≡ stages.Active → (cell_at h c).owner ≡ owners.Thread t
+        → is_marked (worklist_at h t) c ≡ false
+        → enabled h (record { thread = t; step = steps.Offer c }) ≡ true }
+    ensures closes { (h : Heap) (t n : ℕ) → IsReached h → Stands h t
         → (row_at h t).stage ≡ stages.Closing n
         → enabled h (record { thread = t; step = steps.Close n }) ≡ true }
     ensures gathered { (h : Heap) (t : ℕ) → IsReached h → IsAtRest h t
         → (row_at h t).stage ≡ stages.Left → is_unmarked (worklist_at h t) ≡ true
         → is_blank (popped_at h t) ≡ true
         → enabled h (record { thread = 0; step = steps.Gather t }) ≡ true }
+    ensures opens { (h : Heap) (t n : ℕ) → IsReached h → h.edition ≡ editions.Two → Stands h t
+        → (row_at h t).stage ≡ stages.Opening n
+        → enabled h (record { thread = t; step = steps.Reopen n }) ≡ true }
 {}

@@ -1,7 +1,7 @@
 //! The merge queues: references go into queue words and their bits are popped, notify words say which queue words to look at,
 //! and a popped object's local count joins its shared one.
 
-ghost use Rattle.std.specs.Prelude.{◌≡◌, ◌<◌, ◌∷◌, Some};
+ghost use Rattle.std.specs.Prelude.{◌+◌, ◌*◌, ◌%◌, ◌^◌, ◌≡◌, ◌<◌, ◌∷◌, Some};
 ghost use Rattle.brc_runs.specs.Heap.{words_for};
 ghost use Rattle.brc_runs.specs.declared.event.Step.TheVariants as steps;
 ghost use Rattle.brc_rule.specs.declared.told.Moved.TheVariants as moves;
@@ -76,7 +76,7 @@ pub fn close_word<A: Allocator>(table: &HeapTable<A>, seat: &mut ThreadSeat<A>, 
     table.close(seat, word)
 }
 
-/// The local count, as it was looked at, joins the shared one; answers the shared word that was found.
+/// The local count, as it was looked at, joins the shared one; answers the shared word that was found. Its item is told the sum.
 pub fn merge_add<A: Allocator>(
     table: &HeapTable<A>,
     seat: &mut ThreadSeat<A>,
@@ -86,7 +86,7 @@ pub fn merge_add<A: Allocator>(
     requires table { seat.old.table ≡ table.now.table }
     requires inside { cell < table.now.cells }
     requires adds { AddsLocal table.now.cells seat.old.log cell local }
-    ensures told { seat.new.log ≡ told.Did (steps.MergeAdd cell) result moves.Nothing ∷ seat.old.log }
+    ensures told { seat.new.log ≡ told.Did (steps.MergeAdd cell) ((result + (local * 4 + 1)) % 2 ^ 64) moves.Nothing ∷ seat.old.log }
     ensures seat { Stays seat.old seat.new }
     ensures knows { Knows table.now.cells seat.new.log (handing (added_hand cell (part_seen table.now.cells seat.old.log).row.hand) (known_seen table.now.cells seat.old.log)) }
     ensures keeps { Keeps table.now.cells seat.old.log seat.new.log }

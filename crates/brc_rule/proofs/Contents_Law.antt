@@ -13,12 +13,14 @@ use Rattle.brc_runs.specs.Lists.{is_marked}
 use Rattle.brc_runs.specs.Heap.{Heap, opening, cell_at, entries_at, row_at, worklist_at, no_cell, is_immortal, AreOptions}
 use Rattle.brc_runs.specs.Holding.{lives, lives_at, lives_by, lives_since, is_birth}
 use Rattle.brc_runs.specs.Runs.{IsRun, world_after}
+use Rattle.brc_runs.specs.Sound.{IsSound}
 use Rattle.brc_runs.specs.Steps.{enabled, after, after_target, root_after, root_may, thread_may, target_at, target_ok, cell_after, stepped, is_free_step, takes_block, worklist_with}
 use Rattle.brc_runs.proofs.Asking.{may_parts, on_cell}
-use Rattle.brc_runs.proofs.Changes.{read_here, read_there}
+use Rattle.brc_runs.proofs.Changes.{read_here, read_there, read_by}
 use Rattle.brc_runs.proofs.Reached.{reached_sound, run_histories}
 use Rattle.brc_runs.proofs.Beginning.{free_cell, immortal_cell, no_entries}
 use Rattle.brc_runs.proofs.Registering.{read_push}
+use Rattle.brc_runs.proofs.Reusing.{fresh, reused, registers}
 use Rattle.brc_moves.proofs.Moving.{kind_kept}
 use Rattle.brc_lasting.proofs.Reasons.{event_cell, event_entries}
 use Rattle.brc_lasting.proofs.Standing.{run_reached}
@@ -95,12 +97,18 @@ freed_dead h t (Free x) d c low live frees same =
     true≢false (sym live ∙ ap (λ i. lives (cell_at (stepped h t (Free x) d) i).owner) same ∙ ap (λ (y : Cell). lives y.owner) (read_here h.cells d (cell_after t (Free x) d (cell_at h d)) no_cell low))
 freed_dead h t _ d c low live frees same = absurd (true≢false (sym frees))
 
--- marks of the root's steps
-pub marks_of_root : (h : Heap) (s : Step) (c u : ℕ) → root_may h s ≡ true → is_marked (worklist_at (root_after h s) u) c ≡ false → is_marked (worklist_at h u) c ≡ false
-marks_of_root h (Register v) c u ok off = read_push (λ j (marks : List Bool). is_marked marks c ≡ false → is_marked (worklist_at h j) c ≡ false) h.worklists (replicate (length h.cells) false) []
-    (λ none. ap (λ (w : List Bool). is_marked w c) (get_or_past h.worklists (length h.worklists) [] (omega arith))) (λ j other same. same) u off
-marks_of_root h (Gather v) c u ok off = off
-marks_of_root h _ c u ok off = absurd (true≢false (sym ok))
+-- marks of the root's steps: whose number is registered had none
+pub marks_of_root : (h : Heap) (s : Step) (c u : ℕ) → IsSound h → root_may h s ≡ true → is_marked (worklist_at (root_after h s) u) c ≡ false → is_marked (worklist_at h u) c ≡ false
+marks_of_root h (Register v) c u sound ok off = elim (registers h v sound ok) [
+  | fresh next most few is ↦ read_push (λ j (marks : List Bool). is_marked marks c ≡ false → is_marked (worklist_at h j) c ≡ false) h.worklists (replicate (length h.cells) false) []
+      (λ none. ap (λ (w : List Bool). is_marked w c) (get_or_past h.worklists (length h.worklists) [] (omega arith))) (λ j other same. same) u
+      (sym (ap (λ z. is_marked (worklist_at z u) c) is) ∙ off)
+  | reused vacated few is ↦ read_by (λ j (marks : List Bool). is_marked marks c ≡ false → is_marked (worklist_at h j) c ≡ false) h.worklists v (replicate (length h.cells) false) []
+      (omega (arith, vacated.inside, sound.shaped.worklists)) (λ none. vacated.work c) (λ j other same. same) u
+      (sym (ap (λ z. is_marked (worklist_at z u) c) is) ∙ off)
+]
+marks_of_root h (Gather v) c u sound ok off = off
+marks_of_root h _ c u sound ok off = absurd (true≢false (sym ok))
 
 marks_back : (h : Heap) (t : ℕ) (s : Step) (o : Option ℕ) (c u : ℕ) → target_ok h t (row_at h t) s o ≡ true → lives (cell_at (after_target h t s o) c).owner ≡ true
     → is_marked (worklist_at (after_target h t s o) u) c ≡ false → is_marked (worklist_at h u) c ≡ false
@@ -118,11 +126,11 @@ module _ (h : Heap) (t : ℕ) (s : Step) (c : ℕ) where
   abbrev new : Heap
   new = after h (record { thread = t; step = s })
 
-  event_marks : enabled h (record { thread = t; step = s }) ≡ true → lives (cell_at new c).owner ≡ true → (u : ℕ) → is_marked (worklist_at new u) c ≡ false → is_marked (worklist_at h u) c ≡ false
-  event_marks ok live u off = elim (cases_Bool (t == 0)) [
+  event_marks : IsSound h → enabled h (record { thread = t; step = s }) ≡ true → lives (cell_at new c).owner ≡ true → (u : ℕ) → is_marked (worklist_at new u) c ≡ false → is_marked (worklist_at h u) c ≡ false
+  event_marks sound ok live u off = elim (cases_Bool (t == 0)) [
     | inl root ↦
         let is : new ≡ root_after h s = ap (λ b. if b then root_after h s else walked) root in
-        marks_of_root h s c u (subst (λ b. (if b then root_may h s else thread_may h t s) ≡ true) root ok) (sym (ap (λ z. is_marked (worklist_at z u) c) is) ∙ off)
+        marks_of_root h s c u sound (subst (λ b. (if b then root_may h s else thread_may h t s) ≡ true) root ok) (sym (ap (λ z. is_marked (worklist_at z u) c) is) ∙ off)
     | inr thread ↦
         let is : new ≡ walked = ap (λ b. if b then root_after h s else walked) thread in
         marks_back h t s (target_at h t s) c u (may_parts h t s (subst (λ b. (if b then root_may h s else thread_may h t s) ≡ true) thread ok)).on_target
@@ -209,7 +217,8 @@ module _ (n limit : ℕ) where
       → AtRest (world n limit ((t, Did s number moved) ∷ run)) c → ContentsFit (world n limit ((t, Did s number moved) ∷ run)) ((t, Did s number moved) ∷ run) c
   unchanged run t s number moved c options legal ok other same before rest =
       let h : Heap = world n limit run in
-      let off : (u : ℕ) → is_marked (worklist_at h u) c ≡ false = λ u. event_marks h t s c ok rest.live u (rest.off u) in
+      let sound : IsSound h = reached_sound h (run_reached n limit (events_of (items_of run)) options (events_run (opening n limit) (items_of run) legal.items)) in
+      let off : (u : ℕ) → is_marked (worklist_at h u) c ≡ false = λ u. event_marks h t s c sound ok rest.live u (rest.off u) in
       let fits : ContentsFit h run c = before (record {
         live = lived n limit (events_of (items_of run)) t s c options (events_run (opening n limit) (items_of run) legal.items) ok other rest.live;
         off = off;

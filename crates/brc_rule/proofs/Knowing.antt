@@ -7,15 +7,17 @@ use mathlib.Core.Option.{some}
 use lib.ListN.{get_elem?}
 use Rattle.atomic_table.specs.Table.{State}
 use Rattle.brc_words.specs.declared.limits.TheConstants.{FIRST_MORTAL, MOST_THREADS}
+use Rattle.brc_runs.specs.declared.edition.Edition.TheVariants as editions
 use Rattle.brc_runs.specs.declared.row.Row.{Row}
 use Rattle.brc_runs.specs.declared.event.Dropped.{Dropped}
 use Rattle.brc_runs.specs.declared.event.Step.{Step}
 use Rattle.brc_runs.specs.declared.event.Step.TheVariants.{Free, Unlock}
 use Rattle.brc_runs.specs.Lists.{is_marked}
 use Rattle.brc_runs.specs.Heap.{Heap, opening, cell_at, entries_at, row_at, frame_at, popped_at, worklist_at, is_registered, words_for, AreOptions}
-use Rattle.brc_runs.specs.Steps.{thread_may, stage_ok, lock_ok, hand_ok, own_ok, own_ok_at, others_ok, target_ok, target_at, is_empty, change_ok, locked_entries, locked_at}
+use Rattle.brc_runs.specs.Steps.{thread_may, stage_ok, lock_ok, hand_ok, own_ok, own_ok_at, others_ok, edition_ok, target_ok, target_at, is_empty, change_ok, locked_entries, locked_at}
 use Rattle.brc_runs.specs.Holding.{Headline}
 use Rattle.brc_runs.specs.Runs.{IsReached}
+use Rattle.brc_runs.proofs.Lifetimes.{run_edition}
 use Rattle.brc_runs.proofs.Reached.{reached_headline}
 use Rattle.brc_known.specs.Items.{Part, part_of, IsPart, meant, events_of, own}
 use Rattle.brc_known.specs.Counts.{own_count, counts_of}
@@ -56,6 +58,10 @@ pub record Known (n limit : ℕ) (h : Heap) (t : ℕ) (log : List Told) : Type 0
   pub counts : (c : ℕ) → FIRST_MORTAL ≤ c → own_count t (row_at h t).stage (cell_at h c) ≡ counts_seen n log c
   pub owners : (q : ℕ) → has_seen_owner (log_items log) q ≡ true → 0 < q → q ≤ MOST_THREADS → is_registered h q ≡ true
   pub risen : (drop : Dropped) (c : ℕ) → risen_seen n log drop c ≡ true → FIRST_MORTAL ≤ c → 1 ≤ rank (cell_at h c).state
+
+-- the run begins in the first edition, and stays there
+pub known_edition : (n limit : ℕ) (h : Heap) (t : ℕ) (log : List Told) → Known n limit h t log → h.edition ≡ editions.One
+known_edition n limit h t log known = sym (ap (λ z. z.edition) known.is_world) ∙ run_edition (opening n limit) (events_of (items_of known.run))
 
 pub knows_run : (n limit : ℕ) (run : Run) (t : ℕ) → AreOptions n limit → IsLegal n limit run → stands (world n limit run) t ≡ true → 0 < t → Known n limit (world n limit run) t (own_of t run)
 knows_run n limit run t options legal stood some_thread =
@@ -120,10 +126,10 @@ own_tests n h t part s is ok =
 pub hand_there : (n limit : ℕ) (h : Heap) (t : ℕ) (log : List Told) (s : Step) → Known n limit h t log → own_may n (part_seen n log) s ≡ true → hand_ok (row_at h t).hand s ≡ true
 hand_there n limit h t log s known own = (and_parts _ _ (and_parts _ _ (own_tests n h t (part_seen n log) s known.part own)).0).1
 
--- the own part allows the step, and so do whom it tells and the cell that it means
+-- the own part allows the step, and so do the edition, whom it tells and the cell that it means
 pub is_enabled : (n limit : ℕ) (h : Heap) (t : ℕ) (log : List Told) (s : Step) → 0 < t → Known n limit h t log → own_may n (part_seen n log) s ≡ true
-    → others_ok h s ≡ true → target_ok h t (row_at h t) s (target_at h t s) ≡ true → thread_may h t s ≡ true
-is_enabled n limit h t log s some_thread known own others target =
+    → edition_ok editions.One (row_at h t) s ≡ true → others_ok h t s ≡ true → target_ok h t (row_at h t) s (target_at h t s) ≡ true → thread_may h t s ≡ true
+is_enabled n limit h t log s some_thread known own edition others target =
     let part : Part = part_seen n log in
     let all = own_tests n h t part s known.part own in
     let a = and_parts _ _ all in
@@ -132,7 +138,8 @@ is_enabled n limit h t log s some_thread known own others target =
     let mine : own_ok_at h t s ≡ true = subst (λ m. own_ok (words_for m) (row_at h t) (frame_at h t) (popped_at h t) (worklist_at h t) (entries_at h) s ≡ true) (sym known.cells)
     (own_ok_alike (words_for n) h t part.has s (record { locked = known.part.locked_has; worklists = known.part.work_has }) a.1) in
     let there = both_true (stands_registered h t known.stood some_thread) (ap Rattle.std.proofs.Common.not (stands_ungathered h t known.stood some_thread)) in
-    both_true (both_true (both_true (both_true (both_true (both_true there c.0) c.1) b.1) mine) others) target
+    let first : edition_ok h.edition (row_at h t) s ≡ true = subst (λ e. edition_ok e (row_at h t) s ≡ true) (sym (known_edition n limit h t log known)) edition in
+    both_true (both_true (both_true (both_true (both_true (both_true (both_true there c.0) c.1) b.1) mine) others) first) target
 
 -- the cell that the log's part means is the world's
 pub meant_there : (n limit : ℕ) (h : Heap) (t : ℕ) (log : List Told) (s : Step) (o : Option ℕ) → Known n limit h t log → meant (part_seen n log) s ≡ o → target_at h t s ≡ o

@@ -11,5 +11,6 @@ pub mod Keys_Law
 pub mod Opening_Law
 pub mod Since
 pub mod Noting
+pub mod Handing
 pub mod Small_Looks
 pub mod Once

@@ -1,7 +1,7 @@
 -- What a thread's locking found is there until it unlocks: nobody else puts that cell's block home.
 use Rattle.std.proofs.Common.{◌≡◌, ◌≢◌, ◌⊎◌, ℕ, ◌<◌, ◌==◌, nat_lt, true, false, not, if◌then◌else◌, List, [], ◌∷◌, length, set, get_or, Option, Some, None, refl, sym, ◌∙◌, ap, subst, inl, inr, arith}
 use Rattle.std.proofs.lemmas.List.{get_or_push}
-use Rattle.std.proofs.lemmas.Bool.{cases_eq, cases_Bool, ne_eqb, eqb-true, true≢false, and_parts}
+use Rattle.std.proofs.lemmas.Bool.{cases_eq, cases_Bool, ne_eqb, eqb-true, true≢false}
 use Rattle.brc_runs.specs.declared.event.Change.{Change}
 use Rattle.brc_runs.specs.declared.event.Event.{Event}
 use Rattle.brc_runs.specs.declared.event.Source.TheVariants as sources
@@ -10,7 +10,7 @@ use Rattle.brc_runs.specs.declared.event.Step.TheVariants.{Birth, LocalUp, Share
 use Rattle.brc_runs.specs.declared.row.Row.{Row}
 use Rattle.brc_runs.specs.declared.row.Phase.TheVariants as phases
 use Rattle.brc_runs.specs.Lists.{place_at, filled}
-use Rattle.brc_runs.specs.Heap.{Heap, opening, cell_at, row_at, frame_at, no_row, new_row, AreOptions}
+use Rattle.brc_runs.specs.Heap.{Heap, opening, cell_at, row_at, frame_at, no_row, new_row, again_row, AreOptions}
 use Rattle.brc_runs.specs.Sound.{IsSound}
 use Rattle.brc_runs.specs.Steps.{enabled, after, after_target, root_after, root_may, thread_may, target_at, locked_at, locked_cell, lock_ok, stepped, kept_cells, row_after, is_shut}
 use Rattle.brc_runs.specs.Runs.{IsReached}
@@ -18,6 +18,7 @@ use Rattle.brc_runs.proofs.Asking.{May, may_parts, vacant}
 use Rattle.brc_runs.proofs.Changes.{read_here}
 use Rattle.brc_runs.proofs.Counting.{lock_stays}
 use Rattle.brc_runs.proofs.Reached.{reached_sound}
+use Rattle.brc_runs.proofs.Reusing.{fresh, reused, registers}
 use Rattle.brc_lasting.specs.Staying.{SameOwn, is_about}
 use Rattle.brc_lasting.proofs.Lasting.{others_own, locked_mutex, held_live, not_bearing}
 use Rattle.brc_lasting.proofs.Standing.{run_reached}
@@ -154,6 +155,13 @@ no_about h u (Register v) t may = absurd (true≢false (sym may.hand))
 no_about h u (Gather v) t may = absurd (true≢false (sym may.hand))
 no_about h u _ t may = refl
 
+-- a thread that is registered has locked nothing
+registered_unlocked : (h : Heap) (v : ℕ) → IsSound h → root_may h (Register v) ≡ true → (row_at (root_after h (Register v)) v).locked ≡ None
+registered_unlocked h v sound may = elim (registers h v sound may) [
+  | fresh next most few is ↦ ap (λ z. (row_at z v).locked) is ∙ ap (λ (r : Row). r.locked) (get_or_push h.rows new_row no_row v (sym next))
+  | reused vacated few is ↦ ap (λ z. (row_at z v).locked) is ∙ ap (λ (r : Row). r.locked) (read_here h.rows v again_row no_row vacated.inside)
+]
+
 module _ (n limit : ℕ) where
   -- the thread's own step
   own_says : (run : Run) (t : ℕ) (s : Step) (number : ℕ) (moved : Moved) (c : ℕ) → IsSound (world n limit run) → May (world n limit run) t s → MovesWith (world n limit run) run t s moved
@@ -196,9 +204,8 @@ module _ (n limit : ℕ) where
         others_says run t 0 (Register v) number moved c (λ e. omega (arith, e, some_thread)) apart goes (λ bad. none_some c bad) (before (still_named h (after h e) t c same now))
     | inl mine ↦
         let h : Heap = world n limit run in
-        let last : t ≡ length h.rows = sym (eqb-true v t mine) ∙ eqb-true v (length h.rows) (and_parts _ _ ok).0 in
-        let row : row_at (root_after h (Register v)) t ≡ new_row = get_or_push h.rows new_row no_row t (sym last) in
-        absurd (none_some c (sym (ap (λ (r : Row). locked_cell (frame_at (root_after h (Register v)) t) r.locked) row) ∙ now))
+        let none : (row_at (root_after h (Register v)) t).locked ≡ None = ap (λ i. (row_at (root_after h (Register v)) i).locked) (sym (eqb-true v t mine)) ∙ registered_unlocked h v sound ok in
+        absurd (none_some c (sym (ap (locked_cell (frame_at (root_after h (Register v)) t)) none) ∙ now))
   ]
   root_says run t s number moved c sound ok on goes before now some_thread = absurd (true≢false (sym ok))
 

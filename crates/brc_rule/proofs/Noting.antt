@@ -1,6 +1,6 @@
 -- What a note tells of its cell, and what its thread's part says of hand and popped bits.
-use Rattle.std.proofs.Common.{◌≡◌, ◌≢◌, ◌⊎◌, ℕ, ◌%◌, ◌||◌, true, ℤ, List, length, refl, ◌∙◌, ap, inl, inr, arith}
-use Rattle.std.proofs.lemmas.Bool.{and_parts, or_cases, eq-eqb}
+use Rattle.std.proofs.Common.{◌≡◌, ◌≢◌, ◌⊎◌, ℕ, ◌%◌, ◌||◌, true, false, ℤ, List, length, refl, sym, ◌∙◌, ap, inl, inr, arith}
+use Rattle.std.proofs.lemmas.Bool.{and_parts, or_cases, eq-eqb, true≢false}
 use Rattle.std.specs.Cmp.Derive.{both_true}
 use Rattle.brc_words.specs.declared.owner.Owner.{Owner}
 use Rattle.brc_words.specs.declared.owner.Owner.TheVariants as owners
@@ -9,6 +9,7 @@ use Rattle.brc_words.specs.declared.state.State.TheVariants as states
 use Rattle.brc_words.specs.Owners.{word_of}
 use Rattle.brc_words.specs.Shared.{bits_of}
 use Rattle.brc_runs.specs.declared.event.Step.{Step}
+use Rattle.brc_runs.specs.declared.event.Step.TheVariants.{MergeAdd}
 use Rattle.brc_runs.specs.declared.row.Hand.{Hand}
 use Rattle.brc_runs.specs.declared.row.Hand.TheVariants as hands
 use Rattle.brc_runs.specs.declared.row.Phase.{Phase}
@@ -16,7 +17,7 @@ use Rattle.brc_runs.specs.declared.row.Phase.TheVariants as phases
 use Rattle.brc_runs.specs.declared.row.Row.{Row}
 use Rattle.brc_runs.specs.Lists.{bit_of}
 use Rattle.brc_runs.specs.Phases.{has_reference}
-use Rattle.brc_runs.specs.Heap.{Heap, cell_at, row_at, popped_at, words_for}
+use Rattle.brc_runs.specs.Heap.{Heap, opening, cell_at, row_at, popped_at, words_for}
 use Rattle.brc_runs.specs.Holding.{carries}
 use Rattle.brc_runs.specs.Runs.{IsReached}
 use Rattle.brc_runs.specs.Steps.{hand_ok, own_ok, is_at}
@@ -28,10 +29,13 @@ use Rattle.brc_lasting.proofs.Lasting.{held_live, has_held}
 use Rattle.brc_lasting.proofs.Telling.{hand_tells}
 use Rattle.brc_known.specs.declared.word.Field.TheVariants.{Owner as OwnerWord}
 use Rattle.brc_known.specs.declared.word.Word.TheVariants.{Of}
-use Rattle.brc_known.specs.Items.{Part, Shows, shared_word}
+use Rattle.brc_known.specs.Items.{Part, Shows, shared_word, events_of}
+use Rattle.brc_known.proofs.Items_Runs.{events_run}
 use Rattle.brc_known.proofs.Free_Law.{live_shown}
 use Rattle.brc_rule.specs.declared.told.Told.{Told}
 use Rattle.brc_rule.specs.Seen.{part_seen, own_may}
+use Rattle.brc_rule.specs.Logs.{items_of}
+use Rattle.brc_rule.proofs.Handing.{is_handing, none_handing}
 use Rattle.brc_rule.proofs.Knowing.{Known}
 
 -- ---- numbers
@@ -85,11 +89,25 @@ owner_told h t c number reached has shown = live_shown (length h.rows) (cell_at 
 abbrev pub IsMerging : Phase → Type 0
 IsMerging p = (p ≡ phases.Taking) ⊎ (p ≡ phases.Popping)
 
-pub merging_hand : (hand : Hand) (c : ℕ) → (is_at phases.Taking c hand || is_at phases.Popping c hand) ≡ true → (p : Phase) × (hand ≡ hands.Busy p c) × IsMerging p
-merging_hand hand c at = elim (or_cases _ _ at) [
-  | inl taking ↦ (phases.Taking, busy_hand phases.Taking c hand taking, inl refl)
-  | inr popping ↦ (phases.Popping, busy_hand phases.Popping c hand popping, inr refl)
+pub merging_hand : (hand : Hand) (c : ℕ) → is_handing hand ≡ false → hand_ok hand (MergeAdd c) ≡ true → (p : Phase) × (hand ≡ hands.Busy p c) × IsMerging p
+merging_hand hand c off at = elim (or_cases (is_at phases.Taking c hand || is_at phases.Popping c hand) (is_at phases.Yielding c hand) at) [
+  | inr yielding ↦ absurd (true≢false (sym (ap is_handing (busy_hand phases.Yielding c hand yielding)) ∙ off))
+  | inl own ↦ elim (or_cases (is_at phases.Taking c hand) (is_at phases.Popping c hand) own) [
+    | inl taking ↦ (phases.Taking, busy_hand phases.Taking c hand taking, inl refl)
+    | inr popping ↦ (phases.Popping, busy_hand phases.Popping c hand popping, inr refl)
+  ]
 ]
+
+-- nobody whose log is known hands an object over
+pub own_handing : (n limit : ℕ) (h : Heap) (t : ℕ) (log : List Told) → Known n limit h t log → is_handing (part_seen n log).row.hand ≡ false
+own_handing n limit h t log known =
+    sym (ap (λ (r : Row). is_handing r.hand) known.part.row_is) ∙ sym (ap (λ z. is_handing (row_at z t).hand) known.is_world)
+    ∙ none_handing n limit (events_of (items_of known.run)) known.options (events_run (opening n limit) (items_of known.run) known.legal.items) t
+
+-- the hand of a thread that may add
+pub adding_hand : (n limit : ℕ) (h : Heap) (t : ℕ) (log : List Told) (c : ℕ) → Known n limit h t log → own_may n (part_seen n log) (MergeAdd c) ≡ true
+    → (p : Phase) × ((part_seen n log).row.hand ≡ hands.Busy p c) × IsMerging p
+adding_hand n limit h t log c known own = merging_hand (part_seen n log).row.hand c (own_handing n limit h t log known) (part_hand n (part_seen n log) (MergeAdd c) own)
 
 pub merging_words : (h : Heap) (t c : ℕ) (p : Phase) → IsReached h → (row_at h t).hand ≡ hands.Busy p c → IsMerging p → ((cell_at h c).owner ≡ owners.Nobody) × ((cell_at h c).state ≡ states.Queued)
 merging_words h t c p reached busy which = elim which [

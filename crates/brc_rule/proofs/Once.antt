@@ -1,6 +1,6 @@
 -- Each item stands in one log.
 use Rattle.std.proofs.Common.{◌≡◌, ◌≢◌, ℕ, ◌<◌, ◌==◌, Bool, true, false, if◌then◌else◌, List, [], ◌∷◌, ◌++◌, length, Option, Some, None, refl, sym, ◌∙◌, ap, subst, inl, inr, arith}
-use Rattle.std.proofs.lemmas.Bool.{cases_eq, cases_Bool, eq-eqb, ne_eqb, eqb-true, and_parts}
+use Rattle.std.proofs.lemmas.Bool.{cases_eq, cases_Bool, eq-eqb, ne_eqb}
 use mathlib.Core.Option.{some}
 use lib.ListN.{get_elem?}
 use Rattle.atomic_table.specs.Table.{State}
@@ -9,8 +9,10 @@ use Rattle.brc_runs.specs.declared.event.Step.TheVariants.{Register}
 use Rattle.brc_runs.specs.Heap.{Heap, opening, AreOptions}
 use Rattle.brc_runs.specs.Steps.{enabled, root_may, thread_may}
 use Rattle.brc_runs.specs.Runs.{IsReached}
+use Rattle.brc_runs.specs.Sound.{IsSound}
 use Rattle.brc_runs.proofs.Asking.{may_parts}
 use Rattle.brc_runs.proofs.Reached.{reached_sound}
+use Rattle.brc_runs.proofs.Reusing.{fresh, reused, registers}
 use Rattle.brc_lasting.proofs.Standing.{run_reached}
 use Rattle.brc_known.specs.Items as items
 use Rattle.brc_known.specs.Items.{AreItems, MayCome, is_start, events_of}
@@ -82,12 +84,19 @@ once_else h new run t u x positive older gathers other same once =
 
 -- ---- the root
 
+-- no thread is registered by number 0
+some_number : (h : Heap) (v : ℕ) → IsSound h → root_may h (Register v) ≡ true → v ≢ 0
+some_number h v sound may = elim (registers h v sound may) [
+  | fresh next most few is ↦ λ e. omega (arith, e, next, sound.shaped.root)
+  | reused vacated few is ↦ λ e. omega (arith, e, vacated.thread)
+]
+
 -- nobody registers number 0
 never_root : (h : Heap) (u : ℕ) (s : Step) (number : ℕ) (entries : List ℕ) → IsReached h → enabled h (record { thread = u; step = s }) ≡ true → is_start 0 (items.Did s number entries) ≡ false
 never_root h u (Register v) number entries reached ok = elim (cases_Bool (u == 0)) [
   | inl root ↦
       let may : root_may h (Register v) ≡ true = subst (λ b. (if b then root_may h (Register v) else thread_may h u (Register v)) ≡ true) root ok in
-      ne_eqb v 0 (λ e. omega (arith, e, eqb-true v (length h.rows) (and_parts _ _ may).0, (reached_sound h reached).shaped.root))
+      ne_eqb v 0 (some_number h v (reached_sound h reached) may)
   | inr thread ↦ (no_start h u (Register v) 0 number entries (may_parts h u (Register v) (subst (λ b. (if b then root_may h (Register v) else thread_may h u (Register v)) ≡ true) thread ok))).0
 ]
 never_root h u _ number entries reached ok = refl

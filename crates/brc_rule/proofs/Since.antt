@@ -1,19 +1,20 @@
 -- What lasts while others step, and was so as a note was made or after the newest step of the thread, is so now.
 use Rattle.std.proofs.Common.{◌≡◌, ◌≢◌, ℕ, ◌<◌, ◌==◌, ◌&&◌, ◌||◌, not, nat_lt, true, false, if◌then◌else◌, List, [], ◌∷◌, length, Some, None, refl, sym, ◌∙◌, ap, subst, inl, inr, arith}
 use Rattle.std.proofs.lemmas.Bool.{cases_eq, cases_Bool, eq-eqb, ne_eqb, eqb-true, ltb-true, lt-ltb, and_parts, true≢false}
-use Rattle.std.proofs.lemmas.List.{get_or-set_same}
+use Rattle.std.proofs.lemmas.List.{get_or-set_same, length-set}
 use Rattle.std.specs.Cmp.Derive.{both_true}
 use Rattle.brc_runs.specs.declared.event.Event.{Event}
 use Rattle.brc_runs.specs.declared.event.Step.{Step}
 use Rattle.brc_runs.specs.declared.event.Step.TheVariants.{Register, Gather}
 use Rattle.brc_runs.specs.Lists.{number_in}
-use Rattle.brc_runs.specs.Heap.{Heap, opening, new_row, is_registered, is_gathered, AreOptions}
+use Rattle.brc_runs.specs.Heap.{Heap, opening, new_row, again_row, is_registered, is_gathered, AreOptions}
 use Rattle.brc_runs.specs.Runs.{IsReached}
 use Rattle.brc_runs.specs.Sound.{IsSound}
-use Rattle.brc_runs.specs.Steps.{enabled, after, after_target, root_after, root_may, thread_may, target_at}
+use Rattle.brc_runs.specs.Steps.{enabled, after, after_target, root_after, root_may, thread_may, target_at, registered, registered_again}
 use Rattle.brc_runs.proofs.Asking.{May, may_parts}
 use Rattle.brc_runs.proofs.Reached.{reached_sound}
 use Rattle.brc_runs.proofs.Registering.{length-push}
+use Rattle.brc_runs.proofs.Reusing.{fresh, reused, registers}
 use Rattle.brc_lasting.specs.Staying.{is_about, IsAnothers, Lasts}
 use Rattle.brc_lasting.proofs.Lasting.{other_number, others_own}
 use Rattle.brc_lasting.proofs.Ranges_Law.{same_rows}
@@ -37,18 +38,24 @@ use Rattle.brc_rule.proofs.Stepping.{moved_on, thread_after, no_start}
 
 -- ---- who stands after another's event stood before it
 
-root_registered : (h : Heap) (s : Step) (t : ℕ) → root_may h s ≡ true → is_about t s ≡ false → t < length (root_after h s).rows → t < length h.rows
-root_registered h (Register v) t may apart low =
-    omega (arith, low, length-push h.rows new_row, eqb-true v (length h.rows) (and_parts _ _ may).0, other_number v t apart)
-root_registered h (Gather v) t may apart low = low
-root_registered h _ t may apart low = low
+root_registered : (h : Heap) (s : Step) (t : ℕ) → IsSound h → root_may h s ≡ true → is_about t s ≡ false → t < length (root_after h s).rows → t < length h.rows
+root_registered h (Register v) t sound may apart low = elim (registers h v sound may) [
+  | fresh next most few is ↦
+      let more : t < length (registered h).rows = subst (λ z. t < length z.rows) is low in
+      omega (arith, more, length-push h.rows new_row, next, other_number v t apart)
+  | reused vacated few is ↦
+      let same : t < length (registered_again h v).rows = subst (λ z. t < length z.rows) is low in
+      omega (arith, same, length-set h.rows v again_row)
+]
+root_registered h (Gather v) t sound may apart low = low
+root_registered h _ t sound may apart low = low
 
-registered_before : (h : Heap) (e : Event) (t : ℕ) → enabled h e ≡ true → IsAnothers t e → is_registered (after h e) t ≡ true → is_registered h t ≡ true
-registered_before h e t ok others there =
+registered_before : (h : Heap) (e : Event) (t : ℕ) → IsSound h → enabled h e ≡ true → IsAnothers t e → is_registered (after h e) t ≡ true → is_registered h t ≡ true
+registered_before h e t sound ok others there =
     let moved : Heap = after_target h e.thread e.step (target_at h e.thread e.step) in
     let low : t < length (after h e).rows = ltb-true t (length (after h e).rows) (and_parts (nat_lt 0 t) (nat_lt t (length (after h e).rows)) there).1 in
     let was : t < length h.rows = elim (cases_Bool (e.thread == 0)) [
-      | inl root ↦ root_registered h e.step t (subst (λ b. (if b then root_may h e.step else thread_may h e.thread e.step) ≡ true) root ok) others.apart
+      | inl root ↦ root_registered h e.step t sound (subst (λ b. (if b then root_may h e.step else thread_may h e.thread e.step) ≡ true) root ok) others.apart
           (subst (λ b. t < length (if b then root_after h e.step else moved).rows) root low)
       | inr thread ↦ omega (arith, same_rows h e.thread e.step (target_at h e.thread e.step), subst (λ b. t < length (if b then root_after h e.step else moved).rows) thread low)
     ] in
@@ -57,7 +64,7 @@ registered_before h e t ok others there =
 stood_before : (h : Heap) (e : Event) (t : ℕ) → IsSound h → enabled h e ≡ true → IsAnothers t e → 0 < t → stands (after h e) t ≡ true → stands h t ≡ true
 stood_before h e t sound ok others some_thread stood =
     ap (λ b. b || (is_registered h t && not (is_gathered h t))) (ne_eqb t 0 (λ same. omega (arith, same, some_thread)))
-    ∙ both_true (registered_before h e t ok others (stands_registered (after h e) t stood some_thread))
+    ∙ both_true (registered_before h e t sound ok others (stands_registered (after h e) t stood some_thread))
     (ap not (sym (others_own h e t sound ok others).gathered ∙ stands_ungathered (after h e) t stood some_thread))
 
 -- who still stands wasn't gathered just now

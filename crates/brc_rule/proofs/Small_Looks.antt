@@ -34,7 +34,7 @@ use Rattle.brc_rule.specs.Rule.{with_told, Kept}
 use Rattle.brc_rule.specs.Seen.{part_seen, own_may}
 use Rattle.brc_rule.proofs.Knowing.{Known, knows}
 use Rattle.brc_rule.proofs.Looking.{saw, unmoved}
-use Rattle.brc_rule.proofs.Noting.{part_hand, hand_in, merging_hand, merging_words}
+use Rattle.brc_rule.proofs.Noting.{hand_in, adding_hand, merging_words}
 
 -- the owner of an object that lives is a thread or nobody
 owner_small : (threads : ℕ) (owner : Owner) (number : ℕ) → threads ≤ MOST_THREADS + 1 → OwnerFits threads owner → lives owner ≡ true → number ≡ word_of owner → number ≤ MOST_THREADS
@@ -52,7 +52,7 @@ carried_owner n limit h t log c number known carried shown =
 
 merging_local : (n limit : ℕ) (h : Heap) (t : ℕ) (log : List Told) (c number : ℕ) → Known n limit h t log → own_may n (part_seen n log) (MergeAdd c) ≡ true → Shows h (Of Local c) number → number ≤ limit
 merging_local n limit h t log c number known own shown =
-    let hand = merging_hand (part_seen n log).row.hand c (part_hand n (part_seen n log) (MergeAdd c) own) in
+    let hand = adding_hand n limit h t log c known own in
     let busy : (row_at h t).hand ≡ hands.Busy hand.0 c = hand_in n limit h t log log (hands.Busy hand.0 c) known refl hand.1 in
     let live : lives (cell_at h c).owner ≡ true = ap lives (merging_words h t c hand.0 known.reached busy hand.2).0 in
     omega (arith, shown, ((reached_sound h known.reached).cells c (hand_tells h t c hand.0 known.reached busy).0).limited live, known.limit_is)

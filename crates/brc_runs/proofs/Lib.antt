@@ -11,6 +11,7 @@ pub mod Ending
 pub mod Turning
 pub mod Merging
 pub mod Dropping
+pub mod Leaving
 pub mod Sharing
 pub mod Bitwise
 pub mod Queueing

@@ -279,10 +279,10 @@ module _ (h : Heap) (t c : ℕ) (sound : IsSound h) where
         let none : gripped h c ≡ 0 = owned_ungripped h owned.0 c sound said.mortal owned.1 (carried_held h t c carried) (idle_apart h owned.0 c (row_at h owned.0).hand sound off owned.1 refl) in
         untie_ungripped phases.Taking said.mortal live ((sound.cells c said.mortal).owned_unmerged owned.0 owned.1) none refl (λ _. refl)
         (λ s _ offer.
-            let said : Offered s (cell_at h c) = (sound.hands s c phases.Offered offer).fits in
-            let e : owners.Thread owned.0 ≡ owners.Thread s = sym owned.1 ∙ said.owner in
-            let same : owned.0 ≡ s = cc in
-            true≢false (sym (ap is_active_hand offer) ∙ (sound.threads s).inactive_hand (subst (λ j. is_active (row_at h j).stage ≡ false) same off)))
+        let said : Offered s (cell_at h c) = (sound.hands s c phases.Offered offer).fits in
+        let e : owners.Thread owned.0 ≡ owners.Thread s = sym owned.1 ∙ said.owner in
+        let same : owned.0 ≡ s = cc in
+        true≢false (sym (ap is_active_hand offer) ∙ (sound.threads s).inactive_hand (subst (λ j. is_active (row_at h j).stage ≡ false) same off)))
         (ap one (eq-eqb c c refl) ∙ sym carried) (λ p d e. (busy_same phases.Shut c (row_at h t).hand busy p d e).0) refl
 
     -- the owner deals with a popped entry
@@ -292,7 +292,7 @@ module _ (h : Heap) (t c : ℕ) (sound : IsSound h) where
         let none : gripped h c ≡ 0 = owned_ungripped h t c sound mortal owner (popped_held h t c on) (ap (λ z. one (grips c z)) free) in
         untie_ungripped phases.Popping mortal (ap lives owner) ((sound.cells c mortal).owned_unmerged t owner) none refl (λ _. refl)
         (λ s ne offer. let said : Offered s (cell_at h c) = (sound.hands s c phases.Offered offer).fits in
-            let e : owners.Thread t ≡ owners.Thread s = sym owner ∙ said.owner in ne (cc))
+        let e : owners.Thread t ≡ owners.Thread s = sym owner ∙ said.owner in ne (cc))
         (sym (ap (λ z. one (carries c z)) free)) (λ p d e. let bad : hands.Free ≡ hands.Busy p d = sym free ∙ e in absurd (cc)) (refl, on)
 
     -- the owner hands its object over
@@ -305,7 +305,7 @@ module _ (h : Heap) (t c : ℕ) (sound : IsSound h) where
         untie_ungripped phases.Yielding said.mortal (ap lives owner) ((sound.cells c said.mortal).owned_unmerged t owner) none refl
         (λ off. absurd (true≢false (sym (active_now h t c phases.Offered sound busy refl) ∙ off)))
         (λ s ne other. let theirs : Offered s (cell_at h c) = (sound.hands s c phases.Offered other).fits in
-            let e : owners.Thread t ≡ owners.Thread s = sym owner ∙ theirs.owner in ne (cc))
+        let e : owners.Thread t ≡ owners.Thread s = sym owner ∙ theirs.owner in ne (cc))
         (sym (ap (λ z. one (carries c z)) busy)) (λ p d e. (busy_same phases.Offered c (row_at h t).hand busy p d e).0)
         (record { owner = refl; state = offer.state; bearer = (sound.cells c said.mortal).owned_by_bearer t owner })
 
@@ -621,9 +621,11 @@ offer_turn h t c sound ok =
       most_here = omega (arith, sound.most c mortal, one-le (not (is_default x.state)), carries_free c _ free);
       least_here = omega (arith, asked, here, carries_free c _ free, offers_free c _ free);
       before = λ p d e. let bad : hands.Free ≡ hands.Busy p d = sym free ∙ e in absurd (cc);
-      after = λ p d e. let same = busy_same phases.Offered c (hands.Busy phases.Offered c) refl p d e in
-          (same.0, subst (λ z. PhaseFits h.edition t (record (row_at h t) { hand = hands.Busy phases.Offered c }) (popped_at h t) y (row_at h x.bearer).stage c z) (sym same.1)
-          (record { owner = owner; local = local; state = refl }));
+      after = λ p d e. let same = busy_same phases.Offered c (hands.Busy phases.Offered c) refl p d e in (
+        same.0,
+        subst (λ z. PhaseFits h.edition t (record (row_at h t) { hand = hands.Busy phases.Offered c }) (popped_at h t) y (row_at h x.bearer).stage c z) (sym same.1)
+            (record { owner = owner; local = local; state = refl }),
+      );
       idle = never_idle h t (hands.Busy phases.Offered c) (ap is_active active);
       hands_else = λ s p ne busy. owned_phase h.edition s t (row_at h s) (popped_at h s) x (row_at h x.bearer).stage c p ne owner unmerged (sound.hands s c p busy).fits;
       cell = record {

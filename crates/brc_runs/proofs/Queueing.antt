@@ -572,9 +572,11 @@ more_stage words k inside = elim (cases_eq (k + 1) words) [
       let e : closed_more words k ≡ stages.Left = ap (λ b. if b then stages.Left else stages.Closing (k + 1)) (eq-eqb (k + 1) words last) in
       (ap is_active e, λ n is. let bad : stages.Left ≡ stages.Closing n = sym e ∙ is in absurd (cc), λ n is. let bad : stages.Left ≡ stages.Opening n = sym e ∙ is in cc)
   | inr more ↦
-      let e : closed_more words k ≡ stages.Closing (k + 1) = ap (λ b. if b then stages.Left else stages.Closing (k + 1)) (ne_eqb (k + 1) words more) in
-      (ap is_active e, λ n is. let same : stages.Closing (k + 1) ≡ stages.Closing n = sym e ∙ is in let m : k + 1 ≡ n = cc in (omega (arith, m), omega (arith, m, inside, more)),
-          λ n is. let bad : stages.Closing (k + 1) ≡ stages.Opening n = sym e ∙ is in cc)
+      let e : closed_more words k ≡ stages.Closing (k + 1) = ap (λ b. if b then stages.Left else stages.Closing (k + 1)) (ne_eqb (k + 1) words more) in (
+        ap is_active e,
+        λ n is. let same : stages.Closing (k + 1) ≡ stages.Closing n = sym e ∙ is in let m : k + 1 ≡ n = cc in (omega (arith, m), omega (arith, m, inside, more)),
+        λ n is. let bad : stages.Closing (k + 1) ≡ stages.Opening n = sym e ∙ is in cc,
+      )
 ]
 
 -- each object that the thread owns is on its worklist

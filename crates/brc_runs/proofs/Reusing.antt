@@ -46,7 +46,7 @@ again_gathered xs u is inside = elim (first_is xs) [
 ]
 
 new_last : (xs : List Bool) → first_gathered xs ≤ length xs
-new_last xs = elim (first_is xs) [ | inl none ↦ omega (arith, none) | inr found ↦ omega (arith, found.0) ]
+new_last xs = elim (first_is xs) [ inl none ↦ omega (arith, none) | inr found ↦ omega (arith, found.0) ]
 
 -- ---- a number is used again
 

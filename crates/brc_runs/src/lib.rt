@@ -14,6 +14,9 @@ mod row;
 pub use cell::Cell;
 pub use edition::Edition;
 pub use event::{Change, Dropped, Event, LastDropped, Source, Step};
-pub use laws::{counts_are_references, ledgers_are_told_since_registration, lives_are_told_by_the_run, worlds_are_sound};
+pub use laws::{
+    counts_are_references, ledgers_are_told_since_registration, lives_are_told_by_the_run,
+    worlds_are_sound,
+};
 pub use opening::{is_immortal, new_row, no_cell, no_row, opening_cell, words_for};
 pub use row::{Hand, Phase, Role, Row, Stage};

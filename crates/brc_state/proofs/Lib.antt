@@ -1,4 +1,5 @@
 pub mod Enabling
 pub mod Parting
 pub mod Refused
-pub mod Numbers
+pub mod Closing
+mod Numbers

@@ -2,3 +2,4 @@ pub mod Effects
 pub mod Memory
 pub mod OwnPart
 pub mod Refusals
+pub mod Closers

@@ -3,7 +3,8 @@
 ghost use Rattle.std.specs.Prelude.{◌≡◌, ◌↔◌, true, None};
 ghost use Rattle.std.specs.Prelude.{length};
 ghost use Rattle.brc_runs.specs.Heap.{worklist_at};
-ghost use Rattle.brc_runs.specs.Steps.{needs_no_cell, others_ok, target_at, enabled, owned_are_marked, may_leave, first_gathered, number_ok};
+ghost use Rattle.brc_runs.specs.Steps.{needs_no_cell, own_ok_at, others_ok, target_at, enabled, owned_are_marked, may_leave, first_gathered, number_ok};
+ghost use Rattle.brc_state.specs.Closers.{ClosersHaveLeft};
 ghost use Rattle.brc_state.specs.Refusals.{is_roots, root_refusal, cell_refusal, thread_refusal, refusal_of};
 
 use crate::cell_conditions::{cell_ok, is_owned_by};
@@ -116,16 +117,20 @@ impl<A: Allocator + Copy> Tables<A> {
     }
 
     /// Whether a thread that is told something is registered, and has the queue word; and a thread that closes has seen
-    /// to its objects.
+    /// to its objects, for which all cells are looked at with the first word alone.
+    #[tactic(auto, using(crate::proofs::Closing::closers_may_close))]
     #[inline(always)]
     fn others_ok(&self, thread: u32, step: Step) -> bool
+        requires own { own_ok_at self.now thread step ≡ true }
+        requires closers { ClosersHaveLeft self.now }
+
         ensures { result ≡ others_ok self.now thread step }
     {
         match step {
             Step::Nudge { thread, word } => {
                 self.is_registered(thread) && (word as usize) < words_for(self.cells.len())
             }
-            Step::Close(_) => self.may_leave(thread),
+            Step::Close(word) => word > 0 || self.may_leave(thread),
             _ => true,
         }
     }
@@ -163,7 +168,8 @@ impl<A: Allocator + Copy> Tables<A> {
     /// What a thread's step fails, where its cell is this one.
     #[inline(always)]
     fn thread_refusal(&self, thread: u32, step: Step, means: Option<u32>) -> Option<Refusal>
-        requires { means ≡ target_at self.now thread step }
+        requires means { means ≡ target_at self.now thread step }
+        requires closers { ClosersHaveLeft self.now }
 
         ensures { result ≡ thread_refusal self.now thread step }
     {
@@ -244,7 +250,8 @@ impl<A: Allocator + Copy> Tables<A> {
     /// Which condition the event fails first, where it means this cell.
     #[inline(always)]
     fn refusal_at(&self, event: &Event, means: Option<u32>) -> Option<Refusal>
-        requires { means ≡ target_at self.now event.now.thread event.now.step }
+        requires means { means ≡ target_at self.now event.now.thread event.now.step }
+        requires closers { ClosersHaveLeft self.now }
 
         ensures { result ≡ refusal_of self.now event.now }
     {
@@ -258,6 +265,8 @@ impl<A: Allocator + Copy> Tables<A> {
     /// Which condition the event fails first, if it isn't enabled.
     #[tactic(auto, using(crate::proofs::Refused::unrefused_enabled))]
     pub fn refusal(&self, event: &Event) -> Option<Refusal>
+        requires closers { ClosersHaveLeft self.now }
+
         ensures which { result ≡ refusal_of self.now event.now }
         ensures none { (result ≡ None) ↔ (enabled self.now event.now ≡ true) }
     {
@@ -267,7 +276,8 @@ impl<A: Allocator + Copy> Tables<A> {
     /// Whether the event is enabled, where it means this cell.
     #[inline(always)]
     pub fn enabled(&self, event: &Event, means: Option<u32>) -> bool
-        requires { means ≡ target_at self.now event.now.thread event.now.step }
+        requires means { means ≡ target_at self.now event.now.thread event.now.step }
+        requires closers { ClosersHaveLeft self.now }
 
         ensures { result ≡ enabled self.now event.now }
     {

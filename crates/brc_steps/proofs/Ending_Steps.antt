@@ -70,7 +70,7 @@ module _ {B : Type 0} (shows : B → ℕ × Contents) (n limit : ℕ) where
       let said : Tells t phases.Zero x = (hand_tells h t c phases.Zero known.reached busy).1 in
       let live : lives x.owner ≡ true = ap lives said.0 in
       let low : c < length h.cells = inside h c (live_owner _ live) in
-      let may : thread_may h t s ≡ true = is_enabled n limit h t log s some_thread known carries.own refl (fits_cell n limit h t log s c known refl low refl) in
+      let may : thread_may h t s ≡ true = is_enabled n limit h t log s some_thread known carries.own refl refl (fits_cell n limit h t log s c known refl low refl) in
       record {
         may = may;
         target = refl;
@@ -105,7 +105,7 @@ module _ {B : Type 0} (shows : B → ℕ × Contents) (n limit : ℕ) where
       let said : Tells t phases.Untied x = (hand_tells h t c phases.Untied known.reached busy).1 in
       let live : lives x.owner ≡ true = ap lives said.0 in
       let low : c < length h.cells = inside h c (live_owner _ live) in
-      let may : thread_may h t s ≡ true = is_enabled n limit h t log s some_thread known carries.own refl (fits_cell n limit h t log s c known refl low refl) in
+      let may : thread_may h t s ≡ true = is_enabled n limit h t log s some_thread known carries.own refl refl (fits_cell n limit h t log s c known refl low refl) in
       record {
         may = may;
         target = refl;
@@ -145,7 +145,7 @@ module _ {B : Type 0} (shows : B → ℕ × Contents) (n limit : ℕ) where
       let s : Step = LastDown last in
       let x : Cell = cell_at h c in
       let cell : HeldCell h c = held_cell n limit h t log c known ends.holds in
-      let may : thread_may h t s ≡ true = is_enabled n limit h t log s some_thread known ends.own refl
+      let may : thread_may h t s ≡ true = is_enabled n limit h t log s some_thread known ends.own refl refl
       (fits_cell n limit h t log s c known ends.named cell.low (both_true (ap not ends.risen) ends.fits)) in
       let less : CountFits (x.count -ℤ pos 1) = subst (λ (y : Cell). CountFits y.count) (read_cell h t s c cell.low) (count_after h t s c c (reached_sound h known.reached) some_thread may ends.named) in
       record {

@@ -93,7 +93,7 @@ top_state states.Merged high = refl
 ending_risen : (h : Heap) (t c : ℕ) (p : Phase) → IsReached h → (row_at h t).hand ≡ hands.Busy p c → is_ending p ≡ true → is_default (cell_at h c).state ≡ false
 ending_risen h t c phases.Asked reached busy ends = (hand_tells h t c phases.Asked reached busy).1
 ending_risen h t c phases.Shut reached busy ends = elim (hand_tells h t c phases.Shut reached busy).1 [
-  | inl nobody ↦ ap is_default nobody.1
+  | inl nobody ↦ nobody.1
   | inr owned ↦ ap is_default owned.2
 ]
 ending_risen h t c phases.Held reached busy ends = ap is_default (hand_tells h t c phases.Held reached busy).1.1

@@ -85,7 +85,7 @@ module _ {B : Type 0} (shows : B → ℕ × Contents) (n limit : ℕ) where
       let unlocked : (cell_after t s c x).mutex ≡ x.mutex = ap (λ b. (if b then x else record x { local = x.local + 1 }).mutex) (mortal_cell c raises.mortal) in
       let ok : counts_up_locally limit t (row_at h t).stage x ≡ true = both_true is.his (lt-ltb _ _ (omega (arith, is.count_is, raises.below))) in
       plain_on n h t s c (Of Local c) (count + 1) (count + 1) (record {
-        may = is_enabled n limit h t log s some_thread known raises.own refl (fits_cell n limit h t log s c known named is.low
+        may = is_enabled n limit h t log s some_thread known raises.own refl refl (fits_cell n limit h t log s c known named is.low
             (ap (λ b. b || counts_up_locally limit t (row_at h t).stage x) (mortal_cell c raises.mortal) ∙ ok));
         target = named;
         word = refl;
@@ -115,7 +115,7 @@ module _ {B : Type 0} (shows : B → ℕ × Contents) (n limit : ℕ) where
       let same : (cell_after t s c x).owner ≡ x.owner = ap (λ b. (if b then x else record x { local = x.local - 1 }).owner) (mortal_cell c lowers.mortal) in
       let unlocked : (cell_after t s c x).mutex ≡ x.mutex = ap (λ b. (if b then x else record x { local = x.local - 1 }).mutex) (mortal_cell c lowers.mortal) in
       plain_on n h t s c (Of Local c) (count - 1) (count - 1) (record {
-        may = is_enabled n limit h t log s some_thread known lowers.own refl (fits_cell n limit h t log s c known named is.low
+        may = is_enabled n limit h t log s some_thread known lowers.own refl refl (fits_cell n limit h t log s c known named is.low
             (ap (λ b. b || is_mine t (row_at h t).stage x) (mortal_cell c lowers.mortal) ∙ is.his));
         target = named;
         word = refl;
@@ -154,7 +154,7 @@ module _ {B : Type 0} (shows : B → ℕ × Contents) (n limit : ℕ) where
       let named : target_at h t s ≡ Some c = meant_there n limit h t log s (Some c) known raises.cell in
       let same : cell_after t s c x ≡ x = ap (λ b. if b then x else record x { local = x.local + 1 }) fixed in
       plain_on n h t s c (Of Local c) there there (record {
-        may = is_enabled n limit h t log s some_thread known raises.own refl (fits_cell n limit h t log s c known named low
+        may = is_enabled n limit h t log s some_thread known raises.own refl refl (fits_cell n limit h t log s c known named low
             (ap (λ b. b || counts_up_locally limit t (row_at h t).stage x) fixed));
         target = named;
         word = refl;
@@ -182,7 +182,7 @@ module _ {B : Type 0} (shows : B → ℕ × Contents) (n limit : ℕ) where
       let named : target_at h t s ≡ Some c = meant_there n limit h t log s (Some c) known lowers.cell in
       let same : cell_after t s c x ≡ x = ap (λ b. if b then x else record x { local = x.local - 1 }) fixed in
       plain_on n h t s c (Of Local c) there there (record {
-        may = is_enabled n limit h t log s some_thread known lowers.own refl (fits_cell n limit h t log s c known named low
+        may = is_enabled n limit h t log s some_thread known lowers.own refl refl (fits_cell n limit h t log s c known named low
             (ap (λ b. b || is_mine t (row_at h t).stage x) fixed));
         target = named;
         word = refl;

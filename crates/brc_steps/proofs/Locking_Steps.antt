@@ -99,7 +99,7 @@ module _ {B : Type 0} (shows : B → ℕ × Contents) (n limit : ℕ) where
       block_moved shows n limit st r id v s c (Of Mutex c) t 0 (moves.Found c (shows lies.block).1) none at active low
       (record {
         some_thread = some_thread;
-        may = is_enabled n limit h t v.log s some_thread known carries.own refl (fits_cell n limit h t v.log s c known named cell.low (eq-eqb x.mutex 0 free));
+        may = is_enabled n limit h t v.log s some_thread known carries.own refl refl (fits_cell n limit h t v.log s c known named cell.low (eq-eqb x.mutex 0 free));
         target = named;
         low = cell.low;
         word = refl;
@@ -193,7 +193,7 @@ module _ {B : Type 0} (shows : B → ℕ × Contents) (n limit : ℕ) where
       block_moved shows n limit st r id v s c (Of Mutex c) 0 0 (moves.Put c p) (some (Some block)) at active low
       (record {
         some_thread = some_thread;
-        may = is_enabled n limit h t v.log s some_thread known unlocks.own refl (fits_cell n limit h t v.log s c known named cell.low
+        may = is_enabled n limit h t v.log s some_thread known unlocks.own refl refl (fits_cell n limit h t v.log s c known named cell.low
             (ap (λ kind. is_keep change || is_container kind) (sym kind_is) ∙ unlocks.container));
         target = named;
         low = cell.low;

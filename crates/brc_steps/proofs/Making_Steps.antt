@@ -124,7 +124,7 @@ module _ {B : Type 0} (shows : B → ℕ × Contents) (n limit : ℕ) where
       let busy : (row_at h t).hand ≡ hands.Busy phases.Claimed c = busy_hand phases.Claimed c _ (hand_there n limit h t log s known carries.own) in
       let low : c < length h.cells = making_low h t c (hand_tells h t c phases.Claimed known.reached busy).1 in
       plain_on n h t s c (Of Local c) 1 1 (record {
-        may = is_enabled n limit h t log s some_thread known carries.own refl (fits_cell n limit h t log s c known refl low refl);
+        may = is_enabled n limit h t log s some_thread known carries.own refl refl (fits_cell n limit h t log s c known refl low refl);
         target = refl;
         word = refl;
         shown = sym (ap (λ (y : Cell). y.local) (read_cell h t s c low));
@@ -148,7 +148,7 @@ module _ {B : Type 0} (shows : B → ℕ × Contents) (n limit : ℕ) where
       let busy : (row_at h t).hand ≡ hands.Busy phases.Counted c = busy_hand phases.Counted c _ (hand_there n limit h t log s known carries.own) in
       let low : c < length h.cells = making_low h t c (hand_tells h t c phases.Counted known.reached busy).1.0 in
       plain_on n h t s c (Of Shared c) (2 ^ 42) (2 ^ 42) (record {
-        may = is_enabled n limit h t log s some_thread known carries.own refl (fits_cell n limit h t log s c known refl low refl);
+        may = is_enabled n limit h t log s some_thread known carries.own refl refl (fits_cell n limit h t log s c known refl low refl);
         target = refl;
         word = refl;
         shown = sym (ap (λ (y : Cell). shared_word y.count y.state) (read_cell h t s c low));
@@ -199,7 +199,7 @@ module _ {B : Type 0} (shows : B → ℕ × Contents) (n limit : ℕ) where
         block_moved shows n limit st r id v s c (FreeWord (c / 64)) (bit_and there (2 ^ 64 - 1 - 2 ^ (c % 64))) there moves.Nothing none at active (free_inside n c low)
             (record {
               some_thread = some_thread;
-              may = is_enabled n limit h t v.log s some_thread known claims.own refl
+              may = is_enabled n limit h t v.log s some_thread known claims.own refl refl
                   (fits_cell n limit h t v.log s c known refl inside_is (both_true (le-leb _ _ claims.mortal) (ap is_free free)));
               target = refl;
               low = inside_is;
@@ -263,7 +263,7 @@ module _ {B : Type 0} (shows : B → ℕ × Contents) (n limit : ℕ) where
       block_moved shows n limit st r id v s c (Of OwnerWord c) t t (moves.Put c p) (some (Some block)) at active low
       (record {
         some_thread = some_thread;
-        may = is_enabled n limit h t v.log s some_thread known bears.own refl (fits_cell n limit h t v.log s c known refl inside_is refl);
+        may = is_enabled n limit h t v.log s some_thread known bears.own refl refl (fits_cell n limit h t v.log s c known refl inside_is refl);
         target = refl;
         low = inside_is;
         word = refl;
@@ -320,7 +320,7 @@ module _ {B : Type 0} (shows : B → ℕ × Contents) (n limit : ℕ) where
       block_moved shows n limit st r id v s c (FreeWord (c / 64)) (bit_or there (2 ^ (c % 64))) there moves.Nothing (some None) at active (free_inside n c low)
       (record {
         some_thread = some_thread;
-        may = is_enabled n limit h t v.log s some_thread known carries.own refl (fits_cell n limit h t v.log s c known refl inside_is refl);
+        may = is_enabled n limit h t v.log s some_thread known carries.own refl refl (fits_cell n limit h t v.log s c known refl inside_is refl);
         target = refl;
         low = inside_is;
         word = refl;

@@ -12,10 +12,10 @@ use Rattle.brc_runs.specs.declared.event.Step.{Step}
 use Rattle.brc_runs.specs.declared.event.Step.TheVariants.{Drain, Close, Nudge, Wake}
 use Rattle.brc_runs.specs.declared.row.Row.{Row}
 use Rattle.brc_runs.specs.declared.row.Stage.TheVariants as stages
-use Rattle.brc_runs.specs.Lists.{word_at}
-use Rattle.brc_runs.specs.Heap.{Heap, row_at, queue_at, no_row, is_registered, words_for}
+use Rattle.brc_runs.specs.Lists.{word_at, is_unmarked}
+use Rattle.brc_runs.specs.Heap.{Heap, row_at, queue_at, worklist_at, no_row, is_registered, words_for}
 use Rattle.brc_runs.specs.Sound.{IsSound}
-use Rattle.brc_runs.specs.Steps.{thread_may, target_at, after_target, kept_cells, stage_after, is_closed, closed_more}
+use Rattle.brc_runs.specs.Steps.{thread_may, target_at, after_target, kept_cells, stage_after, is_closed, closed_more, may_leave}
 use Rattle.brc_runs.proofs.Asking.{May, may_parts}
 use Rattle.brc_runs.proofs.Changes.{read_here}
 use Rattle.brc_runs.proofs.Reached.{reached_sound}
@@ -35,7 +35,7 @@ use Rattle.brc_rule.specs.Rule.{with_told, Kept}
 use Rattle.brc_steps.specs.Owing.{Allowed, Tells}
 use Rattle.brc_steps.specs.Taking.{AreQueued}
 use Rattle.brc_rule.proofs.Own_Logs.{stands_registered}
-use Rattle.brc_rule.proofs.Knowing.{Known, is_enabled}
+use Rattle.brc_rule.proofs.Knowing.{Known, is_enabled, known_edition}
 use Rattle.brc_steps.proofs.Plain_Steps.{IsPlain, stays_off, plain_step}
 use Rattle.brc_steps.proofs.Telling.{tells_found}
 
@@ -97,14 +97,14 @@ module _ {B : Type 0} (shows : B → ℕ × Contents) (n limit : ℕ) where
   -- ---- Drain
 
   drained_open : (h : Heap) (t : ℕ) (log : List Told) (k : ℕ) → 0 < t → Known n limit h t log → Allowed n log (Drain k) → is_closed (row_at h t).stage k ≡ false
-  drained_open h t log k some_thread known allowed = drains_open (row_at h t).stage k (may_parts h t (Drain k) (is_enabled n limit h t log (Drain k) some_thread known allowed.own refl refl)).stage
+  drained_open h t log k some_thread known allowed = drains_open (row_at h t).stage k (may_parts h t (Drain k) (is_enabled n limit h t log (Drain k) some_thread known allowed.own refl refl refl)).stage
 
   drained : (h : Heap) (t : ℕ) (log : List Told) (k there : ℕ) → 0 < t → k < words_for n → Known n limit h t log → Allowed n log (Drain k) → Shows h (Queue t k) there
       → IsPlain n h t (Drain k) (Queue t k) 0 there
   drained h t log k there some_thread inside known allowed shown =
       let s : Step = Drain k in
       let sound : IsSound h = reached_sound h known.reached in
-      let may : thread_may h t s ≡ true = is_enabled n limit h t log s some_thread known allowed.own refl refl in
+      let may : thread_may h t s ≡ true = is_enabled n limit h t log s some_thread known allowed.own refl refl refl in
       let parts : May h t s = may_parts h t s may in
       let registered : is_registered h t ≡ true = stands_registered h t known.stood some_thread in
       let open_word : is_closed (row_at h t).stage k ≡ false = drained_open h t log k some_thread known allowed in
@@ -133,17 +133,23 @@ module _ {B : Type 0} (shows : B → ℕ × Contents) (n limit : ℕ) where
 
   -- ---- Close
 
+  -- its worklist is empty, which is what the first edition asks of it
+  may_close : (h : Heap) (t : ℕ) (log : List Told) (k : ℕ) → 0 < t → Known n limit h t log → Allowed n log (Close k) → thread_may h t (Close k) ≡ true
+  may_close h t log k some_thread known allowed =
+      is_enabled n limit h t log (Close k) some_thread known allowed.own refl
+      (subst (λ e. may_leave e t h.cells (worklist_at h t) ≡ true) (sym (known_edition n limit h t log known)) (ap is_unmarked known.part.work_is ∙ allowed.done)) refl
+
   closed_open : (h : Heap) (t : ℕ) (log : List Told) (k : ℕ) → 0 < t → Known n limit h t log → Allowed n log (Close k) → is_closed (row_at h t).stage k ≡ false
   closed_open h t log k some_thread known allowed =
-      let parts : May h t (Close k) = may_parts h t (Close k) (is_enabled n limit h t log (Close k) some_thread known allowed.own refl refl) in
-      next_open (row_at h t).stage k (and_parts _ _ (and_parts _ _ (and_parts _ _ (and_parts _ _ parts.own).0).0).0).1
+      let parts : May h t (Close k) = may_parts h t (Close k) (may_close h t log k some_thread known allowed) in
+      next_open (row_at h t).stage k (and_parts _ _ (and_parts _ _ (and_parts _ _ parts.own).0).0).1
 
   closed : (h : Heap) (t : ℕ) (log : List Told) (k there : ℕ) → 0 < t → k < words_for n → Known n limit h t log → Allowed n log (Close k) → Shows h (Queue t k) there
       → IsPlain n h t (Close k) (Queue t k) (bit_or there 9223372036854775808) there
   closed h t log k there some_thread inside known allowed shown =
       let s : Step = Close k in
       let sound : IsSound h = reached_sound h known.reached in
-      let may : thread_may h t s ≡ true = is_enabled n limit h t log s some_thread known allowed.own refl refl in
+      let may : thread_may h t s ≡ true = may_close h t log k some_thread known allowed in
       let parts : May h t s = may_parts h t s may in
       let registered : is_registered h t ≡ true = stands_registered h t known.stood some_thread in
       let open_word : is_closed (row_at h t).stage k ≡ false = closed_open h t log k some_thread known allowed in
@@ -179,7 +185,7 @@ module _ {B : Type 0} (shows : B → ℕ × Contents) (n limit : ℕ) where
       let registered : is_registered h q ≡ true = known.owners q tells.seen tells.some_thread tells.few in
       let low : q < length h.rows = ltb-true _ _ (and_parts (nat_lt 0 q) (nat_lt q (length h.rows)) registered).1 in
       plain_off n h t s (NotifyWord q) (bit_or there (2 ^ (k / 32))) there (record {
-        may = is_enabled n limit h t log s some_thread known tells.own (both_true registered (lt-ltb _ _ (subst (λ m. k < words_for m) (sym known.cells) tells.word))) refl;
+        may = is_enabled n limit h t log s some_thread known tells.own refl (both_true registered (lt-ltb _ _ (subst (λ m. k < words_for m) (sym known.cells) tells.word))) refl;
         target = refl;
         word = refl;
         shown = ap (λ m. bit_or m (2 ^ (k / 32))) shown ∙ sym (read_here h.notify_words q _ 0 (omega (arith, sound.shaped.notify_words, low)));
@@ -196,7 +202,7 @@ module _ {B : Type 0} (shows : B → ℕ × Contents) (n limit : ℕ) where
   woken : (h : Heap) (t : ℕ) (log : List Told) (there : ℕ) → 0 < t → Known n limit h t log → Allowed n log Wake → Shows h (NotifyWord t) there → IsPlain n h t Wake (NotifyWord t) 0 there
   woken h t log there some_thread known allowed shown =
       let sound : IsSound h = reached_sound h known.reached in
-      let may : thread_may h t Wake ≡ true = is_enabled n limit h t log Wake some_thread known allowed.own refl refl in
+      let may : thread_may h t Wake ≡ true = is_enabled n limit h t log Wake some_thread known allowed.own refl refl refl in
       plain_off n h t Wake (NotifyWord t) 0 there (record {
         may = may;
         target = refl;

@@ -155,7 +155,7 @@ enqueued n limit h t log c q there some_thread known asks shown =
     let has : HasWord h x.bearer c = has_word h c (reached_sound h known.reached) now.keeps.mortal now.keeps.live low in
     let found : ToldBy (is_shut h c) (word_at (queue_at h x.bearer) (c / 32)) there = word_found h c there has.registered (subst (λ b. Shows h (Queue b (c / 32)) there) (sym bearer) shown) in
     plain_on n h t s c (Queue q (c / 32)) (bit_or there (2 ^ (c % 32))) there (record {
-      may = is_enabled n limit h t log s some_thread known asks.own refl (fits_cell n limit h t log s c known refl low refl);
+      may = is_enabled n limit h t log s some_thread known asks.own refl refl (fits_cell n limit h t log s c known refl low refl);
       target = refl;
       word = ap (λ b. Queue b (c / 32)) bearer;
       shown = subst (λ b. Shows (stepped h t s c) (Queue b (c / 32)) (bit_or there (2 ^ (c % 32)))) bearer (word_shown h t c there has found);

@@ -7,14 +7,16 @@ use mathlib.Core.Option.{some, some-injective, some-ne-none}
 use lib.ListN.{get_elem?}
 use Rattle.atomic_table.specs.Table.{State, Splits, Joins}
 use Rattle.atomic_table.proofs.Lists.{at_set, set_here, set_else, at_longer, at_last}
+use Rattle.brc_runs.specs.declared.edition.Edition.TheVariants as editions
 use Rattle.brc_runs.specs.declared.event.Step.TheVariants.{Register, Gather}
 use Rattle.brc_runs.specs.declared.row.Row.{Row}
-use Rattle.brc_runs.specs.Lists.{word_at, is_blank, is_unmarked}
-use Rattle.brc_runs.specs.Heap.{Heap, opening, cell_at, row_at, queue_at, new_row, no_row, is_registered, is_gathered, words_for}
+use Rattle.brc_runs.specs.Lists.{word_at, is_blank, is_marked, is_unmarked}
+use Rattle.brc_runs.specs.Heap.{Heap, opening, cell_at, row_at, queue_at, worklist_at, new_row, no_row, is_registered, is_gathered, words_for}
 use Rattle.brc_runs.specs.Runs.{IsReached}
 use Rattle.brc_runs.specs.Sound.{IsSound}
-use Rattle.brc_runs.specs.Steps.{root_may, registered, gathered_in, is_closed, is_left, is_free_hand}
+use Rattle.brc_runs.specs.Steps.{root_may, root_after, number_ok, registered, registered_again, gathered_in, is_closed, is_left, is_free_hand}
 use Rattle.brc_runs.proofs.Changes.{read_here, read_there}
+use Rattle.brc_runs.proofs.Lifetimes.{run_edition}
 use Rattle.brc_runs.proofs.Reached.{reached_sound}
 use Rattle.brc_runs.proofs.Registering.{push_else, length-push, new_word}
 use Rattle.brc_lasting.proofs.Standing.{run_reached}
@@ -33,7 +35,8 @@ use Rattle.brc_rule.specs.declared.told.Told.TheVariants.{Did}
 use Rattle.brc_rule.specs.declared.view.View.{View}
 use Rattle.brc_rule.specs.Layout.{spot}
 use Rattle.brc_rule.specs.Logs.{log_items, Run, items_of, own_of, world}
-use Rattle.brc_rule.specs.Rule.{stands, log_in, Fits, Seated, Kept}
+use Rattle.brc_rule.specs.Homes.{HomeShown}
+use Rattle.brc_rule.specs.Rule.{stands, log_in, Fits, StandsOnce, Seated, Kept}
 use Rattle.brc_rule.specs.Seen.{part_seen}
 use Rattle.brc_steps.specs.Joining.{next_thread, registering, starting, gathering, spent, Registers, Leaves}
 use Rattle.brc_rule.proofs.Own_Logs.{own_items, own_more, own_same, stands_registered, stands_ungathered}
@@ -123,8 +126,17 @@ shown_registered n h (Queue t k) m sound shown = elim (cases_eq t (length h.rows
     now_registered : (h : Heap) (t : ℕ) → IsSound h → t ≡ length h.rows → is_registered (registered h) t ≡ true
     now_registered h t sound last = both_true (lt-ltb 0 t (omega (arith, last, sound.shaped.root))) (lt-ltb _ _ (omega (arith, last, length-push h.rows new_row)))
 
-stays_registered : (h : Heap) (c : ℕ) → root_may h (Register (length h.rows)) ≡ true → Stays h (registered h) c
-stays_registered h c ok = record { free = λ is. is; lives = λ is. is; mutex = λ is. is; marks = λ off u. marks_of_root h (Register (length h.rows)) c u ok (off u) }
+-- the next number has no rows yet
+new_thread : (h : Heap) (u : ℕ) → u ≡ length h.rows → root_after h (Register u) ≡ registered h
+new_thread h u is = ap (λ b. if b then registered_again h u else registered h) (le-ltb u (length h.rows) (omega (arith, is)))
+
+stays_registered : (h : Heap) (c : ℕ) → IsSound h → root_may h (Register (length h.rows)) ≡ true → Stays h (registered h) c
+stays_registered h c sound ok = record {
+  free = λ is. is;
+  lives = λ is. is;
+  mutex = λ is. is;
+  marks = λ off u. marks_of_root h (Register (length h.rows)) c u sound ok (ap (λ z. is_marked (worklist_at z u) c) (new_thread h (length h.rows) refl) ∙ off u);
+}
 
 -- ---- a world in which one thread more is gathered
 
@@ -182,7 +194,9 @@ module _ {B : Type 0} (shows : B → ℕ × Contents) (n limit : ℕ) where
       let later : Run = (0, x) ∷ r.run in
       let sound : IsSound h = reached_sound h (reached s r) in
       let is : u ≡ length h.rows = next_is s r id v at registers in
-      let ok : root_may h (Register u) ≡ true = both_true (eq-eqb u (length h.rows) is) (le-leb _ _ registers.few) in
+      let first : h.edition ≡ editions.One = run_edition (opening n limit) (events_of (items_of r.run)) in
+      let ok : root_may h (Register u) ≡ true = both_true (subst (λ e. number_ok e h u ≡ true) (sym first) (eq-eqb u (length h.rows) is)) (le-leb _ _ registers.few) in
+      let leads : world n limit later ≡ registered h = new_thread h u is in
       let some_thread : 0 < u = omega (arith, is, sound.shaped.root) in
       let fits : Fits h r.run r.seat id v = r.each_seat id v at registers.active in
       let root_here : r.seat 0 ≡ id = ap r.seat (sym registers.root) ∙ fits.here in
@@ -194,9 +208,10 @@ module _ {B : Type 0} (shows : B → ℕ × Contents) (n limit : ℕ) where
         legal = record { items = (r.legal.items, (ok, refl, refl)); moved = (r.legal.moved, (refl, refl)) };
         wide = r.wide;
         deep = r.deep;
-        each_word = λ w inside. shown_registered n h w (get_or s.words (spot n w) 0) sound (r.each_word w inside);
-        each_home = λ c low. home_stays shows s.homes h (registered h) r.run later c (stays_registered h c (subst (λ k. root_may h (Register k) ≡ true) is ok)) refl (r.each_home c low);
-        each_seat = λ j w there live. ⊎_elim
+        each_word = λ w inside. subst (λ z. Shows z w (get_or s.words (spot n w) 0)) (sym leads) (shown_registered n h w (get_or s.words (spot n w) 0) sound (r.each_word w inside));
+        each_home = λ c low. subst (λ z. HomeShown shows s.homes z later c) (sym leads)
+            (home_stays shows s.homes h (registered h) r.run later c (stays_registered h c sound (subst (λ k. root_may h (Register k) ≡ true) is ok)) refl (r.each_home c low));
+        each_seat = λ j w there live. subst (λ z. Fits z later (with_seat r.seat u (length s.views)) j w) (sym leads) (⊎_elim
             (λ (old : get_elem? (set s.views id (registering v)) j ≡ some w). ⊎_elim
             (λ (mine : (j ≡ id) × (registering v ≡ w)). subst (λ (z : ℕ × View). Fits (registered h) later (with_seat r.seat u (length s.views)) z.0 z.1) (λ i. (sym mine.0 i, mine.1 i))
             (root_fits s r id v u registers sound is some_thread fits))
@@ -205,12 +220,12 @@ module _ {B : Type 0} (shows : B → ℕ × Contents) (n limit : ℕ) where
             (λ (new : (j ≡ length (set s.views id (registering v))) × (starting v ≡ w)).
             subst (λ (z : ℕ × View). Fits (registered h) later (with_seat r.seat u (length s.views)) z.0 z.1) (λ i. (sym (new.0 ∙ length-set s.views id (registering v)) i, new.1 i))
             (start_fits s r v u registers sound is some_thread refl))
-            (at_push (set s.views id (registering v)) (starting v) w j there);
-        each_thread = λ t there. seated s r id v t u at registers is some_thread sound refl there;
-        each_once = λ t positive. elim (cases_eq u t) [
+            (at_push (set s.views id (registering v)) (starting v) w j there));
+        each_thread = λ t there. seated s r id v t u at registers is some_thread sound refl (subst (λ z. stands z t ≡ true) leads there);
+        each_once = λ t positive. subst (λ z. StandsOnce z later t) (sym leads) (elim (cases_eq u t) [
           | inl same ↦ once_started h (registered h) r.run t x positive (eq-eqb u t same) refl (not_yet h t sound (sym same ∙ is)) (r.each_once t positive)
           | inr other ↦ once_calm h (registered h) r.run 0 t x (ne_eqb u t other) refl refl (stood_before h t sound (λ e. other (is ∙ sym e))) (r.each_once t positive)
-        ];
+        ]);
       }
     where
       start_fits : (s : Table) (r : Rule s) (v : View) (u : ℕ) → Registers v → IsSound (world n limit r.run) → u ≡ length (world n limit r.run).rows → 0 < u → u ≡ next_thread v

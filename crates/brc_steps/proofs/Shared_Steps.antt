@@ -93,7 +93,7 @@ module _ {B : Type 0} (shows : B → ℕ × Contents) (n limit : ℕ) where
       let named : target_at h t s ≡ Some c = meant_there n limit h t log s (Some c) known raises.cell in
       let cell : HeldCell h c = held_cell n limit h t log c known (source_held h t c source named raises.mortal) in
       let free = free_hand _ (hand_there n limit h t log s known raises.own) in
-      let may : thread_may h t s ≡ true = is_enabled n limit h t log s some_thread known raises.own refl (fits_cell n limit h t log s c known named cell.low
+      let may : thread_may h t s ≡ true = is_enabled n limit h t log s some_thread known raises.own refl refl (fits_cell n limit h t log s c known named cell.low
       (both_true (ap not (mortal_cell c raises.mortal)) (ap not (beyond h t log c known raises.mortal cell.held_is free raises.counted)))) in
       let more : CountFits (x.count +ℤ pos 1) = subst (λ (y : Cell). CountFits y.count) (read_cell h t s c cell.low) (count_after h t s c c (reached_sound h known.reached) some_thread may named) in
       plain_on n h t s c (Of Shared c) ((there + 4) % 2 ^ 64) there (record {
@@ -143,7 +143,7 @@ module _ {B : Type 0} (shows : B → ℕ × Contents) (n limit : ℕ) where
       let free = free_hand _ (hand_there n limit h t log s known releases.own) in
       let others : is_others t (row_at h t).stage c x ≡ true = both_true (ap not (mortal_cell c releases.mortal)) (ap not (not_his n limit h t log c known releases.mortal cell.held_is free releases.counted)) in
       let range : CountFits x.count = reached_count_range h known.reached c in
-      let may : thread_may h t s ≡ true = is_enabled n limit h t log s some_thread known releases.own refl (fits_cell n limit h t log s c known named cell.low
+      let may : thread_may h t s ≡ true = is_enabled n limit h t log s some_thread known releases.own refl refl (fits_cell n limit h t log s c known named cell.low
       (both_true (both_true others (default_there x old shown default)) (positive_there x old shown (Rattle.brc_steps.proofs.Numbers.bits_small x.state) high range))) in
       let less : CountFits (x.count -ℤ pos 1) = subst (λ (y : Cell). CountFits y.count) (read_cell h t s c cell.low) (count_after h t s c c (reached_sound h known.reached) some_thread may named) in
       plain_on n h t s c (Of Shared c) (old - 4) old (record {
@@ -197,7 +197,7 @@ module _ {B : Type 0} (shows : B → ℕ × Contents) (n limit : ℕ) where
       let free = free_hand _ (hand_there n limit h t log s known releases.own) in
       let others : is_others t (row_at h t).stage c x ≡ true = both_true (ap not (mortal_cell c releases.mortal)) (ap not (not_his n limit h t log c known releases.mortal cell.held_is free releases.counted)) in
       plain_on n h t s c (Of Shared c) (bit_or there 2) there (record {
-        may = is_enabled n limit h t log s some_thread known releases.own refl (fits_cell n limit h t log s c known named cell.low others);
+        may = is_enabled n limit h t log s some_thread known releases.own refl refl (fits_cell n limit h t log s c known named cell.low others);
         target = named;
         word = refl;
         shown = ap (λ m. bit_or m 2) shown ∙ sym (asked_word x t c drop) ∙ sym (ap (λ (y : Cell). shared_word y.count y.state) (read_cell h t s c cell.low));

@@ -51,7 +51,7 @@ unties n limit h t log c some_thread known own ways =
     let s : Step = Untie c in
     let low : c < length h.cells = inside h c (live_owner _ ways.live) in
     plain_on n h t s c (Of Owner c) 0 0 (record {
-      may = is_enabled n limit h t log s some_thread known own refl (fits_cell n limit h t log s c known refl low ways.ok);
+      may = is_enabled n limit h t log s some_thread known own refl refl (fits_cell n limit h t log s c known refl low ways.ok);
       target = refl;
       word = refl;
       shown = subst (λ o. ShowsOwner (length (stepped h t s c).rows) o 0) (sym (ap (λ (y : Cell). y.owner) (read_cell h t s c low))) refl;

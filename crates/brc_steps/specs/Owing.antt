@@ -1,13 +1,14 @@
 -- What each kind of step asks of its seat's log, and of nothing else.
-use Rattle.std.specs.Prelude.{◌≡◌, ◌≢◌, ◌⊎◌, ℕ, ◌%◌, ◌<◌, ◌≤◌, ◌||◌, true, List, [], Some}
+use Rattle.std.specs.Prelude.{◌≡◌, ◌≢◌, ◌⊎◌, ℕ, ◌%◌, ◌<◌, ◌≤◌, ◌||◌, Bool, true, List, [], Some}
 use Rattle.brc_words.specs.declared.limits.TheConstants.{FIRST_MORTAL, MOST_THREADS}
 use Rattle.brc_runs.specs.declared.event.Source.{Source}
 use Rattle.brc_runs.specs.declared.event.Dropped.{Dropped}
 use Rattle.brc_runs.specs.declared.event.Change.{Change}
 use Rattle.brc_runs.specs.declared.event.Step.{Step}
-use Rattle.brc_runs.specs.declared.event.Step.TheVariants.{Claim, Birth, LocalUp, LocalDown, SharedUp, LastDown, Untie, MergeAdd, Enqueue, Nudge, Unlock}
+use Rattle.brc_runs.specs.declared.event.Step.TheVariants.{Claim, Birth, LocalUp, LocalDown, SharedUp, LastDown, Untie, MergeAdd, Enqueue, Close, Nudge, Unlock}
 use Rattle.brc_runs.specs.declared.event.LastDropped.TheVariants as lasts
 use Rattle.brc_words.specs.Kinds.{is_container}
+use Rattle.brc_runs.specs.Lists.{is_unmarked}
 use Rattle.brc_runs.specs.Steps.{is_keep, entries_changed}
 use Rattle.brc_runs.specs.Heap.{words_for}
 use Rattle.brc_runs.specs.declared.row.Hand.TheVariants as hands
@@ -102,9 +103,15 @@ pub record Unlocks (n : ℕ) (log : List Told) (block : ℕ × Contents) (found 
   pub keys : KeysGo change found block.1
   pub kept : is_keep change ≡ true → block.1 ≡ found
 
+-- a thread closes its queue words once no block is left on its worklist
+abbrev pub is_done : List Bool → Step → Bool
+is_done worklist (Close k) = is_unmarked worklist
+is_done worklist _ = true
+
 -- the thread's own part allows a step on a word that is no cell's
 pub record Allowed (n : ℕ) (log : List Told) (s : Step) : Type 0 where
   pub own : own_may n (part_seen n log) s ≡ true
+  pub done : is_done (part_seen n log).worklist s ≡ true
 
 -- a thread that was found as an owner, and one of its queue words
 pub record Tells (n : ℕ) (log : List Told) (q k : ℕ) : Type 0 where

@@ -1,5 +1,5 @@
 -- What a step that may take a block tells its seat.
-use Rattle.std.specs.Prelude.{◌≡◌, ℕ, ◌<◌, ◌≤◌, ◌+◌, ◌*◌, ◌/◌, Bool, true, false, List, ◌∷◌, length, Option, Some, None, slice_get}
+use Rattle.std.specs.Prelude.{◌≡◌, ℕ, ◌<◌, ◌≤◌, ◌+◌, ◌*◌, ◌/◌, ◌^◌, Bool, true, false, List, ◌∷◌, length, Option, Some, None, slice_get}
 use Rattle.std.specs.Int.{bit_at}
 use Rattle.atomic_table.specs.Table.{Me}
 use Rattle.brc_words.specs.declared.limits.TheConstants.{MOST_ENTRIES}
@@ -24,6 +24,10 @@ AreCells n entries = (i c : ℕ) → slice_get entries i ≡ Some c → c < n
 -- Each bit that was found in this queue word is one of its 32 cells, and that is a cell of the heap: a bit is a reference.
 abbrev pub AreQueued : ℕ → ℕ → ℕ → Type 0
 AreQueued n k bits = (i : ℕ) → bit_at bits i ≡ 1 → (i < 32) × (k * 32 + i < n)
+
+-- the number of a shared word of which the count is above 0
+abbrev pub CountsSome : ℕ → Type 0
+CountsSome number = 2 ^ 40 < number / 4
 
 -- The seat has the cell's block now, and its log the contents that were found in it. It was none of the dead blocks that
 -- the seat had, and its entries are cells of the heap, not too many.

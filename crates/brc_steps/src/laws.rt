@@ -24,7 +24,7 @@ ghost use Rattle.brc_rule.specs.declared.view.View.{View as view};
 ghost use Rattle.brc_rule.specs.Layout.{spot};
 ghost use Rattle.brc_rule.specs.Rule.{with_told, Kept};
 ghost use Rattle.brc_steps.specs.Owing.{Raises, RaisesImmortal, Lowers, LowersImmortal, RaisesShared, Releases, Carries, EndsRisen, Claims, Bears, Unlocks, Allowed, Tells, EndsPopped, EndsAdded, EndsHeld, EndsNobodys, UntiesOver, UntiesShut, UntiesPopped, AddsLocal, Enqueues};
-ghost use Rattle.brc_steps.specs.Taking.{AreQueued, Ended, Claimed, Locked};
+ghost use Rattle.brc_steps.specs.Taking.{AreQueued, CountsSome, Ended, Claimed, Locked};
 ghost use Rattle.brc_steps.specs.Joining.{registering, starting, gathering, spent, Registers, Leaves};
 
 /// An owner counts by plain stores of the number that its log tells, without a look. An immortal's count is read, and
@@ -209,7 +209,7 @@ pub fn objects_are_merged<B>()
     ensures add { (shows : B → ℕ × contents) (n limit id : ℕ) (v : view) (slots : List (ℕ × Option B)) (c local : ℕ)
         → v.active ≡ true → 0 < v.thread → c < n → AddsLocal n v.log c local
         → Allows (Kept shows n limit) n id (v, slots) (spot n (words.Of fields.Shared c)) (λ there. (there + (local * 4 + 1)) % 2 ^ 64)
-        (λ there me. me ≡ (with_told (told.Did (steps.MergeAdd c) ((there + (local * 4 + 1)) % 2 ^ 64) moves.Nothing) v, slots)) }
+        (λ there me. (me ≡ (with_told (told.Did (steps.MergeAdd c) ((there + (local * 4 + 1)) % 2 ^ 64) moves.Nothing) v, slots)) × CountsSome ((there + (local * 4 + 1)) % 2 ^ 64)) }
 {}
 
 /// An asked reference goes into the merge queue of the thread that was found as the owner, or meets a closed word.

@@ -24,6 +24,7 @@ wakes_active : (stage : Stage) → stage_ok stage Wake ≡ true → is_active st
 wakes_active stages.Active ok = refl
 wakes_active (stages.Closing m) ok = absurd (true≢false (sym ok))
 wakes_active stages.Left ok = absurd (true≢false (sym ok))
+wakes_active (stages.Opening m) ok = absurd (true≢false (sym ok))
 
 first_of : (a b c d : Bool) → (a && b && c && d) ≡ true → a ≡ true
 first_of true b c d is = refl

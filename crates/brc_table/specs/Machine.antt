@@ -1,5 +1,5 @@
 -- What an operation on a word may be.
-use Rattle.std.specs.Prelude.{◌≡◌, ℕ, ◌==◌, ◌≤◌, Bool, true, if◌then◌else◌, Option}
+use Rattle.std.specs.Prelude.{◌≡◌, ℕ, ◌+◌, ◌%◌, ◌^◌, ◌==◌, ◌≤◌, Bool, true, if◌then◌else◌, Option}
 use prog.Atomic.{either}
 use Rattle.atomic_table.specs.Table.{Me, Allows}
 use Rattle.brc_known.specs.declared.word.Word.{Word}
@@ -10,7 +10,7 @@ use Rattle.brc_rule.specs.declared.view.View.{View}
 use Rattle.brc_rule.specs.Layout.{spot}
 use Rattle.brc_rule.specs.Rule.{with_told, Kept}
 use Rattle.law_living.specs.Living.{OwnLog}
-use Rattle.brc_steps.specs.Taking.{AreQueued}
+use Rattle.brc_steps.specs.Taking.{AreQueued, CountsSome}
 
 -- the view after a compare-exchange that found this number: the item where it was the one expected, else a note
 abbrev pub exchanged : Word → ℕ → Told → ℕ → View → View
@@ -29,6 +29,11 @@ module _ {B : Type 0} (shows : B → ℕ × Contents) (n limit id : ℕ) (me : M
   -- a ghost value gives it to what is told, and k the queue word's number.
   abbrev pub MayTake : (ℕ → ℕ) → (ℕ → Told) → ℕ → ℕ → Type 0
   MayTake f item m k = Allows (Kept shows n limit) n id me (spot n w) f (λ there after. (after ≡ (with_told (item there) me.0, me.1)) × AreQueued m k there)
+
+  -- The rule allows that a shared word is raised, as the item, and the sum counts one reference at least. more is by how much, as
+  -- a ghost value gives it to what is told.
+  abbrev pub MaySum : (ℕ → ℕ) → (ℕ → Told) → ℕ → Type 0
+  MaySum f item more = Allows (Kept shows n limit) n id me (spot n w) f (λ there after. (after ≡ (with_told (item there) me.0, me.1)) × CountsSome ((there + more) % 2 ^ 64))
 
   -- The rule allows that a notify word becomes f of what it was, as the item, and the log before is an own log. m is n, as a
   -- ghost value gives it to what is told.

@@ -10,7 +10,8 @@ ghost use Rattle.brc_rule.specs.declared.told.Moved.TheVariants as moves;
 ghost use Rattle.brc_rule.specs.declared.told.Told.{Told as told_data};
 ghost use Rattle.brc_rule.specs.declared.told.Told.TheVariants as told;
 ghost use Rattle.brc_rule.specs.Rule.{with_told};
-ghost use Rattle.brc_table.specs.Machine.{MayTell, MayFind, MayExchange, exchanged};
+ghost use Rattle.brc_steps.specs.Taking.{CountsSome};
+ghost use Rattle.brc_table.specs.Machine.{MayTell, MaySum, MayFind, MayExchange, exchanged};
 ghost use Rattle.brc_table.specs.Shown.{shows};
 
 use crate::layout::spot_of;
@@ -177,8 +178,31 @@ pub(crate) fn add<A: Allocator>(
     add_as::<A, Brand>(table, seat, word, more, step)
 }
 
-/// An addition, as an event that is told the sum.
-pub(crate) fn add_up<A: Allocator>(
+/// Which item is told a sum, and by how much the word was raised. A caller's proof picks both.
+pub(crate) trait Summed {
+    ghost item: { ℕ → told_data };
+
+    ghost more: { ℕ };
+}
+
+impl Summed for Brand {
+    ghost item = { λ number. told.Saw (words.NotifyWord 0) number };
+
+    ghost more = { 0 };
+}
+
+/// The seat's log has the item, its slots stay, and the sum counts one reference at least.
+pub(crate) struct Sums<M> {
+    marker: PhantomData<M>,
+}
+
+impl<S, M: Summed> Play<S, View> for Sums<M> {
+    ghost then = { λ step me number after. (after ≡ (with_told (M.item number) me.0, me.1)) × CountsSome ((number + M.more) % 2 ^ 64) };
+}
+
+/// An addition to a shared word, as an item that is told the sum.
+#[inline(always)]
+pub(crate) fn add_up<A: Allocator, M: Summed>(
     table: &HeapTable<A>,
     seat: &mut Place<A>,
     word: Word,
@@ -187,11 +211,14 @@ pub(crate) fn add_up<A: Allocator>(
 ) -> u64
     requires same { seat.old.table_id ≡ table.now.table }
     requires inside { IsWord table.now.cells word }
-    requires allowed { MayTell shows table.now.cells table.now.local_limit seat.old.id seat.old.me word (λ there. (there + more) % 2 ^ 64) (λ there. told.Did step ((there + more) % 2 ^ 64) moves.Nothing) }
+    requires allowed { MaySum shows table.now.cells table.now.local_limit seat.old.id seat.old.me word (λ there. (there + more) % 2 ^ 64) M.item M.more }
     ensures same { (seat.new.table_id ≡ seat.old.table_id) × (seat.new.id ≡ seat.old.id) }
-    ensures told { seat.new.me ≡ (with_told (told.Did step ((result + more) % 2 ^ 64) moves.Nothing) seat.old.me.0, seat.old.me.1) }
+    ensures told { seat.new.me ≡ (with_told (M.item result) seat.old.me.0, seat.old.me.1) }
+    ensures counts { CountsSome ((result + M.more) % 2 ^ 64) }
 {
-    add_as::<A, Brand>(table, seat, word, more, step)
+    let _step = step;
+    let at = spot_of(table.cells, word);
+    table.table.shared.fetch_add::<Sums<M>>(seat, at, more)
 }
 
 /// A setting of bits, as an item.

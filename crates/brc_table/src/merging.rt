@@ -23,6 +23,7 @@ use crate::table::HeapTable;
 use brc_known::{Field, Word};
 use brc_runs::Step;
 use std::alloc::Allocator;
+use std::marker::Brand;
 
 impl<A: Allocator> HeapTable<A> {
     #[tactic(auto, using(brc_steps::proofs::Untying_Steps::unties_over))]
@@ -70,7 +71,6 @@ impl<A: Allocator> HeapTable<A> {
         store(self, &mut seat.place, word, 0, Step::Untie(cell));
     }
 
-    #[tactic(auto, using(brc_steps::proofs::Adding_Steps::adds_local))]
     /// MergeAdd: the local count, as it was looked at, joins the shared one. It answers the number found; its item is told the
     /// sum.
     pub fn merge_add(&self, seat: &mut ThreadSeat<A>, cell: u32, local: u32) -> u64
@@ -85,7 +85,7 @@ impl<A: Allocator> HeapTable<A> {
     {
         let word = Word::Of(Field::Shared, cell);
         let more = u64::from(local) * 4 + 1;
-        add_up(self, &mut seat.place, word, more, Step::MergeAdd(cell))
+        add_up::<A, Brand>(self, &mut seat.place, word, more, Step::MergeAdd(cell))
     }
 
     #[tactic(auto, using(crate::proofs::Placing::queue_inside))]

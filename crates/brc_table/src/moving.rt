@@ -133,7 +133,7 @@ fn takes(step: Step, number: u64) -> bool
 {
     match step {
         Step::SeeZero(_) => number == 1 << 42,
-        Step::MergeZero(_) => number / 4 == 1 << 40,
+        Step::MergeZero(_) | Step::MergeAdd(_) => number / 4 == 1 << 40,
         Step::LastDown(_) => number % 2 == 1 && number / 4 == (1 << 40) + 1,
         _ => false,
     }

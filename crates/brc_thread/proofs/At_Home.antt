@@ -10,6 +10,7 @@ use Rattle.brc_words.specs.declared.limits.TheConstants.{FIRST_MORTAL}
 use Rattle.brc_words.specs.declared.owner.Owner.{Owner}
 use Rattle.brc_words.specs.declared.owner.Owner.TheVariants as owners
 use Rattle.brc_words.specs.declared.state.State.{State}
+use Rattle.brc_runs.specs.declared.edition.Edition.TheVariants as editions
 use Rattle.brc_runs.specs.declared.event.Event.{Event}
 use Rattle.brc_runs.specs.declared.event.Step.{Step}
 use Rattle.brc_runs.specs.declared.event.Step.TheVariants.{Register, Gather}
@@ -17,14 +18,16 @@ use Rattle.brc_runs.specs.declared.row.Row.{Row}
 use Rattle.brc_runs.specs.declared.row.Hand.{Hand}
 use Rattle.brc_runs.specs.declared.row.Hand.TheVariants as hands
 use Rattle.brc_runs.specs.Lists.{one, is_marked, place_at, bit_of}
-use Rattle.brc_runs.specs.Heap.{Heap, opening, cell_at, row_at, worklist_at, frame_at, popped_at, queue_at, is_immortal, is_registered, no_row, new_row, AreOptions}
+use Rattle.brc_runs.specs.Heap.{Heap, opening, cell_at, row_at, worklist_at, frame_at, popped_at, queue_at, is_immortal, is_registered, no_row, new_row, again_row, AreOptions}
 use Rattle.brc_runs.specs.Steps.{is_active, after_target, root_after, root_may, thread_may, target_at}
 use Rattle.brc_runs.specs.Holding.{lives, lives_at}
 use Rattle.brc_runs.specs.Runs.{IsRun, IsReached, world_after}
 use Rattle.brc_runs.specs.Sound.{IsSound, grips, gripped, grips_by_owner}
 use Rattle.brc_runs.proofs.Asking.{may_parts}
+use Rattle.brc_runs.proofs.Changes.{read_there}
 use Rattle.brc_runs.proofs.Reached.{run_sound, reached_sound}
 use Rattle.brc_runs.proofs.Registering.{push_else}
+use Rattle.brc_runs.proofs.Reusing.{fresh, reused, registers}
 use Rattle.brc_lasting.proofs.Lasting.{others_own}
 use Rattle.brc_lasting.proofs.Standing.{run_reached, gathered_hold_nothing}
 use Rattle.brc_known.specs.Items.{events_of}
@@ -51,23 +54,30 @@ pub record RootRests (h : Heap) : Type 0 where
   pub row : row_at h 0 ≡ no_row
   pub worklist : worklist_at h 0 ≡ []
 
-after_root : (h : Heap) (s : Step) → IsSound h → RootRests h → RootRests (root_after h s)
-after_root h (Register u) sound rests = record {
-  row = push_else h.rows new_row no_row 0 (λ e. omega (arith, e, sound.shaped.root)) ∙ rests.row;
-  worklist = push_else h.worklists _ [] 0 (λ e. omega (arith, e, sound.shaped.worklists, sound.shaped.root)) ∙ rests.worklist;
-}
-after_root h (Gather u) sound rests = record { row = rests.row; worklist = rests.worklist }
-after_root h _ sound rests = rests
+after_root : (h : Heap) (s : Step) → IsSound h → root_may h s ≡ true → RootRests h → RootRests (root_after h s)
+after_root h (Register u) sound may rests = elim (registers h u sound may) [
+  | fresh next most few is ↦ subst RootRests (sym is) (record {
+    row = push_else h.rows new_row no_row 0 (λ e. omega (arith, e, sound.shaped.root)) ∙ rests.row;
+    worklist = push_else h.worklists _ [] 0 (λ e. omega (arith, e, sound.shaped.worklists, sound.shaped.root)) ∙ rests.worklist;
+  })
+  | reused vacated few is ↦ subst RootRests (sym is) (record {
+    row = read_there h.rows u 0 again_row no_row (λ e. omega (arith, e, vacated.thread)) ∙ rests.row;
+    worklist = read_there h.worklists u 0 _ [] (λ e. omega (arith, e, vacated.thread)) ∙ rests.worklist;
+  })
+]
+after_root h (Gather u) sound may rests = record { row = rests.row; worklist = rests.worklist }
+after_root h _ sound may rests = rests
 
 pub root_rests : (n limit : ℕ) (run : List Event) → AreOptions n limit → IsRun (opening n limit) run → RootRests (world_after (opening n limit) run)
 root_rests n limit [] options is_run = record { row = refl; worklist = refl }
 root_rests n limit (e ∷ run) options is_run =
     let h : Heap = world_after (opening n limit) run in
     let moved : Heap = after_target h e.thread e.step (target_at h e.thread e.step) in
-    let sound : IsSound h = run_sound n limit run options is_run.0 in
+    let sound : IsSound h = run_sound editions.One n limit run options is_run.0 in
     let before : RootRests h = root_rests n limit run options is_run.0 in
     elim (cases_Bool (e.thread == 0)) [
-      | inl root ↦ subst (λ b. RootRests (if b then root_after h e.step else moved)) (sym root) (after_root h e.step sound before)
+      | inl root ↦ subst (λ b. RootRests (if b then root_after h e.step else moved)) (sym root)
+          (after_root h e.step sound (subst (λ b. (if b then root_may h e.step else thread_may h e.thread e.step) ≡ true) root is_run.1) before)
       | inr thread ↦
           let may = may_parts h e.thread e.step (subst (λ b. (if b then root_may h e.step else thread_may h e.thread e.step) ≡ true) thread is_run.1) in
           let same = others_own h e 0 sound is_run.1 (record {

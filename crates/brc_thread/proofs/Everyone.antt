@@ -4,6 +4,7 @@ use Rattle.std.specs.Prelude.{sum_by}
 use Rattle.std.proofs.lemmas.List.Sums.{sum_by-cons}
 use Rattle.std.proofs.lemmas.Bool.{cases_Bool, ltb-true, lt-ltb, and_parts, not-true, true≢false}
 use Rattle.std.specs.Cmp.Derive.{both_true}
+use Rattle.brc_runs.specs.declared.edition.Edition.TheVariants as editions
 use Rattle.brc_runs.specs.declared.event.Step.{Step}
 use Rattle.brc_runs.specs.declared.event.Step.TheVariants.{Register, Gather}
 use Rattle.brc_runs.specs.declared.row.Row.{Row}
@@ -12,7 +13,9 @@ use Rattle.brc_runs.specs.Heap.{Heap, opening, row_at, no_row, new_row, is_gathe
 use Rattle.brc_runs.specs.Steps.{enabled, after, after_target, root_after, root_may, thread_may, target_at, hand_ok}
 use Rattle.brc_runs.specs.Sound.{IsSound}
 use Rattle.brc_runs.proofs.Asking.{May, may_parts}
+use Rattle.brc_runs.proofs.Lifetimes.{run_edition}
 use Rattle.brc_runs.proofs.Reached.{reached_sound}
+use Rattle.brc_runs.proofs.Reusing.{fresh, reused, registers}
 use Rattle.brc_lasting.proofs.Standing.{run_reached}
 use Rattle.brc_known.specs.Items.{AreItems, events_of}
 use Rattle.brc_known.proofs.Items_Runs.{events_run}
@@ -121,18 +124,21 @@ module _ (f : Row → ℕ) (g : List Told → ℕ) where
   thread_adds h t s None lives apart adds = record { sum = sum_stays f h.rows h.gathered t _ apart ∙ adds.sum; root = adds.root }
   thread_adds h t s (Some c) lives apart adds = record { sum = sum_stays f h.rows h.gathered t _ apart ∙ adds.sum; root = adds.root }
 
-  root_adds : (h : Heap) (s : Step) (number : ℕ) (moved : Moved) (run : Run) → IsSound h → root_may h s ≡ true
+  root_adds : (h : Heap) (s : Step) (number : ℕ) (moved : Moved) (run : Run) → IsSound h → h.edition ≡ editions.One → root_may h s ≡ true
       → ((u : ℕ) → is_registered h u ≡ true → f (row_at h u) ≡ g (own_of u run))
       → Adds f g h (lives_of run) → Adds f g (root_after h s) (lives_on (gathered_by (Did s number moved)) run (lives_of run))
-  root_adds h (Register v) number moved run sound may owns adds = record {
-    sum = sum_pushed f h.rows h.gathered new_row (sym sound.shaped.gathered) ∙ adds.sum;
-    root = pushed_root h.gathered adds.root (omega (arith, sound.shaped.gathered, sound.shaped.root));
-  }
+  root_adds h (Register v) number moved run sound first may owns adds = elim (registers h v sound may) [
+    | reused vacated few is ↦ let bad : editions.One ≡ editions.Two = sym first ∙ vacated.two in absurd (cc)
+    | fresh next most few is ↦ subst (λ z. Adds f g z (lives_of run)) (sym is) (record {
+      sum = sum_pushed f h.rows h.gathered new_row (sym sound.shaped.gathered) ∙ adds.sum;
+      root = pushed_root h.gathered adds.root (omega (arith, sound.shaped.gathered, sound.shaped.root));
+    })
+  ]
     where
       pushed_root : (flags : List Bool) → get_or flags 0 false ≡ false → 0 < length flags → get_or (flags ++ false ∷ []) 0 false ≡ false
       pushed_root [] root some = refl
       pushed_root (b ∷ flags) root some = root
-  root_adds h (Gather v) number moved run sound may owns adds =
+  root_adds h (Gather v) number moved run sound first may owns adds =
       let a = and_parts _ _ may in
       let b = and_parts _ _ a.0 in
       let c = and_parts _ _ b.0 in
@@ -150,18 +156,18 @@ module _ (f : Row → ℕ) (g : List Told → ℕ) where
       else_root [] v some root = refl
       else_root (b ∷ flags) zero some root = absurd (omega (arith, some))
       else_root (b ∷ flags) (suc v) some root = root
-  root_adds h _ number moved run sound may owns adds = absurd (true≢false (sym may))
+  root_adds h _ number moved run sound first may owns adds = absurd (true≢false (sym may))
 
-  did_adds : (h : Heap) (u : ℕ) (s : Step) (number : ℕ) (moved : Moved) (run : Run) → IsSound h → enabled h (record { thread = u; step = s }) ≡ true
+  did_adds : (h : Heap) (u : ℕ) (s : Step) (number : ℕ) (moved : Moved) (run : Run) → IsSound h → h.edition ≡ editions.One → enabled h (record { thread = u; step = s }) ≡ true
       → ((v : ℕ) → is_registered h v ≡ true → f (row_at h v) ≡ g (own_of v run))
       → Adds f g h (lives_of run) → Adds f g (after h (record { thread = u; step = s })) (lives_of ((u, Did s number moved) ∷ run))
-  did_adds h u s number moved run sound ok owns adds =
+  did_adds h u s number moved run sound first ok owns adds =
       let moved_to : Heap = after_target h u s (target_at h u s) in
       elim (cases_Bool (u == 0)) [
         | inl root ↦
             let may : root_may h s ≡ true = subst (λ b. (if b then root_may h s else thread_may h u s) ≡ true) root ok in
             subst (λ b. Adds f g (if b then root_after h s else moved_to) (lives_of ((u, Did s number moved) ∷ run))) (sym root)
-            (root_adds h s number moved run sound may owns adds)
+            (root_adds h s number moved run sound first may owns adds)
         | inr thread ↦
             let may : May h u s = may_parts h u s (subst (λ b. (if b then root_may h s else thread_may h u s) ≡ true) thread ok) in
             subst (λ b. Adds f g (if b then root_after h s else moved_to) (lives_of ((u, Did s number moved) ∷ run))) (sym thread)
@@ -181,7 +187,7 @@ module _ (f : Row → ℕ) (g : List Told → ℕ) where
       by_item (Did s number moved) comes adds =
           did_adds (world n limit run) x.0 s number moved run
           (reached_sound (world n limit run) (run_reached n limit (events_of (items_of run)) options (events_run (opening n limit) (items_of run) are.0)))
-          comes.0 (λ u there. owns run u are.0 there) adds
+          (run_edition (opening n limit) (events_of (items_of run))) comes.0 (λ u there. owns run u are.0 there) adds
       by_item (Saw word number) comes adds = record { sum = adds.sum; root = adds.root }
       by_item (Lost word number) comes adds = record { sum = adds.sum; root = adds.root }
 

@@ -16,7 +16,8 @@ pub use key::{Key, Text};
 pub use kind::{Kind, is_container_kind, is_mortal_kind};
 pub use limits::{
     COUNTED_FROM, FEWEST_CELLS, FIRST_MORTAL, GLOBALS, IMMORTAL_LOCAL, MOST_BIRTHS, MOST_CELLS,
-    MOST_ENTRIES, MOST_INPUT, MOST_LOCAL, MOST_PLACES, MOST_REGISTRATIONS, MOST_THREADS,
+    MOST_ENTRIES, MOST_EVENTS, MOST_INPUT, MOST_LOCAL, MOST_PLACES, MOST_REGISTRATIONS,
+    MOST_THREADS,
 };
 pub use owner::{Owner, OwnerWord};
 pub use state::{State, count_of, shared_word, state_of};

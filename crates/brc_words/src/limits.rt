@@ -12,6 +12,8 @@ pub const MOST_CELLS: u32 = 65_536;
 pub const MOST_THREADS: u32 = 64;
 /// Where numbers of threads are used again, a heap registers threads at most this often.
 pub const MOST_REGISTRATIONS: u32 = 65_536;
+/// A release makes at most this many events, whatever other threads do.
+pub const MOST_EVENTS: u32 = 5;
 /// A frame has the places below this number.
 pub const MOST_PLACES: u32 = 65_536;
 /// A list, dictionary or mailbox has at most this many entries.

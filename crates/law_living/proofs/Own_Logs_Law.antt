@@ -5,23 +5,25 @@ use mathlib.Core.Option.{some}
 use lib.ListN.{get_elem?}
 use Rattle.atomic_table.specs.Table.{State}
 use Rattle.brc_words.specs.declared.kind.Kind.{Kind}
+use Rattle.brc_runs.specs.declared.edition.Edition.TheVariants as editions
 use Rattle.brc_runs.specs.declared.event.Event.{Event}
 use Rattle.brc_runs.specs.declared.event.Step.{Step}
 use Rattle.brc_runs.specs.declared.event.Step.TheVariants.{Birth, Free, Lock, Register, Gather}
 use Rattle.brc_runs.specs.declared.row.Phase.TheVariants as phases
 use Rattle.brc_runs.specs.declared.row.Row.{Row}
 use Rattle.brc_runs.specs.Lists.{place_at, is_marked}
-use Rattle.brc_runs.specs.Heap.{Heap, row_at, frame_at, worklist_at, entries_at, AreOptions}
+use Rattle.brc_runs.specs.Heap.{Heap, opening, row_at, frame_at, worklist_at, entries_at, AreOptions}
 use Rattle.brc_runs.specs.Holding.{lives}
 use Rattle.brc_runs.specs.Sound.{IsSound}
 use Rattle.brc_runs.specs.Steps.{enabled, after, root_after, root_may, thread_may, target_at, is_active}
 use Rattle.brc_runs.proofs.Asking.{May, may_parts}
 use Rattle.brc_runs.proofs.Counting.{held_unmarked}
 use Rattle.brc_runs.proofs.Dropping.{held_by_place, held_by_entry}
+use Rattle.brc_runs.proofs.Lifetimes.{run_edition}
 use Rattle.brc_runs.proofs.Naming.{one-false, busy_hand}
 use Rattle.brc_lasting.specs.Staying.{is_about}
 use Rattle.brc_lasting.proofs.Lasting.{others_own, bearing}
-use Rattle.brc_known.specs.Items.{IsPart, MayCome, is_start, part_of}
+use Rattle.brc_known.specs.Items.{IsPart, MayCome, events_of, is_start, part_of}
 use Rattle.brc_known.proofs.Items_Law.{parts_are_told}
 use Rattle.brc_rule.specs.declared.contents.Contents.{Contents}
 use Rattle.brc_rule.specs.declared.told.Moved.{Moved}
@@ -115,9 +117,9 @@ module _ (n limit : ℕ) (options : AreOptions n limit) where
   by_root h t (Gather v) number moved sound some_thread ok may older active = active
   by_root h t s number moved sound some_thread ok may older active = absurd (true≢false (sym may))
 
-  by_step : (h : Heap) (t u : ℕ) (s : Step) (number : ℕ) (moved : Moved) → IsSound h → 0 < t → enabled h (record { thread = u; step = s }) ≡ true → is_start t (item_of (Did s number moved)) ≡ false
+  by_step : (h : Heap) (t u : ℕ) (s : Step) (number : ℕ) (moved : Moved) → IsSound h → h.edition ≡ editions.One → 0 < t → enabled h (record { thread = u; step = s }) ≡ true → is_start t (item_of (Did s number moved)) ≡ false
       → is_active (row_at (after h (record { thread = u; step = s })) t).stage ≡ true → is_active (row_at h t).stage ≡ true
-  by_step h t u s number moved sound some_thread ok older active = elim (cases_Bool (u == 0)) [
+  by_step h t u s number moved sound first some_thread ok older active = elim (cases_Bool (u == 0)) [
     | inl root ↦
         let zero_is : u ≡ 0 = eqb-true u 0 root in
         by_root h t s number moved sound some_thread (subst (λ v. enabled h (record { thread = v; step = s }) ≡ true) zero_is ok)
@@ -129,14 +131,15 @@ module _ (n limit : ℕ) (options : AreOptions n limit) where
           | inr other ↦ by_others h (record { thread = u; step = s }) t sound ok other (no_about h u s t may) active
           | inl mine ↦
               let is_after : after h (record { thread = u; step = s }) ≡ moved_on h u s = ap (λ b. if b then root_after h s else moved_on h u s) thread in
-              active_before h t s (target_at h t s) (subst (λ v. May h v s) mine may)
+              active_before h t s (target_at h t s) first (subst (λ v. May h v s) mine may)
               (subst (λ v. is_active (row_at (moved_on h v s) t).stage ≡ true) mine (ap (λ w. is_active (row_at w t).stage) (sym is_after) ∙ active))
         ]
   ]
 
   was_active : (run : Run) (t u : ℕ) (x : Told) → IsLegal n limit run → 0 < t → MayCome (world n limit run) u (item_of x) → is_start t (item_of x) ≡ false → IsActiveIn ((u, x) ∷ run) t → IsActiveIn run t
   unfolding IsActiveIn
-  was_active run t u (Did s number moved) legal some_thread comes older active = by_step (world n limit run) t u s number moved (legal_sound n limit options run legal) some_thread comes.0 older active
+  was_active run t u (Did s number moved) legal some_thread comes older active =
+      by_step (world n limit run) t u s number moved (legal_sound n limit options run legal) (run_edition (opening n limit) (events_of (items_of run))) some_thread comes.0 older active
   was_active run t u (Saw word number) legal some_thread comes older active = active
   was_active run t u (Lost word number) legal some_thread comes older active = active
 

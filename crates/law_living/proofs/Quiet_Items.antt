@@ -6,7 +6,7 @@ use Rattle.brc_runs.specs.declared.cell.Cell.{Cell}
 use Rattle.brc_runs.specs.declared.event.Dropped.{Dropped}
 use Rattle.brc_runs.specs.declared.event.Dropped.TheVariants as dropped
 use Rattle.brc_runs.specs.declared.event.Step.{Step}
-use Rattle.brc_runs.specs.declared.event.Step.TheVariants.{Birth, LocalUp, SharedUp, Free, Lock, Unlock}
+use Rattle.brc_runs.specs.declared.event.Step.TheVariants.{Birth, LocalUp, SharedUp, Free, Lock, Unlock, Offer}
 use Rattle.brc_runs.specs.Lists.{place_at, vacated, is_marked}
 use Rattle.brc_runs.specs.Steps.{gone, frame_without, frame_after, worklist_after, worklist_with, takes_block, allocs_after, locked_cell}
 use Rattle.brc_runs.proofs.Changes.{read_there}
@@ -119,6 +119,7 @@ freed false m put = refl
 set_keeps : (n : ℕ) (log : List Told) (s : Step) (number : ℕ) (moved : Moved) (c : ℕ) → only_lets_go s ≡ true → private_seen n (Did s number moved ∷ log) c ≡ (if frees (Did s number moved) c then false else private_seen n log c)
 set_keeps n log (Birth d kind k) number moved c quiet = absurd (true≢false (sym quiet))
 set_keeps n log (Unlock change) number moved c quiet = absurd (true≢false (sym quiet))
+set_keeps n log (Offer d) number moved c quiet = absurd (true≢false (sym quiet))
 set_keeps n log s number moved c quiet = refl
 
 put_keeps : (n : ℕ) (log : List Told) (s : Step) (number : ℕ) (moved : Moved) (c : ℕ) → puts_nothing moved ≡ true → last_put (Did s number moved ∷ log) c ≡ last_put log c

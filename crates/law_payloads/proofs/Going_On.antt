@@ -4,7 +4,7 @@ use Rattle.std.proofs.lemmas.Bool.{eqb-true, true≢false}
 use Rattle.brc_words.specs.declared.kind.Kind.{Kind}
 use Rattle.brc_runs.specs.declared.event.Change.{Change}
 use Rattle.brc_runs.specs.declared.event.Step.{Step}
-use Rattle.brc_runs.specs.declared.event.Step.TheVariants.{Birth, Free, Unlock}
+use Rattle.brc_runs.specs.declared.event.Step.TheVariants.{Birth, Free, Unlock, Offer}
 use Rattle.brc_rule.specs.declared.contents.Contents.{Contents}
 use Rattle.brc_rule.specs.declared.told.Moved.{Moved}
 use Rattle.brc_rule.specs.declared.told.Moved.TheVariants as moves
@@ -33,6 +33,9 @@ freed_there false m old = refl
 
 pub freed : (n : ℕ) (log : List Told) (d number c : ℕ) → payloads_of n (Did (Free d) number moves.Nothing ∷ log) c ≡ (if d == c then None else payloads_of n log c)
 freed n log d number c = freed_there (d == c) (private_seen n log c) (last_put log c)
+
+pub offered : (n : ℕ) (log : List Told) (d number c : ℕ) → payloads_of n (Did (Offer d) number moves.Nothing ∷ log) c ≡ (if private_seen n log d then None else payloads_of n log c)
+offered n log d number c = freed_there (private_seen n log d) (private_seen n log c) (last_put log c)
 
 pub shared : (n : ℕ) (log : List Told) (change : Change) (number : ℕ) (moved : Moved) (c : ℕ) → is_shared (private_seen n log) (part_seen n log).frame (locked_seen n log) change ≡ true
     → payloads_of n (Did (Unlock change) number moved ∷ log) c ≡ None

@@ -5,13 +5,14 @@ use Rattle.std.proofs.lemmas.Bool.{cases_eq, cases_lt, cases_Bool, eq-eqb, eqb-t
 use Rattle.std.specs.Cmp.Derive.{both_true}
 use Rattle.brc_runs.specs.declared.event.Event.{Event}
 use Rattle.brc_runs.specs.declared.event.Step.{Step}
-use Rattle.brc_runs.specs.declared.event.Step.TheVariants.{Birth, Free, Unlock, Register, Gather}
+use Rattle.brc_runs.specs.declared.event.Step.TheVariants.{Birth, Free, Unlock, Register, Gather, Offer}
 use Rattle.brc_runs.specs.declared.row.Row.{Row}
 use Rattle.brc_runs.specs.Heap.{Heap, opening, row_at, no_row, is_registered, AreOptions}
 use Rattle.brc_runs.specs.Sound.{IsSound}
 use Rattle.brc_runs.specs.Steps.{enabled, after, root_after, root_may, thread_may, target_at, is_active, born_cell}
 use Rattle.brc_runs.specs.Runs.{IsReached}
 use Rattle.brc_runs.proofs.Asking.{May, may_parts}
+use Rattle.brc_runs.proofs.Lifetimes.{run_edition}
 use Rattle.brc_runs.proofs.Reached.{reached_sound}
 use Rattle.brc_lasting.specs.Staying.{is_about}
 use Rattle.brc_lasting.proofs.Lasting.{others_own}
@@ -69,6 +70,11 @@ was_private frame into (Unlock change) set c is = inl (kept _ (set c) is)
     kept : (b m : Bool) → (if b then false else m) ≡ true → m ≡ true
     kept true m is = absurd (true≢false (sym is))
     kept false m is = is
+was_private frame into (Offer d) set c is = inl (kept (set d) (set c) is)
+  where
+    kept : (b m : Bool) → (if b then false else m) ≡ true → m ≡ true
+    kept true m is = absurd (true≢false (sym is))
+    kept false m is = is
 was_private frame into s set c is = inl is
 
 -- an active thread is registered
@@ -115,7 +121,7 @@ module _ (n limit : ℕ) (options : AreOptions n limit) where
       let h : Heap = world n limit run in
       let x : Told = Did s number moved in
       let own : own_of t ((t, x) ∷ run) ≡ x ∷ own_of t run = own_more t x run (no_start h t s number moved may t) in
-      let was : is_active (row_at h t).stage ≡ true = active_before h t s (target_at h t s) may active in
+      let was : is_active (row_at h t).stage ≡ true = active_before h t s (target_at h t s) (run_edition (opening n limit) (events_of (items_of run))) may active in
       elim (was_private _ _ s (private_seen n (own_of t run)) c (ap (λ log. private_seen n log c) (sym own) ∙ is)) [
         | inl old ↦ ap (put_by moved c) (before was c old)
         | inr born ↦ put_anew h run t s moved c (contents_at run c) (last_put (own_of t run) c) goes (born_puts h t s c born)

@@ -37,6 +37,7 @@ locks_active : (g : Stage) (k : ℕ) → stage_ok g (Lock k) ≡ true → is_act
 locks_active stages.Active k ok = refl
 locks_active (stages.Closing m) k ok = absurd (true≢false (sym ok))
 locks_active stages.Left k ok = absurd (true≢false (sym ok))
+locks_active (stages.Opening m) k ok = absurd (true≢false (sym ok))
 
 module _ (n limit : ℕ) (options : AreOptions n limit) where
   -- the payload of a private cell lies there

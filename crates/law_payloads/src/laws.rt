@@ -70,7 +70,7 @@ pub fn payloads_lead_to_own_cells<B>()
 
 /// What one more item makes of the payloads: a birth adds its cell with what it puts home, an unlock puts another payload in
 /// the place of a private cell's, a free takes its cell away, and an unlock that puts a private cell into one that isn't
-/// leaves none. Every other item leaves them as they are.
+/// leaves none, nor does a thread that hands a private cell over. Every other item leaves them as they are.
 pub fn payloads_go_on()
     ensures none { (n c : ℕ) → payloads_of n [] c ≡ None }
     ensures born { (n : ℕ) (log : List told) (d : ℕ) (kind : kind) (k number : ℕ) (put : contents)
@@ -79,6 +79,9 @@ pub fn payloads_go_on()
     ensures freed { (n : ℕ) (log : List told) (d number c : ℕ)
         → payloads_of n (tells.Did (steps.Free d) number moves.Nothing ∷ log) c
         ≡ (if d == c then None else payloads_of n log c) }
+    ensures offered { (n : ℕ) (log : List told) (d number c : ℕ)
+        → payloads_of n (tells.Did (steps.Offer d) number moves.Nothing ∷ log) c
+        ≡ (if private_seen n log d then None else payloads_of n log c) }
 
     // Unlocking: what it shares, of a private cell, and of another.
     ensures shared { (n : ℕ) (log : List told) (change : change) (number : ℕ) (moved : moved) (c : ℕ)

@@ -15,8 +15,8 @@ use Rattle.brc_runs.specs.declared.row.Row.{Row}
 use Rattle.brc_runs.specs.Lists.{one, place_at, bit_of, is_marked}
 use Rattle.brc_runs.specs.Heap.{Heap, cell_at, entries_at, row_at, frame_at, popped_at, worklist_at, queue_at, no_row, no_cell}
 use Rattle.brc_runs.specs.Steps.{target_at, target_ok, thread_may, locked_at, is_active, is_queued, is_empty, cell_after, row_after, frame_after, worklist_after, stepped, is_shut}
-use Rattle.brc_runs.specs.Sound.{IsSound, HandFits, grips}
-use Rattle.brc_runs.proofs.Naming.{busy_hand, no_mark, unnamed, Unheld, dead_unheld, Ungripped, sole_grip}
+use Rattle.brc_runs.specs.Sound.{IsSound, HandFits, grips, offering, Offered}
+use Rattle.brc_runs.proofs.Naming.{busy_hand, no_mark, unnamed, unoffered, Unheld, dead_unheld, Ungripped, sole_grip}
 use Rattle.brc_runs.proofs.Asking.{May, may_parts, on_cell}
 use Rattle.brc_runs.proofs.Changes.{read_here, read_there}
 use Rattle.brc_runs.proofs.Dropping.{held_by_place, held_by_entry}
@@ -69,6 +69,8 @@ module _ (h : Heap) (t : ℕ) (mine : ℕ → Bool) (sound : IsSound h) (apart :
       let claimed : (FIRST_MORTAL ≤ e) × ((cell_at h e).owner ≡ owners.Claimed t) × (one (grips e (row_at h t).hand) ≡ 1) = bearing phases.Ready (inr (inr refl)) h t e sound busy in
       let none : Unheld h e = dead_unheld h e sound claimed.0 (ap lives claimed.1) in
       let alone : (v : ℕ) → v ≢ t → Ungripped h e v = sole_grip h e t sound claimed.0 (omega (arith, claimed.2)) in
+      let unoffered_by : (v : ℕ) → one (offering e (row_at h v).hand) ≡ 0 =
+      λ v. unoffered h v e _ sound refl (λ (o : Offered v (cell_at h e)). true≢false (sym (ap lives o.owner) ∙ ap lives claimed.1)) in
       let row : Row = row_after s d (cell_at h d) (is_shut h d) (row_at h t) in
       let new : Cell = cell_after t s d (cell_at h d) in
       record {
@@ -98,7 +100,7 @@ module _ (h : Heap) (t : ℕ) (mine : ℕ → Bool) (sound : IsSound h) (apart :
           | inr off ↦
               let there : (row_at h v).hand ≡ hands.Busy p c = ap (λ (r : Row). r.hand) (sym (read_there h.rows t v row no_row off)) ∙ at in
               elim (now_or (e == c) (mine c) is) [
-                | inl born ↦ absurd (unnamed p e _ (alone v off).hand (none.hands v) (there ∙ ap (hands.Busy p) (sym (eqb-true e c born))))
+                | inl born ↦ absurd (unnamed p e _ (alone v off).hand (none.hands v) (unoffered_by v) (there ∙ ap (hands.Busy p) (sym (eqb-true e c born))))
                 | inr was ↦ apart.hands v c p was there
               ]
         ];

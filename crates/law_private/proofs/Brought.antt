@@ -7,7 +7,7 @@ use Rattle.brc_runs.specs.declared.event.Dropped.{Dropped}
 use Rattle.brc_runs.specs.declared.event.Dropped.TheVariants as dropped
 use Rattle.brc_runs.specs.declared.event.LastDropped.TheVariants as lasts
 use Rattle.brc_runs.specs.declared.event.Step.{Step}
-use Rattle.brc_runs.specs.declared.event.Step.TheVariants.{Claim, InitLocal, InitShared, Birth, LocalDown, SeeZero, Untie, MergeZero, Ask, LastDown, Enqueue, MergeAdd}
+use Rattle.brc_runs.specs.declared.event.Step.TheVariants.{Claim, InitLocal, InitShared, Birth, LocalDown, SeeZero, Untie, MergeZero, Ask, LastDown, Enqueue, MergeAdd, Offer}
 use Rattle.brc_runs.specs.declared.row.Hand.{Hand}
 use Rattle.brc_runs.specs.declared.row.Hand.TheVariants as hands
 use Rattle.brc_runs.specs.declared.row.Phase.{Phase}
@@ -32,6 +32,7 @@ no_hand p hand d c at = absurd (cc)
 untied_brings : (hand : Hand) (d c : ℕ) (p : Phase) → untied_hand d hand ≡ hands.Busy p c → (hand ≡ hands.Busy p c) ⊎ (d ≡ c)
 untied_brings hands.Free d c p at = new_hand phases.Popping p hands.Free d c at
 untied_brings (hands.Busy phases.Shut e) d c p at = new_hand phases.Taking p (hands.Busy phases.Shut e) d c at
+untied_brings (hands.Busy phases.Offered e) d c p at = new_hand phases.Yielding p (hands.Busy phases.Offered e) d c at
 untied_brings (hands.Busy q e) d c p at = new_hand phases.Untied p (hands.Busy q e) d c at
 
 added_brings : (hand : Hand) (d c : ℕ) (p : Phase) → added_hand d hand ≡ hands.Busy p c → (hand ≡ hands.Busy p c) ⊎ (d ≡ c)
@@ -54,6 +55,7 @@ hand_brings (LastDown (lasts.Dropped drop)) d x shut hand p c at = inl at
 hand_brings (LastDown (lasts.Popped e)) d x shut hand p c at = inl at
 hand_brings (Enqueue e) d x shut hand p c at = if_hand shut (hands.Busy phases.Shut d) hands.Free hand d c p at (new_hand phases.Shut p hand d c) (no_hand p hand d c)
 hand_brings (MergeAdd e) d x shut hand p c at = added_brings hand d c p at
+hand_brings (Offer e) d x shut hand p c at = new_hand phases.Offered p hand d c at
 hand_brings s d x shut hand p c at = inl at
 
 pub marks_bring : (frees takes : Bool) (d c : ℕ) (marks : List Bool) → is_marked (worklist_with frees takes d marks) c ≡ true → (is_marked marks c ≡ true) ⊎ (d ≡ c)

@@ -2,12 +2,13 @@
 use Rattle.std.proofs.Common.{◌≡◌, ℕ, Bool, true, List, Option, refl, sym}
 use Rattle.std.proofs.lemmas.Bool.{true≢false}
 use Rattle.brc_runs.specs.declared.event.Step.{Step}
-use Rattle.brc_runs.specs.declared.event.Step.TheVariants.{Birth, Free, Unlock}
+use Rattle.brc_runs.specs.declared.event.Step.TheVariants.{Birth, Free, Unlock, Offer}
 use Rattle.law_private.specs.Private.{is_plain, private_by}
 
--- a step that neither bears nor frees nor unlocks leaves them
+-- a step that neither bears nor frees nor unlocks nor hands over leaves them
 pub same_set : (frame : List (Option ℕ)) (into : Option ℕ) (s : Step) (set : ℕ → Bool) (c : ℕ) → is_plain s ≡ true → private_by frame into s set c ≡ set c
 same_set frame into (Birth d kind k) set c plain = absurd (true≢false (sym plain))
 same_set frame into (Free d) set c plain = absurd (true≢false (sym plain))
 same_set frame into (Unlock change) set c plain = absurd (true≢false (sym plain))
+same_set frame into (Offer d) set c plain = absurd (true≢false (sym plain))
 same_set frame into s set c plain = refl

@@ -10,17 +10,17 @@ use Rattle.brc_runs.specs.Holding.{lives}
 use Rattle.brc_runs.specs.declared.cell.Cell.{Cell}
 use Rattle.brc_runs.specs.declared.event.LastDropped.TheVariants as lasts
 use Rattle.brc_runs.specs.declared.event.Step.{Step}
-use Rattle.brc_runs.specs.declared.event.Step.TheVariants.{Claim, InitLocal, InitShared, Birth, LocalDown, SeeZero, Untie, MergeZero, Ask, LastDown, Enqueue, MergeAdd}
+use Rattle.brc_runs.specs.declared.event.Step.TheVariants.{Claim, InitLocal, InitShared, Birth, LocalDown, SeeZero, Untie, MergeZero, Ask, LastDown, Enqueue, MergeAdd, Offer}
 use Rattle.brc_runs.specs.declared.row.Hand.{Hand}
 use Rattle.brc_runs.specs.declared.row.Hand.TheVariants as hands
 use Rattle.brc_runs.specs.declared.row.Phase.{Phase}
 use Rattle.brc_runs.specs.declared.row.Phase.TheVariants as phases
 use Rattle.brc_runs.specs.Lists.{one, is_marked}
 use Rattle.brc_runs.specs.Heap.{Heap, cell_at, row_at, is_immortal, no_row}
-use Rattle.brc_runs.specs.Steps.{target_at, target_ok, thread_may, is_default, is_merged, is_zero, is_mine, is_owned_by, is_others, is_active, is_at, is_untouched, hand_after, untied_hand}
+use Rattle.brc_runs.specs.Steps.{target_at, target_ok, thread_may, is_default, is_merged, is_zero, is_mine, is_owned_by, is_others, is_active, is_at, is_untouched, hand_after, untied_hand, added_hand}
 use Rattle.brc_runs.specs.Sound.{IsSound, grips, grips_by_owner, grips_of, gripped}
-use Rattle.brc_runs.proofs.Naming.{second, busy_hand, free_hand, default_state}
-use Rattle.brc_runs.proofs.Asking.{May, may_parts, OnCell, on_cell, at_end, shut_out, from_queue, untie_way}
+use Rattle.brc_runs.proofs.Naming.{third, busy_hand, free_hand, default_state}
+use Rattle.brc_runs.proofs.Asking.{May, may_parts, OnCell, on_cell, at_end, shut_out, handed_over, from_queue, untie_way}
 use Rattle.brc_runs.proofs.Counting.{sum_none}
 use Rattle.law_private.specs.Private.{Isolated, OwnCell, Leaves}
 
@@ -79,6 +79,10 @@ module _ (h : Heap) (t : ℕ) (mine : ℕ → Bool) (sound : IsSound h) (apart :
 
 -- ---- what a step leaves in a hand
 
+-- the hand has the step's cell in this phase
+left_so : (q p : Phase) (d c : ℕ) → hands.Busy q d ≡ hands.Busy p c → is_active_phase q ≡ true → (d ≡ c) × (is_active_phase p ≡ true)
+left_so q p d c at active = ((cc), (subst (λ z. is_active_phase z ≡ true) (let same : q ≡ p = cc in same) active))
+
 by_test : (b : Bool) (new hand : Hand) (d c : ℕ) (p q : Phase) → (if b then new else hand) ≡ hands.Busy p c → (b ≡ true → new ≡ hands.Busy q d) → is_active_phase q ≡ true → Leaves hand d c p
 by_test true new hand d c p q at is active = let e : hands.Busy q d ≡ hands.Busy p c = sym (is refl) ∙ at in inr ((cc), (subst (λ z. is_active_phase z ≡ true) (let same : q ≡ p = cc in same) active))
 by_test false new hand d c p q at is active = inl at
@@ -99,13 +103,19 @@ late h t mine (MergeAdd e) d sound apart active may named is p c shut at =
     let same : e ≡ d = cc in
     elim (cases_Bool (is_at phases.Taking e (row_at h t).hand)) [
       | inl taking ↦ absurd (no_phase h t mine sound apart e phases.Taking (ap mine same ∙ is) (busy_hand phases.Taking e _ taking) refl)
-      | inr off ↦ absurd (no_phase h t mine sound apart e phases.Popping (ap mine same ∙ is) (busy_hand phases.Popping e _ (second _ _ off (may_parts h t (MergeAdd e) may).hand)) refl)
+      | inr off ↦ elim (cases_Bool (is_at phases.Popping e (row_at h t).hand)) [
+        | inl popping ↦ absurd (no_phase h t mine sound apart e phases.Popping (ap mine same ∙ is) (busy_hand phases.Popping e _ popping) refl)
+        | inr other ↦
+            let yields : (row_at h t).hand ≡ hands.Busy phases.Yielding e = busy_hand phases.Yielding e _ (third _ _ _ off other (may_parts h t (MergeAdd e) may).hand) in
+            let bad : hands.Free ≡ hands.Busy p c = sym (ap (added_hand d) yields) ∙ at in absurd (cc)
+      ]
     ]
 late h t mine (Untie e) d sound apart active may named is p c shut at =
     let same : e ≡ d = cc in
     elim (untie_way h t e sound (may_parts h t (Untie e) may)) [
       | at_end busy owner ↦ let e : hands.Busy phases.Untied d ≡ hands.Busy p c = sym (ap (untied_hand d) busy) ∙ at in inr ((cc), (subst (λ z. is_active_phase z ≡ true) (let same : phases.Untied ≡ p = cc in same) refl))
-      | shut_out busy some ↦ absurd (no_phase h t mine sound apart e phases.Shut (ap mine same ∙ is) busy refl)
+      | shut_out busy some first ↦ absurd (no_phase h t mine sound apart e phases.Shut (ap mine same ∙ is) busy refl)
+      | handed_over busy owner ↦ inr (left_so phases.Yielding p d c (sym (ap (untied_hand d) busy) ∙ at) refl)
       | from_queue free on owner ↦ absurd (omega (arith, on, apart.popped t e (ap mine same ∙ is)))
     ]
 late h t mine (Claim e) d sound apart active may named is p c shut at = let e : hands.Busy phases.Claimed d ≡ hands.Busy p c = at in inr ((cc), (subst (λ z. is_active_phase z ≡ true) (let same : phases.Claimed ≡ p = cc in same) refl))
@@ -121,4 +131,5 @@ late h t mine (SeeZero e) d sound apart active may named is p c shut at = elim (
   | inl none ↦ let bad : hands.Free ≡ hands.Busy p c = sym (ap (λ b. if b then hands.Free else hands.Busy phases.Over d) none) ∙ at in absurd (cc)
   | inr some ↦ let e : hands.Busy phases.Over d ≡ hands.Busy p c = sym (ap (λ b. if b then hands.Free else hands.Busy phases.Over d) some) ∙ at in inr ((cc), (subst (λ z. is_active_phase z ≡ true) (let same : phases.Over ≡ p = cc in same) refl))
 ]
+late h t mine (Offer e) d sound apart active may named is p c shut at = inr (left_so phases.Offered p d c at refl)
 late h t mine s d sound apart active may named is p c shut at = inl at

@@ -11,7 +11,7 @@ use Rattle.brc_runs.specs.declared.event.LastDropped.TheVariants as lasts
 use Rattle.brc_runs.specs.declared.event.Source.{Source}
 use Rattle.brc_runs.specs.declared.event.Source.TheVariants as sources
 use Rattle.brc_runs.specs.declared.event.Step.{Step}
-use Rattle.brc_runs.specs.declared.event.Step.TheVariants.{Claim, InitLocal, InitShared, Birth, LocalUp, LocalDown, SeeZero, Free, Untie, MergeZero, SharedUp, SharedDown, Ask, LastDown, Enqueue, Drain, MergeAdd, Close, Nudge, Wake, Lock, Unlock, Register, Gather}
+use Rattle.brc_runs.specs.declared.event.Step.TheVariants.{Claim, InitLocal, InitShared, Birth, LocalUp, LocalDown, SeeZero, Free, Untie, MergeZero, SharedUp, SharedDown, Ask, LastDown, Enqueue, Drain, MergeAdd, Close, Nudge, Wake, Lock, Unlock, Register, Gather, Offer, Reopen}
 use Rattle.brc_runs.specs.declared.row.Hand.TheVariants as hands
 use Rattle.brc_runs.specs.declared.row.Phase.{Phase}
 use Rattle.brc_runs.specs.declared.row.Phase.TheVariants as phases
@@ -19,11 +19,11 @@ use Rattle.brc_runs.specs.Lists.{place_at, bit_of, is_marked, last_of}
 use Rattle.brc_runs.specs.Heap.{Heap, cell_at, entries_at, row_at, frame_at, popped_at, worklist_at, is_immortal}
 use Rattle.brc_runs.specs.Steps.{target_at, thread_may, locked_cell, entry_of, source_cell, dropped_cell, is_at}
 use Rattle.brc_runs.specs.Sound.{IsSound}
-use Rattle.brc_runs.proofs.Naming.{second, busy_hand, free_owner}
-use Rattle.brc_runs.proofs.Asking.{May, may_parts, on_cell, at_end, shut_out, from_queue, untie_way}
+use Rattle.brc_runs.proofs.Naming.{third, busy_hand, free_owner, thread_owner}
+use Rattle.brc_runs.proofs.Asking.{May, may_parts, on_cell, at_end, shut_out, handed_over, from_queue, untie_way}
 use Rattle.brc_runs.proofs.Dropping.{work_source}
 use Rattle.brc_runs.proofs.Sharing.{ending_hand}
-use Rattle.law_private.specs.Private.{Isolated}
+use Rattle.law_private.specs.Private.{Isolated, OwnCell}
 
 -- ---- another's step never means a private cell
 
@@ -88,7 +88,8 @@ module _ (h : Heap) (t u : ℕ) (mine : ℕ → Bool) (sound : IsSound h) (apart
       let same : d ≡ c = cc in
       elim (untie_way h u d sound may) [
         | at_end busy owner ↦ in_hand d phases.Over (ap mine same ∙ is) busy
-        | shut_out busy some ↦ in_hand d phases.Shut (ap mine same ∙ is) busy
+        | shut_out busy some first ↦ in_hand d phases.Shut (ap mine same ∙ is) busy
+        | handed_over busy owner ↦ in_hand d phases.Offered (ap mine same ∙ is) busy
         | from_queue free on owner ↦ is_popped d c same is on
       ]
   not_meant (MergeZero d) c may named is = at_phase d c phases.Untied (cc) is may.hand
@@ -104,7 +105,10 @@ module _ (h : Heap) (t u : ℕ) (mine : ℕ → Bool) (sound : IsSound h) (apart
   not_meant (Drain k) c may named is = absurd (cc)
   not_meant (MergeAdd d) c may named is = elim (cases_Bool (is_at phases.Taking d (row_at h u).hand)) [
     | inl taking ↦ at_phase d c phases.Taking (cc) is taking
-    | inr off ↦ at_phase d c phases.Popping (cc) is (second _ _ off may.hand)
+    | inr off ↦ elim (cases_Bool (is_at phases.Popping d (row_at h u).hand)) [
+      | inl popping ↦ at_phase d c phases.Popping (cc) is popping
+      | inr apart ↦ at_phase d c phases.Yielding (cc) is (third _ _ _ off apart may.hand)
+    ]
   ]
   not_meant (Close k) c may named is = absurd (cc)
   not_meant (Nudge v k) c may named is = absurd (cc)
@@ -113,6 +117,12 @@ module _ (h : Heap) (t u : ℕ) (mine : ℕ → Bool) (sound : IsSound h) (apart
   not_meant (Unlock change) c may named is = is_locked (row_at h u).locked c is named
   not_meant (Register v) c may named is = absurd (cc)
   not_meant (Gather v) c may named is = absurd (cc)
+  not_meant (Offer d) c may named is =
+      let same : d ≡ c = cc in
+      let own : OwnCell t (cell_at h d) = apart.cells d (ap mine same ∙ is) in
+      let owner : (cell_at h d).owner ≡ owners.Thread u = thread_owner u _ (on_cell h u (Offer d) d may.on_target).fits in
+      other (sym ((sound.cells d (apart.mortal d (ap mine same ∙ is))).owned_by_bearer u owner) ∙ own.bearer)
+  not_meant (Reopen k) c may named is = absurd (cc)
 
 pub others_leave : (h : Heap) (t u : ℕ) (mine : ℕ → Bool) (s : Step) (c : ℕ) → IsSound h → Isolated h t mine → u ≢ t → thread_may h u s ≡ true → target_at h u s ≡ Some c → mine c ≢ true
 others_leave h t u mine s c sound apart other may named is = not_meant h t u mine sound apart other s c (may_parts h u s may) named is

@@ -5,11 +5,11 @@ use Rattle.brc_words.specs.declared.limits.TheConstants.{GLOBALS}
 use Rattle.brc_runs.specs.declared.event.Change.{Change}
 use Rattle.brc_runs.specs.declared.event.Event.{Event}
 use Rattle.brc_runs.specs.declared.event.Step.{Step}
-use Rattle.brc_runs.specs.declared.event.Step.TheVariants.{Birth, Free, Unlock, Register, Gather}
+use Rattle.brc_runs.specs.declared.event.Step.TheVariants.{Birth, Free, Unlock, Register, Gather, Offer}
 use Rattle.brc_runs.specs.declared.row.Row.{Row}
 use Rattle.brc_runs.specs.Heap.{Heap, opening, row_at, frame_at, cell_at, entries_at, is_registered, AreOptions}
 use Rattle.brc_runs.specs.Sound.{IsSound, held}
-use Rattle.brc_runs.specs.Steps.{enabled, after, after_target, root_after, root_may, thread_may, target_at, target_ok, needs_no_cell, locked_cell, locked_at, is_active, entries_changed, born_cell, gone, stepped}
+use Rattle.brc_runs.specs.Steps.{enabled, after, after_target, root_after, root_may, thread_may, target_at, target_ok, needs_no_cell, locked_cell, locked_at, is_active, entries_changed, born_cell, gone, stepped, registered, registered_again}
 use Rattle.brc_runs.proofs.Asking.{may_parts, on_cell}
 use Rattle.brc_runs.proofs.Changes.{read_here, read_there}
 use Rattle.brc_runs.proofs.Counting.{marked_unheld}
@@ -25,7 +25,7 @@ use Rattle.law_private.proofs.Brought.{entries_fewer, emptied}
 use Rattle.law_private.proofs.Going_On.{same_set}
 use Rattle.law_private.proofs.In_Entries.{in_changed}
 use Rattle.law_private.proofs.Others_Leave.{others_leave}
-use Rattle.law_private.proofs.Private_Law.{ApartNow, apart_follows, active_before, joined, by_part, to_world}
+use Rattle.law_private.proofs.Private_Law.{ApartNow, apart_follows, active_or_opens, opens_none, joined, by_part, to_world}
 
 -- ---- others' steps
 
@@ -43,7 +43,11 @@ others_target h t u s mine (Some d) sound other may named apart own_entries f i 
     own_entries f i e is (left_there h u s d f i e (inl (λ same. others_leave h t u mine s d sound apart other may named (ap mine (sym same) ∙ is))) at)
 
 roots_event : (h : Heap) (s : Step) (mine : ℕ → Bool) → root_may h s ≡ true → OwnEntries h mine → OwnEntries (root_after h s) mine
-roots_event h (Register u) mine may own_entries d i e is at = own_entries d i e is at
+roots_event h (Register u) mine may own_entries d i e is at = by_number (nat_lt u (length h.rows)) d i e is at
+  where
+    by_number : (b : Bool) → OwnEntries (if b then registered_again h u else registered h) mine
+    by_number true d i e is at = own_entries d i e is at
+    by_number false d i e is at = own_entries d i e is at
 roots_event h (Gather u) mine may own_entries d i e is at = own_entries d i e is at
 roots_event h s mine may own_entries d i e is at = absurd (true≢false (sym may))
 
@@ -133,6 +137,13 @@ module _ (h : Heap) (t : ℕ) (mine : ℕ → Bool) (sound : IsSound h) (own_ent
       by_shared true f i c is at = absurd (true≢false (sym is))
       by_shared false f i c is at = kept_own change d may named puts f i c is at
 
+  offers : (e d : ℕ) → OwnEntries (stepped h t (Offer e) d) (private_by (frame_at h t) (locked_at h t) (Offer e) mine)
+  offers e d = by_private (mine e)
+    where
+      by_private : (b : Bool) → OwnEntries (stepped h t (Offer e) d) (λ c. if b then false else mine c)
+      by_private true f i c is at = absurd (true≢false (sym is))
+      by_private false f i c is at = own_entries f i c is (left_there h t (Offer e) d f i c (inr (λ change never. (let bad : Offer e ≡ Unlock change = never in cc))) at)
+
   plainly : (s : Step) (d : ℕ) → is_plain s ≡ true → OwnEntries (stepped h t s d) (private_by (frame_at h t) (locked_at h t) s mine)
   plainly s d plain f i c is at =
       own_more mine (private_by (frame_at h t) (locked_at h t) s mine) c (λ was. same_set (frame_at h t) (locked_at h t) s mine c plain ∙ was)
@@ -143,12 +154,14 @@ module _ (h : Heap) (t : ℕ) (mine : ℕ → Bool) (sound : IsSound h) (own_ent
   own_on_cell (Birth e kind k) d may named puts = born e k d (Birth e kind k) refl named (cc) (λ change never. (let bad : Birth e kind k ≡ Unlock change = never in cc)) (λ f. refl)
   own_on_cell (Free e) d may named puts = freed e d may named
   own_on_cell (Unlock change) d may named puts = unlocked change d may named puts
+  own_on_cell (Offer e) d may named puts = offers e d
   own_on_cell s d may named puts = plainly s d refl
 
   same_own : (s : Step) → needs_no_cell s ≡ true → OwnEntries h (private_by (frame_at h t) (locked_at h t) s mine)
   same_own (Birth d kind k) none = absurd (true≢false (sym none))
   same_own (Free d) none = absurd (true≢false (sym none))
   same_own (Unlock change) none = absurd (true≢false (sym none))
+  same_own (Offer d) none = absurd (true≢false (sym none))
   same_own s none = own_entries
 
   own_target : (s : Step) (o : Option ℕ) → thread_may h t s ≡ true → target_at h t s ≡ o → puts_own (frame_at h t) (locked_at h t) mine s ≡ true
@@ -177,13 +190,15 @@ own_follows t cells = record {
   };
   owns = λ h s number entries log reached size fit may told_is found_is before. record {
     now = (apart_follows t cells).owns h s number entries log reached size fit may told_is found_is before.now;
-    own_entries = λ active keeps.
-        let was : is_active (row_at h t).stage ≡ true = active_before h t s (target_at h t s) may active in
-        let parts = and_parts _ _ keeps in
-        let part : Part = part_of cells log in
-        by_part h t (λ frame into. OwnEntries (after_target h t s (target_at h t s)) (private_by frame into s (private_of cells log))) part before.now.part
-        (own_target h t (private_of cells log) (reached_sound h reached) (before.own_entries was parts.0) s (target_at h t s) (joined h t s may) refl
-        (to_world h t (λ frame into. puts_own frame into (private_of cells log) s ≡ true) part before.now.part parts.1));
+    own_entries = λ active keeps. elim (active_or_opens h t s (target_at h t s) may active) [
+      | inr opens ↦ λ d i e is. absurd (true≢false (sym is ∙ opens_none cells s number entries log opens.0 opens.1 (before.now.opening opens.0 opens.2) d))
+      | inl was ↦
+          let parts = and_parts _ _ keeps in
+          let part : Part = part_of cells log in
+          by_part h t (λ frame into. OwnEntries (after_target h t s (target_at h t s)) (private_by frame into s (private_of cells log))) part before.now.part
+          (own_target h t (private_of cells log) (reached_sound h reached) (before.own_entries was parts.0) s (target_at h t s) (joined h t s may) refl
+          (to_world h t (λ frame into. puts_own frame into (private_of cells log) s ≡ true) part before.now.part parts.1))
+    ];
   };
   gathers = λ h u log before. record {
     now = (apart_follows t cells).gathers h u log before.now;

@@ -1,5 +1,5 @@
 -- The thread's own step keeps its private cells apart, where none joins.
-use Rattle.std.proofs.Common.{◌≡◌, ℕ, ◌<◌, Bool, true, false, if◌then◌else◌, List, [], length, slice_get, Some, refl, sym, ◌∙◌, ap, subst, inl, inr, arith}
+use Rattle.std.proofs.Common.{◌≡◌, ℕ, ◌<◌, Bool, true, false, if◌then◌else◌, List, [], length, slice_get, Some, None, refl, sym, ◌∙◌, ap, subst, inl, inr, arith}
 use Rattle.std.proofs.lemmas.Bool.{cases_eq, cases_Bool, and_parts, true≢false}
 use Rattle.brc_words.specs.declared.owner.Owner.TheVariants as owners
 use Rattle.brc_words.specs.declared.state.State.TheVariants as states
@@ -7,13 +7,13 @@ use Rattle.brc_runs.specs.Holding.{lives}
 use Rattle.brc_runs.specs.declared.cell.Cell.{Cell}
 use Rattle.brc_runs.specs.declared.event.Change.{Change}
 use Rattle.brc_runs.specs.declared.event.Step.{Step}
-use Rattle.brc_runs.specs.declared.event.Step.TheVariants.{Claim, InitLocal, InitShared, Birth, LocalUp, LocalDown, Free, Untie, MergeZero, SharedUp, SharedDown, Ask, LastDown, MergeAdd, Lock, Unlock}
+use Rattle.brc_runs.specs.declared.event.Step.TheVariants.{Claim, InitLocal, InitShared, Birth, LocalUp, LocalDown, Free, Untie, MergeZero, SharedUp, SharedDown, Ask, LastDown, MergeAdd, Lock, Unlock, Offer}
 use Rattle.brc_runs.specs.declared.row.Hand.TheVariants as hands
 use Rattle.brc_runs.specs.declared.row.Phase.TheVariants as phases
 use Rattle.brc_runs.specs.declared.row.Row.{Row}
 use Rattle.brc_runs.specs.Lists.{bit_of, is_marked}
 use Rattle.brc_runs.specs.Heap.{Heap, cell_at, entries_at, row_at, frame_at, frame_at, popped_at, worklist_at, no_row, no_cell, is_immortal}
-use Rattle.brc_runs.specs.Steps.{target_at, target_ok, thread_may, locked_at, is_active, is_default, cell_after, row_after, popped_after, worklist_after, is_free_step, born_cell, gone, stepped, is_shut}
+use Rattle.brc_runs.specs.Steps.{target_at, target_ok, thread_may, locked_at, is_active, is_default, cell_after, row_after, popped_after, worklist_after, born_cell, gone, stepped, is_shut}
 use Rattle.brc_runs.specs.Sound.{IsSound}
 use Rattle.brc_runs.proofs.Naming.{free_hand, free_owner}
 use Rattle.brc_runs.proofs.Asking.{May, may_parts, OnCell, on_cell}
@@ -31,9 +31,28 @@ either_cell : (t : ℕ) (b : Bool) (x y : Cell) → OwnCell t x → OwnCell t y 
 either_cell t true x y one other = one
 either_cell t false x y one other = other
 
+-- steps after which their cell isn't private
+abbrev pub ends_private : Step → Bool
+ends_private (Free d) = true
+ends_private (Offer d) = true
+ends_private _ = false
+
+-- nothing is private
+pub none_private : (h : Heap) (t : ℕ) (set : ℕ → Bool) → ((c : ℕ) → set c ≡ false) → Isolated h t set
+none_private h t set none = record {
+  mortal = λ c is. absurd (true≢false (sym is ∙ none c));
+  cells = λ c is. absurd (true≢false (sym is ∙ none c));
+  frames = λ u k c is. absurd (true≢false (sym is ∙ none c));
+  hands = λ u c p is. absurd (true≢false (sym is ∙ none c));
+  popped = λ u c is. absurd (true≢false (sym is ∙ none c));
+  queues = λ u c is. absurd (true≢false (sym is ∙ none c));
+  worklists = λ u c is. absurd (true≢false (sym is ∙ none c));
+  entries = λ d i c is. absurd (true≢false (sym is ∙ none c));
+}
+
 module _ (h : Heap) (t : ℕ) (mine : ℕ → Bool) (sound : IsSound h) (apart : Isolated h t mine) (active : is_active (row_at h t).stage ≡ true) where
   -- what an own step leaves of a private cell that it means
-  own_cell : (s : Step) (d : ℕ) → thread_may h t s ≡ true → target_at h t s ≡ Some d → is_free_step s ≡ false → mine d ≡ true → OwnCell t (cell_after t s d (cell_at h d))
+  own_cell : (s : Step) (d : ℕ) → thread_may h t s ≡ true → target_at h t s ≡ Some d → ends_private s ≡ false → mine d ≡ true → OwnCell t (cell_after t s d (cell_at h d))
   own_cell (Claim e) d may named keeps is =
       let same : e ≡ d = cc in
       let free : (cell_at h e).owner ≡ owners.Free = free_owner _ (and_parts _ _ (on_cell h t (Claim e) e (may_parts h t (Claim e) may).on_target).fits).1 in
@@ -44,6 +63,7 @@ module _ (h : Heap) (t : ℕ) (mine : ℕ → Bool) (sound : IsSound h) (apart :
   own_cell (LocalUp source k) d may named keeps is = let was = apart.cells d is in either_cell t (is_immortal d) (cell_at h d) _ was (record { live = was.live; bearer = was.bearer; unasked = was.unasked })
   own_cell (LocalDown drop) d may named keeps is = let was = apart.cells d is in either_cell t (is_immortal d) (cell_at h d) _ was (record { live = was.live; bearer = was.bearer; unasked = was.unasked })
   own_cell (Free e) d may named keeps is = absurd (true≢false keeps)
+  own_cell (Offer e) d may named keeps is = absurd (true≢false keeps)
   own_cell (Untie e) d may named keeps is = let was = apart.cells d is in record { live = refl; bearer = was.bearer; unasked = was.unasked }
   own_cell (MergeZero e) d may named keeps is = let was = apart.cells d is in record { live = was.live; bearer = was.bearer; unasked = refl }
   own_cell (MergeAdd e) d may named keeps is = let was = apart.cells d is in record { live = was.live; bearer = was.bearer; unasked = refl }
@@ -63,7 +83,7 @@ module _ (h : Heap) (t : ℕ) (mine : ℕ → Bool) (sound : IsSound h) (apart :
 
   -- a step after which no more cells are private
   pub own_shrunk : (s : Step) (d : ℕ) (now : ℕ → Bool) → thread_may h t s ≡ true → target_at h t s ≡ Some d
-      → ((c : ℕ) → now c ≡ true → mine c ≡ true) → (now d ≡ true → is_free_step s ≡ false)
+      → ((c : ℕ) → now c ≡ true → mine c ≡ true) → (now d ≡ true → ends_private s ≡ false)
       → ((e i c : ℕ) → now c ≡ true → slice_get (entries_at (stepped h t s d) e) i ≡ Some c → now e ≡ true)
       → Isolated (stepped h t s d) t now
   own_shrunk s d now may named less kept entries =
@@ -118,9 +138,24 @@ module _ (h : Heap) (t : ℕ) (mine : ℕ → Bool) (sound : IsSound h) (apart :
       less true m is = absurd (true≢false (sym is))
       less false m is = is
 
-  no_free : (s : Step) → is_plain s ≡ true → is_free_step s ≡ false
-  no_free (Free d) plain = absurd (true≢false (sym plain))
-  no_free s plain = refl
+  -- an object that the thread hands over: where it was private nothing is private any more
+  pub own_offer : (e d : ℕ) → thread_may h t (Offer e) ≡ true → target_at h t (Offer e) ≡ Some d
+      → Isolated (stepped h t (Offer e) d) t (private_by (frame_at h t) (locked_at h t) (Offer e) mine)
+  own_offer e d may named = elim (cases_Bool (mine e)) [
+    | inl his ↦ none_private (stepped h t (Offer e) d) t (private_by (frame_at h t) (locked_at h t) (Offer e) mine) (λ c. ap (λ b. if b then false else mine c) his)
+    | inr off ↦
+        let same : e ≡ d = cc in
+        let less : (c : ℕ) → (if mine e then false else mine c) ≡ mine c = λ c. ap (λ b. if b then false else mine c) off in
+        own_shrunk (Offer e) d (private_by (frame_at h t) (locked_at h t) (Offer e) mine) may named
+        (λ c is. sym (less c) ∙ is)
+        (λ is. absurd (true≢false (sym is ∙ less d ∙ ap mine (sym same) ∙ off)))
+        (λ f i c is at. less f ∙ apart.entries f i c (sym (less c) ∙ is) (entries_fewer h.entries None None f i c at))
+  ]
+
+  no_end : (s : Step) → is_plain s ≡ true → ends_private s ≡ false
+  no_end (Free d) plain = absurd (true≢false (sym plain))
+  no_end (Offer d) plain = absurd (true≢false (sym plain))
+  no_end s plain = refl
 
   plain_entries : (s : Step) (d e i c : ℕ) → is_plain s ≡ true → slice_get (entries_at (stepped h t s d) e) i ≡ Some c → slice_get (entries_at h e) i ≡ Some c
   plain_entries (Unlock change) d e i c plain at = absurd (true≢false (sym plain))
@@ -130,5 +165,5 @@ module _ (h : Heap) (t : ℕ) (mine : ℕ → Bool) (sound : IsSound h) (apart :
       → Isolated (stepped h t s d) t (private_by (frame_at h t) (locked_at h t) s mine)
   own_plain s d plain may named =
       own_shrunk s d (private_by (frame_at h t) (locked_at h t) s mine) may named
-      (λ c is. sym (same_set (frame_at h t) (locked_at h t) s mine c plain) ∙ is) (λ is. no_free s plain)
+      (λ c is. sym (same_set (frame_at h t) (locked_at h t) s mine c plain) ∙ is) (λ is. no_end s plain)
       (λ e i c is at. same_set (frame_at h t) (locked_at h t) s mine e plain ∙ apart.entries e i c (sym (same_set (frame_at h t) (locked_at h t) s mine c plain) ∙ is) (plain_entries s d e i c plain at))

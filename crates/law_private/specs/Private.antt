@@ -1,5 +1,5 @@
--- The private cells of a thread: those that it bore and never put into a cell that isn't private, as Go's and Java's escape
--- analysis call an object that doesn't escape its thread; here it is told by what the thread did.
+-- The private cells of a thread: those that it bore, and neither put into a cell that isn't private nor handed over, as Go's
+-- and Java's escape analysis call an object that doesn't escape its thread; here it is told by what the thread did.
 use Rattle.std.specs.Prelude.{◌≡◌, ◌⊎◌, ℕ, ◌≤◌, ◌==◌, ◌&&◌, not, Bool, true, false, if◌then◌else◌, List, [], ◌∷◌, Option, Some, None, slice_get}
 use Rattle.brc_words.specs.declared.limits.TheConstants.{FIRST_MORTAL}
 use Rattle.brc_runs.specs.Phases.{is_active_phase}
@@ -8,7 +8,7 @@ use Rattle.brc_runs.specs.declared.cell.Cell.{Cell}
 use Rattle.brc_runs.specs.declared.event.Change.{Change}
 use Rattle.brc_runs.specs.declared.event.Change.TheVariants as changes
 use Rattle.brc_runs.specs.declared.event.Step.{Step}
-use Rattle.brc_runs.specs.declared.event.Step.TheVariants.{Birth, Free, Unlock}
+use Rattle.brc_runs.specs.declared.event.Step.TheVariants.{Birth, Free, Unlock, Offer}
 use Rattle.brc_runs.specs.declared.row.Hand.{Hand}
 use Rattle.brc_runs.specs.declared.row.Hand.TheVariants as hands
 use Rattle.brc_runs.specs.declared.row.Phase.{Phase}
@@ -33,11 +33,13 @@ abbrev pub is_shared : (ℕ → Bool) → List (Option ℕ) → Option ℕ → C
 is_shared set frame into change = is_in set (locked_cell frame (place_put change)) && not (is_in set into)
 
 -- The private cells after a step of the thread, which has this frame and has locked this cell. A birth adds its cell, and a
--- free takes it away. An unlock that shares one leaves none: which others the shared one leads to isn't looked at.
+-- free takes it away. An unlock that shares one leaves none: which others the shared one leads to isn't looked at. Nor is it
+-- of one that the thread hands over.
 abbrev pub private_by : List (Option ℕ) → Option ℕ → Step → (ℕ → Bool) → ℕ → Bool
 private_by frame into (Birth d kind k) set c = if d == c then true else set c
 private_by frame into (Free d) set c = if d == c then false else set c
 private_by frame into (Unlock change) set c = if is_shared set frame into change then false else set c
+private_by frame into (Offer d) set c = if set d then false else set c
 private_by frame into _ set c = set c
 
 -- the cell that the thread has locked, told by own items alone
@@ -76,9 +78,10 @@ pub record Isolated (h : Heap) (t : ℕ) (set : ℕ → Bool) : Type 0 where
 abbrev pub Leaves : Hand → ℕ → ℕ → Phase → Type 0
 Leaves hand d c p = (hand ≡ hands.Busy p c) ⊎ ((d ≡ c) × (is_active_phase p ≡ true))
 
--- steps that neither bear nor free nor unlock
+-- steps that neither bear nor free nor unlock nor hand over
 abbrev pub is_plain : Step → Bool
 is_plain (Birth d kind k) = false
 is_plain (Free d) = false
 is_plain (Unlock change) = false
+is_plain (Offer d) = false
 is_plain _ = true

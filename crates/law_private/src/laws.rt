@@ -13,7 +13,7 @@ ghost use Rattle.brc_runs.specs.Lists.{place_at, bit_of};
 ghost use Rattle.brc_runs.specs.declared.event.Step.{Step as step};
 ghost use Rattle.brc_runs.specs.Heap.{Heap, opening, is_registered, AreOptions, row_at, cell_at, frame_at, queue_at, entries_at};
 ghost use Rattle.brc_runs.specs.Sound.{IsSound};
-ghost use Rattle.brc_runs.specs.Steps.{thread_may, target_at, locked_at, stepped, kept_cells, registered, gathered_in, is_active, is_default, is_keep, is_others, hand_after};
+ghost use Rattle.brc_runs.specs.Steps.{thread_may, target_at, locked_at, stepped, kept_cells, registered, registered_again, gathered_in, is_active, is_default, is_keep, is_others, hand_after};
 ghost use Rattle.brc_known.specs.declared.word.Word.{Word as word};
 ghost use Rattle.brc_known.specs.Items.{Item, Did, Saw, Lost, ItemRun, AreItems, world_of_items, own, part_of};
 ghost use Rattle.law_private.specs.Private.{Isolated, Leaves, is_plain, is_shared, private_by, private_of, locked_told};
@@ -49,7 +49,8 @@ pub fn own_items_tell_own_entries()
 {}
 
 /// Which cells are private after one more own item: a birth adds its cell, a free takes its cell away, and an unlock that puts
-/// a private cell into one that isn't leaves none. Every other item leaves them as they are.
+/// a private cell into one that isn't leaves none, nor does a thread that hands a private cell over. Every other item leaves
+/// them as they are.
 pub fn private_cells_go_on()
     ensures none { (cells c : ℕ) → private_of cells [] c ≡ false }
     ensures born { (cells : ℕ) (items : List Item) (d : ℕ) (kind : kind) (k number : ℕ)
@@ -64,6 +65,9 @@ pub fn private_cells_go_on()
         → private_of cells (Did (steps.Unlock change) number entries ∷ items) c
         ≡ (if is_shared (private_of cells items) (part_of cells items).frame (locked_told cells items) change
         then false else private_of cells items c) }
+    ensures offered { (cells : ℕ) (items : List Item) (d number : ℕ) (entries : List ℕ) (c : ℕ)
+        → private_of cells (Did (steps.Offer d) number entries ∷ items) c
+        ≡ (if private_of cells items d then false else private_of cells items c) }
     ensures plain { (cells : ℕ) (items : List Item) (s : step) (number : ℕ) (entries : List ℕ) (c : ℕ)
         → is_plain s ≡ true
         → private_of cells (Did s number entries ∷ items) c ≡ private_of cells items c }
@@ -118,14 +122,19 @@ pub fn others_keep_private_cells_apart()
         → Isolated (stepped h u s d) t set }
 {}
 
-/// A step of the thread's own keeps its private cells apart: an unlock, whatever it shares, and every step that neither bears
-/// nor frees an object.
+/// A step of the thread's own keeps its private cells apart: an unlock, whatever it shares, the handing over of an object, and
+/// every step that neither bears nor frees one.
 pub fn own_steps_keep_private_cells_apart()
     ensures unlock { (h : Heap) (t : ℕ) (set : ℕ → Bool) → IsSound h → Isolated h t set
         → is_active (row_at h t).stage ≡ true → (change : change) (d : ℕ)
         → thread_may h t (steps.Unlock change) ≡ true → target_at h t (steps.Unlock change) ≡ Some d
         → Isolated (stepped h t (steps.Unlock change) d) t
         (private_by (frame_at h t) (locked_at h t) (steps.Unlock change) set) }
+    ensures offer { (h : Heap) (t : ℕ) (set : ℕ → Bool) → IsSound h → Isolated h t set
+        → is_active (row_at h t).stage ≡ true → (e d : ℕ)
+        → thread_may h t (steps.Offer e) ≡ true → target_at h t (steps.Offer e) ≡ Some d
+        → Isolated (stepped h t (steps.Offer e) d) t
+        (private_by (frame_at h t) (locked_at h t) (steps.Offer e) set) }
     ensures plain { (h : Heap) (t : ℕ) (set : ℕ → Bool) → IsSound h → Isolated h t set
         → is_active (row_at h t).stage ≡ true → (s : step) (d : ℕ) → is_plain s ≡ true
         → thread_may h t s ≡ true → target_at h t s ≡ Some d
@@ -159,10 +168,12 @@ pub fn queue_steps_keep_private_cells_apart()
         → Isolated h t set → Isolated (kept_cells h u s) t set }
 {}
 
-/// Registering a thread keeps private cells apart, and so does gathering one.
+/// Registering a thread keeps private cells apart, also under a number that is used again, and so does gathering one.
 pub fn root_steps_keep_private_cells_apart()
     ensures registers { (h : Heap) (t : ℕ) (set : ℕ → Bool) → Isolated h t set
         → Isolated (registered h) t set }
+    ensures again { (h : Heap) (u t : ℕ) (set : ℕ → Bool) → Isolated h t set
+        → Isolated (registered_again h u) t set }
     ensures gathers { (h : Heap) (u t : ℕ) (set : ℕ → Bool) → Isolated h t set
         → Isolated (gathered_in h u) t set }
 {}

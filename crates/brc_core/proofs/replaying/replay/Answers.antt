@@ -1,13 +1,7 @@
 use Rattle.std.proofs.Common.{reverse}
-use Rattle.brc_runs.specs.declared.edition.Edition.TheVariants as editions
-use Rattle.brc_runs.proofs.Reached.{reached_headline, run_histories}
-use Rattle.brc_core.proofs.Turns.{leads_whole, leads_reached}
+use Rattle.brc_runs.proofs.Reached.{run_histories}
+use Rattle.brc_core.proofs.Turns.{both_ok}
 use Rattle.brc_core.proofs.replaying.replay.Goals as goal
 
-pub returns-clause-headline : goal.returns-clause-headline
-returns-clause-headline g c = reached_headline _ (leads_reached editions.One c.args.cells c.args.local_limit _ _ c.in-Ok.ensures.sizes c.loop-at.invariant)
-
 pub returns-clause-histories : goal.returns-clause-histories
-returns-clause-histories g c =
-    let whole = leads_whole _ _ _ _ c.loop-at.invariant c.loop-at-test.false in
-    run_histories c.args.cells c.args.local_limit (reverse c.args.events.now) c.in-Ok.ensures.sizes whole.is_run
+returns-clause-histories g c = both_ok c.replay_in.result (run_histories c.args.cells c.args.local_limit (reverse c.args.events.now)) c.replay_in.ensures.sizes c.replay_in.ensures.run

@@ -1,4 +1,4 @@
-use Rattle.brc_lasting.proofs.Progress.{hands_go_on, births_go_on, references_go, popped_go, blocks_go, locks_go, leavings_begin, closings_go, gatherings_go}
+use Rattle.brc_lasting.proofs.Progress.{hands_go_on, births_go_on, references_go, popped_go, blocks_go, locks_go, leavings_begin, offers_go, closings_go, gatherings_go, openings_go}
 use Rattle.brc_lasting.proofs.laws.no_thread_is_stuck.Goals as goal
 
 pub returns-clause-hands : goal.returns-clause-hands
@@ -27,3 +27,9 @@ returns-clause-closes c = closings_go
 
 pub returns-clause-gathered : goal.returns-clause-gathered
 returns-clause-gathered c = gatherings_go
+
+pub returns-clause-offers : goal.returns-clause-offers
+returns-clause-offers c = offers_go
+
+pub returns-clause-opens : goal.returns-clause-opens
+returns-clause-opens c = openings_go

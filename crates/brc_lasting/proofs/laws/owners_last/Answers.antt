@@ -1,5 +1,5 @@
 use Rattle.brc_lasting.proofs.Lasting.{foreign_lasts, nobodys_last, owning_lasts}
-use Rattle.brc_lasting.proofs.Telling.{owns_lasts, merging_lasts, adopting_lasts, popped_lasts}
+use Rattle.brc_lasting.proofs.Telling.{owns_lasts, merging_lasts, yielding_lasts, adopting_lasts, popped_lasts}
 use Rattle.brc_lasting.proofs.laws.owners_last.Goals as goal
 
 pub returns-clause-foreign : goal.returns-clause-foreign
@@ -16,6 +16,9 @@ returns-clause-own c = owns_lasts
 
 pub returns-clause-merging : goal.returns-clause-merging
 returns-clause-merging c = merging_lasts
+
+pub returns-clause-yielding : goal.returns-clause-yielding
+returns-clause-yielding c = yielding_lasts
 
 pub returns-clause-adopting : goal.returns-clause-adopting
 returns-clause-adopting c = adopting_lasts

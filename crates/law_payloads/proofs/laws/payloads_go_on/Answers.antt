@@ -1,5 +1,5 @@
 use Rattle.std.proofs.Common.{refl}
-use Rattle.law_payloads.proofs.Going_On.{born, freed, shared, changed, outside, plain, found}
+use Rattle.law_payloads.proofs.Going_On.{born, freed, offered, shared, changed, outside, plain, found}
 use Rattle.law_payloads.proofs.laws.payloads_go_on.Goals as goal
 
 pub returns-clause-none : goal.returns-clause-none
@@ -10,6 +10,9 @@ returns-clause-born c = born
 
 pub returns-clause-freed : goal.returns-clause-freed
 returns-clause-freed c = freed
+
+pub returns-clause-offered : goal.returns-clause-offered
+returns-clause-offered c = offered
 
 pub returns-clause-shared : goal.returns-clause-shared
 returns-clause-shared c = shared

@@ -16,6 +16,9 @@ returns-clause-freed c = λ cells items d number entries e. refl
 pub returns-clause-unlocked : goal.returns-clause-unlocked
 returns-clause-unlocked c = λ cells items change number entries e. refl
 
+pub returns-clause-offered : goal.returns-clause-offered
+returns-clause-offered c = λ cells items d number entries e. refl
+
 pub returns-clause-plain : goal.returns-clause-plain
 returns-clause-plain c = λ cells items s number entries d plain. same_set (part_of cells items).frame (locked_told cells items) s (private_of cells items) d plain
 

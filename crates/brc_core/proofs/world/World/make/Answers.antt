@@ -8,6 +8,7 @@ use Rattle.brc_moves.proofs.Allowing.{reached_moves}
 use Rattle.brc_runs.proofs.Reached.{reached_allocs, reached_frees}
 use Rattle.brc_runs.proofs.Sizes.{reached_count_range}
 use Rattle.brc_core.proofs.Bounds.{cells_fit, registers_few, past_allocs_fit, past_frees_fit}
+use Rattle.brc_core.proofs.Closing.{reached_closers}
 use Rattle.brc_core.proofs.Reaching.{reached_after}
 use Rattle.brc_core.proofs.world.World.make.Goals as goal
 use Rattle.brc_core.proofs.world.World.make.Goals.{in-Ok, in-Err}
@@ -18,6 +19,9 @@ made_moves inside old new e is_old is_after reached may =
     let P : Heap → Type 0 = λ h. MakesMoves {A = Unit {0}} (map_of h) (moves_by h e) (map_of new) in
     let Q : Heap → Type 0 = λ h. MakesMoves {A = Unit {0}} (map_of inside) (moves_by inside e) (map_of h) in
     subst P is_old (subst Q (sym is_after) (reached_moves (Unit {0}) inside e reached may))
+
+pub enabled-requires-clause-closers : goal.enabled-requires-clause-closers
+enabled-requires-clause-closers g c = reached_closers c.self.inside.tables c.self.invariant
 
 pub apply-requires-clause-allocs : goal.apply-requires-clause-allocs
 apply-requires-clause-allocs g c = reached_allocs c.self.inside.tables c.self.invariant c.args.event.now.thread

@@ -1,8 +1,11 @@
 use Rattle.std.proofs.Common.{rules, ◌≡◌, ◌∙◌, sym, arith}
 use Rattle.std.proofs.lemmas.Bool.{eq-eqb, true≢false}
-use Rattle.brc_counter.proofs.Searching.{begins_word, skips, misses}
+use Rattle.brc_counter.proofs.Searching.{begins_word, passes_blank, skips, misses}
 use Rattle.brc_counter.proofs.counter.Counter.seek_word.Goals.{else-has_bit-via-then-has_bit+else-try_cell, else-has_bit-via-else-has_bit}
 use Rattle.brc_counter.proofs.counter.Counter.seek_word.Goals as goal
+
+pub returns-then-found-eq0-clause-full : goal.returns-then-found-eq0-clause-full
+returns-then-found-eq0-clause-full g c = passes_blank c.args.word c.load_free-found.result c.args.self.now.heap.cells (search rules) (search rules)
 
 pub loop-cell-init : goal.loop-cell-init
 loop-cell-init g c =

@@ -1,0 +1,7 @@
+use Rattle.std.proofs.Common.{◌+◌, ◌%◌, ◌^◌}
+use Rattle.brc_rule.specs.declared.told.Moved.TheVariants.{Nothing}
+use Rattle.brc_rule.specs.declared.told.Told.TheVariants.{Did}
+use Rattle.brc_table.proofs.table.HeapTable.merge_add.Given as goal
+
+abbrev pub ghosts-add_up : goal.ghosts-add_up
+ghosts-add_up g a = record { item = λ number. Did a.step ((number + a.more) % 2 ^ 64) Nothing; more = a.more }
