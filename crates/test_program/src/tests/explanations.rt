@@ -69,7 +69,19 @@ fn bad_lines(rt: HostRuntime) -> Result<(), Fail> {
             "few cells",
             "heap 511 1\n",
             "line 1: not a trace line",
-            "a head is heap CELLS LIMIT, 512 to 65536 and 1 to 4294967294",
+            "a head is heap CELLS LIMIT, 512 to 65536 and 1 to 4294967294; above it only trace 2",
+        ),
+        (
+            "another format",
+            "trace 1\nheap 512 1\n",
+            "line 1: not a trace line",
+            "a head is heap CELLS LIMIT, 512 to 65536 and 1 to 4294967294; above it only trace 2",
+        ),
+        (
+            "an offer without its cell",
+            "trace 2\nheap 512 1\n1 offer\n",
+            "line 3: not a trace line",
+            "its event has the form T offer C",
         ),
         (
             "a word of no trace",
