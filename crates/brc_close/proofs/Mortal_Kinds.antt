@@ -3,18 +3,18 @@ use Rattle.std.proofs.Common.{◌≡◌, ℕ, ◌≤◌, ◌==◌, ◌&&◌, not
 use Rattle.std.proofs.lemmas.Bool.{cases_Bool, and_parts, true≢false}
 use Rattle.brc_words.specs.declared.limits.TheConstants.{FIRST_MORTAL}
 use Rattle.brc_words.specs.Kinds.{is_mortal}
-use Rattle.brc_runs.specs.declared.cell.Cell.{Cell}
-use Rattle.brc_runs.specs.declared.event.Event.{Event}
-use Rattle.brc_runs.specs.declared.event.Step.{Step}
-use Rattle.brc_runs.specs.declared.event.Step.TheVariants.{Birth, Free}
-use Rattle.brc_runs.specs.Heap.{Heap, opening, cell_at, is_immortal, AreOptions}
-use Rattle.brc_runs.specs.Holding.{lives, lives_at, lives_by, lives_since, is_birth}
-use Rattle.brc_runs.specs.Runs.{IsRun, world_after}
-use Rattle.brc_runs.specs.Steps.{own_ok_at, cell_after}
-use Rattle.brc_runs.proofs.Beginning.{free_cell}
-use Rattle.brc_runs.proofs.Reached.{run_histories}
-use Rattle.brc_lasting.proofs.Reasons.{event_cell}
-use Rattle.brc_moves.proofs.Moving.{kind_kept}
+use Rattle.law_world.specs.declared.cell.Cell.{Cell}
+use Rattle.law_world.specs.declared.event.Event.{Event}
+use Rattle.law_world.specs.declared.event.Step.{Step}
+use Rattle.law_world.specs.declared.event.Step.TheVariants.{Birth, Free}
+use Rattle.law_world.specs.Heap.{Heap, opening, cell_at, is_immortal, AreOptions}
+use Rattle.law_world.specs.Holding.{lives, lives_at, lives_by, lives_since, is_birth}
+use Rattle.law_world.specs.Runs.{IsRun, world_after}
+use Rattle.law_world.specs.Steps.{own_ok_at, cell_after}
+use Rattle.law_world.proofs.Beginning.{free_cell}
+use Rattle.law_world.proofs.Reached.{run_histories}
+use Rattle.law_lasting.proofs.Reasons.{event_cell}
+use Rattle.law_moves.proofs.Moving.{kind_kept}
 
 -- an object is born of a mortal kind
 born_mortal : (h : Heap) (t : ℕ) (s : Step) (c : ℕ) (x : Cell) → is_birth s ≡ true → own_ok_at h t s ≡ true → is_mortal (cell_after t s c x).kind ≡ true

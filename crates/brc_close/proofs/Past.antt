@@ -1,16 +1,16 @@
 -- In the first edition no number is used again: what was counted stands in the rows, and nothing in the past.
 use Rattle.std.proofs.Common.{◌≡◌, ℕ, List, [], ◌∷◌, Option, Some, None, refl, sym, ◌∙◌, ap, inl, inr, true}
-use Rattle.brc_runs.specs.declared.edition.Edition.TheVariants as editions
-use Rattle.brc_runs.specs.declared.event.Event.{Event}
-use Rattle.brc_runs.specs.declared.event.Step.{Step}
-use Rattle.brc_runs.specs.declared.event.Step.TheVariants.{Register}
-use Rattle.brc_runs.specs.Heap.{Heap, opening, AreOptions}
-use Rattle.brc_runs.specs.Runs.{IsRun, world_after}
-use Rattle.brc_runs.specs.Sound.{IsSound}
-use Rattle.brc_runs.specs.Steps.{enabled, after, after_target, root_after, root_may, target_at}
-use Rattle.brc_runs.proofs.Lifetimes.{by_whom, run_edition}
-use Rattle.brc_runs.proofs.Reached.{run_sound}
-use Rattle.brc_runs.proofs.Reusing.{fresh, reused, registers}
+use Rattle.law_world.specs.declared.edition.Edition.TheVariants as editions
+use Rattle.law_world.specs.declared.event.Event.{Event}
+use Rattle.law_world.specs.declared.event.Step.{Step}
+use Rattle.law_world.specs.declared.event.Step.TheVariants.{Register}
+use Rattle.law_world.specs.Heap.{Heap, opening, AreOptions}
+use Rattle.law_world.specs.Runs.{IsRun, world_after}
+use Rattle.law_world.specs.Sound.{IsSound}
+use Rattle.law_world.specs.Steps.{enabled, after, after_target, root_after, root_may, target_at}
+use Rattle.law_world.proofs.Lifetimes.{by_whom, run_edition}
+use Rattle.law_world.proofs.Reached.{run_sound}
+use Rattle.law_world.proofs.Reusing.{fresh, reused, registers}
 
 -- the past ledger stays
 record SamePast (h new : Heap) : Type 0 where

@@ -1,9 +1,9 @@
 -- What the report of a closed heap says.
 use Rattle.std.specs.Prelude.{◌≡◌, ◌≢◌, ◌+◌, ℕ, List, [], length, map, sum_by, Some}
-use Rattle.brc_runs.specs.Holding.{Headline, live_count}
-use Rattle.brc_runs.specs.Runs.{IsReached}
-use Rattle.brc_rule.specs.declared.view.View.{View}
-use Rattle.brc_rule.specs.Logs.{Run, own_of, lives_of, world, IsLegal}
+use Rattle.law_world.specs.Holding.{Headline, live_count}
+use Rattle.law_world.specs.Runs.{IsReached}
+use Rattle.law_rule.specs.declared.view.View.{View}
+use Rattle.law_rule.specs.Logs.{Run, own_of, lives_of, world, IsLegal}
 use Rattle.brc_report.specs.declared.content.Content.{Content}
 use Rattle.brc_report.specs.declared.content.Remain.{Remain}
 use Rattle.brc_report.specs.declared.report.Ledger.{Ledger}

@@ -4,9 +4,9 @@ use Rattle.brc_words.specs.declared.limits.TheConstants.{FIRST_MORTAL, GLOBALS}
 use Rattle.brc_block.specs.declared.payload.Payload.{Payload}
 use Rattle.brc_block.specs.Payload.{kind_of, entries_of}
 use Rattle.brc_report.specs.declared.content.Content.{Content}
-use Rattle.brc_rule.specs.Logs.{Run, kind_in, entries_in, contents_at}
-use Rattle.brc_runs.specs.Heap.{Heap}
-use Rattle.brc_runs.specs.Holding.{lives_at}
+use Rattle.law_rule.specs.Logs.{Run, kind_in, entries_in, contents_at}
+use Rattle.law_world.specs.Heap.{Heap}
+use Rattle.law_world.specs.Holding.{lives_at}
 use Rattle.brc_thread.specs.Emptied.{used_from}
 
 -- of so many cells from this one on, those in which a mortal object lives, by rising number

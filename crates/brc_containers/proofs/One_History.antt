@@ -2,24 +2,24 @@
 use Rattle.std.proofs.Common.{◌≡◌, ◌≢◌, ℕ, zero, suc, ◌<◌, ◌≤◌, ◌==◌, nat_le, Bool, true, false, if◌then◌else◌, List, [], ◌∷◌, ◌++◌, length, Option, Some, None, refl, sym, ◌∙◌, ap, subst, append_assoc, inl, inr, arith}
 use Rattle.std.proofs.lemmas.Bool.{cases_eq, cases_Bool, eq-eqb, ne_eqb, eqb-true, true≢false, and_parts}
 use Rattle.brc_words.specs.declared.limits.TheConstants.{MOST_THREADS}
-use Rattle.brc_runs.specs.declared.event.Change.{Change}
-use Rattle.brc_runs.specs.declared.event.Step.{Step}
-use Rattle.brc_runs.specs.declared.event.Step.TheVariants.{Birth, Unlock, Register}
-use Rattle.brc_runs.specs.Heap.{Heap, opening, AreOptions}
-use Rattle.brc_runs.specs.Steps.{enabled, root_may, thread_may, number_ok}
-use Rattle.brc_runs.proofs.Asking.{may_parts}
-use Rattle.brc_runs.proofs.Lifetimes.{run_edition}
-use Rattle.brc_lasting.proofs.Ranges_Law.{event_rows}
-use Rattle.brc_known.specs.Items.{is_start, events_of}
-use Rattle.brc_rule.specs.declared.contents.Contents.{Contents}
-use Rattle.brc_rule.specs.declared.told.Moved.{Moved}
-use Rattle.brc_rule.specs.declared.told.Moved.TheVariants as moves
-use Rattle.brc_rule.specs.declared.told.Told.{Told}
-use Rattle.brc_rule.specs.declared.told.Told.TheVariants.{Did, Saw, Lost}
-use Rattle.brc_rule.specs.Logs.{Run, item_of, items_of, own_of, world, contents_at, puts, MovesWith, IsMoved, IsLegal}
-use Rattle.brc_rule.specs.Seen.{contents_locked}
-use Rattle.brc_rule.proofs.Locked_Contents.{locked_contents}
-use Rattle.brc_rule.proofs.Own_Logs.{own_more, own_same}
+use Rattle.law_world.specs.declared.event.Change.{Change}
+use Rattle.law_world.specs.declared.event.Step.{Step}
+use Rattle.law_world.specs.declared.event.Step.TheVariants.{Birth, Unlock, Register}
+use Rattle.law_world.specs.Heap.{Heap, opening, AreOptions}
+use Rattle.law_world.specs.Steps.{enabled, root_may, thread_may, number_ok}
+use Rattle.law_world.proofs.Asking.{may_parts}
+use Rattle.law_world.proofs.Lifetimes.{run_edition}
+use Rattle.law_lasting.proofs.Ranges_Law.{event_rows}
+use Rattle.law_known.specs.Items.{is_start, events_of}
+use Rattle.law_rule.specs.declared.contents.Contents.{Contents}
+use Rattle.law_rule.specs.declared.told.Moved.{Moved}
+use Rattle.law_rule.specs.declared.told.Moved.TheVariants as moves
+use Rattle.law_rule.specs.declared.told.Told.{Told}
+use Rattle.law_rule.specs.declared.told.Told.TheVariants.{Did, Saw, Lost}
+use Rattle.law_rule.specs.Logs.{Run, item_of, items_of, own_of, world, contents_at, puts, MovesWith, IsMoved, IsLegal}
+use Rattle.law_rule.specs.Seen.{contents_locked}
+use Rattle.law_rule.proofs.Locked_Contents.{locked_contents}
+use Rattle.law_rule.proofs.Own_Logs.{own_more, own_same}
 use Rattle.brc_containers.specs.History.{Call, Bears, Changes, IsSequential, Extends, left_by, with_step, with_call, history_of, own_history, calls_of}
 
 none_some : {X : Type 0} (x : X) → None ≡ Some x → ⊥

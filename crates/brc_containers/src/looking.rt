@@ -2,8 +2,8 @@
 
 ghost use Rattle.std.specs.Prelude.{◌≡◌, ◌<◌, ◌+◌, ◌++◌, ℕ, List, IfSome, IfNone, OnOk, OnErr, IsTrue, IsFalse, length};
 ghost use Rattle.std.specs.String.{string_bytes, string_len, string_capacity};
-ghost use Rattle.brc_rule.specs.declared.contents.Contents.TheVariants as contents;
-ghost use Rattle.brc_rule.specs.Logs.{entries_in};
+ghost use Rattle.law_rule.specs.declared.contents.Contents.TheVariants as contents;
+ghost use Rattle.law_rule.specs.Logs.{entries_in};
 ghost use Rattle.brc_table.specs.Shown.{contents_of};
 ghost use Rattle.brc_containers.specs.Looking.{IsInt, IsText, IsContainer};
 

@@ -2,21 +2,21 @@
 use Rattle.std.proofs.Common.{◌≡◌, ℕ, ◌<◌, ◌≤◌, ◌^◌, List, [], ◌∷◌, length, drop, sum_by, count_by, cond, pos, ◌+◌, true, false, refl, sym, subst, inl, inr, arith, length-drop}
 use Rattle.std.proofs.lemmas.List.Sums.{sum_by-cons, count_by-le-length}
 use Rattle.brc_words.specs.declared.limits.TheConstants.{FIRST_MORTAL, MOST_CELLS, MOST_ENTRIES, MOST_PLACES, MOST_THREADS, MOST_REGISTRATIONS}
-use Rattle.brc_runs.proofs.Sizes.{reached_births, reached_entries}
-use Rattle.brc_runs.proofs.Reached.{reached_sound, reached_headline}
-use Rattle.brc_runs.proofs.Headlines.{sums_fit, past_fits}
-use Rattle.brc_runs.proofs.Lifetimes.{by_whom}
-use Rattle.brc_runs.proofs.Asking.{may_parts}
-use Rattle.brc_runs.proofs.Reusing.{fresh, reused, registers}
-use Rattle.brc_runs.specs.declared.event.Event.{Event}
-use Rattle.brc_runs.specs.declared.event.Step.TheVariants.{Register}
-use Rattle.brc_runs.specs.Steps.{enabled, root_may, thread_may}
+use Rattle.law_world.proofs.Sizes.{reached_births, reached_entries}
+use Rattle.law_world.proofs.Reached.{reached_sound, reached_headline}
+use Rattle.law_world.proofs.Headlines.{sums_fit, past_fits}
+use Rattle.law_world.proofs.Lifetimes.{by_whom}
+use Rattle.law_world.proofs.Asking.{may_parts}
+use Rattle.law_world.proofs.Reusing.{fresh, reused, registers}
+use Rattle.law_world.specs.declared.event.Event.{Event}
+use Rattle.law_world.specs.declared.event.Step.TheVariants.{Register}
+use Rattle.law_world.specs.Steps.{enabled, root_may, thread_may}
 use Rattle.std.proofs.lemmas.Bool.{true≢false}
-use Rattle.brc_runs.specs.declared.cell.Cell.{Cell}
-use Rattle.brc_runs.specs.Lists.{one}
-use Rattle.brc_runs.specs.Heap.{Heap, cell_at, row_at, entries_at, frame_at}
-use Rattle.brc_runs.specs.Holding.{lives, lives_at, total_of, holders_of}
-use Rattle.brc_runs.specs.Runs.{IsReached}
+use Rattle.law_world.specs.declared.cell.Cell.{Cell}
+use Rattle.law_world.specs.Lists.{one}
+use Rattle.law_world.specs.Heap.{Heap, cell_at, row_at, entries_at, frame_at}
+use Rattle.law_world.specs.Holding.{lives, lives_at, total_of, holders_of}
+use Rattle.law_world.specs.Runs.{IsReached}
 
 -- two sums with equal terms
 sum_by-same : {X : Type 0} (f g : X → ℕ) → ((x : X) → f x ≡ g x) → (xs : List X) → sum_by f xs ≡ sum_by g xs

@@ -6,10 +6,10 @@ use Rattle.brc_core.specs.declared.holders.Part.TheVariants as parts
 use Rattle.brc_core.specs.Holders.{below, in_part, in_frames, in_entries}
 use Rattle.brc_model.specs.declared.holder.Holder.{Holder}
 use Rattle.brc_model.specs.declared.holder.Holder.TheVariants as holders
-use Rattle.brc_runs.specs.Lists.{names, bit_of}
-use Rattle.brc_runs.specs.Heap.{Heap, entries_at, frame_at, no_row}
-use Rattle.brc_runs.specs.Holding.{each, if_so, carries, holders_of}
-use Rattle.brc_runs.specs.Sound.{IsShaped}
+use Rattle.law_world.specs.Lists.{names, bit_of}
+use Rattle.law_world.specs.Heap.{Heap, entries_at, frame_at, no_row}
+use Rattle.law_world.specs.Holding.{each, if_so, carries, holders_of}
+use Rattle.law_world.specs.Sound.{IsShaped}
 
 -- one number more
 pub below-more : (f : ℕ → List Holder) (n : ℕ) → below f (n + 1) ≡ below f n ++ f n

@@ -1,10 +1,10 @@
 -- The opening world is reached, and so is the world after an event that is enabled in a reached one.
 use Rattle.std.proofs.Common.{◌≡◌, ℕ, true, [], ◌∷◌, ap, subst, sym, refl}
-use Rattle.brc_runs.specs.declared.edition.Edition.{Edition}
-use Rattle.brc_runs.specs.declared.event.Event.{Event}
-use Rattle.brc_runs.specs.Heap.{Heap, opening_in, AreOptions}
-use Rattle.brc_runs.specs.Steps.{enabled, after}
-use Rattle.brc_runs.specs.Runs.{IsReached}
+use Rattle.law_world.specs.declared.edition.Edition.{Edition}
+use Rattle.law_world.specs.declared.event.Event.{Event}
+use Rattle.law_world.specs.Heap.{Heap, opening_in, AreOptions}
+use Rattle.law_world.specs.Steps.{enabled, after}
+use Rattle.law_world.specs.Runs.{IsReached}
 
 pub reached_opening : (edition : Edition) (cells limit : ℕ) → AreOptions cells limit → IsReached (opening_in edition cells limit)
 reached_opening edition cells limit options = record {

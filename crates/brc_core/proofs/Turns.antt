@@ -3,11 +3,11 @@ use Rattle.std.proofs.Common.{◌≡◌, ℕ, ◌+◌, ◌<◌, ◌≤◌, true,
 use Rattle.std.proofs.lemmas.List.{take_more, reverse-append, take_all}
 use Rattle.std.proofs.lemmas.Option.{slice_get-get_or}
 use Rattle.brc_core.specs.Replays.{IsFirstNotEnabled}
-use Rattle.brc_runs.specs.declared.edition.Edition.{Edition}
-use Rattle.brc_runs.specs.declared.event.Event.{Event}
-use Rattle.brc_runs.specs.Heap.{Heap, opening_in, AreOptions}
-use Rattle.brc_runs.specs.Steps.{enabled, after}
-use Rattle.brc_runs.specs.Runs.{IsRun, IsReached, world_after}
+use Rattle.law_world.specs.declared.edition.Edition.{Edition}
+use Rattle.law_world.specs.declared.event.Event.{Event}
+use Rattle.law_world.specs.Heap.{Heap, opening_in, AreOptions}
+use Rattle.law_world.specs.Steps.{enabled, after}
+use Rattle.law_world.specs.Runs.{IsRun, IsReached, world_after}
 
 -- what follows from two facts of a value
 pub both_ok : {T E P Q R : Type 0} (r : Result T E) → (P → Q → R) → OnOk r P → OnOk r Q → OnOk r R

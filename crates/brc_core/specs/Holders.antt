@@ -4,9 +4,9 @@ use Rattle.brc_core.specs.declared.holders.Part.{Part}
 use Rattle.brc_core.specs.declared.holders.Part.TheVariants as parts
 use Rattle.brc_model.specs.declared.holder.Holder.{Holder}
 use Rattle.brc_model.specs.declared.holder.Holder.TheVariants as holders
-use Rattle.brc_runs.specs.Lists.{names, place_at, bit_of}
-use Rattle.brc_runs.specs.Heap.{Heap, entries_at, row_at, frame_at, popped_at, queue_at}
-use Rattle.brc_runs.specs.Holding.{if_so, carries}
+use Rattle.law_world.specs.Lists.{names, place_at, bit_of}
+use Rattle.law_world.specs.Heap.{Heap, entries_at, row_at, frame_at, popped_at, queue_at}
+use Rattle.law_world.specs.Holding.{if_so, carries}
 
 -- how many places the part has
 abbrev pub count_in : Heap → Part → ℕ

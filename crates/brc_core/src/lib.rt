@@ -2,7 +2,7 @@
 //!
 //! Each `World` is reached by some run of events from an opening one: that is the invariant of its
 //! type, so counts are references in every world that a caller has. What an event is and does is
-//! `brc_runs`, `specs/Steps.antt`, and the argument is its `proofs/Reached.antt`. The steps
+//! `law_world`, `specs/Steps.antt`, and the argument is its `proofs/Reached.antt`. The steps
 //! themselves, a few writes to tables each, are `brc_state`.
 #![tactic(auto)]
 
@@ -13,8 +13,10 @@ mod totals;
 mod world;
 
 // What callers write and read.
-pub use brc_runs::{Cell, Change, Dropped, Edition, Event, Hand, LastDropped, Phase, Source, Step};
 pub use brc_state::Refusal;
+pub use law_world::{
+    Cell, Change, Dropped, Edition, Event, Hand, LastDropped, Phase, Source, Step,
+};
 pub use readers::Status;
 pub use replaying::{ReplayFault, replay, replay_in};
 pub use totals::Ledger;

@@ -2,12 +2,12 @@
 
 ghost use Rattle.std.specs.Prelude.{◌≡◌, ◌-◌, ◌==◌, nat_lt, length, slice_get};
 ghost use Rattle.brc_core.specs.Readings.{only_if, status_at, has_object, counts_locally};
-ghost use Rattle.brc_runs.specs.Lists.{bit_of, place_at, is_marked, is_blank, is_unmarked};
-ghost use Rattle.brc_runs.specs.Heap.{cell_at, entries_at, row_at, frame_at, popped_at, worklist_at, queue_at, is_registered};
+ghost use Rattle.law_world.specs.Lists.{bit_of, place_at, is_marked, is_blank, is_unmarked};
+ghost use Rattle.law_world.specs.Heap.{cell_at, entries_at, row_at, frame_at, popped_at, worklist_at, queue_at, is_registered};
 
 use crate::world::World;
-use brc_runs::{Edition, Hand, Stage, is_immortal};
 use brc_words::{Kind, Owner, State};
+use law_world::{Edition, Hand, Stage, is_immortal};
 use std::alloc::Allocator;
 
 /// How far a thread's life is.

@@ -7,12 +7,12 @@ use Rattle.std.proofs.lemmas.Bool.{cases_eq, cases_lt, eq-eqb, ne_eqb}
 use Rattle.brc_block.specs.declared.payload.Payload.{Payload}
 use Rattle.brc_block.specs.declared.payload.Payload.TheVariants as payloads
 use Rattle.brc_block.specs.Payload.{entries_of}
-use Rattle.brc_runs.specs.Lists.{is_marked, front_of, last_of}
-use Rattle.brc_runs.proofs.Changes.{read_here, read_there}
-use Rattle.brc_known.specs.Items.{put, has_found}
-use Rattle.brc_known.specs.Taken.{Blocks, listed_at, cut, off, taken_on}
-use Rattle.brc_rule.specs.Logs.{entries_in}
-use Rattle.brc_steps.specs.Taking.{AreCells}
+use Rattle.law_world.specs.Lists.{is_marked, front_of, last_of}
+use Rattle.law_world.proofs.Changes.{read_here, read_there}
+use Rattle.law_known.specs.Items.{put, has_found}
+use Rattle.law_known.specs.Taken.{Blocks, listed_at, cut, off, taken_on}
+use Rattle.law_rule.specs.Logs.{entries_in}
+use Rattle.law_steps.specs.Taking.{AreCells}
 use Rattle.brc_table.specs.Knowing.{entries_of as answered}
 use Rattle.brc_table.specs.Moving.{is_there}
 use Rattle.brc_table.specs.Shown.{contents_of, plain_key}

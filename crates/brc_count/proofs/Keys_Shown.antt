@@ -9,9 +9,9 @@ use Rattle.brc_block.specs.Payload.{kind_of, keys_of}
 use Rattle.brc_block.specs.declared.payload.Payload.{Payload}
 use Rattle.brc_block.specs.declared.payload.Payload.TheVariants as payloads
 use Rattle.brc_block.proofs.Columns.{map-remove}
-use Rattle.brc_rule.specs.declared.contents.PlainKey.{PlainKey}
-use Rattle.brc_rule.specs.declared.contents.Contents.{Contents}
-use Rattle.brc_rule.specs.Keys.{keys_in, OneKeyMore, KeyPut}
+use Rattle.law_rule.specs.declared.contents.PlainKey.{PlainKey}
+use Rattle.law_rule.specs.declared.contents.Contents.{Contents}
+use Rattle.law_rule.specs.Keys.{keys_in, OneKeyMore, KeyPut}
 use Rattle.brc_table.specs.Shown.{contents_of, plain_key}
 
 module _ {A : Type 0} where

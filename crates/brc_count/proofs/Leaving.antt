@@ -5,15 +5,15 @@ use Rattle.std.proofs.lemmas.List.{get_or_past}
 use Rattle.std.proofs.lemmas.List.Sums.{sum_by-cons, get_or-le-sum_by}
 use Rattle.slab.specs.Slab.{Slab, slab_len}
 use Rattle.brc_block.specs.declared.payload.Payload.{Payload}
-use Rattle.brc_runs.specs.declared.event.Step.TheVariants.{Close}
-use Rattle.brc_runs.specs.declared.row.Stage.{Stage}
-use Rattle.brc_runs.specs.declared.row.Stage.TheVariants as stages
-use Rattle.brc_runs.specs.Heap.{words_for}
-use Rattle.brc_runs.specs.Lists.{place_at, is_marked, is_bare, is_unmarked, is_blank, filled_places, marked_cells}
-use Rattle.brc_runs.specs.Steps.{stage_ok, closes_next, closed_more, is_left, is_active, may_begin_closing}
-use Rattle.brc_known.specs.Taken.{listed_at}
-use Rattle.brc_rule.specs.Seen.{part_seen}
-use Rattle.brc_steps.specs.Owing.{Allowed}
+use Rattle.law_world.specs.declared.event.Step.TheVariants.{Close}
+use Rattle.law_world.specs.declared.row.Stage.{Stage}
+use Rattle.law_world.specs.declared.row.Stage.TheVariants as stages
+use Rattle.law_world.specs.Heap.{words_for}
+use Rattle.law_world.specs.Lists.{place_at, is_marked, is_bare, is_unmarked, is_blank, filled_places, marked_cells}
+use Rattle.law_world.specs.Steps.{stage_ok, closes_next, closed_more, is_left, is_active, may_begin_closing}
+use Rattle.law_known.specs.Taken.{listed_at}
+use Rattle.law_rule.specs.Seen.{part_seen}
+use Rattle.law_steps.specs.Owing.{Allowed}
 use Rattle.brc_table.specs.Seated.{TableSeen, SeatSeen}
 use Rattle.brc_count.specs.declared.held.Held.{Held}
 use Rattle.brc_count.specs.declared.ledger.Ledger.{Ledger}

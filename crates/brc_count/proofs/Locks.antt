@@ -8,30 +8,30 @@ use Rattle.atomic_table.specs.Table.{rest}
 use Rattle.brc_words.specs.Kinds.{is_container}
 use Rattle.brc_words.specs.declared.limits.TheConstants.{MOST_PLACES}
 use Rattle.brc_block.specs.declared.payload.Payload.{Payload}
-use Rattle.brc_runs.specs.declared.event.Change.{Change}
-use Rattle.brc_runs.specs.declared.event.Change.TheVariants as changes
-use Rattle.brc_runs.specs.declared.event.Dropped.TheVariants as drops
-use Rattle.brc_runs.specs.declared.event.Step.TheVariants.{Lock, Unlock}
-use Rattle.brc_runs.specs.declared.row.Hand.TheVariants as hands
-use Rattle.brc_runs.specs.declared.row.Stage.{Stage}
-use Rattle.brc_runs.specs.declared.row.Stage.TheVariants as stages
-use Rattle.brc_runs.specs.Lists.{names, number_in, place_at, filled, vacated}
-use Rattle.brc_runs.specs.Steps.{is_active, is_keep, stage_ok, locked_cell, change_ok, frame_changed, entries_changed}
-use Rattle.brc_runs.proofs.Framing.{place_at-filled_here, place_at-filled_else, place_at-vacated_else}
-use Rattle.brc_known.specs.Items.{Part, put}
-use Rattle.brc_known.specs.Going_On.{locking, unlocking}
-use Rattle.brc_known.specs.Taken.{Blocks, listed_at}
-use Rattle.brc_rule.specs.declared.contents.Contents.{Contents}
-use Rattle.brc_rule.specs.declared.contents.Contents.TheVariants as contents
-use Rattle.brc_rule.specs.Keys.{keys_in, KeysGo}
-use Rattle.brc_rule.specs.Logs.{entries_in, kind_in}
-use Rattle.brc_rule.specs.Seen.{part_seen, taken_seen, contents_locked}
-use Rattle.brc_steps.specs.Owing.{Carries, Unlocks}
+use Rattle.law_world.specs.declared.event.Change.{Change}
+use Rattle.law_world.specs.declared.event.Change.TheVariants as changes
+use Rattle.law_world.specs.declared.event.Dropped.TheVariants as drops
+use Rattle.law_world.specs.declared.event.Step.TheVariants.{Lock, Unlock}
+use Rattle.law_world.specs.declared.row.Hand.TheVariants as hands
+use Rattle.law_world.specs.declared.row.Stage.{Stage}
+use Rattle.law_world.specs.declared.row.Stage.TheVariants as stages
+use Rattle.law_world.specs.Lists.{names, number_in, place_at, filled, vacated}
+use Rattle.law_world.specs.Steps.{is_active, is_keep, stage_ok, locked_cell, change_ok, frame_changed, entries_changed}
+use Rattle.law_world.proofs.Framing.{place_at-filled_here, place_at-filled_else, place_at-vacated_else}
+use Rattle.law_known.specs.Items.{Part, put}
+use Rattle.law_known.specs.Going_On.{locking, unlocking}
+use Rattle.law_known.specs.Taken.{Blocks, listed_at}
+use Rattle.law_rule.specs.declared.contents.Contents.{Contents}
+use Rattle.law_rule.specs.declared.contents.Contents.TheVariants as contents
+use Rattle.law_rule.specs.Keys.{keys_in, KeysGo}
+use Rattle.law_rule.specs.Logs.{entries_in, kind_in}
+use Rattle.law_rule.specs.Seen.{part_seen, taken_seen, contents_locked}
+use Rattle.law_steps.specs.Owing.{Carries, Unlocks}
 use Rattle.brc_table.specs.Knowing.{known_seen, Keeps}
 use Rattle.brc_table.specs.Moving.{found_or, found_locked}
 use Rattle.brc_table.specs.Seated.{TableSeen, SeatSeen}
 use Rattle.brc_table.specs.Shown.{shows, contents_of}
-use Rattle.brc_counter.specs.Up.{IsKnown}
+use Rattle.brc_biased.specs.Up.{IsKnown}
 use Rattle.brc_count.specs.declared.held.Held.{Held}
 use Rattle.brc_count.specs.declared.ledger.Ledger.{Ledger}
 use Rattle.brc_count.specs.Frames.{place_seen, locked_place, lock_seen, cell_held, slots_out, Buried, Holding, FrameSeen, IsActive}

@@ -1,18 +1,18 @@
 -- By a release, by the turns of the work on dead blocks and by a poll a thread only lets go.
 use Rattle.std.proofs.Common.{◌≡◌, ℕ, ◌+◌, ◌*◌, ◌/◌, true, min, List, ◌∷◌, Option, Some, None, is_some, refl, sym, ◌∙◌, ap, subst}
 use Rattle.std.proofs.lemmas.Bool.{true≢false}
-use Rattle.brc_runs.specs.declared.event.Dropped.TheVariants as drops
-use Rattle.brc_runs.specs.declared.event.Step.TheVariants.{Free, Drain, Wake}
-use Rattle.brc_runs.specs.Heap.{words_for}
-use Rattle.brc_rule.specs.declared.told.Moved.TheVariants.{Nothing}
-use Rattle.brc_rule.specs.declared.told.Told.{Told}
-use Rattle.brc_rule.specs.declared.told.Told.TheVariants.{Did}
+use Rattle.law_world.specs.declared.event.Dropped.TheVariants as drops
+use Rattle.law_world.specs.declared.event.Step.TheVariants.{Free, Drain, Wake}
+use Rattle.law_world.specs.Heap.{words_for}
+use Rattle.law_rule.specs.declared.told.Moved.TheVariants.{Nothing}
+use Rattle.law_rule.specs.declared.told.Told.{Told}
+use Rattle.law_rule.specs.declared.told.Told.TheVariants.{Did}
 use Rattle.law_living.specs.Quiet.{is_quiet, Quietly, NoItem, OneMore}
 use Rattle.law_living.specs.Living.{OwnLog}
 use Rattle.law_living.proofs.Earlier.{own_before}
 use Rattle.law_living.proofs.Quiet_Items.{quietly_joined}
 use Rattle.brc_table.specs.Seated.{TableSeen}
-use Rattle.brc_counter.proofs.Quiet.{released_quietly, settled_quietly}
+use Rattle.brc_biased.proofs.Quiet.{released_quietly, settled_quietly}
 use Rattle.brc_count.specs.Frames.{FrameSeen, HandleSeen, Owns, place_seen, ReleasedOf, Turned, EntryReleased, BlockFreed, Turns}
 use Rattle.brc_count.specs.Frames as frames
 use Rattle.brc_count.specs.Polling.{Deals, DealsBits, NoBit, NotSet, Dealt, Drains, DrainsEach, NoWord, DrainsNamed, NoName, NotNamed, Named, Polled}

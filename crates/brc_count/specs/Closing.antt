@@ -1,13 +1,13 @@
 -- How a thread leaves: it closes all its queue words, deals with what was in them, and takes its dead blocks apart.
 use Rattle.std.specs.Prelude.{◌≡◌, ℕ, ◌+◌, ◌-◌, ◌==◌, if◌then◌else◌, true, List, ◌∷◌}
-use Rattle.brc_runs.specs.declared.event.Step.TheVariants.{Close}
-use Rattle.brc_runs.specs.declared.row.Stage.{Stage}
-use Rattle.brc_runs.specs.declared.row.Stage.TheVariants as stages
-use Rattle.brc_runs.specs.Lists.{bit_of, is_blank}
-use Rattle.brc_runs.specs.Steps.{closed_more}
-use Rattle.brc_rule.specs.declared.told.Moved.TheVariants.{Nothing}
-use Rattle.brc_rule.specs.declared.told.Told.{Told}
-use Rattle.brc_rule.specs.declared.told.Told.TheVariants.{Did}
+use Rattle.law_world.specs.declared.event.Step.TheVariants.{Close}
+use Rattle.law_world.specs.declared.row.Stage.{Stage}
+use Rattle.law_world.specs.declared.row.Stage.TheVariants as stages
+use Rattle.law_world.specs.Lists.{bit_of, is_blank}
+use Rattle.law_world.specs.Steps.{closed_more}
+use Rattle.law_rule.specs.declared.told.Moved.TheVariants.{Nothing}
+use Rattle.law_rule.specs.declared.told.Told.{Told}
+use Rattle.law_rule.specs.declared.told.Told.TheVariants.{Did}
 use Rattle.brc_count.specs.Frames.{FrameSeen, Turned, popped_seen}
 use Rattle.brc_count.specs.Polling.{Deals}
 

@@ -7,29 +7,29 @@ use Rattle.brc_words.specs.declared.fault.Fault.TheVariants.{OutOfMemory, FrameF
 use Rattle.brc_block.specs.declared.payload.Payload.{Payload}
 use Rattle.brc_block.specs.Payload.{entries_of}
 use Rattle.brc_block.specs.Blocks.{PopsEntry}
-use Rattle.brc_runs.specs.declared.event.Dropped.TheVariants as drops
-use Rattle.brc_runs.specs.declared.event.Source.{Source}
-use Rattle.brc_runs.specs.declared.event.Step.TheVariants.{LocalUp, Free}
-use Rattle.brc_runs.specs.declared.row.Hand.TheVariants as hands
+use Rattle.law_world.specs.declared.event.Dropped.TheVariants as drops
+use Rattle.law_world.specs.declared.event.Source.{Source}
+use Rattle.law_world.specs.declared.event.Step.TheVariants.{LocalUp, Free}
+use Rattle.law_world.specs.declared.row.Hand.TheVariants as hands
 use Rattle.std.specs.Int.{bit_at}
-use Rattle.brc_runs.specs.Heap.{words_for}
-use Rattle.brc_runs.specs.Lists.{place_at, is_marked, word_at, is_blank}
-use Rattle.brc_runs.specs.Steps.{is_active, is_left, locked_cell, lock_ok}
-use Rattle.brc_known.specs.Items.{meant}
-use Rattle.brc_known.specs.Taken.{Blocks, listed_at}
-use Rattle.brc_rule.specs.declared.told.Moved.TheVariants.{Nothing}
-use Rattle.brc_rule.specs.declared.told.Told.{Told}
-use Rattle.brc_rule.specs.declared.told.Told.TheVariants.{Did}
-use Rattle.brc_rule.specs.Logs.{entries_in}
-use Rattle.brc_rule.specs.Seen.{part_seen, counts_seen, risen_seen, taken_seen}
-use Rattle.brc_steps.specs.Taking.{AreCells}
+use Rattle.law_world.specs.Heap.{words_for}
+use Rattle.law_world.specs.Lists.{place_at, is_marked, word_at, is_blank}
+use Rattle.law_world.specs.Steps.{is_active, is_left, locked_cell, lock_ok}
+use Rattle.law_known.specs.Items.{meant}
+use Rattle.law_known.specs.Taken.{Blocks, listed_at}
+use Rattle.law_rule.specs.declared.told.Moved.TheVariants.{Nothing}
+use Rattle.law_rule.specs.declared.told.Told.{Told}
+use Rattle.law_rule.specs.declared.told.Told.TheVariants.{Did}
+use Rattle.law_rule.specs.Logs.{entries_in}
+use Rattle.law_rule.specs.Seen.{part_seen, counts_seen, risen_seen, taken_seen}
+use Rattle.law_steps.specs.Taking.{AreCells}
 use Rattle.brc_table.specs.Seated.{TableSeen, SeatSeen, Stays}
 use Rattle.brc_table.specs.Moving.{found_locked}
 use Rattle.brc_table.specs.Shown.{contents_of}
-use Rattle.brc_counter.specs.Counter.{CounterSeen}
-use Rattle.brc_counter.specs.Standing.{may_give_up}
-use Rattle.brc_counter.specs.Released.{Released}
-use Rattle.brc_counter.specs.Up.{CountsHere, RaisedImmortal, RaisedShared}
+use Rattle.brc_biased.specs.Counter.{CounterSeen}
+use Rattle.brc_biased.specs.Standing.{may_give_up}
+use Rattle.brc_biased.specs.Released.{Released}
+use Rattle.brc_biased.specs.Up.{CountsHere, RaisedImmortal, RaisedShared}
 use Rattle.brc_count.specs.declared.held.Held.{Held}
 use Rattle.brc_count.specs.declared.ledger.Ledger.{Ledger}
 
@@ -253,7 +253,7 @@ Refused old FrameFull = MOST_PLACES ≤ old.next
 Refused old OutOfMemory = old.next < MOST_PLACES
 Refused old _ = ⊥
 
--- The events of a release are one of the lists of `brc_counter`, by which the object may end: then its block is on the front
+-- The events of a release are one of the lists of `brc_biased`, by which the object may end: then its block is on the front
 -- of the worklist. The place is vacant, and every other place has what it had.
 pub record ReleasedOf {A : Type 0} (old new : FrameSeen A) (k c : ℕ) : Type 0 where
   pub seen : Bool

@@ -2,11 +2,11 @@
 use Rattle.std.specs.Prelude.{◌≡◌, ℕ, min, ◌+◌, ◌*◌, ◌/◌, ◌∷◌, Option}
 use Rattle.std.specs.Int.{bit_at}
 use Rattle.brc_block.specs.declared.payload.Payload.{Payload}
-use Rattle.brc_runs.specs.declared.event.Step.TheVariants.{Drain, Wake}
-use Rattle.brc_runs.specs.Heap.{words_for}
-use Rattle.brc_rule.specs.declared.told.Moved.TheVariants.{Nothing}
-use Rattle.brc_rule.specs.declared.told.Told.TheVariants.{Did}
-use Rattle.brc_counter.specs.Released.{Settled}
+use Rattle.law_world.specs.declared.event.Step.TheVariants.{Drain, Wake}
+use Rattle.law_world.specs.Heap.{words_for}
+use Rattle.law_rule.specs.declared.told.Moved.TheVariants.{Nothing}
+use Rattle.law_rule.specs.declared.told.Told.TheVariants.{Did}
+use Rattle.brc_biased.specs.Released.{Settled}
 use Rattle.brc_count.specs.Frames.{FrameSeen, pushed}
 
 module _ {A : Type 0} where

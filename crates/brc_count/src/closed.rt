@@ -1,17 +1,17 @@
 //! A closed frame: what a thread that has left still has to deal with.
 
 ghost use Rattle.std.specs.Prelude.{◌≡◌, ◌-◌, ◌<◌, ◌≤◌, ℕ, [], ◌⊎◌, length, IsTrue, IsFalse, IfOk, IfErr, OnErr, true, false};
-ghost use Rattle.brc_runs.specs.Lists.{word_at, is_blank, is_unmarked};
-ghost use Rattle.brc_runs.specs.Steps.{is_left, is_free_hand};
-ghost use Rattle.brc_rule.specs.Seen.{part_seen};
+ghost use Rattle.law_world.specs.Lists.{word_at, is_blank, is_unmarked};
+ghost use Rattle.law_world.specs.Steps.{is_left, is_free_hand};
+ghost use Rattle.law_rule.specs.Seen.{part_seen};
 ghost use Rattle.brc_count.specs.Frames.{KeepsHandles, ledger_seen, popped_seen};
-ghost use Rattle.brc_steps.specs.Joining.{Leaves};
+ghost use Rattle.law_steps.specs.Joining.{Leaves};
 ghost use Rattle.brc_table.specs.Seated.{view_of};
 ghost use Rattle.brc_count.specs.Closing.{TurnedLeaving, TurnsLeaving};
 
 use crate::holdings::Holdings;
 use crate::ledger::Ledger;
-use brc_counter::Home;
+use brc_biased::Home;
 use brc_table::ThreadSeat;
 use std::alloc::Allocator;
 use std::marker::Model;

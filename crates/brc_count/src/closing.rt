@@ -1,19 +1,19 @@
 //! Leaving: a thread that holds nothing closes its queue words.
 
 ghost use Rattle.std.specs.Prelude.{◌≡◌, ◌+◌, ◌<◌, ℕ, [], List, true};
-ghost use Rattle.brc_runs.specs.Heap.{words_for};
-ghost use Rattle.brc_runs.specs.Lists.{is_blank};
-ghost use Rattle.brc_rule.specs.declared.told.Told.{Told};
-ghost use Rattle.brc_rule.specs.Seen.{part_seen};
-ghost use Rattle.brc_runs.specs.Steps.{is_left};
-ghost use Rattle.brc_steps.specs.Joining.{Leaves};
+ghost use Rattle.law_world.specs.Heap.{words_for};
+ghost use Rattle.law_world.specs.Lists.{is_blank};
+ghost use Rattle.law_rule.specs.declared.told.Told.{Told};
+ghost use Rattle.law_rule.specs.Seen.{part_seen};
+ghost use Rattle.law_world.specs.Steps.{is_left};
+ghost use Rattle.law_steps.specs.Joining.{Leaves};
 ghost use Rattle.brc_table.specs.Seated.{view_of};
 ghost use Rattle.brc_count.specs.Frames.{IsUnlocked, IsActive, popped_seen};
 ghost use Rattle.brc_count.specs.Closing.{Closes, stage_with};
 
 use crate::holdings::Holdings;
 use crate::polling::join;
-use brc_counter::Home;
+use brc_biased::Home;
 use brc_table::ThreadSeat;
 use std::alloc::Allocator;
 

@@ -2,23 +2,23 @@
 
 ghost use Rattle.std.specs.Prelude.{◌≡◌, ◌≢◌, ◌+◌, ◌-◌, ◌<◌, ◌≤◌, ℕ, [], replicate, IfOk, IfErr, OnOk, IfSome, Some, None, true, false, IsTrue, IsFalse, ◌⊎◌, length};
 ghost use Rattle.brc_words.specs.declared.limits.TheConstants.{MOST_PLACES};
-ghost use Rattle.brc_runs.specs.declared.event.Step.TheVariants as steps;
-ghost use Rattle.brc_runs.specs.Heap.{words_for};
-ghost use Rattle.brc_runs.specs.Steps.{is_active, lock_ok};
-ghost use Rattle.brc_known.specs.Items.{meant};
-ghost use Rattle.brc_counter.specs.Bounded.{IsBounded};
-ghost use Rattle.brc_counter.specs.Standing.{may_give_up};
-ghost use Rattle.brc_rule.specs.Seen.{part_seen};
+ghost use Rattle.law_world.specs.declared.event.Step.TheVariants as steps;
+ghost use Rattle.law_world.specs.Heap.{words_for};
+ghost use Rattle.law_world.specs.Steps.{is_active, lock_ok};
+ghost use Rattle.law_known.specs.Items.{meant};
+ghost use Rattle.brc_biased.specs.Bounded.{IsBounded};
+ghost use Rattle.brc_biased.specs.Standing.{may_give_up};
+ghost use Rattle.law_rule.specs.Seen.{part_seen};
 ghost use Rattle.brc_table.specs.Seated.{Continues};
 ghost use Rattle.brc_count.specs.Frames.{IsActive, MayGiveUp, SourceFits, SourceNames, place_seen, locked_place, Given, Refused, ReleasedOf, handle_at, IsAsBefore, KeepsRest, ledger_seen, popped_seen, IsUnlocked, KeepsButStart, first_word, word_asked};
 
 use crate::held::Held;
 use crate::ledger::Ledger;
 use crate::start::ClaimStart;
+use brc_biased::{Counter, Home};
 use brc_block::Worklist;
-use brc_counter::{Counter, Home};
-use brc_runs::{Dropped, Source};
 use brc_words::{Fault, MOST_PLACES};
+use law_world::{Dropped, Source};
 use slab::Slab;
 use std::alloc::Allocator;
 use std::marker::Model;

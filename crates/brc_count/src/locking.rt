@@ -7,10 +7,10 @@ ghost use Rattle.std.specs.Prelude.{◌≡◌, ◌≢◌, ◌+◌, ◌<◌, ◌+
 ghost use Rattle.slab.specs.Slab.{get, slab_len, Updates};
 ghost use Rattle.brc_words.specs.Kinds.{is_container};
 ghost use Rattle.brc_words.specs.declared.limits.TheConstants.{MOST_ENTRIES, MOST_PLACES};
-ghost use Rattle.brc_runs.specs.declared.event.Change.TheVariants as changes;
-ghost use Rattle.brc_runs.specs.declared.event.Source.TheVariants as sources;
-ghost use Rattle.brc_rule.specs.Keys.{keys_in, KeyPut};
-ghost use Rattle.brc_rule.specs.Logs.{entries_in, kind_in};
+ghost use Rattle.law_world.specs.declared.event.Change.TheVariants as changes;
+ghost use Rattle.law_world.specs.declared.event.Source.TheVariants as sources;
+ghost use Rattle.law_rule.specs.Keys.{keys_in, KeyPut};
+ghost use Rattle.law_rule.specs.Logs.{entries_in, kind_in};
 ghost use Rattle.brc_table.specs.Shown.{contents_of};
 ghost use Rattle.brc_count.specs.Frames.{Owns, handle_at, IsActive, Given, Refused, IsAsBefore, IsUnlocked, popped_seen};
 ghost use Rattle.brc_count.specs.Locking.{IsLocked, cell_in, place_locked, cell_locked, contents_found, entries_found, keys_found, KeepsThread, KeepsFrame, ChangesPlace, KeepsLock, Began, Busy, Ended};
@@ -19,10 +19,10 @@ use crate::frame::Frame;
 use crate::handle::Handle;
 use crate::held::Held;
 use crate::holdings::Holdings;
+use brc_biased::Home;
 use brc_block::Block;
-use brc_counter::Home;
-use brc_runs::{Change, Source};
 use brc_words::Fault;
+use law_world::{Change, Source};
 use slab::Slab;
 use std::alloc::Allocator;
 

@@ -3,18 +3,18 @@
 ghost use Rattle.std.specs.Prelude.{◌≡◌, ◌≢◌, min, ◌+◌, ◌*◌, ◌<◌, ℕ, Some, true, ◌∷◌, ◌/◌, length, slice_set, bit_or, IsTrue, IsFalse, ◌≤◌, IfSome, IfNone};
 ghost use Rattle.std.specs.Int.{bit_at};
 ghost use Rattle.brc_words.specs.declared.limits.TheConstants.{MOST_CELLS};
-ghost use Rattle.brc_runs.specs.declared.event.Step.TheVariants as steps;
-ghost use Rattle.brc_runs.specs.Heap.{words_for};
-ghost use Rattle.brc_runs.specs.Lists.{bit_of, word_at, without_bit, is_blank};
-ghost use Rattle.brc_known.specs.Items.{popped_told};
-ghost use Rattle.brc_rule.specs.declared.told.Moved.TheVariants as moves;
-ghost use Rattle.brc_rule.specs.declared.told.Told.TheVariants as told;
+ghost use Rattle.law_world.specs.declared.event.Step.TheVariants as steps;
+ghost use Rattle.law_world.specs.Heap.{words_for};
+ghost use Rattle.law_world.specs.Lists.{bit_of, word_at, without_bit, is_blank};
+ghost use Rattle.law_known.specs.Items.{popped_told};
+ghost use Rattle.law_rule.specs.declared.told.Moved.TheVariants as moves;
+ghost use Rattle.law_rule.specs.declared.told.Told.TheVariants as told;
 ghost use Rattle.law_living.specs.Living.{OwnLog};
 ghost use Rattle.brc_count.specs.Frames.{IsActive, MayGiveUp, IsUnlocked, KeepsHandles, popped_seen};
 ghost use Rattle.brc_count.specs.Polling.{Deals, DealsBits, Drains, DrainsEach, Polled};
 
 use crate::holdings::Holdings;
-use brc_counter::Home;
+use brc_biased::Home;
 use std::alloc::Allocator;
 
 /// These bits of a word are popped besides.

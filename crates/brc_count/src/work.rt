@@ -1,13 +1,13 @@
 //! Taking dead blocks apart, a turn at a time.
 
 ghost use Rattle.std.specs.Prelude.{◌≡◌, ◌-◌, ◌≤◌, ◌<◌, [], IsTrue, IsFalse, true};
-ghost use Rattle.brc_counter.specs.Standing.{may_give_up};
-ghost use Rattle.brc_rule.specs.Seen.{part_seen};
+ghost use Rattle.brc_biased.specs.Standing.{may_give_up};
+ghost use Rattle.law_rule.specs.Seen.{part_seen};
 ghost use Rattle.brc_count.specs.Frames.{MayGiveUp, Turned, Turns, KeepsHandles, popped_seen, IsUnlocked};
 
 use crate::holdings::Holdings;
-use brc_counter::Home;
-use brc_runs::Dropped;
+use brc_biased::Home;
+use law_world::Dropped;
 use std::alloc::Allocator;
 
 impl<H: Home<A>, A: Allocator> Holdings<H, A> {

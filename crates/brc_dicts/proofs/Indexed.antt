@@ -13,7 +13,7 @@ use Rattle.brc_block.specs.declared.payload.Payload.{Payload}
 use Rattle.brc_block.specs.declared.payload.Payload.TheVariants as payloads
 use Rattle.brc_plain.specs.Outcomes.{leaving, or_fault}
 use Rattle.brc_plain.specs.Dicts.{pair_at}
-use Rattle.brc_runs.specs.declared.event.Change.TheVariants.{Keep}
+use Rattle.law_world.specs.declared.event.Change.TheVariants.{Keep}
 use Rattle.brc_table.specs.Shown.{contents_of}
 use Rattle.brc_count.specs.Frames.{FrameSeen, Refused}
 use Rattle.brc_count.specs.Locking.{Ended}

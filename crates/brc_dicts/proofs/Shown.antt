@@ -17,7 +17,7 @@ use Rattle.brc_block.specs.declared.payload.Payload.{Payload}
 use Rattle.brc_block.specs.declared.payload.Payload.TheVariants as payloads
 use Rattle.brc_plain.specs.Dicts as dicts
 use Rattle.brc_plain.specs.Dicts.{value_at, replaced, without}
-use Rattle.brc_rule.specs.Logs.{kind_in, entries_in}
+use Rattle.law_rule.specs.Logs.{kind_in, entries_in}
 use Rattle.brc_table.specs.Shown.{contents_of, plain_key}
 use Rattle.brc_dicts.specs.Plain.{key_of, pairs_of, dict_of, leaving_dict, plain_put, plain_find, plain_del}
 use Rattle.brc_dicts.specs.Seeking.{IsThere, IsAbsent}

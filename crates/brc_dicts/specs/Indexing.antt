@@ -4,8 +4,8 @@ use Rattle.brc_words.specs.declared.fault.Fault.{Fault}
 use Rattle.brc_words.specs.declared.fault.Fault.TheVariants as faults
 use Rattle.brc_words.specs.declared.key.Key.{Key}
 use Rattle.brc_words.specs.declared.kind.Kind.TheVariants as kinds
-use Rattle.brc_runs.specs.declared.event.Change.TheVariants.{Keep}
-use Rattle.brc_rule.specs.declared.contents.Contents.{Contents}
+use Rattle.law_world.specs.declared.event.Change.TheVariants.{Keep}
+use Rattle.law_rule.specs.declared.contents.Contents.{Contents}
 use Rattle.brc_block.specs.Row.{Row}
 use Rattle.brc_block.specs.Payload.{kind_of}
 use Rattle.brc_block.specs.declared.payload.Payload.{Payload}

@@ -14,9 +14,9 @@ ghost use Rattle.brc_dicts.specs.Indexing.{IsAt, NoPair, Reads, SharesPair, Miss
 ghost use Rattle.brc_dicts.specs.Plain.{plain_key_at, plain_value_at};
 ghost use Rattle.brc_dicts.specs.Since.{Since};
 
+use brc_biased::Home;
 use brc_block::{Block, Payload};
 use brc_count::{Frame, Handle};
-use brc_counter::Home;
 use brc_lock::begin_late;
 use brc_words::{Fault, Key, Text};
 use std::alloc::Allocator;

@@ -16,9 +16,9 @@ ghost use Rattle.brc_dicts.specs.Seeking.{IsThere, IsAbsent};
 ghost use Rattle.brc_dicts.specs.Since.{Since};
 
 use crate::seeking::{Sought, seek};
+use brc_biased::Home;
 use brc_block::{Block, Payload};
 use brc_count::{Frame, Handed, Handle};
-use brc_counter::Home;
 use brc_lock::begin_late;
 use brc_words::{Fault, Key, MOST_ENTRIES};
 use std::alloc::Allocator;

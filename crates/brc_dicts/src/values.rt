@@ -13,9 +13,9 @@ ghost use Rattle.brc_dicts.specs.Plain.{plain_find, plain_del};
 ghost use Rattle.brc_dicts.specs.Since.{Since};
 
 use crate::seeking::{Sought, seek};
+use brc_biased::Home;
 use brc_block::Block;
 use brc_count::{Frame, Handle};
-use brc_counter::Home;
 use brc_lock::begin_late;
 use brc_words::{Fault, Key};
 use std::alloc::Allocator;

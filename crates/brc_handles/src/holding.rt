@@ -8,8 +8,8 @@ ghost use Rattle.brc_count.specs.Owned.{Keeps, Loses};
 ghost use Rattle.brc_handles.specs.Handles.{slot, filled, IsApart, OwnsEach, ComesIn, Retains};
 
 use crate::handles::Handles;
+use brc_biased::Home;
 use brc_count::{Frame, Handle};
-use brc_counter::Home;
 use brc_words::Fault;
 use std::alloc::Allocator;
 

@@ -4,8 +4,8 @@ use Rattle.std.specs.Prelude.{IfSome}
 use Rattle.brc_words.specs.declared.fault.Fault.{Fault}
 use Rattle.brc_words.specs.declared.fault.Fault.TheVariants as faults
 use Rattle.brc_script.specs.declared.instruction.Instruction.TheVariants as does
-use Rattle.brc_rule.specs.declared.contents.Contents.{Contents}
-use Rattle.brc_rule.specs.declared.contents.Contents.TheVariants as contents
+use Rattle.law_rule.specs.declared.contents.Contents.{Contents}
+use Rattle.law_rule.specs.declared.contents.Contents.TheVariants as contents
 use Rattle.brc_count.specs.declared.handed.Handed.{Handed}
 use Rattle.brc_count.specs.Frames.{FrameSeen, HandleSeen, Owns, IsAsBefore, ReleasedOf, place_seen}
 use Rattle.brc_count.specs.Locking.{Busy, cell_in}

@@ -5,7 +5,7 @@ use Rattle.brc_words.specs.declared.fault.Fault.{Fault}
 use Rattle.brc_words.specs.declared.fault.Fault.TheVariants as faults
 use Rattle.brc_words.specs.declared.key.Key.{Key}
 use Rattle.brc_words.specs.declared.kind.Kind.{Kind}
-use Rattle.brc_rule.specs.declared.contents.Contents.{Contents}
+use Rattle.law_rule.specs.declared.contents.Contents.{Contents}
 use Rattle.brc_count.specs.declared.handed.Handed.{Handed}
 use Rattle.brc_count.specs.Frames.{FrameSeen, HandleSeen, Owns}
 use Rattle.brc_count.specs.Locking.{Busy, cell_in}

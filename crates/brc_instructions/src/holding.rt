@@ -14,8 +14,8 @@ ghost use Rattle.law_isolation.specs.Means.{Means, MeansBesides};
 ghost use Rattle.brc_instructions.specs.Registers.{Stands, Besides};
 
 use crate::registers::Registers;
+use brc_biased::Home;
 use brc_count::{Frame, Handle};
-use brc_counter::Home;
 use brc_script::Register;
 use brc_words::Fault;
 use std::alloc::Allocator;

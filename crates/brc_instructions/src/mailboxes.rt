@@ -15,8 +15,8 @@ ghost use Rattle.brc_instructions.specs.Registers.{Stands, Besides};
 
 use crate::holding::hold;
 use crate::registers::Registers;
+use brc_biased::Home;
 use brc_count::{Frame, Handed, Handle};
-use brc_counter::Home;
 use brc_heap::{recv, send};
 use brc_script::Register;
 use brc_words::Fault;

@@ -9,8 +9,8 @@ ghost use Rattle.brc_instructions.specs.Registers.{Stands};
 
 use crate::holding::hold;
 use crate::registers::Registers;
+use brc_biased::Home;
 use brc_count::Frame;
-use brc_counter::Home;
 use brc_heap::{new_dict, new_int, new_list, new_mailbox, new_text};
 use brc_script::Register;
 use brc_words::{Fault, Text};

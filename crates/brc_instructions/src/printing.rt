@@ -15,8 +15,8 @@ ghost use Rattle.brc_instructions.specs.Registers.{Stands};
 
 use crate::registers::Registers;
 use crate::shown::Shown;
+use brc_biased::Home;
 use brc_count::{Frame, Handle};
-use brc_counter::Home;
 use brc_heap::{int_of, kind_of, len_of, text_of};
 use brc_script::Register;
 use brc_words::{Fault, Kind};

@@ -13,8 +13,8 @@ ghost use Rattle.brc_instructions.specs.Registers.{Stands};
 
 use crate::making::int;
 use crate::registers::Registers;
+use brc_biased::Home;
 use brc_count::Frame;
-use brc_counter::Home;
 use brc_heap::{int_of, len_of};
 use brc_script::Register;
 use brc_words::Fault;

@@ -7,8 +7,8 @@ ghost use Rattle.brc_count.specs.Frames.{IsUnlocked};
 ghost use Rattle.law_living.specs.Quiet.{Quietly};
 ghost use Rattle.brc_handles.specs.Handles.{slot, filled, IsApart, IsBare, OwnsEach, ComesIn, ComesOut, Exchanges};
 
+use brc_biased::Home;
 use brc_count::{Frame, Handle};
-use brc_counter::Home;
 use brc_handles::Handles;
 use brc_script::{REGISTERS, Register};
 use brc_words::Fault;

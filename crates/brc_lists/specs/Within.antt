@@ -3,10 +3,10 @@ use Rattle.std.specs.Prelude.{◌≡◌, ◌+◌, ℕ, Some, None, Result, Ok, E
 use Rattle.brc_words.specs.declared.fault.Fault.{Fault}
 use Rattle.brc_words.specs.declared.fault.Fault.TheVariants as faults
 use Rattle.brc_block.specs.declared.payload.Payload.{Payload}
-use Rattle.brc_runs.specs.declared.event.Change.{Change}
-use Rattle.brc_runs.specs.declared.event.Change.TheVariants.{Keep, Put, Take, Swap}
-use Rattle.brc_runs.specs.declared.event.Source.TheVariants as sources
-use Rattle.brc_rule.specs.declared.contents.Contents.{Contents}
+use Rattle.law_world.specs.declared.event.Change.{Change}
+use Rattle.law_world.specs.declared.event.Change.TheVariants.{Keep, Put, Take, Swap}
+use Rattle.law_world.specs.declared.event.Source.TheVariants as sources
+use Rattle.law_rule.specs.declared.contents.Contents.{Contents}
 use Rattle.brc_table.specs.Shown.{contents_of}
 use Rattle.brc_count.specs.Frames.{FrameSeen, HandleSeen, Given, Refused}
 use Rattle.brc_count.specs.Locking.{IsLocked, KeepsFrame, ChangesPlace, Ended, cell_in, cell_locked, contents_found, entries_found}

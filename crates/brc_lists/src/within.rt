@@ -7,7 +7,7 @@ ghost use Rattle.brc_words.specs.declared.fault.Fault.TheVariants as faults;
 ghost use Rattle.brc_words.specs.declared.kind.Kind.TheVariants as kinds;
 ghost use Rattle.brc_words.specs.declared.limits.TheConstants.{MOST_PLACES};
 ghost use Rattle.brc_block.specs.Payload.{kind_of, entries_of};
-ghost use Rattle.brc_runs.specs.declared.event.Change.TheVariants as changes;
+ghost use Rattle.law_world.specs.declared.event.Change.TheVariants as changes;
 ghost use Rattle.brc_table.specs.Shown.{contents_of};
 ghost use Rattle.brc_count.specs.Frames.{IsUnlocked, IsAsBefore, Owns};
 ghost use Rattle.brc_count.specs.Locking.{KeepsThread, KeepsFrame, contents_found, place_locked};
@@ -18,9 +18,9 @@ ghost use Rattle.brc_lists.specs.Rows.{is_row, plain_put, plain_at, plain_take};
 ghost use Rattle.brc_lists.specs.Within.{HasLocked, EndsWith, PutsIn, SwapsIn, TakesOut, SharesOut, RefusesPlainly, RefusesEntry, RefusesPlace};
 
 use crate::rows::{entry_in, make_room};
+use brc_biased::Home;
 use brc_block::Block;
 use brc_count::{Frame, Handed, Handle};
-use brc_counter::Home;
 use brc_words::{Fault, Kind};
 use std::alloc::Allocator;
 

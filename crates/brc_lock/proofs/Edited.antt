@@ -7,11 +7,11 @@ use Rattle.brc_block.specs.Payload.{entries_of}
 use Rattle.brc_block.proofs.Columns.{map-remove}
 use Rattle.brc_block.specs.declared.payload.Payload.{Payload}
 use Rattle.brc_block.specs.declared.payload.Payload.TheVariants as payloads
-use Rattle.brc_rule.specs.declared.contents.PlainKey.{PlainKey}
-use Rattle.brc_rule.specs.declared.contents.Contents.{Contents}
-use Rattle.brc_rule.specs.declared.contents.Contents.TheVariants.{Nothing, Truth, Int, Text, «List» as Cells, Dict, Mailbox}
-use Rattle.brc_rule.specs.Keys.{keys_in, KeyPut}
-use Rattle.brc_rule.specs.Logs.{entries_in}
+use Rattle.law_rule.specs.declared.contents.PlainKey.{PlainKey}
+use Rattle.law_rule.specs.declared.contents.Contents.{Contents}
+use Rattle.law_rule.specs.declared.contents.Contents.TheVariants.{Nothing, Truth, Int, Text, «List» as Cells, Dict, Mailbox}
+use Rattle.law_rule.specs.Keys.{keys_in, KeyPut}
+use Rattle.law_rule.specs.Logs.{entries_in}
 use Rattle.brc_table.specs.Shown.{contents_of, plain_key}
 use Rattle.brc_lock.specs.Edits.{with_value, with_last, without, replaced, KeyFits}
 

@@ -5,12 +5,12 @@ use Rattle.brc_words.specs.declared.fault.Fault.{Fault}
 use Rattle.brc_words.specs.declared.fault.Fault.TheVariants as faults
 use Rattle.brc_block.specs.declared.payload.Payload.{Payload}
 use Rattle.brc_block.specs.Payload.{spare_of}
-use Rattle.brc_runs.specs.declared.event.Change.{Change}
-use Rattle.brc_runs.specs.declared.event.Step.TheVariants.{Unlock}
-use Rattle.brc_rule.specs.declared.contents.Contents.{Contents}
-use Rattle.brc_rule.specs.declared.told.Moved.TheVariants as moves
-use Rattle.brc_rule.specs.declared.told.Told.TheVariants.{Did}
-use Rattle.brc_rule.specs.Logs.{entries_in}
+use Rattle.law_world.specs.declared.event.Change.{Change}
+use Rattle.law_world.specs.declared.event.Step.TheVariants.{Unlock}
+use Rattle.law_rule.specs.declared.contents.Contents.{Contents}
+use Rattle.law_rule.specs.declared.told.Moved.TheVariants as moves
+use Rattle.law_rule.specs.declared.told.Told.TheVariants.{Did}
+use Rattle.law_rule.specs.Logs.{entries_in}
 use Rattle.brc_table.specs.Shown.{contents_of}
 use Rattle.brc_count.specs.Frames.{FrameSeen, HandleSeen, IsUnlocked}
 use Rattle.brc_count.specs.Locking.{IsLocked, place_locked, cell_locked, contents_found, KeepsThread}

@@ -2,7 +2,7 @@
 
 ghost use Rattle.std.specs.Prelude.{◌≡◌, ◌<◌, ◌≤◌, Some, true, length, slice_get, OnOk, OnErr};
 ghost use Rattle.brc_words.specs.Kinds.{is_container};
-ghost use Rattle.brc_rule.specs.Logs.{kind_in, entries_in};
+ghost use Rattle.law_rule.specs.Logs.{kind_in, entries_in};
 ghost use Rattle.brc_block.specs.Payload.{spare_of};
 ghost use Rattle.brc_table.specs.Shown.{contents_of};
 ghost use Rattle.brc_lock.specs.Edits.{with_last, without, replaced, KeyFits};

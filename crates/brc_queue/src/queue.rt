@@ -2,15 +2,15 @@
 //! and a popped object's local count joins its shared one.
 
 ghost use Rattle.std.specs.Prelude.{◌+◌, ◌*◌, ◌%◌, ◌^◌, ◌≡◌, ◌<◌, ◌∷◌, Some};
-ghost use Rattle.brc_runs.specs.Heap.{words_for};
-ghost use Rattle.brc_runs.specs.declared.event.Step.TheVariants as steps;
-ghost use Rattle.brc_rule.specs.declared.told.Moved.TheVariants as moves;
-ghost use Rattle.brc_rule.specs.declared.told.Told.TheVariants as told;
-ghost use Rattle.brc_runs.specs.Steps.{added_hand};
-ghost use Rattle.brc_rule.specs.Noted.{newest_step};
-ghost use Rattle.brc_rule.specs.Seen.{part_seen};
-ghost use Rattle.brc_steps.specs.Owing.{AddsLocal, Allowed, Enqueues, Tells};
-ghost use Rattle.brc_known.specs.Going_On.{handing, popping, closing};
+ghost use Rattle.law_world.specs.Heap.{words_for};
+ghost use Rattle.law_world.specs.declared.event.Step.TheVariants as steps;
+ghost use Rattle.law_rule.specs.declared.told.Moved.TheVariants as moves;
+ghost use Rattle.law_rule.specs.declared.told.Told.TheVariants as told;
+ghost use Rattle.law_world.specs.Steps.{added_hand};
+ghost use Rattle.law_rule.specs.Noted.{newest_step};
+ghost use Rattle.law_rule.specs.Seen.{part_seen};
+ghost use Rattle.law_steps.specs.Owing.{AddsLocal, Allowed, Enqueues, Tells};
+ghost use Rattle.law_known.specs.Going_On.{handing, popping, closing};
 ghost use Rattle.brc_table.specs.Knowing.{known_seen, Knows, Keeps};
 ghost use Rattle.brc_table.specs.Seated.{Stays};
 ghost use Rattle.brc_queue.specs.Queue.{PutIn, hand_left};

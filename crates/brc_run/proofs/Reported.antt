@@ -5,7 +5,7 @@ use Rattle.brc_script.specs.declared.script.Section.{Section}
 use Rattle.brc_section.specs.declared.section.SectionEnd.{SectionEnd}
 use Rattle.brc_table.specs.Seated.{TableSeen}
 use Rattle.brc_run.specs.declared.crew.Done.{Done}
-use Rattle.brc_rule.specs.declared.view.View.{View}
+use Rattle.law_rule.specs.declared.view.View.{View}
 use Rattle.brc_report.specs.declared.report.Report.{Report}
 use Rattle.brc_thread.specs.Counting.{registrations, gatherings}
 use Rattle.brc_close.specs.Closing.{Closes}

@@ -5,14 +5,14 @@ use Rattle.std.proofs.lemmas.List.Sums.{sum_by-cons}
 use Rattle.brc_words.specs.declared.fault.Fault.{Fault}
 use Rattle.brc_words.specs.declared.fault.Fault.TheVariants as faults
 use Rattle.brc_words.specs.declared.limits.TheConstants.{MOST_THREADS}
-use Rattle.brc_known.specs.Root.{rows_of}
-use Rattle.brc_runs.specs.declared.event.Step.TheVariants.{Register, Gather}
-use Rattle.brc_rule.specs.declared.told.Told.{Told}
-use Rattle.brc_rule.specs.declared.told.Told.TheVariants.{Did, Saw, Lost}
-use Rattle.brc_rule.specs.declared.told.Moved.TheVariants as moves
-use Rattle.brc_rule.specs.declared.view.View.{View}
-use Rattle.brc_rule.specs.Logs.{log_items}
-use Rattle.brc_steps.specs.Joining.{next_thread, registering, gathering}
+use Rattle.law_known.specs.Root.{rows_of}
+use Rattle.law_world.specs.declared.event.Step.TheVariants.{Register, Gather}
+use Rattle.law_rule.specs.declared.told.Told.{Told}
+use Rattle.law_rule.specs.declared.told.Told.TheVariants.{Did, Saw, Lost}
+use Rattle.law_rule.specs.declared.told.Moved.TheVariants as moves
+use Rattle.law_rule.specs.declared.view.View.{View}
+use Rattle.law_rule.specs.Logs.{log_items}
+use Rattle.law_steps.specs.Joining.{next_thread, registering, gathering}
 use Rattle.brc_table.specs.Seated.{RootSeen}
 use Rattle.brc_thread.specs.Counting.{registers, registrations, gatherings}
 use Rattle.brc_thread.specs.Threads.{RefusesThread}

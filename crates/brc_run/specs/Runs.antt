@@ -9,7 +9,7 @@ use Rattle.brc_section.specs.Ends.{IsLineOf}
 use Rattle.brc_section.specs.Isolation.{Prints}
 use Rattle.brc_section.specs.declared.section.SectionEnd.{SectionEnd}
 use Rattle.brc_report.specs.declared.report.Report.{Report}
-use Rattle.brc_rule.specs.declared.view.View.{View}
+use Rattle.law_rule.specs.declared.view.View.{View}
 use Rattle.brc_table.specs.Seated.{TableSeen, RootSeen}
 use Rattle.brc_thread.specs.Counting.{registrations, gatherings}
 use Rattle.brc_close.specs.Closing.{Closes}

@@ -11,8 +11,8 @@ ghost use Rattle.brc_section.specs.Stepping.{is_print, StepsAs};
 
 use crate::names::key_of;
 use crate::waiting::{Awaited, Seated, await_it};
+use brc_biased::Home;
 use brc_count::Frame;
-use brc_counter::Home;
 use brc_instructions::{
     Registers, Shown, add, copy, delete, dict, drop_held, find, get, int, len, list, mailbox, pop,
     post, print, push, put, set, share, text, unshare,

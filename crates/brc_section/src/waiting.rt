@@ -10,8 +10,8 @@ ghost use Rattle.brc_section.specs.declared.waiting.Awaited.TheVariants as await
 ghost use Rattle.brc_section.specs.Waiting.{FoundNothing};
 
 use crate::board::Board;
+use brc_biased::Home;
 use brc_count::Frame;
-use brc_counter::Home;
 use brc_instructions::{Registers, fetch, receive};
 use brc_script::Register;
 use brc_words::{Fault, Key};

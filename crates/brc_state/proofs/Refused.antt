@@ -1,11 +1,11 @@
 -- An event is enabled where no condition refuses it.
 use Rattle.std.proofs.Common.{◌≡◌, ◌↔◌, ℕ, ◌==◌, ◌&&◌, not, Bool, true, false, if◌then◌else◌, Option, None, Some, is_none, is_some, refl, sym, ap, ◌∙◌}
 use Rattle.std.proofs.lemmas.Bool.{true≢false}
-use Rattle.brc_runs.specs.declared.event.Event.{Event}
-use Rattle.brc_runs.specs.declared.event.Step.{Step}
-use Rattle.brc_runs.specs.declared.event.Step.TheVariants.{Register, Gather}
-use Rattle.brc_runs.specs.Heap.{Heap, row_at}
-use Rattle.brc_runs.specs.Steps.{target_ok, thread_may, root_may, enabled}
+use Rattle.law_world.specs.declared.event.Event.{Event}
+use Rattle.law_world.specs.declared.event.Step.{Step}
+use Rattle.law_world.specs.declared.event.Step.TheVariants.{Register, Gather}
+use Rattle.law_world.specs.Heap.{Heap, row_at}
+use Rattle.law_world.specs.Steps.{target_ok, thread_may, root_may, enabled}
 use Rattle.brc_state.specs.declared.refusing.Refusal.{Refusal}
 use Rattle.brc_state.specs.Refusals.{unless, is_roots, cell_refusal, thread_refusal, root_refusal, refusal_of}
 

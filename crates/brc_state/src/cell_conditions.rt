@@ -1,11 +1,11 @@
 //! When a step is enabled: what the one cell that it means must be.
 
 ghost use Rattle.std.specs.Prelude.{◌≡◌};
-ghost use Rattle.brc_runs.specs.Steps.{is_owned_by, is_nobody, is_free, is_default, is_queued, is_merged, is_zero, is_positive, is_mine, counts_up_locally, is_others, untied_ok, ends_ok, last_ok, is_keep, cell_ok};
+ghost use Rattle.law_world.specs.Steps.{is_owned_by, is_nobody, is_free, is_default, is_queued, is_merged, is_zero, is_positive, is_mine, counts_up_locally, is_others, untied_ok, ends_ok, last_ok, is_keep, cell_ok};
 
 use crate::conditions::is_active;
-use brc_runs::{Cell, Change, Hand, LastDropped, Phase, Row, Stage, Step, is_immortal};
 use brc_words::{FIRST_MORTAL, Owner, State, is_container_kind};
+use law_world::{Cell, Change, Hand, LastDropped, Phase, Row, Stage, Step, is_immortal};
 
 /// Whether the thread owns what has this owner.
 #[inline(always)]

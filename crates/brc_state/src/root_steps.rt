@@ -1,15 +1,15 @@
 //! The root's steps: a thread is registered, or gathered.
 
 ghost use Rattle.std.specs.Prelude.{◌≡◌, ◌<◌, ◌+◌, ◌^◌, ℕ, [], ◌∷◌, ◌++◌, true, OnOk, OnErr, slice_set, vec_len, vec_capacity};
-ghost use Rattle.brc_runs.specs.Heap.{new_row, row_at, words_for};
-ghost use Rattle.brc_runs.specs.Steps.{registered, registered_again, gathered_in, root_after};
+ghost use Rattle.law_world.specs.Heap.{new_row, row_at, words_for};
+ghost use Rattle.law_world.specs.Steps.{registered, registered_again, gathered_in, root_after};
 ghost use Rattle.brc_state.specs.Memory.{needs_memory};
 
 use crate::frames::Frame;
 use crate::marks::Marks;
 use crate::tables::Tables;
 use crate::words::Words;
-use brc_runs::{Hand, Row, Stage, Step, new_row, words_for};
+use law_world::{Hand, Row, Stage, Step, new_row, words_for};
 use std::alloc::{AllocError, Allocator};
 
 /// Puts the item at the end of a vector that has room for it.

@@ -1,15 +1,15 @@
 //! The tables of a world: one vector for each of its lists, and what is read of them.
 
 ghost use Rattle.std.specs.Prelude.{◌≡◌, ◌==◌, length, slice_get, slice_index_or, Some, None};
-ghost use Rattle.brc_runs.specs.Lists.{bit_of, place_at, is_marked, last_of, is_bare, is_unmarked, is_blank};
-ghost use Rattle.brc_runs.specs.Heap.{cell_at, entries_at, row_at, frame_at, popped_at, worklist_at, queue_at, is_gathered, is_registered, no_cell, no_row};
-ghost use Rattle.brc_runs.specs.Steps.{is_empty};
+ghost use Rattle.law_world.specs.Lists.{bit_of, place_at, is_marked, last_of, is_bare, is_unmarked, is_blank};
+ghost use Rattle.law_world.specs.Heap.{cell_at, entries_at, row_at, frame_at, popped_at, worklist_at, queue_at, is_gathered, is_registered, no_cell, no_row};
+ghost use Rattle.law_world.specs.Steps.{is_empty};
 
 use crate::entries::Entries;
 use crate::frames::Frame;
 use crate::marks::Marks;
 use crate::words::Words;
-use brc_runs::{Cell, Edition, Row, no_cell, no_row};
+use law_world::{Cell, Edition, Row, no_cell, no_row};
 use std::alloc::Allocator;
 use std::marker::Model;
 
@@ -34,7 +34,7 @@ pub struct Tables<A: Allocator + Copy> {
 }
 
 impl<A: Allocator + Copy> Model for Tables<A> {
-    ghost use Rattle.brc_runs.specs.Heap.{Heap};
+    ghost use Rattle.law_world.specs.Heap.{Heap};
 
     ghost Value = { Heap };
 

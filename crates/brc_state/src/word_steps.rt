@@ -2,13 +2,13 @@
 //! changes.
 
 ghost use Rattle.std.specs.Prelude.{◌≡◌, ◌/◌, ◌<◌, length};
-ghost use Rattle.brc_runs.specs.Steps.{closed_more, opened_more, stage_after, drained_word, notify_words_after, kept_cells};
+ghost use Rattle.law_world.specs.Steps.{closed_more, opened_more, stage_after, drained_word, notify_words_after, kept_cells};
 ghost use Rattle.brc_state.specs.Effects.{named_word};
 
 use crate::tables::Tables;
 use crate::words::{empty_drained, only_bit, pop_drained};
-use brc_runs::{Stage, Step, words_for};
 use brc_words::MOST_CELLS;
+use law_world::{Stage, Step, words_for};
 use std::alloc::Allocator;
 
 /// The queue word whose bits are popped.

@@ -11,28 +11,28 @@ use mathlib.Core.Option.{some}
 use lib.ListN.{get_elem?}
 use Rattle.atomic_table.specs.Table as tables
 use Rattle.brc_words.specs.declared.limits.TheConstants.{FIRST_MORTAL, IMMORTAL_LOCAL}
-use Rattle.brc_runs.specs.declared.cell.Cell.{Cell}
-use Rattle.brc_runs.specs.Lists.{word_at, one}
-use Rattle.brc_runs.specs.Heap.{opening, immortal, no_cell, cell_at, row_at, queue_at, is_registered, AreOptions}
-use Rattle.brc_runs.specs.Steps.{is_closed, is_free}
-use Rattle.brc_runs.proofs.Beginning.{length-opening, free_cell, immortal_cell}
-use Rattle.brc_runs.proofs.Registering.{length-push, read_push}
-use Rattle.brc_known.specs.declared.word.Field.{Field}
-use Rattle.brc_known.specs.declared.word.Field.TheVariants.{Owner, Local, Shared, Mutex}
-use Rattle.brc_known.specs.declared.word.Word.{Word}
-use Rattle.brc_known.specs.declared.word.Word.TheVariants.{Of, Queue, NotifyWord, FreeWord}
-use Rattle.brc_known.specs.Free_Words.{free_words_for, is_free_cell, free_bits, ShowsOwner}
-use Rattle.brc_known.proofs.Free_Law.{told_below, told_bit}
-use Rattle.brc_known.specs.Items.{IsWord, Shows, ShowsQueue, word_in}
+use Rattle.law_world.specs.declared.cell.Cell.{Cell}
+use Rattle.law_world.specs.Lists.{word_at, one}
+use Rattle.law_world.specs.Heap.{opening, immortal, no_cell, cell_at, row_at, queue_at, is_registered, AreOptions}
+use Rattle.law_world.specs.Steps.{is_closed, is_free}
+use Rattle.law_world.proofs.Beginning.{length-opening, free_cell, immortal_cell}
+use Rattle.law_world.proofs.Registering.{length-push, read_push}
+use Rattle.law_known.specs.declared.word.Field.{Field}
+use Rattle.law_known.specs.declared.word.Field.TheVariants.{Owner, Local, Shared, Mutex}
+use Rattle.law_known.specs.declared.word.Word.{Word}
+use Rattle.law_known.specs.declared.word.Word.TheVariants.{Of, Queue, NotifyWord, FreeWord}
+use Rattle.law_known.specs.Free_Words.{free_words_for, is_free_cell, free_bits, ShowsOwner}
+use Rattle.law_known.proofs.Free_Law.{told_below, told_bit}
+use Rattle.law_known.specs.Items.{IsWord, Shows, ShowsQueue, word_in}
 use Rattle.brc_block.specs.declared.payload.Payload.{Payload}
-use Rattle.brc_rule.specs.declared.contents.Contents.{Contents}
-use Rattle.brc_rule.specs.Layout.{owners_from, free_from, queues_from, spot, extent}
-use Rattle.brc_rule.specs.Logs.{opening_contents}
-use Rattle.brc_rule.specs.Homes.{LiesThere}
-use Rattle.brc_rule.specs.Rule.{Kept}
-use Rattle.brc_rule.specs.Opening.{first_view, Opens}
-use Rattle.brc_rule.proofs.Spots.{inside}
-use Rattle.brc_rule.proofs.Opening_Law.{opens}
+use Rattle.law_rule.specs.declared.contents.Contents.{Contents}
+use Rattle.law_rule.specs.Layout.{owners_from, free_from, queues_from, spot, extent}
+use Rattle.law_rule.specs.Logs.{opening_contents}
+use Rattle.law_rule.specs.Homes.{LiesThere}
+use Rattle.law_rule.specs.Rule.{Kept}
+use Rattle.law_rule.specs.Opening.{first_view, Opens}
+use Rattle.law_rule.proofs.Spots.{inside}
+use Rattle.law_rule.proofs.Opening_Law.{opens}
 use Rattle.brc_table.specs.Shown.{shows}
 use Rattle.brc_table.specs.Opening.{bits_below, opening_free, opening_count, opening_else, opening_word, opening_words, slot_shows, opening_slot, opening_slots}
 

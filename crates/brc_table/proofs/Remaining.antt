@@ -6,8 +6,8 @@ use lib.ListN.{get_elem?}
 use Rattle.atomic_table.specs.Table.{Final, Seen}
 use Rattle.atomic_table.proofs.Lists.{drop_at}
 use Rattle.brc_block.specs.declared.payload.Payload.{Payload}
-use Rattle.brc_rule.specs.declared.view.View.{View}
-use Rattle.brc_rule.specs.Rule.{Kept}
+use Rattle.law_rule.specs.declared.view.View.{View}
+use Rattle.law_rule.specs.Rule.{Kept}
 use Rattle.brc_table.specs.Rest.{from_block, Remains}
 use Rattle.brc_table.specs.Shown.{shows}
 

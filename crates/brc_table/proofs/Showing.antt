@@ -2,15 +2,15 @@
 use Rattle.std.proofs.Common.{ℕ, Option, sym, ◌∙◌, ap}
 use Rattle.atomic_table.specs.Table.{State}
 use Rattle.brc_block.specs.declared.payload.Payload.{Payload}
-use Rattle.brc_runs.proofs.Reached.{run_histories}
-use Rattle.brc_known.specs.Items.{events_of}
-use Rattle.brc_known.proofs.Items_Runs.{events_run}
-use Rattle.brc_rule.specs.declared.view.View.{View}
-use Rattle.brc_rule.specs.Logs.{items_of}
-use Rattle.brc_rule.specs.Rule.{Kept}
-use Rattle.brc_rule.proofs.Knowing.{kept_reached, kept_headline}
-use Rattle.brc_rule.proofs.Once.{root_once}
-use Rattle.brc_runs.specs.Heap.{opening}
+use Rattle.law_world.proofs.Reached.{run_histories}
+use Rattle.law_known.specs.Items.{events_of}
+use Rattle.law_known.proofs.Items_Runs.{events_run}
+use Rattle.law_rule.specs.declared.view.View.{View}
+use Rattle.law_rule.specs.Logs.{items_of}
+use Rattle.law_rule.specs.Rule.{Kept}
+use Rattle.law_rule.proofs.Knowing.{kept_reached, kept_headline}
+use Rattle.law_rule.proofs.Once.{root_once}
+use Rattle.law_world.specs.Heap.{opening}
 use Rattle.brc_table.specs.Moment.{ShowsOneRun}
 use Rattle.brc_table.specs.Shown.{shows}
 

@@ -4,16 +4,16 @@ use mathlib.Core.Option.{some}
 use lib.ListN.{get_elem?}
 use Rattle.atomic_table.specs.Table.{State}
 use Rattle.brc_block.specs.declared.payload.Payload.{Payload}
-use Rattle.brc_runs.specs.Heap.{opening}
-use Rattle.brc_runs.specs.Holding.{Headline, Histories}
-use Rattle.brc_runs.specs.Runs.{IsReached}
-use Rattle.brc_known.specs.declared.word.Word.{Word}
-use Rattle.brc_known.specs.Items.{IsWord, Shows, events_of}
-use Rattle.brc_rule.specs.declared.view.View.{View}
-use Rattle.brc_rule.specs.Layout.{spot}
-use Rattle.brc_rule.specs.Logs.{Run, items_of, own_of, all_of, lives_of, world, IsLegal}
-use Rattle.brc_rule.specs.Homes.{HomeShown}
-use Rattle.brc_rule.specs.Rule.{stands, Seated, StandsOnce}
+use Rattle.law_world.specs.Heap.{opening}
+use Rattle.law_world.specs.Holding.{Headline, Histories}
+use Rattle.law_world.specs.Runs.{IsReached}
+use Rattle.law_known.specs.declared.word.Word.{Word}
+use Rattle.law_known.specs.Items.{IsWord, Shows, events_of}
+use Rattle.law_rule.specs.declared.view.View.{View}
+use Rattle.law_rule.specs.Layout.{spot}
+use Rattle.law_rule.specs.Logs.{Run, items_of, own_of, all_of, lives_of, world, IsLegal}
+use Rattle.law_rule.specs.Homes.{HomeShown}
+use Rattle.law_rule.specs.Rule.{stands, Seated, StandsOnce}
 use Rattle.brc_table.specs.Shown.{shows}
 
 module _ {A : Type 0} where

@@ -2,10 +2,10 @@
 use Rattle.std.specs.Prelude.{ℕ, zero, suc, ◌+◌, ◌-◌, ◌*◌, ◌/◌, ◌%◌, ◌^◌, ◌==◌, nat_lt, min, if◌then◌else◌, List, [], ◌∷◌, ◌++◌, Option, Some, None}
 use Rattle.brc_words.specs.declared.limits.TheConstants.{FIRST_MORTAL, IMMORTAL_LOCAL}
 use Rattle.brc_block.specs.declared.payload.Payload.{Payload}
-use Rattle.brc_rule.specs.declared.contents.Contents.{Contents}
-use Rattle.brc_known.specs.Free_Words.{free_words_for}
-use Rattle.brc_rule.specs.Layout.{owners_from, free_from}
-use Rattle.brc_rule.specs.Logs.{opening_contents}
+use Rattle.law_rule.specs.declared.contents.Contents.{Contents}
+use Rattle.law_known.specs.Free_Words.{free_words_for}
+use Rattle.law_rule.specs.Layout.{owners_from, free_from}
+use Rattle.law_rule.specs.Logs.{opening_contents}
 use Rattle.brc_table.specs.Shown.{shows}
 
 -- how many of a free word's 64 bits stand for cells below this one

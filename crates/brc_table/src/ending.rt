@@ -2,17 +2,17 @@
 //! as they were put home last.
 
 ghost use Rattle.std.specs.Prelude.{◌≡◌, ◌<◌, ◌≤◌, ◌∷◌, None, IfSome};
-ghost use Rattle.brc_runs.specs.declared.event.LastDropped.TheVariants as lasts;
-ghost use Rattle.brc_runs.specs.declared.event.Step.TheVariants as steps;
-ghost use Rattle.brc_runs.specs.declared.row.Hand.TheVariants as hands;
-ghost use Rattle.brc_runs.specs.Steps.{takes_block};
-ghost use Rattle.brc_known.specs.Going_On.{handing, taking, seeing_zero, dropping_last, settling};
-ghost use Rattle.brc_known.specs.Items.{cell_told};
-ghost use Rattle.brc_known.specs.Taken.{listed_at};
-ghost use Rattle.brc_rule.specs.declared.told.Told.TheVariants as told;
-ghost use Rattle.brc_rule.specs.Seen.{taken_seen};
-ghost use Rattle.brc_steps.specs.Owing.{Carries, EndsRisen, EndsPopped, EndsAdded, EndsHeld, EndsNobodys};
-ghost use Rattle.brc_steps.specs.Taking.{AreCells};
+ghost use Rattle.law_world.specs.declared.event.LastDropped.TheVariants as lasts;
+ghost use Rattle.law_world.specs.declared.event.Step.TheVariants as steps;
+ghost use Rattle.law_world.specs.declared.row.Hand.TheVariants as hands;
+ghost use Rattle.law_world.specs.Steps.{takes_block};
+ghost use Rattle.law_known.specs.Going_On.{handing, taking, seeing_zero, dropping_last, settling};
+ghost use Rattle.law_known.specs.Items.{cell_told};
+ghost use Rattle.law_known.specs.Taken.{listed_at};
+ghost use Rattle.law_rule.specs.declared.told.Told.TheVariants as told;
+ghost use Rattle.law_rule.specs.Seen.{taken_seen};
+ghost use Rattle.law_steps.specs.Owing.{Carries, EndsRisen, EndsPopped, EndsAdded, EndsHeld, EndsNobodys};
+ghost use Rattle.law_steps.specs.Taking.{AreCells};
 ghost use Rattle.brc_table.specs.Knowing.{known_seen, entries_of, Knows, Keeps};
 ghost use Rattle.brc_table.specs.Moving.{is_there, found_in, out_with};
 ghost use Rattle.brc_table.specs.Seated.{Continues};
@@ -20,7 +20,7 @@ ghost use Rattle.brc_table.specs.Seated.{Continues};
 use crate::moving::{Found, end_by_load, end_by_or, end_by_sub};
 use crate::seats::ThreadSeat;
 use crate::table::HeapTable;
-use brc_runs::{Dropped, LastDropped, Step};
+use law_world::{Dropped, LastDropped, Step};
 use std::alloc::Allocator;
 
 impl<A: Allocator> HeapTable<A> {
@@ -43,7 +43,7 @@ impl<A: Allocator> HeapTable<A> {
         end_by_load(self, &mut seat.place, cell, step)
     }
 
-    #[tactic(auto, using(brc_steps::proofs::Ending_Steps::merges_at_zero))]
+    #[tactic(auto, using(law_steps::proofs::Ending_Steps::merges_at_zero))]
     /// MergeZero: the state is merged, and the object is dead where its count is 0.
     pub fn merge_zero(&self, seat: &mut ThreadSeat<A>, cell: u32) -> Found<A>
         requires table { seat.old.table ≡ self.now.table }
@@ -63,7 +63,7 @@ impl<A: Allocator> HeapTable<A> {
         end_by_or(self, &mut seat.place, cell, 3, step)
     }
 
-    #[tactic(auto, using(brc_steps::proofs::Ending_Steps::counts_last))]
+    #[tactic(auto, using(law_steps::proofs::Ending_Steps::counts_last))]
     /// LastDown of a reference to an object that the thread has seen queued or merged.
     pub fn last_down(&self, seat: &mut ThreadSeat<A>, drop: Dropped, cell: u32) -> Found<A>
         requires table { seat.old.table ≡ self.now.table }
@@ -83,7 +83,7 @@ impl<A: Allocator> HeapTable<A> {
         end_by_sub(self, &mut seat.place, cell, 4, step)
     }
 
-    #[tactic(auto, using(brc_steps::proofs::Last_Steps::ends_popped))]
+    #[tactic(auto, using(law_steps::proofs::Last_Steps::ends_popped))]
     /// LastDown of a popped entry that was found merged.
     pub fn last_popped(&self, seat: &mut ThreadSeat<A>, cell: u32, shared: u64) -> Found<A>
         requires table { seat.old.table ≡ self.now.table }
@@ -104,7 +104,7 @@ impl<A: Allocator> HeapTable<A> {
         end_by_sub(self, &mut seat.place, cell, 4, step)
     }
 
-    #[tactic(auto, using(brc_steps::proofs::Last_Steps::ends_added))]
+    #[tactic(auto, using(law_steps::proofs::Last_Steps::ends_added))]
     /// LastDown of a popped entry that the thread has just merged.
     pub fn last_added(&self, seat: &mut ThreadSeat<A>, cell: u32) -> Found<A>
         requires table { seat.old.table ≡ self.now.table }
@@ -124,7 +124,7 @@ impl<A: Allocator> HeapTable<A> {
         end_by_sub(self, &mut seat.place, cell, 4, step)
     }
 
-    #[tactic(auto, using(brc_steps::proofs::Last_Steps::ends_held))]
+    #[tactic(auto, using(law_steps::proofs::Last_Steps::ends_held))]
     /// LastDown of the reference in the hand, of an object that the thread has adopted.
     pub fn last_held(&self, seat: &mut ThreadSeat<A>, cell: u32) -> Found<A>
         requires table { seat.old.table ≡ self.now.table }
@@ -144,7 +144,7 @@ impl<A: Allocator> HeapTable<A> {
         end_by_sub(self, &mut seat.place, cell, 4, step)
     }
 
-    #[tactic(auto, using(brc_steps::proofs::Last_Steps::ends_nobodys))]
+    #[tactic(auto, using(law_steps::proofs::Last_Steps::ends_nobodys))]
     /// LastDown of the reference in the hand, of an object that was found nobody's.
     pub fn last_nobodys(&self, seat: &mut ThreadSeat<A>, cell: u32) -> Found<A>
         requires table { seat.old.table ≡ self.now.table }

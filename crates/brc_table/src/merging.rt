@@ -2,17 +2,17 @@
 
 ghost use Rattle.std.specs.Prelude.{◌≡◌, ◌<◌, ◌≤◌, ◌∷◌, ◌+◌, ◌*◌, ◌%◌, ◌^◌, if◌then◌else◌, Some};
 ghost use Rattle.brc_words.specs.declared.limits.TheConstants.{MOST_THREADS};
-ghost use Rattle.brc_runs.specs.declared.event.Step.TheVariants as steps;
-ghost use Rattle.brc_runs.specs.declared.row.Hand.TheVariants as hands;
-ghost use Rattle.brc_runs.specs.declared.row.Phase.TheVariants as phases;
-ghost use Rattle.brc_runs.specs.Steps.{added_hand};
-ghost use Rattle.brc_known.specs.Items.{is_shut_word};
-ghost use Rattle.brc_known.specs.Going_On.{handing, counting};
-ghost use Rattle.brc_rule.specs.declared.told.Moved.TheVariants as moves;
-ghost use Rattle.brc_rule.specs.declared.told.Told.TheVariants as told;
-ghost use Rattle.brc_steps.specs.Owing.{UntiesOver, UntiesShut, UntiesPopped, AddsLocal, Enqueues};
-ghost use Rattle.brc_rule.specs.Noted.{newest_step};
-ghost use Rattle.brc_rule.specs.Seen.{part_seen};
+ghost use Rattle.law_world.specs.declared.event.Step.TheVariants as steps;
+ghost use Rattle.law_world.specs.declared.row.Hand.TheVariants as hands;
+ghost use Rattle.law_world.specs.declared.row.Phase.TheVariants as phases;
+ghost use Rattle.law_world.specs.Steps.{added_hand};
+ghost use Rattle.law_known.specs.Items.{is_shut_word};
+ghost use Rattle.law_known.specs.Going_On.{handing, counting};
+ghost use Rattle.law_rule.specs.declared.told.Moved.TheVariants as moves;
+ghost use Rattle.law_rule.specs.declared.told.Told.TheVariants as told;
+ghost use Rattle.law_steps.specs.Owing.{UntiesOver, UntiesShut, UntiesPopped, AddsLocal, Enqueues};
+ghost use Rattle.law_rule.specs.Noted.{newest_step};
+ghost use Rattle.law_rule.specs.Seen.{part_seen};
 ghost use Rattle.brc_table.specs.Knowing.{known_seen, Knows, Keeps};
 ghost use Rattle.brc_table.specs.Seated.{Stays};
 
@@ -20,13 +20,13 @@ use crate::layout::bit;
 use crate::machine::{add_up, or, store};
 use crate::seats::ThreadSeat;
 use crate::table::HeapTable;
-use brc_known::{Field, Word};
-use brc_runs::Step;
+use law_known::{Field, Word};
+use law_world::Step;
 use std::alloc::Allocator;
 use std::marker::Brand;
 
 impl<A: Allocator> HeapTable<A> {
-    #[tactic(auto, using(brc_steps::proofs::Untying_Steps::unties_over))]
+    #[tactic(auto, using(law_steps::proofs::Untying_Steps::unties_over))]
     /// Untie of an own object whose count is 0, and which others counted or asked for.
     pub fn untie_over(&self, seat: &mut ThreadSeat<A>, cell: u32)
         requires table { seat.old.table ≡ self.now.table }

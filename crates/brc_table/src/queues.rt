@@ -1,13 +1,13 @@
 //! Queues: a thread takes what was put into its own, and tells others to do so.
 
 ghost use Rattle.std.specs.Prelude.{◌≡◌, ◌<◌, ◌≤◌, ◌∷◌};
-ghost use Rattle.brc_runs.specs.Heap.{words_for};
-ghost use Rattle.brc_runs.specs.declared.event.Step.TheVariants as steps;
-ghost use Rattle.brc_known.specs.Going_On.{popping, closing};
-ghost use Rattle.brc_rule.specs.declared.told.Moved.TheVariants as moves;
-ghost use Rattle.brc_rule.specs.declared.told.Told.TheVariants as told;
-ghost use Rattle.brc_steps.specs.Owing.{Allowed, Tells};
-ghost use Rattle.brc_steps.specs.Taking.{AreQueued};
+ghost use Rattle.law_world.specs.Heap.{words_for};
+ghost use Rattle.law_world.specs.declared.event.Step.TheVariants as steps;
+ghost use Rattle.law_known.specs.Going_On.{popping, closing};
+ghost use Rattle.law_rule.specs.declared.told.Moved.TheVariants as moves;
+ghost use Rattle.law_rule.specs.declared.told.Told.TheVariants as told;
+ghost use Rattle.law_steps.specs.Owing.{Allowed, Tells};
+ghost use Rattle.law_steps.specs.Taking.{AreQueued};
 ghost use Rattle.law_living.specs.Living.{OwnLog};
 ghost use Rattle.brc_table.specs.Knowing.{known_seen, Knows, Keeps};
 ghost use Rattle.brc_table.specs.Seated.{Stays};
@@ -18,8 +18,8 @@ use crate::machine::or;
 use crate::seats::ThreadSeat;
 use crate::table::HeapTable;
 use crate::waking::take_told;
-use brc_known::Word;
-use brc_runs::Step;
+use law_known::Word;
+use law_world::Step;
 use std::alloc::Allocator;
 use std::marker::Brand;
 

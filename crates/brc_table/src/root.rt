@@ -2,14 +2,14 @@
 
 ghost use Rattle.std.specs.Prelude.{◌≡◌, ◌≤◌, ◌<◌, true, []};
 ghost use Rattle.brc_words.specs.declared.limits.TheConstants.{MOST_THREADS};
-ghost use Rattle.brc_steps.specs.Joining.{next_thread, registering, gathering, Leaves};
+ghost use Rattle.law_steps.specs.Joining.{next_thread, registering, gathering, Leaves};
 ghost use Rattle.brc_table.specs.Seated.{view_of};
 
 use crate::machine::Place;
 use crate::seats::ThreadSeat;
 use crate::table::HeapTable;
 use atomic_table::{Join, Split};
-use brc_rule::View;
+use law_rule::View;
 use std::alloc::Allocator;
 use std::marker::Model;
 
@@ -21,7 +21,7 @@ pub struct RootSeat<A: Allocator> {
 
 impl<A: Allocator> Model for RootSeat<A> {
     ghost use Rattle.std.specs.Prelude.{◌≡◌, ◌<◌, true, []};
-    ghost use Rattle.brc_steps.specs.Joining.{next_thread};
+    ghost use Rattle.law_steps.specs.Joining.{next_thread};
     ghost use Rattle.brc_table.specs.Seated.{RootSeen};
 
     ghost Value = { RootSeen };
@@ -35,7 +35,7 @@ impl<A: Allocator> Model for RootSeat<A> {
 pub(crate) struct Registering;
 
 impl Split<View> for Registering {
-    ghost use Rattle.brc_steps.specs.Joining.{registering, starting};
+    ghost use Rattle.law_steps.specs.Joining.{registering, starting};
 
     ghost left = { registering };
 
@@ -46,7 +46,7 @@ impl Split<View> for Registering {
 pub(crate) struct Gathering;
 
 impl Join<View> for Gathering {
-    ghost use Rattle.brc_steps.specs.Joining.{gathering, spent};
+    ghost use Rattle.law_steps.specs.Joining.{gathering, spent};
 
     ghost both = { gathering };
 

@@ -2,16 +2,16 @@
 
 ghost use Rattle.std.specs.Prelude.{◌≡◌, ◌<◌, [], IfOk, IfErr, OnErr, Some, None};
 ghost use Rattle.brc_words.specs.declared.limits.TheConstants.{FIRST_MORTAL};
-ghost use Rattle.brc_runs.specs.declared.event.Source.TheVariants as sources;
-ghost use Rattle.brc_rule.specs.declared.contents.Contents.TheVariants as contents;
+ghost use Rattle.law_world.specs.declared.event.Source.TheVariants as sources;
+ghost use Rattle.law_rule.specs.declared.contents.Contents.TheVariants as contents;
 ghost use Rattle.brc_count.specs.Frames.{Given, Refused, IsAsBefore, IsUnlocked};
 ghost use Rattle.brc_count.specs.Making.{Made, RefusedMaking};
 ghost use Rattle.brc_count.specs.Owned.{Keeps, Gains};
 ghost use Rattle.brc_things.specs.Makers.{small_cell, truth_cell, Answered, RefusedTo};
 
+use brc_biased::Home;
 use brc_block::{Cells, Letters, Pairs, Payload};
 use brc_count::{Frame, Handed, Handle};
-use brc_counter::Home;
 use brc_words::{Fault, Text};
 use std::alloc::Allocator;
 use std::collections::VecDeque;

@@ -10,33 +10,33 @@ use Rattle.brc_words.specs.declared.limits.TheConstants.{FIRST_MORTAL}
 use Rattle.brc_words.specs.declared.owner.Owner.{Owner}
 use Rattle.brc_words.specs.declared.owner.Owner.TheVariants as owners
 use Rattle.brc_words.specs.declared.state.State.{State}
-use Rattle.brc_runs.specs.declared.edition.Edition.TheVariants as editions
-use Rattle.brc_runs.specs.declared.event.Event.{Event}
-use Rattle.brc_runs.specs.declared.event.Step.{Step}
-use Rattle.brc_runs.specs.declared.event.Step.TheVariants.{Register, Gather}
-use Rattle.brc_runs.specs.declared.row.Row.{Row}
-use Rattle.brc_runs.specs.declared.row.Hand.{Hand}
-use Rattle.brc_runs.specs.declared.row.Hand.TheVariants as hands
-use Rattle.brc_runs.specs.Lists.{one, is_marked, place_at, bit_of}
-use Rattle.brc_runs.specs.Heap.{Heap, opening, cell_at, row_at, worklist_at, frame_at, popped_at, queue_at, is_immortal, is_registered, no_row, new_row, again_row, AreOptions}
-use Rattle.brc_runs.specs.Steps.{is_active, after_target, root_after, root_may, thread_may, target_at}
-use Rattle.brc_runs.specs.Holding.{lives, lives_at}
-use Rattle.brc_runs.specs.Runs.{IsRun, IsReached, world_after}
-use Rattle.brc_runs.specs.Sound.{IsSound, grips, gripped, grips_by_owner}
-use Rattle.brc_runs.proofs.Asking.{may_parts}
-use Rattle.brc_runs.proofs.Changes.{read_there}
-use Rattle.brc_runs.proofs.Reached.{run_sound, reached_sound}
-use Rattle.brc_runs.proofs.Registering.{push_else}
-use Rattle.brc_runs.proofs.Reusing.{fresh, reused, registers}
-use Rattle.brc_lasting.proofs.Lasting.{others_own}
-use Rattle.brc_lasting.proofs.Standing.{run_reached, gathered_hold_nothing}
-use Rattle.brc_known.specs.Items.{events_of}
-use Rattle.brc_known.proofs.Items_Runs.{events_run}
-use Rattle.brc_known.proofs.Items_Tells.{no_start}
+use Rattle.law_world.specs.declared.edition.Edition.TheVariants as editions
+use Rattle.law_world.specs.declared.event.Event.{Event}
+use Rattle.law_world.specs.declared.event.Step.{Step}
+use Rattle.law_world.specs.declared.event.Step.TheVariants.{Register, Gather}
+use Rattle.law_world.specs.declared.row.Row.{Row}
+use Rattle.law_world.specs.declared.row.Hand.{Hand}
+use Rattle.law_world.specs.declared.row.Hand.TheVariants as hands
+use Rattle.law_world.specs.Lists.{one, is_marked, place_at, bit_of}
+use Rattle.law_world.specs.Heap.{Heap, opening, cell_at, row_at, worklist_at, frame_at, popped_at, queue_at, is_immortal, is_registered, no_row, new_row, again_row, AreOptions}
+use Rattle.law_world.specs.Steps.{is_active, after_target, root_after, root_may, thread_may, target_at}
+use Rattle.law_world.specs.Holding.{lives, lives_at}
+use Rattle.law_world.specs.Runs.{IsRun, IsReached, world_after}
+use Rattle.law_world.specs.Sound.{IsSound, grips, gripped, grips_by_owner}
+use Rattle.law_world.proofs.Asking.{may_parts}
+use Rattle.law_world.proofs.Changes.{read_there}
+use Rattle.law_world.proofs.Reached.{run_sound, reached_sound}
+use Rattle.law_world.proofs.Registering.{push_else}
+use Rattle.law_world.proofs.Reusing.{fresh, reused, registers}
+use Rattle.law_lasting.proofs.Lasting.{others_own}
+use Rattle.law_lasting.proofs.Standing.{run_reached, gathered_hold_nothing}
+use Rattle.law_known.specs.Items.{events_of}
+use Rattle.law_known.proofs.Items_Runs.{events_run}
+use Rattle.law_known.proofs.Items_Tells.{no_start}
 use Rattle.brc_block.specs.declared.payload.Payload.{Payload}
-use Rattle.brc_rule.specs.declared.contents.Contents.{Contents}
-use Rattle.brc_rule.specs.declared.view.View.{View}
-use Rattle.brc_rule.specs.Logs.{items_of, contents_at, world}
+use Rattle.law_rule.specs.declared.contents.Contents.{Contents}
+use Rattle.law_rule.specs.declared.view.View.{View}
+use Rattle.law_rule.specs.Logs.{items_of, contents_at, world}
 use Rattle.brc_table.specs.Rest.{from_block, Remains}
 use Rattle.brc_thread.specs.Emptied.{AllGathered, is_used, used_from, blocks_in, HasBlock, AllAtHome}
 

@@ -2,22 +2,22 @@
 use Rattle.std.proofs.Common.{◌≡◌, ℕ, true, List, length, Option, refl, sym, subst, ap, ◌∙◌, arith}
 use Rattle.std.specs.Prelude.{sum_by}
 use Rattle.brc_block.specs.declared.payload.Payload.{Payload}
-use Rattle.brc_known.specs.Items.{AreItems, IsPart, part_of, events_of, own}
-use Rattle.brc_known.specs.Root.{rows_of, gathered_of}
-use Rattle.brc_known.proofs.Root_Law.{rows_are_told, gathered_are_told}
-use Rattle.brc_known.proofs.Items_Runs.{events_run}
-use Rattle.brc_known.proofs.Items_Law.{parts_are_told}
-use Rattle.brc_rule.specs.declared.view.View.{View}
-use Rattle.brc_rule.specs.Logs.{Run, items_of, log_items, own_of, lives_of, world}
-use Rattle.brc_steps.specs.Joining.{next_thread}
-use Rattle.brc_rule.specs.Seen.{part_seen}
-use Rattle.brc_rule.proofs.Own_Logs.{own_items}
-use Rattle.brc_rule.proofs.Knowing.{kept_reached, kept_headline}
-use Rattle.brc_rule.proofs.Once.{root_once}
-use Rattle.brc_runs.specs.Heap.{AreOptions, opening, row_at, no_row, is_registered}
-use Rattle.brc_runs.specs.declared.row.Row.{Row}
-use Rattle.brc_runs.specs.Holding.{Histories}
-use Rattle.brc_runs.proofs.Reached.{run_histories, root_counts_nothing}
+use Rattle.law_known.specs.Items.{AreItems, IsPart, part_of, events_of, own}
+use Rattle.law_known.specs.Root.{rows_of, gathered_of}
+use Rattle.law_known.proofs.Root_Law.{rows_are_told, gathered_are_told}
+use Rattle.law_known.proofs.Items_Runs.{events_run}
+use Rattle.law_known.proofs.Items_Law.{parts_are_told}
+use Rattle.law_rule.specs.declared.view.View.{View}
+use Rattle.law_rule.specs.Logs.{Run, items_of, log_items, own_of, lives_of, world}
+use Rattle.law_steps.specs.Joining.{next_thread}
+use Rattle.law_rule.specs.Seen.{part_seen}
+use Rattle.law_rule.proofs.Own_Logs.{own_items}
+use Rattle.law_rule.proofs.Knowing.{kept_reached, kept_headline}
+use Rattle.law_rule.proofs.Once.{root_once}
+use Rattle.law_world.specs.Heap.{AreOptions, opening, row_at, no_row, is_registered}
+use Rattle.law_world.specs.declared.row.Row.{Row}
+use Rattle.law_world.specs.Holding.{Histories}
+use Rattle.law_world.proofs.Reached.{run_histories, root_counts_nothing}
 use Rattle.brc_table.specs.Rest.{Remains}
 use Rattle.brc_table.specs.Shown.{shows}
 use Rattle.brc_thread.specs.Threads.{ledger_of}

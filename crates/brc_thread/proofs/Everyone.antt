@@ -4,25 +4,25 @@ use Rattle.std.specs.Prelude.{sum_by}
 use Rattle.std.proofs.lemmas.List.Sums.{sum_by-cons}
 use Rattle.std.proofs.lemmas.Bool.{cases_Bool, ltb-true, lt-ltb, and_parts, not-true, true≢false}
 use Rattle.std.specs.Cmp.Derive.{both_true}
-use Rattle.brc_runs.specs.declared.edition.Edition.TheVariants as editions
-use Rattle.brc_runs.specs.declared.event.Step.{Step}
-use Rattle.brc_runs.specs.declared.event.Step.TheVariants.{Register, Gather}
-use Rattle.brc_runs.specs.declared.row.Row.{Row}
-use Rattle.brc_runs.specs.declared.row.Hand.{Hand}
-use Rattle.brc_runs.specs.Heap.{Heap, opening, row_at, no_row, new_row, is_gathered, is_registered, AreOptions}
-use Rattle.brc_runs.specs.Steps.{enabled, after, after_target, root_after, root_may, thread_may, target_at, hand_ok}
-use Rattle.brc_runs.specs.Sound.{IsSound}
-use Rattle.brc_runs.proofs.Asking.{May, may_parts}
-use Rattle.brc_runs.proofs.Lifetimes.{run_edition}
-use Rattle.brc_runs.proofs.Reached.{reached_sound}
-use Rattle.brc_runs.proofs.Reusing.{fresh, reused, registers}
-use Rattle.brc_lasting.proofs.Standing.{run_reached}
-use Rattle.brc_known.specs.Items.{AreItems, events_of}
-use Rattle.brc_known.proofs.Items_Runs.{events_run}
-use Rattle.brc_rule.specs.declared.told.Moved.{Moved}
-use Rattle.brc_rule.specs.declared.told.Told.{Told}
-use Rattle.brc_rule.specs.declared.told.Told.TheVariants.{Did, Saw, Lost}
-use Rattle.brc_rule.specs.Logs.{Run, items_of, own_of, gathered_by, lives_on, lives_of, world}
+use Rattle.law_world.specs.declared.edition.Edition.TheVariants as editions
+use Rattle.law_world.specs.declared.event.Step.{Step}
+use Rattle.law_world.specs.declared.event.Step.TheVariants.{Register, Gather}
+use Rattle.law_world.specs.declared.row.Row.{Row}
+use Rattle.law_world.specs.declared.row.Hand.{Hand}
+use Rattle.law_world.specs.Heap.{Heap, opening, row_at, no_row, new_row, is_gathered, is_registered, AreOptions}
+use Rattle.law_world.specs.Steps.{enabled, after, after_target, root_after, root_may, thread_may, target_at, hand_ok}
+use Rattle.law_world.specs.Sound.{IsSound}
+use Rattle.law_world.proofs.Asking.{May, may_parts}
+use Rattle.law_world.proofs.Lifetimes.{run_edition}
+use Rattle.law_world.proofs.Reached.{reached_sound}
+use Rattle.law_world.proofs.Reusing.{fresh, reused, registers}
+use Rattle.law_lasting.proofs.Standing.{run_reached}
+use Rattle.law_known.specs.Items.{AreItems, events_of}
+use Rattle.law_known.proofs.Items_Runs.{events_run}
+use Rattle.law_rule.specs.declared.told.Moved.{Moved}
+use Rattle.law_rule.specs.declared.told.Told.{Told}
+use Rattle.law_rule.specs.declared.told.Told.TheVariants.{Did, Saw, Lost}
+use Rattle.law_rule.specs.Logs.{Run, items_of, own_of, gathered_by, lives_on, lives_of, world}
 
 -- what f makes of the rows of those that are gathered, added up
 abbrev pub gathered_sum : (Row → ℕ) → List Row → List Bool → ℕ
@@ -182,7 +182,7 @@ module _ (f : Row → ℕ) (g : List Told → ℕ) where
   adds_up n limit [] options are owns = record { sum = refl; root = refl }
   adds_up n limit (x ∷ run) options are owns = by_item x.1 are.1 (adds_up n limit run options are.0 owns)
     where
-      by_item : (told : Told) → Rattle.brc_known.specs.Items.MayCome (world n limit run) x.0 (Rattle.brc_rule.specs.Logs.item_of told) → Adds f g (world n limit run) (lives_of run)
+      by_item : (told : Told) → Rattle.law_known.specs.Items.MayCome (world n limit run) x.0 (Rattle.law_rule.specs.Logs.item_of told) → Adds f g (world n limit run) (lives_of run)
           → Adds f g (world n limit ((x.0, told) ∷ run)) (lives_of ((x.0, told) ∷ run))
       by_item (Did s number moved) comes adds =
           did_adds (world n limit run) x.0 s number moved run

@@ -1,18 +1,18 @@
 -- A held cell is no step's to free or to bear.
 use Rattle.std.proofs.Common.{◌≡◌, ℕ, ◌≤◌, Some, ap, ◌∙◌, subst}
-use Rattle.brc_runs.specs.declared.event.Event.{Event}
-use Rattle.brc_runs.specs.Heap.{Heap, opening}
-use Rattle.brc_runs.specs.Lists.{place_at}
-use Rattle.brc_runs.specs.Runs.{IsReached}
-use Rattle.brc_runs.specs.Sound.{held}
-use Rattle.brc_runs.proofs.Dropping.{held_by_place}
-use Rattle.brc_lasting.proofs.Standing.{run_reached, held_not_freed, held_not_born}
-use Rattle.brc_known.specs.Items.{IsPart, events_of}
-use Rattle.brc_known.proofs.Items_Runs.{events_run}
-use Rattle.brc_rule.specs.declared.told.Told.{Told}
-use Rattle.brc_rule.specs.declared.told.Told.TheVariants.{Did, Saw, Lost}
-use Rattle.brc_rule.specs.Logs.{Run, items_of, own_of, world}
-use Rattle.brc_rule.specs.Seen.{part_seen}
+use Rattle.law_world.specs.declared.event.Event.{Event}
+use Rattle.law_world.specs.Heap.{Heap, opening}
+use Rattle.law_world.specs.Lists.{place_at}
+use Rattle.law_world.specs.Runs.{IsReached}
+use Rattle.law_world.specs.Sound.{held}
+use Rattle.law_world.proofs.Dropping.{held_by_place}
+use Rattle.law_lasting.proofs.Standing.{run_reached, held_not_freed, held_not_born}
+use Rattle.law_known.specs.Items.{IsPart, events_of}
+use Rattle.law_known.proofs.Items_Runs.{events_run}
+use Rattle.law_rule.specs.declared.told.Told.{Told}
+use Rattle.law_rule.specs.declared.told.Told.TheVariants.{Did, Saw, Lost}
+use Rattle.law_rule.specs.Logs.{Run, items_of, own_of, world}
+use Rattle.law_rule.specs.Seen.{part_seen}
 use Rattle.brc_table.specs.Seated.{TableSeen}
 use Rattle.brc_count.specs.Frames.{FrameSeen, HandleSeen}
 use Rattle.brc_thread.specs.Handed.{IsHeld, OwnsIn, Next, Spares, world_of}

@@ -3,7 +3,7 @@ use Rattle.std.proofs.Common.{◌≡◌, ℕ, List, [], ◌∷◌, map, true, fa
 use Rattle.brc_block.specs.declared.payload.Payload.{Payload}
 use Rattle.brc_block.specs.declared.payload.Payload.TheVariants as payloads
 use Rattle.brc_block.specs.Payload.{kind_of, entries_of}
-use Rattle.brc_rule.specs.Logs.{kind_in, entries_in}
+use Rattle.law_rule.specs.Logs.{kind_in, entries_in}
 use Rattle.brc_table.specs.Shown.{contents_of, plain_key}
 
 values_of : {K L : Type 0} (f : K → L) (pairs : List (K × ℕ))

@@ -18,7 +18,7 @@ use Rattle.brc_block.specs.contracts.payload.Payload as Payload
 use Rattle.brc_block.specs.contracts.worklist.Node as Node
 use Rattle.brc_block.proofs.worklist.Worklist.TheLaws.TheKnot.{send-Node, send-Worklist}
 use Rattle.brc_table.specs.contracts.seats.ThreadSeat as ThreadSeat
-use Rattle.brc_counter.specs.contracts.resting.RestingCounter as RestingCounter
+use Rattle.brc_biased.specs.contracts.resting.RestingCounter as RestingCounter
 use Rattle.brc_count.below.atomic_table.proofs.shared.Seat.TheSendSync as seat
 use Rattle.brc_count.below.atomic_table.proofs.owned.Table.TheSendSync as table
 use Rattle.brc_table.specs.contracts.table.HeapTable as HeapTable

@@ -1,13 +1,13 @@
 -- How many threads the root has registered and gathered, and what those that it gathered did, counted from its view.
 use Rattle.std.specs.Prelude.{◌≡◌, ◌≤◌, ℕ, List, length, min, sum_by}
 use Rattle.brc_words.specs.declared.limits.TheConstants.{MOST_THREADS}
-use Rattle.brc_runs.specs.Lists.{one}
-use Rattle.brc_runs.specs.Holding.{is_birth}
-use Rattle.brc_runs.specs.Steps.{is_free_step}
-use Rattle.brc_runs.specs.declared.event.Step.TheVariants.{Register}
-use Rattle.brc_rule.specs.declared.told.Told.{Told}
-use Rattle.brc_rule.specs.declared.told.Told.TheVariants.{Did}
-use Rattle.brc_rule.specs.declared.view.View.{View}
+use Rattle.law_world.specs.Lists.{one}
+use Rattle.law_world.specs.Holding.{is_birth}
+use Rattle.law_world.specs.Steps.{is_free_step}
+use Rattle.law_world.specs.declared.event.Step.TheVariants.{Register}
+use Rattle.law_rule.specs.declared.told.Told.{Told}
+use Rattle.law_rule.specs.declared.told.Told.TheVariants.{Did}
+use Rattle.law_rule.specs.declared.view.View.{View}
 use Rattle.brc_count.specs.declared.ledger.Ledger.{Ledger}
 
 -- the step registers a thread, bears an object, gives a cell back

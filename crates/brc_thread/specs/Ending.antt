@@ -1,15 +1,15 @@
 -- How a heap ends: what is left of it, and what is so of all that was done on it.
 use Rattle.std.specs.Prelude.{◌≡◌, ◌<◌, ℕ, true, List, length, sum_by, Option, Some}
 use Rattle.brc_block.specs.declared.payload.Payload.{Payload}
-use Rattle.brc_known.specs.Items.{events_of}
-use Rattle.brc_known.specs.Root.{gathered_of}
-use Rattle.brc_rule.specs.declared.view.View.{View}
-use Rattle.brc_rule.specs.Logs.{items_of, log_items, own_of, all_of, lives_of, world}
-use Rattle.brc_rule.specs.Rule.{log_in, StandsOnce}
-use Rattle.brc_runs.specs.Heap.{Heap, opening, row_at, is_registered, is_gathered}
-use Rattle.brc_runs.specs.Holding.{Headline, Histories}
-use Rattle.brc_runs.specs.Runs.{IsReached}
-use Rattle.brc_steps.specs.Joining.{next_thread}
+use Rattle.law_known.specs.Items.{events_of}
+use Rattle.law_known.specs.Root.{gathered_of}
+use Rattle.law_rule.specs.declared.view.View.{View}
+use Rattle.law_rule.specs.Logs.{items_of, log_items, own_of, all_of, lives_of, world}
+use Rattle.law_rule.specs.Rule.{log_in, StandsOnce}
+use Rattle.law_world.specs.Heap.{Heap, opening, row_at, is_registered, is_gathered}
+use Rattle.law_world.specs.Holding.{Headline, Histories}
+use Rattle.law_world.specs.Runs.{IsReached}
+use Rattle.law_steps.specs.Joining.{next_thread}
 use Rattle.brc_table.specs.Rest.{Remains}
 use Rattle.brc_count.specs.declared.ledger.Ledger.{Ledger}
 use Rattle.brc_thread.specs.Counting.{registrations, gatherings, births_of_all, frees_of_all}

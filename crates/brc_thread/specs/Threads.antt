@@ -3,9 +3,9 @@ use Rattle.std.specs.Prelude.{◌≡◌, ◌<◌, ◌≤◌, ℕ, List, []}
 use Rattle.brc_words.specs.declared.fault.Fault.{Fault}
 use Rattle.brc_words.specs.declared.fault.Fault.TheVariants.{TooManyThreads, OutOfMemory}
 use Rattle.brc_words.specs.declared.limits.TheConstants.{MOST_THREADS}
-use Rattle.brc_rule.specs.declared.told.Told.{Told}
-use Rattle.brc_rule.specs.Seen.{part_seen}
-use Rattle.brc_steps.specs.Joining.{next_thread, Leaves}
+use Rattle.law_rule.specs.declared.told.Told.{Told}
+use Rattle.law_rule.specs.Seen.{part_seen}
+use Rattle.law_steps.specs.Joining.{next_thread, Leaves}
 use Rattle.brc_table.specs.Seated.{TableSeen, SeatSeen, RootSeen, view_of}
 use Rattle.brc_count.specs.declared.ledger.Ledger.{Ledger}
 

@@ -2,13 +2,13 @@
 
 ghost use Rattle.std.specs.Prelude.{◌≡◌, ◌↔◌, ◌⊎◌, Err, IfOk, IfErr};
 ghost use Rattle.brc_words.specs.declared.fault.Fault.TheVariants as faults;
-ghost use Rattle.brc_runs.specs.Heap.{AreOptions};
-ghost use Rattle.brc_rule.specs.Opening.{first_view};
+ghost use Rattle.law_world.specs.Heap.{AreOptions};
+ghost use Rattle.law_rule.specs.Opening.{first_view};
 ghost use Rattle.brc_table.specs.Seated.{TableSeen};
 
 use crate::root::Root;
+use brc_biased::Home;
 use brc_count::Ledger;
-use brc_counter::Home;
 use brc_table::HeapTable;
 use brc_words::Fault;
 use std::alloc::{Allocator, Global};

@@ -2,8 +2,8 @@
 
 ghost use Rattle.std.specs.Prelude.{◌≡◌, ℕ, List, [], ◌∷◌, Option, Some};
 ghost use Rattle.brc_block.specs.declared.payload.Payload.{Payload};
-ghost use Rattle.brc_rule.specs.declared.told.Told.{Told as told_data};
-ghost use Rattle.brc_rule.specs.Logs.{Run};
+ghost use Rattle.law_rule.specs.declared.told.Told.{Told as told_data};
+ghost use Rattle.law_rule.specs.Logs.{Run};
 ghost use Rattle.brc_table.specs.Rest.{from_block};
 ghost use Rattle.brc_thread.specs.Emptied.{blocks_in};
 ghost use Rattle.brc_table.specs.Seated.{TableSeen};

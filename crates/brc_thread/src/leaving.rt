@@ -1,13 +1,13 @@
 //! A thread that has left, and one that is done.
 
 ghost use Rattle.std.specs.Prelude.{◌≡◌, ◌<◌, ◌≤◌, ◌-◌, [], ◌⊎◌, length, IsTrue, IsFalse, IfOk, IfErr, OnErr, true, false};
-ghost use Rattle.brc_runs.specs.Lists.{is_blank};
+ghost use Rattle.law_world.specs.Lists.{is_blank};
 ghost use Rattle.brc_count.specs.Frames.{KeepsHandles, ledger_seen, popped_seen};
 ghost use Rattle.brc_count.specs.Closing.{TurnsLeaving};
 ghost use Rattle.brc_thread.specs.Threads.{ledger_of};
 
+use brc_biased::Home;
 use brc_count::{ClosedFrame, Ledger};
-use brc_counter::Home;
 use brc_table::ThreadSeat;
 use std::alloc::{Allocator, Global};
 use std::marker::Model;

@@ -2,8 +2,8 @@
 
 ghost use Rattle.std.specs.Prelude.{◌≡◌, ◌<◌, ◌≤◌, ◌-◌, [], ◌⊎◌, length, true, false, IsTrue, IsFalse, IfOk, IfErr, OnOk, OnErr};
 ghost use Rattle.brc_words.specs.declared.limits.TheConstants.{GLOBALS};
-ghost use Rattle.brc_runs.specs.declared.event.Source.TheVariants as sources;
-ghost use Rattle.brc_runs.specs.Heap.{words_for};
+ghost use Rattle.law_world.specs.declared.event.Source.TheVariants as sources;
+ghost use Rattle.law_world.specs.Heap.{words_for};
 ghost use Rattle.law_living.specs.Living.{OwnLog};
 ghost use Rattle.brc_count.specs.Frames.{Given, Refused, IsAsBefore, IsUnlocked, KeepsHandles, KeepsButStart, Turns, word_asked, ledger_seen};
 ghost use Rattle.brc_count.specs.Polling.{Polled};
@@ -11,8 +11,8 @@ ghost use Rattle.brc_count.specs.Closing.{Closes};
 ghost use Rattle.brc_count.specs.Owned.{Keeps, Gains};
 
 use crate::leaving::Leaving;
+use brc_biased::Home;
 use brc_count::{Frame, Handle, Ledger};
-use brc_counter::Home;
 use brc_words::{Fault, GLOBALS};
 use std::alloc::Allocator;
 use std::marker::Model;

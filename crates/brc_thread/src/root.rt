@@ -3,7 +3,7 @@
 ghost use Rattle.std.specs.Prelude.{◌≡◌, ◌≤◌, [], false, IfOk, IfErr, OnOk, OnErr};
 ghost use Rattle.brc_count.specs.Frames.{IsUnlocked, first_word, ledger_seen};
 ghost use Rattle.brc_words.specs.declared.limits.TheConstants.{MOST_THREADS};
-ghost use Rattle.brc_steps.specs.Joining.{next_thread, registering, gathering};
+ghost use Rattle.law_steps.specs.Joining.{next_thread, registering, gathering};
 ghost use Rattle.brc_table.specs.Seated.{view_of};
 ghost use Rattle.brc_thread.specs.Counting.{registrations, gatherings, births_of_all, frees_of_all, in_u32, in_u64};
 ghost use Rattle.brc_thread.specs.Threads.{RefusesThread};
@@ -11,8 +11,8 @@ ghost use Rattle.brc_thread.specs.Threads.{RefusesThread};
 use crate::heap::Heap;
 use crate::leaving::Retired;
 use crate::mutator::Mutator;
+use brc_biased::Home;
 use brc_count::{Frame, Ledger};
-use brc_counter::Home;
 use brc_table::RootSeat;
 use brc_words::{Fault, MOST_THREADS};
 use std::alloc::{Allocator, Global};

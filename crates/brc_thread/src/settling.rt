@@ -8,7 +8,7 @@ ghost use Rattle.brc_count.specs.Owned.{Keeps};
 ghost use Rattle.brc_thread.specs.Settling.{PollsAndWorks, Settles};
 
 use crate::mutator::Mutator;
-use brc_counter::Home;
+use brc_biased::Home;
 use std::alloc::Allocator;
 use std::sync::Wait;
 

@@ -5,12 +5,12 @@ use Rattle.std.proofs.lemmas.List.{reverse-append}
 use Rattle.std.proofs.Math.Seq.{take-append_seam}
 use Rattle.brc_words.specs.declared.fault.Fault.{Fault}
 use Rattle.brc_words.specs.declared.limits.TheConstants.{MOST_INPUT}
-use Rattle.brc_runs.specs.declared.edition.Edition.{Edition}
-use Rattle.brc_runs.specs.declared.edition.Edition.TheVariants as editions
-use Rattle.brc_runs.specs.declared.event.Event.{Event}
-use Rattle.brc_runs.specs.Heap.{Heap, opening_in}
-use Rattle.brc_runs.specs.Steps.{enabled, after}
-use Rattle.brc_runs.specs.Runs.{IsRun, world_after}
+use Rattle.law_world.specs.declared.edition.Edition.{Edition}
+use Rattle.law_world.specs.declared.edition.Edition.TheVariants as editions
+use Rattle.law_world.specs.declared.event.Event.{Event}
+use Rattle.law_world.specs.Heap.{Heap, opening_in}
+use Rattle.law_world.specs.Steps.{enabled, after}
+use Rattle.law_world.specs.Runs.{IsRun, world_after}
 use Rattle.brc_text.specs.Lines.{pieces}
 use Rattle.brc_trace.specs.Events.{event_at}
 use Rattle.brc_trace.specs.Traces.{by_line, before_others, first_number, events_at, below_head, IsHead}

@@ -2,8 +2,8 @@
 use Rattle.std.specs.Prelude.{◌≡◌, ◌≤◌, ℕ, ◌+◌, ◌-◌, ◌==◌, Bool, true, false, if◌then◌else◌, List, [], ◌∷◌, length, map, Option, Some, None, is_some, slice_index_or}
 use Rattle.std.specs.Char.{is_ascii_digit}
 use Rattle.std.specs.List.{list_any}
-use Rattle.brc_runs.specs.declared.edition.Edition.{Edition}
-use Rattle.brc_runs.specs.declared.edition.Edition.TheVariants as editions
+use Rattle.law_world.specs.declared.edition.Edition.{Edition}
+use Rattle.law_world.specs.declared.edition.Edition.TheVariants as editions
 use Rattle.brc_text.specs.declared.keyword.Keyword.{Keyword}
 use Rattle.brc_text.specs.declared.keyword.Keyword.TheVariants as words
 use Rattle.brc_text.specs.declared.token.Token.{Token}

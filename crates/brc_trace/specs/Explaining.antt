@@ -1,9 +1,9 @@
 -- Why a replay refuses a text.
 use Rattle.std.specs.Prelude.{◌≡◌, ◌<◌, ℕ, ◌+◌, Bool, List, length, take, reverse, Option, Some, None, Result, Ok, Err}
 use Rattle.brc_words.specs.declared.limits.TheConstants.{MOST_INPUT}
-use Rattle.brc_runs.specs.declared.event.Event.{Event}
-use Rattle.brc_runs.specs.Heap.{Heap, opening_in}
-use Rattle.brc_runs.specs.Runs.{IsRun, world_after}
+use Rattle.law_world.specs.declared.event.Event.{Event}
+use Rattle.law_world.specs.Heap.{Heap, opening_in}
+use Rattle.law_world.specs.Runs.{IsRun, world_after}
 use Rattle.brc_core.specs.Replays.{IsFirstNotEnabled}
 use Rattle.brc_state.specs.Refusals.{refusal_of}
 use Rattle.brc_trace.specs.Causes.{IsCause, edition_at, piece_at}

@@ -1,14 +1,14 @@
 //! What is wrong with a line that isn't one of a trace.
 
 ghost use Rattle.std.specs.Prelude.{◌≡◌, ◌-◌, ℕ, List, true, Some, None, IfOk, IfSome, MatchOption, drop, map};
-ghost use Rattle.brc_runs.specs.declared.edition.Edition.{Edition as TheEdition};
+ghost use Rattle.law_world.specs.declared.edition.Edition.{Edition as TheEdition};
 ghost use Rattle.brc_text.specs.Lines.{cut, tokens_at, pieces};
 ghost use Rattle.brc_trace.specs.Causes.{byte_at as byte_there, byte_before as byte_in_front, HasWideSpace, HasLeadingZero, is_step_word as is_of_a_step, event_word as word_of_event, form as form_of_word, has_form as have_form, IsCause, edition_at, first_piece, piece_at};
 
 use crate::event_line::{is_two, step_of};
 use crate::reading::{head_number, read_mark};
-use brc_runs::Edition;
 use brc_text::{Keyword, Token, Words};
+use law_world::Edition;
 use std::alloc::{AllocError, Allocator};
 
 /// What is wrong with a bad line: the first of these that is.

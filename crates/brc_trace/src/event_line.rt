@@ -13,9 +13,9 @@ use crate::operands::{
     both, cell_of, change_of, dropped_of, dropped_token, is_bare, is_thread, kind_of, last_of,
     last_token, only, place_of, queue_word_of, source_of, source_token, thread_of, word_of_kind,
 };
-use brc_runs::{Change, Edition, Event, Step};
 use brc_text::{Keyword, Token, Words, put_line};
 use brc_words::Fault;
+use law_world::{Change, Edition, Event, Step};
 use std::io::Write;
 
 // ---- reading

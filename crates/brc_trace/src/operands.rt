@@ -3,9 +3,9 @@
 ghost use Rattle.std.specs.Prelude.{◌≡◌};
 ghost use Rattle.brc_trace.specs.Operands.{is_thread as thread_fits, is_cell, is_place, is_entry, is_queue_word, number_at, kind_named, kind_at, kind_word, source_at, source_token as source_written, dropped_at, dropped_token as dropped_written, last_at, last_token as last_written, change_named, change_at, is_bare as has_no_word, only as only_word, both as both_words};
 
-use brc_runs::{Change, Dropped, LastDropped, Source};
 use brc_text::{Keyword, Letter, Token};
 use brc_words::{Kind, MOST_CELLS, MOST_ENTRIES, MOST_PLACES, MOST_THREADS};
+use law_world::{Change, Dropped, LastDropped, Source};
 
 /// A word of a merge queue has the bits of 32 cells.
 const MOST_QUEUE_WORDS: u32 = MOST_CELLS / 32;

@@ -3,8 +3,8 @@ use Rattle.std.proofs.Common.{◌≡◌, ◌≢◌, ◌∙◌, refl, sym, subst,
 use Rattle.std.proofs.lemmas.Option.{same_Some}
 use Rattle.brc_words.specs.declared.fault.Fault.{Fault}
 use Rattle.brc_words.specs.declared.fault.Fault.TheVariants as faults
-use Rattle.brc_runs.specs.declared.event.Change.TheVariants as changes
-use Rattle.brc_rule.specs.declared.contents.Contents.{Contents}
+use Rattle.law_world.specs.declared.event.Change.TheVariants as changes
+use Rattle.law_rule.specs.declared.contents.Contents.{Contents}
 use Rattle.brc_count.specs.declared.handed.Handed.{Handed}
 use Rattle.brc_count.specs.Frames.{FrameSeen, HandleSeen}
 use Rattle.brc_count.specs.Locking.{KeepsFrame, cell_in}

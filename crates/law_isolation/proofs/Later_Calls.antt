@@ -4,15 +4,15 @@ use Rattle.std.proofs.lemmas.Bool.Decides.{leb_tells}
 use Rattle.brc_words.specs.declared.fault.Fault.{Fault}
 use Rattle.brc_words.specs.declared.fault.Fault.TheVariants as faults
 use Rattle.brc_words.specs.declared.limits.TheConstants.{FIRST_MORTAL}
-use Rattle.brc_runs.specs.declared.event.Change.{Change}
-use Rattle.brc_runs.specs.declared.event.Source.{Source}
-use Rattle.brc_rule.specs.declared.contents.Contents.{Contents}
-use Rattle.brc_rule.specs.declared.told.Told.{Told}
+use Rattle.law_world.specs.declared.event.Change.{Change}
+use Rattle.law_world.specs.declared.event.Source.{Source}
+use Rattle.law_rule.specs.declared.contents.Contents.{Contents}
+use Rattle.law_rule.specs.declared.told.Told.{Told}
 use Rattle.brc_count.specs.Frames.{FrameSeen, HandleSeen, Given, CountsUp, IsAsBefore}
-use Rattle.brc_counter.specs.Up.{CountsHere}
-use Rattle.brc_counter.specs.Seeking.{ClaimsAround, PassesOver}
+use Rattle.brc_biased.specs.Up.{CountsHere}
+use Rattle.brc_biased.specs.Seeking.{ClaimsAround, PassesOver}
 use Rattle.brc_count.specs.Making.{Made}
-use Rattle.brc_rule.specs.Seen.{counts_seen}
+use Rattle.law_rule.specs.Seen.{counts_seen}
 use Rattle.brc_lock.specs.Waiting.{Waits, IsBusy}
 use Rattle.brc_containers.specs.Called.{Late}
 use Rattle.brc_containers.specs.Changing.{PlainCall, Changes, Puts, Swaps, Takes, Shares, RefusedPlainly, RefusedForWant}

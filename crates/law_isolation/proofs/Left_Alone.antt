@@ -1,25 +1,25 @@
 -- What items that neither bear nor free leave alone: private cells' payloads, but that of an unlocked one; dead cells; births.
 use Rattle.std.proofs.Common.{◌≡◌, ◌∙◌, refl, sym, ap, subst, ℕ, ◌+◌, eqb, Bool, true, false, ◌&&◌, not, cond, arith, List, ◌∷◌, Option, Some, None, ◌⊎◌, inl, inr}
 use Rattle.std.proofs.lemmas.Bool.{cases_Bool, cases_lt, eqb-true, cond-true, cond-false}
-use Rattle.brc_runs.specs.declared.event.Change.{Change}
-use Rattle.brc_runs.specs.declared.event.Change.TheVariants as changes
-use Rattle.brc_runs.specs.declared.event.Source.{Source}
-use Rattle.brc_runs.specs.declared.event.Step.TheVariants.{Lock, Unlock, LocalUp, SharedUp}
-use Rattle.brc_runs.specs.Lists.{place_at, is_marked}
-use Rattle.brc_runs.specs.Steps.{locked_cell}
+use Rattle.law_world.specs.declared.event.Change.{Change}
+use Rattle.law_world.specs.declared.event.Change.TheVariants as changes
+use Rattle.law_world.specs.declared.event.Source.{Source}
+use Rattle.law_world.specs.declared.event.Step.TheVariants.{Lock, Unlock, LocalUp, SharedUp}
+use Rattle.law_world.specs.Lists.{place_at, is_marked}
+use Rattle.law_world.specs.Steps.{locked_cell}
 use Rattle.brc_words.specs.declared.limits.TheConstants.{FIRST_MORTAL}
-use Rattle.brc_known.specs.Items.{Part, part_by, meant}
-use Rattle.brc_known.specs.declared.word.Field.TheVariants.{Mutex}
-use Rattle.brc_known.specs.declared.word.Word.{Word}
-use Rattle.brc_known.specs.declared.word.Word.TheVariants.{Of}
-use Rattle.brc_rule.specs.declared.contents.Contents.{Contents}
-use Rattle.brc_rule.specs.declared.told.Moved.{Moved}
-use Rattle.brc_rule.specs.declared.told.Moved.TheVariants as moves
-use Rattle.brc_rule.specs.declared.told.Told.{Told}
-use Rattle.brc_rule.specs.declared.told.Told.TheVariants.{Did, Lost}
-use Rattle.brc_rule.specs.Logs.{entries_found}
-use Rattle.brc_rule.specs.Seen.{part_seen, counts_seen}
-use Rattle.brc_counter.specs.Up.{CountsHere}
+use Rattle.law_known.specs.Items.{Part, part_by, meant}
+use Rattle.law_known.specs.declared.word.Field.TheVariants.{Mutex}
+use Rattle.law_known.specs.declared.word.Word.{Word}
+use Rattle.law_known.specs.declared.word.Word.TheVariants.{Of}
+use Rattle.law_rule.specs.declared.contents.Contents.{Contents}
+use Rattle.law_rule.specs.declared.told.Moved.{Moved}
+use Rattle.law_rule.specs.declared.told.Moved.TheVariants as moves
+use Rattle.law_rule.specs.declared.told.Told.{Told}
+use Rattle.law_rule.specs.declared.told.Told.TheVariants.{Did, Lost}
+use Rattle.law_rule.specs.Logs.{entries_found}
+use Rattle.law_rule.specs.Seen.{part_seen, counts_seen}
+use Rattle.brc_biased.specs.Up.{CountsHere}
 use Rattle.brc_count.specs.Frames.{FrameSeen, CountsUp, place_seen}
 use Rattle.brc_table.specs.Seated.{TableSeen}
 use Rattle.brc_lock.specs.Waiting.{Waits, NoTry, OneMore}

@@ -3,16 +3,16 @@ use Rattle.std.proofs.Common.{◌≡◌, ◌≢◌, ℕ, ◌+◌, ◌==◌, ◌^
 use Rattle.std.proofs.lemmas.Bool.{cases_eq, eq-eqb, ne_eqb, true≢false}
 use Rattle.std.proofs.lemmas.Option.{slice_get_within}
 use Rattle.brc_words.specs.declared.kind.Kind.{Kind}
-use Rattle.brc_runs.specs.declared.event.Step.TheVariants.{Birth, Claim, InitLocal, InitShared}
-use Rattle.brc_known.proofs.Kept_Law.{places_kept}
-use Rattle.brc_rule.specs.declared.contents.Contents.{Contents}
-use Rattle.brc_rule.specs.declared.told.Moved.TheVariants as moves
-use Rattle.brc_rule.specs.declared.told.Told.{Told}
-use Rattle.brc_rule.specs.declared.told.Told.TheVariants.{Did, Saw, Lost}
-use Rattle.brc_rule.specs.Logs.{kind_in, log_items}
-use Rattle.brc_rule.specs.Seen.{part_seen}
+use Rattle.law_world.specs.declared.event.Step.TheVariants.{Birth, Claim, InitLocal, InitShared}
+use Rattle.law_known.proofs.Kept_Law.{places_kept}
+use Rattle.law_rule.specs.declared.contents.Contents.{Contents}
+use Rattle.law_rule.specs.declared.told.Moved.TheVariants as moves
+use Rattle.law_rule.specs.declared.told.Told.{Told}
+use Rattle.law_rule.specs.declared.told.Told.TheVariants.{Did, Saw, Lost}
+use Rattle.law_rule.specs.Logs.{kind_in, log_items}
+use Rattle.law_rule.specs.Seen.{part_seen}
 use Rattle.brc_table.specs.Seated.{TableSeen}
-use Rattle.brc_counter.specs.Seeking.{ClaimsAround, are_free_looks, is_free_look}
+use Rattle.brc_biased.specs.Seeking.{ClaimsAround, are_free_looks, is_free_look}
 use Rattle.brc_count.specs.Frames.{FrameSeen, HandleSeen, place_seen}
 use Rattle.brc_count.specs.Making.{Made}
 use Rattle.brc_handles.specs.Handles.{slot}

@@ -1,7 +1,7 @@
 -- What a frame and its registers mean once a handle has a new object, or an integer.
 use Rattle.std.proofs.Common.{◌≡◌, ℕ, Bool, true, false, if◌then◌else◌, List, [], length, Option, Some, None, ℤ, refl, sym, subst}
 use Rattle.std.proofs.lemmas.List.Elements.{All-nil}
-use Rattle.brc_rule.specs.declared.contents.Contents.TheVariants as contents
+use Rattle.law_rule.specs.declared.contents.Contents.TheVariants as contents
 use Rattle.brc_count.specs.Frames.{FrameSeen, HandleSeen}
 use Rattle.brc_count.specs.Making.{Made}
 use Rattle.brc_things.specs.Makers.{Answered, small_cell}

@@ -7,11 +7,11 @@ use Rattle.brc_words.specs.declared.fault.Fault.TheVariants as faults
 use Rattle.brc_words.specs.declared.key.Key.{Key}
 use Rattle.brc_words.specs.declared.kind.Kind.{Kind}
 use Rattle.brc_words.specs.declared.kind.Kind.TheVariants as kinds
-use Rattle.brc_rule.specs.declared.contents.PlainKey.{PlainKey}
-use Rattle.brc_rule.specs.declared.contents.Contents.{Contents}
-use Rattle.brc_rule.specs.declared.contents.Contents.TheVariants as contents
-use Rattle.brc_rule.specs.Logs.{kind_in}
-use Rattle.brc_rule.specs.Logs as logs
+use Rattle.law_rule.specs.declared.contents.PlainKey.{PlainKey}
+use Rattle.law_rule.specs.declared.contents.Contents.{Contents}
+use Rattle.law_rule.specs.declared.contents.Contents.TheVariants as contents
+use Rattle.law_rule.specs.Logs.{kind_in}
+use Rattle.law_rule.specs.Logs as logs
 use Rattle.brc_table.specs.Shown.{plain_key}
 use Rattle.brc_count.specs.Frames.{FrameSeen, HandleSeen}
 use Rattle.brc_count.specs.Locking.{KeepsThread, KeepsFrame}

@@ -3,18 +3,18 @@
 use Rattle.std.proofs.Common.{◌≡◌, ℕ, ◌+◌, ◌-◌, ◌&&◌, nat_le, if◌then◌else◌, Bool, true, false, List, [], ◌∷◌, Option, Some, None, slice_index_or, ℤ, pos, negsuc, refl, sym, ◌∙◌, ap, subst, inl, inr, arith}
 use Rattle.std.proofs.lemmas.Bool.{cases_eq, cases_lt, true≢false}
 use Rattle.brc_words.specs.declared.limits.TheConstants.{FIRST_MORTAL}
-use Rattle.brc_runs.specs.declared.event.Source.{Source}
-use Rattle.brc_runs.specs.declared.event.Source.TheVariants as sources
-use Rattle.brc_runs.specs.declared.event.Step.{Step}
-use Rattle.brc_runs.specs.declared.event.Step.TheVariants.{LocalUp, SharedUp}
-use Rattle.brc_runs.specs.Lists.{is_marked}
-use Rattle.brc_known.specs.Items.{Part, meant, part_by}
-use Rattle.brc_rule.specs.declared.told.Moved.TheVariants.{Nothing}
-use Rattle.brc_rule.specs.declared.told.Told.{Told}
-use Rattle.brc_rule.specs.declared.told.Told.TheVariants.{Did}
-use Rattle.brc_rule.specs.Seen.{part_seen, counts_seen}
+use Rattle.law_world.specs.declared.event.Source.{Source}
+use Rattle.law_world.specs.declared.event.Source.TheVariants as sources
+use Rattle.law_world.specs.declared.event.Step.{Step}
+use Rattle.law_world.specs.declared.event.Step.TheVariants.{LocalUp, SharedUp}
+use Rattle.law_world.specs.Lists.{is_marked}
+use Rattle.law_known.specs.Items.{Part, meant, part_by}
+use Rattle.law_rule.specs.declared.told.Moved.TheVariants.{Nothing}
+use Rattle.law_rule.specs.declared.told.Told.{Told}
+use Rattle.law_rule.specs.declared.told.Told.TheVariants.{Did}
+use Rattle.law_rule.specs.Seen.{part_seen, counts_seen}
 use Rattle.brc_table.specs.Seated.{TableSeen}
-use Rattle.brc_counter.specs.Up.{CountsHere}
+use Rattle.brc_biased.specs.Up.{CountsHere}
 use Rattle.brc_count.specs.Frames.{FrameSeen, HandleSeen, CountsUp, Given, place_seen}
 use Rattle.brc_things.specs.Makers.{small_cell}
 use Rattle.brc_handles.specs.Handles.{slot}

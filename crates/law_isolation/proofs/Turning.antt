@@ -2,17 +2,17 @@
 -- private; and where it keeps what it found, all is left alone.
 use Rattle.std.proofs.Common.{◌≡◌, ◌∙◌, sym, ap, ℕ, ◌+◌, eqb, cond, true, List, ◌∷◌, Some, inl, inr}
 use Rattle.std.proofs.lemmas.Bool.{cases_Bool, cases_lt, eqb-true, cond-true, cond-false}
-use Rattle.brc_runs.specs.declared.event.Change.{Change}
-use Rattle.brc_runs.specs.declared.event.Change.TheVariants as changes
-use Rattle.brc_runs.specs.declared.event.Source.{Source}
-use Rattle.brc_runs.specs.declared.event.Source.TheVariants as sources
-use Rattle.brc_runs.specs.declared.event.Step.TheVariants.{Lock, Unlock, LocalUp, SharedUp}
+use Rattle.law_world.specs.declared.event.Change.{Change}
+use Rattle.law_world.specs.declared.event.Change.TheVariants as changes
+use Rattle.law_world.specs.declared.event.Source.{Source}
+use Rattle.law_world.specs.declared.event.Source.TheVariants as sources
+use Rattle.law_world.specs.declared.event.Step.TheVariants.{Lock, Unlock, LocalUp, SharedUp}
 use Rattle.brc_words.specs.declared.limits.TheConstants.{FIRST_MORTAL}
-use Rattle.brc_rule.specs.declared.contents.Contents.{Contents}
-use Rattle.brc_rule.specs.declared.told.Moved.TheVariants as moves
-use Rattle.brc_rule.specs.declared.told.Told.{Told}
-use Rattle.brc_rule.specs.declared.told.Told.TheVariants.{Did}
-use Rattle.brc_rule.specs.Seen.{part_seen, counts_seen}
+use Rattle.law_rule.specs.declared.contents.Contents.{Contents}
+use Rattle.law_rule.specs.declared.told.Moved.TheVariants as moves
+use Rattle.law_rule.specs.declared.told.Told.{Told}
+use Rattle.law_rule.specs.declared.told.Told.TheVariants.{Did}
+use Rattle.law_rule.specs.Seen.{part_seen, counts_seen}
 use Rattle.brc_count.specs.Frames.{FrameSeen, HandleSeen, CountsUp, place_seen}
 use Rattle.brc_count.specs.Locking.{cell_in}
 use Rattle.brc_containers.specs.Changing.{PlainCall, Changes, Shares}

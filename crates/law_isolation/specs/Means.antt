@@ -2,9 +2,9 @@
 -- which it lies with cells for objects.
 use Rattle.std.specs.Prelude.{◌≡◌, ℕ, ◌+◌, ◌-◌, ℤ, pos, negsuc, Bool, true, false, ◌&&◌, not, List, map, length, Option, Some, None, is_some, slice_get, slice_index_or}
 use Rattle.brc_words.specs.declared.key.Key.{Key}
-use Rattle.brc_rule.specs.declared.contents.Contents.{Contents}
-use Rattle.brc_rule.specs.declared.contents.Contents.TheVariants as contents
-use Rattle.brc_rule.specs.declared.told.Told.{Told}
+use Rattle.law_rule.specs.declared.contents.Contents.{Contents}
+use Rattle.law_rule.specs.declared.contents.Contents.TheVariants as contents
+use Rattle.law_rule.specs.declared.told.Told.{Told}
 use Rattle.brc_table.specs.Shown.{plain_key}
 use Rattle.brc_count.specs.Frames.{FrameSeen, HandleSeen, place_seen, ledger_seen}
 use Rattle.brc_handles.specs.Handles.{slot}

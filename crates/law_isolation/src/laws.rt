@@ -2,8 +2,8 @@
 //! do.
 
 ghost use Rattle.std.specs.Prelude.{◌≡◌, ◌<◌, ℕ, ℤ, List, Option, Some, None, length, slice_set, slice_index_or};
-ghost use Rattle.brc_runs.specs.declared.event.Source.TheVariants as sources;
-ghost use Rattle.brc_rule.specs.declared.contents.Contents.TheVariants as contents;
+ghost use Rattle.law_world.specs.declared.event.Source.TheVariants as sources;
+ghost use Rattle.law_rule.specs.declared.contents.Contents.TheVariants as contents;
 ghost use Rattle.brc_count.specs.Frames.{FrameSeen as frame, HandleSeen as handle, Given, ReleasedOf, Turns, KeepsHandles, IsAsBefore, place_seen, ledger_seen};
 ghost use Rattle.brc_count.specs.Making.{Made};
 ghost use Rattle.brc_count.specs.Polling.{Polled};

@@ -1,6 +1,6 @@
 -- What a log tells its shorter logs tell too.
 use Rattle.std.proofs.Common.{◌≡◌, ◌∙◌, ℕ, List, [], ◌∷◌, ◌++◌, refl, sym, ap, subst}
-use Rattle.brc_rule.specs.declared.told.Told.{Told}
+use Rattle.law_rule.specs.declared.told.Told.{Told}
 use Rattle.law_living.specs.Living.{OwnLog}
 use Rattle.law_living.specs.Quiet.{Quietly}
 use Rattle.law_living.specs.Later.{IsLater}

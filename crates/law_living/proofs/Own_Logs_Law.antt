@@ -5,41 +5,41 @@ use mathlib.Core.Option.{some}
 use lib.ListN.{get_elem?}
 use Rattle.atomic_table.specs.Table.{State}
 use Rattle.brc_words.specs.declared.kind.Kind.{Kind}
-use Rattle.brc_runs.specs.declared.edition.Edition.TheVariants as editions
-use Rattle.brc_runs.specs.declared.event.Event.{Event}
-use Rattle.brc_runs.specs.declared.event.Step.{Step}
-use Rattle.brc_runs.specs.declared.event.Step.TheVariants.{Birth, Free, Lock, Register, Gather}
-use Rattle.brc_runs.specs.declared.row.Phase.TheVariants as phases
-use Rattle.brc_runs.specs.declared.row.Row.{Row}
-use Rattle.brc_runs.specs.Lists.{place_at, is_marked}
-use Rattle.brc_runs.specs.Heap.{Heap, opening, row_at, frame_at, worklist_at, entries_at, AreOptions}
-use Rattle.brc_runs.specs.Holding.{lives}
-use Rattle.brc_runs.specs.Sound.{IsSound}
-use Rattle.brc_runs.specs.Steps.{enabled, after, root_after, root_may, thread_may, target_at, is_active}
-use Rattle.brc_runs.proofs.Asking.{May, may_parts}
-use Rattle.brc_runs.proofs.Counting.{held_unmarked}
-use Rattle.brc_runs.proofs.Dropping.{held_by_place, held_by_entry}
-use Rattle.brc_runs.proofs.Lifetimes.{run_edition}
-use Rattle.brc_runs.proofs.Naming.{one-false, busy_hand}
-use Rattle.brc_lasting.specs.Staying.{is_about}
-use Rattle.brc_lasting.proofs.Lasting.{others_own, bearing}
-use Rattle.brc_known.specs.Items.{IsPart, MayCome, events_of, is_start, part_of}
-use Rattle.brc_known.proofs.Items_Law.{parts_are_told}
-use Rattle.brc_rule.specs.declared.contents.Contents.{Contents}
-use Rattle.brc_rule.specs.declared.told.Moved.{Moved}
-use Rattle.brc_rule.specs.declared.told.Moved.TheVariants as moves
-use Rattle.brc_rule.specs.declared.told.Told.{Told}
-use Rattle.brc_rule.specs.declared.told.Told.TheVariants.{Did, Saw, Lost}
-use Rattle.brc_rule.specs.declared.view.View.{View}
-use Rattle.brc_rule.specs.Homes.{AtRest, ContentsFit}
-use Rattle.brc_rule.specs.Logs.{item_of, Run, items_of, own_of, world, entries_in, IsLegal}
-use Rattle.brc_rule.specs.Rule.{Kept}
-use Rattle.brc_rule.specs.Seen.{part_seen}
-use Rattle.brc_rule.proofs.Contents_Law.{contents_fit}
-use Rattle.brc_rule.proofs.Knowing.{Known, kept_part}
-use Rattle.brc_rule.proofs.Once.{rule_logs}
-use Rattle.brc_rule.proofs.Own_Logs.{own_items, own_more}
-use Rattle.brc_rule.proofs.Stepping.{moved_on}
+use Rattle.law_world.specs.declared.edition.Edition.TheVariants as editions
+use Rattle.law_world.specs.declared.event.Event.{Event}
+use Rattle.law_world.specs.declared.event.Step.{Step}
+use Rattle.law_world.specs.declared.event.Step.TheVariants.{Birth, Free, Lock, Register, Gather}
+use Rattle.law_world.specs.declared.row.Phase.TheVariants as phases
+use Rattle.law_world.specs.declared.row.Row.{Row}
+use Rattle.law_world.specs.Lists.{place_at, is_marked}
+use Rattle.law_world.specs.Heap.{Heap, opening, row_at, frame_at, worklist_at, entries_at, AreOptions}
+use Rattle.law_world.specs.Holding.{lives}
+use Rattle.law_world.specs.Sound.{IsSound}
+use Rattle.law_world.specs.Steps.{enabled, after, root_after, root_may, thread_may, target_at, is_active}
+use Rattle.law_world.proofs.Asking.{May, may_parts}
+use Rattle.law_world.proofs.Counting.{held_unmarked}
+use Rattle.law_world.proofs.Dropping.{held_by_place, held_by_entry}
+use Rattle.law_world.proofs.Lifetimes.{run_edition}
+use Rattle.law_world.proofs.Naming.{one-false, busy_hand}
+use Rattle.law_lasting.specs.Staying.{is_about}
+use Rattle.law_lasting.proofs.Lasting.{others_own, bearing}
+use Rattle.law_known.specs.Items.{IsPart, MayCome, events_of, is_start, part_of}
+use Rattle.law_known.proofs.Items_Law.{parts_are_told}
+use Rattle.law_rule.specs.declared.contents.Contents.{Contents}
+use Rattle.law_rule.specs.declared.told.Moved.{Moved}
+use Rattle.law_rule.specs.declared.told.Moved.TheVariants as moves
+use Rattle.law_rule.specs.declared.told.Told.{Told}
+use Rattle.law_rule.specs.declared.told.Told.TheVariants.{Did, Saw, Lost}
+use Rattle.law_rule.specs.declared.view.View.{View}
+use Rattle.law_rule.specs.Homes.{AtRest, ContentsFit}
+use Rattle.law_rule.specs.Logs.{item_of, Run, items_of, own_of, world, entries_in, IsLegal}
+use Rattle.law_rule.specs.Rule.{Kept}
+use Rattle.law_rule.specs.Seen.{part_seen}
+use Rattle.law_rule.proofs.Contents_Law.{contents_fit}
+use Rattle.law_rule.proofs.Knowing.{Known, kept_part}
+use Rattle.law_rule.proofs.Once.{rule_logs}
+use Rattle.law_rule.proofs.Own_Logs.{own_items, own_more}
+use Rattle.law_rule.proofs.Stepping.{moved_on}
 use Rattle.law_private.specs.Private.{Isolated}
 use Rattle.law_private.proofs.Private_Law.{active_before}
 use Rattle.law_payloads.specs.Payloads.{private_seen, last_put, LockingFits, OwnLocks}

@@ -2,23 +2,23 @@
 use Rattle.std.proofs.Common.{◌≡◌, ℕ, ◌==◌, ◌&&◌, Bool, true, false, if◌then◌else◌, List, ◌∷◌, length, Option, Some, None, slice_set, refl, sym, ◌∙◌, ap, inl, inr, arith}
 use Rattle.std.proofs.lemmas.Bool.{cases_eq, cases_lt, eq-eqb, true≢false}
 use Rattle.std.proofs.lemmas.List.{get_or_past, get_or-set_same, length-set}
-use Rattle.brc_runs.specs.declared.cell.Cell.{Cell}
-use Rattle.brc_runs.specs.declared.event.Dropped.{Dropped}
-use Rattle.brc_runs.specs.declared.event.Dropped.TheVariants as dropped
-use Rattle.brc_runs.specs.declared.event.Step.{Step}
-use Rattle.brc_runs.specs.declared.event.Step.TheVariants.{Birth, LocalUp, SharedUp, Free, Lock, Unlock, Offer}
-use Rattle.brc_runs.specs.Lists.{place_at, vacated, is_marked}
-use Rattle.brc_runs.specs.Steps.{gone, frame_without, frame_after, worklist_after, worklist_with, takes_block, allocs_after, locked_cell}
-use Rattle.brc_runs.proofs.Changes.{read_there}
-use Rattle.brc_runs.proofs.Framing.{place_at-vacated_else}
-use Rattle.brc_known.specs.Items.{Part, meant, part_by, cell_told}
-use Rattle.brc_rule.specs.declared.contents.Contents.{Contents}
-use Rattle.brc_rule.specs.declared.told.Moved.{Moved}
-use Rattle.brc_rule.specs.declared.told.Moved.TheVariants as moves
-use Rattle.brc_rule.specs.declared.told.Told.{Told}
-use Rattle.brc_rule.specs.declared.told.Told.TheVariants.{Did, Saw, Lost}
-use Rattle.brc_rule.specs.Logs.{entries_found}
-use Rattle.brc_rule.specs.Seen.{part_seen}
+use Rattle.law_world.specs.declared.cell.Cell.{Cell}
+use Rattle.law_world.specs.declared.event.Dropped.{Dropped}
+use Rattle.law_world.specs.declared.event.Dropped.TheVariants as dropped
+use Rattle.law_world.specs.declared.event.Step.{Step}
+use Rattle.law_world.specs.declared.event.Step.TheVariants.{Birth, LocalUp, SharedUp, Free, Lock, Unlock, Offer}
+use Rattle.law_world.specs.Lists.{place_at, vacated, is_marked}
+use Rattle.law_world.specs.Steps.{gone, frame_without, frame_after, worklist_after, worklist_with, takes_block, allocs_after, locked_cell}
+use Rattle.law_world.proofs.Changes.{read_there}
+use Rattle.law_world.proofs.Framing.{place_at-vacated_else}
+use Rattle.law_known.specs.Items.{Part, meant, part_by, cell_told}
+use Rattle.law_rule.specs.declared.contents.Contents.{Contents}
+use Rattle.law_rule.specs.declared.told.Moved.{Moved}
+use Rattle.law_rule.specs.declared.told.Moved.TheVariants as moves
+use Rattle.law_rule.specs.declared.told.Told.{Told}
+use Rattle.law_rule.specs.declared.told.Told.TheVariants.{Did, Saw, Lost}
+use Rattle.law_rule.specs.Logs.{entries_found}
+use Rattle.law_rule.specs.Seen.{part_seen}
 use Rattle.law_payloads.specs.Payloads.{private_seen, last_put, payloads_of, locked_seen}
 use Rattle.law_living.specs.Living.{is_dead}
 use Rattle.law_living.specs.Quiet.{only_lets_go, puts_nothing, is_quiet, frees, Quietly, NoItem, OneMore}

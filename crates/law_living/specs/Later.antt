@@ -1,6 +1,6 @@
 -- A log with more items after it.
 use Rattle.std.specs.Prelude.{◌≡◌, List, ◌++◌}
-use Rattle.brc_rule.specs.declared.told.Told.{Told}
+use Rattle.law_rule.specs.declared.told.Told.{Told}
 
 -- the second log is the first with some items after it
 pub record IsLater (old new : List Told) : Type 0 where

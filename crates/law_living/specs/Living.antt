@@ -1,14 +1,14 @@
 -- What a thread's own log tells of what lives. A cell that a place of its frame has, or an entry of a private cell that isn't dead,
 -- isn't dead; and each own step fits what stood before it.
 use Rattle.std.specs.Prelude.{◌≡◌, ℕ, Bool, true, false, List, [], ◌∷◌, Some, slice_get}
-use Rattle.brc_runs.specs.Lists.{place_at, is_marked}
-use Rattle.brc_runs.specs.declared.event.Step.TheVariants.{Lock, Birth, Free}
-use Rattle.brc_rule.specs.declared.contents.Contents.{Contents}
-use Rattle.brc_rule.specs.declared.told.Moved.TheVariants as moves
-use Rattle.brc_rule.specs.declared.told.Told.{Told}
-use Rattle.brc_rule.specs.declared.told.Told.TheVariants.{Did}
-use Rattle.brc_rule.specs.Logs.{entries_in}
-use Rattle.brc_rule.specs.Seen.{part_seen}
+use Rattle.law_world.specs.Lists.{place_at, is_marked}
+use Rattle.law_world.specs.declared.event.Step.TheVariants.{Lock, Birth, Free}
+use Rattle.law_rule.specs.declared.contents.Contents.{Contents}
+use Rattle.law_rule.specs.declared.told.Moved.TheVariants as moves
+use Rattle.law_rule.specs.declared.told.Told.{Told}
+use Rattle.law_rule.specs.declared.told.Told.TheVariants.{Did}
+use Rattle.law_rule.specs.Logs.{entries_in}
+use Rattle.law_rule.specs.Seen.{part_seen}
 use Rattle.law_payloads.specs.Payloads.{private_seen, payloads_of, FindsOwn}
 
 -- the cell is on the worklist of the log's thread: its object is dead, and the cell not yet given back

@@ -4,18 +4,18 @@ use Rattle.std.proofs.lemmas.Bool.{cases_Bool}
 use mathlib.Core.Option.{some}
 use lib.ListN.{get_elem?}
 use Rattle.atomic_table.specs.Table.{State}
-use Rattle.brc_runs.specs.Lists.{is_marked}
-use Rattle.brc_runs.specs.Heap.{Heap, row_at, worklist_at, entries_at, AreOptions}
-use Rattle.brc_runs.specs.Steps.{is_active, locked_at}
-use Rattle.brc_lasting.proofs.Lasting.{dead_unlocked, locked_mutex}
-use Rattle.brc_rule.specs.declared.contents.Contents.{Contents}
-use Rattle.brc_rule.specs.declared.view.View.{View}
-use Rattle.brc_rule.specs.Homes.{AtRest, ContentsFit}
-use Rattle.brc_rule.specs.Logs.{Run, items_of, own_of, world, entries_in, IsLegal}
-use Rattle.brc_rule.specs.Rule.{Kept}
-use Rattle.brc_rule.proofs.Contents_Law.{contents_fit}
-use Rattle.brc_rule.proofs.Once.{rule_logs}
-use Rattle.brc_rule.proofs.Own_Logs.{own_items}
+use Rattle.law_world.specs.Lists.{is_marked}
+use Rattle.law_world.specs.Heap.{Heap, row_at, worklist_at, entries_at, AreOptions}
+use Rattle.law_world.specs.Steps.{is_active, locked_at}
+use Rattle.law_lasting.proofs.Lasting.{dead_unlocked, locked_mutex}
+use Rattle.law_rule.specs.declared.contents.Contents.{Contents}
+use Rattle.law_rule.specs.declared.view.View.{View}
+use Rattle.law_rule.specs.Homes.{AtRest, ContentsFit}
+use Rattle.law_rule.specs.Logs.{Run, items_of, own_of, world, entries_in, IsLegal}
+use Rattle.law_rule.specs.Rule.{Kept}
+use Rattle.law_rule.proofs.Contents_Law.{contents_fit}
+use Rattle.law_rule.proofs.Once.{rule_logs}
+use Rattle.law_rule.proofs.Own_Logs.{own_items}
 use Rattle.law_private.specs.Private.{private_of}
 use Rattle.law_private.specs.Own_Entries.{keeps_own, OwnEntries}
 use Rattle.law_private.proofs.Own_Entries_Law.{entries_stay_own}

@@ -3,31 +3,31 @@ use Rattle.std.proofs.Common.{◌≡◌, ◌≢◌, ℕ, ◌<◌, ◌==◌, Bool
 use Rattle.std.proofs.lemmas.List.{get_or_past}
 use Rattle.std.proofs.lemmas.Bool.{cases_eq, cases_lt, cases_Bool, eq-eqb, eqb-true, lt-ltb, true≢false}
 use Rattle.std.specs.Cmp.Derive.{both_true}
-use Rattle.brc_runs.specs.declared.event.Event.{Event}
-use Rattle.brc_runs.specs.declared.event.Step.{Step}
-use Rattle.brc_runs.specs.declared.event.Step.TheVariants.{Birth, Free, Unlock, Register, Gather, Offer}
-use Rattle.brc_runs.specs.declared.row.Row.{Row}
-use Rattle.brc_runs.specs.Heap.{Heap, opening, row_at, no_row, is_registered, AreOptions}
-use Rattle.brc_runs.specs.Sound.{IsSound}
-use Rattle.brc_runs.specs.Steps.{enabled, after, root_after, root_may, thread_may, target_at, is_active, born_cell}
-use Rattle.brc_runs.specs.Runs.{IsReached}
-use Rattle.brc_runs.proofs.Asking.{May, may_parts}
-use Rattle.brc_runs.proofs.Lifetimes.{run_edition}
-use Rattle.brc_runs.proofs.Reached.{reached_sound}
-use Rattle.brc_lasting.specs.Staying.{is_about}
-use Rattle.brc_lasting.proofs.Lasting.{others_own}
-use Rattle.brc_lasting.proofs.Standing.{run_reached}
-use Rattle.brc_known.specs.Items.{MayCome, events_of, is_start}
-use Rattle.brc_known.proofs.Items_Runs.{events_run}
-use Rattle.brc_rule.specs.declared.contents.Contents.{Contents}
-use Rattle.brc_rule.specs.declared.told.Moved.{Moved}
-use Rattle.brc_rule.specs.declared.told.Moved.TheVariants as moves
-use Rattle.brc_rule.specs.declared.told.Told.{Told}
-use Rattle.brc_rule.specs.declared.told.Told.TheVariants.{Did, Saw, Lost}
-use Rattle.brc_rule.specs.Logs.{item_of, Run, items_of, own_of, world, put_by, contents_at, puts, MovesWith, IsMoved, IsLegal}
-use Rattle.brc_rule.proofs.Own_Logs.{own_items, own_more, own_same}
-use Rattle.brc_rule.proofs.Stepping.{moved_on, no_start}
-use Rattle.brc_rule.proofs.Locked_Contents.{not_put}
+use Rattle.law_world.specs.declared.event.Event.{Event}
+use Rattle.law_world.specs.declared.event.Step.{Step}
+use Rattle.law_world.specs.declared.event.Step.TheVariants.{Birth, Free, Unlock, Register, Gather, Offer}
+use Rattle.law_world.specs.declared.row.Row.{Row}
+use Rattle.law_world.specs.Heap.{Heap, opening, row_at, no_row, is_registered, AreOptions}
+use Rattle.law_world.specs.Sound.{IsSound}
+use Rattle.law_world.specs.Steps.{enabled, after, root_after, root_may, thread_may, target_at, is_active, born_cell}
+use Rattle.law_world.specs.Runs.{IsReached}
+use Rattle.law_world.proofs.Asking.{May, may_parts}
+use Rattle.law_world.proofs.Lifetimes.{run_edition}
+use Rattle.law_world.proofs.Reached.{reached_sound}
+use Rattle.law_lasting.specs.Staying.{is_about}
+use Rattle.law_lasting.proofs.Lasting.{others_own}
+use Rattle.law_lasting.proofs.Standing.{run_reached}
+use Rattle.law_known.specs.Items.{MayCome, events_of, is_start}
+use Rattle.law_known.proofs.Items_Runs.{events_run}
+use Rattle.law_rule.specs.declared.contents.Contents.{Contents}
+use Rattle.law_rule.specs.declared.told.Moved.{Moved}
+use Rattle.law_rule.specs.declared.told.Moved.TheVariants as moves
+use Rattle.law_rule.specs.declared.told.Told.{Told}
+use Rattle.law_rule.specs.declared.told.Told.TheVariants.{Did, Saw, Lost}
+use Rattle.law_rule.specs.Logs.{item_of, Run, items_of, own_of, world, put_by, contents_at, puts, MovesWith, IsMoved, IsLegal}
+use Rattle.law_rule.proofs.Own_Logs.{own_items, own_more, own_same}
+use Rattle.law_rule.proofs.Stepping.{moved_on, no_start}
+use Rattle.law_rule.proofs.Locked_Contents.{not_put}
 use Rattle.law_private.specs.Private.{Isolated, private_by, private_of}
 use Rattle.law_private.proofs.Others_Leave.{others_leave}
 use Rattle.law_private.proofs.Private_Law.{active_before, private_cells_stay}

@@ -4,25 +4,25 @@ use Rattle.std.proofs.lemmas.Bool.{cases_Bool, eqb-true, true≢false}
 use mathlib.Core.Option.{some}
 use lib.ListN.{get_elem?}
 use Rattle.atomic_table.specs.Table.{State}
-use Rattle.brc_runs.specs.declared.event.Step.TheVariants.{Lock}
-use Rattle.brc_runs.specs.declared.row.Row.{Row}
-use Rattle.brc_runs.specs.declared.row.Stage.{Stage}
-use Rattle.brc_runs.specs.declared.row.Stage.TheVariants as stages
-use Rattle.brc_runs.specs.Heap.{Heap, row_at, frame_at, AreOptions}
-use Rattle.brc_runs.specs.Steps.{enabled, root_may, thread_may, stage_ok, is_active, locked_cell, locked_at}
-use Rattle.brc_runs.proofs.Asking.{may_parts}
-use Rattle.brc_known.specs.Items.{MayCome, is_start, IsPart}
-use Rattle.brc_rule.specs.declared.contents.Contents.{Contents}
-use Rattle.brc_rule.specs.declared.told.Moved.TheVariants as moves
-use Rattle.brc_rule.specs.declared.told.Told.{Told}
-use Rattle.brc_rule.specs.declared.told.Told.TheVariants.{Did}
-use Rattle.brc_rule.specs.declared.view.View.{View}
-use Rattle.brc_rule.specs.Logs.{item_of, Run, own_of, world, contents_at, IsMoved, IsLegal}
-use Rattle.brc_rule.specs.Rule.{Kept}
-use Rattle.brc_rule.specs.Seen.{part_seen, contents_locked}
-use Rattle.brc_rule.proofs.Knowing.{kept_part}
-use Rattle.brc_rule.proofs.Locked_Contents.{locked_contents}
-use Rattle.brc_rule.proofs.Once.{rule_logs}
+use Rattle.law_world.specs.declared.event.Step.TheVariants.{Lock}
+use Rattle.law_world.specs.declared.row.Row.{Row}
+use Rattle.law_world.specs.declared.row.Stage.{Stage}
+use Rattle.law_world.specs.declared.row.Stage.TheVariants as stages
+use Rattle.law_world.specs.Heap.{Heap, row_at, frame_at, AreOptions}
+use Rattle.law_world.specs.Steps.{enabled, root_may, thread_may, stage_ok, is_active, locked_cell, locked_at}
+use Rattle.law_world.proofs.Asking.{may_parts}
+use Rattle.law_known.specs.Items.{MayCome, is_start, IsPart}
+use Rattle.law_rule.specs.declared.contents.Contents.{Contents}
+use Rattle.law_rule.specs.declared.told.Moved.TheVariants as moves
+use Rattle.law_rule.specs.declared.told.Told.{Told}
+use Rattle.law_rule.specs.declared.told.Told.TheVariants.{Did}
+use Rattle.law_rule.specs.declared.view.View.{View}
+use Rattle.law_rule.specs.Logs.{item_of, Run, own_of, world, contents_at, IsMoved, IsLegal}
+use Rattle.law_rule.specs.Rule.{Kept}
+use Rattle.law_rule.specs.Seen.{part_seen, contents_locked}
+use Rattle.law_rule.proofs.Knowing.{kept_part}
+use Rattle.law_rule.proofs.Locked_Contents.{locked_contents}
+use Rattle.law_rule.proofs.Once.{rule_logs}
 use Rattle.law_payloads.specs.Payloads.{private_seen, last_put, payloads_of, LockingFits, OwnLocks, locked_seen, HasOwn}
 use Rattle.law_payloads.proofs.Own_Puts.{last_put_is_there, legal_sound, legal_before}
 use Rattle.law_payloads.proofs.Small_Contents.{small_is_there}

@@ -2,24 +2,24 @@
 use Rattle.std.proofs.Common.{◌≡◌, ℕ, ◌<◌, ◌==◌, true, if◌then◌else◌, [], ◌∷◌, Some, None, refl, sym, ◌∙◌, ap, subst, inl, inr, arith}
 use Rattle.std.proofs.lemmas.Bool.{cases_eq, cases_Bool, eq-eqb, ne_eqb, true≢false}
 use Rattle.brc_words.specs.declared.limits.TheConstants.{GLOBALS}
-use Rattle.brc_runs.specs.declared.event.Change.{Change}
-use Rattle.brc_runs.specs.declared.event.Change.TheVariants as changes
-use Rattle.brc_runs.specs.declared.event.Step.{Step}
-use Rattle.brc_runs.specs.declared.event.Step.TheVariants.{Birth, Unlock, Register, Gather}
-use Rattle.brc_runs.specs.declared.row.Hand.TheVariants as hands
-use Rattle.brc_runs.specs.declared.row.Phase.TheVariants as phases
-use Rattle.brc_runs.specs.Heap.{Heap, row_at, AreOptions}
-use Rattle.brc_runs.specs.Sound.{IsSound}
-use Rattle.brc_runs.specs.Steps.{enabled, root_may, thread_may, is_keep}
-use Rattle.brc_runs.proofs.Asking.{may_parts}
-use Rattle.brc_runs.proofs.Naming.{busy_hand}
-use Rattle.brc_lasting.proofs.Lasting.{bearing}
-use Rattle.brc_known.specs.Items.{MayCome}
-use Rattle.brc_rule.specs.declared.told.Moved.{Moved}
-use Rattle.brc_rule.specs.declared.told.Moved.TheVariants as moves
-use Rattle.brc_rule.specs.declared.told.Told.{Told}
-use Rattle.brc_rule.specs.declared.told.Told.TheVariants.{Did, Saw, Lost}
-use Rattle.brc_rule.specs.Logs.{item_of, Run, world, put_in, put_by, contents_at, opening_contents, puts, keeps, MovesWith, IsMoved, IsLegal}
+use Rattle.law_world.specs.declared.event.Change.{Change}
+use Rattle.law_world.specs.declared.event.Change.TheVariants as changes
+use Rattle.law_world.specs.declared.event.Step.{Step}
+use Rattle.law_world.specs.declared.event.Step.TheVariants.{Birth, Unlock, Register, Gather}
+use Rattle.law_world.specs.declared.row.Hand.TheVariants as hands
+use Rattle.law_world.specs.declared.row.Phase.TheVariants as phases
+use Rattle.law_world.specs.Heap.{Heap, row_at, AreOptions}
+use Rattle.law_world.specs.Sound.{IsSound}
+use Rattle.law_world.specs.Steps.{enabled, root_may, thread_may, is_keep}
+use Rattle.law_world.proofs.Asking.{may_parts}
+use Rattle.law_world.proofs.Naming.{busy_hand}
+use Rattle.law_lasting.proofs.Lasting.{bearing}
+use Rattle.law_known.specs.Items.{MayCome}
+use Rattle.law_rule.specs.declared.told.Moved.{Moved}
+use Rattle.law_rule.specs.declared.told.Moved.TheVariants as moves
+use Rattle.law_rule.specs.declared.told.Told.{Told}
+use Rattle.law_rule.specs.declared.told.Told.TheVariants.{Did, Saw, Lost}
+use Rattle.law_rule.specs.Logs.{item_of, Run, world, put_in, put_by, contents_at, opening_contents, puts, keeps, MovesWith, IsMoved, IsLegal}
 use Rattle.law_private.proofs.Small_Immortals.{keeps_small}
 use Rattle.law_payloads.proofs.Own_Puts.{legal_sound, legal_before}
 

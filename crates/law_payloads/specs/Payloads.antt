@@ -2,13 +2,13 @@
 -- cell, so that is what a locking finds there.
 use Rattle.std.specs.Prelude.{◌≡◌, ℕ, ◌<◌, Bool, true, if◌then◌else◌, List, [], ◌∷◌, Option, Some, None, slice_get}
 use Rattle.brc_words.specs.declared.limits.TheConstants.{GLOBALS}
-use Rattle.brc_runs.specs.declared.event.Step.TheVariants.{Lock}
-use Rattle.brc_rule.specs.declared.contents.Contents.{Contents}
-use Rattle.brc_rule.specs.declared.told.Moved.TheVariants as moves
-use Rattle.brc_rule.specs.declared.told.Told.{Told}
-use Rattle.brc_rule.specs.declared.told.Told.TheVariants.{Did}
-use Rattle.brc_rule.specs.Logs.{log_items, put_in, opening_contents, entries_in}
-use Rattle.brc_rule.specs.Seen.{contents_locked}
+use Rattle.law_world.specs.declared.event.Step.TheVariants.{Lock}
+use Rattle.law_rule.specs.declared.contents.Contents.{Contents}
+use Rattle.law_rule.specs.declared.told.Moved.TheVariants as moves
+use Rattle.law_rule.specs.declared.told.Told.{Told}
+use Rattle.law_rule.specs.declared.told.Told.TheVariants.{Did}
+use Rattle.law_rule.specs.Logs.{log_items, put_in, opening_contents, entries_in}
+use Rattle.law_rule.specs.Seen.{contents_locked}
 use Rattle.law_private.specs.Own_Entries.{is_own, keeps_own}
 use Rattle.law_private.specs.Private.{private_of, locked_told}
 

@@ -1,4 +1,4 @@
-//! What a thread's lockings find in cells that are its own: definitions and laws on logs of `brc_rule`.
+//! What a thread's lockings find in cells that are its own: definitions and laws on logs of `law_rule`.
 //!
 //! A private cell has as its payload what its thread put home there last (`specs/Payloads.antt`). No other thread opens it
 //! (`law_private`), so each locking finds that payload; and in the cells below the globals, which are unlocked by keep

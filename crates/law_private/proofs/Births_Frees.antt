@@ -5,23 +5,23 @@ use Rattle.std.proofs.lemmas.Bool.{cases_eq, cases_Bool, and_parts, eqb-true, eq
 use Rattle.brc_words.specs.declared.kind.Kind.{Kind}
 use Rattle.brc_words.specs.declared.limits.TheConstants.{FIRST_MORTAL}
 use Rattle.brc_words.specs.declared.owner.Owner.TheVariants as owners
-use Rattle.brc_runs.specs.Holding.{lives}
-use Rattle.brc_runs.specs.declared.cell.Cell.{Cell}
-use Rattle.brc_runs.specs.declared.event.Step.{Step}
-use Rattle.brc_runs.specs.declared.event.Step.TheVariants.{Birth, Free}
-use Rattle.brc_runs.specs.declared.row.Hand.TheVariants as hands
-use Rattle.brc_runs.specs.declared.row.Phase.TheVariants as phases
-use Rattle.brc_runs.specs.declared.row.Row.{Row}
-use Rattle.brc_runs.specs.Lists.{one, place_at, bit_of, is_marked}
-use Rattle.brc_runs.specs.Heap.{Heap, cell_at, entries_at, row_at, frame_at, popped_at, worklist_at, queue_at, no_row, no_cell}
-use Rattle.brc_runs.specs.Steps.{target_at, target_ok, thread_may, locked_at, is_active, is_queued, is_empty, cell_after, row_after, frame_after, worklist_after, stepped, is_shut}
-use Rattle.brc_runs.specs.Sound.{IsSound, HandFits, grips, offering, Offered}
-use Rattle.brc_runs.proofs.Naming.{busy_hand, no_mark, unnamed, unoffered, Unheld, dead_unheld, Ungripped, sole_grip}
-use Rattle.brc_runs.proofs.Asking.{May, may_parts, on_cell}
-use Rattle.brc_runs.proofs.Changes.{read_here, read_there}
-use Rattle.brc_runs.proofs.Dropping.{held_by_place, held_by_entry}
-use Rattle.brc_runs.proofs.Framing.{found_inside}
-use Rattle.brc_lasting.proofs.Lasting.{bearing}
+use Rattle.law_world.specs.Holding.{lives}
+use Rattle.law_world.specs.declared.cell.Cell.{Cell}
+use Rattle.law_world.specs.declared.event.Step.{Step}
+use Rattle.law_world.specs.declared.event.Step.TheVariants.{Birth, Free}
+use Rattle.law_world.specs.declared.row.Hand.TheVariants as hands
+use Rattle.law_world.specs.declared.row.Phase.TheVariants as phases
+use Rattle.law_world.specs.declared.row.Row.{Row}
+use Rattle.law_world.specs.Lists.{one, place_at, bit_of, is_marked}
+use Rattle.law_world.specs.Heap.{Heap, cell_at, entries_at, row_at, frame_at, popped_at, worklist_at, queue_at, no_row, no_cell}
+use Rattle.law_world.specs.Steps.{target_at, target_ok, thread_may, locked_at, is_active, is_queued, is_empty, cell_after, row_after, frame_after, worklist_after, stepped, is_shut}
+use Rattle.law_world.specs.Sound.{IsSound, HandFits, grips, offering, Offered}
+use Rattle.law_world.proofs.Naming.{busy_hand, no_mark, unnamed, unoffered, Unheld, dead_unheld, Ungripped, sole_grip}
+use Rattle.law_world.proofs.Asking.{May, may_parts, on_cell}
+use Rattle.law_world.proofs.Changes.{read_here, read_there}
+use Rattle.law_world.proofs.Dropping.{held_by_place, held_by_entry}
+use Rattle.law_world.proofs.Framing.{found_inside}
+use Rattle.law_lasting.proofs.Lasting.{bearing}
 use Rattle.law_private.specs.Private.{Isolated, OwnCell, private_by}
 use Rattle.law_private.proofs.Brought.{entries_fewer}
 use Rattle.law_private.proofs.Own_Steps.{own_shrunk}

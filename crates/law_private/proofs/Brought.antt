@@ -2,22 +2,22 @@
 use Rattle.std.proofs.Common.{◌≡◌, ℕ, ◌-◌, zero, suc, Bool, true, false, if◌then◌else◌, List, [], ◌∷◌, length, get_or, set, take, slice_get, Option, Some, None, sym, ◌∙◌, ap, inl, inr, ◌⊎◌, arith}
 use Rattle.std.proofs.lemmas.Bool.{cases_eq, cases_lt, eqb-true}
 use Rattle.std.proofs.lemmas.List.{get_or_past, length-set}
-use Rattle.brc_runs.specs.declared.cell.Cell.{Cell}
-use Rattle.brc_runs.specs.declared.event.Dropped.{Dropped}
-use Rattle.brc_runs.specs.declared.event.Dropped.TheVariants as dropped
-use Rattle.brc_runs.specs.declared.event.LastDropped.TheVariants as lasts
-use Rattle.brc_runs.specs.declared.event.Step.{Step}
-use Rattle.brc_runs.specs.declared.event.Step.TheVariants.{Claim, InitLocal, InitShared, Birth, LocalDown, SeeZero, Untie, MergeZero, Ask, LastDown, Enqueue, MergeAdd, Offer}
-use Rattle.brc_runs.specs.declared.row.Hand.{Hand}
-use Rattle.brc_runs.specs.declared.row.Hand.TheVariants as hands
-use Rattle.brc_runs.specs.declared.row.Phase.{Phase}
-use Rattle.brc_runs.specs.declared.row.Phase.TheVariants as phases
-use Rattle.brc_runs.specs.Lists.{bit_of, is_marked, front_of}
-use Rattle.brc_runs.specs.Heap.{Heap, popped_at}
-use Rattle.brc_runs.specs.Steps.{is_default, is_untouched, hand_after, untied_hand, added_hand, popped_after, worklist_with, entries_with, entries_without}
-use Rattle.brc_runs.proofs.Asking.{May}
-use Rattle.brc_runs.proofs.Bitwise.{without_bit_else}
-use Rattle.brc_runs.proofs.Changes.{read_here, read_there}
+use Rattle.law_world.specs.declared.cell.Cell.{Cell}
+use Rattle.law_world.specs.declared.event.Dropped.{Dropped}
+use Rattle.law_world.specs.declared.event.Dropped.TheVariants as dropped
+use Rattle.law_world.specs.declared.event.LastDropped.TheVariants as lasts
+use Rattle.law_world.specs.declared.event.Step.{Step}
+use Rattle.law_world.specs.declared.event.Step.TheVariants.{Claim, InitLocal, InitShared, Birth, LocalDown, SeeZero, Untie, MergeZero, Ask, LastDown, Enqueue, MergeAdd, Offer}
+use Rattle.law_world.specs.declared.row.Hand.{Hand}
+use Rattle.law_world.specs.declared.row.Hand.TheVariants as hands
+use Rattle.law_world.specs.declared.row.Phase.{Phase}
+use Rattle.law_world.specs.declared.row.Phase.TheVariants as phases
+use Rattle.law_world.specs.Lists.{bit_of, is_marked, front_of}
+use Rattle.law_world.specs.Heap.{Heap, popped_at}
+use Rattle.law_world.specs.Steps.{is_default, is_untouched, hand_after, untied_hand, added_hand, popped_after, worklist_with, entries_with, entries_without}
+use Rattle.law_world.proofs.Asking.{May}
+use Rattle.law_world.proofs.Bitwise.{without_bit_else}
+use Rattle.law_world.proofs.Changes.{read_here, read_there}
 
 if_hand : (b : Bool) (x y hand : Hand) (d c : ℕ) (p : Phase) → (if b then x else y) ≡ hands.Busy p c → (x ≡ hands.Busy p c → (hand ≡ hands.Busy p c) ⊎ (d ≡ c)) → (y ≡ hands.Busy p c → (hand ≡ hands.Busy p c) ⊎ (d ≡ c)) → (hand ≡ hands.Busy p c) ⊎ (d ≡ c)
 if_hand true x y hand d c p at one other = one at

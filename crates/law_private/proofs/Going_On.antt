@@ -1,8 +1,8 @@
 -- Which cells are private after one more item.
 use Rattle.std.proofs.Common.{◌≡◌, ℕ, Bool, true, List, Option, refl, sym}
 use Rattle.std.proofs.lemmas.Bool.{true≢false}
-use Rattle.brc_runs.specs.declared.event.Step.{Step}
-use Rattle.brc_runs.specs.declared.event.Step.TheVariants.{Birth, Free, Unlock, Offer}
+use Rattle.law_world.specs.declared.event.Step.{Step}
+use Rattle.law_world.specs.declared.event.Step.TheVariants.{Birth, Free, Unlock, Offer}
 use Rattle.law_private.specs.Private.{is_plain, private_by}
 
 -- a step that neither bears nor frees nor unlocks nor hands over leaves them

@@ -1,15 +1,15 @@
 -- After an unlock of its thread a private cell is an entry of private cells alone.
 use Rattle.std.proofs.Common.{◌≡◌, ℕ, ◌<◌, ◌&&◌, not, Bool, true, false, if◌then◌else◌, List, [], ◌∷◌, ◌++◌, length, slice_get, slice_set, remove, zero, suc, Option, Some, None, sym, ◌∙◌, ap, subst, inl, inr, ◌⊎◌, arith}
 use Rattle.std.proofs.lemmas.Bool.{cases_eq, cases_Bool, true≢false}
-use Rattle.brc_runs.specs.declared.event.Change.{Change}
-use Rattle.brc_runs.specs.declared.event.Change.TheVariants as changes
-use Rattle.brc_runs.specs.declared.event.Step.TheVariants.{Unlock}
-use Rattle.brc_runs.specs.Lists.{place_at, number_in}
-use Rattle.brc_runs.specs.Heap.{Heap, entries_at, row_at, frame_at}
-use Rattle.brc_runs.specs.Steps.{target_at, target_ok, thread_may, locked_cell, locked_at, entries_changed, stepped}
-use Rattle.brc_runs.specs.Sound.{IsSound}
-use Rattle.brc_runs.proofs.Asking.{may_parts, on_cell}
-use Rattle.brc_runs.proofs.Changes.{read_here, read_there}
+use Rattle.law_world.specs.declared.event.Change.{Change}
+use Rattle.law_world.specs.declared.event.Change.TheVariants as changes
+use Rattle.law_world.specs.declared.event.Step.TheVariants.{Unlock}
+use Rattle.law_world.specs.Lists.{place_at, number_in}
+use Rattle.law_world.specs.Heap.{Heap, entries_at, row_at, frame_at}
+use Rattle.law_world.specs.Steps.{target_at, target_ok, thread_may, locked_cell, locked_at, entries_changed, stepped}
+use Rattle.law_world.specs.Sound.{IsSound}
+use Rattle.law_world.proofs.Asking.{may_parts, on_cell}
+use Rattle.law_world.proofs.Changes.{read_here, read_there}
 use Rattle.law_private.specs.Private.{Isolated, is_in, is_shared, place_put, private_by}
 
 in_append : (xs : List ℕ) (y i c : ℕ) → slice_get (xs ++ y ∷ []) i ≡ Some c → (slice_get xs i ≡ Some c) ⊎ (y ≡ c)

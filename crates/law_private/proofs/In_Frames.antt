@@ -3,19 +3,19 @@ use Rattle.std.proofs.Common.{◌≡◌, ℕ, ◌<◌, ◌≤◌, Bool, true, Li
 use Rattle.std.proofs.lemmas.Bool.{cases_eq, cases_lt}
 use Rattle.std.proofs.lemmas.List.{get_or_past, get_or-set_same, length-set}
 use Rattle.std.proofs.lemmas.Option.{slice_get-get_or}
-use Rattle.brc_runs.specs.declared.cell.Cell.{Cell}
-use Rattle.brc_runs.specs.declared.event.Change.TheVariants as changes
-use Rattle.brc_runs.specs.declared.event.Dropped.{Dropped}
-use Rattle.brc_runs.specs.declared.event.Dropped.TheVariants as dropped
-use Rattle.brc_runs.specs.declared.event.Step.{Step}
-use Rattle.brc_runs.specs.declared.event.Step.TheVariants.{Unlock}
-use Rattle.brc_runs.specs.Lists.{place_at, filled, vacated}
-use Rattle.brc_runs.specs.Heap.{Heap, cell_at, entries_at, frame_at}
-use Rattle.brc_runs.specs.Steps.{target_at, thread_may, frame_after, frame_with, frame_without, filled_place, gone, stepped}
-use Rattle.brc_runs.specs.Sound.{IsSound}
-use Rattle.brc_runs.proofs.Asking.{may_parts}
-use Rattle.brc_runs.proofs.Changes.{read_here, read_there}
-use Rattle.brc_runs.proofs.Framing.{place_at-filled_here, place_at-filled_else, place_at-vacated_else}
+use Rattle.law_world.specs.declared.cell.Cell.{Cell}
+use Rattle.law_world.specs.declared.event.Change.TheVariants as changes
+use Rattle.law_world.specs.declared.event.Dropped.{Dropped}
+use Rattle.law_world.specs.declared.event.Dropped.TheVariants as dropped
+use Rattle.law_world.specs.declared.event.Step.{Step}
+use Rattle.law_world.specs.declared.event.Step.TheVariants.{Unlock}
+use Rattle.law_world.specs.Lists.{place_at, filled, vacated}
+use Rattle.law_world.specs.Heap.{Heap, cell_at, entries_at, frame_at}
+use Rattle.law_world.specs.Steps.{target_at, thread_may, frame_after, frame_with, frame_without, filled_place, gone, stepped}
+use Rattle.law_world.specs.Sound.{IsSound}
+use Rattle.law_world.proofs.Asking.{may_parts}
+use Rattle.law_world.proofs.Changes.{read_here, read_there}
+use Rattle.law_world.proofs.Framing.{place_at-filled_here, place_at-filled_else, place_at-vacated_else}
 use Rattle.law_private.specs.Private.{Isolated}
 use Rattle.law_private.proofs.Others_Leave.{others_leave}
 

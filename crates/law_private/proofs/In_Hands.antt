@@ -5,23 +5,23 @@ use Rattle.brc_words.specs.declared.owner.Owner.{Owner}
 use Rattle.brc_words.specs.declared.owner.Owner.TheVariants as owners
 use Rattle.brc_words.specs.declared.state.State.{State}
 use Rattle.brc_words.specs.declared.state.State.TheVariants as states
-use Rattle.brc_runs.specs.Phases.{is_active_phase}
-use Rattle.brc_runs.specs.Holding.{lives}
-use Rattle.brc_runs.specs.declared.cell.Cell.{Cell}
-use Rattle.brc_runs.specs.declared.event.LastDropped.TheVariants as lasts
-use Rattle.brc_runs.specs.declared.event.Step.{Step}
-use Rattle.brc_runs.specs.declared.event.Step.TheVariants.{Claim, InitLocal, InitShared, Birth, LocalDown, SeeZero, Untie, MergeZero, Ask, LastDown, Enqueue, MergeAdd, Offer}
-use Rattle.brc_runs.specs.declared.row.Hand.{Hand}
-use Rattle.brc_runs.specs.declared.row.Hand.TheVariants as hands
-use Rattle.brc_runs.specs.declared.row.Phase.{Phase}
-use Rattle.brc_runs.specs.declared.row.Phase.TheVariants as phases
-use Rattle.brc_runs.specs.Lists.{one, is_marked}
-use Rattle.brc_runs.specs.Heap.{Heap, cell_at, row_at, is_immortal, no_row}
-use Rattle.brc_runs.specs.Steps.{target_at, target_ok, thread_may, is_default, is_merged, is_zero, is_mine, is_owned_by, is_others, is_active, is_at, is_untouched, hand_after, untied_hand, added_hand}
-use Rattle.brc_runs.specs.Sound.{IsSound, grips, grips_by_owner, grips_of, gripped}
-use Rattle.brc_runs.proofs.Naming.{third, busy_hand, free_hand, default_state}
-use Rattle.brc_runs.proofs.Asking.{May, may_parts, OnCell, on_cell, at_end, shut_out, handed_over, from_queue, untie_way}
-use Rattle.brc_runs.proofs.Counting.{sum_none}
+use Rattle.law_world.specs.Phases.{is_active_phase}
+use Rattle.law_world.specs.Holding.{lives}
+use Rattle.law_world.specs.declared.cell.Cell.{Cell}
+use Rattle.law_world.specs.declared.event.LastDropped.TheVariants as lasts
+use Rattle.law_world.specs.declared.event.Step.{Step}
+use Rattle.law_world.specs.declared.event.Step.TheVariants.{Claim, InitLocal, InitShared, Birth, LocalDown, SeeZero, Untie, MergeZero, Ask, LastDown, Enqueue, MergeAdd, Offer}
+use Rattle.law_world.specs.declared.row.Hand.{Hand}
+use Rattle.law_world.specs.declared.row.Hand.TheVariants as hands
+use Rattle.law_world.specs.declared.row.Phase.{Phase}
+use Rattle.law_world.specs.declared.row.Phase.TheVariants as phases
+use Rattle.law_world.specs.Lists.{one, is_marked}
+use Rattle.law_world.specs.Heap.{Heap, cell_at, row_at, is_immortal, no_row}
+use Rattle.law_world.specs.Steps.{target_at, target_ok, thread_may, is_default, is_merged, is_zero, is_mine, is_owned_by, is_others, is_active, is_at, is_untouched, hand_after, untied_hand, added_hand}
+use Rattle.law_world.specs.Sound.{IsSound, grips, grips_by_owner, grips_of, gripped}
+use Rattle.law_world.proofs.Naming.{third, busy_hand, free_hand, default_state}
+use Rattle.law_world.proofs.Asking.{May, may_parts, OnCell, on_cell, at_end, shut_out, handed_over, from_queue, untie_way}
+use Rattle.law_world.proofs.Counting.{sum_none}
 use Rattle.law_private.specs.Private.{Isolated, OwnCell, Leaves}
 
 -- ---- whoever grips a private cell is its thread

@@ -2,17 +2,17 @@
 use Rattle.std.proofs.Common.{◌≡◌, ◌≢◌, ℕ, Bool, true, if◌then◌else◌, List, [], length, get_or, set, Some, sym, ◌∙◌, ap, inl, inr, arith}
 use Rattle.std.proofs.lemmas.Bool.{cases_eq, cases_lt, cases_Bool, true≢false}
 use Rattle.std.proofs.lemmas.List.{get_or_past, length-set}
-use Rattle.brc_runs.specs.declared.event.Step.{Step}
-use Rattle.brc_runs.specs.declared.event.Step.TheVariants.{Enqueue}
-use Rattle.brc_runs.specs.declared.row.Phase.TheVariants as phases
-use Rattle.brc_runs.specs.Lists.{bit_of, with_bit}
-use Rattle.brc_runs.specs.Heap.{Heap, cell_at, queue_at}
-use Rattle.brc_runs.specs.Steps.{target_at, thread_may, stepped, is_shut}
-use Rattle.brc_runs.specs.Sound.{IsSound}
-use Rattle.brc_runs.proofs.Naming.{busy_hand}
-use Rattle.brc_runs.proofs.Asking.{may_parts}
-use Rattle.brc_runs.proofs.Bitwise.{with_bit_else}
-use Rattle.brc_runs.proofs.Changes.{read_here, read_there}
+use Rattle.law_world.specs.declared.event.Step.{Step}
+use Rattle.law_world.specs.declared.event.Step.TheVariants.{Enqueue}
+use Rattle.law_world.specs.declared.row.Phase.TheVariants as phases
+use Rattle.law_world.specs.Lists.{bit_of, with_bit}
+use Rattle.law_world.specs.Heap.{Heap, cell_at, queue_at}
+use Rattle.law_world.specs.Steps.{target_at, thread_may, stepped, is_shut}
+use Rattle.law_world.specs.Sound.{IsSound}
+use Rattle.law_world.proofs.Naming.{busy_hand}
+use Rattle.law_world.proofs.Asking.{may_parts}
+use Rattle.law_world.proofs.Bitwise.{with_bit_else}
+use Rattle.law_world.proofs.Changes.{read_here, read_there}
 use Rattle.law_private.specs.Private.{Isolated}
 
 -- A private cell is in no merge queue after any step: its thread's hand, while that is active, never asks.

@@ -3,26 +3,26 @@ use Rattle.std.proofs.Common.{◌≡◌, ◌≢◌, ℕ, Bool, true, false, if�
 use Rattle.std.proofs.lemmas.Bool.{cases_Bool, and_parts, eqb-true, ltb-true, true≢false}
 use Rattle.brc_words.specs.declared.limits.TheConstants.{FIRST_MORTAL}
 use Rattle.brc_words.specs.declared.owner.Owner.TheVariants as owners
-use Rattle.brc_runs.specs.Phases.{is_ending}
-use Rattle.brc_runs.specs.Holding.{lives}
-use Rattle.brc_runs.specs.declared.event.Dropped.{Dropped}
-use Rattle.brc_runs.specs.declared.event.Dropped.TheVariants as dropped
-use Rattle.brc_runs.specs.declared.event.LastDropped.TheVariants as lasts
-use Rattle.brc_runs.specs.declared.event.Source.{Source}
-use Rattle.brc_runs.specs.declared.event.Source.TheVariants as sources
-use Rattle.brc_runs.specs.declared.event.Step.{Step}
-use Rattle.brc_runs.specs.declared.event.Step.TheVariants.{Claim, InitLocal, InitShared, Birth, LocalUp, LocalDown, SeeZero, Free, Untie, MergeZero, SharedUp, SharedDown, Ask, LastDown, Enqueue, Drain, MergeAdd, Close, Nudge, Wake, Lock, Unlock, Register, Gather, Offer, Reopen}
-use Rattle.brc_runs.specs.declared.row.Hand.TheVariants as hands
-use Rattle.brc_runs.specs.declared.row.Phase.{Phase}
-use Rattle.brc_runs.specs.declared.row.Phase.TheVariants as phases
-use Rattle.brc_runs.specs.Lists.{place_at, bit_of, is_marked, last_of}
-use Rattle.brc_runs.specs.Heap.{Heap, cell_at, entries_at, row_at, frame_at, popped_at, worklist_at, is_immortal}
-use Rattle.brc_runs.specs.Steps.{target_at, thread_may, locked_cell, entry_of, source_cell, dropped_cell, is_at}
-use Rattle.brc_runs.specs.Sound.{IsSound}
-use Rattle.brc_runs.proofs.Naming.{third, busy_hand, free_owner, thread_owner}
-use Rattle.brc_runs.proofs.Asking.{May, may_parts, on_cell, at_end, shut_out, handed_over, from_queue, untie_way}
-use Rattle.brc_runs.proofs.Dropping.{work_source}
-use Rattle.brc_runs.proofs.Sharing.{ending_hand}
+use Rattle.law_world.specs.Phases.{is_ending}
+use Rattle.law_world.specs.Holding.{lives}
+use Rattle.law_world.specs.declared.event.Dropped.{Dropped}
+use Rattle.law_world.specs.declared.event.Dropped.TheVariants as dropped
+use Rattle.law_world.specs.declared.event.LastDropped.TheVariants as lasts
+use Rattle.law_world.specs.declared.event.Source.{Source}
+use Rattle.law_world.specs.declared.event.Source.TheVariants as sources
+use Rattle.law_world.specs.declared.event.Step.{Step}
+use Rattle.law_world.specs.declared.event.Step.TheVariants.{Claim, InitLocal, InitShared, Birth, LocalUp, LocalDown, SeeZero, Free, Untie, MergeZero, SharedUp, SharedDown, Ask, LastDown, Enqueue, Drain, MergeAdd, Close, Nudge, Wake, Lock, Unlock, Register, Gather, Offer, Reopen}
+use Rattle.law_world.specs.declared.row.Hand.TheVariants as hands
+use Rattle.law_world.specs.declared.row.Phase.{Phase}
+use Rattle.law_world.specs.declared.row.Phase.TheVariants as phases
+use Rattle.law_world.specs.Lists.{place_at, bit_of, is_marked, last_of}
+use Rattle.law_world.specs.Heap.{Heap, cell_at, entries_at, row_at, frame_at, popped_at, worklist_at, is_immortal}
+use Rattle.law_world.specs.Steps.{target_at, thread_may, locked_cell, entry_of, source_cell, dropped_cell, is_at}
+use Rattle.law_world.specs.Sound.{IsSound}
+use Rattle.law_world.proofs.Naming.{third, busy_hand, free_owner, thread_owner}
+use Rattle.law_world.proofs.Asking.{May, may_parts, on_cell, at_end, shut_out, handed_over, from_queue, untie_way}
+use Rattle.law_world.proofs.Dropping.{work_source}
+use Rattle.law_world.proofs.Sharing.{ending_hand}
 use Rattle.law_private.specs.Private.{Isolated, OwnCell}
 
 -- ---- another's step never means a private cell

@@ -1,16 +1,16 @@
 -- Another's step keeps a thread's private cells apart.
 use Rattle.std.proofs.Common.{◌≡◌, ◌≢◌, ℕ, ◌<◌, Bool, true, List, [], length, get_or, set, slice_get, Some, sym, ◌∙◌, ap, subst, inl, inr, arith}
 use Rattle.std.proofs.lemmas.Bool.{cases_eq}
-use Rattle.brc_runs.specs.declared.event.Step.{Step}
-use Rattle.brc_runs.specs.declared.event.Step.TheVariants.{Unlock}
-use Rattle.brc_runs.specs.declared.row.Hand.TheVariants as hands
-use Rattle.brc_runs.specs.declared.row.Row.{Row}
-use Rattle.brc_runs.specs.Lists.{bit_of, is_marked}
-use Rattle.brc_runs.specs.Heap.{Heap, cell_at, entries_at, row_at, frame_at, popped_at, worklist_at, no_row, no_cell}
-use Rattle.brc_runs.specs.Steps.{target_at, target_ok, thread_may, row_after, popped_after, worklist_after, takes_block, is_free_step, entries_after, entries_changed, born_cell, gone, stepped, is_shut}
-use Rattle.brc_runs.specs.Sound.{IsSound}
-use Rattle.brc_runs.proofs.Asking.{May, may_parts, on_cell}
-use Rattle.brc_runs.proofs.Changes.{read_here, read_there}
+use Rattle.law_world.specs.declared.event.Step.{Step}
+use Rattle.law_world.specs.declared.event.Step.TheVariants.{Unlock}
+use Rattle.law_world.specs.declared.row.Hand.TheVariants as hands
+use Rattle.law_world.specs.declared.row.Row.{Row}
+use Rattle.law_world.specs.Lists.{bit_of, is_marked}
+use Rattle.law_world.specs.Heap.{Heap, cell_at, entries_at, row_at, frame_at, popped_at, worklist_at, no_row, no_cell}
+use Rattle.law_world.specs.Steps.{target_at, target_ok, thread_may, row_after, popped_after, worklist_after, takes_block, is_free_step, entries_after, entries_changed, born_cell, gone, stepped, is_shut}
+use Rattle.law_world.specs.Sound.{IsSound}
+use Rattle.law_world.proofs.Asking.{May, may_parts, on_cell}
+use Rattle.law_world.proofs.Changes.{read_here, read_there}
 use Rattle.law_private.specs.Private.{Isolated, OwnCell, place_put}
 use Rattle.law_private.proofs.Others_Leave.{others_leave, is_locked}
 use Rattle.law_private.proofs.In_Frames.{frames_kept}

@@ -2,23 +2,23 @@
 use Rattle.std.proofs.Common.{◌≡◌, ◌≢◌, ℕ, ◌<◌, ◌==◌, not, nat_lt, Bool, true, false, if◌then◌else◌, List, [], length, get_or, set, slice_get, Option, Some, None, refl, sym, ◌∙◌, ap, subst, inl, inr, ◌⊎◌, arith}
 use Rattle.std.proofs.lemmas.Bool.{cases_eq, cases_lt, cases_Bool, and_parts, or_cases, or_left, or_right, eqb-true, lt-ltb, true≢false}
 use Rattle.brc_words.specs.declared.limits.TheConstants.{GLOBALS}
-use Rattle.brc_runs.specs.declared.event.Change.{Change}
-use Rattle.brc_runs.specs.declared.event.Event.{Event}
-use Rattle.brc_runs.specs.declared.event.Step.{Step}
-use Rattle.brc_runs.specs.declared.event.Step.TheVariants.{Birth, Free, Unlock, Register, Gather, Offer}
-use Rattle.brc_runs.specs.declared.row.Row.{Row}
-use Rattle.brc_runs.specs.Heap.{Heap, opening, row_at, frame_at, cell_at, entries_at, is_registered, AreOptions}
-use Rattle.brc_runs.specs.Sound.{IsSound, held}
-use Rattle.brc_runs.specs.Steps.{enabled, after, after_target, root_after, root_may, thread_may, target_at, target_ok, needs_no_cell, locked_cell, locked_at, is_active, entries_changed, born_cell, gone, stepped, registered, registered_again}
-use Rattle.brc_runs.proofs.Asking.{may_parts, on_cell}
-use Rattle.brc_runs.proofs.Changes.{read_here, read_there}
-use Rattle.brc_runs.proofs.Counting.{marked_unheld}
-use Rattle.brc_runs.proofs.Dropping.{held_by_entry}
-use Rattle.brc_runs.proofs.Reached.{reached_sound}
-use Rattle.brc_lasting.specs.Staying.{IsAnothers}
-use Rattle.brc_lasting.proofs.Lasting.{others_own}
-use Rattle.brc_known.specs.Items.{Item, ItemRun, AreItems, world_of_items, own, Part, part_of}
-use Rattle.brc_known.proofs.Items_Tells.{Follows, tells}
+use Rattle.law_world.specs.declared.event.Change.{Change}
+use Rattle.law_world.specs.declared.event.Event.{Event}
+use Rattle.law_world.specs.declared.event.Step.{Step}
+use Rattle.law_world.specs.declared.event.Step.TheVariants.{Birth, Free, Unlock, Register, Gather, Offer}
+use Rattle.law_world.specs.declared.row.Row.{Row}
+use Rattle.law_world.specs.Heap.{Heap, opening, row_at, frame_at, cell_at, entries_at, is_registered, AreOptions}
+use Rattle.law_world.specs.Sound.{IsSound, held}
+use Rattle.law_world.specs.Steps.{enabled, after, after_target, root_after, root_may, thread_may, target_at, target_ok, needs_no_cell, locked_cell, locked_at, is_active, entries_changed, born_cell, gone, stepped, registered, registered_again}
+use Rattle.law_world.proofs.Asking.{may_parts, on_cell}
+use Rattle.law_world.proofs.Changes.{read_here, read_there}
+use Rattle.law_world.proofs.Counting.{marked_unheld}
+use Rattle.law_world.proofs.Dropping.{held_by_entry}
+use Rattle.law_world.proofs.Reached.{reached_sound}
+use Rattle.law_lasting.specs.Staying.{IsAnothers}
+use Rattle.law_lasting.proofs.Lasting.{others_own}
+use Rattle.law_known.specs.Items.{Item, ItemRun, AreItems, world_of_items, own, Part, part_of}
+use Rattle.law_known.proofs.Items_Tells.{Follows, tells}
 use Rattle.law_private.specs.Private.{Isolated, is_in, is_shared, place_put, is_plain, private_by, private_of}
 use Rattle.law_private.specs.Own_Entries.{is_own, is_own_or_none, puts_own, keeps_own, OwnEntries}
 use Rattle.law_private.proofs.Brought.{entries_fewer, emptied}

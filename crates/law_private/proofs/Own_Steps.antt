@@ -3,22 +3,22 @@ use Rattle.std.proofs.Common.{◌≡◌, ℕ, ◌<◌, Bool, true, false, if◌t
 use Rattle.std.proofs.lemmas.Bool.{cases_eq, cases_Bool, and_parts, true≢false}
 use Rattle.brc_words.specs.declared.owner.Owner.TheVariants as owners
 use Rattle.brc_words.specs.declared.state.State.TheVariants as states
-use Rattle.brc_runs.specs.Holding.{lives}
-use Rattle.brc_runs.specs.declared.cell.Cell.{Cell}
-use Rattle.brc_runs.specs.declared.event.Change.{Change}
-use Rattle.brc_runs.specs.declared.event.Step.{Step}
-use Rattle.brc_runs.specs.declared.event.Step.TheVariants.{Claim, InitLocal, InitShared, Birth, LocalUp, LocalDown, Free, Untie, MergeZero, SharedUp, SharedDown, Ask, LastDown, MergeAdd, Lock, Unlock, Offer}
-use Rattle.brc_runs.specs.declared.row.Hand.TheVariants as hands
-use Rattle.brc_runs.specs.declared.row.Phase.TheVariants as phases
-use Rattle.brc_runs.specs.declared.row.Row.{Row}
-use Rattle.brc_runs.specs.Lists.{bit_of, is_marked}
-use Rattle.brc_runs.specs.Heap.{Heap, cell_at, entries_at, row_at, frame_at, frame_at, popped_at, worklist_at, no_row, no_cell, is_immortal}
-use Rattle.brc_runs.specs.Steps.{target_at, target_ok, thread_may, locked_at, is_active, is_default, cell_after, row_after, popped_after, worklist_after, born_cell, gone, stepped, is_shut}
-use Rattle.brc_runs.specs.Sound.{IsSound}
-use Rattle.brc_runs.proofs.Naming.{free_hand, free_owner}
-use Rattle.brc_runs.proofs.Asking.{May, may_parts, OnCell, on_cell}
-use Rattle.brc_runs.proofs.Changes.{read_here, read_there}
-use Rattle.brc_lasting.proofs.Lasting.{not_bearing}
+use Rattle.law_world.specs.Holding.{lives}
+use Rattle.law_world.specs.declared.cell.Cell.{Cell}
+use Rattle.law_world.specs.declared.event.Change.{Change}
+use Rattle.law_world.specs.declared.event.Step.{Step}
+use Rattle.law_world.specs.declared.event.Step.TheVariants.{Claim, InitLocal, InitShared, Birth, LocalUp, LocalDown, Free, Untie, MergeZero, SharedUp, SharedDown, Ask, LastDown, MergeAdd, Lock, Unlock, Offer}
+use Rattle.law_world.specs.declared.row.Hand.TheVariants as hands
+use Rattle.law_world.specs.declared.row.Phase.TheVariants as phases
+use Rattle.law_world.specs.declared.row.Row.{Row}
+use Rattle.law_world.specs.Lists.{bit_of, is_marked}
+use Rattle.law_world.specs.Heap.{Heap, cell_at, entries_at, row_at, frame_at, frame_at, popped_at, worklist_at, no_row, no_cell, is_immortal}
+use Rattle.law_world.specs.Steps.{target_at, target_ok, thread_may, locked_at, is_active, is_default, cell_after, row_after, popped_after, worklist_after, born_cell, gone, stepped, is_shut}
+use Rattle.law_world.specs.Sound.{IsSound}
+use Rattle.law_world.proofs.Naming.{free_hand, free_owner}
+use Rattle.law_world.proofs.Asking.{May, may_parts, OnCell, on_cell}
+use Rattle.law_world.proofs.Changes.{read_here, read_there}
+use Rattle.law_lasting.proofs.Lasting.{not_bearing}
 use Rattle.law_private.specs.Private.{Isolated, OwnCell, is_shared, is_plain, private_by}
 use Rattle.law_private.proofs.Going_On.{same_set}
 use Rattle.law_private.proofs.In_Frames.{frames_kept}

@@ -2,26 +2,26 @@
 use Rattle.std.proofs.Common.{◌≡◌, ◌≢◌, ℕ, ◌+◌, ◌==◌, not, nat_lt, Bool, true, false, if◌then◌else◌, List, [], ◌∷◌, length, Option, Some, None, refl, sym, ◌∙◌, ap, subst, inl, inr, ◌⊎◌}
 use Rattle.std.proofs.lemmas.Bool.{cases_Bool, and_parts, eqb-true, lt-ltb, true≢false}
 use Rattle.std.specs.Cmp.Derive.{both_true}
-use Rattle.brc_runs.specs.declared.edition.Edition.TheVariants as editions
-use Rattle.brc_runs.specs.declared.event.Event.{Event}
-use Rattle.brc_runs.specs.declared.event.Step.{Step}
-use Rattle.brc_runs.specs.declared.event.Step.TheVariants.{Birth, Free, Close, Unlock, Register, Gather, Offer, Reopen}
-use Rattle.brc_runs.specs.declared.row.Row.{Row}
-use Rattle.brc_runs.specs.declared.row.Stage.{Stage}
-use Rattle.brc_runs.specs.declared.row.Stage.TheVariants as stages
-use Rattle.brc_runs.specs.Heap.{Heap, opening, row_at, frame_at, no_row, words_for, is_registered, AreOptions}
-use Rattle.brc_runs.specs.Steps.{enabled, after, after_target, root_after, root_may, thread_may, target_at, target_ok, needs_no_cell, locked_cell, locked_at, is_active, is_open, opens_next, edition_ok, stage_after, stage_ok, registered, registered_again, stepped, kept_cells}
-use Rattle.brc_runs.specs.Sound.{IsSound}
-use Rattle.brc_runs.proofs.Asking.{May, may_parts}
-use Rattle.brc_runs.proofs.Changes.{read_here}
-use Rattle.brc_runs.proofs.Reached.{reached_sound}
-use Rattle.brc_lasting.specs.Staying.{IsAnothers}
-use Rattle.brc_lasting.proofs.Lasting.{others_own}
-use Rattle.brc_lasting.proofs.Standing.{run_reached}
-use Rattle.brc_known.specs.Items.{Item, Did, ItemRun, AreItems, events_of, world_of_items, own, Part, part_of, IsPart}
-use Rattle.brc_known.proofs.Items_Law.{part_follows}
-use Rattle.brc_known.proofs.Items_Runs.{events_run}
-use Rattle.brc_known.proofs.Items_Tells.{Follows, tells}
+use Rattle.law_world.specs.declared.edition.Edition.TheVariants as editions
+use Rattle.law_world.specs.declared.event.Event.{Event}
+use Rattle.law_world.specs.declared.event.Step.{Step}
+use Rattle.law_world.specs.declared.event.Step.TheVariants.{Birth, Free, Close, Unlock, Register, Gather, Offer, Reopen}
+use Rattle.law_world.specs.declared.row.Row.{Row}
+use Rattle.law_world.specs.declared.row.Stage.{Stage}
+use Rattle.law_world.specs.declared.row.Stage.TheVariants as stages
+use Rattle.law_world.specs.Heap.{Heap, opening, row_at, frame_at, no_row, words_for, is_registered, AreOptions}
+use Rattle.law_world.specs.Steps.{enabled, after, after_target, root_after, root_may, thread_may, target_at, target_ok, needs_no_cell, locked_cell, locked_at, is_active, is_open, opens_next, edition_ok, stage_after, stage_ok, registered, registered_again, stepped, kept_cells}
+use Rattle.law_world.specs.Sound.{IsSound}
+use Rattle.law_world.proofs.Asking.{May, may_parts}
+use Rattle.law_world.proofs.Changes.{read_here}
+use Rattle.law_world.proofs.Reached.{reached_sound}
+use Rattle.law_lasting.specs.Staying.{IsAnothers}
+use Rattle.law_lasting.proofs.Lasting.{others_own}
+use Rattle.law_lasting.proofs.Standing.{run_reached}
+use Rattle.law_known.specs.Items.{Item, Did, ItemRun, AreItems, events_of, world_of_items, own, Part, part_of, IsPart}
+use Rattle.law_known.proofs.Items_Law.{part_follows}
+use Rattle.law_known.proofs.Items_Runs.{events_run}
+use Rattle.law_known.proofs.Items_Tells.{Follows, tells}
 use Rattle.law_private.specs.Private.{Isolated, private_by, private_of, locked_told}
 use Rattle.law_private.proofs.Others_Leave.{others_leave}
 use Rattle.law_private.proofs.Others_Steps.{others_step}

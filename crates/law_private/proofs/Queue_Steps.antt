@@ -2,13 +2,13 @@
 use Rattle.std.proofs.Common.{◌≡◌, ℕ, ◌/◌, ◌%◌, ◌<◌, Bool, List, [], length, get_or, set, Option, Some, None, sym, ◌∙◌, ap, subst, inl, inr, arith}
 use Rattle.std.proofs.lemmas.Bool.{cases_eq, cases_lt}
 use Rattle.std.proofs.lemmas.List.{get_or_past, length-set}
-use Rattle.brc_runs.specs.declared.event.Step.{Step}
-use Rattle.brc_runs.specs.declared.row.Row.{Row}
-use Rattle.brc_runs.specs.Lists.{bit_of}
-use Rattle.brc_runs.specs.Heap.{Heap, row_at, popped_at, queue_at, no_row, words_for}
-use Rattle.brc_runs.specs.Steps.{kept_cells, stage_after, drained_word, with_drained, without_drained}
-use Rattle.brc_runs.proofs.Bitwise.{length-with_taken, taken_here, taken_else, untaken_here, untaken_else}
-use Rattle.brc_runs.proofs.Changes.{read_here, read_there}
+use Rattle.law_world.specs.declared.event.Step.{Step}
+use Rattle.law_world.specs.declared.row.Row.{Row}
+use Rattle.law_world.specs.Lists.{bit_of}
+use Rattle.law_world.specs.Heap.{Heap, row_at, popped_at, queue_at, no_row, words_for}
+use Rattle.law_world.specs.Steps.{kept_cells, stage_after, drained_word, with_drained, without_drained}
+use Rattle.law_world.proofs.Bitwise.{length-with_taken, taken_here, taken_else, untaken_here, untaken_else}
+use Rattle.law_world.proofs.Changes.{read_here, read_there}
 use Rattle.std.specs.Int.{bit_at}
 use Rattle.law_private.specs.Private.{Isolated}
 

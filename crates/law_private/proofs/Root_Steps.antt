@@ -2,14 +2,14 @@
 use Rattle.std.proofs.Common.{◌≡◌, ℕ, ◌++◌, ◌∷◌, Bool, true, false, List, [], length, get_or, set, replicate, Some, None, sym, ◌∙◌, subst, inl, inr, arith}
 use Rattle.std.proofs.lemmas.Bool.{cases_eq, cases_lt, true≢false}
 use Rattle.std.proofs.lemmas.List.{get_or_push, get_or_past, length-set}
-use Rattle.brc_runs.specs.Phases.{is_active_phase}
-use Rattle.brc_runs.specs.declared.row.Hand.TheVariants as hands
-use Rattle.brc_runs.specs.declared.row.Row.{Row}
-use Rattle.brc_runs.specs.Lists.{place_at, bit_of, is_marked}
-use Rattle.brc_runs.specs.Heap.{Heap, new_row, again_row, no_row, words_for}
-use Rattle.brc_runs.specs.Steps.{registered, registered_again, gathered_in}
-use Rattle.brc_runs.proofs.Changes.{read_here, read_there}
-use Rattle.brc_runs.proofs.Registering.{push_else, new_bit, new_mark}
+use Rattle.law_world.specs.Phases.{is_active_phase}
+use Rattle.law_world.specs.declared.row.Hand.TheVariants as hands
+use Rattle.law_world.specs.declared.row.Row.{Row}
+use Rattle.law_world.specs.Lists.{place_at, bit_of, is_marked}
+use Rattle.law_world.specs.Heap.{Heap, new_row, again_row, no_row, words_for}
+use Rattle.law_world.specs.Steps.{registered, registered_again, gathered_in}
+use Rattle.law_world.proofs.Changes.{read_here, read_there}
+use Rattle.law_world.proofs.Registering.{push_else, new_bit, new_mark}
 use Rattle.law_private.specs.Private.{Isolated}
 
 -- a list grows by one, and what is said of each stays

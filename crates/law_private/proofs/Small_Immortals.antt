@@ -4,12 +4,12 @@ use Rattle.std.proofs.lemmas.Bool.{eqb-true, true≢false}
 use Rattle.brc_words.specs.declared.kind.Kind.TheVariants as kinds
 use Rattle.brc_words.specs.Kinds.{is_container}
 use Rattle.brc_words.specs.declared.limits.TheConstants.{GLOBALS}
-use Rattle.brc_runs.specs.declared.event.Change.{Change}
-use Rattle.brc_runs.specs.declared.event.Step.TheVariants.{Unlock}
-use Rattle.brc_runs.specs.Heap.{Heap, cell_at, row_at}
-use Rattle.brc_runs.specs.Steps.{target_at, target_ok, thread_may, is_keep}
-use Rattle.brc_runs.specs.Sound.{IsSound}
-use Rattle.brc_runs.proofs.Asking.{may_parts, OnCell, on_cell}
+use Rattle.law_world.specs.declared.event.Change.{Change}
+use Rattle.law_world.specs.declared.event.Step.TheVariants.{Unlock}
+use Rattle.law_world.specs.Heap.{Heap, cell_at, row_at}
+use Rattle.law_world.specs.Steps.{target_at, target_ok, thread_may, is_keep}
+use Rattle.law_world.specs.Sound.{IsSound}
+use Rattle.law_world.proofs.Asking.{may_parts, OnCell, on_cell}
 
 small_kind : (c : ℕ) → c < GLOBALS → (b : Bool) → (b ≡ (c == GLOBALS)) → b ≡ false
 small_kind c low true is = absurd (omega (arith, low, eqb-true c GLOBALS (sym is)))

@@ -1,11 +1,11 @@
 -- What private cells lead to: where a thread puts its own cells alone into private ones, they lead to its own alone.
 use Rattle.std.specs.Prelude.{◌≡◌, ℕ, nat_lt, ◌&&◌, ◌||◌, not, Bool, true, List, [], ◌∷◌, Option, Some, None, slice_get}
 use Rattle.brc_words.specs.declared.limits.TheConstants.{GLOBALS}
-use Rattle.brc_runs.specs.declared.event.Step.{Step}
-use Rattle.brc_runs.specs.declared.event.Step.TheVariants.{Unlock}
-use Rattle.brc_runs.specs.Heap.{Heap, entries_at}
-use Rattle.brc_runs.specs.Steps.{locked_cell}
-use Rattle.brc_known.specs.Items.{Item, Did, Saw, Lost, part_of}
+use Rattle.law_world.specs.declared.event.Step.{Step}
+use Rattle.law_world.specs.declared.event.Step.TheVariants.{Unlock}
+use Rattle.law_world.specs.Heap.{Heap, entries_at}
+use Rattle.law_world.specs.Steps.{locked_cell}
+use Rattle.law_known.specs.Items.{Item, Did, Saw, Lost, part_of}
 use Rattle.law_private.specs.Private.{place_put, is_in, locked_told, private_of}
 
 -- a private cell, or one below the globals, which nobody changes

@@ -2,20 +2,20 @@
 -- and Java's escape analysis call an object that doesn't escape its thread; here it is told by what the thread did.
 use Rattle.std.specs.Prelude.{◌≡◌, ◌⊎◌, ℕ, ◌≤◌, ◌==◌, ◌&&◌, not, Bool, true, false, if◌then◌else◌, List, [], ◌∷◌, Option, Some, None, slice_get}
 use Rattle.brc_words.specs.declared.limits.TheConstants.{FIRST_MORTAL}
-use Rattle.brc_runs.specs.Phases.{is_active_phase}
-use Rattle.brc_runs.specs.Holding.{lives}
-use Rattle.brc_runs.specs.declared.cell.Cell.{Cell}
-use Rattle.brc_runs.specs.declared.event.Change.{Change}
-use Rattle.brc_runs.specs.declared.event.Change.TheVariants as changes
-use Rattle.brc_runs.specs.declared.event.Step.{Step}
-use Rattle.brc_runs.specs.declared.event.Step.TheVariants.{Birth, Free, Unlock, Offer}
-use Rattle.brc_runs.specs.declared.row.Hand.{Hand}
-use Rattle.brc_runs.specs.declared.row.Hand.TheVariants as hands
-use Rattle.brc_runs.specs.declared.row.Phase.{Phase}
-use Rattle.brc_runs.specs.Lists.{place_at, bit_of, is_marked}
-use Rattle.brc_runs.specs.Heap.{Heap, cell_at, entries_at, row_at, frame_at, popped_at, worklist_at, queue_at}
-use Rattle.brc_runs.specs.Steps.{locked_cell, is_queued}
-use Rattle.brc_known.specs.Items.{Item, Did, Saw, Lost, part_of}
+use Rattle.law_world.specs.Phases.{is_active_phase}
+use Rattle.law_world.specs.Holding.{lives}
+use Rattle.law_world.specs.declared.cell.Cell.{Cell}
+use Rattle.law_world.specs.declared.event.Change.{Change}
+use Rattle.law_world.specs.declared.event.Change.TheVariants as changes
+use Rattle.law_world.specs.declared.event.Step.{Step}
+use Rattle.law_world.specs.declared.event.Step.TheVariants.{Birth, Free, Unlock, Offer}
+use Rattle.law_world.specs.declared.row.Hand.{Hand}
+use Rattle.law_world.specs.declared.row.Hand.TheVariants as hands
+use Rattle.law_world.specs.declared.row.Phase.{Phase}
+use Rattle.law_world.specs.Lists.{place_at, bit_of, is_marked}
+use Rattle.law_world.specs.Heap.{Heap, cell_at, entries_at, row_at, frame_at, popped_at, worklist_at, queue_at}
+use Rattle.law_world.specs.Steps.{locked_cell, is_queued}
+use Rattle.law_known.specs.Items.{Item, Did, Saw, Lost, part_of}
 
 -- the place whose cell an unlock puts into the locked object
 abbrev pub place_put : Change → Option ℕ

@@ -5,17 +5,17 @@ ghost use Rattle.std.specs.Prelude.{◌≡◌, ◌≢◌, ℕ, ◌==◌, if◌th
 ghost use Rattle.std.specs.Prelude.{◌<◌, length};
 ghost use Rattle.brc_words.specs.declared.kind.Kind.{Kind as kind};
 ghost use Rattle.brc_words.specs.declared.limits.TheConstants.{GLOBALS};
-ghost use Rattle.brc_runs.specs.declared.event.Change.{Change as change};
-ghost use Rattle.brc_runs.specs.declared.event.Step.TheVariants as steps;
-ghost use Rattle.brc_runs.specs.declared.row.Hand.TheVariants as hands;
-ghost use Rattle.brc_runs.specs.declared.row.Phase.{Phase as phase};
-ghost use Rattle.brc_runs.specs.Lists.{place_at, bit_of};
-ghost use Rattle.brc_runs.specs.declared.event.Step.{Step as step};
-ghost use Rattle.brc_runs.specs.Heap.{Heap, opening, is_registered, AreOptions, row_at, cell_at, frame_at, queue_at, entries_at};
-ghost use Rattle.brc_runs.specs.Sound.{IsSound};
-ghost use Rattle.brc_runs.specs.Steps.{thread_may, target_at, locked_at, stepped, kept_cells, registered, registered_again, gathered_in, is_active, is_default, is_keep, is_others, hand_after};
-ghost use Rattle.brc_known.specs.declared.word.Word.{Word as word};
-ghost use Rattle.brc_known.specs.Items.{Item, Did, Saw, Lost, ItemRun, AreItems, world_of_items, own, part_of};
+ghost use Rattle.law_world.specs.declared.event.Change.{Change as change};
+ghost use Rattle.law_world.specs.declared.event.Step.TheVariants as steps;
+ghost use Rattle.law_world.specs.declared.row.Hand.TheVariants as hands;
+ghost use Rattle.law_world.specs.declared.row.Phase.{Phase as phase};
+ghost use Rattle.law_world.specs.Lists.{place_at, bit_of};
+ghost use Rattle.law_world.specs.declared.event.Step.{Step as step};
+ghost use Rattle.law_world.specs.Heap.{Heap, opening, is_registered, AreOptions, row_at, cell_at, frame_at, queue_at, entries_at};
+ghost use Rattle.law_world.specs.Sound.{IsSound};
+ghost use Rattle.law_world.specs.Steps.{thread_may, target_at, locked_at, stepped, kept_cells, registered, registered_again, gathered_in, is_active, is_default, is_keep, is_others, hand_after};
+ghost use Rattle.law_known.specs.declared.word.Word.{Word as word};
+ghost use Rattle.law_known.specs.Items.{Item, Did, Saw, Lost, ItemRun, AreItems, world_of_items, own, part_of};
 ghost use Rattle.law_private.specs.Private.{Isolated, Leaves, is_plain, is_shared, private_by, private_of, locked_told};
 ghost use Rattle.law_private.specs.Own_Entries.{keeps_own, OwnEntries};
 

@@ -1,6 +1,6 @@
 use Rattle.std.proofs.Common.{subst, ℤ, w64}
 use Rattle.std.proofs.lemmas.Int.{to_z-of_z}
-use Rattle.brc_rule.specs.declared.contents.Contents.TheVariants as contents
+use Rattle.law_rule.specs.declared.contents.Contents.TheVariants as contents
 use Rattle.brc_things.specs.Makers.{Answered, small_cell}
 use Rattle.brc_instructions.proofs.Follows_Of.{later_held, later_answered, makes_int}
 use Rattle.brc_instructions.proofs.making.int.Goals as goal

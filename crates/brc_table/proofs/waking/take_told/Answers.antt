@@ -1,5 +1,5 @@
 use Rattle.std.proofs.Common.{◌≡◌}
-use Rattle.brc_rule.specs.Rule.{with_told}
+use Rattle.law_rule.specs.Rule.{with_told}
 use Rattle.law_living.specs.Living.{OwnLog}
 use Rattle.brc_table.specs.Shown.{shows}
 use Rattle.brc_table.proofs.Placing.{step_allowed}

@@ -1,6 +1,6 @@
 use Rattle.std.proofs.Common.{refl}
 use Rattle.law_private.specs.Private.{locked_told, private_of}
-use Rattle.brc_known.specs.Items.{part_of}
+use Rattle.law_known.specs.Items.{part_of}
 use Rattle.law_private.proofs.Going_On.{same_set}
 use Rattle.law_private.proofs.laws.private_cells_go_on.Goals as goal
 

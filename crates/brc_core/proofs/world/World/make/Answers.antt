@@ -1,12 +1,12 @@
 use Rattle.std.proofs.Common.{◌≡◌, true, subst, sym, ◌∙◌}
-use Rattle.brc_runs.specs.declared.event.Event.{Event}
-use Rattle.brc_runs.specs.Heap.{Heap}
-use Rattle.brc_runs.specs.Steps.{enabled, after}
-use Rattle.brc_runs.specs.Runs.{IsReached}
-use Rattle.brc_moves.specs.Moves.{MakesMoves, map_of, moves_by}
-use Rattle.brc_moves.proofs.Allowing.{reached_moves}
-use Rattle.brc_runs.proofs.Reached.{reached_allocs, reached_frees}
-use Rattle.brc_runs.proofs.Sizes.{reached_count_range}
+use Rattle.law_world.specs.declared.event.Event.{Event}
+use Rattle.law_world.specs.Heap.{Heap}
+use Rattle.law_world.specs.Steps.{enabled, after}
+use Rattle.law_world.specs.Runs.{IsReached}
+use Rattle.law_moves.specs.Moves.{MakesMoves, map_of, moves_by}
+use Rattle.law_moves.proofs.Allowing.{reached_moves}
+use Rattle.law_world.proofs.Reached.{reached_allocs, reached_frees}
+use Rattle.law_world.proofs.Sizes.{reached_count_range}
 use Rattle.brc_core.proofs.Bounds.{cells_fit, registers_few, past_allocs_fit, past_frees_fit}
 use Rattle.brc_core.proofs.Closing.{reached_closers}
 use Rattle.brc_core.proofs.Reaching.{reached_after}

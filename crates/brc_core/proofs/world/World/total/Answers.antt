@@ -1,9 +1,9 @@
 use Rattle.std.proofs.Common.{◌≡◌, true, sym, subst, ap, ◌∙◌, arith, pos, length}
 use Rattle.std.proofs.lemmas.Int.{to_z-of_z, ints}
-use Rattle.brc_runs.proofs.Sizes.{reached_count_range}
+use Rattle.law_world.proofs.Sizes.{reached_count_range}
 use Rattle.brc_core.proofs.Bounds.{references}
-use Rattle.brc_runs.specs.Heap.{Heap}
-use Rattle.brc_runs.specs.Holding.{holders_of, lives_at, total_of}
+use Rattle.law_world.specs.Heap.{Heap}
+use Rattle.law_world.specs.Holding.{holders_of, lives_at, total_of}
 use mir.Val.{SFits}
 use mir.Syntax.{w64}
 use Rattle.brc_core.proofs.world.World.total.Goals as goal

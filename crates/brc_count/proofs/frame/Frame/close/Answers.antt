@@ -1,6 +1,6 @@
 use Rattle.std.proofs.Common.{◌<◌, subst, ap, ◌∙◌, arith}
-use Rattle.brc_runs.specs.Heap.{words_for}
-use Rattle.brc_runs.specs.Steps.{is_left}
+use Rattle.law_world.specs.Heap.{words_for}
+use Rattle.law_world.specs.Steps.{is_left}
 use Rattle.brc_count.proofs.Leaving.{stage_left}
 use Rattle.brc_count.proofs.frame.Frame.close.Goals as goal
 

@@ -1,6 +1,6 @@
 use Rattle.std.proofs.Common.{◌≡◌, []}
-use Rattle.brc_runs.specs.Heap.{words_for}
-use Rattle.brc_rule.specs.Seen.{part_seen}
+use Rattle.law_world.specs.Heap.{words_for}
+use Rattle.law_rule.specs.Seen.{part_seen}
 use Rattle.brc_count.specs.Frames.{IsUnlocked}
 use Rattle.brc_count.specs.Closing.{Closes, stage_with}
 use Rattle.brc_count.proofs.holdings.Holdings.close_all.Given as goal

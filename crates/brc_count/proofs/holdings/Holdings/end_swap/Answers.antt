@@ -1,8 +1,8 @@
 use Rattle.std.proofs.Common.{◌≡◌, Some, sym, subst, refl, false}
-use Rattle.brc_runs.specs.declared.event.Change.TheVariants as changes
-use Rattle.brc_runs.specs.declared.row.Hand.TheVariants as hands
-use Rattle.brc_rule.specs.Seen.{part_seen}
-use Rattle.brc_steps.specs.Owing.{Unlocks}
+use Rattle.law_world.specs.declared.event.Change.TheVariants as changes
+use Rattle.law_world.specs.declared.row.Hand.TheVariants as hands
+use Rattle.law_rule.specs.Seen.{part_seen}
+use Rattle.law_steps.specs.Owing.{Unlocks}
 use Rattle.brc_table.specs.Moving.{found_locked}
 use Rattle.brc_table.specs.Shown.{shows}
 use Rattle.brc_count.specs.Frames.{FrameSeen}

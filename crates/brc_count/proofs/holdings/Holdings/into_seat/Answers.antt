@@ -1,8 +1,8 @@
 use Rattle.std.proofs.Common.{◌≡◌, true, refl, sym, subst, ap}
-use Rattle.brc_runs.specs.Lists.{is_blank}
-use Rattle.brc_runs.specs.Steps.{is_left, is_free_hand}
-use Rattle.brc_rule.specs.Seen.{part_seen}
-use Rattle.brc_steps.specs.Joining.{Leaves}
+use Rattle.law_world.specs.Lists.{is_blank}
+use Rattle.law_world.specs.Steps.{is_left, is_free_hand}
+use Rattle.law_rule.specs.Seen.{part_seen}
+use Rattle.law_steps.specs.Joining.{Leaves}
 use Rattle.brc_table.specs.Seated.{SeatSeen, view_of}
 use Rattle.brc_count.specs.Frames.{FrameSeen, Holding, popped_seen}
 use Rattle.brc_count.proofs.Leaving.{holds_unmarked}

@@ -1,7 +1,7 @@
 use Rattle.std.proofs.Common.{◌≡◌, ◌+◌, ◌*◌, ◌/◌, ℕ, sym, ◌∙◌, ap, subst}
-use Rattle.brc_runs.specs.Heap.{words_for}
-use Rattle.brc_runs.specs.Lists.{word_at}
-use Rattle.brc_runs.proofs.Bitwise.{blank_word}
+use Rattle.law_world.specs.Heap.{words_for}
+use Rattle.law_world.specs.Lists.{word_at}
+use Rattle.law_world.proofs.Bitwise.{blank_word}
 use Rattle.brc_count.specs.Frames.{FrameSeen, KeepsHandles, popped_seen}
 use Rattle.brc_count.specs.Polling.{DrainsEach, DrainsNamed, NoName, NotNamed, Named}
 use Rattle.brc_count.proofs.Changes.{kept, kept_on}

@@ -1,7 +1,7 @@
 use Rattle.std.proofs.Common.{◌∙◌, sym, ap, subst, false}
 use Rattle.brc_block.specs.Blocks.{front_cell, front_entries}
-use Rattle.brc_runs.specs.declared.event.Dropped.TheVariants as drops
-use Rattle.brc_counter.specs.Standing.{Holds}
+use Rattle.law_world.specs.declared.event.Dropped.TheVariants as drops
+use Rattle.brc_biased.specs.Standing.{Holds}
 use Rattle.brc_count.specs.Frames.{IsUnlocked, MayGiveUp, pushed, EntryReleased, BlockFreed}
 use Rattle.brc_count.proofs.Changes.{same_cell, entry_inside, entry_held, after_entry, front_inside, free_carries, after_freeing}
 use Rattle.brc_count.proofs.holdings.Holdings.turn.Goals as goal

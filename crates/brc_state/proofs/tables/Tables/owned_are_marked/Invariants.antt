@@ -1,6 +1,6 @@
 use Rattle.std.proofs.Common.{◌≡◌}
-use Rattle.brc_runs.specs.Heap.{worklist_at}
-use Rattle.brc_runs.specs.Steps.{owned_are_marked}
+use Rattle.law_world.specs.Heap.{worklist_at}
+use Rattle.law_world.specs.Steps.{owned_are_marked}
 use Rattle.brc_state.proofs.tables.Tables.owned_are_marked.Given as goal
 
 abbrev pub invariant-loop-cell : goal.invariant-loop-cell

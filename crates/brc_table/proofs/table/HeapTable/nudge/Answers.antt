@@ -1,15 +1,15 @@
 use Rattle.std.proofs.Common.{ℕ, ◌<◌, ◌≤◌, sym, subst, bit_or}
-use Rattle.brc_runs.specs.declared.event.Step.TheVariants.{Nudge}
-use Rattle.brc_known.specs.declared.word.Word.TheVariants.{NotifyWord}
+use Rattle.law_world.specs.declared.event.Step.TheVariants.{Nudge}
+use Rattle.law_known.specs.declared.word.Word.TheVariants.{NotifyWord}
 use Rattle.brc_table.proofs.Placing.{notify_bit, told_inside}
-use Rattle.brc_rule.specs.declared.told.Moved.TheVariants.{Nothing}
-use Rattle.brc_rule.specs.declared.told.Told.TheVariants.{Did}
+use Rattle.law_rule.specs.declared.told.Moved.TheVariants.{Nothing}
+use Rattle.law_rule.specs.declared.told.Told.TheVariants.{Did}
 use Rattle.brc_table.specs.Machine.{MayTell}
 use Rattle.brc_words.specs.declared.limits.TheConstants.{MOST_CELLS}
 use Rattle.brc_table.specs.Seated.{TableSeen, SeatSeen}
 use Rattle.brc_table.specs.Shown.{shows}
-use Rattle.brc_steps.specs.Owing.{Tells}
-use Rattle.brc_steps.proofs.Queue_Steps.{nudges}
+use Rattle.law_steps.specs.Owing.{Tells}
+use Rattle.law_steps.proofs.Queue_Steps.{nudges}
 use Rattle.brc_table.proofs.table.HeapTable.nudge.Goals as goal
 
 pub bit-bits-requires : goal.bit-bits-requires

@@ -1,8 +1,8 @@
 use Rattle.std.proofs.Common.{ℕ, ◌<◌, sym, subst}
 use Rattle.brc_table.specs.Seated.{SeatSeen}
 use Rattle.brc_table.specs.Shown.{shows}
-use Rattle.brc_steps.specs.Owing.{UntiesShut}
-use Rattle.brc_steps.proofs.Untying_Steps.{unties_shut}
+use Rattle.law_steps.specs.Owing.{UntiesShut}
+use Rattle.law_steps.proofs.Untying_Steps.{unties_shut}
 use Rattle.brc_table.proofs.table.HeapTable.untie_shut.Goals as goal
 
 pub store-requires-clause-allowed : goal.store-requires-clause-allowed

@@ -1,5 +1,5 @@
 use Rattle.std.proofs.Common.{ap, sym, subst, ◌∙◌}
-use Rattle.brc_rule.specs.declared.view.View.{View}
+use Rattle.law_rule.specs.declared.view.View.{View}
 use Rattle.brc_table.specs.Seated.{view_of}
 use Rattle.brc_thread.specs.Counting.{Counts}
 use Rattle.brc_thread.proofs.Counted.{counts_gathered}

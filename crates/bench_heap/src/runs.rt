@@ -1,0 +1,338 @@
+//! The cases: threads on one heap, each with what it is to do.
+
+ghost use Rattle.std.specs.Prelude.{◌≡◌, IfOk, IfSome, IfNone};
+ghost use Rattle.std.specs.List.{All};
+ghost use Rattle.brc_count.specs.Frames.{IsUnlocked, Owns};
+ghost use Rattle.brc_count.specs.Owned.{Keeps, Gains};
+
+use crate::globals::put_into_globals;
+use crate::handles::{a_list, a_mailbox, an_integer, another, release};
+use crate::letters::{Post, SENDERS};
+use crate::lives::{Asked, CELLS, Done, FOREIGN, first_key, lives, rests};
+use crate::request::Case;
+use crate::timing::{Times, refused, times_of};
+use brc_biased::Home;
+use brc_count::{Frame, Handle};
+use brc_thread::{Heap, Options, Resting, Root, give_back, take_apart};
+use std::alloc::{AllocError, Allocator, Global};
+use std::rt::Clock;
+use std::sync::Wait;
+use std::thread::Threads;
+use std::time::CpuClock;
+use std::{io, thread};
+
+/// What all threads hold.
+#[derive(Clone, Copy, Debug, PartialEq, Eq)]
+enum Shared {
+    Int,
+    List,
+    Mailbox,
+}
+
+/// What a thread puts into the globals before the others run.
+#[derive(Clone, Copy, Debug, PartialEq, Eq)]
+enum Gift {
+    Nothing,
+    /// So many integers.
+    Integers(u32),
+    /// So many references to one object.
+    References(Shared, u32),
+}
+
+/// Integers of the thread's own go into the globals; false where one can't be made or put there.
+fn gives_integers<R: Wait, H: Home<A>, A: Allocator + Copy>(
+    rt: &R,
+    alloc: A,
+    frame: &mut Frame<H, A>,
+    count: u32,
+) -> bool
+    requires unlocked { IsUnlocked frame.old }
+    ensures keeps { Keeps frame.old frame.new }
+    ensures unlocked { IsUnlocked frame.new }
+{
+    let first = first_key(frame.thread()) as i64;
+    for i in 0..count {
+        let Some(handle) = an_integer(alloc, frame, 1_000 + i as i64) else {
+            return false;
+        };
+        if !put_into_globals(rt, frame, handle, first + i as i64) {
+            return false;
+        }
+    }
+    true
+}
+
+/// One reference more to the handle's object goes into the globals; false where there is no room.
+fn shares<R: Wait, H: Home<A>, A: Allocator + Copy>(
+    rt: &R,
+    frame: &mut Frame<H, A>,
+    handle: &Handle<A>,
+    key: i64,
+) -> bool
+    requires owned { Owns frame.old handle.now }
+    requires unlocked { IsUnlocked frame.old }
+    ensures keeps { Keeps frame.old frame.new }
+    ensures unlocked { IsUnlocked frame.new }
+{
+    match another(frame, handle) {
+        Some(more) => put_into_globals(rt, frame, more, key),
+        None => false,
+    }
+}
+
+/// So many of them do, under the numbers of the threads from 1 on.
+fn shares_often<R: Wait, H: Home<A>, A: Allocator + Copy>(
+    rt: &R,
+    frame: &mut Frame<H, A>,
+    handle: &Handle<A>,
+    count: u32,
+) -> bool
+    requires owned { Owns frame.old handle.now }
+    requires unlocked { IsUnlocked frame.old }
+    ensures keeps { Keeps frame.old frame.new }
+    ensures unlocked { IsUnlocked frame.new }
+{
+    for i in 0..count {
+        if !shares(rt, frame, handle, 1 + i as i64) {
+            return false;
+        }
+    }
+    true
+}
+
+/// A new object to be shared; None where it can't be had.
+fn to_share<H: Home<A>, A: Allocator + Copy>(
+    alloc: A,
+    frame: &mut Frame<H, A>,
+    shared: Shared,
+) -> Option<Handle<A>>
+    requires unlocked { IsUnlocked frame.old }
+    ensures gains { IfSome result (Gains frame.old frame.new) }
+    ensures keeps { IfNone result (Keeps frame.old frame.new) }
+    ensures unlocked { IsUnlocked frame.new }
+{
+    match shared {
+        Shared::Int => an_integer(alloc, frame, 1_000),
+        Shared::List => a_list(alloc, frame),
+        Shared::Mailbox => a_mailbox(alloc, frame),
+    }
+}
+
+/// References to one object of the thread's own go into the globals; false where that fails.
+fn gives_references<R: Wait, H: Home<A>, A: Allocator + Copy>(
+    rt: &R,
+    alloc: A,
+    frame: &mut Frame<H, A>,
+    shared: Shared,
+    count: u32,
+) -> bool
+    requires unlocked { IsUnlocked frame.old }
+    ensures keeps { Keeps frame.old frame.new }
+    ensures unlocked { IsUnlocked frame.new }
+{
+    let Some(handle) = to_share(alloc, frame, shared) else {
+        return false;
+    };
+    let whole = shares_often(rt, frame, &handle, count);
+    release(frame, handle);
+    whole
+}
+
+/// The gift goes into the globals; false where that fails.
+fn gives<R: Wait, H: Home<A>, A: Allocator + Copy>(
+    rt: &R,
+    alloc: A,
+    frame: &mut Frame<H, A>,
+    gift: Gift,
+) -> bool
+    requires unlocked { IsUnlocked frame.old }
+    ensures keeps { Keeps frame.old frame.new }
+    ensures unlocked { IsUnlocked frame.new }
+{
+    match gift {
+        Gift::Nothing => true,
+        Gift::Integers(count) => gives_integers(rt, alloc, frame, count),
+        Gift::References(shared, count) => gives_references(rt, alloc, frame, shared, count),
+    }
+}
+
+/// The next thread, which has given this and is at rest.
+fn registered(
+    rt: &impl Wait,
+    alloc: Global,
+    heap: &Heap<Global>,
+    root: &mut Root<Global>,
+    gift: Gift,
+) -> io::Result<Resting<Global>>
+    requires heap { root.old.table ≡ heap.now.table }
+    ensures heap { IfOk result (λ resting. resting.heap ≡ heap.now) }
+    ensures root { root.new.table ≡ root.old.table }
+{
+    match root.register(alloc, heap) {
+        Err(_) => Err(refused()),
+        Ok(mutator) => {
+            let mut mutator = mutator;
+            let given = gives(rt, alloc, mutator.frame(), gift);
+            let resting = rests(rt, mutator);
+            if !given {
+                return Err(refused());
+            }
+            Ok(resting)
+        }
+    }
+}
+
+/// What the thread of this number, from 0, gives before all of them run.
+fn gift_of(asked: Asked, number: u32) -> Gift {
+    if asked.idle {
+        return Gift::Integers(FOREIGN);
+    }
+    if number > 0 {
+        return Gift::Nothing;
+    }
+    match asked.case {
+        Case::PairShared => Gift::References(Shared::Int, asked.threads),
+        Case::ListShared => Gift::References(Shared::List, asked.threads),
+        Case::Mail => Gift::References(Shared::Mailbox, asked.threads),
+        _ => Gift::Nothing,
+    }
+}
+
+/// The threads, each of which has given what it gives and is at rest.
+fn rested(
+    rt: &impl Wait,
+    alloc: Global,
+    heap: &Heap<Global>,
+    root: &mut Root<Global>,
+    asked: Asked,
+) -> io::Result<Vec<Resting<Global>>>
+    requires heap { root.old.table ≡ heap.now.table }
+    ensures heap { IfOk result (λ all. All (λ resting. resting.heap ≡ heap.now) all.items) }
+    ensures root { root.new.table ≡ root.old.table }
+{
+    let mut all = Vec::new(alloc);
+    for number in 0..asked.threads {
+        let resting = registered(rt, alloc, heap, root, gift_of(asked, number))?;
+        all.push(resting)?;
+    }
+    Ok(all)
+}
+
+/// What a run answers.
+#[derive(Clone, Copy, Debug)]
+pub struct Answer {
+    pub times: Times,
+    /// How many objects all threads together have made.
+    pub allocs: u64,
+    /// How many cells they have given back.
+    pub frees: u64,
+}
+
+/// Each in a thread of the machine of its own.
+fn run_all<R: Threads + Wait + Clock + CpuClock + Sync>(
+    rt: &R,
+    alloc: Global,
+    heap: &Heap<Global>,
+    all: Vec<Resting<Global>>,
+    post: &Post,
+    asked: Asked,
+) -> Result<Vec<Done>, AllocError>
+    requires heap { All (λ resting. resting.heap ≡ heap.now) all.items }
+{
+    thread::map_vec(
+        rt,
+        all,
+        &|resting|
+            requires { resting.heap ≡ heap.now }
+        { lives(rt, alloc, heap, resting, post, asked) },
+    )
+}
+
+/// What all threads together found.
+fn answer_of(alloc: Global, all: Vec<Done>) -> io::Result<Answer> {
+    let mut spans = Vec::new(alloc);
+    let mut allocs: u64 = 0;
+    let mut frees: u64 = 0;
+    for done in all {
+        let Done { span, ledger } = done;
+        if let Some(span) = span? {
+            spans.push(span)?;
+        }
+        allocs = allocs.wrapping_add(ledger.allocs);
+        frees = frees.wrapping_add(ledger.frees);
+    }
+    Ok(Answer {
+        times: times_of(spans.as_slice()),
+        allocs,
+        frees,
+    })
+}
+
+/// Runs a case on this heap: the busy threads do, and the idle ones end after them.
+fn answer_on<R: Threads + Wait + Clock + CpuClock + Sync>(
+    rt: &R,
+    alloc: Global,
+    heap: &Heap<Global>,
+    root: &mut Root<Global>,
+    asked: Asked,
+) -> io::Result<Answer>
+    requires heap { root.old.table ≡ heap.now.table }
+    ensures root { root.new.table ≡ root.old.table }
+{
+    let owners = match asked.case {
+        Case::PairForeign => asked.threads,
+        _ => 0,
+    };
+    let owning = Asked {
+        idle: true,
+        threads: owners,
+        ..asked
+    };
+    let idle = rested(rt, alloc, heap, root, owning)?;
+    let busy = rested(rt, alloc, heap, root, asked)?;
+    let post = Post::new();
+    let mut all = run_all(rt, alloc, heap, busy, &post, asked)?;
+    for done in run_all(rt, alloc, heap, idle, &post, owning)? {
+        all.push(done)?;
+    }
+    answer_of(alloc, all)
+}
+
+/// How many threads a case has.
+fn threads_of(case: Case, threads: u32) -> u32 {
+    match case {
+        Case::Mail => SENDERS + 1,
+        Case::Chain | Case::MakeChain | Case::MakeChainNear | Case::Wide => 1,
+        Case::ClaimFull | Case::ClaimFullNear => 1,
+        _ => threads,
+    }
+}
+
+/// Runs a case on a heap of its own.
+pub fn run_case<R: Threads + Wait + Clock + CpuClock + Sync>(
+    rt: &R,
+    alloc: Global,
+    case: Case,
+    threads: u32,
+    n: u64,
+) -> io::Result<Answer> {
+    let options = Options {
+        cells: CELLS,
+        local_limit: 4_294_967_294,
+    };
+    let asked = Asked {
+        case,
+        idle: false,
+        threads: threads_of(case, threads),
+        n,
+    };
+    match Heap::new(alloc, options) {
+        Err(_) => Err(refused()),
+        Ok((heap, root)) => {
+            let mut root = root;
+            let answer = answer_on(rt, alloc, &heap, &mut root, asked);
+            give_back(take_apart(heap, root));
+            answer
+        }
+    }
+}

@@ -1,0 +1,33 @@
+-- What contracts see of a counter, and what it keeps.
+use Rattle.std.specs.Prelude.{◌≡◌, ◌<◌, ◌≤◌, ℕ, nat_lt, if◌then◌else◌, true, List, length, slice_index}
+use Rattle.brc_words.specs.declared.limits.TheConstants.{FIRST_MORTAL, IMMORTAL_LOCAL}
+use Rattle.law_world.specs.Steps.{is_active}
+use Rattle.law_rule.specs.declared.told.Told.{Told}
+use Rattle.law_rule.specs.Seen.{part_seen, counts_seen}
+use Rattle.brc_table.specs.Seated.{TableSeen, SeatSeen}
+
+-- the table, and the thread's seat at it
+pub record CounterSeen (A : Type 0) : Type 0 where
+  pub heap : TableSeen
+  pub seat : SeatSeen A
+
+-- the heap of a seat, with its sizes
+abbrev pub heap_of : {A : Type 0} → SeatSeen A → ℕ → ℕ → TableSeen
+heap_of seat cells limit = record { table = seat.table; cells = cells; local_limit = limit }
+
+-- The number kept for a mortal cell is the thread's local count of it, as its log tells it: 0 where it doesn't count there on
+-- the local word. The number kept for an immortal is above each limit, as its local word is.
+pub record CountsFit (n : ℕ) (log : List Told) (counts : List ℕ) : Type 0 where
+  pub wide : length counts ≡ n
+  pub immortal : (c : ℕ) → c < FIRST_MORTAL → c < n → slice_index counts c ≡ IMMORTAL_LOCAL
+  pub mortal : (c : ℕ) → FIRST_MORTAL ≤ c → c < n → slice_index counts c ≡ counts_seen n log c
+  pub active : (c : ℕ) → FIRST_MORTAL ≤ c → c < n → 0 < counts_seen n log c → is_active (part_seen n log).row.stage ≡ true
+
+-- what a counter keeps
+pub record Counting (A : Type 0) (heap : TableSeen) (seat : SeatSeen A) (counts : List ℕ) : Type 0 where
+  pub same_table : seat.table ≡ heap.table
+  pub fit : CountsFit heap.cells seat.log counts
+
+-- the number kept for a cell before the thread counts anything
+abbrev pub first_count : ℕ → ℕ
+first_count c = if nat_lt c FIRST_MORTAL then IMMORTAL_LOCAL else 0

@@ -1,0 +1,79 @@
+//! The counter, and how it is made and taken apart.
+
+ghost use Rattle.std.specs.Prelude.{◌≡◌, ◌<◌, ◌≤◌, ℕ, [], length, slice_index, IfOk};
+ghost use Rattle.brc_words.specs.declared.limits.TheConstants.{FIRST_MORTAL, MOST_CELLS};
+ghost use Rattle.brc_biased.specs.Counter.{first_count};
+
+use crate::home::Home;
+use brc_table::ThreadSeat;
+use brc_words::{FIRST_MORTAL, IMMORTAL_LOCAL};
+use std::alloc::{AllocError, Allocator};
+use std::marker::Model;
+
+/// One thread's seat, with the local counts of its own objects.
+pub struct Counter<H: Home<A>, A: Allocator> {
+    pub(crate) heap: H,
+    pub(crate) seat: ThreadSeat<A>,
+    pub(crate) counts: Vec<u32, A>,
+}
+
+impl<H: Home<A>, A: Allocator> Model for Counter<H, A> {
+    ghost use Rattle.brc_biased.specs.Counter.{CounterSeen, Counting};
+
+    ghost Value = { CounterSeen A };
+
+    ghost view = { λ c. record { heap = H.seen c.heap; seat = c.seat } };
+
+    ghost invariant = { λ c. Counting A (H.seen c.heap) c.seat c.counts.items };
+}
+
+/// The counts of a thread that has counted nothing.
+pub fn first_counts<A: Allocator>(alloc: A, cells: u32) -> Result<Vec<u32, A>, AllocError>
+    ensures wide { IfOk result (λ counts. length counts.items ≡ cells) }
+    ensures each { IfOk result (λ counts. (c : ℕ) → c < cells → slice_index counts.items c ≡ first_count c) }
+{
+    let mut counts = Vec::new(alloc);
+    for cell in 0..cells {
+        counts.push(if cell < FIRST_MORTAL {
+            IMMORTAL_LOCAL
+        } else {
+            0
+        })?;
+    }
+    Ok(counts)
+}
+
+impl<H: Home<A>, A: Allocator> Counter<H, A> {
+    /// A counter of a thread that has done nothing yet, with its counts as `first_counts` makes them.
+    pub fn new(heap: H, seat: ThreadSeat<A>, counts: Vec<u32, A>) -> Counter<H, A>
+        requires table { seat.table ≡ (H.seen heap).table }
+        requires new { seat.log ≡ [] }
+        requires wide { length counts.items ≡ (H.seen heap).cells }
+        requires each { (c : ℕ) → c < (H.seen heap).cells → slice_index counts.items c ≡ first_count c }
+        ensures heap { result.heap ≡ H.seen heap }
+        ensures seat { result.seat ≡ seat }
+    {
+        Counter { heap, seat, counts }
+    }
+
+    /// What leads to its table.
+    pub fn home(&self) -> &H
+        ensures { H.seen result.now ≡ self.now.heap }
+    {
+        &self.heap
+    }
+
+    /// The heap and the seat; the counts' memory goes back.
+    pub fn into_parts(self) -> (H, ThreadSeat<A>)
+        ensures heap { H.seen result.0 ≡ self.heap }
+        ensures seat { result.1 ≡ self.seat }
+        ensures table { result.1.table ≡ self.heap.table }
+    {
+        let Counter {
+            heap,
+            seat,
+            counts: _counts,
+        } = self;
+        (heap, seat)
+    }
+}

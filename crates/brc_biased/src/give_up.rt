@@ -1,0 +1,74 @@
+//! Counting down: a reference in a place of the frame goes, or the last entry of a dead block.
+
+ghost use Rattle.std.specs.Prelude.{◌≡◌, ◌≢◌, ◌<◌, ℕ, List, IfSome, IsTrue, true};
+ghost use Rattle.law_world.specs.declared.row.Hand.TheVariants as hands;
+ghost use Rattle.law_rule.specs.Logs.{entries_in};
+ghost use Rattle.law_rule.specs.Seen.{risen_seen};
+ghost use Rattle.brc_table.specs.Knowing.{known_seen, entries_of};
+ghost use Rattle.brc_table.specs.Moving.{is_there};
+ghost use Rattle.brc_table.specs.Seated.{Continues};
+ghost use Rattle.brc_table.specs.Shown.{contents_of};
+ghost use Rattle.brc_biased.specs.Bounded.{IsBounded};
+ghost use Rattle.brc_biased.specs.Released.{Answers, Released};
+ghost use Rattle.brc_biased.specs.Standing.{HasDead, Holds, KeepsPlaces, Stands, entries_left, released};
+ghost use Rattle.brc_biased.specs.Up.{IsKnown};
+
+use crate::counter::Counter;
+use crate::home::Home;
+use crate::own::release_own;
+use crate::shared::{release_risen, release_shared};
+use brc_block::Block;
+use brc_words::FIRST_MORTAL;
+use law_world::Dropped;
+use std::alloc::Allocator;
+
+impl<H: Home<A>, A: Allocator> Counter<H, A> {
+    /// Gives a reference up, in at most `MOST_EVENTS` events whatever others do, with one lost exchange in the log, and answers the block
+    /// of the object that this ended, if it did (PEP 703, "Biased Reference Counting"). `has_risen` says that the object was seen
+    /// queued or merged while the reference was there; then no look is needed. It waits for nobody, unless its `Home` does to
+    /// find the table.
+    #[inline(always)]
+    pub fn give_up(&mut self, drop: Dropped, cell: u32, has_risen: bool) -> Option<Block<A>>
+        requires inside { cell < self.old.heap.cells }
+        requires holds { Holds self.old.heap.cells self.old.seat.log drop cell }
+        requires risen { IsTrue has_risen →
+            risen_seen self.old.heap.cells self.old.seat.log drop cell ≡ true }
+
+        ensures heap { self.new.heap ≡ self.old.heap }
+        ensures seat { Continues self.old.seat self.new.seat }
+
+        // Which list of events it is, and what it answers.
+        ensures told { Released self.old.heap.cells drop cell has_risen result
+            self.old.seat.log self.new.seat.log }
+        ensures bounded { IsBounded self.old.seat.log self.new.seat.log }
+        ensures block { Answers self.old.heap.cells cell result self.old.seat self.new.seat }
+
+        // What the thread knows then: the reference is gone, and the block is its own.
+        ensures dead { IfSome result (λ there.
+            HasDead self.old.heap.cells self.new.seat.log cell (entries_in (contents_of there.1))) }
+        ensures others { (q : ℕ) (entries : List ℕ) → q ≢ cell →
+            HasDead self.old.heap.cells self.old.seat.log q entries →
+            HasDead self.old.heap.cells self.new.seat.log q (entries_left drop q entries) }
+        ensures knows { IsKnown self.old.heap.cells self.new.seat.log
+            (released (is_there result) drop cell (entries_of result)
+            (known_seen self.old.heap.cells self.old.seat.log)) }
+        ensures stands { Stands self.old.heap.cells self.new.seat.log hands.Free }
+        ensures keeps { KeepsPlaces self.old.heap.cells self.old.seat.log self.new.seat.log }
+    {
+        let count = self.counts[cell as usize];
+        let table = self.heap.table();
+        if cell < FIRST_MORTAL {
+            let _found = table.immortal_down(&mut self.seat, drop, cell);
+            return None;
+        }
+        if count == 0 {
+            if has_risen {
+                return release_risen(table, &mut self.seat, drop, cell);
+            }
+            return release_shared(table, &mut self.seat, drop, cell);
+        }
+        // The thread's own memory comes first: what is loaded after the word's store waits for it.
+        self.counts[cell as usize] = count - 1;
+        release_own(table, &mut self.seat, drop, cell, count)
+    }
+}

@@ -1,0 +1,90 @@
+//! The end of an own object's local count.
+
+ghost use Rattle.std.specs.Prelude.{◌≡◌, ◌-◌, ◌==◌, ◌<◌, ◌≤◌, ℕ, if◌then◌else◌, true};
+ghost use Rattle.brc_words.specs.declared.limits.TheConstants.{FIRST_MORTAL};
+ghost use Rattle.law_world.specs.Steps.{is_active};
+ghost use Rattle.law_world.specs.declared.row.Hand.TheVariants as hands;
+ghost use Rattle.law_world.specs.declared.row.Phase.TheVariants as phases;
+ghost use Rattle.law_rule.specs.Seen.{part_seen, counts_seen};
+ghost use Rattle.brc_table.specs.Knowing.{known_seen, entries_of};
+ghost use Rattle.brc_table.specs.Moving.{is_there};
+ghost use Rattle.brc_table.specs.Seated.{Continues};
+ghost use Rattle.brc_biased.specs.Released.{Answers, EndedOwn, GoesOwn};
+ghost use Rattle.brc_biased.specs.Standing.{Stands, Holds, SameCounts, KeepsPlaces, ending, released};
+ghost use Rattle.brc_biased.specs.Up.{IsKnown};
+
+use brc_block::Block;
+use brc_table::{Found, HeapTable, ThreadSeat};
+use law_world::Dropped;
+use std::alloc::Allocator;
+
+/// The thread's count of its own object came to 0: where nobody else has counted or asked the object is dead, and else the
+/// counts are merged.
+#[inline(always)]
+pub(crate) fn end_own<A: Allocator>(
+    table: &HeapTable<A>,
+    seat: &mut ThreadSeat<A>,
+    cell: u32,
+) -> Option<Block<A>>
+    requires table { seat.old.table ≡ table.now.table }
+    requires inside { cell < table.now.cells }
+    requires stands { Stands table.now.cells seat.old.log (hands.Busy phases.Zero cell) }
+    requires active { is_active (part_seen table.now.cells seat.old.log).row.stage ≡ true }
+    requires counted { counts_seen table.now.cells seat.old.log cell ≡ 0 }
+    ensures told { EndedOwn cell result seat.old.log seat.new.log }
+    ensures block { Answers table.now.cells cell result seat.old seat.new }
+    ensures seat { Continues seat.old seat.new }
+    ensures knows { IsKnown table.now.cells seat.new.log
+        (ending (is_there result) cell (entries_of result) (known_seen table.now.cells seat.old.log)) }
+    ensures counts { SameCounts table.now.cells seat.old.log seat.new.log }
+    ensures keeps { KeepsPlaces table.now.cells seat.old.log seat.new.log }
+{
+    let Found {
+        number: _number,
+        block,
+    } = table.see_zero(seat, cell);
+    if let Some(block) = block {
+        return Some(block);
+    }
+
+    // The owner word goes to 0 before the state does to merged: from the merge on another thread may free the cell, and a
+    // late store here would then fall on whoever has claimed it since.
+    table.untie_over(seat, cell);
+    let Found {
+        number: _number,
+        block,
+    } = table.merge_zero(seat, cell);
+    block
+}
+
+/// A reference to an own object goes: the thread counts it down, from the count that its log tells.
+#[inline(always)]
+pub(crate) fn release_own<A: Allocator>(
+    table: &HeapTable<A>,
+    seat: &mut ThreadSeat<A>,
+    drop: Dropped,
+    cell: u32,
+    count: u32,
+) -> Option<Block<A>>
+    requires table { seat.old.table ≡ table.now.table }
+    requires inside { cell < table.now.cells }
+    requires holds { Holds table.now.cells seat.old.log drop cell }
+    requires active { is_active (part_seen table.now.cells seat.old.log).row.stage ≡ true }
+    requires mortal { FIRST_MORTAL ≤ cell }
+    requires counted { counts_seen table.now.cells seat.old.log cell ≡ count }
+    requires some_count { 0 < count }
+    ensures told { GoesOwn table.now.cells drop cell result seat.old.log seat.new.log }
+    ensures block { Answers table.now.cells cell result seat.old seat.new }
+    ensures seat { Continues seat.old seat.new }
+    ensures knows { IsKnown table.now.cells seat.new.log
+        (released (is_there result) drop cell (entries_of result) (known_seen table.now.cells seat.old.log)) }
+    ensures counts { (c : ℕ) → counts_seen table.now.cells seat.new.log c ≡
+        (if c == cell then count - 1 else counts_seen table.now.cells seat.old.log c) }
+    ensures keeps { KeepsPlaces table.now.cells seat.old.log seat.new.log }
+{
+    table.local_down(seat, drop, cell, count);
+    if count == 1 {
+        return end_own(table, seat, cell);
+    }
+    None
+}

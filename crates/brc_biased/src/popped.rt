@@ -1,0 +1,97 @@
+//! A popped entry: a reference that went through the thread's merge queue, and is the thread's to deal with.
+
+ghost use Rattle.std.specs.Prelude.{◌≡◌, ◌<◌, ◌%◌, ◌≢◌, ◌==◌, ℕ, if◌then◌else◌, IfSome, Some};
+ghost use Rattle.law_world.specs.Lists.{bit_of};
+ghost use Rattle.law_world.specs.declared.row.Hand.TheVariants as hands;
+ghost use Rattle.law_known.specs.declared.word.Field.TheVariants as fields;
+ghost use Rattle.law_known.specs.Going_On.{settling, taking};
+ghost use Rattle.law_rule.specs.Logs.{entries_in};
+ghost use Rattle.law_rule.specs.Noted.{noted};
+ghost use Rattle.law_rule.specs.Seen.{part_seen, counts_seen};
+ghost use Rattle.brc_table.specs.Knowing.{known_seen, entries_of};
+ghost use Rattle.brc_table.specs.Moving.{is_there};
+ghost use Rattle.brc_table.specs.Seated.{Continues};
+ghost use Rattle.brc_table.specs.Shown.{contents_of};
+ghost use Rattle.brc_biased.specs.Released.{Answers, Merges, Settled};
+ghost use Rattle.brc_biased.specs.Standing.{HasDead, Stands, KeepsPlaces};
+ghost use Rattle.brc_biased.specs.Up.{IsKnown};
+
+use crate::counter::Counter;
+use crate::home::Home;
+use brc_block::Block;
+use brc_table::{Found, HeapTable, ThreadSeat};
+use brc_words::FIRST_MORTAL;
+use std::alloc::Allocator;
+
+/// The object was found not merged: it is made nobody's, its local count joins the shared one, and the entry's reference is
+/// counted down.
+pub(crate) fn merge_popped<A: Allocator>(
+    table: &HeapTable<A>,
+    seat: &mut ThreadSeat<A>,
+    cell: u32,
+    shared: u64,
+) -> Option<Block<A>>
+    requires table { seat.old.table ≡ table.now.table }
+    requires inside { cell < table.now.cells }
+    requires stands { Stands table.now.cells seat.old.log hands.Free }
+    requires popped { bit_of (part_seen table.now.cells seat.old.log).popped cell ≡ 1 }
+    requires found { noted fields.Shared cell seat.old.log ≡ Some shared }
+    requires unmerged { shared % 4 ≢ 3 }
+    ensures told { Merges cell result seat.old.log seat.new.log }
+    ensures block { Answers table.now.cells cell result seat.old seat.new }
+    ensures seat { Continues seat.old seat.new }
+    ensures knows { IsKnown table.now.cells seat.new.log
+        (settling cell (taking (is_there result) cell (entries_of result) (known_seen table.now.cells seat.old.log))) }
+    ensures counts { (c : ℕ) → counts_seen table.now.cells seat.new.log c ≡
+        (if c == cell then 0 else counts_seen table.now.cells seat.old.log c) }
+    ensures keeps { KeepsPlaces table.now.cells seat.old.log seat.new.log }
+{
+    table.untie_popped(seat, cell, shared);
+    let _limit = table.local_limit();
+    let local = table.load_local(seat, cell);
+    let _shared = table.merge_add(seat, cell, local as u32);
+    let Found {
+        number: _number,
+        block,
+    } = table.last_added(seat, cell);
+    block
+}
+
+impl<H: Home<A>, A: Allocator> Counter<H, A> {
+    /// Deals with a popped entry: an object that isn't merged is merged by the thread; then the entry's reference is counted
+    /// down, and the block is answered where that was the last one.
+    pub fn settle(&mut self, cell: u32) -> Option<Block<A>>
+        requires inside { cell < self.old.heap.cells }
+        requires stands { Stands self.old.heap.cells self.old.seat.log hands.Free }
+        requires popped { bit_of (part_seen self.old.heap.cells self.old.seat.log).popped cell ≡ 1 }
+
+        ensures heap { self.new.heap ≡ self.old.heap }
+        ensures seat { Continues self.old.seat self.new.seat }
+        ensures told { Settled cell result self.old.seat.log self.new.seat.log }
+        ensures block { Answers self.old.heap.cells cell result self.old.seat self.new.seat }
+        ensures dead { IfSome result (λ there.
+            HasDead self.old.heap.cells self.new.seat.log cell (entries_in (contents_of there.1))) }
+        ensures knows { IsKnown self.old.heap.cells self.new.seat.log
+            (settling cell (taking (is_there result) cell (entries_of result)
+            (known_seen self.old.heap.cells self.old.seat.log))) }
+        ensures stands { Stands self.old.heap.cells self.new.seat.log hands.Free }
+        ensures keeps { KeepsPlaces self.old.heap.cells self.old.seat.log self.new.seat.log }
+    {
+        let table = self.heap.table();
+        let shared = table.load_shared(&mut self.seat, cell);
+        if shared % 4 == 3 {
+            let Found {
+                number: _number,
+                block,
+            } = table.last_popped(&mut self.seat, cell, shared);
+            return block;
+        }
+        let block = merge_popped(table, &mut self.seat, cell, shared);
+
+        // No immortal goes through a queue, but no log says so.
+        if FIRST_MORTAL <= cell {
+            self.counts[cell as usize] = 0;
+        }
+        block
+    }
+}

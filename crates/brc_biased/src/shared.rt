@@ -1,0 +1,114 @@
+//! Releases by a thread that doesn't count the object on its local word.
+
+ghost use Rattle.std.specs.Prelude.{◌≡◌, ◌<◌, ◌≤◌, true};
+ghost use Rattle.brc_words.specs.declared.limits.TheConstants.{FIRST_MORTAL};
+ghost use Rattle.law_world.specs.declared.event.LastDropped.TheVariants as lasts;
+ghost use Rattle.law_world.specs.declared.event.Step.TheVariants as steps;
+ghost use Rattle.law_rule.specs.Seen.{counts_seen, risen_seen};
+ghost use Rattle.brc_table.specs.Knowing.{known_seen, entries_of};
+ghost use Rattle.brc_table.specs.Moving.{is_there};
+ghost use Rattle.brc_table.specs.Seated.{Continues};
+ghost use Rattle.brc_biased.specs.Released.{Ends, Answers, Asks, GoesShared};
+ghost use Rattle.brc_biased.specs.Standing.{Holds, SameCounts, KeepsPlaces, released};
+ghost use Rattle.brc_biased.specs.Up.{IsKnown};
+
+use crate::asked::hand_over;
+use brc_block::Block;
+use brc_table::{Found, HeapTable, ThreadSeat};
+use law_world::Dropped;
+use std::alloc::Allocator;
+
+/// The least shared word in default with a count above 0.
+const ONE_COUNTED: u64 = (1 << 42) + 4;
+
+/// The reference goes in one event: the object was seen queued or merged.
+#[inline(always)]
+pub(crate) fn release_risen<A: Allocator>(
+    table: &HeapTable<A>,
+    seat: &mut ThreadSeat<A>,
+    drop: Dropped,
+    cell: u32,
+) -> Option<Block<A>>
+    requires table { seat.old.table ≡ table.now.table }
+    requires inside { cell < table.now.cells }
+    requires holds { Holds table.now.cells seat.old.log drop cell }
+    requires mortal { FIRST_MORTAL ≤ cell }
+    requires counted { counts_seen table.now.cells seat.old.log cell ≡ 0 }
+    requires risen { risen_seen table.now.cells seat.old.log drop cell ≡ true }
+    ensures told { Ends (steps.LastDown (lasts.Dropped drop)) cell result seat.old.log seat.new.log }
+    ensures block { Answers table.now.cells cell result seat.old seat.new }
+    ensures seat { Continues seat.old seat.new }
+    ensures knows { IsKnown table.now.cells seat.new.log
+        (released (is_there result) drop cell (entries_of result) (known_seen table.now.cells seat.old.log)) }
+    ensures counts { SameCounts table.now.cells seat.old.log seat.new.log }
+    ensures keeps { KeepsPlaces table.now.cells seat.old.log seat.new.log }
+{
+    let Found {
+        number: _number,
+        block,
+    } = table.last_down(seat, drop, cell);
+    block
+}
+
+/// The thread asks: its reference is to be merged, and is in its hand now; or somebody had asked before, or merged.
+#[inline(never)]
+pub(crate) fn release_asking<A: Allocator>(
+    table: &HeapTable<A>,
+    seat: &mut ThreadSeat<A>,
+    drop: Dropped,
+    cell: u32,
+) -> Option<Block<A>>
+    requires table { seat.old.table ≡ table.now.table }
+    requires inside { cell < table.now.cells }
+    requires holds { Holds table.now.cells seat.old.log drop cell }
+    requires mortal { FIRST_MORTAL ≤ cell }
+    requires counted { counts_seen table.now.cells seat.old.log cell ≡ 0 }
+    ensures told { Asks drop cell result seat.old.log seat.new.log }
+    ensures block { Answers table.now.cells cell result seat.old seat.new }
+    ensures seat { Continues seat.old seat.new }
+    ensures knows { IsKnown table.now.cells seat.new.log
+        (released (is_there result) drop cell (entries_of result) (known_seen table.now.cells seat.old.log)) }
+    ensures counts { SameCounts table.now.cells seat.old.log seat.new.log }
+    ensures keeps { KeepsPlaces table.now.cells seat.old.log seat.new.log }
+{
+    let found = table.ask(seat, drop, cell);
+    if found % 4 != 0 {
+        return release_risen(table, seat, drop, cell);
+    }
+    hand_over(table, seat, cell)
+}
+
+/// The reference goes by a look at the shared word. One exchange is tried; where it is lost the word has moved, so the count
+/// that was loaded says nothing any more, and asking is right at any count.
+#[inline(always)]
+pub(crate) fn release_shared<A: Allocator>(
+    table: &HeapTable<A>,
+    seat: &mut ThreadSeat<A>,
+    drop: Dropped,
+    cell: u32,
+) -> Option<Block<A>>
+    requires table { seat.old.table ≡ table.now.table }
+    requires inside { cell < table.now.cells }
+    requires holds { Holds table.now.cells seat.old.log drop cell }
+    requires mortal { FIRST_MORTAL ≤ cell }
+    requires counted { counts_seen table.now.cells seat.old.log cell ≡ 0 }
+    ensures told { GoesShared drop cell result seat.old.log seat.new.log }
+    ensures block { Answers table.now.cells cell result seat.old seat.new }
+    ensures seat { Continues seat.old seat.new }
+    ensures knows { IsKnown table.now.cells seat.new.log
+        (released (is_there result) drop cell (entries_of result) (known_seen table.now.cells seat.old.log)) }
+    ensures counts { SameCounts table.now.cells seat.old.log seat.new.log }
+    ensures keeps { KeepsPlaces table.now.cells seat.old.log seat.new.log }
+{
+    let word = table.load_shared(seat, cell);
+    if word % 4 != 0 {
+        return release_risen(table, seat, drop, cell);
+    }
+    if word < ONE_COUNTED {
+        return release_asking(table, seat, drop, cell);
+    }
+    match table.shared_down(seat, drop, cell, word) {
+        Ok(()) => None,
+        Err(_) => release_asking(table, seat, drop, cell),
+    }
+}

@@ -1,0 +1,67 @@
+//! Counting up: a source's cell gets one reference more, from a vacant place of the frame.
+
+ghost use Rattle.std.specs.Prelude.{◌≡◌, ◌+◌, ◌<◌, ◌≤◌, ◌∷◌, IsTrue, true};
+ghost use Rattle.brc_words.specs.declared.limits.TheConstants.{FIRST_MORTAL};
+ghost use Rattle.law_world.specs.declared.event.Dropped.TheVariants as drops;
+ghost use Rattle.law_world.specs.declared.event.Step.TheVariants as steps;
+ghost use Rattle.law_known.specs.Going_On.{filling};
+ghost use Rattle.law_rule.specs.declared.told.Moved.TheVariants as moves;
+ghost use Rattle.law_rule.specs.declared.told.Told.TheVariants as told;
+ghost use Rattle.law_rule.specs.Seen.{counts_seen, risen_seen, contents_locked};
+ghost use Rattle.brc_table.specs.Knowing.{known_seen, Keeps};
+ghost use Rattle.brc_table.specs.Seated.{Stays};
+ghost use Rattle.brc_biased.specs.Up.{Raising, CountsHere, RaisedImmortal, RaisedShared, IsKnown};
+
+use crate::counter::Counter;
+use crate::home::Home;
+use brc_words::FIRST_MORTAL;
+use law_world::Source;
+use std::alloc::Allocator;
+
+impl<H: Home<A>, A: Allocator> Counter<H, A> {
+    /// Counts the cell up, in one event: an immortal by a look, an own object below the local limit on its local word, and
+    /// all else on the shared word (PEP 703, "Biased Reference Counting"). It answers whether the shared word was found
+    /// queued or merged, so that the reference's release needs no look.
+    #[inline(always)]
+    pub fn up(&mut self, source: Source, place: u32, cell: u32) -> bool
+        requires inside { cell < self.old.heap.cells }
+        requires raising { Raising self.old.heap.cells self.old.seat.log source place cell }
+
+        ensures heap { self.new.heap ≡ self.old.heap }
+        ensures seat { Stays self.old.seat self.new.seat }
+
+        // Which of the three events it is.
+        ensures immortal { cell < FIRST_MORTAL →
+            RaisedImmortal source place self.old.seat.log self.new.seat.log }
+        ensures own { FIRST_MORTAL ≤ cell →
+            CountsHere self.old.heap.cells self.old.heap.local_limit self.old.seat.log cell →
+            self.new.seat.log ≡ told.Did (steps.LocalUp source place)
+            (counts_seen self.old.heap.cells self.old.seat.log cell + 1) moves.Nothing ∷ self.old.seat.log }
+        ensures shared { FIRST_MORTAL ≤ cell →
+            ¬ CountsHere self.old.heap.cells self.old.heap.local_limit self.old.seat.log cell →
+            RaisedShared source place self.old.seat.log self.new.seat.log result }
+
+        // What the thread knows then.
+        ensures knows { IsKnown self.old.heap.cells self.new.seat.log
+            (filling place cell (known_seen self.old.heap.cells self.old.seat.log)) }
+        ensures keeps { Keeps self.old.heap.cells self.old.seat.log self.new.seat.log }
+        ensures found { contents_locked self.new.seat.log ≡ contents_locked self.old.seat.log }
+        ensures risen { IsTrue result →
+            risen_seen self.old.heap.cells self.new.seat.log (drops.Frame place) cell ≡ true }
+    {
+        let count = self.counts[cell as usize];
+        let table = self.heap.table();
+        if 0 < count && count < table.local_limit() {
+            // First, as in `give_up`.
+            self.counts[cell as usize] = count + 1;
+            table.local_up(&mut self.seat, source, place, cell, count);
+            return false;
+        }
+        if cell < FIRST_MORTAL {
+            let _found = table.immortal_up(&mut self.seat, source, place, cell);
+            return false;
+        }
+        let found = table.shared_up(&mut self.seat, source, place, cell);
+        found % 4 != 0
+    }
+}

@@ -1,6 +1,0 @@
-use Rattle.brc_known.proofs.Going_On_Law.{goes_on, goes_apart, saw_goes, lost_goes}
-use Rattle.brc_known.proofs.Kept_Law.{places_kept, entries_kept}
-use Rattle.brc_known.proofs.laws.own_steps_go_on.Goals as goal
-
-pub returns : goal.returns
-returns c = record { meant = goes_on; apart = goes_apart; places = places_kept; entries = entries_kept; saw = saw_goes; lost = lost_goes }

@@ -1,8 +1,0 @@
-use Rattle.std.proofs.Common.{◌≡◌}
-use Rattle.brc_rule.specs.Seen.{part_seen}
-use Rattle.brc_table.specs.Seated.{Stays}
-use Rattle.brc_seats.specs.Leaving.{closing_at}
-use Rattle.brc_seats.proofs.leaving.closes_all.Given as goal
-
-abbrev pub invariant-loop-word : goal.invariant-loop-word
-invariant-loop-word g l = (part_seen 512 l.seat.log ≡ closing_at l.bits l.word (part_seen 512 l.fn.seat.log)) × Stays l.fn.seat l.seat

@@ -1,8 +1,0 @@
-use Rattle.brc_steps.proofs.Last_Steps.{ends_popped, ends_nobodys}
-use Rattle.brc_steps.proofs.laws.queued_references_end.Goals as goal
-
-pub returns-clause-popped : goal.returns-clause-popped
-returns-clause-popped g c = ends_popped
-
-pub returns-clause-nobodys : goal.returns-clause-nobodys
-returns-clause-nobodys g c = ends_nobodys

@@ -1,0 +1,36 @@
+-- What a seat has noted since its last step. A look changes nothing, and so what it found may be used, where it stays while
+-- others step.
+use Rattle.std.specs.Prelude.{ℕ, ◌==◌, ◌&&◌, Bool, false, if◌then◌else◌, List, [], ◌∷◌, Option, Some, None}
+use Rattle.law_world.specs.declared.event.Step.{Step}
+use Rattle.law_known.specs.declared.word.Field.{Field}
+use Rattle.law_known.specs.declared.word.Word.{Word}
+use Rattle.law_known.specs.declared.word.Word.TheVariants.{Of}
+use Rattle.law_known.specs.Items.{same_field}
+use Rattle.law_rule.specs.declared.told.Told.{Told}
+use Rattle.law_rule.specs.declared.told.Told.TheVariants.{Did, Saw, Lost}
+
+-- this word of the cell
+abbrev pub is_of : Field → ℕ → Word → Bool
+is_of field c (Of other d) = same_field field other && (d == c)
+is_of field c _ = false
+
+-- a step of the thread's own ends what its notes tell
+abbrev pub noted_on : Field → ℕ → Told → Option ℕ → Option ℕ
+noted_on field c (Did s number moved) before = None
+noted_on field c (Saw word number) before = if is_of field c word then Some number else before
+noted_on field c (Lost word number) before = if is_of field c word then Some number else before
+
+-- the number that the newest look at this word of the cell found, where the thread has only looked since
+abbrev pub noted : Field → ℕ → List Told → Option ℕ
+noted field c [] = None
+noted field c (x ∷ log) = noted_on field c x (noted field c log)
+
+-- the newest of the thread's own steps
+abbrev pub newest_on : Told → Option Step → Option Step
+newest_on (Did s number moved) before = Some s
+newest_on (Saw word number) before = before
+newest_on (Lost word number) before = before
+
+abbrev pub newest_step : List Told → Option Step
+newest_step [] = None
+newest_step (x ∷ log) = newest_on x (newest_step log)

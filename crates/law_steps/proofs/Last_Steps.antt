@@ -1,0 +1,191 @@
+-- LastDown by a note: of a popped bit, and of the reference in a hand.
+use Rattle.std.proofs.Common.{◌≡◌, ℕ, ◌+◌, ◌-◌, ◌<◌, ◌≤◌, ◌^◌, ◌%◌, true, false, List, length, Option, refl, sym, ap, subst, inl, inr, arith}
+use Rattle.std.proofs.lemmas.Bool.{eqb-true, true≢false}
+use Rattle.atomic_table.specs.Table.{State as Table, Allows}
+use Rattle.brc_words.specs.declared.kind.Kind.{Kind}
+use Rattle.brc_words.specs.declared.owner.Owner.TheVariants as owners
+use Rattle.brc_words.specs.declared.state.State.{State}
+use Rattle.brc_words.specs.declared.state.State.TheVariants as states
+use Rattle.law_world.specs.declared.cell.Cell.{Cell}
+use Rattle.law_world.specs.declared.event.LastDropped.TheVariants as lasts
+use Rattle.law_world.specs.declared.event.Step.TheVariants.{LastDown, MergeAdd}
+use Rattle.law_world.specs.declared.row.Hand.TheVariants as hands
+use Rattle.law_world.specs.declared.row.Phase.{Phase}
+use Rattle.law_world.specs.declared.row.Phase.TheVariants as phases
+use Rattle.law_world.specs.Lists.{bit_of}
+use Rattle.law_world.specs.Phases.{is_ending}
+use Rattle.law_world.specs.Heap.{Heap, cell_at, row_at, popped_at}
+use Rattle.law_world.specs.Runs.{IsReached}
+use Rattle.law_world.specs.Sound.{IsSound}
+use Rattle.law_world.specs.Steps.{cell_in_hand, is_default, is_merged, is_nobody, ends_ok, takes_block}
+use Rattle.law_world.proofs.Asking.{on_cell}
+use Rattle.law_world.proofs.Merging.{carried_held, popped_held, held_owner}
+use Rattle.law_world.proofs.Naming.{busy_carrier}
+use Rattle.law_world.proofs.Reached.{reached_sound}
+use Rattle.law_world.proofs.Sharing.{ending_hand, ending_reference}
+use Rattle.law_lasting.specs.Staying.{Lasts, Keeps, Nobodys, rank}
+use Rattle.law_lasting.proofs.Lasting.{keeping_lasts, nobodys_last}
+use Rattle.law_lasting.proofs.Ranges_Law.{reached_owners}
+use Rattle.law_lasting.proofs.Telling.{hand_tells}
+use Rattle.law_known.specs.declared.word.Field.TheVariants.{Owner, Shared}
+use Rattle.law_known.specs.declared.word.Word.TheVariants.{Of}
+use Rattle.law_known.specs.Items.{Shows, cell_told}
+use Rattle.law_rule.specs.declared.contents.Contents.{Contents}
+use Rattle.law_rule.specs.declared.told.Told.{Told}
+use Rattle.law_rule.specs.declared.view.View.{View}
+use Rattle.law_rule.specs.Layout.{spot}
+use Rattle.law_rule.specs.Rule.{Kept}
+use Rattle.law_rule.specs.Seen.{part_seen, own_may}
+use Rattle.law_steps.specs.Owing.{EndsPopped, EndsAdded, EndsHeld, EndsNobodys}
+use Rattle.law_steps.specs.Taking.{Ended}
+use Rattle.law_rule.proofs.Knowing.{Known}
+use Rattle.law_steps.proofs.Local_Steps.{read_cell}
+use Rattle.law_rule.proofs.Stepping.{moved_on}
+use Rattle.law_rule.proofs.Since.{since, since_step}
+use Rattle.law_rule.proofs.Noting.{merged_word, nobodys_word, part_hand, part_own, hand_in, bit_in, has_popped, has_in_hand, owner_told}
+use Rattle.law_steps.proofs.Ending_Steps.{LastFits, last_down}
+use Rattle.law_steps.proofs.Taking_Steps.{end_step}
+
+-- ---- what lasts
+
+-- the thread has the object, which lives on and whose state never falls
+record Stays (h : Heap) (t c least : ℕ) : Type 0 where
+  kind : Kind
+  bearer : ℕ
+  keeps : Keeps h t c kind bearer least
+
+stays_last : (t c least : ℕ) → Lasts t (λ h. Stays h t c least)
+stays_last t c least h e reached ok others stays = record {
+  kind = stays.kind;
+  bearer = stays.bearer;
+  keeps = keeping_lasts t c stays.kind stays.bearer least h e reached ok others stays.keeps;
+}
+
+popped_stays : (h : Heap) (t c : ℕ) → IsReached h → bit_of (popped_at h t) c ≡ 1 → (cell_at h c).state ≡ states.Merged → Stays h t c 2
+popped_stays h t c reached bit merged =
+    let sound : IsSound h = reached_sound h reached in
+    let mortal = (sound.bits t c (omega (arith, bit))).0 in
+    record {
+      kind = (cell_at h c).kind;
+      bearer = (cell_at h c).bearer;
+      keeps = record {
+        held = has_popped h t c bit;
+        mortal = mortal;
+        live = held_owner h c sound mortal (popped_held h t c bit);
+        kind_is = refl;
+        same_bearer = refl;
+        state = omega (arith, ap rank merged);
+      };
+    }
+
+-- the bit is set, as the step wants it
+popped_bit : (n : ℕ) (log : List Told) (c : ℕ) → own_may n (part_seen n log) (LastDown (lasts.Popped c)) ≡ true → bit_of (part_seen n log).popped c ≡ 1
+popped_bit n log c own = eqb-true (bit_of (part_seen n log).popped c) 1 (part_own n (part_seen n log) (LastDown (lasts.Popped c)) own)
+
+top_state : (state : State) → 2 ≤ rank state → state ≡ states.Merged
+top_state states.Default high = absurd (omega (arith, high))
+top_state states.Queued high = absurd (omega (arith, high))
+top_state states.Merged high = refl
+
+-- ---- the hand
+
+-- an object whose reference may end is queued or merged
+ending_risen : (h : Heap) (t c : ℕ) (p : Phase) → IsReached h → (row_at h t).hand ≡ hands.Busy p c → is_ending p ≡ true → is_default (cell_at h c).state ≡ false
+ending_risen h t c phases.Asked reached busy ends = (hand_tells h t c phases.Asked reached busy).1
+ending_risen h t c phases.Shut reached busy ends = elim (hand_tells h t c phases.Shut reached busy).1 [
+  | inl nobody ↦ nobody.1
+  | inr owned ↦ ap is_default owned.2
+]
+ending_risen h t c phases.Held reached busy ends = ap is_default (hand_tells h t c phases.Held reached busy).1.1
+ending_risen h t c _ reached busy ends = absurd (true≢false (sym ends))
+
+-- one of an object that is nobody's may end
+ends_nobody : (p : Phase) (c : ℕ) (x : Cell) → x.owner ≡ owners.Nobody → ends_ok (hands.Busy p c) x ≡ true
+ends_nobody phases.Held c x nobody = refl
+ends_nobody _ c x nobody = ap is_nobody nobody
+
+module _ {B : Type 0} (shows : B → ℕ × Contents) (n limit : ℕ) where
+  abbrev Rule : Table (Option B) View → Type 0
+  Rule = Kept shows n limit
+
+  -- ---- a popped bit
+
+  popped_fits : (h : Heap) (t : ℕ) (log : List Told) (c : ℕ) → Known n limit h t log → own_may n (part_seen n log) (LastDown (lasts.Popped c)) ≡ true → Stays h t c 2
+      → LastFits shows n limit h t log (lasts.Popped c) c
+  popped_fits h t log c known own now =
+      let merged : (cell_at h c).state ≡ states.Merged = top_state (cell_at h c).state now.keeps.state in
+      record {
+        own = own;
+        named = refl;
+        holds = popped_held h t c (bit_in n limit h t log log c known refl (popped_bit n log c own));
+        risen = ap is_default merged;
+        fits = ap is_merged merged;
+      }
+
+  noted_merged : (h : Heap) (t : ℕ) (log : List Told) (c number : ℕ) → 0 < t → Known n limit h t log → EndsPopped n log c number → Stays h t c 2
+  noted_merged h t log c number some_thread known ends = since n limit h t log Shared c number (λ z. Stays z t c 2) some_thread known ends.found (stays_last t c 2)
+      (λ old before was same found. popped_stays old t c was.reached (bit_in n limit old t before log c was same (popped_bit n log c ends.own))
+      (merged_word (cell_at old c).count (cell_at old c).state number found ends.merged))
+
+  pub ends_popped : (id : ℕ) (v : View) (slots : List (ℕ × Option B)) (c number : ℕ) → v.active ≡ true → 0 < v.thread → c < n → EndsPopped n v.log c number
+      → Allows Rule n id (v, slots) (spot n (Of Shared c)) (λ there. (there + (2 ^ 64 - 4)) % 2 ^ 64)
+      (λ there me. Ended shows n v slots (LastDown (lasts.Popped c)) c there (takes_block (LastDown (lasts.Popped c)) (cell_told (LastDown (lasts.Popped c)) there)) me)
+  ends_popped id v slots c number active some_thread low ends =
+      end_step shows n limit id v slots (LastDown (lasts.Popped c)) c (Of Shared c) (λ there. (there + (2 ^ 64 - 4)) % 2 ^ 64) active some_thread low low
+      (λ h there known shown small. last_down shows n limit h v.thread v.log (lasts.Popped c) c there some_thread known
+      (popped_fits h v.thread v.log c known ends.own (noted_merged h v.thread v.log c number some_thread known ends)) shown)
+
+  -- it has just been merged, by the thread's own hand
+  just_merged : (h : Heap) (t : ℕ) (log : List Told) (c : ℕ) → 0 < t → Known n limit h t log → EndsAdded n log c → Stays h t c 2
+  just_merged h t log c some_thread known ends = since_step n limit h t log (MergeAdd c) (λ z. Stays z t c 2) some_thread known ends.added (stays_last t c 2)
+      (λ old later may was same. popped_stays (moved_on old t (MergeAdd c)) t c was.reached (bit_in n limit (moved_on old t (MergeAdd c)) t later log c was same (popped_bit n log c ends.own))
+      (ap (λ (x : Cell). x.state) (read_cell old t (MergeAdd c) c (on_cell old t (MergeAdd c) c may.on_target).inside)))
+
+  pub ends_added : (id : ℕ) (v : View) (slots : List (ℕ × Option B)) (c : ℕ) → v.active ≡ true → 0 < v.thread → c < n → EndsAdded n v.log c
+      → Allows Rule n id (v, slots) (spot n (Of Shared c)) (λ there. (there + (2 ^ 64 - 4)) % 2 ^ 64)
+      (λ there me. Ended shows n v slots (LastDown (lasts.Popped c)) c there (takes_block (LastDown (lasts.Popped c)) (cell_told (LastDown (lasts.Popped c)) there)) me)
+  ends_added id v slots c active some_thread low ends =
+      end_step shows n limit id v slots (LastDown (lasts.Popped c)) c (Of Shared c) (λ there. (there + (2 ^ 64 - 4)) % 2 ^ 64) active some_thread low low
+      (λ h there known shown small. last_down shows n limit h v.thread v.log (lasts.Popped c) c there some_thread known
+      (popped_fits h v.thread v.log c known ends.own (just_merged h v.thread v.log c some_thread known ends)) shown)
+
+  -- ---- the hand
+
+  hand_fits : (h : Heap) (t : ℕ) (log : List Told) (c : ℕ) (p : Phase) → Known n limit h t log → own_may n (part_seen n log) (LastDown lasts.Hand) ≡ true → (row_at h t).hand ≡ hands.Busy p c → is_ending p ≡ true → ends_ok (hands.Busy p c) (cell_at h c) ≡ true
+      → LastFits shows n limit h t log lasts.Hand c
+  hand_fits h t log c p known own busy ends ok = record {
+    own = own;
+    named = ap cell_in_hand busy;
+    holds = carried_held h t c (busy_carrier p c (row_at h t).hand (ending_reference p ends) busy);
+    risen = ending_risen h t c p known.reached busy ends;
+    fits = subst (λ g. ends_ok g (cell_at h c) ≡ true) (sym busy) ok;
+  }
+
+  pub ends_held : (id : ℕ) (v : View) (slots : List (ℕ × Option B)) (c : ℕ) → v.active ≡ true → 0 < v.thread → c < n → EndsHeld n v.log c
+      → Allows Rule n id (v, slots) (spot n (Of Shared c)) (λ there. (there + (2 ^ 64 - 4)) % 2 ^ 64)
+      (λ there me. Ended shows n v slots (LastDown lasts.Hand) c there (takes_block (LastDown lasts.Hand) (cell_told (LastDown lasts.Hand) there)) me)
+  ends_held id v slots c active some_thread low ends =
+      end_step shows n limit id v slots (LastDown lasts.Hand) c (Of Shared c) (λ there. (there + (2 ^ 64 - 4)) % 2 ^ 64) active some_thread low low
+      (λ h there known shown small. last_down shows n limit h v.thread v.log lasts.Hand c there some_thread known
+      (hand_fits h v.thread v.log c phases.Held known ends.own (hand_in n limit h v.thread v.log v.log (hands.Busy phases.Held c) known refl ends.hand) refl refl) shown)
+
+  nobodys_fits : (h : Heap) (t : ℕ) (log : List Told) (c : ℕ) → 0 < t → Known n limit h t log → EndsNobodys n log c → LastFits shows n limit h t log lasts.Hand c
+  nobodys_fits h t log c some_thread known ends =
+      let hand = ending_hand (part_seen n log).row.hand c (part_hand n (part_seen n log) (LastDown lasts.Hand) ends.own) ends.cell in
+      let now : Nobodys h t c = since n limit h t log Owner c 0 (λ z. Nobodys z t c) some_thread known ends.found (nobodys_last t c)
+      (λ old before was same found. noted_nobodys old t c hand.0 was.reached (hand_in n limit old t before log (hands.Busy hand.0 c) was same hand.1) hand.2 found) in
+      hand_fits h t log c hand.0 known ends.own (hand_in n limit h t log log (hands.Busy hand.0 c) known refl hand.1) hand.2 (ends_nobody hand.0 c (cell_at h c) now.owner)
+    where
+      noted_nobodys : (h : Heap) (t c : ℕ) (p : Phase) → IsReached h → (row_at h t).hand ≡ hands.Busy p c → is_ending p ≡ true → Shows h (Of Owner c) 0 → Nobodys h t c
+      noted_nobodys h t c p reached busy ends found = record {
+        held = has_in_hand h t c p busy (ending_reference p ends);
+        mortal = (hand_tells h t c p reached busy).0;
+        owner = nobodys_word (length h.rows) (cell_at h c).owner (reached_owners h reached c) (owner_told h t c 0 reached (has_in_hand h t c p busy (ending_reference p ends)) found);
+      }
+
+  pub ends_nobodys : (id : ℕ) (v : View) (slots : List (ℕ × Option B)) (c : ℕ) → v.active ≡ true → 0 < v.thread → c < n → EndsNobodys n v.log c
+      → Allows Rule n id (v, slots) (spot n (Of Shared c)) (λ there. (there + (2 ^ 64 - 4)) % 2 ^ 64)
+      (λ there me. Ended shows n v slots (LastDown lasts.Hand) c there (takes_block (LastDown lasts.Hand) (cell_told (LastDown lasts.Hand) there)) me)
+  ends_nobodys id v slots c active some_thread low ends =
+      end_step shows n limit id v slots (LastDown lasts.Hand) c (Of Shared c) (λ there. (there + (2 ^ 64 - 4)) % 2 ^ 64) active some_thread low low
+      (λ h there known shown small. last_down shows n limit h v.thread v.log lasts.Hand c there some_thread known (nobodys_fits h v.thread v.log c some_thread known ends) shown)

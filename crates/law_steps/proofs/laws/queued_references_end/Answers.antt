@@ -1,0 +1,8 @@
+use Rattle.law_steps.proofs.Last_Steps.{ends_popped, ends_nobodys}
+use Rattle.law_steps.proofs.laws.queued_references_end.Goals as goal
+
+pub returns-clause-popped : goal.returns-clause-popped
+returns-clause-popped g c = ends_popped
+
+pub returns-clause-nobodys : goal.returns-clause-nobodys
+returns-clause-nobodys g c = ends_nobodys

@@ -1,0 +1,48 @@
+-- How the root's seat is split as it registers a thread, and takes a thread's seat in as it gathers it.
+use Rattle.std.specs.Prelude.{◌≡◌, ℕ, ◌<◌, ◌≤◌, true, false, [], ◌∷◌}
+use Rattle.brc_words.specs.declared.limits.TheConstants.{MOST_THREADS}
+use Rattle.law_world.specs.declared.event.Step.TheVariants.{Register, Gather}
+use Rattle.law_world.specs.Lists.{is_blank, is_unmarked}
+use Rattle.law_world.specs.Steps.{is_left, is_free_hand}
+use Rattle.law_known.specs.Root.{rows_of}
+use Rattle.law_rule.specs.declared.told.Moved.TheVariants as moves
+use Rattle.law_rule.specs.declared.told.Told.TheVariants.{Did}
+use Rattle.law_rule.specs.declared.view.View.{View}
+use Rattle.law_rule.specs.Logs.{log_items}
+use Rattle.law_rule.specs.Rule.{with_told}
+use Rattle.law_rule.specs.Seen.{part_seen}
+
+-- the thread that the root registers next
+abbrev pub next_thread : View → ℕ
+next_thread v = rows_of (log_items v.log)
+
+-- the root's view after it
+abbrev pub registering : View → View
+registering v = with_told (Did (Register (next_thread v)) 0 moves.Nothing) v
+
+-- the new thread's
+abbrev pub starting : View → View
+starting v = record { active = true; thread = next_thread v; log = []; gathered = [] }
+
+-- the root's view with that of a thread that has left
+abbrev pub gathering : View → View → View
+gathering v w = record (with_told (Did (Gather w.thread) 0 moves.Nothing) v) { gathered = (w.thread, w.log) ∷ v.gathered }
+
+-- what is left to the thread's seat
+abbrev pub spent : View
+spent = record { active = false; thread = 0; log = []; gathered = [] }
+
+-- the root's own, with a thread still to be had
+pub record Registers (v : View) : Type 0 where
+  pub active : v.active ≡ true
+  pub root : v.thread ≡ 0
+  pub few : next_thread v ≤ MOST_THREADS
+
+-- a thread that has left and holds nothing
+pub record Leaves (n : ℕ) (w : View) : Type 0 where
+  pub active : w.active ≡ true
+  pub some_thread : 0 < w.thread
+  pub left : is_left (part_seen n w.log).row.stage ≡ true
+  pub hand : is_free_hand (part_seen n w.log).row.hand ≡ true
+  pub popped : is_blank (part_seen n w.log).popped ≡ true
+  pub worklist : is_unmarked (part_seen n w.log).worklist ≡ true

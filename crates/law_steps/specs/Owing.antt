@@ -1,0 +1,177 @@
+-- What each kind of step asks of its seat's log, and of nothing else.
+use Rattle.std.specs.Prelude.{◌≡◌, ◌≢◌, ◌⊎◌, ℕ, ◌%◌, ◌<◌, ◌≤◌, ◌||◌, Bool, true, List, [], Some}
+use Rattle.brc_words.specs.declared.limits.TheConstants.{FIRST_MORTAL, MOST_THREADS}
+use Rattle.law_world.specs.declared.event.Source.{Source}
+use Rattle.law_world.specs.declared.event.Dropped.{Dropped}
+use Rattle.law_world.specs.declared.event.Change.{Change}
+use Rattle.law_world.specs.declared.event.Step.{Step}
+use Rattle.law_world.specs.declared.event.Step.TheVariants.{Claim, Birth, LocalUp, LocalDown, SharedUp, LastDown, Untie, MergeAdd, Enqueue, Close, Nudge, Unlock}
+use Rattle.law_world.specs.declared.event.LastDropped.TheVariants as lasts
+use Rattle.brc_words.specs.Kinds.{is_container}
+use Rattle.law_world.specs.Lists.{is_unmarked}
+use Rattle.law_world.specs.Steps.{is_keep, entries_changed}
+use Rattle.law_world.specs.Heap.{words_for}
+use Rattle.law_world.specs.declared.row.Hand.TheVariants as hands
+use Rattle.law_world.specs.declared.row.Phase.TheVariants as phases
+use Rattle.law_known.specs.declared.word.Field.TheVariants.{Owner, Local, Shared}
+use Rattle.law_known.specs.Items.{meant}
+use Rattle.law_known.specs.Owners_Seen.{has_seen_owner}
+use Rattle.brc_words.specs.declared.kind.Kind.{Kind}
+use Rattle.law_rule.specs.declared.contents.Contents.{Contents}
+use Rattle.law_rule.specs.declared.told.Told.{Told}
+use Rattle.law_rule.specs.Keys.{KeysGo}
+use Rattle.law_rule.specs.Logs.{kind_in, entries_in, log_items}
+use Rattle.law_rule.specs.Seen.{part_seen, counts_seen, risen_seen, contents_locked, own_may}
+use Rattle.law_rule.specs.Noted.{noted, newest_step}
+
+-- an own object whose count may rise
+pub record Raises (n limit : ℕ) (log : List Told) (source : Source) (k c count : ℕ) : Type 0 where
+  pub own : own_may n (part_seen n log) (LocalUp source k) ≡ true
+  pub cell : meant (part_seen n log) (LocalUp source k) ≡ Some c
+  pub mortal : FIRST_MORTAL ≤ c
+  pub counted : counts_seen n log c ≡ count
+  pub some_count : 0 < count
+  pub below : count < limit
+
+pub record RaisesImmortal (n : ℕ) (log : List Told) (source : Source) (k c : ℕ) : Type 0 where
+  pub own : own_may n (part_seen n log) (LocalUp source k) ≡ true
+  pub cell : meant (part_seen n log) (LocalUp source k) ≡ Some c
+  pub immortal : c < FIRST_MORTAL
+
+-- an own object
+pub record Lowers (n : ℕ) (log : List Told) (drop : Dropped) (c count : ℕ) : Type 0 where
+  pub own : own_may n (part_seen n log) (LocalDown drop) ≡ true
+  pub cell : meant (part_seen n log) (LocalDown drop) ≡ Some c
+  pub mortal : FIRST_MORTAL ≤ c
+  pub counted : counts_seen n log c ≡ count
+  pub some_count : 0 < count
+
+pub record LowersImmortal (n : ℕ) (log : List Told) (drop : Dropped) (c : ℕ) : Type 0 where
+  pub own : own_may n (part_seen n log) (LocalDown drop) ≡ true
+  pub cell : meant (part_seen n log) (LocalDown drop) ≡ Some c
+  pub immortal : c < FIRST_MORTAL
+
+-- an object on whose local word the thread doesn't count, or has counted up to the limit
+pub record RaisesShared (n limit : ℕ) (log : List Told) (source : Source) (k c : ℕ) : Type 0 where
+  pub own : own_may n (part_seen n log) (SharedUp source k) ≡ true
+  pub cell : meant (part_seen n log) (SharedUp source k) ≡ Some c
+  pub mortal : FIRST_MORTAL ≤ c
+  pub counted : (counts_seen n log c ≡ 0) ⊎ (limit ≤ counts_seen n log c)
+
+-- a reference to an object on whose local word the thread doesn't count
+pub record Releases (n : ℕ) (log : List Told) (s : Step) (c : ℕ) : Type 0 where
+  pub own : own_may n (part_seen n log) s ≡ true
+  pub cell : meant (part_seen n log) s ≡ Some c
+  pub mortal : FIRST_MORTAL ≤ c
+  pub counted : counts_seen n log c ≡ 0
+
+-- the thread's own part allows a step on the cell in its hand, or on one that it names itself
+pub record Carries (n : ℕ) (log : List Told) (s : Step) (c : ℕ) : Type 0 where
+  pub own : own_may n (part_seen n log) s ≡ true
+  pub cell : meant (part_seen n log) s ≡ Some c
+
+-- a reference to an object that the thread has seen queued or merged
+pub record EndsRisen (n : ℕ) (log : List Told) (drop : Dropped) (c : ℕ) : Type 0 where
+  pub own : own_may n (part_seen n log) (LastDown (lasts.Dropped drop)) ≡ true
+  pub cell : meant (part_seen n log) (LastDown (lasts.Dropped drop)) ≡ Some c
+  pub mortal : FIRST_MORTAL ≤ c
+  pub counted : counts_seen n log c ≡ 0
+  pub risen : risen_seen n log drop c ≡ true
+
+-- a mortal cell to make an object in
+pub record Claims (n : ℕ) (log : List Told) (c : ℕ) : Type 0 where
+  pub own : own_may n (part_seen n log) (Claim c) ≡ true
+  pub mortal : FIRST_MORTAL ≤ c
+
+-- a block that is put home as a new object of the cell
+pub record Bears (n : ℕ) (log : List Told) (block : ℕ × Contents) (kind : Kind) (k c : ℕ) : Type 0 where
+  pub own : own_may n (part_seen n log) (Birth c kind k) ≡ true
+  pub of_cell : block.0 ≡ c
+  pub kind_is : kind_in block.1 ≡ kind
+  pub empty : entries_in block.1 ≡ []
+
+-- The block of the locked object, changed as the unlock says: it is of the kind that the locking found, and has the
+-- entries and the keys that the change makes of those found; where nothing changes it is as it was found.
+pub record Unlocks (n : ℕ) (log : List Told) (block : ℕ × Contents) (found : Contents) (change : Change) (c : ℕ) : Type 0 where
+  pub own : own_may n (part_seen n log) (Unlock change) ≡ true
+  pub cell : meant (part_seen n log) (Unlock change) ≡ Some c
+  pub of_cell : block.0 ≡ c
+  pub was_found : contents_locked log ≡ Some found
+  pub container : (is_keep change || is_container (kind_in found)) ≡ true
+  pub same_kind : kind_in block.1 ≡ kind_in found
+  pub entries : entries_in block.1 ≡ entries_changed change (part_seen n log).frame (entries_in found)
+  pub keys : KeysGo change found block.1
+  pub kept : is_keep change ≡ true → block.1 ≡ found
+
+-- a thread closes its queue words once no block is left on its worklist
+abbrev pub is_done : List Bool → Step → Bool
+is_done worklist (Close k) = is_unmarked worklist
+is_done worklist _ = true
+
+-- the thread's own part allows a step on a word that is no cell's
+pub record Allowed (n : ℕ) (log : List Told) (s : Step) : Type 0 where
+  pub own : own_may n (part_seen n log) s ≡ true
+  pub done : is_done (part_seen n log).worklist s ≡ true
+
+-- a thread that was found as an owner, and one of its queue words
+pub record Tells (n : ℕ) (log : List Told) (q k : ℕ) : Type 0 where
+  pub own : own_may n (part_seen n log) (Nudge q k) ≡ true
+  pub seen : has_seen_owner (log_items log) q ≡ true
+  pub some_thread : 0 < q
+  pub few : q ≤ MOST_THREADS
+  pub word : k < words_for n
+
+-- ---- steps by a note: a look at a word of the cell, and no step of the thread's own since
+
+-- a popped entry of an object that is noted as merged
+pub record EndsPopped (n : ℕ) (log : List Told) (c number : ℕ) : Type 0 where
+  pub own : own_may n (part_seen n log) (LastDown (lasts.Popped c)) ≡ true
+  pub found : noted Shared c log ≡ Some number
+  pub merged : number % 4 ≡ 3
+
+-- a popped entry of an object that the thread has just merged
+pub record EndsAdded (n : ℕ) (log : List Told) (c : ℕ) : Type 0 where
+  pub own : own_may n (part_seen n log) (LastDown (lasts.Popped c)) ≡ true
+  pub added : newest_step log ≡ Some (MergeAdd c)
+
+-- the reference in the hand, of an object that the thread has adopted
+pub record EndsHeld (n : ℕ) (log : List Told) (c : ℕ) : Type 0 where
+  pub own : own_may n (part_seen n log) (LastDown lasts.Hand) ≡ true
+  pub hand : (part_seen n log).row.hand ≡ hands.Busy phases.Held c
+
+-- a reference that was asked for, of an object that is noted as nobody's
+pub record EndsNobodys (n : ℕ) (log : List Told) (c : ℕ) : Type 0 where
+  pub own : own_may n (part_seen n log) (LastDown lasts.Hand) ≡ true
+  pub cell : meant (part_seen n log) (LastDown lasts.Hand) ≡ Some c
+  pub found : noted Owner c log ≡ Some 0
+
+-- an own object whose count is 0, and which others counted or asked for
+pub record UntiesOver (n : ℕ) (log : List Told) (c : ℕ) : Type 0 where
+  pub own : own_may n (part_seen n log) (Untie c) ≡ true
+  pub hand : (part_seen n log).row.hand ≡ hands.Busy phases.Over c
+
+-- an object whose owner has left, and which is noted as not nobody's
+pub record UntiesShut (n : ℕ) (log : List Told) (c number : ℕ) : Type 0 where
+  pub own : own_may n (part_seen n log) (Untie c) ≡ true
+  pub hand : (part_seen n log).row.hand ≡ hands.Busy phases.Shut c
+  pub found : noted Owner c log ≡ Some number
+  pub owned : 0 < number
+
+-- a popped entry of an object that is noted as not merged
+pub record UntiesPopped (n : ℕ) (log : List Told) (c number : ℕ) : Type 0 where
+  pub own : own_may n (part_seen n log) (Untie c) ≡ true
+  pub hand : (part_seen n log).row.hand ≡ hands.Free
+  pub found : noted Shared c log ≡ Some number
+  pub unmerged : number % 4 ≢ 3
+
+-- an object that the thread has made nobody's, with its local count as it is noted
+pub record AddsLocal (n : ℕ) (log : List Told) (c local : ℕ) : Type 0 where
+  pub own : own_may n (part_seen n log) (MergeAdd c) ≡ true
+  pub found : noted Local c log ≡ Some local
+
+-- an object that the thread has asked for, and that is noted as thread q's
+pub record Enqueues (n : ℕ) (log : List Told) (c q : ℕ) : Type 0 where
+  pub own : own_may n (part_seen n log) (Enqueue c) ≡ true
+  pub found : noted Owner c log ≡ Some q
+  pub owned : 0 < q
+  pub thread : q ≤ MOST_THREADS

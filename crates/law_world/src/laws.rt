@@ -1,0 +1,43 @@
+//! The laws of runs, each as the contract of a function with nothing to do: what holds of every world that a list of
+//! enabled events reaches, for any number of threads and every interleaving.
+
+ghost use Rattle.std.specs.Prelude.{◌<◌, ◌≤◌, ◌^◌, ℕ, ℤ, pos, negsuc, ◌≤ℤ◌, ◌<ℤ◌, List, length, sum_by};
+ghost use Rattle.law_world.specs.declared.event.Event.{Event as event};
+ghost use Rattle.law_world.specs.Since.{HistoriesSince};
+ghost use Rattle.law_world.specs.declared.edition.Edition.{Edition as edition};
+ghost use Rattle.law_world.specs.Heap.{Heap, opening, opening_in, cell_at, entries_at, AreOptions};
+ghost use Rattle.law_world.specs.Steps.{enabled};
+ghost use Rattle.law_world.specs.Runs.{IsRun, IsReached};
+ghost use Rattle.law_world.specs.Holding.{Headline, Histories};
+ghost use Rattle.law_world.specs.Sound.{IsSound};
+
+/// Counts are references, an object without references is in some thread's hand, and births less frees are the live
+/// objects.
+pub fn counts_are_references()
+    ensures { (h : Heap) → IsReached h → Headline h }
+{}
+
+/// An object dies only without references, once per birth; lives and ledgers are what the run says.
+pub fn lives_are_told_by_the_run()
+    ensures { (cells limit : ℕ) (run : List event) → AreOptions cells limit → IsRun (opening cells limit) run
+        → Histories (opening cells limit) run }
+{}
+
+/// The same in either edition: a thread's ledger is what the run says since its number was last registered.
+pub fn ledgers_are_told_since_registration()
+    ensures { (e : edition) (cells limit : ℕ) (run : List event) → AreOptions cells limit
+        → IsRun (opening_in e cells limit) run → HistoriesSince (opening_in e cells limit) run }
+{}
+
+/// Every reached world keeps the invariant, on which the running heap will rest.
+pub fn worlds_are_sound()
+    ensures { (h : Heap) → IsReached h → IsSound h }
+{}
+
+/// Every number of a reached world fits its word: shared counts, the births of all threads together, entries.
+pub fn numbers_fit()
+    ensures counts { (h : Heap) → IsReached h → (c : ℕ)
+        → (negsuc 1099511627775 ≤ℤ (cell_at h c).count) × ((cell_at h c).count <ℤ pos 1099511627776) }
+    ensures births { (h : Heap) → IsReached h → sum_by (λ row. row.allocs) h.rows < 2 ^ 64 }
+    ensures entries { (h : Heap) → IsReached h → (c : ℕ) → length (entries_at h c) ≤ 1048576 }
+{}

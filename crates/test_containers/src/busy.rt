@@ -1,0 +1,112 @@
+//! While one thread has the globals locked.
+
+ghost use Rattle.std.specs.Prelude.{◌≡◌, ◌≢◌};
+ghost use Rattle.brc_count.specs.Frames.{IsUnlocked, Owns};
+ghost use Rattle.brc_count.specs.Owned.{Keeps, Loses};
+
+use crate::calls::{Getting, Giving, gets, gets_none, gives, refuses};
+use crate::objects::{Thing, made, the_globals};
+use crate::threads::{a_heap, a_thread, is_empty};
+use brc_biased::Home;
+use brc_block::Payload;
+use brc_containers::try_int_of;
+use brc_count::{Frame, Handle};
+use brc_lock::try_lock;
+use brc_words::Fault;
+use std::alloc::Allocator;
+use std::process::Abort;
+use std::sync::Wait;
+
+/// An own empty list has nothing to pop, and no number.
+fn has_an_empty_list<R: Abort + Wait, H: Home<A>, A: Allocator>(
+    rt: &R,
+    frame: &mut Frame<H, A>,
+    list: &Handle<A>,
+)
+    requires owned { Owns frame.old list.now }
+    requires unlocked { IsUnlocked frame.old }
+    ensures keeps { Keeps frame.old frame.new }
+    ensures unlocked { IsUnlocked frame.new }
+{
+    gets_none(rt, frame, list, Getting::TryPop);
+    assert!(rt; try_int_of(frame, list) == Err(Fault::WrongKind));
+}
+
+/// While the first thread has the globals locked, with room and a place, the second one finds them Busy; its own list it can use.
+/// It answers its list.
+fn locks_meanwhile<R: Abort + Wait, H: Home<A>, A: Allocator + Copy>(
+    rt: &R,
+    frame: &mut Frame<H, A>,
+    globals: &Handle<A>,
+    other: &mut Frame<H, A>,
+    others: &Handle<A>,
+    list: Handle<A>,
+) -> Handle<A>
+    requires owned { Owns frame.old globals.now }
+    requires others_owned { Owns other.old others.now }
+    requires list_owned { Owns other.old list }
+    requires apart { list.place ≢ others.now.place }
+    requires unlocked { IsUnlocked frame.old }
+    requires other_unlocked { IsUnlocked other.old }
+    ensures keeps { Keeps frame.old frame.new }
+    ensures other_keeps { Keeps other.old other.new }
+    ensures unlocked { IsUnlocked frame.new }
+    ensures other_unlocked { IsUnlocked other.new }
+    ensures same { result ≡ list }
+{
+    match try_lock(frame, globals) {
+        Err(_) => panic!(rt; "nobody else has locked the globals"),
+        Ok(locked) => {
+            let mut locked = locked;
+            let Payload::Dict(_) = locked.payload() else {
+                panic!(rt; "the globals are no dictionary")
+            };
+            assert!(rt; locked.room().is_ok());
+            assert!(rt; locked.place().is_ok());
+            let list = refuses(rt, other, others, Giving::TryPut(7), list, Fault::Busy);
+            has_an_empty_list(rt, other, &list);
+            locked.unlock();
+            list
+        }
+    }
+}
+
+/// A new key gets the list, which is found there and taken out again.
+fn puts_then<R: Abort + Wait, H: Home<A>, A: Allocator + Copy>(
+    rt: &R,
+    frame: &mut Frame<H, A>,
+    globals: &Handle<A>,
+    list: Handle<A>,
+)
+    requires owned { Owns frame.old globals.now }
+    requires list_owned { Owns frame.old list }
+    requires apart { list.place ≢ globals.now.place }
+    requires unlocked { IsUnlocked frame.old }
+    ensures loses { Loses frame.old frame.new list }
+    ensures unlocked { IsUnlocked frame.new }
+{
+    gives(rt, frame, globals, Giving::TryPut(7), list);
+    let found = gets(rt, frame, globals, Getting::TryFind(7));
+    frame.release(found);
+    let list = gets(rt, frame, globals, Getting::TryDel(7));
+    frame.release(list);
+}
+
+#[test]
+fn what_another_thread_has_locked_is_busy(rt: HostRuntime) {
+    let (heap, root) = a_heap(&rt, rt.alloc(), 512);
+    let mut root = root;
+    let mut first = a_thread(&rt, rt.alloc(), &heap, &mut root);
+    let mut second = a_thread(&rt, rt.alloc(), &heap, &mut root);
+    let globals = the_globals(&rt, first.frame());
+    let others = the_globals(&rt, second.frame());
+    let list = made(&rt, rt.alloc(), second.frame(), Thing::List);
+    let list = locks_meanwhile(&rt, first.frame(), &globals, second.frame(), &others, list);
+    puts_then(&rt, second.frame(), &others, list);
+    first.frame().release(globals);
+    second.frame().release(others);
+    let _first = first.end(&rt, &mut root, &heap);
+    let ledger = second.end(&rt, &mut root, &heap);
+    assert_eq!(rt; (ledger.allocs, ledger.frees), (1, 1));
+    is_empty(&rt, heap, root);
+}
