@@ -81,7 +81,8 @@ pub fn a_chain<R: Wait, H: Home<A>, A: Allocator + Copy>(
     }
 }
 
-/// When the making of a chain of so many lists began, and when it stood; or why it can't be had. It is taken apart afterwards.
+/// When the making of a chain of so many lists began, and when it stood; or why it can't be had. It is taken apart
+/// afterwards.
 pub fn times_making<R: Wait + Clock + CpuClock, H: Home<A>, A: Allocator + Copy>(
     rt: &R,
     alloc: A,

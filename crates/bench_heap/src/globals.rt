@@ -25,7 +25,8 @@ fn the_globals<H: Home<A>, A: Allocator>(frame: &mut Frame<H, A>) -> Option<Hand
     }
 }
 
-/// The handle's reference goes into the globals, under this new key; where that fails, no reference is left, and the answer is false.
+/// The handle's reference goes into the globals, under this new key; where that fails, no reference is left, and the
+/// answer is false.
 pub fn put_into_globals<R: Wait, H: Home<A>, A: Allocator + Copy>(
     rt: &R,
     frame: &mut Frame<H, A>,

@@ -59,7 +59,8 @@ impl Post {
     }
 }
 
-/// Meanwhile the thread deals with its own, until so many letters have been received; false where another thread gave up.
+/// Meanwhile the thread deals with its own, until so many letters have been received; false where another thread gave
+/// up.
 fn awaits<R: Wait, H: Home<A>, A: Allocator>(
     rt: &R,
     frame: &mut Frame<H, A>,

@@ -218,7 +218,8 @@ fn measures_one<R: Wait + Clock + CpuClock, H: Home<A>, A: Allocator + Copy>(
     }
 }
 
-/// When the thread began and ended its operations; or why it couldn't do them all. It has no handle before and afterwards.
+/// When the thread began and ended its operations; or why it couldn't do them all. It has no handle before and
+/// afterwards.
 fn measures<R: Wait + Clock + CpuClock, H: Home<A>, A: Allocator + Copy>(
     rt: &R,
     alloc: A,

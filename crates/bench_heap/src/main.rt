@@ -1,9 +1,9 @@
-//! The running heap, timed: threads that make, retain and release objects over their frames, and call lists, dictionaries and
-//! mailboxes. It answers lines as `benches/README.md` has them.
+//! The running heap, timed: threads that make, retain and release objects over their frames, and call lists,
+//! dictionaries and mailboxes. It answers lines as `benches/README.md` has them.
 //!
-//! `run CASE THREADS N` answers the time that so many operations of each thread took, from the first thread's start to the last
-//! one's end, and the processor time of the slowest, in nanoseconds; `count CASE THREADS N` how many objects all threads together
-//! made and how many cells they gave back, which is the same whatever the schedule.
+//! `run CASE THREADS N` answers the time that so many operations of each thread took, from the first thread's start to
+//! the last one's end, and the processor time of the slowest, in nanoseconds; `count CASE THREADS N` how many objects
+//! all threads together made and how many cells they gave back, which is the same whatever the schedule.
 #![tactic(auto)]
 
 mod deaths;

@@ -1,7 +1,7 @@
 //! The leak report, timed: it answers lines as `benches/README.md` has them.
 //!
-//! `run SHAPE CELLS EACH` answers the processor time of each part, in microseconds, for so many live cells with so many entries
-//! each; `count SHAPE CELLS EACH` how many remains and cycles there are, and how long the text is.
+//! `run SHAPE CELLS EACH` answers the processor time of each part, in microseconds, for so many live cells with so many
+//! entries each; `count SHAPE CELLS EACH` how many remains and cycles there are, and how long the text is.
 #![tactic(auto)]
 
 mod graph;

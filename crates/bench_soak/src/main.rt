@@ -1,8 +1,9 @@
-//! The running heap, soaked: scripts of a size and shape drawn at random run one after the other, each on a new heap, and what each printed
-//! and what its heap's report says is compared with what the script comes to whatever its threads' order.
+//! The running heap, soaked: scripts of a size and shape drawn at random run one after the other, each on a new heap,
+//! and what each printed and what its heap's report says is compared with what the script comes to whatever its
+//! threads' order.
 //!
-//! A line on standard input is how many seconds, and a seed. Each second a line on standard error says what was done by then. At the end
-//! the line on standard output says that all were balanced, or which wasn't.
+//! A line on standard input is how many seconds, and a seed. Each second a line on standard error says what was done by
+//! then. At the end the line on standard output says that all were balanced, or which wasn't.
 #![tactic(auto)]
 
 mod checking;

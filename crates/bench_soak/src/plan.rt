@@ -38,8 +38,8 @@ impl Plan {
         }
     }
 
-    /// The sum of all numbers: in its turn `i` a player gives four times the number `1000 + i` and its gift holds 7; two times 1,000 are there at
-    /// first.
+    /// The sum of all numbers: in its turn `i` a player gives four times the number `1000 + i` and its gift holds 7;
+    /// two times 1,000 are there at first.
     pub fn sum(&self) -> u64 {
         let turns = u64::from(self.turns);
         let of_turns = 1_000 * turns + turns * (turns + 1) / 2;
@@ -49,8 +49,8 @@ impl Plan {
             .wrapping_add(2_000)
     }
 
-    /// How many objects are made: by a player 9 in a turn, its first number, its gift, and the lists that it leaves; for a player 2 sums; and by
-    /// the last section 5 containers, 2 numbers and 2 sums.
+    /// How many objects are made: by a player 9 in a turn, its first number, its gift, and the lists that it leaves;
+    /// for a player 2 sums; and by the last section 5 containers, 2 numbers and 2 sums.
     pub fn births(&self) -> u64 {
         let of_player = 9 * u64::from(self.turns) + 4 + u64::from(self.left);
         of_player

@@ -7,8 +7,8 @@ use std::alloc::{AllocError, Global};
 const BEGINS: &str =
     "fetch r0 list\nfetch r1 box\nfetch r2 dict\nint r4 0\nint r5 1000\nint r6 1\n";
 
-/// A turn: the next number goes into the dictionary, into the list in place of one and at its end, and into the mailbox, and what comes out
-/// each time is added to the sum.
+/// A turn: the next number goes into the dictionary, into the list in place of one and at its end, and into the
+/// mailbox, and what comes out each time is added to the sum.
 const TURN: &str =
     "add r7 r5 r6\nput r2 'k r7\nadd r8 r4 r7\ncopy r4 r8\nadd r7 r5 r6\nset r0 0 r7\nadd r8 r4 r7\ncopy r4 r8\nadd r7 r5 r6\npush r0 r7\npop r7 r0\nadd r8 r4 r7\ncopy r4 r8\nadd r7 r5 r6\nsend r1 r7\nrecv r7 r1\nadd r8 r4 r7\ncopy r4 r8\nadd r7 r5 r6\ncopy r5 r7\nend\n";
 
@@ -21,7 +21,8 @@ const LEAVES: &str = "list r9\ncopy r10 r9\npush r9 r10\ndrop r9\nend\n";
 /// It tells its sum.
 const TELLS: &str = "fetch r9 sums\nsend r9 r4\n";
 
-/// The last section shares a list with one number, an empty mailbox, a dictionary with one number, and mailboxes for gifts and sums.
+/// The last section shares a list with one number, an empty mailbox, a dictionary with one number, and mailboxes for
+/// gifts and sums.
 const SHARES: &str =
     "section last\nlist r0\nint r4 1000\npush r0 r4\ncopy r4 r0\nshare list r4\nmailbox r1\ncopy r4 r1\nshare box r4\ndict r2\nint r4 1000\nput r2 'k r4\ncopy r4 r2\nshare dict r4\nmailbox r3\ncopy r4 r3\nshare gifts r4\nmailbox r9\ncopy r4 r9\nshare sums r4\nint r4 0\n";
 

@@ -1,5 +1,6 @@
 -- What a step of a release leaves as it was.
-use Rattle.std.proofs.Common.{◌≡◌, ℕ, ◌==◌, length, arith, inl, inr, if◌then◌else◌, Bool, true, false, List, [], ◌∷◌, Option, Some, None, IfSome, refl, sym, ◌∙◌, ap}
+use Rattle.std.proofs.Common.{◌≡◌, ℕ, ◌==◌, length, arith, inl, inr, if◌then◌else◌, Bool, true, false, List, [], ◌∷◌}
+use Rattle.std.proofs.Common.{Option, Some, None, IfSome, refl, sym, ◌∙◌, ap}
 use Rattle.std.proofs.lemmas.Bool.{eq-eqb, cases_eq, cases_lt}
 use Rattle.std.proofs.lemmas.List.{length-set, get_or-set_same, get_or_past}
 use Rattle.brc_block.specs.declared.payload.Payload.{Payload}
@@ -29,17 +30,20 @@ unlisted_cut d (b ∷ blocks) c is = by_test (b.0 == c) (unlisted_cut d blocks c
     by_test true below is = absurd (some_none is)
     by_test false below is = below is
 
-unlisted_before : (o : Option Dropped) (blocks : Blocks) (c : ℕ) → listed_at (cut_by o blocks) c ≡ None → listed_at blocks c ≡ None
+unlisted_before : (o : Option Dropped) (blocks : Blocks) (c : ℕ) → listed_at (cut_by o blocks) c ≡ None
+    → listed_at blocks c ≡ None
 unlisted_before None blocks c is = is
 unlisted_before (Some (drops.Frame k)) blocks c is = is
 unlisted_before (Some (drops.Work d)) blocks c is = unlisted_cut d blocks c is
 
 -- a block that is answered after a reference went was none of those that the thread had before
-pub fresh_before : {A : Type 0} (o : Option Dropped) (n : ℕ) (before log : List Told) (c : ℕ) (block : Option (ℕ × Payload A))
+pub fresh_before : {A : Type 0} (o : Option Dropped) (n : ℕ) (before log : List Told) (c : ℕ)
+    (block : Option (ℕ × Payload A))
     → taken_seen n log ≡ cut_by o (taken_seen n before) → IfSome block (λ there. listed_at (taken_seen n log) c ≡ None)
     → IfSome block (λ there. listed_at (taken_seen n before) c ≡ None)
 fresh_before o n before log c None blocks fresh = tt
-fresh_before o n before log c (Some there) blocks fresh = unlisted_before o (taken_seen n before) c (ap (λ b. listed_at b c) (sym blocks) ∙ fresh)
+fresh_before o n before log c (Some there) blocks fresh = unlisted_before o (taken_seen n before) c
+    (ap (λ b. listed_at b c) (sym blocks) ∙ fresh)
 
 vacated_here : (frame : List (Option ℕ)) (k : ℕ) → place_at (vacated frame k) k ≡ None
 vacated_here frame k = elim (cases_lt k (length frame)) [
@@ -48,7 +52,8 @@ vacated_here frame k = elim (cases_lt k (length frame)) [
 ]
 
 -- a place that has a cell once a reference went had it before
-place_before : (drop : Dropped) (frame : List (Option ℕ)) (k c : ℕ) → place_at (frame_without (Some drop) frame) k ≡ Some c → place_at frame k ≡ Some c
+place_before : (drop : Dropped) (frame : List (Option ℕ)) (k c : ℕ) → place_at (frame_without (Some drop) frame) k
+    ≡ Some c → place_at frame k ≡ Some c
 place_before (drops.Work d) frame k c there = there
 place_before (drops.Frame j) frame k c there = elim (cases_eq k j) [
   | inl same ↦ absurd (some_none (sym there ∙ ap (place_at (vacated frame j)) same ∙ vacated_here frame j))
@@ -57,9 +62,11 @@ place_before (drops.Frame j) frame k c there = elim (cases_eq k j) [
 
 module _ {n : ℕ} {before log : List Told} where
   -- after a step by which a reference goes
-  pub drop_keeps : (drop : Dropped) → (part_seen n log).frame ≡ frame_without (Some drop) (part_seen n before).frame → Keeps n before log → KeepsPlaces n before log
+  pub drop_keeps : (drop : Dropped) → (part_seen n log).frame ≡ frame_without (Some drop) (part_seen n before).frame
+      → Keeps n before log → KeepsPlaces n before log
   drop_keeps drop gone keeps = record {
-    places = λ k c there. place_before drop (part_seen n before).frame k c (ap (λ frame. place_at frame k) (sym gone) ∙ there);
+    places = λ k c there. place_before drop (part_seen n before).frame k c
+        (ap (λ frame. place_at frame k) (sym gone) ∙ there);
     risen = λ k c there seen. keeps.risen (drops.Frame k) c seen ∙ ap (names c) there ∙ eq-eqb c c refl;
   }
 

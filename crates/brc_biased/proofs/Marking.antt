@@ -1,5 +1,6 @@
 -- A thread's worklist has a mark for each cell; and that of a dead object whose block a release answers is set.
-use Rattle.std.proofs.Common.{◌≡◌, ◌≢◌, inl, inr, ℕ, ◌<◌, ◌==◌, Bool, true, false, if◌then◌else◌, List, [], ◌∷◌, length, set, Option, Some, None, IfSome, refl, sym, ◌∙◌, ap, subst}
+use Rattle.std.proofs.Common.{◌≡◌, ◌≢◌, inl, inr, ℕ, ◌<◌, ◌==◌, Bool, true, false, if◌then◌else◌, List, [], ◌∷◌, length}
+use Rattle.std.proofs.Common.{set, Option, Some, None, IfSome, refl, sym, ◌∙◌, ap, subst}
 use Rattle.std.proofs.lemmas.Bool.{cases_eq, eq-eqb, ne_eqb}
 use Rattle.std.proofs.lemmas.List.{length-set, length-replicate}
 use Rattle.brc_block.specs.declared.payload.Payload.{Payload}
@@ -8,7 +9,8 @@ use Rattle.law_world.specs.declared.event.Dropped.TheVariants as drops
 use Rattle.law_world.specs.Lists.{is_marked, front_of}
 use Rattle.law_world.specs.Steps.{is_free_step, takes_block, worklist_with}
 use Rattle.law_world.proofs.Changes.{read_here, read_there}
-use Rattle.law_known.specs.Items.{Item, Did, Saw, Lost, Part, part_of, part_by, part_after, meant, cell_told, has_found, has_without}
+use Rattle.law_known.specs.Items.{Item, Did, Saw, Lost, Part, part_of, part_by, part_after, meant, cell_told, has_found}
+use Rattle.law_known.specs.Items.{has_without}
 use Rattle.law_known.specs.Going_On.{settling, taking}
 use Rattle.law_rule.specs.declared.told.Told.{Told}
 use Rattle.law_rule.specs.Logs.{log_items, entries_in}
@@ -40,25 +42,31 @@ pub marks_wide : (n : ℕ) (log : List Told) → length (part_seen n log).workli
 marks_wide n log = items_wide n (log_items log)
 
 -- the mark of a cell is set, and it has the entries
-dead_now : (n : ℕ) (before log : List Told) (c : ℕ) (entries : List ℕ) (has : ℕ → List ℕ) → (part_seen n log).worklist ≡ set (part_seen n before).worklist c true
+dead_now : (n : ℕ) (before log : List Told) (c : ℕ) (entries : List ℕ) (has : ℕ → List ℕ)
+    → (part_seen n log).worklist ≡ set (part_seen n before).worklist c true
     → (part_seen n log).has ≡ (λ d. if d == c then entries else has d) → c < n → HasDead n log c entries
 dead_now n before log c entries has marks is low = record {
-  marked = ap (λ m. is_marked m c) marks ∙ read_here (part_seen n before).worklist c true false (subst (λ m. c < m) (sym (marks_wide n before)) low);
+  marked = ap (λ m. is_marked m c) marks ∙ read_here (part_seen n before).worklist c true false
+      (subst (λ m. c < m) (sym (marks_wide n before)) low);
   has = ap (λ (f : ℕ → List ℕ). f c) is ∙ ap (λ (t : Bool). if t then entries else has c) (eq-eqb c c refl);
 }
 
 module _ {A : Type 0} (n : ℕ) (before log : List Told) (c : ℕ) where
-  pub dead_released : (drop : Dropped) (block : Option (ℕ × Payload A)) → part_seen n log ≡ (released (is_there block) drop c (entries_of block) (known_seen n before)).part
+  pub dead_released : (drop : Dropped) (block : Option (ℕ × Payload A))
+      → part_seen n log ≡ (released (is_there block) drop c (entries_of block) (known_seen n before)).part
       → c < n → IfSome block (λ there. HasDead n log c (entries_in (contents_of there.1)))
   dead_released drop None known low = tt
   dead_released drop (Some there) known low =
-      dead_now n before log c (entries_in (contents_of there.1)) (has_without (Some drop) (part_seen n before).has) (ap (λ (p : Part). p.worklist) known) (ap (λ (p : Part). p.has) known) low
+      dead_now n before log c (entries_in (contents_of there.1)) (has_without (Some drop) (part_seen n before).has)
+      (ap (λ (p : Part). p.worklist) known) (ap (λ (p : Part). p.has) known) low
 
-  pub dead_settled : (block : Option (ℕ × Payload A)) → part_seen n log ≡ (settling c (taking (is_there block) c (entries_of block) (known_seen n before))).part
+  pub dead_settled : (block : Option (ℕ × Payload A))
+      → part_seen n log ≡ (settling c (taking (is_there block) c (entries_of block) (known_seen n before))).part
       → c < n → IfSome block (λ there. HasDead n log c (entries_in (contents_of there.1)))
   dead_settled None known low = tt
   dead_settled (Some there) known low =
-      dead_now n before log c (entries_in (contents_of there.1)) (part_seen n before).has (ap (λ (p : Part). p.worklist) known) (ap (λ (p : Part). p.has) known) low
+      dead_now n before log c (entries_in (contents_of there.1)) (part_seen n before).has
+      (ap (λ (p : Part). p.worklist) known) (ap (λ (p : Part). p.has) known) low
 
 -- a dead block that the thread had before a release is one still, and is another than the one that the release answers
 pub dead_stays : (n : ℕ) (before log : List Told) (c : ℕ) (drop : Dropped) (takes : Bool) (entries : List ℕ)
@@ -69,19 +77,26 @@ dead_stays n before log c drop takes entries known q left other dead = record {
   has = ap (λ (p : Part). p.has q) known ∙ by_take takes ∙ by_drop drop;
 }
   where
-    by_mark : (b : Bool) → is_marked (if b then set (part_seen n before).worklist c true else (part_seen n before).worklist) q ≡ is_marked (part_seen n before).worklist q
+    by_mark : (b : Bool) → is_marked
+        (if b then set (part_seen n before).worklist c true else (part_seen n before).worklist) q ≡ is_marked
+        (part_seen n before).worklist q
     by_mark true = read_there (part_seen n before).worklist c q true false other
     by_mark false = refl
 
-    by_take : (b : Bool) → has_found b c entries (has_without (Some drop) (part_seen n before).has) q ≡ has_without (Some drop) (part_seen n before).has q
-    by_take true = ap (λ (t : Bool). if t then entries else has_without (Some drop) (part_seen n before).has q) (ne_eqb q c other)
+    by_take : (b : Bool) → has_found b c entries (has_without (Some drop) (part_seen n before).has) q ≡ has_without
+        (Some drop) (part_seen n before).has q
+    by_take true = ap (λ (t : Bool). if t then entries else has_without (Some drop) (part_seen n before).has q)
+        (ne_eqb q c other)
     by_take false = refl
 
     by_drop : (d : Dropped) → has_without (Some d) (part_seen n before).has q ≡ entries_left d q left
     by_drop (drops.Frame k) = dead.has
     by_drop (drops.Work d) = elim (cases_eq q d) [
-      | inl same ↦ ap (λ (t : Bool). if t then front_of ((part_seen n before).has d) else (part_seen n before).has q) (eq-eqb q d same)
-          ∙ ap front_of (ap (part_seen n before).has (sym same) ∙ dead.has) ∙ sym (ap (λ (t : Bool). if t then front_of left else left) (eq-eqb q d same))
-      | inr apart ↦ ap (λ (t : Bool). if t then front_of ((part_seen n before).has d) else (part_seen n before).has q) (ne_eqb q d apart)
+      | inl same ↦ ap (λ (t : Bool). if t then front_of ((part_seen n before).has d) else (part_seen n before).has q)
+          (eq-eqb q d same)
+          ∙ ap front_of (ap (part_seen n before).has (sym same) ∙ dead.has)
+          ∙ sym (ap (λ (t : Bool). if t then front_of left else left) (eq-eqb q d same))
+      | inr apart ↦ ap (λ (t : Bool). if t then front_of ((part_seen n before).has d) else (part_seen n before).has q)
+          (ne_eqb q d apart)
           ∙ dead.has ∙ sym (ap (λ (t : Bool). if t then front_of left else left) (ne_eqb q d apart))
     ]

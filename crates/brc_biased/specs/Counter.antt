@@ -15,13 +15,14 @@ pub record CounterSeen (A : Type 0) : Type 0 where
 abbrev pub heap_of : {A : Type 0} → SeatSeen A → ℕ → ℕ → TableSeen
 heap_of seat cells limit = record { table = seat.table; cells = cells; local_limit = limit }
 
--- The number kept for a mortal cell is the thread's local count of it, as its log tells it: 0 where it doesn't count there on
--- the local word. The number kept for an immortal is above each limit, as its local word is.
+-- The number kept for a mortal cell is the thread's local count of it, as its log tells it: 0 where it doesn't count
+-- there on the local word. The number kept for an immortal is above each limit, as its local word is.
 pub record CountsFit (n : ℕ) (log : List Told) (counts : List ℕ) : Type 0 where
   pub wide : length counts ≡ n
   pub immortal : (c : ℕ) → c < FIRST_MORTAL → c < n → slice_index counts c ≡ IMMORTAL_LOCAL
   pub mortal : (c : ℕ) → FIRST_MORTAL ≤ c → c < n → slice_index counts c ≡ counts_seen n log c
-  pub active : (c : ℕ) → FIRST_MORTAL ≤ c → c < n → 0 < counts_seen n log c → is_active (part_seen n log).row.stage ≡ true
+  pub active : (c : ℕ) → FIRST_MORTAL ≤ c → c < n → 0 < counts_seen n log c
+      → is_active (part_seen n log).row.stage ≡ true
 
 -- what a counter keeps
 pub record Counting (A : Type 0) (heap : TableSeen) (seat : SeatSeen A) (counts : List ℕ) : Type 0 where

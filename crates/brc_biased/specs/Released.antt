@@ -1,11 +1,13 @@
 -- The lists of events by which a reference goes. Loads stand between events, as notes, and change nothing.
-use Rattle.std.specs.Prelude.{◌≡◌, ◌≢◌, ◌+◌, ◌-◌, ◌/◌, ◌%◌, ◌^◌, ◌<◌, ◌≤◌, ℕ, Bool, true, false, List, ◌∷◌, Option, None, IfSome}
+use Rattle.std.specs.Prelude.{◌≡◌, ◌≢◌, ◌+◌, ◌-◌, ◌/◌, ◌%◌, ◌^◌, ◌<◌, ◌≤◌, ℕ, Bool, true, false, List, ◌∷◌, Option}
+use Rattle.std.specs.Prelude.{None, IfSome}
 use Rattle.brc_words.specs.declared.limits.TheConstants.{FIRST_MORTAL}
 use Rattle.brc_block.specs.declared.payload.Payload.{Payload}
 use Rattle.law_world.specs.declared.event.Dropped.{Dropped}
 use Rattle.law_world.specs.declared.event.LastDropped.TheVariants as lasts
 use Rattle.law_world.specs.declared.event.Step.{Step}
-use Rattle.law_world.specs.declared.event.Step.TheVariants.{LocalDown, SeeZero, Untie, MergeZero, SharedDown, Ask, LastDown, Enqueue, MergeAdd, Nudge}
+use Rattle.law_world.specs.declared.event.Step.TheVariants.{LocalDown, SeeZero, Untie, MergeZero, SharedDown, Ask}
+use Rattle.law_world.specs.declared.event.Step.TheVariants.{LastDown, Enqueue, MergeAdd, Nudge}
 use Rattle.law_world.specs.Steps.{takes_block}
 use Rattle.law_known.specs.declared.word.Field.TheVariants.{Owner, Local, Shared}
 use Rattle.law_known.specs.declared.word.Word.TheVariants.{Of}
@@ -25,14 +27,15 @@ abbrev pub NO_COUNT : ℕ
 NO_COUNT = 2 ^ 42
 
 module _ {A : Type 0} where
-  -- the step is the newest, and took the object's block exactly where the number that it found says that the object is dead
+  -- the step is the newest, and took the object's block exactly where the number that it found says that the object is
+  -- dead
   pub record Ends (s : Step) (c : ℕ) (block : Option (ℕ × Payload A)) (before log : List Told) : Type 0 where
     pub number : ℕ
     pub told : log ≡ Did s number (found_in c block) ∷ before
     pub dead : is_there block ≡ takes_block s (cell_told s number)
 
-  -- What a block that is answered is: of the cell, none of the dead blocks that the thread had, with cells of the heap as
-  -- entries; its slot is out with the seat.
+  -- What a block that is answered is: of the cell, none of the dead blocks that the thread had, with cells of the heap
+  -- as entries; its slot is out with the seat.
   pub record Answers (n c : ℕ) (block : Option (ℕ × Payload A)) (old new : SeatSeen A) : Type 0 where
     pub of_cell : IfSome block (λ there. there.0 ≡ c)
     pub fresh : IfSome block (λ there. listed_at (taken_seen n old.log) c ≡ None)
@@ -42,7 +45,8 @@ module _ {A : Type 0} where
   -- an own object whose count came to 0: nobody else has counted or asked, or the counts are merged
   pub data EndedOwn (c : ℕ) (block : Option (ℕ × Payload A)) (before log : List Told) : Type 0 where
     SeenZero : is_there block ≡ true → Ends (SeeZero c) c block before log → EndedOwn c block before log
-    MergedAtZero : (seen : ℕ) → Ends (MergeZero c) c block (Did (Untie c) 0 Nothing ∷ Did (SeeZero c) seen Nothing ∷ before) log
+    MergedAtZero : (seen : ℕ)
+        → Ends (MergeZero c) c block (Did (Untie c) 0 Nothing ∷ Did (SeeZero c) seen Nothing ∷ before) log
         → EndedOwn c block before log
 
   -- an asked reference that the owner's queue, being closed, doesn't take: the object is nobody's by now, or is adopted
@@ -50,52 +54,65 @@ module _ {A : Type 0} where
     WasNobodys : Ends (LastDown lasts.Hand) c block (Saw (Of Owner c) 0 ∷ before) log → Adopted c block before log
     WasAdopted : (owner local shared : ℕ) → 0 < owner
         → Ends (LastDown lasts.Hand) c block
-        (Did (MergeAdd c) shared Nothing ∷ Saw (Of Local c) local ∷ Did (Untie c) 0 Nothing ∷ Saw (Of Owner c) owner ∷ before) log
+        (Did (MergeAdd c) shared Nothing ∷ Saw (Of Local c) local ∷ Did (Untie c) 0 Nothing ∷ Saw (Of Owner c) owner
+        ∷ before) log
         → Adopted c block before log
 
   -- a reference that was asked for, and is in the hand
   pub data Asked (c : ℕ) (block : Option (ℕ × Payload A)) (before log : List Told) : Type 0 where
     AskedNobodys : Ends (LastDown lasts.Hand) c block (Saw (Of Owner c) 0 ∷ before) log → Asked c block before log
     AskedQueued : (owner queue notify : ℕ) → 0 < owner → is_shut_word queue ≡ false → block ≡ None
-        → log ≡ Did (Nudge owner (c / 32)) notify Nothing ∷ Did (Enqueue c) queue Nothing ∷ Saw (Of Owner c) owner ∷ before
+        → log ≡ Did (Nudge owner (c / 32)) notify Nothing ∷ Did (Enqueue c) queue Nothing ∷ Saw
+        (Of Owner c) owner ∷ before
         → Asked c block before log
     AskedShut : (owner queue : ℕ) → 0 < owner → is_shut_word queue ≡ true
-        → Adopted c block (Did (Enqueue c) queue Nothing ∷ Saw (Of Owner c) owner ∷ before) log → Asked c block before log
+        → Adopted c block (Did (Enqueue c) queue Nothing ∷ Saw (Of Owner c) owner ∷ before) log
+        → Asked c block before log
 
   -- a reference that is asked for, or turns out to be late
   pub data Asks (drop : Dropped) (c : ℕ) (block : Option (ℕ × Payload A)) (before log : List Told) : Type 0 where
-    AskedLate : (found : ℕ) → found % 4 ≢ 0 → Ends (LastDown (lasts.Dropped drop)) c block (Did (Ask drop) found Nothing ∷ before) log
+    AskedLate : (found : ℕ) → found % 4 ≢ 0 → Ends (LastDown (lasts.Dropped drop)) c block
+        (Did (Ask drop) found Nothing ∷ before) log
         → Asks drop c block before log
-    AskTurned : (found : ℕ) → found % 4 ≡ 0 → Asked c block (Did (Ask drop) found Nothing ∷ before) log → Asks drop c block before log
+    AskTurned : (found : ℕ) → found % 4 ≡ 0 → Asked c block (Did (Ask drop) found Nothing ∷ before) log
+        → Asks drop c block before log
 
-  -- A reference to an object on whose local word the thread doesn't count. Its shared word was found queued or merged; or
-  -- it is in default and has a count, which goes down; or the thread asks, for one of two reasons: the count was 0 or
-  -- below, or the word moved between the look and the exchange.
+  -- A reference to an object on whose local word the thread doesn't count. Its shared word was found queued or merged;
+  -- or it is in default and has a count, which goes down; or the thread asks, for one of two reasons: the count was 0
+  -- or below, or the word moved between the look and the exchange.
   pub data GoesShared (drop : Dropped) (c : ℕ) (block : Option (ℕ × Payload A)) (before log : List Told) : Type 0 where
-    SharedRisen : (word : ℕ) → word % 4 ≢ 0 → Ends (LastDown (lasts.Dropped drop)) c block (Saw (Of Shared c) word ∷ before) log
+    SharedRisen : (word : ℕ) → word % 4 ≢ 0 → Ends (LastDown (lasts.Dropped drop)) c block
+        (Saw (Of Shared c) word ∷ before) log
         → GoesShared drop c block before log
     SharedCounted : (word : ℕ) → word % 4 ≡ 0 → block ≡ None
-        → log ≡ Did (SharedDown drop) word Nothing ∷ Saw (Of Shared c) word ∷ before → GoesShared drop c block before log
-    SharedNoCount : (word : ℕ) → word % 4 ≡ 0 → word < NO_COUNT + 4 → Asks drop c block (Saw (Of Shared c) word ∷ before) log
+        → log ≡ Did (SharedDown drop) word Nothing ∷ Saw (Of Shared c) word ∷ before
+        → GoesShared drop c block before log
+    SharedNoCount : (word : ℕ) → word % 4 ≡ 0 → word < NO_COUNT + 4
+        → Asks drop c block (Saw (Of Shared c) word ∷ before) log
         → GoesShared drop c block before log
     SharedMoved : (word found : ℕ) → word % 4 ≡ 0 → NO_COUNT + 4 ≤ word → found ≢ word
-        → Asks drop c block (Lost (Of Shared c) found ∷ Saw (Of Shared c) word ∷ before) log → GoesShared drop c block before log
+        → Asks drop c block (Lost (Of Shared c) found ∷ Saw (Of Shared c) word ∷ before) log
+        → GoesShared drop c block before log
 
   -- a reference to an own object: its count goes down, and at 0 the object may end
-  pub data GoesOwn (n : ℕ) (drop : Dropped) (c : ℕ) (block : Option (ℕ × Payload A)) (before log : List Told) : Type 0 where
-    OwnCounted : 1 < counts_seen n before c → block ≡ None → log ≡ Did (LocalDown drop) (counts_seen n before c - 1) Nothing ∷ before
+  pub data GoesOwn (n : ℕ) (drop : Dropped) (c : ℕ) (block : Option (ℕ × Payload A))
+      (before log : List Told) : Type 0 where
+    OwnCounted : 1 < counts_seen n before c → block ≡ None
+        → log ≡ Did (LocalDown drop) (counts_seen n before c - 1) Nothing ∷ before
         → GoesOwn n drop c block before log
     OwnEnded : counts_seen n before c ≡ 1 → EndedOwn c block (Did (LocalDown drop) 0 Nothing ∷ before) log
         → GoesOwn n drop c block before log
 
-  -- All lists of a release: of an immortal; of an own object; and, where the thread doesn't count the object on its local
-  -- word, of one that was seen queued or merged, or by a look at its shared word.
-  pub data Released (n : ℕ) (drop : Dropped) (c : ℕ) (seen : Bool) (block : Option (ℕ × Payload A)) (before log : List Told) : Type 0 where
+  -- All lists of a release: of an immortal; of an own object; and, where the thread doesn't count the object on its
+  -- local word, of one that was seen queued or merged, or by a look at its shared word.
+  pub data Released (n : ℕ) (drop : Dropped) (c : ℕ) (seen : Bool) (block : Option (ℕ × Payload A))
+      (before log : List Told) : Type 0 where
     ReleaseImmortal : (found : ℕ) → c < FIRST_MORTAL → block ≡ None → log ≡ Did (LocalDown drop) found Nothing ∷ before
         → Released n drop c seen block before log
     ReleaseOwn : FIRST_MORTAL ≤ c → 0 < counts_seen n before c → GoesOwn n drop c block before log
         → Released n drop c seen block before log
-    ReleaseSeen : FIRST_MORTAL ≤ c → counts_seen n before c ≡ 0 → seen ≡ true → Ends (LastDown (lasts.Dropped drop)) c block before log
+    ReleaseSeen : FIRST_MORTAL ≤ c → counts_seen n before c ≡ 0 → seen ≡ true
+        → Ends (LastDown (lasts.Dropped drop)) c block before log
         → Released n drop c seen block before log
     ReleaseShared : FIRST_MORTAL ≤ c → counts_seen n before c ≡ 0 → seen ≡ false → GoesShared drop c block before log
         → Released n drop c seen block before log
@@ -104,10 +121,13 @@ module _ {A : Type 0} where
   pub record Merges (c : ℕ) (block : Option (ℕ × Payload A)) (before log : List Told) : Type 0 where
     pub local : ℕ
     pub shared : ℕ
-    pub ends : Ends (LastDown (lasts.Popped c)) c block (Did (MergeAdd c) shared Nothing ∷ Saw (Of Local c) local ∷ Did (Untie c) 0 Nothing ∷ before) log
+    pub ends : Ends (LastDown (lasts.Popped c)) c block (Did (MergeAdd c) shared Nothing ∷ Saw (Of Local c) local ∷ Did
+        (Untie c) 0 Nothing ∷ before) log
 
   -- a popped entry is counted down, after its object was found merged or is merged by the thread
   pub data Settled (c : ℕ) (block : Option (ℕ × Payload A)) (before log : List Told) : Type 0 where
-    SettledMerged : (word : ℕ) → word % 4 ≡ 3 → Ends (LastDown (lasts.Popped c)) c block (Saw (Of Shared c) word ∷ before) log
+    SettledMerged : (word : ℕ) → word % 4 ≡ 3
+        → Ends (LastDown (lasts.Popped c)) c block (Saw (Of Shared c) word ∷ before) log
         → Settled c block before log
-    SettledMerging : (word : ℕ) → word % 4 ≢ 3 → Merges c block (Saw (Of Shared c) word ∷ before) log → Settled c block before log
+    SettledMerging : (word : ℕ) → word % 4 ≢ 3 → Merges c block (Saw (Of Shared c) word ∷ before) log
+        → Settled c block before log

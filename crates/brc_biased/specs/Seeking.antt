@@ -1,8 +1,9 @@
--- A search for a free cell: the free words are looked at from one on, to the last and then from the first, and of each the bits
--- that were found are tried, lowest first, until the thread has a cell. A search that begins with the first word takes the
--- lowest. That is this heap's own choice, and it holds in the sense of notes: of each mortal cell to which the search came
--- before the one claimed the thread has found that it wasn't free.
-use Rattle.std.specs.Prelude.{◌≡◌, ◌≤◌, ◌<◌, ◌==◌, ◌&&◌, ◌||◌, ◌*◌, ◌/◌, ◌%◌, ◌⊎◌, ℕ, Bool, true, false, List, [], ◌∷◌, ◌++◌}
+-- A search for a free cell: the free words are looked at from one on, to the last and then from the first, and of each
+-- the bits that were found are tried, lowest first, until the thread has a cell. A search that begins with the first
+-- word takes the lowest. That is this heap's own choice, and it holds in the sense of notes: of each mortal cell to
+-- which the search came before the one claimed the thread has found that it wasn't free.
+use Rattle.std.specs.Prelude.{◌≡◌, ◌≤◌, ◌<◌, ◌==◌, ◌&&◌, ◌||◌, ◌*◌, ◌/◌, ◌%◌, ◌⊎◌, ℕ, Bool, true, false, List, [], ◌∷◌}
+use Rattle.std.specs.Prelude.{◌++◌}
 use Rattle.std.specs.Int.{bit_at}
 use Rattle.brc_words.specs.declared.limits.TheConstants.{FIRST_MORTAL}
 use Rattle.law_world.specs.declared.event.Step.TheVariants.{Claim}
@@ -42,8 +43,8 @@ abbrev pub have_told_taken : ℕ → List Told → Bool
 have_told_taken c [] = false
 have_told_taken c (x ∷ looks) = tells_taken c x || have_told_taken c looks
 
--- The thread has only looked at free words since, and of each mortal cell from the first on, up to but not with this one, it
--- has a note that it wasn't free.
+-- The thread has only looked at free words since, and of each mortal cell from the first on, up to but not with this
+-- one, it has a note that it wasn't free.
 pub record PassesFrom (first : ℕ) (before : List Told) (c : ℕ) (log : List Told) : Type 0 where
   pub looks : List Told
   pub above : log ≡ looks ++ before
@@ -66,13 +67,13 @@ pub record ClaimsFrom (first c : ℕ) (before log : List Told) : Type 0 where
 abbrev pub ClaimsFirst : ℕ → List Told → List Told → Type 0
 ClaimsFirst = ClaimsFrom FIRST_MORTAL
 
--- Cell d is one to which a search from cell s on comes before cell c, in a heap of n cells: where c stands at s or past it,
--- those from s on; else those from s to the end, and then those below c.
+-- Cell d is one to which a search from cell s on comes before cell c, in a heap of n cells: where c stands at s or past
+-- it, those from s on; else those from s to the end, and then those below c.
 abbrev pub IsBetween : ℕ → ℕ → ℕ → ℕ → Type 0
 IsBetween n s d c = ((s ≤ d) × (d < c)) ⊎ ((c < s) × (((s ≤ d) × (d < n)) ⊎ (d < c)))
 
--- The thread has only looked at free words since, and of each mortal cell to which a search from this word on comes before
--- cell c it has a note that it wasn't free.
+-- The thread has only looked at free words since, and of each mortal cell to which a search from this word on comes
+-- before cell c it has a note that it wasn't free.
 pub record PassesAround (n start c : ℕ) (before log : List Told) : Type 0 where
   pub looks : List Told
   pub above : log ≡ looks ++ before

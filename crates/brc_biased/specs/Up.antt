@@ -32,8 +32,8 @@ pub record RaisedShared (source : Source) (k : ℕ) (before log : List Told) (ri
   pub told : log ≡ Did (SharedUp source k) found Nothing ∷ before
   pub says : risen ≡ not (found % 4 == 0)
 
--- what a log tells its thread besides the counts, which are the counter's own matter: its part of the world, the dead blocks
--- that it has, and what it has locked
+-- what a log tells its thread besides the counts, which are the counter's own matter: its part of the world, the dead
+-- blocks that it has, and what it has locked
 pub record IsKnown (n : ℕ) (log : List Told) (now : Known) : Type 0 where
   pub part : part_seen n log ≡ now.part
   pub blocks : taken_seen n log ≡ now.blocks

@@ -1,5 +1,5 @@
-//! A reference that the thread has asked to be merged: it goes into the owner's queue, or, where the owner has left or the
-//! object is nobody's by now, is merged or counted down here.
+//! A reference that the thread has asked to be merged: it goes into the owner's queue, or, where the owner has left or
+//! the object is nobody's by now, is merged or counted down here.
 
 ghost use Rattle.std.specs.Prelude.{◌≡◌, ◌<◌, ◌≤◌};
 ghost use Rattle.law_world.specs.declared.row.Hand.TheVariants as hands;
@@ -16,8 +16,8 @@ use brc_block::Block;
 use brc_table::{Found, HeapTable, ThreadSeat};
 use std::alloc::Allocator;
 
-/// The owner's queue is closed, and the reference is still in the hand: the thread merges in the owner's place, unless the
-/// object is nobody's by now, and counts its reference down.
+/// The owner's queue is closed, and the reference is still in the hand: the thread merges in the owner's place, unless
+/// the object is nobody's by now, and counts its reference down.
 pub(crate) fn adopt<A: Allocator>(
     table: &HeapTable<A>,
     seat: &mut ThreadSeat<A>,
@@ -56,8 +56,8 @@ pub(crate) fn adopt<A: Allocator>(
     block
 }
 
-/// The reference is in the hand, and the word turned to queued: the thread whose object it is gets it into its queue and is
-/// told so; an object that is nobody's by now is counted down here.
+/// The reference is in the hand, and the word turned to queued: the thread whose object it is gets it into its queue
+/// and is told so; an object that is nobody's by now is counted down here.
 pub(crate) fn hand_over<A: Allocator>(
     table: &HeapTable<A>,
     seat: &mut ThreadSeat<A>,

@@ -29,8 +29,8 @@ use brc_words::Kind;
 use std::alloc::Allocator;
 
 impl<H: Home<A>, A: Allocator> Counter<H, A> {
-    /// An object is born in the cell that the thread has claimed: its words are set, its block is put home, and the place of
-    /// the frame has the first reference, which the thread counts on its own.
+    /// An object is born in the cell that the thread has claimed: its words are set, its block is put home, and the
+    /// place of the frame has the first reference, which the thread counts on its own.
     #[inline(always)]
     pub fn bear(&mut self, block: Block<A>, kind: Kind, place: u32)
         requires inside { block.0 < self.old.heap.cells }
@@ -64,8 +64,8 @@ impl<H: Home<A>, A: Allocator> Counter<H, A> {
         table.birth(&mut self.seat, block, kind, place);
     }
 
-    /// The cell of a dead object without entries is free again, and its free word is told as it was found; 64 bits count
-    /// what the thread has freed.
+    /// The cell of a dead object without entries is free again, and its free word is told as it was found; 64 bits
+    /// count what the thread has freed.
     #[inline(always)]
     pub fn free(&mut self, cell: u32) -> u64
         requires inside { cell < self.old.heap.cells }

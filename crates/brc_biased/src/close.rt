@@ -30,8 +30,8 @@ pub(crate) fn forget(counts: &mut [u32])
 }
 
 impl<H: Home<A>, A: Allocator> Counter<H, A> {
-    /// Closes the next of the thread's queue words, and takes its bits, each a cell of the heap. With the first one the thread's own objects are
-    /// everybody's: it counts on no local word any more.
+    /// Closes the next of the thread's queue words, and takes its bits, each a cell of the heap. With the first one the
+    /// thread's own objects are everybody's: it counts on no local word any more.
     pub fn close(&mut self, word: u32) -> u64
         requires inside { word < words_for self.old.heap.cells }
         requires allowed { Allowed self.old.heap.cells self.old.seat.log (steps.Close word) }
@@ -39,7 +39,8 @@ impl<H: Home<A>, A: Allocator> Counter<H, A> {
         ensures seat { Stays self.old.seat self.new.seat }
         ensures told { self.new.seat.log ≡ told.Did (steps.Close word) result moves.Nothing ∷ self.old.seat.log }
         ensures knows { IsKnown self.old.heap.cells self.new.seat.log
-            (closing self.old.heap.cells word (popping word result (known_seen self.old.heap.cells self.old.seat.log))) }
+            (closing self.old.heap.cells word
+            (popping word result (known_seen self.old.heap.cells self.old.seat.log))) }
         ensures keeps { Keeps self.old.heap.cells self.old.seat.log self.new.seat.log }
         ensures cells { AreQueued self.old.heap.cells word result }
     {

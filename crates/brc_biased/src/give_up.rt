@@ -23,10 +23,10 @@ use law_world::Dropped;
 use std::alloc::Allocator;
 
 impl<H: Home<A>, A: Allocator> Counter<H, A> {
-    /// Gives a reference up, in at most `MOST_EVENTS` events whatever others do, with one lost exchange in the log, and answers the block
-    /// of the object that this ended, if it did (PEP 703, "Biased Reference Counting"). `has_risen` says that the object was seen
-    /// queued or merged while the reference was there; then no look is needed. It waits for nobody, unless its `Home` does to
-    /// find the table.
+    /// Gives a reference up, in at most `MOST_EVENTS` events whatever others do, with one lost exchange in the log, and
+    /// answers the block of the object that this ended, if it did (PEP 703, "Biased Reference Counting"). `has_risen`
+    /// says that the object was seen queued or merged while the reference was there; then no look is needed. It waits
+    /// for nobody, unless its `Home` does to find the table.
     #[inline(always)]
     pub fn give_up(&mut self, drop: Dropped, cell: u32, has_risen: bool) -> Option<Block<A>>
         requires inside { cell < self.old.heap.cells }

@@ -1,4 +1,5 @@
-//! Where a counter finds its table. The heap is a type parameter of what stands above, so that none of it names a lifetime.
+//! Where a counter finds its table. The heap is a type parameter of what stands above, so that none of it names a
+//! lifetime.
 
 ghost use Rattle.std.specs.Prelude.{◌≡◌};
 ghost use Rattle.brc_table.specs.Seated.{TableSeen};
@@ -6,8 +7,8 @@ ghost use Rattle.brc_table.specs.Seated.{TableSeen};
 use brc_table::HeapTable;
 use std::alloc::Allocator;
 
-/// What leads to the table of a heap. Counting waits for nobody only as far as `table` doesn't: a reference is there at once,
-/// and another `Home` has to say so of itself.
+/// What leads to the table of a heap. Counting waits for nobody only as far as `table` doesn't: a reference is there at
+/// once, and another `Home` has to say so of itself.
 pub trait Home<A: Allocator> {
     ghost seen: { Self → TableSeen };
 

@@ -1,9 +1,9 @@
 //! The counting core of a frame: which event counts a reference up or down, for one thread at the running table.
 //!
-//! It keeps the thread's local counts in its own memory, so that an owner counts without a look: they are what its seat's log
-//! tells (`specs/Counter.antt`). `up` is one event; `give_up` is one of the few lists of events by which a reference goes
-//! (`specs/Released.antt`), with the block of the object that it ended, if it did; `seek` claims the first free cell that it
-//! gets (`specs/Seeking.antt`). Nothing here waits, tries twice, refuses or allocates.
+//! It keeps the thread's local counts in its own memory, so that an owner counts without a look: they are what its
+//! seat's log tells (`specs/Counter.antt`). `up` is one event; `give_up` is one of the few lists of events by which a
+//! reference goes (`specs/Released.antt`), with the block of the object that it ended, if it did; `seek` claims the
+//! first free cell that it gets (`specs/Seeking.antt`). Nothing here waits, tries twice, refuses or allocates.
 #![tactic(auto)]
 
 mod asked;

@@ -18,8 +18,8 @@ use brc_table::{Found, HeapTable, ThreadSeat};
 use law_world::Dropped;
 use std::alloc::Allocator;
 
-/// The thread's count of its own object came to 0: where nobody else has counted or asked the object is dead, and else the
-/// counts are merged.
+/// The thread's count of its own object came to 0: where nobody else has counted or asked the object is dead, and else
+/// the counts are merged.
 #[inline(always)]
 pub(crate) fn end_own<A: Allocator>(
     table: &HeapTable<A>,
@@ -47,8 +47,8 @@ pub(crate) fn end_own<A: Allocator>(
         return Some(block);
     }
 
-    // The owner word goes to 0 before the state does to merged: from the merge on another thread may free the cell, and a
-    // late store here would then fall on whoever has claimed it since.
+    // The owner word goes to 0 before the state does to merged: from the merge on another thread may free the cell, and
+    // a late store here would then fall on whoever has claimed it since.
     table.untie_over(seat, cell);
     let Found {
         number: _number,

@@ -23,8 +23,8 @@ use brc_table::{Found, HeapTable, ThreadSeat};
 use brc_words::FIRST_MORTAL;
 use std::alloc::Allocator;
 
-/// The object was found not merged: it is made nobody's, its local count joins the shared one, and the entry's reference is
-/// counted down.
+/// The object was found not merged: it is made nobody's, its local count joins the shared one, and the entry's
+/// reference is counted down.
 pub(crate) fn merge_popped<A: Allocator>(
     table: &HeapTable<A>,
     seat: &mut ThreadSeat<A>,
@@ -58,8 +58,8 @@ pub(crate) fn merge_popped<A: Allocator>(
 }
 
 impl<H: Home<A>, A: Allocator> Counter<H, A> {
-    /// Deals with a popped entry: an object that isn't merged is merged by the thread; then the entry's reference is counted
-    /// down, and the block is answered where that was the last one.
+    /// Deals with a popped entry: an object that isn't merged is merged by the thread; then the entry's reference is
+    /// counted down, and the block is answered where that was the last one.
     pub fn settle(&mut self, cell: u32) -> Option<Block<A>>
         requires inside { cell < self.old.heap.cells }
         requires stands { Stands self.old.heap.cells self.old.seat.log hands.Free }

@@ -1,5 +1,5 @@
-//! A counter at rest: what is left of it while it is away from its heap. It names no lifetime, and nothing in it must be
-//! spent, so that a thread can carry it.
+//! A counter at rest: what is left of it while it is away from its heap. It names no lifetime, and nothing in it must
+//! be spent, so that a thread can carry it.
 
 ghost use Rattle.std.specs.Prelude.{◌≡◌};
 

@@ -1,6 +1,7 @@
 //! The search for a free cell to make an object in.
 
-ghost use Rattle.std.specs.Prelude.{◌≡◌, ◌+◌, ◌*◌, ◌%◌, ◌<◌, ◌≤◌, ◌==◌, ◌∷◌, ℕ, min, true, None, IfSome, IfNone, IsTrue, IsFalse};
+ghost use Rattle.std.specs.Prelude.{◌≡◌, ◌+◌, ◌*◌, ◌%◌, ◌<◌, ◌≤◌, ◌==◌, ◌∷◌, ℕ, min, true, None, IfSome, IfNone};
+ghost use Rattle.std.specs.Prelude.{IsTrue, IsFalse};
 ghost use Rattle.brc_words.specs.declared.limits.TheConstants.{FIRST_MORTAL, MOST_BIRTHS};
 ghost use Rattle.std.specs.Int.{bit_at};
 ghost use Rattle.law_known.specs.Free_Words.{free_words_for};
@@ -150,11 +151,12 @@ impl<H: Home<A>, A: Allocator> Counter<H, A> {
         None
     }
 
-    /// Claims the first free cell that the thread gets: the free words are looked at from `start` on (word k has the cells
-    /// from 64 k on), to the last and then from the first up to it, and each bit that was found is tried once, the lowest of
-    /// a word first. From word 4 on, or from one past the last, that is from the first mortal cell on; threads that make
-    /// objects at once come upon fewer bits that another takes where each begins with a word of its own. None where of each
-    /// mortal cell it was found that it wasn't free, though one that was looked at early may be free by then.
+    /// Claims the first free cell that the thread gets: the free words are looked at from `start` on (word k has the
+    /// cells from 64 k on), to the last and then from the first up to it, and each bit that was found is tried once,
+    /// the lowest of a word first. From word 4 on, or from one past the last, that is from the first mortal cell on;
+    /// threads that make objects at once come upon fewer bits that another takes where each begins with a word of its
+    /// own. None where of each mortal cell it was found that it wasn't free, though one that was looked at early may be
+    /// free by then.
     #[inline(always)]
     pub fn seek_from(&mut self, start: u32) -> Option<u32>
         requires stands { Stands self.old.heap.cells self.old.seat.log hands.Free }

@@ -78,8 +78,8 @@ pub(crate) fn release_asking<A: Allocator>(
     hand_over(table, seat, cell)
 }
 
-/// The reference goes by a look at the shared word. One exchange is tried; where it is lost the word has moved, so the count
-/// that was loaded says nothing any more, and asking is right at any count.
+/// The reference goes by a look at the shared word. One exchange is tried; where it is lost the word has moved, so the
+/// count that was loaded says nothing any more, and asking is right at any count.
 #[inline(always)]
 pub(crate) fn release_shared<A: Allocator>(
     table: &HeapTable<A>,

@@ -33,8 +33,8 @@ use law_world::Change;
 use std::alloc::Allocator;
 
 impl<H: Home<A>, A: Allocator> Counter<H, A> {
-    /// Claims a free cell, which is none of the thread's dead blocks, to make an object in; or the cell wasn't free. Either
-    /// answer tells the cell's free word as it was found.
+    /// Claims a free cell, which is none of the thread's dead blocks, to make an object in; or the cell wasn't free.
+    /// Either answer tells the cell's free word as it was found.
     #[inline(always)]
     pub fn claim(&mut self, cell: u32) -> Result<u64, u64>
         requires inside { cell < self.old.heap.cells }

@@ -19,9 +19,9 @@ use law_world::Source;
 use std::alloc::Allocator;
 
 impl<H: Home<A>, A: Allocator> Counter<H, A> {
-    /// Counts the cell up, in one event: an immortal by a look, an own object below the local limit on its local word, and
-    /// all else on the shared word (PEP 703, "Biased Reference Counting"). It answers whether the shared word was found
-    /// queued or merged, so that the reference's release needs no look.
+    /// Counts the cell up, in one event: an immortal by a look, an own object below the local limit on its local word,
+    /// and all else on the shared word (PEP 703, "Biased Reference Counting"). It answers whether the shared word was
+    /// found queued or merged, so that the reference's release needs no look.
     #[inline(always)]
     pub fn up(&mut self, source: Source, place: u32, cell: u32) -> bool
         requires inside { cell < self.old.heap.cells }

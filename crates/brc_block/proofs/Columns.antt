@@ -1,5 +1,6 @@
 -- A list seen through a function of its elements: read, changed and taken by index.
-use Rattle.std.proofs.Common.{◌≡◌, ◌<◌, ◌≤◌, ◌+◌, ℕ, List, All, Some, None, ap, subst, sym, ◌∙◌, length, get_or, map, take, slice_get, remove}
+use Rattle.std.proofs.Common.{◌≡◌, ◌<◌, ◌≤◌, ◌+◌, ℕ, List, All, Some, None, ap, subst, sym, ◌∙◌, length, get_or, map}
+use Rattle.std.proofs.Common.{take, slice_get, remove}
 use Rattle.std.specs.Option.{option_map}
 use Rattle.std.proofs.lemmas.Option.{slice_get-map, slice_get-get_or, slice_get_past}
 use Rattle.std.proofs.lemmas.List.{get_or-map, length-map, map-append, take-map, drop-map, take_all}

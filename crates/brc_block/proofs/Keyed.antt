@@ -1,5 +1,7 @@
 -- Look-ups by a key among pairs, whose keys are the same exactly where they are equal.
-use Rattle.std.proofs.Common.{◌≡◌, ◌≢◌, ℕ, ◌+◌, ◌≤◌, zero, suc, Bool, true, false, cond, List, [], ◌∷◌, get_or, take, slice_get, slice_set, position, All, Option, Some, None, is_some, IfSome, IfNone, refl, sym, ◌∙◌, ap, subst, arith, true≢false}
+use Rattle.std.proofs.Common.{◌≡◌, ◌≢◌, ℕ, ◌+◌, ◌≤◌, zero, suc, Bool, true, false, cond, List, [], ◌∷◌, get_or, take}
+use Rattle.std.proofs.Common.{slice_get, slice_set, position, All, Option, Some, None, is_some, IfSome, IfNone, refl}
+use Rattle.std.proofs.Common.{sym, ◌∙◌, ap, subst, arith, true≢false}
 use Rattle.std.specs.Map.{lookup}
 use Rattle.std.proofs.lemmas.Option.{slice_get-get_or}
 use Rattle.std.proofs.lemmas.List.Elements.{All-nil, All-more}
@@ -75,8 +77,10 @@ module _ {A : Type 0} (key : Key A) where
   absent_key pairs (Some i) is = tt
   absent_key pairs None is = nowhere pairs (none_from_test (lookup (same_key key) pairs) (sym is))
 
-  pub none_there : (pairs : List (Key A × ℕ)) → All (λ other. other ≢ key) (keys_in pairs) → lookup (same_key key) pairs ≡ None
+  pub none_there : (pairs : List (Key A × ℕ)) → All (λ other. other ≢ key) (keys_in pairs)
+      → lookup (same_key key) pairs ≡ None
   none_there [] none = refl
   none_there (pair ∷ pairs) none =
-      ap (λ b. cond b (Some pair.1) (lookup (same_key key) pairs)) (false_from_other pair.0 (none 0 pair.0 (omega arith)))
+      ap (λ b. cond b (Some pair.1) (lookup (same_key key) pairs))
+      (false_from_other pair.0 (none 0 pair.0 (omega arith)))
       ∙ none_there pairs (λ k d below. none (suc k) d (omega arith))

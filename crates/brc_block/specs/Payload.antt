@@ -5,7 +5,8 @@ use Rattle.brc_words.specs.declared.kind.Kind.{Kind}
 use Rattle.brc_words.specs.declared.kind.Kind.TheVariants as kinds
 use Rattle.brc_block.specs.Pairs.{keys_in, cells_in}
 use Rattle.brc_block.specs.declared.payload.Payload.{Payload}
-use Rattle.brc_block.specs.declared.payload.Payload.TheVariants.{Int, Text, «List» as Items, Dict, Mailbox, Nothing, Truth}
+use Rattle.brc_block.specs.declared.payload.Payload.TheVariants.{Int, Text, «List» as Items, Dict, Mailbox, Nothing}
+use Rattle.brc_block.specs.declared.payload.Payload.TheVariants.{Truth}
 
 module _ {A : Type 0} where
   -- what kind of object it is

@@ -38,7 +38,8 @@ impl<A: Allocator> Cells<A> {
         Cells { list }
     }
 
-    /// Room for as many entries more as there are, at first for `FEWEST`. It stands apart, so that what is inlined stays small.
+    /// Room for as many entries more as there are, at first for `FEWEST`. It stands apart, so that what is inlined
+    /// stays small.
     #[cold]
     #[inline(never)]
     fn grow(&mut self) -> Result<(), AllocError>

@@ -1,6 +1,7 @@
 //! What the entries of a list and of a mailbox have in common.
 
-ghost use Rattle.std.specs.Prelude.{◌≡◌, ℕ, ◌+◌, ◌<◌, ◌≤◌, ◌++◌, [], ◌∷◌, length, Some, OnOk, OnErr, OnSome, IfNone, slice_get, slice_set, remove};
+ghost use Rattle.std.specs.Prelude.{◌≡◌, ℕ, ◌+◌, ◌<◌, ◌≤◌, ◌++◌, [], ◌∷◌, length, Some, OnOk, OnErr, OnSome, IfNone};
+ghost use Rattle.std.specs.Prelude.{slice_get, slice_set, remove};
 ghost use Rattle.std.specs.Option.{option_to_list};
 ghost use Rattle.brc_block.specs.Row.{Row};
 

@@ -1,6 +1,7 @@
 //! What an object holds.
 
-ghost use Rattle.std.specs.Prelude.{◌≡◌, ◌≢◌, ◌+◌, ◌<◌, ◌≤◌, ◌++◌, [], ◌∷◌, length, take, All, IsTrue, Some, OnOk, OnErr, IfNone, slice_get, slice_set, remove};
+ghost use Rattle.std.specs.Prelude.{◌≡◌, ◌≢◌, ◌+◌, ◌<◌, ◌≤◌, ◌++◌, [], ◌∷◌, length, take, All, IsTrue, Some, OnOk};
+ghost use Rattle.std.specs.Prelude.{OnErr, IfNone, slice_get, slice_set, remove};
 ghost use Rattle.std.specs.Option.{option_to_list};
 ghost use Rattle.brc_words.specs.Kinds.{is_container};
 ghost use Rattle.brc_words.specs.declared.kind.Kind.TheVariants as kinds;

@@ -1,5 +1,7 @@
--- Where every thread is gathered, each live object is held by the globals or by a live object, and blocks show what was put home.
-use Rattle.std.proofs.Common.{◌≡◌, ◌≢◌, ℕ, suc, ◌<◌, ◌≤◌, ◌==◌, ◌||◌, ◌⊎◌, not, Bool, true, false, if◌then◌else◌, pos, List, [], ◌∷◌, length, get_or, Option, None, refl, sym, ◌∙◌, ap, inl, inr, arith}
+-- Where every thread is gathered, each live object is held by the globals or by a live object, and blocks show what was
+-- put home.
+use Rattle.std.proofs.Common.{◌≡◌, ◌≢◌, ℕ, suc, ◌<◌, ◌≤◌, ◌==◌, ◌||◌, ◌⊎◌, not, Bool, true, false, if◌then◌else◌, pos}
+use Rattle.std.proofs.Common.{List, [], ◌∷◌, length, get_or, Option, None, refl, sym, ◌∙◌, ap, inl, inr, arith}
 use Rattle.std.specs.Prelude.{sum_by}
 use Rattle.std.proofs.lemmas.Bool.{cases_eq, cases_lt, cases_Bool, le-ltb, ltb-false, and_parts, true≢false}
 use Rattle.std.specs.Cmp.Derive.{both_true}
@@ -40,13 +42,15 @@ no_times (x ∷ frame) q none =
 pos_same : {m n : ℕ} → pos m ≡ pos n → m ≡ n
 pos_same same = cc
 
-in_some_entries : (h : Heap) (q : ℕ) → IsReached h → Headline h → AllGathered h → ((t : ℕ) → IsIdle h t) → lives_at h q ≡ true → 0 < in_entries h q
+in_some_entries : (h : Heap) (q : ℕ) → IsReached h → Headline h → AllGathered h → ((t : ℕ) → IsIdle h t)
+    → lives_at h q ≡ true → 0 < in_entries h q
 in_some_entries h q reached headline all idle live =
     let sound : IsSound h = reached_sound h reached in
     let parts = and_parts _ _ live in
     let mortal : FIRST_MORTAL ≤ q = ltb-false q FIRST_MORTAL (not_not (is_immortal q) parts.0) in
     let total : pos (length (holders_of h q)) ≡ pos (held h q) =
-    sym (headline.counted q live) ∙ sym (ap (λ b. if b then total_of (cell_at h q) else pos 0) parts.1) ∙ sound.counted q mortal in
+    sym (headline.counted q live) ∙ sym (ap (λ b. if b then total_of (cell_at h q) else pos 0) parts.1)
+    ∙ sound.counted q mortal in
     omega (
       arith,
       pos_same total,
@@ -54,7 +58,8 @@ in_some_entries h q reached headline all idle live =
       none_in (times q) [] h.frames (λ t. no_times (frame_at h t) q (idle t).frame),
       none_in (λ (words : List ℕ). bit_of words q) [] h.popped (λ t. (no_bits h t q reached all mortal parts.1).popped),
       none_in (λ (words : List ℕ). bit_of words q) [] h.queues (λ t. (no_bits h t q reached all mortal parts.1).queue),
-      none_in (λ (row : Row). one (carries q row.hand)) no_row h.rows (λ t. ap (λ (hand : Hand). one (carries q hand)) (idle t).hand),
+      none_in (λ (row : Row). one (carries q row.hand)) no_row h.rows
+          (λ t. ap (λ (hand : Hand). one (carries q hand)) (idle t).hand),
     )
   where
     not_not : (b : Bool) → not b ≡ true → b ≡ false
@@ -84,11 +89,14 @@ some_list (entries ∷ lists) q some = elim (cases_lt 0 (entry_times q entries))
       record { cell = suc later.cell; inside = omega (arith, later.inside); among = later.among }
 ]
 
-pub held_by_entry : (h : Heap) (q : ℕ) → IsReached h → Headline h → AllGathered h → ((t : ℕ) → IsIdle h t) → lives_at h q ≡ true → HeldBy h.entries q
-held_by_entry h q reached headline all idle live = some_list h.entries q (in_some_entries h q reached headline all idle live)
+pub held_by_entry : (h : Heap) (q : ℕ) → IsReached h → Headline h → AllGathered h → ((t : ℕ) → IsIdle h t)
+    → lives_at h q ≡ true → HeldBy h.entries q
+held_by_entry h q reached headline all idle live =
+    some_list h.entries q (in_some_entries h q reached headline all idle live)
 
 -- who holds something is the globals or lives
-pub holder_used : (h : Heap) (d q : ℕ) → IsReached h → has (entries_at h d) q ≡ true → (d ≡ GLOBALS) ⊎ (lives_at h d ≡ true)
+pub holder_used : (h : Heap) (d q : ℕ) → IsReached h → has (entries_at h d) q ≡ true
+    → (d ≡ GLOBALS) ⊎ (lives_at h d ≡ true)
 holder_used h d q reached among = elim (cases_lt d FIRST_MORTAL) [
   | inl low ↦ elim (cases_eq d GLOBALS) [
     | inl globals ↦ inl globals

@@ -1,5 +1,7 @@
 -- The contents of a heap whose threads are all gathered: from its blocks, and what remains of them.
-use Rattle.std.proofs.Common.{◌≡◌, ◌≢◌, ℕ, zero, suc, ◌+◌, ◌-◌, ◌<◌, ◌≤◌, ◌++◌, nat_lt, ◌&&◌, ◌||◌, not, Bool, true, false, if◌then◌else◌, List, [], ◌∷◌, map, length, drop, drop-cons, Option, Some, None, refl, sym, ◌∙◌, ap, subst, inl, inr, arith}
+use Rattle.std.proofs.Common.{◌≡◌, ◌≢◌, ℕ, zero, suc, ◌+◌, ◌-◌, ◌<◌, ◌≤◌, ◌++◌, nat_lt, ◌&&◌, ◌||◌, not, Bool, true}
+use Rattle.std.proofs.Common.{false, if◌then◌else◌, List, [], ◌∷◌, map, length, drop, drop-cons, Option, Some, None}
+use Rattle.std.proofs.Common.{refl, sym, ◌∙◌, ap, subst, inl, inr, arith}
 use Rattle.std.specs.Prelude.{sum_by}
 use Rattle.std.proofs.lemmas.Bool.{cases_lt, cases_Bool, lt-ltb, le-ltb, true≢false}
 use Rattle.std.specs.Cmp.Derive.{both_true}
@@ -29,10 +31,13 @@ use Rattle.brc_close.specs.Contents.{live_from, live_cells, content_at, contents
 -- ---- what blocks show
 
 module _ {A : Type 0} where
-  content_same : (run : Run) (block : ℕ × Payload A) → contents_of block.1 ≡ contents_at run block.0 → ◌≡◌ {A = Content A} (content_in block) (content_at run block.0)
+  content_same : (run : Run) (block : ℕ × Payload A) → contents_of block.1 ≡ contents_at run block.0
+      → ◌≡◌ {A = Content A} (content_in block) (content_at run block.0)
   content_same run block same =
-      ap (λ k. record { cell = block.0; kind = k; entries = entries_of block.1 }) (sym (kind_shown block.1) ∙ ap kind_in same)
-      ∙ ap (λ es. record { cell = block.0; kind = kind_in (contents_at run block.0); entries = es }) (sym (entries_shown block.1) ∙ ap entries_in same)
+      ap (λ k. record { cell = block.0; kind = k; entries = entries_of block.1 }) (sym (kind_shown block.1)
+      ∙ ap kind_in same)
+      ∙ ap (λ es. record { cell = block.0; kind = kind_in (contents_at run block.0); entries = es })
+      (sym (entries_shown block.1) ∙ ap entries_in same)
 
   -- each block has what was put home in its cell
   abbrev Honest : Run → List (ℕ × Payload A) → Type 0
@@ -40,31 +45,37 @@ module _ {A : Type 0} where
   Honest run (block ∷ blocks) = (contents_of block.1 ≡ contents_at run block.0) × Honest run blocks
 
   honest : (run : Run) (slots : List (Option (ℕ × Payload A)))
-      → ((i : ℕ) (block : ℕ × Payload A) → get_elem? slots i ≡ some (Some block) → contents_of block.1 ≡ contents_at run block.0) → Honest run (blocks_in slots)
+      → ((i : ℕ) (block : ℕ × Payload A) → get_elem? slots i ≡ some (Some block)
+      → contents_of block.1 ≡ contents_at run block.0) → Honest run (blocks_in slots)
   honest run [] each = tt
   honest run (None ∷ slots) each = honest run slots (λ i block there. each (suc i) block there)
-  honest run (Some first ∷ slots) each = (each 0 first refl, honest run slots (λ i block there. each (suc i) block there))
+  honest run (Some first ∷ slots) each =
+      (each 0 first refl, honest run slots (λ i block there. each (suc i) block there))
 
-  inside_slots : (slots : List (Option (ℕ × Payload A))) (i : ℕ) (x : Option (ℕ × Payload A)) → get_elem? slots i ≡ some x → i < length slots
+  inside_slots : (slots : List (Option (ℕ × Payload A))) (i : ℕ) (x : Option (ℕ × Payload A))
+      → get_elem? slots i ≡ some x → i < length slots
   inside_slots [] i x there = cc
   inside_slots (first ∷ slots) zero x there = omega arith
   inside_slots (first ∷ slots) (suc i) x there = omega (arith, inside_slots slots i x there)
 
   -- two slots that are one
-  one_block : (slots : List (Option (ℕ × Payload A))) (i : ℕ) (block other : ℕ × Payload A) → get_elem? slots i ≡ some (Some block)
+  one_block : (slots : List (Option (ℕ × Payload A))) (i : ℕ) (block other : ℕ × Payload A)
+      → get_elem? slots i ≡ some (Some block)
       → get_elem? slots i ≡ some (Some other) → other ≡ block
   one_block slots i block other there also = inside (sym also ∙ there)
     where
       inside : {x y : ℕ × Payload A} → some (Some x) ≡ some (Some y) → x ≡ y
       inside same = cc
 
-  no_block : (slots : List (Option (ℕ × Payload A))) (i : ℕ) (block : ℕ × Payload A) → get_elem? slots i ≡ some (Some block) → get_elem? slots i ≡ some None → ⊥
+  no_block : (slots : List (Option (ℕ × Payload A))) (i : ℕ) (block : ℕ × Payload A)
+      → get_elem? slots i ≡ some (Some block) → get_elem? slots i ≡ some None → ⊥
   no_block slots i block there none = apart (sym none ∙ there)
     where
       apart : {y : ℕ × Payload A} → some None ≡ some (Some y) → ⊥
       apart same = cc
 
-  block_honest : (n : ℕ) (h : Heap) (run : Run) (slots : List (Option (ℕ × Payload A))) → AllAtHome n h run slots → (i : ℕ) (block : ℕ × Payload A)
+  block_honest : (n : ℕ) (h : Heap) (run : Run) (slots : List (Option (ℕ × Payload A))) → AllAtHome n h run slots
+      → (i : ℕ) (block : ℕ × Payload A)
       → get_elem? slots i ≡ some (Some block) → contents_of block.1 ≡ contents_at run block.0
   block_honest n h run slots home i block there =
       let low : i < n = subst (λ m. i < m) home.deep (inside_slots slots i (Some block) there) in
@@ -79,7 +90,8 @@ module _ {A : Type 0} where
       by_block : HasBlock slots i (contents_at run i) → contents_of block.1 ≡ contents_at run block.0
       by_block has =
           let same : (i, has.payload) ≡ block = one_block slots i block (i, has.payload) there has.there in
-          ap (λ (b : ℕ × Payload A). contents_of b.1) (sym same) ∙ has.holds ∙ ap (λ (b : ℕ × Payload A). contents_at run b.0) same
+          ap (λ (b : ℕ × Payload A). contents_of b.1) (sym same) ∙ has.holds
+          ∙ ap (λ (b : ℕ × Payload A). contents_at run b.0) same
 
 -- ---- from the globals' cell on
 
@@ -93,7 +105,8 @@ above h c zero high = refl
 above h c (suc more) high = elim (cases_Bool (is_used h c)) [
   | inl used ↦
       ap (λ b. from_globals (if b then c ∷ used_from h (suc c) more else used_from h (suc c) more)) used
-      ∙ ap (λ b. if b then from_globals (used_from h (suc c) more) else c ∷ from_globals (used_from h (suc c) more)) (le-ltb c GLOBALS high)
+      ∙ ap (λ b. if b then from_globals (used_from h (suc c) more) else c ∷ from_globals (used_from h (suc c) more))
+      (le-ltb c GLOBALS high)
       ∙ ap (λ cells. c ∷ cells) (above h (suc c) more (omega (arith, high)))
       ∙ sym (ap (λ b. if b then c ∷ used_from h (suc c) more else used_from h (suc c) more) used)
   | inr unused ↦
@@ -102,7 +115,8 @@ above h c (suc more) high = elim (cases_Bool (is_used h c)) [
       ∙ sym (ap (λ b. if b then c ∷ used_from h (suc c) more else used_from h (suc c) more) unused)
 ]
 
-below : (h : Heap) (k c m more : ℕ) → c + k ≡ GLOBALS → m ≡ k + more → from_globals (used_from h c m) ≡ used_from h GLOBALS more
+below : (h : Heap) (k c m more : ℕ) → c + k ≡ GLOBALS → m ≡ k + more
+    → from_globals (used_from h c m) ≡ used_from h GLOBALS more
 unfolding from_globals
 below h zero c m more at long =
     let here : c ≡ GLOBALS = omega (arith, at) in
@@ -112,7 +126,8 @@ below h (suc k) c zero more at long = absurd (omega (arith, long))
 below h (suc k) c (suc m) more at long = elim (cases_Bool (is_used h c)) [
   | inl used ↦
       ap (λ b. from_globals (if b then c ∷ used_from h (suc c) m else used_from h (suc c) m)) used
-      ∙ ap (λ b. if b then from_globals (used_from h (suc c) m) else c ∷ from_globals (used_from h (suc c) m)) (lt-ltb c GLOBALS (omega (arith, at)))
+      ∙ ap (λ b. if b then from_globals (used_from h (suc c) m) else c ∷ from_globals (used_from h (suc c) m))
+      (lt-ltb c GLOBALS (omega (arith, at)))
       ∙ below h k (suc c) m more (omega (arith, at)) (omega (arith, long))
   | inr unused ↦
       ap (λ b. from_globals (if b then c ∷ used_from h (suc c) m else used_from h (suc c) m)) unused
@@ -121,23 +136,29 @@ below h (suc k) c (suc m) more at long = elim (cases_Bool (is_used h c)) [
 
 module _ {A : Type 0} where
   shown_blocks : (run : Run) (blocks : List (ℕ × Payload A)) → Honest run blocks
-      → ◌≡◌ {A = List (Content A)} (contents_in blocks) (map (content_at run) (from_globals (map (λ (b : ℕ × Payload A). b.0) blocks)))
+      → ◌≡◌ {A = List (Content A)} (contents_in blocks)
+      (map (content_at run) (from_globals (map (λ (b : ℕ × Payload A). b.0) blocks)))
   unfolding from_globals
   shown_blocks run [] each = refl
   shown_blocks run (block ∷ blocks) each = elim (cases_Bool (nat_lt block.0 GLOBALS)) [
     | inl low ↦
         ap (λ b. (if b then [] else content_in block ∷ []) ++ contents_in blocks) low
         ∙ shown_blocks run blocks each.1
-        ∙ sym (ap (λ b. map (content_at {A = A} run) (if b then from_globals (map (λ (x : ℕ × Payload A). x.0) blocks) else block.0 ∷ from_globals (map (λ (x : ℕ × Payload A). x.0) blocks))) low)
+        ∙ sym (ap (λ b. map (content_at {A = A} run)
+        (if b then from_globals (map (λ (x : ℕ × Payload A). x.0) blocks) else block.0 ∷ from_globals
+        (map (λ (x : ℕ × Payload A). x.0) blocks))) low)
     | inr high ↦
         ap (λ b. (if b then [] else content_in block ∷ []) ++ contents_in blocks) high
         ∙ ap (λ x. x ∷ contents_in blocks) (content_same run block each.0)
         ∙ ap (λ xs. content_at run block.0 ∷ xs) (shown_blocks run blocks each.1)
-        ∙ sym (ap (λ b. map (content_at {A = A} run) (if b then from_globals (map (λ (x : ℕ × Payload A). x.0) blocks) else block.0 ∷ from_globals (map (λ (x : ℕ × Payload A). x.0) blocks))) high)
+        ∙ sym (ap (λ b. map (content_at {A = A} run)
+        (if b then from_globals (map (λ (x : ℕ × Payload A). x.0) blocks) else block.0 ∷ from_globals
+        (map (λ (x : ℕ × Payload A). x.0) blocks))) high)
   ]
 
   -- what the blocks that are left show is what was put home last in the globals and in each live mortal cell
-  pub contents_shown : (n : ℕ) (h : Heap) (run : Run) (slots : List (Option (ℕ × Payload A))) → GLOBALS ≤ n → AllAtHome n h run slots
+  pub contents_shown : (n : ℕ) (h : Heap) (run : Run) (slots : List (Option (ℕ × Payload A))) → GLOBALS ≤ n
+      → AllAtHome n h run slots
       → ◌≡◌ {A = List (Content A)} (contents_in (blocks_in slots)) (contents_of_heap h run n)
   contents_shown n h run slots enough home =
       shown_blocks run (blocks_in slots) (honest run slots (block_honest n h run slots home))
@@ -148,29 +169,36 @@ module _ {A : Type 0} where
 
 module _ (A : Type 0) (h : Heap) (run : Run) where
   -- who has the cell among what was put home is found
-  pub holder_among : (c more d q : ℕ) → c ≤ d → d < c + more → is_used h d ≡ true → has (entries_in (contents_at run d)) q ≡ true
+  pub holder_among : (c more d q : ℕ) → c ≤ d → d < c + more → is_used h d ≡ true
+      → has (entries_in (contents_at run d)) q ≡ true
       → (x : ℕ) × (holder_of (map (content_at {A = A} run) (used_from h c more)) q ≡ Some x)
   holder_among c zero d q from to used among = absurd (omega (arith, from, to))
   holder_among c (suc more) d q from to used among = elim (cases_Bool (is_used h c)) [
     | inl here ↦ elim (cases_Bool (has (entries_in (contents_at run c)) q)) [
       | inl holds ↦ (
         c,
-        ap (λ b. holder_of (map (content_at {A = A} run) (if b then c ∷ used_from h (suc c) more else used_from h (suc c) more)) q) here
-            ∙ ap (λ b. if b then Some c else holder_of (map (content_at {A = A} run) (used_from h (suc c) more)) q) holds,
+        ap (λ b. holder_of (map (content_at {A = A} run) (if b then c ∷ used_from h (suc c) more else used_from h
+            (suc c) more)) q) here
+            ∙ ap (λ b. if b then Some c else holder_of
+            (map (content_at {A = A} run) (used_from h (suc c) more)) q) holds,
       )
       | inr other ↦
-          let apart : c ≢ d = λ same. true≢false (sym among ∙ ap (λ i. has (entries_in (contents_at run i)) q) (sym same) ∙ other) in
+          let apart : c ≢ d = λ same. true≢false (sym among ∙ ap (λ i. has (entries_in (contents_at run i)) q)
+          (sym same) ∙ other) in
           let later = holder_among (suc c) more d q (omega (arith, from, apart)) (omega (arith, to)) used among in (
             later.0,
-            ap (λ b. holder_of (map (content_at {A = A} run) (if b then c ∷ used_from h (suc c) more else used_from h (suc c) more)) q) here
-                ∙ ap (λ b. if b then Some c else holder_of (map (content_at {A = A} run) (used_from h (suc c) more)) q) other ∙ later.1,
+            ap (λ b. holder_of (map (content_at {A = A} run) (if b then c ∷ used_from h (suc c) more else used_from h
+                (suc c) more)) q) here
+                ∙ ap (λ b. if b then Some c else holder_of (map (content_at {A = A} run) (used_from h (suc c) more)) q)
+                other ∙ later.1,
           )
     ]
     | inr none ↦
         let apart : c ≢ d = λ same. true≢false (sym used ∙ ap (is_used h) (sym same) ∙ none) in
         let later = holder_among (suc c) more d q (omega (arith, from, apart)) (omega (arith, to)) used among in (
           later.0,
-          ap (λ b. holder_of (map (content_at {A = A} run) (if b then c ∷ used_from h (suc c) more else used_from h (suc c) more)) q) none ∙ later.1,
+          ap (λ b. holder_of (map (content_at {A = A} run) (if b then c ∷ used_from h (suc c) more else used_from h
+              (suc c) more)) q) none ∙ later.1,
         )
   ]
 
@@ -194,16 +222,25 @@ module _ (A : Type 0) (h : Heap) (run : Run) where
               let holder = held c live (omega arith) in
               record {
                 remains = record { cell = c; kind = kind_in (contents_at run c); held_by = holder.0 } ∷ later.remains;
-                are = ap (λ b. remains_among contents (map (content_at run) (if b then c ∷ used_from h (suc c) more else used_from h (suc c) more))) (ap (λ b. is_immortal c || b) live ∙ or_end (is_immortal c))
+                are = ap (λ b. remains_among contents
+                    (map (content_at run) (if b then c ∷ used_from h (suc c) more else used_from h (suc c) more)))
+                    (ap (λ b. is_immortal c || b) live ∙ or_end (is_immortal c))
                     ∙ ap (λ b. if b then remains_among contents (map (content_at run) (used_from h (suc c) more))
-                    else joined (remain_of contents (content_at run c)) (remains_among contents (map (content_at run) (used_from h (suc c) more)))) mortal
-                    ∙ ap (λ o. joined (option_map (λ x. record { cell = c; kind = kind_in (contents_at run c); held_by = x }) o) (remains_among contents (map (content_at run) (used_from h (suc c) more)))) holder.1
-                    ∙ ap (joined (Some (record { cell = c; kind = kind_in (contents_at run c); held_by = holder.0 }))) later.are;
+                    else joined (remain_of contents (content_at run c))
+                    (remains_among contents (map (content_at run) (used_from h (suc c) more)))) mortal
+                    ∙ ap (λ o. joined (option_map
+                    (λ x. record { cell = c; kind = kind_in (contents_at run c); held_by = x }) o)
+                    (remains_among contents (map (content_at run) (used_from h (suc c) more)))) holder.1
+                    ∙ ap (joined (Some (record { cell = c; kind = kind_in (contents_at run c); held_by = holder.0 })))
+                    later.are;
                 spelled = both_true (both_true (ap not mortal) (kinds c live)) later.spelled;
-                cells = ap (λ cells. c ∷ cells) later.cells ∙ sym (ap (λ b. if b then c ∷ live_from h (suc c) more else live_from h (suc c) more) live);
+                cells = ap (λ cells. c ∷ cells) later.cells
+                    ∙ sym (ap (λ b. if b then c ∷ live_from h (suc c) more else live_from h (suc c) more) live);
               }
           | inr dead ↦ skipped later dead
-              (ap (λ b. remains_among contents (map (content_at run) (if b then c ∷ used_from h (suc c) more else used_from h (suc c) more))) (both_false mortal dead) ∙ later.are)
+              (ap (λ b. remains_among contents
+              (map (content_at run) (if b then c ∷ used_from h (suc c) more else used_from h (suc c) more)))
+              (both_false mortal dead) ∙ later.are)
         ]
       ]
     where
@@ -217,13 +254,17 @@ module _ (A : Type 0) (h : Heap) (run : Run) where
       by_used : (later : Remaining contents (suc c) more) → is_immortal c ≡ true
           → remains_among contents (map (content_at run) (used_from h c (suc more))) ≡ Some later.remains
       by_used later immortal =
-          ap (λ b. remains_among contents (map (content_at run) (if b then c ∷ used_from h (suc c) more else used_from h (suc c) more))) (ap (λ b. b || lives_at h c) immortal)
+          ap (λ b. remains_among contents
+          (map (content_at run) (if b then c ∷ used_from h (suc c) more else used_from h (suc c) more)))
+          (ap (λ b. b || lives_at h c) immortal)
           ∙ ap (λ b. if b then remains_among contents (map (content_at run) (used_from h (suc c) more))
-          else joined (remain_of contents (content_at run c)) (remains_among contents (map (content_at run) (used_from h (suc c) more)))) immortal
+          else joined (remain_of contents (content_at run c))
+          (remains_among contents (map (content_at run) (used_from h (suc c) more)))) immortal
           ∙ later.are
 
       skipped : (later : Remaining contents (suc c) more) → lives_at h c ≡ false
-          → remains_among contents (map (content_at run) (used_from h c (suc more))) ≡ Some later.remains → Remaining contents c (suc more)
+          → remains_among contents (map (content_at run) (used_from h c (suc more))) ≡ Some later.remains
+          → Remaining contents c (suc more)
       skipped later dead are = record {
         remains = later.remains;
         spelled = later.spelled;
@@ -236,10 +277,12 @@ module _ (A : Type 0) (h : Heap) (run : Run) where
   used_rise last c zero low = refl
   used_rise last c (suc more) low = elim (cases_Bool (is_used h c)) [
     | inl used ↦
-        ap (λ b. rises last (map (content_at {A = A} run) (if b then c ∷ used_from h (suc c) more else used_from h (suc c) more))) used
+        ap (λ b. rises last (map (content_at {A = A} run) (if b then c ∷ used_from h (suc c) more else used_from h
+        (suc c) more))) used
         ∙ both_true (lt-ltb last c low) (used_rise c (suc c) more (omega arith))
     | inr unused ↦
-        ap (λ b. rises last (map (content_at {A = A} run) (if b then c ∷ used_from h (suc c) more else used_from h (suc c) more))) unused
+        ap (λ b. rises last (map (content_at {A = A} run) (if b then c ∷ used_from h (suc c) more else used_from h
+        (suc c) more))) unused
         ∙ used_rise last (suc c) more (omega (arith, low))
   ]
 
@@ -261,7 +304,8 @@ live_beside h n enough = ap (live_from h GLOBALS) (n_is n enough)
 
 live_long : (h : Heap) (c more : ℕ) → FIRST_MORTAL ≤ c → c + more ≡ length h.cells
     → length (live_from h c more) ≡ sum_by (λ (x : Cell). one (lives x.owner)) (drop c h.cells)
-live_long h c zero mortal long = ap (sum_by (λ (x : Cell). one (lives x.owner))) (sym (drop_past h.cells c (omega (arith, long))))
+live_long h c zero mortal long = ap (sum_by (λ (x : Cell). one (lives x.owner)))
+    (sym (drop_past h.cells c (omega (arith, long))))
   where
     drop_past : {X : Type 0} (xs : List X) (i : ℕ) → length xs ≤ i → drop i xs ≡ []
     drop_past [] zero past = refl
@@ -270,10 +314,12 @@ live_long h c zero mortal long = ap (sum_by (λ (x : Cell). one (lives x.owner))
     drop_past (x ∷ xs) (suc i) past = drop_past xs i (omega (arith, past))
 live_long h c (suc more) mortal long =
     let later = live_long h (suc c) more (omega (arith, mortal)) (omega (arith, long)) in
-    let split : sum_by (λ (x : Cell). one (lives x.owner)) (drop c h.cells) ≡ one (lives (cell_at h c).owner) + sum_by (λ (x : Cell). one (lives x.owner)) (drop (suc c) h.cells) =
+    let split : sum_by (λ (x : Cell). one (lives x.owner)) (drop c h.cells) ≡ one (lives (cell_at h c).owner) + sum_by
+    (λ (x : Cell). one (lives x.owner)) (drop (suc c) h.cells) =
     ap (sum_by (λ (x : Cell). one (lives x.owner))) (drop-cons h.cells c no_cell (omega (arith, long)))
     ∙ sum_by-cons (λ (x : Cell). one (lives x.owner)) (cell_at h c) (drop (suc c) h.cells) in
-    let owner : lives_at h c ≡ lives (cell_at h c).owner = ap (λ b. not b && lives (cell_at h c).owner) (le-ltb c FIRST_MORTAL mortal) in
+    let owner : lives_at h c ≡ lives (cell_at h c).owner = ap (λ b. not b && lives (cell_at h c).owner)
+    (le-ltb c FIRST_MORTAL mortal) in
     elim (cases_Bool (lives_at h c)) [
       | inl live ↦ omega (
         arith,

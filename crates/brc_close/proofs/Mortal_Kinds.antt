@@ -1,5 +1,6 @@
 -- An object in a mortal cell is of a mortal kind: it was born so, and nothing changes that.
-use Rattle.std.proofs.Common.{◌≡◌, ℕ, ◌≤◌, ◌==◌, ◌&&◌, not, Bool, true, false, if◌then◌else◌, List, [], ◌∷◌, sym, ◌∙◌, ap, inl, inr}
+use Rattle.std.proofs.Common.{◌≡◌, ℕ, ◌≤◌, ◌==◌, ◌&&◌, not, Bool, true, false, if◌then◌else◌, List, [], ◌∷◌, sym, ◌∙◌}
+use Rattle.std.proofs.Common.{ap, inl, inr}
 use Rattle.std.proofs.lemmas.Bool.{cases_Bool, and_parts, true≢false}
 use Rattle.brc_words.specs.declared.limits.TheConstants.{FIRST_MORTAL}
 use Rattle.brc_words.specs.Kinds.{is_mortal}
@@ -17,7 +18,8 @@ use Rattle.law_lasting.proofs.Reasons.{event_cell}
 use Rattle.law_moves.proofs.Moving.{kind_kept}
 
 -- an object is born of a mortal kind
-born_mortal : (h : Heap) (t : ℕ) (s : Step) (c : ℕ) (x : Cell) → is_birth s ≡ true → own_ok_at h t s ≡ true → is_mortal (cell_after t s c x).kind ≡ true
+born_mortal : (h : Heap) (t : ℕ) (s : Step) (c : ℕ) (x : Cell) → is_birth s ≡ true → own_ok_at h t s ≡ true
+    → is_mortal (cell_after t s c x).kind ≡ true
 born_mortal h t (Birth d kind k) c x born own = (and_parts _ _ own).0
 born_mortal h t _ c x born own = absurd (true≢false (sym born))
 
@@ -31,19 +33,23 @@ lived_back (Free d) c before plain is = elim (cases_Bool (d == c)) [
 lived_back _ c before plain is = is
 
 module _ (n limit c : ℕ) (options : AreOptions n limit) (mortal : FIRST_MORTAL ≤ c) where
-  pub kind_mortal : (run : List Event) → IsRun (opening n limit) run → lives_at (world_after (opening n limit) run) c ≡ true
+  pub kind_mortal : (run : List Event) → IsRun (opening n limit) run
+      → lives_at (world_after (opening n limit) run) c ≡ true
       → is_mortal (cell_at (world_after (opening n limit) run) c).kind ≡ true
   kind_mortal [] is_run live =
       absurd (true≢false (sym (and_parts _ _ live).1 ∙ ap (λ (x : Cell). lives x.owner) (free_cell n c mortal)))
   kind_mortal (e ∷ run) is_run live =
       let h : Heap = world_after (opening n limit) run in
-      let told : lives_since e.step c (lives_by run c) ≡ true = sym ((run_histories n limit (e ∷ run) options is_run).lives c) ∙ live in
+      let told : lives_since e.step c (lives_by run c) ≡ true =
+      sym ((run_histories n limit (e ∷ run) options is_run).lives c) ∙ live in
       elim (event_cell h e c is_run.1) [
         | inl same ↦
-            let before : lives_at h c ≡ true = sym (ap (λ (x : Cell). not (is_immortal c) && lives x.owner) same) ∙ live in
+            let before : lives_at h c ≡ true =
+            sym (ap (λ (x : Cell). not (is_immortal c) && lives x.owner) same) ∙ live in
             ap (λ (x : Cell). is_mortal x.kind) same ∙ kind_mortal run is_run.0 before
         | inr at ↦ elim (cases_Bool (is_birth e.step)) [
-          | inl born ↦ ap (λ (x : Cell). is_mortal x.kind) at.1 ∙ born_mortal h e.thread e.step c (cell_at h c) born at.0.may.own
+          | inl born ↦ ap (λ (x : Cell). is_mortal x.kind) at.1
+              ∙ born_mortal h e.thread e.step c (cell_at h c) born at.0.may.own
           | inr plain ↦
               let before : lives_at h c ≡ true =
               (run_histories n limit run options is_run.0).lives c ∙ lived_back e.step c (lives_by run c) plain told in

@@ -21,7 +21,8 @@ thread_past : (h : Heap) (t : ℕ) (s : Step) (o : Option ℕ) → SamePast h (a
 thread_past h t s None = record { allocs = refl; frees = refl }
 thread_past h t s (Some c) = record { allocs = refl; frees = refl }
 
-root_past : (h : Heap) (s : Step) → IsSound h → h.edition ≡ editions.One → root_may h s ≡ true → SamePast h (root_after h s)
+root_past : (h : Heap) (s : Step) → IsSound h → h.edition ≡ editions.One → root_may h s ≡ true
+    → SamePast h (root_after h s)
 root_past h (Register u) sound first may = elim (registers h u sound may) [
   | fresh next most few is ↦ record { allocs = ap (λ z. z.past_allocs) is; frees = ap (λ z. z.past_frees) is }
   | reused vacated few is ↦ let bad : editions.One ≡ editions.Two = sym first ∙ vacated.two in absurd (cc)
@@ -32,10 +33,19 @@ event_past : (h : Heap) (e : Event) → IsSound h → h.edition ≡ editions.One
 event_past h e sound first ok = elim (by_whom h e ok) [
   | inl root ↦
       let same : SamePast h (root_after h e.step) = root_past h e.step sound first root.may in
-      record { allocs = ap (λ z. z.past_allocs) root.leads ∙ same.allocs; frees = ap (λ z. z.past_frees) root.leads ∙ same.frees }
+      record {
+        allocs = ap (λ z. z.past_allocs) root.leads ∙ same.allocs;
+        frees = ap (λ z. z.past_frees) root.leads
+            ∙ same.frees;
+      }
   | inr thread ↦
-      let same : SamePast h (after_target h e.thread e.step (target_at h e.thread e.step)) = thread_past h e.thread e.step (target_at h e.thread e.step) in
-      record { allocs = ap (λ z. z.past_allocs) thread.leads ∙ same.allocs; frees = ap (λ z. z.past_frees) thread.leads ∙ same.frees }
+      let same : SamePast h (after_target h e.thread e.step (target_at h e.thread e.step)) =
+      thread_past h e.thread e.step (target_at h e.thread e.step) in
+      record {
+        allocs = ap (λ z. z.past_allocs) thread.leads ∙ same.allocs;
+        frees = ap (λ z. z.past_frees) thread.leads
+            ∙ same.frees;
+      }
 ]
 
 -- so nothing ever joins it
@@ -43,10 +53,12 @@ pub record NoPast (h : Heap) : Type 0 where
   pub allocs : h.past_allocs ≡ 0
   pub frees : h.past_frees ≡ 0
 
-pub no_past : (n limit : ℕ) (run : List Event) → AreOptions n limit → IsRun (opening n limit) run → NoPast (world_after (opening n limit) run)
+pub no_past : (n limit : ℕ) (run : List Event) → AreOptions n limit → IsRun (opening n limit) run
+    → NoPast (world_after (opening n limit) run)
 no_past n limit [] options is_run = record { allocs = refl; frees = refl }
 no_past n limit (e ∷ run) options is_run =
     let h : Heap = world_after (opening n limit) run in
     let before : NoPast h = no_past n limit run options is_run.0 in
-    let same : SamePast h (after h e) = event_past h e (run_sound editions.One n limit run options is_run.0) (run_edition (opening n limit) run) is_run.1 in
+    let same : SamePast h (after h e) = event_past h e (run_sound editions.One n limit run options is_run.0)
+    (run_edition (opening n limit) run) is_run.1 in
     record { allocs = same.allocs ∙ before.allocs; frees = same.frees ∙ before.frees }

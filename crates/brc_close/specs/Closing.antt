@@ -20,10 +20,11 @@ use Rattle.brc_close.specs.declared.closing.CloseFault.{CloseFault}
 use Rattle.brc_close.specs.declared.closing.CloseFault.TheVariants.{Missing, Memory}
 
 module _ {A : Type 0} where
-  -- What was done on the heap is one run, of which the root knows its own part and that of each thread. All threads are gathered in the
-  -- world that it leads to, where counts are references. The report is of that world: its ledger is what all threads did, of which
-  -- births less frees are the live objects; the contents are those that were put home last in the globals and in each live mortal cell;
-  -- the remains are exactly these mortal cells; and all cycles of theirs are named.
+  -- What was done on the heap is one run, of which the root knows its own part and that of each thread. All threads are
+  -- gathered in the world that it leads to, where counts are references. The report is of that world: its ledger is
+  -- what all threads did, of which births less frees are the live objects; the contents are those that were put home
+  -- last in the globals and in each live mortal cell; the remains are exactly these mortal cells; and all cycles of
+  -- theirs are named.
   pub record Closes (n limit : ℕ) (root : View) (report : Report A) : Type 0 where
     pub run : Run
     pub legal : IsLegal n limit run
@@ -43,9 +44,12 @@ module _ {A : Type 0} where
     pub remains : remains_of report.contents.items ≡ Some report.remains.items
     pub remain_cells : map (λ (remain : Remain). remain.cell) report.remains.items ≡ live_cells (world n limit run) n
     pub cycles : AreCycles report.remains.items report.cycles.items
-    -- each remain is held by the globals or by a remain; where the globals hold nothing, each walk along the holders runs into a cycle
-    pub held : (cell holder : ℕ) → holder_in report.remains.items cell ≡ Some holder → IsHolder report.remains.items holder
-    pub walks : entries_of_first report.contents.items ≡ [] → (from holder : ℕ) → holder_in report.remains.items from ≡ Some holder
+    -- each remain is held by the globals or by a remain; where the globals hold nothing, each walk along the holders
+    -- runs into a cycle
+    pub held : (cell holder : ℕ) → holder_in report.remains.items cell ≡ Some holder
+        → IsHolder report.remains.items holder
+    pub walks : entries_of_first report.contents.items ≡ [] → (from holder : ℕ)
+        → holder_in report.remains.items from ≡ Some holder
         → RunsInto report.remains.items report.cycles.items from
     -- `check_report` says so of it
     pub right : IsReport report.remains.items report.cycles.items report.contents.items
@@ -59,7 +63,8 @@ module _ {A : Type 0} where
     pub live : report.live ≡ length report.remains.items
     pub cycles : AreCycles report.remains.items report.cycles.items
 
--- A heap stays open where the numbers of registered and of gathered threads differ, which are told; else memory was missing.
+-- A heap stays open where the numbers of registered and of gathered threads differ, which are told; else memory was
+-- missing.
 abbrev pub StaysOpen : {A : Type 0} → TableSeen → RootSeen → CloseFault A → Type 0
 StaysOpen heap root (Missing registered gathered same_heap same_root) =
     (registrations root.view ≢ gatherings root.view)

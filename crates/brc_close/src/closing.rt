@@ -25,14 +25,16 @@ pub enum CloseFault<A: Allocator> {
     Memory,
 }
 
-/// The report of these contents, of which each mortal cell is held, and is of a mortal kind; None where memory for it is missing.
+/// The report of these contents, of which each mortal cell is held, and is of a mortal kind; None where memory for it
+/// is missing.
 fn report_of<A: Allocator + Copy>(
     alloc: A,
     ledger: Ledger,
     contents: Vec<Content<A>, A>,
 ) -> Option<Report<A>>
     requires held { remains_of contents.items ≢ None }
-    requires spelled { (remains : List TheRemain) → remains_of contents.items ≡ Some remains → all_spelled remains ≡ true }
+    requires spelled { (remains : List TheRemain) → remains_of contents.items ≡ Some remains
+        → all_spelled remains ≡ true }
     ensures { IfSome result (Reports ledger contents.items) }
 {
     let Ok(found) = find_remains(alloc, contents.as_slice()) else {
@@ -52,8 +54,9 @@ fn report_of<A: Allocator + Copy>(
     })
 }
 
-/// Closes a heap that no thread shares any more: its report, of the last state. Missing where not every thread that was registered is
-/// gathered, which is looked at first, and tells both numbers; Memory where memory for the report is missing.
+/// Closes a heap that no thread shares any more: its report, of the last state. Missing where not every thread that was
+/// registered is gathered, which is looked at first, and tells both numbers; Memory where memory for the report is
+/// missing.
 pub fn close<A: Allocator + Copy>(
     alloc: A,
     heap: Heap<A>,

@@ -29,8 +29,8 @@ fn content_of<A: Allocator>(alloc: A, block: &Block<A>) -> Result<Content<A>, Al
     })
 }
 
-/// The contents found so far, and what one block more shows: that of the globals, or of a mortal object. Once memory was missing they
-/// are lost.
+/// The contents found so far, and what one block more shows: that of the globals, or of a mortal object. Once memory
+/// was missing they are lost.
 fn with_block<A: Allocator + Copy>(
     alloc: A,
     found: Option<Vec<Content<A>, A>>,

@@ -1,5 +1,7 @@
 -- The calls on one object are one history.
-use Rattle.std.proofs.Common.{◌≡◌, ◌≢◌, ℕ, zero, suc, ◌<◌, ◌≤◌, ◌==◌, nat_le, Bool, true, false, if◌then◌else◌, List, [], ◌∷◌, ◌++◌, length, Option, Some, None, refl, sym, ◌∙◌, ap, subst, append_assoc, inl, inr, arith}
+use Rattle.std.proofs.Common.{◌≡◌, ◌≢◌, ℕ, zero, suc, ◌<◌, ◌≤◌, ◌==◌, nat_le, Bool, true, false, if◌then◌else◌, List}
+use Rattle.std.proofs.Common.{[], ◌∷◌, ◌++◌, length, Option, Some, None, refl, sym, ◌∙◌, ap, subst, append_assoc, inl}
+use Rattle.std.proofs.Common.{inr, arith}
 use Rattle.std.proofs.lemmas.Bool.{cases_eq, cases_Bool, eq-eqb, ne_eqb, eqb-true, true≢false, and_parts}
 use Rattle.brc_words.specs.declared.limits.TheConstants.{MOST_THREADS}
 use Rattle.law_world.specs.declared.event.Change.{Change}
@@ -20,7 +22,8 @@ use Rattle.law_rule.specs.Logs.{Run, item_of, items_of, own_of, world, contents_
 use Rattle.law_rule.specs.Seen.{contents_locked}
 use Rattle.law_rule.proofs.Locked_Contents.{locked_contents}
 use Rattle.law_rule.proofs.Own_Logs.{own_more, own_same}
-use Rattle.brc_containers.specs.History.{Call, Bears, Changes, IsSequential, Extends, left_by, with_step, with_call, history_of, own_history, calls_of}
+use Rattle.brc_containers.specs.History.{Call, Bears, Changes, IsSequential, Extends, left_by, with_step, with_call}
+use Rattle.brc_containers.specs.History.{history_of, own_history, calls_of}
 
 none_some : {X : Type 0} (x : X) → None ≡ Some x → ⊥
 none_some x bad = absurd (cc)
@@ -31,29 +34,34 @@ older_legal n limit x run legal = record { items = legal.items.0; moved = legal.
 
 pub earlier_legal : (n limit : ℕ) (later run : Run) → IsLegal n limit (later ++ run) → IsLegal n limit run
 earlier_legal n limit [] run legal = legal
-earlier_legal n limit (x ∷ later) run legal = earlier_legal n limit later run (older_legal n limit x (later ++ run) legal)
+earlier_legal n limit (x ∷ later) run legal = earlier_legal n limit later run
+    (older_legal n limit x (later ++ run) legal)
 
 -- ---- what stands there is what the last call put home
 
-step_leaves : (h : Heap) (c t d : ℕ) (s : Step) (found : Option Contents) (put : Contents) (older : List Call) → puts h t s ≡ Some d
+step_leaves : (h : Heap) (c t d : ℕ) (s : Step) (found : Option Contents) (put : Contents) (older : List Call)
+    → puts h t s ≡ Some d
     → put ≡ left_by c (with_step t s found put older)
 step_leaves h c t d (Birth e kind k) found put older is = refl
 step_leaves h c t d (Unlock change) found put older is = refl
 step_leaves h c t d _ found put older is = absurd (none_some d is)
 
-call_leaves : (h : Heap) (run : Run) (c t : ℕ) (x : Told) (found : Option Contents) (older : List Call) → IsMoved h run t x
+call_leaves : (h : Heap) (run : Run) (c t : ℕ) (x : Told) (found : Option Contents) (older : List Call)
+    → IsMoved h run t x
     → contents_at run c ≡ left_by c older → contents_at ((t, x) ∷ run) c ≡ left_by c (with_call c t x found older)
 call_leaves h run c t (Did s number moves.Nothing) found older goes before = before
 call_leaves h run c t (Did s number (moves.Found d contents)) found older goes before = before
 call_leaves h run c t (Did s number (moves.Put d put)) found older goes before = by_test (d == c)
   where
-    by_test : (here : Bool) → (if here then put else contents_at run c) ≡ left_by c (if here then with_step t s found put older else older)
+    by_test : (here : Bool) → (if here then put else contents_at run c) ≡ left_by c
+        (if here then with_step t s found put older else older)
     by_test true = step_leaves h c t d s found put older goes.cell
     by_test false = before
 call_leaves h run c t (Saw word number) found older goes before = before
 call_leaves h run c t (Lost word number) found older goes before = before
 
-pub last_stands : (n limit : ℕ) (run : Run) (c : ℕ) → IsLegal n limit run → contents_at run c ≡ left_by c (history_of c run)
+pub last_stands : (n limit : ℕ) (run : Run) (c : ℕ) → IsLegal n limit run
+    → contents_at run c ≡ left_by c (history_of c run)
 last_stands n limit [] c legal = refl
 last_stands n limit (x ∷ run) c legal =
     call_leaves (world n limit run) run c x.0 x.1 (contents_locked (own_of x.0 run)) (history_of c run) legal.moved.1
@@ -67,28 +75,35 @@ unlocker h zero change on = absurd (true≢false (sym on))
 unlocker h (suc t) change on = omega arith
 
 module _ (n limit : ℕ) where
-  step_follows : (run : Run) (c t d : ℕ) (s : Step) (number : ℕ) (put : Contents) → AreOptions n limit → IsLegal n limit ((t, Did s number (moves.Put d put)) ∷ run)
-      → d ≡ c → IsSequential c (history_of c run) → IsSequential c (with_step t s (contents_locked (own_of t run)) put (history_of c run))
+  step_follows : (run : Run) (c t d : ℕ) (s : Step) (number : ℕ) (put : Contents) → AreOptions n limit
+      → IsLegal n limit ((t, Did s number (moves.Put d put)) ∷ run)
+      → d ≡ c → IsSequential c (history_of c run)
+      → IsSequential c (with_step t s (contents_locked (own_of t run)) put (history_of c run))
   step_follows run c t d (Birth e kind k) number put options legal here before = (before, tt)
   step_follows run c t d (Unlock change) number put options legal here before =
-      let older : IsLegal n limit run = older_legal n limit (t, Did (Unlock change) number (moves.Put d put)) run legal in
-      let stands : contents_at run d ≡ left_by c (history_of c run) = ap (contents_at run) here ∙ last_stands n limit run c older in (
+      let older : IsLegal n limit run = older_legal n limit (t, Did (Unlock change) number (moves.Put d put))
+      run legal in
+      let stands : contents_at run d ≡ left_by c (history_of c run) = ap (contents_at run) here
+      ∙ last_stands n limit run c older in (
         before,
         (
-          locked_contents n limit run t d options older (unlocker (world n limit run) t change legal.items.1.0) legal.moved.1.cell ∙ ap Some stands,
+          locked_contents n limit run t d options older (unlocker (world n limit run) t change legal.items.1.0)
+              legal.moved.1.cell ∙ ap Some stands,
           λ keep. legal.moved.1.kept keep ∙ stands,
         ),
       )
   step_follows run c t d _ number put options legal here before = before
 
-  call_follows : (run : Run) (c t : ℕ) (x : Told) → AreOptions n limit → IsLegal n limit ((t, x) ∷ run) → IsSequential c (history_of c run)
+  call_follows : (run : Run) (c t : ℕ) (x : Told) → AreOptions n limit → IsLegal n limit ((t, x) ∷ run)
+      → IsSequential c (history_of c run)
       → IsSequential c (with_call c t x (contents_locked (own_of t run)) (history_of c run))
   call_follows run c t (Did s number moves.Nothing) options legal before = before
   call_follows run c t (Did s number (moves.Found d contents)) options legal before = before
   call_follows run c t (Did s number (moves.Put d put)) options legal before = by_test (d == c) (eqb-true d c)
     where
       by_test : (here : Bool) → (here ≡ true → d ≡ c)
-          → IsSequential c (if here then with_step t s (contents_locked (own_of t run)) put (history_of c run) else history_of c run)
+          → IsSequential c (if here then with_step t s (contents_locked (own_of t run)) put
+          (history_of c run) else history_of c run)
       by_test true is = step_follows run c t d s number put options legal (is refl) before
       by_test false is = before
   call_follows run c t (Saw word number) options legal before = before
@@ -96,16 +111,19 @@ module _ (n limit : ℕ) where
 
   pub is_sequential : (run : Run) (c : ℕ) → AreOptions n limit → IsLegal n limit run → IsSequential c (history_of c run)
   is_sequential [] c options legal = tt
-  is_sequential (x ∷ run) c options legal = call_follows run c x.0 x.1 options legal (is_sequential run c options (older_legal n limit x run legal))
+  is_sequential (x ∷ run) c options legal = call_follows run c x.0 x.1 options legal
+      (is_sequential run c options (older_legal n limit x run legal))
 
 -- ---- what comes later stands after it
 
-step_adds : (t : ℕ) (s : Step) (found : Option Contents) (put : Contents) (older : List Call) → Extends older (with_step t s found put older)
+step_adds : (t : ℕ) (s : Step) (found : Option Contents) (put : Contents) (older : List Call)
+    → Extends older (with_step t s found put older)
 step_adds t (Birth c kind k) found put older = (Bears t put ∷ [], refl)
 step_adds t (Unlock change) found put older = (Changes t change found put ∷ [], refl)
 step_adds t _ found put older = ([], refl)
 
-call_adds : (c t : ℕ) (x : Told) (found : Option Contents) (older : List Call) → Extends older (with_call c t x found older)
+call_adds : (c t : ℕ) (x : Told) (found : Option Contents) (older : List Call)
+    → Extends older (with_call c t x found older)
 call_adds c t (Did s number moves.Nothing) found older = ([], refl)
 call_adds c t (Did s number (moves.Found d contents)) found older = ([], refl)
 call_adds c t (Did s number (moves.Put d put)) found older = by_test (d == c)
@@ -123,44 +141,53 @@ extends_on old mid new first second =
 pub later_extends : (later run : Run) (c : ℕ) → Extends (history_of c run) (history_of c (later ++ run))
 later_extends [] run c = ([], refl)
 later_extends (x ∷ later) run c =
-    extends_on (history_of c run) (history_of c (later ++ run)) (history_of c (x ∷ (later ++ run))) (later_extends later run c)
+    extends_on (history_of c run) (history_of c (later ++ run)) (history_of c (x ∷ (later ++ run)))
+    (later_extends later run c)
     (call_adds c x.0 x.1 (contents_locked (own_of x.0 (later ++ run))) (history_of c (later ++ run)))
 
 front_sequential : (c : ℕ) (more older : List Call) → IsSequential c (more ++ older) → IsSequential c older
 front_sequential c [] older is = is
 front_sequential c (call ∷ more) older is = front_sequential c more older is.0
 
-pub fronts_sequential : (c : ℕ) (older newer : List Call) → Extends older newer → IsSequential c newer → IsSequential c older
+pub fronts_sequential : (c : ℕ) (older newer : List Call) → Extends older newer → IsSequential c newer
+    → IsSequential c older
 fronts_sequential c older newer extends is = front_sequential c extends.0 older (subst (IsSequential c) extends.1 is)
 
 -- ---- a thread's own calls
 
 -- its own call joins its calls
-mine_joins : (c t : ℕ) (x : Told) (found : Option Contents) (older : List Call) → calls_of t (with_call c t x found older) ≡ with_call c t x found (calls_of t older)
+mine_joins : (c t : ℕ) (x : Told) (found : Option Contents) (older : List Call)
+    → calls_of t (with_call c t x found older) ≡ with_call c t x found (calls_of t older)
 mine_joins c t (Did s number moves.Nothing) found older = refl
 mine_joins c t (Did s number (moves.Found d contents)) found older = refl
 mine_joins c t (Did s number (moves.Put d put)) found older = by_test (d == c)
   where
     by_step : (s : Step) → calls_of t (with_step t s found put older) ≡ with_step t s found put (calls_of t older)
-    by_step (Birth e kind k) = ap (λ b. if b then Bears t put ∷ calls_of t older else calls_of t older) (eq-eqb t t refl)
-    by_step (Unlock change) = ap (λ b. if b then Changes t change found put ∷ calls_of t older else calls_of t older) (eq-eqb t t refl)
+    by_step (Birth e kind k) = ap (λ b. if b then Bears t put ∷ calls_of t older else calls_of t older)
+        (eq-eqb t t refl)
+    by_step (Unlock change) = ap (λ b. if b then Changes t change found put ∷ calls_of t older else calls_of t older)
+        (eq-eqb t t refl)
     by_step _ = refl
 
-    by_test : (here : Bool) → calls_of t (if here then with_step t s found put older else older) ≡ (if here then with_step t s found put (calls_of t older) else calls_of t older)
+    by_test : (here : Bool) → calls_of t (if here then with_step t s found put older else older)
+        ≡ (if here then with_step t s found put (calls_of t older) else calls_of t older)
     by_test true = by_step s
     by_test false = refl
 mine_joins c t (Saw word number) found older = refl
 mine_joins c t (Lost word number) found older = refl
 
 -- another's doesn't
-other_passes : (c t u : ℕ) (x : Told) (found : Option Contents) (older : List Call) → u ≢ t → calls_of t (with_call c u x found older) ≡ calls_of t older
+other_passes : (c t u : ℕ) (x : Told) (found : Option Contents) (older : List Call) → u ≢ t
+    → calls_of t (with_call c u x found older) ≡ calls_of t older
 other_passes c t u (Did s number moves.Nothing) found older apart = refl
 other_passes c t u (Did s number (moves.Found d contents)) found older apart = refl
 other_passes c t u (Did s number (moves.Put d put)) found older apart = by_test (d == c)
   where
     by_step : (s : Step) → calls_of t (with_step u s found put older) ≡ calls_of t older
-    by_step (Birth e kind k) = ap (λ b. if b then Bears u put ∷ calls_of t older else calls_of t older) (ne_eqb u t apart)
-    by_step (Unlock change) = ap (λ b. if b then Changes u change found put ∷ calls_of t older else calls_of t older) (ne_eqb u t apart)
+    by_step (Birth e kind k) = ap (λ b. if b then Bears u put ∷ calls_of t older else calls_of t older)
+        (ne_eqb u t apart)
+    by_step (Unlock change) = ap (λ b. if b then Changes u change found put ∷ calls_of t older else calls_of t older)
+        (ne_eqb u t apart)
     by_step _ = refl
 
     by_test : (here : Bool) → calls_of t (if here then with_step u s found put older else older) ≡ calls_of t older
@@ -172,27 +199,33 @@ other_passes c t u (Lost word number) found older apart = refl
 module _ (n limit : ℕ) where
   -- ---- who isn't registered yet has called nothing
 
-  rows_before : (run : Run) (t : ℕ) (x : Told) → length (world n limit run).rows ≤ length (world n limit ((t, x) ∷ run)).rows
+  rows_before : (run : Run) (t : ℕ) (x : Told)
+      → length (world n limit run).rows ≤ length (world n limit ((t, x) ∷ run)).rows
   rows_before run t (Did s number moved) = event_rows (world n limit run) (record { thread = t; step = s })
   rows_before run t (Saw word number) = omega arith
   rows_before run t (Lost word number) = omega arith
 
   -- nobody but a registered thread makes a step that is a call
-  stranger_passes : (run : Run) (c t : ℕ) (x : Told) (found : Option Contents) (older : List Call) → IsLegal n limit ((t, x) ∷ run) → 0 < t
+  stranger_passes : (run : Run) (c t : ℕ) (x : Told) (found : Option Contents) (older : List Call)
+      → IsLegal n limit ((t, x) ∷ run) → 0 < t
       → length (world n limit run).rows ≤ t → with_call c t x found older ≡ older
   stranger_passes run c t (Did s number moved) found older legal some_thread outside =
-      let ok : (if t == 0 then root_may (world n limit run) s else thread_may (world n limit run) t s) ≡ true = legal.items.1.0 in
+      let ok : (if t == 0 then root_may (world n limit run) s else thread_may (world n limit run) t s) ≡ true =
+      legal.items.1.0 in
       let may = may_parts (world n limit run) t s
-      (subst (λ b. (if b then root_may (world n limit run) s else thread_may (world n limit run) t s) ≡ true) (ne_eqb t 0 (λ e. omega (arith, e, some_thread))) ok) in
+      (subst (λ b. (if b then root_may (world n limit run) s else thread_may (world n limit run) t s) ≡ true)
+      (ne_eqb t 0 (λ e. omega (arith, e, some_thread))) ok) in
       absurd (omega (arith, may.inside, outside))
   stranger_passes run c t (Saw word number) found older legal some_thread outside = refl
   stranger_passes run c t (Lost word number) found older legal some_thread outside = refl
 
-  none_before : (run : Run) (c t : ℕ) → IsLegal n limit run → 0 < t → length (world n limit run).rows ≤ t → calls_of t (history_of c run) ≡ []
+  none_before : (run : Run) (c t : ℕ) → IsLegal n limit run → 0 < t → length (world n limit run).rows ≤ t
+      → calls_of t (history_of c run) ≡ []
   none_before [] c t legal some_thread outside = refl
   none_before (x ∷ run) c t legal some_thread outside =
       let still : length (world n limit run).rows ≤ t = omega (arith, rows_before run x.0 x.1, outside) in
-      let before : calls_of t (history_of c run) ≡ [] = none_before run c t (older_legal n limit x run legal) some_thread still in
+      let before : calls_of t (history_of c run) ≡ [] = none_before run c t (older_legal n limit x run legal)
+      some_thread still in
       elim (cases_eq x.0 t) [
         | inl mine ↦
             ap (calls_of t) (stranger_passes run c x.0 x.1 (contents_locked (own_of x.0 run)) (history_of c run) legal
@@ -203,51 +236,64 @@ module _ (n limit : ℕ) where
   -- ---- the calls of one thread
 
   -- in the first edition the next number is registered
-  next_number : (run : Run) (v : ℕ) → root_may (world n limit run) (Register v) ≡ true → v ≡ length (world n limit run).rows
+  next_number : (run : Run) (v : ℕ) → root_may (world n limit run) (Register v) ≡ true
+      → v ≡ length (world n limit run).rows
   next_number run v may =
       let h : Heap = world n limit run in
-      let number : number_ok h.edition h v ≡ true = (and_parts (number_ok h.edition h v) (nat_le v MOST_THREADS) may).0 in
-      eqb-true v (length h.rows) (subst (λ e. number_ok e h v ≡ true) (run_edition (opening n limit) (events_of (items_of run))) number)
+      let number : number_ok h.edition h v ≡ true =
+      (and_parts (number_ok h.edition h v) (nat_le v MOST_THREADS) may).0 in
+      eqb-true v (length h.rows)
+      (subst (λ e. number_ok e h v ≡ true) (run_edition (opening n limit) (events_of (items_of run))) number)
 
   -- a thread is registered once, when as many were before it
-  starts_last : (run : Run) (c t u : ℕ) (x : Told) (found : Option Contents) (older : List Call) → IsLegal n limit ((u, x) ∷ run) → is_start t (item_of x) ≡ true
+  starts_last : (run : Run) (c t u : ℕ) (x : Told) (found : Option Contents) (older : List Call)
+      → IsLegal n limit ((u, x) ∷ run) → is_start t (item_of x) ≡ true
       → (length (world n limit run).rows ≡ t) × (with_call c u x found older ≡ older)
-  starts_last run c t u (Did (Register v) number moved) found older legal starts = (rows u legal.items.1.0, passes moved legal.moved.1)
+  starts_last run c t u (Did (Register v) number moved) found older legal starts =
+      (rows u legal.items.1.0, passes moved legal.moved.1)
     where
-      passes : (moved : Moved) → MovesWith (world n limit run) run u (Register v) moved → with_call c u (Did (Register v) number moved) found older ≡ older
+      passes : (moved : Moved) → MovesWith (world n limit run) run u (Register v) moved
+          → with_call c u (Did (Register v) number moved) found older ≡ older
       passes moves.Nothing goes = refl
       passes (moves.Found d contents) goes = refl
       passes (moves.Put d put) goes = absurd (none_some d goes.cell)
 
-      rows : (u : ℕ) → enabled (world n limit run) (record { thread = u; step = Register v }) ≡ true → length (world n limit run).rows ≡ t
+      rows : (u : ℕ) → enabled (world n limit run) (record { thread = u; step = Register v }) ≡ true
+          → length (world n limit run).rows ≡ t
       rows zero on = sym (next_number run v on) ∙ eqb-true v t starts
       rows (suc u) on =
           let h : Heap = world n limit run in
-          let may : thread_may h (suc u) (Register v) ≡ true = subst (λ b. (if b then root_may h (Register v) else thread_may h (suc u) (Register v)) ≡ true)
+          let may : thread_may h (suc u) (Register v) ≡ true =
+          subst (λ b. (if b then root_may h (Register v) else thread_may h (suc u) (Register v)) ≡ true)
           (ne_eqb (suc u) 0 (λ e. omega (arith, e))) on in
           absurd (true≢false (sym (may_parts h (suc u) (Register v) may).hand))
   starts_last run c t u (Saw word number) found older legal starts = absurd (true≢false (sym starts))
   starts_last run c t u (Lost word number) found older legal starts = absurd (true≢false (sym starts))
   starts_last run c t u (Did _ number moved) found older legal starts = absurd (true≢false (sym starts))
 
-  pub own_calls : (run : Run) (c t : ℕ) → IsLegal n limit run → 0 < t → calls_of t (history_of c run) ≡ own_history c t (own_of t run)
+  pub own_calls : (run : Run) (c t : ℕ) → IsLegal n limit run → 0 < t → calls_of t (history_of c run) ≡ own_history c t
+      (own_of t run)
   own_calls [] c t legal some_thread = refl
   own_calls (x ∷ run) c t legal some_thread =
       let found : Option Contents = contents_locked (own_of x.0 run) in
       let older : IsLegal n limit run = older_legal n limit x run legal in
-      let before : calls_of t (history_of c run) ≡ own_history c t (own_of t run) = own_calls run c t older some_thread in
+      let before : calls_of t (history_of c run) ≡ own_history c t (own_of t run) =
+      own_calls run c t older some_thread in
       elim (cases_Bool (is_start t (item_of x.1))) [
         | inl starts ↦
             let last = starts_last run c t x.0 x.1 found (history_of c run) legal starts in
             ap (calls_of t) last.1 ∙ none_before run c t older some_thread (omega (arith, last.0))
-            ∙ sym (ap (λ b. own_history c t (if b then [] else (if x.0 == t then x.1 ∷ own_of t run else own_of t run))) starts)
+            ∙ sym (ap (λ b. own_history c t
+            (if b then [] else (if x.0 == t then x.1 ∷ own_of t run else own_of t run))) starts)
         | inr goes_on ↦ elim (cases_eq x.0 t) [
           | inl mine ↦
-              subst (λ u. calls_of t (with_call c u x.1 (contents_locked (own_of u run)) (history_of c run)) ≡ own_history c t (own_of t ((u, x.1) ∷ run))) (sym mine)
+              subst (λ u. calls_of t (with_call c u x.1 (contents_locked (own_of u run)) (history_of c run))
+              ≡ own_history c t (own_of t ((u, x.1) ∷ run))) (sym mine)
               (mine_joins c t x.1 (contents_locked (own_of t run)) (history_of c run)
               ∙ ap (with_call c t x.1 (contents_locked (own_of t run))) before
               ∙ sym (ap (own_history c t) (own_more t x.1 run goes_on)))
           | inr other ↦
-              other_passes c t x.0 x.1 found (history_of c run) other ∙ before ∙ sym (ap (own_history c t) (own_same x.0 t x.1 run goes_on other))
+              other_passes c t x.0 x.1 found (history_of c run) other ∙ before
+              ∙ sym (ap (own_history c t) (own_same x.0 t x.1 run goes_on other))
         ]
       ]

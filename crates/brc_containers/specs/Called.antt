@@ -1,6 +1,7 @@
--- What a call on an object says of its result: what was done, and what a refusal leaves. Each is said over the frame that the
--- locking began from: of a form with `try_` the one before the call, of one that waits the one after its lost tries. Which handles
--- the frame has then stands beside it in each contract, over the frames before and after the call (`brc_count`, `specs/Owned.antt`).
+-- What a call on an object says of its result: what was done, and what a refusal leaves. Each is said over the frame
+-- that the locking began from: of a form with `try_` the one before the call, of one that waits the one after its lost
+-- tries. Which handles the frame has then stands beside it in each contract, over the frames before and after the call
+-- (`brc_count`, `specs/Owned.antt`).
 use Rattle.std.specs.Prelude.{ℕ, Result, IfOk, IfErr, OnErr}
 use Rattle.brc_words.specs.declared.fault.Fault.{Fault}
 use Rattle.brc_count.specs.declared.handed.Handed.{Handed}
@@ -14,24 +15,27 @@ module _ {A : Type 0} where
   abbrev pub Late : FrameSeen A → ℕ → (FrameSeen A → Type 0) → Type 0
   Late old k done = (mid : FrameSeen A) × Waits old k mid × done mid
 
-  -- A call that looks at one object. The answer says this of what was found; or the call was refused, and why. The frame is as it
-  -- was.
-  pub record Looked {T : Type 0} (old new : FrameSeen A) (told : T → Type 0) (why : Fault → Type 0) (result : Result T Fault) : Type 0 where
+  -- A call that looks at one object. The answer says this of what was found; or the call was refused, and why. The
+  -- frame is as it was.
+  pub record Looked {T : Type 0} (old new : FrameSeen A) (told : T → Type 0) (why : Fault → Type 0)
+      (result : Result T Fault) : Type 0 where
     pub thread : KeepsThread old new
     pub frame : KeepsFrame old new
     pub found : IfOk result told
     pub refused : IfErr result why
 
-  -- A call that answers a handle, or one with what it was found by. This was done; or the call was refused, and why, and every
-  -- place is as it was.
-  pub record HandsOut {T : Type 0} (old new : FrameSeen A) (done : T → Type 0) (why : Fault → Type 0) (result : Result T Fault) : Type 0 where
+  -- A call that answers a handle, or one with what it was found by. This was done; or the call was refused, and why,
+  -- and every place is as it was.
+  pub record HandsOut {T : Type 0} (old new : FrameSeen A) (done : T → Type 0) (why : Fault → Type 0)
+      (result : Result T Fault) : Type 0 where
     pub thread : KeepsThread old new
     pub did : IfOk result done
     pub places : OnErr result (KeepsPlaces old new)
     pub refused : IfErr result why
 
   -- A call that a value is given to. This was done; or the call was refused, and why, and the frame is as it was.
-  pub record TakesIn {T V : Type 0} (old new : FrameSeen A) (done : T → Type 0) (why : Fault → Type 0) (result : Result T (Handed V)) : Type 0 where
+  pub record TakesIn {T V : Type 0} (old new : FrameSeen A) (done : T → Type 0) (why : Fault → Type 0)
+      (result : Result T (Handed V)) : Type 0 where
     pub thread : KeepsThread old new
     pub did : IfOk result done
     pub frame : OnErr result (KeepsFrame old new)

@@ -1,5 +1,6 @@
--- What a call that changes an object, or takes a reference out of it, does to a frame. Each is a locking, at most one step on
--- an entry, and an unlocking. What it found, and what it put home, are told, and the answer is that of a call on plain data.
+-- What a call that changes an object, or takes a reference out of it, does to a frame. Each is a locking, at most one
+-- step on an entry, and an unlocking. What it found, and what it put home, are told, and the answer is that of a call
+-- on plain data.
 use Rattle.std.specs.Prelude.{◌≡◌, ℕ, ◌+◌, ◌∷◌, Some, None, Result, Ok, Err, is_ok, true, slice_get}
 use Rattle.brc_words.specs.declared.fault.Fault.{Fault}
 use Rattle.brc_words.specs.declared.fault.Fault.TheVariants as faults
@@ -19,12 +20,14 @@ abbrev pub PlainCall : Type 0 → Type 0
 PlainCall R = Contents → Result (R × Contents) Fault
 
 module _ {A : Type 0} where
-  -- The object in the place was locked, found with these contents, and put home with those; its unlocking moved a reference
-  -- as the change says. Nothing else was done.
-  pub record Changes (old new : FrameSeen A) (k : ℕ) (found : Contents) (change : Change) (put : Contents) : Type 0 where
+  -- The object in the place was locked, found with these contents, and put home with those; its unlocking moved a
+  -- reference as the change says. Nothing else was done.
+  pub record Changes (old new : FrameSeen A) (k : ℕ) (found : Contents) (change : Change)
+      (put : Contents) : Type 0 where
     pub cell : ℕ
     pub of_place : cell_in old k ≡ Some cell
-    pub events : new.seat.log ≡ Did (Unlock change) 0 (moves.Put cell put) ∷ Did (Lock k) 0 (moves.Found cell found) ∷ old.seat.log
+    pub events : new.seat.log ≡ Did (Unlock change) 0 (moves.Put cell put) ∷ Did (Lock k) 0 (moves.Found cell found)
+        ∷ old.seat.log
     pub unlocked : IsUnlocked new
     pub keeps : KeepsThread old new
 
@@ -48,7 +51,8 @@ module _ {A R : Type 0} where
     pub places : ChangesPlace old new v None
     pub len : new.len + 1 ≡ old.len
 
-  -- The reference of the handle in place v and that of an entry were exchanged, by the plain call, which answers the entry.
+  -- The reference of the handle in place v and that of an entry were exchanged, by the plain call, which answers the
+  -- entry.
   pub record Swaps (old new : FrameSeen A) (k v : ℕ) (call : ℕ → PlainCall R) (answer : ℕ → R) : Type 0 where
     pub value : ℕ
     pub of_value : cell_in old v ≡ Some value
@@ -79,8 +83,8 @@ module _ {A : Type 0} where
     pub places : ChangesPlace old new given.place (Some entry)
     pub len : new.len ≡ old.len + 1
 
-  -- The new handle has a reference to an entry, counted up in one event while the object was locked; it was unlocked as it
-  -- was found. The plain call answers the entry.
+  -- The new handle has a reference to an entry, counted up in one event while the object was locked; it was unlocked as
+  -- it was found. The plain call answers the entry.
   pub record Shares (old new : FrameSeen A) (k : ℕ) (call : PlainCall ℕ) (given : HandleSeen) : Type 0 where
     pub found : Contents
     pub index : ℕ
@@ -110,8 +114,8 @@ module _ {A R : Type 0} where
     pub looks : Changes old new k found Keep found
     pub plain : call found ≡ Err fault
 
-  -- The object was looked at, and unlocked as it was found. The plain call would have succeeded, but memory was missing, or a
-  -- place.
+  -- The object was looked at, and unlocked as it was found. The plain call would have succeeded, but memory was
+  -- missing, or a place.
   pub record RefusedForWant (old new : FrameSeen A) (k : ℕ) (call : PlainCall R) : Type 0 where
     pub found : Contents
     pub looks : Changes old new k found Keep found
@@ -122,8 +126,8 @@ module _ {A R : Type 0} where
   RefusedCall old new k call faults.Busy = Busy old new k
   RefusedCall old new k call fault = RefusedPlainly old new k call fault
 
-  -- Why a call is refused that may want memory for an entry: Busy comes first, what the plain call says next, and want of
-  -- memory last.
+  -- Why a call is refused that may want memory for an entry: Busy comes first, what the plain call says next, and want
+  -- of memory last.
   abbrev pub RefusedEntry : FrameSeen A → FrameSeen A → ℕ → PlainCall R → Fault → Type 0
   RefusedEntry old new k call faults.Busy = Busy old new k
   RefusedEntry old new k call faults.OutOfMemory = RefusedForWant old new k call

@@ -12,8 +12,8 @@ use Rattle.law_rule.specs.Seen.{contents_locked}
 
 -- ---- histories
 
--- A thread bore an object, and put these contents home; or it made a change to one and unlocked it: its own locking had found
--- the first contents, and it put the second home.
+-- A thread bore an object, and put these contents home; or it made a change to one and unlocked it: its own locking had
+-- found the first contents, and it put the second home.
 pub data Call : Type 0 where
   Bears : ℕ → Contents → Call
   Changes : ℕ → Change → Option Contents → Contents → Call
@@ -28,13 +28,14 @@ abbrev pub put_home : Call → Contents
 put_home (Bears t put) = put
 put_home (Changes t change found put) = put
 
--- what stands in a cell after these calls, newest first: what the last one put home; before the first, what the heap opens with
+-- what stands in a cell after these calls, newest first: what the last one put home; before the first, what the heap
+-- opens with
 abbrev pub left_by : ℕ → List Call → Contents
 left_by c [] = opening_contents c
 left_by c (call ∷ older) = put_home call
 
--- The call may come next where these contents stand: a birth always; a change if its locking found just these contents, and one
--- that keeps puts them home again.
+-- The call may come next where these contents stand: a birth always; a change if its locking found just these contents,
+-- and one that keeps puts them home again.
 abbrev pub Follows : Call → Contents → Type 0
 Follows (Bears t put) before = Unit {0}
 Follows (Changes t change found put) before = (found ≡ Some before) × (keeps (Unlock change) ≡ true → put ≡ before)
@@ -57,8 +58,8 @@ abbrev pub with_call : ℕ → ℕ → Told → Option Contents → List Call �
 with_call c t (Did s number (Put d put)) found older = if d == c then with_step t s found put older else older
 with_call c t x found older = older
 
--- The calls on the cell's objects, of all threads, newest first: each stands where it was born or unlocked in the run, with what
--- the thread's own locking had found.
+-- The calls on the cell's objects, of all threads, newest first: each stands where it was born or unlocked in the run,
+-- with what the thread's own locking had found.
 abbrev pub history_of : ℕ → Run → List Call
 history_of c [] = []
 history_of c (x ∷ run) = with_call c x.0 x.1 (contents_locked (own_of x.0 run)) (history_of c run)

@@ -33,10 +33,11 @@ module _ {A : Type 0} where
   pub record LooksAt (old new : FrameSeen A) (k : ℕ) (found : Contents) : Type 0 where
     pub cell : ℕ
     pub of_place : cell_in old k ≡ Some cell
-    pub events : new.seat.log ≡ Did (Unlock Keep) 0 (moves.Put cell found) ∷ Did (Lock k) 0 (moves.Found cell found) ∷ old.seat.log
+    pub events : new.seat.log ≡ Did (Unlock Keep) 0 (moves.Put cell found) ∷ Did (Lock k) 0 (moves.Found cell found)
+        ∷ old.seat.log
 
-  -- A call was refused: the object is locked by another thread, and nothing was done but to find that out; it was looked at,
-  -- and is of a kind that the call isn't for; or it was looked at, and memory for the answer was missing.
+  -- A call was refused: the object is locked by another thread, and nothing was done but to find that out; it was
+  -- looked at, and is of a kind that the call isn't for; or it was looked at, and memory for the answer was missing.
   abbrev pub RefusedLook : FrameSeen A → FrameSeen A → ℕ → (Contents → Type 0) → Fault → Type 0
   RefusedLook old new k fits faults.Busy = Busy old new k
   RefusedLook old new k fits faults.WrongKind = (found : Contents) × LooksAt old new k found × (fits found → ⊥)
@@ -58,25 +59,31 @@ module _ {A : Type 0} where
   -- how many entries the container in the place has
   abbrev pub LenOf : FrameSeen A → FrameSeen A → ℕ → Result ℕ Fault → Type 0
   LenOf old new k result =
-      Looked old new (λ len. (found : Contents) × LooksAt old new k found × IsContainer found × (length (entries_in found) ≡ len))
+      Looked old new (λ len. (found : Contents) × LooksAt old new k found × IsContainer found
+      × (length (entries_in found) ≡ len))
       (RefusedLook old new k IsContainer) result
 
   -- the number of the integer in the place
   abbrev pub IntOf : FrameSeen A → FrameSeen A → ℕ → Result ℤ Fault → Type 0
-  IntOf old new k result = Looked old new (λ number. LooksAt old new k (contents.Int number)) (RefusedLook old new k IsInt) result
+  IntOf old new k result = Looked old new (λ number. LooksAt old new k (contents.Int number))
+      (RefusedLook old new k IsInt) result
 
   -- the text in the place, of which memory for a copy may be missing
   abbrev pub TextOf : FrameSeen A → FrameSeen A → ℕ → Result (List ℕ) Fault → Type 0
-  TextOf old new k result = Looked old new (λ text. LooksAt old new k (contents.Text text)) (RefusedCopy old new k IsText) result
+  TextOf old new k result = Looked old new (λ text. LooksAt old new k (contents.Text text))
+      (RefusedCopy old new k IsText) result
 
   -- the same of a call that puts a text into a buffer, and wants memory only where the buffer has no room for it
   abbrev pub RefusedInto : {B : Type 0} → FrameSeen A → FrameSeen A → ℕ → String B → Fault → Type 0
   RefusedInto old new k buffer faults.OutOfMemory =
-      (text : List ℕ) × LooksAt old new k (contents.Text text) × (string_capacity buffer < string_len buffer + length text)
+      (text : List ℕ) × LooksAt old new k (contents.Text text)
+      × (string_capacity buffer < string_len buffer + length text)
   RefusedInto old new k buffer fault = RefusedLook old new k IsText fault
 
   -- the text in the place, after the bytes of a buffer that was `had` and is `has`
-  abbrev pub TextInto : {B : Type 0} → FrameSeen A → FrameSeen A → ℕ → String B → String B → Result (Unit {0}) Fault → Type 0
+  abbrev pub TextInto : {B : Type 0} → FrameSeen A → FrameSeen A → ℕ → String B → String B
+      → Result (Unit {0}) Fault → Type 0
   TextInto old new k had has result =
-      Looked old new (λ done. (text : List ℕ) × LooksAt old new k (contents.Text text) × (string_bytes has ≡ string_bytes had ++ text))
+      Looked old new (λ done. (text : List ℕ) × LooksAt old new k (contents.Text text)
+      × (string_bytes has ≡ string_bytes had ++ text))
       (RefusedInto old new k had) result

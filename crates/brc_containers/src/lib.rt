@@ -1,8 +1,9 @@
 //! What objects are and hold, read and changed under their locks, over a frame.
 //!
-//! Each call is a locking, at most one step on an entry, and an unlocking; its answer is that of plain data on what the locking
-//! found (`specs/Looking.antt`). The forms with `try_` never wait: an object that another thread has locked is Busy. The
-//! others try again, and hold nothing while they do. What a call does is one definition, which both its forms cite.
+//! Each call is a locking, at most one step on an entry, and an unlocking; its answer is that of plain data on what the
+//! locking found (`specs/Looking.antt`). The forms with `try_` never wait: an object that another thread has locked is
+//! Busy. The others try again, and hold nothing while they do. What a call does is one definition, which both its forms
+//! cite.
 #![tactic(auto)]
 
 mod laws;

@@ -31,8 +31,8 @@ pub fn try_kind_of<H: Home<A>, A: Allocator>(
     Ok(kind)
 }
 
-/// How many entries a list, a dictionary or a mailbox has. Busy where another thread has it locked, then WrongKind where the
-/// object is no container.
+/// How many entries a list, a dictionary or a mailbox has. Busy where another thread has it locked, then WrongKind
+/// where the object is no container.
 pub fn try_len_of<H: Home<A>, A: Allocator>(
     frame: &mut Frame<H, A>,
     handle: &Handle<A>,
@@ -76,7 +76,8 @@ pub fn try_int_of<H: Home<A>, A: Allocator>(
     }
 }
 
-/// A copy of a text. Busy where another thread has the object locked, then WrongKind where it is no text, then OutOfMemory.
+/// A copy of a text. Busy where another thread has the object locked, then WrongKind where it is no text, then
+/// OutOfMemory.
 pub fn try_text_of<H: Home<A>, A: Allocator>(
     alloc: A,
     frame: &mut Frame<H, A>,
@@ -103,8 +104,9 @@ pub fn try_text_of<H: Home<A>, A: Allocator>(
     }
 }
 
-/// A text, into a buffer of the caller's, behind what it has. Busy where another thread has the object locked, then WrongKind where it
-/// is no text, then OutOfMemory, where the buffer had no room for it; a refusal leaves the buffer's bytes as they were.
+/// A text, into a buffer of the caller's, behind what it has. Busy where another thread has the object locked, then
+/// WrongKind where it is no text, then OutOfMemory, where the buffer had no room for it; a refusal leaves the buffer's
+/// bytes as they were.
 pub fn try_text_into<H: Home<A>, A: Allocator, B: Allocator>(
     frame: &mut Frame<H, A>,
     handle: &Handle<A>,

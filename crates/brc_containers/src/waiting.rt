@@ -1,5 +1,6 @@
-//! The forms that wait: they try again until the object isn't locked by another thread. What each does then is what its form with
-//! `try_` does, from the frame that the lost tries left, which have changed nothing (`laws::lost_tries_change_nothing`).
+//! The forms that wait: they try again until the object isn't locked by another thread. What each does then is what its
+//! form with `try_` does, from the frame that the lost tries left, which have changed nothing
+//! (`laws::lost_tries_change_nothing`).
 
 ghost use Rattle.std.specs.Prelude.{◌≡◌, ◌≢◌, Ok, IfErr, OnErr};
 ghost use Rattle.std.specs.String.{string_bytes};
@@ -35,8 +36,8 @@ pub fn kind_of<H: Home<A>, A: Allocator>(
     kind
 }
 
-/// How many entries a list, a dictionary or a mailbox has; WrongKind where the object is no container. It waits while another
-/// thread has it locked.
+/// How many entries a list, a dictionary or a mailbox has; WrongKind where the object is no container. It waits while
+/// another thread has it locked.
 pub fn len_of<H: Home<A>, A: Allocator>(
     rt: &impl Wait,
     frame: &mut Frame<H, A>,
@@ -107,8 +108,9 @@ pub fn text_of<H: Home<A>, A: Allocator>(
     }
 }
 
-/// A text, into a buffer of the caller's, behind what it has; WrongKind where the object is none, then OutOfMemory, where the buffer had
-/// no room for it. A refusal leaves the buffer's bytes as they were. It waits while another thread has the object locked.
+/// A text, into a buffer of the caller's, behind what it has; WrongKind where the object is none, then OutOfMemory,
+/// where the buffer had no room for it. A refusal leaves the buffer's bytes as they were. It waits while another thread
+/// has the object locked.
 pub fn text_into<H: Home<A>, A: Allocator, B: Allocator>(
     rt: &impl Wait,
     frame: &mut Frame<H, A>,

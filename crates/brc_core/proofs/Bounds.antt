@@ -1,7 +1,9 @@
 -- How large the numbers of a reached world get.
-use Rattle.std.proofs.Common.{◌≡◌, ℕ, ◌<◌, ◌≤◌, ◌^◌, List, [], ◌∷◌, length, drop, sum_by, count_by, cond, pos, ◌+◌, true, false, refl, sym, subst, inl, inr, arith, length-drop}
+use Rattle.std.proofs.Common.{◌≡◌, ℕ, ◌<◌, ◌≤◌, ◌^◌, List, [], ◌∷◌, length, drop, sum_by, count_by, cond, pos, ◌+◌}
+use Rattle.std.proofs.Common.{true, false, refl, sym, subst, inl, inr, arith, length-drop}
 use Rattle.std.proofs.lemmas.List.Sums.{sum_by-cons, count_by-le-length}
-use Rattle.brc_words.specs.declared.limits.TheConstants.{FIRST_MORTAL, MOST_CELLS, MOST_ENTRIES, MOST_PLACES, MOST_THREADS, MOST_REGISTRATIONS}
+use Rattle.brc_words.specs.declared.limits.TheConstants.{FIRST_MORTAL, MOST_CELLS, MOST_ENTRIES, MOST_PLACES}
+use Rattle.brc_words.specs.declared.limits.TheConstants.{MOST_THREADS, MOST_REGISTRATIONS}
 use Rattle.law_world.proofs.Sizes.{reached_births, reached_entries}
 use Rattle.law_world.proofs.Reached.{reached_sound, reached_headline}
 use Rattle.law_world.proofs.Headlines.{sums_fit, past_fits}
@@ -55,21 +57,30 @@ pub past_frees_fit : (h : Heap) → IsReached h → (t : ℕ) → h.past_frees +
 past_frees_fit h reached t = (past_fits h (reached_sound h reached) t).1
 
 -- one more registration can be counted
-pub registers_few : (h : Heap) (e : Event) → IsReached h → enabled h e ≡ true → (u : ℕ) → e.step ≡ Register u → h.registrations < MOST_REGISTRATIONS
+pub registers_few : (h : Heap) (e : Event) → IsReached h → enabled h e ≡ true → (u : ℕ) → e.step ≡ Register u
+    → h.registrations < MOST_REGISTRATIONS
 registers_few h e reached ok u is = elim (by_whom h e ok) [
   | inl root ↦ elim (registers h u (reached_sound h reached) (subst (λ s. root_may h s ≡ true) is root.may)) [
     | fresh new most few leads ↦ few
     | reused v few leads ↦ few
   ]
-  | inr thread ↦ absurd (true≢false (sym (may_parts h e.thread (Register u) (subst (λ s. thread_may h e.thread s ≡ true) is thread.may)).hand))
+  | inr thread ↦ absurd (true≢false
+      (sym (may_parts h e.thread (Register u) (subst (λ s. thread_may h e.thread s ≡ true) is thread.may)).hand))
 ]
 
-pub references : (h : Heap) → IsReached h → (c : ℕ) → lives_at h c ≡ true → total_of (cell_at h c) ≡ pos (length (holders_of h c))
+pub references : (h : Heap) → IsReached h → (c : ℕ) → lives_at h c ≡ true
+    → total_of (cell_at h c) ≡ pos (length (holders_of h c))
 references h reached c lives = (reached_headline h reached).counted c lives
 
 -- live objects, counted one way or the other
 pub live-count_by : (cells : List Cell) → count_by (λ x. lives x.owner) cells ≡ sum_by (λ x. one (lives x.owner)) cells
-live-count_by cells = sum_by-same (λ x. cond (lives x.owner) 1 0) (λ x. one (lives x.owner)) (λ x. elim (lives x.owner) as (λ b. cond b 1 0 ≡ one b) [ true ↦ refl | false ↦ refl ]) cells
+live-count_by cells = sum_by-same (λ x. cond (lives x.owner) 1 0) (λ x. one (lives x.owner))
+    (λ x. elim (lives x.owner) as (λ b. cond b 1 0 ≡ one b) [ true ↦ refl | false ↦ refl ]) cells
 
 pub live_fits : (h : Heap) → IsReached h → count_by (λ x. lives x.owner) (drop FIRST_MORTAL h.cells) ≤ MOST_CELLS
-live_fits h reached = omega (arith, count_by-le-length (λ (x : Cell). lives x.owner) (drop FIRST_MORTAL h.cells), length-drop FIRST_MORTAL h.cells, cells_fit h reached)
+live_fits h reached = omega (
+  arith,
+  count_by-le-length (λ (x : Cell). lives x.owner) (drop FIRST_MORTAL h.cells),
+  length-drop FIRST_MORTAL h.cells,
+  cells_fit h reached,
+)

@@ -7,4 +7,5 @@ use Rattle.law_world.proofs.Reached.{reached_sound}
 use Rattle.brc_state.specs.Closers.{ClosersHaveLeft}
 
 pub reached_closers : (h : Heap) → IsReached h → ClosersHaveLeft h
-reached_closers h reached = record { seen_to = λ t n closing. closing_leaves h.edition h t n (reached_sound h reached) refl closing }
+reached_closers h reached =
+    record { seen_to = λ t n closing. closing_leaves h.edition h t n (reached_sound h reached) refl closing }

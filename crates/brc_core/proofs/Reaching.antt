@@ -6,7 +6,8 @@ use Rattle.law_world.specs.Heap.{Heap, opening_in, AreOptions}
 use Rattle.law_world.specs.Steps.{enabled, after}
 use Rattle.law_world.specs.Runs.{IsReached}
 
-pub reached_opening : (edition : Edition) (cells limit : ℕ) → AreOptions cells limit → IsReached (opening_in edition cells limit)
+pub reached_opening : (edition : Edition) (cells limit : ℕ) → AreOptions cells limit
+    → IsReached (opening_in edition cells limit)
 reached_opening edition cells limit options = record {
   edition = edition;
   cells = cells;

@@ -1,5 +1,6 @@
 -- One turn of a replay: the events so far are a run to the world, and stay so with one more that is enabled.
-use Rattle.std.proofs.Common.{◌≡◌, ℕ, ◌+◌, ◌<◌, ◌≤◌, true, false, List, [], ◌∷◌, length, take, reverse, get_or, Result, Ok, Err, OnOk, sym, subst, ap, ◌∙◌}
+use Rattle.std.proofs.Common.{◌≡◌, ℕ, ◌+◌, ◌<◌, ◌≤◌, true, false, List, [], ◌∷◌, length, take, reverse, get_or, Result}
+use Rattle.std.proofs.Common.{Ok, Err, OnOk, sym, subst, ap, ◌∙◌}
 use Rattle.std.proofs.lemmas.List.{take_more, reverse-append, take_all}
 use Rattle.std.proofs.lemmas.Option.{slice_get-get_or}
 use Rattle.brc_core.specs.Replays.{IsFirstNotEnabled}
@@ -23,12 +24,18 @@ pub record LeadsTo (start : Heap) (run : List Event) (world : Heap) : Type 0 whe
 reverse_take_more : (events : List Event) (at : ℕ) (d : Event) → at < length events
     → reverse (take (at + 1) events) ≡ get_or events at d ∷ reverse (take at events)
 reverse_take_more events at d within =
-    ap (λ (xs : List Event). reverse xs) (take_more events at d within) ∙ reverse-append (take at events) (get_or events at d ∷ [])
+    ap (λ (xs : List Event). reverse xs) (take_more events at d within)
+    ∙ reverse-append (take at events) (get_or events at d ∷ [])
 
-leads_on : (start : Heap) (run : List Event) (old new : Heap) (e : Event) → LeadsTo start run old → enabled old e ≡ true → new ≡ after old e → LeadsTo start (e ∷ run) new
+leads_on : (start : Heap) (run : List Event) (old new : Heap) (e : Event) → LeadsTo start run old → enabled old e ≡ true
+    → new ≡ after old e → LeadsTo start (e ∷ run) new
 leads_on start run old new e leads may is =
     let P : Heap → Type 0 = λ h. enabled h e ≡ true in
-    record { is_run = (leads.is_run, subst P leads.world_is may); world_is = is ∙ ap (λ (h : Heap). after h e) leads.world_is }
+    record {
+      is_run = (leads.is_run, subst P leads.world_is may);
+      world_is = is
+          ∙ ap (λ (h : Heap). after h e) leads.world_is;
+    }
 
 -- a turn of the loop
 pub turn : (start : Heap) (events : List Event) (at : ℕ) (old new : Heap) (d : Event)
@@ -37,7 +44,8 @@ pub turn : (start : Heap) (events : List Event) (at : ℕ) (old new : Heap) (d :
     → LeadsTo start (reverse (take (at + 1) events)) new
 turn start events at old new d leads within may is =
     let P : List Event → Type 0 = λ run. LeadsTo start run new in
-    subst P (sym (reverse_take_more events at d within)) (leads_on start (reverse (take at events)) old new (get_or events at d) leads may is)
+    subst P (sym (reverse_take_more events at d within))
+    (leads_on start (reverse (take at events)) old new (get_or events at d) leads may is)
 
 -- where the loop stops at an event
 pub first_not_enabled : (start : Heap) (events : List Event) (at : ℕ) (old : Heap) (d : Event)
@@ -60,7 +68,8 @@ leads_whole start events at world leads past =
     let P : List Event → Type 0 = λ run. LeadsTo start (reverse run) world in
     subst P (take_all at events past) leads
 
-pub leads_reached : (edition : Edition) (cells limit : ℕ) (run : List Event) (world : Heap) → AreOptions cells limit → LeadsTo (opening_in edition cells limit) run world → IsReached world
+pub leads_reached : (edition : Edition) (cells limit : ℕ) (run : List Event) (world : Heap) → AreOptions cells limit
+    → LeadsTo (opening_in edition cells limit) run world → IsReached world
 leads_reached edition cells limit run world options leads = record {
   edition = edition;
   cells = cells;

@@ -1,5 +1,6 @@
 -- What the readers of a world say, where the world's lists don't say it at once.
-use Rattle.std.specs.Prelude.{ℕ, ◌+◌, ◌&&◌, ◌||◌, not, Bool, true, false, Option, Some, None, List, [], if◌then◌else◌, sum_by}
+use Rattle.std.specs.Prelude.{ℕ, ◌+◌, ◌&&◌, ◌||◌, not, Bool, true, false, Option, Some, None, List, [], if◌then◌else◌}
+use Rattle.std.specs.Prelude.{sum_by}
 use Rattle.brc_core.specs.declared.readers.Status.{Status}
 use Rattle.brc_core.specs.declared.readers.Status.TheVariants as statuses
 use Rattle.brc_core.specs.declared.totals.Ledger.{Ledger}

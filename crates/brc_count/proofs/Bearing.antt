@@ -1,5 +1,6 @@
 -- What becomes of what a thread holds when an object is made.
-use Rattle.std.proofs.Common.{true≢false, ◌≡◌, ℕ, ◌+◌, ◌<◌, Bool, true, false, List, [], ◌∷◌, Option, Some, None, refl, sym, ◌∙◌, ap, subst, inl, inr}
+use Rattle.std.proofs.Common.{true≢false, ◌≡◌, ℕ, ◌+◌, ◌<◌, Bool, true, false, List, [], ◌∷◌, Option, Some, None, refl}
+use Rattle.std.proofs.Common.{sym, ◌∙◌, ap, subst, inl, inr}
 use Rattle.std.proofs.lemmas.Bool.{cases_eq, eq-eqb}
 use Rattle.slab.specs.Slab.{Slab, get, Updates}
 use Rattle.atomic_table.specs.Table.{rest}
@@ -42,11 +43,13 @@ none_listed : {X : Type 0} {o : Option X} {x : X} → o ≡ None → o ≡ Some 
 none_listed none some = cc
 
 -- a cell that isn't listed has no entries now; what is listed is as it was
-buried_still : {n : ℕ} {marks : List Bool} {has : ℕ → List ℕ} {blocks : Blocks} (c : ℕ) → Buried n marks has blocks → listed_at blocks c ≡ None
+buried_still : {n : ℕ} {marks : List Bool} {has : ℕ → List ℕ} {blocks : Blocks} (c : ℕ) → Buried n marks has blocks
+    → listed_at blocks c ≡ None
     → Buried n marks (put c [] has) blocks
 buried_still {has = has} {blocks = blocks} c b fresh = record {
   marked = b.marked;
-  has_them = λ q es at. put_else c [] has q (λ same. none_listed (ap (listed_at blocks) same ∙ fresh) at) ∙ b.has_them q es at;
+  has_them = λ q es at. put_else c [] has q (λ same. none_listed (ap (listed_at blocks) same ∙ fresh) at)
+      ∙ b.has_them q es at;
   inside = b.inside;
   are_cells = b.are_cells;
   apart = b.apart;
@@ -57,21 +60,26 @@ same_held : {a b : Held} → Some a ≡ Some b → a ≡ b
 same_held same = cc
 
 -- what the log says of the thread's part, after a cell was claimed and an object born in it
-pub born_known : (n : ℕ) (before mid log : List Told) (k c : ℕ) → IsKnown n mid (handing (hands.Busy phases.Claimed c) (known_seen n before))
-    → IsKnown n log (filling k c (bearing c (known_seen n mid))) → part_seen n log ≡ (filling k c (bearing c (known_seen n before))).part
+pub born_known : (n : ℕ) (before mid log : List Told) (k c : ℕ)
+    → IsKnown n mid (handing (hands.Busy phases.Claimed c) (known_seen n before))
+    → IsKnown n log (filling k c (bearing c (known_seen n mid)))
+    → part_seen n log ≡ (filling k c (bearing c (known_seen n before))).part
 born_known n before mid log k c claimed born = born.part ∙ ap (λ (p : Part). record p {
   row = record p.row { hand = hands.Free; allocs = p.row.allocs + 1 };
   has = put c [] p.has;
   frame = filled p.frame k c;
 }) claimed.part
 
-module _ {A : Type 0} {heap : TableSeen} (before mid seat : SeatSeen A) {old places : Slab Held} {works : List (ℕ × Payload A)} {popped : List ℕ} {ledger : Ledger} where
+module _ {A : Type 0} {heap : TableSeen} (before mid seat : SeatSeen A) {old places : Slab Held}
+    {works : List (ℕ × Payload A)} {popped : List ℕ} {ledger : Ledger} where
   placed_born : (k c : ℕ) → Holding A heap before old works popped ledger
       → part_seen heap.cells seat.log ≡ (filling k c (bearing c (known_seen heap.cells before.log))).part
-      → Updates old places k (Some (record { cell = c; risen = false })) → (j : ℕ) → place_seen heap.cells seat.log j ≡ cell_held (get places j)
+      → Updates old places k (Some (record { cell = c; risen = false })) → (j : ℕ)
+      → place_seen heap.cells seat.log j ≡ cell_held (get places j)
   placed_born k c keeps part updates j = ap (λ (p : Part). place_at p.frame j) part ∙ elim (cases_eq j k) [
     | inl same ↦ ap (place_at (filled (part_seen heap.cells before.log).frame k c)) same
-        ∙ place_at-filled_here (part_seen heap.cells before.log).frame k c ∙ sym (ap cell_held (ap (get places) same ∙ updates.changed))
+        ∙ place_at-filled_here (part_seen heap.cells before.log).frame k c
+        ∙ sym (ap cell_held (ap (get places) same ∙ updates.changed))
     | inr other ↦ place_at-filled_else (part_seen heap.cells before.log).frame k c j other
         ∙ keeps.placed j ∙ sym (ap cell_held (updates.others j other))
   ]
@@ -94,18 +102,23 @@ module _ {A : Type 0} {heap : TableSeen} (before mid seat : SeatSeen A) {old pla
         hand_is = ap (λ (p : Part). p.row.hand) part;
         placed = placed_born k c keeps part updates;
         risen = λ j held there is. elim (cases_eq j k) [
-          | inl same ↦ absurd (true≢false (sym is ∙ ap (λ (x : Held). x.risen) (sym (same_held (sym updates.changed ∙ ap (get places) (sym same) ∙ there)))))
+          | inl same ↦ absurd (true≢false
+              (sym is ∙ ap (λ (x : Held). x.risen)
+              (sym (same_held (sym updates.changed ∙ ap (get places) (sym same) ∙ there)))))
           | inr other ↦
               let was_there = keeps.placed j ∙ ap cell_held (sym (updates.others j other) ∙ there) in
               let there_then = ap (λ (p : Part). place_at p.frame j) claimed.part ∙ was_there in
-              second j held.cell there_then (first.risen (drops.Frame j) held.cell (keeps.risen j held (sym (updates.others j other) ∙ there) is)
+              second j held.cell there_then
+              (first.risen (drops.Frame j) held.cell (keeps.risen j held (sym (updates.others j other) ∙ there) is)
               ∙ ap (names held.cell) there_then ∙ eq-eqb held.cell held.cell refl)
         ];
         inside = λ j held there. elim (cases_eq j k) [
-          | inl same ↦ subst (λ (x : Held). x.cell < heap.cells) (same_held (sym updates.changed ∙ ap (get places) (sym same) ∙ there)) low
+          | inl same ↦ subst (λ (x : Held). x.cell < heap.cells)
+              (same_held (sym updates.changed ∙ ap (get places) (sym same) ∙ there)) low
           | inr other ↦ keeps.inside j held (sym (updates.others j other) ∙ there)
         ];
-        out = home ∙ ap rest out ∙ keeps.out ∙ out_unlocked heap.cells before.log works unlocked ∙ sym (out_unlocked heap.cells seat.log works gone);
+        out = home ∙ ap rest out ∙ keeps.out ∙ out_unlocked heap.cells before.log works unlocked
+            ∙ sym (out_unlocked heap.cells seat.log works gone);
         lock_filled = λ j is. absurd (none_held (sym gone ∙ is));
         lock_has = λ d is. absurd (none_held (sym (nothing_locked heap.cells seat.log gone) ∙ is));
         listed = born.blocks ∙ claimed.blocks ∙ keeps.listed;

@@ -1,5 +1,8 @@
--- What becomes of the dead blocks that a frame lists: one more is taken, the front one loses its last entry, or is given back.
-use Rattle.std.proofs.Common.{◌≡◌, ◌≢◌, ℕ, ◌-◌, ◌<◌, ◌≤◌, ◌==◌, ◌&&◌, Bool, true, false, if◌then◌else◌, List, [], ◌∷◌, ◌++◌, length, take, set, map, Option, Some, None, IfSome, is_none, inl, inr, refl, sym, ◌∙◌, ap, subst, arith, slice_get}
+-- What becomes of the dead blocks that a frame lists: one more is taken, the front one loses its last entry, or is
+-- given back.
+use Rattle.std.proofs.Common.{◌≡◌, ◌≢◌, ℕ, ◌-◌, ◌<◌, ◌≤◌, ◌==◌, ◌&&◌, Bool, true, false, if◌then◌else◌, List, [], ◌∷◌}
+use Rattle.std.proofs.Common.{◌++◌, length, take, set, map, Option, Some, None, IfSome, is_none, inl, inr, refl, sym}
+use Rattle.std.proofs.Common.{◌∙◌, ap, subst, arith, slice_get}
 use Rattle.std.proofs.Math.Seq.{take-append_seam, get_or-append_seam}
 use Rattle.std.proofs.lemmas.List.{length-append, get_or_append_left, length-set, get_or-set_same, get_or_past}
 use Rattle.std.proofs.lemmas.Option.{slice_get_within, slice_get-get_or, get_or_from_slice_get}
@@ -29,8 +32,10 @@ none_is_none same = cc
 pub listed_here : (c : ℕ) (es : List ℕ) (blocks : Blocks) → listed_at ((c, es) ∷ blocks) c ≡ Some es
 listed_here c es blocks = ap (λ t. if t then Some es else listed_at blocks c) (eq-eqb c c refl)
 
-listed_else : (c : ℕ) (es : List ℕ) (blocks : Blocks) (q : ℕ) → q ≢ c → listed_at ((c, es) ∷ blocks) q ≡ listed_at blocks q
-listed_else c es blocks q other = ap (λ t. if t then Some es else listed_at blocks q) (ne_eqb c q (λ same. other (sym same)))
+listed_else : (c : ℕ) (es : List ℕ) (blocks : Blocks) (q : ℕ) → q ≢ c
+    → listed_at ((c, es) ∷ blocks) q ≡ listed_at blocks q
+listed_else c es blocks q other = ap (λ t. if t then Some es else listed_at blocks q)
+    (ne_eqb c q (λ same. other (sym same)))
 
 put_here : (c : ℕ) (es : List ℕ) (has : ℕ → List ℕ) → put c es has c ≡ es
 put_here c es has = ap (λ t. if t then es else has c) (eq-eqb c c refl)
@@ -51,7 +56,8 @@ cut_absent d [] is = refl
 cut_absent d (b ∷ blocks) is = elim (cases_eq b.0 d) [
   | inl same ↦ absurd (none_is_none (sym is ∙ ap (λ t. if t then Some b.1 else listed_at blocks d) (eq-eqb b.0 d same)))
   | inr other ↦ ap (λ t. (b.0, if t then front_of b.1 else b.1) ∷ cut d blocks) (ne_eqb b.0 d other)
-      ∙ ap (λ bs. b ∷ bs) (cut_absent d blocks (sym (ap (λ t. if t then Some b.1 else listed_at blocks d) (ne_eqb b.0 d other)) ∙ is))
+      ∙ ap (λ bs. b ∷ bs) (cut_absent d blocks
+      (sym (ap (λ t. if t then Some b.1 else listed_at blocks d) (ne_eqb b.0 d other)) ∙ is))
 ]
 
 off_absent : (d : ℕ) (blocks : Blocks) → listed_at blocks d ≡ None → off d blocks ≡ blocks
@@ -59,14 +65,17 @@ off_absent d [] is = refl
 off_absent d (b ∷ blocks) is = elim (cases_eq b.0 d) [
   | inl same ↦ absurd (none_is_none (sym is ∙ ap (λ t. if t then Some b.1 else listed_at blocks d) (eq-eqb b.0 d same)))
   | inr other ↦ ap (λ t. if t then off d blocks else b ∷ off d blocks) (ne_eqb b.0 d other)
-      ∙ ap (λ bs. b ∷ bs) (off_absent d blocks (sym (ap (λ t. if t then Some b.1 else listed_at blocks d) (ne_eqb b.0 d other)) ∙ is))
+      ∙ ap (λ bs. b ∷ bs) (off_absent d blocks
+      (sym (ap (λ t. if t then Some b.1 else listed_at blocks d) (ne_eqb b.0 d other)) ∙ is))
 ]
 
 -- a block that loses an entry is still the only one of its cell
-pub unlisted_front : (d : ℕ) (es fewer : List ℕ) (rest : Blocks) (c : ℕ) → listed_at ((d, es) ∷ rest) c ≡ None → listed_at ((d, fewer) ∷ rest) c ≡ None
+pub unlisted_front : (d : ℕ) (es fewer : List ℕ) (rest : Blocks) (c : ℕ) → listed_at ((d, es) ∷ rest) c ≡ None
+    → listed_at ((d, fewer) ∷ rest) c ≡ None
 unlisted_front d es fewer rest c is = by_test (d == c) is
   where
-    by_test : (t : Bool) → (if t then Some es else listed_at rest c) ≡ None → (if t then Some fewer else listed_at rest c) ≡ None
+    by_test : (t : Bool) → (if t then Some es else listed_at rest c) ≡ None
+        → (if t then Some fewer else listed_at rest c) ≡ None
     by_test true is = absurd (none_is_none (sym is))
     by_test false is = is
 
@@ -76,7 +85,8 @@ unmarked_here marks d = elim (cases_lt d (length marks)) [
   | inr past ↦ get_or_past (set marks d false) d false (omega (arith, past, length-set marks d false))
 ]
 
-pub nothing_buried : (n : ℕ) (marks : List Bool) (has : ℕ → List ℕ) → ((c : ℕ) → is_marked marks c ≡ false) → Buried n marks has []
+pub nothing_buried : (n : ℕ) (marks : List Bool) (has : ℕ → List ℕ) → ((c : ℕ) → is_marked marks c ≡ false)
+    → Buried n marks has []
 nothing_buried n marks has none = record {
   marked = λ c es at. absurd (none_is_none at);
   has_them = λ c es at. absurd (none_is_none at);
@@ -88,11 +98,13 @@ nothing_buried n marks has none = record {
 
 module _ {n : ℕ} {marks : List Bool} {has : ℕ → List ℕ} where
   -- a block that wasn't listed joins, in front
-  pub after_take : {blocks : Blocks} (c : ℕ) (es : List ℕ) → Buried n marks has blocks → listed_at blocks c ≡ None → c < n → length marks ≡ n
+  pub after_take : {blocks : Blocks} (c : ℕ) (es : List ℕ) → Buried n marks has blocks → listed_at blocks c ≡ None
+      → c < n → length marks ≡ n
       → AreCells n es → Buried n (set marks c true) (put c es has) ((c, es) ∷ blocks)
   after_take {blocks = blocks} c es b fresh low wide cells = record {
     marked = λ q xs at. elim (cases_eq q c) [
-      | inl same ↦ ap (is_marked (set marks c true)) same ∙ read_here marks c true false (subst (λ m. c < m) (sym wide) low)
+      | inl same ↦ ap (is_marked (set marks c true)) same
+          ∙ read_here marks c true false (subst (λ m. c < m) (sym wide) low)
       | inr other ↦ read_there marks c q true false other ∙ b.marked q xs (sym (listed_else c es blocks q other) ∙ at)
     ];
     has_them = λ q xs at. elim (cases_eq q c) [
@@ -105,7 +117,8 @@ module _ {n : ℕ} {marks : List Bool} {has : ℕ → List ℕ} where
       | inr other ↦ b.inside q xs (sym (listed_else c es blocks q other) ∙ at)
     ];
     are_cells = λ q xs at. elim (cases_eq q c) [
-      | inl same ↦ subst (AreCells n) (some_is (sym (listed_here c es blocks) ∙ ap (listed_at ((c, es) ∷ blocks)) (sym same) ∙ at)) cells
+      | inl same ↦ subst (AreCells n)
+          (some_is (sym (listed_here c es blocks) ∙ ap (listed_at ((c, es) ∷ blocks)) (sym same) ∙ at)) cells
       | inr other ↦ b.are_cells q xs (sym (listed_else c es blocks q other) ∙ at)
     ];
     apart = ap (λ o. is_none o && are_apart blocks) fresh ∙ b.apart;
@@ -135,7 +148,8 @@ module _ {n : ℕ} {marks : List Bool} {has : ℕ → List ℕ} where
       | inr other ↦ b.inside q xs (listed_else d es rest q other ∙ sym (listed_else d fewer rest q other) ∙ at)
     ];
     are_cells = λ q xs at. elim (cases_eq q d) [
-      | inl same ↦ subst (AreCells n) (some_is (sym (listed_here d fewer rest) ∙ ap (listed_at ((d, fewer) ∷ rest)) (sym same) ∙ at)) cells
+      | inl same ↦ subst (AreCells n)
+          (some_is (sym (listed_here d fewer rest) ∙ ap (listed_at ((d, fewer) ∷ rest)) (sym same) ∙ at)) cells
       | inr other ↦ b.are_cells q xs (listed_else d es rest q other ∙ sym (listed_else d fewer rest q other) ∙ at)
     ];
     apart = b.apart;
@@ -143,12 +157,15 @@ module _ {n : ℕ} {marks : List Bool} {has : ℕ → List ℕ} where
   }
 
   -- the front block is given back
-  pub after_free : {rest : Blocks} (d : ℕ) (es : List ℕ) → Buried n marks has ((d, es) ∷ rest) → Buried n (set marks d false) has rest
+  pub after_free : {rest : Blocks} (d : ℕ) (es : List ℕ) → Buried n marks has ((d, es) ∷ rest)
+      → Buried n (set marks d false) has rest
   after_free {rest = rest} d es b =
       let none : listed_at rest d ≡ None = unlisted (listed_at rest d) (are_apart rest) b.apart in
-      let apart : (q : ℕ) (xs : List ℕ) → listed_at rest q ≡ Some xs → q ≢ d = λ q xs at same. none_is_none (sym none ∙ ap (listed_at rest) (sym same) ∙ at) in
+      let apart : (q : ℕ) (xs : List ℕ) → listed_at rest q ≡ Some xs
+      → q ≢ d = λ q xs at same. none_is_none (sym none ∙ ap (listed_at rest) (sym same) ∙ at) in
       record {
-        marked = λ q xs at. read_there marks d q false false (apart q xs at) ∙ b.marked q xs (listed_else d es rest q (apart q xs at) ∙ at);
+        marked = λ q xs at. read_there marks d q false false (apart q xs at)
+            ∙ b.marked q xs (listed_else d es rest q (apart q xs at) ∙ at);
         has_them = λ q xs at. b.has_them q xs (listed_else d es rest q (apart q xs at) ∙ at);
         inside = λ q xs at. b.inside q xs (listed_else d es rest q (apart q xs at) ∙ at);
         are_cells = λ q xs at. b.are_cells q xs (listed_else d es rest q (apart q xs at) ∙ at);
@@ -159,18 +176,21 @@ module _ {n : ℕ} {marks : List Bool} {has : ℕ → List ℕ} where
         ];
       }
 
-  pub front_cut : {rest : Blocks} (d : ℕ) (es : List ℕ) → Buried n marks has ((d, es) ∷ rest) → cut d ((d, es) ∷ rest) ≡ (d, front_of es) ∷ rest
+  pub front_cut : {rest : Blocks} (d : ℕ) (es : List ℕ) → Buried n marks has ((d, es) ∷ rest)
+      → cut d ((d, es) ∷ rest) ≡ (d, front_of es) ∷ rest
   front_cut {rest = rest} d es b =
       ap (λ t. (d, if t then front_of es else es) ∷ cut d rest) (eq-eqb d d refl)
       ∙ ap (λ bs. (d, front_of es) ∷ bs) (cut_absent d rest (unlisted (listed_at rest d) (are_apart rest) b.apart))
 
-  pub front_off : {rest : Blocks} (d : ℕ) (es : List ℕ) → Buried n marks has ((d, es) ∷ rest) → off d ((d, es) ∷ rest) ≡ rest
+  pub front_off : {rest : Blocks} (d : ℕ) (es : List ℕ) → Buried n marks has ((d, es) ∷ rest)
+      → off d ((d, es) ∷ rest) ≡ rest
   front_off {rest = rest} d es b =
       ap (λ t. if t then off d rest else (d, es) ∷ off d rest) (eq-eqb d d refl)
       ∙ off_absent d rest (unlisted (listed_at rest d) (are_apart rest) b.apart)
 
 -- the block that a release answers, if any, joins
-pub after_given : {A : Type 0} {n : ℕ} {marks : List Bool} {has : ℕ → List ℕ} {blocks : Blocks} (c : ℕ) (block : Option (ℕ × Payload A)) → Buried n marks has blocks
+pub after_given : {A : Type 0} {n : ℕ} {marks : List Bool} {has : ℕ → List ℕ} {blocks : Blocks} (c : ℕ)
+    (block : Option (ℕ × Payload A)) → Buried n marks has blocks
     → IfSome block (λ there. listed_at blocks c ≡ None) → c < n → length marks ≡ n → AreCells n (answered block)
     → Buried n (if is_there block then set marks c true else marks) (has_found (is_there block) c (answered block) has)
     (taken_on false (is_there block) c (answered block) blocks)
@@ -202,7 +222,8 @@ more_than : (xs : List ℕ) (x i : ℕ) → i ≤ length xs → i < length (xs +
 more_than xs x i low = omega (arith, low, length-append xs (x ∷ []))
 
 at_end : (xs : List ℕ) (x : ℕ) → slice_get (xs ++ x ∷ []) (length xs) ≡ Some x
-at_end xs x = slice_get-get_or (xs ++ x ∷ []) (length xs) 0 (more_than xs x (length xs) (omega arith)) ∙ ap Some (get_or-append_seam xs x [] 0)
+at_end xs x = slice_get-get_or (xs ++ x ∷ []) (length xs) 0 (more_than xs x (length xs) (omega arith))
+    ∙ ap Some (get_or-append_seam xs x [] 0)
 
 pub front_put : (xs : List ℕ) (x : ℕ) → front_of (xs ++ x ∷ []) ≡ xs
 front_put xs x = ap (λ m. take m (xs ++ x ∷ [])) (one_more xs x) ∙ take-append_seam xs (x ∷ [])

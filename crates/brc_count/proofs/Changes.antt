@@ -1,5 +1,7 @@
 -- What one call of the counter makes of what a frame keeps.
-use Rattle.std.proofs.Common.{◌≡◌, not, ◌==◌, ◌+◌, ℕ, ◌<◌, ◌≤◌, ◌-◌, Bool, true, false, length, arith, inl, inr, List, [], ◌∷◌, map, Option, Some, None, IfSome, IsTrue, is_some, if◌then◌else◌, ◌++◌, set, refl, sym, ◌∙◌, ap, subst, replicate}
+use Rattle.std.proofs.Common.{◌≡◌, not, ◌==◌, ◌+◌, ℕ, ◌<◌, ◌≤◌, ◌-◌, Bool, true, false, length, arith, inl, inr, List}
+use Rattle.std.proofs.Common.{[], ◌∷◌, map, Option, Some, None, IfSome, IsTrue, is_some, if◌then◌else◌, ◌++◌, set, refl}
+use Rattle.std.proofs.Common.{sym, ◌∙◌, ap, subst, replicate}
 use Rattle.std.proofs.lemmas.Bool.{eq-eqb, cases_eq, cases_lt, lt-ltb}
 use Rattle.std.proofs.lemmas.List.{length-set, get_or-set_same, get_or_past, get_or-replicate, length-replicate}
 use Rattle.std.specs.Int.{bit_at}
@@ -42,8 +44,10 @@ use Rattle.brc_biased.proofs.Marking.{marks_wide}
 use Rattle.brc_count.specs.declared.held.Held.{Held}
 use Rattle.brc_count.specs.declared.ledger.Ledger.{Ledger}
 use Rattle.law_rule.specs.declared.contents.Contents.TheVariants as contents
-use Rattle.brc_count.specs.Frames.{place_seen, locked_place, lock_seen, cell_held, block_listed, slot_out, slots_out, pushed, Buried, Holding, FrameSeen, KeepsHandles, Turned, Turns, OneMore}
-use Rattle.brc_count.proofs.Buried.{listed_here, unlisted_front, nothing_buried, after_cut, after_free, after_given, front_cut, front_off, contents_have, front_put, last_put, cells_front, cells_last}
+use Rattle.brc_count.specs.Frames.{place_seen, locked_place, lock_seen, cell_held, block_listed, slot_out, slots_out}
+use Rattle.brc_count.specs.Frames.{pushed, Buried, Holding, FrameSeen, KeepsHandles, Turned, Turns, OneMore}
+use Rattle.brc_count.proofs.Buried.{listed_here, unlisted_front, nothing_buried, after_cut, after_free, after_given}
+use Rattle.brc_count.proofs.Buried.{front_cut, front_off, contents_have, front_put, last_put, cells_front, cells_last}
 
 vacated_here : (frame : List (Option ℕ)) (k : ℕ) → place_at (vacated frame k) k ≡ None
 vacated_here frame k = elim (cases_lt k (length frame)) [
@@ -62,7 +66,9 @@ not_there None there none = cc
 not_there (Some x) there none = cc
 
 none_at : (m k : ℕ) → ◌≡◌ {A = ℕ} (word_at (replicate m 0) k) 0
-none_at m k = blank_word (replicate m 0) k (eq-eqb (used_words (replicate m 0)) 0 (sum_by-replicate (λ (w : ℕ). if not (w == 0) then 1 else 0) m 0 ∙ omega arith))
+none_at m k = blank_word (replicate m 0) k
+    (eq-eqb (used_words (replicate m 0)) 0 (sum_by-replicate (λ (w : ℕ). if not (w == 0) then 1 else 0) m 0
+    ∙ omega arith))
 
 no_bit : (m k i : ℕ) → bit_at (word_at (replicate m 0) k) i ≡ 1 → ⊥
 no_bit m k i is = absurd (omega (arith, is, ap (λ w. bit_at w i) (none_at m k), bit_at-zero i))
@@ -84,7 +90,8 @@ giving_may stages.Left c is = refl
 giving_may (stages.Opening words) c is = cc
 
 -- a place that is vacant and below the limit may get a reference, from a source that fits what is locked
-pub raising : {A : Type 0} {heap : TableSeen} {seat : SeatSeen A} {places : Slab Held} {works : List (ℕ × Payload A)} {popped : List ℕ} {ledger : Ledger} (source : Source) (k c : ℕ)
+pub raising : {A : Type 0} {heap : TableSeen} {seat : SeatSeen A} {places : Slab Held} {works : List (ℕ × Payload A)}
+    {popped : List ℕ} {ledger : Ledger} (source : Source) (k c : ℕ)
     → Holding A heap seat places works popped ledger → is_active (part_seen heap.cells seat.log).row.stage ≡ true
     → lock_ok (locked_place heap.cells seat.log) (LocalUp source k) ≡ true
     → meant (part_seen heap.cells seat.log) (LocalUp source k) ≡ Some c → k < MOST_PLACES → get places k ≡ None
@@ -101,7 +108,8 @@ raising {heap = heap} {seat = seat} source k c keeps active fits named low vacan
 }
 
 -- the thread may give references up
-pub stands : {A : Type 0} {heap : TableSeen} {seat : SeatSeen A} {places : Slab Held} {works : List (ℕ × Payload A)} {popped : List ℕ} {ledger : Ledger}
+pub stands : {A : Type 0} {heap : TableSeen} {seat : SeatSeen A} {places : Slab Held} {works : List (ℕ × Payload A)}
+    {popped : List ℕ} {ledger : Ledger}
     → Holding A heap seat places works popped ledger → may_give_up (part_seen heap.cells seat.log).row.stage ≡ true
     → locked_place heap.cells seat.log ≡ None → Stands heap.cells seat.log hands.Free
 stands keeps stage unlocked = record { stage = stage; lock = unlocked; hand_is = keeps.hand_is }
@@ -121,8 +129,10 @@ no_marks_yet n c = elim (cases_lt c (length (replicate n false))) [
 ]
 
 -- a thread that has done nothing yet, with no place filled
-pub opening : {A : Type 0} (heap : TableSeen) (seat : SeatSeen A) (places : Slab Held) (popped : List ℕ) → seat.log ≡ [] → seat.slots ≡ [] → places.slots ≡ []
-    → popped ≡ replicate (words_for heap.cells) 0 → Holding A heap seat places [] popped (record { allocs = 0; frees = 0 })
+pub opening : {A : Type 0} (heap : TableSeen) (seat : SeatSeen A) (places : Slab Held) (popped : List ℕ) → seat.log ≡ []
+    → seat.slots ≡ [] → places.slots ≡ []
+    → popped ≡ replicate (words_for heap.cells) 0
+    → Holding A heap seat places [] popped (record { allocs = 0; frees = 0 })
 opening heap seat places popped log slots none blank = record {
   hand_is = rw log refl;
   placed = λ k. rw (log, none) refl;
@@ -132,7 +142,8 @@ opening heap seat places popped log slots none blank = record {
   lock_filled = λ k is. absurd (none_held (rw log at is));
   lock_has = λ c is. absurd (none_held (rw log at is));
   listed = rw log refl;
-  buried = rw log (nothing_buried heap.cells (part_seen heap.cells []).worklist (part_seen heap.cells []).has (no_marks_yet heap.cells));
+  buried = rw log (nothing_buried heap.cells (part_seen heap.cells []).worklist (part_seen heap.cells []).has
+      (no_marks_yet heap.cells));
   popped_is = rw log blank;
   words = ap length blank ∙ length-replicate (words_for heap.cells) 0;
   allocs = rw log refl;
@@ -145,15 +156,19 @@ if_some None f p = tt
 if_some (Some x) f p = f p
 
 module _ {A : Type 0} where
-  pub slots_pushed : (c : ℕ) (block : Option (ℕ × Payload A)) (works : List (ℕ × Payload A)) → IfSome block (λ there. there.0 ≡ c)
+  pub slots_pushed : (c : ℕ) (block : Option (ℕ × Payload A)) (works : List (ℕ × Payload A))
+      → IfSome block (λ there. there.0 ≡ c)
       → out_with c block (map slot_out works) ≡ map slot_out (pushed block works)
   slots_pushed c None works of_cell = refl
   slots_pushed c (Some there) works of_cell = ap (λ (d : ℕ). (d, None) ∷ map slot_out works) (sym of_cell)
 
-  pub blocks_pushed : (c : ℕ) (block : Option (ℕ × Payload A)) (works : List (ℕ × Payload A)) → IfSome block (λ there. there.0 ≡ c)
-      → taken_on false (is_there block) c (entries_answered block) (map block_listed works) ≡ map block_listed (pushed block works)
+  pub blocks_pushed : (c : ℕ) (block : Option (ℕ × Payload A)) (works : List (ℕ × Payload A))
+      → IfSome block (λ there. there.0 ≡ c)
+      → taken_on false (is_there block) c (entries_answered block) (map block_listed works) ≡ map block_listed
+      (pushed block works)
   blocks_pushed c None works of_cell = refl
-  blocks_pushed c (Some there) works of_cell = ap (λ (d : ℕ). (d, entries_answered (Some there)) ∷ map block_listed works) (sym of_cell)
+  blocks_pushed c (Some there) works of_cell =
+      ap (λ (d : ℕ). (d, entries_answered (Some there)) ∷ map block_listed works) (sym of_cell)
 
 module _ (n : ℕ) (before log : List Told) where
   -- the locked object is where it was: the place that is filled now was vacant
@@ -172,11 +187,13 @@ module _ (n : ℕ) (before log : List Told) where
   still_filled : (k c : ℕ) → IsKnown n log (filling k c (known_seen n before)) → (j : ℕ)
       → is_some (place_seen n before j) ≡ true → is_some (place_seen n log j) ≡ true
   still_filled k c knows j there = ap (λ (p : Part). is_some (place_at p.frame j)) knows.part ∙ elim (cases_eq j k) [
-    | inl same ↦ ap is_some (ap (place_at (filled (part_seen n before).frame k c)) same ∙ place_at-filled_here (part_seen n before).frame k c)
+    | inl same ↦ ap is_some (ap (place_at (filled (part_seen n before).frame k c)) same
+        ∙ place_at-filled_here (part_seen n before).frame k c)
     | inr other ↦ ap is_some (place_at-filled_else (part_seen n before).frame k c j other) ∙ there
   ]
 
-module _ {A : Type 0} {heap : TableSeen} (before seat : SeatSeen A) {old places : Slab Held} {works : List (ℕ × Payload A)} {popped : List ℕ} {ledger : Ledger} where
+module _ {A : Type 0} {heap : TableSeen} (before seat : SeatSeen A) {old places : Slab Held}
+    {works : List (ℕ × Payload A)} {popped : List ℕ} {ledger : Ledger} where
   -- ---- a place that was vacant has a reference more
 
   placed_up : (k c : ℕ) (risen : Bool) → Holding A heap before old works popped ledger
@@ -185,7 +202,8 @@ module _ {A : Type 0} {heap : TableSeen} (before seat : SeatSeen A) {old places 
       → place_seen heap.cells seat.log j ≡ cell_held (get places j)
   placed_up k c risen keeps knows updates j = ap (λ (p : Part). place_at p.frame j) knows.part ∙ elim (cases_eq j k) [
     | inl same ↦ ap (place_at (filled (part_seen heap.cells before.log).frame k c)) same
-        ∙ place_at-filled_here (part_seen heap.cells before.log).frame k c ∙ sym (ap cell_held (ap (get places) same ∙ updates.changed))
+        ∙ place_at-filled_here (part_seen heap.cells before.log).frame k c
+        ∙ sym (ap cell_held (ap (get places) same ∙ updates.changed))
     | inr other ↦ place_at-filled_else (part_seen heap.cells before.log).frame k c j other
         ∙ keeps.placed j ∙ sym (ap cell_held (updates.others j other))
   ]
@@ -199,28 +217,35 @@ module _ {A : Type 0} {heap : TableSeen} (before seat : SeatSeen A) {old places 
       → get old k ≡ None → contents_locked seat.log ≡ contents_locked before.log
       → Holding A heap seat places works popped ledger
   after_up k c risen keeps stays knows goes_on seen inside updates vacant found =
-      let locks = lock_stays heap.cells before.log seat.log k c knows keeps.lock_filled (keeps.placed k ∙ ap cell_held vacant) in
+      let locks = lock_stays heap.cells before.log seat.log k c knows keeps.lock_filled (keeps.placed k
+      ∙ ap cell_held vacant) in
       record {
         hand_is = ap (λ (p : Part). p.row.hand) knows.part ∙ keeps.hand_is;
         placed = placed_up k c risen keeps knows updates;
         risen = λ j held there is. elim (cases_eq j k) [
           | inl same ↦
-              let new : record { cell = c; risen = risen } ≡ held = same_held (sym updates.changed ∙ ap (get places) (sym same) ∙ there) in
+              let new : record { cell = c; risen = risen } ≡ held =
+              same_held (sym updates.changed ∙ ap (get places) (sym same) ∙ there) in
               ap (λ i. risen_seen heap.cells seat.log (drops.Frame i) held.cell) same
-              ∙ ap (λ (x : Held). risen_seen heap.cells seat.log (drops.Frame k) x.cell) (sym new) ∙ seen (ap (λ (x : Held). x.risen) new ∙ is)
+              ∙ ap (λ (x : Held). risen_seen heap.cells seat.log (drops.Frame k) x.cell) (sym new)
+              ∙ seen (ap (λ (x : Held). x.risen) new ∙ is)
           | inr other ↦
               goes_on.risen (drops.Frame j) held.cell (keeps.risen j held (sym (updates.others j other) ∙ there) is)
-              ∙ ap (names held.cell) (placed_up k c risen keeps knows updates j ∙ ap cell_held there) ∙ eq-eqb held.cell held.cell refl
+              ∙ ap (names held.cell) (placed_up k c risen keeps knows updates j ∙ ap cell_held there)
+              ∙ eq-eqb held.cell held.cell refl
         ];
         inside = λ j held there. elim (cases_eq j k) [
           | inl same ↦
-              let new : record { cell = c; risen = risen } ≡ held = same_held (sym updates.changed ∙ ap (get places) (sym same) ∙ there) in
+              let new : record { cell = c; risen = risen } ≡ held =
+              same_held (sym updates.changed ∙ ap (get places) (sym same) ∙ there) in
               subst (λ (x : Held). x.cell < heap.cells) new inside
           | inr other ↦ keeps.inside j held (sym (updates.others j other) ∙ there)
         ];
         out = stays.2 ∙ keeps.out ∙ ap (λ l. slots_out l works) (sym locks);
-        lock_filled = λ j is. still_filled heap.cells before.log seat.log k c knows j (keeps.lock_filled j (sym (ap (λ (p : Part). p.row.locked) knows.part) ∙ is));
-        lock_has = λ d is. ap (λ (p : Part). p.has d) knows.part ∙ keeps.lock_has d (sym locks ∙ is) ∙ ap (λ o. entries_in (found_or contents.Nothing o)) (sym found);
+        lock_filled = λ j is. still_filled heap.cells before.log seat.log k c knows j
+            (keeps.lock_filled j (sym (ap (λ (p : Part). p.row.locked) knows.part) ∙ is));
+        lock_has = λ d is. ap (λ (p : Part). p.has d) knows.part ∙ keeps.lock_has d (sym locks ∙ is)
+            ∙ ap (λ o. entries_in (found_or contents.Nothing o)) (sym found);
         listed = knows.blocks ∙ keeps.listed;
         buried = rw (knows.part, knows.blocks) keeps.buried;
         popped_is = keeps.popped_is ∙ sym (ap (λ (p : Part). p.popped) knows.part);
@@ -232,20 +257,26 @@ module _ {A : Type 0} {heap : TableSeen} (before seat : SeatSeen A) {old places 
 
   -- ---- a place's reference is gone, and the block of the object that it ended is on the worklist
 
-  placed_released : (k : ℕ) (held : Held) (block : Option (ℕ × Payload A)) → Holding A heap before old works popped ledger
-      → IsKnown heap.cells seat.log (released (is_there block) (drops.Frame k) held.cell (entries_answered block) (known_seen heap.cells before.log))
+  placed_released : (k : ℕ) (held : Held) (block : Option (ℕ × Payload A))
+      → Holding A heap before old works popped ledger
+      → IsKnown heap.cells seat.log (released (is_there block) (drops.Frame k) held.cell (entries_answered block)
+      (known_seen heap.cells before.log))
       → Updates old places k None → (j : ℕ)
       → place_seen heap.cells seat.log j ≡ cell_held (get places j)
-  placed_released k held block keeps knows updates j = ap (λ (p : Part). place_at p.frame j) knows.part ∙ elim (cases_eq j k) [
-    | inl same ↦ ap (place_at (vacated (part_seen heap.cells before.log).frame k)) same
-        ∙ vacated_here (part_seen heap.cells before.log).frame k ∙ sym (ap cell_held (ap (get places) same ∙ updates.changed))
-    | inr other ↦ place_at-vacated_else (part_seen heap.cells before.log).frame k j other
-        ∙ keeps.placed j ∙ sym (ap cell_held (updates.others j other))
-  ]
+  placed_released k held block keeps knows updates j = ap (λ (p : Part). place_at p.frame j) knows.part
+      ∙ elim (cases_eq j k) [
+        | inl same ↦ ap (place_at (vacated (part_seen heap.cells before.log).frame k)) same
+            ∙ vacated_here (part_seen heap.cells before.log).frame k
+            ∙ sym (ap cell_held (ap (get places) same ∙ updates.changed))
+        | inr other ↦ place_at-vacated_else (part_seen heap.cells before.log).frame k j other
+            ∙ keeps.placed j ∙ sym (ap cell_held (updates.others j other))
+      ]
 
-  pub after_release : (k : ℕ) (held : Held) (block : Option (ℕ × Payload A)) → Holding A heap before old works popped ledger
+  pub after_release : (k : ℕ) (held : Held) (block : Option (ℕ × Payload A))
+      → Holding A heap before old works popped ledger
       → Continues before seat
-      → IsKnown heap.cells seat.log (released (is_there block) (drops.Frame k) held.cell (entries_answered block) (known_seen heap.cells before.log))
+      → IsKnown heap.cells seat.log (released (is_there block) (drops.Frame k) held.cell (entries_answered block)
+      (known_seen heap.cells before.log))
       → KeepsPlaces heap.cells before.log seat.log
       → Answers heap.cells held.cell block before seat
       → held.cell < heap.cells
@@ -257,7 +288,8 @@ module _ {A : Type 0} {heap : TableSeen} (before seat : SeatSeen A) {old places 
     placed = placed_released k held block keeps knows updates;
     risen = λ j there is_there is. elim (cases_eq j k) [
       | inl same ↦ absurd (none_held (sym updates.changed ∙ ap (get places) (sym same) ∙ is_there))
-      | inr other ↦ goes_on.risen j there.cell (placed_released k held block keeps knows updates j ∙ ap cell_held is_there)
+      | inr other ↦ goes_on.risen j there.cell (placed_released k held block keeps knows updates j
+          ∙ ap cell_held is_there)
           (keeps.risen j there (sym (updates.others j other) ∙ is_there) is)
     ];
     inside = λ j there is_there. elim (cases_eq j k) [
@@ -266,9 +298,12 @@ module _ {A : Type 0} {heap : TableSeen} (before seat : SeatSeen A) {old places 
     ];
     out = answers.out ∙ ap (out_with held.cell block) (keeps.out ∙ out_unlocked heap.cells before.log works unlocked)
         ∙ slots_pushed held.cell block works answers.of_cell
-        ∙ sym (out_unlocked heap.cells seat.log (pushed block works) (ap (λ (p : Part). p.row.locked) knows.part ∙ unlocked));
+        ∙ sym (out_unlocked heap.cells seat.log (pushed block works) (ap (λ (p : Part). p.row.locked) knows.part
+        ∙ unlocked));
     lock_filled = λ j is. absurd (none_held (sym (ap (λ (p : Part). p.row.locked) knows.part ∙ unlocked) ∙ is));
-    lock_has = λ d is. absurd (none_held (sym (nothing_locked heap.cells seat.log (ap (λ (p : Part). p.row.locked) knows.part ∙ unlocked)) ∙ is));
+    lock_has = λ d is. absurd
+        (none_held (sym (nothing_locked heap.cells seat.log (ap (λ (p : Part). p.row.locked) knows.part
+        ∙ unlocked)) ∙ is));
     listed = knows.blocks ∙ ap (taken_on false (is_there block) held.cell (entries_answered block)) keeps.listed
         ∙ blocks_pushed held.cell block works answers.of_cell;
     buried = rw (knows.part, knows.blocks)
@@ -280,25 +315,31 @@ module _ {A : Type 0} {heap : TableSeen} (before seat : SeatSeen A) {old places 
     frees = keeps.frees ∙ sym (ap (λ (p : Part). p.row.frees) knows.part);
   }
 
-entries_front : {A : Type 0} {works : List (ℕ × Payload A)} (entry : ℕ) (mid : List (ℕ × Payload A)) (pops : PopsEntry works mid entry)
+entries_front : {A : Type 0} {works : List (ℕ × Payload A)} (entry : ℕ) (mid : List (ℕ × Payload A))
+    (pops : PopsEntry works mid entry)
     → entries_in (contents_of pops.held) ≡ entries_of pops.left ++ entry ∷ []
 entries_front entry mid pops = contents_have pops.held ∙ pops.entries
 
-module _ {A : Type 0} {heap : TableSeen} (before seat : SeatSeen A) {places : Slab Held} {works : List (ℕ × Payload A)} {popped : List ℕ} {ledger : Ledger} where
+module _ {A : Type 0} {heap : TableSeen} (before seat : SeatSeen A) {places : Slab Held} {works : List (ℕ × Payload A)}
+    {popped : List ℕ} {ledger : Ledger} where
   -- ---- the front block's last entry is released
 
-  listed_front : (entry : ℕ) (mid : List (ℕ × Payload A)) (pops : PopsEntry works mid entry) → Holding A heap before places works popped ledger
+  listed_front : (entry : ℕ) (mid : List (ℕ × Payload A)) (pops : PopsEntry works mid entry)
+      → Holding A heap before places works popped ledger
       → taken_seen heap.cells before.log ≡ (pops.cell, entries_in (contents_of pops.held)) ∷ map block_listed pops.below
   listed_front entry mid pops keeps = keeps.listed ∙ ap (map block_listed) pops.before
 
-  buried_front : (entry : ℕ) (mid : List (ℕ × Payload A)) (pops : PopsEntry works mid entry) → Holding A heap before places works popped ledger
+  buried_front : (entry : ℕ) (mid : List (ℕ × Payload A)) (pops : PopsEntry works mid entry)
+      → Holding A heap before places works popped ledger
       → Buried heap.cells (part_seen heap.cells before.log).worklist (part_seen heap.cells before.log).has
       ((pops.cell, entries_in (contents_of pops.held)) ∷ map block_listed pops.below)
   buried_front entry mid pops keeps =
-      subst (Buried heap.cells (part_seen heap.cells before.log).worklist (part_seen heap.cells before.log).has) (listed_front entry mid pops keeps) keeps.buried
+      subst (Buried heap.cells (part_seen heap.cells before.log).worklist (part_seen heap.cells before.log).has)
+      (listed_front entry mid pops keeps) keeps.buried
 
   -- the front block's entries are cells of the heap, and so are those that it keeps
-  pub entry_inside : (entry : ℕ) (mid : List (ℕ × Payload A)) (pops : PopsEntry works mid entry) → Holding A heap before places works popped ledger
+  pub entry_inside : (entry : ℕ) (mid : List (ℕ × Payload A)) (pops : PopsEntry works mid entry)
+      → Holding A heap before places works popped ledger
       → entry < heap.cells
   entry_inside entry mid pops keeps =
       cells_last heap.cells (entries_of pops.left) entry (subst (AreCells heap.cells) (entries_front entry mid pops)
@@ -306,7 +347,8 @@ module _ {A : Type 0} {heap : TableSeen} (before seat : SeatSeen A) {places : Sl
       (listed_here pops.cell (entries_in (contents_of pops.held)) (map block_listed pops.below))))
 
   -- the reference may go
-  pub entry_held : (entry : ℕ) (mid : List (ℕ × Payload A)) (pops : PopsEntry works mid entry) → Holding A heap before places works popped ledger
+  pub entry_held : (entry : ℕ) (mid : List (ℕ × Payload A)) (pops : PopsEntry works mid entry)
+      → Holding A heap before places works popped ledger
       → may_give_up (part_seen heap.cells before.log).row.stage ≡ true → locked_place heap.cells before.log ≡ None
       → Holds heap.cells before.log (drops.Work pops.cell) entry
   entry_held entry mid pops keeps stage unlocked =
@@ -314,15 +356,18 @@ module _ {A : Type 0} {heap : TableSeen} (before seat : SeatSeen A) {places : Sl
       let here = listed_here pops.cell (entries_in (contents_of pops.held)) (map block_listed pops.below) in
       record {
         stands = stands keeps stage unlocked;
-        cell = ap (λ t. if t then last_of ((part_seen heap.cells before.log).has pops.cell) else None) (b.marked pops.cell (entries_in (contents_of pops.held)) here)
+        cell = ap (λ t. if t then last_of ((part_seen heap.cells before.log).has pops.cell) else None)
+            (b.marked pops.cell (entries_in (contents_of pops.held)) here)
             ∙ ap last_of (b.has_them pops.cell (entries_in (contents_of pops.held)) here ∙ entries_front entry mid pops)
             ∙ last_put (entries_of pops.left) entry;
         listed = ap is_some (ap (λ bs. listed_at bs pops.cell) (listed_front entry mid pops keeps) ∙ here);
       }
 
-  pub after_entry : (entry : ℕ) (mid : List (ℕ × Payload A)) (block : Option (ℕ × Payload A)) (pops : PopsEntry works mid entry)
+  pub after_entry : (entry : ℕ) (mid : List (ℕ × Payload A)) (block : Option (ℕ × Payload A))
+      (pops : PopsEntry works mid entry)
       → Holding A heap before places works popped ledger → Continues before seat
-      → IsKnown heap.cells seat.log (released (is_there block) (drops.Work pops.cell) entry (entries_answered block) (known_seen heap.cells before.log))
+      → IsKnown heap.cells seat.log (released (is_there block) (drops.Work pops.cell) entry (entries_answered block)
+      (known_seen heap.cells before.log))
       → KeepsPlaces heap.cells before.log seat.log
       → Answers heap.cells entry block before seat
       → locked_place heap.cells before.log ≡ None
@@ -332,31 +377,42 @@ module _ {A : Type 0} {heap : TableSeen} (before seat : SeatSeen A) {places : Sl
       let fewer : List ℕ = entries_in (contents_of pops.left) in
       let below : Blocks = map block_listed pops.below in
       let b = buried_front entry mid pops keeps in
-      let all_cells : AreCells heap.cells (entries_of pops.left ++ entry ∷ []) = subst (AreCells heap.cells) (entries_front entry mid pops) (b.are_cells pops.cell es (listed_here pops.cell es below)) in
-      let cells : AreCells heap.cells fewer = subst (AreCells heap.cells) (sym (contents_have pops.left)) (cells_front heap.cells (entries_of pops.left) entry all_cells) in
-      let less : front_of es ≡ fewer = ap front_of (entries_front entry mid pops) ∙ front_put (entries_of pops.left) entry ∙ sym (contents_have pops.left) in
+      let all_cells : AreCells heap.cells (entries_of pops.left ++ entry ∷ []) = subst (AreCells heap.cells)
+      (entries_front entry mid pops) (b.are_cells pops.cell es (listed_here pops.cell es below)) in
+      let cells : AreCells heap.cells fewer = subst (AreCells heap.cells) (sym (contents_have pops.left))
+      (cells_front heap.cells (entries_of pops.left) entry all_cells) in
+      let less : front_of es ≡ fewer = ap front_of (entries_front entry mid pops)
+      ∙ front_put (entries_of pops.left) entry ∙ sym (contents_have pops.left) in
       let cut_is : cut pops.cell (taken_seen heap.cells before.log) ≡ (pops.cell, fewer) ∷ below =
-      ap (cut pops.cell) (listed_front entry mid pops keeps) ∙ front_cut pops.cell es b ∙ ap (λ xs. (pops.cell, xs) ∷ below) less in
+      ap (cut pops.cell) (listed_front entry mid pops keeps) ∙ front_cut pops.cell es b
+      ∙ ap (λ xs. (pops.cell, xs) ∷ below) less in
       let fresh : IfSome block (λ there. listed_at (cut pops.cell (taken_seen heap.cells before.log)) entry ≡ None) =
       if_some block (λ old. ap (λ bs. listed_at bs entry) cut_is
-      ∙ unlisted_front pops.cell es fewer below entry (ap (λ bs. listed_at bs entry) (sym (listed_front entry mid pops keeps)) ∙ old)) answers.fresh in
+      ∙ unlisted_front pops.cell es fewer below entry
+      (ap (λ bs. listed_at bs entry) (sym (listed_front entry mid pops keeps)) ∙ old)) answers.fresh in
       record {
         hand_is = ap (λ (p : Part). p.row.hand) knows.part ∙ keeps.hand_is;
         placed = λ j. ap (λ (p : Part). place_at p.frame j) knows.part ∙ keeps.placed j;
         risen = λ j there is_there is. goes_on.risen j there.cell
-            (ap (λ (p : Part). place_at p.frame j) knows.part ∙ keeps.placed j ∙ ap cell_held is_there) (keeps.risen j there is_there is);
+            (ap (λ (p : Part). place_at p.frame j) knows.part ∙ keeps.placed j ∙ ap cell_held is_there)
+            (keeps.risen j there is_there is);
         inside = keeps.inside;
         out = answers.out ∙ ap (out_with entry block) (keeps.out ∙ out_unlocked heap.cells before.log works unlocked
             ∙ ap (map slot_out) pops.before ∙ sym (ap (map slot_out) pops.after))
             ∙ slots_pushed entry block mid answers.of_cell
-            ∙ sym (out_unlocked heap.cells seat.log (pushed block mid) (ap (λ (p : Part). p.row.locked) knows.part ∙ unlocked));
+            ∙ sym (out_unlocked heap.cells seat.log (pushed block mid) (ap (λ (p : Part). p.row.locked) knows.part
+            ∙ unlocked));
         lock_filled = λ j is. absurd (none_held (sym (ap (λ (p : Part). p.row.locked) knows.part ∙ unlocked) ∙ is));
-        lock_has = λ d is. absurd (none_held (sym (nothing_locked heap.cells seat.log (ap (λ (p : Part). p.row.locked) knows.part ∙ unlocked)) ∙ is));
-        listed = knows.blocks ∙ ap (taken_on false (is_there block) entry (entries_answered block)) (cut_is ∙ sym (ap (map block_listed) pops.after))
+        lock_has = λ d is. absurd
+            (none_held (sym (nothing_locked heap.cells seat.log (ap (λ (p : Part). p.row.locked) knows.part
+            ∙ unlocked)) ∙ is));
+        listed = knows.blocks ∙ ap (taken_on false (is_there block) entry (entries_answered block))
+            (cut_is ∙ sym (ap (map block_listed) pops.after))
             ∙ blocks_pushed entry block mid answers.of_cell;
         buried = rw (knows.part, knows.blocks) (after_given entry block
             (subst (Buried heap.cells (part_seen heap.cells before.log).worklist
-            (put pops.cell (front_of ((part_seen heap.cells before.log).has pops.cell)) (part_seen heap.cells before.log).has)) (sym cut_is)
+            (put pops.cell (front_of ((part_seen heap.cells before.log).has pops.cell))
+            (part_seen heap.cells before.log).has)) (sym cut_is)
             (after_cut pops.cell es fewer b cells less))
             fresh (entry_inside entry mid pops keeps) (marks_wide heap.cells before.log) answers.entries);
         popped_is = keeps.popped_is ∙ sym (ap (λ (p : Part). p.popped) knows.part);
@@ -368,18 +424,22 @@ module _ {A : Type 0} {heap : TableSeen} (before seat : SeatSeen A) {places : Sl
 
   -- ---- the front block, without entries, is given back
 
-  pub front_inside : (d : ℕ) (payload : Payload A) (below : List (ℕ × Payload A)) → Holding A heap before places works popped ledger
+  pub front_inside : (d : ℕ) (payload : Payload A) (below : List (ℕ × Payload A))
+      → Holding A heap before places works popped ledger
       → works ≡ (d, payload) ∷ below → d < heap.cells
   front_inside d payload below keeps front =
-      keeps.buried.inside d (entries_in (contents_of payload)) (ap (λ bs. listed_at bs d) (keeps.listed ∙ ap (map block_listed) front)
+      keeps.buried.inside d (entries_in (contents_of payload))
+      (ap (λ bs. listed_at bs d) (keeps.listed ∙ ap (map block_listed) front)
       ∙ listed_here d (entries_in (contents_of payload)) (map block_listed below))
 
-  pub free_carries : (d : ℕ) (payload : Payload A) (below : List (ℕ × Payload A)) → Holding A heap before places works popped ledger
+  pub free_carries : (d : ℕ) (payload : Payload A) (below : List (ℕ × Payload A))
+      → Holding A heap before places works popped ledger
       → may_give_up (part_seen heap.cells before.log).row.stage ≡ true → locked_place heap.cells before.log ≡ None
       → works ≡ (d, payload) ∷ below → entries_of payload ≡ [] → Carries heap.cells before.log (Free d) d
   free_carries d payload below keeps stage unlocked front none =
       let es : List ℕ = entries_in (contents_of payload) in
-      let b : Buried heap.cells (part_seen heap.cells before.log).worklist (part_seen heap.cells before.log).has ((d, es) ∷ map block_listed below) =
+      let b : Buried heap.cells (part_seen heap.cells before.log).worklist (part_seen heap.cells before.log).has
+      ((d, es) ∷ map block_listed below) =
       subst (Buried heap.cells (part_seen heap.cells before.log).worklist (part_seen heap.cells before.log).has)
       (keeps.listed ∙ ap (map block_listed) front) keeps.buried in
       let here : listed_at ((d, es) ∷ map block_listed below) d ≡ Some es = listed_here d es (map block_listed below) in
@@ -394,29 +454,40 @@ module _ {A : Type 0} {heap : TableSeen} (before seat : SeatSeen A) {places : Sl
         cell = refl;
       }
 
-  pub after_freeing : (d : ℕ) (payload : Payload A) (below : List (ℕ × Payload A)) → Holding A heap before places works popped ledger
+  pub after_freeing : (d : ℕ) (payload : Payload A) (below : List (ℕ × Payload A))
+      → Holding A heap before places works popped ledger
       → locked_place heap.cells before.log ≡ None
       → works ≡ (d, payload) ∷ below → Continues before seat → seat.slots ≡ rest before.slots
-      → IsKnown heap.cells seat.log (giving_back d (known_seen heap.cells before.log)) → Keeps heap.cells before.log seat.log
+      → IsKnown heap.cells seat.log (giving_back d (known_seen heap.cells before.log))
+      → Keeps heap.cells before.log seat.log
       → Holding A heap seat places below popped (record ledger { frees = ledger.frees + 1 })
   after_freeing d payload below keeps unlocked front continues home knows goes_on =
       let es : List ℕ = entries_in (contents_of payload) in
-      let listed : taken_seen heap.cells before.log ≡ (d, es) ∷ map block_listed below = keeps.listed ∙ ap (map block_listed) front in
-      let b : Buried heap.cells (part_seen heap.cells before.log).worklist (part_seen heap.cells before.log).has ((d, es) ∷ map block_listed below) =
-      subst (Buried heap.cells (part_seen heap.cells before.log).worklist (part_seen heap.cells before.log).has) listed keeps.buried in
-      let off_is : off d (taken_seen heap.cells before.log) ≡ map block_listed below = ap (off d) listed ∙ front_off d es b in
+      let listed : taken_seen heap.cells before.log ≡ (d, es) ∷ map block_listed below = keeps.listed
+      ∙ ap (map block_listed) front in
+      let b : Buried heap.cells (part_seen heap.cells before.log).worklist (part_seen heap.cells before.log).has
+      ((d, es) ∷ map block_listed below) =
+      subst (Buried heap.cells (part_seen heap.cells before.log).worklist (part_seen heap.cells before.log).has) listed
+      keeps.buried in
+      let off_is : off d (taken_seen heap.cells before.log) ≡ map block_listed below = ap (off d) listed
+      ∙ front_off d es b in
       record {
         hand_is = ap (λ (p : Part). p.row.hand) knows.part ∙ keeps.hand_is;
         placed = λ j. ap (λ (p : Part). place_at p.frame j) knows.part ∙ keeps.placed j;
         risen = λ j there is_there is. goes_on.risen (drops.Frame j) there.cell (keeps.risen j there is_there is)
-            ∙ ap (names there.cell) (ap (λ (p : Part). place_at p.frame j) knows.part ∙ keeps.placed j ∙ ap cell_held is_there) ∙ eq-eqb there.cell there.cell refl;
+            ∙ ap (names there.cell) (ap (λ (p : Part). place_at p.frame j) knows.part ∙ keeps.placed j
+            ∙ ap cell_held is_there) ∙ eq-eqb there.cell there.cell refl;
         inside = keeps.inside;
         out = home ∙ ap rest (keeps.out ∙ out_unlocked heap.cells before.log works unlocked ∙ ap (map slot_out) front)
             ∙ sym (out_unlocked heap.cells seat.log below (ap (λ (p : Part). p.row.locked) knows.part ∙ unlocked));
         lock_filled = λ j is. absurd (none_held (sym (ap (λ (p : Part). p.row.locked) knows.part ∙ unlocked) ∙ is));
-        lock_has = λ d is. absurd (none_held (sym (nothing_locked heap.cells seat.log (ap (λ (p : Part). p.row.locked) knows.part ∙ unlocked)) ∙ is));
+        lock_has = λ d is. absurd
+            (none_held (sym (nothing_locked heap.cells seat.log (ap (λ (p : Part). p.row.locked) knows.part
+            ∙ unlocked)) ∙ is));
         listed = knows.blocks ∙ off_is;
-        buried = rw (knows.part, knows.blocks) (subst (Buried heap.cells (set (part_seen heap.cells before.log).worklist d false) (part_seen heap.cells before.log).has)
+        buried = rw (knows.part, knows.blocks)
+            (subst (Buried heap.cells (set (part_seen heap.cells before.log).worklist d false)
+            (part_seen heap.cells before.log).has)
             (sym off_is) (after_free d es b));
         popped_is = keeps.popped_is ∙ sym (ap (λ (p : Part). p.popped) knows.part);
         words = keeps.words;
@@ -429,7 +500,14 @@ module _ {A : Type 0} {heap : TableSeen} (before seat : SeatSeen A) {places : Sl
 
 module _ {A : Type 0} where
   pub kept : (frame : FrameSeen A) → KeepsHandles frame frame
-  kept frame = record { heap = refl; thread = refl; len = refl; next = refl; places = λ k. refl; rest = record { stage = refl; lock = refl; from = refl; near = refl } }
+  kept frame = record {
+    heap = refl;
+    thread = refl;
+    len = refl;
+    next = refl;
+    places = λ k. refl;
+    rest = record { stage = refl; lock = refl; from = refl; near = refl };
+  }
 
   pub kept_on : {old mid new : FrameSeen A} → KeepsHandles old mid → KeepsHandles mid new → KeepsHandles old new
   kept_on first second = record {
@@ -447,7 +525,8 @@ module _ {A : Type 0} where
   }
 
   -- one turn less is left, and one more was made
-  pub one_more_turn : (old mid new : FrameSeen A) (budget left : ℕ) → 0 < left → left ≤ budget → Turns old (budget - left) mid → Turned mid new
+  pub one_more_turn : (old mid new : FrameSeen A) (budget left : ℕ) → 0 < left → left ≤ budget
+      → Turns old (budget - left) mid → Turned mid new
       → Turns old (budget - (left - 1)) new
   one_more_turn old mid new budget left some few turns turned =
       subst (λ m. Turns old m new) (omega (arith, some, few)) (OneMore (budget - left) mid new turns turned)

@@ -9,7 +9,8 @@ use Rattle.law_rule.specs.Seen.{part_seen}
 use Rattle.brc_count.specs.Frames.{FrameSeen, Framing, KeepsRest, IsActive, IsUnlocked, MayGiveUp, popped_seen}
 
 -- the thread is as active as it was, and nothing is popped that wasn't
-pub framing_on : {A : Type 0} (old new : FrameSeen A) (thread : ℕ) → Framing old thread → new.seat.thread ≡ old.seat.thread → KeepsRest old new
+pub framing_on : {A : Type 0} (old new : FrameSeen A) (thread : ℕ) → Framing old thread
+    → new.seat.thread ≡ old.seat.thread → KeepsRest old new
     → popped_seen new ≡ popped_seen old → Framing new thread
 framing_on old new thread keeps same rest popped = record {
   same_thread = same ∙ keeps.same_thread;
@@ -38,7 +39,8 @@ module _ {A : Type 0} where
       may (stages.Opening words) is = cc
       may stages.Left is = refl
 
-  pub left_gives : (frame : FrameSeen A) → is_left (part_seen frame.heap.cells frame.seat.log).row.stage ≡ true → MayGiveUp frame
+  pub left_gives : (frame : FrameSeen A) → is_left (part_seen frame.heap.cells frame.seat.log).row.stage ≡ true
+      → MayGiveUp frame
   left_gives frame = may (part_seen frame.heap.cells frame.seat.log).row.stage
     where
       may : (stage : Stage) → is_left stage ≡ true → may_give_up stage ≡ true

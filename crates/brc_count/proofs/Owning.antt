@@ -43,16 +43,19 @@ module _ {A : Type 0} where
     filled = ap is_some same ∙ owns.filled;
   }
 
-  pub owns_kept : (old new : FrameSeen A) (h : HandleSeen) → KeepsThread old new → KeepsFrame old new → Owns old h → Owns new h
+  pub owns_kept : (old new : FrameSeen A) (h : HandleSeen) → KeepsThread old new → KeepsFrame old new → Owns old h
+      → Owns new h
   owns_kept old new h thread frame owns = owns_still old new h thread.heap thread.thread (frame.places h.place) owns
 
   pub frame_keeps : (old new : FrameSeen A) → KeepsThread old new → KeepsFrame old new → Keeps old new
-  frame_keeps old new thread frame = record { heap = thread.heap; len = frame.len; owns = λ h owns. owns_kept old new h thread frame owns }
+  frame_keeps old new thread frame =
+      record { heap = thread.heap; len = frame.len; owns = λ h owns. owns_kept old new h thread frame owns }
 
   -- ---- one place changes
 
   -- a handle's reference went into an object
-  pub put_loses : (old new : FrameSeen A) (gone : HandleSeen) → KeepsThread old new → ChangesPlace old new gone.place None
+  pub put_loses : (old new : FrameSeen A) (gone : HandleSeen) → KeepsThread old new
+      → ChangesPlace old new gone.place None
       → new.len + 1 ≡ old.len → Loses old new gone
   put_loses old new gone thread places len = record {
     heap = thread.heap;
@@ -61,11 +64,14 @@ module _ {A : Type 0} where
   }
 
   -- a place that had no reference has one now
-  gains_place : (old new : FrameSeen A) (given : HandleSeen) (c : ℕ) → given.heap ≡ old.heap → given.thread ≡ old.seat.thread
+  gains_place : (old new : FrameSeen A) (given : HandleSeen) (c : ℕ) → given.heap ≡ old.heap
+      → given.thread ≡ old.seat.thread
       → new.heap ≡ old.heap → new.seat.thread ≡ old.seat.thread → new.len ≡ old.len + 1 → cell_in old given.place ≡ None
-      → cell_in new given.place ≡ Some c → ((k : ℕ) → k ≢ given.place → cell_in new k ≡ cell_in old k) → Gains old new given
+      → cell_in new given.place ≡ Some c → ((k : ℕ) → k ≢ given.place → cell_in new k ≡ cell_in old k)
+      → Gains old new given
   gains_place old new given c own_heap own heap thread len vacant has others =
-      let apart : (h : HandleSeen) → Owns old h → given.place ≢ h.place = λ h owns. vacant_else (cell_in old) h.place given.place owns.filled vacant in
+      let apart : (h : HandleSeen) → Owns old h → given.place ≢ h.place =
+      λ h owns. vacant_else (cell_in old) h.place given.place owns.filled vacant in
       record {
         heap = heap;
         len = len;
@@ -88,7 +94,8 @@ module _ {A : Type 0} where
       gains_place old new given c g.heap g.thread heap g.seat.1 g.len g.vacant g.has g.others
 
   -- a handle's reference goes
-  pub released_loses : (old new : FrameSeen A) (gone : HandleSeen) (c : ℕ) → new.heap ≡ old.heap → new.seat.thread ≡ old.seat.thread
+  pub released_loses : (old new : FrameSeen A) (gone : HandleSeen) (c : ℕ) → new.heap ≡ old.heap
+      → new.seat.thread ≡ old.seat.thread
       → new.len + 1 ≡ old.len → ReleasedOf old new gone.place c → Loses old new gone
   released_loses old new gone c heap thread len goes = record {
     heap = heap;
@@ -98,8 +105,11 @@ module _ {A : Type 0} where
 
   -- ---- a handle's place is filled, so that what is said of its cell holds
 
-  pub release_loses : (old new : FrameSeen A) (gone : HandleSeen) → new.heap ≡ old.heap → new.seat.thread ≡ old.seat.thread
-      → new.len + 1 ≡ old.len → Owns old gone → ((c : ℕ) → cell_in old gone.place ≡ Some c → ReleasedOf old new gone.place c)
+  pub release_loses : (old new : FrameSeen A) (gone : HandleSeen) → new.heap ≡ old.heap
+      → new.seat.thread ≡ old.seat.thread
+      → new.len + 1 ≡ old.len → Owns old gone
+      → ((c : ℕ) → cell_in old gone.place ≡ Some c → ReleasedOf old new gone.place c)
       → Loses old new gone
   release_loses old new gone heap thread len owns goes =
-      let has = filled_with (cell_in old gone.place) owns.filled in released_loses old new gone has.0 heap thread len (goes has.0 has.1)
+      let has = filled_with (cell_in old gone.place) owns.filled in released_loses old new gone has.0 heap thread len
+      (goes has.0 has.1)

@@ -1,12 +1,15 @@
 -- What becomes of what a thread holds when entries are popped, and when one is dealt with.
-use Rattle.std.proofs.Common.{◌≡◌, ◌≢◌, ◌⊎◌, not, ℕ, ◌+◌, ◌*◌, ◌/◌, ◌%◌, ◌^◌, ◌<◌, ◌≤◌, ◌==◌, true, false, if◌then◌else◌, List, [], ◌∷◌, length, set, get_or, max, zero, suc, Option, Some, None, refl, sym, ◌∙◌, ap, subst, arith, inl, inr}
+use Rattle.std.proofs.Common.{◌≡◌, ◌≢◌, ◌⊎◌, not, ℕ, ◌+◌, ◌*◌, ◌/◌, ◌%◌, ◌^◌, ◌<◌, ◌≤◌, ◌==◌, true, false}
+use Rattle.std.proofs.Common.{if◌then◌else◌, List, [], ◌∷◌, length, set, get_or, max, zero, suc, Option, Some, None}
+use Rattle.std.proofs.Common.{refl, sym, ◌∙◌, ap, subst, arith, inl, inr}
 use Rattle.std.specs.Int.{bit_at}
 use Rattle.std.specs.Int.RustNames.{bit_or, bit_xor}
 use Rattle.std.proofs.lemmas.Bool.{cases_eq, cases_lt, eq-eqb}
 use Rattle.std.proofs.lemmas.List.{length-set, get_or-set_same, get_or-set_other}
 use Rattle.std.proofs.lemmas.Option.{slice_get-get_or, get_or_from_slice_get}
 use Rattle.std.proofs.lemmas.List.Sums.{sum_by-cons}
-use Rattle.std.proofs.lemmas.Nat.Bits.{bit_at-zero, bit_at-lt, bit_at_or, bit_at_xor, bit_at-pow_same, bit_at-pow_other, same_from_bits}
+use Rattle.std.proofs.lemmas.Nat.Bits.{bit_at-zero, bit_at-lt, bit_at_or, bit_at_xor, bit_at-pow_same, bit_at-pow_other}
+use Rattle.std.proofs.lemmas.Nat.Bits.{same_from_bits}
 use Rattle.slab.specs.Slab.{Slab}
 use Rattle.brc_block.specs.declared.payload.Payload.{Payload}
 use Rattle.law_world.specs.Heap.{words_for}
@@ -43,13 +46,17 @@ either_bit a b one low other = elim (cases_eq a 1) [
 
 module _ {n : ℕ} (words : List ℕ) (fit : AreBits n words) where
   -- bits of cells of the heap join
-  pub bits_joined : (k bits : ℕ) → k < length words → AreQueued n k bits → AreBits n (set words k (bit_or (word_at words k) bits))
+  pub bits_joined : (k bits : ℕ) → k < length words → AreQueued n k bits
+      → AreBits n (set words k (bit_or (word_at words k) bits))
   bits_joined k bits low queued = λ j i is. elim (cases_eq j k) [
-    | inr other ↦ fit j i (sym (ap (λ w. bit_at w i) (get_or-set_other words k j (bit_or (word_at words k) bits) 0 other)) ∙ is)
+    | inr other ↦ fit j i (sym
+        (ap (λ w. bit_at w i) (get_or-set_other words k j (bit_or (word_at words k) bits) 0 other)) ∙ is)
     | inl same ↦
         let here : bit_at (bit_or (word_at words k) bits) i ≡ 1 =
-        sym (ap (λ w. bit_at w i) (ap (λ m. word_at (set words k (bit_or (word_at words k) bits)) m) same ∙ get_or-set_same words k (bit_or (word_at words k) bits) 0 low)) ∙ is in
-        subst (λ m. (i < 32) × (m * 32 + i < n)) (sym same) (elim (either_bit (bit_at (word_at words k) i) (bit_at bits i) (sym (bit_at_or (word_at words k) bits i) ∙ here)
+        sym (ap (λ w. bit_at w i) (ap (λ m. word_at (set words k (bit_or (word_at words k) bits)) m) same
+        ∙ get_or-set_same words k (bit_or (word_at words k) bits) 0 low)) ∙ is in
+        subst (λ m. (i < 32) × (m * 32 + i < n)) (sym same)
+        (elim (either_bit (bit_at (word_at words k) i) (bit_at bits i) (sym (bit_at_or (word_at words k) bits i) ∙ here)
         (bit_at-lt (word_at words k) i) (bit_at-lt bits i)) [
           | inl was ↦ fit k i was
           | inr new ↦ queued i new
@@ -59,15 +66,24 @@ module _ {n : ℕ} (words : List ℕ) (fit : AreBits n words) where
   -- a bit that is set goes
   pub bits_left : (c : ℕ) → bit_of words c ≡ 1 → AreBits n (without_bit words c)
   bits_left c there = λ j i is. elim (cases_eq j (c / 32)) [
-    | inr other ↦ fit j i (sym (ap (λ w. bit_at w i) (get_or-set_other words (c / 32) j (bit_xor (word_at words (c / 32)) (2 ^ (c % 32))) 0 other)) ∙ is)
+    | inr other ↦ fit j i (sym
+        (ap (λ w. bit_at w i) (get_or-set_other words (c / 32) j (bit_xor (word_at words (c / 32)) (2 ^ (c % 32))) 0
+        other)) ∙ is)
     | inl same ↦ elim (cases_eq i (c % 32)) [
       | inl at ↦ fit j i (ap (λ m. bit_at (word_at words m) i) same ∙ ap (bit_at (word_at words (c / 32))) at ∙ there)
       | inr off ↦
           let here : bit_at (bit_xor (word_at words (c / 32)) (2 ^ (c % 32))) i ≡ 1 =
           sym (ap (λ w. bit_at w i) (ap (λ m. word_at (without_bit words c) m) same
-          ∙ get_or-set_same words (c / 32) (bit_xor (word_at words (c / 32)) (2 ^ (c % 32))) 0 (bit_inside words c (omega (arith, there))))) ∙ is in
+          ∙ get_or-set_same words (c / 32) (bit_xor (word_at words (c / 32)) (2 ^ (c % 32))) 0
+          (bit_inside words c (omega (arith, there))))) ∙ is in
           fit j i (ap (λ m. bit_at (word_at words m) i) same
-          ∙ omega (arith, here, bit_at_xor (word_at words (c / 32)) (2 ^ (c % 32)) i, bit_at-pow_other (c % 32) i off, bit_at-lt (word_at words (c / 32)) i))
+          ∙ omega (
+            arith,
+            here,
+            bit_at_xor (word_at words (c / 32)) (2 ^ (c % 32)) i,
+            bit_at-pow_other (c % 32) i off,
+            bit_at-lt (word_at words (c / 32)) i,
+          ))
     ]
   ]
 
@@ -97,7 +113,8 @@ pub record Lowest (n : ℕ) (words : List ℕ) (k i : ℕ) : Type 0 where
   pub low : i < 32
   pub inside : k * 32 + i < n
 
-pub lowest_set : (n : ℕ) (words : List ℕ) (k i v : ℕ) → v ≡ get_or words k v → k < length words → bit_at v i ≡ 1 → AreBits n words → Lowest n words k i
+pub lowest_set : (n : ℕ) (words : List ℕ) (k i v : ℕ) → v ≡ get_or words k v → k < length words → bit_at v i ≡ 1
+    → AreBits n words → Lowest n words k i
 lowest_set n words k i v read low is fit =
     let set : bit_at (word_at words k) i ≡ 1 = ap (λ w. bit_at w i) (word_read words k v read low) ∙ is in
     record { set = set; low = (fit k i set).0; inside = (fit k i set).1 }
@@ -116,7 +133,8 @@ pub record Pops (n : ℕ) (before log : List Told) (k number : ℕ) : Type 0 whe
   pub blocks : taken_seen n log ≡ taken_seen n before
   pub popped : (part_seen n log).popped ≡ popped_told (Some k) number (part_seen n before).popped
 
-pub drained_pops : (n : ℕ) (before log : List Told) (k number : ℕ) → IsKnown n log (popping k number (known_seen n before)) → Pops n before log k number
+pub drained_pops : (n : ℕ) (before log : List Told) (k number : ℕ)
+    → IsKnown n log (popping k number (known_seen n before)) → Pops n before log k number
 drained_pops n before log k number knows = record {
   hand = ap (λ (p : Part). p.row.hand) knows.part;
   locked = ap (λ (p : Part). p.row.locked) knows.part;
@@ -129,7 +147,8 @@ drained_pops n before log k number knows = record {
   popped = ap (λ (p : Part). p.popped) knows.part;
 }
 
-pub closed_pops : (n : ℕ) (before log : List Told) (k number : ℕ) → IsKnown n log (closing n k (popping k number (known_seen n before))) → Pops n before log k number
+pub closed_pops : (n : ℕ) (before log : List Told) (k number : ℕ)
+    → IsKnown n log (closing n k (popping k number (known_seen n before))) → Pops n before log k number
 closed_pops n before log k number knows = record {
   hand = ap (λ (p : Part). p.row.hand) knows.part;
   locked = ap (λ (p : Part). p.row.locked) knows.part;
@@ -142,11 +161,13 @@ closed_pops n before log k number knows = record {
   popped = ap (λ (p : Part). p.popped) knows.part;
 }
 
-module _ {A : Type 0} {heap : TableSeen} (before seat : SeatSeen A) {places : Slab Held} {works : List (ℕ × Payload A)} {popped : List ℕ} {ledger : Ledger} where
+module _ {A : Type 0} {heap : TableSeen} (before seat : SeatSeen A) {places : Slab Held} {works : List (ℕ × Payload A)}
+    {popped : List ℕ} {ledger : Ledger} where
   -- the bits of a queue word are popped, whether it is drained or closed
   pub after_pops : (k number read : ℕ) → Holding A heap before places works popped ledger → Stays before seat
       → Pops heap.cells before.log seat.log k number → Keeps heap.cells before.log seat.log
-      → AreQueued heap.cells k number → k < words_for heap.cells → read ≡ word_at popped k → locked_place heap.cells before.log ≡ None
+      → AreQueued heap.cells k number → k < words_for heap.cells → read ≡ word_at popped k
+      → locked_place heap.cells before.log ≡ None
       → Holding A heap seat places works (set popped k (bit_or read number)) ledger
   after_pops k number read keeps stays pops goes_on queued low was unlocked =
       let gone : locked_place heap.cells seat.log ≡ None = pops.locked ∙ unlocked in
@@ -155,23 +176,29 @@ module _ {A : Type 0} {heap : TableSeen} (before seat : SeatSeen A) {places : Sl
         hand_is = pops.hand ∙ keeps.hand_is;
         placed = λ j. ap (λ frame. place_at frame j) pops.frame ∙ keeps.placed j;
         risen = λ j there is_there is. goes_on.risen (drops.Frame j) there.cell (keeps.risen j there is_there is)
-            ∙ ap (names there.cell) (ap (λ frame. place_at frame j) pops.frame ∙ keeps.placed j ∙ ap cell_held is_there) ∙ eq-eqb there.cell there.cell refl;
+            ∙ ap (names there.cell) (ap (λ frame. place_at frame j) pops.frame ∙ keeps.placed j ∙ ap cell_held is_there)
+            ∙ eq-eqb there.cell there.cell refl;
         inside = keeps.inside;
-        out = stays.2 ∙ keeps.out ∙ out_unlocked heap.cells before.log works unlocked ∙ sym (out_unlocked heap.cells seat.log works gone);
+        out = stays.2 ∙ keeps.out ∙ out_unlocked heap.cells before.log works unlocked
+            ∙ sym (out_unlocked heap.cells seat.log works gone);
         lock_filled = λ j is. absurd (none_held (sym gone ∙ is));
         lock_has = λ d is. absurd (none_held (sym (nothing_locked heap.cells seat.log gone) ∙ is));
         listed = pops.blocks ∙ keeps.listed;
         buried = rw (pops.worklist, pops.has, pops.blocks) keeps.buried;
-        popped_is = ap (λ v. set popped k (bit_or v number)) was ∙ ap (λ ws. set ws k (bit_or (word_at ws k) number)) keeps.popped_is ∙ sym pops.popped;
+        popped_is = ap (λ v. set popped k (bit_or v number)) was
+            ∙ ap (λ ws. set ws k (bit_or (word_at ws k) number)) keeps.popped_is ∙ sym pops.popped;
         words = length-set popped k (bit_or read number) ∙ keeps.words;
-        bits = subst (λ v. AreBits heap.cells (set popped k (bit_or v number))) (sym was) (bits_joined popped keeps.bits k number inside queued);
+        bits = subst (λ v. AreBits heap.cells (set popped k (bit_or v number))) (sym was)
+            (bits_joined popped keeps.bits k number inside queued);
         allocs = keeps.allocs ∙ sym pops.allocs;
         frees = keeps.frees ∙ sym pops.frees;
       }
 
   -- an entry is dealt with, and the block of the object that it ended is on the worklist
-  pub after_settle : (c read : ℕ) (block : Option (ℕ × Payload A)) → Holding A heap before places works popped ledger → Continues before seat
-      → IsKnown heap.cells seat.log (settling c (taking (is_there block) c (entries_answered block) (known_seen heap.cells before.log)))
+  pub after_settle : (c read : ℕ) (block : Option (ℕ × Payload A)) → Holding A heap before places works popped ledger
+      → Continues before seat
+      → IsKnown heap.cells seat.log
+      (settling c (taking (is_there block) c (entries_answered block) (known_seen heap.cells before.log)))
       → KeepsPlaces heap.cells before.log seat.log → Answers heap.cells c block before seat
       → bit_of popped c ≡ 1 → read ≡ word_at popped (c / 32) → locked_place heap.cells before.log ≡ None
       → Holding A heap seat places (pushed block works) (set popped (c / 32) (bit_xor read (2 ^ (c % 32)))) ledger
@@ -181,20 +208,25 @@ module _ {A : Type 0} {heap : TableSeen} (before seat : SeatSeen A) {places : Sl
         hand_is = ap (λ (p : Part). p.row.hand) knows.part ∙ keeps.hand_is;
         placed = λ j. ap (λ (p : Part). place_at p.frame j) knows.part ∙ keeps.placed j;
         risen = λ j held is_there is. goes_on.risen j held.cell
-            (ap (λ (p : Part). place_at p.frame j) knows.part ∙ keeps.placed j ∙ ap cell_held is_there) (keeps.risen j held is_there is);
+            (ap (λ (p : Part). place_at p.frame j) knows.part ∙ keeps.placed j ∙ ap cell_held is_there)
+            (keeps.risen j held is_there is);
         inside = keeps.inside;
         out = answers.out ∙ ap (out_with c block) (keeps.out ∙ out_unlocked heap.cells before.log works unlocked)
-            ∙ slots_pushed c block works answers.of_cell ∙ sym (out_unlocked heap.cells seat.log (pushed block works) gone);
+            ∙ slots_pushed c block works answers.of_cell
+            ∙ sym (out_unlocked heap.cells seat.log (pushed block works) gone);
         lock_filled = λ j is. absurd (none_held (sym gone ∙ is));
         lock_has = λ d is. absurd (none_held (sym (nothing_locked heap.cells seat.log gone) ∙ is));
         listed = knows.blocks ∙ ap (taken_on false (is_there block) c (entries_answered block)) keeps.listed
             ∙ blocks_pushed c block works answers.of_cell;
         buried = rw (knows.part, knows.blocks)
-            (after_given c block keeps.buried answers.fresh (bit_low popped keeps.bits c there) (marks_wide heap.cells before.log) answers.entries);
-        popped_is = ap (λ v. set popped (c / 32) (bit_xor v (2 ^ (c % 32)))) was ∙ ap (λ ws. without_bit ws c) keeps.popped_is
+            (after_given c block keeps.buried answers.fresh (bit_low popped keeps.bits c there)
+            (marks_wide heap.cells before.log) answers.entries);
+        popped_is = ap (λ v. set popped (c / 32) (bit_xor v (2 ^ (c % 32)))) was
+            ∙ ap (λ ws. without_bit ws c) keeps.popped_is
             ∙ sym (ap (λ (p : Part). p.popped) knows.part);
         words = length-set popped (c / 32) (bit_xor read (2 ^ (c % 32))) ∙ keeps.words;
-        bits = subst (λ v. AreBits heap.cells (set popped (c / 32) (bit_xor v (2 ^ (c % 32))))) (sym was) (bits_left popped keeps.bits c there);
+        bits = subst (λ v. AreBits heap.cells (set popped (c / 32) (bit_xor v (2 ^ (c % 32))))) (sym was)
+            (bits_left popped keeps.bits c there);
         allocs = keeps.allocs ∙ sym (ap (λ (p : Part). p.row.allocs) knows.part);
         frees = keeps.frees ∙ sym (ap (λ (p : Part). p.row.frees) knows.part);
       }
@@ -208,7 +240,11 @@ pub record Sifted (k i : ℕ) (was now : List ℕ) : Type 0 where
   pub others : (m : ℕ) → m ≢ k → word_at now m ≡ word_at was m
 
 pub sifted_none : (k : ℕ) (was : List ℕ) → Sifted k 0 was was
-sifted_none k was = record { gone = λ j low. absurd (omega (arith, low)); there = λ j low. refl; others = λ m other. refl }
+sifted_none k was = record {
+  gone = λ j low. absurd (omega (arith, low));
+  there = λ j low. refl;
+  others = λ m other. refl;
+}
 
 module _ (k i : ℕ) (was now : List ℕ) (old : Sifted k i was now) where
   -- the bit isn't set
@@ -223,24 +259,44 @@ module _ (k i : ℕ) (was now : List ℕ) (old : Sifted k i was now) where
   }
 
   -- the bit is set, and goes
-  pub sifted_set : bit_at (word_at now k) i ≡ 1 → i < 32 → (next : List ℕ) → next ≡ without_bit now (k * 32 + i) → Sifted k (i + 1) was next
+  pub sifted_set : bit_at (word_at now k) i ≡ 1 → i < 32 → (next : List ℕ) → next ≡ without_bit now (k * 32 + i)
+      → Sifted k (i + 1) was next
   sifted_set one low next is =
       let word : (k * 32 + i) / 32 ≡ k = omega (arith, low) in
       let bit : (k * 32 + i) % 32 ≡ i = omega (arith, low) in
       let new : next ≡ set now k (bit_xor (word_at now k) (2 ^ i)) =
-      is ∙ ap (λ m. set now m (bit_xor (word_at now m) (2 ^ ((k * 32 + i) % 32)))) word ∙ ap (λ m. set now k (bit_xor (word_at now k) (2 ^ m))) bit in
+      is ∙ ap (λ m. set now m (bit_xor (word_at now m) (2 ^ ((k * 32 + i) % 32)))) word
+      ∙ ap (λ m. set now k (bit_xor (word_at now k) (2 ^ m))) bit in
       let inside : k < length now = subst (λ m. m < length now) word (bit_inside now (k * 32 + i)
-      (omega (arith, ap (λ m. bit_at (word_at now m) ((k * 32 + i) % 32)) word, ap (bit_at (word_at now k)) bit, one))) in
-      let here : word_at next k ≡ bit_xor (word_at now k) (2 ^ i) = ap (λ ws. word_at ws k) new ∙ get_or-set_same now k (bit_xor (word_at now k) (2 ^ i)) 0 inside in
+      (omega (
+        arith,
+        ap (λ m. bit_at (word_at now m) ((k * 32 + i) % 32)) word,
+        ap (bit_at (word_at now k)) bit,
+        one,
+      ))) in
+      let here : word_at next k ≡ bit_xor (word_at now k) (2 ^ i) = ap (λ ws. word_at ws k) new
+      ∙ get_or-set_same now k (bit_xor (word_at now k) (2 ^ i)) 0 inside in
       record {
         gone = λ j below. ap (λ w. bit_at w j) here ∙ elim (cases_eq j i) [
-          | inl same ↦ ap (bit_at (bit_xor (word_at now k) (2 ^ i))) same ∙ omega (arith, bit_at_xor (word_at now k) (2 ^ i) i, bit_at-pow_same i, one)
-          | inr other ↦ omega (arith, bit_at_xor (word_at now k) (2 ^ i) j, bit_at-pow_other i j other, old.gone j (omega (arith, below, other)))
+          | inl same ↦ ap (bit_at (bit_xor (word_at now k) (2 ^ i))) same
+              ∙ omega (arith, bit_at_xor (word_at now k) (2 ^ i) i, bit_at-pow_same i, one)
+          | inr other ↦ omega (
+            arith,
+            bit_at_xor (word_at now k) (2 ^ i) j,
+            bit_at-pow_other i j other,
+            old.gone j (omega (arith, below, other)),
+          )
         ];
         there = λ j above. ap (λ w. bit_at w j) here
-            ∙ omega (arith, bit_at_xor (word_at now k) (2 ^ i) j, bit_at-pow_other i j (λ same. omega (arith, above, same)), bit_at-lt (word_at now k) j)
+            ∙ omega (
+              arith,
+              bit_at_xor (word_at now k) (2 ^ i) j,
+              bit_at-pow_other i j (λ same. omega (arith, above, same)),
+              bit_at-lt (word_at now k) j,
+            )
             ∙ old.there j (omega (arith, above));
-        others = λ m other. ap (λ ws. word_at ws m) new ∙ get_or-set_other now k m (bit_xor (word_at now k) (2 ^ i)) 0 other ∙ old.others m other;
+        others = λ m other. ap (λ ws. word_at ws m) new
+            ∙ get_or-set_other now k m (bit_xor (word_at now k) (2 ^ i)) 0 other ∙ old.others m other;
       }
 
 -- a word has bits of 32 cells alone: once they are gone it is 0
@@ -259,25 +315,32 @@ sifted_all n k was now fit old = same_from_bits (word_at now k) 0 (λ j. none j 
 -- a thread that was told nothing drains nothing
 pub nothing_named : {A : Type 0} (words : ℕ) (frame : FrameSeen A) (i : ℕ) → DrainsNamed 0 words frame i frame
 nothing_named words frame zero = NoName
-nothing_named words frame (suc i) = subst (λ m. DrainsNamed 0 words frame m frame) (omega arith) (NotNamed i frame (nothing_named words frame i) (bit_at-zero i))
+nothing_named words frame (suc i) = subst (λ m. DrainsNamed 0 words frame m frame) (omega arith)
+    (NotNamed i frame (nothing_named words frame i) (bit_at-zero i))
 
 -- and a word without a bit has no entry to deal with
 pub nothing_dealt : {A : Type 0} (k : ℕ) (frame : FrameSeen A) (i : ℕ) → DealsBits k 0 frame i frame
 nothing_dealt k frame zero = NoBit
-nothing_dealt k frame (suc i) = subst (λ m. DealsBits k 0 frame m frame) (omega arith) (NotSet i frame (nothing_dealt k frame i) (bit_at-zero i))
+nothing_dealt k frame (suc i) = subst (λ m. DealsBits k 0 frame m frame) (omega arith)
+    (NotSet i frame (nothing_dealt k frame i) (bit_at-zero i))
 
 -- once a word is drained and its entries are dealt with, it is 0 again, and so are all others
-pub still_blank : (k number : ℕ) (was mid now : List ℕ) → ((m : ℕ) → word_at was m ≡ 0) → mid ≡ popped_told (Some k) number was
+pub still_blank : (k number : ℕ) (was mid now : List ℕ) → ((m : ℕ) → word_at was m ≡ 0)
+    → mid ≡ popped_told (Some k) number was
     → word_at now k ≡ 0 → ((m : ℕ) → m ≢ k → word_at now m ≡ word_at mid m) → (m : ℕ) → word_at now m ≡ 0
 still_blank k number was mid now blank drained done others m = elim (cases_eq m k) [
   | inl same ↦ ap (word_at now) same ∙ done
-  | inr other ↦ others m other ∙ ap (λ ws. word_at ws m) drained ∙ get_or-set_other was k m (bit_or (word_at was k) number) 0 other ∙ blank m
+  | inr other ↦ others m other ∙ ap (λ ws. word_at ws m) drained
+      ∙ get_or-set_other was k m (bit_or (word_at was k) number) 0 other ∙ blank m
 ]
 
 or_nothing : (number : ℕ) → bit_or 0 number ≡ number
-or_nothing number = same_from_bits (bit_or 0 number) number (λ i. bit_at_or 0 number i ∙ ap (λ b. max b (bit_at number i)) (bit_at-zero i) ∙ omega arith)
+or_nothing number = same_from_bits (bit_or 0 number) number (λ i. bit_at_or 0 number i
+    ∙ ap (λ b. max b (bit_at number i)) (bit_at-zero i) ∙ omega arith)
 
 -- what was drained is what the popped word has then
-pub drained_word : (k number : ℕ) (was mid : List ℕ) → k < length was → word_at was k ≡ 0 → mid ≡ popped_told (Some k) number was → word_at mid k ≡ number
+pub drained_word : (k number : ℕ) (was mid : List ℕ) → k < length was → word_at was k ≡ 0
+    → mid ≡ popped_told (Some k) number was → word_at mid k ≡ number
 drained_word k number was mid low none drained =
-    ap (λ ws. word_at ws k) drained ∙ get_or-set_same was k (bit_or (word_at was k) number) 0 low ∙ ap (λ w. bit_or w number) none ∙ or_nothing number
+    ap (λ ws. word_at ws k) drained ∙ get_or-set_same was k (bit_or (word_at was k) number) 0 low
+    ∙ ap (λ w. bit_or w number) none ∙ or_nothing number

@@ -18,10 +18,12 @@ stage_with words closed = if closed == 0 then stages.Active else closed_more wor
 -- so many queue words were closed, by rising number
 pub data Closes (before : List Told) : ℕ → List Told → Type 0 where
   NoWord : Closes before 0 before
-  Closed : (k bits : ℕ) (log : List Told) → Closes before k log → Closes before (k + 1) (Did (Close k) bits Nothing ∷ log)
+  Closed : (k bits : ℕ) (log : List Told) → Closes before k log
+      → Closes before (k + 1) (Did (Close k) bits Nothing ∷ log)
 
 module _ {A : Type 0} where
-  -- A turn of a thread that has left: a popped entry is dealt with; or, where none is left, a turn of the work on dead blocks.
+  -- A turn of a thread that has left: a popped entry is dealt with; or, where none is left, a turn of the work on dead
+  -- blocks.
   pub data TurnedLeaving (old new : FrameSeen A) : Type 0 where
     EntryDealt : (c : ℕ) → bit_of (popped_seen old) c ≡ 1 → Deals old new c → TurnedLeaving old new
     BlockTurned : is_blank (popped_seen old) ≡ true → Turned old new → TurnedLeaving old new
@@ -29,4 +31,5 @@ module _ {A : Type 0} where
   -- so many turns, one after the other
   pub data TurnsLeaving (old : FrameSeen A) : ℕ → FrameSeen A → Type 0 where
     NoTurn : TurnsLeaving old 0 old
-    OneMore : (n : ℕ) (mid new : FrameSeen A) → TurnsLeaving old n mid → TurnedLeaving mid new → TurnsLeaving old (n + 1) new
+    OneMore : (n : ℕ) (mid new : FrameSeen A) → TurnsLeaving old n mid → TurnedLeaving mid new
+        → TurnsLeaving old (n + 1) new

@@ -1,5 +1,6 @@
 -- What contracts see of a frame and of its handles, and what a frame keeps.
-use Rattle.std.specs.Prelude.{◌≡◌, ◌≢◌, ◌<◌, ◌≤◌, ◌+◌, ◌-◌, ℕ, Bool, true, List, [], ◌∷◌, map, Option, Some, None, is_some, is_none, ◌&&◌, ◌*◌, ◌/◌, nat_le, nat_lt, if◌then◌else◌, length, false}
+use Rattle.std.specs.Prelude.{◌≡◌, ◌≢◌, ◌<◌, ◌≤◌, ◌+◌, ◌-◌, ℕ, Bool, true, List, [], ◌∷◌, map, Option, Some, None}
+use Rattle.std.specs.Prelude.{is_some, is_none, ◌&&◌, ◌*◌, ◌/◌, nat_le, nat_lt, if◌then◌else◌, length, false}
 use Rattle.slab.specs.Slab.{Slab, get, slab_len}
 use Rattle.brc_words.specs.declared.limits.TheConstants.{FIRST_MORTAL, MOST_PLACES}
 use Rattle.brc_words.specs.declared.fault.Fault.{Fault}
@@ -78,8 +79,8 @@ abbrev pub are_apart : Blocks → Bool
 are_apart [] = true
 are_apart (b ∷ blocks) = is_none (listed_at blocks b.0) && are_apart blocks
 
--- The dead blocks that are listed: each is marked, and no other cell is; its cell has the entries that are listed, and all
--- of them are cells of the heap; none is listed twice.
+-- The dead blocks that are listed: each is marked, and no other cell is; its cell has the entries that are listed, and
+-- all of them are cells of the heap; none is listed twice.
 pub record Buried (n : ℕ) (marks : List Bool) (has : ℕ → List ℕ) (blocks : Blocks) : Type 0 where
   pub marked : (c : ℕ) (entries : List ℕ) → listed_at blocks c ≡ Some entries → is_marked marks c ≡ true
   pub has_them : (c : ℕ) (entries : List ℕ) → listed_at blocks c ≡ Some entries → has c ≡ entries
@@ -88,8 +89,8 @@ pub record Buried (n : ℕ) (marks : List Bool) (has : ℕ → List ℕ) (blocks
   pub apart : are_apart blocks ≡ true
   pub only : (c : ℕ) → listed_at blocks c ≡ None → is_marked marks c ≡ false
 
--- The free word at which a thread's claims begin, of which each has 64 cells; and whether they begin near the cells that the
--- thread claimed and freed last.
+-- The free word at which a thread's claims begin, of which each has 64 cells; and whether they begin near the cells
+-- that the thread claimed and freed last.
 pub record StartSeen : Type 0 where
   pub from : ℕ
   pub near : Bool
@@ -122,21 +123,25 @@ IsUnlocked frame = locked_place frame.heap.cells frame.seat.log ≡ None
 abbrev pub AreBits : ℕ → List ℕ → Type 0
 AreBits n words = (k i : ℕ) → bit_at (word_at words k) i ≡ 1 → (i < 32) × (k * 32 + i < n)
 
--- What a thread's holdings keep: nothing is in its hand; each place holds what the log says, and what is marked as risen was
--- seen so; the popped words are the log's; the worklist has the dead blocks that the log lists, and no slot is out but theirs
--- and that of the object that is locked, if one is; that one stands in its place, with the entries that were found. Births and
--- frees are counted.
-pub record Holding (A : Type 0) (heap : TableSeen) (seat : SeatSeen A) (places : Slab Held) (works : List (ℕ × Payload A)) (popped : List ℕ) (ledger : Ledger) : Type 0 where
+-- What a thread's holdings keep: nothing is in its hand; each place holds what the log says, and what is marked as
+-- risen was seen so; the popped words are the log's; the worklist has the dead blocks that the log lists, and no slot
+-- is out but theirs and that of the object that is locked, if one is; that one stands in its place, with the entries
+-- that were found. Births and frees are counted.
+pub record Holding (A : Type 0) (heap : TableSeen) (seat : SeatSeen A) (places : Slab Held)
+    (works : List (ℕ × Payload A)) (popped : List ℕ) (ledger : Ledger) : Type 0 where
   pub hand_is : (part_seen heap.cells seat.log).row.hand ≡ hands.Free
   pub placed : (k : ℕ) → place_seen heap.cells seat.log k ≡ cell_held (get places k)
   pub risen : (k : ℕ) (held : Held) → get places k ≡ Some held → held.risen ≡ true
       → risen_seen heap.cells seat.log (drops.Frame k) held.cell ≡ true
   pub inside : (k : ℕ) (held : Held) → get places k ≡ Some held → held.cell < heap.cells
   pub out : seat.slots ≡ slots_out (lock_seen heap.cells seat.log) works
-  pub lock_filled : (k : ℕ) → locked_place heap.cells seat.log ≡ Some k → is_some (place_seen heap.cells seat.log k) ≡ true
-  pub lock_has : (c : ℕ) → lock_seen heap.cells seat.log ≡ Some c → (part_seen heap.cells seat.log).has c ≡ entries_in (found_locked seat.log)
+  pub lock_filled : (k : ℕ) → locked_place heap.cells seat.log ≡ Some k
+      → is_some (place_seen heap.cells seat.log k) ≡ true
+  pub lock_has : (c : ℕ) → lock_seen heap.cells seat.log ≡ Some c → (part_seen heap.cells seat.log).has c ≡ entries_in
+      (found_locked seat.log)
   pub listed : taken_seen heap.cells seat.log ≡ map block_listed works
-  pub buried : Buried heap.cells (part_seen heap.cells seat.log).worklist (part_seen heap.cells seat.log).has (taken_seen heap.cells seat.log)
+  pub buried : Buried heap.cells (part_seen heap.cells seat.log).worklist (part_seen heap.cells seat.log).has
+      (taken_seen heap.cells seat.log)
   pub popped_is : popped ≡ (part_seen heap.cells seat.log).popped
   pub words : length popped ≡ words_for heap.cells
   pub bits : AreBits heap.cells popped
@@ -188,10 +193,20 @@ pub record Leaving {A : Type 0} (holdings : FrameSeen A) (thread next : ℕ) : T
 
 -- what contracts see of a frame at rest, without dead blocks
 abbrev pub resting_seen : {A : Type 0} → CounterSeen A → Slab Held → StartSeen → FrameSeen A
-resting_seen counter places start = record { heap = counter.heap; seat = counter.seat; len = slab_len places; spare = places.capacity - slab_len places; next = places.vacant_key; works = []; from = start.from; near = start.near }
+resting_seen counter places start = record {
+  heap = counter.heap;
+  seat = counter.seat;
+  len = slab_len places;
+  spare = places.capacity - slab_len places;
+  next = places.vacant_key;
+  works = [];
+  from = start.from;
+  near = start.near;
+}
 
 -- what a frame at rest keeps: it is a frame's, without handles and dead blocks, and nothing is locked
-pub record Rests (A : Type 0) (counter : CounterSeen A) (places : Slab Held) (popped : List ℕ) (ledger : Ledger) (start : StartSeen) (thread : ℕ) : Type 0 where
+pub record Rests (A : Type 0) (counter : CounterSeen A) (places : Slab Held) (popped : List ℕ) (ledger : Ledger)
+    (start : StartSeen) (thread : ℕ) : Type 0 where
   pub holding : Holding A counter.heap counter.seat places [] popped ledger
   pub framing : Framing (resting_seen counter places start) thread
   pub bare : slab_len places ≡ 0
@@ -221,8 +236,8 @@ IsAsBefore old new = new ≡ record old { spare = new.spare }
 abbrev pub KeepsButStart : {A : Type 0} → FrameSeen A → FrameSeen A → Type 0
 KeepsButStart old new = new ≡ record old { from = new.from; near = new.near }
 
--- The one event by which a reference is counted up: a look, where the cell is immortal; on the local word, where the thread
--- counts the cell there and is below the limit; else on the shared word.
+-- The one event by which a reference is counted up: a look, where the cell is immortal; on the local word, where the
+-- thread counts the cell there and is below the limit; else on the shared word.
 pub record CountsUp {A : Type 0} (old new : FrameSeen A) (source : Source) (k c : ℕ) : Type 0 where
   pub immortal : c < FIRST_MORTAL → RaisedImmortal source k old.seat.log new.seat.log
   pub own : FIRST_MORTAL ≤ c → CountsHere old.heap.cells old.heap.local_limit old.seat.log c
@@ -231,8 +246,8 @@ pub record CountsUp {A : Type 0} (old new : FrameSeen A) (source : Source) (k c 
   pub shared : FIRST_MORTAL ≤ c → ¬ CountsHere old.heap.cells old.heap.local_limit old.seat.log c
       → RaisedShared source k old.seat.log new.seat.log risen
 
--- A new handle is of the frame's heap and thread, in the place that was next, and has a reference to the cell; every other place
--- has what it had, and no block came or went.
+-- A new handle is of the frame's heap and thread, in the place that was next, and has a reference to the cell; every
+-- other place has what it had, and no block came or went.
 pub record Given {A : Type 0} (old new : FrameSeen A) (source : Source) (c : ℕ) (given : HandleSeen) : Type 0 where
   pub heap : given.heap ≡ old.heap
   pub thread : given.thread ≡ old.seat.thread
@@ -240,7 +255,8 @@ pub record Given {A : Type 0} (old new : FrameSeen A) (source : Source) (c : ℕ
   pub room : given.place < MOST_PLACES
   pub vacant : place_seen old.heap.cells old.seat.log given.place ≡ None
   pub has : place_seen new.heap.cells new.seat.log given.place ≡ Some c
-  pub others : (k : ℕ) → k ≢ given.place → place_seen new.heap.cells new.seat.log k ≡ place_seen old.heap.cells old.seat.log k
+  pub others : (k : ℕ) → k ≢ given.place → place_seen new.heap.cells new.seat.log k ≡ place_seen old.heap.cells
+      old.seat.log k
   pub counted : CountsUp old new source given.place c
   pub seat : Stays old.seat new.seat
   pub len : new.len ≡ old.len + 1
@@ -253,8 +269,8 @@ Refused old FrameFull = MOST_PLACES ≤ old.next
 Refused old OutOfMemory = old.next < MOST_PLACES
 Refused old _ = ⊥
 
--- The events of a release are one of the lists of `brc_biased`, by which the object may end: then its block is on the front
--- of the worklist. The place is vacant, and every other place has what it had.
+-- The events of a release are one of the lists of `brc_biased`, by which the object may end: then its block is on the
+-- front of the worklist. The place is vacant, and every other place has what it had.
 pub record ReleasedOf {A : Type 0} (old new : FrameSeen A) (k c : ℕ) : Type 0 where
   pub seen : Bool
   pub block : Option (ℕ × Payload A)
@@ -264,14 +280,16 @@ pub record ReleasedOf {A : Type 0} (old new : FrameSeen A) (k c : ℕ) : Type 0 
   pub others : (j : ℕ) → j ≢ k → place_seen new.heap.cells new.seat.log j ≡ place_seen old.heap.cells old.seat.log j
   pub rest : KeepsRest old new
 
--- A turn of the work on dead blocks. The front block's last entry is released, by one of the lists, and where that object
--- ended its block is the new front; or the front block has no entries and its cell is given back; or no block is there, and
--- nothing is done. Every place has what it had.
+-- A turn of the work on dead blocks. The front block's last entry is released, by one of the lists, and where that
+-- object ended its block is the new front; or the front block has no entries and its cell is given back; or no block is
+-- there, and nothing is done. Every place has what it had.
 pub data Turned {A : Type 0} (old new : FrameSeen A) : Type 0 where
-  EntryReleased : (entry : ℕ) (mid : List (ℕ × Payload A)) (pops : PopsEntry old.works mid entry) (seen : Bool) (block : Option (ℕ × Payload A))
+  EntryReleased : (entry : ℕ) (mid : List (ℕ × Payload A)) (pops : PopsEntry old.works mid entry) (seen : Bool)
+      (block : Option (ℕ × Payload A))
       → new.heap ≡ old.heap → Released old.heap.cells (drops.Work pops.cell) entry seen block old.seat.log new.seat.log
       → new.works ≡ pushed block mid → Turned old new
-  BlockFreed : (front : ℕ × Payload A) (found : ℕ) → new.heap ≡ old.heap → old.works ≡ front ∷ new.works → entries_of front.1 ≡ []
+  BlockFreed : (front : ℕ × Payload A) (found : ℕ) → new.heap ≡ old.heap → old.works ≡ front ∷ new.works
+      → entries_of front.1 ≡ []
       → new.seat.log ≡ Did (Free front.0) found Nothing ∷ old.seat.log → Turned old new
 
 -- so many turns, one after the other

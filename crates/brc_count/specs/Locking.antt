@@ -21,9 +21,9 @@ use Rattle.brc_table.specs.Moving.{found_locked}
 use Rattle.brc_table.specs.Shown.{contents_of}
 use Rattle.brc_count.specs.Frames.{FrameSeen, place_seen, locked_place, lock_seen, popped_seen, IsUnlocked}
 
--- What a thread knows of the object that it has locked: it stands in a place of the frame; what the locking found, with the
--- entries that the thread's own part has, not too many, and all of them cells of the heap; and that its block is none of the
--- dead ones.
+-- What a thread knows of the object that it has locked: it stands in a place of the frame; what the locking found, with
+-- the entries that the thread's own part has, not too many, and all of them cells of the heap; and that its block is
+-- none of the dead ones.
 pub record KnowsLock (n : ℕ) (log : List Told) : Type 0 where
   pub somewhere : is_some (lock_seen n log) ≡ true
   pub found : contents_locked log ≡ Some (found_locked log)
@@ -60,8 +60,8 @@ module _ {A : Type 0} where
 
 -- ---- what calls do
 
--- Locking and unlocking leave this as it is: the heap, the thread and its stage, its popped entries, the dead blocks, and where
--- claims begin.
+-- Locking and unlocking leave this as it is: the heap, the thread and its stage, its popped entries, the dead blocks,
+-- and where claims begin.
 pub record KeepsThread {A : Type 0} (old new : FrameSeen A) : Type 0 where
   pub heap : new.heap ≡ old.heap
   pub thread : new.seat.thread ≡ old.seat.thread
@@ -90,8 +90,8 @@ pub record KeepsLock {A : Type 0} (old new : FrameSeen A) : Type 0 where
   pub cell : cell_locked new ≡ cell_locked old
   pub contents : contents_locked new.seat.log ≡ contents_locked old.seat.log
 
--- The object in the place is locked, by one event, and its block is the thread's until the unlocking, with the contents that
--- were found: those that the thread put home there last, where the object is private to it.
+-- The object in the place is locked, by one event, and its block is the thread's until the unlocking, with the contents
+-- that were found: those that the thread put home there last, where the object is private to it.
 pub record Began {A : Type 0} (old new : FrameSeen A) (k : ℕ) (block : ℕ × Payload A) : Type 0 where
   pub cell : cell_in old k ≡ Some block.0
   pub event : new.seat.log ≡ Did (Lock k) 0 (moves.Found block.0 (contents_of block.1)) ∷ old.seat.log

@@ -1,4 +1,5 @@
--- How an object is made: a cell is claimed, its words are set, and its block is put home; the first reference is the frame's.
+-- How an object is made: a cell is claimed, its words are set, and its block is put home; the first reference is the
+-- frame's.
 use Rattle.std.specs.Prelude.{◌≡◌, ◌≢◌, ◌<◌, ◌≤◌, ◌+◌, ◌^◌, ℕ, false, List, ◌∷◌, Some, None}
 use Rattle.brc_words.specs.declared.fault.Fault.{Fault}
 use Rattle.brc_words.specs.declared.fault.Fault.TheVariants.{OutOfMemory, HeapFull, FrameFull, LedgerFull}
@@ -14,10 +15,10 @@ use Rattle.brc_biased.specs.Seeking.{PassesOver, ClaimsAround}
 use Rattle.brc_count.specs.Frames.{FrameSeen, HandleSeen, KeepsRest, KeepsHandles, IsAsBefore, place_seen, ledger_seen}
 
 module _ {A : Type 0} where
-  -- An object with these contents is made, in the first cell that was to be had from the word on with which the search began;
-  -- that is the frame's own, unless claims were asked for near the last ones. The thread claims the cell, sets its local word
-  -- and its shared one, and puts its block home. The new handle is of the frame's heap and thread, in the place that was next;
-  -- every other place has what it had, and no block came or went.
+  -- An object with these contents is made, in the first cell that was to be had from the word on with which the search
+  -- began; that is the frame's own, unless claims were asked for near the last ones. The thread claims the cell, sets
+  -- its local word and its shared one, and puts its block home. The new handle is of the frame's heap and thread, in
+  -- the place that was next; every other place has what it had, and no block came or went.
   pub record Made (old new : FrameSeen A) (contents : Contents) (given : HandleSeen) : Type 0 where
     pub cell : ℕ
     pub mortal : FIRST_MORTAL ≤ cell
@@ -34,7 +35,8 @@ module _ {A : Type 0} where
     pub room : given.place < MOST_PLACES
     pub vacant : place_seen old.heap.cells old.seat.log given.place ≡ None
     pub has : place_seen new.heap.cells new.seat.log given.place ≡ Some cell
-    pub others : (k : ℕ) → k ≢ given.place → place_seen new.heap.cells new.seat.log k ≡ place_seen old.heap.cells old.seat.log k
+    pub others : (k : ℕ) → k ≢ given.place → place_seen new.heap.cells new.seat.log k ≡ place_seen old.heap.cells
+        old.seat.log k
     pub seat : Continues old.seat new.seat
     pub len : new.len ≡ old.len + 1
     pub works : new.works ≡ old.works
@@ -50,7 +52,10 @@ module _ {A : Type 0} where
   -- missing for the place or the block; or where no cell was to be had.
   abbrev pub RefusedMaking : FrameSeen A → FrameSeen A → Fault → Type 0
   RefusedMaking old new FrameFull = (MOST_PLACES ≤ old.next) × IsAsBefore old new
-  RefusedMaking old new LedgerFull = (old.next < MOST_PLACES) × (MOST_BIRTHS ≤ (ledger_seen old).allocs) × IsAsBefore old new
-  RefusedMaking old new OutOfMemory = (old.next < MOST_PLACES) × ((ledger_seen old).allocs < MOST_BIRTHS) × IsAsBefore old new
-  RefusedMaking old new HeapFull = (old.next < MOST_PLACES) × ((ledger_seen old).allocs < MOST_BIRTHS) × FoundNone old new
+  RefusedMaking old new LedgerFull = (old.next < MOST_PLACES) × (MOST_BIRTHS ≤ (ledger_seen old).allocs)
+      × IsAsBefore old new
+  RefusedMaking old new OutOfMemory = (old.next < MOST_PLACES) × ((ledger_seen old).allocs < MOST_BIRTHS)
+      × IsAsBefore old new
+  RefusedMaking old new HeapFull = (old.next < MOST_PLACES) × ((ledger_seen old).allocs < MOST_BIRTHS)
+      × FoundNone old new
   RefusedMaking old new _ = ⊥

@@ -10,8 +10,8 @@ use Rattle.brc_biased.specs.Released.{Settled}
 use Rattle.brc_count.specs.Frames.{FrameSeen, pushed}
 
 module _ {A : Type 0} where
-  -- A popped entry is dealt with: it is counted down, after its object was found merged or is merged by the thread; where
-  -- the object ends, its block is on the front of the worklist.
+  -- A popped entry is dealt with: it is counted down, after its object was found merged or is merged by the thread;
+  -- where the object ends, its block is on the front of the worklist.
   pub record Deals (old new : FrameSeen A) (c : ℕ) : Type 0 where
     pub heap : new.heap ≡ old.heap
     pub block : Option (ℕ × Payload A)
@@ -21,8 +21,10 @@ module _ {A : Type 0} where
   -- of the bits of word k those below i were looked at, by rising number, and the entry of each that was set dealt with
   pub data DealsBits (k bits : ℕ) (old : FrameSeen A) : ℕ → FrameSeen A → Type 0 where
     NoBit : DealsBits k bits old 0 old
-    NotSet : (i : ℕ) (new : FrameSeen A) → DealsBits k bits old i new → bit_at bits i ≡ 0 → DealsBits k bits old (i + 1) new
-    Dealt : (i : ℕ) (mid new : FrameSeen A) → DealsBits k bits old i mid → bit_at bits i ≡ 1 → Deals mid new (k * 32 + i)
+    NotSet : (i : ℕ) (new : FrameSeen A) → DealsBits k bits old i new → bit_at bits i ≡ 0
+        → DealsBits k bits old (i + 1) new
+    Dealt : (i : ℕ) (mid new : FrameSeen A) → DealsBits k bits old i mid → bit_at bits i ≡ 1
+        → Deals mid new (k * 32 + i)
         → DealsBits k bits old (i + 1) new
 
   -- one queue word is drained, and the entry of each of its bits dealt with
@@ -37,10 +39,11 @@ module _ {A : Type 0} where
   -- the queue words from one number on are drained, one after the other, up to another number
   pub data DrainsEach (from : ℕ) (old : FrameSeen A) : ℕ → FrameSeen A → Type 0 where
     NoWord : DrainsEach from old from old
-    OneMore : (k : ℕ) (mid new : FrameSeen A) → DrainsEach from old k mid → Drains mid new k → DrainsEach from old (k + 1) new
+    OneMore : (k : ℕ) (mid new : FrameSeen A) → DrainsEach from old k mid → Drains mid new k
+        → DrainsEach from old (k + 1) new
 
-  -- Of the bits of the notify word those below i were looked at, by rising number. One that is set names 32 queue words, from
-  -- word 32 i on, or as many as there are: each of them is drained.
+  -- Of the bits of the notify word those below i were looked at, by rising number. One that is set names 32 queue
+  -- words, from word 32 i on, or as many as there are: each of them is drained.
   pub data DrainsNamed (told words : ℕ) (old : FrameSeen A) : ℕ → FrameSeen A → Type 0 where
     NoName : DrainsNamed told words old 0 old
     NotNamed : (i : ℕ) (new : FrameSeen A) → DrainsNamed told words old i new → bit_at told i ≡ 0

@@ -1,6 +1,7 @@
 //! A closed frame: what a thread that has left still has to deal with.
 
-ghost use Rattle.std.specs.Prelude.{◌≡◌, ◌-◌, ◌<◌, ◌≤◌, ℕ, [], ◌⊎◌, length, IsTrue, IsFalse, IfOk, IfErr, OnErr, true, false};
+ghost use Rattle.std.specs.Prelude.{◌≡◌, ◌-◌, ◌<◌, ◌≤◌, ℕ, [], ◌⊎◌, length, IsTrue, IsFalse, IfOk, IfErr, OnErr, true};
+ghost use Rattle.std.specs.Prelude.{false};
 ghost use Rattle.law_world.specs.Lists.{word_at, is_blank, is_unmarked};
 ghost use Rattle.law_world.specs.Steps.{is_left, is_free_hand};
 ghost use Rattle.law_rule.specs.Seen.{part_seen};
@@ -83,8 +84,8 @@ impl<H: Home<A>, A: Allocator> ClosedFrame<H, A> {
         true
     }
 
-    /// Deals with popped entries and takes dead blocks apart, at most so many turns: entries come first. The answer is the
-    /// number of turns that weren't needed: above 0 only where nothing is left. It takes no memory.
+    /// Deals with popped entries and takes dead blocks apart, at most so many turns: entries come first. The answer is
+    /// the number of turns that weren't needed: above 0 only where nothing is left. It takes no memory.
     pub fn work(&mut self, budget: usize) -> usize
         ensures keeps { KeepsHandles self.old self.new }
         ensures few { result ≤ budget }

@@ -21,14 +21,17 @@ impl<H: Home<A>, A: Allocator> Holdings<H, A> {
     /// Closes the next of the thread's queue words; its entries are popped.
     fn close_word(&mut self, word: u32)
         requires inside { word < words_for self.old.heap.cells }
-        requires stage { (part_seen self.old.heap.cells self.old.seat.log).row.stage ≡ stage_with (words_for self.old.heap.cells) word }
+        requires stage { (part_seen self.old.heap.cells self.old.seat.log).row.stage ≡ stage_with
+            (words_for self.old.heap.cells) word }
         requires unlocked { IsUnlocked self.old }
         requires idle { (self.old.len ≡ 0) × (self.old.works ≡ []) }
         requires blank { word ≡ 0 → is_blank (popped_seen self.old) ≡ true }
         ensures heap { self.new.heap ≡ self.old.heap }
         ensures thread { self.new.seat.thread ≡ self.old.seat.thread }
-        ensures closes { (before : List Told) → Closes before word self.old.seat.log → Closes before (word + 1) self.new.seat.log }
-        ensures stage { (part_seen self.old.heap.cells self.new.seat.log).row.stage ≡ stage_with (words_for self.old.heap.cells) (word + 1) }
+        ensures closes { (before : List Told) → Closes before word self.old.seat.log
+            → Closes before (word + 1) self.new.seat.log }
+        ensures stage { (part_seen self.old.heap.cells self.new.seat.log).row.stage ≡ stage_with
+            (words_for self.old.heap.cells) (word + 1) }
         ensures unlocked { IsUnlocked self.new }
         ensures idle { (self.new.len ≡ 0) × (self.new.works ≡ []) }
     {

@@ -1,6 +1,7 @@
 //! A frame: the references of one thread that is there.
 
-ghost use Rattle.std.specs.Prelude.{◌≡◌, ◌+◌, ◌-◌, ◌<◌, ◌≤◌, ℕ, Some, None, IsTrue, IsFalse, [], length, replicate, ◌⊎◌, IfOk, IfErr, OnOk, OnErr, true, false};
+ghost use Rattle.std.specs.Prelude.{◌≡◌, ◌+◌, ◌-◌, ◌<◌, ◌≤◌, ℕ, Some, None, IsTrue, IsFalse, [], length, replicate};
+ghost use Rattle.std.specs.Prelude.{◌⊎◌, IfOk, IfErr, OnOk, OnErr, true, false};
 ghost use Rattle.brc_words.specs.declared.limits.TheConstants.{FIRST_MORTAL, MOST_THREADS};
 ghost use Rattle.brc_words.specs.declared.fault.Fault.TheVariants.{OutOfMemory};
 ghost use Rattle.law_world.specs.declared.event.Source.TheVariants as sources;
@@ -9,7 +10,9 @@ ghost use Rattle.brc_biased.specs.Bounded.{IsBounded};
 ghost use Rattle.law_steps.specs.Joining.{next_thread, registering};
 ghost use Rattle.brc_table.specs.Seated.{Continues};
 ghost use Rattle.law_living.specs.Living.{OwnLog};
-ghost use Rattle.brc_count.specs.Frames.{place_seen, handle_at, Owns, Given, Refused, ReleasedOf, IsAsBefore, IsUnlocked, Turns, KeepsHandles, KeepsButStart, first_word, word_asked, ledger_seen};
+ghost use Rattle.brc_count.specs.Frames.{place_seen, handle_at, Owns, Given, Refused, ReleasedOf, IsAsBefore};
+ghost use Rattle.brc_count.specs.Frames.{IsUnlocked, Turns, KeepsHandles, KeepsButStart, first_word, word_asked};
+ghost use Rattle.brc_count.specs.Frames.{ledger_seen};
 ghost use Rattle.brc_count.specs.Polling.{Polled};
 ghost use Rattle.brc_count.specs.Closing.{Closes};
 ghost use Rattle.brc_count.specs.Making.{Made, RefusedMaking};
@@ -58,8 +61,8 @@ fn no_bits<A: Allocator>(alloc: A, cells: u32) -> Result<Vec<u64, A>, AllocError
 }
 
 impl<H: Home<A> + Drop, A: Allocator + Copy> Frame<H, A> {
-    /// The frame of the next thread, which is registered with it. All memory that its counts and its popped entries want is
-    /// had before: where it is missing the answer is OutOfMemory, and nothing changed.
+    /// The frame of the next thread, which is registered with it. All memory that its counts and its popped entries
+    /// want is had before: where it is missing the answer is OutOfMemory, and nothing changed.
     pub fn enter(alloc: A, heap: H, root: &mut RootSeat<A>) -> Result<Frame<H, A>, Fault>
         requires table { root.old.table ≡ (H.seen heap).table }
         requires few { next_thread root.old.view ≤ MOST_THREADS }
@@ -118,8 +121,8 @@ impl<H: Home<A>, A: Allocator> Frame<H, A> {
         }
     }
 
-    /// Whether the handle, which is of this frame's heap, is of its thread, and its place has a reference. Nothing at run time tells
-    /// one heap from another: that the two are of one heap is what a caller proves.
+    /// Whether the handle, which is of this frame's heap, is of its thread, and its place has a reference. Nothing at
+    /// run time tells one heap from another: that the two are of one heap is what a caller proves.
     pub fn owns(&self, handle: &Handle<A>) -> bool
         requires heap { handle.now.heap ≡ self.now.heap }
         ensures owned { IsTrue result → Owns self.now handle.now }
@@ -163,8 +166,9 @@ impl<H: Home<A>, A: Allocator> Frame<H, A> {
         self.holdings.places.len()
     }
 
-    /// One handle more to the same object, in one event (PEP 703, "Biased Reference Counting"). FrameFull where the next
-    /// place isn't below 65,536, looked at first; OutOfMemory where a place more can't be had. A refusal changes nothing.
+    /// One handle more to the same object, in one event (PEP 703, "Biased Reference Counting"). FrameFull where the
+    /// next place isn't below 65,536, looked at first; OutOfMemory where a place more can't be had. A refusal changes
+    /// nothing.
     #[inline(always)]
     pub fn retain(&mut self, handle: &Handle<A>) -> Result<Handle<A>, Fault>
         requires owned { Owns self.old handle.now }
@@ -207,10 +211,11 @@ impl<H: Home<A>, A: Allocator> Frame<H, A> {
         Ok(self.handle(place))
     }
 
-    /// From now on the thread's claims begin with the free word that has this cell (word k has the cells from 64 k on), go on
-    /// to the heap's end, and then from the first mortal cell up to there. For a cell below 266, or past the heap's last, that
-    /// is the first mortal cell's word, as for a frame that nobody asked. It is for threads that make objects at once: where
-    /// each begins with a part of the heap of its own, they meet in one word only once such a part is full.
+    /// From now on the thread's claims begin with the free word that has this cell (word k has the cells from 64 k on),
+    /// go on to the heap's end, and then from the first mortal cell up to there. For a cell below 266, or past the
+    /// heap's last, that is the first mortal cell's word, as for a frame that nobody asked. It is for threads that make
+    /// objects at once: where each begins with a part of the heap of its own, they meet in one word only once such a
+    /// part is full.
     pub fn claim_from(&mut self, cell: u32)
         ensures from { self.new.from ≡ word_asked self.old.heap.cells cell }
         ensures near { self.new.near ≡ false }
@@ -222,9 +227,9 @@ impl<H: Home<A>, A: Allocator> Frame<H, A> {
         self.holdings.claim_at(cell, false);
     }
 
-    /// As `claim_from`, for the first claim; each later one begins with the word of the frame's last claim, or of a lower cell,
-    /// not below the word of the cell named here, that the frame has given back since. It is for heaps with few free cells:
-    /// a claim finds what the thread freed last, and doesn't pass over all that is taken.
+    /// As `claim_from`, for the first claim; each later one begins with the word of the frame's last claim, or of a
+    /// lower cell, not below the word of the cell named here, that the frame has given back since. It is for heaps with
+    /// few free cells: a claim finds what the thread freed last, and doesn't pass over all that is taken.
     pub fn claim_near(&mut self, cell: u32)
         ensures from { self.new.from ≡ word_asked self.old.heap.cells cell }
         ensures near { self.new.near ≡ true }
@@ -236,11 +241,11 @@ impl<H: Home<A>, A: Allocator> Frame<H, A> {
         self.holdings.claim_at(cell, true);
     }
 
-    /// A new object with this payload, and a handle to it: a cell is claimed, its words are set, and the block is put home
-    /// (PEP 703, "Biased Reference Counting": the thread that makes an object owns it, with a local count of 1). The faults
-    /// come in this order, and each hands the payload back: FrameFull where the next place isn't below 65,536; LedgerFull
-    /// where the thread has made 2^47 objects; OutOfMemory where the place or the block can't be had; HeapFull where all
-    /// mortal cells were found taken. A container's payload is empty.
+    /// A new object with this payload, and a handle to it: a cell is claimed, its words are set, and the block is put
+    /// home (PEP 703, "Biased Reference Counting": the thread that makes an object owns it, with a local count of 1).
+    /// The faults come in this order, and each hands the payload back: FrameFull where the next place isn't below
+    /// 65,536; LedgerFull where the thread has made 2^47 objects; OutOfMemory where the place or the block can't be
+    /// had; HeapFull where all mortal cells were found taken. A container's payload is empty.
     #[inline(always)]
     pub fn born(&mut self, alloc: A, payload: Payload<A>) -> Result<Handle<A>, Handed<Payload<A>>>
         requires unlocked { IsUnlocked self.old }
@@ -261,9 +266,9 @@ impl<H: Home<A>, A: Allocator> Frame<H, A> {
         }
     }
 
-    /// The reference goes, in at most `MOST_EVENTS` events whatever others do, with one lost exchange in the log; where the object ends,
-    /// its block is on the front of the worklist (PEP 703, "Biased Reference Counting"). It waits for nobody, unless its `Home`
-    /// does to find the table.
+    /// The reference goes, in at most `MOST_EVENTS` events whatever others do, with one lost exchange in the log; where
+    /// the object ends, its block is on the front of the worklist (PEP 703, "Biased Reference Counting"). It waits for
+    /// nobody, unless its `Home` does to find the table.
     #[inline(always)]
     pub fn release(&mut self, handle: Handle<A>)
         requires owned { Owns self.old handle }
@@ -280,8 +285,8 @@ impl<H: Home<A>, A: Allocator> Frame<H, A> {
     }
 
     /// Takes dead blocks apart, at most so many turns: in one, the front block's last entry is released, or, if it has
-    /// none, the block is given back. The answer is the number of turns that weren't needed: above 0 only where no block is
-    /// left. It takes no memory.
+    /// none, the block is given back. The answer is the number of turns that weren't needed: above 0 only where no
+    /// block is left. It takes no memory.
     #[inline(always)]
     pub fn work(&mut self, budget: usize) -> usize
         requires unlocked { IsUnlocked self.old }
@@ -296,10 +301,10 @@ impl<H: Home<A>, A: Allocator> Frame<H, A> {
         self.holdings.work(budget)
     }
 
-    /// Takes what the thread was told, drains the queue words that this names, and deals with each entry that was in them:
-    /// an object that isn't merged is merged, and the entry's reference counted down (PEP 703, "Biased Reference Counting").
-    /// The answer is what it was told, 0 where nobody put anything into the queue since the last poll. It takes no memory. What
-    /// the thread's own log before tells of what lives is so.
+    /// Takes what the thread was told, drains the queue words that this names, and deals with each entry that was in
+    /// them: an object that isn't merged is merged, and the entry's reference counted down (PEP 703, "Biased Reference
+    /// Counting"). The answer is what it was told, 0 where nobody put anything into the queue since the last poll. It
+    /// takes no memory. What the thread's own log before tells of what lives is so.
     pub fn poll(&mut self) -> u64
         requires unlocked { IsUnlocked self.old }
         ensures handles { KeepsHandles self.old self.new }
@@ -313,8 +318,8 @@ impl<H: Home<A>, A: Allocator> Frame<H, A> {
         self.holdings.poll()
     }
 
-    /// Leaves: all of the thread's queue words are closed, by rising number, and it counts as any other thread does from
-    /// the first on. A frame with a handle or a dead block is answered as it was.
+    /// Leaves: all of the thread's queue words are closed, by rising number, and it counts as any other thread does
+    /// from the first on. A frame with a handle or a dead block is answered as it was.
     pub fn close(self) -> Result<ClosedFrame<H, A>, Frame<H, A>>
         requires unlocked { IsUnlocked self }
         ensures heap { IfOk result (λ closed. closed.heap ≡ self.heap) }

@@ -37,8 +37,8 @@ impl<A: Allocator> Handle<A> {
         place
     }
 
-    /// Whether the two are of different places, as two handles of one frame are. Who keeps many handles where proofs don't follow
-    /// each can ask before a call that wants them apart.
+    /// Whether the two are of different places, as two handles of one frame are. Who keeps many handles where proofs
+    /// don't follow each can ask before a call that wants them apart.
     pub fn is_apart(&self, other: &Handle<A>) -> bool
         ensures apart { IsTrue result → self.now.place ≢ other.now.place }
         ensures same { IsFalse result → self.now.place ≡ other.now.place }

@@ -1,6 +1,7 @@
 //! What one thread holds of the heap: references in places, popped entries of its merge queue, and dead blocks.
 
-ghost use Rattle.std.specs.Prelude.{◌≡◌, ◌≢◌, ◌+◌, ◌-◌, ◌<◌, ◌≤◌, ℕ, [], replicate, IfOk, IfErr, OnOk, IfSome, Some, None, true, false, IsTrue, IsFalse, ◌⊎◌, length};
+ghost use Rattle.std.specs.Prelude.{◌≡◌, ◌≢◌, ◌+◌, ◌-◌, ◌<◌, ◌≤◌, ℕ, [], replicate, IfOk, IfErr, OnOk, IfSome, Some};
+ghost use Rattle.std.specs.Prelude.{None, true, false, IsTrue, IsFalse, ◌⊎◌, length};
 ghost use Rattle.brc_words.specs.declared.limits.TheConstants.{MOST_PLACES};
 ghost use Rattle.law_world.specs.declared.event.Step.TheVariants as steps;
 ghost use Rattle.law_world.specs.Heap.{words_for};
@@ -10,7 +11,9 @@ ghost use Rattle.brc_biased.specs.Bounded.{IsBounded};
 ghost use Rattle.brc_biased.specs.Standing.{may_give_up};
 ghost use Rattle.law_rule.specs.Seen.{part_seen};
 ghost use Rattle.brc_table.specs.Seated.{Continues};
-ghost use Rattle.brc_count.specs.Frames.{IsActive, MayGiveUp, SourceFits, SourceNames, place_seen, locked_place, Given, Refused, ReleasedOf, handle_at, IsAsBefore, KeepsRest, ledger_seen, popped_seen, IsUnlocked, KeepsButStart, first_word, word_asked};
+ghost use Rattle.brc_count.specs.Frames.{IsActive, MayGiveUp, SourceFits, SourceNames, place_seen, locked_place, Given};
+ghost use Rattle.brc_count.specs.Frames.{Refused, ReleasedOf, handle_at, IsAsBefore, KeepsRest, ledger_seen};
+ghost use Rattle.brc_count.specs.Frames.{popped_seen, IsUnlocked, KeepsButStart, first_word, word_asked};
 
 use crate::held::Held;
 use crate::ledger::Ledger;
@@ -23,8 +26,8 @@ use slab::Slab;
 use std::alloc::Allocator;
 use std::marker::Model;
 
-/// A thread's counter, the places of its frame, its dead blocks with the last that died in front, one word of popped entries
-/// for each of its queue words, what it has made and given back, and where its claims begin.
+/// A thread's counter, the places of its frame, its dead blocks with the last that died in front, one word of popped
+/// entries for each of its queue words, what it has made and given back, and where its claims begin.
 pub(crate) struct Holdings<H: Home<A>, A: Allocator> {
     pub(crate) counter: Counter<H, A>,
     pub(crate) places: Slab<Held, A>,
@@ -41,7 +44,16 @@ impl<H: Home<A>, A: Allocator> Model for Holdings<H, A> {
 
     ghost Value = { FrameSeen A };
 
-    ghost view = { λ f. record { heap = f.counter.heap; seat = f.counter.seat; len = slab_len f.places; spare = f.places.capacity - slab_len f.places; next = f.places.vacant_key; works = f.works; from = f.start.from; near = f.start.near } };
+    ghost view = { λ f. record {
+      heap = f.counter.heap;
+      seat = f.counter.seat;
+      len = slab_len f.places;
+      spare = f.places.capacity - slab_len f.places;
+      next = f.places.vacant_key;
+      works = f.works;
+      from = f.start.from;
+      near = f.start.near;
+    } };
 
     ghost invariant = { λ f. Holding A f.counter.heap f.counter.seat f.places f.works f.popped.items f.ledger };
 }
@@ -108,8 +120,8 @@ impl<H: Home<A>, A: Allocator> Holdings<H, A> {
         }
     }
 
-    /// Makes sure that the next place can be filled: FrameFull where it isn't below 65,536, looked at first; OutOfMemory where
-    /// memory for it can't be had.
+    /// Makes sure that the next place can be filled: FrameFull where it isn't below 65,536, looked at first;
+    /// OutOfMemory where memory for it can't be had.
     #[inline(always)]
     pub(crate) fn reserve(&mut self) -> Result<(), Fault>
         ensures room { OnOk result (0 < self.new.spare) }

@@ -1,8 +1,8 @@
 //! Frames and handles: what a thread of the runtime holds, counted up and down.
 //!
 //! A frame keeps each reference in a place, and a handle names its thread and place. Which events a call makes is the
-//! contract of `brc_biased`; here stand the places, popped entries, dead blocks and what is locked (`specs/Frames.antt`), from
-//! the thread's first step (`Frame::enter`) to its last (`ClosedFrame::finish`).
+//! contract of `brc_biased`; here stand the places, popped entries, dead blocks and what is locked
+//! (`specs/Frames.antt`), from the thread's first step (`Frame::enter`) to its last (`ClosedFrame::finish`).
 #![tactic(auto)]
 
 mod closed;

@@ -1,9 +1,11 @@
-//! A frame while it has an object locked: the locking, references to the object's entries, and the unlocking by a change.
+//! A frame while it has an object locked: the locking, references to the object's entries, and the unlocking by a
+//! change.
 //!
-//! A reference passes between threads through the entries of a locked object alone, and an unlocking moves it there or back
-//! in the one event that unlocks. So nothing is counted here, but by `up_entry`.
+//! A reference passes between threads through the entries of a locked object alone, and an unlocking moves it there or
+//! back in the one event that unlocks. So nothing is counted here, but by `up_entry`.
 
-ghost use Rattle.std.specs.Prelude.{◌≡◌, ◌≢◌, ◌+◌, ◌<◌, ◌++◌, ℕ, [], ◌∷◌, Some, None, true, is_some, length, remove, slice_get, slice_set, IfOk, IfErr, IfSome, IfNone};
+ghost use Rattle.std.specs.Prelude.{◌≡◌, ◌≢◌, ◌+◌, ◌<◌, ◌++◌, ℕ, [], ◌∷◌, Some, None, true, is_some, length, remove};
+ghost use Rattle.std.specs.Prelude.{slice_get, slice_set, IfOk, IfErr, IfSome, IfNone};
 ghost use Rattle.slab.specs.Slab.{get, slab_len, Updates};
 ghost use Rattle.brc_words.specs.Kinds.{is_container};
 ghost use Rattle.brc_words.specs.declared.limits.TheConstants.{MOST_ENTRIES, MOST_PLACES};
@@ -12,8 +14,11 @@ ghost use Rattle.law_world.specs.declared.event.Source.TheVariants as sources;
 ghost use Rattle.law_rule.specs.Keys.{keys_in, KeyPut};
 ghost use Rattle.law_rule.specs.Logs.{entries_in, kind_in};
 ghost use Rattle.brc_table.specs.Shown.{contents_of};
-ghost use Rattle.brc_count.specs.Frames.{Owns, handle_at, IsActive, Given, Refused, IsAsBefore, IsUnlocked, popped_seen};
-ghost use Rattle.brc_count.specs.Locking.{IsLocked, cell_in, place_locked, cell_locked, contents_found, entries_found, keys_found, KeepsThread, KeepsFrame, ChangesPlace, KeepsLock, Began, Busy, Ended};
+ghost use Rattle.brc_count.specs.Frames.{Owns, handle_at, IsActive, Given, Refused, IsAsBefore, IsUnlocked};
+ghost use Rattle.brc_count.specs.Frames.{popped_seen};
+ghost use Rattle.brc_count.specs.Locking.{IsLocked, cell_in, place_locked, cell_locked, contents_found, entries_found};
+ghost use Rattle.brc_count.specs.Locking.{keys_found, KeepsThread, KeepsFrame, ChangesPlace, KeepsLock, Began, Busy};
+ghost use Rattle.brc_count.specs.Locking.{Ended};
 
 use crate::frame::Frame;
 use crate::handle::Handle;
@@ -174,8 +179,8 @@ impl<H: Home<A>, A: Allocator> Frame<H, A> {
         self.holdings.begin(handle.place)
     }
 
-    /// Makes sure of the next place, for a handle that is given while an object is locked. FrameFull where it isn't below
-    /// 65,536, looked at first; OutOfMemory where memory for it can't be had.
+    /// Makes sure of the next place, for a handle that is given while an object is locked. FrameFull where it isn't
+    /// below 65,536, looked at first; OutOfMemory where memory for it can't be had.
     #[inline(always)]
     pub fn place(&mut self) -> Result<(), Fault>
         ensures room { IfOk result (λ ok. 0 < self.new.spare) }
@@ -234,8 +239,8 @@ impl<H: Home<A>, A: Allocator> Frame<H, A> {
         self.holdings.end_put(block, handle.into_place());
     }
 
-    /// Unlocks the object whose block this is; the reference of an entry, of which the cell is told, is the handle's now, and
-    /// later entries have closed up. It takes no memory: `place` made sure of it.
+    /// Unlocks the object whose block this is; the reference of an entry, of which the cell is told, is the handle's
+    /// now, and later entries have closed up. It takes no memory: `place` made sure of it.
     #[inline(always)]
     pub fn end_take(&mut self, block: Block<A>, index: u32, cell: u32) -> Handle<A>
         requires locked { IsLocked self.old }
@@ -259,8 +264,8 @@ impl<H: Home<A>, A: Allocator> Frame<H, A> {
         self.handle(place)
     }
 
-    /// Unlocks the object whose block this is; the references of an entry, of which the cell is told, and of the handle are
-    /// exchanged. The answer is the same handle.
+    /// Unlocks the object whose block this is; the references of an entry, of which the cell is told, and of the handle
+    /// are exchanged. The answer is the same handle.
     #[inline(always)]
     pub fn end_swap(
         &mut self,

@@ -16,7 +16,8 @@ use brc_words::{Fault, MOST_BIRTHS, MOST_PLACES};
 use std::alloc::Allocator;
 
 impl<H: Home<A>, A: Allocator> Holdings<H, A> {
-    /// Has a place and a block ready for a new object. The faults come in this order: FrameFull, LedgerFull, OutOfMemory.
+    /// Has a place and a block ready for a new object. The faults come in this order: FrameFull, LedgerFull,
+    /// OutOfMemory.
     #[inline(always)]
     fn ready(&mut self, alloc: A, payload: Payload<A>) -> Result<Block<A>, (Fault, Payload<A>)>
         ensures block { IfOk result (λ block. block.1 ≡ payload) }
@@ -39,8 +40,8 @@ impl<H: Home<A>, A: Allocator> Holdings<H, A> {
         Block::new(alloc, 0, payload)
     }
 
-    /// The block becomes a new object, in the first cell that is to be had from where claims begin; it is answered where none
-    /// is.
+    /// The block becomes a new object, in the first cell that is to be had from where claims begin; it is answered
+    /// where none is.
     #[inline(always)]
     fn make(&mut self, block: Block<A>) -> Result<u32, Block<A>>
         requires low { self.old.next < MOST_PLACES }

@@ -1,6 +1,7 @@
 //! The thread's merge queue: entries that others have put there are popped, and dealt with.
 
-ghost use Rattle.std.specs.Prelude.{◌≡◌, ◌≢◌, min, ◌+◌, ◌*◌, ◌<◌, ℕ, Some, true, ◌∷◌, ◌/◌, length, slice_set, bit_or, IsTrue, IsFalse, ◌≤◌, IfSome, IfNone};
+ghost use Rattle.std.specs.Prelude.{◌≡◌, ◌≢◌, min, ◌+◌, ◌*◌, ◌<◌, ℕ, Some, true, ◌∷◌, ◌/◌, length, slice_set, bit_or};
+ghost use Rattle.std.specs.Prelude.{IsTrue, IsFalse, ◌≤◌, IfSome, IfNone};
 ghost use Rattle.std.specs.Int.{bit_at};
 ghost use Rattle.brc_words.specs.declared.limits.TheConstants.{MOST_CELLS};
 ghost use Rattle.law_world.specs.declared.event.Step.TheVariants as steps;
@@ -98,8 +99,8 @@ impl<H: Home<A>, A: Allocator> Holdings<H, A> {
         bits
     }
 
-    /// Deals with a popped entry: an object that isn't merged is merged by the thread; then the entry's reference is counted
-    /// down, and where that was the last one the object's block is on the front of the worklist.
+    /// Deals with a popped entry: an object that isn't merged is merged by the thread; then the entry's reference is
+    /// counted down, and where that was the last one the object's block is on the front of the worklist.
     pub(crate) fn settle(&mut self, cell: u32)
         requires popped { bit_of (popped_seen self.old) cell ≡ 1 }
         requires stage { MayGiveUp self.old }
@@ -228,8 +229,9 @@ impl<H: Home<A>, A: Allocator> Holdings<H, A> {
         lowest(self.popped[word as usize])
     }
 
-    /// Takes what the thread was told, drains the words that this names, and deals with each of their entries. It answers
-    /// what it was told: 0 where nobody put anything into its queue since the last time. Its own log before tells what lives.
+    /// Takes what the thread was told, drains the words that this names, and deals with each of their entries. It
+    /// answers what it was told: 0 where nobody put anything into its queue since the last time. Its own log before
+    /// tells what lives.
     pub(crate) fn poll(&mut self) -> u64
         requires active { IsActive self.old }
         requires unlocked { IsUnlocked self.old }

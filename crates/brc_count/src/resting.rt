@@ -1,5 +1,5 @@
-//! A frame at rest: what is left of it while its thread has no handle and is away from the heap. It names no lifetime, and
-//! nothing in it must be spent, so that one thread of the machine can hand it to another.
+//! A frame at rest: what is left of it while its thread has no handle and is away from the heap. It names no lifetime,
+//! and nothing in it must be spent, so that one thread of the machine can hand it to another.
 
 ghost use Rattle.std.specs.Prelude.{◌≡◌, []};
 ghost use Rattle.brc_count.specs.Frames.{IsUnlocked};

@@ -1,8 +1,8 @@
 //! Where a thread's claims begin.
 //!
-//! A claim looks for a free cell word by word, and a word has 64 cells. Where all threads begin with the first word they come
-//! upon one another's bits, and in a full heap each claim passes over all that is taken. So a thread may be asked to begin with
-//! a part of the heap of its own, and near the cells that it claimed and freed last.
+//! A claim looks for a free cell word by word, and a word has 64 cells. Where all threads begin with the first word
+//! they come upon one another's bits, and in a full heap each claim passes over all that is taken. So a thread may be
+//! asked to begin with a part of the heap of its own, and near the cells that it claimed and freed last.
 
 ghost use Rattle.std.specs.Prelude.{◌≡◌, false};
 ghost use Rattle.law_rule.specs.declared.contents.Contents.{Contents as contents_data};
@@ -14,13 +14,14 @@ use brc_words::FIRST_MORTAL;
 use std::alloc::Allocator;
 use std::marker::Model;
 
-/// The free word at which a thread's claims begin, whether they begin near the last ones, and the word of the next claim.
+/// The free word at which a thread's claims begin, whether they begin near the last ones, and the word of the next
+/// claim.
 #[derive(Drop)]
 pub(crate) struct ClaimStart {
     from: u32,
     near: bool,
-    /// Where claims begin near the last ones: the word of the last claim, or of a cell that was freed since where that is
-    /// lower, and not below `from`. No contract tells it.
+    /// Where claims begin near the last ones: the word of the last claim, or of a cell that was freed since where that
+    /// is lower, and not below `from`. No contract tells it.
     next: u32,
 }
 
@@ -49,7 +50,8 @@ impl ClaimStart {
         }
     }
 
-    /// Claims begin with the word of this cell in a heap of so many, or, where it is no mortal one, with the first word.
+    /// Claims begin with the word of this cell in a heap of so many, or, where it is no mortal one, with the first
+    /// word.
     pub(crate) fn at(cell: u32, cells: u32, near: bool) -> ClaimStart
         ensures from { result.from ≡ word_asked cells cell }
         ensures near { result.near ≡ near }
@@ -98,10 +100,12 @@ impl ClaimStart {
     }
 }
 
-/// A frame that nobody asked where its claims begin makes each object in the lowest cell that was to be had: of each mortal cell
-/// below it the thread has found in this search that it wasn't free, with a note of its free word with its bit 0.
+/// A frame that nobody asked where its claims begin makes each object in the lowest cell that was to be had: of each
+/// mortal cell below it the thread has found in this search that it wasn't free, with a note of its free word with its
+/// bit 0.
 #[tactic(auto, using(crate::proofs::Unasked::made_first))]
 pub fn unasked_claims_take_the_lowest_cell<A: Allocator>()
-    ensures lowest { (old new : FrameSeen A) (contents : contents_data) (given : HandleSeen) (made : Made old new contents given)
+    ensures lowest { (old new : FrameSeen A) (contents : contents_data) (given : HandleSeen)
+        (made : Made old new contents given)
         → old.from ≡ first_word → old.near ≡ false → ClaimsFirst made.cell old.seat.log made.mid }
 {}

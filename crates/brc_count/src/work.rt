@@ -11,8 +11,8 @@ use law_world::Dropped;
 use std::alloc::Allocator;
 
 impl<H: Home<A>, A: Allocator> Holdings<H, A> {
-    /// One turn: the front block's last entry is released, or, if it has none, the block is given back; false where there
-    /// is no block.
+    /// One turn: the front block's last entry is released, or, if it has none, the block is given back; false where
+    /// there is no block.
     #[inline(always)]
     pub(crate) fn turn(&mut self) -> bool
         requires stage { MayGiveUp self.old }

@@ -14,7 +14,8 @@ use Rattle.brc_dicts.specs.Since.{HasLocked, Since}
 
 module _ {A : Type 0} where
   -- a locking that waited, from the frame that its lost tries left
-  pub locked_late : (old now : FrameSeen A) (k : ℕ) (block : ℕ × Payload A) (late : BeginsLate old now k block) → HasLocked late.mid now k block
+  pub locked_late : (old now : FrameSeen A) (k : ℕ) (block : ℕ × Payload A) (late : BeginsLate old now k block)
+      → HasLocked late.mid now k block
   locked_late old now k block late = record { began = late.began; keeps = late.keeps; frame = late.frame }
 
   places_on : {before now new : FrameSeen A} → KeepsFrame before now → KeepsPlaces now new → KeepsPlaces before new
@@ -24,29 +25,58 @@ module _ {A : Type 0} where
     next = second.next ∙ first.next;
   }
 
-  pub looked : {T : Type 0} (before now new : FrameSeen A) (k : ℕ) (block : ℕ × Payload A) (done : FrameSeen A → ℕ → T → Type 0)
-      (why : FrameSeen A → ℕ → Fault → Type 0) (result : Result T Fault) → HasLocked before now k block → KeepsThread now new → KeepsFrame now new
-      → IfOk result (λ answer. Since now block (λ b j. done b j answer)) → IfErr result (λ fault. Since now block (λ b j. why b j fault))
+  pub looked : {T : Type 0} (before now new : FrameSeen A) (k : ℕ) (block : ℕ × Payload A) (done : FrameSeen A → ℕ
+      → T → Type 0)
+      (why : FrameSeen A → ℕ → Fault → Type 0) (result : Result T Fault) → HasLocked before now k block
+      → KeepsThread now new → KeepsFrame now new
+      → IfOk result (λ answer. Since now block (λ b j. done b j answer))
+      → IfErr result (λ fault. Since now block (λ b j. why b j fault))
       → Looked before new (done before k) (why before k) result
   looked before now new k block done why (Ok answer) since thread frame did refused =
-      record { thread = thread_kept_on since.keeps thread; frame = frame_kept_on since.frame frame; found = did before k since; refused = tt }
+      record {
+        thread = thread_kept_on since.keeps thread;
+        frame = frame_kept_on since.frame frame;
+        found = did before k since;
+        refused = tt;
+      }
   looked before now new k block done why (Err fault) since thread frame did refused =
-      record { thread = thread_kept_on since.keeps thread; frame = frame_kept_on since.frame frame; found = tt; refused = refused before k since }
+      record {
+        thread = thread_kept_on since.keeps thread;
+        frame = frame_kept_on since.frame frame;
+        found = tt;
+        refused = refused before k since;
+      }
 
-  pub hands_out : {T : Type 0} (before now new : FrameSeen A) (k : ℕ) (block : ℕ × Payload A) (done : FrameSeen A → ℕ → T → Type 0)
-      (why : FrameSeen A → ℕ → Fault → Type 0) (result : Result T Fault) → HasLocked before now k block → KeepsThread now new
+  pub hands_out : {T : Type 0} (before now new : FrameSeen A) (k : ℕ) (block : ℕ × Payload A) (done : FrameSeen A → ℕ
+      → T → Type 0)
+      (why : FrameSeen A → ℕ → Fault → Type 0) (result : Result T Fault) → HasLocked before now k block
+      → KeepsThread now new
       → IfOk result (λ given. Since now block (λ b j. done b j given)) → IfErr result (λ fault. KeepsPlaces now new)
-      → IfErr result (λ fault. Since now block (λ b j. why b j fault)) → HandsOut before new (done before k) (why before k) result
+      → IfErr result (λ fault. Since now block (λ b j. why b j fault))
+      → HandsOut before new (done before k) (why before k) result
   hands_out before now new k block done why (Ok given) since thread did places refused =
       record { thread = thread_kept_on since.keeps thread; did = did before k since; places = tt; refused = tt }
   hands_out before now new k block done why (Err fault) since thread did places refused =
-      record { thread = thread_kept_on since.keeps thread; did = tt; places = places_on since.frame places; refused = refused before k since }
+      record {
+        thread = thread_kept_on since.keeps thread;
+        did = tt;
+        places = places_on since.frame places;
+        refused = refused before k since;
+      }
 
-  pub takes_in : {T V : Type 0} (before now new : FrameSeen A) (k : ℕ) (block : ℕ × Payload A) (done : FrameSeen A → ℕ → T → Type 0)
-      (why : FrameSeen A → ℕ → Fault → Type 0) (result : Result T (Handed V)) → HasLocked before now k block → KeepsThread now new
+  pub takes_in : {T V : Type 0} (before now new : FrameSeen A) (k : ℕ) (block : ℕ × Payload A) (done : FrameSeen A → ℕ
+      → T → Type 0)
+      (why : FrameSeen A → ℕ → Fault → Type 0) (result : Result T (Handed V)) → HasLocked before now k block
+      → KeepsThread now new
       → IfOk result (λ answer. Since now block (λ b j. done b j answer)) → IfErr result (λ handed. KeepsFrame now new)
-      → IfErr result (λ handed. Since now block (λ b j. why b j handed.fault)) → TakesIn before new (done before k) (why before k) result
+      → IfErr result (λ handed. Since now block (λ b j. why b j handed.fault))
+      → TakesIn before new (done before k) (why before k) result
   takes_in before now new k block done why (Ok answer) since thread did frame refused =
       record { thread = thread_kept_on since.keeps thread; did = did before k since; frame = tt; refused = tt }
   takes_in before now new k block done why (Err handed) since thread did frame refused =
-      record { thread = thread_kept_on since.keeps thread; did = tt; frame = frame_kept_on since.frame frame; refused = refused before k since }
+      record {
+        thread = thread_kept_on since.keeps thread;
+        did = tt;
+        frame = frame_kept_on since.frame frame;
+        refused = refused before k since;
+      }

@@ -1,5 +1,6 @@
 -- Where a key stands among pairs, and what the plain calls make of them, by their keys and their cells.
-use Rattle.std.proofs.Common.{◌≡◌, ◌≢◌, ℕ, zero, suc, Bool, true, false, List, [], ◌∷◌, All, Some, None, refl, sym, ◌∙◌, ap, subst, arith, take, slice_get, slice_set, remove, true≢false}
+use Rattle.std.proofs.Common.{◌≡◌, ◌≢◌, ℕ, zero, suc, Bool, true, false, List, [], ◌∷◌, All, Some, None, refl, sym, ◌∙◌}
+use Rattle.std.proofs.Common.{ap, subst, arith, take, slice_get, slice_set, remove, true≢false}
 use Rattle.brc_words.specs.declared.key.Key.{Key}
 use Rattle.brc_words.specs.Keys.{same_key, same_key-exact, same_key-itself}
 use Rattle.brc_block.specs.Pairs.{keys_in, cells_in}
@@ -27,17 +28,22 @@ module _ {A : Type 0} where
     first_stands key pairs index at (λ k d below. before (suc k) d (omega arith)),
   )
 
-  pub none_stands : (key : Key A) (pairs : List (Key A × ℕ)) → All (λ other. other ≢ key) (keys_in pairs) → value_at key pairs ≡ None
+  pub none_stands : (key : Key A) (pairs : List (Key A × ℕ)) → All (λ other. other ≢ key) (keys_in pairs)
+      → value_at key pairs ≡ None
   none_stands key [] none = refl
   none_stands key (pair ∷ pairs) none =
-      rw (never_same pair.0 key (none 0 pair.0 (omega arith))) (none_stands key pairs (λ k d below. none (suc k) d (omega arith)))
+      rw (never_same pair.0 key (none 0 pair.0 (omega arith)))
+      (none_stands key pairs (λ k d below. none (suc k) d (omega arith)))
 
   -- where nothing stands beside the key, each key is another
-  pub others_than : (key : Key A) (pairs : List (Key A × ℕ)) → value_at key pairs ≡ None → All (λ other. other ≢ key) (keys_in pairs)
+  pub others_than : (key : Key A) (pairs : List (Key A × ℕ)) → value_at key pairs ≡ None
+      → All (λ other. other ≢ key) (keys_in pairs)
   others_than key [] none k d below = absurd (omega arith)
   others_than key (pair ∷ pairs) none zero d below = λ same.
-      true≢false (sym (subst (λ k. same_key pair.0 k ≡ true) same (same_key-itself pair.0)) ∙ (none_apart key pair pairs none).0)
-  others_than key (pair ∷ pairs) none (suc k) d below = others_than key pairs (none_apart key pair pairs none).1 k d (omega arith)
+      true≢false (sym (subst (λ k. same_key pair.0 k ≡ true) same (same_key-itself pair.0))
+      ∙ (none_apart key pair pairs none).0)
+  others_than key (pair ∷ pairs) none (suc k) d below = others_than key pairs (none_apart key pair pairs none).1 k d
+      (omega arith)
 
   -- beside each key there is a cell
   pub cell_beside : (key : Key A) (pairs : List (Key A × ℕ)) (index : ℕ) → slice_get (keys_in pairs) index ≡ Some key
@@ -52,27 +58,32 @@ module _ {A : Type 0} where
       → slice_get (cells_in pairs) index ≡ Some cell → value_at key pairs ≡ Some cell
   beside_is key [] index cell there beside = absurd there
   beside_is key (pair ∷ pairs) zero cell there beside = rw there beside
-  beside_is key (pair ∷ pairs) (suc index) cell there beside = rw there.0 (beside_is key pairs index cell there.1 beside)
+  beside_is key (pair ∷ pairs) (suc index) cell there beside =
+      rw there.0 (beside_is key pairs index cell there.1 beside)
 
   pub replaced_keys : (key : Key A) (value : ℕ) (pairs : List (Key A × ℕ)) (index : ℕ) → Stands key pairs index
       → keys_in (replaced key value pairs) ≡ keys_in pairs
   replaced_keys key value [] index there = absurd there
   replaced_keys key value (pair ∷ pairs) zero there = rw there refl
-  replaced_keys key value (pair ∷ pairs) (suc index) there = rw there.0 (ap (λ ks. pair.0 ∷ ks) (replaced_keys key value pairs index there.1))
+  replaced_keys key value (pair ∷ pairs) (suc index) there =
+      rw there.0 (ap (λ ks. pair.0 ∷ ks) (replaced_keys key value pairs index there.1))
 
   pub replaced_cells : (key : Key A) (value : ℕ) (pairs : List (Key A × ℕ)) (index : ℕ) → Stands key pairs index
       → cells_in (replaced key value pairs) ≡ slice_set (cells_in pairs) index value
   replaced_cells key value [] index there = absurd there
   replaced_cells key value (pair ∷ pairs) zero there = rw there refl
-  replaced_cells key value (pair ∷ pairs) (suc index) there = rw there.0 (ap (λ cs. pair.1 ∷ cs) (replaced_cells key value pairs index there.1))
+  replaced_cells key value (pair ∷ pairs) (suc index) there =
+      rw there.0 (ap (λ cs. pair.1 ∷ cs) (replaced_cells key value pairs index there.1))
 
   pub without_keys : (key : Key A) (pairs : List (Key A × ℕ)) (index : ℕ) → Stands key pairs index
       → keys_in (without key pairs) ≡ remove (keys_in pairs) index
-  without_keys key pairs index there = ap keys_in (without_there key pairs index there) ∙ map-remove (λ pair. pair.0) pairs index
+  without_keys key pairs index there = ap keys_in (without_there key pairs index there)
+      ∙ map-remove (λ pair. pair.0) pairs index
 
   pub without_cells : (key : Key A) (pairs : List (Key A × ℕ)) (index : ℕ) → Stands key pairs index
       → cells_in (without key pairs) ≡ remove (cells_in pairs) index
-  without_cells key pairs index there = ap cells_in (without_there key pairs index there) ∙ map-remove (λ pair. pair.1) pairs index
+  without_cells key pairs index there = ap cells_in (without_there key pairs index there)
+      ∙ map-remove (λ pair. pair.1) pairs index
 
 -- ---- pairs are told by their keys and their cells
 

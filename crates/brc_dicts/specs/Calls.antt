@@ -12,20 +12,25 @@ use Rattle.brc_dicts.specs.Putting.{HasPut, RefusedPut}
 
 module _ {A : Type 0} where
   -- the value goes beside the key, and the old one comes out
-  abbrev pub DictPut : FrameSeen A → FrameSeen A → ℕ → Key A → HandleSeen → Result (Option HandleSeen) (Handed (Key A × HandleSeen)) → Type 0
-  DictPut old new k key value result = TakesIn old new (HasPut old new k key value) (RefusedPut old new k key value) result
+  abbrev pub DictPut : FrameSeen A → FrameSeen A → ℕ → Key A → HandleSeen
+      → Result (Option HandleSeen) (Handed (Key A × HandleSeen)) → Type 0
+  DictPut old new k key value result = TakesIn old new (HasPut old new k key value)
+      (RefusedPut old new k key value) result
 
   -- a handle more to the value beside the key
   abbrev pub DictFind : FrameSeen A → FrameSeen A → ℕ → Key A → Result HandleSeen Fault → Type 0
-  DictFind old new k key result = HandsOut old new (Shares old new k (plain_find key)) (RefusedPlace old new k (plain_find key)) result
+  DictFind old new k key result = HandsOut old new (Shares old new k (plain_find key))
+      (RefusedPlace old new k (plain_find key)) result
 
   -- the value beside the key comes out, and its pair goes
   abbrev pub DictDel : FrameSeen A → FrameSeen A → ℕ → Key A → Result HandleSeen Fault → Type 0
-  DictDel old new k key result = HandsOut old new (Takes old new k (plain_del key)) (RefusedPlace old new k (plain_del key)) result
+  DictDel old new k key result = HandsOut old new (Takes old new k (plain_del key))
+      (RefusedPlace old new k (plain_del key)) result
 
   -- the key at the place, of which memory for a copy may be missing
   abbrev pub DictKey : FrameSeen A → FrameSeen A → ℕ → ℕ → Result (Key A) Fault → Type 0
-  DictKey old new k index result = Looked old new (Reads old new k (plain_key_at index)) (RefusedEntry old new k (plain_key_at {A = A} index)) result
+  DictKey old new k index result = Looked old new (Reads old new k (plain_key_at index))
+      (RefusedEntry old new k (plain_key_at {A = A} index)) result
 
   -- the key at the place, with a handle more to its value
   abbrev pub DictPair : FrameSeen A → FrameSeen A → ℕ → ℕ → Result (Key A × HandleSeen) Fault → Type 0

@@ -39,17 +39,20 @@ module _ {A : Type 0} where
   NoPair payload index faults.NoSuchPlace = IsPast payload index
   NoPair payload index _ = ⊥
 
-  -- The key is that of the pair at the place, and the handle has a reference more to its value, counted up in one event while the
-  -- dictionary was locked: both as one locking found them.
+  -- The key is that of the pair at the place, and the handle has a reference more to its value, counted up in one event
+  -- while the dictionary was locked: both as one locking found them.
   pub record SharesPair (old new : FrameSeen A) (k index : ℕ) (pair : Key A × HandleSeen) : Type 0 where
     pub value : Shares old new k (plain_value_at A index) pair.1
     pub key : plain_key_at index value.found ≡ Ok (pair.0, value.found)
 
-  -- a pair is missing in what was found; or it is there, and the frame's next place, or memory for the key, wasn't to be had
+  -- a pair is missing in what was found; or it is there, and the frame's next place, or memory for the key, wasn't to
+  -- be had
   abbrev pub MissesPair : FrameSeen A → Contents → ℕ → Fault → Type 0
   MissesPair frame found index faults.Busy = ⊥
-  MissesPair frame found index faults.FrameFull = (is_ok (plain_value_at A index found) ≡ true) × Refused frame faults.FrameFull
-  MissesPair frame found index faults.OutOfMemory = (is_ok (plain_value_at A index found) ≡ true) × Refused frame faults.OutOfMemory
+  MissesPair frame found index faults.FrameFull = (is_ok (plain_value_at A index found) ≡ true)
+      × Refused frame faults.FrameFull
+  MissesPair frame found index faults.OutOfMemory = (is_ok (plain_value_at A index found) ≡ true)
+      × Refused frame faults.OutOfMemory
   MissesPair frame found index fault = plain_value_at A index found ≡ Err fault
 
 -- a key is missing in what was found; or it is there, and memory for a copy was missing

@@ -19,8 +19,8 @@ RefusedRoom entries faults.OutOfMemory = entries < MOST_ENTRIES
 RefusedRoom entries _ = ⊥
 
 module _ {A : Type 0} where
-  -- With a new key the reference of the value's handle went in. Beside a key that was there it was exchanged: the same handle
-  -- has the old value's reference now.
+  -- With a new key the reference of the value's handle went in. Beside a key that was there it was exchanged: the same
+  -- handle has the old value's reference now.
   abbrev pub HasPut : FrameSeen A → FrameSeen A → ℕ → Key A → HandleSeen → Option HandleSeen → Type 0
   HasPut old new k key value None = Puts old new k value.place (plain_put key) None
   HasPut old new k key value (Some given) = (given ≡ value) × Swaps old new k value.place (plain_put key) Some
@@ -30,7 +30,8 @@ module _ {A : Type 0} where
   OwnsPut old new value None = Loses old new value
   OwnsPut old new value (Some given) = Keeps old new
 
-  -- The dictionary was looked at, and unlocked as it was found. The plain call puts a new key into it, but memory was missing.
+  -- The dictionary was looked at, and unlocked as it was found. The plain call puts a new key into it, but memory was
+  -- missing.
   pub record RefusedNew (old new : FrameSeen A) (k : ℕ) (call : PlainCall (Option ℕ)) : Type 0 where
     pub found : Contents
     pub put : Contents

@@ -52,7 +52,8 @@ fn copy_of_key<A: Allocator>(alloc: A, key: &Key<A>) -> Option<Key<A>>
 
 /// A copy of the key at the place.
 fn key_in<A: Allocator>(alloc: A, payload: &Payload<A>, index: usize) -> Result<Key<A>, Fault>
-    ensures found { IfOk result (λ key. plain_key_at index (contents_of payload.now) ≡ Ok (key, contents_of payload.now)) }
+    ensures found { IfOk result (λ key. plain_key_at index (contents_of payload.now) ≡ Ok
+        (key, contents_of payload.now)) }
     ensures refused { IfErr result (MissesKey A (contents_of payload.now) index) }
 {
     let (key, _cell) = pair_in(payload, index)?;
@@ -86,8 +87,8 @@ fn key_locked<H: Home<A>, A: Allocator>(
     key
 }
 
-/// A copy of the key at the place, in the order in which the keys came. Busy where another thread has the dictionary locked, then
-/// WrongKind where the object is no dictionary, NoSuchPlace past its end, and OutOfMemory.
+/// A copy of the key at the place, in the order in which the keys came. Busy where another thread has the dictionary
+/// locked, then WrongKind where the object is no dictionary, NoSuchPlace past its end, and OutOfMemory.
 pub fn try_dict_key<H: Home<A>, A: Allocator>(
     alloc: A,
     frame: &mut Frame<H, A>,
@@ -106,8 +107,8 @@ pub fn try_dict_key<H: Home<A>, A: Allocator>(
     key_locked(alloc, frame, block, index)
 }
 
-/// A copy of the key at the place; WrongKind, NoSuchPlace and OutOfMemory as in `try_dict_key`. It waits while another thread has the
-/// dictionary locked.
+/// A copy of the key at the place; WrongKind, NoSuchPlace and OutOfMemory as in `try_dict_key`. It waits while another
+/// thread has the dictionary locked.
 pub fn dict_key<H: Home<A>, A: Allocator>(
     rt: &impl Wait,
     alloc: A,
@@ -180,9 +181,9 @@ fn pair_locked<H: Home<A>, A: Allocator>(
     }
 }
 
-/// A copy of the key at the place, in the order in which the keys came, and a handle to the value beside it, counted up in one event
-/// while the dictionary is locked. Busy where another thread has it locked, then WrongKind where the object is no dictionary,
-/// NoSuchPlace past its end, FrameFull and OutOfMemory.
+/// A copy of the key at the place, in the order in which the keys came, and a handle to the value beside it, counted up
+/// in one event while the dictionary is locked. Busy where another thread has it locked, then WrongKind where the
+/// object is no dictionary, NoSuchPlace past its end, FrameFull and OutOfMemory.
 pub fn try_dict_pair<H: Home<A>, A: Allocator>(
     alloc: A,
     frame: &mut Frame<H, A>,
@@ -202,8 +203,8 @@ pub fn try_dict_pair<H: Home<A>, A: Allocator>(
     pair_locked(alloc, frame, block, index)
 }
 
-/// The pair at the place, with a handle to its value; WrongKind, NoSuchPlace, FrameFull and OutOfMemory as in `try_dict_pair`. It waits
-/// while another thread has the dictionary locked.
+/// The pair at the place, with a handle to its value; WrongKind, NoSuchPlace, FrameFull and OutOfMemory as in
+/// `try_dict_pair`. It waits while another thread has the dictionary locked.
 pub fn dict_pair<H: Home<A>, A: Allocator>(
     rt: &impl Wait,
     alloc: A,

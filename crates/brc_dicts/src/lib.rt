@@ -1,9 +1,10 @@
-//! The calls on dictionaries, over a frame: put, find and delete, and keys and pairs by their places, each under the dictionary's lock.
+//! The calls on dictionaries, over a frame: put, find and delete, and keys and pairs by their places, each under the
+//! dictionary's lock.
 //!
-//! A call answers what the plain dictionary of `brc_plain` answers on the pairs that the locking found, and the object is put
-//! home with those that it leaves (`specs/Plain.antt`). The forms with `try_` never wait: a dictionary that another thread has
-//! locked is Busy. The others try again, and hold nothing while they do. Both are a locking and one body, of which a contract
-//! says what holds since the locking, whatever frame it began from (`specs/Since.antt`).
+//! A call answers what the plain dictionary of `brc_plain` answers on the pairs that the locking found, and the object
+//! is put home with those that it leaves (`specs/Plain.antt`). The forms with `try_` never wait: a dictionary that
+//! another thread has locked is Busy. The others try again, and hold nothing while they do. Both are a locking and one
+//! body, of which a contract says what holds since the locking, whatever frame it began from (`specs/Since.antt`).
 #![tactic(auto)]
 
 mod indexing;

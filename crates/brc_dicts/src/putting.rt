@@ -83,7 +83,8 @@ fn append_locked<H: Home<A>, A: Allocator + Copy>(
     Ok(None)
 }
 
-/// The value goes beside a key that is there, in the dictionary that is locked; the answer is the old one. It takes no memory.
+/// The value goes beside a key that is there, in the dictionary that is locked; the answer is the old one. It takes no
+/// memory.
 fn replace_locked<H: Home<A>, A: Allocator>(
     frame: &mut Frame<H, A>,
     mut block: Block<A>,
@@ -152,10 +153,10 @@ fn put_locked<H: Home<A>, A: Allocator + Copy>(
     }
 }
 
-/// Puts the value beside the key. A new key comes last, and the answer is None; beside a key that is there the value takes the
-/// place of the old one, which is the answer. Busy where another thread has the dictionary locked, then WrongKind where the
-/// object is no dictionary, Full where a new key is the 1,048,577th, and OutOfMemory for a new key; a refusal hands key and value
-/// back.
+/// Puts the value beside the key. A new key comes last, and the answer is None; beside a key that is there the value
+/// takes the place of the old one, which is the answer. Busy where another thread has the dictionary locked, then
+/// WrongKind where the object is no dictionary, Full where a new key is the 1,048,577th, and OutOfMemory for a new key;
+/// a refusal hands key and value back.
 pub fn try_dict_put<H: Home<A>, A: Allocator + Copy>(
     frame: &mut Frame<H, A>,
     dict: &Handle<A>,
@@ -181,8 +182,8 @@ pub fn try_dict_put<H: Home<A>, A: Allocator + Copy>(
     put_locked(frame, block, key, value)
 }
 
-/// Puts the value beside the key, as `try_dict_put` does; WrongKind, Full and OutOfMemory as there. It waits while another thread
-/// has the dictionary locked.
+/// Puts the value beside the key, as `try_dict_put` does; WrongKind, Full and OutOfMemory as there. It waits while
+/// another thread has the dictionary locked.
 pub fn dict_put<H: Home<A>, A: Allocator + Copy>(
     rt: &impl Wait,
     frame: &mut Frame<H, A>,

@@ -60,8 +60,8 @@ fn find_locked<H: Home<A>, A: Allocator>(
     Ok(given)
 }
 
-/// A handle to the value beside the key, counted up in one event while the dictionary is locked. Busy where another thread has it
-/// locked, then WrongKind where the object is no dictionary, NoSuchKey, FrameFull and OutOfMemory.
+/// A handle to the value beside the key, counted up in one event while the dictionary is locked. Busy where another
+/// thread has it locked, then WrongKind where the object is no dictionary, NoSuchKey, FrameFull and OutOfMemory.
 pub fn try_dict_find<H: Home<A>, A: Allocator>(
     frame: &mut Frame<H, A>,
     dict: &Handle<A>,
@@ -80,8 +80,8 @@ pub fn try_dict_find<H: Home<A>, A: Allocator>(
     find_locked(frame, block, key)
 }
 
-/// A handle to the value beside the key; WrongKind, NoSuchKey, FrameFull and OutOfMemory as in `try_dict_find`. It waits while
-/// another thread has the dictionary locked.
+/// A handle to the value beside the key; WrongKind, NoSuchKey, FrameFull and OutOfMemory as in `try_dict_find`. It
+/// waits while another thread has the dictionary locked.
 pub fn dict_find<H: Home<A>, A: Allocator>(
     rt: &impl Wait,
     frame: &mut Frame<H, A>,
@@ -139,8 +139,8 @@ fn del_locked<H: Home<A>, A: Allocator>(
     Ok(frame.end_take(block, place, cell))
 }
 
-/// The value beside the key, whose pair goes; later ones close up. Busy where another thread has the dictionary locked, then
-/// WrongKind where the object is no dictionary, NoSuchKey, FrameFull and OutOfMemory.
+/// The value beside the key, whose pair goes; later ones close up. Busy where another thread has the dictionary locked,
+/// then WrongKind where the object is no dictionary, NoSuchKey, FrameFull and OutOfMemory.
 pub fn try_dict_del<H: Home<A>, A: Allocator>(
     frame: &mut Frame<H, A>,
     dict: &Handle<A>,
@@ -159,8 +159,8 @@ pub fn try_dict_del<H: Home<A>, A: Allocator>(
     del_locked(frame, block, key)
 }
 
-/// The value beside the key, whose pair goes; WrongKind, NoSuchKey, FrameFull and OutOfMemory as in `try_dict_del`. It waits
-/// while another thread has the dictionary locked.
+/// The value beside the key, whose pair goes; WrongKind, NoSuchKey, FrameFull and OutOfMemory as in `try_dict_del`. It
+/// waits while another thread has the dictionary locked.
 pub fn dict_del<H: Home<A>, A: Allocator>(
     rt: &impl Wait,
     frame: &mut Frame<H, A>,

@@ -1,5 +1,6 @@
 -- What becomes of many handles where one comes or goes.
-use Rattle.std.proofs.Common.{arith, ◌≡◌, ◌≢◌, ℕ, zero, suc, ◌+◌, ◌<◌, List, [], ◌∷◌, ◌++◌, Option, Some, None, length, get_or, replicate, slice_set, refl, sym, ◌∙◌, ap, ◌⊎◌}
+use Rattle.std.proofs.Common.{arith, ◌≡◌, ◌≢◌, ℕ, zero, suc, ◌+◌, ◌<◌, List, [], ◌∷◌, ◌++◌, Option, Some, None, length}
+use Rattle.std.proofs.Common.{get_or, replicate, slice_set, refl, sym, ◌∙◌, ap, ◌⊎◌}
 use Rattle.std.specs.Prelude.{IfSome, IfNone}
 use Rattle.std.proofs.lemmas.Grind.{common_steps}
 use Rattle.std.proofs.Math.Seq.{get_or-append_seam}
@@ -59,7 +60,8 @@ places_set : (hs : List (Option HandleSeen)) (i : ℕ) (x : Option HandleSeen) (
     → (slot (slice_set hs i x) k ≡ slot hs k) ⊎ (slot (slice_set hs i x) k ≡ x)
 places_set hs i x k inside = grind (arith, common_steps)
 
-pub apart_pushed : (hs : List (Option HandleSeen)) (h : HandleSeen) → AreApart hs → IsApart h hs → AreApart (hs ++ Some h ∷ [])
+pub apart_pushed : (hs : List (Option HandleSeen)) (h : HandleSeen) → AreApart hs → IsApart h hs
+    → AreApart (hs ++ Some h ∷ [])
 apart_pushed hs h are apart = grind (arith, common_steps)
 
 slot_before : (hs : List (Option HandleSeen)) (x : Option HandleSeen) (k : ℕ) (h : HandleSeen) → slot hs k ≡ Some h
@@ -75,17 +77,21 @@ if_there None P holds = tt
 if_there (Some h) P holds = holds h refl
 
 pub apart_popped : (hs : List (Option HandleSeen)) (x : Option HandleSeen) → AreApart (hs ++ x ∷ []) → AreApart hs
-apart_popped hs x are = λ j k g h else is_g is_h. are j k g h else (slot_before hs x j g is_g) (slot_before hs x k h is_h)
+apart_popped hs x are = λ j k g h else is_g is_h. are j k g h else (slot_before hs x j g is_g)
+    (slot_before hs x k h is_h)
 
-apart_taken : (hs : List (Option HandleSeen)) (i : ℕ) (h : HandleSeen) → i < length hs → AreApart hs → slot hs i ≡ Some h
+apart_taken : (hs : List (Option HandleSeen)) (i : ℕ) (h : HandleSeen) → i < length hs → AreApart hs
+    → slot hs i ≡ Some h
     → IsApart h (slice_set hs i None)
 apart_taken hs i h inside are was = grind (arith, common_steps)
 
 apart_last : (hs : List (Option HandleSeen)) (h : HandleSeen) → AreApart (hs ++ Some h ∷ []) → IsApart h hs
 apart_last hs h are k = if_there (slot hs k) (λ g. h.place ≢ g.place)
-    (λ g is. are (length hs) k h g (inside_of hs k g is) (get_or-append_seam hs (Some h) [] None) (slot_before hs (Some h) k g is))
+    (λ g is. are (length hs) k h g (inside_of hs k g is) (get_or-append_seam hs (Some h) [] None)
+    (slot_before hs (Some h) k g is))
 
-apart_gone : (hs : List (Option HandleSeen)) (i : ℕ) (h gone : HandleSeen) → i < length hs → AreApart hs → IsApart h hs → slot hs i ≡ Some gone
+apart_gone : (hs : List (Option HandleSeen)) (i : ℕ) (h gone : HandleSeen) → i < length hs → AreApart hs → IsApart h hs
+    → slot hs i ≡ Some gone
     → IsApart gone (slice_set hs i (Some h))
 apart_gone hs i h gone inside are apart was = grind (arith, common_steps)
 
@@ -95,20 +101,25 @@ pushed hs h = record { count = filled-append hs (Some h); places = places_pushed
 
 -- ---- the same, as the calls find it: `now` is what contracts see, and `hs` what is inside
 
-pub pushed_to : (now hs mid new : List (Option HandleSeen)) (h : HandleSeen) → hs ≡ now → mid ≡ hs → new ≡ mid ++ Some h ∷ []
+pub pushed_to : (now hs mid new : List (Option HandleSeen)) (h : HandleSeen) → hs ≡ now → mid ≡ hs
+    → new ≡ mid ++ Some h ∷ []
     → ComesIn now new h
 pushed_to now hs mid new h view same more = rw (more, same, view) (pushed now h)
 
 -- the last place went, with what was in it
-pub apart_less : (hs new : List (Option HandleSeen)) (last : Option HandleSeen) → hs ≡ new ++ last ∷ [] → AreApart hs → AreApart new
+pub apart_less : (hs new : List (Option HandleSeen)) (last : Option HandleSeen) → hs ≡ new ++ last ∷ [] → AreApart hs
+    → AreApart new
 apart_less hs new last is are = let before : AreApart (new ++ last ∷ []) = rw is at are in apart_popped new last before
 
-none_before : (hs : List (Option HandleSeen)) (x : Option HandleSeen) (k : ℕ) → slot (hs ++ x ∷ []) k ≡ None → slot hs k ≡ None
+none_before : (hs : List (Option HandleSeen)) (x : Option HandleSeen) (k : ℕ) → slot (hs ++ x ∷ []) k ≡ None
+    → slot hs k ≡ None
 none_before hs x k none = grind (arith, common_steps)
 
-pub none_less : (hs new : List (Option HandleSeen)) (last : Option HandleSeen) → hs ≡ new ++ last ∷ [] → ((k : ℕ) → slot hs k ≡ None)
+pub none_less : (hs new : List (Option HandleSeen)) (last : Option HandleSeen) → hs ≡ new ++ last ∷ []
+    → ((k : ℕ) → slot hs k ≡ None)
     → (k : ℕ) → slot new k ≡ None
-none_less hs new last is none k = let before : slot (new ++ last ∷ []) k ≡ None = rw is at (none k) in none_before new last k before
+none_less hs new last is none k = let before : slot (new ++ last ∷ []) k ≡ None = rw is at (none k) in
+    none_before new last k before
 
 popped : (new : List (Option HandleSeen)) (last : Option HandleSeen) → AreApart (new ++ last ∷ [])
     → IfSome last (ComesOut (new ++ last ∷ []) new (length new))
@@ -121,7 +132,8 @@ popped new (Some h) are = record {
   apart = apart_last new h are;
 }
 
-pub popped_from : (now hs new : List (Option HandleSeen)) (last : Option HandleSeen) → hs ≡ now → hs ≡ new ++ last ∷ [] → AreApart hs
+pub popped_from : (now hs new : List (Option HandleSeen)) (last : Option HandleSeen) → hs ≡ now → hs ≡ new ++ last ∷ []
+    → AreApart hs
     → IfSome last (ComesOut now new (length new))
 popped_from now hs new last view is are =
     let before : AreApart (new ++ last ∷ []) = rw is at are
@@ -129,7 +141,8 @@ popped_from now hs new last view is are =
     in rw same (popped new last before)
 
 -- what was in a place came out, and it is empty
-taken : (hs : List (Option HandleSeen)) (i : ℕ) (was : Option HandleSeen) → i < length hs → AreApart hs → slot hs i ≡ was
+taken : (hs : List (Option HandleSeen)) (i : ℕ) (was : Option HandleSeen) → i < length hs → AreApart hs
+    → slot hs i ≡ was
     → IfSome was (ComesOut hs (slice_set hs i None) i)
 unfolding one
 taken hs i None inside are is = tt
@@ -140,18 +153,22 @@ taken hs i (Some h) inside are is = record {
   apart = apart_taken hs i h inside are is;
 }
 
-found_slot : (hs : List (Option HandleSeen)) (i : ℕ) (was found : Option HandleSeen) → i < length hs → found ≡ get_or hs i found
+found_slot : (hs : List (Option HandleSeen)) (i : ℕ) (was found : Option HandleSeen) → i < length hs
+    → found ≡ get_or hs i found
     → was ≡ found → slot hs i ≡ was
 found_slot hs i was found inside is same = grind (arith, common_steps)
 
-pub taken_from : (now hs : List (Option HandleSeen)) (i : ℕ) (found was left : Option HandleSeen) → hs ≡ now → i < length now
-    → AreApart hs → found ≡ get_or hs i found → was ≡ found → left ≡ None → IfSome was (ComesOut now (slice_set hs i left) i)
+pub taken_from : (now hs : List (Option HandleSeen)) (i : ℕ) (found was left : Option HandleSeen) → hs ≡ now
+    → i < length now
+    → AreApart hs → found ≡ get_or hs i found → was ≡ found → left ≡ None
+    → IfSome was (ComesOut now (slice_set hs i left) i)
 taken_from now hs i found was left view inside are is same none =
     let within : i < length hs = rw view inside
     in rw (← view, none) (taken hs i was within are (found_slot hs i was found within is same))
 
 -- a handle came into an empty place
-put_in : (hs : List (Option HandleSeen)) (i : ℕ) (was : Option HandleSeen) (h : HandleSeen) → i < length hs → slot hs i ≡ was
+put_in : (hs : List (Option HandleSeen)) (i : ℕ) (was : Option HandleSeen) (h : HandleSeen) → i < length hs
+    → slot hs i ≡ was
     → IfNone was (ComesIn hs (slice_set hs i (Some h)) h)
 unfolding one
 put_in hs i (Some g) h inside is = tt
@@ -160,14 +177,17 @@ put_in hs i None h inside is = record {
   places = λ k. places_set hs i (Some h) k inside;
 }
 
-pub put_into : (now hs : List (Option HandleSeen)) (i : ℕ) (found was left : Option HandleSeen) (h : HandleSeen) → hs ≡ now
-    → i < length now → found ≡ get_or hs i found → was ≡ found → left ≡ Some h → IfNone was (ComesIn now (slice_set hs i left) h)
+pub put_into : (now hs : List (Option HandleSeen)) (i : ℕ) (found was left : Option HandleSeen) (h : HandleSeen)
+    → hs ≡ now
+    → i < length now → found ≡ get_or hs i found → was ≡ found → left ≡ Some h
+    → IfNone was (ComesIn now (slice_set hs i left) h)
 put_into now hs i found was left h view inside is same put =
     let within : i < length hs = rw view inside
     in rw (← view, put) (put_in hs i was h within (found_slot hs i was found within is same))
 
 -- a handle came into a place, and another out
-exchanged : (hs : List (Option HandleSeen)) (i : ℕ) (was : Option HandleSeen) (h : HandleSeen) → i < length hs → AreApart hs
+exchanged : (hs : List (Option HandleSeen)) (i : ℕ) (was : Option HandleSeen) (h : HandleSeen) → i < length hs
+    → AreApart hs
     → IsApart h hs → slot hs i ≡ was → IfSome was (Exchanges hs (slice_set hs i (Some h)) i h)
 unfolding one
 exchanged hs i None h inside are apart is = tt
@@ -178,7 +198,8 @@ exchanged hs i (Some gone) h inside are apart is = record {
   apart = apart_gone hs i h gone inside are apart is;
 }
 
-pub exchanged_with : (now hs : List (Option HandleSeen)) (i : ℕ) (found was left : Option HandleSeen) (h : HandleSeen) → hs ≡ now
+pub exchanged_with : (now hs : List (Option HandleSeen)) (i : ℕ) (found was left : Option HandleSeen) (h : HandleSeen)
+    → hs ≡ now
     → i < length now → AreApart hs → IsApart h now → found ≡ get_or hs i found → was ≡ found → left ≡ Some h
     → IfSome was (Exchanges now (slice_set hs i left) i h)
 exchanged_with now hs i found was left h view inside are apart is same put =
@@ -191,9 +212,11 @@ pub bare_made : (hs : List (Option HandleSeen)) (n : ℕ) → hs ≡ replicate n
 bare_made hs n is = rw is (bare_replicated n)
 
 pub bare_apart : (hs : List (Option HandleSeen)) → IsBare hs → AreApart hs
-bare_apart hs bare = λ j k g h else is_g is_h. let e : Some g ≡ None = sym is_g ∙ bare.places j in absurd (let no : ⊥ = cc in no)
+bare_apart hs bare = λ j k g h else is_g is_h. let e : Some g ≡ None = sym is_g
+    ∙ bare.places j in absurd (let no : ⊥ = cc in no)
 
 -- what is apart from all that were there is apart from those that are
-pub apart_still : (old new : List (Option HandleSeen)) (h : HandleSeen) → ((k : ℕ) → (slot new k ≡ slot old k) ⊎ (slot new k ≡ None))
+pub apart_still : (old new : List (Option HandleSeen)) (h : HandleSeen)
+    → ((k : ℕ) → (slot new k ≡ slot old k) ⊎ (slot new k ≡ None))
     → IsApart h old → IsApart h new
 apart_still old new h places apart = λ k. grind (arith, places k, apart k)

@@ -20,23 +20,24 @@ IsApart handle handles = (k : ℕ) → IfSome (slot handles k) (λ h. handle.pla
 
 -- no two that are there are of one place of the frame
 abbrev pub AreApart : List (Option HandleSeen) → Type 0
-AreApart handles = (j k : ℕ) (g h : HandleSeen) → j ≢ k → slot handles j ≡ Some g → slot handles k ≡ Some h → g.place ≢ h.place
+AreApart handles = (j k : ℕ) (g h : HandleSeen) → j ≢ k → slot handles j ≡ Some g → slot handles k ≡ Some h
+    → g.place ≢ h.place
 
 -- A handle came in: there is one more, and each place has what it had, or this one.
 pub record ComesIn (old new : List (Option HandleSeen)) (handle : HandleSeen) : Type 0 where
   pub count : filled new ≡ filled old + 1
   pub places : (k : ℕ) → (slot new k ≡ slot old k) ⊎ (slot new k ≡ Some handle)
 
--- A handle came out of a place: there is one fewer, each place has what it had, or none, and this one is apart from those that
--- are there still.
+-- A handle came out of a place: there is one fewer, each place has what it had, or none, and this one is apart from
+-- those that are there still.
 pub record ComesOut (old new : List (Option HandleSeen)) (i : ℕ) (handle : HandleSeen) : Type 0 where
   pub count : filled new + 1 ≡ filled old
   pub was : slot old i ≡ Some handle
   pub places : (k : ℕ) → (slot new k ≡ slot old k) ⊎ (slot new k ≡ None)
   pub apart : IsApart handle new
 
--- A handle came in and another out of its place: there are as many, each place has what it had, or the one that came, and the one
--- that went is apart from those that are there.
+-- A handle came in and another out of its place: there are as many, each place has what it had, or the one that came,
+-- and the one that went is apart from those that are there.
 pub record Exchanges (old new : List (Option HandleSeen)) (i : ℕ) (handle gone : HandleSeen) : Type 0 where
   pub count : filled new ≡ filled old
   pub was : slot old i ≡ Some gone
@@ -62,5 +63,6 @@ module _ {A : Type 0} where
   pub record Retains (old new : FrameSeen A) (before after : List (Option HandleSeen)) (i : ℕ) : Type 0 where
     pub given : HandleSeen
     pub pushed : after ≡ before ++ Some given ∷ []
-    pub counted : (h : HandleSeen) (c : ℕ) → slot before i ≡ Some h → place_seen old.heap.cells old.seat.log h.place ≡ Some c
+    pub counted : (h : HandleSeen) (c : ℕ) → slot before i ≡ Some h
+        → place_seen old.heap.cells old.seat.log h.place ≡ Some c
         → Given old new (sources.Frame h.place) c given

@@ -1,6 +1,7 @@
 //! Many handles: by number, and the last one first.
 
-ghost use Rattle.std.specs.Prelude.{◌≡◌, ◌<◌, ℕ, Some, None, [], ◌∷◌, ◌++◌, ◌⊎◌, length, replicate, IfOk, IfErr, OnOk, OnErr, IfSome, IfNone, slice_set};
+ghost use Rattle.std.specs.Prelude.{◌≡◌, ◌<◌, ℕ, Some, None, [], ◌∷◌, ◌++◌, ◌⊎◌, length, replicate, IfOk, IfErr, OnOk};
+ghost use Rattle.std.specs.Prelude.{OnErr, IfSome, IfNone, slice_set};
 ghost use Rattle.std.specs.Option.{option_copied};
 ghost use Rattle.brc_words.specs.declared.fault.Fault.TheVariants.{OutOfMemory};
 ghost use Rattle.brc_handles.specs.Handles.{slot, IsApart, IsBare, ComesIn, ComesOut, Exchanges};
@@ -10,8 +11,8 @@ use brc_words::Fault;
 use std::alloc::{AllocError, Allocator, Global};
 use std::marker::Model;
 
-/// Handles of one frame, each in a place with a number; a place can be empty. No two are of one place of the frame. What is here
-/// must be spent, by `release_all`.
+/// Handles of one frame, each in a place with a number; a place can be empty. No two are of one place of the frame.
+/// What is here must be spent, by `release_all`.
 pub struct Handles<A: Allocator = Global> {
     pub(crate) slots: Vec<Option<Handle<A>>, A>,
 }
@@ -69,7 +70,8 @@ impl<A: Allocator> Handles<A> {
         }
     }
 
-    /// A handle more, in a new place after all others. OutOfMemory where the place can't be had: the handle is handed back.
+    /// A handle more, in a new place after all others. OutOfMemory where the place can't be had: the handle is handed
+    /// back.
     #[inline(always)]
     pub fn push(&mut self, handle: Handle<A>) -> Result<(), Handed<Handle<A>>>
         requires apart { IsApart handle self.old }

@@ -1,6 +1,7 @@
 //! A frame and many of its handles: each call tells that the frame owns them afterwards, and how many others.
 
-ghost use Rattle.std.specs.Prelude.{◌≡◌, ◌≢◌, ◌+◌, ◌<◌, ◌⊎◌, Some, None, [], ◌∷◌, ◌++◌, OnOk, OnErr, IfErr, IsSome, length, slice_set};
+ghost use Rattle.std.specs.Prelude.{◌≡◌, ◌≢◌, ◌+◌, ◌<◌, ◌⊎◌, Some, None, [], ◌∷◌, ◌++◌, OnOk, OnErr, IfErr, IsSome};
+ghost use Rattle.std.specs.Prelude.{length, slice_set};
 ghost use Rattle.brc_words.specs.declared.fault.Fault.TheVariants.{OutOfMemory};
 ghost use Rattle.law_living.specs.Quiet.{Quietly};
 ghost use Rattle.brc_count.specs.Frames.{HandleSeen, IsUnlocked, Owns, Refused};
@@ -14,7 +15,8 @@ use brc_words::Fault;
 use std::alloc::Allocator;
 
 impl<A: Allocator> Handles<A> {
-    /// A handle more, in a new place after all others. OutOfMemory where the place can't be had: the handle is released.
+    /// A handle more, in a new place after all others. OutOfMemory where the place can't be had: the handle is
+    /// released.
     pub fn keep<H: Home<A>>(
         &mut self,
         frame: &mut Frame<H, A>,
@@ -46,8 +48,9 @@ impl<A: Allocator> Handles<A> {
         }
     }
 
-    /// One more reference to the object of the handle in this place, in a new place after all others. FrameFull and OutOfMemory as
-    /// `Frame::retain` answers them; OutOfMemory too where the place here can't be had: then the reference goes again.
+    /// One more reference to the object of the handle in this place, in a new place after all others. FrameFull and
+    /// OutOfMemory as `Frame::retain` answers them; OutOfMemory too where the place here can't be had: then the
+    /// reference goes again.
     pub fn retain<H: Home<A>>(&mut self, frame: &mut Frame<H, A>, index: usize) -> Result<(), Fault>
         requires each { OwnsEach frame.old self.old }
         requires there { IsSome (slot self.old index) }
@@ -74,7 +77,8 @@ impl<A: Allocator> Handles<A> {
         }
     }
 
-    /// The reference of this place goes, if one is there; the place is empty then. It takes no memory, as `Frame::release`.
+    /// The reference of this place goes, if one is there; the place is empty then. It takes no memory, as
+    /// `Frame::release`.
     pub fn release<H: Home<A>>(&mut self, frame: &mut Frame<H, A>, index: usize)
         requires each { OwnsEach frame.old self.old }
         requires inside { index < length self.old }

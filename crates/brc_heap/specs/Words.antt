@@ -1,4 +1,5 @@
--- The words that a client's contracts cite: of a frame, which handles it owns before and after a call, and whether it has anything locked.
+-- The words that a client's contracts cite: of a frame, which handles it owns before and after a call, and whether it
+-- has anything locked.
 pub use Rattle.brc_count.specs.Frames.{FrameSeen, HandleSeen, Owns, IsUnlocked}
 pub use Rattle.brc_count.specs.Owned.{Keeps, Gains, Loses, Trades, GoesOn}
 -- and which of the many handles that a client keeps it owns

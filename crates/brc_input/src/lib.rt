@@ -1,4 +1,5 @@
-//! The whole of an input, for both programs: a trace's or a script's bytes, never past the first byte that is one too many.
+//! The whole of an input, for both programs: a trace's or a script's bytes, never past the first byte that is one too
+//! many.
 #![tactic(auto)]
 
 mod reading;

@@ -11,10 +11,11 @@ use std::io::Read;
 /// One byte more than an input may have.
 const MOST_READ: usize = MOST_INPUT + 1;
 
-/// All that the reader gives, up to one byte more than the 16,777,216 that an input may have: who reads it as a text sees by that
-/// byte that it is too long. Io where a read fails, after which nothing more is read; OutOfMemory.
+/// All that the reader gives, up to one byte more than the 16,777,216 that an input may have: who reads it as a text
+/// sees by that byte that it is too long. Io where a read fails, after which nothing more is read; OutOfMemory.
 pub fn read_input<A: Allocator, R: Read>(alloc: A, reader: &mut R) -> Result<Vec<u8, A>, Fault>
-    ensures bytes { IfOk result (λ bytes. IfSome (R.remaining reader.old) (λ input. bytes.items ≡ take (MOST_INPUT + 1) input)) }
+    ensures bytes { IfOk result
+        (λ bytes. IfSome (R.remaining reader.old) (λ input. bytes.items ≡ take (MOST_INPUT + 1) input)) }
     ensures refused { IfErr result (λ fault. (fault ≡ Fault.Io) ⊎ (fault ≡ Fault.OutOfMemory)) }
 {
     let mut bytes = Vec::new(alloc);

@@ -7,7 +7,8 @@ use Rattle.brc_handles.specs.Handles.{slot}
 use Rattle.brc_instructions.specs.Registers.{Stands, Besides}
 
 -- what is so of each that is there stays so as another thing
-each : {P Q : HandleSeen → Type 0} → ((h : HandleSeen) → P h → Q h) → (found : Option HandleSeen) → IfSome found P → IfSome found Q
+each : {P Q : HandleSeen → Type 0} → ((h : HandleSeen) → P h → Q h) → (found : Option HandleSeen) → IfSome found P
+    → IfSome found Q
 each step None all = tt
 each step (Some h) all = step h all
 

@@ -1,5 +1,6 @@
 -- What is shown of an object is its text by the plain meaning.
-use Rattle.std.proofs.Common.{◌≡◌, ◌≢◌, ◌∙◌, ℕ, ℤ, Bool, true, false, List, [], ◌∷◌, ◌++◌, Option, Some, Result, Ok, Err, FitsSigned, w64, to_z, of_z, ◌⊎◌, inl, inr, codes, decimal, refl, sym, ap, subst}
+use Rattle.std.proofs.Common.{◌≡◌, ◌≢◌, ◌∙◌, ℕ, ℤ, Bool, true, false, List, [], ◌∷◌, ◌++◌, Option, Some, Result, Ok}
+use Rattle.std.proofs.Common.{Err, FitsSigned, w64, to_z, of_z, ◌⊎◌, inl, inr, codes, decimal, refl, sym, ap, subst}
 use Rattle.std.specs.Fmt.{signed_decimal}
 use Rattle.std.proofs.lemmas.Int.{to_z-of_z}
 use Rattle.brc_words.specs.declared.fault.Fault.{Fault}
@@ -45,7 +46,8 @@ is_made kinds.False = false
 is_made kinds.True = false
 is_made _ = true
 
-pub none_made : (kind : Kind) → (kind ≡ kinds.Nothing) ⊎ ((kind ≡ kinds.False) ⊎ (kind ≡ kinds.True)) → is_made kind ≡ false
+pub none_made : (kind : Kind) → (kind ≡ kinds.Nothing) ⊎ ((kind ≡ kinds.False) ⊎ (kind ≡ kinds.True))
+    → is_made kind ≡ false
 none_made kind (inl is) = ap is_made is
 none_made kind (inr (inl is)) = ap is_made is
 none_made kind (inr (inr is)) = ap is_made is
@@ -67,14 +69,18 @@ module _ {A : Type 0} where
   number_there (objects.Dict pairs) fault kind is = let bad : kinds.Dict ≡ kinds.Int = kind in cc
   number_there (objects.Mailbox entries) fault kind is = let bad : kinds.Mailbox ≡ kinds.Int = kind in cc
 
-  entries_text : (object : Object A) (entries : ℕ) → entries_in object ≡ Ok entries → text_in object ≡ container_text (kind_meant object) entries
+  entries_text : (object : Object A) (entries : ℕ) → entries_in object ≡ Ok entries
+      → text_in object ≡ container_text (kind_meant object) entries
   entries_text (objects.Int number) entries is = absurd (let bad : Err faults.WrongKind ≡ Ok entries = is in cc)
   entries_text (objects.Text bytes) entries is = absurd (let bad : Err faults.WrongKind ≡ Ok entries = is in cc)
   entries_text (objects.List all) entries is = ap (container_text kinds.List) (let both : Ok _ ≡ Ok entries = is in cc)
-  entries_text (objects.Dict pairs) entries is = ap (container_text kinds.Dict) (let both : Ok _ ≡ Ok entries = is in cc)
-  entries_text (objects.Mailbox all) entries is = ap (container_text kinds.Mailbox) (let both : Ok _ ≡ Ok entries = is in cc)
+  entries_text (objects.Dict pairs) entries is = ap (container_text kinds.Dict)
+      (let both : Ok _ ≡ Ok entries = is in cc)
+  entries_text (objects.Mailbox all) entries is = ap (container_text kinds.Mailbox)
+      (let both : Ok _ ≡ Ok entries = is in cc)
 
-  entries_there : (object : Object A) (fault : Fault) → has_entries (kind_meant object) ≡ true → entries_in object ≡ Err fault → ⊥
+  entries_there : (object : Object A) (fault : Fault) → has_entries (kind_meant object) ≡ true
+      → entries_in object ≡ Err fault → ⊥
   entries_there (objects.Int number) fault kind is = let bad : false ≡ true = kind in cc
   entries_there (objects.Text bytes) fault kind is = let bad : false ≡ true = kind in cc
   entries_there (objects.List all) fault kind is = let bad : Ok _ ≡ Err fault = is in cc
@@ -92,80 +98,117 @@ module _ {A : Type 0} where
 
   module _ (r : ℕ) (s : State A) where
     found_as : (P Q : Object A → Type 0) → ((object : Object A) → P object → Q object) → Finds r s P → Finds r s Q
-    found_as P Q step finds = record { reference = finds.reference; refers = finds.refers; object = finds.object; stands = finds.stands; is = step finds.object finds.is }
+    found_as P Q step finds = record {
+      reference = finds.reference;
+      refers = finds.refers;
+      object = finds.object;
+      stands = finds.stands;
+      is = step finds.object finds.is;
+    }
 
     -- both times it was the same object
     found_both : (P Q : Object A → Type 0) → Finds r s P → Finds r s Q → Finds r s (λ object. P object × Q object)
     found_both P Q one other =
         let both : Ok one.reference ≡ Ok other.reference = sym one.refers ∙ other.refers in
         let reference : one.reference ≡ other.reference = cc in
-        let there : Some other.object ≡ Some one.object = sym other.stands ∙ ap (λ (at : Reference). meant at s.objects) (sym reference) ∙ one.stands in
+        let there : Some other.object ≡ Some one.object = sym other.stands ∙ ap (λ (at : Reference). meant at s.objects)
+        (sym reference) ∙ one.stands in
         let object : other.object ≡ one.object = cc in
-        record { reference = one.reference; refers = one.refers; object = one.object; stands = one.stands; is = (one.is, subst Q object other.is) }
+        record {
+          reference = one.reference;
+          refers = one.refers;
+          object = one.object;
+          stands = one.stands;
+          is = (one.is, subst Q object other.is);
+        }
 
     abbrev OfKind : Kind → Type 0
     OfKind kind = Finds r s (λ object. kind_meant object ≡ kind)
 
-    shows_number : (number : ℤ) → Finds r s (λ object. number_in object ≡ Ok number) → ShownAs r s (Ok (shown.Integer number))
-    shows_number number finds = found_as (λ object. number_in object ≡ Ok number) (λ object. text_in object ≡ signed_decimal number) (λ object. number_text object number) finds
+    shows_number : (number : ℤ) → Finds r s (λ object. number_in object ≡ Ok number)
+        → ShownAs r s (Ok (shown.Integer number))
+    shows_number number finds = found_as (λ object. number_in object ≡ Ok number)
+        (λ object. text_in object ≡ signed_decimal number) (λ object. number_text object number) finds
 
     -- as the processor holds it
-    pub shows_held_number : (number : ℤ) → FitsSigned w64 number → Finds r s (λ object. number_in object ≡ Ok number) → ShownAs r s (Ok (shown.Integer (to_z w64 (of_z w64 number))))
+    pub shows_held_number : (number : ℤ) → FitsSigned w64 number → Finds r s (λ object. number_in object ≡ Ok number)
+        → ShownAs r s (Ok (shown.Integer (to_z w64 (of_z w64 number))))
     shows_held_number number fits finds =
-        shows_number (to_z w64 (of_z w64 number)) (subst (λ (z : ℤ). Finds r s (λ object. number_in object ≡ Ok z)) (sym (to_z-of_z w64 number fits)) finds)
+        shows_number (to_z w64 (of_z w64 number)) (subst (λ (z : ℤ). Finds r s (λ object. number_in object ≡ Ok z))
+        (sym (to_z-of_z w64 number fits)) finds)
 
-    pub shows_text : (text : List ℕ) → Finds r s (λ object. object ≡ objects.Text text) → ShownAs r s (Ok (shown.Text text))
-    shows_text text finds = found_as (λ object. object ≡ objects.Text text) (λ object. text_in object ≡ text) (λ object is. ap text_in is) finds
+    pub shows_text : (text : List ℕ) → Finds r s (λ object. object ≡ objects.Text text)
+        → ShownAs r s (Ok (shown.Text text))
+    shows_text text finds = found_as (λ object. object ≡ objects.Text text) (λ object. text_in object ≡ text)
+        (λ object is. ap text_in is) finds
 
-    counted_text : (kind : Kind) (entries : ℕ) → OfKind kind → Finds r s (λ object. entries_in object ≡ Ok entries) → Finds r s (λ object. text_in object ≡ container_text kind entries)
+    counted_text : (kind : Kind) (entries : ℕ) → OfKind kind → Finds r s (λ object. entries_in object ≡ Ok entries)
+        → Finds r s (λ object. text_in object ≡ container_text kind entries)
     counted_text kind entries of_kind finds =
-        found_as (λ object. (kind_meant object ≡ kind) × (entries_in object ≡ Ok entries)) (λ object. text_in object ≡ container_text kind entries)
+        found_as (λ object. (kind_meant object ≡ kind) × (entries_in object ≡ Ok entries))
+        (λ object. text_in object ≡ container_text kind entries)
         (λ object both. entries_text object entries both.1 ∙ ap (λ (k : Kind). container_text k entries) both.0)
         (found_both (λ object. kind_meant object ≡ kind) (λ object. entries_in object ≡ Ok entries) of_kind finds)
 
-    pub shows_list : (kind : Kind) → kind ≡ kinds.List → OfKind kind → (entries : ℕ) → Finds r s (λ object. entries_in object ≡ Ok entries) → ShownAs r s (Ok (shown.List entries))
+    pub shows_list : (kind : Kind) → kind ≡ kinds.List → OfKind kind → (entries : ℕ)
+        → Finds r s (λ object. entries_in object ≡ Ok entries) → ShownAs r s (Ok (shown.List entries))
     shows_list kind is of_kind entries finds = counted_text kinds.List entries (subst OfKind is of_kind) finds
 
-    pub shows_dict : (kind : Kind) → kind ≡ kinds.Dict → OfKind kind → (entries : ℕ) → Finds r s (λ object. entries_in object ≡ Ok entries) → ShownAs r s (Ok (shown.Dict entries))
+    pub shows_dict : (kind : Kind) → kind ≡ kinds.Dict → OfKind kind → (entries : ℕ)
+        → Finds r s (λ object. entries_in object ≡ Ok entries) → ShownAs r s (Ok (shown.Dict entries))
     shows_dict kind is of_kind entries finds = counted_text kinds.Dict entries (subst OfKind is of_kind) finds
 
-    pub shows_mailbox : (kind : Kind) → kind ≡ kinds.Mailbox → OfKind kind → (entries : ℕ) → Finds r s (λ object. entries_in object ≡ Ok entries) → ShownAs r s (Ok (shown.Mailbox entries))
+    pub shows_mailbox : (kind : Kind) → kind ≡ kinds.Mailbox → OfKind kind → (entries : ℕ)
+        → Finds r s (λ object. entries_in object ≡ Ok entries) → ShownAs r s (Ok (shown.Mailbox entries))
     shows_mailbox kind is of_kind entries finds = counted_text kinds.Mailbox entries (subst OfKind is of_kind) finds
 
     -- ---- refusals
 
-    pub refuses_number : (kind : Kind) → kind ≡ kinds.Int → OfKind kind → (fault : Fault) → Finds r s (λ object. number_in object ≡ Err fault) → ShownAs r s (Err fault)
+    pub refuses_number : (kind : Kind) → kind ≡ kinds.Int → OfKind kind → (fault : Fault)
+        → Finds r s (λ object. number_in object ≡ Err fault) → ShownAs r s (Err fault)
     refuses_number kind is of_kind fault finds =
-        let both = found_both (λ object. kind_meant object ≡ kind) (λ object. number_in object ≡ Err fault) of_kind finds in
+        let both = found_both (λ object. kind_meant object ≡ kind) (λ object. number_in object ≡ Err fault)
+        of_kind finds in
         absurd (number_there both.object fault (both.is.0 ∙ is) both.is.1)
 
-    pub refuses_entries : (kind : Kind) → has_entries kind ≡ true → OfKind kind → (fault : Fault) → Finds r s (λ object. entries_in object ≡ Err fault) → ShownAs r s (Err fault)
+    pub refuses_entries : (kind : Kind) → has_entries kind ≡ true → OfKind kind → (fault : Fault)
+        → Finds r s (λ object. entries_in object ≡ Err fault) → ShownAs r s (Err fault)
     refuses_entries kind has of_kind fault finds =
-        let both = found_both (λ object. kind_meant object ≡ kind) (λ object. entries_in object ≡ Err fault) of_kind finds in
+        let both = found_both (λ object. kind_meant object ≡ kind) (λ object. entries_in object ≡ Err fault)
+        of_kind finds in
         absurd (entries_there both.object fault (ap has_entries both.is.0 ∙ has) both.is.1)
 
     -- memory for a copy may be wanting
     pub refuses_text : (kind : Kind) → kind ≡ kinds.Text → OfKind kind → (fault : Fault)
-        → Finds r s (λ object. fault ≢ faults.OutOfMemory → (fault ≡ faults.WrongKind) × (kind_meant object ≢ kinds.Text)) → ShownAs r s (Err fault)
+        → Finds r s (λ object. fault ≢ faults.OutOfMemory
+        → (fault ≡ faults.WrongKind) × (kind_meant object ≢ kinds.Text)) → ShownAs r s (Err fault)
     refuses_text kind is of_kind fault finds = by (is_want fault) refl
       where
-        both : Finds r s (λ object. (kind_meant object ≡ kind) × (fault ≢ faults.OutOfMemory → (fault ≡ faults.WrongKind) × (kind_meant object ≢ kinds.Text)))
-        both = found_both (λ object. kind_meant object ≡ kind) (λ object. fault ≢ faults.OutOfMemory → (fault ≡ faults.WrongKind) × (kind_meant object ≢ kinds.Text)) of_kind finds
+        both : Finds r s (λ object. (kind_meant object ≡ kind) × (fault ≢ faults.OutOfMemory
+            → (fault ≡ faults.WrongKind) × (kind_meant object ≢ kinds.Text)))
+        both = found_both (λ object. kind_meant object ≡ kind) (λ object. fault ≢ faults.OutOfMemory
+            → (fault ≡ faults.WrongKind) × (kind_meant object ≢ kinds.Text)) of_kind finds
 
         by : (want : Bool) → is_want fault ≡ want → is_want fault ≡ true
         by true want = want
-        by false want = absurd ((both.is.1 (λ same. let bad : true ≡ false = ap is_want (sym same) ∙ want in cc)).1 (both.is.0 ∙ is))
+        by false want = absurd ((both.is.1 (λ same. let bad : true ≡ false = ap is_want (sym same) ∙ want in cc)).1
+            (both.is.0 ∙ is))
 
     pub shows_none : (kind : Kind) → is_made kind ≡ false → OfKind kind → (fault : Fault) → ShownAs r s (Err fault)
-    shows_none kind none of_kind fault = absurd (let bad : true ≡ false = sym (kind_made of_kind.object) ∙ ap is_made of_kind.is ∙ none in cc)
+    shows_none kind none of_kind fault = absurd (let bad : true ≡ false = sym (kind_made of_kind.object)
+        ∙ ap is_made of_kind.is ∙ none in cc)
 
   -- ---- the instruction
 
-  pub prints : (base : ℕ) (frame : FrameSeen A) (registers : List (Option HandleSeen)) (r : ℕ) (s : State A) (result : Result (Shown A) Fault)
+  pub prints : (base : ℕ) (frame : FrameSeen A) (registers : List (Option HandleSeen)) (r : ℕ) (s : State A)
+      (result : Result (Shown A) Fault)
       → Means base frame registers s × ShownAs r s result → PrintsAs base frame registers r s result
   prints base frame registers r s (Ok shows) told = (
-    ap (λ (found : Result Reference Fault). found >>= λ reference. printing reference s.objects s.printed >>= λ printed. Ok (record { registers = s.registers; objects = s.objects; printed = printed })) told.1.refers
-        ∙ ap (λ (found : Option (Object A)). or_fault faults.WrongKind found >>= (λ (object : Object A). Ok (text_in object)) >>= (λ text. Ok (s.printed ++ (text ++ 10 ∷ []))) >>= λ printed. Ok (record { registers = s.registers; objects = s.objects; printed = printed })) told.1.stands
+    ap (λ (found : Result Reference Fault). found >>= λ reference. printing reference s.objects s.printed >>= λ printed.
+        Ok (record { registers = s.registers; objects = s.objects; printed = printed })) told.1.refers
+        ∙ ap (λ (found : Option (Object A)). or_fault faults.WrongKind found >>=
+        (λ (object : Object A). Ok (text_in object)) >>= (λ text. Ok (s.printed ++ (text ++ 10 ∷ []))) >>= λ printed. Ok
+        (record { registers = s.registers; objects = s.objects; printed = printed })) told.1.stands
         ∙ ap (λ (text : List ℕ). Ok (with_line text s)) told.1.is,
     told.0,
   )

@@ -1,5 +1,6 @@
 -- What is read off the objects of registers, and the sum of two integers.
-use Rattle.std.proofs.Common.{◌≡◌, ◌∙◌, ℕ, ℤ, pos, Bool, true, false, not, Option, Some, None, is_some, option_copied, Bor, Result, Ok, Err, slice_index_or, refl, sym, ap}
+use Rattle.std.proofs.Common.{◌≡◌, ◌∙◌, ℕ, ℤ, pos, Bool, true, false, not, Option, Some, None, is_some, option_copied}
+use Rattle.std.proofs.Common.{Bor, Result, Ok, Err, slice_index_or, refl, sym, ap}
 use Rattle.brc_words.specs.declared.fault.Fault.{Fault}
 use Rattle.brc_words.specs.declared.fault.Fault.TheVariants as faults
 use Rattle.brc_plain.specs.Outcomes.{or_fault}
@@ -16,7 +17,8 @@ use Rattle.law_isolation.specs.Asked.{read, summed}
 
 module _ {A X : Type 0} (ask : Object A → Result X Fault) (container : ℕ) (s : State A) where
   -- what its object tells
-  pub found_read : (result : Result X Fault) → Finds container s (λ object. ask object ≡ result) → read ask container s ≡ result
+  pub found_read : (result : Result X Fault) → Finds container s (λ object. ask object ≡ result)
+      → read ask container s ≡ result
   found_read result finds =
       ap (λ (r : Result Reference Fault). r >>= λ reference. asked ask reference s.objects) finds.refers
       ∙ ap (λ (o : Option (Object A)). or_fault faults.WrongKind o >>= ask) finds.stands
@@ -30,7 +32,8 @@ module _ {A X : Type 0} (ask : Object A → Result X Fault) (container : ℕ) (s
 -- ---- two registers
 
 -- what was looked at, and isn't nothing
-pub filled_of : {X : Type 0} (found : Option (Bor X)) (register : Option X) (empty : Bool) → option_copied found ≡ register → is_some found ≡ not empty → empty ≡ false
+pub filled_of : {X : Type 0} (found : Option (Bor X)) (register : Option X) (empty : Bool)
+    → option_copied found ≡ register → is_some found ≡ not empty → empty ≡ false
     → (x : X) × (register ≡ Some x)
 filled_of None register empty copied is filled = absurd (let bad : false ≡ true = is ∙ ap not filled in cc)
 filled_of (Some at) register empty copied is filled = (at.now, sym copied)
@@ -56,13 +59,15 @@ module _ {A : Type 0} (s : State A) where
       ap (λ (r : Result ℤ Fault). r >>= λ n. asked number_in b s.objects >>= λ m. integer_sum n m) one
       ∙ ap (λ (r : Result ℤ Fault). r >>= λ m. integer_sum number m) other
 
-  by_first : (first second : Option Reference) (fault : Fault) (b : Reference) → Read first ≡ Err fault → second ≡ Some b → Summed first second ≡ Err fault
+  by_first : (first second : Option Reference) (fault : Fault) (b : Reference) → Read first ≡ Err fault
+      → second ≡ Some b → Summed first second ≡ Err fault
   by_first None second fault b one other = one
   by_first (Some a) None fault b one other = absurd (let bad : None ≡ Some b = other in cc)
   by_first (Some a) (Some c) fault b one other =
       ap (λ (r : Result ℤ Fault). r >>= λ n. asked number_in c s.objects >>= λ m. integer_sum n m) one
 
-  by_second : (first second : Option Reference) (number : ℤ) (fault : Fault) → Read first ≡ Ok number → Read second ≡ Err fault → Summed first second ≡ Err fault
+  by_second : (first second : Option Reference) (number : ℤ) (fault : Fault) → Read first ≡ Ok number
+      → Read second ≡ Err fault → Summed first second ≡ Err fault
   by_second None second number fault one other = absurd (let bad : Err faults.NoSuchPlace ≡ Ok number = one in cc)
   by_second (Some a) None number fault one other = other
   by_second (Some a) (Some b) number fault one other =
@@ -85,13 +90,16 @@ module _ {A : Type 0} (s : State A) where
     abbrev Other : Option Reference
     Other = slice_index_or s.registers second None
 
-    pub numbers_summed : (number more : ℤ) → read number_in first s ≡ Ok number → read number_in second s ≡ Ok more → summed first second s ≡ integer_sum number more
+    pub numbers_summed : (number more : ℤ) → read number_in first s ≡ Ok number → read number_in second s ≡ Ok more
+        → summed first second s ≡ integer_sum number more
     numbers_summed number more = by_numbers One Other number more
 
-    pub first_refused : (fault : Fault) (b : Reference) → read number_in first s ≡ Err fault → slice_index_or s.registers second None ≡ Some b → summed first second s ≡ Err fault
+    pub first_refused : (fault : Fault) (b : Reference) → read number_in first s ≡ Err fault
+        → slice_index_or s.registers second None ≡ Some b → summed first second s ≡ Err fault
     first_refused fault b = by_first One Other fault b
 
-    pub second_refused : (number : ℤ) (fault : Fault) → read number_in first s ≡ Ok number → read number_in second s ≡ Err fault → summed first second s ≡ Err fault
+    pub second_refused : (number : ℤ) (fault : Fault) → read number_in first s ≡ Ok number
+        → read number_in second s ≡ Err fault → summed first second s ≡ Err fault
     second_refused number fault = by_second One Other number fault
 
     pub first_empty : slice_index_or s.registers first None ≡ None → summed first second s ≡ Err faults.NoSuchPlace
@@ -104,7 +112,8 @@ module _ {A : Type 0} (s : State A) where
 
   -- the same steps, one after another
   joined : (first second : Option Reference) (to : ℕ)
-      → (or_fault faults.NoSuchPlace first >>= λ one. or_fault faults.NoSuchPlace second >>= λ other. asked number_in one s.objects >>= λ number.
+      → (or_fault faults.NoSuchPlace first >>= λ one. or_fault faults.NoSuchPlace second >>= λ other. asked number_in
+      one s.objects >>= λ number.
       asked number_in other s.objects >>= λ more. integer_sum number more >>= λ sum. Ok (with_integer sum to s))
       ≡ (Summed first second >>= λ sum. Ok (with_integer sum to s))
   joined None second to = refl
@@ -125,8 +134,10 @@ module _ {A : Type 0} (s : State A) where
       ∙ ap (λ (r : Result ℤ Fault). r >>= λ sum. Ok (with_integer sum to s)) is
 
   counted : (register : Option Reference) (to : ℕ)
-      → (or_fault faults.NoSuchPlace register >>= λ reference. asked entries_in reference s.objects >>= λ entries. Ok (with_integer (pos entries) to s))
-      ≡ ((or_fault faults.NoSuchPlace register >>= λ reference. asked entries_in reference s.objects) >>= λ entries. Ok (with_integer (pos entries) to s))
+      → (or_fault faults.NoSuchPlace register >>= λ reference. asked entries_in reference s.objects >>= λ entries. Ok
+      (with_integer (pos entries) to s))
+      ≡ ((or_fault faults.NoSuchPlace register >>= λ reference. asked entries_in reference s.objects) >>= λ entries. Ok
+      (with_integer (pos entries) to s))
   counted None to = refl
   counted (Some a) to = refl
 

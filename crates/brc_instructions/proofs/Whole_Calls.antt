@@ -1,5 +1,6 @@
 -- The log after a whole call on an object is later than the one before it, whatever the call answered.
-use Rattle.std.proofs.Common.{◌≡◌, ℕ, ℤ, true, false, List, Option, Some, None, Result, Ok, Err, is_some, refl, sym, ◌∙◌}
+use Rattle.std.proofs.Common.{◌≡◌, ℕ, ℤ, true, false, List, Option, Some, None, Result, Ok, Err, is_some, refl, sym}
+use Rattle.std.proofs.Common.{◌∙◌}
 use Rattle.std.specs.Prelude.{OnErr}
 use Rattle.brc_words.specs.declared.fault.Fault.{Fault}
 use Rattle.brc_words.specs.declared.fault.Fault.TheVariants as faults
@@ -35,28 +36,33 @@ module _ {A : Type 0} where
   -- ---- refusals
 
   module _ (old new : FrameSeen A) (k : ℕ) where
-    later_entry : {R : Type 0} (call : PlainCall R) (fault : Fault) → RefusedEntry old new k call fault → IsLater old.seat.log new.seat.log
+    later_entry : {R : Type 0} (call : PlainCall R) (fault : Fault) → RefusedEntry old new k call fault
+        → IsLater old.seat.log new.seat.log
     later_entry call faults.Busy why = later_busy why
     later_entry call faults.OutOfMemory why = later_changes why.looks
     later_entry call fault why = later_changes why.looks
 
-    later_place : {R : Type 0} (call : PlainCall R) (fault : Fault) → RefusedPlace old new k call fault → IsLater old.seat.log new.seat.log
+    later_place : {R : Type 0} (call : PlainCall R) (fault : Fault) → RefusedPlace old new k call fault
+        → IsLater old.seat.log new.seat.log
     later_place call faults.Busy why = later_busy why
     later_place call faults.FrameFull why = later_changes why.0.looks
     later_place call faults.OutOfMemory why = later_changes why.0.looks
     later_place call fault why = later_changes why.looks
 
-    later_pair : (call : PlainCall (Option ℕ)) (fault : Fault) → RefusedPair old new k call fault → IsLater old.seat.log new.seat.log
+    later_pair : (call : PlainCall (Option ℕ)) (fault : Fault) → RefusedPair old new k call fault
+        → IsLater old.seat.log new.seat.log
     later_pair call faults.Busy why = later_busy why
     later_pair call faults.OutOfMemory why = later_changes why.looks
     later_pair call fault why = later_changes why.looks
 
-    later_look : (fits : Contents → Type 0) (fault : Fault) → RefusedLook old new k fits fault → IsLater old.seat.log new.seat.log
+    later_look : (fits : Contents → Type 0) (fault : Fault) → RefusedLook old new k fits fault
+        → IsLater old.seat.log new.seat.log
     later_look fits faults.Busy why = later_busy why
     later_look fits faults.WrongKind why = later_looks why.1
     later_look fits fault why = absurd why
 
-    later_copy : (fits : Contents → Type 0) (fault : Fault) → RefusedCopy old new k fits fault → IsLater old.seat.log new.seat.log
+    later_copy : (fits : Contents → Type 0) (fault : Fault) → RefusedCopy old new k fits fault
+        → IsLater old.seat.log new.seat.log
     later_copy fits faults.Busy why = later_busy why
     later_copy fits faults.OutOfMemory why = later_looks why.1
     later_copy fits faults.WrongKind why = later_looks why.1
@@ -65,11 +71,13 @@ module _ {A : Type 0} where
   -- ---- from the frame that the locking began from
 
   module _ (old new : FrameSeen A) (k : ℕ) where
-    taken : (call : PlainCall ℕ) (result : Result HandleSeen Fault) → TakesEntry old new k call result → IsLater old.seat.log new.seat.log
+    taken : (call : PlainCall ℕ) (result : Result HandleSeen Fault) → TakesEntry old new k call result
+        → IsLater old.seat.log new.seat.log
     taken call (Ok given) is = later_changes is.did.changes
     taken call (Err fault) is = later_place old new k call fault is.refused
 
-    shared : (call : PlainCall ℕ) (result : Result HandleSeen Fault) → SharesEntry old new k call result → IsLater old.seat.log new.seat.log
+    shared : (call : PlainCall ℕ) (result : Result HandleSeen Fault) → SharesEntry old new k call result
+        → IsLater old.seat.log new.seat.log
     shared call (Ok given) is = later_shares is.did
     shared call (Err fault) is = later_place old new k call fault is.refused
 
@@ -91,40 +99,52 @@ module _ {A : Type 0} where
   -- ---- after some lost tries
 
   module _ (old new : FrameSeen A) (k : ℕ) where
-    pub later_receive : (result : Result HandleSeen Fault) → Late old k (λ mid. MailboxReceive mid new k result) → IsLater old.seat.log new.seat.log
+    pub later_receive : (result : Result HandleSeen Fault) → Late old k (λ mid. MailboxReceive mid new k result)
+        → IsLater old.seat.log new.seat.log
     later_receive result = later_late new (λ mid. taken mid new k plain_receive result)
 
-    pub later_find : (key : Key A) (result : Result HandleSeen Fault) → Late old k (λ mid. DictFind mid new k key result) → IsLater old.seat.log new.seat.log
+    pub later_find : (key : Key A) (result : Result HandleSeen Fault)
+        → Late old k (λ mid. DictFind mid new k key result) → IsLater old.seat.log new.seat.log
     later_find key result = later_late new (λ mid. shared mid new k (plain_find key) result)
 
-    pub later_delete : (key : Key A) (result : Result HandleSeen Fault) → Late old k (λ mid. DictDel mid new k key result) → IsLater old.seat.log new.seat.log
+    pub later_delete : (key : Key A) (result : Result HandleSeen Fault)
+        → Late old k (λ mid. DictDel mid new k key result) → IsLater old.seat.log new.seat.log
     later_delete key result = later_late new (λ mid. taken mid new k (plain_del key) result)
 
     pub later_kind : (kind : Kind) → Late old k (λ mid. KindOf mid new k (Ok kind)) → IsLater old.seat.log new.seat.log
     later_kind kind = later_late new (λ mid. told_kind mid new k kind)
 
-    pub later_len : (result : Result ℕ Fault) → Late old k (λ mid. LenOf mid new k result) → IsLater old.seat.log new.seat.log
+    pub later_len : (result : Result ℕ Fault) → Late old k (λ mid. LenOf mid new k result)
+        → IsLater old.seat.log new.seat.log
     later_len result = later_late new (λ mid. told_len mid new k result)
 
-    pub later_int : (result : Result ℤ Fault) → Late old k (λ mid. IntOf mid new k result) → IsLater old.seat.log new.seat.log
+    pub later_int : (result : Result ℤ Fault) → Late old k (λ mid. IntOf mid new k result)
+        → IsLater old.seat.log new.seat.log
     later_int result = later_late new (λ mid. told_int mid new k result)
 
-    pub later_text : (result : Result (List ℕ) Fault) → Late old k (λ mid. TextOf mid new k result) → IsLater old.seat.log new.seat.log
+    pub later_text : (result : Result (List ℕ) Fault) → Late old k (λ mid. TextOf mid new k result)
+        → IsLater old.seat.log new.seat.log
     later_text result = later_late new (λ mid. told_text mid new k result)
 
     -- a value is given, whose handle the frame owns: where the call is refused, its place has its cell still
 
-    pub later_send : (value : HandleSeen) (result : Result (Unit {0}) (Handed HandleSeen)) → Owns old value → OnErr result (Keeps old new)
+    pub later_send : (value : HandleSeen) (result : Result (Unit {0}) (Handed HandleSeen)) → Owns old value
+        → OnErr result (Keeps old new)
         → Late old k (λ mid. MailboxSend mid new k value.place result) → IsLater old.seat.log new.seat.log
     later_send value (Ok done) owned keeps late = later_late new (λ mid is. later_changes is.did.changes) late
     later_send value (Err handed) owned keeps late =
         let has = has_one (cell_in new value.place) (keeps.owns value owned).filled in
-        later_late new (λ mid is. later_entry mid new k (plain_send has.0) handed.fault (is.refused has.0 (sym (is.frame.places value.place) ∙ has.1))) late
+        later_late new (λ mid is. later_entry mid new k (plain_send has.0) handed.fault
+        (is.refused has.0 (sym (is.frame.places value.place) ∙ has.1))) late
 
-    pub later_put : (key : Key A) (value : HandleSeen) (result : Result (Option HandleSeen) (Handed (Key A × HandleSeen))) → Owns old value → OnErr result (Keeps old new)
+    pub later_put : (key : Key A) (value : HandleSeen)
+        (result : Result (Option HandleSeen) (Handed (Key A × HandleSeen))) → Owns old value
+        → OnErr result (Keeps old new)
         → Late old k (λ mid. DictPut mid new k key value result) → IsLater old.seat.log new.seat.log
     later_put key value (Ok None) owned keeps late = later_late new (λ mid is. later_changes is.did.changes) late
-    later_put key value (Ok (Some given)) owned keeps late = later_late new (λ mid is. later_changes is.did.1.changes) late
+    later_put key value (Ok (Some given)) owned keeps late =
+        later_late new (λ mid is. later_changes is.did.1.changes) late
     later_put key value (Err handed) owned keeps late =
         let has = has_one (cell_in new value.place) (keeps.owns value owned).filled in
-        later_late new (λ mid is. later_pair mid new k (plain_put key has.0) handed.fault (is.refused has.0 (sym (is.frame.places value.place) ∙ has.1))) late
+        later_late new (λ mid is. later_pair mid new k (plain_put key has.0) handed.fault
+        (is.refused has.0 (sym (is.frame.places value.place) ∙ has.1))) late

@@ -1,5 +1,6 @@
 -- What `print` shows of an object, as the plain meaning of a section words it.
-use Rattle.std.specs.Prelude.{◌≡◌, ℕ, true, false, List, [], ◌∷◌, ◌++◌, codes, decimal, Option, Result, Ok, Err, MatchResult}
+use Rattle.std.specs.Prelude.{◌≡◌, ℕ, true, false, List, [], ◌∷◌, ◌++◌, codes, decimal, Option, Result, Ok, Err}
+use Rattle.std.specs.Prelude.{MatchResult}
 use Rattle.std.specs.Fmt.{signed_decimal}
 use Rattle.brc_words.specs.declared.fault.Fault.{Fault}
 use Rattle.brc_script.specs.declared.instruction.Instruction.TheVariants as does
@@ -30,7 +31,8 @@ module _ {A : Type 0} where
 
   -- what is shown is the text of the object that the register refers to; nothing but want is in the way
   abbrev pub ShownAs : ℕ → State A → Result (Shown A) Fault → Type 0
-  ShownAs r s result = MatchResult result (λ shown. Finds r s (λ object. text_in object ≡ text_shown shown)) (λ fault. is_want fault ≡ true)
+  ShownAs r s result = MatchResult result (λ shown. Finds r s (λ object. text_in object ≡ text_shown shown))
+      (λ fault. is_want fault ≡ true)
 
   -- `print` shows what it is meant to print; or it is refused as it is meant to be, unless something was wanting
   abbrev pub PrintsAs : ℕ → FrameSeen A → List (Option HandleSeen) → ℕ → State A → Result (Shown A) Fault → Type 0

@@ -4,7 +4,8 @@ use Rattle.brc_count.specs.Frames.{FrameSeen, HandleSeen, IsUnlocked, Owns}
 use Rattle.brc_handles.specs.Handles.{Holds, IsApart}
 
 module _ {A : Type 0} where
-  -- Between two instructions: the frame owns the handle of each register that isn't empty, and no other handle; nothing is locked.
+  -- Between two instructions: the frame owns the handle of each register that isn't empty, and no other handle; nothing
+  -- is locked.
   pub record Stands (frame : FrameSeen A) (registers : List (Option HandleSeen)) : Type 0 where
     pub holds : Holds 0 frame registers
     pub unlocked : IsUnlocked frame

@@ -39,7 +39,8 @@ pub fn copy_key<A: Allocator>(alloc: A, key: &Key<A>) -> Result<Key<A>, Fault>
     }
 }
 
-/// The value, which is out of its register, goes beside the key, and the old one comes out; or the value is handed back.
+/// The value, which is out of its register, goes beside the key, and the old one comes out; or the value is handed
+/// back.
 fn put_taken<R: Wait, H: Home<A>, A: Allocator + Copy>(
     rt: &R,
     alloc: A,
@@ -59,7 +60,8 @@ fn put_taken<R: Wait, H: Home<A>, A: Allocator + Copy>(
     ensures later { IsLater frame.old.seat.log frame.new.seat.log }
     ensures asked { (base : ℕ) (s : state A) (reference : reference) → OwnLog frame.new.heap.cells frame.new.seat.log
         → MeansBesides base frame.old registers.now s given reference
-        → PutsAsked (keyed_call key.now (keyed.Put reference)) dict base frame.new registers.now s given reference result }
+        → PutsAsked (keyed_call key.now (keyed.Put reference)) dict base frame.new registers.now s given
+        reference result }
 {
     let Some(dict) = registers.get(dict) else {
         return Err(Handed {
@@ -97,7 +99,8 @@ pub fn put<R: Wait, H: Home<A>, A: Allocator + Copy>(
     ensures heap { frame.new.heap ≡ frame.old.heap }
     ensures waits { IfErr result (λ fault. fault ≢ faults.Busy) }
     ensures later { IsLater frame.old.seat.log frame.new.seat.log }
-    ensures follows { dict ≢ value → Follows frame.old frame.new registers.old registers.new (does.Put dict key.now value) result }
+    ensures follows { dict ≢ value → Follows frame.old frame.new registers.old registers.new
+        (does.Put dict key.now value) result }
 {
     let Some(given) = registers.take(value) else {
         return Err(Fault::NoSuchPlace);

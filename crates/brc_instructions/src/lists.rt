@@ -66,7 +66,8 @@ pub fn push<R: Wait, H: Home<A>, A: Allocator>(
     ensures heap { frame.new.heap ≡ frame.old.heap }
     ensures waits { IfErr result (λ fault. fault ≢ faults.Busy) }
     ensures later { IsLater frame.old.seat.log frame.new.seat.log }
-    ensures follows { list ≢ value → Follows frame.old frame.new registers.old registers.new (does.Push list value) result }
+    ensures follows { list ≢ value → Follows frame.old frame.new registers.old registers.new
+        (does.Push list value) result }
 {
     let Some(given) = registers.take(value) else {
         return Err(Fault::NoSuchPlace);
@@ -147,7 +148,8 @@ fn set_taken<R: Wait, H: Home<A>, A: Allocator>(
     ensures later { IsLater frame.old.seat.log frame.new.seat.log }
     ensures asked { (base : ℕ) (s : state A) (reference : reference) → OwnLog frame.new.heap.cells frame.new.seat.log
         → MeansBesides base frame.old registers.now s given reference
-        → SwapsAsked (object_call (calls.Set index reference)) list base frame.new registers.now s given reference result }
+        → SwapsAsked (object_call (calls.Set index reference)) list base frame.new registers.now s given
+        reference result }
 {
     match registers.get(list) {
         None => Err(Handed {
@@ -172,7 +174,8 @@ pub fn set<R: Wait, H: Home<A>, A: Allocator>(
     ensures heap { frame.new.heap ≡ frame.old.heap }
     ensures waits { IfErr result (λ fault. fault ≢ faults.Busy) }
     ensures later { IsLater frame.old.seat.log frame.new.seat.log }
-    ensures follows { list ≢ value → Follows frame.old frame.new registers.old registers.new (does.Set list index value) result }
+    ensures follows { list ≢ value → Follows frame.old frame.new registers.old registers.new
+        (does.Set list index value) result }
 {
     let Some(given) = registers.take(value) else {
         return Err(Fault::NoSuchPlace);

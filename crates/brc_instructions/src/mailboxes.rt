@@ -41,7 +41,8 @@ fn post_taken<R: Wait, H: Home<A>, A: Allocator>(
     ensures later { IsLater frame.old.seat.log frame.new.seat.log }
     ensures asked { (base : ℕ) (s : state A) (reference : reference) → OwnLog frame.new.heap.cells frame.new.seat.log
         → MeansBesides base frame.old registers.now s given reference
-        → TakesAsked (object_call (calls.Send reference)) mailbox base frame.new registers.now s given reference result }
+        → TakesAsked (object_call (calls.Send reference)) mailbox base frame.new registers.now s given
+        reference result }
 {
     match registers.get(mailbox) {
         None => Err(Handed {
@@ -66,7 +67,8 @@ pub fn post<R: Wait, H: Home<A>, A: Allocator>(
     ensures heap { frame.new.heap ≡ frame.old.heap }
     ensures waits { IfErr result (λ fault. fault ≢ faults.Busy) }
     ensures later { IsLater frame.old.seat.log frame.new.seat.log }
-    ensures follows { mailbox ≢ value → Follows frame.old frame.new registers.old registers.new (does.Send mailbox value) result }
+    ensures follows { mailbox ≢ value → Follows frame.old frame.new registers.old registers.new
+        (does.Send mailbox value) result }
 {
     let Some(given) = registers.take(value) else {
         return Err(Fault::NoSuchPlace);

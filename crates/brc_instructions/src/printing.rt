@@ -23,8 +23,8 @@ use brc_words::{Fault, Kind};
 use std::alloc::Allocator;
 use std::sync::Wait;
 
-/// What the object shows. Its kind is read first, which never changes. None, False and True are made by no instruction, and are the
-/// wrong kind.
+/// What the object shows. Its kind is read first, which never changes. None, False and True are made by no instruction,
+/// and are the wrong kind.
 fn show<R: Wait, H: Home<A>, A: Allocator>(
     rt: &R,
     alloc: A,
@@ -37,7 +37,8 @@ fn show<R: Wait, H: Home<A>, A: Allocator>(
     ensures unlocked { IsUnlocked frame.new }
     ensures waits { IfErr result (λ fault. fault ≢ faults.Busy) }
     ensures later { IsLater frame.old.seat.log frame.new.seat.log }
-    ensures shows { (base : ℕ) (registers : List (Option handle_seen)) (r : ℕ) (s : state A) → OwnLog frame.new.heap.cells frame.new.seat.log
+    ensures shows { (base : ℕ) (registers : List (Option handle_seen)) (r : ℕ) (s : state A)
+        → OwnLog frame.new.heap.cells frame.new.seat.log
         → slot registers r ≡ Some handle.now → Means base frame.old registers s
         → Means base frame.new registers s × ShownAs r s result }
 {
@@ -64,7 +65,8 @@ pub fn print<R: Wait, H: Home<A>, A: Allocator>(
     ensures heap { frame.new.heap ≡ frame.old.heap }
     ensures waits { IfErr result (λ fault. fault ≢ faults.Busy) }
     ensures later { IsLater frame.old.seat.log frame.new.seat.log }
-    ensures follows { (base : ℕ) (s : state A) → OwnLog frame.new.heap.cells frame.new.seat.log → Means base frame.old registers.now s
+    ensures follows { (base : ℕ) (s : state A) → OwnLog frame.new.heap.cells frame.new.seat.log
+        → Means base frame.old registers.now s
         → PrintsAs base frame.new registers.now from s result }
 {
     let Some(handle) = registers.get(from) else {

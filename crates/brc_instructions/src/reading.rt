@@ -60,7 +60,8 @@ fn number_of<R: Wait, H: Home<A>, A: Allocator>(
     ensures heap { frame.new.heap ≡ frame.old.heap }
     ensures waits { IfErr result (λ fault. fault ≢ faults.Busy) }
     ensures later { IsLater frame.old.seat.log frame.new.seat.log }
-    ensures reads { (base : ℕ) (s : state A) → OwnLog frame.new.heap.cells frame.new.seat.log → Means base frame.old registers.now s
+    ensures reads { (base : ℕ) (s : state A) → OwnLog frame.new.heap.cells frame.new.seat.log
+        → Means base frame.old registers.now s
         → Means base frame.new registers.now s × (read number_in from s ≡ result) }
 {
     let Some(handle) = registers.get(from) else {
@@ -82,7 +83,8 @@ fn sum<R: Wait, H: Home<A>, A: Allocator>(
     ensures heap { frame.new.heap ≡ frame.old.heap }
     ensures waits { IfErr result (λ fault. fault ≢ faults.Busy) }
     ensures later { IsLater frame.old.seat.log frame.new.seat.log }
-    ensures reads { (base : ℕ) (s : state A) → OwnLog frame.new.heap.cells frame.new.seat.log → Means base frame.old registers.now s
+    ensures reads { (base : ℕ) (s : state A) → OwnLog frame.new.heap.cells frame.new.seat.log
+        → Means base frame.old registers.now s
         → Means base frame.new registers.now s × (summed first second s ≡ result) }
 {
     // Both registers are looked at before either kind is.

@@ -1,5 +1,6 @@
 -- A locking and what is done within it, as one call.
-use Rattle.std.proofs.Common.{◌≡◌, ◌<◌, ◌≤◌, ℕ, ◌+◌, ◌∷◌, List, Option, Some, None, true, is_ok, sym, ◌∙◌, ap, subst, Result, Ok, Err}
+use Rattle.std.proofs.Common.{◌≡◌, ◌<◌, ◌≤◌, ℕ, ◌+◌, ◌∷◌, List, Option, Some, None, true, is_ok, sym, ◌∙◌, ap, subst}
+use Rattle.std.proofs.Common.{Result, Ok, Err}
 use Rattle.std.specs.Result.{IfOk, IfErr, OnOk, OnErr}
 use Rattle.brc_words.specs.declared.fault.Fault.{Fault}
 use Rattle.brc_words.specs.declared.fault.Fault.TheVariants as faults
@@ -18,10 +19,12 @@ use Rattle.brc_count.specs.declared.handed.Handed.{Handed}
 use Rattle.brc_count.specs.Frames.{FrameSeen, HandleSeen}
 use Rattle.brc_count.specs.Locking.{Began, KeepsThread, KeepsFrame, ChangesPlace, contents_found}
 use Rattle.brc_containers.specs.Called.{HandsOut}
-use Rattle.brc_containers.specs.Changing.{PlainCall, Changes, KeepsPlaces, Puts, Swaps, Takes, Shares, RefusedPlainly, RefusedForWant, RefusedCall, RefusedEntry, RefusedPlace}
+use Rattle.brc_containers.specs.Changing.{PlainCall, Changes, KeepsPlaces, Puts, Swaps, Takes, Shares, RefusedPlainly}
+use Rattle.brc_containers.specs.Changing.{RefusedForWant, RefusedCall, RefusedEntry, RefusedPlace}
 use Rattle.brc_lock.proofs.Kept.{thread_kept_on, frame_kept_on}
 use Rattle.brc_lists.specs.Calls.{PutsValue, SwapsValue, TakesEntry, SharesEntry}
-use Rattle.brc_lists.specs.Within.{EndsWith, PutsIn, SwapsIn, TakesOut, SharesOut, RefusesPlainly, RefusesEntry, RefusesPlace}
+use Rattle.brc_lists.specs.Within.{EndsWith, PutsIn, SwapsIn, TakesOut, SharesOut, RefusesPlainly, RefusesEntry}
+use Rattle.brc_lists.specs.Within.{RefusesPlace}
 
 some_is : {a b : ℕ} → Some a ≡ Some b → a ≡ b
 some_is same = cc
@@ -29,7 +32,8 @@ some_is same = cc
 module _ {A : Type 0} where
   -- ---- the places, after a locking
 
-  changes_after : (old locked new : FrameSeen A) (k : ℕ) (cell : Option ℕ) → KeepsFrame old locked → ChangesPlace locked new k cell → ChangesPlace old new k cell
+  changes_after : (old locked new : FrameSeen A) (k : ℕ) (cell : Option ℕ) → KeepsFrame old locked
+      → ChangesPlace locked new k cell → ChangesPlace old new k cell
   changes_after old locked new k cell frame changes = record {
     has = changes.has;
     others = λ j other. changes.others j other ∙ frame.places j;
@@ -45,7 +49,8 @@ module _ {A : Type 0} where
   -- ---- the events of a whole call
 
   began_ends : (old locked new : FrameSeen A) (k : ℕ) (block : ℕ × Payload A) (change : Change) (put : Contents)
-      → Began old locked k block → KeepsThread old locked → EndsWith locked new change put → Changes old new k (contents_found locked) change put
+      → Began old locked k block → KeepsThread old locked → EndsWith locked new change put
+      → Changes old new k (contents_found locked) change put
   began_ends old locked new k block change put began thread ends =
       let cell : ends.block.0 ≡ block.0 = some_is (sym ends.locks_cell ∙ began.locks_cell) in
       let unlocks : Contents → ℕ → List Told → List Told = λ p c log. Did (Unlock change) 0 (moves.Put c p) ∷ log in
@@ -54,7 +59,8 @@ module _ {A : Type 0} where
         of_place = began.cell;
         events = ends.ended.event ∙ ap (λ c. unlocks (contents_of ends.block.1) c locked.seat.log) cell
             ∙ ap (λ p. unlocks p block.0 locked.seat.log) ends.holds
-            ∙ ap (unlocks put block.0) (began.event ∙ ap (λ p. Did (Lock k) 0 (moves.Found block.0 p) ∷ old.seat.log) (sym began.found));
+            ∙ ap (unlocks put block.0) (began.event ∙ ap (λ p. Did (Lock k) 0 (moves.Found block.0 p) ∷ old.seat.log)
+            (sym began.found));
         unlocked = ends.ended.unlocked;
         keeps = thread_kept_on thread ends.ended.keeps;
       }
@@ -62,7 +68,8 @@ module _ {A : Type 0} where
 -- ---- what succeeded
 
 module _ {A R : Type 0} where
-  puts_all : (old locked new : FrameSeen A) (k v : ℕ) (block : ℕ × Payload A) (call : ℕ → PlainCall R) (answer : R) → Began old locked k block
+  puts_all : (old locked new : FrameSeen A) (k v : ℕ) (block : ℕ × Payload A) (call : ℕ → PlainCall R) (answer : R)
+      → Began old locked k block
       → KeepsThread old locked → KeepsFrame old locked → PutsIn locked new v call answer → Puts old new k v call answer
   puts_all old locked new k v block call answer began thread frame puts = record {
     value = puts.value;
@@ -75,8 +82,10 @@ module _ {A R : Type 0} where
     len = puts.len ∙ frame.len;
   }
 
-  swaps_all : (old locked new : FrameSeen A) (k v : ℕ) (block : ℕ × Payload A) (call : ℕ → PlainCall R) (answer : ℕ → R) → Began old locked k block
-      → KeepsThread old locked → KeepsFrame old locked → SwapsIn locked new v call answer → Swaps old new k v call answer
+  swaps_all : (old locked new : FrameSeen A) (k v : ℕ) (block : ℕ × Payload A) (call : ℕ → PlainCall R) (answer : ℕ → R)
+      → Began old locked k block
+      → KeepsThread old locked → KeepsFrame old locked → SwapsIn locked new v call answer
+      → Swaps old new k v call answer
   swaps_all old locked new k v block call answer began thread frame swaps = record {
     value = swaps.value;
     of_value = sym (frame.places v) ∙ swaps.of_value;
@@ -92,8 +101,10 @@ module _ {A R : Type 0} where
   }
 
 module _ {A : Type 0} where
-  takes_all : (old locked new : FrameSeen A) (k : ℕ) (block : ℕ × Payload A) (within call : PlainCall ℕ) (given : HandleSeen)
-      → call (contents_found locked) ≡ within (contents_found locked) → Began old locked k block → KeepsThread old locked → KeepsFrame old locked
+  takes_all : (old locked new : FrameSeen A) (k : ℕ) (block : ℕ × Payload A) (within call : PlainCall ℕ)
+      (given : HandleSeen)
+      → call (contents_found locked) ≡ within (contents_found locked) → Began old locked k block
+      → KeepsThread old locked → KeepsFrame old locked
       → TakesOut locked new within given → Takes old new k call given
   takes_all old locked new k block within call given same began thread frame takes = record {
     found = contents_found locked;
@@ -111,8 +122,10 @@ module _ {A : Type 0} where
     len = takes.len ∙ ap (λ n. n + 1) frame.len;
   }
 
-  shares_all : (old locked new : FrameSeen A) (k : ℕ) (block : ℕ × Payload A) (call : PlainCall ℕ) (given : HandleSeen) → Began old locked k block
-      → KeepsThread old locked → KeepsFrame old locked → KeepsThread locked new → SharesOut locked new call given → Shares old new k call given
+  shares_all : (old locked new : FrameSeen A) (k : ℕ) (block : ℕ × Payload A) (call : PlainCall ℕ) (given : HandleSeen)
+      → Began old locked k block
+      → KeepsThread old locked → KeepsFrame old locked → KeepsThread locked new → SharesOut locked new call given
+      → Shares old new k call given
   shares_all old locked new k block call given began thread frame thread_on shares =
       let ends = shares.ends in
       let found = contents_found locked in
@@ -144,27 +157,32 @@ module _ {A : Type 0} where
 -- ---- what was refused
 
 module _ {A R : Type 0} where
-  plainly : (old new : FrameSeen A) (k : ℕ) (call : PlainCall R) (found : Contents) → Changes old new k found Keep found → (fault : Fault)
+  plainly : (old new : FrameSeen A) (k : ℕ) (call : PlainCall R) (found : Contents) → Changes old new k found Keep found
+      → (fault : Fault)
       → call found ≡ Err fault → RefusedPlainly old new k call fault
   plainly old new k call found looks fault is = record { found = found; looks = looks; plain = is }
 
-  for_want : (old new : FrameSeen A) (k : ℕ) (call : PlainCall R) (found : Contents) → Changes old new k found Keep found
+  for_want : (old new : FrameSeen A) (k : ℕ) (call : PlainCall R) (found : Contents)
+      → Changes old new k found Keep found
       → is_ok (call found) ≡ true → RefusedForWant old new k call
   for_want old new k call found looks is = record { found = found; looks = looks; plain = is }
 
-  call_refused : (old new : FrameSeen A) (k : ℕ) (call : PlainCall R) (found : Contents) → Changes old new k found Keep found → (fault : Fault)
+  call_refused : (old new : FrameSeen A) (k : ℕ) (call : PlainCall R) (found : Contents)
+      → Changes old new k found Keep found → (fault : Fault)
       → RefusesPlainly (call found) fault → RefusedCall old new k call fault
   call_refused old new k call found looks faults.Busy why = absurd why
   call_refused old new k call found looks fault why = plainly old new k call found looks fault why
 
-  entry_refused : (old new : FrameSeen A) (k : ℕ) (call : PlainCall R) (found : Contents) → Changes old new k found Keep found → (fault : Fault)
+  entry_refused : (old new : FrameSeen A) (k : ℕ) (call : PlainCall R) (found : Contents)
+      → Changes old new k found Keep found → (fault : Fault)
       → RefusesEntry (call found) fault → RefusedEntry old new k call fault
   entry_refused old new k call found looks faults.Busy why = absurd why
   entry_refused old new k call found looks faults.OutOfMemory why = for_want old new k call found looks why
   entry_refused old new k call found looks fault why = plainly old new k call found looks fault why
 
   place_refused : (old locked new : FrameSeen A) (k : ℕ) (call : PlainCall R) (found : Contents) → KeepsFrame old locked
-      → Changes old new k found Keep found → (fault : Fault) → RefusesPlace locked (call found) fault → RefusedPlace old new k call fault
+      → Changes old new k found Keep found → (fault : Fault) → RefusesPlace locked (call found) fault
+      → RefusedPlace old new k call fault
   place_refused old locked new k call found frame looks faults.Busy why = absurd why
   place_refused old locked new k call found frame looks faults.FrameFull why =
       (for_want old new k call found looks why.0, subst (λ n. MOST_PLACES ≤ n) frame.next why.1)
@@ -172,13 +190,18 @@ module _ {A R : Type 0} where
       (for_want old new k call found looks why.0, subst (λ n. n < MOST_PLACES) frame.next why.1)
   place_refused old locked new k call found frame looks fault why = plainly old new k call found looks fault why
 
--- ---- a whole call, by its shape: of a form with `try_` from the frame before it, of one that waits from the one after its lost tries
+-- ---- a whole call, by its shape: of a form with `try_` from the frame before it, of one that waits from the one after
+-- its lost tries
 
 module _ {A : Type 0} where
-  pub puts_value : (v : ℕ) (call : ℕ → PlainCall (Unit {0})) (r : Result (Unit {0}) (Handed HandleSeen)) (locked new : FrameSeen A)
-      {old : FrameSeen A} {k : ℕ} {block : ℕ × Payload A} → Began old locked k block → KeepsThread old locked → KeepsFrame old locked → KeepsThread locked new
-      → OnOk r (PutsIn locked new v call tt) → OnErr r (KeepsFrame locked new) → OnErr r (EndsWith locked new Keep (contents_found locked))
-      → IfErr r (λ handed. (c : ℕ) → RefusesEntry (call c (contents_found locked)) handed.fault) → PutsValue old new k v call r
+  pub puts_value : (v : ℕ) (call : ℕ → PlainCall (Unit {0})) (r : Result (Unit {0}) (Handed HandleSeen))
+      (locked new : FrameSeen A)
+      {old : FrameSeen A} {k : ℕ} {block : ℕ × Payload A} → Began old locked k block → KeepsThread old locked
+      → KeepsFrame old locked → KeepsThread locked new
+      → OnOk r (PutsIn locked new v call tt) → OnErr r (KeepsFrame locked new)
+      → OnErr r (EndsWith locked new Keep (contents_found locked))
+      → IfErr r (λ handed. (c : ℕ) → RefusesEntry (call c (contents_found locked)) handed.fault)
+      → PutsValue old new k v call r
   puts_value v call (Ok done) locked new began thread frame then puts same kept why = record {
     thread = thread_kept_on thread then;
     did = puts_all _ _ _ _ v _ call tt began thread frame puts;
@@ -189,13 +212,18 @@ module _ {A : Type 0} where
     thread = thread_kept_on thread then;
     did = tt;
     frame = frame_kept_on frame same;
-    refused = λ c is. entry_refused _ _ _ (call c) _ (began_ends _ _ _ _ _ Keep _ began thread kept) handed.fault (why c);
+    refused = λ c is. entry_refused _ _ _ (call c) _ (began_ends _ _ _ _ _ Keep _ began thread kept)
+        handed.fault (why c);
   }
 
-  pub swaps_value : (v : ℕ) (call : ℕ → PlainCall ℕ) (r : Result HandleSeen (Handed HandleSeen)) (locked new : FrameSeen A)
-      {old : FrameSeen A} {k : ℕ} {block : ℕ × Payload A} → Began old locked k block → KeepsThread old locked → KeepsFrame old locked → KeepsThread locked new
-      → OnOk r (SwapsIn locked new v call (λ entry. entry)) → OnErr r (KeepsFrame locked new) → OnErr r (EndsWith locked new Keep (contents_found locked))
-      → IfErr r (λ handed. (c : ℕ) → RefusesPlainly (call c (contents_found locked)) handed.fault) → SwapsValue old new k v call r
+  pub swaps_value : (v : ℕ) (call : ℕ → PlainCall ℕ) (r : Result HandleSeen (Handed HandleSeen))
+      (locked new : FrameSeen A)
+      {old : FrameSeen A} {k : ℕ} {block : ℕ × Payload A} → Began old locked k block → KeepsThread old locked
+      → KeepsFrame old locked → KeepsThread locked new
+      → OnOk r (SwapsIn locked new v call (λ entry. entry)) → OnErr r (KeepsFrame locked new)
+      → OnErr r (EndsWith locked new Keep (contents_found locked))
+      → IfErr r (λ handed. (c : ℕ) → RefusesPlainly (call c (contents_found locked)) handed.fault)
+      → SwapsValue old new k v call r
   swaps_value v call (Ok same_handle) locked new began thread frame then swaps same kept why = record {
     thread = thread_kept_on thread then;
     did = swaps_all _ _ _ _ v _ call (λ entry. entry) began thread frame swaps;
@@ -206,12 +234,15 @@ module _ {A : Type 0} where
     thread = thread_kept_on thread then;
     did = tt;
     frame = frame_kept_on frame same;
-    refused = λ c is. call_refused _ _ _ (call c) _ (began_ends _ _ _ _ _ Keep _ began thread kept) handed.fault (why c);
+    refused = λ c is. call_refused _ _ _ (call c) _ (began_ends _ _ _ _ _ Keep _ began thread kept)
+        handed.fault (why c);
   }
 
   refused_out : (done : HandleSeen → Type 0) (call : PlainCall ℕ) (fault : Fault) (locked new : FrameSeen A)
-      {old : FrameSeen A} {k : ℕ} {block : ℕ × Payload A} → Began old locked k block → KeepsThread old locked → KeepsFrame old locked → KeepsThread locked new
-      → KeepsPlaces locked new → EndsWith locked new Keep (contents_found locked) → RefusesPlace locked (call (contents_found locked)) fault
+      {old : FrameSeen A} {k : ℕ} {block : ℕ × Payload A} → Began old locked k block → KeepsThread old locked
+      → KeepsFrame old locked → KeepsThread locked new
+      → KeepsPlaces locked new → EndsWith locked new Keep (contents_found locked)
+      → RefusesPlace locked (call (contents_found locked)) fault
       → HandsOut old new done (RefusedPlace old new k call) (Err fault)
   refused_out done call fault locked new began thread frame then places kept why = record {
     thread = thread_kept_on thread then;
@@ -222,9 +253,11 @@ module _ {A : Type 0} where
 
   -- the two plain calls are one on what was found
   pub takes_entry : (within call : PlainCall ℕ) (r : Result HandleSeen Fault) (locked new : FrameSeen A)
-      {old : FrameSeen A} {k : ℕ} {block : ℕ × Payload A} → call (contents_found locked) ≡ within (contents_found locked)
+      {old : FrameSeen A} {k : ℕ} {block : ℕ × Payload A}
+      → call (contents_found locked) ≡ within (contents_found locked)
       → Began old locked k block → KeepsThread old locked → KeepsFrame old locked → KeepsThread locked new
-      → IfOk r (TakesOut locked new within) → OnErr r (KeepsPlaces locked new) → OnErr r (EndsWith locked new Keep (contents_found locked))
+      → IfOk r (TakesOut locked new within) → OnErr r (KeepsPlaces locked new)
+      → OnErr r (EndsWith locked new Keep (contents_found locked))
       → IfErr r (RefusesPlace locked (within (contents_found locked))) → TakesEntry old new k call r
   takes_entry within call (Ok given) locked new is began thread frame then takes places kept why = record {
     thread = thread_kept_on thread then;
@@ -233,11 +266,14 @@ module _ {A : Type 0} where
     refused = tt;
   }
   takes_entry within call (Err fault) locked new {old = old} {k = k} is began thread frame then takes places kept why =
-      refused_out (Takes old new k call) call fault locked new began thread frame then places kept (subst (λ o. RefusesPlace locked o fault) (sym is) why)
+      refused_out (Takes old new k call) call fault locked new began thread frame then places kept
+      (subst (λ o. RefusesPlace locked o fault) (sym is) why)
 
   pub shares_entry : (call : PlainCall ℕ) (r : Result HandleSeen Fault) (locked new : FrameSeen A)
-      {old : FrameSeen A} {k : ℕ} {block : ℕ × Payload A} → Began old locked k block → KeepsThread old locked → KeepsFrame old locked → KeepsThread locked new
-      → IfOk r (SharesOut locked new call) → OnErr r (KeepsPlaces locked new) → OnErr r (EndsWith locked new Keep (contents_found locked))
+      {old : FrameSeen A} {k : ℕ} {block : ℕ × Payload A} → Began old locked k block → KeepsThread old locked
+      → KeepsFrame old locked → KeepsThread locked new
+      → IfOk r (SharesOut locked new call) → OnErr r (KeepsPlaces locked new)
+      → OnErr r (EndsWith locked new Keep (contents_found locked))
       → IfErr r (RefusesPlace locked (call (contents_found locked))) → SharesEntry old new k call r
   shares_entry call (Ok given) locked new began thread frame then shares places kept why = record {
     thread = thread_kept_on thread then;

@@ -1,5 +1,6 @@
 -- What the plain calls on lists and mailboxes come to, from an object's kind and entries.
-use Rattle.std.proofs.Common.{suc, ◌≡◌, ◌≢◌, ◌<◌, ◌-◌, ℕ, true, false, List, [], ◌∷◌, ◌++◌, Some, Result, Ok, Err, length, take, map, remove, slice_get, if◌then◌else◌, refl, sym, ◌∙◌, ap, arith}
+use Rattle.std.proofs.Common.{suc, ◌≡◌, ◌≢◌, ◌<◌, ◌-◌, ℕ, true, false, List, [], ◌∷◌, ◌++◌, Some, Result, Ok, Err}
+use Rattle.std.proofs.Common.{length, take, map, remove, slice_get, if◌then◌else◌, refl, sym, ◌∙◌, ap, arith}
 use Rattle.std.proofs.lemmas.Bool.{lt-ltb, true≢false}
 use Rattle.std.proofs.lemmas.List.{append-nil}
 use Rattle.std.proofs.Math.ListN.{drop_of_length-le}
@@ -65,7 +66,8 @@ mailbox_is (contents.Truth true) is = cc
 mailbox_is (contents.Truth false) is = cc
 mailbox_is _ is = cc
 
-row_is : (kind : Kind) → is_row kind ≡ true → (found : Contents) → kind_in found ≡ kind → found ≡ row kind (entries_in found)
+row_is : (kind : Kind) → is_row kind ≡ true → (found : Contents) → kind_in found ≡ kind
+    → found ≡ row kind (entries_in found)
 row_is kinds.«List» is found same = list_is found same
 row_is kinds.Mailbox is found same = mailbox_is found same
 row_is _ is found same = cc
@@ -81,34 +83,45 @@ module _ {R : Type 0} where
   on_its_row _ call cells = refl
 
   -- a call on an object of its kind is the call on its entries
-  pub on_kind : (kind : Kind) → is_row kind ≡ true → (call : List ℕ → Result (R × List ℕ) Fault) (found : Contents) → kind_in found ≡ kind
+  pub on_kind : (kind : Kind) → is_row kind ≡ true → (call : List ℕ → Result (R × List ℕ) Fault) (found : Contents)
+      → kind_in found ≡ kind
       → on_row kind call found ≡ left_in (row kind) (call (entries_in found))
-  on_kind kind is call found same = ap (on_row kind call) (row_is kind is found same) ∙ on_its_row kind call (entries_in found)
+  on_kind kind is call found same = ap (on_row kind call) (row_is kind is found same)
+      ∙ on_its_row kind call (entries_in found)
 
 -- ---- one entry more
 
-pub put_plain : (kind : Kind) → is_row kind ≡ true → (found : Contents) (value : ℕ) → kind_in found ≡ kind → length (entries_in found) < MOST_ENTRIES
+pub put_plain : (kind : Kind) → is_row kind ≡ true → (found : Contents) (value : ℕ) → kind_in found ≡ kind
+    → length (entries_in found) < MOST_ENTRIES
     → plain_put kind value found ≡ Ok (tt, row kind (entries_in found ++ value ∷ []))
 put_plain kind is found value same few =
     on_kind kind is (λ cells. lists.push cells value) found same
-    ∙ ap (λ b. left_in (row kind) (if b then Ok (tt, entries_in found ++ value ∷ []) else Err faults.Full)) (lt-ltb (length (entries_in found)) MOST_ENTRIES few)
+    ∙ ap (λ b. left_in (row kind) (if b then Ok (tt, entries_in found ++ value ∷ []) else Err faults.Full))
+    (lt-ltb (length (entries_in found)) MOST_ENTRIES few)
 
 -- what an object is put home as
-pub put_gives : (kind : Kind) → is_row kind ≡ true → (found put : Contents) (value : ℕ) → kind_in found ≡ kind → kind_in put ≡ kind
-    → length (entries_in found) < MOST_ENTRIES → entries_in put ≡ entries_in found ++ value ∷ [] → plain_put kind value found ≡ Ok (tt, put)
+pub put_gives : (kind : Kind) → is_row kind ≡ true → (found put : Contents) (value : ℕ) → kind_in found ≡ kind
+    → kind_in put ≡ kind
+    → length (entries_in found) < MOST_ENTRIES → entries_in put ≡ entries_in found ++ value ∷ []
+    → plain_put kind value found ≡ Ok (tt, put)
 put_gives kind is found put value same kept few more =
-    put_plain kind is found value same few ∙ ap (λ cells. Ok (tt, row kind cells)) (sym more) ∙ ap (λ p. Ok (tt, p)) (sym (row_is kind is put kept))
+    put_plain kind is found value same few ∙ ap (λ cells. Ok (tt, row kind cells)) (sym more)
+    ∙ ap (λ p. Ok (tt, p)) (sym (row_is kind is put kept))
 
 -- ---- an entry at a place
 
-pub at_plain : (kind : Kind) → is_row kind ≡ true → (found : Contents) (index entry : ℕ) (left : List ℕ → List ℕ) → kind_in found ≡ kind
-    → slice_get (entries_in found) index ≡ Some entry → plain_at kind index left found ≡ Ok (entry, row kind (left (entries_in found)))
+pub at_plain : (kind : Kind) → is_row kind ≡ true → (found : Contents) (index entry : ℕ) (left : List ℕ → List ℕ)
+    → kind_in found ≡ kind
+    → slice_get (entries_in found) index ≡ Some entry
+    → plain_at kind index left found ≡ Ok (entry, row kind (left (entries_in found)))
 at_plain kind is found index entry left same there =
     on_kind kind is (λ cells. leaving (left cells) (lists.get cells index)) found same
     ∙ ap (λ o. left_in (row kind) (leaving (left (entries_in found)) (or_fault faults.NoSuchPlace o))) there
 
-pub at_gives : (kind : Kind) → is_row kind ≡ true → (found put : Contents) (index entry : ℕ) (left : List ℕ → List ℕ) → kind_in found ≡ kind → kind_in put ≡ kind
-    → slice_get (entries_in found) index ≡ Some entry → entries_in put ≡ left (entries_in found) → plain_at kind index left found ≡ Ok (entry, put)
+pub at_gives : (kind : Kind) → is_row kind ≡ true → (found put : Contents) (index entry : ℕ) (left : List ℕ → List ℕ)
+    → kind_in found ≡ kind → kind_in put ≡ kind
+    → slice_get (entries_in found) index ≡ Some entry → entries_in put ≡ left (entries_in found)
+    → plain_at kind index left found ≡ Ok (entry, put)
 at_gives kind is found put index entry left same kept there rest =
     at_plain kind is found index entry left same there ∙ ap (λ cells. Ok (entry, row kind cells)) (sym rest)
     ∙ ap (λ p. Ok (entry, p)) (sym (row_is kind is put kept))
@@ -117,7 +130,8 @@ at_gives kind is found put index entry left same kept there rest =
 
 without_last : (cells : List ℕ) → remove cells (length cells - 1) ≡ take (length cells - 1) cells
 without_last cells =
-    ap (λ rest. take (length cells - 1) cells ++ rest) (drop_of_length-le cells {i = suc (length cells - 1)} (omega arith)) ∙ append-nil (take (length cells - 1) cells)
+    ap (λ rest. take (length cells - 1) cells ++ rest)
+    (drop_of_length-le cells {i = suc (length cells - 1)} (omega arith)) ∙ append-nil (take (length cells - 1) cells)
 
 pub pop_is_take : (found : Contents) → plain_pop found ≡ plain_take kinds.«List» (length (entries_in found) - 1) found
 pop_is_take (contents.«List» cells) =
@@ -125,8 +139,10 @@ pop_is_take (contents.«List» cells) =
 pop_is_take _ = refl
 
 -- the same of a list's last place, told by its payload
-pub pop_at : {A : Type 0} (found : Contents) (payload : Payload A) (last : ℕ) → found ≡ contents_of payload → last ≡ length (entries_of payload) - 1
+pub pop_at : {A : Type 0} (found : Contents) (payload : Payload A) (last : ℕ) → found ≡ contents_of payload
+    → last ≡ length (entries_of payload) - 1
     → plain_pop found ≡ plain_take kinds.«List» last found
 pop_at found payload last is at_end =
-    pop_is_take found ∙ ap (λ es. plain_take kinds.«List» (length es - 1) found) (ap entries_in is ∙ entries_shown payload)
+    pop_is_take found ∙ ap (λ es. plain_take kinds.«List» (length es - 1) found) (ap entries_in is
+    ∙ entries_shown payload)
     ∙ ap (λ i. plain_take kinds.«List» i found) (sym at_end)

@@ -1,5 +1,6 @@
 -- What is done within a lock, from what its steps say.
-use Rattle.std.proofs.Common.{◌≡◌, ◌<◌, ◌≤◌, ◌+◌, ◌++◌, ◌∷◌, [], ℕ, List, Some, None, true, length, remove, slice_get, slice_set, refl, sym, ◌∙◌, ap, subst}
+use Rattle.std.proofs.Common.{◌≡◌, ◌<◌, ◌≤◌, ◌+◌, ◌++◌, ◌∷◌, [], ℕ, List, Some, None, true, length, remove, slice_get}
+use Rattle.std.proofs.Common.{slice_set, refl, sym, ◌∙◌, ap, subst}
 use Rattle.brc_words.specs.declared.fault.Fault.{Fault}
 use Rattle.brc_words.specs.declared.kind.Kind.{Kind}
 use Rattle.brc_words.specs.declared.kind.Kind.TheVariants as kinds
@@ -24,18 +25,22 @@ use Rattle.brc_lists.proofs.Rows_Law.{kind_shown, entries_shown, put_gives, at_g
 
 module _ {A : Type 0} where
   -- what was found is of the block's kind, and has its entries
-  pub found_kind : {kind : Kind} (found : Contents) (payload : Payload A) → found ≡ contents_of payload → kind_of payload ≡ kind → kind_in found ≡ kind
+  pub found_kind : {kind : Kind} (found : Contents) (payload : Payload A) → found ≡ contents_of payload
+      → kind_of payload ≡ kind → kind_in found ≡ kind
   found_kind found payload is same = ap kind_in is ∙ kind_shown payload ∙ same
 
-  pub found_entries : (found : Contents) (payload : Payload A) → found ≡ contents_of payload → entries_in found ≡ entries_of payload
+  pub found_entries : (found : Contents) (payload : Payload A) → found ≡ contents_of payload
+      → entries_in found ≡ entries_of payload
   found_entries found payload is = ap entries_in is ∙ entries_shown payload
 
   -- an object that is locked hasn't too many entries
-  pub few_entries : (frame : FrameSeen A) (block : ℕ × Payload A) → HasLocked frame block → length (entries_of block.1) ≤ MOST_ENTRIES
+  pub few_entries : (frame : FrameSeen A) (block : ℕ × Payload A) → HasLocked frame block
+      → length (entries_of block.1) ≤ MOST_ENTRIES
   few_entries frame block has =
       subst (λ es. length es ≤ MOST_ENTRIES) (found_entries (contents_found frame) block.1 has.found) has.locked.few
 
-  pub puts_in : (old new : FrameSeen A) (kind : Kind) (v value : ℕ) (block : ℕ × Payload A) (before : Payload A) → is_row kind ≡ true
+  pub puts_in : (old new : FrameSeen A) (kind : Kind) (v value : ℕ) (block : ℕ × Payload A) (before : Payload A)
+      → is_row kind ≡ true
       → cell_locked old ≡ Some block.0 → contents_found old ≡ contents_of before → cell_in old v ≡ Some value
       → kind_of before ≡ kind → length (entries_of before) < MOST_ENTRIES
       → kind_of block.1 ≡ kind_of before → entries_of block.1 ≡ entries_of before ++ value ∷ []
@@ -47,7 +52,8 @@ module _ {A : Type 0} where
         value = value;
         of_value = of_value;
         put = contents_of block.1;
-        plain = put_gives kind row (contents_found old) (contents_of block.1) value (found_kind (contents_found old) before found is)
+        plain = put_gives kind row (contents_found old) (contents_of block.1) value
+            (found_kind (contents_found old) before found is)
             (kind_shown block.1 ∙ same_kind ∙ is) (subst (λ es. length es < MOST_ENTRIES) (sym entries) few)
             (entries_shown block.1 ∙ more ∙ ap (λ es. es ++ value ∷ []) (sym entries));
         ends = record { block = block; locks_cell = locks; holds = refl; ended = ended };
@@ -71,7 +77,8 @@ module _ {A : Type 0} where
         index = index;
         entry = entry;
         at_index = here;
-        plain = at_gives kinds.«List» refl (contents_found old) (contents_of block.1) index entry (λ es. slice_set es index value)
+        plain = at_gives kinds.«List» refl (contents_found old) (contents_of block.1) index entry
+            (λ es. slice_set es index value)
             (found_kind (contents_found old) before found is) (kind_shown block.1 ∙ same_kind ∙ is) here
             (entries_shown block.1 ∙ set ∙ ap (λ es. slice_set es index value) (sym entries));
         ends = record { block = block; locks_cell = locks; holds = refl; ended = ended };
@@ -80,9 +87,11 @@ module _ {A : Type 0} where
       }
 
   -- more places that need no memory are no matter
-  ended_as : (old ready new : FrameSeen A) (change : Change) (block : ℕ × Payload A) → IsAsBefore old ready → Ended ready new change block → Ended old new change block
+  ended_as : (old ready new : FrameSeen A) (change : Change) (block : ℕ × Payload A) → IsAsBefore old ready
+      → Ended ready new change block → Ended old new change block
   ended_as old ready new change block same ended = record {
-    event = ended.event ∙ ap (λ (f : FrameSeen A). Did (Unlock change) 0 (moves.Put block.0 (contents_of block.1)) ∷ f.seat.log) same;
+    event = ended.event ∙ ap (λ (f : FrameSeen A). Did (Unlock change) 0 (moves.Put block.0 (contents_of block.1))
+        ∷ f.seat.log) same;
     unlocked = ended.unlocked;
     keeps = record {
       heap = ended.keeps.heap ∙ ap (λ (f : FrameSeen A). f.heap) same;
@@ -95,14 +104,19 @@ module _ {A : Type 0} where
     };
   }
 
-  pub takes_out : (old ready new : FrameSeen A) (kind : Kind) (index entry : ℕ) (given : HandleSeen) (block : ℕ × Payload A) (before : Payload A)
-      → IsAsBefore old ready → is_row kind ≡ true → cell_locked old ≡ Some block.0 → contents_found old ≡ contents_of before
+  pub takes_out : (old ready new : FrameSeen A) (kind : Kind) (index entry : ℕ) (given : HandleSeen)
+      (block : ℕ × Payload A) (before : Payload A)
+      → IsAsBefore old ready → is_row kind ≡ true → cell_locked old ≡ Some block.0
+      → contents_found old ≡ contents_of before
       → kind_of before ≡ kind → slice_get (entries_of before) index ≡ Some entry
       → kind_of block.1 ≡ kind_of before → entries_of block.1 ≡ remove (entries_of before) index
-      → given.heap ≡ ready.heap → given.thread ≡ ready.seat.thread → given.place ≡ ready.next → cell_in ready given.place ≡ None
-      → Ended ready new (Take index given.place) block → ChangesPlace ready new given.place (Some entry) → new.len ≡ ready.len + 1
+      → given.heap ≡ ready.heap → given.thread ≡ ready.seat.thread → given.place ≡ ready.next
+      → cell_in ready given.place ≡ None
+      → Ended ready new (Take index given.place) block → ChangesPlace ready new given.place (Some entry)
+      → new.len ≡ ready.len + 1
       → TakesOut old new (plain_take kind index) given
-  takes_out old ready new kind index entry given block before same row locks found is there same_kind left heap thread next vacant ended places len =
+  takes_out old ready new kind index entry given block before same row locks found is there same_kind left heap thread
+      next vacant ended places len =
       let entries = found_entries (contents_found old) before found in
       let here = ap (λ es. slice_get es index) entries ∙ there in
       record {
@@ -123,12 +137,18 @@ module _ {A : Type 0} where
         thread = thread ∙ ap (λ (f : FrameSeen A). f.seat.thread) same;
         next = next ∙ ap (λ (f : FrameSeen A). f.next) same;
         vacant = ap (λ (f : FrameSeen A). cell_in f given.place) (sym same) ∙ vacant;
-        places = record { has = places.has; others = λ j other. places.others j other ∙ ap (λ (f : FrameSeen A). cell_in f j) same };
+        places = record {
+          has = places.has;
+          others = λ j other. places.others j other
+              ∙ ap (λ (f : FrameSeen A). cell_in f j) same;
+        };
         len = len ∙ ap (λ (f : FrameSeen A). f.len + 1) same;
       }
 
   -- why there is no entry, of what was found
-  pub place_found : (frame : FrameSeen A) (kind : Kind) (index : ℕ) (left : List ℕ → List ℕ) (found : Contents) (payload : Payload A) (fault : Fault)
+  pub place_found : (frame : FrameSeen A) (kind : Kind) (index : ℕ) (left : List ℕ → List ℕ) (found : Contents)
+      (payload : Payload A) (fault : Fault)
       → found ≡ contents_of payload → RefusesPlace frame (plain_at kind index left (contents_of payload)) fault
       → RefusesPlace frame (plain_at kind index left found) fault
-  place_found frame kind index left found payload fault is why = subst (λ p. RefusesPlace frame (plain_at kind index left p) fault) (sym is) why
+  place_found frame kind index left found payload fault is why =
+      subst (λ p. RefusesPlace frame (plain_at kind index left p) fault) (sym is) why

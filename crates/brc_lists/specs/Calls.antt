@@ -1,23 +1,27 @@
--- What each call on a list or a mailbox does, told once for both its forms: from the frame `old` that its locking began from
--- (`brc_containers`, `specs/Called.antt`), on the object in place k. The faults come in the order that `brc_containers` says.
+-- What each call on a list or a mailbox does, told once for both its forms: from the frame `old` that its locking began
+-- from (`brc_containers`, `specs/Called.antt`), on the object in place k. The faults come in the order that
+-- `brc_containers` says.
 use Rattle.std.specs.Prelude.{◌≡◌, ℕ, Some, Result}
 use Rattle.brc_words.specs.declared.fault.Fault.{Fault}
 use Rattle.brc_count.specs.declared.handed.Handed.{Handed}
 use Rattle.brc_count.specs.Frames.{FrameSeen, HandleSeen}
 use Rattle.brc_count.specs.Locking.{cell_in}
 use Rattle.brc_containers.specs.Called.{HandsOut, TakesIn}
-use Rattle.brc_containers.specs.Changing.{PlainCall, Puts, Swaps, Takes, Shares, RefusedCall, RefusedEntry, RefusedPlace}
+use Rattle.brc_containers.specs.Changing.{PlainCall, Puts, Swaps, Takes, Shares, RefusedCall, RefusedEntry}
+use Rattle.brc_containers.specs.Changing.{RefusedPlace}
 use Rattle.brc_lists.specs.Plain.{plain_push, plain_pop, plain_take_at, plain_get, plain_set, plain_send, plain_receive}
 
 module _ {A : Type 0} where
   -- the reference of the handle in place v goes in, by the plain call; only memory for an entry may be wanting
-  abbrev pub PutsValue : FrameSeen A → FrameSeen A → ℕ → ℕ → (ℕ → PlainCall (Unit {0})) → Result (Unit {0}) (Handed HandleSeen) → Type 0
+  abbrev pub PutsValue : FrameSeen A → FrameSeen A → ℕ → ℕ → (ℕ → PlainCall (Unit {0}))
+      → Result (Unit {0}) (Handed HandleSeen) → Type 0
   PutsValue old new k v call result =
       TakesIn old new (λ answer. Puts old new k v call tt)
       (λ fault. (c : ℕ) → cell_in old v ≡ Some c → RefusedEntry old new k (call c) fault) result
 
   -- the references of the handle in place v and of an entry are exchanged, by the plain call; nothing is wanting
-  abbrev pub SwapsValue : FrameSeen A → FrameSeen A → ℕ → ℕ → (ℕ → PlainCall ℕ) → Result HandleSeen (Handed HandleSeen) → Type 0
+  abbrev pub SwapsValue : FrameSeen A → FrameSeen A → ℕ → ℕ → (ℕ → PlainCall ℕ)
+      → Result HandleSeen (Handed HandleSeen) → Type 0
   SwapsValue old new k v call result =
       TakesIn old new (λ answer. Swaps old new k v call (λ entry. entry))
       (λ fault. (c : ℕ) → cell_in old v ≡ Some c → RefusedCall old new k (call c) fault) result

@@ -1,5 +1,5 @@
--- The calls of lists and mailboxes as calls on contents: WrongKind where these are of another kind; else what `brc_plain` says
--- of the entries.
+-- The calls of lists and mailboxes as calls on contents: WrongKind where these are of another kind; else what
+-- `brc_plain` says of the entries.
 use Rattle.std.specs.Prelude.{ℕ, List, Result, Ok, Err}
 use Rattle.brc_words.specs.declared.fault.Fault.{Fault}
 use Rattle.brc_words.specs.declared.fault.Fault.TheVariants as faults

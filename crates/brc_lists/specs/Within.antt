@@ -9,7 +9,8 @@ use Rattle.law_world.specs.declared.event.Source.TheVariants as sources
 use Rattle.law_rule.specs.declared.contents.Contents.{Contents}
 use Rattle.brc_table.specs.Shown.{contents_of}
 use Rattle.brc_count.specs.Frames.{FrameSeen, HandleSeen, Given, Refused}
-use Rattle.brc_count.specs.Locking.{IsLocked, KeepsFrame, ChangesPlace, Ended, cell_in, cell_locked, contents_found, entries_found}
+use Rattle.brc_count.specs.Locking.{IsLocked, KeepsFrame, ChangesPlace, Ended, cell_in, cell_locked, contents_found}
+use Rattle.brc_count.specs.Locking.{entries_found}
 use Rattle.brc_containers.specs.Changing.{PlainCall, KeepsPlaces}
 
 module _ {A : Type 0} where
@@ -39,7 +40,8 @@ module _ {A R : Type 0} where
     pub places : ChangesPlace old new v None
     pub len : new.len + 1 ≡ old.len
 
-  -- the reference of the handle in place v and that of an entry were exchanged, by the plain call, which answers the entry
+  -- the reference of the handle in place v and that of an entry were exchanged, by the plain call, which answers the
+  -- entry
   pub record SwapsIn (old new : FrameSeen A) (v : ℕ) (call : ℕ → PlainCall R) (answer : ℕ → R) : Type 0 where
     pub value : ℕ
     pub of_value : cell_in old v ≡ Some value
@@ -68,7 +70,8 @@ module _ {A : Type 0} where
     pub places : ChangesPlace old new given.place (Some entry)
     pub len : new.len ≡ old.len + 1
 
-  -- The new handle has a reference to an entry, counted up in one event before the unlocking. The plain call answers the entry.
+  -- The new handle has a reference to an entry, counted up in one event before the unlocking. The plain call answers
+  -- the entry.
   pub record SharesOut (old new : FrameSeen A) (call : PlainCall ℕ) (given : HandleSeen) : Type 0 where
     pub index : ℕ
     pub entry : ℕ

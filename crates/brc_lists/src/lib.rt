@@ -1,8 +1,9 @@
 //! The calls on lists and mailboxes, over a frame: push, pop, take, get and set, send and receive.
 //!
-//! Each is a locking, at most one step on an entry, and an unlocking, and does to the entries what `brc_plain` says of plain ones
-//! (`specs/Plain.antt`). The forms with `try_` never wait: an object that another thread has locked is Busy. The others try
-//! again, and hold nothing while they do. What a call does is one definition, which both its forms cite (`specs/Calls.antt`).
+//! Each is a locking, at most one step on an entry, and an unlocking, and does to the entries what `brc_plain` says of
+//! plain ones (`specs/Plain.antt`). The forms with `try_` never wait: an object that another thread has locked is Busy.
+//! The others try again, and hold nothing while they do. What a call does is one definition, which both its forms cite
+//! (`specs/Calls.antt`).
 #![tactic(auto)]
 
 mod lists;

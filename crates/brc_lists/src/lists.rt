@@ -11,8 +11,8 @@ use brc_count::{Frame, Handed, Handle};
 use brc_words::{Fault, Kind};
 use std::alloc::Allocator;
 
-/// The value's reference becomes the last entry of the list. A refusal hands the value back: Busy where another thread has the
-/// object locked, then WrongKind where it is no list, Full where it has 1,048,576 entries, and OutOfMemory.
+/// The value's reference becomes the last entry of the list. A refusal hands the value back: Busy where another thread
+/// has the object locked, then WrongKind where it is no list, Full where it has 1,048,576 entries, and OutOfMemory.
 #[inline]
 pub fn try_list_push<H: Home<A>, A: Allocator>(
     frame: &mut Frame<H, A>,
@@ -38,8 +38,8 @@ pub fn try_list_push<H: Home<A>, A: Allocator>(
     put_locked(frame, Kind::List, block, value)
 }
 
-/// The reference of the list's last entry is the answer's now. The faults come in this order: Busy where another thread has the
-/// object locked, WrongKind where it is no list, NoSuchPlace where it has no entry, FrameFull, OutOfMemory.
+/// The reference of the list's last entry is the answer's now. The faults come in this order: Busy where another thread
+/// has the object locked, WrongKind where it is no list, NoSuchPlace where it has no entry, FrameFull, OutOfMemory.
 #[inline]
 pub fn try_list_pop<H: Home<A>, A: Allocator>(
     frame: &mut Frame<H, A>,
@@ -59,8 +59,9 @@ pub fn try_list_pop<H: Home<A>, A: Allocator>(
     take_locked(frame, Kind::List, block, last)
 }
 
-/// The reference of an entry of the list is the answer's now; later entries close up. The faults come in this order: Busy where
-/// another thread has the object locked, WrongKind where it is no list, NoSuchPlace past its end, FrameFull, OutOfMemory.
+/// The reference of an entry of the list is the answer's now; later entries close up. The faults come in this order:
+/// Busy where another thread has the object locked, WrongKind where it is no list, NoSuchPlace past its end, FrameFull,
+/// OutOfMemory.
 #[inline]
 pub fn try_list_take<H: Home<A>, A: Allocator>(
     frame: &mut Frame<H, A>,
@@ -80,8 +81,8 @@ pub fn try_list_take<H: Home<A>, A: Allocator>(
     take_locked(frame, Kind::List, block, index as usize)
 }
 
-/// A handle more to an entry of the list. The faults come in this order: Busy where another thread has the object locked,
-/// WrongKind where it is no list, NoSuchPlace past its end, FrameFull, OutOfMemory.
+/// A handle more to an entry of the list. The faults come in this order: Busy where another thread has the object
+/// locked, WrongKind where it is no list, NoSuchPlace past its end, FrameFull, OutOfMemory.
 #[inline]
 pub fn try_list_get<H: Home<A>, A: Allocator>(
     frame: &mut Frame<H, A>,
@@ -101,9 +102,9 @@ pub fn try_list_get<H: Home<A>, A: Allocator>(
     share_locked(frame, block, index)
 }
 
-/// The references of an entry of the list and of the value are exchanged; the answer is the same handle, which has the old
-/// entry's now. It takes no memory. A refusal hands the value back: Busy where another thread has the object locked, then
-/// WrongKind where it is no list, and NoSuchPlace past its end.
+/// The references of an entry of the list and of the value are exchanged; the answer is the same handle, which has the
+/// old entry's now. It takes no memory. A refusal hands the value back: Busy where another thread has the object
+/// locked, then WrongKind where it is no list, and NoSuchPlace past its end.
 #[inline]
 pub fn try_list_set<H: Home<A>, A: Allocator>(
     frame: &mut Frame<H, A>,

@@ -11,8 +11,9 @@ use brc_count::{Frame, Handed, Handle};
 use brc_words::{Fault, Kind};
 use std::alloc::Allocator;
 
-/// The value's reference becomes the last entry of the mailbox. A refusal hands the value back: Busy where another thread has
-/// the object locked, then WrongKind where it is no mailbox, Full where it has 1,048,576 entries, and OutOfMemory.
+/// The value's reference becomes the last entry of the mailbox. A refusal hands the value back: Busy where another
+/// thread has the object locked, then WrongKind where it is no mailbox, Full where it has 1,048,576 entries, and
+/// OutOfMemory.
 #[inline]
 pub fn try_send<H: Home<A>, A: Allocator>(
     frame: &mut Frame<H, A>,
@@ -38,8 +39,9 @@ pub fn try_send<H: Home<A>, A: Allocator>(
     put_locked(frame, Kind::Mailbox, block, value)
 }
 
-/// The reference of the mailbox's first entry is the answer's now. The faults come in this order: Busy where another thread has
-/// the object locked, WrongKind where it is no mailbox, NoSuchPlace where it has no entry, FrameFull, OutOfMemory.
+/// The reference of the mailbox's first entry is the answer's now. The faults come in this order: Busy where another
+/// thread has the object locked, WrongKind where it is no mailbox, NoSuchPlace where it has no entry, FrameFull,
+/// OutOfMemory.
 #[inline]
 pub fn try_recv<H: Home<A>, A: Allocator>(
     frame: &mut Frame<H, A>,

@@ -9,8 +9,8 @@ use brc_block::{Entries, Payload};
 use brc_words::{Fault, Kind, MOST_ENTRIES};
 use std::alloc::Allocator;
 
-/// Makes room for one more entry in an object of this kind: WrongKind for any other, Full where it has 1,048,576 entries,
-/// then OutOfMemory.
+/// Makes room for one more entry in an object of this kind: WrongKind for any other, Full where it has 1,048,576
+/// entries, then OutOfMemory.
 #[inline(always)]
 pub(crate) fn make_room<A: Allocator>(payload: &mut Payload<A>, kind: Kind) -> Result<(), Fault>
     requires row { is_row kind ≡ true }

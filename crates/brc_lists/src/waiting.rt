@@ -1,5 +1,5 @@
-//! The forms that wait: they try again until the object isn't locked by another thread. What each does then is what its form with
-//! `try_` does, from the frame that the lost tries left (`lost_tries_change_nothing` of `brc_containers`).
+//! The forms that wait: they try again until the object isn't locked by another thread. What each does then is what its
+//! form with `try_` does, from the frame that the lost tries left (`lost_tries_change_nothing` of `brc_containers`).
 
 ghost use Rattle.std.specs.Prelude.{◌≡◌, ◌≢◌, IfOk, IfErr, OnOk, OnErr};
 ghost use Rattle.brc_words.specs.declared.fault.Fault.TheVariants as faults;
@@ -16,8 +16,8 @@ use brc_words::{Fault, Kind};
 use std::alloc::Allocator;
 use std::sync::Wait;
 
-/// The value's reference becomes the last entry of the list, once no other thread has it locked. A refusal hands the value back:
-/// WrongKind where it is no list, then Full where it has 1,048,576 entries, and OutOfMemory.
+/// The value's reference becomes the last entry of the list, once no other thread has it locked. A refusal hands the
+/// value back: WrongKind where it is no list, then Full where it has 1,048,576 entries, and OutOfMemory.
 #[inline(always)]
 pub fn list_push<H: Home<A>, A: Allocator>(
     rt: &impl Wait,
@@ -40,8 +40,8 @@ pub fn list_push<H: Home<A>, A: Allocator>(
     put_locked(frame, Kind::List, block, value)
 }
 
-/// The reference of the list's last entry is the answer's now, once no other thread has the list locked. The faults come in this
-/// order: WrongKind where it is no list, NoSuchPlace where it has no entry, FrameFull, OutOfMemory.
+/// The reference of the list's last entry is the answer's now, once no other thread has the list locked. The faults
+/// come in this order: WrongKind where it is no list, NoSuchPlace where it has no entry, FrameFull, OutOfMemory.
 #[inline(always)]
 pub fn list_pop<H: Home<A>, A: Allocator>(
     rt: &impl Wait,
@@ -61,8 +61,9 @@ pub fn list_pop<H: Home<A>, A: Allocator>(
     take_locked(frame, Kind::List, block, last)
 }
 
-/// The reference of an entry of the list is the answer's now, once no other thread has the list locked; later entries close up. The
-/// faults come in this order: WrongKind where it is no list, NoSuchPlace past its end, FrameFull, OutOfMemory.
+/// The reference of an entry of the list is the answer's now, once no other thread has the list locked; later entries
+/// close up. The faults come in this order: WrongKind where it is no list, NoSuchPlace past its end, FrameFull,
+/// OutOfMemory.
 #[inline]
 pub fn list_take<H: Home<A>, A: Allocator>(
     rt: &impl Wait,
@@ -82,8 +83,8 @@ pub fn list_take<H: Home<A>, A: Allocator>(
     take_locked(frame, Kind::List, block, index as usize)
 }
 
-/// A handle more to an entry of the list, once no other thread has the list locked. The faults come in this order: WrongKind where
-/// it is no list, NoSuchPlace past its end, FrameFull, OutOfMemory.
+/// A handle more to an entry of the list, once no other thread has the list locked. The faults come in this order:
+/// WrongKind where it is no list, NoSuchPlace past its end, FrameFull, OutOfMemory.
 #[inline]
 pub fn list_get<H: Home<A>, A: Allocator>(
     rt: &impl Wait,
@@ -103,9 +104,9 @@ pub fn list_get<H: Home<A>, A: Allocator>(
     share_locked(frame, block, index)
 }
 
-/// The references of an entry of the list and of the value are exchanged, once no other thread has the list locked; the answer
-/// is the same handle, which has the old entry's now. It takes no memory. A refusal hands the value back: WrongKind where it is
-/// no list, then NoSuchPlace past its end.
+/// The references of an entry of the list and of the value are exchanged, once no other thread has the list locked; the
+/// answer is the same handle, which has the old entry's now. It takes no memory. A refusal hands the value back:
+/// WrongKind where it is no list, then NoSuchPlace past its end.
 #[inline]
 pub fn list_set<H: Home<A>, A: Allocator>(
     rt: &impl Wait,
@@ -129,8 +130,8 @@ pub fn list_set<H: Home<A>, A: Allocator>(
     swap_locked(frame, block, index, value)
 }
 
-/// The value's reference becomes the last entry of the mailbox, once no other thread has it locked. A refusal hands the value back:
-/// WrongKind where it is no mailbox, then Full where it has 1,048,576 entries, and OutOfMemory.
+/// The value's reference becomes the last entry of the mailbox, once no other thread has it locked. A refusal hands the
+/// value back: WrongKind where it is no mailbox, then Full where it has 1,048,576 entries, and OutOfMemory.
 #[inline]
 pub fn send<H: Home<A>, A: Allocator>(
     rt: &impl Wait,
@@ -142,7 +143,8 @@ pub fn send<H: Home<A>, A: Allocator>(
     requires value_owned { Owns frame.old value }
     requires apart { value.place ≢ mailbox.now.place }
     requires unlocked { IsUnlocked frame.old }
-    ensures sent { Late frame.old mailbox.now.place (λ mid. MailboxSend mid frame.new mailbox.now.place value.place result) }
+    ensures sent { Late frame.old mailbox.now.place
+        (λ mid. MailboxSend mid frame.new mailbox.now.place value.place result) }
     ensures loses { OnOk result (Loses frame.old frame.new value) }
     ensures keeps { OnErr result (Keeps frame.old frame.new) }
     ensures unlocked { IsUnlocked frame.new }
@@ -153,8 +155,9 @@ pub fn send<H: Home<A>, A: Allocator>(
     put_locked(frame, Kind::Mailbox, block, value)
 }
 
-/// The reference of the mailbox's first entry is the answer's now, once no other thread has the mailbox locked. The faults come in
-/// this order: WrongKind where it is no mailbox, NoSuchPlace where it has no entry, FrameFull, OutOfMemory.
+/// The reference of the mailbox's first entry is the answer's now, once no other thread has the mailbox locked. The
+/// faults come in this order: WrongKind where it is no mailbox, NoSuchPlace where it has no entry, FrameFull,
+/// OutOfMemory.
 #[inline]
 pub fn recv<H: Home<A>, A: Allocator>(
     rt: &impl Wait,

@@ -15,7 +15,8 @@ ghost use Rattle.brc_count.specs.Owned.{Keeps, Gains, Loses};
 ghost use Rattle.brc_containers.specs.Changing.{KeepsPlaces};
 ghost use Rattle.brc_lists.specs.Plain.{plain_get, plain_set};
 ghost use Rattle.brc_lists.specs.Rows.{is_row, plain_put, plain_at, plain_take};
-ghost use Rattle.brc_lists.specs.Within.{HasLocked, EndsWith, PutsIn, SwapsIn, TakesOut, SharesOut, RefusesPlainly, RefusesEntry, RefusesPlace};
+ghost use Rattle.brc_lists.specs.Within.{HasLocked, EndsWith, PutsIn, SwapsIn, TakesOut, SharesOut, RefusesPlainly};
+ghost use Rattle.brc_lists.specs.Within.{RefusesEntry, RefusesPlace};
 
 use crate::rows::{entry_in, make_room};
 use brc_biased::Home;
@@ -43,7 +44,8 @@ pub(crate) fn put_locked<H: Home<A>, A: Allocator>(
     ensures back { IfErr result (λ handed. handed.back ≡ value) }
     ensures frame { OnErr result (KeepsFrame frame.old frame.new) }
     ensures kept { OnErr result (EndsWith frame.old frame.new changes.Keep (contents_found frame.old)) }
-    ensures refused { IfErr result (λ handed. (c : ℕ) → RefusesEntry (plain_put kind c (contents_found frame.old)) handed.fault) }
+    ensures refused { IfErr result (λ handed. (c : ℕ)
+        → RefusesEntry (plain_put kind c (contents_found frame.old)) handed.fault) }
     ensures waited { IfErr result (λ handed. handed.fault ≢ faults.Busy) }
 {
     if let Err(fault) = make_room(block.payload_mut(), kind) {
@@ -75,7 +77,8 @@ pub(crate) fn swap_locked<H: Home<A>, A: Allocator>(
     ensures back { IfErr result (λ handed. handed.back ≡ value) }
     ensures frame { OnErr result (KeepsFrame frame.old frame.new) }
     ensures kept { OnErr result (EndsWith frame.old frame.new changes.Keep (contents_found frame.old)) }
-    ensures refused { IfErr result (λ handed. (c : ℕ) → RefusesPlainly (plain_set index c (contents_found frame.old)) handed.fault) }
+    ensures refused { IfErr result (λ handed. (c : ℕ)
+        → RefusesPlainly (plain_set index c (contents_found frame.old)) handed.fault) }
     ensures waited { IfErr result (λ handed. handed.fault ≢ faults.Busy) }
 {
     match entry_in(block.payload(), Kind::List, index as usize) {

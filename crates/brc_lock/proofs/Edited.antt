@@ -1,5 +1,6 @@
 -- Contents of an edited payload: its kind stays, and its entries are those of a plain list that is edited so.
-use Rattle.std.proofs.Common.{◌≡◌, ◌≢◌, All, ℕ, List, [], ◌∷◌, ◌++◌, Option, Some, None, map, refl, sym, ◌∙◌, ap, subst, slice_get, slice_set, remove, zero, suc, length, ◌<◌, arith}
+use Rattle.std.proofs.Common.{◌≡◌, ◌≢◌, All, ℕ, List, [], ◌∷◌, ◌++◌, Option, Some, None, map, refl, sym, ◌∙◌, ap, subst}
+use Rattle.std.proofs.Common.{slice_get, slice_set, remove, zero, suc, length, ◌<◌, arith}
 use Rattle.std.proofs.lemmas.List.Elements.{All-map}
 use Rattle.brc_words.specs.declared.key.Key.{Key}
 use Rattle.brc_block.specs.Pairs.{keys_in as pair_keys, cells_in}
@@ -9,7 +10,8 @@ use Rattle.brc_block.specs.declared.payload.Payload.{Payload}
 use Rattle.brc_block.specs.declared.payload.Payload.TheVariants as payloads
 use Rattle.law_rule.specs.declared.contents.PlainKey.{PlainKey}
 use Rattle.law_rule.specs.declared.contents.Contents.{Contents}
-use Rattle.law_rule.specs.declared.contents.Contents.TheVariants.{Nothing, Truth, Int, Text, «List» as Cells, Dict, Mailbox}
+use Rattle.law_rule.specs.declared.contents.Contents.TheVariants.{Nothing, Truth, Int, Text, «List» as Cells, Dict}
+use Rattle.law_rule.specs.declared.contents.Contents.TheVariants.{Mailbox}
 use Rattle.law_rule.specs.Keys.{keys_in, KeyPut}
 use Rattle.law_rule.specs.Logs.{entries_in}
 use Rattle.brc_table.specs.Shown.{contents_of, plain_key}
@@ -34,44 +36,53 @@ module _ {A : Type 0} where
   values_of [] = refl
   values_of (pair ∷ pairs) = ap (λ xs. pair.1 ∷ xs) (values_of pairs)
 
-  pub plain_put : (pairs : List (Key A × ℕ)) (key : Key A) (cell : ℕ) → map plain (pairs ++ (key, cell) ∷ []) ≡ map plain pairs ++ (plain_key key, cell) ∷ []
+  pub plain_put : (pairs : List (Key A × ℕ)) (key : Key A) (cell : ℕ)
+      → map plain (pairs ++ (key, cell) ∷ []) ≡ map plain pairs ++ (plain_key key, cell) ∷ []
   plain_put [] key cell = refl
   plain_put (pair ∷ pairs) key cell = ap (λ xs. plain pair ∷ xs) (plain_put pairs key cell)
 
-  pub plain_remove : (pairs : List (Key A × ℕ)) (index : ℕ) → map plain (remove pairs index) ≡ remove (map plain pairs) index
+  pub plain_remove : (pairs : List (Key A × ℕ)) (index : ℕ)
+      → map plain (remove pairs index) ≡ remove (map plain pairs) index
   plain_remove [] zero = refl
   plain_remove [] (suc index) = refl
   plain_remove (pair ∷ pairs) zero = refl
   plain_remove (pair ∷ pairs) (suc index) = ap (λ xs. plain pair ∷ xs) (plain_remove pairs index)
 
   -- a key that isn't among the plain ones isn't among the keys
-  pub absent_plainly : (pairs : List (Key A × ℕ)) (key : Key A) → All (λ (pair : PlainKey × ℕ). pair.0 ≢ plain_key key) (map plain pairs)
+  pub absent_plainly : (pairs : List (Key A × ℕ)) (key : Key A) → All (λ (pair : PlainKey × ℕ). pair.0 ≢ plain_key key)
+      (map plain pairs)
       → All (λ other. other ≢ key) (pair_keys pairs)
   absent_plainly [] key none k d below = absurd (omega arith)
   absent_plainly (pair ∷ pairs) key none zero d below = λ same. none 0 (plain pair) (omega arith) (ap plain_key same)
-  absent_plainly (pair ∷ pairs) key none (suc k) d below = absent_plainly pairs key (λ j e low. none (suc j) e (omega arith)) k d (omega arith)
+  absent_plainly (pair ∷ pairs) key none (suc k) d below = absent_plainly pairs key
+      (λ j e low. none (suc j) e (omega arith)) k d (omega arith)
 
   same_pair : (a p : Key A × ℕ) (cell : ℕ) → a.0 ≡ p.0 → a.1 ≡ cell → plain a ≡ (plain_key p.0, cell)
   same_pair a p cell key value = ap (λ k. (plain_key k, a.1)) key ∙ ap (λ v. (plain_key p.0, v)) value
 
   -- pairs with the same keys and cells
-  same_pairs : (after pairs : List (Key A × ℕ)) → pair_keys after ≡ pair_keys pairs → cells_in after ≡ cells_in pairs → map plain after ≡ map plain pairs
+  same_pairs : (after pairs : List (Key A × ℕ)) → pair_keys after ≡ pair_keys pairs → cells_in after ≡ cells_in pairs
+      → map plain after ≡ map plain pairs
   same_pairs [] [] keys cells = refl
   same_pairs [] (pair ∷ pairs) keys cells = absurd (cc)
   same_pairs (a ∷ after) [] keys cells = absurd (cc)
   same_pairs (a ∷ after) (pair ∷ pairs) keys cells =
-      joined (same_pair a pair pair.1 (first_same keys) (first_same cells)) (same_pairs after pairs (rest_same keys) (rest_same cells))
+      joined (same_pair a pair pair.1 (first_same keys) (first_same cells))
+      (same_pairs after pairs (rest_same keys) (rest_same cells))
 
   -- the pairs after it have the same keys, and the cells with one exchanged
-  pub plain_set : (pairs after : List (Key A × ℕ)) (index cell : ℕ) → pair_keys after ≡ pair_keys pairs → cells_in after ≡ slice_set (cells_in pairs) index cell
+  pub plain_set : (pairs after : List (Key A × ℕ)) (index cell : ℕ) → pair_keys after ≡ pair_keys pairs
+      → cells_in after ≡ slice_set (cells_in pairs) index cell
       → map plain after ≡ with_value (map plain pairs) index cell
   plain_set [] [] index cell keys cells = refl
   plain_set [] (a ∷ after) index cell keys cells = absurd (cc)
   plain_set (pair ∷ pairs) [] index cell keys cells = absurd (cc)
   plain_set (pair ∷ pairs) (a ∷ after) zero cell keys cells =
-      joined (same_pair a pair cell (first_same keys) (first_same cells)) (same_pairs after pairs (rest_same keys) (rest_same cells))
+      joined (same_pair a pair cell (first_same keys) (first_same cells))
+      (same_pairs after pairs (rest_same keys) (rest_same cells))
   plain_set (pair ∷ pairs) (a ∷ after) (suc index) cell keys cells =
-      joined (same_pair a pair pair.1 (first_same keys) (first_same cells)) (plain_set pairs after index cell (rest_same keys) (rest_same cells))
+      joined (same_pair a pair pair.1 (first_same keys) (first_same cells))
+      (plain_set pairs after index cell (rest_same keys) (rest_same cells))
 
 -- ---- what a payload shows
 
@@ -86,13 +97,16 @@ contents_have (payloads.Truth truth) = refl
 
 -- ---- contents
 
-removed_values : (pairs : List (PlainKey × ℕ)) (index : ℕ) → map (λ (p : PlainKey × ℕ). p.1) (remove pairs index) ≡ remove (map (λ (p : PlainKey × ℕ). p.1) pairs) index
+removed_values : (pairs : List (PlainKey × ℕ)) (index : ℕ) → map (λ (p : PlainKey × ℕ). p.1) (remove pairs index)
+    ≡ remove (map (λ (p : PlainKey × ℕ). p.1) pairs) index
 removed_values [] zero = refl
 removed_values [] (suc index) = refl
 removed_values (pair ∷ pairs) zero = refl
 removed_values (pair ∷ pairs) (suc index) = ap (λ xs. pair.1 ∷ xs) (removed_values pairs index)
 
-set_values : (pairs : List (PlainKey × ℕ)) (index cell : ℕ) → map (λ (p : PlainKey × ℕ). p.1) (with_value pairs index cell) ≡ slice_set (map (λ (p : PlainKey × ℕ). p.1) pairs) index cell
+set_values : (pairs : List (PlainKey × ℕ)) (index cell : ℕ)
+    → map (λ (p : PlainKey × ℕ). p.1) (with_value pairs index cell) ≡ slice_set (map (λ (p : PlainKey × ℕ). p.1) pairs)
+    index cell
 set_values [] index cell = refl
 set_values (pair ∷ pairs) zero cell = refl
 set_values (pair ∷ pairs) (suc index) cell = ap (λ xs. pair.1 ∷ xs) (set_values pairs index cell)
@@ -131,7 +145,8 @@ without_entry (Int number) index = none_removed index
 without_entry (Text text) index = none_removed index
 
 -- one exchanged
-pub replaced_entry : (found : Contents) (index cell : ℕ) → entries_in (replaced found index cell) ≡ slice_set (entries_in found) index cell
+pub replaced_entry : (found : Contents) (index cell : ℕ) → entries_in (replaced found index cell) ≡ slice_set
+    (entries_in found) index cell
 replaced_entry (Cells cells) index cell = refl
 replaced_entry (Mailbox letters) index cell = refl
 replaced_entry (Dict pairs) index cell = set_values pairs index cell
@@ -147,7 +162,8 @@ put_keys : (pairs : List (PlainKey × ℕ)) (key : PlainKey) (cell : ℕ)
 put_keys [] key cell = refl
 put_keys (pair ∷ pairs) key cell = ap (λ ks. pair.0 ∷ ks) (put_keys pairs key cell)
 
-set_keys : (pairs : List (PlainKey × ℕ)) (index cell : ℕ) → map (λ (p : PlainKey × ℕ). p.0) (with_value pairs index cell) ≡ map (λ (p : PlainKey × ℕ). p.0) pairs
+set_keys : (pairs : List (PlainKey × ℕ)) (index cell : ℕ)
+    → map (λ (p : PlainKey × ℕ). p.0) (with_value pairs index cell) ≡ map (λ (p : PlainKey × ℕ). p.0) pairs
 set_keys [] index cell = refl
 set_keys (pair ∷ pairs) zero cell = refl
 set_keys (pair ∷ pairs) (suc index) cell = ap (λ ks. pair.0 ∷ ks) (set_keys pairs index cell)
@@ -157,7 +173,8 @@ no_key_removed zero = refl
 no_key_removed (suc index) = refl
 
 -- one key more, in a dictionary
-with_key : {A : Type 0} (found : Contents) (key : Option (Key A)) (cell : ℕ) → KeyFits found key → KeyPut found (with_last found key cell)
+with_key : {A : Type 0} (found : Contents) (key : Option (Key A)) (cell : ℕ) → KeyFits found key
+    → KeyPut found (with_last found key cell)
 with_key (Cells cells) None cell fits = refl
 with_key (Mailbox letters) None cell fits = refl
 with_key (Dict pairs) (Some key) cell fits = record {
@@ -195,7 +212,8 @@ replaced_key (Text text) index cell = refl
 
 -- ---- an entry
 
-pub plain_get : {A : Type 0} (pairs : List (Key A × ℕ)) (index : ℕ) (pair : Key A × ℕ) → slice_get pairs index ≡ Some pair
+pub plain_get : {A : Type 0} (pairs : List (Key A × ℕ)) (index : ℕ) (pair : Key A × ℕ)
+    → slice_get pairs index ≡ Some pair
     → slice_get (map (λ (p : PlainKey × ℕ). p.1) (map plain pairs)) index ≡ Some pair.1
 plain_get [] index pair there = absurd (cc)
 plain_get (p ∷ pairs) zero pair there = ap (λ o. elim o [ Some x ↦ Some x.1 | None ↦ None ]) there
@@ -209,42 +227,57 @@ some_inside (y ∷ xs) (suc index) x there = omega (arith, some_inside xs index 
 
 module _ {A : Type 0} where
   -- an entry of the payload is one of what was found
-  pub found_entry : (p q : Payload A) (found : Contents) (index : ℕ) (o : Option ℕ) → contents_of p ≡ found → q ≡ p → o ≡ slice_get (entries_of q) index
+  pub found_entry : (p q : Payload A) (found : Contents) (index : ℕ) (o : Option ℕ) → contents_of p ≡ found → q ≡ p
+      → o ≡ slice_get (entries_of q) index
       → slice_get (entries_in found) index ≡ o
   found_entry p q found index o is same at =
-      sym (at ∙ ap (λ x. slice_get (entries_of x) index) same ∙ sym (ap (λ entries. slice_get entries index) (contents_have p)) ∙ ap (λ f. slice_get (entries_in f) index) is)
+      sym (at ∙ ap (λ x. slice_get (entries_of x) index) same
+      ∙ sym (ap (λ entries. slice_get entries index) (contents_have p)) ∙ ap (λ f. slice_get (entries_in f) index) is)
 
   -- the payload's entries after an edit, by those that were found
-  pub put_found : (p q after : Payload A) (found : Contents) (key : Option (Key A)) (cell value : ℕ) → contents_of p ≡ found → q ≡ p
+  pub put_found : (p q after : Payload A) (found : Contents) (key : Option (Key A)) (cell value : ℕ)
+      → contents_of p ≡ found → q ≡ p
       → KeyFits (contents_of p) key → contents_of after ≡ with_last (contents_of q) key cell → cell ≡ value
       → entries_in (contents_of after) ≡ entries_in found ++ value ∷ []
   put_found p q after found key cell value is same fits put here =
-      ap entries_in put ∙ ap (λ x. entries_in (with_last (contents_of x) key cell)) same ∙ with_entry (contents_of p) key cell fits
+      ap entries_in put ∙ ap (λ x. entries_in (with_last (contents_of x) key cell)) same
+      ∙ with_entry (contents_of p) key cell fits
       ∙ ap (λ f. entries_in f ++ cell ∷ []) is ∙ ap (λ v. entries_in found ++ v ∷ []) here
 
-  pub without_found : (p q after : Payload A) (found : Contents) (index : ℕ) → contents_of p ≡ found → q ≡ p → contents_of after ≡ without (contents_of q) index
+  pub without_found : (p q after : Payload A) (found : Contents) (index : ℕ) → contents_of p ≡ found → q ≡ p
+      → contents_of after ≡ without (contents_of q) index
       → entries_in (contents_of after) ≡ remove (entries_in found) index
   without_found p q after found index is same left =
-      ap entries_in left ∙ without_entry (contents_of q) index ∙ ap (λ x. remove (entries_in (contents_of x)) index) same ∙ ap (λ f. remove (entries_in f) index) is
+      ap entries_in left ∙ without_entry (contents_of q) index
+      ∙ ap (λ x. remove (entries_in (contents_of x)) index) same ∙ ap (λ f. remove (entries_in f) index) is
 
-  pub replaced_found : (p q after : Payload A) (found : Contents) (index cell : ℕ) → contents_of p ≡ found → q ≡ p → contents_of after ≡ replaced (contents_of q) index cell
+  pub replaced_found : (p q after : Payload A) (found : Contents) (index cell : ℕ) → contents_of p ≡ found → q ≡ p
+      → contents_of after ≡ replaced (contents_of q) index cell
       → entries_in (contents_of after) ≡ slice_set (entries_in found) index cell
   replaced_found p q after found index cell is same set =
-      ap entries_in set ∙ replaced_entry (contents_of q) index cell ∙ ap (λ x. slice_set (entries_in (contents_of x)) index cell) same ∙ ap (λ f. slice_set (entries_in f) index cell) is
+      ap entries_in set ∙ replaced_entry (contents_of q) index cell
+      ∙ ap (λ x. slice_set (entries_in (contents_of x)) index cell) same
+      ∙ ap (λ f. slice_set (entries_in f) index cell) is
 
   -- and its keys, by those that were found
-  pub key_put_found : (p q after : Payload A) (found : Contents) (key : Option (Key A)) (cell : ℕ) → contents_of p ≡ found → q ≡ p
-      → KeyFits (contents_of p) key → contents_of after ≡ with_last (contents_of q) key cell → KeyPut found (contents_of after)
+  pub key_put_found : (p q after : Payload A) (found : Contents) (key : Option (Key A)) (cell : ℕ)
+      → contents_of p ≡ found → q ≡ p
+      → KeyFits (contents_of p) key → contents_of after ≡ with_last (contents_of q) key cell
+      → KeyPut found (contents_of after)
   key_put_found p q after found key cell is same fits put =
       subst (λ f. KeyPut f (contents_of after)) is
-      (subst (KeyPut (contents_of p)) (sym (put ∙ ap (λ x. with_last (contents_of x) key cell) same)) (with_key (contents_of p) key cell fits))
+      (subst (KeyPut (contents_of p)) (sym (put ∙ ap (λ x. with_last (contents_of x) key cell) same))
+      (with_key (contents_of p) key cell fits))
 
-  pub key_left_found : (p q after : Payload A) (found : Contents) (index : ℕ) → contents_of p ≡ found → q ≡ p → contents_of after ≡ without (contents_of q) index
+  pub key_left_found : (p q after : Payload A) (found : Contents) (index : ℕ) → contents_of p ≡ found → q ≡ p
+      → contents_of after ≡ without (contents_of q) index
       → keys_in (contents_of after) ≡ remove (keys_in found) index
   key_left_found p q after found index is same left =
-      ap keys_in left ∙ without_key (contents_of q) index ∙ ap (λ x. remove (keys_in (contents_of x)) index) same ∙ ap (λ f. remove (keys_in f) index) is
+      ap keys_in left ∙ without_key (contents_of q) index ∙ ap (λ x. remove (keys_in (contents_of x)) index) same
+      ∙ ap (λ f. remove (keys_in f) index) is
 
-  pub keys_found_again : (p q after : Payload A) (found : Contents) (index cell : ℕ) → contents_of p ≡ found → q ≡ p → contents_of after ≡ replaced (contents_of q) index cell
+  pub keys_found_again : (p q after : Payload A) (found : Contents) (index cell : ℕ) → contents_of p ≡ found → q ≡ p
+      → contents_of after ≡ replaced (contents_of q) index cell
       → keys_in (contents_of after) ≡ keys_in found
   keys_found_again p q after found index cell is same set =
       ap keys_in set ∙ replaced_key (contents_of q) index cell ∙ ap (λ x. keys_in (contents_of x)) same ∙ ap keys_in is

@@ -6,7 +6,15 @@ use Rattle.brc_lock.specs.Waiting.{Waits, NoTry, OneMore}
 
 module _ {A : Type 0} where
   pub thread_kept : (frame : FrameSeen A) → KeepsThread frame frame
-  thread_kept frame = record { heap = refl; thread = refl; stage = refl; popped = refl; works = refl; from = refl; near = refl }
+  thread_kept frame = record {
+    heap = refl;
+    thread = refl;
+    stage = refl;
+    popped = refl;
+    works = refl;
+    from = refl;
+    near = refl;
+  }
 
   pub thread_kept_on : {old mid new : FrameSeen A} → KeepsThread old mid → KeepsThread mid new → KeepsThread old new
   thread_kept_on first second = record {
@@ -40,6 +48,7 @@ module _ {A : Type 0} where
   waits_frame (OneMore mid new waits busy) = frame_kept_on (waits_frame waits) busy.frame
 
   -- tries that follow other tries
-  pub waits_on : {old mid : FrameSeen A} {k : ℕ} {new : FrameSeen A} → Waits old k mid → Waits mid k new → Waits old k new
+  pub waits_on : {old mid : FrameSeen A} {k : ℕ} {new : FrameSeen A} → Waits old k mid → Waits mid k new
+      → Waits old k new
   waits_on first NoTry = first
   waits_on first (OneMore mid new waits busy) = OneMore mid new (waits_on first waits) busy

@@ -37,5 +37,6 @@ module _ {A : Type 0} where
   -- room is refused where the object has 1,048,576 entries, which is looked at first; or memory was missing
   abbrev pub RefusedRoom : ℕ × Payload A → Fault → Type 0
   RefusedRoom block faults.Full = MOST_ENTRIES ≤ length (entries_in (contents_of block.1))
-  RefusedRoom block faults.OutOfMemory = (length (entries_in (contents_of block.1)) < MOST_ENTRIES) × (spare_of block.1 ≡ 0)
+  RefusedRoom block faults.OutOfMemory = (length (entries_in (contents_of block.1)) < MOST_ENTRIES)
+      × (spare_of block.1 ≡ 0)
   RefusedRoom block _ = ⊥

@@ -20,7 +20,8 @@ use brc_count::{Frame, Handle};
 use brc_words::{Fault, Key, MOST_ENTRIES};
 use std::alloc::Allocator;
 
-/// An object that is locked: its frame, the handle by which it was locked, and its block. It must be unlocked. `B` is `Block<A>`.
+/// An object that is locked: its frame, the handle by which it was locked, and its block. It must be unlocked. `B` is
+/// `Block<A>`.
 pub struct Locked<'f, H: Home<A>, A: Allocator, B> {
     pub(crate) frame: &'f mut Frame<H, A>,
     pub(crate) handle: &'f Handle<A>,
@@ -48,8 +49,8 @@ impl<'f, H: Home<A>, A: Allocator> Locked<'f, H, A, Block<A>> {
         self.block.payload()
     }
 
-    /// Makes sure of the next place, for `entry` and `unlock_take`. FrameFull where it isn't below 65,536, looked at first;
-    /// OutOfMemory where memory for it can't be had.
+    /// Makes sure of the next place, for `entry` and `unlock_take`. FrameFull where it isn't below 65,536, looked at
+    /// first; OutOfMemory where memory for it can't be had.
     pub fn place(&mut self) -> Result<(), Fault>
         requires holds { Holds self.old.frame.now self.old.handle.now self.old.block }
         ensures same_reference { self.new.frame.ghost_name ≡ self.old.frame.ghost_name }
@@ -72,7 +73,8 @@ impl<'f, H: Home<A>, A: Allocator> Locked<'f, H, A, Block<A>> {
         requires room { 0 < self.old.frame.now.spare }
         requires low { self.old.frame.now.next < MOST_PLACES }
         ensures same_reference { self.new.frame.ghost_name ≡ self.old.frame.ghost_name }
-        ensures given { (c : ℕ) → slice_get (entries_in (contents_of self.old.block.1)) index ≡ Some c → Given self.old.frame.now self.new.frame.now (sources.Entry index) c result }
+        ensures given { (c : ℕ) → slice_get (entries_in (contents_of self.old.block.1)) index ≡ Some c
+            → Given self.old.frame.now self.new.frame.now (sources.Entry index) c result }
         ensures heap { self.new.frame.now.heap ≡ self.old.frame.now.heap }
         ensures handle { self.new.handle.now ≡ self.old.handle.now }
         ensures block { self.new.block ≡ self.old.block }
@@ -88,7 +90,8 @@ impl<'f, H: Home<A>, A: Allocator> Locked<'f, H, A, Block<A>> {
     /// Unlocks the object as it was found.
     pub fn unlock(self)
         requires holds { Holds self.frame.now self.handle.now self.block }
-        ensures unlocks { Unlocks self.entry.frame.now self.exit.0.now changes.Keep self.entry.block.0 (contents_of self.entry.block.1) }
+        ensures unlocks { Unlocks self.entry.frame.now self.exit.0.now changes.Keep self.entry.block.0
+            (contents_of self.entry.block.1) }
         ensures frame { KeepsFrame self.entry.frame.now self.exit.0.now }
         ensures keeps { Keeps self.entry.frame.now self.exit.0.now }
         ensures unlocked { IsUnlocked self.exit.0.now }
@@ -101,8 +104,8 @@ impl<'f, H: Home<A>, A: Allocator> Locked<'f, H, A, Block<A>> {
         frame.end_keep(block);
     }
 
-    /// Unlocks the object with one entry more, the handle's reference, at the end; of a dictionary beside a key that isn't in it.
-    /// `room` made sure of it.
+    /// Unlocks the object with one entry more, the handle's reference, at the end; of a dictionary beside a key that
+    /// isn't in it. `room` made sure of it.
     pub fn unlock_put(self, key: Option<Key<A>>, value: Handle<A>)
         requires holds { Holds self.frame.now self.handle.now self.block }
         requires room { HasRoom self.block }
@@ -110,7 +113,8 @@ impl<'f, H: Home<A>, A: Allocator> Locked<'f, H, A, Block<A>> {
         requires owned { Owns self.frame.now value }
         requires apart { value.place ≢ self.handle.now.place }
         ensures unlocks { (c : ℕ) → cell_in self.entry.frame.now value.place ≡ Some c →
-            Unlocks self.entry.frame.now self.exit.0.now (changes.Put value.place) self.entry.block.0 (with_last (contents_of self.entry.block.1) key c) }
+            Unlocks self.entry.frame.now self.exit.0.now (changes.Put value.place) self.entry.block.0
+            (with_last (contents_of self.entry.block.1) key c) }
         ensures places { ChangesPlace self.entry.frame.now self.exit.0.now value.place None }
         ensures len { self.exit.0.now.len + 1 ≡ self.entry.frame.now.len }
         ensures loses { Loses self.entry.frame.now self.exit.0.now value }
@@ -126,8 +130,8 @@ impl<'f, H: Home<A>, A: Allocator> Locked<'f, H, A, Block<A>> {
         frame.end_put(block, value);
     }
 
-    /// Unlocks the object with one entry fewer, of a dictionary with its key; its reference is the handle's now. `place` made
-    /// sure of it.
+    /// Unlocks the object with one entry fewer, of a dictionary with its key; its reference is the handle's now.
+    /// `place` made sure of it.
     pub fn unlock_take(self, index: u32) -> Handle<A>
         requires holds { Holds self.frame.now self.handle.now self.block }
         requires there { index < length (entries_in (contents_of self.block.1)) }
@@ -137,8 +141,10 @@ impl<'f, H: Home<A>, A: Allocator> Locked<'f, H, A, Block<A>> {
         ensures thread { result.thread ≡ self.entry.frame.now.seat.thread }
         ensures next { result.place ≡ self.entry.frame.now.next }
         ensures vacant { cell_in self.entry.frame.now result.place ≡ None }
-        ensures unlocks { Unlocks self.entry.frame.now self.exit.0.now (changes.Take index result.place) self.entry.block.0 (without (contents_of self.entry.block.1) index) }
-        ensures places { ChangesPlace self.entry.frame.now self.exit.0.now result.place (slice_get (entries_in (contents_of self.entry.block.1)) index) }
+        ensures unlocks { Unlocks self.entry.frame.now self.exit.0.now (changes.Take index result.place)
+            self.entry.block.0 (without (contents_of self.entry.block.1) index) }
+        ensures places { ChangesPlace self.entry.frame.now self.exit.0.now result.place
+            (slice_get (entries_in (contents_of self.entry.block.1)) index) }
         ensures len { self.exit.0.now.len ≡ self.entry.frame.now.len + 1 }
         ensures gains { Gains self.entry.frame.now self.exit.0.now result }
         ensures unlocked { IsUnlocked self.exit.0.now }
@@ -153,8 +159,8 @@ impl<'f, H: Home<A>, A: Allocator> Locked<'f, H, A, Block<A>> {
         frame.end_take(block, index, cell)
     }
 
-    /// Unlocks the object with another entry at a place, of a dictionary beside the same key: its reference and the handle's are
-    /// exchanged. The answer is the same handle.
+    /// Unlocks the object with another entry at a place, of a dictionary beside the same key: its reference and the
+    /// handle's are exchanged. The answer is the same handle.
     pub fn unlock_swap(self, index: u32, value: Handle<A>) -> Handle<A>
         requires holds { Holds self.frame.now self.handle.now self.block }
         requires there { index < length (entries_in (contents_of self.block.1)) }
@@ -162,8 +168,10 @@ impl<'f, H: Home<A>, A: Allocator> Locked<'f, H, A, Block<A>> {
         requires apart { value.place ≢ self.handle.now.place }
         ensures same { result ≡ value }
         ensures unlocks { (c : ℕ) → cell_in self.entry.frame.now value.place ≡ Some c →
-            Unlocks self.entry.frame.now self.exit.0.now (changes.Swap index value.place) self.entry.block.0 (replaced (contents_of self.entry.block.1) index c) }
-        ensures places { ChangesPlace self.entry.frame.now self.exit.0.now value.place (slice_get (entries_in (contents_of self.entry.block.1)) index) }
+            Unlocks self.entry.frame.now self.exit.0.now (changes.Swap index value.place) self.entry.block.0
+            (replaced (contents_of self.entry.block.1) index c) }
+        ensures places { ChangesPlace self.entry.frame.now self.exit.0.now value.place
+            (slice_get (entries_in (contents_of self.entry.block.1)) index) }
         ensures len { self.exit.0.now.len ≡ self.entry.frame.now.len }
         ensures keeps { Keeps self.entry.frame.now self.exit.0.now }
         ensures unlocked { IsUnlocked self.exit.0.now }
@@ -184,8 +192,8 @@ impl<'f, H: Home<A>, A: Allocator> Locked<'f, H, A, Block<A>> {
 }
 
 impl<'f, H: Home<A>, A: Allocator + Copy> Locked<'f, H, A, Block<A>> {
-    /// Makes sure that a list, a dictionary or a mailbox may have an entry more, without memory then. Full where it has 1,048,576
-    /// entries, looked at first; OutOfMemory where memory for one more can't be had.
+    /// Makes sure that a list, a dictionary or a mailbox may have an entry more, without memory then. Full where it has
+    /// 1,048,576 entries, looked at first; OutOfMemory where memory for one more can't be had.
     pub fn room(&mut self) -> Result<(), Fault>
         requires holds { Holds self.old.frame.now self.old.handle.now self.old.block }
         requires container { is_container (kind_in (contents_of self.old.block.1)) ≡ true }

@@ -60,8 +60,8 @@ fn begin_again<H: Home<A>, A: Allocator>(
     unreachable!()
 }
 
-/// Locks the handle's object and answers its block, once no other thread has it locked. Between two tries it holds nothing, and
-/// gives the processor up.
+/// Locks the handle's object and answers its block, once no other thread has it locked. Between two tries it holds
+/// nothing, and gives the processor up.
 #[inline(always)]
 pub fn begin_late<H: Home<A>, A: Allocator>(
     rt: &impl Wait,
@@ -86,7 +86,8 @@ pub fn try_lock<'f, H: Home<A>, A: Allocator>(
 ) -> Result<Locked<'f, H, A, Block<A>>, Fault>
     requires owned { Owns frame.old handle.now }
     requires unlocked { IsUnlocked frame.old }
-    ensures* rests { sem 𝓛 (RestsIfErr (the_row H.row A.row H.Home A.Allocator) frame.entry (λ l. l.frame.ghost_name) result (λ last. IsBusy frame.entry.now last handle.now.place)) }
+    ensures* rests { sem 𝓛 (RestsIfErr (the_row H.row A.row H.Home A.Allocator) frame.entry (λ l. l.frame.ghost_name)
+        result (λ last. IsBusy frame.entry.now last handle.now.place)) }
     ensures same_reference { IfOk result (λ l. l.frame.ghost_name ≡ frame.entry.ghost_name) }
     ensures began { IfOk result (λ l. Began frame.old l.frame.now handle.now.place l.block) }
     ensures holds { IfOk result (λ l. Holds l.frame.now handle.now l.block) }

@@ -27,5 +27,6 @@ module _ {A : Type 0} where
       → place < length items → old ≡ get_or items place old → Goes answer old new (call old)
       → Goes answer made (set items place new) (calling call (references.Object place) made)
   called_seen call items made place old new answer view within is went =
-      subst (λ (seen : List (Object A)). Goes answer seen (set items place new) (calling call (references.Object place) seen))
+      subst (λ (seen : List (Object A)). Goes answer seen (set items place new)
+      (calling call (references.Object place) seen))
       view (called_there call items place old new answer within is went)

@@ -1,6 +1,7 @@
--- What each instruction keeps, whatever that is: the one dispatch over all instructions. A state owes it that what holds of
--- its references holds of what the parts of an instruction make.
-use Rattle.std.proofs.Common.{Bool, true, false, cond, ℕ, ℤ, pos, List, [], ◌∷◌, ◌++◌, Option, Some, None, Result, Ok, Err, IfOk, IfSome}
+-- What each instruction keeps, whatever that is: the one dispatch over all instructions. A state owes it that what
+-- holds of its references holds of what the parts of an instruction make.
+use Rattle.std.proofs.Common.{Bool, true, false, cond, ℕ, ℤ, pos, List, [], ◌∷◌, ◌++◌, Option, Some, None, Result, Ok}
+use Rattle.std.proofs.Common.{Err, IfOk, IfSome}
 use Rattle.std.proofs.lemmas.List.Elements.{All-nil}
 use Rattle.brc_words.specs.declared.fault.Fault.{Fault}
 use Rattle.brc_script.specs.declared.instruction.Instruction.{Instruction}
@@ -41,12 +42,14 @@ module _ {A : Type 0} where
 
     kept_integer : (to : ℕ) (number : ℤ) → Q (with_integer number to s)
     kept_integer to number =
-        either (is_small number) (with_register to (Some (references.Small number)) s) (with_object (objects.Int number) to s)
+        either (is_small number) (with_register to (Some (references.Small number)) s)
+        (with_object (objects.Int number) to s)
         (owes.register to (Some (references.Small number)) (owes.small number)) (owes.object to (objects.Int number) tt)
 
     -- with what a register holds, if it holds something
     with_held : (register : ℕ) (next : Reference → Result (State A) Fault)
-        → ((reference : Reference) → P reference → IfOk (next reference) Q) → IfOk (held register s.registers >>= next) Q
+        → ((reference : Reference) → P reference → IfOk (next reference) Q)
+        → IfOk (held register s.registers >>= next) Q
     with_held register next later = ok_then (held register s.registers) next P Q (owes.held register) later
 
     -- with any answer that is no reference
@@ -57,7 +60,8 @@ module _ {A : Type 0} where
 
     -- a call with a value that goes in
     giving : (container value : ℕ) (call : Reference → Object A → Result (Option Reference × Object A) Fault)
-        → ((given : Reference) (object : Object A) → P given → Each P object → IfOk (call given object) (IsKept P (Each P)))
+        → ((given : Reference) (object : Object A) → P given → Each P object
+        → IfOk (call given object) (IsKept P (Each P)))
         → IfOk (held value s.registers >>= λ given. called (call given) container value s) Q
     giving container value call keeps =
         with_held value (λ given. called (call given) container value s)
@@ -85,7 +89,8 @@ module _ {A : Type 0} where
         (λ reference. printed (asked (λ object. Ok (text_in object)) reference s.objects))
       where
         printed : (text : Result (List ℕ) Fault)
-            → IfOk ((text >>= λ text. Ok (s.printed ++ (text ++ 10 ∷ []))) >>= λ printed. Ok (record { registers = s.registers; objects = s.objects; printed = printed })) Q
+            → IfOk ((text >>= λ text. Ok (s.printed ++ (text ++ 10 ∷ []))) >>= λ printed. Ok
+            (record { registers = s.registers; objects = s.objects; printed = printed })) Q
         printed (Ok text) = owes.print (text ++ 10 ∷ [])
         printed (Err fault) = tt
 
@@ -107,7 +112,8 @@ module _ {A : Type 0} where
     kept_after (does.Pop to list) =
         owes.call (object_call calls.Pop) list to (λ object each. object_kept P calls.Pop object tt each)
     kept_after (does.Get to list index) =
-        owes.call (object_call (calls.Get index)) list to (λ object each. object_kept P (calls.Get index) object tt each)
+        owes.call (object_call (calls.Get index)) list to
+        (λ object each. object_kept P (calls.Get index) object tt each)
     kept_after (does.Set list index value) =
         giving list value (λ given. object_call (calls.Set index given))
         (λ given object here each. object_kept P (calls.Set index given) object here each)

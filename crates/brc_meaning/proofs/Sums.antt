@@ -1,5 +1,6 @@
 -- The sums that are i64.
-use Rattle.std.proofs.Common.{◌≡◌, ◌∙◌, sym, subst, ℤ, pos, negsuc, ◌+ℤ◌, ◌^◌, Bool, true, false, Ok, Err, refl, FitsSigned, w64, to_z, of_z}
+use Rattle.std.proofs.Common.{◌≡◌, ◌∙◌, sym, subst, ℤ, pos, negsuc, ◌+ℤ◌, ◌^◌, Bool, true, false, Ok, Err, refl}
+use Rattle.std.proofs.Common.{FitsSigned, w64, to_z, of_z}
 use Rattle.std.proofs.lemmas.Int.{to_z-of_z}
 use Rattle.std.proofs.lemmas.Bool.{ltb-true, lt-ltb}
 use Rattle.brc_words.specs.declared.fault.Fault.TheVariants as faults

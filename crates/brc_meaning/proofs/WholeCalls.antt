@@ -1,7 +1,9 @@
 -- What is so of an object's references, and of those that a call brings, is so of what the call answers and leaves.
-use Rattle.std.proofs.Common.{Bool, true, false, cond, ℕ, ◌-◌, List, [], ◌∷◌, ◌++◌, length, take, drop, ltb, Option, Some, None, Result, Ok, Err, IfOk, IfSome, slice_get, slice_set}
+use Rattle.std.proofs.Common.{Bool, true, false, cond, ℕ, ◌-◌, List, [], ◌∷◌, ◌++◌, length, take, drop, ltb, Option}
+use Rattle.std.proofs.Common.{Some, None, Result, Ok, Err, IfOk, IfSome, slice_get, slice_set}
 use Rattle.std.specs.List.{All}
-use Rattle.std.proofs.lemmas.List.Elements.{All-nil, All-cons, All-head, All-tail, All-set, All-push, All-weaker, All-take, All-drop}
+use Rattle.std.proofs.lemmas.List.Elements.{All-nil, All-cons, All-head, All-tail, All-set, All-push, All-weaker}
+use Rattle.std.proofs.lemmas.List.Elements.{All-take, All-drop}
 use Rattle.brc_words.specs.declared.fault.Fault.{Fault}
 use Rattle.brc_words.specs.declared.fault.Fault.TheVariants as faults
 use Rattle.brc_words.specs.declared.key.Key.{Key}
@@ -108,7 +110,8 @@ module _ {A : Type 0} where
       some_if (same_key pair.0 key) (Some pair.1) (value_at key pairs) P (All-head (IsBeside P) pair pairs all)
       (value_there P key pairs (All-tail (IsBeside P) pair pairs all))
 
-  replaced_there : (P : Reference → Type 0) (key : Key A) (value : Reference) (pairs : List (Key A × Reference)) → P value
+  replaced_there : (P : Reference → Type 0) (key : Key A) (value : Reference)
+      (pairs : List (Key A × Reference)) → P value
       → All (IsBeside P) pairs → All (IsBeside P) (replaced key value pairs)
   replaced_there P key value [] here all = All-nil (IsBeside P)
   replaced_there P key value (pair ∷ pairs) here all =
@@ -132,7 +135,8 @@ module _ {A : Type 0} where
   found_there P key pairs all =
       ok_found (value_at key pairs) faults.NoSuchKey P (value_there P key pairs all)
 
-  put_there : (P : Reference → Type 0) (key : Key A) (value : Reference) (pairs : List (Key A × Reference)) (o : Option Reference)
+  put_there : (P : Reference → Type 0) (key : Key A) (value : Reference) (pairs : List (Key A × Reference))
+      (o : Option Reference)
       → IfSome o P → P value → All (IsBeside P) pairs
       → IfOk (elim o as (λ _. Result (Option Reference × List (Key A × Reference)) Fault) [
         | Some old ↦ Ok (Some old, replaced key value pairs)
@@ -140,10 +144,12 @@ module _ {A : Type 0} where
       ]) (IsKept P (All (IsBeside P)))
   put_there P key value pairs (Some old) was here all = (was, replaced_there P key value pairs here all)
   put_there P key value pairs None was here all =
-      ok_if (ltb (length pairs) MOST_ENTRIES) (None, pairs ++ (key, value) ∷ []) faults.Full (IsKept P (All (IsBeside P)))
+      ok_if (ltb (length pairs) MOST_ENTRIES) (None, pairs ++ (key, value) ∷ []) faults.Full
+      (IsKept P (All (IsBeside P)))
       (tt, All-push (IsBeside P) pairs (key, value) all here)
 
-  pub dict_kept : (P : Reference → Type 0) (key : Key A) (call : KeyedCall) (pairs : List (Key A × Reference)) → BringsKeyed P call
+  pub dict_kept : (P : Reference → Type 0) (key : Key A) (call : KeyedCall) (pairs : List (Key A × Reference))
+      → BringsKeyed P call
       → All (IsBeside P) pairs → IfOk (dict_call key call pairs) (IsKept P (All (IsBeside P)))
   dict_kept P key (keyed.Put value) pairs here all =
       put_there P key value pairs (value_at key pairs) (value_there P key pairs all) here all
@@ -159,7 +165,8 @@ module _ {A : Type 0} where
 
   -- ---- objects
 
-  pub each_weaker : (P Q : Reference → Type 0) → ((reference : Reference) → P reference → Q reference) → (object : Object A)
+  pub each_weaker : (P Q : Reference → Type 0) → ((reference : Reference) → P reference → Q reference)
+      → (object : Object A)
       → Each P object → Each Q object
   each_weaker P Q less (objects.Int number) each = tt
   each_weaker P Q less (objects.Text bytes) each = tt

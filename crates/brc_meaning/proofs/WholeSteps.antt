@@ -1,5 +1,7 @@
 -- Each instruction leads from a whole state to a whole state.
-use Rattle.std.proofs.Common.{◌≡◌, ℕ, zero, suc, ◌<◌, ◌≤◌, ◌+◌, List, [], ◌∷◌, ◌++◌, length, set, Option, Some, None, Result, Ok, Err, IfOk, slice_get, slice_index_or, length-append, length-set, arith, refl, sym, subst}
+use Rattle.std.proofs.Common.{◌≡◌, ℕ, zero, suc, ◌<◌, ◌≤◌, ◌+◌, List, [], ◌∷◌, ◌++◌, length, set, Option, Some, None}
+use Rattle.std.proofs.Common.{Result, Ok, Err, IfOk, slice_get, slice_index_or, length-append, length-set, arith, refl}
+use Rattle.std.proofs.Common.{sym, subst}
 use Rattle.std.specs.List.{All}
 use Rattle.std.proofs.lemmas.List.Elements.{All-head, All-tail, All-nil, All-set, All-push, All-weaker, All-replicate}
 use Rattle.brc_words.specs.declared.fault.Fault.{Fault}
@@ -12,7 +14,8 @@ use Rattle.brc_meaning.specs.declared.reference.Reference.TheVariants as referen
 use Rattle.brc_meaning.specs.declared.object.Object.{Object}
 use Rattle.brc_meaning.specs.declared.state.State.{State}
 use Rattle.brc_meaning.specs.Outcomes.{◌>>=◌}
-use Rattle.brc_meaning.specs.States.{held, holding, meant, asked, changed, calling, start, with_register, with_object, called}
+use Rattle.brc_meaning.specs.States.{held, holding, meant, asked, changed, calling, start, with_register, with_object}
+use Rattle.brc_meaning.specs.States.{called}
 use Rattle.brc_meaning.specs.Steps.{after}
 use Rattle.brc_meaning.specs.Sections.{Stop, line_after, lines_after}
 use Rattle.brc_meaning.specs.Wholes.{IsThere, IsHeld, IsSound, IsWhole, ended}
@@ -67,7 +70,8 @@ module _ {A : Type 0} where
             (All-weaker (IsHeld made) (IsHeld more) (more_held made more less) s.registers whole.held);
         sound =
             All-push (IsSound more) s.objects object
-            (All-weaker (IsSound made) (IsSound more) (each_weaker (IsThere made) (IsThere more) (more_there made more less)) s.objects whole.sound)
+            (All-weaker (IsSound made) (IsSound more)
+            (each_weaker (IsThere made) (IsThere more) (more_there made more less)) s.objects whole.sound)
             (each_weaker (IsThere made) (IsThere more) (more_there made more less) object sound);
       }
 
@@ -75,7 +79,8 @@ module _ {A : Type 0} where
       → IfOk (or_fault faults.WrongKind (meant reference made)) (IsSound (length made))
   meant_sound (references.Small number) made all = tt
   meant_sound (references.Object place) made all =
-      ok_found (slice_get made place) faults.WrongKind (IsSound (length made)) (some_at made place (IsSound (length made)) all)
+      ok_found (slice_get made place) faults.WrongKind (IsSound (length made))
+      (some_at made place (IsSound (length made)) all)
 
   -- what a call answered is there, and the objects after it are as many, each sound
   abbrev IsCalled : List (Object A) → Option Reference × List (Object A) → Type 0
@@ -91,7 +96,8 @@ module _ {A : Type 0} where
 
   calling_whole : (call : Object A → Result (Option Reference × Object A) Fault) (reference : Reference)
       (made : List (Object A))
-      → ((object : Object A) → IsSound (length made) object → IfOk (call object) (IsKept (IsThere (length made)) (IsSound (length made))))
+      → ((object : Object A) → IsSound (length made) object
+      → IfOk (call object) (IsKept (IsThere (length made)) (IsSound (length made))))
       → All (IsSound (length made)) made → IfOk (calling call reference made) (IsCalled made)
   calling_whole call reference made keeps all =
       ok_then (asked call reference made) (λ done. Ok (done.0, changed reference done.1 made))

@@ -8,7 +8,8 @@ use Rattle.brc_script.specs.Instructions.{NumberedLine}
 use Rattle.brc_meaning.specs.declared.state.State.{State}
 use Rattle.brc_meaning.specs.Outcomes.{◌>>=◌}
 use Rattle.brc_meaning.specs.States.{start}
-use Rattle.brc_meaning.specs.Sections.{Stop, line_after, lines_after, times_after, pieces_after, written_out, told, meaning}
+use Rattle.brc_meaning.specs.Sections.{Stop, line_after, lines_after, times_after, pieces_after, written_out, told}
+use Rattle.brc_meaning.specs.Sections.{meaning}
 
 module _ {X Y Z E : Type 0} where
   -- two things after one, or one after the other

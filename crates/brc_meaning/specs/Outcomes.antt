@@ -1,4 +1,5 @@
--- How an answer stands to what is meant. Memory may be missing at any time; the run ends then, and nothing more is said.
+-- How an answer stands to what is meant. Memory may be missing at any time; the run ends then, and nothing more is
+-- said.
 use Rattle.std.specs.Prelude.{◌≡◌, Result, Ok, Err, MatchResult}
 use Rattle.brc_words.specs.declared.fault.Fault.{Fault}
 use Rattle.brc_words.specs.declared.fault.Fault.TheVariants as faults

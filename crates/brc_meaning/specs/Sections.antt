@@ -1,5 +1,6 @@
 -- What a section comes to: its lines in order, and those of a `repeat` so many times, up to the first fault.
-use Rattle.std.specs.Prelude.{◌≡◌, ℕ, zero, suc, List, [], ◌∷◌, ◌++◌, length, Option, Some, None, Result, Ok, Err, MatchResult}
+use Rattle.std.specs.Prelude.{◌≡◌, ℕ, zero, suc, List, [], ◌∷◌, ◌++◌, length, Option, Some, None, Result, Ok, Err}
+use Rattle.std.specs.Prelude.{MatchResult}
 use Rattle.std.specs.List.{repeat}
 use Rattle.brc_words.specs.Faults.{number_of}
 use Rattle.brc_words.specs.declared.fault.Fault.{Fault}

@@ -1,5 +1,6 @@
 -- The registers, the objects and the printed bytes, and how instructions change them.
-use Rattle.std.specs.Prelude.{ℕ, ℤ, List, ◌++◌, [], ◌∷◌, length, if◌then◌else◌, Option, Some, None, Result, Ok, slice_get, slice_set, slice_index_or, replicate}
+use Rattle.std.specs.Prelude.{ℕ, ℤ, List, ◌++◌, [], ◌∷◌, length, if◌then◌else◌, Option, Some, None, Result, Ok}
+use Rattle.std.specs.Prelude.{slice_get, slice_set, slice_index_or, replicate}
 use Rattle.brc_words.specs.declared.fault.Fault.{Fault}
 use Rattle.brc_words.specs.declared.fault.Fault.TheVariants as faults
 use Rattle.brc_plain.specs.Outcomes.{or_fault}

@@ -1,5 +1,6 @@
-//! The plain meaning of a section: what it prints, the fault that ends it, and how many objects it makes, when it is run
-//! by itself over plain values. There are no cells here, no counts, no locks and no other section, and nothing dies.
+//! The plain meaning of a section: what it prints, the fault that ends it, and how many objects it makes, when it is
+//! run by itself over plain values. There are no cells here, no counts, no locks and no other section, and nothing
+//! dies.
 //!
 //! `specs/Steps.antt` says what each instruction does to the registers and the objects, by the definitions of the plain
 //! containers, and `specs/Sections.antt` what a section comes to; `plain_run` meets them. `src/laws.rt` says what these

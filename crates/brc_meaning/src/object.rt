@@ -3,7 +3,8 @@
 ghost use Rattle.std.specs.Prelude.{◌≡◌, ◌≤◌, ◌++◌, ◌∷◌, [], IfOk, IfErr};
 ghost use Rattle.brc_words.specs.declared.fault.Fault.TheVariants.{OutOfMemory};
 ghost use Rattle.brc_words.specs.declared.limits.TheConstants.{MOST_ENTRIES};
-ghost use Rattle.brc_meaning.specs.Objects.{list_call, queue_call, dict_call, object_call, keyed_call, entries_in, number_in, text_in};
+ghost use Rattle.brc_meaning.specs.Objects.{list_call, queue_call, dict_call, object_call, keyed_call, entries_in};
+ghost use Rattle.brc_meaning.specs.Objects.{number_in, text_in};
 ghost use Rattle.brc_meaning.specs.Outcomes.{Goes};
 
 use crate::call::{Call, KeyedCall};

@@ -1,5 +1,6 @@
 -- What passes a test stands in the list.
-use Rattle.std.proofs.Common.{◌≡◌, ℕ, suc, zero, Bool, true, false, Option, Some, None, List, [], ◌∷◌, refl, ap, slice_get}
+use Rattle.std.proofs.Common.{◌≡◌, ℕ, suc, zero, Bool, true, false, Option, Some, None, List, [], ◌∷◌, refl, ap}
+use Rattle.std.proofs.Common.{slice_get}
 use Rattle.std.specs.Prelude.{◌==◌, ◌||◌}
 use Rattle.std.specs.List.{list_any, cons_option}
 use Rattle.std.proofs.lemmas.Bool.{or_left, or_right, eqb-true, eq-eqb}
@@ -24,7 +25,8 @@ Member-from_any p (x ∷ xs) e =
           record { item = m.item; passes = m.passes; stands = λ q k. or_right (q x) (list_any q xs) (m.stands q k) })
     ] refl
 
-pub list_any-implied : {X : Type 0} (p q : X → Bool) → ((x : X) → p x ≡ true → q x ≡ true) → (xs : List X) → list_any p xs ≡ true → list_any q xs ≡ true
+pub list_any-implied : {X : Type 0} (p q : X → Bool) → ((x : X) → p x ≡ true → q x ≡ true) → (xs : List X)
+    → list_any p xs ≡ true → list_any q xs ≡ true
 list_any-implied p q h xs e = let m = Member-from_any p xs e in m.stands q (h m.item m.passes)
 
 pub is_number-true : (o : Option ℕ) (n : ℕ) → is_number o n ≡ true → o ≡ Some n
@@ -39,8 +41,10 @@ pub entry_from_any : (facts : List Fact) (cell c : ℕ) → list_any (λ f. is_n
     → (i : ℕ) × (is_number (slice_get (entries_in facts cell) i) c ≡ true)
 entry_from_any [] cell c e = cc
 entry_from_any (x ∷ xs) cell c e =
-    elim (entry_in cell x) as (λ o. entry_in cell x ≡ o → (i : ℕ) × (is_number (slice_get (cons_option o (entries_in xs cell)) i) c ≡ true)) [
-      | None ↦ (λ h. let rest : list_any (λ f. is_number (entry_in cell f) c) xs ≡ true = rw h at e in entry_from_any xs cell c rest)
+    elim (entry_in cell x) as (λ o. entry_in cell x ≡ o
+    → (i : ℕ) × (is_number (slice_get (cons_option o (entries_in xs cell)) i) c ≡ true)) [
+      | None ↦ (λ h. let rest : list_any (λ f. is_number (entry_in cell f) c) xs ≡ true = rw h at e in
+          entry_from_any xs cell c rest)
       | Some y ↦ (λ h.
           elim (y == c) as (λ t. (y == c) ≡ t → (i : ℕ) × (is_number (slice_get (y ∷ entries_in xs cell) i) c ≡ true)) [
             | true ↦ (λ k. (0, k))
@@ -56,13 +60,15 @@ pub any_from_entry : (facts : List Fact) (cell c i : ℕ) → is_number (slice_g
 any_from_entry [] cell c i e = cc
 any_from_entry (x ∷ xs) cell c zero e =
     let rest = list_any (λ f. is_number (entry_in cell f) c) xs in
-    elim (entry_in cell x) as (λ o. is_number (slice_get (cons_option o (entries_in xs cell)) zero) c ≡ true → (is_number o c || rest) ≡ true) [
+    elim (entry_in cell x) as (λ o. is_number (slice_get (cons_option o (entries_in xs cell)) zero) c ≡ true
+    → (is_number o c || rest) ≡ true) [
       | None ↦ (λ h. any_from_entry xs cell c zero h)
       | Some y ↦ (λ h. or_left (y == c) rest h)
     ] e
 any_from_entry (x ∷ xs) cell c (suc i) e =
     let rest = list_any (λ f. is_number (entry_in cell f) c) xs in
-    elim (entry_in cell x) as (λ o. is_number (slice_get (cons_option o (entries_in xs cell)) (suc i)) c ≡ true → (is_number o c || rest) ≡ true) [
+    elim (entry_in cell x) as (λ o. is_number (slice_get (cons_option o (entries_in xs cell)) (suc i)) c ≡ true
+    → (is_number o c || rest) ≡ true) [
       | None ↦ (λ h. any_from_entry xs cell c (suc i) h)
       | Some y ↦ (λ h. or_right (y == c) rest (any_from_entry xs cell c i h))
     ] e

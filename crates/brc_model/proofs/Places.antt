@@ -9,7 +9,9 @@ use Rattle.brc_model.specs.Holders.{holder_code, same_code, same_holder}
 -- the holder that a code stands for
 abbrev holder_from : ℕ × ℕ × ℕ → Holder
 holder_from c =
-    cond (c.0 == 0) (Frame c.1 c.2) (cond (c.0 == 1) (Entry c.1 c.2) (cond (c.0 == 2) (Queue c.1 c.2) (cond (c.0 == 3) (Popped c.1 c.2) (Hand c.1 c.2))))
+    cond (c.0 == 0) (Frame c.1 c.2)
+    (cond (c.0 == 1) (Entry c.1 c.2)
+    (cond (c.0 == 2) (Queue c.1 c.2) (cond (c.0 == 3) (Popped c.1 c.2) (Hand c.1 c.2))))
 
 holder_from-code : (h : Holder) → holder_from (holder_code h) ≡ h
 holder_from-code (Frame thread place) = refl
@@ -34,4 +36,5 @@ same_holder-true g h e =
 pub same_holder-refl : (h : Holder) → same_holder h h ≡ true
 same_holder-refl h =
     let c = holder_code h in
-    and_from (c.0 == c.0 && c.1 == c.1) (c.2 == c.2) (and_from (c.0 == c.0) (c.1 == c.1) (eq-eqb c.0 c.0 refl) (eq-eqb c.1 c.1 refl)) (eq-eqb c.2 c.2 refl)
+    and_from (c.0 == c.0 && c.1 == c.1) (c.2 == c.2) (and_from (c.0 == c.0) (c.1 == c.1) (eq-eqb c.0 c.0 refl)
+    (eq-eqb c.1 c.1 refl)) (eq-eqb c.2 c.2 refl)

@@ -54,7 +54,8 @@ list_any-says_held_false facts c (Popped thread cell) live absent may = rw live 
 list_any-says_held_false facts c (Hand thread cell) live absent may = rw live at absent
 
 -- what has a holder lives
-pub has-live : (facts : List Fact) (c : ℕ) (h : Holder) → has (map_of facts) c h ≡ true → list_any (says_lives c) facts ≡ true
+pub has-live : (facts : List Fact) (c : ℕ) (h : Holder) → has (map_of facts) c h ≡ true
+    → list_any (says_lives c) facts ≡ true
 has-live facts c (Frame thread place) e = (and_parts (list_any (says_lives c) facts) _ e).0
 has-live facts c (Entry cell index) e = (and_parts (list_any (says_lives c) facts) _ e).0
 has-live facts c (Queue thread cell) e = (and_parts (list_any (says_lives c) facts) _ e).0
@@ -70,8 +71,10 @@ pub record MayHand (facts : List Fact) (x : Handover) : Type 0 where
 
 pub MayHand-from_test : (facts : List Fact) (x : Handover) → test_hand facts x ≡ true → MayHand facts x
 MayHand-from_test facts x e =
-    let p = and_parts (is_no_entry x.«from» && has (map_of facts) x.object x.«from» && not (has (map_of facts) x.object x.to)) (test_may_hold facts x.object x.to) e in
-    let q = and_parts (is_no_entry x.«from» && has (map_of facts) x.object x.«from») (not (has (map_of facts) x.object x.to)) p.0 in
+    let p = and_parts (is_no_entry x.«from» && has (map_of facts) x.object x.«from» && not
+    (has (map_of facts) x.object x.to)) (test_may_hold facts x.object x.to) e in
+    let q = and_parts (is_no_entry x.«from» && has (map_of facts) x.object x.«from»)
+    (not (has (map_of facts) x.object x.to)) p.0 in
     let r = and_parts (is_no_entry x.«from») (has (map_of facts) x.object x.«from») q.0 in
     record { outside = r.0; held = r.1; not_yet = not-true (has (map_of facts) x.object x.to) q.1; may = p.1 }
 

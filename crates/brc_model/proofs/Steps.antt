@@ -1,5 +1,6 @@
 -- What each change of the list of facts makes of the map.
-use Rattle.std.proofs.Common.{◌≡◌, ℕ, ◌∙◌, Bool, true, false, cond, None, List, [], ◌∷◌, ◌++◌, refl, ap, sym, arith, map}
+use Rattle.std.proofs.Common.{◌≡◌, ℕ, ◌∙◌, Bool, true, false, cond, None, List, [], ◌∷◌, ◌++◌, refl, ap, sym, arith}
+use Rattle.std.proofs.Common.{map}
 use Rattle.std.specs.Prelude.{◌==◌, ◌&&◌, ◌||◌, not, if◌then◌else◌}
 use Rattle.std.specs.List.{list_any, find, filter, filter_map}
 use Rattle.std.proofs.lemmas.List.Folds.{list_any-append}
@@ -17,7 +18,9 @@ use Rattle.brc_model.specs.Tests.{IsEntryAt}
 use Rattle.brc_model.specs.Edits.{is_about, begun, ended, without_hold, replaced}
 use Rattle.brc_model.proofs.Replacing.{says_held-true}
 use Rattle.brc_model.proofs.Entries.{entry_in_own}
-use Rattle.brc_model.proofs.Filtering.{list_any-filter, find-filter, filter_map-filter, filter_map-filter_none, find-append_left, find-append_right, and-false, or-false, or-comm, list_any-map_same, find-map_same, filter_map-map_same}
+use Rattle.brc_model.proofs.Filtering.{list_any-filter, find-filter, filter_map-filter, filter_map-filter_none}
+use Rattle.brc_model.proofs.Filtering.{find-append_left, find-append_right, and-false, or-false, or-comm}
+use Rattle.brc_model.proofs.Filtering.{list_any-map_same, find-map_same, filter_map-map_same}
 use Rattle.brc_model.proofs.Splicing.{splice, list_any-splice, find-splice, filter_map-splice_other, filter_map-splice}
 
 eq-comm : (a b : ℕ) → (a == b) ≡ (b == a)
@@ -55,7 +58,8 @@ keeps_lives c d h (Lives object kind) e = refl
 keeps_lives c d h (Holds object holder) e = cc
 keeps_lives c d h (Contains cell object) e = cc
 
-drops_held : (c d : ℕ) (h g : Holder) (f : Fact) → says_held d g f ≡ true → not (says_held c h f) ≡ not ((d == c) && same_holder g h)
+drops_held : (c d : ℕ) (h g : Holder) (f : Fact) → says_held d g f ≡ true
+    → not (says_held c h f) ≡ not ((d == c) && same_holder g h)
 drops_held c d h g f e = rw (says_held-true d g f e, eq-comm d c, same_holder-comm g h) refl
 
 -- a place that no fact says any more
@@ -65,7 +69,8 @@ Same-without_hold facts c h = record {
   live = λ d. list_any-filter (says_lives d) (λ f. not (says_held c h f)) true (keeps_lives c d h) facts;
   kind = λ d live. ap kind_said (find-filter (says_lives d) (λ f. not (says_held c h f)) (keeps_lives c d h) facts);
   entries = λ d. filter_map-filter (entry_in d) (λ f. not (says_held c h f)) (keeps_entries c d h) facts;
-  held = λ d g. list_any-filter (says_held d g) (λ f. not (says_held c h f)) (not ((d == c) && same_holder g h)) (drops_held c d h g) facts;
+  held = λ d g. list_any-filter (says_held d g) (λ f. not (says_held c h f)) (not ((d == c) && same_holder g h))
+      (drops_held c d h g) facts;
 }
 
 ends_lives : (c d : ℕ) (f : Fact) → says_lives d f ≡ true → not (says_lives c f) ≡ not (d == c)
@@ -91,9 +96,11 @@ not-and false l = refl
 pub Same-ended : (facts : List Fact) (c : ℕ)
     → Same (map_of (ended facts c)) (record (map_of facts) { live = put (map_of facts).live c false })
 Same-ended facts c = record {
-  live = λ d. list_any-filter (says_lives d) (λ f. not (says_lives c f)) (not (d == c)) (ends_lives c d) facts ∙ not-and (d == c) (list_any (says_lives d) facts);
+  live = λ d. list_any-filter (says_lives d) (λ f. not (says_lives c f)) (not (d == c)) (ends_lives c d) facts
+      ∙ not-and (d == c) (list_any (says_lives d) facts);
   kind = λ d live.
-      let other = and_parts (not (d == c)) (list_any (says_lives d) facts) (sym (list_any-filter (says_lives d) (λ f. not (says_lives c f)) (not (d == c)) (ends_lives c d) facts) ∙ live) in
+      let other = and_parts (not (d == c)) (list_any (says_lives d) facts)
+      (sym (list_any-filter (says_lives d) (λ f. not (says_lives c f)) (not (d == c)) (ends_lives c d) facts) ∙ live) in
       ap kind_said (find-filter (says_lives d) (λ f. not (says_lives c f)) (λ f e. ends_lives c d f e ∙ other.0) facts);
   entries = λ d. filter_map-filter (entry_in d) (λ f. not (says_lives c f)) (ends_no_entry c d) facts;
   held = λ d g. list_any-filter (says_held d g) (λ f. not (says_lives c f)) true (ends_no_held c d g) facts;
@@ -130,21 +137,30 @@ pub Same-begun : (facts : List Fact) (c : ℕ) (k : Kind) (h : Holder)
 Same-begun facts c k h =
     let old = filter (λ f. not (is_about c f)) facts in
     let new = Lives c k ∷ Holds c h ∷ [] in
-    let lives = λ (d : ℕ). list_any-filter (says_lives d) (λ f. not (is_about c f)) (not (d == c)) (begins_lives c d) facts in
+    let lives = λ (d : ℕ). list_any-filter (says_lives d) (λ f. not (is_about c f)) (not (d == c))
+    (begins_lives c d) facts in
     record {
       live = λ d. list_any-append (says_lives d) old new ∙ ap (λ t. t || list_any (says_lives d) new) (lives d)
           ∙ live_bool (d == c) (list_any (says_lives d) facts);
       kind = λ d live.
-          elim (d == c) as (λ t. (d == c) ≡ t → kind_said (find (says_lives d) (old ++ new)) ≡ (if t then k else kind_said (find (says_lives d) facts))) [
-            | true ↦ (λ e. rw (find-append_right (says_lives d) old new (lives d ∙ ap (λ t. not t && list_any (says_lives d) facts) e), e) refl)
-            | false ↦ (λ e. rw (find-append_left (says_lives d) old new (rw e refl)) (ap kind_said (find-filter (says_lives d) (λ f. not (is_about c f)) (λ f s. begins_lives c d f s ∙ ap not e) facts)))
+          elim (d == c) as (λ t. (d == c) ≡ t → kind_said (find (says_lives d) (old ++ new))
+          ≡ (if t then k else kind_said (find (says_lives d) facts))) [
+            | true ↦ (λ e. rw (
+              find-append_right (says_lives d) old new
+                  (lives d ∙ ap (λ t. not t && list_any (says_lives d) facts) e),
+              e,
+            ) refl)
+            | false ↦ (λ e. rw (find-append_left (says_lives d) old new (rw e refl))
+                (ap kind_said (find-filter (says_lives d) (λ f. not (is_about c f)) (λ f s. begins_lives c d f s
+                ∙ ap not e) facts)))
           ] refl;
       entries = λ d. filter_map-append (entry_in d) old new ∙ append-nil (filter_map (entry_in d) old)
           ∙ by_cell c d (λ t. filter_map (entry_in d) old ≡ (if t then [] else entries_in facts d))
           (λ e. rw e (filter_map-filter_none (entry_in c) (λ f. not (is_about c f)) (begins_entry c) facts))
           (λ e. filter_map-filter (entry_in d) (λ f. not (is_about c f)) (begins_other c d e) facts);
       held = λ d g. list_any-append (says_held d g) old new
-          ∙ ap (λ t. t || list_any (says_held d g) new) (list_any-filter (says_held d g) (λ f. not (is_about c f)) (not (d == c)) (begins_held c d g) facts)
+          ∙ ap (λ t. t || list_any (says_held d g) new) (list_any-filter (says_held d g) (λ f. not (is_about c f))
+          (not (d == c)) (begins_held c d g) facts)
           ∙ held_bool (d == c) (same_holder g h) (λ q. list_any (says_held d q) facts) g;
     }
   where
@@ -165,11 +181,17 @@ pub Same-spliced : (facts : List Fact) (c i place : ℕ) (ys : List Fact) (there
       held = λ d g. list_any (says_held d g) ys || list_any (says_held d g) facts;
     })
 Same-spliced facts c i place ys there lifeless own = record {
-  live = λ d. list_any-splice (says_lives d) facts place ys (Contains c there.object) there.stands refl ∙ ap (λ t. t || list_any (says_lives d) facts) (lifeless d);
-  kind = λ d live. ap kind_said (find-splice (says_lives d) facts place ys (Contains c there.object) there.stands refl (lifeless d));
-  entries = λ d. by_cell c d (λ t. entries_in (splice facts place ys) d ≡ (if t then splice (entries_in facts c) i (entries_in ys c) else entries_in facts d))
-      (λ e. rw (e, ← there.before) (filter_map-splice (entry_in c) facts place ys (Contains c there.object) there.object there.stands (entry_in_own c there.object)))
-      (λ e. filter_map-splice_other (entry_in d) facts place ys (Contains c there.object) there.stands (rw e refl) (own d e));
+  live = λ d. list_any-splice (says_lives d) facts place ys (Contains c there.object) there.stands refl
+      ∙ ap (λ t. t || list_any (says_lives d) facts) (lifeless d);
+  kind = λ d live. ap kind_said (find-splice (says_lives d) facts place ys (Contains c there.object) there.stands refl
+      (lifeless d));
+  entries = λ d. by_cell c d
+      (λ t. entries_in (splice facts place ys) d
+      ≡ (if t then splice (entries_in facts c) i (entries_in ys c) else entries_in facts d))
+      (λ e. rw (e, ← there.before) (filter_map-splice (entry_in c) facts place ys (Contains c there.object) there.object
+      there.stands (entry_in_own c there.object)))
+      (λ e. filter_map-splice_other (entry_in d) facts place ys (Contains c there.object) there.stands (rw e refl)
+      (own d e));
   held = λ d g. list_any-splice (says_held d g) facts place ys (Contains c there.object) there.stands refl;
 }
 
@@ -188,17 +210,21 @@ bool_replace false true true false false l h = refl
 bool_replace false true false n false l h = refl
 bool_replace false false a n b l h = refl
 
-says_one : (c d : ℕ) (g h : Holder) (f : Fact) → says_held d g f ≡ true → says_held c h f ≡ ((d == c) && same_holder g h)
+says_one : (c d : ℕ) (g h : Holder) (f : Fact) → says_held d g f ≡ true
+    → says_held c h f ≡ ((d == c) && same_holder g h)
 says_one c d g h f e = rw (says_held-true d g f e, eq-comm d c, same_holder-comm g h) refl
 
 list_any-replaced : (facts : List Fact) (c : ℕ) (g h : Holder) (d : ℕ) (q : Holder)
     → list_any (says_held d q) (map (replaced c g h) facts)
-    ≡ ((list_any (says_held c g) facts && says_held d q (Holds c h)) || (not ((d == c) && same_holder q g) && list_any (says_held d q) facts))
+    ≡ ((list_any (says_held c g) facts && says_held d q (Holds c h)) ||
+    (not ((d == c) && same_holder q g) && list_any (says_held d q) facts))
 list_any-replaced [] c g h d q = sym (and-false (not ((d == c) && same_holder q g)))
 list_any-replaced (f ∷ fs) c g h d q =
     rw (list_any-replaced fs c g h d q)
-    (ap (λ t. t || ((list_any (says_held c g) fs && says_held d q (Holds c h)) || (not ((d == c) && same_holder q g) && list_any (says_held d q) fs))) (through (says_held c g f))
-    ∙ bool_replace (says_held c g f) (says_held d q f) (list_any (says_held c g) fs) (says_held d q (Holds c h)) ((d == c) && same_holder q g) (list_any (says_held d q) fs) (says_one c d q g f))
+    (ap (λ t. t || ((list_any (says_held c g) fs && says_held d q (Holds c h)) ||
+    (not ((d == c) && same_holder q g) && list_any (says_held d q) fs))) (through (says_held c g f))
+    ∙ bool_replace (says_held c g f) (says_held d q f) (list_any (says_held c g) fs) (says_held d q (Holds c h))
+    ((d == c) && same_holder q g) (list_any (says_held d q) fs) (says_one c d q g f))
   where
     through : (t : Bool) → says_held d q (cond t (Holds c h) f) ≡ cond t (says_held d q (Holds c h)) (says_held d q f)
     through true = refl
@@ -207,7 +233,8 @@ list_any-replaced (f ∷ fs) c g h d q =
 replaced_lives : (c d : ℕ) (g h : Holder) (f : Fact) → says_lives d (replaced c g h f) ≡ says_lives d f
 replaced_lives c d g h (Lives object kind) = refl
 replaced_lives c d g h (Holds object holder) =
-    elim (says_held c g (Holds object holder)) as (λ t. says_lives d (cond t (Holds c h) (Holds object holder)) ≡ false) [ true ↦ refl | false ↦ refl ]
+    elim (says_held c g (Holds object holder)) as (λ t. says_lives d (cond t (Holds c h) (Holds object holder)) ≡ false)
+    [ true ↦ refl | false ↦ refl ]
 replaced_lives c d g h (Contains cell object) = refl
 
 replaced_life : (c d : ℕ) (g h : Holder) (f : Fact) → says_lives d f ≡ true → replaced c g h f ≡ f
@@ -218,16 +245,20 @@ replaced_life c d g h (Contains cell object) e = cc
 replaced_entry : (c d : ℕ) (g h : Holder) (f : Fact) → entry_in d (replaced c g h f) ≡ entry_in d f
 replaced_entry c d g h (Lives object kind) = refl
 replaced_entry c d g h (Holds object holder) =
-    elim (says_held c g (Holds object holder)) as (λ t. entry_in d (cond t (Holds c h) (Holds object holder)) ≡ None) [ true ↦ refl | false ↦ refl ]
+    elim (says_held c g (Holds object holder)) as (λ t. entry_in d (cond t (Holds c h) (Holds object holder)) ≡ None)
+    [ true ↦ refl | false ↦ refl ]
 replaced_entry c d g h (Contains cell object) = refl
 
 -- one holder of an object in place of another that it has
 pub Same-replaced : (facts : List Fact) (c : ℕ) (g h : Holder) → list_any (says_held c g) facts ≡ true
-    → Same (map_of (map (replaced c g h) facts)) (record (map_of facts) { held = with_holder (without_holder (map_of facts).held c g) c h })
+    → Same (map_of (map (replaced c g h) facts))
+    (record (map_of facts) { held = with_holder (without_holder (map_of facts).held c g) c h })
 Same-replaced facts c g h held = record {
   live = λ d. list_any-map_same (says_lives d) (replaced c g h) (replaced_lives c d g h) facts;
-  kind = λ d live. ap kind_said (find-map_same (says_lives d) (replaced c g h) (replaced_lives c d g h) (replaced_life c d g h) facts);
+  kind = λ d live. ap kind_said (find-map_same (says_lives d) (replaced c g h) (replaced_lives c d g h)
+      (replaced_life c d g h) facts);
   entries = λ d. filter_map-map_same (entry_in d) (replaced c g h) (replaced_entry c d g h) facts;
   held = λ d q. list_any-replaced facts c g h d q
-      ∙ ap (λ t. (t && says_held d q (Holds c h)) || (not ((d == c) && same_holder q g) && list_any (says_held d q) facts)) held;
+      ∙ ap (λ t. (t && says_held d q (Holds c h)) ||
+      (not ((d == c) && same_holder q g) && list_any (says_held d q) facts)) held;
 }

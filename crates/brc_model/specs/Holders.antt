@@ -1,7 +1,9 @@
 -- The holder map: which places hold which objects, and when a reference may move.
 -- This is the plain meaning of "reference" in PEP 703 and in Choi, Shull and Torrellas, "Biased Reference Counting":
 -- sets of holders, with no count, owner, state or order of queues.
-use Rattle.std.specs.Prelude.{◌≡◌, ◌≢◌, ℕ, ◌+◌, ◌<◌, ◌≤◌, ◌==◌, nat_lt, ◌&&◌, ◌||◌, not, Bool, true, false, if◌then◌else◌, List, [], ◌∷◌, ◌++◌, length, take, Option, Some, None, slice_get, slice_set, remove, ◌⊎◌}
+use Rattle.std.specs.Prelude.{◌≡◌, ◌≢◌, ℕ, ◌+◌, ◌<◌, ◌≤◌, ◌==◌, nat_lt, ◌&&◌, ◌||◌, not, Bool, true, false}
+use Rattle.std.specs.Prelude.{if◌then◌else◌, List, [], ◌∷◌, ◌++◌, length, take, Option, Some, None, slice_get}
+use Rattle.std.specs.Prelude.{slice_set, remove, ◌⊎◌}
 use Rattle.brc_words.specs.declared.limits.TheConstants.{FIRST_MORTAL, GLOBALS}
 use Rattle.brc_words.specs.declared.kind.Kind.{Kind}
 use Rattle.brc_words.specs.Kinds.{is_mortal, is_container}
@@ -193,7 +195,8 @@ Occupies m c thread place = FIRST_MORTAL ≤ c → has m c (Frame thread place) 
 abbrev pub FitsIn : Map → Exchange → ℕ → Type 0
 FitsIn m (Put place cell) thread = Occupies m cell thread place
 FitsIn m (Take index place cell) thread = IsVacant m thread place
-FitsIn m (Swap index place cell old) thread = Occupies m cell thread place × (cell < FIRST_MORTAL → IsVacant m thread place)
+FitsIn m (Swap index place cell old) thread = Occupies m cell thread place × (cell < FIRST_MORTAL
+    → IsVacant m thread place)
 
 -- the place that the change uses
 abbrev pub place_used : Exchange → ℕ

@@ -1,6 +1,7 @@
 -- The tests of the program, which decide from a list of facts what the map allows.
 -- That they decide just that is proved in `proofs/Deciding.antt`.
-use Rattle.std.specs.Prelude.{◌≡◌, ℕ, ◌+◌, ◌==◌, nat_le, nat_lt, ◌&&◌, ◌||◌, not, Bool, true, false, List, length, take, Some, slice_get, is_none}
+use Rattle.std.specs.Prelude.{◌≡◌, ℕ, ◌+◌, ◌==◌, nat_le, nat_lt, ◌&&◌, ◌||◌, not, Bool, true, false, List, length, take}
+use Rattle.std.specs.Prelude.{Some, slice_get, is_none}
 use Rattle.std.specs.List.{list_any}
 use Rattle.brc_words.specs.declared.kind.Kind.{Kind}
 use Rattle.brc_words.specs.Kinds.{is_mortal, is_container}

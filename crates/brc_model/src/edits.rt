@@ -6,7 +6,8 @@ ghost use Rattle.std.specs.Bool.{OnTrue, OnFalse};
 ghost use Rattle.std.specs.List.{filter};
 ghost use Rattle.brc_model.specs.declared.fact.Fact.TheVariants.{Holds};
 ghost use Rattle.brc_model.specs.Facts.{says_held, says_lives};
-ghost use Rattle.brc_model.specs.Edits.{begun, ended, without_hold, replaced, handed_fact, is_about, test_hand, test_hand_all, hand_all};
+ghost use Rattle.brc_model.specs.Edits.{begun, ended, without_hold, replaced, handed_fact, is_about, test_hand};
+ghost use Rattle.brc_model.specs.Edits.{test_hand_all, hand_all};
 
 use crate::fact::{Fact, is_hold, is_life, is_outside};
 use crate::holder::Holder;

@@ -6,7 +6,8 @@ ghost use Rattle.brc_model.specs.declared.moves.Exchange.TheVariants as exchange
 ghost use Rattle.brc_model.specs.Holders.{Same, exchanged, place_used, let_go};
 ghost use Rattle.brc_words.specs.declared.limits.TheConstants.{FIRST_MORTAL};
 ghost use Rattle.brc_model.specs.Facts.{map_of};
-ghost use Rattle.brc_model.specs.Tests.{test_occupies, test_vacant, test_container, test_entry, test_fits, test_change, test_remove};
+ghost use Rattle.brc_model.specs.Tests.{test_occupies, test_vacant, test_container, test_entry, test_fits, test_change};
+ghost use Rattle.brc_model.specs.Tests.{test_remove};
 ghost use Rattle.brc_model.specs.Edits.{left, come};
 ghost use Rattle.brc_model.specs.World.{grows};
 
@@ -62,7 +63,8 @@ fn leaves_free(facts: &[Fact], cell: u32, thread: u32, at: u32) -> bool
 }
 
 fn swap_fits(facts: &[Fact], cell: u32, thread: u32, at: u32) -> bool
-    ensures { result ≡ (test_occupies facts.now cell thread at && (nat_le FIRST_MORTAL cell || test_vacant facts.now thread at)) }
+    ensures { result ≡ (test_occupies facts.now cell thread at &&
+        (nat_le FIRST_MORTAL cell || test_vacant facts.now thread at)) }
 {
     occupies(facts, cell, thread, at) && leaves_free(facts, cell, thread, at)
 }
@@ -160,7 +162,8 @@ fn take<A: Allocator>(
     cell: u32,
 )
     requires { test_entry facts.old.items container (exchange.Take index to cell) ≡ true }
-    ensures { Same (map_of facts.new.items) (exchanged (map_of facts.old.items) container thread (exchange.Take index to cell)) }
+    ensures { Same (map_of facts.new.items)
+        (exchanged (map_of facts.old.items) container thread (exchange.Take index to cell)) }
 {
     if let Some(place) = entry_place(facts, container, index as usize) {
         if cell < FIRST_MORTAL {
@@ -185,7 +188,8 @@ fn swap<A: Allocator>(
 ) -> Result<(), AllocError>
     requires { test_entry facts.old.items container (exchange.Swap index at cell old) ≡ true }
     ensures swapped { OnOk result
-        (Same (map_of facts.new.items) (exchanged (map_of facts.old.items) container thread (exchange.Swap index at cell old))) }
+        (Same (map_of facts.new.items)
+        (exchanged (map_of facts.old.items) container thread (exchange.Swap index at cell old))) }
     ensures unchanged { OnErr result (facts.new.items ≡ facts.old.items) }
 {
     facts.reserve(1)?;

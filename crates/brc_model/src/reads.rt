@@ -1,10 +1,12 @@
 //! What a list of facts says, and which moves it allows.
 
-ghost use Rattle.std.specs.Prelude.{◌≡◌, ℕ, ◌+◌, ◌<◌, ◌≤◌, length, take, slice_get, slice_index, IfSome, IfNone, Some, is_none};
+ghost use Rattle.std.specs.Prelude.{◌≡◌, ℕ, ◌+◌, ◌<◌, ◌≤◌, length, take, slice_get, slice_index, IfSome, IfNone, Some};
+ghost use Rattle.std.specs.Prelude.{is_none};
 ghost use Rattle.std.specs.List.{list_any, find};
 ghost use Rattle.brc_model.specs.Holders.{has};
 ghost use Rattle.brc_model.specs.Facts.{says_lives, says_held, entries_in, entry_in, map_of};
-ghost use Rattle.brc_model.specs.Tests.{test_held, test_vacant, test_may_hold, test_born, test_add, test_remove, test_last, test_dies, fills, names, IsEntryAt};
+ghost use Rattle.brc_model.specs.Tests.{test_held, test_vacant, test_may_hold, test_born, test_add, test_remove};
+ghost use Rattle.brc_model.specs.Tests.{test_last, test_dies, fills, names, IsEntryAt};
 
 use crate::fact::{Fact, entry_of, is_hold, is_life, is_name, is_same};
 use crate::holder::Holder;

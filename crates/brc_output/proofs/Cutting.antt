@@ -1,5 +1,6 @@
 -- The first line of a text, up to its line feed or to the end.
-use Rattle.std.proofs.Common.{◌≡◌, ◌∙◌, ℕ, suc, ◌+◌, ◌<◌, true, false, eqb, List, [], ◌∷◌, ◌++◌, length, get_or, take, drop, sym, ap, subst, refl, add-one, arith}
+use Rattle.std.proofs.Common.{◌≡◌, ◌∙◌, ℕ, suc, ◌+◌, ◌<◌, true, false, eqb, List, [], ◌∷◌, ◌++◌, length, get_or, take}
+use Rattle.std.proofs.Common.{drop, sym, ap, subst, refl, add-one, arith}
 use Rattle.std.proofs.lemmas.List.{take-append-drop}
 use Rattle.std.proofs.Math.Seq.{drop-cons, take-suc}
 use Rattle.brc_text.specs.Lines.{lacks, pieces}
@@ -17,10 +18,12 @@ ended_line text at within is front =
     ap pieces whole ∙ pieces_line (take at text) (drop (at + 1) text) front
 
 -- no line feed so far, and none here
-pub goes_past : (text : List ℕ) (at : ℕ) → at < length text → eqb (get_or text at 0) 10 ≡ false → lacks 10 (take at text) ≡ true
+pub goes_past : (text : List ℕ) (at : ℕ) → at < length text → eqb (get_or text at 0) 10 ≡ false
+    → lacks 10 (take at text) ≡ true
     → lacks 10 (take (at + 1) text) ≡ true
 goes_past text at within is_not front =
-    let next : take (at + 1) text ≡ take at text ++ (get_or text at 0 ∷ []) = ap (λ (n : ℕ). take n text) (add-one at) ∙ take-suc text at 0 within in
+    let next : take (at + 1) text ≡ take at text ++ (get_or text at 0 ∷ []) = ap (λ (n : ℕ). take n text) (add-one at)
+    ∙ take-suc text at 0 within in
     subst (λ (l : List ℕ). lacks 10 l ≡ true) (sym next)
     (lacks-append 10 (take at text) (get_or text at 0 ∷ []) front (rw is_not refl))
 

@@ -1,4 +1,5 @@
-//! What is shown of the sections of a script: the lines that each printed, behind its name, and the fault that ended it.
+//! What is shown of the sections of a script: the lines that each printed, behind its name, and the fault that ended
+//! it.
 //!
 //! `specs/Sections.antt` is that text, and `specs/Names.antt` the name of a fault by its number, which is all that the
 //! end of a section keeps of it.

@@ -1,5 +1,6 @@
 -- The pairs of a dictionary: where a key stands, what stands beside it, and that no key stands twice.
-use Rattle.std.proofs.Common.{◌≡◌, ◌<◌, ◌≤◌, ◌+◌, ◌++◌, ℕ, zero, suc, List, [], ◌∷◌, true, false, if◌then◌else◌, Some, None, Ok, Err, refl, subst, sym, ◌∙◌, ap, arith, length, get_or, set}
+use Rattle.std.proofs.Common.{◌≡◌, ◌<◌, ◌≤◌, ◌+◌, ◌++◌, ℕ, zero, suc, List, [], ◌∷◌, true, false, if◌then◌else◌, Some}
+use Rattle.std.proofs.Common.{None, Ok, Err, refl, subst, sym, ◌∙◌, ap, arith, length, get_or, set}
 use Rattle.std.specs.List.{position, position_from, remove}
 use Rattle.std.proofs.lemmas.List.Quantifiers.{position-Some}
 use Rattle.std.proofs.lemmas.Iterator.Adapters.{position_from-zero}
@@ -29,8 +30,11 @@ module _ {A E : Type 0} where
       → ((k : ℕ) → k < place → same_key (get_or pairs k d).0 key ≡ false) → Stands key pairs place
   stands_at_first key [] place d within here before = absurd (omega arith)
   stands_at_first key (pair ∷ pairs) zero d within here before = here
-  stands_at_first key (pair ∷ pairs) (suc place) d within here before =
-      (before 0 (omega arith), stands_at_first key pairs place d (omega arith) here (λ k below. before (suc k) (omega arith)))
+  stands_at_first key (pair ∷ pairs) (suc place) d within here before = (
+    before 0 (omega arith),
+    stands_at_first key pairs place d (omega arith) here
+        (λ k below. before (suc k) (omega arith)),
+  )
 
   -- nothing stands beside a key that is found nowhere
   pub none_from : (key : Key A) (pairs : List (Key A × E)) (i : ℕ)
@@ -122,8 +126,10 @@ module _ {A E : Type 0} where
       → HasDistinctKeys pairs → HasDistinctKeys (pairs ++ (key, value) ∷ [])
   distinct_more key value [] absent h = (refl, tt)
   distinct_more key value (pair ∷ pairs) absent h =
-      let split : (same_key pair.0 key ≡ false) × (value_at key pairs ≡ None) = none_apart key pair pairs absent in
-      (none_more pair.0 key value pairs (apart_turned pair.0 key split.0) h.0, distinct_more key value pairs split.1 h.1)
+      let split : (same_key pair.0 key ≡ false) × (value_at key pairs ≡ None) = none_apart key pair pairs absent in (
+        none_more pair.0 key value pairs (apart_turned pair.0 key split.0) h.0,
+        distinct_more key value pairs split.1 h.1,
+      )
 
   -- what the calls come to where the key stands at a place, and where it stands at none
   pub put_there : (key : Key A) (value : E) (pairs new : List (Key A × E)) (place : ℕ) (d : Key A × E) (old : E)

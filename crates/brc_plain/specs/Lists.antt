@@ -1,5 +1,6 @@
 -- The calls of a list: what each answers, and the list after it.
-use Rattle.std.specs.Prelude.{ℕ, ◌++◌, ◌-◌, List, [], ◌∷◌, length, take, nat_lt, if◌then◌else◌, Result, Ok, Err, slice_get, slice_set, remove}
+use Rattle.std.specs.Prelude.{ℕ, ◌++◌, ◌-◌, List, [], ◌∷◌, length, take, nat_lt, if◌then◌else◌, Result, Ok, Err}
+use Rattle.std.specs.Prelude.{slice_get, slice_set, remove}
 use Rattle.brc_words.specs.declared.fault.Fault.{Fault}
 use Rattle.brc_words.specs.declared.fault.Fault.TheVariants as faults
 use Rattle.brc_words.specs.declared.limits.TheConstants.{MOST_ENTRIES}

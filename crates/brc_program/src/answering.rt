@@ -54,7 +54,8 @@ pub fn refuse<E: Write>(errors: &mut E, fault: Fault) -> u8
     refuse_with_why(errors, &unexplained(fault))
 }
 
-/// Tells of a fault, and of why it came where that is known, and answers its status. The first write that fails is the last.
+/// Tells of a fault, and of why it came where that is known, and answers its status. The first write that fails is the
+/// last.
 fn refuse_with_why<E: Write>(errors: &mut E, failed: &Unreplayed) -> u8
     ensures { result ≤ 5 }
 {

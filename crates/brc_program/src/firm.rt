@@ -5,8 +5,8 @@ ghost use Rattle.std.specs.Prelude.{◌≡◌, Ok, IfOk};
 use std::io;
 use std::io::{Error, ErrorKind, Write};
 
-/// Writes what it is given to the other, whose interrupted writes fail as all others that fail do: by itself an error line would be
-/// tried again after one, and again after the next.
+/// Writes what it is given to the other, whose interrupted writes fail as all others that fail do: by itself an error
+/// line would be tried again after one, and again after the next.
 #[derive(Drop)]
 pub(crate) struct Firm<'a, W> {
     /// Where it is written to.

@@ -1,5 +1,5 @@
-//! The merge queues: references go into queue words and their bits are popped, notify words say which queue words to look at,
-//! and a popped object's local count joins its shared one.
+//! The merge queues: references go into queue words and their bits are popped, notify words say which queue words to
+//! look at, and a popped object's local count joins its shared one.
 
 ghost use Rattle.std.specs.Prelude.{◌+◌, ◌*◌, ◌%◌, ◌^◌, ◌≡◌, ◌<◌, ◌∷◌, Some};
 ghost use Rattle.law_world.specs.Heap.{words_for};
@@ -39,7 +39,8 @@ pub fn enqueue<A: Allocator>(
     requires enqueues { Enqueues table.now.cells seat.old.log cell owner }
     ensures told { PutIn cell result seat.old.log seat.new.log }
     ensures seat { Stays seat.old seat.new }
-    ensures knows { Knows table.now.cells seat.new.log (handing (hand_left cell result) (known_seen table.now.cells seat.old.log)) }
+    ensures knows { Knows table.now.cells seat.new.log
+        (handing (hand_left cell result) (known_seen table.now.cells seat.old.log)) }
     ensures keeps { Keeps table.now.cells seat.old.log seat.new.log }
 {
     let found = table.enqueue(seat, cell, owner);
@@ -70,13 +71,15 @@ pub fn close_word<A: Allocator>(table: &HeapTable<A>, seat: &mut ThreadSeat<A>, 
     requires allowed { Allowed table.now.cells seat.old.log (steps.Close word) }
     ensures told { seat.new.log ≡ told.Did (steps.Close word) result moves.Nothing ∷ seat.old.log }
     ensures seat { Stays seat.old seat.new }
-    ensures knows { Knows table.now.cells seat.new.log (closing table.now.cells word (popping word result (known_seen table.now.cells seat.old.log))) }
+    ensures knows { Knows table.now.cells seat.new.log
+        (closing table.now.cells word (popping word result (known_seen table.now.cells seat.old.log))) }
     ensures keeps { Keeps table.now.cells seat.old.log seat.new.log }
 {
     table.close(seat, word)
 }
 
-/// The local count, as it was looked at, joins the shared one; answers the shared word that was found. Its item is told the sum.
+/// The local count, as it was looked at, joins the shared one; answers the shared word that was found. Its item is told
+/// the sum.
 pub fn merge_add<A: Allocator>(
     table: &HeapTable<A>,
     seat: &mut ThreadSeat<A>,
@@ -86,16 +89,20 @@ pub fn merge_add<A: Allocator>(
     requires table { seat.old.table ≡ table.now.table }
     requires inside { cell < table.now.cells }
     requires adds { AddsLocal table.now.cells seat.old.log cell local }
-    ensures told { seat.new.log ≡ told.Did (steps.MergeAdd cell) ((result + (local * 4 + 1)) % 2 ^ 64) moves.Nothing ∷ seat.old.log }
+    ensures told { seat.new.log ≡ told.Did (steps.MergeAdd cell) ((result + (local * 4 + 1)) % 2 ^ 64) moves.Nothing
+        ∷ seat.old.log }
     ensures seat { Stays seat.old seat.new }
-    ensures knows { Knows table.now.cells seat.new.log (handing (added_hand cell (part_seen table.now.cells seat.old.log).row.hand) (known_seen table.now.cells seat.old.log)) }
+    ensures knows { Knows table.now.cells seat.new.log
+        (handing (added_hand cell (part_seen table.now.cells seat.old.log).row.hand)
+        (known_seen table.now.cells seat.old.log)) }
     ensures keeps { Keeps table.now.cells seat.old.log seat.new.log }
     ensures newest { newest_step seat.new.log ≡ Some (steps.MergeAdd cell) }
 {
     table.merge_add(seat, cell, local)
 }
 
-/// Tells a thread that this one of its queue words has something, and answers what it was told before and hasn't taken yet.
+/// Tells a thread that this one of its queue words has something, and answers what it was told before and hasn't taken
+/// yet.
 pub fn nudge<A: Allocator>(
     table: &HeapTable<A>,
     seat: &mut ThreadSeat<A>,

@@ -1,5 +1,6 @@
 -- Cells among cells.
-use Rattle.std.proofs.Common.{◌≡◌, ◌<◌, ◌≤◌, ◌+◌, ◌++◌, ◌⊎◌, inl, inr, ℕ, zero, suc, List, [], ◌∷◌, true, false, ◌||◌, refl, arith, length, drop, slice_index}
+use Rattle.std.proofs.Common.{◌≡◌, ◌<◌, ◌≤◌, ◌+◌, ◌++◌, ◌⊎◌, inl, inr, ℕ, zero, suc, List, [], ◌∷◌, true, false, ◌||◌}
+use Rattle.std.proofs.Common.{refl, arith, length, drop, slice_index}
 use Rattle.brc_report.specs.Holding.{has}
 use Rattle.brc_report.specs.Walking.{times}
 

@@ -1,5 +1,8 @@
 -- What a search for cycles comes to know by one walk more.
-use Rattle.std.proofs.Common.{◌≡◌, ◌≢◌, ◌<◌, ◌≤◌, ◌+◌, ◌-◌, ◌++◌, ◌⊎◌, inl, inr, ℕ, zero, suc, List, [], ◌∷◌, Bool, true, false, ◌||◌, ◌==◌, if◌then◌else◌, Option, Some, None, is_some, Result, Ok, Err, OnOk, refl, sym, ◌∙◌, ap, subst, arith, length, take, drop, slice_index, take-append-drop, get_or, drop-cons, add-one, append_assoc, length-drop}
+use Rattle.std.proofs.Common.{◌≡◌, ◌≢◌, ◌<◌, ◌≤◌, ◌+◌, ◌-◌, ◌++◌, ◌⊎◌, inl, inr, ℕ, zero, suc, List, [], ◌∷◌, Bool}
+use Rattle.std.proofs.Common.{true, false, ◌||◌, ◌==◌, if◌then◌else◌, Option, Some, None, is_some, Result, Ok, Err}
+use Rattle.std.proofs.Common.{OnOk, refl, sym, ◌∙◌, ap, subst, arith, length, take, drop, slice_index, take-append-drop}
+use Rattle.std.proofs.Common.{get_or, drop-cons, add-one, append_assoc, length-drop}
 use Rattle.std.proofs.lemmas.List.{take_all}
 use Rattle.std.specs.List.{position, position_from}
 use Rattle.std.proofs.lemmas.List.Quantifiers.{position-Some}
@@ -8,16 +11,21 @@ use Rattle.brc_report.specs.declared.content.Remain.{Remain}
 use Rattle.brc_report.specs.Holding.{has}
 use Rattle.brc_report.specs.Cycles.{Walk, IsCycle, CycleAt, CyclesAt, in_front, holder_in}
 use Rattle.brc_report.specs.Walking.{times, unseen, Walking, Walked, IsSettled, IsKnown, IsTurned, IsKept}
-use Rattle.brc_report.proofs.Membership.{is_first_or_later, has_first, has_later, has_both, has_turned, uncounted, count_both, stands_at, drop_begins, drop_has, drop_times, times_later}
+use Rattle.brc_report.proofs.Membership.{is_first_or_later, has_first, has_later, has_both, has_turned, uncounted}
+use Rattle.brc_report.proofs.Membership.{count_both, stands_at, drop_begins, drop_has, drop_times, times_later}
 use Rattle.std.proofs.lemmas.Bool.{eqb-true, eq-eqb, ne_eqb}
-use Rattle.brc_report.proofs.Walks.{walk_on, walk_joined, walk_cut, walk_from, walk_after, walk_stays, walk_next, closed_stays, cycle_reached, cycle_begins_there}
+use Rattle.brc_report.proofs.Walks.{walk_on, walk_joined, walk_cut, walk_from, walk_after, walk_stays, walk_next}
+use Rattle.brc_report.proofs.Walks.{closed_stays, cycle_reached, cycle_begins_there}
 
 bool_cases : (b : Bool) → (b ≡ true) ⊎ (b ≡ false)
 bool_cases true = inl refl
 bool_cases false = inr refl
 
 num_cases : (m n : ℕ) → (m ≡ n) ⊎ (m ≢ n)
-num_cases m n = elim (bool_cases (m == n)) [ inl h ↦ inl (eqb-true m n h) | inr h ↦ inr (λ e. let w : true ≡ false = sym (eq-eqb m n e) ∙ h in absurd (cc)) ]
+num_cases m n = elim (bool_cases (m == n)) [
+  | inl h ↦ inl (eqb-true m n h)
+  | inr h ↦ inr (λ e. let w : true ≡ false = sym (eq-eqb m n e) ∙ h in absurd (cc))
+]
 
 if_same : {X : Type 0} (m : ℕ) (x y : X) → (if m == m then x else y) ≡ x
 if_same m x y = rw (eq-eqb m m refl) refl
@@ -157,7 +165,8 @@ module _ (holder : ℕ → Option ℕ) where
       let around : Walk holder cut.0 (first ∷ others) cut.0 =
       subst (λ w. Walk holder cut.0 w cut.0) (sym h.is) (walk_joined holder cut.0 back to front cut.0 cut.2 cut.1) in
       let same : (cell : ℕ) → has (first ∷ others) cell ≡ has cells cell =
-      λ cell. ap (λ (w : List ℕ). has w cell) h.is ∙ (has_turned back front cell ∙ ap (λ (w : List ℕ). has w cell) whole) in
+      λ cell. ap (λ (w : List ℕ). has w cell) h.is
+      ∙ (has_turned back front cell ∙ ap (λ (w : List ℕ). has w cell) whole) in
       let once : (cell : ℕ) → times (first ∷ others) cell ≤ 1 =
       λ cell. let one = ap (λ (w : List ℕ). times w cell) h.is in
       let two = ap (λ (w : List ℕ). times w cell) whole in
@@ -190,8 +199,10 @@ module _ (holder : ℕ → Option ℕ) where
     goes_on = goes_on_now before now found from path to known h;
     told = λ cell seen. elim (num_cases first cell) [
       | inl same ↦ subst (λ w. CycleAt holder w (new w)) same
-          (subst (CycleAt holder first) (sym (put first ∙ if_same first (Some (first ∷ others)) (found first))) (others, refl, cycle.0))
-      | inr other ↦ subst (CycleAt holder cell) (sym (put cell ∙ if_other first cell (Some (first ∷ others)) (found cell) other))
+          (subst (CycleAt holder first) (sym (put first ∙ if_same first (Some (first ∷ others)) (found first)))
+          (others, refl, cycle.0))
+      | inr other ↦ subst (CycleAt holder cell)
+          (sym (put cell ∙ if_other first cell (Some (first ∷ others)) (found cell) other))
           (elim (or_true (before cell) (has path cell) (sym (h.way.seen cell) ∙ seen)) [
             | inl was ↦ known.told cell was
             | inr here ↦ subst (CycleAt holder cell) (sym (known.untold cell (h.way.fresh cell here)))
@@ -209,7 +220,8 @@ module _ (holder : ℕ → Option ℕ) where
       cells = drop place path
 
       closed : Walk holder to (drop place path) to
-      closed = subst (λ w. Walk holder w (drop place path) to) at (walk_from holder from path to place within h.way.walk)
+      closed = subst (λ w. Walk holder w (drop place path) to) at
+          (walk_from holder from path to place within h.way.walk)
 
       cycle : IsCycle holder first others × ((cell : ℕ) → has (first ∷ others) cell ≡ has (drop place path) cell)
           × ((cell : ℕ) → has (drop place path) cell ≡ true → first ≤ cell)
@@ -234,7 +246,8 @@ module _ (holder : ℕ → Option ℕ) where
           let round : has (cell ∷ beside) first ≡ true =
           (walk_stays holder (λ w. has (cell ∷ beside) w ≡ true)
           (closed_stays holder cell (cell ∷ beside) its.closed (has_first cell beside))
-          to (drop place path) to closed (cycle_reached holder cell beside its after.0 to after.1)).0 first among_first in
+          to (drop place path) to closed (cycle_reached holder cell beside its after.0 to after.1)).0 first
+          among_first in
           elim (is_first_or_later cell beside first round) [
             | inl same ↦ sym same
             | inr later ↦ let high = its.lowest first later in absurd (omega (arith, low, high))

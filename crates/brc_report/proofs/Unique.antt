@@ -1,5 +1,6 @@
 -- There is one list of cycles.
-use Rattle.std.proofs.Common.{◌++◌, ◌≤◌, inl, inr, length, ◌≡◌, ◌<◌, ℕ, List, [], ◌∷◌, Bool, true, false, ◌==◌, Option, Some, None, ◌&&◌, rules, refl, sym, ◌∙◌, ap, subst, arith}
+use Rattle.std.proofs.Common.{◌++◌, ◌≤◌, inl, inr, length, ◌≡◌, ◌<◌, ℕ, List, [], ◌∷◌, Bool, true, false, ◌==◌, Option}
+use Rattle.std.proofs.Common.{Some, None, ◌&&◌, rules, refl, sym, ◌∙◌, ap, subst, arith}
 use denote.Enum.Bare.{sameb, same_true, true_same}
 use Rattle.std.specs.Bool.{Decides}
 use Rattle.std.proofs.lemmas.Bool.{eqb-true, eq-eqb}
@@ -84,7 +85,8 @@ cycles_unique holder [] one other h k = h ∙ sym k
 cycles_unique holder (remain ∷ remains) one other h k =
     let cycle : h.0 ≡ k.0 = at_unique holder remain.cell h.0 k.0 h.3 k.3 in
     let rest : h.1 ≡ k.1 = cycles_unique holder remains h.1 k.1 h.4 k.4 in
-    h.2 ∙ (ap (λ (w : Option (List ℕ)). in_front w h.1) cycle ∙ (ap (λ (w : List (List ℕ)). in_front k.0 w) rest ∙ sym k.2))
+    h.2 ∙ (ap (λ (w : Option (List ℕ)). in_front w h.1) cycle
+    ∙ (ap (λ (w : List (List ℕ)). in_front k.0 w) rest ∙ sym k.2))
 
 once_more : (first : ℕ) (cells : List ℕ) (cell : ℕ) → times cells cell ≤ 1 → (has cells first ≡ true → ⊥)
     → times (first ∷ cells) cell ≤ 1

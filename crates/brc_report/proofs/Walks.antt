@@ -1,5 +1,6 @@
 -- Walks along the holders, and what they can't leave.
-use Rattle.std.proofs.Common.{◌≤◌, ◌≡◌, ◌<◌, ◌++◌, ◌⊎◌, inl, inr, ℕ, zero, suc, List, [], ◌∷◌, true, Option, Some, refl, sym, ◌∙◌, ap, subst, arith, length, drop, slice_index}
+use Rattle.std.proofs.Common.{◌≤◌, ◌≡◌, ◌<◌, ◌++◌, ◌⊎◌, inl, inr, ℕ, zero, suc, List, [], ◌∷◌, true, Option, Some, refl}
+use Rattle.std.proofs.Common.{sym, ◌∙◌, ap, subst, arith, length, drop, slice_index}
 use Rattle.brc_report.specs.Holding.{has}
 use Rattle.brc_report.specs.Cycles.{Walk, IsCycle}
 use Rattle.brc_report.proofs.Membership.{is_first_or_later, has_first, has_later}
@@ -71,7 +72,8 @@ module _ (holder : ℕ → Option ℕ) where
         | inl same ↦ inl (let is : cell ≡ from = sym same ∙ h.is in
             let one : Some next ≡ Some h.next = sym held ∙ (ap holder is ∙ h.held) in
             let two : next ≡ second = cc (h.rest.is) in
-            subst (λ w. has (first ∷ second ∷ path) w ≡ true) (sym two) (has_later first (second ∷ path) second (has_first second path)))
+            subst (λ w. has (first ∷ second ∷ path) w ≡ true) (sym two)
+            (has_later first (second ∷ path) second (has_first second path)))
         | inr later ↦ elim (walk_next h.next (second ∷ path) to cell next h.rest later held) [
           | inl more ↦ inl (has_later first (second ∷ path) next more)
           | inr ends ↦ inr ends
@@ -99,7 +101,8 @@ module _ (holder : ℕ → Option ℕ) where
       → (first : ℕ) (others : List ℕ) → IsCycle holder first others
       → (path : List ℕ) (to : ℕ) → Walk holder first path to → S to → S first
   cycle_begins_there S goes_on first others cycle path to h there =
-      walk_ends S goes_on first (first ∷ others) first to cycle.closed (cycle_reached first others cycle path to h) there
+      walk_ends S goes_on first (first ∷ others) first to cycle.closed
+      (cycle_reached first others cycle path to h) there
 
   -- a walk from one of its places on
   pub walk_from : (from : ℕ) (path : List ℕ) (to place : ℕ) → place < length path → Walk holder from path to
@@ -115,7 +118,12 @@ module _ (holder : ℕ → Option ℕ) where
       × ((other : ℕ) → has later other ≡ true → has path other ≡ true)
   walk_rest from [] to cell h among = absurd (cc)
   walk_rest from (first ∷ path) to cell h among = elim (is_first_or_later first path cell among) [
-    | inl same ↦ (first ∷ path, subst (λ w. Walk holder w (first ∷ path) to) (sym h.is ∙ same) h, omega arith, λ other k. k)
+    | inl same ↦ (
+      first ∷ path,
+      subst (λ w. Walk holder w (first ∷ path) to) (sym h.is ∙ same) h,
+      omega arith,
+      λ other k. k,
+    )
     | inr later ↦ let rest = walk_rest h.next path to cell h.rest later in
         (rest.0, rest.1, omega (arith, rest.2), λ other k. has_later first path other (rest.3 other k))
   ]

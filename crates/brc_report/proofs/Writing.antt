@@ -1,5 +1,6 @@
 -- Two pieces of a text put one after the other, and the pieces of a list.
-use Rattle.std.proofs.Common.{◌≡◌, ◌<◌, ◌+◌, ◌++◌, ℕ, suc, List, ◌∷◌, Option, Result, sym, ◌∙◌, ap, length, get_or, drop, drop-cons, add-one}
+use Rattle.std.proofs.Common.{◌≡◌, ◌<◌, ◌+◌, ◌++◌, ℕ, suc, List, ◌∷◌, Option, Result, sym, ◌∙◌, ap, length, get_or}
+use Rattle.std.proofs.Common.{drop, drop-cons, add-one}
 use Rattle.std.specs.Io.KnownBytes.{Appends}
 use Rattle.brc_words.specs.declared.fault.Fault.{Fault}
 use Rattle.brc_text.specs.Puts.{Puts, PutsUpTo}

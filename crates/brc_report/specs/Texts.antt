@@ -29,7 +29,8 @@ ledger_line ledger live =
 -- `remain CELL KIND HELDBY`
 abbrev pub remain_line : Remain → List ℕ
 remain_line remain =
-    headed_line (codes "remain") (tokens.Number remain.cell ∷ tokens.Word (kind_word remain.kind) ∷ tokens.Number remain.held_by ∷ [])
+    headed_line (codes "remain") (tokens.Number remain.cell ∷ tokens.Word (kind_word remain.kind)
+    ∷ tokens.Number remain.held_by ∷ [])
 
 abbrev pub remains_text : List Remain → List ℕ
 remains_text [] = []

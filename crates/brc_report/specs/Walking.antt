@@ -1,5 +1,6 @@
 -- What a search for cycles has seen.
-use Rattle.std.specs.Prelude.{◌≡◌, ◌<◌, ◌≤◌, ℕ, List, [], ◌∷◌, ◌+◌, ◌++◌, if◌then◌else◌, ◌⊎◌, Bool, true, false, ◌||◌, ◌==◌, Option, Some, None, take, drop, length, slice_index}
+use Rattle.std.specs.Prelude.{◌≡◌, ◌<◌, ◌≤◌, ℕ, List, [], ◌∷◌, ◌+◌, ◌++◌, if◌then◌else◌, ◌⊎◌, Bool, true, false, ◌||◌}
+use Rattle.std.specs.Prelude.{◌==◌, Option, Some, None, take, drop, length, slice_index}
 use Rattle.brc_report.specs.declared.content.Remain.{Remain}
 use Rattle.brc_report.specs.Holding.{has}
 use Rattle.brc_report.specs.Cycles.{Walk, CycleAt}

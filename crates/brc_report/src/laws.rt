@@ -29,13 +29,15 @@ pub fn cycles_are_one_list()
         → AreCycles remains one → AreCycles remains other → one ≡ other }
 {}
 
-/// Each remain is held by the globals or by a remain; and where the globals hold nothing, each walk along the holders runs into a cycle
-/// that is listed.
+/// Each remain is held by the globals or by a remain; and where the globals hold nothing, each walk along the holders
+/// runs into a cycle that is listed.
 #[tactic(auto, using(crate::proofs::Coming_Back::runs_into, crate::proofs::Coming_Back::held_well))]
 pub fn walks_run_into_cycles<A: Allocator>()
-    ensures held { (contents : List (TheContent A)) (remains : List TheRemain) (cycles : List (List ℕ)) (cell holder : ℕ)
+    ensures held { (contents : List (TheContent A)) (remains : List TheRemain) (cycles : List (List ℕ))
+        (cell holder : ℕ)
         → IsReport remains cycles contents → holder_in remains cell ≡ Some holder → IsHolder remains holder }
-    ensures runs { (contents : List (TheContent A)) (remains : List TheRemain) (cycles : List (List ℕ)) (from holder : ℕ)
+    ensures runs { (contents : List (TheContent A)) (remains : List TheRemain) (cycles : List (List ℕ))
+        (from holder : ℕ)
         → IsReport remains cycles contents → entries_of_first contents ≡ [] → holder_in remains from ≡ Some holder
         → RunsInto remains cycles from }
 {}

@@ -3,7 +3,8 @@
 ghost use Rattle.std.specs.Prelude.{◌≡◌, ◌++◌, ◌⊎◌, true, false, IfSome, IfNone};
 ghost use Rattle.brc_text.specs.Puts.{Puts};
 ghost use Rattle.brc_report.specs.Spelled.{is_spelled, all_spelled, has_cells, all_have_cells};
-ghost use Rattle.brc_report.specs.Texts.{kind_word, ledger_line, remain_line, remains_text, cycle_line, cycles_text, report_text};
+ghost use Rattle.brc_report.specs.Texts.{kind_word, ledger_line, remain_line, remains_text, cycle_line, cycles_text};
+ghost use Rattle.brc_report.specs.Texts.{report_text};
 
 use crate::content::{Cells, Content, Remain};
 use brc_text::{Keyword, Token, put_headed_line, put_line, put_numbers_line};
@@ -70,7 +71,8 @@ fn all_have_cells<A: Allocator>(cycles: &[Cells<A>]) -> bool
 }
 
 impl<A: Allocator> Report<A> {
-    /// A report of these; None where no text spells it: where a remain is no mortal cell or of no mortal kind, or a cycle has no cell.
+    /// A report of these; None where no text spells it: where a remain is no mortal cell or of no mortal kind, or a
+    /// cycle has no cell.
     pub fn new(
         ledger: Ledger,
         live: u64,

@@ -1,5 +1,6 @@
 -- Threads of one heap, dealt with one after the other.
-use Rattle.std.proofs.Common.{◌≡◌, ◌+◌, ◌<◌, ◌≤◌, ◌++◌, ℕ, List, [], ◌∷◌, map, length, Option, Some, None, refl, sym, subst, ap, arith, ◌∙◌}
+use Rattle.std.proofs.Common.{◌≡◌, ◌+◌, ◌<◌, ◌≤◌, ◌++◌, ℕ, List, [], ◌∷◌, map, length, Option, Some, None, refl, sym}
+use Rattle.std.proofs.Common.{subst, ap, arith, ◌∙◌}
 use Rattle.std.specs.Prelude.{IfSome, IsSomeAnd}
 use Rattle.std.specs.List.{All}
 use Rattle.std.proofs.lemmas.List.{append_assoc, append-nil, map-append, length_push}
@@ -18,22 +19,29 @@ module _ {A : Type 0} where
   pub first_at : (heap : TableSeen) (x : FrameSeen A) (before left : List (FrameSeen A)) → before ≡ x ∷ left
       → All (λ (resting : FrameSeen A). resting.heap ≡ heap) before → x.heap ≡ heap
   first_at heap x before left next all =
-      All-head (λ (resting : FrameSeen A). resting.heap ≡ heap) x left (subst (All (λ (resting : FrameSeen A). resting.heap ≡ heap)) next all)
+      All-head (λ (resting : FrameSeen A). resting.heap ≡ heap) x left
+      (subst (All (λ (resting : FrameSeen A). resting.heap ≡ heap)) next all)
 
   pub others_at : (heap : TableSeen) (x : FrameSeen A) (before left : List (FrameSeen A)) → before ≡ x ∷ left
-      → All (λ (resting : FrameSeen A). resting.heap ≡ heap) before → All (λ (resting : FrameSeen A). resting.heap ≡ heap) left
-  others_at heap x before left next all = All-rest (λ (resting : FrameSeen A). resting.heap ≡ heap) x left before next all
+      → All (λ (resting : FrameSeen A). resting.heap ≡ heap) before
+      → All (λ (resting : FrameSeen A). resting.heap ≡ heap) left
+  others_at heap x before left next all = All-rest (λ (resting : FrameSeen A). resting.heap ≡ heap) x left
+      before next all
 
   -- one more is put to them
-  pub one_at : (heap : TableSeen) (x : FrameSeen A) (before after : List (FrameSeen A)) → after ≡ before ++ x ∷ [] → x.heap ≡ heap
-      → All (λ (resting : FrameSeen A). resting.heap ≡ heap) before → All (λ (resting : FrameSeen A). resting.heap ≡ heap) after
+  pub one_at : (heap : TableSeen) (x : FrameSeen A) (before after : List (FrameSeen A)) → after ≡ before ++ x ∷ []
+      → x.heap ≡ heap
+      → All (λ (resting : FrameSeen A). resting.heap ≡ heap) before
+      → All (λ (resting : FrameSeen A). resting.heap ≡ heap) after
   one_at heap x before after more so all =
-      subst (All (λ (resting : FrameSeen A). resting.heap ≡ heap)) (sym more) (All-push (λ (resting : FrameSeen A). resting.heap ≡ heap) before x all so)
+      subst (All (λ (resting : FrameSeen A). resting.heap ≡ heap)) (sym more)
+      (All-push (λ (resting : FrameSeen A). resting.heap ≡ heap) before x all so)
 
   pub first_done : (heap : TableSeen) (x : Done A) (before left : List (Done A)) → before ≡ x ∷ left
       → All (λ (one : Done A). one.retired.heap ≡ heap) before → x.retired.heap ≡ heap
   first_done heap x before left next all =
-      All-head (λ (one : Done A). one.retired.heap ≡ heap) x left (subst (All (λ (one : Done A). one.retired.heap ≡ heap)) next all)
+      All-head (λ (one : Done A). one.retired.heap ≡ heap) x left
+      (subst (All (λ (one : Done A). one.retired.heap ≡ heap)) next all)
 
   pub others_done : (heap : TableSeen) (x : Done A) (before left : List (Done A)) → before ≡ x ∷ left
       → All (λ (one : Done A). one.retired.heap ≡ heap) before → All (λ (one : Done A). one.retired.heap ≡ heap) left
@@ -47,9 +55,11 @@ pub record Gathering {D : Type 0} (old now : RootSeen) (all left : List D) : Typ
 
 module _ {D : Type 0} where
   pub gathers_first : (root : RootSeen) (all left : List D) → left ≡ all → Gathering root root all left
-  gathers_first root all left same = record { so_many = 0; took = takes_none root; count = omega (arith, ap length same) }
+  gathers_first root all left same =
+      record { so_many = 0; took = takes_none root; count = omega (arith, ap length same) }
 
-  pub gathers_next : (old mid new : RootSeen) (all before left : List D) (one : D) → before ≡ one ∷ left → Gathering old mid all before
+  pub gathers_next : (old mid new : RootSeen) (all before left : List D) (one : D) → before ≡ one ∷ left
+      → Gathering old mid all before
       → TakesIn mid new 0 1 → Gathering old new all left
   gathers_next old mid new all before left one next so took = record {
     so_many = so.so_many + 1;
@@ -57,7 +67,8 @@ module _ {D : Type 0} where
     count = omega (arith, so.count, ap length next);
   }
 
-  pub gathers_last : (old now : RootSeen) (all left : List D) → left ≡ [] → Gathering old now all left → TakesIn old now 0 (length all)
+  pub gathers_last : (old now : RootSeen) (all left : List D) → left ≡ [] → Gathering old now all left
+      → TakesIn old now 0 (length all)
   gathers_last old now all left none so =
       subst (TakesIn old now 0) (omega (arith, so.count, ap length none)) so.took
 
@@ -66,8 +77,10 @@ module _ {V X D : Type 0} where
   pub record Ended (items : V → List X) (end_of : D → Option X) (all left : List D) (ends : V) : Type 0 where
     pub those : map end_of all ≡ map Some (items ends) ++ map end_of left
 
-  ended_more : (items : V → List X) (end_of : D → Option X) (all left : List D) (one : D) (o : Option X) (before after : V) → end_of one ≡ o
-      → map end_of all ≡ map Some (items before) ++ map end_of (one ∷ left) → IsSomeAnd o (λ e. items after ≡ items before ++ e ∷ [])
+  ended_more : (items : V → List X) (end_of : D → Option X) (all left : List D) (one : D) (o : Option X)
+      (before after : V) → end_of one ≡ o
+      → map end_of all ≡ map Some (items before) ++ map end_of (one ∷ left)
+      → IsSomeAnd o (λ e. items after ≡ items before ++ e ∷ [])
       → map end_of all ≡ map Some (items after) ++ map end_of left
   ended_more items end_of all left one None before after is those more = absurd more
   ended_more items end_of all left one (Some e) before after is those more =
@@ -76,23 +89,29 @@ module _ {V X D : Type 0} where
       ∙ sym (append_assoc (map Some (items before)) (Some e ∷ []) (map end_of left))
       ∙ ap (λ xs. xs ++ map end_of left) (sym (map-append Some (items before) (e ∷ [])) ∙ ap (map Some) (sym more))
 
-  pub ended_next : (items : V → List X) (end_of : D → Option X) (all before left : List D) (one : D) (ends after : Option V) → before ≡ one ∷ left
+  pub ended_next : (items : V → List X) (end_of : D → Option X) (all before left : List D) (one : D)
+      (ends after : Option V) → before ≡ one ∷ left
       → IfSome ends (Ended items end_of all before)
       → IfSome after (λ a. IsSomeAnd ends (λ b. IsSomeAnd (end_of one) (λ e. items a ≡ items b ++ e ∷ [])))
       → IfSome after (Ended items end_of all left)
   ended_next items end_of all before left one ends None next so more = tt {0}
   ended_next items end_of all before left one None (Some a) next so more = absurd more
   ended_next items end_of all before left one (Some b) (Some a) next so more = record {
-    those = ended_more items end_of all left one (end_of one) b a refl (subst (λ ys. map end_of all ≡ map Some (items b) ++ map end_of ys) next so.those) more;
+    those = ended_more items end_of all left one (end_of one) b a refl
+        (subst (λ ys. map end_of all ≡ map Some (items b) ++ map end_of ys) next so.those) more;
   }
 
-  room_more : (items : V → List X) (capacity : V → ℕ) (left : List D) (o : Option X) (b a : V) → length (items b) + (length left + 1) ≤ capacity b
-      → IsSomeAnd o (λ e. items a ≡ items b ++ e ∷ []) → capacity a ≡ capacity b → length (items a) + length left ≤ capacity a
+  room_more : (items : V → List X) (capacity : V → ℕ) (left : List D) (o : Option X) (b a : V)
+      → length (items b) + (length left + 1) ≤ capacity b
+      → IsSomeAnd o (λ e. items a ≡ items b ++ e ∷ []) → capacity a ≡ capacity b
+      → length (items a) + length left ≤ capacity a
   room_more items capacity left None b a room more same = absurd more
-  room_more items capacity left (Some e) b a room more same = omega (arith, room, ap length more, length_push (items b) e, same)
+  room_more items capacity left (Some e) b a room more same =
+      omega (arith, room, ap length more, length_push (items b) e, same)
 
   -- and there is room for the others'
-  pub room_next : (items : V → List X) (capacity : V → ℕ) (end_of : D → Option X) (before left : List D) (one : D) (ends after : Option V)
+  pub room_next : (items : V → List X) (capacity : V → ℕ) (end_of : D → Option X) (before left : List D) (one : D)
+      (ends after : Option V)
       → before ≡ one ∷ left → IfSome ends (λ v. length (items v) + length before ≤ capacity v)
       → IfSome after (λ a. IsSomeAnd ends (λ b. IsSomeAnd (end_of one) (λ e. items a ≡ items b ++ e ∷ [])))
       → IfSome after (λ a. IsSomeAnd ends (λ b. capacity a ≡ capacity b))

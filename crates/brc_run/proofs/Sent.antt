@@ -20,7 +20,15 @@ pub section_sync : IsSync (Section.the_row Global.the_row ghosts)
 section_sync = search (sendable, crosses, section.the_sync, section.the_field_sync, global_send, frees) depth 40
 
 end_send : IsSend (SectionEnd.the_row Global.the_row ghosts)
-end_send = search (sendable, crosses, option.the_send, section_end.the_send, section_end.the_field_send, global_send, frees) depth 40
+end_send = search (
+  sendable,
+  crosses,
+  option.the_send,
+  section_end.the_send,
+  section_end.the_field_send,
+  global_send,
+  frees,
+) depth 40
 
 pub done_send : IsSend (Done.the_row Global.the_row ghosts)
 done_send = search (sendable, crosses, option.the_send, retired_send, end_send) depth 40

@@ -32,7 +32,8 @@ rows_counted (x ∷ log) = omega (arith, rows_more x log, rows_counted log, sum_
 pub next_is : (v : View) → next_thread v ≡ registrations v + 1
 next_is v = rows_counted v.log
 
-pub only_memory : (root : RootSeen) (fault : Fault) → registrations root.view < 64 → RefusesThread root fault → fault ≡ faults.OutOfMemory
+pub only_memory : (root : RootSeen) (fault : Fault) → registrations root.view < 64 → RefusesThread root fault
+    → fault ≡ faults.OutOfMemory
 only_memory root faults.TooManyThreads few refuses = absurd (omega (arith, next_is root.view, few, refuses))
 only_memory root faults.OutOfMemory few refuses = refl
 only_memory root _ few refuses = absurd refuses
@@ -49,7 +50,8 @@ gathered v w = omega arith
 pub takes_none : (root : RootSeen) → TakesIn root root 0 0
 takes_none root = record { same_table = refl; more_registered = omega arith; more_gathered = omega arith }
 
-pub takes_registered : (old mid new : RootSeen) (r g more : ℕ) → TakesIn old mid r g → new.view ≡ registering mid.view → new.table ≡ mid.table
+pub takes_registered : (old mid new : RootSeen) (r g more : ℕ) → TakesIn old mid r g → new.view ≡ registering mid.view
+    → new.table ≡ mid.table
     → more ≡ r + 1 → TakesIn old new more g
 takes_registered old mid new r g more took view table next = record {
   same_table = table ∙ took.same_table;
@@ -57,7 +59,8 @@ takes_registered old mid new r g more took view table next = record {
   more_gathered = ap gatherings view ∙ took.more_gathered;
 }
 
-pub takes_gathered : (old mid new : RootSeen) (w : View) (r g more : ℕ) → TakesIn old mid r g → new.view ≡ gathering mid.view w → new.table ≡ mid.table
+pub takes_gathered : (old mid new : RootSeen) (w : View) (r g more : ℕ) → TakesIn old mid r g
+    → new.view ≡ gathering mid.view w → new.table ≡ mid.table
     → more ≡ g + 1 → TakesIn old new r more
 takes_gathered old mid new w r g more took view table next = record {
   same_table = table ∙ took.same_table;
@@ -65,7 +68,8 @@ takes_gathered old mid new w r g more took view table next = record {
   more_gathered = omega (arith, ap gatherings view, gathered mid.view w, took.more_gathered, next);
 }
 
-pub takes_both : (old mid new : RootSeen) (r g r' g' all_r all_g : ℕ) → TakesIn old mid r g → TakesIn mid new r' g' → all_r ≡ r + r' → all_g ≡ g + g'
+pub takes_both : (old mid new : RootSeen) (r g r' g' all_r all_g : ℕ) → TakesIn old mid r g → TakesIn mid new r' g'
+    → all_r ≡ r + r' → all_g ≡ g + g'
     → TakesIn old new all_r all_g
 takes_both old mid new r g r' g' all_r all_g first second rs gs = record {
   same_table = second.same_table ∙ first.same_table;
@@ -73,5 +77,6 @@ takes_both old mid new r g r' g' all_r all_g first second rs gs = record {
   more_gathered = omega (arith, first.more_gathered, second.more_gathered, gs);
 }
 
-pub one_registered : (old mid new : RootSeen) (n : ℕ) → TakesIn old mid n 0 → TakesIn mid new 1 0 → TakesIn old new (n + 1) 0
+pub one_registered : (old mid new : RootSeen) (n : ℕ) → TakesIn old mid n 0 → TakesIn mid new 1 0
+    → TakesIn old new (n + 1) 0
 one_registered old mid new n first second = takes_both old mid new n 0 1 0 (n + 1) 0 first second refl refl

@@ -18,8 +18,8 @@ use Rattle.brc_run.specs.declared.options.RunOptions.{RunOptions}
 use Rattle.brc_run.specs.declared.starting.Begun.{Begun}
 use Rattle.brc_run.specs.declared.starting.Begun.TheVariants.{Started, LeftOut}
 
--- Each of the second list is so of that at the same place in the first, and of its number: they are numbered on from the first's. Both
--- are equally long.
+-- Each of the second list is so of that at the same place in the first, and of its number: they are numbered on from
+-- the first's. Both are equally long.
 abbrev pub InOrder : {X Y : Type 0} → (ℕ → X → Y → Type 0) → ℕ → List X → List Y → Type 0
 InOrder IsSo number [] [] = Unit {0}
 InOrder IsSo number [] (y ∷ ys) = ⊥
@@ -27,8 +27,8 @@ InOrder IsSo number (x ∷ xs) [] = ⊥
 InOrder IsSo number (x ∷ xs) (y ∷ ys) = IsSo number x y × InOrder IsSo (suc number) xs ys
 
 module _ {A : Type 0} where
-  -- A section's fault is that of one of its lines, and Busy only of one at which its gate may refuse. One that shares nothing prints
-  -- its plain meaning, whatever the others do.
+  -- A section's fault is that of one of its lines, and Busy only of one at which its gate may refuse. One that shares
+  -- nothing prints its plain meaning, whatever the others do.
   pub record EndsAs (refuses : ℕ → ℕ → Type 0) (number : ℕ) (section : Section A) (end : SectionEnd A) : Type 0 where
     pub line : IfSome end.fault (λ fault. IsLineOf fault.1 section.pieces)
     pub busy : (line : ℕ) → end.fault ≡ Some (number_of faults.Busy, line) → refuses number line
@@ -36,7 +36,8 @@ module _ {A : Type 0} where
 
 module _ {A : Type 0} where
   -- A section's thread came back from this heap, and its section, if it ran, ended so.
-  pub record IsDone (heap : TableSeen) (refuses : ℕ → ℕ → Type 0) (number : ℕ) (section : Section A) (done : Done A) : Type 0 where
+  pub record IsDone (heap : TableSeen) (refuses : ℕ → ℕ → Type 0) (number : ℕ) (section : Section A)
+      (done : Done A) : Type 0 where
     pub heap_is : done.retired.heap ≡ heap
     pub ended : IfSome done.end (EndsAs refuses number section)
 
@@ -55,8 +56,9 @@ pub record TakesIn (old new : RootSeen) (registered gathered : ℕ) : Type 0 whe
   pub more_gathered : gatherings new.view ≡ gatherings old.view + gathered
 
 module _ {A : Type 0} where
-  -- The report is that of a heap that was closed, on which as many threads were registered as the script has sections, and one more that
-  -- cleared the globals, and all were gathered. As many objects live as were made and not freed, and as many remain.
+  -- The report is that of a heap that was closed, on which as many threads were registered as the script has sections,
+  -- and one more that cleared the globals, and all were gathered. As many objects live as were made and not freed, and
+  -- as many remain.
   pub record IsReportOf (options : RunOptions) (sections : ℕ) (report : Report A) : Type 0 where
     pub root : View
     pub closes : Closes options.cells options.local_limit root report

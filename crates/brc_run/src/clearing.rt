@@ -34,8 +34,9 @@ fn clear_rounds<R: Wait, H: Home<A>, A: Allocator>(
     unreachable!()
 }
 
-/// One more thread is registered, clears the globals, and is gathered. What a full frame leaves in them stays there, for the report to
-/// tell. OutOfMemory where the thread can't be had, or memory for a handle; the thread that was there is gathered then, too.
+/// One more thread is registered, clears the globals, and is gathered. What a full frame leaves in them stays there,
+/// for the report to tell. OutOfMemory where the thread can't be had, or memory for a handle; the thread that was there
+/// is gathered then, too.
 #[tactic(auto, using(crate::proofs::Taken::takes_none, crate::proofs::Taken::takes_registered, crate::proofs::Taken::takes_gathered, crate::proofs::Taken::only_memory))]
 pub(crate) fn clear<R: Wait, A: Allocator + Copy>(
     rt: &R,

@@ -39,8 +39,8 @@ fn register_one(
     Ok(mutator.rest())
 }
 
-/// The next threads of the heap, so many, each at rest until one of the machine wakes it. Where one can't be had, those before it are
-/// there.
+/// The next threads of the heap, so many, each at rest until one of the machine wakes it. Where one can't be had, those
+/// before it are there.
 #[tactic(auto, using(crate::proofs::Taken::takes_none, crate::proofs::Taken::one_registered, crate::proofs::One_Heap::one_at))]
 pub(crate) fn register_all(
     alloc: Global,

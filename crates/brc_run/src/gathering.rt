@@ -1,6 +1,7 @@
 //! The ends of a script's threads, which the root takes in.
 
-ghost use Rattle.std.specs.Prelude.{◌≡◌, ◌<◌, ◌≤◌, ◌++◌, ◌∷◌, [], All, Some, IfSome, IsSomeAnd, length, map, vec_capacity};
+ghost use Rattle.std.specs.Prelude.{◌≡◌, ◌<◌, ◌≤◌, ◌++◌, ◌∷◌, [], All, Some, IfSome, IsSomeAnd, length, map};
+ghost use Rattle.std.specs.Prelude.{vec_capacity};
 ghost use Rattle.brc_run.specs.Runs.{TakesIn};
 
 use crate::crew::Done;
@@ -15,7 +16,8 @@ fn with_end<A: Allocator>(
     end: Option<SectionEnd<A>>,
 ) -> Option<Vec<SectionEnd<A>, A>>
     requires room { IfSome ends (λ ends. length ends.items < vec_capacity ends) }
-    ensures more { IfSome result (λ after. IsSomeAnd ends (λ before. IsSomeAnd end (λ one. after.items ≡ before.items ++ one ∷ []))) }
+    ensures more { IfSome result
+        (λ after. IsSomeAnd ends (λ before. IsSomeAnd end (λ one. after.items ≡ before.items ++ one ∷ []))) }
     ensures room { IfSome result (λ after. IsSomeAnd ends (λ before. vec_capacity after ≡ vec_capacity before)) }
 {
     let mut ends = ends?;

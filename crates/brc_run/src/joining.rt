@@ -170,7 +170,8 @@ pub(crate) fn run_all<R: Threads + Wait + Sync, G: Gate>(
             requires few { length sections.now < 64 }
             requires none { done.items ≡ [] }
             requires room { length sections.now ≤ vec_capacity done }
-            ensures done { InOrder (IsDone heap.entry.now (G.may_refuse gate.entry.now)) 1 sections.entry.now result.items }
+            ensures done { InOrder (IsDone heap.entry.now (G.may_refuse gate.entry.now)) 1 sections.entry.now
+                result.items }
         {
             run_in(
                 rt, scope, alloc, heap, crew, sections, budget, board, gate, done,

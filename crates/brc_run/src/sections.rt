@@ -120,9 +120,10 @@ fn closed(alloc: Global, heap: Heap<Global>, root: Root<Global>) -> Result<Repor
     }
 }
 
-/// Runs a script: its sections at the same time, each on a thread of its own, and then closes their heap. BadOptions, looked at first,
-/// where a number of the options is outside its limits; OutOfMemory where a growth was refused, or a thread: then those that were
-/// started have run to their ends, all are gathered, and all memory of the heap is given back.
+/// Runs a script: its sections at the same time, each on a thread of its own, and then closes their heap. BadOptions,
+/// looked at first, where a number of the options is outside its limits; OutOfMemory where a growth was refused, or a
+/// thread: then those that were started have run to their ends, all are gathered, and all memory of the heap is given
+/// back.
 #[tactic(auto, using(crate::proofs::Reported::report_of))]
 pub fn run_sections<R: Threads + Wait + Sync, G: Gate>(
     rt: &R,

@@ -34,7 +34,8 @@ impl<'s, G> Drop for Given<'s, G> {
 }
 
 impl<'s, G: Gate> Promise<Done<Global>> for Given<'s, G> {
-    ghost kept_by = { λ given done. IsDone given.heap.now (G.may_refuse given.gate.now) given.number given.section.now done };
+    ghost kept_by = { λ given done. IsDone given.heap.now (G.may_refuse given.gate.now) given.number
+        given.section.now done };
 }
 
 /// A section whose thread was started; or one for which no thread could be had, and which is done.
@@ -56,7 +57,8 @@ impl<'s, G: Gate> Begun<'s, G> {
     /// What the section's thread hands back, once it has ended.
     pub(crate) fn joined<R: Threads>(self, rt: &R) -> Done<Global>
         ensures { (heap : TableSeen) (gate : G) (number : ℕ) (section : section_data Global)
-            → IsBegun heap gate (G.may_refuse gate) number section self.entry → IsDone heap (G.may_refuse gate) number section result }
+            → IsBegun heap gate (G.may_refuse gate) number section self.entry
+            → IsDone heap (G.may_refuse gate) number section result }
     {
         match self {
             Begun::Started(handle) => handle.join(rt),

@@ -15,16 +15,18 @@ use Rattle.brc_run.specs.Runs.{InOrder, EndsAs, IsReportOf}
 use Rattle.brc_run_text.specs.declared.whole.Ended.{Ended}
 use Rattle.brc_run_text.specs.Tellings.{run_text, ends_by_fault}
 
--- The input spells this script, where its bytes are known. Its sections ended so, each with a fault of one of its lines at most, and with
--- Busy only where its gate may refuse; their heap was closed, and this is its report.
-pub record IsRunOf (options : RunOptions) (refuses : ℕ → ℕ → Type 0) (input : Option (List ℕ)) (script : List (Section Global))
+-- The input spells this script, where its bytes are known. Its sections ended so, each with a fault of one of its lines
+-- at most, and with Busy only where its gate may refuse; their heap was closed, and this is its report.
+pub record IsRunOf (options : RunOptions) (refuses : ℕ → ℕ → Type 0) (input : Option (List ℕ))
+    (script : List (Section Global))
     (ends : List (SectionEnd Global)) (report : Report Global) : Type 0 where
   pub spelled : IfSome input (λ bytes. script_at bytes ≡ Ok script)
   pub in_order : InOrder (EndsAs refuses) 1 script ends
   pub reported : IsReportOf options (length script) report
 
 -- the whole text of a run is written, and it is said whether an object lives and whether a fault ended a section
-pub record IsTold (options : RunOptions) (refuses : ℕ → ℕ → Type 0) (input old new : Option (List ℕ)) (ended : Ended) : Type 0 where
+pub record IsTold (options : RunOptions) (refuses : ℕ → ℕ → Type 0) (input old new : Option (List ℕ))
+    (ended : Ended) : Type 0 where
   pub script : List (Section Global)
   pub ends : List (SectionEnd Global)
   pub report : Report Global
@@ -34,7 +36,8 @@ pub record IsTold (options : RunOptions) (refuses : ℕ → ℕ → Type 0) (inp
   pub faulted : ended.faulted ≡ list_any ends_by_fault ends
 
 -- the text of a run is written up to what is left of it
-pub record IsHalfTold (options : RunOptions) (refuses : ℕ → ℕ → Type 0) (input : Option (List ℕ)) (front : List ℕ) : Type 0 where
+pub record IsHalfTold (options : RunOptions) (refuses : ℕ → ℕ → Type 0) (input : Option (List ℕ))
+    (front : List ℕ) : Type 0 where
   pub script : List (Section Global)
   pub ends : List (SectionEnd Global)
   pub report : Report Global
@@ -42,9 +45,10 @@ pub record IsHalfTold (options : RunOptions) (refuses : ℕ → ℕ → Type 0) 
   pub left : List ℕ
   pub text : run_text script ends report ≡ front ++ left
 
--- What a run from bytes to bytes does, by its answer. Nothing is written until all sections have ended and their heap is closed; a read
--- or a write that fails ends it, the write after a front of the text.
-abbrev pub Runs : RunOptions → (ℕ → ℕ → Type 0) → Option (List ℕ) → Option (List ℕ) → Option (List ℕ) → Result Ended Fault → Type 0
+-- What a run from bytes to bytes does, by its answer. Nothing is written until all sections have ended and their heap
+-- is closed; a read or a write that fails ends it, the write after a front of the text.
+abbrev pub Runs : RunOptions → (ℕ → ℕ → Type 0) → Option (List ℕ) → Option (List ℕ) → Option (List ℕ)
+    → Result Ended Fault → Type 0
 Runs options refuses input old new (Ok ended) = IsTold options refuses input old new ended
 Runs options refuses input old new (Err faults.BadOptions) = Keeps old new × ¬ (AreRunOptions options)
 Runs options refuses input old new (Err (faults.BadScript line)) =

@@ -1,6 +1,7 @@
 //! A script from bytes to bytes: it is read, its sections run on threads of their own, and what came of it is told.
 //!
-//! `specs/Tellings.antt` is the text that is written, and `specs/Scripts_Run.antt` what the whole run does, by its answer.
+//! `specs/Tellings.antt` is the text that is written, and `specs/Scripts_Run.antt` what the whole run does, by its
+//! answer.
 #![tactic(auto)]
 
 mod telling;

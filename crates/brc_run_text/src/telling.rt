@@ -32,14 +32,16 @@ fn put_sections<A: Allocator, W: Write>(
     Ok(())
 }
 
-/// Writes what a run of the script came to: for each section, in the script's order, the lines that it printed, each behind the
-/// section's name, and the fault that ended it; then the report of their heap. All of it, or Io after a front of it. No memory is taken.
+/// Writes what a run of the script came to: for each section, in the script's order, the lines that it printed, each
+/// behind the section's name, and the fault that ended it; then the report of their heap. All of it, or Io after a
+/// front of it. No memory is taken.
 pub fn write_run<A: Allocator, W: Write>(
     script: &Script<A>,
     run: &RunReport<A>,
     writer: &mut W,
 ) -> Result<(), Fault>
-    ensures { Puts (W.contents writer.old) (W.contents writer.new) result (run_text script.now run.now.sections.items run.now.report) }
+    ensures { Puts (W.contents writer.old) (W.contents writer.new) result
+        (run_text script.now run.now.sections.items run.now.report) }
 {
     put_sections(writer, script.sections(), run.sections.as_slice())?;
     write_report(&run.report, writer)

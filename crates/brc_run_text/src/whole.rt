@@ -25,10 +25,10 @@ pub struct Ended {
     pub faulted: bool,
 }
 
-/// Reads a script, runs its sections at the same time, each on a thread of its own, and writes what each printed, in the script's order,
-/// and the report of their heap. BadOptions, looked at first, where a number of the options is outside its limits; Io where a read or a
-/// write fails; BadScript with the first bad line; OutOfMemory where a growth was refused, or a thread. Nothing is written until all
-/// sections have ended.
+/// Reads a script, runs its sections at the same time, each on a thread of its own, and writes what each printed, in
+/// the script's order, and the report of their heap. BadOptions, looked at first, where a number of the options is
+/// outside its limits; Io where a read or a write fails; BadScript with the first bad line; OutOfMemory where a growth
+/// was refused, or a thread. Nothing is written until all sections have ended.
 pub fn run_script<T: Threads + Wait + Sync, R: Read + Drop, W: Write, G: Gate>(
     rt: &T,
     alloc: Global,
@@ -37,7 +37,8 @@ pub fn run_script<T: Threads + Wait + Sync, R: Read + Drop, W: Write, G: Gate>(
     writer: &mut W,
     gate: &G,
 ) -> Result<Ended, Fault>
-    ensures runs { Runs options (G.may_refuse gate.now) (R.remaining reader) (W.contents writer.old) (W.contents writer.new) result }
+    ensures runs { Runs options (G.may_refuse gate.now) (R.remaining reader) (W.contents writer.old)
+        (W.contents writer.new) result }
     ensures options { (result ≡ Err faults.BadOptions) ↔ ¬ (AreRunOptions options) }
 {
     if !options.are_within() {

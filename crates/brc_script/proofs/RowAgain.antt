@@ -1,5 +1,6 @@
 -- What a line spells is read again.
-use Rattle.std.proofs.Common.{◌≡◌, ◌≢◌, ◌∙◌, ℕ, ◌+◌, ◌-◌, ◌^◌, ◌<◌, ◌&&◌, ◌++◌, not, Bool, true, false, leb, List, [], ◌∷◌, length, get_or, Option, Some, refl, sym, ap, subst, decimal, ℤ, pos, negsuc, arith}
+use Rattle.std.proofs.Common.{◌≡◌, ◌≢◌, ◌∙◌, ℕ, ◌+◌, ◌-◌, ◌^◌, ◌<◌, ◌&&◌, ◌++◌, not, Bool, true, false, leb, List, []}
+use Rattle.std.proofs.Common.{◌∷◌, length, get_or, Option, Some, refl, sym, ap, subst, decimal, ℤ, pos, negsuc, arith}
 use Rattle.std.specs.List.{list_all}
 use Rattle.std.specs.Int.{IsInRange}
 use Rattle.std.proofs.lemmas.List.{append-nil}
@@ -19,10 +20,14 @@ use Rattle.brc_script.specs.declared.instruction.Instruction.{Instruction}
 use Rattle.brc_script.specs.declared.instruction.Instruction.TheVariants as does
 use Rattle.brc_script.specs.declared.row.Row.{Row}
 use Rattle.brc_script.specs.declared.row.Row.TheVariants as rows
-use Rattle.brc_script.specs.Instructions.{NumberedLine, is_visible, is_register, is_index, is_integer, is_text, is_name, is_key, registers_of, operands_fit, HasLine}
+use Rattle.brc_script.specs.Instructions.{NumberedLine, is_visible, is_register, is_index, is_integer, is_text, is_name}
+use Rattle.brc_script.specs.Instructions.{is_key, registers_of, operands_fit, HasLine}
 use Rattle.brc_script.specs.FirstWords.{first_word, first_word_at}
-use Rattle.brc_script.specs.Operands.{within, is_times, is_above, is_below, register_at, above_at, integer_at, if_it_is, ahead, key_at, two_at, three_at, with_integer_at, two_with_index_at, index_between_at}
-use Rattle.brc_script.specs.Rows.{is_idle, is_section_name, text_at, put_at, find_at, delete_at, share_at, fetch_at, unshare_at, instruction_at, line_at, row_by, row_at}
+use Rattle.brc_script.specs.Operands.{within, is_times, is_above, is_below, register_at, above_at, integer_at, if_it_is}
+use Rattle.brc_script.specs.Operands.{ahead, key_at, two_at, three_at, with_integer_at, two_with_index_at}
+use Rattle.brc_script.specs.Operands.{index_between_at}
+use Rattle.brc_script.specs.Rows.{is_idle, is_section_name, text_at, put_at, find_at, delete_at, share_at, fetch_at}
+use Rattle.brc_script.specs.Rows.{unshare_at, instruction_at, line_at, row_by, row_at}
 use Rattle.brc_script.specs.Spellings.{spaced, register, integer, two, key, word_of, operands, spelled}
 use Rattle.brc_script.specs.Walks.{opening}
 use Rattle.brc_script.specs.Texts.{Says, IsNumbered}
@@ -50,7 +55,8 @@ register_lacks : (n : ℕ) → is_register n ≡ true → lacks 32 (register n) 
 register_lacks n h = number_lacks n (small_register n h)
 
 first_digit : (n : ℕ) → n < 2 ^ 64 → IsInRange 48 57 (get_or (decimal n) 0 0)
-first_digit n small = digit_ahead (decimal n) (decimal n) [] n (record { whole = sym (append-nil (decimal n)); ends = omega arith; spells = number_again n small })
+first_digit n small = digit_ahead (decimal n) (decimal n) [] n
+    (record { whole = sym (append-nil (decimal n)); ends = omega arith; spells = number_again n small })
 
 above_alone : (bytes : List ℕ) → 0 < length bytes → get_or bytes 0 0 ≢ 45 → integer_at bytes ≡ above_at bytes
 unfolding integer_at
@@ -90,17 +96,20 @@ visible_lacks : (bytes : List ℕ) → list_all is_visible bytes ≡ true → la
 visible_lacks [] h = refl
 visible_lacks (b ∷ bytes) h =
     let both = and_parts (is_visible b) (list_all is_visible bytes) h in
-    and_from _ _ (ap not (ne_eqb b 32 (λ e. omega (arith, leb-true 33 b (and_parts (leb 33 b) (leb b 126) both.0).0, e)))) (visible_lacks bytes both.1)
+    and_from _ _ (ap not (ne_eqb b 32
+    (λ e. omega (arith, leb-true 33 b (and_parts (leb 33 b) (leb b 126) both.0).0, e)))) (visible_lacks bytes both.1)
 
 name_lacks : (bytes : List ℕ) → is_name bytes ≡ true → lacks 32 bytes ≡ true
 unfolding is_name
-name_lacks bytes h = visible_lacks bytes (and_parts (leb 1 (length bytes) && leb (length bytes) MOST_NAME) (list_all is_visible bytes) h).1
+name_lacks bytes h = visible_lacks bytes (and_parts (leb 1 (length bytes) && leb (length bytes) MOST_NAME)
+    (list_all is_visible bytes) h).1
 
 if_again : (fits : List ℕ → Bool) (bytes : List ℕ) → fits bytes ≡ true → if_it_is fits bytes ≡ Some bytes
 if_again fits bytes h = rw h refl
 
 module _ {A : Type 0} where
-  number_alone : (bytes : List ℕ) → 0 < length bytes → get_or bytes 0 0 ≢ 39 → key_at {A = A} bytes ≡ (integer_at bytes >>= λ number. Some (keys.Int number))
+  number_alone : (bytes : List ℕ) → 0 < length bytes → get_or bytes 0 0 ≢ 39
+      → key_at {A = A} bytes ≡ (integer_at bytes >>= λ number. Some (keys.Int number))
   unfolding key_at
   number_alone [] some other = absurd (omega arith)
   number_alone (first ∷ name) some other = rw (ne_eqb first 39 other) refl
@@ -109,7 +118,8 @@ module _ {A : Type 0} where
   unfolding key_at
   key_again (keys.Int (pos n)) h =
       let fit = above_small n h in
-      number_alone (decimal n) (decimal_nonempty n fit.1) (λ e. let d = first_digit n fit.1 in omega (arith, d.0, d.1, e))
+      number_alone (decimal n) (decimal_nonempty n fit.1) (λ e. let d = first_digit n fit.1 in
+      omega (arith, d.0, d.1, e))
       ∙ rw (integer_again (pos n) h) refl
   key_again (keys.Int (negsuc n)) h = rw (integer_again (negsuc n) h) refl
   key_again (keys.Text bytes) h = rw (if_again is_name bytes h) refl
@@ -120,11 +130,13 @@ module _ {A : Type 0} where
 
 -- ---- several operands
 
-ahead_again : {X : Type 0} (read : List ℕ → Option X) (word rest : List ℕ) (x : X) → read word ≡ Some x → lacks 32 word ≡ true → ahead read (spaced word rest) ≡ Some (x, rest)
+ahead_again : {X : Type 0} (read : List ℕ → Option X) (word rest : List ℕ) (x : X) → read word ≡ Some x
+    → lacks 32 word ≡ true → ahead read (spaced word rest) ≡ Some (x, rest)
 unfolding ahead
 ahead_again read word rest x reads lack = rw (cut_until 32 word rest lack, reads) refl
 
-register_first : (n : ℕ) (rest : List ℕ) → is_register n ≡ true → ahead register_at (spaced (register n) rest) ≡ Some (n, rest)
+register_first : (n : ℕ) (rest : List ℕ) → is_register n ≡ true → ahead register_at (spaced (register n) rest)
+    ≡ Some (n, rest)
 register_first n rest h = ahead_again register_at (register n) rest n (register_again n h) (register_lacks n h)
 
 abbrev Registers : List ℕ → Type 0
@@ -146,9 +158,13 @@ two_again a b h = rw (register_first a (register b) (first_of a (b ∷ []) h), r
 three_again : (a b c : ℕ) → Registers (a ∷ b ∷ c ∷ []) → three_at (spaced (register a) (two b c)) ≡ Some (a, b, c)
 unfolding three_at
 three_again a b c h =
-    rw (register_first a (two b c) (first_of a (b ∷ c ∷ []) h), two_again b c (and_parts (is_register a) (list_all is_register (b ∷ c ∷ [])) h).1) refl
+    rw (
+      register_first a (two b c) (first_of a (b ∷ c ∷ []) h),
+      two_again b c (and_parts (is_register a) (list_all is_register (b ∷ c ∷ [])) h).1,
+    ) refl
 
-with_integer_again : (a : ℕ) (z : ℤ) → Registers (a ∷ []) → is_integer z ≡ true → with_integer_at (spaced (register a) (integer z)) ≡ Some (a, z)
+with_integer_again : (a : ℕ) (z : ℤ) → Registers (a ∷ []) → is_integer z ≡ true
+    → with_integer_at (spaced (register a) (integer z)) ≡ Some (a, z)
 unfolding with_integer_at
 with_integer_again a z h fit = rw (register_first a (integer z) (first_of a [] h), integer_again z fit) refl
 
@@ -156,7 +172,12 @@ two_with_index_again : (a b i : ℕ) → Registers (a ∷ b ∷ []) → is_index
     → two_with_index_at (spaced (register a) (spaced (register b) (decimal i))) ≡ Some (a, b, i)
 unfolding two_with_index_at
 two_with_index_again a b i h fit =
-    rw (register_first a (spaced (register b) (decimal i)) (first_of a (b ∷ []) h), register_first b (decimal i) (second_of a b [] h), within_again is_index i fit (small_index i fit)) refl
+    rw (
+      register_first a (spaced (register b) (decimal i)) (first_of a (b ∷ []) h),
+      register_first b (decimal i)
+          (second_of a b [] h),
+      within_again is_index i fit (small_index i fit),
+    ) refl
 
 index_between_again : (a i b : ℕ) → Registers (a ∷ b ∷ []) → is_index i ≡ true
     → index_between_at (spaced (register a) (spaced (decimal i) (register b))) ≡ Some (a, i, b)
@@ -164,7 +185,8 @@ unfolding index_between_at
 index_between_again a i b h fit =
     rw (
       register_first a (spaced (decimal i) (register b)) (first_of a (b ∷ []) h),
-      ahead_again (within is_index) (decimal i) (register b) i (within_again is_index i fit (small_index i fit)) (number_lacks i (small_index i fit)),
+      ahead_again (within is_index) (decimal i) (register b) i (within_again is_index i fit (small_index i fit))
+          (number_lacks i (small_index i fit)),
       register_again b (second_of a b [] h),
     ) refl
 
@@ -174,10 +196,12 @@ module _ {A : Type 0} where
 
   -- ---- instructions
 
-  instruction_again : (i : Instruction A) → list_all is_register (registers_of i) ≡ true → operands_fit i ≡ true → instruction_at (word_of i) (operands i) ≡ Some i
+  instruction_again : (i : Instruction A) → list_all is_register (registers_of i) ≡ true → operands_fit i ≡ true
+      → instruction_at (word_of i) (operands i) ≡ Some i
   unfolding instruction_at text_at put_at find_at delete_at share_at fetch_at unshare_at
   instruction_again (does.Int to number) h fit = rw (with_integer_again to number h fit) refl
-  instruction_again (does.Text to text) h fit = rw (register_first to text (first_of to [] h), if_again is_text text fit) refl
+  instruction_again (does.Text to text) h fit =
+      rw (register_first to text (first_of to [] h), if_again is_text text fit) refl
   instruction_again (does.List to) h fit = rw (one_again to h) refl
   instruction_again (does.Dict to) h fit = rw (one_again to h) refl
   instruction_again (does.Mailbox to) h fit = rw (one_again to h) refl
@@ -189,15 +213,34 @@ module _ {A : Type 0} where
   instruction_again (does.Set list index value) h fit = rw (index_between_again list index value h fit) refl
   instruction_again (does.Len to container) h fit = rw (two_again to container h) refl
   instruction_again (does.Put dict k value) h fit =
-      rw (register_first dict (spaced (key k) (register value)) (first_of dict (value ∷ []) h), key_first k (register value) fit, register_again value (second_of dict value [] h)) refl
+      rw (
+        register_first dict (spaced (key k) (register value)) (first_of dict (value ∷ []) h),
+        key_first k (register value) fit,
+        register_again value (second_of dict value [] h),
+      ) refl
   instruction_again (does.Find to dict k) h fit =
-      rw (register_first to (spaced (register dict) (key k)) (first_of to (dict ∷ []) h), register_first dict (key k) (second_of to dict [] h), key_again k fit) refl
+      rw (
+        register_first to (spaced (register dict) (key k)) (first_of to (dict ∷ []) h),
+        register_first dict (key k)
+            (second_of to dict [] h),
+        key_again k fit,
+      ) refl
   instruction_again (does.Delete to dict k) h fit =
-      rw (register_first to (spaced (register dict) (key k)) (first_of to (dict ∷ []) h), register_first dict (key k) (second_of to dict [] h), key_again k fit) refl
+      rw (
+        register_first to (spaced (register dict) (key k)) (first_of to (dict ∷ []) h),
+        register_first dict (key k)
+            (second_of to dict [] h),
+        key_again k fit,
+      ) refl
   instruction_again (does.Share name value) h fit =
-      rw (ahead_again (if_it_is is_name) name (register value) name (if_again is_name name fit) (name_lacks name fit), register_again value (first_of value [] h)) refl
-  instruction_again (does.Fetch to name) h fit = rw (register_first to name (first_of to [] h), if_again is_name name fit) refl
-  instruction_again (does.Unshare to name) h fit = rw (register_first to name (first_of to [] h), if_again is_name name fit) refl
+      rw (
+        ahead_again (if_it_is is_name) name (register value) name (if_again is_name name fit) (name_lacks name fit),
+        register_again value (first_of value [] h),
+      ) refl
+  instruction_again (does.Fetch to name) h fit =
+      rw (register_first to name (first_of to [] h), if_again is_name name fit) refl
+  instruction_again (does.Unshare to name) h fit =
+      rw (register_first to name (first_of to [] h), if_again is_name name fit) refl
   instruction_again (does.Send mailbox value) h fit = rw (two_again mailbox value h) refl
   instruction_again (does.Receive to mailbox) h fit = rw (two_again to mailbox h) refl
   instruction_again (does.Add to first second) h fit = rw (three_again to first second h) refl
@@ -212,7 +255,8 @@ module _ {A : Type 0} where
 
   -- no frame begins with the word of an instruction
   row_by_word : (number : ℕ) (i : Instruction A) (rest : List ℕ)
-      → row_by {A = A} number (word_of i) (Some rest) ≡ (line_at number (word_of i) rest >>= λ line. Some (rows.Does line))
+      → row_by {A = A} number (word_of i) (Some rest)
+      ≡ (line_at number (word_of i) rest >>= λ line. Some (rows.Does line))
   row_by_word number (does.Int to n) rest = refl
   row_by_word number _ rest = refl
 
@@ -232,27 +276,32 @@ word_works _ rest = refl
 
 module _ {A : Type 0} where
   -- a line of a word and what stands behind a space
-  spaced_row : (number : ℕ) (word : FirstWord) (rest : List ℕ) → row_at {A = A} number (spaced (first_word word) rest) ≡ row_by number word (Some rest)
+  spaced_row : (number : ℕ) (word : FirstWord) (rest : List ℕ) → row_at {A = A} number (spaced (first_word word) rest)
+      ≡ row_by number word (Some rest)
   unfolding row_at
   spaced_row number word rest =
       rw (word_works word (32 ∷ rest), cut_until 32 (first_word word) rest (word_lacks word), word_again word) refl
 
-  pub row_again : (number : ℕ) (line : List ℕ) (row : Row A) → Says line row → IsNumbered number row → row_at number line ≡ Some row
+  pub row_again : (number : ℕ) (line : List ℕ) (row : Row A) → Says line row → IsNumbered number row
+      → row_at number line ≡ Some row
   unfolding row_at spelled
   row_again number line rows.Idle says same = rw says refl
   row_again number line (rows.Section name) says same =
       subst (λ (l : List ℕ). row_at {A = A} number l ≡ Some (rows.Section name)) (sym says.1)
-      (spaced_row number words.Section name ∙ ap (λ (o : Option (List ℕ)). o >>= λ n. Some (rows.Section n)) (if_again is_section_name name says.0))
+      (spaced_row number words.Section name ∙ ap (λ (o : Option (List ℕ)). o >>= λ n. Some (rows.Section n))
+      (if_again is_section_name name says.0))
   row_again number line (rows.Repeat times) says same =
       subst (λ (l : List ℕ). row_at {A = A} number l ≡ Some (rows.Repeat times)) (sym says.1)
       (spaced_row number words.Repeat (decimal times)
-      ∙ ap (λ (o : Option ℕ). o >>= λ n. Some (rows.Repeat n)) (within_again is_times times says.0 (omega (arith, leb-true times MOST_TIMES says.0))))
+      ∙ ap (λ (o : Option ℕ). o >>= λ n. Some (rows.Repeat n))
+      (within_again is_times times says.0 (omega (arith, leb-true times MOST_TIMES says.0))))
   row_again number line rows.End says same =
       subst (λ (l : List ℕ). row_at {A = A} number l ≡ Some rows.End) (sym says)
       (rw (word_works words.End [], cut_whole 32 (first_word words.End) refl, word_again words.End) refl)
   row_again number line (rows.Does it) says same =
       subst (λ (l : List ℕ). row_at {A = A} number l ≡ Some (rows.Does it)) (sym says.1)
-      (spaced_row number (word_of it.instruction) (operands it.instruction) ∙ row_by_word number it.instruction (operands it.instruction)
+      (spaced_row number (word_of it.instruction) (operands it.instruction)
+      ∙ row_by_word number it.instruction (operands it.instruction)
       ∙ ap (λ (o : Option (NumberedLine A)). o >>= λ l. Some (rows.Does l)) (line_again number it.instruction says.0)
       ∙ ap (λ (n : ℕ). Some (rows.Does (record { number = n; instruction = it.instruction }))) (sym same))
 
@@ -262,7 +311,8 @@ spaced_opening : (word : FirstWord) (rest : List ℕ) → opening (spaced (first
 unfolding opening
 spaced_opening word rest = rw (cut_until 32 (first_word word) rest (word_lacks word), word_again word) refl
 
-pub opens_section : (line name : List ℕ) → line ≡ spaced (first_word words.Section) name → opening line ≡ Some words.Section
+pub opens_section : (line name : List ℕ) → line ≡ spaced (first_word words.Section) name
+    → opening line ≡ Some words.Section
 opens_section line name is = ap opening is ∙ spaced_opening words.Section name
 
 pub opens_end : (line : List ℕ) → line ≡ first_word words.End → opening line ≡ Some words.End

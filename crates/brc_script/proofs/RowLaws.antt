@@ -1,5 +1,6 @@
 -- What a line says, and the word with which it begins.
-use Rattle.std.proofs.Common.{◌≡◌, ◌∙◌, ℕ, ◌++◌, Bool, true, false, eqb, cond, List, [], ◌∷◌, Option, Some, None, refl, sym, ap, subst}
+use Rattle.std.proofs.Common.{◌≡◌, ◌∙◌, ℕ, ◌++◌, Bool, true, false, eqb, cond, List, [], ◌∷◌, Option, Some, None, refl}
+use Rattle.std.proofs.Common.{sym, ap, subst}
 use Rattle.std.specs.Prelude.{find}
 use Rattle.std.specs.Str.{bytes_eq}
 use Rattle.std.specs.List.{list_all}
@@ -29,7 +30,8 @@ use Rattle.brc_script.proofs.InstructionLaws.{instruction_takes}
 
 -- ---- first words
 
-found_first : {X : Type 0} (p : X → Bool) (y x : X) (b : Bool) (later : Option X) → p y ≡ b → (later ≡ Some x → p x ≡ true)
+found_first : {X : Type 0} (p : X → Bool) (y x : X) (b : Bool) (later : Option X) → p y ≡ b
+    → (later ≡ Some x → p x ≡ true)
     → cond b (Some y) later ≡ Some x → p x ≡ true
 found_first p y x true later h others e = subst (λ z. p z ≡ true) (same_some e) h
 found_first p y x false later h others e = others e
@@ -40,14 +42,17 @@ find_holds p (y ∷ ys) x e = found_first p y x (p y) (find p ys) refl (find_hol
 
 pub first_word_takes : (bytes : List ℕ) (word : FirstWord) → first_word_at bytes ≡ Some word → bytes ≡ first_word word
 unfolding first_word_at
-first_word_takes bytes word e = sym ((bytes_eq-Decides (first_word word) bytes).0 (find_holds (λ w. bytes_eq (first_word w) bytes) FIRST_WORDS word e))
+first_word_takes bytes word e =
+    sym ((bytes_eq-Decides (first_word word) bytes).0
+    (find_holds (λ w. bytes_eq (first_word w) bytes) FIRST_WORDS word e))
 
 -- an idle line begins with no word
 pub idle_opening : (line : List ℕ) → is_idle line ≡ true → opening line ≡ None
 unfolding is_idle opening first_word_at cut
 idle_opening [] h = refl
 idle_opening (first ∷ bytes) h =
-    subst (λ (b : ℕ). opening (b ∷ bytes) ≡ None) (sym (eqb-true first 35 (and_parts (eqb first 35) (list_all is_low bytes) h).0)) refl
+    subst (λ (b : ℕ). opening (b ∷ bytes) ≡ None)
+    (sym (eqb-true first 35 (and_parts (eqb first 35) (list_all is_low bytes) h).0)) refl
 
 -- ---- rows
 
@@ -64,7 +69,8 @@ frames rows.End = true
 frames (rows.Does line) = false
 
 module _ {A : Type 0} where
-  does_tells : (number : ℕ) (word : FirstWord) (rest line : List ℕ) (row : Row A) → (line_at number word rest >>= λ l. Some (rows.Does l)) ≡ Some row
+  does_tells : (number : ℕ) (word : FirstWord) (rest line : List ℕ) (row : Row A)
+      → (line_at number word rest >>= λ l. Some (rows.Does l)) ≡ Some row
       → line ≡ spaced (first_word word) rest → Tells number line row
   unfolding line_at spelled
   does_tells number word rest line row e whole =
@@ -76,15 +82,18 @@ module _ {A : Type 0} where
       (subst (λ (n : NumberedLine A). Tells number line (rows.Does n)) differ.1 (record {
         says = (
           record { registers = them.rest.there; differ = differ.0; operands = them.rest.fitting },
-          whole ∙ sym (ap (λ (w : FirstWord). spaced (first_word w) (operands i.0)) them.named ∙ ap (spaced (first_word word)) them.rest.spelled),
+          whole ∙ sym (ap (λ (w : FirstWord). spaced (first_word w) (operands i.0)) them.named
+              ∙ ap (spaced (first_word word)) them.rest.spelled),
         );
         is_numbered = refl;
       }))
 
-  row_by_tells : (number : ℕ) (word : FirstWord) (behind : Option (List ℕ)) (line : List ℕ) (row : Row A) → row_by number word behind ≡ Some row
+  row_by_tells : (number : ℕ) (word : FirstWord) (behind : Option (List ℕ)) (line : List ℕ) (row : Row A)
+      → row_by number word behind ≡ Some row
       → line ≡ first_word word ++ behind_mark 32 behind → Tells number line row
   row_by_tells number words.End None line row e whole =
-      subst (Tells number line) (same_some e) (record { says = whole ∙ append-nil (first_word words.End); is_numbered = tt })
+      subst (Tells number line) (same_some e)
+      (record { says = whole ∙ append-nil (first_word words.End); is_numbered = tt })
   row_by_tells number words.End (Some rest) line row e whole = absurd cc
   row_by_tells number words.Section (Some rest) line row e whole =
       let name = some_bind (if_it_is is_section_name rest) (λ name. Some (rows.Section name)) row e in
@@ -104,19 +113,22 @@ module _ {A : Type 0} where
   row_tells number line row e = by_idle (is_idle line) refl e
     where
       by_idle : (b : Bool) → is_idle line ≡ b
-          → cond b (Some rows.Idle) (first_word_at (cut 32 line).0 >>= λ word. row_by number word (cut 32 line).1) ≡ Some row → Tells number line row
+          → cond b (Some rows.Idle) (first_word_at (cut 32 line).0 >>= λ word. row_by number word (cut 32 line).1)
+          ≡ Some row → Tells number line row
       by_idle true is h = subst (Tells number line) (same_some h) (record { says = is; is_numbered = tt })
       by_idle false is h =
           let word = some_bind (first_word_at (cut 32 line).0) (λ word. row_by number word (cut 32 line).1) row h in
           row_by_tells number word.0 (cut 32 line).1 line row word.2
-          ((cut_parts 32 line).joined ∙ ap (λ (l : List ℕ). l ++ behind_mark 32 (cut 32 line).1) (first_word_takes (cut 32 line).0 word.0 word.1))
+          ((cut_parts 32 line).joined ∙ ap (λ (l : List ℕ). l ++ behind_mark 32 (cut 32 line).1)
+          (first_word_takes (cut 32 line).0 word.0 word.1))
 
   -- ---- which lines decide an open `repeat`
 
   not_a_frame : (row frame : Row A) → frames frame ≡ true → Some frame ≡ Some row → frames row ≡ false → ⊥
   not_a_frame row frame is e h = absurd (let same = ap frames (same_some e) in cc)
 
-  undecided : (number : ℕ) (word : FirstWord) (behind : Option (List ℕ)) (row : Row A) → row_by number word behind ≡ Some row → frames row ≡ false
+  undecided : (number : ℕ) (word : FirstWord) (behind : Option (List ℕ)) (row : Row A)
+      → row_by number word behind ≡ Some row → frames row ≡ false
       → decided (Some word) ≡ None
   undecided number words.End None row e h = absurd (not_a_frame row rows.End refl e h)
   undecided number words.End (Some rest) row e h = absurd cc
@@ -130,12 +142,14 @@ module _ {A : Type 0} where
       absurd (not_a_frame row (rows.Repeat times.0) refl times.2 h)
   undecided number _ behind row e h = refl
 
-  pub decides_nothing : (number : ℕ) (line : List ℕ) (row : Row A) → row_at number line ≡ Some row → frames row ≡ false → decided (opening line) ≡ None
+  pub decides_nothing : (number : ℕ) (line : List ℕ) (row : Row A) → row_at number line ≡ Some row → frames row ≡ false
+      → decided (opening line) ≡ None
   unfolding row_at opening
   decides_nothing number line row e h = by_idle (is_idle line) refl e
     where
       by_idle : (b : Bool) → is_idle line ≡ b
-          → cond b (Some rows.Idle) (first_word_at (cut 32 line).0 >>= λ word. row_by number word (cut 32 line).1) ≡ Some row → decided (opening line) ≡ None
+          → cond b (Some rows.Idle) (first_word_at (cut 32 line).0 >>= λ word. row_by number word (cut 32 line).1)
+          ≡ Some row → decided (opening line) ≡ None
       by_idle true is s = ap decided (idle_opening line is)
       by_idle false is s =
           let word = some_bind (first_word_at (cut 32 line).0) (λ word. row_by number word (cut 32 line).1) row s in

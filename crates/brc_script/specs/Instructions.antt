@@ -1,5 +1,6 @@
 -- Instructions as plain values, and which of them have a line in a script.
-use Rattle.std.specs.Prelude.{◌≡◌, ℕ, ◌^◌, ◌&&◌, not, ◌==◌, nat_le, nat_lt, ℤ, pos, negsuc, List, [], ◌∷◌, length, Bool, true, false}
+use Rattle.std.specs.Prelude.{◌≡◌, ℕ, ◌^◌, ◌&&◌, not, ◌==◌, nat_le, nat_lt, ℤ, pos, negsuc, List, [], ◌∷◌, length, Bool}
+use Rattle.std.specs.Prelude.{true, false}
 use Rattle.std.specs.List.{list_all, list_any}
 use Rattle.brc_words.specs.declared.key.Key.{Key}
 use Rattle.brc_words.specs.declared.key.Key.TheVariants as keys

@@ -1,5 +1,6 @@
 -- What one line of a script says.
-use Rattle.std.specs.Prelude.{ℕ, ◌==◌, ◌&&◌, ◌||◌, nat_le, nat_lt, if◌then◌else◌, Bool, true, List, [], ◌∷◌, length, Option, Some, None}
+use Rattle.std.specs.Prelude.{ℕ, ◌==◌, ◌&&◌, ◌||◌, nat_le, nat_lt, if◌then◌else◌, Bool, true, List, [], ◌∷◌, length}
+use Rattle.std.specs.Prelude.{Option, Some, None}
 use Rattle.std.specs.List.{list_all}
 use Rattle.brc_text.specs.Tokens.{◌>>=◌, or_else}
 use Rattle.brc_text.specs.Lines.{cut}
@@ -12,7 +13,8 @@ use Rattle.brc_script.specs.declared.row.Row.{Row}
 use Rattle.brc_script.specs.declared.row.Row.TheVariants as rows
 use Rattle.brc_script.specs.Instructions.{NumberedLine, registers_differ, is_text, is_name}
 use Rattle.brc_script.specs.FirstWords.{first_word_at}
-use Rattle.brc_script.specs.Operands.{register_at, within, is_times, if_it_is, ahead, key_at, two_at, three_at, with_integer_at, two_with_index_at, index_between_at}
+use Rattle.brc_script.specs.Operands.{register_at, within, is_times, if_it_is, ahead, key_at, two_at, three_at}
+use Rattle.brc_script.specs.Operands.{with_integer_at, two_with_index_at, index_between_at}
 
 -- an empty line, or a comment, in which each byte is below 128
 abbrev pub is_low : ℕ → Bool

@@ -32,7 +32,8 @@ module _ {A : Type 0} where
   -- what the lines say, one after the other; the first has this number
   abbrev pub AreRows : ℕ → List (List ℕ) → List (Row A) → Type 0
   AreRows number [] [] = Unit {0}
-  AreRows number (line ∷ lines) (row ∷ others) = Says line row × IsNumbered number row × AreRows (number + 1) lines others
+  AreRows number (line ∷ lines) (row ∷ others) = Says line row × IsNumbered number row × AreRows
+      (number + 1) lines others
   AreRows number _ _ = ⊥
 
   -- without the lines that say nothing

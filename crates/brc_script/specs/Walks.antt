@@ -1,5 +1,6 @@
 -- The sections that the lines of a text build up, one line at a time, or else the first bad line.
-use Rattle.std.specs.Prelude.{◌≡◌, ℕ, ◌+◌, ◌++◌, ◌&&◌, not, nat_lt, if◌then◌else◌, Bool, true, false, List, [], ◌∷◌, length, map, Option, Some, None, is_some, Result, Ok, Err}
+use Rattle.std.specs.Prelude.{◌≡◌, ℕ, ◌+◌, ◌++◌, ◌&&◌, not, nat_lt, if◌then◌else◌, Bool, true, false, List, [], ◌∷◌}
+use Rattle.std.specs.Prelude.{length, map, Option, Some, None, is_some, Result, Ok, Err}
 use Rattle.std.specs.List.{list_any}
 use Rattle.std.specs.Str.{bytes_eq}
 use Rattle.brc_words.specs.declared.fault.Fault.{Fault}
@@ -84,7 +85,11 @@ module _ {A : Type 0} where
   abbrev pub close_by : Progress A → Option ℕ → Option (Progress A)
   close_by progress None = None
   close_by progress (Some times) =
-      Some (record progress { pieces = progress.pieces ++ piece.Repeat times progress.lines ∷ []; times = None; lines = [] })
+      Some (record progress {
+        pieces = progress.pieces ++ piece.Repeat times progress.lines ∷ [];
+        times = None;
+        lines = [];
+      })
 
   -- an `end` after a `repeat`
   unfoldable pub close_repeat : Progress A → Option (Progress A)

@@ -3,7 +3,8 @@
 ghost use Rattle.std.specs.Prelude.{◌≡◌, ◌==◌, IfOk, IfErr};
 ghost use Rattle.brc_words.specs.declared.fault.Fault.TheVariants.{OutOfMemory};
 ghost use Rattle.brc_script.specs.Instructions.{registers_differ};
-ghost use Rattle.brc_script.specs.Rows.{plain_at, text_at, put_at, find_at, delete_at, share_at, fetch_at, unshare_at, worded_at, instruction_at, line_at};
+ghost use Rattle.brc_script.specs.Rows.{plain_at, text_at, put_at, find_at, delete_at, share_at, fetch_at, unshare_at};
+ghost use Rattle.brc_script.specs.Rows.{worded_at, instruction_at, line_at};
 
 use crate::first_word::FirstWord;
 use crate::instruction::Instruction;

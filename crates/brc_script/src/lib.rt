@@ -3,10 +3,10 @@
 //! `specs/Instructions.antt` and `specs/Scripts.antt` are what a script is as a plain value. The types keep that the
 //! registers of an instruction differ, that no `repeat` stands in another, and that a script has 1 to 63 sections.
 //!
-//! `specs/Spellings.antt` is the one spelling of each instruction, and `specs/Texts.antt` says which texts a script has:
-//! its lines in order, with empty lines and comments among them. `parse` takes these and nothing else
-//! (`proofs/TextLaws.antt`, `proofs/TextAgain.antt`); which line of another text is told is `specs/Walks.antt`, one walk
-//! over the lines.
+//! `specs/Spellings.antt` is the one spelling of each instruction, and `specs/Texts.antt` says which texts a script
+//! has: its lines in order, with empty lines and comments among them. `parse` takes these and nothing else
+//! (`proofs/TextLaws.antt`, `proofs/TextAgain.antt`); which line of another text is told is `specs/Walks.antt`, one
+//! walk over the lines.
 #![tactic(auto)]
 
 mod cutting;

@@ -30,7 +30,8 @@ fn opening_of(line: &[u8]) -> Option<FirstWord>
     first_word_of(word)
 }
 
-/// What a line's first word decides about an open `repeat`: only `end` closes it, before the next `section` or `repeat`.
+/// What a line's first word decides about an open `repeat`: only `end` closes it, before the next `section` or
+/// `repeat`.
 fn decided(opening: Option<FirstWord>) -> Option<bool>
     ensures { result ≡ decided opening }
 {

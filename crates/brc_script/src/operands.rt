@@ -5,7 +5,9 @@ ghost use Rattle.std.specs.List.{list_all};
 ghost use Rattle.std.specs.Str.{IsAscii};
 ghost use Rattle.brc_words.specs.declared.fault.Fault.TheVariants.{OutOfMemory};
 ghost use Rattle.brc_script.specs.Instructions.{is_printed, is_visible, is_text, is_name, is_index};
-ghost use Rattle.brc_script.specs.Operands.{within, is_times, register_at, below_at, above_at, integer_at, if_it_is, ahead, key_at, two_at, three_at, with_integer_at, two_with_index_at, index_between_at};
+ghost use Rattle.brc_script.specs.Operands.{within, is_times, register_at, below_at, above_at, integer_at, if_it_is};
+ghost use Rattle.brc_script.specs.Operands.{ahead, key_at, two_at, three_at, with_integer_at, two_with_index_at};
+ghost use Rattle.brc_script.specs.Operands.{index_between_at};
 
 use crate::cutting::cut;
 use crate::limits::{MOST_NAME, MOST_TEXT, MOST_TIMES, REGISTERS};

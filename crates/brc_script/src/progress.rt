@@ -3,7 +3,8 @@
 ghost use Rattle.std.specs.Prelude.{◌≡◌, ◌<◌, ◌≤◌, length, is_some, IfOk, IfErr, Some};
 ghost use Rattle.std.specs.Str.{bytes_eq};
 ghost use Rattle.brc_words.specs.declared.fault.Fault.TheVariants.{OutOfMemory};
-ghost use Rattle.brc_script.specs.Walks.{lines_of, is_closed, sections_of, is_named, begin, open_repeat, close_repeat, add, taken, nothing};
+ghost use Rattle.brc_script.specs.Walks.{lines_of, is_closed, sections_of, is_named, begin, open_repeat, close_repeat};
+ghost use Rattle.brc_script.specs.Walks.{add, taken, nothing};
 
 use crate::limits::MOST_SECTIONS;
 use crate::lines::is_closed;

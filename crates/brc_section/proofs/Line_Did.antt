@@ -1,5 +1,6 @@
 -- One line: its instruction, the poll that tells what its calls found, and work.
-use Rattle.std.proofs.Common.{◌≡◌, ◌∙◌, ℕ, true, false, List, [], ◌∷◌, Option, Result, Ok, Err, is_ok, MatchResult, refl, sym, ap, subst, true≢false}
+use Rattle.std.proofs.Common.{◌≡◌, ◌∙◌, ℕ, true, false, List, [], ◌∷◌, Option, Result, Ok, Err, is_ok, MatchResult}
+use Rattle.std.proofs.Common.{refl, sym, ap, subst, true≢false}
 use Rattle.brc_words.specs.declared.fault.Fault.{Fault}
 use Rattle.brc_words.specs.declared.fault.Fault.TheVariants as faults
 use Rattle.brc_script.specs.declared.instruction.Instruction.{Instruction}
@@ -24,20 +25,25 @@ abbrev fault_in : Result (Unit {0}) Fault → Fault → Fault
 fault_in (Ok done) else = else
 fault_in (Err fault) else = fault
 
-module _ {A : Type 0} (base : ℕ) (old mid polled : FrameSeen A) (before now : List (Option HandleSeen)) (had has : List ℕ) (s : State A) (instruction : Instruction A)
+module _ {A : Type 0} (base : ℕ) (old mid polled : FrameSeen A) (before now : List (Option HandleSeen))
+    (had has : List ℕ) (s : State A) (instruction : Instruction A)
     (here : At base old before had s) (heap : mid.heap ≡ old.heap) (later : IsLater old.seat.log mid.seat.log)
-    (own : OwnLog mid.heap.cells mid.seat.log) (told : ℕ) (polls : Polled mid polled told) (keeps : KeepsHandles mid polled) where
+    (own : OwnLog mid.heap.cells mid.seat.log) (told : ℕ) (polls : Polled mid polled told)
+    (keeps : KeepsHandles mid polled) where
   -- what the log before the instruction tells, frame and registers meant the state
   meant_before : Means base old before s
   meant_before =
       let earlier : OwnLog mid.heap.cells old.seat.log = own_earlier mid.heap.cells old.seat.log mid.seat.log later own
       in here.means (subst (λ (h : TableSeen). OwnLog h.cells old.seat.log) heap earlier)
 
-  polled_at : (next : State A) (printed : List ℕ) → Means base mid now next → next.printed ≡ printed → At base polled now printed next
-  polled_at next printed means same = record { means = λ more. means_polled base mid polled now next told means polls keeps more; same = same }
+  polled_at : (next : State A) (printed : List ℕ) → Means base mid now next → next.printed ≡ printed
+      → At base polled now printed next
+  polled_at next printed means same =
+      record { means = λ more. means_polled base mid polled now next told means polls keeps more; same = same }
 
   -- the line was refused, or what it shows couldn't be noted
-  pub did_refused : (outcome : Result (Option (Shown A)) Fault) (fault : Fault) → StepsAs old mid before now instruction outcome
+  pub did_refused : (outcome : Result (Option (Shown A)) Fault) (fault : Fault)
+      → StepsAs old mid before now instruction outcome
       → Notes outcome had has (Err fault) → Did base polled now has s (after instruction s) (Err fault)
   did_refused (Ok shown) fault steps notes =
       (here.same ∙ sym notes.1, λ none. absurd (true≢false (ap is_want (sym notes.0) ∙ none)))
@@ -46,29 +52,37 @@ module _ {A : Type 0} (base : ℕ) (old mid polled : FrameSeen A) (before now : 
       in (
         here.same ∙ sym notes.1,
         λ none.
-            let refused : (after instruction s ≡ Err own_fault) × Means base mid now s = steps base s own meant_before (ap is_want same ∙ none)
+            let refused : (after instruction s ≡ Err own_fault) × Means base mid now s = steps base s own meant_before
+            (ap is_want same ∙ none)
             in (refused.0 ∙ ap (λ (f : Fault). Err f) same, polled_at s has refused.1 (here.same ∙ sym notes.1)),
       )
 
   -- it was done, and noted
-  pub did_all : (outcome : Result (Option (Shown A)) Fault) (new : FrameSeen A) (turns : ℕ) → StepsAs old mid before now instruction outcome
+  pub did_all : (outcome : Result (Option (Shown A)) Fault) (new : FrameSeen A) (turns : ℕ)
+      → StepsAs old mid before now instruction outcome
       → Notes outcome had has (Ok tt) → Turns polled turns new → KeepsHandles polled new
       → Did base new now has s (after instruction s) (Ok tt)
   did_all (Ok shown) new turns steps notes worked kept =
-      let stepped : (next : State A) × (after instruction s ≡ Ok next) × (next.printed ≡ with_shown s.printed shown) × Means base mid now next
+      let stepped : (next : State A) × (after instruction s ≡ Ok next) × (next.printed ≡ with_shown s.printed shown)
+      × Means base mid now next
       = steps base s own meant_before
-      in let printed : stepped.0.printed ≡ has = stepped.2 ∙ ap (λ (lines : List ℕ). with_shown lines shown) here.same ∙ sym notes
+      in let printed : stepped.0.printed ≡ has = stepped.2 ∙ ap (λ (lines : List ℕ). with_shown lines shown) here.same
+      ∙ sym notes
       in let at_poll : At base polled now has stepped.0 = polled_at stepped.0 has stepped.3 printed
       in (
         stepped.0,
         stepped.1,
         record {
           means = λ more.
-              let quiet : IsLater polled.seat.log new.seat.log = quietly_later polled.seat.log new.seat.log (turns_quietly polled turns new worked)
-              in let earlier : OwnLog new.heap.cells polled.seat.log = own_earlier new.heap.cells polled.seat.log new.seat.log quiet more
-              in let same : OwnLog polled.heap.cells polled.seat.log = subst (λ (h : TableSeen). OwnLog h.cells polled.seat.log) kept.heap earlier
+              let quiet : IsLater polled.seat.log new.seat.log = quietly_later polled.seat.log new.seat.log
+              (turns_quietly polled turns new worked)
+              in let earlier : OwnLog new.heap.cells polled.seat.log =
+              own_earlier new.heap.cells polled.seat.log new.seat.log quiet more
+              in let same : OwnLog polled.heap.cells polled.seat.log =
+              subst (λ (h : TableSeen). OwnLog h.cells polled.seat.log) kept.heap earlier
               in means_worked base polled new now stepped.0 turns (at_poll.means same) worked kept more;
           same = printed;
         },
       )
-  did_all (Err fault) new turns steps notes worked kept = absurd (true≢false (ap (λ (r : Result (Unit {0}) Fault). is_ok r) notes.0))
+  did_all (Err fault) new turns steps notes worked kept =
+      absurd (true≢false (ap (λ (r : Result (Unit {0}) Fault). is_ok r) notes.0))

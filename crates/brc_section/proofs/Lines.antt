@@ -6,11 +6,13 @@ use Rattle.brc_script.specs.Instructions.{NumberedLine}
 use Rattle.brc_section.specs.Ends.{IsLineIn, IsLineOf}
 
 module _ {A : Type 0} where
-  of_first : (piece : Piece A) (later : List (Piece A)) (number : ℕ) → IsLineOf number (piece ∷ []) → IsLineOf number (piece ∷ later)
+  of_first : (piece : Piece A) (later : List (Piece A)) (number : ℕ) → IsLineOf number (piece ∷ [])
+      → IsLineOf number (piece ∷ later)
   of_first (pieces.One line) later number is = elim is [ inl here ↦ inl here | inr other ↦ absurd other ]
   of_first (pieces.Repeat times lines) later number is = elim is [ inl here ↦ inl here | inr other ↦ absurd other ]
 
-  of_later : (piece : Piece A) (later : List (Piece A)) (number : ℕ) → IsLineOf number later → IsLineOf number (piece ∷ later)
+  of_later : (piece : Piece A) (later : List (Piece A)) (number : ℕ) → IsLineOf number later
+      → IsLineOf number (piece ∷ later)
   of_later (pieces.One line) later number is = inr is
   of_later (pieces.Repeat times lines) later number is = inr is
 
@@ -23,12 +25,14 @@ module _ {A : Type 0} where
       in of_later first later number (of_one later k else number below is)
 
   -- a line of a piece is one of all the pieces among which it stands
-  pub piece_at : (all : List (Piece A)) (k : ℕ) (piece : Piece A) (number : ℕ) → k < length all → piece ≡ get_or all k piece
+  pub piece_at : (all : List (Piece A)) (k : ℕ) (piece : Piece A) (number : ℕ) → k < length all
+      → piece ≡ get_or all k piece
       → IsLineOf number (piece ∷ []) → IsLineOf number all
   piece_at all k piece number inside at is =
       of_one all k piece number inside (subst (λ (p : Piece A). IsLineOf number (p ∷ [])) at is)
 
-  in_these : (all : List (NumberedLine A)) (k : ℕ) (else : NumberedLine A) → k < length all → IsLineIn (get_or all k else).number all
+  in_these : (all : List (NumberedLine A)) (k : ℕ) (else : NumberedLine A) → k < length all
+      → IsLineIn (get_or all k else).number all
   in_these [] k else inside = absurd (omega (arith, inside))
   in_these (first ∷ later) zero else inside = inl refl
   in_these (first ∷ later) (suc k) else inside =
@@ -36,7 +40,8 @@ module _ {A : Type 0} where
       in inr (in_these later k else below)
 
   -- a line that stands among these is one of them
-  pub line_at : (all : List (NumberedLine A)) (k : ℕ) (line : NumberedLine A) (number : ℕ) → k < length all → line ≡ get_or all k line
+  pub line_at : (all : List (NumberedLine A)) (k : ℕ) (line : NumberedLine A) (number : ℕ) → k < length all
+      → line ≡ get_or all k line
       → line.number ≡ number → IsLineIn number all
   line_at all k line number inside at numbered =
       let there : IsLineIn (get_or all k line).number all = in_these all k line inside

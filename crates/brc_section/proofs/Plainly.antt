@@ -1,5 +1,6 @@
 -- From lines to the section: what it printed is its plain meaning, or a front of it.
-use Rattle.std.proofs.Common.{arith, ◌≡◌, ◌∙◌, ℕ, ◌+◌, Bool, true, false, not, List, [], ◌∷◌, ◌++◌, length, Option, Some, None, Result, Ok, Err, IfErr, IfSome, refl, sym, ap, subst, true≢false}
+use Rattle.std.proofs.Common.{arith, ◌≡◌, ◌∙◌, ℕ, ◌+◌, Bool, true, false, not, List, [], ◌∷◌, ◌++◌, length, Option}
+use Rattle.std.proofs.Common.{Some, None, Result, Ok, Err, IfErr, IfSome, refl, sym, ap, subst, true≢false}
 use Rattle.std.proofs.lemmas.List.{append-nil}
 use Rattle.brc_words.specs.Faults.{number_of}
 use Rattle.brc_words.specs.declared.fault.Fault.{Fault}
@@ -64,7 +65,8 @@ module _ {A : Type 0} where
   -- ---- registers made and released
 
   -- a section begins where frame and registers mean nothing yet
-  pub begins_at : (frame : FrameSeen A) (registers : List (Option HandleSeen)) (printed : List ℕ) → IsBare registers → length registers ≡ SIXTEEN
+  pub begins_at : (frame : FrameSeen A) (registers : List (Option HandleSeen)) (printed : List ℕ) → IsBare registers
+      → length registers ≡ SIXTEEN
       → printed ≡ [] → At (ledger_seen frame).allocs frame registers printed start
   begins_at frame registers printed bare size none = record {
     means = λ own. means_begins frame registers bare size;
@@ -79,15 +81,21 @@ module _ {A : Type 0} where
       ∙ ap (λ (h : TableSeen). (ledger_seen (record frame { heap = h })).allocs) heap
 
   -- what was born is told by the log before the registers were released
-  bore_before : (base : ℕ) (frame new : FrameSeen A) (registers : List (Option HandleSeen)) (s : State A) → new.heap ≡ frame.heap
-      → Quietly frame.seat.log new.seat.log → (OwnLog frame.heap.cells frame.seat.log → Means base frame registers s) → Bore base new s
+  bore_before : (base : ℕ) (frame new : FrameSeen A) (registers : List (Option HandleSeen)) (s : State A)
+      → new.heap ≡ frame.heap
+      → Quietly frame.seat.log new.seat.log → (OwnLog frame.heap.cells frame.seat.log → Means base frame registers s)
+      → Bore base new s
   bore_before base frame new registers s heap quiet means own =
-      let before : OwnLog new.heap.cells frame.seat.log = own_before new.heap.cells frame.seat.log new.seat.log quiet own
-      in let meant : Means base frame registers s = means (subst (λ (h : TableSeen). OwnLog h.cells frame.seat.log) heap before)
+      let before : OwnLog new.heap.cells frame.seat.log =
+      own_before new.heap.cells frame.seat.log new.seat.log quiet own
+      in let meant : Means base frame registers s =
+      means (subst (λ (h : TableSeen). OwnLog h.cells frame.seat.log) heap before)
       in same_allocs frame new heap quiet ∙ meant.shows.made
 
-  pub ended_all : (base : ℕ) (frame new : FrameSeen A) (registers : List (Option HandleSeen)) (printed : List ℕ) (lines : List (NumberedLine A))
-      → new.heap ≡ frame.heap → Quietly frame.seat.log new.seat.log → WentOn base frame registers printed start lines → Ended base new printed lines None
+  pub ended_all : (base : ℕ) (frame new : FrameSeen A) (registers : List (Option HandleSeen)) (printed : List ℕ)
+      (lines : List (NumberedLine A))
+      → new.heap ≡ frame.heap → Quietly frame.seat.log new.seat.log → WentOn base frame registers printed start lines
+      → Ended base new printed lines None
   ended_all base frame new registers printed lines heap quiet went = record {
     next = went.next;
     meant = went.meant;
@@ -95,8 +103,10 @@ module _ {A : Type 0} where
     bore = bore_before base frame new registers went.next heap quiet went.here.means;
   }
 
-  pub ended_early : (base : ℕ) (frame new : FrameSeen A) (registers : List (Option HandleSeen)) (printed : List ℕ) (lines : List (NumberedLine A)) (halt : Halt)
-      → new.heap ≡ frame.heap → Quietly frame.seat.log new.seat.log → Stopped base frame registers printed start lines halt.fault halt.line
+  pub ended_early : (base : ℕ) (frame new : FrameSeen A) (registers : List (Option HandleSeen)) (printed : List ℕ)
+      (lines : List (NumberedLine A)) (halt : Halt)
+      → new.heap ≡ frame.heap → Quietly frame.seat.log new.seat.log
+      → Stopped base frame registers printed start lines halt.fault halt.line
       → Ended base new printed lines (Some halt)
   ended_early base frame new registers printed lines halt heap quiet stopped = (
     stopped.broke,
@@ -114,12 +124,14 @@ module _ {A : Type 0} where
 
   module _ (section : Section A) (base : ℕ) (frame : FrameSeen A) (after : ℕ) (printed : List ℕ)
       (own : OwnLog frame.heap.cells frame.seat.log) (same : after ≡ (ledger_seen frame).allocs) where
-    pub prints_all : Ended base frame printed (written_out section.pieces) None → PrintsPlainly section base after printed None
+    pub prints_all : Ended base frame printed (written_out section.pieces) None
+        → PrintsPlainly section base after printed None
     prints_all ran =
         let meant = section_written_out section ∙ ap told ran.meant
         in record {
           prints = record {
-            front = subst (IsFront printed) (sym ran.same ∙ sym (ap (λ (m : Meaning). m.lines) meant)) (whole_front printed);
+            front = subst (IsFront printed) (sym ran.same ∙ sym (ap (λ (m : Meaning). m.lines) meant))
+                (whole_front printed);
             lines = λ _. sym ran.same ∙ sym (ap (λ (m : Meaning). m.lines) meant);
             fault = λ _. sym (ap (λ (m : Meaning). m.fault) meant);
           };
@@ -127,7 +139,8 @@ module _ {A : Type 0} where
         }
 
     -- what the last line before the halt had printed is a front of all
-    broke_front : (halt : Halt) → BrokeOff printed start (written_out section.pieces) → IsFront printed (meaning section).lines
+    broke_front : (halt : Halt) → BrokeOff printed start (written_out section.pieces)
+        → IsFront printed (meaning section).lines
     broke_front halt off =
         subst (λ (lines : List ℕ). IsFront lines (meaning section).lines)
         (ap (λ (r : Result (State A) (Stop A)). (ended r).printed) off.meant ∙ off.same)
@@ -139,14 +152,16 @@ module _ {A : Type 0} where
         let meant = section_written_out section ∙ ap told met.meant
         in record {
           prints = record {
-            front = subst (IsFront printed) (sym met.same ∙ sym (ap (λ (m : Meaning). m.lines) meant)) (whole_front printed);
+            front = subst (IsFront printed) (sym met.same ∙ sym (ap (λ (m : Meaning). m.lines) meant))
+                (whole_front printed);
             lines = λ _. sym met.same ∙ sym (ap (λ (m : Meaning). m.lines) meant);
             fault = λ _. sym (ap (λ (m : Meaning). m.fault) meant);
           };
           births = λ _. same ∙ met.bore own ∙ ap (λ (n : ℕ). base + n) (sym (ap (λ (m : Meaning). m.made) meant));
         }
 
-    by_machines : (halt : Halt) (b : Bool) → is_machines halt.fault ≡ b → Ended base frame printed (written_out section.pieces) (Some halt)
+    by_machines : (halt : Halt) (b : Bool) → is_machines halt.fault ≡ b
+        → Ended base frame printed (written_out section.pieces) (Some halt)
         → PrintsPlainly section base after printed (Some (number_of halt.fault, halt.line))
     by_machines halt true is ends =
         let no_own : is_own_end (Some (number_of halt.fault, halt.line)) ≡ true → ⊥
@@ -166,23 +181,28 @@ module _ {A : Type 0} where
     prints_met halt ends = by_machines halt (is_machines halt.fault) refl ends
 
     -- by the fault that is told of it
-    pub prints_of : (halt : Option Halt) (met : Option (ℕ × ℕ)) → FaultOf halt met → Ended base frame printed (written_out section.pieces) halt
+    pub prints_of : (halt : Option Halt) (met : Option (ℕ × ℕ)) → FaultOf halt met
+        → Ended base frame printed (written_out section.pieces) halt
         → PrintsPlainly section base after printed met
     prints_of None met is ran = subst (PrintsPlainly section base after printed) (sym is) (prints_all ran)
     prints_of (Some halt) met is ends = subst (PrintsPlainly section base after printed) (sym is) (prints_met halt ends)
 
   -- ---- what the lines came to
 
-  pub ended_of : (base : ℕ) (frame new : FrameSeen A) (registers : List (Option HandleSeen)) (printed : List ℕ) (lines : List (NumberedLine A))
-      (ran : Result (Unit {0}) Halt) (result : Option Halt) → HaltOf ran result → new.heap ≡ frame.heap → Quietly frame.seat.log new.seat.log
+  pub ended_of : (base : ℕ) (frame new : FrameSeen A) (registers : List (Option HandleSeen)) (printed : List ℕ)
+      (lines : List (NumberedLine A))
+      (ran : Result (Unit {0}) Halt) (result : Option Halt) → HaltOf ran result → new.heap ≡ frame.heap
+      → Quietly frame.seat.log new.seat.log
       → Ran base frame registers printed start lines ran → Ended base new printed lines result
   ended_of base frame new registers printed lines (Ok done) result is heap quiet went =
       subst (Ended base new printed lines) (sym is) (ended_all base frame new registers printed lines heap quiet went)
   ended_of base frame new registers printed lines (Err halt) result is heap quiet stopped =
-      subst (Ended base new printed lines) (sym is) (ended_early base frame new registers printed lines halt heap quiet stopped)
+      subst (Ended base new printed lines) (sym is)
+      (ended_early base frame new registers printed lines halt heap quiet stopped)
 
   -- memory for the registers was missing, at the first line
-  pub ended_first : (base : ℕ) (frame : FrameSeen A) (printed : List ℕ) (lines : List (NumberedLine A)) (halt : Halt) → printed ≡ []
+  pub ended_first : (base : ℕ) (frame : FrameSeen A) (printed : List ℕ) (lines : List (NumberedLine A)) (halt : Halt)
+      → printed ≡ []
       → is_machines halt.fault ≡ true → Ended base frame printed lines (Some halt)
   ended_first base frame printed lines halt none machines = (
     λ _. record { front = []; later = lines; whole = refl; next = start; meant = refl; same = sym none },
@@ -190,7 +210,8 @@ module _ {A : Type 0} where
   )
 
   -- there is no line
-  pub ended_without : (frame : FrameSeen A) (printed : List ℕ) (lines : List (NumberedLine A)) → printed ≡ [] → lines ≡ []
+  pub ended_without : (frame : FrameSeen A) (printed : List ℕ) (lines : List (NumberedLine A)) → printed ≡ []
+      → lines ≡ []
       → Ended (ledger_seen frame).allocs frame printed lines None
   ended_without frame printed lines none is = record {
     next = start;
@@ -200,11 +221,13 @@ module _ {A : Type 0} where
   }
 
 -- what holds of a halt holds of the halt that lines came to
-pub halt_holds : (P : Halt → Type 0) (ran : Result (Unit {0}) Halt) (result : Option Halt) → HaltOf ran result → IfErr ran P → IfSome result P
+pub halt_holds : (P : Halt → Type 0) (ran : Result (Unit {0}) Halt) (result : Option Halt) → HaltOf ran result
+    → IfErr ran P → IfSome result P
 halt_holds P (Ok done) result is holds = subst (λ (r : Option Halt). IfSome r P) (sym is) tt
 halt_holds P (Err halt) result is holds = subst (λ (r : Option Halt). IfSome r P) (sym is) holds
 
-pub fault_some : (halt : Option Halt) (met : Option (ℕ × ℕ)) (h : Halt) (number : ℕ) → halt ≡ Some h → met ≡ Some (number, h.line)
+pub fault_some : (halt : Option Halt) (met : Option (ℕ × ℕ)) (h : Halt) (number : ℕ) → halt ≡ Some h
+    → met ≡ Some (number, h.line)
     → number ≡ number_of h.fault → FaultOf halt met
 fault_some halt met h number is told same =
     subst (λ (o : Option Halt). FaultOf o met) (sym is) (told ∙ ap (λ (n : ℕ). Some (n, h.line)) same)
@@ -213,16 +236,22 @@ pub fault_none : (halt : Option Halt) (met : Option (ℕ × ℕ)) → halt ≡ N
 fault_none halt met is none = subst (λ (o : Option Halt). FaultOf o met) (sym is) none
 
 module _ {A : Type 0} where
-  -- a section from its first line to its thread's rest: `began` is the frame that its lines began with, `ran` the one they left
-  pub plainly : (section : Section A) (old began ran new : FrameSeen A) (none lines printed : List ℕ) (halt : Option Halt) (met : Option (ℕ × ℕ))
+  -- a section from its first line to its thread's rest: `began` is the frame that its lines began with, `ran` the one
+  -- they left
+  pub plainly : (section : Section A) (old began ran new : FrameSeen A) (none lines printed : List ℕ)
+      (halt : Option Halt) (met : Option (ℕ × ℕ))
       → began ≡ old → none ≡ [] → printed ≡ lines
-      → (none ≡ [] → AreOwn (written_out section.pieces) → Ended (ledger_seen began).allocs ran lines (written_out section.pieces) halt)
+      → (none ≡ [] → AreOwn (written_out section.pieces) → Ended (ledger_seen began).allocs ran lines
+      (written_out section.pieces) halt)
       → OwnLog ran.heap.cells ran.seat.log → new.heap ≡ ran.heap → Quietly ran.seat.log new.seat.log → FaultOf halt met
       → is_private section ≡ true → PrintsPlainly section (ledger_seen old).allocs (ledger_seen new).allocs printed met
   plainly section old began ran new none lines printed halt met same empty is ends own heap quiet told private =
-      let ended : Ended (ledger_seen began).allocs ran lines (written_out section.pieces) halt = ends empty (own_section section private)
+      let ended : Ended (ledger_seen began).allocs ran lines (written_out section.pieces) halt =
+      ends empty (own_section section private)
       in let from : Ended (ledger_seen old).allocs ran lines (written_out section.pieces) halt
       = subst (λ (f : FrameSeen A). Ended (ledger_seen f).allocs ran lines (written_out section.pieces) halt) same ended
       in let shown : Ended (ledger_seen old).allocs ran printed (written_out section.pieces) halt
-      = subst (λ (bytes : List ℕ). Ended (ledger_seen old).allocs ran bytes (written_out section.pieces) halt) (sym is) from
-      in prints_of section (ledger_seen old).allocs ran (ledger_seen new).allocs printed own (same_allocs ran new heap quiet) halt met told shown
+      = subst (λ (bytes : List ℕ). Ended (ledger_seen old).allocs ran bytes (written_out section.pieces) halt)
+      (sym is) from
+      in prints_of section (ledger_seen old).allocs ran (ledger_seen new).allocs printed own
+      (same_allocs ran new heap quiet) halt met told shown

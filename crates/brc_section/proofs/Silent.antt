@@ -1,5 +1,6 @@
 -- An instruction that doesn't print leaves what was printed as it is.
-use Rattle.std.proofs.Common.{◌≡◌, ℕ, ℤ, pos, Bool, true, false, if◌then◌else◌, List, Option, Some, Result, Ok, Err, IfOk, refl, sym, ap, subst, true≢false}
+use Rattle.std.proofs.Common.{◌≡◌, ℕ, ℤ, pos, Bool, true, false, if◌then◌else◌, List, Option, Some, Result, Ok, Err}
+use Rattle.std.proofs.Common.{IfOk, refl, sym, ap, subst, true≢false}
 use Rattle.brc_words.specs.declared.fault.Fault.{Fault}
 use Rattle.brc_script.specs.declared.instruction.Instruction.{Instruction}
 use Rattle.brc_script.specs.declared.instruction.Instruction.TheVariants as does
@@ -17,7 +18,8 @@ use Rattle.brc_meaning.specs.Steps.{after, integer_sum}
 use Rattle.brc_section.specs.Stepping.{is_print}
 
 module _ {A : Type 0} where
-  through : {X : Type 0} (P : State A → Type 0) (r : Result X Fault) (f : X → Result (State A) Fault) → ((x : X) → IfOk (f x) P) → IfOk (r >>= f) P
+  through : {X : Type 0} (P : State A → Type 0) (r : Result X Fault) (f : X → Result (State A) Fault)
+      → ((x : X) → IfOk (f x) P) → IfOk (r >>= f) P
   through P (Ok x) f all = all x
   through P (Err fault) f all = tt
 
@@ -28,15 +30,20 @@ module _ {A : Type 0} where
   integer_same : (number : ℤ) (to : ℕ) (s : State A) → Same s (with_integer number to s)
   integer_same number to s = by_size (is_small number)
     where
-      by_size : (small : Bool) → Same s (if small then with_register to (Some (references.Small number)) s else with_object (objects.Int number) to s)
+      by_size : (small : Bool)
+          → Same s (if small then with_register to (Some (references.Small number)) s else with_object
+          (objects.Int number) to s)
       by_size true = refl
       by_size false = refl
 
-  called_same : (call : Object A → Result (Option Reference × Object A) Fault) (container to : ℕ) (s : State A) → IfOk (called call container to s) (Same s)
+  called_same : (call : Object A → Result (Option Reference × Object A) Fault) (container to : ℕ) (s : State A)
+      → IfOk (called call container to s) (Same s)
   called_same call container to s =
-      through (Same s) (held container s.registers) _ (λ reference. through (Same s) (calling call reference s.objects) _ (λ done. refl))
+      through (Same s) (held container s.registers) _
+      (λ reference. through (Same s) (calling call reference s.objects) _ (λ done. refl))
 
-  pub prints_nothing : (instruction : Instruction A) (s : State A) → is_print instruction ≡ false → IfOk (after instruction s) (Same s)
+  pub prints_nothing : (instruction : Instruction A) (s : State A) → is_print instruction ≡ false
+      → IfOk (after instruction s) (Same s)
   prints_nothing (does.Int to number) s silent = integer_same number to s
   prints_nothing (does.Text to text) s silent = refl
   prints_nothing (does.List to) s silent = refl
@@ -49,19 +56,24 @@ module _ {A : Type 0} where
   prints_nothing (does.Pop to list) s silent = called_same (object_call calls.Pop) list to s
   prints_nothing (does.Get to list index) s silent = called_same (object_call (calls.Get index)) list to s
   prints_nothing (does.Set list index value) s silent =
-      through (Same s) (held value s.registers) _ (λ given. called_same (object_call (calls.Set index given)) list value s)
+      through (Same s) (held value s.registers) _
+      (λ given. called_same (object_call (calls.Set index given)) list value s)
   prints_nothing (does.Len to container) s silent =
-      through (Same s) (held container s.registers) _ (λ reference. through (Same s) (asked entries_in reference s.objects) _ (λ entries. integer_same (pos entries) to s))
+      through (Same s) (held container s.registers) _
+      (λ reference. through (Same s) (asked entries_in reference s.objects) _
+      (λ entries. integer_same (pos entries) to s))
   prints_nothing (does.Put dict key value) s silent =
       through (Same s) (held value s.registers) _ (λ given. called_same (keyed_call key (keyed.Put given)) dict value s)
   prints_nothing (does.Find to dict key) s silent = called_same (keyed_call key keyed.Find) dict to s
   prints_nothing (does.Delete to dict key) s silent = called_same (keyed_call key keyed.Delete) dict to s
   prints_nothing (does.Send mailbox value) s silent =
-      through (Same s) (held value s.registers) _ (λ given. called_same (object_call (calls.Send given)) mailbox value s)
+      through (Same s) (held value s.registers) _
+      (λ given. called_same (object_call (calls.Send given)) mailbox value s)
   prints_nothing (does.Receive to mailbox) s silent = called_same (object_call calls.Receive) mailbox to s
   prints_nothing (does.Add to first second) s silent =
       through (Same s) (held first s.registers) _ (λ one. through (Same s) (held second s.registers) _ (λ other.
-      through (Same s) (asked number_in one s.objects) _ (λ number. through (Same s) (asked number_in other s.objects) _ (λ more.
+      through (Same s) (asked number_in one s.objects) _
+      (λ number. through (Same s) (asked number_in other s.objects) _ (λ more.
       through (Same s) (integer_sum number more) _ (λ sum. integer_same sum to s)))))
   prints_nothing (does.Print from) s silent = absurd (true≢false silent)
   prints_nothing (does.Share name value) s silent = refl
@@ -69,7 +81,8 @@ module _ {A : Type 0} where
   prints_nothing (does.Unshare to name) s silent = refl
 
   -- one that isn't `print`
-  pub silent_of : (instruction : Instruction A) → ((from : ℕ) → instruction ≡ does.Print from → ⊥) → is_print instruction ≡ false
+  pub silent_of : (instruction : Instruction A) → ((from : ℕ) → instruction ≡ does.Print from → ⊥)
+      → is_print instruction ≡ false
   silent_of (does.Int to number) other = refl
   silent_of (does.Text to text) other = refl
   silent_of (does.List to) other = refl

@@ -1,5 +1,6 @@
 -- What an instruction comes to, with what it shows.
-use Rattle.std.proofs.Common.{◌≡◌, ◌∙◌, ℕ, false, List, [], ◌∷◌, ◌++◌, Option, Some, None, Result, Ok, Err, IfOk, refl, sym, ap, subst}
+use Rattle.std.proofs.Common.{◌≡◌, ◌∙◌, ℕ, false, List, [], ◌∷◌, ◌++◌, Option, Some, None, Result, Ok, Err, IfOk, refl}
+use Rattle.std.proofs.Common.{sym, ap, subst}
 use Rattle.brc_words.specs.declared.fault.Fault.{Fault}
 use Rattle.brc_script.specs.declared.instruction.Instruction.{Instruction}
 use Rattle.brc_script.specs.declared.instruction.Instruction.TheVariants as does
@@ -23,19 +24,34 @@ module _ {A : Type 0} where
       in record {
         cells = means.cells;
         part = means.part;
-        shows = record { lives = shows.lives; held = shows.held; size = shows.size; same_size = shows.same_size; made = shows.made };
+        shows = record {
+          lives = shows.lives;
+          held = shows.held;
+          size = shows.size;
+          same_size = shows.same_size;
+          made = shows.made;
+        };
       }
 
-  module _ (old new : FrameSeen A) (registers : List (Option HandleSeen)) (instruction : Instruction A) (from : ℕ) (is : instruction ≡ does.Print from) where
+  module _ (old new : FrameSeen A) (registers : List (Option HandleSeen)) (instruction : Instruction A) (from : ℕ)
+      (is : instruction ≡ does.Print from) where
     pub prints_shown : (shown : Shown A)
-        → ((base : ℕ) (s : State A) → OwnLog new.heap.cells new.seat.log → Means base old registers s → PrintsAs base new registers from s (Ok shown))
+        → ((base : ℕ) (s : State A) → OwnLog new.heap.cells new.seat.log → Means base old registers s
+        → PrintsAs base new registers from s (Ok shown))
         → StepsAs old new registers registers instruction (Ok (Some shown))
     prints_shown shown prints base s own means =
         let led = prints base s own means
-        in (with_line (text_shown shown) s, ap (λ (i : Instruction A). after i s) is ∙ led.0, refl, means_printed base new registers s (text_shown shown) led.1)
+        in (
+          with_line (text_shown shown) s,
+          ap (λ (i : Instruction A). after i s) is
+              ∙ led.0,
+          refl,
+          means_printed base new registers s (text_shown shown) led.1,
+        )
 
     pub prints_refused : (fault : Fault)
-        → ((base : ℕ) (s : State A) → OwnLog new.heap.cells new.seat.log → Means base old registers s → PrintsAs base new registers from s (Err fault))
+        → ((base : ℕ) (s : State A) → OwnLog new.heap.cells new.seat.log → Means base old registers s
+        → PrintsAs base new registers from s (Err fault))
         → StepsAs old new registers registers instruction (Err fault)
     prints_refused fault prints base s own means plain =
         let led = prints base s own means plain
@@ -54,5 +70,6 @@ module _ {A : Type 0} where
           led.2,
         )
 
-    pub silent_refused : (fault : Fault) → Follows old new before now instruction (Err fault) → StepsAs old new before now instruction (Err fault)
+    pub silent_refused : (fault : Fault) → Follows old new before now instruction (Err fault)
+        → StepsAs old new before now instruction (Err fault)
     silent_refused fault follows base s own means plain = follows base s own means plain

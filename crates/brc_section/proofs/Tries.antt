@@ -1,5 +1,6 @@
 -- A try that found nothing leaves what frame and registers mean, and so do a poll and work after it.
-use Rattle.std.proofs.Common.{◌≡◌, ◌≢◌, ◌∙◌, ℕ, Bool, true, false, List, [], ◌∷◌, Option, Result, Ok, Err, inl, inr, refl, sym, ap, subst, true≢false, eq-eqb}
+use Rattle.std.proofs.Common.{◌≡◌, ◌≢◌, ◌∙◌, ℕ, Bool, true, false, List, [], ◌∷◌, Option, Result, Ok, Err, inl, inr}
+use Rattle.std.proofs.Common.{refl, sym, ap, subst, true≢false, eq-eqb}
 use Rattle.brc_words.specs.declared.fault.Fault.{Fault}
 use Rattle.brc_words.specs.declared.fault.Fault.TheVariants as faults
 use Rattle.brc_script.specs.declared.instruction.Instruction.{Instruction}
@@ -21,39 +22,54 @@ use Rattle.brc_section.specs.declared.waiting.Awaited.TheVariants as awaits
 use Rattle.brc_section.specs.Waiting.{FoundNothing}
 use Rattle.brc_section.specs.Tries.{StaysMeant}
 
-nothing_is_no_want : (tried : Result (Unit {0}) Fault) → FoundNothing tried → (fault : Fault) × (tried ≡ Err fault) × (is_want fault ≡ false)
+nothing_is_no_want : (tried : Result (Unit {0}) Fault) → FoundNothing tried
+    → (fault : Fault) × (tried ≡ Err fault) × (is_want fault ≡ false)
 nothing_is_no_want tried (inl is) = (faults.NoSuchKey, is, refl)
 nothing_is_no_want tried (inr is) = (faults.NoSuchPlace, is, refl)
 
 module _ {A : Type 0} where
-  own_at : (old new : FrameSeen A) → new.heap ≡ old.heap → IsLater old.seat.log new.seat.log → OwnLog new.heap.cells new.seat.log
+  own_at : (old new : FrameSeen A) → new.heap ≡ old.heap → IsLater old.seat.log new.seat.log
+      → OwnLog new.heap.cells new.seat.log
       → OwnLog old.heap.cells old.seat.log
   own_at old new heap later own =
-      subst (λ (h : TableSeen). OwnLog h.cells old.seat.log) heap (own_earlier new.heap.cells old.seat.log new.seat.log later own)
+      subst (λ (h : TableSeen). OwnLog h.cells old.seat.log) heap
+      (own_earlier new.heap.cells old.seat.log new.seat.log later own)
 
-  pub stays_here : (frame : FrameSeen A) (registers : List (Option HandleSeen)) → StaysMeant frame registers frame registers
-  stays_here frame registers = record { heap = refl; later = later_same frame.seat.log; means = λ base s own means. means }
+  pub stays_here : (frame : FrameSeen A) (registers : List (Option HandleSeen))
+      → StaysMeant frame registers frame registers
+  stays_here frame registers = record {
+    heap = refl;
+    later = later_same frame.seat.log;
+    means = λ base s own means. means;
+  }
 
   -- a poll, and work
   pub stays_on : (old frame polled new : FrameSeen A) (before registers : List (Option HandleSeen)) (told turns : ℕ)
-      → StaysMeant old before frame registers → Polled frame polled told → KeepsHandles frame polled → Turns polled turns new → KeepsHandles polled new
+      → StaysMeant old before frame registers → Polled frame polled told → KeepsHandles frame polled
+      → Turns polled turns new → KeepsHandles polled new
       → StaysMeant old before new registers
   stays_on old frame polled new before registers told turns stays polls kept worked keeps =
-      let on : IsLater frame.seat.log polled.seat.log = quietly_later frame.seat.log polled.seat.log (polled_quietly frame polled told polls)
-      in let more : IsLater polled.seat.log new.seat.log = quietly_later polled.seat.log new.seat.log (turns_quietly polled turns new worked)
+      let on : IsLater frame.seat.log polled.seat.log = quietly_later frame.seat.log polled.seat.log
+      (polled_quietly frame polled told polls)
+      in let more : IsLater polled.seat.log new.seat.log = quietly_later polled.seat.log new.seat.log
+      (turns_quietly polled turns new worked)
       in record {
         heap = keeps.heap ∙ kept.heap ∙ stays.heap;
-        later = later_both old.seat.log frame.seat.log new.seat.log stays.later (later_both frame.seat.log polled.seat.log new.seat.log on more);
+        later = later_both old.seat.log frame.seat.log new.seat.log stays.later
+            (later_both frame.seat.log polled.seat.log new.seat.log on more);
         means = λ base s own means.
             let at_poll : OwnLog polled.heap.cells polled.seat.log = own_at polled new keeps.heap more own
             in let at_frame : OwnLog frame.heap.cells frame.seat.log = own_at frame polled kept.heap on at_poll
             in means_worked base polled new registers s turns
-            (means_polled base frame polled registers s told (stays.means base s at_frame means) polls kept at_poll) worked keeps own;
+            (means_polled base frame polled registers s told (stays.means base s at_frame means) polls kept at_poll)
+            worked keeps own;
       }
 
   -- a try that found nothing
-  pub stays_tried : (old frame new : FrameSeen A) (before registers now : List (Option HandleSeen)) (instruction : Instruction A)
-      (tried : Result (Unit {0}) Fault) → StaysMeant old before frame registers → new.heap ≡ frame.heap → IsLater frame.seat.log new.seat.log
+  pub stays_tried : (old frame new : FrameSeen A) (before registers now : List (Option HandleSeen))
+      (instruction : Instruction A)
+      (tried : Result (Unit {0}) Fault) → StaysMeant old before frame registers → new.heap ≡ frame.heap
+      → IsLater frame.seat.log new.seat.log
       → Follows frame new registers now instruction tried → FoundNothing tried → StaysMeant old before new now
   stays_tried old frame new before registers now instruction tried stays heap later follows nothing =
       let fault = nothing_is_no_want tried nothing
@@ -62,13 +78,16 @@ module _ {A : Type 0} where
         later = later_both old.seat.log frame.seat.log new.seat.log stays.later later;
         means = λ base s own means.
             let goes : Goes base new now s (after instruction s) (Err fault.0)
-            = subst (Goes base new now s (after instruction s)) fault.1 (follows base s own (stays.means base s (own_at frame new heap later own) means))
+            = subst (Goes base new now s (after instruction s)) fault.1
+            (follows base s own (stays.means base s (own_at frame new heap later own) means))
             in (goes fault.2).1;
       }
 
   -- the last try tells
-  pub follows_on : (old frame new : FrameSeen A) (before registers now : List (Option HandleSeen)) (instruction : Instruction A)
-      (tried : Result (Unit {0}) Fault) → StaysMeant old before frame registers → new.heap ≡ frame.heap → IsLater frame.seat.log new.seat.log
+  pub follows_on : (old frame new : FrameSeen A) (before registers now : List (Option HandleSeen))
+      (instruction : Instruction A)
+      (tried : Result (Unit {0}) Fault) → StaysMeant old before frame registers → new.heap ≡ frame.heap
+      → IsLater frame.seat.log new.seat.log
       → Follows frame new registers now instruction tried → Follows old new before now instruction tried
   follows_on old frame new before registers now instruction tried stays heap later follows base s own means =
       follows base s own (stays.means base s (own_at frame new heap later own) means)

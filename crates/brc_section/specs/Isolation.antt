@@ -14,14 +14,15 @@ is_own_end None = true
 is_own_end (Some fault) = not (is_the_machines fault.0)
 
 module _ {A : Type 0} where
-  -- The section prints its plain meaning: a front of it at least; and where no want and no gate stopped it, just that, with the
-  -- fault that it means, if any.
+  -- The section prints its plain meaning: a front of it at least; and where no want and no gate stopped it, just that,
+  -- with the fault that it means, if any.
   pub record Prints (section : Section A) (printed : List ℕ) (met : Option (ℕ × ℕ)) : Type 0 where
     pub front : IsFront printed (meaning section).lines
     pub lines : is_own_end met ≡ true → printed ≡ (meaning section).lines
     pub fault : is_own_end met ≡ true → met ≡ (meaning section).fault
 
   -- so, and its thread bore as many objects as the section makes
-  pub record PrintsPlainly (section : Section A) (before after : ℕ) (printed : List ℕ) (met : Option (ℕ × ℕ)) : Type 0 where
+  pub record PrintsPlainly (section : Section A) (before after : ℕ) (printed : List ℕ)
+      (met : Option (ℕ × ℕ)) : Type 0 where
     pub prints : Prints section printed met
     pub births : is_own_end met ≡ true → after ≡ before + (meaning section).made

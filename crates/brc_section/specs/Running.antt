@@ -1,5 +1,6 @@
 -- What running a line, or lines, comes to, by their plain meaning.
-use Rattle.std.specs.Prelude.{◌≡◌, ℕ, ◌+◌, true, false, List, [], ◌∷◌, length, Option, Some, None, Result, Ok, Err, MatchResult, MatchOption}
+use Rattle.std.specs.Prelude.{◌≡◌, ℕ, ◌+◌, true, false, List, [], ◌∷◌, length, Option, Some, None, Result, Ok, Err}
+use Rattle.std.specs.Prelude.{MatchResult, MatchOption}
 use Rattle.brc_words.specs.Faults.{number_of}
 use Rattle.brc_words.specs.declared.fault.Fault.{Fault}
 use Rattle.brc_words.specs.declared.fault.Fault.TheVariants as faults
@@ -24,29 +25,35 @@ module _ {A : Type 0} where
   -- What was shown is noted; or memory for it was missing, and nothing is. A fault stays a fault.
   abbrev pub Notes : Result (Option (Shown A)) Fault → List ℕ → List ℕ → Result (Unit {0}) Fault → Type 0
   Notes outcome had has result = MatchResult outcome
-      (λ shown. MatchResult result (λ _. has ≡ with_shown had shown) (λ fault. (fault ≡ faults.OutOfMemory) × (has ≡ had)))
+      (λ shown. MatchResult result (λ _. has ≡ with_shown had shown)
+      (λ fault. (fault ≡ faults.OutOfMemory) × (has ≡ had)))
       (λ fault. (result ≡ Err fault) × (has ≡ had))
 
-  -- The line's instruction led where it is meant to lead; or it was refused as it is meant to be, unless something was wanting.
-  -- Nothing more was printed then.
-  abbrev pub Did : ℕ → FrameSeen A → List (Option HandleSeen) → List ℕ → State A → Result (State A) Fault → Result (Unit {0}) Fault → Type 0
+  -- The line's instruction led where it is meant to lead; or it was refused as it is meant to be, unless something was
+  -- wanting. Nothing more was printed then.
+  abbrev pub Did : ℕ → FrameSeen A → List (Option HandleSeen) → List ℕ → State A → Result (State A) Fault
+      → Result (Unit {0}) Fault → Type 0
   Did base frame registers printed s meant result = MatchResult result
       (λ _. (next : State A) × (meant ≡ Ok next) × At base frame registers printed next)
-      (λ fault. (s.printed ≡ printed) × (is_want fault ≡ false → (meant ≡ Err fault) × At base frame registers printed s))
+      (λ fault. (s.printed ≡ printed) × (is_want fault ≡ false
+      → (meant ≡ Err fault) × At base frame registers printed s))
 
   -- the lines were all run, or stopped at a fault
-  abbrev pub Ran : ℕ → FrameSeen A → List (Option HandleSeen) → List ℕ → State A → List (NumberedLine A) → Result (Unit {0}) Halt → Type 0
+  abbrev pub Ran : ℕ → FrameSeen A → List (Option HandleSeen) → List ℕ → State A → List (NumberedLine A)
+      → Result (Unit {0}) Halt → Type 0
   Ran base frame registers printed s lines result = MatchResult result
       (λ _. WentOn base frame registers printed s lines)
       (λ halt. Stopped base frame registers printed s lines halt.fault halt.line)
 
   -- so from any state at which frame, registers and lines were, of lines that share nothing
-  abbrev pub RunsOn : FrameSeen A → List (Option HandleSeen) → List ℕ → FrameSeen A → List (Option HandleSeen) → List ℕ → List (NumberedLine A) → Result (Unit {0}) Halt → Type 0
+  abbrev pub RunsOn : FrameSeen A → List (Option HandleSeen) → List ℕ → FrameSeen A → List (Option HandleSeen) → List ℕ
+      → List (NumberedLine A) → Result (Unit {0}) Halt → Type 0
   RunsOn old before had new registers printed lines result =
       (base : ℕ) (s : State A) → AreOwn lines → At base old before had s → Ran base new registers printed s lines result
 
   -- so far these lines were run, of lines that share nothing
-  abbrev pub HasRun : FrameSeen A → List (Option HandleSeen) → List ℕ → FrameSeen A → List (Option HandleSeen) → List ℕ → List (NumberedLine A) → List (NumberedLine A) → Type 0
+  abbrev pub HasRun : FrameSeen A → List (Option HandleSeen) → List ℕ → FrameSeen A → List (Option HandleSeen) → List ℕ
+      → List (NumberedLine A) → List (NumberedLine A) → Type 0
   HasRun old before had frame registers printed whole lines =
       (base : ℕ) (s : State A) → AreOwn whole → At base old before had s → WentOn base frame registers printed s lines
 
@@ -62,7 +69,8 @@ module _ {A : Type 0} where
     pub bore : Bore base frame next
 
   -- a line met the fault that it is meant to meet
-  pub record MetFault (base : ℕ) (frame : FrameSeen A) (printed : List ℕ) (lines : List (NumberedLine A)) (fault : Fault) (line : ℕ) : Type 0 where
+  pub record MetFault (base : ℕ) (frame : FrameSeen A) (printed : List ℕ) (lines : List (NumberedLine A))
+      (fault : Fault) (line : ℕ) : Type 0 where
     pub next : State A
     pub meant : lines_after lines start ≡ Err (record { state = next; fault = fault; line = line })
     pub same : next.printed ≡ printed

@@ -1,5 +1,6 @@
 -- What an instruction comes to, with what it prints, by its plain meaning.
-use Rattle.std.specs.Prelude.{◌≡◌, ℕ, Bool, true, false, List, [], ◌∷◌, ◌++◌, Option, Some, None, Result, Ok, Err, MatchResult}
+use Rattle.std.specs.Prelude.{◌≡◌, ℕ, Bool, true, false, List, [], ◌∷◌, ◌++◌, Option, Some, None, Result, Ok, Err}
+use Rattle.std.specs.Prelude.{MatchResult}
 use Rattle.brc_words.specs.declared.fault.Fault.{Fault}
 use Rattle.brc_script.specs.declared.instruction.Instruction.{Instruction}
 use Rattle.brc_script.specs.declared.instruction.Instruction.TheVariants as does
@@ -23,10 +24,12 @@ module _ {A : Type 0} where
   with_shown printed None = printed
   with_shown printed (Some shown) = printed ++ (text_shown shown ++ 10 ∷ [])
 
-  -- From any state that frame and registers meant: it led to the state that is meant, where what it shows is printed; or it was
-  -- refused as it is meant to be, and nothing changed, unless something was wanting.
-  abbrev pub StepsAs : FrameSeen A → FrameSeen A → List (Option HandleSeen) → List (Option HandleSeen) → Instruction A → Result (Option (Shown A)) Fault → Type 0
+  -- From any state that frame and registers meant: it led to the state that is meant, where what it shows is printed;
+  -- or it was refused as it is meant to be, and nothing changed, unless something was wanting.
+  abbrev pub StepsAs : FrameSeen A → FrameSeen A → List (Option HandleSeen) → List (Option HandleSeen) → Instruction A
+      → Result (Option (Shown A)) Fault → Type 0
   StepsAs old new before now instruction result =
       (base : ℕ) (s : State A) → OwnLog new.heap.cells new.seat.log → Means base old before s → MatchResult result
-      (λ shown. (next : State A) × (after instruction s ≡ Ok next) × (next.printed ≡ with_shown s.printed shown) × Means base new now next)
+      (λ shown. (next : State A) × (after instruction s ≡ Ok next) × (next.printed ≡ with_shown s.printed shown)
+      × Means base new now next)
       (λ fault. is_want fault ≡ false → (after instruction s ≡ Err fault) × Means base new now s)

@@ -8,7 +8,9 @@ use Rattle.law_isolation.specs.Means.{Means}
 
 module _ {A : Type 0} where
   -- frame and registers went on, and mean what they meant
-  pub record StaysMeant (old : FrameSeen A) (before : List (Option HandleSeen)) (frame : FrameSeen A) (registers : List (Option HandleSeen)) : Type 0 where
+  pub record StaysMeant (old : FrameSeen A) (before : List (Option HandleSeen)) (frame : FrameSeen A)
+      (registers : List (Option HandleSeen)) : Type 0 where
     pub heap : frame.heap ≡ old.heap
     pub later : IsLater old.seat.log frame.seat.log
-    pub means : (base : ℕ) (s : State A) → OwnLog frame.heap.cells frame.seat.log → Means base old before s → Means base frame registers s
+    pub means : (base : ℕ) (s : State A) → OwnLog frame.heap.cells frame.seat.log → Means base old before s
+        → Means base frame registers s

@@ -1,8 +1,9 @@
 //! The board of the sections that run at the same time: which of them run, and which wait for the others.
 //!
-//! A section that finds nothing to fetch or to receive looks again after each change that any section makes. It says that it looks
-//! before it does (`tries`), so that a change after its look finds it looking or waiting, and wakes it. Where each section waits or
-//! has ended, and nothing has changed since each looked, nothing can change any more, and all that wait give up.
+//! A section that finds nothing to fetch or to receive looks again after each change that any section makes. It says
+//! that it looks before it does (`tries`), so that a change after its look finds it looking or waiting, and wakes it.
+//! Where each section waits or has ended, and nothing has changed since each looked, nothing can change any more, and
+//! all that wait give up.
 
 ghost use Rattle.std.specs.Prelude.{◌≡◌, IfOk, IfErr};
 ghost use Rattle.brc_words.specs.declared.fault.Fault.TheVariants.{OutOfMemory};
@@ -56,7 +57,8 @@ impl<A: Allocator> Board<A> {
     /// Something has changed that others may look or wait for. It costs one load where nobody does.
     #[inline(always)]
     pub(crate) fn change(&self, rt: &impl Wait) {
-        // Who looks raises the number before the look: so it finds what was put before this load, or this load finds the number.
+        // Who looks raises the number before the look: so it finds what was put before this load, or this load finds
+        // the number.
         if self.looking.load(Ordering::SeqCst) != 0 {
             self.wake(rt);
         }

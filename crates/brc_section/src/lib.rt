@@ -1,10 +1,10 @@
 //! One section of a script, run on a thread of the running heap.
 //!
-//! Between two instructions the section's registers have all that its frame owns (`brc_instructions`). So a section leaves its
-//! mutator as it got it: without a handle, and with no dead block (`run_section`).
+//! Between two instructions the section's registers have all that its frame owns (`brc_instructions`). So a section
+//! leaves its mutator as it got it: without a handle, and with no dead block (`run_section`).
 //!
-//! Sections that run at the same time share a board, by which those that find nothing to fetch or to receive wait for the others, and
-//! a gate, which is asked before each instruction.
+//! Sections that run at the same time share a board, by which those that find nothing to fetch or to receive wait for
+//! the others, and a gate, which is asked before each instruction.
 #![tactic(auto)]
 
 mod board;

@@ -9,8 +9,8 @@ use brc_script::{Instruction, Line, Piece, Section, is_private};
 use brc_words::{Fault, Key, Text};
 use std::alloc::Allocator;
 
-/// For each piece of the section those of its lines, in their order: a key where the line has a shared name. Where memory was missing
-/// some aren't there; then the instruction makes its own.
+/// For each piece of the section those of its lines, in their order: a key where the line has a shared name. Where
+/// memory was missing some aren't there; then the instruction makes its own.
 #[derive(Drop)]
 pub(crate) struct Names<A: Allocator> {
     pieces: Vec<Vec<Option<Key<A>>, A>, A>,

@@ -161,7 +161,8 @@ fn run_times<R: Wait, G: Gate, H: Home<A>, A: Allocator + Copy>(
     ensures heap { frame.new.heap ≡ frame.old.heap }
     ensures line { IfErr result (λ halt. IsLineIn halt.line body.now) }
     ensures busy { IfErr result (λ halt. halt.fault ≡ faults.Busy → G.may_refuse gate.now seated.now.number halt.line) }
-    ensures runs { RunsOn frame.old registers.old lines.old frame.new registers.new lines.new (repeat times body.now) result }
+    ensures runs { RunsOn frame.old registers.old lines.old frame.new registers.new lines.new
+        (repeat times body.now) result }
 {
     for turn in 0..times {
         let _done = turn;
@@ -190,7 +191,8 @@ fn run_piece<R: Wait, G: Gate, H: Home<A>, A: Allocator + Copy>(
     ensures heap { frame.new.heap ≡ frame.old.heap }
     ensures line { IfErr result (λ halt. IsLineOf halt.line (piece.now ∷ [])) }
     ensures busy { IfErr result (λ halt. halt.fault ≡ faults.Busy → G.may_refuse gate.now seated.now.number halt.line) }
-    ensures runs { RunsOn frame.old registers.old lines.old frame.new registers.new lines.new (written_out (piece.now ∷ [])) result }
+    ensures runs { RunsOn frame.old registers.old lines.old frame.new registers.new lines.new
+        (written_out (piece.now ∷ [])) result }
 {
     match piece {
         Piece::One(line) => {
@@ -230,7 +232,8 @@ pub(crate) fn run_pieces<R: Wait, G: Gate, H: Home<A>, A: Allocator + Copy>(
     ensures heap { frame.new.heap ≡ frame.old.heap }
     ensures line { IfErr result (λ halt. IsLineOf halt.line pieces.now) }
     ensures busy { IfErr result (λ halt. halt.fault ≡ faults.Busy → G.may_refuse gate.now seated.now.number halt.line) }
-    ensures runs { RunsOn frame.old registers.old lines.old frame.new registers.new lines.new (written_out pieces.now) result }
+    ensures runs { RunsOn frame.old registers.old lines.old frame.new registers.new lines.new
+        (written_out pieces.now) result }
 {
     for (at, piece) in pieces.iter().enumerate() {
         let keys = names.piece(at);

@@ -72,8 +72,8 @@ fn halt_of(ran: Result<(), Halt>) -> Option<Halt>
     }
 }
 
-/// The lines of the section over its frame, which has no handle before and after. The registers are made at the first line, whose
-/// fault it is where they can't be had, and released at the end.
+/// The lines of the section over its frame, which has no handle before and after. The registers are made at the first
+/// line, whose fault it is where they can't be had, and released at the end.
 fn run_over<R: Wait, G: Gate, H: Home<A>, A: Allocator + Copy>(
     rt: &R,
     alloc: A,
@@ -89,7 +89,8 @@ fn run_over<R: Wait, G: Gate, H: Home<A>, A: Allocator + Copy>(
     ensures unlocked { IsUnlocked frame.new }
     ensures heap { frame.new.heap ≡ frame.old.heap }
     ensures line { IfSome result (λ halt. IsLineOf halt.line section.now.pieces) }
-    ensures busy { IfSome result (λ halt. halt.fault ≡ faults.Busy → G.may_refuse gate.now seated.now.number halt.line) }
+    ensures busy { IfSome result (λ halt. halt.fault ≡ faults.Busy
+        → G.may_refuse gate.now seated.now.number halt.line) }
     ensures ended { lines.old ≡ [] → AreOwn (written_out section.now.pieces) →
         Ended (ledger_seen frame.old).allocs frame.new lines.new (written_out section.now.pieces) result }
 {
@@ -117,9 +118,10 @@ fn run_over<R: Wait, G: Gate, H: Home<A>, A: Allocator + Copy>(
     halt_of(ran)
 }
 
-/// Runs a section on a thread of the heap: each line once the gate lets it through, with one poll and at most so many turns of work
-/// after it, up to the last line or the first fault. A `fetch` or `recv` that finds nothing waits by the board until another section
-/// has changed something, or none is left that could. In the end its registers are released, from r0 to r15, and the thread settles.
+/// Runs a section on a thread of the heap: each line once the gate lets it through, with one poll and at most so many
+/// turns of work after it, up to the last line or the first fault. A `fetch` or `recv` that finds nothing waits by the
+/// board until another section has changed something, or none is left that could. In the end its registers are
+/// released, from r0 to r15, and the thread settles.
 ///
 /// The section's number counts from 1, as the board does; a number that it doesn't have waits for nobody.
 pub fn run_section<R: Wait, G: Gate, H: Home<A>, A: Allocator + Copy>(
@@ -143,8 +145,8 @@ pub fn run_section<R: Wait, G: Gate, H: Home<A>, A: Allocator + Copy>(
     ensures line { IfSome result.fault (λ fault. IsLineOf fault.1 section.now.pieces) }
     ensures busy { (line : ℕ) → result.fault ≡ Some (number_of faults.Busy, line) → G.may_refuse gate.now number line }
 
-    // A section that shares nothing prints its plain meaning, whatever other threads do and whichever cells are used again; and its
-    // thread bears as many objects as the section makes.
+    // A section that shares nothing prints its plain meaning, whatever other threads do and whichever cells are used
+    // again; and its thread bears as many objects as the section makes.
     ensures prints { is_private section.now ≡ true → Prints section.now result.lines.items result.fault }
     ensures births { is_private section.now ≡ true → is_own_end result.fault ≡ true →
         (ledger_seen mutator.new).allocs ≡ (ledger_seen mutator.old).allocs + (meaning section.now).made }

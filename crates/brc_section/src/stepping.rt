@@ -128,7 +128,8 @@ fn step_silent<R: Wait, H: Home<A>, A: Allocator + Copy>(
     ensures heap { frame.new.heap ≡ frame.old.heap }
     ensures waits { IfErr result (λ fault. fault ≢ faults.Busy) }
     ensures later { is_shared instruction.now ≡ false → IsLater frame.old.seat.log frame.new.seat.log }
-    ensures follows { is_shared instruction.now ≡ false → registers_differ instruction.now ≡ true → is_print instruction.now ≡ false →
+    ensures follows { is_shared instruction.now ≡ false → registers_differ instruction.now ≡ true
+        → is_print instruction.now ≡ false →
         Follows frame.old frame.new registers.old registers.new instruction.now result }
 {
     match instruction {

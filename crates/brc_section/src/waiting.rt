@@ -45,7 +45,8 @@ fn look<R: Wait, H: Home<A>, A: Allocator>(
     ensures stands { Stands frame.new registers.new }
     ensures heap { frame.new.heap ≡ frame.old.heap }
     ensures waits { IfErr result (λ fault. fault ≢ faults.Busy) }
-    ensures later { (mailbox : ℕ) → awaited.now ≡ awaits.Letter mailbox → IsLater frame.old.seat.log frame.new.seat.log }
+    ensures later { (mailbox : ℕ) → awaited.now ≡ awaits.Letter mailbox
+        → IsLater frame.old.seat.log frame.new.seat.log }
     ensures follows { (mailbox : ℕ) → awaited.now ≡ awaits.Letter mailbox →
         Follows frame.old frame.new registers.old registers.new (does.Receive to mailbox) result }
 {
@@ -62,8 +63,8 @@ fn is_nothing(tried: &Result<(), Fault>) -> bool
     matches!(tried, Err(Fault::NoSuchKey | Fault::NoSuchPlace))
 }
 
-/// One try after another, each after a poll and work: what others dropped meanwhile is this thread's to free, and a section that
-/// waited without it would keep every cell of theirs.
+/// One try after another, each after a poll and work: what others dropped meanwhile is this thread's to free, and a
+/// section that waited without it would keep every cell of theirs.
 fn look_again<R: Wait, H: Home<A>, A: Allocator>(
     rt: &R,
     frame: &mut Frame<H, A>,
@@ -76,7 +77,8 @@ fn look_again<R: Wait, H: Home<A>, A: Allocator>(
     ensures stands { Stands frame.new registers.new }
     ensures heap { frame.new.heap ≡ frame.old.heap }
     ensures waits { IfErr result (λ fault. fault ≢ faults.Busy) }
-    ensures later { (mailbox : ℕ) → awaited.now ≡ awaits.Letter mailbox → IsLater frame.old.seat.log frame.new.seat.log }
+    ensures later { (mailbox : ℕ) → awaited.now ≡ awaits.Letter mailbox
+        → IsLater frame.old.seat.log frame.new.seat.log }
     ensures follows { (mailbox : ℕ) → awaited.now ≡ awaits.Letter mailbox →
         Follows frame.old frame.new registers.old registers.new (does.Receive to mailbox) result }
 {
@@ -110,7 +112,8 @@ pub(crate) fn await_it<R: Wait, H: Home<A>, A: Allocator>(
     ensures stands { Stands frame.new registers.new }
     ensures heap { frame.new.heap ≡ frame.old.heap }
     ensures waits { IfErr result (λ fault. fault ≢ faults.Busy) }
-    ensures later { (mailbox : ℕ) → awaited.now ≡ awaits.Letter mailbox → IsLater frame.old.seat.log frame.new.seat.log }
+    ensures later { (mailbox : ℕ) → awaited.now ≡ awaits.Letter mailbox
+        → IsLater frame.old.seat.log frame.new.seat.log }
     ensures follows { (mailbox : ℕ) → awaited.now ≡ awaits.Letter mailbox →
         Follows frame.old frame.new registers.old registers.new (does.Receive to mailbox) result }
 {

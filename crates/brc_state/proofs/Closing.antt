@@ -15,6 +15,8 @@ closed_before (stages.Closing n) k next more = ap stages.Closing (sym (eqb-true 
 closed_before stages.Left k next more = absurd (true≢false (sym next))
 closed_before (stages.Opening n) k next more = absurd (true≢false (sym next))
 
-pub closers_may_close : (h : Heap) (t k : ℕ) → ClosersHaveLeft h → own_ok_at h t (Close k) ≡ true → 0 < k → others_ok h t (Close k) ≡ true
+pub closers_may_close : (h : Heap) (t k : ℕ) → ClosersHaveLeft h → own_ok_at h t (Close k) ≡ true → 0 < k
+    → others_ok h t (Close k) ≡ true
 closers_may_close h t k closers own more =
-    closers.seen_to t k (closed_before (row_at h t).stage k (and_parts _ _ (and_parts _ _ (and_parts _ _ own).0).0).1 more)
+    closers.seen_to t k (closed_before (row_at h t).stage k
+    (and_parts _ _ (and_parts _ _ (and_parts _ _ own).0).0).1 more)

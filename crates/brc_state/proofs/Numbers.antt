@@ -1,5 +1,6 @@
 -- The first number that is gathered, as the list is searched.
-use Rattle.std.proofs.Common.{◌≡◌, ℕ, ◌+◌, ◌<◌, ◌≤◌, Bool, true, false, List, [], ◌∷◌, zero, suc, length, drop, get_or, refl, sym, ap, ◌∙◌, add-one, arith}
+use Rattle.std.proofs.Common.{◌≡◌, ℕ, ◌+◌, ◌<◌, ◌≤◌, Bool, true, false, List, [], ◌∷◌, zero, suc, length, drop, get_or}
+use Rattle.std.proofs.Common.{refl, sym, ap, ◌∙◌, add-one, arith}
 use Rattle.std.proofs.lemmas.Bool.{true≢false}
 use Rattle.law_world.specs.Steps.{first_gathered}
 
@@ -7,7 +8,8 @@ use Rattle.law_world.specs.Steps.{first_gathered}
 pub record Searched (xs : List Bool) (n : ℕ) : Type 0 where
   pub is : first_gathered xs ≡ n + first_gathered (drop n xs)
 
-more : (xs : List Bool) (n : ℕ) → n < length xs → get_or xs n false ≡ false → first_gathered (drop n xs) ≡ suc (first_gathered (drop (suc n) xs))
+more : (xs : List Bool) (n : ℕ) → n < length xs → get_or xs n false ≡ false
+    → first_gathered (drop n xs) ≡ suc (first_gathered (drop (suc n) xs))
 more [] n low is = absurd (omega (arith, low))
 more (true ∷ xs) zero low is = absurd (true≢false is)
 more (false ∷ xs) zero low is = refl
@@ -26,7 +28,8 @@ ends (x ∷ xs) = ends xs
 pub search_begins : (xs : List Bool) → Searched xs 0
 search_begins xs = record { is = omega arith }
 
-pub search_goes_on : (xs : List Bool) (n : ℕ) → Searched xs n → n < length xs → get_or xs n false ≡ false → Searched xs (n + 1)
+pub search_goes_on : (xs : List Bool) (n : ℕ) → Searched xs n → n < length xs → get_or xs n false ≡ false
+    → Searched xs (n + 1)
 search_goes_on xs n searched low is = record {
   is = omega (arith, searched.is, more xs n low is, ap (λ m. first_gathered (drop m xs)) (add-one n));
 }

@@ -5,7 +5,8 @@ use Rattle.law_world.specs.declared.cell.Cell.{Cell}
 use Rattle.law_world.specs.declared.event.Change.{Change}
 use Rattle.law_world.specs.declared.event.Step.{Step}
 use Rattle.law_world.specs.declared.event.Step.TheVariants.{Birth, LocalUp, SharedUp, Unlock}
-use Rattle.law_world.specs.Steps.{is_unlock, filled_place, gone, born_cell, frame_with, entries_with, frame_after, entries_after}
+use Rattle.law_world.specs.Steps.{is_unlock, filled_place, gone, born_cell, frame_with, entries_with, frame_after}
+use Rattle.law_world.specs.Steps.{entries_after}
 use Rattle.brc_state.specs.Memory.{needs_memory}
 
 pub frame_by_parts : (s : Step) (c : ℕ) (x : Cell) (entries : List ℕ) (frame : List (Option ℕ)) → is_unlock s ≡ false
@@ -13,7 +14,8 @@ pub frame_by_parts : (s : Step) (c : ℕ) (x : Cell) (entries : List ℕ) (frame
 frame_by_parts (Unlock change) c x entries frame plain = absurd (true≢false plain)
 frame_by_parts _ c x entries frame plain = refl
 
-pub entries_by_parts : (s : Step) (c : ℕ) (x : Cell) (frame : List (Option ℕ)) (lists : List (List ℕ)) → is_unlock s ≡ false
+pub entries_by_parts : (s : Step) (c : ℕ) (x : Cell) (frame : List (Option ℕ)) (lists : List (List ℕ))
+    → is_unlock s ≡ false
     → entries_with (born_cell s) (gone s x) lists ≡ entries_after s c x frame lists
 entries_by_parts (Unlock change) c x frame lists plain = absurd (true≢false plain)
 entries_by_parts _ c x frame lists plain = refl

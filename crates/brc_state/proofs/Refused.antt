@@ -1,5 +1,6 @@
 -- An event is enabled where no condition refuses it.
-use Rattle.std.proofs.Common.{◌≡◌, ◌↔◌, ℕ, ◌==◌, ◌&&◌, not, Bool, true, false, if◌then◌else◌, Option, None, Some, is_none, is_some, refl, sym, ap, ◌∙◌}
+use Rattle.std.proofs.Common.{◌≡◌, ◌↔◌, ℕ, ◌==◌, ◌&&◌, not, Bool, true, false, if◌then◌else◌, Option, None, Some}
+use Rattle.std.proofs.Common.{is_none, is_some, refl, sym, ap, ◌∙◌}
 use Rattle.std.proofs.lemmas.Bool.{true≢false}
 use Rattle.law_world.specs.declared.event.Event.{Event}
 use Rattle.law_world.specs.declared.event.Step.{Step}
@@ -22,11 +23,13 @@ and_false true = refl
 and_false false = refl
 
 -- nothing is refused where the test holds and nothing further is refused
-is_none-unless : (a : Bool) (refusal : Refusal) (next : Option Refusal) → is_none (unless a refusal next) ≡ (a && is_none next)
+is_none-unless : (a : Bool) (refusal : Refusal) (next : Option Refusal)
+    → is_none (unless a refusal next) ≡ (a && is_none next)
 is_none-unless true refusal next = refl
 is_none-unless false refusal next = refl
 
-is_none-cell_refusal : (h : Heap) (t : ℕ) (s : Step) (c : Option ℕ) → is_none (cell_refusal h t s c) ≡ target_ok h t (row_at h t) s c
+is_none-cell_refusal : (h : Heap) (t : ℕ) (s : Step) (c : Option ℕ) → is_none (cell_refusal h t s c) ≡ target_ok h t
+    (row_at h t) s c
 is_none-cell_refusal h t s None = simp (is_none-unless, and_true)
 is_none-cell_refusal h t s (Some c) = simp (is_none-unless, and_true)
 
@@ -38,7 +41,8 @@ threads_alone h t _ = refl
 
 is_none-thread_refusal : (h : Heap) (t : ℕ) (s : Step) → is_none (thread_refusal h t s) ≡ thread_may h t s
 is_none-thread_refusal h t s =
-    let parts : is_none (thread_refusal h t s) ≡ (not (is_roots s) && thread_may h t s) = simp (is_none-unless, is_none-cell_refusal, and_assoc) in
+    let parts : is_none (thread_refusal h t s) ≡ (not (is_roots s) && thread_may h t s) =
+    simp (is_none-unless, is_none-cell_refusal, and_assoc) in
     parts ∙ threads_alone h t s
 
 is_none-root_refusal : (h : Heap) (s : Step) → is_none (root_refusal h s) ≡ root_may h s
@@ -48,18 +52,24 @@ is_none-root_refusal h _ = refl
 
 pub not_refused : (h : Heap) (e : Event) → is_none (refusal_of h e) ≡ enabled h e
 not_refused h e =
-    elim (e.thread == 0) as (λ b. is_none (if b then root_refusal h e.step else thread_refusal h e.thread e.step) ≡ (if b then root_may h e.step else thread_may h e.thread e.step)) [
+    elim (e.thread == 0) as (λ b. is_none (if b then root_refusal h e.step else thread_refusal h e.thread e.step)
+    ≡ (if b then root_may h e.step else thread_may h e.thread e.step)) [
       | true ↦ is_none-root_refusal h e.step
       | false ↦ is_none-thread_refusal h e.thread e.step
     ]
 
 -- the same, told by a test for a refusal
-pub told_by_none : (h : Heap) (e : Event) (refusal : Option Refusal) (free : Bool) → refusal ≡ refusal_of h e → is_some refusal ≡ not free → free ≡ enabled h e
+pub told_by_none : (h : Heap) (e : Event) (refusal : Option Refusal) (free : Bool) → refusal ≡ refusal_of h e
+    → is_some refusal ≡ not free → free ≡ enabled h e
 told_by_none h e None true is told = ap is_none is ∙ not_refused h e
 told_by_none h e None false is told = absurd (true≢false (sym told))
 told_by_none h e (Some refusal) true is told = absurd (true≢false told)
 told_by_none h e (Some refusal) false is told = ap is_none is ∙ not_refused h e
 
-pub unrefused_enabled : (h : Heap) (e : Event) (refusal : Option Refusal) → refusal ≡ refusal_of h e → (refusal ≡ None) ↔ (enabled h e ≡ true)
+pub unrefused_enabled : (h : Heap) (e : Event) (refusal : Option Refusal) → refusal ≡ refusal_of h e
+    → (refusal ≡ None) ↔ (enabled h e ≡ true)
 unrefused_enabled h e None is = (λ none. sym (ap is_none is ∙ not_refused h e), λ on. refl)
-unrefused_enabled h e (Some refusal) is = (λ none. absurd (true≢false (ap is_none (sym none))), λ on. absurd (true≢false (sym (ap is_none is ∙ not_refused h e ∙ on))))
+unrefused_enabled h e (Some refusal) is = (
+  λ none. absurd (true≢false (ap is_none (sym none))),
+  λ on. absurd (true≢false (sym (ap is_none is ∙ not_refused h e ∙ on))),
+)

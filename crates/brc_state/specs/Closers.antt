@@ -6,4 +6,5 @@ use Rattle.law_world.specs.Steps.{may_leave}
 
 -- whoever has closed a word has seen to its objects, as in every reached world
 pub record ClosersHaveLeft (h : Heap) : Type 0 where
-  pub seen_to : (t n : ℕ) → (row_at h t).stage ≡ stages.Closing n → may_leave h.edition t h.cells (worklist_at h t) ≡ true
+  pub seen_to : (t n : ℕ) → (row_at h t).stage ≡ stages.Closing n
+      → may_leave h.edition t h.cells (worklist_at h t) ≡ true

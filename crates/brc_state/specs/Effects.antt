@@ -5,7 +5,8 @@ use Rattle.law_world.specs.declared.event.Dropped.{Dropped}
 use Rattle.law_world.specs.declared.event.Step.{Step}
 use Rattle.law_world.specs.declared.event.Step.TheVariants.{Close, Nudge, Reopen}
 use Rattle.law_world.specs.Heap.{Heap, entries_at, frame_at}
-use Rattle.law_world.specs.Steps.{frame_with, without_settled, worklist_with, frame_changed, entries_changed, with_drained, without_drained}
+use Rattle.law_world.specs.Steps.{frame_with, without_settled, worklist_with, frame_changed, entries_changed}
+use Rattle.law_world.specs.Steps.{with_drained, without_drained}
 
 -- ---- a step on one cell
 
@@ -19,7 +20,8 @@ popped_without t settled popped = slice_set popped t (without_settled settled (s
 
 -- all worklists, where the cell goes off a thread's, or comes onto it
 abbrev pub worklists_with : ℕ → Bool → Bool → ℕ → List (List Bool) → List (List Bool)
-worklists_with t frees takes c worklists = slice_set worklists t (worklist_with frees takes c (slice_index_or worklists t []))
+worklists_with t frees takes c worklists =
+    slice_set worklists t (worklist_with frees takes c (slice_index_or worklists t []))
 
 -- ---- an unlock
 
@@ -41,7 +43,8 @@ named_word _ = 0
 
 -- all popped bits, where a thread has those of a queue word besides
 abbrev pub popped_with : ℕ → Option ℕ → List (List ℕ) → List (List ℕ) → List (List ℕ)
-popped_with t drained queues popped = slice_set popped t (with_drained drained (slice_index_or queues t []) (slice_index_or popped t []))
+popped_with t drained queues popped =
+    slice_set popped t (with_drained drained (slice_index_or queues t []) (slice_index_or popped t []))
 
 -- all merge queues, where a word of a thread's is empty
 abbrev pub queues_without : ℕ → Option ℕ → List (List ℕ) → List (List ℕ)

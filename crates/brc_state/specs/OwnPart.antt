@@ -6,7 +6,8 @@ use Rattle.law_world.specs.declared.event.Dropped.{Dropped}
 use Rattle.law_world.specs.declared.event.LastDropped.{LastDropped}
 use Rattle.law_world.specs.Lists.{is_bare}
 use Rattle.law_world.specs.Heap.{Heap, entries_at, row_at, frame_at, popped_at, worklist_at, words_for}
-use Rattle.law_world.specs.Steps.{locked_at, locked_cell, source_cell, dropped_cell, last_cell, locked_entries, change_ok, closes_next, may_begin_closing}
+use Rattle.law_world.specs.Steps.{locked_at, locked_cell, source_cell, dropped_cell, last_cell, locked_entries}
+use Rattle.law_world.specs.Steps.{change_ok, closes_next, may_begin_closing}
 
 -- the entries of the object that the thread has locked
 abbrev pub locked_entries_at : Heap → ℕ → List ℕ

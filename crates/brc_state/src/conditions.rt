@@ -2,7 +2,9 @@
 
 ghost use Rattle.std.specs.Prelude.{◌≡◌};
 ghost use Rattle.law_world.specs.Phases.{is_ending};
-ghost use Rattle.law_world.specs.Steps.{needs_lock, lock_ok, is_close, is_open, may_after_leaving, stage_ok, phase_number, is_free_hand, is_at, is_ending_hand, hand_ok, is_active, is_left, is_closed, closes_next, opens_next, is_shut_hand, edition_ok};
+ghost use Rattle.law_world.specs.Steps.{needs_lock, lock_ok, is_close, is_open, may_after_leaving, stage_ok};
+ghost use Rattle.law_world.specs.Steps.{phase_number, is_free_hand, is_at, is_ending_hand, hand_ok, is_active, is_left};
+ghost use Rattle.law_world.specs.Steps.{is_closed, closes_next, opens_next, is_shut_hand, edition_ok};
 
 use law_world::{Edition, Hand, LastDropped, Phase, Role, Row, Source, Stage, Step};
 
@@ -147,7 +149,8 @@ fn is_ending_hand(hand: Hand) -> bool
 }
 
 /// Whether the cell may be untied with this hand.
-// Apart, since it is long and seldom asked: what a step's copy has of it would be too much for all of a step to be copied.
+// Apart, since it is long and seldom asked: what a step's copy has of it would be too much for all of a step to be
+// copied.
 #[inline(never)]
 fn is_untying_hand(cell: u32, hand: Hand) -> bool
     ensures { result ≡ hand_ok hand (Step.Untie cell) }

@@ -1,7 +1,9 @@
 //! What a step does to its one cell and to its thread's row, and which reference, block or mark goes or comes with it.
 
 ghost use Rattle.std.specs.Prelude.{◌≡◌, ◌+◌, ◌<◌, ◌^◌, true};
-ghost use Rattle.law_world.specs.Steps.{cell_ok, cell_after, row_after, untied_hand, added_hand, is_untouched, filled_place, born_cell, settled_cell, takes_block, gone, is_enqueue, is_free_step};
+ghost use Rattle.law_world.specs.Steps.{cell_ok, cell_after, row_after, untied_hand, added_hand, is_untouched};
+ghost use Rattle.law_world.specs.Steps.{filled_place, born_cell, settled_cell, takes_block, gone, is_enqueue};
+ghost use Rattle.law_world.specs.Steps.{is_free_step};
 ghost use Rattle.brc_words.specs.Shared.{CountFits};
 
 use crate::cell_conditions::{is_default, is_merged, is_zero};
@@ -38,8 +40,8 @@ fn added_hand(cell: u32, hand: Hand) -> Hand
     }
 }
 
-/// What the step does to its cell and to the row of its thread. `shut` says that the queue word into which the cell would
-/// go is closed.
+/// What the step does to its cell and to the row of its thread. `shut` says that the queue word into which the cell
+/// would go is closed.
 #[inline(always)]
 pub(crate) fn write_cell_and_row(
     found: &mut Cell,

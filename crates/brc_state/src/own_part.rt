@@ -3,7 +3,8 @@
 
 ghost use Rattle.std.specs.Prelude.{◌≡◌};
 ghost use Rattle.law_world.specs.Heap.{frame_at, popped_at, row_at};
-ghost use Rattle.law_world.specs.Steps.{cell_in_hand, target_at, is_vacant, may_begin_closing, is_unlocked, untie_ok, own_ok_at, locked_at};
+ghost use Rattle.law_world.specs.Steps.{cell_in_hand, target_at, is_vacant, may_begin_closing, is_unlocked, untie_ok};
+ghost use Rattle.law_world.specs.Steps.{own_ok_at, locked_at};
 ghost use Rattle.brc_state.specs.OwnPart.{source_at, dropped_at, last_at, locked_entries_at, close_ok_at, change_ok_at};
 
 use crate::conditions::{closes_next, opens_next};

@@ -3,7 +3,8 @@
 ghost use Rattle.std.specs.Prelude.{◌≡◌, ◌↔◌, true, None};
 ghost use Rattle.std.specs.Prelude.{length};
 ghost use Rattle.law_world.specs.Heap.{worklist_at};
-ghost use Rattle.law_world.specs.Steps.{needs_no_cell, own_ok_at, others_ok, target_at, enabled, owned_are_marked, may_leave, first_gathered, number_ok};
+ghost use Rattle.law_world.specs.Steps.{needs_no_cell, own_ok_at, others_ok, target_at, enabled, owned_are_marked};
+ghost use Rattle.law_world.specs.Steps.{may_leave, first_gathered, number_ok};
 ghost use Rattle.brc_state.specs.Closers.{ClosersHaveLeft};
 ghost use Rattle.brc_state.specs.Refusals.{is_roots, root_refusal, cell_refusal, thread_refusal, refusal_of};
 
@@ -31,10 +32,12 @@ pub enum Refusal {
     Lock,
     /// The hand is free, or is the one of the event's row. Of `gather`: the hand is free.
     Hand,
-    /// The event's row, where it speaks of births, kinds, worklists, popped bits or queue words; the place that is filled is
-    /// vacant; what an unlock's change asks of places and entries. Of `gather`: nothing is popped or on the worklist.
+    /// The event's row, where it speaks of births, kinds, worklists, popped bits or queue words; the place that is
+    /// filled is vacant; what an unlock's change asks of places and entries. Of `gather`: nothing is popped or on the
+    /// worklist.
     OwnPart,
-    /// `nudge`: the thread that is told is registered, and has the queue word. `close`: the thread has seen to its objects.
+    /// `nudge`: the thread that is told is registered, and has the queue word. `close`: the thread has seen to its
+    /// objects.
     Told,
     /// The event is one of this edition.
     Edition,

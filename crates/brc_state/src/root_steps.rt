@@ -1,6 +1,7 @@
 //! The root's steps: a thread is registered, or gathered.
 
-ghost use Rattle.std.specs.Prelude.{◌≡◌, ◌<◌, ◌+◌, ◌^◌, ℕ, [], ◌∷◌, ◌++◌, true, OnOk, OnErr, slice_set, vec_len, vec_capacity};
+ghost use Rattle.std.specs.Prelude.{◌≡◌, ◌<◌, ◌+◌, ◌^◌, ℕ, [], ◌∷◌, ◌++◌, true, OnOk, OnErr, slice_set, vec_len};
+ghost use Rattle.std.specs.Prelude.{vec_capacity};
 ghost use Rattle.law_world.specs.Heap.{new_row, row_at, words_for};
 ghost use Rattle.law_world.specs.Steps.{registered, registered_again, gathered_in, root_after};
 ghost use Rattle.brc_state.specs.Memory.{needs_memory};

@@ -2,7 +2,8 @@
 
 ghost use Rattle.std.specs.Prelude.{◌≡◌, ◌==◌, length, slice_get, slice_index_or, Some, None};
 ghost use Rattle.law_world.specs.Lists.{bit_of, place_at, is_marked, last_of, is_bare, is_unmarked, is_blank};
-ghost use Rattle.law_world.specs.Heap.{cell_at, entries_at, row_at, frame_at, popped_at, worklist_at, queue_at, is_gathered, is_registered, no_cell, no_row};
+ghost use Rattle.law_world.specs.Heap.{cell_at, entries_at, row_at, frame_at, popped_at, worklist_at, queue_at};
+ghost use Rattle.law_world.specs.Heap.{is_gathered, is_registered, no_cell, no_row};
 ghost use Rattle.law_world.specs.Steps.{is_empty};
 
 use crate::entries::Entries;

@@ -1,8 +1,9 @@
-//! The steps of a thread on words that are no cell's: bits of a queue word are popped, the word is closed, a notify word
-//! changes.
+//! The steps of a thread on words that are no cell's: bits of a queue word are popped, the word is closed, a notify
+//! word changes.
 
 ghost use Rattle.std.specs.Prelude.{◌≡◌, ◌/◌, ◌<◌, length};
-ghost use Rattle.law_world.specs.Steps.{closed_more, opened_more, stage_after, drained_word, notify_words_after, kept_cells};
+ghost use Rattle.law_world.specs.Steps.{closed_more, opened_more, stage_after, drained_word, notify_words_after};
+ghost use Rattle.law_world.specs.Steps.{kept_cells};
 ghost use Rattle.brc_state.specs.Effects.{named_word};
 
 use crate::tables::Tables;

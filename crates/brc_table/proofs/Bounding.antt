@@ -31,20 +31,27 @@ queue_of _ = 0
 
 module _ {B : Type 0} (shows : B → ℕ × Contents) (n limit : ℕ) where
   -- a look keeps the rule whether or not the log tells a bound
-  within : (id : ℕ) (v : View) (slots : List (ℕ × Option B)) (w : Word) (known : Bool) (most : ℕ) → v.active ≡ true → IsWord n w
-      → (known ≡ true → Allows (Kept shows n limit) n id (v, slots) (spot n w) (λ number. number) (λ number me. (me ≡ (with_told (Saw w number) v, slots)) × (number ≤ most)))
+  within : (id : ℕ) (v : View) (slots : List (ℕ × Option B)) (w : Word) (known : Bool) (most : ℕ) → v.active ≡ true
+      → IsWord n w
+      → (known ≡ true → Allows (Kept shows n limit) n id (v, slots) (spot n w) (λ number. number)
+      (λ number me. (me ≡ (with_told (Saw w number) v, slots)) × (number ≤ most)))
       → MayFind shows n limit id (v, slots) w w known most
   within id v slots w known most active is bound s r deep at small = elim (cases_Bool known) [
-    | inl on ↦ let found = bound on s r deep at small in (found.0, found.1, found.2, found.3, (found.4.0, λ _. found.4.1))
-    | inr off ↦ let found = looks shows n limit id v slots w active is s r deep at small in (found.0, found.1, found.2, found.3, (found.4, λ on. absurd (true≢false (sym on ∙ off))))
+    | inl on ↦ let found = bound on s r deep at small in
+        (found.0, found.1, found.2, found.3, (found.4.0, λ _. found.4.1))
+    | inr off ↦ let found = looks shows n limit id v slots w active is s r deep at small in
+        (found.0, found.1, found.2, found.3, (found.4, λ on. absurd (true≢false (sym on ∙ off))))
   ]
 
   pub finds_owner : (id : ℕ) (v : View) (slots : List (ℕ × Option B)) (c : ℕ) → v.active ≡ true → 0 < v.thread → c < n
-      → MayFind shows n limit id (v, slots) (Of Owner c) (Of Owner c) (carries c (part_seen n v.log).row.hand) MOST_THREADS
+      → MayFind shows n limit id (v, slots) (Of Owner c) (Of Owner c) (carries c (part_seen n v.log).row.hand)
+      MOST_THREADS
   finds_owner id v slots c active some_thread low =
-      within id v slots (Of Owner c) (carries c (part_seen n v.log).row.hand) MOST_THREADS active low (λ carried. looks_owner shows n limit id v slots c active some_thread low carried)
+      within id v slots (Of Owner c) (carries c (part_seen n v.log).row.hand) MOST_THREADS active low
+      (λ carried. looks_owner shows n limit id v slots c active some_thread low carried)
 
   pub finds_local : (id : ℕ) (v : View) (slots : List (ℕ × Option B)) (c : ℕ) → v.active ≡ true → 0 < v.thread → c < n
       → MayFind shows n limit id (v, slots) (Of Local c) (Of Local c) (own_may n (part_seen n v.log) (MergeAdd c)) limit
   finds_local id v slots c active some_thread low =
-      within id v slots (Of Local c) (own_may n (part_seen n v.log) (MergeAdd c)) limit active low (λ own. looks_local shows n limit id v slots c active some_thread low own)
+      within id v slots (Of Local c) (own_may n (part_seen n v.log) (MergeAdd c)) limit active low
+      (λ own. looks_local shows n limit id v slots c active some_thread low own)

@@ -1,5 +1,7 @@
 -- Words and slots that open as they should show the opening world, and keep the rule.
-use Rattle.std.proofs.Common.{◌≡◌, ℕ, zero, suc, ◌+◌, ◌-◌, ◌*◌, ◌/◌, ◌%◌, ◌^◌, ◌<◌, ◌≤◌, nat_lt, ◌&&◌, Bool, true, false, if◌then◌else◌, List, [], ◌∷◌, ◌++◌, map, length, get_or, Option, Some, None, refl, sym, ◌∙◌, ap, subst, inl, inr, arith}
+use Rattle.std.proofs.Common.{◌≡◌, ℕ, zero, suc, ◌+◌, ◌-◌, ◌*◌, ◌/◌, ◌%◌, ◌^◌, ◌<◌, ◌≤◌, nat_lt, ◌&&◌, Bool, true}
+use Rattle.std.proofs.Common.{false, if◌then◌else◌, List, [], ◌∷◌, ◌++◌, map, length, get_or, Option, Some, None, refl}
+use Rattle.std.proofs.Common.{sym, ◌∙◌, ap, subst, inl, inr, arith}
 use Rattle.std.proofs.lemmas.Bool.{cases_lt, lt-ltb, le-ltb}
 use Rattle.std.specs.Cmp.Derive.{both_true}
 use Rattle.std.specs.Int.{bit_at}
@@ -34,7 +36,8 @@ use Rattle.law_rule.specs.Opening.{first_view, Opens}
 use Rattle.law_rule.proofs.Spots.{inside}
 use Rattle.law_rule.proofs.Opening_Law.{opens}
 use Rattle.brc_table.specs.Shown.{shows}
-use Rattle.brc_table.specs.Opening.{bits_below, opening_free, opening_count, opening_else, opening_word, opening_words, slot_shows, opening_slot, opening_slots}
+use Rattle.brc_table.specs.Opening.{bits_below, opening_free, opening_count, opening_else, opening_word, opening_words}
+use Rattle.brc_table.specs.Opening.{slot_shows, opening_slot, opening_slots}
 
 if_so : {A : Type 0} (b : Bool) (x y : A) → b ≡ true → (if b then x else y) ≡ x
 if_so b x y is = ap (λ z. if z then x else y) is
@@ -48,33 +51,40 @@ among_counts : (n at c part : ℕ) → c < n → part < 16 → at ≡ c * 16 + p
 among_counts n at c part low small there =
     let cell : at / 16 ≡ c = omega (arith, small, there) in
     let of_it : at % 16 ≡ part = omega (arith, small, there) in
-    ap (λ z. if z then opening_count (at / 16) (at % 16) else opening_else n at) (lt-ltb at (owners_from n) (omega (arith, low, small, there)))
+    ap (λ z. if z then opening_count (at / 16) (at % 16) else opening_else n at)
+    (lt-ltb at (owners_from n) (omega (arith, low, small, there)))
     ∙ (λ i. opening_count (cell i) (of_it i))
 
 past_counts : (n at : ℕ) → owners_from n ≤ at → opening_word n at ≡ opening_else n at
-past_counts n at high = ap (λ z. if z then opening_count (at / 16) (at % 16) else opening_else n at) (le-ltb at (owners_from n) high)
+past_counts n at high = ap (λ z. if z then opening_count (at / 16) (at % 16) else opening_else n at)
+    (le-ltb at (owners_from n) high)
 
 among_owners : (n at c : ℕ) → c < n → at ≡ owners_from n + c → opening_word n at ≡ 0
 among_owners n at c low there =
     past_counts n at (omega (arith, there))
-    ∙ ap (λ z. if z then 0 else (if nat_lt at (free_from n + free_words_for n) then opening_free n (at - free_from n) else 0)) (lt-ltb at (free_from n) (omega (arith, low, there)))
+    ∙ ap (λ z. if z then 0 else (if nat_lt at (free_from n + free_words_for n) then opening_free n
+    (at - free_from n) else 0)) (lt-ltb at (free_from n) (omega (arith, low, there)))
 
-past_owners : (n at : ℕ) → free_from n ≤ at → opening_word n at ≡ (if nat_lt at (free_from n + free_words_for n) then opening_free n (at - free_from n) else 0)
+past_owners : (n at : ℕ) → free_from n ≤ at
+    → opening_word n at ≡ (if nat_lt at (free_from n + free_words_for n) then opening_free n (at - free_from n) else 0)
 past_owners n at high =
     past_counts n at (omega (arith, high))
-    ∙ ap (λ z. if z then 0 else (if nat_lt at (free_from n + free_words_for n) then opening_free n (at - free_from n) else 0)) (le-ltb at (free_from n) high)
+    ∙ ap (λ z. if z then 0 else (if nat_lt at (free_from n + free_words_for n) then opening_free n
+    (at - free_from n) else 0)) (le-ltb at (free_from n) high)
 
 among_free : (n at k : ℕ) → k < free_words_for n → at ≡ free_from n + k → opening_word n at ≡ opening_free n k
 among_free n at k low there =
     let word : at - free_from n ≡ k = omega (arith, there) in
     past_owners n at (omega (arith, there))
-    ∙ ap (λ z. if z then opening_free n (at - free_from n) else 0) (lt-ltb at (free_from n + free_words_for n) (omega (arith, low, there)))
+    ∙ ap (λ z. if z then opening_free n (at - free_from n) else 0)
+    (lt-ltb at (free_from n + free_words_for n) (omega (arith, low, there)))
     ∙ ap (opening_free n) word
 
 past_free : (n at : ℕ) → queues_from n ≤ at → opening_word n at ≡ 0
 past_free n at high =
     past_owners n at (omega (arith, high))
-    ∙ ap (λ z. if z then opening_free n (at - free_from n) else 0) (le-ltb at (free_from n + free_words_for n) (omega (arith, high)))
+    ∙ ap (λ z. if z then opening_free n (at - free_from n) else 0)
+    (le-ltb at (free_from n + free_words_for n) (omega (arith, high)))
 
 -- ---- the opening world's words
 
@@ -112,37 +122,52 @@ opens_owner n limit c enough = elim (cases_lt c FIRST_MORTAL) [
 ]
 
 -- a bit of a free word is its cell's
-opens_bit : (n limit k i : ℕ) → FIRST_MORTAL ≤ n → i < 64 → bit_at (opening_free n k) i ≡ one (is_free_cell (opening n limit) (k * 64 + i))
+opens_bit : (n limit k i : ℕ) → FIRST_MORTAL ≤ n → i < 64
+    → bit_at (opening_free n k) i ≡ one (is_free_cell (opening n limit) (k * 64 + i))
 opens_bit n limit k i enough inside = elim (cases_lt (k * 64 + i) FIRST_MORTAL) [
   | inl low ↦ bit_at_mask_below (bits_below FIRST_MORTAL k) (bits_below n k) i (omega (arith, low, inside))
-      ∙ sym (ap one (ap (λ (x : Cell). nat_lt (k * 64 + i) (length (opening n limit).cells) && is_free x.owner) (immortal_cell n (k * 64 + i) enough low)
+      ∙ sym (ap one (ap (λ (x : Cell). nat_lt (k * 64 + i) (length (opening n limit).cells) && is_free x.owner)
+      (immortal_cell n (k * 64 + i) enough low)
       ∙ right_false (nat_lt (k * 64 + i) (length (opening n limit).cells)) false refl))
   | inr high ↦ elim (cases_lt (k * 64 + i) n) [
-    | inl low ↦ bit_at_mask_inside (bits_below FIRST_MORTAL k) (bits_below n k) i (omega (arith, high, inside)) (omega (arith, low, inside))
-        ∙ sym (ap one (both_true (lt-ltb (k * 64 + i) (length (opening n limit).cells) (omega (arith, low, length-opening n))) (ap (λ (x : Cell). is_free x.owner) (free_cell n (k * 64 + i) high))))
+    | inl low ↦ bit_at_mask_inside (bits_below FIRST_MORTAL k) (bits_below n k) i (omega (arith, high, inside))
+        (omega (arith, low, inside))
+        ∙ sym (ap one (both_true
+        (lt-ltb (k * 64 + i) (length (opening n limit).cells) (omega (arith, low, length-opening n)))
+        (ap (λ (x : Cell). is_free x.owner) (free_cell n (k * 64 + i) high))))
     | inr past ↦ bit_at_mask_above (bits_below FIRST_MORTAL k) (bits_below n k) i (omega (arith, past, inside))
-        ∙ sym (ap one (left_false (nat_lt (k * 64 + i) (length (opening n limit).cells)) _ (le-ltb (k * 64 + i) (length (opening n limit).cells) (omega (arith, past, length-opening n)))))
+        ∙ sym (ap one (left_false (nat_lt (k * 64 + i) (length (opening n limit).cells)) _
+        (le-ltb (k * 64 + i) (length (opening n limit).cells) (omega (arith, past, length-opening n)))))
   ]
 ]
 
 opens_free : (n limit k : ℕ) → FIRST_MORTAL ≤ n → opening_free n k ≡ free_bits (opening n limit) k
 opens_free n limit k enough =
     let f : ℕ → Bool = λ i. is_free_cell (opening n limit) (k * 64 + i) in
-    same_from_bits_below 64 (opening_free n k) (free_bits (opening n limit) k) (mask_small (bits_below FIRST_MORTAL k) (bits_below n k) (omega arith)) (told_below f 64)
+    same_from_bits_below 64 (opening_free n k) (free_bits (opening n limit) k)
+    (mask_small (bits_below FIRST_MORTAL k) (bits_below n k) (omega arith)) (told_below f 64)
     (λ i inside. opens_bit n limit k i enough inside ∙ sym (told_bit f 64 i inside))
   where
     mask_small : (lo hi : ℕ) → hi ≤ 64 → 2 ^ hi - 2 ^ lo < 2 ^ 64
     mask_small lo hi few = let most : 2 ^ hi ≤ 2 ^ 64 = pow_mono few in omega (arith, most, pow_pos lo)
 
-opens_word : (n limit : ℕ) (w : Word) → FIRST_MORTAL ≤ n → IsWord n w → Shows (opening n limit) w (opening_word n (spot n w))
-opens_word n limit (Of Owner c) enough is = subst (ShowsOwner 1 (cell_at (opening n limit) c).owner) (sym (among_owners n (spot n (Of Owner c)) c is (omega arith))) (opens_owner n limit c enough)
-opens_word n limit (FreeWord k) enough is = among_free n (spot n (FreeWord k)) k is (omega arith) ∙ opens_free n limit k enough
-opens_word n limit (Of Local c) enough is = among_counts n (spot n (Of Local c)) c 0 is (omega arith) (omega arith) ∙ by_cell n limit Local c (opening_count c 0) enough
-    (λ low. ap (λ z. if z then IMMORTAL_LOCAL else 0) (lt-ltb c FIRST_MORTAL low)) (λ high. ap (λ z. if z then IMMORTAL_LOCAL else 0) (le-ltb c FIRST_MORTAL high))
-opens_word n limit (Of Shared c) enough is = among_counts n (spot n (Of Shared c)) c 8 is (omega arith) refl ∙ by_cell n limit Shared c (2 ^ 42) enough (λ low. refl) (λ high. refl)
-opens_word n limit (Of Mutex c) enough is = among_counts n (spot n (Of Mutex c)) c 9 is (omega arith) refl ∙ by_cell n limit Mutex c 0 enough (λ low. refl) (λ high. refl)
+opens_word : (n limit : ℕ) (w : Word) → FIRST_MORTAL ≤ n → IsWord n w
+    → Shows (opening n limit) w (opening_word n (spot n w))
+opens_word n limit (Of Owner c) enough is = subst (ShowsOwner 1 (cell_at (opening n limit) c).owner)
+    (sym (among_owners n (spot n (Of Owner c)) c is (omega arith))) (opens_owner n limit c enough)
+opens_word n limit (FreeWord k) enough is = among_free n (spot n (FreeWord k)) k is (omega arith)
+    ∙ opens_free n limit k enough
+opens_word n limit (Of Local c) enough is = among_counts n (spot n (Of Local c)) c 0 is (omega arith) (omega arith)
+    ∙ by_cell n limit Local c (opening_count c 0) enough
+    (λ low. ap (λ z. if z then IMMORTAL_LOCAL else 0) (lt-ltb c FIRST_MORTAL low))
+    (λ high. ap (λ z. if z then IMMORTAL_LOCAL else 0) (le-ltb c FIRST_MORTAL high))
+opens_word n limit (Of Shared c) enough is = among_counts n (spot n (Of Shared c)) c 8 is (omega arith) refl
+    ∙ by_cell n limit Shared c (2 ^ 42) enough (λ low. refl) (λ high. refl)
+opens_word n limit (Of Mutex c) enough is = among_counts n (spot n (Of Mutex c)) c 9 is (omega arith) refl
+    ∙ by_cell n limit Mutex c 0 enough (λ low. refl) (λ high. refl)
 opens_word n limit (Queue t k) enough is =
-    subst (λ b. ShowsQueue b (is_closed (row_at (opening n limit) t).stage k) (word_at (queue_at (opening n limit) t) k) (opening_word n (spot n (Queue t k)))) (sym (none_registered n limit t))
+    subst (λ b. ShowsQueue b (is_closed (row_at (opening n limit) t).stage k) (word_at (queue_at (opening n limit) t) k)
+    (opening_word n (spot n (Queue t k)))) (sym (none_registered n limit t))
     (past_free n (spot n (Queue t k)) (omega arith))
 opens_word n limit (NotifyWord t) enough is = past_free n (spot n (NotifyWord t)) (omega arith) ∙ sym (lone t)
 
@@ -150,14 +175,19 @@ opens_word n limit (NotifyWord t) enough is = past_free n (spot n (NotifyWord t)
 
 length-opening_words : (n k : ℕ) → length (opening_words n k) ≡ k
 length-opening_words n zero = refl
-length-opening_words n (suc k) = omega (arith, length-push (opening_words n k) (opening_word n k), length-opening_words n k)
+length-opening_words n (suc k) = omega (
+  arith,
+  length-push (opening_words n k) (opening_word n k),
+  length-opening_words n k,
+)
 
 pub wide_of : (n k : ℕ) (words : List ℕ) → words ≡ opening_words n k → length words ≡ k
 wide_of n k words are = ap length are ∙ length-opening_words n k
 
 read_word : (n k at : ℕ) → at < k → get_or (opening_words n k) at 0 ≡ opening_word n at
 read_word n zero at low = absurd (omega arith)
-read_word n (suc k) at low = read_push (λ j x. j < suc k → x ≡ opening_word n j) (opening_words n k) (opening_word n k) 0
+read_word n (suc k) at low = read_push (λ j x. j < suc k → x ≡ opening_word n j) (opening_words n k)
+    (opening_word n k) 0
     (λ _. ap (opening_word n) (sym (length-opening_words n k)))
     (λ j other below. read_word n k j (omega (arith, other, below, length-opening_words n k))) at low
 
@@ -167,7 +197,8 @@ length-opening_slots (suc k) = omega (arith, length-push (opening_slots k) (open
 
 read_slot : (k c : ℕ) → c < k → get_or (opening_slots k) c None ≡ opening_slot c
 read_slot zero c low = absurd (omega arith)
-read_slot (suc k) c low = read_push (λ j (x : Option (ℕ × Contents)). j < suc k → x ≡ opening_slot j) (opening_slots k) (opening_slot k) None
+read_slot (suc k) c low = read_push (λ j (x : Option (ℕ × Contents)). j < suc k → x ≡ opening_slot j) (opening_slots k)
+    (opening_slot k) None
     (λ _. ap opening_slot (sym (length-opening_slots k)))
     (λ j other below. read_slot k j (omega (arith, other, below, length-opening_slots k))) c low
 
@@ -187,9 +218,11 @@ module _ {A : Type 0} where
   slot_there : (slots : List (Option (ℕ × Payload A))) (c : ℕ) → c < length slots → SlotThere slots c
   slot_there [] c low = absurd (omega arith)
   slot_there (x ∷ xs) zero low = record { slot = x; there = refl; shown = refl }
-  slot_there (x ∷ xs) (suc c) low = let t = slot_there xs c (omega (arith, low)) in record { slot = t.slot; there = t.there; shown = t.shown }
+  slot_there (x ∷ xs) (suc c) low = let t = slot_there xs c (omega (arith, low)) in
+      record { slot = t.slot; there = t.there; shown = t.shown }
 
-  lies : (slots : List (Option (ℕ × Payload A))) (c : ℕ) (contents : Contents) (slot : Option (ℕ × Payload A)) → get_elem? (map some slots) c ≡ some (some slot) → slot_shows slot ≡ Some (c, contents)
+  lies : (slots : List (Option (ℕ × Payload A))) (c : ℕ) (contents : Contents) (slot : Option (ℕ × Payload A))
+      → get_elem? (map some slots) c ≡ some (some slot) → slot_shows slot ≡ Some (c, contents)
       → LiesThere shows (map some slots) c contents
   unfolding held
   lies slots c contents None there shown = absurd (cc)
@@ -197,40 +230,51 @@ module _ {A : Type 0} where
       let is : shows block ≡ (c, contents) = ap (held (c, contents)) shown in
       record { block = block; there = there; of_cell = ap (λ z. z.0) is; holds = ap (λ z. z.1) is }
 
-  bare : (slots : List (Option (ℕ × Payload A))) (c : ℕ) (slot : Option (ℕ × Payload A)) → get_elem? (map some slots) c ≡ some (some slot) → slot_shows slot ≡ None
+  bare : (slots : List (Option (ℕ × Payload A))) (c : ℕ) (slot : Option (ℕ × Payload A))
+      → get_elem? (map some slots) c ≡ some (some slot) → slot_shows slot ≡ None
       → get_elem? (map some slots) c ≡ some (some None)
   bare slots c None there shown = there
   bare slots c (Some block) there shown = absurd (cc)
 
-  slot_opens : (n : ℕ) (slots : List (Option (ℕ × Payload A))) (c : ℕ) → map slot_shows slots ≡ opening_slots n → c < n → (t : SlotThere slots c) → slot_shows t.slot ≡ opening_slot c
+  slot_opens : (n : ℕ) (slots : List (Option (ℕ × Payload A))) (c : ℕ) → map slot_shows slots ≡ opening_slots n → c < n
+      → (t : SlotThere slots c) → slot_shows t.slot ≡ opening_slot c
   slot_opens n slots c made low t = sym t.shown ∙ ap (λ z. get_or z c None) made ∙ read_slot n c low
 
-  pub deep_of : (n : ℕ) (slots : List (Option (ℕ × Payload A))) → map slot_shows slots ≡ opening_slots n → length slots ≡ n
+  pub deep_of : (n : ℕ) (slots : List (Option (ℕ × Payload A))) → map slot_shows slots ≡ opening_slots n
+      → length slots ≡ n
   deep_of n slots made = sym (length-map slots slot_shows) ∙ ap length made ∙ length-opening_slots n
 
-  opens_so : (n limit : ℕ) (slots : List (Option (ℕ × Payload A))) → AreOptions n limit → map slot_shows slots ≡ opening_slots n → Opens shows n limit (opening_words n (extent n)) slots
+  opens_so : (n limit : ℕ) (slots : List (Option (ℕ × Payload A))) → AreOptions n limit
+      → map slot_shows slots ≡ opening_slots n → Opens shows n limit (opening_words n (extent n)) slots
   opens_so n limit slots options made = record {
     wide = length-opening_words n (extent n);
     deep = deep_of n slots made;
-    each_word = λ w is. subst (Shows (opening n limit) w) (sym (read_word n (extent n) (spot n w) (inside n w is))) (opens_word n limit w (omega (arith, options.enough)) is);
+    each_word = λ w is. subst (Shows (opening n limit) w) (sym (read_word n (extent n) (spot n w) (inside n w is)))
+        (opens_word n limit w (omega (arith, options.enough)) is);
     immortals = λ c fixed.
         let low : c < n = omega (arith, fixed, options.enough) in
         let t = slot_there slots c (subst (λ m. c < m) (sym (deep_of n slots made)) low) in
-        lies slots c (opening_contents c) t.slot t.there (slot_opens n slots c made low t ∙ if_so (nat_lt c FIRST_MORTAL) (Some (c, opening_contents c)) None (lt-ltb c FIRST_MORTAL fixed));
+        lies slots c (opening_contents c) t.slot t.there (slot_opens n slots c made low t
+        ∙ if_so (nat_lt c FIRST_MORTAL) (Some (c, opening_contents c)) None (lt-ltb c FIRST_MORTAL fixed));
     mortals = λ c mortal low.
         let t = slot_there slots c (subst (λ m. c < m) (sym (deep_of n slots made)) low) in
-        bare slots c t.slot t.there (slot_opens n slots c made low t ∙ if_not (nat_lt c FIRST_MORTAL) (Some (c, opening_contents c)) None (le-ltb c FIRST_MORTAL mortal));
+        bare slots c t.slot t.there (slot_opens n slots c made low t
+        ∙ if_not (nat_lt c FIRST_MORTAL) (Some (c, opening_contents c)) None (le-ltb c FIRST_MORTAL mortal));
   }
 
   -- one more slot
-  pub one_more_slot : (c : ℕ) (before after : List (Option (ℕ × Payload A))) (slot : Option (ℕ × Payload A)) → after ≡ before ++ slot ∷ [] → map slot_shows before ≡ opening_slots c → slot_shows slot ≡ opening_slot c
+  pub one_more_slot : (c : ℕ) (before after : List (Option (ℕ × Payload A))) (slot : Option (ℕ × Payload A))
+      → after ≡ before ++ slot ∷ [] → map slot_shows before ≡ opening_slots c → slot_shows slot ≡ opening_slot c
       → map slot_shows after ≡ opening_slots (c + 1)
   one_more_slot c before after slot pushed made shown =
       let next : suc c ≡ c + 1 = omega arith in
-      ap (map slot_shows) pushed ∙ map-append slot_shows before (slot ∷ []) ∙ (λ i. made i ++ shown i ∷ []) ∙ ap opening_slots next
+      ap (map slot_shows) pushed ∙ map-append slot_shows before (slot ∷ []) ∙ (λ i. made i ++ shown i ∷ [])
+      ∙ ap opening_slots next
 
   -- so the table keeps the rule as it opens
-  pub opened : (n limit : ℕ) (words : List ℕ) (slots : List (Option (ℕ × Payload A))) → AreOptions n limit → words ≡ opening_words n (extent n) → map slot_shows slots ≡ opening_slots n
+  pub opened : (n limit : ℕ) (words : List ℕ) (slots : List (Option (ℕ × Payload A))) → AreOptions n limit
+      → words ≡ opening_words n (extent n) → map slot_shows slots ≡ opening_slots n
       → Kept shows n limit (tables.opening words slots first_view)
   opened n limit words slots options words_are made =
-      subst (λ z. Kept shows n limit (tables.opening z slots first_view)) (sym words_are) (opens shows n limit (opening_words n (extent n)) slots options (opens_so n limit slots options made))
+      subst (λ z. Kept shows n limit (tables.opening z slots first_view)) (sym words_are)
+      (opens shows n limit (opening_words n (extent n)) slots options (opens_so n limit slots options made))

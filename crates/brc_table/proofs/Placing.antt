@@ -1,5 +1,5 @@
--- What a table says of itself, its key and its sizes, is what its rule asks: so a step that the rule allows at the sizes is
--- one that the table allows.
+-- What a table says of itself, its key and its sizes, is what its rule asks: so a step that the rule allows at the
+-- sizes is one that the table allows.
 use Rattle.std.proofs.Common.{◌≡◌, ℕ, ◌<◌, ◌≤◌, ◌==◌, ◌/◌, Bool, true, List, Option, sym, subst, arith}
 use prog.Atomic.{either}
 use Rattle.atomic_table.specs.Seated.{TableId}
@@ -28,11 +28,13 @@ use Rattle.law_rule.proofs.Spots.{inside}
 
 -- a word's spot is one of the table's
 pub spot_inside : (n at wide : ℕ) (w : Word) → IsWord n w → at ≡ spot n w → wide ≡ extent n → at < wide
-spot_inside n at wide w is there size = subst (λ (z : ℕ × ℕ). z.0 < z.1) (λ i. (sym there i, sym size i)) (inside n w is)
+spot_inside n at wide w is there size = subst (λ (z : ℕ × ℕ). z.0 < z.1) (λ i. (sym there i, sym size i))
+    (inside n w is)
 
 module _ {B : Type 0} (shows : B → ℕ × Contents) where
   -- at the sizes of its rule's key and with its slots
-  keyed : (n limit cells most slots at id : ℕ) (me : Me (Option B) View) (f : ℕ → ℕ) (told : ℕ → Me (Option B) View → Type 0) (w : Word)
+  keyed : (n limit cells most slots at id : ℕ) (me : Me (Option B) View) (f : ℕ → ℕ) (told : ℕ → Me (Option B) View
+      → Type 0) (w : Word)
       → cells ≡ n → most ≡ limit → slots ≡ n → at ≡ spot n w
       → Allows (Kept shows n limit) n id me (spot n w) f told
       → Allows (Kept shows cells most) slots id me at f told
@@ -41,47 +43,63 @@ module _ {B : Type 0} (shows : B → ℕ × Contents) where
       (λ i. (sym same_cells i, (sym same_most i, (sym same_slots i, sym there i)))) allowed
 
   module _ {key : Sizes} {table seat_at : TableId} {n limit at id : ℕ} {seen : TableSeen} where
-    -- What an operation on a word asks of the table itself, by what contracts see of it: the seat is the table's, the spot is
-    -- one of its words, and its rule allows the step.
+    -- What an operation on a word asks of the table itself, by what contracts see of it: the seat is the table's, the
+    -- spot is one of its words, and its rule allows the step.
     pub step_allowed : (me : Me (Option B) View) (f : ℕ → ℕ) (told : ℕ → Me (Option B) View → Type 0) (w : Word)
         → Sized key table n limit → record { table = table; cells = n; local_limit = limit } ≡ seen → at ≡ spot n w
-        → seat_at ≡ seen.table → IsWord seen.cells w → Allows (Kept shows seen.cells seen.local_limit) seen.cells id me (spot seen.cells w) f told
-        → (seat_at ≡ table) × (at < table.words) × Allows (Kept shows key.cells key.local_limit) table.slots id me at f told
+        → seat_at ≡ seen.table → IsWord seen.cells w → Allows (Kept shows seen.cells seen.local_limit) seen.cells id me
+        (spot seen.cells w) f told
+        → (seat_at ≡ table) × (at < table.words) × Allows (Kept shows key.cells key.local_limit) table.slots id
+        me at f told
     step_allowed me f told w sized is_seen there =
-        subst (λ (z : TableSeen). seat_at ≡ z.table → IsWord z.cells w → Allows (Kept shows z.cells z.local_limit) z.cells id me (spot z.cells w) f told
-        → (seat_at ≡ table) × (at < table.words) × Allows (Kept shows key.cells key.local_limit) table.slots id me at f told) is_seen
+        subst (λ (z : TableSeen). seat_at ≡ z.table → IsWord z.cells w
+        → Allows (Kept shows z.cells z.local_limit) z.cells id me (spot z.cells w) f told
+        → (seat_at ≡ table) × (at < table.words) × Allows (Kept shows key.cells key.local_limit) table.slots id me at f
+        told) is_seen
         (λ same is allowed. (
           same,
           spot_inside n at table.words w is there sized.words,
-          keyed n limit key.cells key.local_limit table.slots at id me f told w sized.same_cells sized.same_limit sized.slots there allowed,
+          keyed n limit key.cells key.local_limit table.slots at id me f told w sized.same_cells sized.same_limit
+              sized.slots there allowed,
         ))
 
     pub step_told : (me : Me (Option B) View) (f : ℕ → ℕ) (item : ℕ → Told) (w : Word)
         → Sized key table n limit → record { table = table; cells = n; local_limit = limit } ≡ seen → at ≡ spot n w
         → seat_at ≡ seen.table → IsWord seen.cells w → MayTell shows seen.cells seen.local_limit id me w f item
-        → (seat_at ≡ table) × (at < table.words) × Allows (Kept shows key.cells key.local_limit) table.slots id me at f (λ there after. after ≡ (with_told (item there) me.0, me.1))
+        → (seat_at ≡ table) × (at < table.words) × Allows (Kept shows key.cells key.local_limit) table.slots id me at f
+        (λ there after. after ≡ (with_told (item there) me.0, me.1))
     step_told me f item w = step_allowed me f (λ there after. after ≡ (with_told (item there) me.0, me.1)) w
 
     pub step_exchanged : (me : Me (Option B) View) (noted : Word) (old new : ℕ) (won : Told) (w : Word)
         → Sized key table n limit → record { table = table; cells = n; local_limit = limit } ≡ seen → at ≡ spot n w
-        → seat_at ≡ seen.table → IsWord seen.cells w → MayExchange shows seen.cells seen.local_limit id me w noted old new won
+        → seat_at ≡ seen.table → IsWord seen.cells w
+        → MayExchange shows seen.cells seen.local_limit id me w noted old new won
         → (seat_at ≡ table) × (at < table.words)
-        × Allows (Kept shows key.cells key.local_limit) table.slots id me at (λ there. either (there == old) new there) (λ there after. after ≡ (exchanged noted old won there me.0, me.1))
-    step_exchanged me noted old new won w = step_allowed me (λ there. either (there == old) new there) (λ there after. after ≡ (exchanged noted old won there me.0, me.1)) w
+        × Allows (Kept shows key.cells key.local_limit) table.slots id me at (λ there. either (there == old) new there)
+        (λ there after. after ≡ (exchanged noted old won there me.0, me.1))
+    step_exchanged me noted old new won w = step_allowed me (λ there. either (there == old) new there)
+        (λ there after. after ≡ (exchanged noted old won there me.0, me.1)) w
 
     pub step_found : (me : Me (Option B) View) (noted : Word) (known : Bool) (bound : ℕ) (w : Word)
         → Sized key table n limit → record { table = table; cells = n; local_limit = limit } ≡ seen → at ≡ spot n w
-        → seat_at ≡ seen.table → IsWord seen.cells w → MayFind shows seen.cells seen.local_limit id me w noted known bound
+        → seat_at ≡ seen.table → IsWord seen.cells w
+        → MayFind shows seen.cells seen.local_limit id me w noted known bound
         → (seat_at ≡ table) × (at < table.words)
-        × Allows (Kept shows key.cells key.local_limit) table.slots id me at (λ there. there) (λ there after. (after ≡ (with_told (Saw noted there) me.0, me.1)) × (known ≡ true → there ≤ bound))
-    step_found me noted known bound w = step_allowed me (λ there. there) (λ there after. (after ≡ (with_told (Saw noted there) me.0, me.1)) × (known ≡ true → there ≤ bound)) w
+        × Allows (Kept shows key.cells key.local_limit) table.slots id me at (λ there. there)
+        (λ there after. (after ≡ (with_told (Saw noted there) me.0, me.1)) × (known ≡ true → there ≤ bound))
+    step_found me noted known bound w = step_allowed me (λ there. there)
+        (λ there after. (after ≡ (with_told (Saw noted there) me.0, me.1)) × (known ≡ true → there ≤ bound)) w
 
   -- a thread's seat is split off, and one that has left is joined
-  pub split_allowed : (cells most id : ℕ) (v : View) → v.active ≡ true → v.thread ≡ 0 → next_thread v ≤ MOST_THREADS → Splits (Kept shows cells most) id v (registering v) (starting v)
-  split_allowed cells most id v active root few = splits shows cells most id v (record { active = active; root = root; few = few })
+  pub split_allowed : (cells most id : ℕ) (v : View) → v.active ≡ true → v.thread ≡ 0 → next_thread v ≤ MOST_THREADS
+      → Splits (Kept shows cells most) id v (registering v) (starting v)
+  split_allowed cells most id v active root few = splits shows cells most id v
+      (record { active = active; root = root; few = few })
 
-  pub join_allowed : (n cells most id : ℕ) (v : View) (other : ℕ) (w : View) → cells ≡ n → v.active ≡ true → v.thread ≡ 0 → Leaves n w → Joins (Kept shows cells most) id v other w (gathering v w) spent
-  join_allowed n cells most id v other w same active root leaves = joins shows cells most id v other w active root (subst (λ m. Leaves m w) (sym same) leaves)
+  pub join_allowed : (n cells most id : ℕ) (v : View) (other : ℕ) (w : View) → cells ≡ n → v.active ≡ true
+      → v.thread ≡ 0 → Leaves n w → Joins (Kept shows cells most) id v other w (gathering v w) spent
+  join_allowed n cells most id v other w same active root leaves = joins shows cells most id v other w active root
+      (subst (λ m. Leaves m w) (sym same) leaves)
 
 -- the table has some words
 pub some_words : (n wide : ℕ) → wide ≡ extent n → 0 < wide

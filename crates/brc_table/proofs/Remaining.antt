@@ -1,5 +1,6 @@
 -- What a table leaves.
-use Rattle.std.proofs.Common.{set, ◌<◌, ◌≢◌, Bool, true, false, get_or, inl, inr, ◌≡◌, ℕ, zero, suc, ◌+◌, ◌≤◌, List, [], ◌∷◌, drop, length, Option, Some, None, refl, sym, ◌∙◌, ap, subst, arith}
+use Rattle.std.proofs.Common.{set, ◌<◌, ◌≢◌, Bool, true, false, get_or, inl, inr, ◌≡◌, ℕ, zero, suc, ◌+◌, ◌≤◌, List, []}
+use Rattle.std.proofs.Common.{◌∷◌, drop, length, Option, Some, None, refl, sym, ◌∙◌, ap, subst, arith}
 use Rattle.std.proofs.lemmas.Bool.{cases_eq}
 use mathlib.Core.Option.{some}
 use lib.ListN.{get_elem?}
@@ -27,7 +28,8 @@ read_set (x ∷ filled) (suc at) = read_set filled at
 
 module _ {A : Type 0} where
   -- the last state, at the table's sizes
-  pub remains : (n limit cells most id : ℕ) (root : View) (words : List ℕ) (slots : List (Option (ℕ × Payload A))) → cells ≡ n → most ≡ limit
+  pub remains : (n limit cells most id : ℕ) (root : View) (words : List ℕ) (slots : List (Option (ℕ × Payload A)))
+      → cells ≡ n → most ≡ limit
       → Final (Seen (Kept shows cells most) id root) words slots → Remains n limit id root slots
   remains n limit cells most id root words slots same_cells same_most last = record {
     state = last.0;
@@ -38,12 +40,16 @@ module _ {A : Type 0} where
   }
 
   -- an empty slot is passed over
-  pub passes : (slots : List (Option (ℕ × Payload A))) (at : ℕ) → get_elem? slots at ≡ some None → from_block (drop at slots) ≡ from_block (drop (at + 1) slots)
-  passes slots at there = let next : suc at ≡ at + 1 = omega arith in ap from_block (drop_at slots at None there) ∙ ap (λ k. from_block (drop k slots)) next
+  pub passes : (slots : List (Option (ℕ × Payload A))) (at : ℕ) → get_elem? slots at ≡ some None
+      → from_block (drop at slots) ≡ from_block (drop (at + 1) slots)
+  passes slots at there = let next : suc at ≡ at + 1 = omega arith in ap from_block (drop_at slots at None there)
+      ∙ ap (λ k. from_block (drop k slots)) next
 
   -- a block is next
-  pub meets : (slots : List (Option (ℕ × Payload A))) (at : ℕ) (block : ℕ × Payload A) → get_elem? slots at ≡ some (Some block) → from_block (drop at slots) ≡ Some block ∷ drop (at + 1) slots
-  meets slots at block there = let next : suc at ≡ at + 1 = omega arith in ap from_block (drop_at slots at (Some block) there) ∙ ap (λ k. Some block ∷ drop k slots) next
+  pub meets : (slots : List (Option (ℕ × Payload A))) (at : ℕ) (block : ℕ × Payload A)
+      → get_elem? slots at ≡ some (Some block) → from_block (drop at slots) ≡ Some block ∷ drop (at + 1) slots
+  meets slots at block there = let next : suc at ≡ at + 1 = omega arith in
+      ap from_block (drop_at slots at (Some block) there) ∙ ap (λ k. Some block ∷ drop k slots) next
 
   -- nothing is past the end
   pub ends_so : (slots : List (Option (ℕ × Payload A))) (at : ℕ) → length slots ≤ at → from_block (drop at slots) ≡ []
@@ -53,10 +59,13 @@ module _ {A : Type 0} where
   ends_so (x ∷ slots) (suc at) past = ends_so slots at (omega (arith, past))
 
 -- one place less is filled
-pub left_filled : (filled : List Bool) (at wide : ℕ) → ((k : ℕ) → at ≤ k → k < wide → get_or filled k false ≡ true) → (k : ℕ) → at + 1 ≤ k → k < wide → get_or (set filled at false) k false ≡ true
-left_filled filled at wide full k from_it low = read_other filled at k (omega (arith, from_it)) ∙ full k (omega (arith, from_it)) low
+pub left_filled : (filled : List Bool) (at wide : ℕ) → ((k : ℕ) → at ≤ k → k < wide → get_or filled k false ≡ true)
+    → (k : ℕ) → at + 1 ≤ k → k < wide → get_or (set filled at false) k false ≡ true
+left_filled filled at wide full k from_it low = read_other filled at k (omega (arith, from_it))
+    ∙ full k (omega (arith, from_it)) low
 
-pub gone_empty : (filled : List Bool) (at : ℕ) → ((k : ℕ) → k < at → get_or filled k false ≡ false) → (k : ℕ) → k < at + 1 → get_or (set filled at false) k false ≡ false
+pub gone_empty : (filled : List Bool) (at : ℕ) → ((k : ℕ) → k < at → get_or filled k false ≡ false) → (k : ℕ)
+    → k < at + 1 → get_or (set filled at false) k false ≡ false
 gone_empty filled at empty k low = elim (cases_eq k at) [
   | inl same ↦ subst (λ j. get_or (set filled at false) j false ≡ false) (sym same) (read_set filled at)
   | inr other ↦ read_other filled at k other ∙ empty k (omega (arith, low, other))

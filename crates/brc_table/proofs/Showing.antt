@@ -15,17 +15,20 @@ use Rattle.brc_table.specs.Moment.{ShowsOneRun}
 use Rattle.brc_table.specs.Shown.{shows}
 
 module _ {A : Type 0} where
-  pub shows_one_run : (n limit : ℕ) (s : State (Option (ℕ × Payload A)) View) → Kept shows n limit s → ShowsOneRun n limit s
+  pub shows_one_run : (n limit : ℕ) (s : State (Option (ℕ × Payload A)) View) → Kept shows n limit s
+      → ShowsOneRun n limit s
   shows_one_run n limit s kept = record {
     run = kept.run;
     legal = kept.legal;
     reached = kept_reached shows n limit s kept;
     headline = kept_headline shows n limit s kept;
-    histories = run_histories n limit (events_of (items_of kept.run)) kept.options (events_run (opening n limit) (items_of kept.run) kept.legal.items);
+    histories = run_histories n limit (events_of (items_of kept.run)) kept.options
+        (events_run (opening n limit) (items_of kept.run) kept.legal.items);
     words = kept.each_word;
     homes = kept.each_home;
     seats = λ t stood. (kept.seat t, kept.each_thread t stood);
-    one_seat = λ i j v w at_i at_j is_v is_w same. sym (kept.each_seat i v at_i is_v).here ∙ ap kept.seat same ∙ (kept.each_seat j w at_j is_w).here;
+    one_seat = λ i j v w at_i at_j is_v is_w same. sym (kept.each_seat i v at_i is_v).here ∙ ap kept.seat same
+        ∙ (kept.each_seat j w at_j is_w).here;
     logs = λ j v at active. (kept.each_seat j v at active).log;
     ended = λ j v at active root. (kept.each_seat j v at active).lives root;
     root_once = root_once n limit kept.run kept.options kept.legal.items;

@@ -31,9 +31,12 @@ first_of true b c d is = refl
 first_of false b c d is = absurd (true≢false (sym is))
 
 module _ {B : Type 0} (shows : B → ℕ × Contents) (n limit : ℕ) where
-  pub wakes_own : (id : ℕ) (v : View) (slots : List (ℕ × Option B)) → v.active ≡ true → 0 < v.thread → v.thread ≤ MOST_THREADS → Allowed n v.log Wake
+  pub wakes_own : (id : ℕ) (v : View) (slots : List (ℕ × Option B)) → v.active ≡ true → 0 < v.thread
+      → v.thread ≤ MOST_THREADS → Allowed n v.log Wake
       → MayWake shows n limit id (v, slots) (NotifyWord v.thread) (λ _. 0) (λ there. Did Wake there Nothing) n
   wakes_own id v slots active some_thread few allowed =
-      tells_found shows n limit (λ _. OwnLog n v.log) id v slots (NotifyWord v.thread) (λ _. 0) (λ there after. after ≡ (with_told (Did Wake there Nothing) v, slots)) active some_thread (omega (arith, few))
-      (λ h there known shown. known_own_log n limit h v.thread v.log known some_thread (wakes_active (part_seen n v.log).row.stage (first_of _ _ _ _ allowed.own)))
+      tells_found shows n limit (λ _. OwnLog n v.log) id v slots (NotifyWord v.thread) (λ _. 0)
+      (λ there after. after ≡ (with_told (Did Wake there Nothing) v, slots)) active some_thread (omega (arith, few))
+      (λ h there known shown. known_own_log n limit h v.thread v.log known some_thread
+      (wakes_active (part_seen n v.log).row.stage (first_of _ _ _ _ allowed.own)))
       (wakes shows n limit id v slots active some_thread few allowed)

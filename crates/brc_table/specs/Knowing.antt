@@ -26,15 +26,17 @@ pub record Knows (n : ℕ) (log : List Told) (now : Known) : Type 0 where
   pub blocks : taken_seen n log ≡ now.blocks
   pub lock : locked_of (log_items log) ≡ now.lock
 
--- What was seen risen is seen so by this log too, exactly where its place, or its last entry, still has the cell; and who
--- was found as an owner stays found.
+-- What was seen risen is seen so by this log too, exactly where its place, or its last entry, still has the cell; and
+-- who was found as an owner stays found.
 pub record Keeps (n : ℕ) (before log : List Told) : Type 0 where
-  pub risen : (drop : Dropped) (c : ℕ) → risen_seen n before drop c ≡ true → risen_seen n log drop c ≡ names c (drop_in (part_seen n log) drop)
+  pub risen : (drop : Dropped) (c : ℕ) → risen_seen n before drop c ≡ true
+      → risen_seen n log drop c ≡ names c (drop_in (part_seen n log) drop)
   pub owners : (q : ℕ) → has_seen_owner (log_items before) q ≡ true → has_seen_owner (log_items log) q ≡ true
 
 -- a shared word in another state than default was found: each place and last entry that has the cell has it seen risen
 pub record SeesRisen (n : ℕ) (before : List Told) (c number : ℕ) (log : List Told) : Type 0 where
-  pub risen : number % 4 ≢ 0 → (drop : Dropped) → drop_in (part_seen n before) drop ≡ Some c → risen_seen n log drop c ≡ true
+  pub risen : number % 4 ≢ 0 → (drop : Dropped) → drop_in (part_seen n before) drop ≡ Some c
+      → risen_seen n log drop c ≡ true
 
 -- the number found in this word of the cell is noted, and what was noted of other words stays so
 pub record Notes (field : Field) (c number : ℕ) (before log : List Told) : Type 0 where

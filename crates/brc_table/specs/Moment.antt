@@ -17,10 +17,11 @@ use Rattle.law_rule.specs.Rule.{stands, Seated, StandsOnce}
 use Rattle.brc_table.specs.Shown.{shows}
 
 module _ {A : Type 0} where
-  -- A table's words, its blocks at home and its seats' logs are those of one legal run of all threads' steps. The world that
-  -- the run leads to is reached, and counts are references there; each object that died had no holder, and died once for its
-  -- birth. Each thread that is registered and not gathered has one seat, whose log is what the thread did; and each item of
-  -- the run stands in one log, once: a seat's, or one that the root keeps of a registration that has ended.
+  -- A table's words, its blocks at home and its seats' logs are those of one legal run of all threads' steps. The world
+  -- that the run leads to is reached, and counts are references there; each object that died had no holder, and died
+  -- once for its birth. Each thread that is registered and not gathered has one seat, whose log is what the thread did;
+  -- and each item of the run stands in one log, once: a seat's, or one that the root keeps of a registration that has
+  -- ended.
   pub record ShowsOneRun (n limit : ℕ) (s : State (Option (ℕ × Payload A)) View) : Type 0 where
     pub run : Run
     pub legal : IsLegal n limit run
@@ -33,6 +34,7 @@ module _ {A : Type 0} where
     pub one_seat : (i j : ℕ) (v w : View) → get_elem? s.views i ≡ some v → get_elem? s.views j ≡ some w
         → v.active ≡ true → w.active ≡ true → v.thread ≡ w.thread → i ≡ j
     pub logs : (j : ℕ) (v : View) → get_elem? s.views j ≡ some v → v.active ≡ true → own_of v.thread run ≡ v.log
-    pub ended : (j : ℕ) (v : View) → get_elem? s.views j ≡ some v → v.active ≡ true → v.thread ≡ 0 → v.gathered ≡ lives_of run
+    pub ended : (j : ℕ) (v : View) → get_elem? s.views j ≡ some v → v.active ≡ true → v.thread ≡ 0
+        → v.gathered ≡ lives_of run
     pub root_once : all_of 0 run ≡ own_of 0 run
     pub each_once : (t : ℕ) → 0 < t → StandsOnce (world n limit run) run t

@@ -1,5 +1,6 @@
 -- Blocks that move: out of the table with a seat, and home.
-use Rattle.std.specs.Prelude.{◌≡◌, ℕ, ◌/◌, ◌%◌, ◌^◌, ◌==◌, ◌<◌, bit_and, Bool, true, false, List, [], ◌∷◌, Option, Some, None}
+use Rattle.std.specs.Prelude.{◌≡◌, ℕ, ◌/◌, ◌%◌, ◌^◌, ◌==◌, ◌<◌, bit_and, Bool, true, false, List, [], ◌∷◌, Option, Some}
+use Rattle.std.specs.Prelude.{None}
 use Rattle.std.specs.Int.{bit_at}
 use prog.Atomic.{either}
 use Rattle.atomic_table.specs.Table.{Me, Allows, rest}
@@ -47,12 +48,14 @@ module _ {A : Type 0} where
   found_in c (Some block) = moves.Found c (contents_of block.1)
 
   -- the slots that are out with the seat: that of the block is among them, and it is empty
-  abbrev pub out_with : ℕ → Option (ℕ × Payload A) → List (ℕ × Option (ℕ × Payload A)) → List (ℕ × Option (ℕ × Payload A))
+  abbrev pub out_with : ℕ → Option (ℕ × Payload A) → List (ℕ × Option (ℕ × Payload A))
+      → List (ℕ × Option (ℕ × Payload A))
   out_with c None slots = slots
   out_with c (Some block) slots = (c, None) ∷ slots
 
   -- the slot that the seat took last is emptied
-  abbrev pub emptied : ℕ → Option (ℕ × Payload A) → List (ℕ × Option (ℕ × Payload A)) → List (ℕ × Option (ℕ × Payload A))
+  abbrev pub emptied : ℕ → Option (ℕ × Payload A) → List (ℕ × Option (ℕ × Payload A))
+      → List (ℕ × Option (ℕ × Payload A))
   emptied c None slots = slots
   emptied c (Some block) slots = (c, None) ∷ rest slots
 
@@ -70,26 +73,31 @@ module _ {A : Type 0} where
   -- ---- what an operation may be
 
   module _ (n limit id : ℕ) (me : Me (Option (ℕ × Payload A)) View) where
-    -- The shared word becomes f of what it was, as this step, and where the object is dead the seat has its block. m and d are
-    -- n and c, as a ghost value gives them to what is told; so below.
+    -- The shared word becomes f of what it was, as this step, and where the object is dead the seat has its block. m
+    -- and d are n and c, as a ghost value gives them to what is told; so below.
     abbrev pub MayEnd : ℕ → (ℕ → ℕ) → ℕ → Step → ℕ → Type 0
-    MayEnd c f m s d = Allows (Kept shows n limit) n id me (spot n (Of Shared c)) f (λ there after. Ended shows m me.0 me.1 s d there (takes_block s (cell_told s there)) after)
+    MayEnd c f m s d = Allows (Kept shows n limit) n id me (spot n (Of Shared c)) f
+        (λ there after. Ended shows m me.0 me.1 s d there (takes_block s (cell_told s there)) after)
 
     -- the cell's free word keeps the bits of the mask, and where it had the cell's bit the seat has its slot
     abbrev pub MayClaim : ℕ → ℕ → ℕ → ℕ → Type 0
-    MayClaim c mask m d = Allows (Kept shows n limit) n id me (spot n (FreeWord (c / 64))) (λ there. bit_and there mask) (λ there after. Claimed m me.0 me.1 d there (bit_at there (d % 64) == 1) after)
+    MayClaim c mask m d = Allows (Kept shows n limit) n id me (spot n (FreeWord (c / 64))) (λ there. bit_and there mask)
+        (λ there after. Claimed m me.0 me.1 d there (bit_at there (d % 64) == 1) after)
 
     -- an unlocked object's mutex word becomes the new number, and the seat has its block
     abbrev pub MayLock : ℕ → ℕ → ℕ → ℕ → ℕ → Type 0
-    MayLock c new m k d = Allows (Kept shows n limit) n id me (spot n (Of Mutex c)) (λ there. either (there == 0) new there) (λ there after. Locked shows m me.0 me.1 k d there (there == 0) after)
+    MayLock c new m k d = Allows (Kept shows n limit) n id me (spot n (Of Mutex c))
+        (λ there. either (there == 0) new there) (λ there after. Locked shows m me.0 me.1 k d there (there == 0) after)
 
-    -- A word becomes f of what it was, as the item that this tells, and the slot that the seat took last is home; what the
-    -- thread has given back so far is a number of 64 bits.
+    -- A word becomes f of what it was, as the item that this tells, and the slot that the seat took last is home; what
+    -- the thread has given back so far is a number of 64 bits.
     abbrev pub MayGiveBy : Word → (ℕ → ℕ) → (ℕ → Told) → Type 0
-    MayGiveBy w f item = Allows (Kept shows n limit) n id me (spot n w) f (λ there after. after ≡ (with_told (item there) me.0, rest me.1))
+    MayGiveBy w f item = Allows (Kept shows n limit) n id me (spot n w) f
+        (λ there after. after ≡ (with_told (item there) me.0, rest me.1))
 
     abbrev pub MayGiveByOfFew : Word → (ℕ → ℕ) → (ℕ → Told) → ℕ → Type 0
-    MayGiveByOfFew w f item m = Allows (Kept shows n limit) n id me (spot n w) f (λ there after. (after ≡ (with_told (item there) me.0, rest me.1)) × FewFrees m after.0.log)
+    MayGiveByOfFew w f item m = Allows (Kept shows n limit) n id me (spot n w) f
+        (λ there after. (after ≡ (with_told (item there) me.0, rest me.1)) × FewFrees m after.0.log)
 
     -- the same by a store
     abbrev pub MayGive : Word → ℕ → Told → Type 0

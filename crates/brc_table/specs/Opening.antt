@@ -1,5 +1,6 @@
 -- What a table opens with: the words of the opening world, and the block of each immortal.
-use Rattle.std.specs.Prelude.{ℕ, zero, suc, ◌+◌, ◌-◌, ◌*◌, ◌/◌, ◌%◌, ◌^◌, ◌==◌, nat_lt, min, if◌then◌else◌, List, [], ◌∷◌, ◌++◌, Option, Some, None}
+use Rattle.std.specs.Prelude.{ℕ, zero, suc, ◌+◌, ◌-◌, ◌*◌, ◌/◌, ◌%◌, ◌^◌, ◌==◌, nat_lt, min, if◌then◌else◌, List, []}
+use Rattle.std.specs.Prelude.{◌∷◌, ◌++◌, Option, Some, None}
 use Rattle.brc_words.specs.declared.limits.TheConstants.{FIRST_MORTAL, IMMORTAL_LOCAL}
 use Rattle.brc_block.specs.declared.payload.Payload.{Payload}
 use Rattle.law_rule.specs.declared.contents.Contents.{Contents}
@@ -19,11 +20,14 @@ opening_free n k = 2 ^ bits_below n k - 2 ^ bits_below FIRST_MORTAL k
 
 -- a local word opens as it is for immortals, and 0 else; a shared word with the count 0; and no mutex is locked
 abbrev pub opening_count : ℕ → ℕ → ℕ
-opening_count c part = if part == 0 then (if nat_lt c FIRST_MORTAL then IMMORTAL_LOCAL else 0) else (if part == 8 then 2 ^ 42 else 0)
+opening_count c part = if part == 0 then (if nat_lt c FIRST_MORTAL then IMMORTAL_LOCAL else 0)
+    else (if part == 8 then 2 ^ 42 else 0)
 
 -- the word at a spot after the counts: owner words are 0, nothing is queued, and nobody is told anything
 abbrev pub opening_else : ℕ → ℕ → ℕ
-opening_else n at = if nat_lt at (free_from n) then 0 else (if nat_lt at (free_from n + free_words_for n) then opening_free n (at - free_from n) else 0)
+opening_else n at = if nat_lt at
+    (free_from n) then 0 else (if nat_lt at (free_from n + free_words_for n) then opening_free n
+    (at - free_from n) else 0)
 
 -- the word at a spot
 abbrev pub opening_word : ℕ → ℕ → ℕ

@@ -15,11 +15,12 @@ module _ {A : Type 0} where
   from_block (None ∷ slots) = from_block slots
   from_block (Some block ∷ slots) = Some block ∷ slots
 
-  -- The slots of a table in its last state, which keeps the rule, and in which the root knows what it knows. A slot that was
-  -- at home has its value.
+  -- The slots of a table in its last state, which keeps the rule, and in which the root knows what it knows. A slot
+  -- that was at home has its value.
   pub record Remains (n limit id : ℕ) (root : View) (slots : List (Option (ℕ × Payload A))) : Type 0 where
     pub state : State (Option (ℕ × Payload A)) View
     pub kept : Kept shows n limit state
     pub seen : get_elem? state.views id ≡ some root
     pub deep : length state.homes ≡ length slots
-    pub each_home : (c : ℕ) (slot : Option (ℕ × Payload A)) → get_elem? state.homes c ≡ some (some slot) → get_elem? slots c ≡ some slot
+    pub each_home : (c : ℕ) (slot : Option (ℕ × Payload A)) → get_elem? state.homes c ≡ some (some slot)
+        → get_elem? slots c ≡ some slot

@@ -36,7 +36,8 @@ impl<A: Allocator> HeapTable<A> {
         requires raises { Raises self.now.cells self.now.local_limit seat.old.log source place cell count }
         ensures told { seat.new.log ≡ told.Did (steps.LocalUp source place) (count + 1) moves.Nothing ∷ seat.old.log }
         ensures seat { Stays seat.old seat.new }
-        ensures knows { Knows self.now.cells seat.new.log (filling place cell (counting cell (count + 1) (known_seen self.now.cells seat.old.log))) }
+        ensures knows { Knows self.now.cells seat.new.log
+            (filling place cell (counting cell (count + 1) (known_seen self.now.cells seat.old.log))) }
         ensures keeps { Keeps self.now.cells seat.old.log seat.new.log }
         ensures found { contents_locked seat.new.log ≡ contents_locked seat.old.log }
     {
@@ -53,7 +54,8 @@ impl<A: Allocator> HeapTable<A> {
         requires lowers { Lowers self.now.cells seat.old.log drop cell count }
         ensures told { seat.new.log ≡ told.Did (steps.LocalDown drop) (count - 1) moves.Nothing ∷ seat.old.log }
         ensures seat { Stays seat.old seat.new }
-        ensures knows { Knows self.now.cells seat.new.log (counting_down (count == 1) drop cell (count - 1) (known_seen self.now.cells seat.old.log)) }
+        ensures knows { Knows self.now.cells seat.new.log
+            (counting_down (count == 1) drop cell (count - 1) (known_seen self.now.cells seat.old.log)) }
         ensures keeps { Keeps self.now.cells seat.old.log seat.new.log }
     {
         let word = Word::Of(Field::Local, cell);
@@ -75,7 +77,8 @@ impl<A: Allocator> HeapTable<A> {
         requires raises { RaisesImmortal self.now.cells seat.old.log source place cell }
         ensures told { seat.new.log ≡ told.Did (steps.LocalUp source place) result moves.Nothing ∷ seat.old.log }
         ensures seat { Stays seat.old seat.new }
-        ensures knows { Knows self.now.cells seat.new.log (filling place cell (counting cell result (known_seen self.now.cells seat.old.log))) }
+        ensures knows { Knows self.now.cells seat.new.log
+            (filling place cell (counting cell result (known_seen self.now.cells seat.old.log))) }
         ensures keeps { Keeps self.now.cells seat.old.log seat.new.log }
         ensures found { contents_locked seat.new.log ≡ contents_locked seat.old.log }
     {
@@ -92,7 +95,8 @@ impl<A: Allocator> HeapTable<A> {
         requires lowers { LowersImmortal self.now.cells seat.old.log drop cell }
         ensures told { seat.new.log ≡ told.Did (steps.LocalDown drop) result moves.Nothing ∷ seat.old.log }
         ensures seat { Stays seat.old seat.new }
-        ensures knows { Knows self.now.cells seat.new.log (giving_up (Some drop) (counting cell result (known_seen self.now.cells seat.old.log))) }
+        ensures knows { Knows self.now.cells seat.new.log
+            (giving_up (Some drop) (counting cell result (known_seen self.now.cells seat.old.log))) }
         ensures keeps { Keeps self.now.cells seat.old.log seat.new.log }
     {
         let word = Word::Of(Field::Local, cell);
@@ -107,7 +111,8 @@ impl<A: Allocator> HeapTable<A> {
         requires raises { RaisesShared self.now.cells self.now.local_limit seat.old.log source place cell }
         ensures told { seat.new.log ≡ told.Did (steps.SharedUp source place) result moves.Nothing ∷ seat.old.log }
         ensures seat { Stays seat.old seat.new }
-        ensures knows { Knows self.now.cells seat.new.log (filling place cell (known_seen self.now.cells seat.old.log)) }
+        ensures knows { Knows self.now.cells seat.new.log
+            (filling place cell (known_seen self.now.cells seat.old.log)) }
         ensures keeps { Keeps self.now.cells seat.old.log seat.new.log }
         ensures found { contents_locked seat.new.log ≡ contents_locked seat.old.log }
         ensures risen { result % 4 ≢ 0 → risen_seen self.now.cells seat.new.log (drops.Frame place) cell ≡ true }
@@ -125,7 +130,8 @@ impl<A: Allocator> HeapTable<A> {
         requires releases { Releases self.now.cells seat.old.log (steps.Ask drop) cell }
         ensures told { seat.new.log ≡ told.Did (steps.Ask drop) result moves.Nothing ∷ seat.old.log }
         ensures seat { Stays seat.old seat.new }
-        ensures knows { Knows self.now.cells seat.new.log (asking (result % 4 == 0) drop cell (known_seen self.now.cells seat.old.log)) }
+        ensures knows { Knows self.now.cells seat.new.log
+            (asking (result % 4 == 0) drop cell (known_seen self.now.cells seat.old.log)) }
         ensures keeps { Keeps self.now.cells seat.old.log seat.new.log }
         ensures risen { result % 4 ≢ 0 → risen_seen self.now.cells seat.new.log drop cell ≡ true }
     {
@@ -148,10 +154,12 @@ impl<A: Allocator> HeapTable<A> {
         requires default { old % 4 ≡ 0 }
         requires some_count { 2 ^ 42 + 4 ≤ old }
         ensures won { OnOk result (seat.new.log ≡ told.Did (steps.SharedDown drop) old moves.Nothing ∷ seat.old.log) }
-        ensures lost { IfErr result (λ found. seat.new.log ≡ told.Lost (words.Of fields.Shared cell) found ∷ seat.old.log) }
+        ensures lost { IfErr result (λ found. seat.new.log ≡ told.Lost (words.Of fields.Shared cell) found
+            ∷ seat.old.log) }
         ensures moved { IfErr result (λ found. found ≢ old) }
         ensures seat { Stays seat.old seat.new }
-        ensures won_knows { OnOk result (Knows self.now.cells seat.new.log (giving_up (Some drop) (known_seen self.now.cells seat.old.log))) }
+        ensures won_knows { OnOk result
+            (Knows self.now.cells seat.new.log (giving_up (Some drop) (known_seen self.now.cells seat.old.log))) }
         ensures lost_knows { OnErr result (Knows self.now.cells seat.new.log (known_seen self.now.cells seat.old.log)) }
         ensures keeps { Keeps self.now.cells seat.old.log seat.new.log }
         ensures lost_sees { IfErr result (λ found. SeesRisen self.now.cells seat.old.log cell found seat.new.log) }

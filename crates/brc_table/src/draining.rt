@@ -20,8 +20,8 @@ use law_world::Step;
 use std::alloc::Allocator;
 use std::marker::{Brand, PhantomData};
 
-/// Which item takes the bits, of how many cells the heap is, and which of the thread's queue words it is. A caller's proof
-/// picks it.
+/// Which item takes the bits, of how many cells the heap is, and which of the thread's queue words it is. A caller's
+/// proof picks it.
 pub(crate) trait Draining {
     ghost item: { ℕ → told_data };
 
@@ -44,7 +44,8 @@ pub(crate) struct Drains<M> {
 }
 
 impl<S, M: Draining> Play<S, View> for Drains<M> {
-    ghost then = { λ step me number after. (after ≡ (with_told (M.item number) me.0, me.1)) × AreQueued M.cells M.word number };
+    ghost then = { λ step me number after. (after ≡ (with_told (M.item number) me.0, me.1))
+        × AreQueued M.cells M.word number };
 }
 
 /// A swap, which leaves an open word empty.
@@ -57,7 +58,8 @@ pub(crate) fn take_bits<A: Allocator, M: Draining>(
 ) -> u64
     requires same { seat.old.table_id ≡ table.now.table }
     requires inside { IsWord table.now.cells word }
-    requires allowed { MayTake shows table.now.cells table.now.local_limit seat.old.id seat.old.me word (λ _. 0) M.item M.cells M.word }
+    requires allowed { MayTake shows table.now.cells table.now.local_limit seat.old.id seat.old.me word
+        (λ _. 0) M.item M.cells M.word }
     ensures same { (seat.new.table_id ≡ seat.old.table_id) × (seat.new.id ≡ seat.old.id) }
     ensures told { seat.new.me ≡ (with_told (M.item result) seat.old.me.0, seat.old.me.1) }
     ensures cells { AreQueued M.cells M.word result }
@@ -77,7 +79,8 @@ pub(crate) fn take_and_close<A: Allocator, M: Draining>(
 ) -> u64
     requires same { seat.old.table_id ≡ table.now.table }
     requires inside { IsWord table.now.cells word }
-    requires allowed { MayTake shows table.now.cells table.now.local_limit seat.old.id seat.old.me word (λ there. bit_or there 9223372036854775808) M.item M.cells M.word }
+    requires allowed { MayTake shows table.now.cells table.now.local_limit seat.old.id seat.old.me word
+        (λ there. bit_or there 9223372036854775808) M.item M.cells M.word }
     ensures same { (seat.new.table_id ≡ seat.old.table_id) × (seat.new.id ≡ seat.old.id) }
     ensures told { seat.new.me ≡ (with_told (M.item result) seat.old.me.0, seat.old.me.1) }
     ensures cells { AreQueued M.cells M.word result }

@@ -1,5 +1,5 @@
-//! The ends of objects: where the number found says that the object is dead, the call answers its block, with the contents
-//! as they were put home last.
+//! The ends of objects: where the number found says that the object is dead, the call answers its block, with the
+//! contents as they were put home last.
 
 ghost use Rattle.std.specs.Prelude.{◌≡◌, ◌<◌, ◌≤◌, ◌∷◌, None, IfSome};
 ghost use Rattle.law_world.specs.declared.event.LastDropped.TheVariants as lasts;
@@ -32,11 +32,15 @@ impl<A: Allocator> HeapTable<A> {
         ensures of_cell { IfSome result.block (λ block. block.0 ≡ cell) }
         ensures fresh { IfSome result.block (λ block. listed_at (taken_seen self.now.cells seat.old.log) cell ≡ None) }
         ensures entries { AreCells self.now.cells (entries_of result.block) }
-        ensures dead { is_there result.block ≡ takes_block (steps.SeeZero cell) (cell_told (steps.SeeZero cell) result.number) }
-        ensures told { seat.new.log ≡ told.Did (steps.SeeZero cell) result.number (found_in cell result.block) ∷ seat.old.log }
+        ensures dead { is_there result.block ≡ takes_block (steps.SeeZero cell)
+            (cell_told (steps.SeeZero cell) result.number) }
+        ensures told { seat.new.log ≡ told.Did (steps.SeeZero cell) result.number (found_in cell result.block)
+            ∷ seat.old.log }
         ensures out { seat.new.slots ≡ out_with cell result.block seat.old.slots }
         ensures seat { Continues seat.old seat.new }
-        ensures knows { Knows self.now.cells seat.new.log (seeing_zero (is_there result.block) cell (entries_of result.block) (known_seen self.now.cells seat.old.log)) }
+        ensures knows { Knows self.now.cells seat.new.log
+            (seeing_zero (is_there result.block) cell (entries_of result.block)
+            (known_seen self.now.cells seat.old.log)) }
         ensures keeps { Keeps self.now.cells seat.old.log seat.new.log }
     {
         let step = Step::SeeZero(cell);
@@ -52,11 +56,15 @@ impl<A: Allocator> HeapTable<A> {
         ensures of_cell { IfSome result.block (λ block. block.0 ≡ cell) }
         ensures fresh { IfSome result.block (λ block. listed_at (taken_seen self.now.cells seat.old.log) cell ≡ None) }
         ensures entries { AreCells self.now.cells (entries_of result.block) }
-        ensures dead { is_there result.block ≡ takes_block (steps.MergeZero cell) (cell_told (steps.MergeZero cell) result.number) }
-        ensures told { seat.new.log ≡ told.Did (steps.MergeZero cell) result.number (found_in cell result.block) ∷ seat.old.log }
+        ensures dead { is_there result.block ≡ takes_block (steps.MergeZero cell)
+            (cell_told (steps.MergeZero cell) result.number) }
+        ensures told { seat.new.log ≡ told.Did (steps.MergeZero cell) result.number (found_in cell result.block)
+            ∷ seat.old.log }
         ensures out { seat.new.slots ≡ out_with cell result.block seat.old.slots }
         ensures seat { Continues seat.old seat.new }
-        ensures knows { Knows self.now.cells seat.new.log (handing hands.Free (taking (is_there result.block) cell (entries_of result.block) (known_seen self.now.cells seat.old.log))) }
+        ensures knows { Knows self.now.cells seat.new.log
+            (handing hands.Free (taking (is_there result.block) cell (entries_of result.block)
+            (known_seen self.now.cells seat.old.log))) }
         ensures keeps { Keeps self.now.cells seat.old.log seat.new.log }
     {
         let step = Step::MergeZero(cell);
@@ -72,11 +80,15 @@ impl<A: Allocator> HeapTable<A> {
         ensures of_cell { IfSome result.block (λ block. block.0 ≡ cell) }
         ensures fresh { IfSome result.block (λ block. listed_at (taken_seen self.now.cells seat.old.log) cell ≡ None) }
         ensures entries { AreCells self.now.cells (entries_of result.block) }
-        ensures dead { is_there result.block ≡ takes_block (steps.LastDown (lasts.Dropped drop)) (cell_told (steps.LastDown (lasts.Dropped drop)) result.number) }
-        ensures told { seat.new.log ≡ told.Did (steps.LastDown (lasts.Dropped drop)) result.number (found_in cell result.block) ∷ seat.old.log }
+        ensures dead { is_there result.block ≡ takes_block (steps.LastDown (lasts.Dropped drop))
+            (cell_told (steps.LastDown (lasts.Dropped drop)) result.number) }
+        ensures told { seat.new.log ≡ told.Did (steps.LastDown (lasts.Dropped drop)) result.number
+            (found_in cell result.block) ∷ seat.old.log }
         ensures out { seat.new.slots ≡ out_with cell result.block seat.old.slots }
         ensures seat { Continues seat.old seat.new }
-        ensures knows { Knows self.now.cells seat.new.log (dropping_last (is_there result.block) drop cell (entries_of result.block) (known_seen self.now.cells seat.old.log)) }
+        ensures knows { Knows self.now.cells seat.new.log
+            (dropping_last (is_there result.block) drop cell (entries_of result.block)
+            (known_seen self.now.cells seat.old.log)) }
         ensures keeps { Keeps self.now.cells seat.old.log seat.new.log }
     {
         let step = Step::LastDown(LastDropped::Dropped(drop));
@@ -92,11 +104,15 @@ impl<A: Allocator> HeapTable<A> {
         ensures of_cell { IfSome result.block (λ block. block.0 ≡ cell) }
         ensures fresh { IfSome result.block (λ block. listed_at (taken_seen self.now.cells seat.old.log) cell ≡ None) }
         ensures entries { AreCells self.now.cells (entries_of result.block) }
-        ensures dead { is_there result.block ≡ takes_block (steps.LastDown (lasts.Popped cell)) (cell_told (steps.LastDown (lasts.Popped cell)) result.number) }
-        ensures told { seat.new.log ≡ told.Did (steps.LastDown (lasts.Popped cell)) result.number (found_in cell result.block) ∷ seat.old.log }
+        ensures dead { is_there result.block ≡ takes_block (steps.LastDown (lasts.Popped cell))
+            (cell_told (steps.LastDown (lasts.Popped cell)) result.number) }
+        ensures told { seat.new.log ≡ told.Did (steps.LastDown (lasts.Popped cell)) result.number
+            (found_in cell result.block) ∷ seat.old.log }
         ensures out { seat.new.slots ≡ out_with cell result.block seat.old.slots }
         ensures seat { Continues seat.old seat.new }
-        ensures knows { Knows self.now.cells seat.new.log (settling cell (taking (is_there result.block) cell (entries_of result.block) (known_seen self.now.cells seat.old.log))) }
+        ensures knows { Knows self.now.cells seat.new.log
+            (settling cell (taking (is_there result.block) cell (entries_of result.block)
+            (known_seen self.now.cells seat.old.log))) }
         ensures keeps { Keeps self.now.cells seat.old.log seat.new.log }
     {
         let _shared = shared;
@@ -113,11 +129,15 @@ impl<A: Allocator> HeapTable<A> {
         ensures of_cell { IfSome result.block (λ block. block.0 ≡ cell) }
         ensures fresh { IfSome result.block (λ block. listed_at (taken_seen self.now.cells seat.old.log) cell ≡ None) }
         ensures entries { AreCells self.now.cells (entries_of result.block) }
-        ensures dead { is_there result.block ≡ takes_block (steps.LastDown (lasts.Popped cell)) (cell_told (steps.LastDown (lasts.Popped cell)) result.number) }
-        ensures told { seat.new.log ≡ told.Did (steps.LastDown (lasts.Popped cell)) result.number (found_in cell result.block) ∷ seat.old.log }
+        ensures dead { is_there result.block ≡ takes_block (steps.LastDown (lasts.Popped cell))
+            (cell_told (steps.LastDown (lasts.Popped cell)) result.number) }
+        ensures told { seat.new.log ≡ told.Did (steps.LastDown (lasts.Popped cell)) result.number
+            (found_in cell result.block) ∷ seat.old.log }
         ensures out { seat.new.slots ≡ out_with cell result.block seat.old.slots }
         ensures seat { Continues seat.old seat.new }
-        ensures knows { Knows self.now.cells seat.new.log (settling cell (taking (is_there result.block) cell (entries_of result.block) (known_seen self.now.cells seat.old.log))) }
+        ensures knows { Knows self.now.cells seat.new.log
+            (settling cell (taking (is_there result.block) cell (entries_of result.block)
+            (known_seen self.now.cells seat.old.log))) }
         ensures keeps { Keeps self.now.cells seat.old.log seat.new.log }
     {
         let step = Step::LastDown(LastDropped::Popped(cell));
@@ -133,11 +153,15 @@ impl<A: Allocator> HeapTable<A> {
         ensures of_cell { IfSome result.block (λ block. block.0 ≡ cell) }
         ensures fresh { IfSome result.block (λ block. listed_at (taken_seen self.now.cells seat.old.log) cell ≡ None) }
         ensures entries { AreCells self.now.cells (entries_of result.block) }
-        ensures dead { is_there result.block ≡ takes_block (steps.LastDown lasts.Hand) (cell_told (steps.LastDown lasts.Hand) result.number) }
-        ensures told { seat.new.log ≡ told.Did (steps.LastDown lasts.Hand) result.number (found_in cell result.block) ∷ seat.old.log }
+        ensures dead { is_there result.block ≡ takes_block (steps.LastDown lasts.Hand)
+            (cell_told (steps.LastDown lasts.Hand) result.number) }
+        ensures told { seat.new.log ≡ told.Did (steps.LastDown lasts.Hand) result.number (found_in cell result.block)
+            ∷ seat.old.log }
         ensures out { seat.new.slots ≡ out_with cell result.block seat.old.slots }
         ensures seat { Continues seat.old seat.new }
-        ensures knows { Knows self.now.cells seat.new.log (handing hands.Free (taking (is_there result.block) cell (entries_of result.block) (known_seen self.now.cells seat.old.log))) }
+        ensures knows { Knows self.now.cells seat.new.log
+            (handing hands.Free (taking (is_there result.block) cell (entries_of result.block)
+            (known_seen self.now.cells seat.old.log))) }
         ensures keeps { Keeps self.now.cells seat.old.log seat.new.log }
     {
         let step = Step::LastDown(LastDropped::Hand);
@@ -153,11 +177,15 @@ impl<A: Allocator> HeapTable<A> {
         ensures of_cell { IfSome result.block (λ block. block.0 ≡ cell) }
         ensures fresh { IfSome result.block (λ block. listed_at (taken_seen self.now.cells seat.old.log) cell ≡ None) }
         ensures entries { AreCells self.now.cells (entries_of result.block) }
-        ensures dead { is_there result.block ≡ takes_block (steps.LastDown lasts.Hand) (cell_told (steps.LastDown lasts.Hand) result.number) }
-        ensures told { seat.new.log ≡ told.Did (steps.LastDown lasts.Hand) result.number (found_in cell result.block) ∷ seat.old.log }
+        ensures dead { is_there result.block ≡ takes_block (steps.LastDown lasts.Hand)
+            (cell_told (steps.LastDown lasts.Hand) result.number) }
+        ensures told { seat.new.log ≡ told.Did (steps.LastDown lasts.Hand) result.number (found_in cell result.block)
+            ∷ seat.old.log }
         ensures out { seat.new.slots ≡ out_with cell result.block seat.old.slots }
         ensures seat { Continues seat.old seat.new }
-        ensures knows { Knows self.now.cells seat.new.log (handing hands.Free (taking (is_there result.block) cell (entries_of result.block) (known_seen self.now.cells seat.old.log))) }
+        ensures knows { Knows self.now.cells seat.new.log
+            (handing hands.Free (taking (is_there result.block) cell (entries_of result.block)
+            (known_seen self.now.cells seat.old.log))) }
         ensures keeps { Keeps self.now.cells seat.old.log seat.new.log }
     {
         let step = Step::LastDown(LastDropped::Hand);

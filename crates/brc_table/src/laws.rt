@@ -13,8 +13,8 @@ use brc_block::Block;
 use law_rule::View;
 use std::alloc::Allocator;
 
-/// The rule of a heap's table, which holds between any two steps of any threads (`atomic_table`: that is what a table is), says
-/// that what stands there is one run: so it is at any moment, whatever calls the threads are in.
+/// The rule of a heap's table, which holds between any two steps of any threads (`atomic_table`: that is what a table
+/// is), says that what stands there is one run: so it is at any moment, whatever calls the threads are in.
 #[tactic(auto, using(crate::proofs::Showing::shows_one_run))]
 pub fn at_any_moment_the_words_show_one_run<A: Allocator>()
     ensures { (key : sizes) (s : State (Option (ℕ × Payload A)) view)

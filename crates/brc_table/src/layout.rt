@@ -6,7 +6,9 @@ ghost use Rattle.brc_words.specs.declared.limits.TheConstants.{MOST_CELLS};
 ghost use Rattle.law_world.specs.Heap.{words_for as queue_words};
 ghost use Rattle.law_known.specs.Free_Words.{free_words_for as free_words};
 ghost use Rattle.law_known.specs.Items.{IsWord};
-ghost use Rattle.law_rule.specs.Layout.{owners_from as owners_begin, free_from as free_begin, queues_from as queues_begin, notify_from as notify_begin, extent as extent_of, spot};
+ghost use Rattle.law_rule.specs.Layout.{owners_from as owners_begin, free_from as free_begin};
+ghost use Rattle.law_rule.specs.Layout.{queues_from as queues_begin, notify_from as notify_begin, extent as extent_of};
+ghost use Rattle.law_rule.specs.Layout.{spot};
 
 use law_known::{Field, Word};
 use law_world::words_for;

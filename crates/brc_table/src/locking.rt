@@ -1,4 +1,5 @@
-//! Locks: an object's block goes out with the seat of the thread that locks it, and home with what the thread made of it.
+//! Locks: an object's block goes out with the seat of the thread that locks it, and home with what the thread made of
+//! it.
 
 ghost use Rattle.std.specs.Prelude.{◌≡◌, ◌<◌, ◌≤◌, ◌∷◌, None, Some, length, OnOk, OnErr, IfOk, IfErr};
 ghost use Rattle.atomic_table.specs.Table.{rest};
@@ -29,8 +30,8 @@ use law_world::{Change, Step};
 use std::alloc::Allocator;
 
 impl<A: Allocator> HeapTable<A> {
-    /// Lock: the block of an object that nobody had locked, with the contents that were put home last, by the seat's own thread where
-    /// the object is private to it; or who has it locked.
+    /// Lock: the block of an object that nobody had locked, with the contents that were put home last, by the seat's
+    /// own thread where the object is private to it; or who has it locked.
     #[inline(always)]
     pub fn lock(&self, seat: &mut ThreadSeat<A>, place: u32, cell: u32) -> Result<Block<A>, u64>
         requires table { seat.old.table ≡ self.now.table }
@@ -40,14 +41,19 @@ impl<A: Allocator> HeapTable<A> {
         ensures fresh { IfOk result (λ block. listed_at (taken_seen self.now.cells seat.old.log) cell ≡ None) }
         ensures entries { IfOk result (λ block. AreCells self.now.cells (entries_in (contents_of block.1))) }
         ensures few { IfOk result (λ block. length (entries_in (contents_of block.1)) ≤ MOST_ENTRIES) }
-        ensures won { IfOk result (λ block. seat.new.log ≡ told.Did (steps.Lock place) 0 (moves.Found cell (contents_of block.1)) ∷ seat.old.log) }
+        ensures won { IfOk result
+            (λ block. seat.new.log ≡ told.Did (steps.Lock place) 0 (moves.Found cell (contents_of block.1))
+            ∷ seat.old.log) }
         ensures out { IfOk result (λ block. seat.new.slots ≡ (cell, None) ∷ seat.old.slots) }
-        ensures lost { IfErr result (λ found. seat.new.log ≡ told.Lost (words.Of fields.Mutex cell) found ∷ seat.old.log) }
+        ensures lost { IfErr result (λ found. seat.new.log ≡ told.Lost (words.Of fields.Mutex cell) found
+            ∷ seat.old.log) }
         ensures still { IfErr result (λ found. seat.new.slots ≡ seat.old.slots) }
         ensures locked { IfErr result (λ found. 0 < found) }
         ensures seat { Continues seat.old seat.new }
         ensures won_own { IfOk result (λ block. FindsOwn self.now.cells seat.old.log cell (contents_of block.1)) }
-        ensures won_knows { IfOk result (λ block. Knows self.now.cells seat.new.log (locking place cell (entries_in (contents_of block.1)) (known_seen self.now.cells seat.old.log))) }
+        ensures won_knows { IfOk result
+            (λ block. Knows self.now.cells seat.new.log (locking place cell (entries_in (contents_of block.1))
+            (known_seen self.now.cells seat.old.log))) }
         ensures won_found { IfOk result (λ block. contents_locked seat.new.log ≡ Some (contents_of block.1)) }
         ensures lost_knows { OnErr result (Knows self.now.cells seat.new.log (known_seen self.now.cells seat.old.log)) }
         ensures lost_found { OnErr result (contents_locked seat.new.log ≡ contents_locked seat.old.log) }
@@ -67,11 +73,14 @@ impl<A: Allocator> HeapTable<A> {
         requires table { seat.old.table ≡ self.now.table }
         requires inside { block.0 < self.now.cells }
         requires slot { seat.old.slots ≡ (block.0, None) ∷ rest seat.old.slots }
-        requires unlocks { Unlocks self.now.cells seat.old.log (shows block) (found_locked seat.old.log) change block.0 }
-        ensures told { seat.new.log ≡ told.Did (steps.Unlock change) 0 (moves.Put block.0 (contents_of block.1)) ∷ seat.old.log }
+        requires unlocks { Unlocks self.now.cells seat.old.log (shows block) (found_locked seat.old.log)
+            change block.0 }
+        ensures told { seat.new.log ≡ told.Did (steps.Unlock change) 0 (moves.Put block.0 (contents_of block.1))
+            ∷ seat.old.log }
         ensures home { seat.new.slots ≡ rest seat.old.slots }
         ensures seat { Continues seat.old seat.new }
-        ensures knows { Knows self.now.cells seat.new.log (unlocking change block.0 (known_seen self.now.cells seat.old.log)) }
+        ensures knows { Knows self.now.cells seat.new.log
+            (unlocking change block.0 (known_seen self.now.cells seat.old.log)) }
         ensures found { contents_locked seat.new.log ≡ None }
         ensures keeps { Keeps self.now.cells seat.old.log seat.new.log }
     {

@@ -48,7 +48,8 @@ impl<A: Allocator> HeapTable<A> {
         ensures keeps { Keeps self.now.cells seat.old.log seat.new.log }
         ensures found { contents_locked seat.new.log ≡ contents_locked seat.old.log }
         ensures notes { Notes fields.Local cell result seat.old.log seat.new.log }
-        ensures within { own_may self.now.cells (part_seen self.now.cells seat.old.log) (steps.MergeAdd cell) ≡ true → result ≤ self.now.local_limit }
+        ensures within { own_may self.now.cells (part_seen self.now.cells seat.old.log) (steps.MergeAdd cell) ≡ true
+            → result ≤ self.now.local_limit }
     {
         look_within::<A, Brand>(self, &mut seat.place, Word::Of(Field::Local, cell))
     }

@@ -76,7 +76,8 @@ fn load_as<A: Allocator, M: Item>(
 ) -> u64
     requires same { seat.old.table_id ≡ table.now.table }
     requires inside { IsWord table.now.cells word }
-    requires allowed { MayTell shows table.now.cells table.now.local_limit seat.old.id seat.old.me word (λ there. there) (M.item) }
+    requires allowed { MayTell shows table.now.cells table.now.local_limit seat.old.id seat.old.me word (λ there. there)
+        (M.item) }
     ensures same { (seat.new.table_id ≡ seat.old.table_id) × (seat.new.id ≡ seat.old.id) }
     ensures told { seat.new.me ≡ (with_told (M.item result) seat.old.me.0, seat.old.me.1) }
 {
@@ -95,7 +96,8 @@ pub(crate) fn load<A: Allocator>(
 ) -> u64
     requires same { seat.old.table_id ≡ table.now.table }
     requires inside { IsWord table.now.cells word }
-    requires allowed { MayTell shows table.now.cells table.now.local_limit seat.old.id seat.old.me word (λ there. there) (λ there. told.Did step there moves.Nothing) }
+    requires allowed { MayTell shows table.now.cells table.now.local_limit seat.old.id seat.old.me word (λ there. there)
+        (λ there. told.Did step there moves.Nothing) }
     ensures same { (seat.new.table_id ≡ seat.old.table_id) × (seat.new.id ≡ seat.old.id) }
     ensures told { seat.new.me ≡ (with_told (told.Did step result moves.Nothing) seat.old.me.0, seat.old.me.1) }
 {
@@ -113,7 +115,8 @@ fn store_as<A: Allocator, M: Item>(
 )
     requires same { seat.old.table_id ≡ table.now.table }
     requires inside { IsWord table.now.cells word }
-    requires allowed { MayTell shows table.now.cells table.now.local_limit seat.old.id seat.old.me word (λ _. new) (λ _. M.item new) }
+    requires allowed { MayTell shows table.now.cells table.now.local_limit seat.old.id seat.old.me word (λ _. new)
+        (λ _. M.item new) }
     ensures same { (seat.new.table_id ≡ seat.old.table_id) × (seat.new.id ≡ seat.old.id) }
     ensures told { seat.new.me ≡ (with_told (M.item new) seat.old.me.0, seat.old.me.1) }
 {
@@ -133,7 +136,8 @@ pub(crate) fn store<A: Allocator>(
 )
     requires same { seat.old.table_id ≡ table.now.table }
     requires inside { IsWord table.now.cells word }
-    requires allowed { MayTell shows table.now.cells table.now.local_limit seat.old.id seat.old.me word (λ _. new) (λ _. told.Did step new moves.Nothing) }
+    requires allowed { MayTell shows table.now.cells table.now.local_limit seat.old.id seat.old.me word (λ _. new)
+        (λ _. told.Did step new moves.Nothing) }
     ensures same { (seat.new.table_id ≡ seat.old.table_id) × (seat.new.id ≡ seat.old.id) }
     ensures told { seat.new.me ≡ (with_told (told.Did step new moves.Nothing) seat.old.me.0, seat.old.me.1) }
 {
@@ -151,7 +155,8 @@ fn add_as<A: Allocator, M: Item>(
 ) -> u64
     requires same { seat.old.table_id ≡ table.now.table }
     requires inside { IsWord table.now.cells word }
-    requires allowed { MayTell shows table.now.cells table.now.local_limit seat.old.id seat.old.me word (λ there. (there + more) % 2 ^ 64) (M.item) }
+    requires allowed { MayTell shows table.now.cells table.now.local_limit seat.old.id seat.old.me word
+        (λ there. (there + more) % 2 ^ 64) (M.item) }
     ensures same { (seat.new.table_id ≡ seat.old.table_id) × (seat.new.id ≡ seat.old.id) }
     ensures told { seat.new.me ≡ (with_told (M.item result) seat.old.me.0, seat.old.me.1) }
 {
@@ -171,7 +176,8 @@ pub(crate) fn add<A: Allocator>(
 ) -> u64
     requires same { seat.old.table_id ≡ table.now.table }
     requires inside { IsWord table.now.cells word }
-    requires allowed { MayTell shows table.now.cells table.now.local_limit seat.old.id seat.old.me word (λ there. (there + more) % 2 ^ 64) (λ there. told.Did step there moves.Nothing) }
+    requires allowed { MayTell shows table.now.cells table.now.local_limit seat.old.id seat.old.me word
+        (λ there. (there + more) % 2 ^ 64) (λ there. told.Did step there moves.Nothing) }
     ensures same { (seat.new.table_id ≡ seat.old.table_id) × (seat.new.id ≡ seat.old.id) }
     ensures told { seat.new.me ≡ (with_told (told.Did step result moves.Nothing) seat.old.me.0, seat.old.me.1) }
 {
@@ -197,7 +203,8 @@ pub(crate) struct Sums<M> {
 }
 
 impl<S, M: Summed> Play<S, View> for Sums<M> {
-    ghost then = { λ step me number after. (after ≡ (with_told (M.item number) me.0, me.1)) × CountsSome ((number + M.more) % 2 ^ 64) };
+    ghost then = { λ step me number after. (after ≡ (with_told (M.item number) me.0, me.1)) × CountsSome
+        ((number + M.more) % 2 ^ 64) };
 }
 
 /// An addition to a shared word, as an item that is told the sum.
@@ -211,7 +218,8 @@ pub(crate) fn add_up<A: Allocator, M: Summed>(
 ) -> u64
     requires same { seat.old.table_id ≡ table.now.table }
     requires inside { IsWord table.now.cells word }
-    requires allowed { MaySum shows table.now.cells table.now.local_limit seat.old.id seat.old.me word (λ there. (there + more) % 2 ^ 64) M.item M.more }
+    requires allowed { MaySum shows table.now.cells table.now.local_limit seat.old.id seat.old.me word
+        (λ there. (there + more) % 2 ^ 64) M.item M.more }
     ensures same { (seat.new.table_id ≡ seat.old.table_id) × (seat.new.id ≡ seat.old.id) }
     ensures told { seat.new.me ≡ (with_told (M.item result) seat.old.me.0, seat.old.me.1) }
     ensures counts { CountsSome ((result + M.more) % 2 ^ 64) }
@@ -232,7 +240,8 @@ fn or_as<A: Allocator, M: Item>(
 ) -> u64
     requires same { seat.old.table_id ≡ table.now.table }
     requires inside { IsWord table.now.cells word }
-    requires allowed { MayTell shows table.now.cells table.now.local_limit seat.old.id seat.old.me word (λ there. bit_or there bits) (M.item) }
+    requires allowed { MayTell shows table.now.cells table.now.local_limit seat.old.id seat.old.me word
+        (λ there. bit_or there bits) (M.item) }
     ensures same { (seat.new.table_id ≡ seat.old.table_id) × (seat.new.id ≡ seat.old.id) }
     ensures told { seat.new.me ≡ (with_told (M.item result) seat.old.me.0, seat.old.me.1) }
 {
@@ -252,7 +261,8 @@ pub(crate) fn or<A: Allocator>(
 ) -> u64
     requires same { seat.old.table_id ≡ table.now.table }
     requires inside { IsWord table.now.cells word }
-    requires allowed { MayTell shows table.now.cells table.now.local_limit seat.old.id seat.old.me word (λ there. bit_or there bits) (λ there. told.Did step there moves.Nothing) }
+    requires allowed { MayTell shows table.now.cells table.now.local_limit seat.old.id seat.old.me word
+        (λ there. bit_or there bits) (λ there. told.Did step there moves.Nothing) }
     ensures same { (seat.new.table_id ≡ seat.old.table_id) × (seat.new.id ≡ seat.old.id) }
     ensures told { seat.new.me ≡ (with_told (told.Did step result moves.Nothing) seat.old.me.0, seat.old.me.1) }
 {
@@ -264,7 +274,8 @@ pub(crate) fn or<A: Allocator>(
 fn look_as<A: Allocator, M: Item>(table: &HeapTable<A>, seat: &mut Place<A>, word: Word) -> u64
     requires same { seat.old.table_id ≡ table.now.table }
     requires inside { IsWord table.now.cells word }
-    requires allowed { MayTell shows table.now.cells table.now.local_limit seat.old.id seat.old.me word (λ there. there) M.item }
+    requires allowed { MayTell shows table.now.cells table.now.local_limit seat.old.id seat.old.me word
+        (λ there. there) M.item }
     ensures same { (seat.new.table_id ≡ seat.old.table_id) × (seat.new.id ≡ seat.old.id) }
     ensures told { seat.new.me ≡ (with_told (M.item result) seat.old.me.0, seat.old.me.1) }
 {
@@ -297,7 +308,8 @@ fn exchange_as<A: Allocator, M: Won>(
 ) -> u64
     requires same { seat.old.table_id ≡ table.now.table }
     requires inside { IsWord table.now.cells word }
-    requires allowed { MayExchange shows table.now.cells table.now.local_limit seat.old.id seat.old.me word M.word old new M.item }
+    requires allowed { MayExchange shows table.now.cells table.now.local_limit seat.old.id seat.old.me word M.word old
+        new M.item }
     ensures same { (seat.new.table_id ≡ seat.old.table_id) × (seat.new.id ≡ seat.old.id) }
     ensures told { seat.new.me ≡ (exchanged M.word old M.item result seat.old.me.0, seat.old.me.1) }
 {
@@ -321,9 +333,13 @@ pub(crate) fn exchange<A: Allocator>(
 ) -> u64
     requires same { seat.old.table_id ≡ table.now.table }
     requires inside { IsWord table.now.cells word }
-    requires allowed { MayExchange shows table.now.cells table.now.local_limit seat.old.id seat.old.me word word old new (told.Did step old moves.Nothing) }
+    requires allowed { MayExchange shows table.now.cells table.now.local_limit seat.old.id seat.old.me word word old new
+        (told.Did step old moves.Nothing) }
     ensures same { (seat.new.table_id ≡ seat.old.table_id) × (seat.new.id ≡ seat.old.id) }
-    ensures told { seat.new.me ≡ (exchanged word old (told.Did step old moves.Nothing) result seat.old.me.0, seat.old.me.1) }
+    ensures told { seat.new.me ≡ (
+      exchanged word old (told.Did step old moves.Nothing) result seat.old.me.0,
+      seat.old.me.1,
+    ) }
 {
     exchange_as::<A, Brand>(table, seat, word, old, new, step)
 }
@@ -351,7 +367,8 @@ pub(crate) struct Finds<M> {
 }
 
 impl<S, M: Bounded> Play<S, View> for Finds<M> {
-    ghost then = { λ step me number after. (after ≡ (with_told (told.Saw M.word number) me.0, me.1)) × (M.known ≡ true → number ≤ M.most) };
+    ghost then = { λ step me number after. (after ≡ (with_told (told.Saw M.word number) me.0, me.1)) × (M.known ≡ true
+        → number ≤ M.most) };
 }
 
 /// A load, as a look at a word of which the log tells a bound.
@@ -363,7 +380,8 @@ pub(crate) fn look_within<A: Allocator, M: Bounded>(
 ) -> u64
     requires same { seat.old.table_id ≡ table.now.table }
     requires inside { IsWord table.now.cells word }
-    requires allowed { MayFind shows table.now.cells table.now.local_limit seat.old.id seat.old.me word M.word M.known M.most }
+    requires allowed { MayFind shows table.now.cells table.now.local_limit seat.old.id seat.old.me word M.word
+        M.known M.most }
     ensures same { (seat.new.table_id ≡ seat.old.table_id) × (seat.new.id ≡ seat.old.id) }
     ensures told { seat.new.me ≡ (with_told (told.Saw M.word result) seat.old.me.0, seat.old.me.1) }
     ensures within { M.known ≡ true → result ≤ M.most }

@@ -29,21 +29,25 @@ use law_world::Step;
 use std::alloc::Allocator;
 
 impl<A: Allocator> HeapTable<A> {
-    /// Claim: a free cell, which is none of the thread's dead blocks, is the thread's to make an object in, and its empty
-    /// slot is out with the seat. Either answer tells the cell's free word as it was found.
+    /// Claim: a free cell, which is none of the thread's dead blocks, is the thread's to make an object in, and its
+    /// empty slot is out with the seat. Either answer tells the cell's free word as it was found.
     pub fn claim(&self, seat: &mut ThreadSeat<A>, cell: u32) -> Result<u64, u64>
         requires table { seat.old.table ≡ self.now.table }
         requires inside { cell < self.now.cells }
         requires claims { Claims self.now.cells seat.old.log cell }
         ensures fresh { OnOk result (listed_at (taken_seen self.now.cells seat.old.log) cell ≡ None) }
-        ensures won { IfOk result (λ found. seat.new.log ≡ told.Did (steps.Claim cell) found moves.Nothing ∷ seat.old.log) }
+        ensures won { IfOk result (λ found. seat.new.log ≡ told.Did (steps.Claim cell) found moves.Nothing
+            ∷ seat.old.log) }
         ensures was_free { IfOk result (λ found. bit_at found (cell % 64) ≡ 1) }
         ensures out { OnOk result (seat.new.slots ≡ (cell, None) ∷ seat.old.slots) }
-        ensures lost { IfErr result (λ found. seat.new.log ≡ told.Lost (words.FreeWord (cell / 64)) found ∷ seat.old.log) }
+        ensures lost { IfErr result (λ found. seat.new.log ≡ told.Lost (words.FreeWord (cell / 64)) found
+            ∷ seat.old.log) }
         ensures taken { IfErr result (λ found. bit_at found (cell % 64) ≡ 0) }
         ensures still { IfErr result (λ found. seat.new.slots ≡ seat.old.slots) }
         ensures seat { Continues seat.old seat.new }
-        ensures won_knows { OnOk result (Knows self.now.cells seat.new.log (handing (hands.Busy phases.Claimed cell) (known_seen self.now.cells seat.old.log))) }
+        ensures won_knows { OnOk result
+            (Knows self.now.cells seat.new.log
+            (handing (hands.Busy phases.Claimed cell) (known_seen self.now.cells seat.old.log))) }
         ensures lost_knows { OnErr result (Knows self.now.cells seat.new.log (known_seen self.now.cells seat.old.log)) }
         ensures keeps { Keeps self.now.cells seat.old.log seat.new.log }
     {
@@ -64,7 +68,8 @@ impl<A: Allocator> HeapTable<A> {
         requires carries { Carries self.now.cells seat.old.log (steps.InitLocal cell) cell }
         ensures told { seat.new.log ≡ told.Did (steps.InitLocal cell) 1 moves.Nothing ∷ seat.old.log }
         ensures seat { Stays seat.old seat.new }
-        ensures knows { Knows self.now.cells seat.new.log (handing (hands.Busy phases.Counted cell) (known_seen self.now.cells seat.old.log)) }
+        ensures knows { Knows self.now.cells seat.new.log
+            (handing (hands.Busy phases.Counted cell) (known_seen self.now.cells seat.old.log)) }
         ensures keeps { Keeps self.now.cells seat.old.log seat.new.log }
     {
         let word = Word::Of(Field::Local, cell);
@@ -79,7 +84,8 @@ impl<A: Allocator> HeapTable<A> {
         requires carries { Carries self.now.cells seat.old.log (steps.InitShared cell) cell }
         ensures told { seat.new.log ≡ told.Did (steps.InitShared cell) (2 ^ 42) moves.Nothing ∷ seat.old.log }
         ensures seat { Stays seat.old seat.new }
-        ensures knows { Knows self.now.cells seat.new.log (handing (hands.Busy phases.Ready cell) (known_seen self.now.cells seat.old.log)) }
+        ensures knows { Knows self.now.cells seat.new.log
+            (handing (hands.Busy phases.Ready cell) (known_seen self.now.cells seat.old.log)) }
         ensures keeps { Keeps self.now.cells seat.old.log seat.new.log }
     {
         let word = Word::Of(Field::Shared, cell);
@@ -93,10 +99,12 @@ impl<A: Allocator> HeapTable<A> {
         requires inside { block.0 < self.now.cells }
         requires slot { seat.old.slots ≡ (block.0, None) ∷ rest seat.old.slots }
         requires bears { Bears self.now.cells seat.old.log (shows block) kind place block.0 }
-        ensures told { seat.new.log ≡ told.Did (steps.Birth block.0 kind place) seat.old.thread (moves.Put block.0 (contents_of block.1)) ∷ seat.old.log }
+        ensures told { seat.new.log ≡ told.Did (steps.Birth block.0 kind place) seat.old.thread
+            (moves.Put block.0 (contents_of block.1)) ∷ seat.old.log }
         ensures home { seat.new.slots ≡ rest seat.old.slots }
         ensures seat { Continues seat.old seat.new }
-        ensures knows { Knows self.now.cells seat.new.log (filling place block.0 (counting block.0 1 (bearing block.0 (known_seen self.now.cells seat.old.log)))) }
+        ensures knows { Knows self.now.cells seat.new.log
+            (filling place block.0 (counting block.0 1 (bearing block.0 (known_seen self.now.cells seat.old.log)))) }
         ensures keeps { Keeps self.now.cells seat.old.log seat.new.log }
     {
         let cell = block.cell();
@@ -106,8 +114,8 @@ impl<A: Allocator> HeapTable<A> {
         give(self, &mut seat.place, word, u64::from(seat.thread), step);
     }
 
-    /// Free: the cell of a dead object without entries is free again, and its free word is told as it was found. Births less
-    /// frees are the objects that live, so 64 bits count what a thread has freed.
+    /// Free: the cell of a dead object without entries is free again, and its free word is told as it was found. Births
+    /// less frees are the objects that live, so 64 bits count what a thread has freed.
     pub fn free(&self, seat: &mut ThreadSeat<A>, cell: u32) -> u64
         requires table { seat.old.table ≡ self.now.table }
         requires inside { cell < self.now.cells }

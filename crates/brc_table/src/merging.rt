@@ -1,4 +1,5 @@
-//! Merging: an object is made nobody's, and its local count joins the shared one; who has asked for it puts it into a queue.
+//! Merging: an object is made nobody's, and its local count joins the shared one; who has asked for it puts it into a
+//! queue.
 
 ghost use Rattle.std.specs.Prelude.{◌≡◌, ◌<◌, ◌≤◌, ◌∷◌, ◌+◌, ◌*◌, ◌%◌, ◌^◌, if◌then◌else◌, Some};
 ghost use Rattle.brc_words.specs.declared.limits.TheConstants.{MOST_THREADS};
@@ -34,7 +35,8 @@ impl<A: Allocator> HeapTable<A> {
         requires unties { UntiesOver self.now.cells seat.old.log cell }
         ensures told { seat.new.log ≡ told.Did (steps.Untie cell) 0 moves.Nothing ∷ seat.old.log }
         ensures seat { Stays seat.old seat.new }
-        ensures knows { Knows self.now.cells seat.new.log (handing (hands.Busy phases.Untied cell) (counting cell 0 (known_seen self.now.cells seat.old.log))) }
+        ensures knows { Knows self.now.cells seat.new.log
+            (handing (hands.Busy phases.Untied cell) (counting cell 0 (known_seen self.now.cells seat.old.log))) }
         ensures keeps { Keeps self.now.cells seat.old.log seat.new.log }
     {
         let word = Word::Of(Field::Owner, cell);
@@ -48,7 +50,8 @@ impl<A: Allocator> HeapTable<A> {
         requires unties { UntiesShut self.now.cells seat.old.log cell owner }
         ensures told { seat.new.log ≡ told.Did (steps.Untie cell) 0 moves.Nothing ∷ seat.old.log }
         ensures seat { Stays seat.old seat.new }
-        ensures knows { Knows self.now.cells seat.new.log (handing (hands.Busy phases.Taking cell) (counting cell 0 (known_seen self.now.cells seat.old.log))) }
+        ensures knows { Knows self.now.cells seat.new.log
+            (handing (hands.Busy phases.Taking cell) (counting cell 0 (known_seen self.now.cells seat.old.log))) }
         ensures keeps { Keeps self.now.cells seat.old.log seat.new.log }
     {
         let _owner = owner;
@@ -63,7 +66,8 @@ impl<A: Allocator> HeapTable<A> {
         requires unties { UntiesPopped self.now.cells seat.old.log cell shared }
         ensures told { seat.new.log ≡ told.Did (steps.Untie cell) 0 moves.Nothing ∷ seat.old.log }
         ensures seat { Stays seat.old seat.new }
-        ensures knows { Knows self.now.cells seat.new.log (handing (hands.Busy phases.Popping cell) (counting cell 0 (known_seen self.now.cells seat.old.log))) }
+        ensures knows { Knows self.now.cells seat.new.log
+            (handing (hands.Busy phases.Popping cell) (counting cell 0 (known_seen self.now.cells seat.old.log))) }
         ensures keeps { Keeps self.now.cells seat.old.log seat.new.log }
     {
         let _shared = shared;
@@ -71,15 +75,18 @@ impl<A: Allocator> HeapTable<A> {
         store(self, &mut seat.place, word, 0, Step::Untie(cell));
     }
 
-    /// MergeAdd: the local count, as it was looked at, joins the shared one. It answers the number found; its item is told the
-    /// sum.
+    /// MergeAdd: the local count, as it was looked at, joins the shared one. It answers the number found; its item is
+    /// told the sum.
     pub fn merge_add(&self, seat: &mut ThreadSeat<A>, cell: u32, local: u32) -> u64
         requires table { seat.old.table ≡ self.now.table }
         requires inside { cell < self.now.cells }
         requires adds { AddsLocal self.now.cells seat.old.log cell local }
-        ensures told { seat.new.log ≡ told.Did (steps.MergeAdd cell) ((result + (local * 4 + 1)) % 2 ^ 64) moves.Nothing ∷ seat.old.log }
+        ensures told { seat.new.log ≡ told.Did (steps.MergeAdd cell) ((result + (local * 4 + 1)) % 2 ^ 64) moves.Nothing
+            ∷ seat.old.log }
         ensures seat { Stays seat.old seat.new }
-        ensures knows { Knows self.now.cells seat.new.log (handing (added_hand cell (part_seen self.now.cells seat.old.log).row.hand) (known_seen self.now.cells seat.old.log)) }
+        ensures knows { Knows self.now.cells seat.new.log
+            (handing (added_hand cell (part_seen self.now.cells seat.old.log).row.hand)
+            (known_seen self.now.cells seat.old.log)) }
         ensures keeps { Keeps self.now.cells seat.old.log seat.new.log }
         ensures newest { newest_step seat.new.log ≡ Some (steps.MergeAdd cell) }
     {
@@ -96,7 +103,9 @@ impl<A: Allocator> HeapTable<A> {
         requires enqueues { Enqueues self.now.cells seat.old.log cell owner }
         ensures told { seat.new.log ≡ told.Did (steps.Enqueue cell) result moves.Nothing ∷ seat.old.log }
         ensures seat { Stays seat.old seat.new }
-        ensures knows { Knows self.now.cells seat.new.log (handing (if is_shut_word result then hands.Busy phases.Shut cell else hands.Free) (known_seen self.now.cells seat.old.log)) }
+        ensures knows { Knows self.now.cells seat.new.log
+            (handing (if is_shut_word result then hands.Busy phases.Shut cell else hands.Free)
+            (known_seen self.now.cells seat.old.log)) }
         ensures keeps { Keeps self.now.cells seat.old.log seat.new.log }
     {
         let word = Word::Queue(owner, cell / 32);

@@ -1,6 +1,7 @@
 //! One function for each operation by which a block may move: out of the table with the seat, or home.
 
-ghost use Rattle.std.specs.Prelude.{◌≡◌, ◌+◌, ◌-◌, ◌%◌, ◌^◌, ◌==◌, ◌<◌, ◌∷◌, ℕ, Option, Some, None, true, false, IfSome, OnOk, IfErr, bit_or};
+ghost use Rattle.std.specs.Prelude.{◌≡◌, ◌+◌, ◌-◌, ◌%◌, ◌^◌, ◌==◌, ◌<◌, ◌∷◌, ℕ, Option, Some, None, true, false};
+ghost use Rattle.std.specs.Prelude.{IfSome, OnOk, IfErr, bit_or};
 ghost use Rattle.std.specs.Int.{bit_at};
 ghost use prog.Atomic.{either};
 ghost use Rattle.atomic_table.specs.Table.{Allows, rest};
@@ -19,7 +20,8 @@ ghost use Rattle.law_rule.specs.Rule.{with_told, Kept};
 ghost use Rattle.law_rule.specs.Seen.{taken_seen};
 ghost use Rattle.law_steps.specs.Taking.{AreCells, Ended, Claimed, Locked};
 ghost use Rattle.brc_table.specs.Knowing.{entries_of};
-ghost use Rattle.brc_table.specs.Moving.{MayEnd, MayClaim, MayLock, MayGive, MayGiveOfFew, MayGiveBy, MayGiveByOfFew, FewFrees, found_in, out_with, emptied, put_home, is_there, HasBlock};
+ghost use Rattle.brc_table.specs.Moving.{MayEnd, MayClaim, MayLock, MayGive, MayGiveOfFew, MayGiveBy, MayGiveByOfFew};
+ghost use Rattle.brc_table.specs.Moving.{FewFrees, found_in, out_with, emptied, put_home, is_there, HasBlock};
 ghost use Rattle.brc_table.specs.Shown.{shows, contents_of};
 
 use crate::layout::spot_of;
@@ -64,7 +66,8 @@ pub(crate) struct Ends<M> {
 }
 
 impl<A: Allocator, M: Ending> Play<Option<Block<A>>, View> for Ends<M> {
-    ghost then = { λ step me number after. Ended shows M.cells me.0 me.1 M.step M.cell number (takes_block M.step (cell_told M.step number)) after };
+    ghost then = { λ step me number after. Ended shows M.cells me.0 me.1 M.step M.cell number
+        (takes_block M.step (cell_told M.step number)) after };
 }
 
 /// A load.
@@ -77,9 +80,11 @@ fn load_ends<A: Allocator, M: Ending>(
 ) -> u64
     requires same { seat.old.table_id ≡ table.now.table }
     requires inside { cell < table.now.cells }
-    requires allowed { MayEnd table.now.cells table.now.local_limit seat.old.id seat.old.me cell (λ there. there) M.cells M.step M.cell }
+    requires allowed { MayEnd table.now.cells table.now.local_limit seat.old.id seat.old.me cell
+        (λ there. there) M.cells M.step M.cell }
     ensures same { (seat.new.table_id ≡ seat.old.table_id) × (seat.new.id ≡ seat.old.id) }
-    ensures ended { Ended shows M.cells seat.old.me.0 seat.old.me.1 M.step M.cell result (takes_block M.step (cell_told M.step result)) seat.new.me }
+    ensures ended { Ended shows M.cells seat.old.me.0 seat.old.me.1 M.step M.cell result
+        (takes_block M.step (cell_told M.step result)) seat.new.me }
 {
     let _step = step;
     let at = spot_of(table.cells, Word::Of(Field::Shared, cell));
@@ -97,9 +102,11 @@ fn or_ends<A: Allocator, M: Ending>(
 ) -> u64
     requires same { seat.old.table_id ≡ table.now.table }
     requires inside { cell < table.now.cells }
-    requires allowed { MayEnd table.now.cells table.now.local_limit seat.old.id seat.old.me cell (λ there. bit_or there bits) M.cells M.step M.cell }
+    requires allowed { MayEnd table.now.cells table.now.local_limit seat.old.id seat.old.me cell
+        (λ there. bit_or there bits) M.cells M.step M.cell }
     ensures same { (seat.new.table_id ≡ seat.old.table_id) × (seat.new.id ≡ seat.old.id) }
-    ensures ended { Ended shows M.cells seat.old.me.0 seat.old.me.1 M.step M.cell result (takes_block M.step (cell_told M.step result)) seat.new.me }
+    ensures ended { Ended shows M.cells seat.old.me.0 seat.old.me.1 M.step M.cell result
+        (takes_block M.step (cell_told M.step result)) seat.new.me }
 {
     let _step = step;
     let at = spot_of(table.cells, Word::Of(Field::Shared, cell));
@@ -117,9 +124,11 @@ fn sub_ends<A: Allocator, M: Ending>(
 ) -> u64
     requires same { seat.old.table_id ≡ table.now.table }
     requires inside { cell < table.now.cells }
-    requires allowed { MayEnd table.now.cells table.now.local_limit seat.old.id seat.old.me cell (λ there. (there + (2 ^ 64 - less)) % 2 ^ 64) M.cells M.step M.cell }
+    requires allowed { MayEnd table.now.cells table.now.local_limit seat.old.id seat.old.me cell
+        (λ there. (there + (2 ^ 64 - less)) % 2 ^ 64) M.cells M.step M.cell }
     ensures same { (seat.new.table_id ≡ seat.old.table_id) × (seat.new.id ≡ seat.old.id) }
-    ensures ended { Ended shows M.cells seat.old.me.0 seat.old.me.1 M.step M.cell result (takes_block M.step (cell_told M.step result)) seat.new.me }
+    ensures ended { Ended shows M.cells seat.old.me.0 seat.old.me.1 M.step M.cell result
+        (takes_block M.step (cell_told M.step result)) seat.new.me }
 {
     let _step = step;
     let at = spot_of(table.cells, Word::Of(Field::Shared, cell));
@@ -171,13 +180,18 @@ pub(crate) fn end_by_load<A: Allocator>(
 ) -> Found<A>
     requires same { seat.old.table_id ≡ table.now.table }
     requires inside { cell < table.now.cells }
-    requires allowed { MayEnd table.now.cells table.now.local_limit seat.old.id seat.old.me cell (λ there. there) table.now.cells step cell }
+    requires allowed { MayEnd table.now.cells table.now.local_limit seat.old.id seat.old.me cell
+        (λ there. there) table.now.cells step cell }
     ensures same { (seat.new.table_id ≡ seat.old.table_id) × (seat.new.id ≡ seat.old.id) }
     ensures of_cell { IfSome result.block (λ block. block.0 ≡ cell) }
-    ensures fresh { IfSome result.block (λ block. listed_at (taken_seen table.now.cells seat.old.me.0.log) cell ≡ None) }
+    ensures fresh { IfSome result.block
+        (λ block. listed_at (taken_seen table.now.cells seat.old.me.0.log) cell ≡ None) }
     ensures entries { AreCells table.now.cells (entries_of result.block) }
     ensures when { is_there result.block ≡ takes_block step (cell_told step result.number) }
-    ensures told { seat.new.me ≡ (with_told (told.Did step result.number (found_in cell result.block)) seat.old.me.0, out_with cell result.block seat.old.me.1) }
+    ensures told { seat.new.me ≡ (
+      with_told (told.Did step result.number (found_in cell result.block)) seat.old.me.0,
+      out_with cell result.block seat.old.me.1,
+    ) }
 {
     let number = load_ends::<A, Brand>(table, seat, cell, step);
     let block = take_if(table, seat, cell, step, number);
@@ -194,13 +208,18 @@ pub(crate) fn end_by_or<A: Allocator>(
 ) -> Found<A>
     requires same { seat.old.table_id ≡ table.now.table }
     requires inside { cell < table.now.cells }
-    requires allowed { MayEnd table.now.cells table.now.local_limit seat.old.id seat.old.me cell (λ there. bit_or there bits) table.now.cells step cell }
+    requires allowed { MayEnd table.now.cells table.now.local_limit seat.old.id seat.old.me cell
+        (λ there. bit_or there bits) table.now.cells step cell }
     ensures same { (seat.new.table_id ≡ seat.old.table_id) × (seat.new.id ≡ seat.old.id) }
     ensures of_cell { IfSome result.block (λ block. block.0 ≡ cell) }
-    ensures fresh { IfSome result.block (λ block. listed_at (taken_seen table.now.cells seat.old.me.0.log) cell ≡ None) }
+    ensures fresh { IfSome result.block
+        (λ block. listed_at (taken_seen table.now.cells seat.old.me.0.log) cell ≡ None) }
     ensures entries { AreCells table.now.cells (entries_of result.block) }
     ensures when { is_there result.block ≡ takes_block step (cell_told step result.number) }
-    ensures told { seat.new.me ≡ (with_told (told.Did step result.number (found_in cell result.block)) seat.old.me.0, out_with cell result.block seat.old.me.1) }
+    ensures told { seat.new.me ≡ (
+      with_told (told.Did step result.number (found_in cell result.block)) seat.old.me.0,
+      out_with cell result.block seat.old.me.1,
+    ) }
 {
     let number = or_ends::<A, Brand>(table, seat, cell, bits, step);
     let block = take_if(table, seat, cell, step, number);
@@ -217,13 +236,18 @@ pub(crate) fn end_by_sub<A: Allocator>(
 ) -> Found<A>
     requires same { seat.old.table_id ≡ table.now.table }
     requires inside { cell < table.now.cells }
-    requires allowed { MayEnd table.now.cells table.now.local_limit seat.old.id seat.old.me cell (λ there. (there + (2 ^ 64 - less)) % 2 ^ 64) table.now.cells step cell }
+    requires allowed { MayEnd table.now.cells table.now.local_limit seat.old.id seat.old.me cell
+        (λ there. (there + (2 ^ 64 - less)) % 2 ^ 64) table.now.cells step cell }
     ensures same { (seat.new.table_id ≡ seat.old.table_id) × (seat.new.id ≡ seat.old.id) }
     ensures of_cell { IfSome result.block (λ block. block.0 ≡ cell) }
-    ensures fresh { IfSome result.block (λ block. listed_at (taken_seen table.now.cells seat.old.me.0.log) cell ≡ None) }
+    ensures fresh { IfSome result.block
+        (λ block. listed_at (taken_seen table.now.cells seat.old.me.0.log) cell ≡ None) }
     ensures entries { AreCells table.now.cells (entries_of result.block) }
     ensures when { is_there result.block ≡ takes_block step (cell_told step result.number) }
-    ensures told { seat.new.me ≡ (with_told (told.Did step result.number (found_in cell result.block)) seat.old.me.0, out_with cell result.block seat.old.me.1) }
+    ensures told { seat.new.me ≡ (
+      with_told (told.Did step result.number (found_in cell result.block)) seat.old.me.0,
+      out_with cell result.block seat.old.me.1,
+    ) }
 {
     let number = sub_ends::<A, Brand>(table, seat, cell, less, step);
     let block = take_if(table, seat, cell, step, number);
@@ -232,8 +256,8 @@ pub(crate) fn end_by_sub<A: Allocator>(
 
 // ---- steps that take a slot
 
-/// Of how many cells the heap is, on which cell it is, and for a locking which place of the frame has it. A caller's proof
-/// picks it.
+/// Of how many cells the heap is, on which cell it is, and for a locking which place of the frame has it. A caller's
+/// proof picks it.
 pub(crate) trait Winning {
     ghost cells: { ℕ };
 
@@ -256,7 +280,8 @@ pub(crate) struct Claims<M> {
 }
 
 impl<A: Allocator, M: Winning> Play<Option<Block<A>>, View> for Claims<M> {
-    ghost then = { λ step me number after. Claimed M.cells me.0 me.1 M.cell number (bit_at number (M.cell % 64) == 1) after };
+    ghost then = { λ step me number after. Claimed M.cells me.0 me.1 M.cell number
+        (bit_at number (M.cell % 64) == 1) after };
 }
 
 /// The seat has the block of an object that nobody had locked.
@@ -279,7 +304,8 @@ fn claim_as<A: Allocator, M: Winning>(
     requires inside { cell < table.now.cells }
     requires allowed { MayClaim table.now.cells table.now.local_limit seat.old.id seat.old.me cell mask M.cells M.cell }
     ensures same { (seat.new.table_id ≡ seat.old.table_id) × (seat.new.id ≡ seat.old.id) }
-    ensures claimed { Claimed M.cells seat.old.me.0 seat.old.me.1 M.cell result (bit_at result (M.cell % 64) == 1) seat.new.me }
+    ensures claimed { Claimed M.cells seat.old.me.0 seat.old.me.1 M.cell result (bit_at result (M.cell % 64) == 1)
+        seat.new.me }
 {
     let at = spot_of(table.cells, Word::FreeWord(cell / 64));
     table.table.shared.fetch_and::<Claims<M>>(seat, at, mask)
@@ -295,9 +321,11 @@ pub(crate) fn claim_by<A: Allocator>(
 ) -> u64
     requires same { seat.old.table_id ≡ table.now.table }
     requires inside { cell < table.now.cells }
-    requires allowed { MayClaim table.now.cells table.now.local_limit seat.old.id seat.old.me cell mask table.now.cells cell }
+    requires allowed { MayClaim table.now.cells table.now.local_limit seat.old.id seat.old.me cell mask
+        table.now.cells cell }
     ensures same { (seat.new.table_id ≡ seat.old.table_id) × (seat.new.id ≡ seat.old.id) }
-    ensures claimed { Claimed table.now.cells seat.old.me.0 seat.old.me.1 cell result (bit_at result (cell % 64) == 1) seat.new.me }
+    ensures claimed { Claimed table.now.cells seat.old.me.0 seat.old.me.1 cell result (bit_at result (cell % 64) == 1)
+        seat.new.me }
 {
     claim_as::<A, Brand>(table, seat, cell, mask)
 }
@@ -312,7 +340,8 @@ fn lock_as<A: Allocator, M: Winning>(
 ) -> u64
     requires same { seat.old.table_id ≡ table.now.table }
     requires inside { cell < table.now.cells }
-    requires allowed { MayLock table.now.cells table.now.local_limit seat.old.id seat.old.me cell new M.cells M.place M.cell }
+    requires allowed { MayLock table.now.cells table.now.local_limit seat.old.id seat.old.me cell new M.cells
+        M.place M.cell }
     ensures same { (seat.new.table_id ≡ seat.old.table_id) × (seat.new.id ≡ seat.old.id) }
     ensures locked { Locked shows M.cells seat.old.me.0 seat.old.me.1 M.place M.cell result (result == 0) seat.new.me }
 {
@@ -335,9 +364,11 @@ pub(crate) fn lock_by<A: Allocator>(
 ) -> u64
     requires same { seat.old.table_id ≡ table.now.table }
     requires inside { cell < table.now.cells }
-    requires allowed { MayLock table.now.cells table.now.local_limit seat.old.id seat.old.me cell new table.now.cells place cell }
+    requires allowed { MayLock table.now.cells table.now.local_limit seat.old.id seat.old.me cell new table.now.cells
+        place cell }
     ensures same { (seat.new.table_id ≡ seat.old.table_id) × (seat.new.id ≡ seat.old.id) }
-    ensures locked { Locked shows table.now.cells seat.old.me.0 seat.old.me.1 place cell result (result == 0) seat.new.me }
+    ensures locked { Locked shows table.now.cells seat.old.me.0 seat.old.me.1 place cell result
+        (result == 0) seat.new.me }
 {
     lock_as::<A, Brand>(table, seat, place, cell, new)
 }
@@ -383,7 +414,8 @@ pub(crate) struct Gives<M> {
 }
 
 impl<A: Allocator, M: Giving> Play<Option<Block<A>>, View> for Gives<M> {
-    ghost then = { λ step me number after. (after ≡ (with_told (M.item number) me.0, rest me.1)) × FewFrees M.cells after.0.log };
+    ghost then = { λ step me number after. (after ≡ (with_told (M.item number) me.0, rest me.1))
+        × FewFrees M.cells after.0.log };
 }
 
 #[inline(always)]
@@ -396,7 +428,8 @@ fn give_as<A: Allocator, M: Giving>(
 )
     requires same { seat.old.table_id ≡ table.now.table }
     requires inside { IsWord table.now.cells word }
-    requires allowed { MayGiveOfFew table.now.cells table.now.local_limit seat.old.id seat.old.me word new (M.item new) M.cells }
+    requires allowed { MayGiveOfFew table.now.cells table.now.local_limit seat.old.id seat.old.me word new
+        (M.item new) M.cells }
     ensures same { (seat.new.table_id ≡ seat.old.table_id) × (seat.new.id ≡ seat.old.id) }
     ensures told { seat.new.me ≡ (with_told (M.item new) seat.old.me.0, rest seat.old.me.1) }
     ensures few { FewFrees M.cells seat.new.me.0.log }
@@ -417,11 +450,15 @@ pub(crate) fn give<A: Allocator>(
 )
     requires same { seat.old.table_id ≡ table.now.table }
     requires inside { IsWord table.now.cells word }
-    requires allowed { MayGive table.now.cells table.now.local_limit seat.old.id seat.old.me word new (told.Did step new (put_home seat.old.me.1)) }
+    requires allowed { MayGive table.now.cells table.now.local_limit seat.old.id seat.old.me word new
+        (told.Did step new (put_home seat.old.me.1)) }
     requires active { seat.old.me.0.active ≡ true }
     requires some_thread { 0 < seat.old.me.0.thread }
     ensures same { (seat.new.table_id ≡ seat.old.table_id) × (seat.new.id ≡ seat.old.id) }
-    ensures told { seat.new.me ≡ (with_told (told.Did step new (put_home seat.old.me.1)) seat.old.me.0, rest seat.old.me.1) }
+    ensures told { seat.new.me ≡ (
+      with_told (told.Did step new (put_home seat.old.me.1)) seat.old.me.0,
+      rest seat.old.me.1,
+    ) }
     ensures few { FewFrees table.now.cells seat.new.me.0.log }
 {
     give_as::<A, Brand>(table, seat, word, new, step)
@@ -437,7 +474,8 @@ fn give_bit_as<A: Allocator, M: Giving>(
 ) -> u64
     requires same { seat.old.table_id ≡ table.now.table }
     requires inside { IsWord table.now.cells word }
-    requires allowed { MayGiveByOfFew table.now.cells table.now.local_limit seat.old.id seat.old.me word (λ there. bit_or there bits) M.item M.cells }
+    requires allowed { MayGiveByOfFew table.now.cells table.now.local_limit seat.old.id seat.old.me word
+        (λ there. bit_or there bits) M.item M.cells }
     ensures same { (seat.new.table_id ≡ seat.old.table_id) × (seat.new.id ≡ seat.old.id) }
     ensures told { seat.new.me ≡ (with_told (M.item result) seat.old.me.0, rest seat.old.me.1) }
     ensures few { FewFrees M.cells seat.new.me.0.log }
@@ -458,11 +496,15 @@ pub(crate) fn give_bit<A: Allocator>(
 ) -> u64
     requires same { seat.old.table_id ≡ table.now.table }
     requires inside { IsWord table.now.cells word }
-    requires allowed { MayGiveBy table.now.cells table.now.local_limit seat.old.id seat.old.me word (λ there. bit_or there bits) (λ there. told.Did step there (put_home seat.old.me.1)) }
+    requires allowed { MayGiveBy table.now.cells table.now.local_limit seat.old.id seat.old.me word
+        (λ there. bit_or there bits) (λ there. told.Did step there (put_home seat.old.me.1)) }
     requires active { seat.old.me.0.active ≡ true }
     requires some_thread { 0 < seat.old.me.0.thread }
     ensures same { (seat.new.table_id ≡ seat.old.table_id) × (seat.new.id ≡ seat.old.id) }
-    ensures told { seat.new.me ≡ (with_told (told.Did step result (put_home seat.old.me.1)) seat.old.me.0, rest seat.old.me.1) }
+    ensures told { seat.new.me ≡ (
+      with_told (told.Did step result (put_home seat.old.me.1)) seat.old.me.0,
+      rest seat.old.me.1,
+    ) }
     ensures few { FewFrees table.now.cells seat.new.me.0.log }
 {
     give_bit_as::<A, Brand>(table, seat, word, bits, step)

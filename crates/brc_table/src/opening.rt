@@ -7,7 +7,8 @@ ghost use Rattle.law_world.specs.Heap.{AreOptions};
 ghost use Rattle.law_known.specs.Free_Words.{free_words_for};
 ghost use Rattle.law_rule.specs.Layout.{extent as extent_of};
 ghost use Rattle.law_rule.specs.Logs.{opening_contents};
-ghost use Rattle.brc_table.specs.Opening.{bits_below, opening_free, opening_count, opening_word, opening_words, slot_shows, opening_slot, opening_slots};
+ghost use Rattle.brc_table.specs.Opening.{bits_below, opening_free, opening_count, opening_word, opening_words};
+ghost use Rattle.brc_table.specs.Opening.{slot_shows, opening_slot, opening_slots};
 ghost use Rattle.brc_table.specs.Shown.{contents_of};
 
 use crate::layout::{bit, extent, free_from, free_words_for as free_words, owners_from};

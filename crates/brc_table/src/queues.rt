@@ -32,7 +32,8 @@ impl<A: Allocator> HeapTable<A> {
         requires allowed { Allowed self.now.cells seat.old.log (steps.Drain word) }
         ensures told { seat.new.log ≡ told.Did (steps.Drain word) result moves.Nothing ∷ seat.old.log }
         ensures seat { Stays seat.old seat.new }
-        ensures knows { Knows self.now.cells seat.new.log (popping word result (known_seen self.now.cells seat.old.log)) }
+        ensures knows { Knows self.now.cells seat.new.log
+            (popping word result (known_seen self.now.cells seat.old.log)) }
         ensures keeps { Keeps self.now.cells seat.old.log seat.new.log }
         ensures cells { AreQueued self.now.cells word result }
     {
@@ -48,7 +49,8 @@ impl<A: Allocator> HeapTable<A> {
         requires allowed { Allowed self.now.cells seat.old.log (steps.Close word) }
         ensures told { seat.new.log ≡ told.Did (steps.Close word) result moves.Nothing ∷ seat.old.log }
         ensures seat { Stays seat.old seat.new }
-        ensures knows { Knows self.now.cells seat.new.log (closing self.now.cells word (popping word result (known_seen self.now.cells seat.old.log))) }
+        ensures knows { Knows self.now.cells seat.new.log
+            (closing self.now.cells word (popping word result (known_seen self.now.cells seat.old.log))) }
         ensures keeps { Keeps self.now.cells seat.old.log seat.new.log }
         ensures cells { AreQueued self.now.cells word result }
     {

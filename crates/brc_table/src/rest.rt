@@ -26,7 +26,9 @@ impl<A: Allocator> Model for Rest<A> {
 
     ghost view = { λ r. drop r.at (slots_items r.closed.slots) };
 
-    ghost invariant = { λ r. (r.at ≤ slots_len r.closed.slots) × Filled (slots_filled r.closed.slots) r.at (slots_len r.closed.slots) × ((k : ℕ) → k < r.at → slice_index_or (slots_filled r.closed.slots) k false ≡ false) };
+    ghost invariant = { λ r. (r.at ≤ slots_len r.closed.slots) × Filled (slots_filled r.closed.slots) r.at
+        (slots_len r.closed.slots) × ((k : ℕ) → k < r.at → slice_index_or (slots_filled r.closed.slots) k false
+        ≡ false) };
 }
 
 impl<A: Allocator> Rest<A> {

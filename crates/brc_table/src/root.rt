@@ -28,7 +28,8 @@ impl<A: Allocator> Model for RootSeat<A> {
 
     ghost view = { λ s. record { table = s.place.table_id; id = s.place.id; view = s.place.me.0 } };
 
-    ghost invariant = { λ s. (s.place.me.0.active ≡ true) × (s.place.me.0.thread ≡ 0) × (s.place.me.1 ≡ []) × (s.next ≡ next_thread s.place.me.0) × (0 < s.next) };
+    ghost invariant = { λ s. (s.place.me.0.active ≡ true) × (s.place.me.0.thread ≡ 0) × (s.place.me.1 ≡ [])
+        × (s.next ≡ next_thread s.place.me.0) × (0 < s.next) };
 }
 
 /// A thread is registered.

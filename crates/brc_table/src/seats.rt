@@ -21,7 +21,14 @@ impl<A: Allocator> Model for ThreadSeat<A> {
 
     ghost Value = { SeatSeen A };
 
-    ghost view = { λ s. record { table = s.place.table_id; id = s.place.id; thread = s.thread; log = s.place.me.0.log; slots = s.place.me.1 } };
+    ghost view = { λ s. record {
+      table = s.place.table_id;
+      id = s.place.id;
+      thread = s.thread;
+      log = s.place.me.0.log;
+      slots = s.place.me.1;
+    } };
 
-    ghost invariant = { λ s. (s.place.me.0.active ≡ true) × (s.place.me.0.thread ≡ s.thread) × (0 < s.thread) × (s.thread ≤ MOST_THREADS) };
+    ghost invariant = { λ s. (s.place.me.0.active ≡ true) × (s.place.me.0.thread ≡ s.thread) × (0 < s.thread)
+        × (s.thread ≤ MOST_THREADS) };
 }

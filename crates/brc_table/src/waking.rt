@@ -52,7 +52,8 @@ pub(crate) fn take_told<A: Allocator, M: Waking>(
 ) -> u64
     requires same { seat.old.table_id ≡ table.now.table }
     requires inside { IsWord table.now.cells word }
-    requires allowed { MayWake shows table.now.cells table.now.local_limit seat.old.id seat.old.me word (λ _. 0) M.item M.cells }
+    requires allowed { MayWake shows table.now.cells table.now.local_limit seat.old.id seat.old.me word
+        (λ _. 0) M.item M.cells }
     ensures same { (seat.new.table_id ≡ seat.old.table_id) × (seat.new.id ≡ seat.old.id) }
     ensures told { seat.new.me ≡ (with_told (M.item result) seat.old.me.0, seat.old.me.1) }
     ensures own { OwnLog M.cells seat.old.me.0.log }

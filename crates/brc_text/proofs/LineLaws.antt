@@ -1,5 +1,7 @@
 -- Lines and their words are read as they were spelled, and only so.
-use Rattle.std.proofs.Common.{◌≡◌, ℕ, zero, suc, ◌<◌, ◌≤◌, Bool, true, false, not, cond, eqb, List, [], ◌∷◌, ◌++◌, length, get_or, drop, Option, Some, None, refl, sym, ap, subst, inl, inr, ◌∙◌, append_assoc, append-nil, decimal, arith}
+use Rattle.std.proofs.Common.{◌≡◌, ℕ, zero, suc, ◌<◌, ◌≤◌, Bool, true, false, not, cond, eqb, List, [], ◌∷◌, ◌++◌}
+use Rattle.std.proofs.Common.{length, get_or, drop, Option, Some, None, refl, sym, ap, subst, inl, inr, ◌∙◌}
+use Rattle.std.proofs.Common.{append_assoc, append-nil, decimal, arith}
 use Rattle.std.specs.Prelude.{◌⊎◌}
 use Rattle.std.specs.List.{flat_map, AllByRecursion}
 use Rattle.std.specs.Option.{option_map}
@@ -16,7 +18,8 @@ use Rattle.brc_text.specs.declared.token.Token.{Token}
 use Rattle.brc_text.specs.declared.token.Token.TheVariants as tokens
 use Rattle.brc_text.specs.Keywords.{keyword}
 use Rattle.brc_text.specs.Tokens.{◌>>=◌, token, token_at, letter, IsRead}
-use Rattle.brc_text.specs.Lines.{cut, lacks, end_of, IsWord, first_line, tokens_at, words_from, spaced, before_line, pieces}
+use Rattle.brc_text.specs.Lines.{cut, lacks, end_of, IsWord, first_line, tokens_at, words_from, spaced, before_line}
+use Rattle.brc_text.specs.Lines.{pieces}
 use Rattle.brc_text.specs.Words.{Begins}
 use Rattle.brc_text.proofs.NumberLaws.{numerals}
 use Rattle.brc_text.proofs.KeywordLaws.{same_some}
@@ -24,7 +27,8 @@ use Rattle.brc_text.proofs.TokenLaws.{token_again, token_takes, some_bind}
 
 -- ---- cutting
 
-pub lacks-append : (mark : ℕ) (xs ys : List ℕ) → lacks mark xs ≡ true → lacks mark ys ≡ true → lacks mark (xs ++ ys) ≡ true
+pub lacks-append : (mark : ℕ) (xs ys : List ℕ) → lacks mark xs ≡ true → lacks mark ys ≡ true
+    → lacks mark (xs ++ ys) ≡ true
 lacks-append mark [] ys p q = q
 lacks-append mark (x ∷ xs) ys p q =
     let both = and_parts _ _ p in and_from _ _ both.0 (lacks-append mark xs ys both.1 q)
@@ -33,7 +37,8 @@ not_true : (b : Bool) → not b ≡ true → b ≡ false
 not_true true e = absurd cc
 not_true false e = refl
 
-pub cut_until : (mark : ℕ) (front back : List ℕ) → lacks mark front ≡ true → cut mark (front ++ (mark ∷ back)) ≡ (front, Some back)
+pub cut_until : (mark : ℕ) (front back : List ℕ) → lacks mark front ≡ true
+    → cut mark (front ++ (mark ∷ back)) ≡ (front, Some back)
 unfolding cut
 cut_until mark [] back h = rw (eq-eqb mark mark refl) refl
 cut_until mark (byte ∷ front) back h =
@@ -56,9 +61,11 @@ pub record IsCut (mark : ℕ) (bytes : List ℕ) (parts : List ℕ × Option (Li
   pub lack : lacks mark parts.0 ≡ true
   pub joined : bytes ≡ parts.0 ++ behind_mark mark parts.1
 
-cut_first : (mark byte : ℕ) (bytes : List ℕ) (parts : List ℕ × Option (List ℕ)) (b : Bool) → eqb byte mark ≡ b → IsCut mark bytes parts
+cut_first : (mark byte : ℕ) (bytes : List ℕ) (parts : List ℕ × Option (List ℕ)) (b : Bool) → eqb byte mark ≡ b
+    → IsCut mark bytes parts
     → IsCut mark (byte ∷ bytes) (cond b ([], Some bytes) (byte ∷ parts.0, parts.1))
-cut_first mark byte bytes parts true e h = record { lack = refl; joined = ap (λ (b : ℕ). b ∷ bytes) (eqb-true byte mark e) }
+cut_first mark byte bytes parts true e h =
+    record { lack = refl; joined = ap (λ (b : ℕ). b ∷ bytes) (eqb-true byte mark e) }
 cut_first mark byte bytes parts false e h = record {
   lack = and_from _ _ (ap not e) h.lack;
   joined = ap (λ (l : List ℕ). byte ∷ l) h.joined;
@@ -94,19 +101,22 @@ letter_lacks_feed _ = refl
 pub token_lacks_space : (t : Token) → IsRead t → lacks 32 (token t) ≡ true
 token_lacks_space (tokens.Number n) h = digits_lack 32 (decimal n) (omega arith) (digits_decimal numerals n h)
 token_lacks_space (tokens.Negative n) h = absurd h
-token_lacks_space (tokens.Place l n) h = lacks-append 32 (letter l ∷ []) (decimal n) (letter_lacks_space l) (digits_lack 32 (decimal n) (omega arith) (digits_decimal numerals n h))
+token_lacks_space (tokens.Place l n) h = lacks-append 32 (letter l ∷ []) (decimal n) (letter_lacks_space l)
+    (digits_lack 32 (decimal n) (omega arith) (digits_decimal numerals n h))
 token_lacks_space (tokens.Word k) h = keyword_lacks_space k
 
 pub token_lacks_feed : (t : Token) → IsRead t → lacks 10 (token t) ≡ true
 token_lacks_feed (tokens.Number n) h = digits_lack 10 (decimal n) (omega arith) (digits_decimal numerals n h)
 token_lacks_feed (tokens.Negative n) h = absurd h
-token_lacks_feed (tokens.Place l n) h = lacks-append 10 (letter l ∷ []) (decimal n) (letter_lacks_feed l) (digits_lack 10 (decimal n) (omega arith) (digits_decimal numerals n h))
+token_lacks_feed (tokens.Place l n) h = lacks-append 10 (letter l ∷ []) (decimal n) (letter_lacks_feed l)
+    (digits_lack 10 (decimal n) (omega arith) (digits_decimal numerals n h))
 token_lacks_feed (tokens.Word k) h = keyword_lacks_feed k
 
 -- ---- the words of a line
 
 -- cutting goes past bytes without the mark
-pub cut_past : (mark : ℕ) (front back : List ℕ) → lacks mark front ≡ true → cut mark (front ++ back) ≡ (front ++ (cut mark back).0, (cut mark back).1)
+pub cut_past : (mark : ℕ) (front back : List ℕ) → lacks mark front ≡ true
+    → cut mark (front ++ back) ≡ (front ++ (cut mark back).0, (cut mark back).1)
 unfolding cut
 cut_past mark [] back h = refl
 cut_past mark (byte ∷ front) back h =
@@ -160,9 +170,11 @@ longer_line most text word rest is =
     by_parts (Some token) (Some left) None = refl
     by_parts (Some token) (Some left) (Some ws) = refl
 
-after_after : (front : List Token) (token : Token) (read : Option (List Token × List ℕ)) → after front (after (token ∷ []) read) ≡ after (front ++ (token ∷ [])) read
+after_after : (front : List Token) (token : Token) (read : Option (List Token × List ℕ))
+    → after front (after (token ∷ []) read) ≡ after (front ++ (token ∷ [])) read
 after_after front token None = refl
-after_after front token (Some line) = ap (λ (l : List Token). Some (l, line.1)) (sym (append_assoc front (token ∷ []) line.0))
+after_after front token (Some line) = ap (λ (l : List Token). Some (l, line.1))
+    (sym (append_assoc front (token ∷ []) line.0))
 
 -- a space or a line feed stands first
 abbrev pub IsEnd : List ℕ → Type 0
@@ -170,11 +182,13 @@ IsEnd rest = (get_or rest 0 0 ≡ 32) ⊎ (get_or rest 0 0 ≡ 10)
 
 -- where no word ends before a space or a line feed that is a token, there is no line
 pub no_token : (most : ℕ) (front : List Token) (text : List ℕ)
-    → ((word rest : List ℕ) (t : Token) → text ≡ word ++ rest → IsEnd rest → token_at word ≡ Some t → ⊥) → after front (first_line (suc most) text) ≡ None
+    → ((word rest : List ℕ) (t : Token) → text ≡ word ++ rest → IsEnd rest → token_at word ≡ Some t → ⊥)
+    → after front (first_line (suc most) text) ≡ None
 unfolding first_line tokens_at
 no_token most front text none = ap (after front) (by_line (cut 10 text).1 refl)
   where
-    by_word : (behind : List ℕ) (o : Option Token) → (cut 10 text).1 ≡ Some behind → token_at (cut 32 (cut 10 text).0).0 ≡ o → o ≡ None
+    by_word : (behind : List ℕ) (o : Option Token) → (cut 10 text).1 ≡ Some behind
+        → token_at (cut 32 (cut 10 text).0).0 ≡ o → o ≡ None
     by_word behind None ended word = refl
     by_word behind (Some t) ended word = absurd (by_space (cut 32 (cut 10 text).0).1 refl)
       where
@@ -184,9 +198,11 @@ no_token most front text none = ap (after front) (by_line (cut 10 text).1 refl)
         first : List ℕ
         first = (cut 32 (cut 10 text).0).0
 
-        whole : (back : Option (List ℕ)) → (cut 32 (cut 10 text).0).1 ≡ back → text ≡ first ++ (behind_mark 32 back ++ (10 ∷ behind))
+        whole : (back : Option (List ℕ)) → (cut 32 (cut 10 text).0).1 ≡ back
+            → text ≡ first ++ (behind_mark 32 back ++ (10 ∷ behind))
         whole back is =
-            joined ∙ ap (λ (l : List ℕ). l ++ (10 ∷ behind)) ((cut_parts 32 (cut 10 text).0).joined ∙ ap (λ (o : Option (List ℕ)). first ++ behind_mark 32 o) is)
+            joined ∙ ap (λ (l : List ℕ). l ++ (10 ∷ behind)) ((cut_parts 32 (cut 10 text).0).joined
+            ∙ ap (λ (o : Option (List ℕ)). first ++ behind_mark 32 o) is)
             ∙ append_assoc first (behind_mark 32 back) (10 ∷ behind)
 
         by_space : (back : Option (List ℕ)) → (cut 32 (cut 10 text).0).1 ≡ back → ⊥
@@ -203,7 +219,8 @@ first_and_rest [] byte some is = absurd (omega arith)
 first_and_rest (first ∷ left) byte some is = ap (λ (b : ℕ). b ∷ left) is
 
 -- a token that was found, and the space or line feed behind it
-pub word_found : (text rest left : List ℕ) (token : Token) (last : Bool) → Begins token_at text token left → left ≡ end_of last ∷ rest
+pub word_found : (text rest left : List ℕ) (token : Token) (last : Bool) → Begins token_at text token left
+    → left ≡ end_of last ∷ rest
     → (word : List ℕ) × IsWord text word last rest × (token_at word ≡ Some token)
 word_found text rest left token last begins ends =
     let is = token_takes begins.word token begins.reads in (
@@ -216,15 +233,18 @@ word_found text rest left token last begins ends =
       begins.reads,
     )
 
-pub last_word : (most : ℕ) (front : List Token) (text word rest : List ℕ) (last : Bool) (token : Token) → IsWord text word last rest → last ≡ true → token_at word ≡ Some token
+pub last_word : (most : ℕ) (front : List Token) (text word rest : List ℕ) (last : Bool) (token : Token)
+    → IsWord text word last rest → last ≡ true → token_at word ≡ Some token
     → after front (first_line (suc most) text) ≡ Some (front ++ (token ∷ []), rest)
 last_word most front text word rest true token is ends some = rw (last_line most text word rest is, some) refl
 last_word most front text word rest false token is ends some = absurd cc
 
-pub next_word : (most : ℕ) (front : List Token) (text word rest : List ℕ) (last : Bool) (token : Token) → IsWord text word last rest → last ≡ false → token_at word ≡ Some token
+pub next_word : (most : ℕ) (front : List Token) (text word rest : List ℕ) (last : Bool) (token : Token)
+    → IsWord text word last rest → last ≡ false → token_at word ≡ Some token
     → after front (first_line (suc most) text) ≡ after (front ++ (token ∷ [])) (first_line most rest)
 next_word most front text word rest true token is ends some = absurd cc
-next_word most front text word rest false token is ends some = rw (longer_line most text word rest is, some) (after_after front token (first_line most rest))
+next_word most front text word rest false token is ends some = rw (longer_line most text word rest is, some)
+    (after_after front token (first_line most rest))
 
 pub no_more : (front : List Token) (text : List ℕ) → after front (first_line 0 text) ≡ None
 unfolding first_line tokens_at
@@ -234,7 +254,8 @@ no_more front text = by_back (cut 10 text).1
     by_back None = refl
     by_back (Some rest) = refl
 
-others_lack_feed : (ts : List Token) → AllByRecursion IsRead ts → lacks 10 (flat_map (λ word. 32 ∷ token word) ts) ≡ true
+others_lack_feed : (ts : List Token) → AllByRecursion IsRead ts
+    → lacks 10 (flat_map (λ word. 32 ∷ token word) ts) ≡ true
 others_lack_feed [] h = refl
 others_lack_feed (t ∷ ts) h = lacks-append 10 (token t) _ (token_lacks_feed t h.0) (others_lack_feed ts h.1)
 
@@ -255,11 +276,18 @@ unfolding tokens_at
 words_again zero ts h = absurd (omega (arith, h.some, h.fit))
 words_again (suc most) [] h = absurd (omega (arith, h.some))
 words_again (suc most) (t ∷ []) h =
-    let e : cut 32 (token t ++ []) ≡ (token t, None) = ap (cut 32) (append-nil (token t)) ∙ cut_whole 32 (token t) (token_lacks_space t h.read.0) in
+    let e : cut 32 (token t ++ []) ≡ (token t, None) = ap (cut 32) (append-nil (token t))
+    ∙ cut_whole 32 (token t) (token_lacks_space t h.read.0) in
     rw (e, token_again t h.read.0) refl
 words_again (suc most) (t ∷ (u ∷ us)) h =
-    let e : cut 32 (spaced (t ∷ (u ∷ us))) ≡ (token t, Some (spaced (u ∷ us))) = cut_until 32 (token t) (spaced (u ∷ us)) (token_lacks_space t h.read.0) in
-    rw (e, token_again t h.read.0, words_again most (u ∷ us) (record { read = h.read.1; some = omega arith; fit = omega (arith, h.fit) })) refl
+    let e : cut 32 (spaced (t ∷ (u ∷ us))) ≡ (token t, Some (spaced (u ∷ us))) = cut_until 32 (token t)
+    (spaced (u ∷ us)) (token_lacks_space t h.read.0) in
+    rw (
+      e,
+      token_again t h.read.0,
+      words_again most (u ∷ us)
+          (record { read = h.read.1; some = omega arith; fit = omega (arith, h.fit) }),
+    ) refl
 
 -- the words that are read were spelled
 pub record AreWords (most : ℕ) (bytes : List ℕ) (ts : List Token) : Type 0 where
@@ -284,7 +312,8 @@ rest_takes most bytes front (Some rest) word ts again fits parts first e =
     let them = again rest others.0 others.1 in
     subst (AreWords (suc most) bytes) (same_some others.2) (record {
       fit = record { read = (fits, them.fit.read); some = omega arith; fit = omega (arith, them.fit.fit) };
-      spelled = parts ∙ ap (λ (l : List ℕ). l ++ (32 ∷ rest)) first ∙ ap (λ (l : List ℕ). token word ++ (32 ∷ l)) them.spelled
+      spelled = parts ∙ ap (λ (l : List ℕ). l ++ (32 ∷ rest)) first
+          ∙ ap (λ (l : List ℕ). token word ++ (32 ∷ l)) them.spelled
           ∙ spaced_more word others.0 them.fit.some;
     })
 
@@ -292,9 +321,11 @@ pub words_take : (most : ℕ) (bytes : List ℕ) (ts : List Token) → tokens_at
 unfolding tokens_at
 words_take zero bytes ts e = absurd cc
 words_take (suc most) bytes ts e =
-    let first = some_bind (token_at (cut 32 bytes).0) (λ word. words_from word (tokens_at most) (cut 32 bytes).1) ts e in
+    let first = some_bind (token_at (cut 32 bytes).0)
+    (λ word. words_from word (tokens_at most) (cut 32 bytes).1) ts e in
     let spelled = token_takes (cut 32 bytes).0 first.0 first.1 in
-    rest_takes most bytes (cut 32 bytes).0 (cut 32 bytes).1 first.0 ts (words_take most) spelled.0 (cut_parts 32 bytes).joined spelled.1 first.2
+    rest_takes most bytes (cut 32 bytes).0 (cut 32 bytes).1 first.0 ts (words_take most) spelled.0
+    (cut_parts 32 bytes).joined spelled.1 first.2
 
 -- ---- the lines of a text
 
@@ -303,14 +334,16 @@ abbrev pub whole : List ℕ × Bool → List ℕ
 whole piece = piece.0 ++ (cond piece.1 (10 ∷ []) [])
 
 -- a line of its own is the first piece
-pub pieces_line : (front rest : List ℕ) → lacks 10 front ≡ true → pieces (front ++ (10 ∷ rest)) ≡ (front, true) ∷ pieces rest
+pub pieces_line : (front rest : List ℕ) → lacks 10 front ≡ true → pieces (front ++ (10 ∷ rest)) ≡ (front, true)
+    ∷ pieces rest
 unfolding pieces
 pieces_line [] rest h = refl
 pieces_line (byte ∷ front) rest h =
     let both = and_parts _ _ h in
     rw (not_true (eqb byte 10) both.0, pieces_line front rest both.1) refl
 
-pub pieces_last : (byte : ℕ) (front : List ℕ) → lacks 10 (byte ∷ front) ≡ true → pieces (byte ∷ front) ≡ (byte ∷ front, false) ∷ []
+pub pieces_last : (byte : ℕ) (front : List ℕ) → lacks 10 (byte ∷ front) ≡ true
+    → pieces (byte ∷ front) ≡ (byte ∷ front, false) ∷ []
 unfolding pieces
 pieces_last byte [] h =
     let both = and_parts _ _ h in
@@ -324,9 +357,11 @@ whole_before : (byte : ℕ) (bytes : List ℕ) (ps : List (List ℕ × Bool)) �
 whole_before byte bytes [] h = ap (λ (l : List ℕ). byte ∷ l) h
 whole_before byte bytes (piece ∷ others) h = ap (λ (l : List ℕ). byte ∷ l) h
 
-whole_first : (byte : ℕ) (bytes : List ℕ) (ps : List (List ℕ × Bool)) (b : Bool) → eqb byte 10 ≡ b → flat_map whole ps ≡ bytes
+whole_first : (byte : ℕ) (bytes : List ℕ) (ps : List (List ℕ × Bool)) (b : Bool) → eqb byte 10 ≡ b
+    → flat_map whole ps ≡ bytes
     → flat_map whole (cond b (([], true) ∷ ps) (before_line byte ps)) ≡ byte ∷ bytes
-whole_first byte bytes ps true e h = ap (λ (l : List ℕ). 10 ∷ l) h ∙ ap (λ (b : ℕ). b ∷ bytes) (sym (eqb-true byte 10 e))
+whole_first byte bytes ps true e h = ap (λ (l : List ℕ). 10 ∷ l) h
+    ∙ ap (λ (b : ℕ). b ∷ bytes) (sym (eqb-true byte 10 e))
 whole_first byte bytes ps false e h = whole_before byte bytes ps h
 
 -- the lines together are the text
@@ -336,10 +371,12 @@ pieces_joined [] = refl
 pieces_joined (byte ∷ bytes) = whole_first byte bytes (pieces bytes) (eqb byte 10) refl (pieces_joined bytes)
 
 -- the first line, cut off at its line feed
-pub pieces_ended : (bytes rest : List ℕ) → (cut 10 bytes).1 ≡ Some rest → pieces bytes ≡ ((cut 10 bytes).0, true) ∷ pieces rest
+pub pieces_ended : (bytes rest : List ℕ) → (cut 10 bytes).1 ≡ Some rest
+    → pieces bytes ≡ ((cut 10 bytes).0, true) ∷ pieces rest
 pieces_ended bytes rest h =
     let parts = cut_parts 10 bytes in
-    let joined : bytes ≡ (cut 10 bytes).0 ++ (10 ∷ rest) = parts.joined ∙ ap (λ (o : Option (List ℕ)). (cut 10 bytes).0 ++ behind_mark 10 o) h in
+    let joined : bytes ≡ (cut 10 bytes).0 ++ (10 ∷ rest) = parts.joined
+    ∙ ap (λ (o : Option (List ℕ)). (cut 10 bytes).0 ++ behind_mark 10 o) h in
     ap pieces joined ∙ pieces_line (cut 10 bytes).0 rest parts.lack
 
 -- a text without a line feed is one line that none ends
@@ -348,7 +385,8 @@ pieces_open [] some h = absurd (omega arith)
 pieces_open (byte ∷ bytes) some h =
     let parts = cut_parts 10 (byte ∷ bytes) in
     let joined : byte ∷ bytes ≡ (cut 10 (byte ∷ bytes)).0 =
-    parts.joined ∙ ap (λ (o : Option (List ℕ)). (cut 10 (byte ∷ bytes)).0 ++ behind_mark 10 o) h ∙ append-nil (cut 10 (byte ∷ bytes)).0 in
+    parts.joined ∙ ap (λ (o : Option (List ℕ)). (cut 10 (byte ∷ bytes)).0 ++ behind_mark 10 o) h
+    ∙ append-nil (cut 10 (byte ∷ bytes)).0 in
     pieces_last byte bytes (ap (lacks 10) joined ∙ parts.lack)
 
 -- what stands behind a mark is shorter than the whole

@@ -1,5 +1,8 @@
 -- A number is read as it was spelled, and only so.
-use Rattle.std.proofs.Common.{◌≡◌, ◌≢◌, ℕ, zero, suc, ◌^◌, ◌<◌, ◌≤◌, ◌*◌, ◌+◌, ◌-◌, true, false, true≢false, eqb, leb, List, [], ◌∷◌, ◌++◌, append-nil, length, get_or, take, drop, take-append-drop, length-append, add-zero, Option, Some, None, refl, sym, ap, subst, ◌∙◌, decimal, arith, inl, inr}
+use Rattle.std.proofs.Common.{◌≡◌, ◌≢◌, ℕ, zero, suc, ◌^◌, ◌<◌, ◌≤◌, ◌*◌, ◌+◌, ◌-◌, true, false, true≢false, eqb, leb}
+use Rattle.std.proofs.Common.{List, [], ◌∷◌, ◌++◌, append-nil, length, get_or, take, drop, take-append-drop}
+use Rattle.std.proofs.Common.{length-append, add-zero, Option, Some, None, refl, sym, ap, subst, ◌∙◌, decimal, arith}
+use Rattle.std.proofs.Common.{inl, inr}
 use Rattle.std.specs.Str.Parse.{digits_value, AllDigits}
 use Rattle.std.specs.Int.{IsInRange}
 use Rattle.std.specs.Char.{is_ascii_digit}
@@ -12,7 +15,8 @@ use Rattle.std.proofs.lemmas.Str.Parse.{IsNumeralModel, numerals_by_value, tells
 use Rattle.std.proofs.lemmas.Str.{digit_value_digit}
 use Rattle.std.proofs.lemmas.Int.Digits.{digits_value_more, digits_more}
 use Rattle.std.proofs.lemmas.Slice.Eq.{bytes_eq-Decides}
-use Rattle.std.proofs.lemmas.Fmt.{digits_decimal, digits_value-decimal, decimal-digits_value, first_decimal, decimal_nonempty, decimal_digit}
+use Rattle.std.proofs.lemmas.Fmt.{digits_decimal, digits_value-decimal, decimal-digits_value, first_decimal}
+use Rattle.std.proofs.lemmas.Fmt.{decimal_nonempty, decimal_digit}
 use Rattle.brc_text.specs.Numbers.{number_at}
 use Rattle.brc_text.specs.Words.{EndsWord, Begins}
 
@@ -62,14 +66,20 @@ pub leading_zero : (bytes : List ℕ) → 1 < length bytes → get_or bytes 0 0 
 leading_zero bytes long first = no_number bytes (λ n h e.
     let one = zero_alone n h (subst (λ (b : List ℕ). get_or b 0 0 ≡ 48) e first) in omega (arith, ap length e))
 
-pub not_a_digit : (bytes : List ℕ) (i : ℕ) → i < length bytes → (IsInRange 48 57 (get_or bytes i 0) → ⊥) → number_at bytes ≡ None
+pub not_a_digit : (bytes : List ℕ) (i : ℕ) → i < length bytes → (IsInRange 48 57 (get_or bytes i 0) → ⊥)
+    → number_at bytes ≡ None
 not_a_digit bytes i within other = no_number bytes (λ n h e.
     other (subst (λ (b : List ℕ). IsInRange 48 57 (get_or b i 0)) (sym e)
     (digit_at (decimal n) i (digits_decimal numerals n h) (subst (λ (b : List ℕ). i < length b) e within))))
 
 pub too_large : (bytes : List ℕ) (i : ℕ) → 2 ^ 64 ≤ digits_value 10 (take i bytes) → number_at bytes ≡ None
 too_large bytes i large = no_number bytes (λ n h e.
-    omega (arith, digits_value-take-le 10 bytes i (omega arith), ap (digits_value 10) e, digits_value-decimal numerals n h))
+    omega (
+      arith,
+      digits_value-take-le 10 bytes i (omega arith),
+      ap (digits_value 10) e,
+      digits_value-decimal numerals n h,
+    ))
 
 -- the digits so far, and their value
 pub record HasRead (bytes : List ℕ) (i number : ℕ) : Type 0 where
@@ -77,7 +87,8 @@ pub record HasRead (bytes : List ℕ) (i number : ℕ) : Type 0 where
   pub value : number ≡ digits_value 10 (take i bytes)
   pub fits : number < 2 ^ 64
 
-pub one_more : (bytes : List ℕ) (i number : ℕ) → i < length bytes → HasRead bytes i number → IsInRange 48 57 (get_or bytes i 0)
+pub one_more : (bytes : List ℕ) (i number : ℕ) → i < length bytes → HasRead bytes i number
+    → IsInRange 48 57 (get_or bytes i 0)
     → number * 10 + (get_or bytes i 0 - 48) < 2 ^ 64 → HasRead bytes (i + 1) (number * 10 + (get_or bytes i 0 - 48))
 one_more bytes i number within so_far range small =
     let digit = digit_value_digit (get_or bytes i 0) range in
@@ -89,10 +100,16 @@ one_more bytes i number within so_far range small =
     }
 
 -- with the next digit the number is 2^64 or more
-pub too_large_here : (bytes : List ℕ) (i number : ℕ) → i < length bytes → HasRead bytes i number → IsInRange 48 57 (get_or bytes i 0)
+pub too_large_here : (bytes : List ℕ) (i number : ℕ) → i < length bytes → HasRead bytes i number
+    → IsInRange 48 57 (get_or bytes i 0)
     → 2 ^ 64 ≤ number * 10 + (get_or bytes i 0 - 48) → number_at bytes ≡ None
 too_large_here bytes i number within so_far digit large =
-    too_large bytes (i + 1) (omega (arith, digit_value_digit (get_or bytes i 0) digit, digits_value_more 10 bytes i within, so_far.value))
+    too_large bytes (i + 1) (omega (
+      arith,
+      digit_value_digit (get_or bytes i 0) digit,
+      digits_value_more 10 bytes i within,
+      so_far.value,
+    ))
 
 pub above_zero : (n : ℕ) → eqb n 0 ≡ false → 0 < n
 above_zero zero e = absurd cc
@@ -105,7 +122,8 @@ all_read bytes number some plain done =
     let digits : AllDigits 10 bytes = subst (AllDigits 10) whole done.digits in
     let value : digits_value 10 bytes ≡ number = ap (digits_value 10) (sym whole) ∙ sym done.value in
     let fits : digits_value 10 bytes < 2 ^ 64 = subst (λ m. m < 2 ^ 64) (sym value) done.fits in
-    number_spelled bytes (decimal-digits_value numerals bytes digits some (λ e. first_zero e) fits) fits ∙ ap (λ m. Some m) value
+    number_spelled bytes (decimal-digits_value numerals bytes digits some (λ e. first_zero e) fits) fits
+    ∙ ap (λ m. Some m) value
   where
     first_zero : get_or bytes 0 0 ≡ 48 → length bytes ≡ 1
     first_zero e = elim (cases_lt 1 (length bytes)) [ inl lt ↦ absurd (plain lt e) | inr le ↦ omega arith ]
@@ -113,7 +131,8 @@ all_read bytes number some plain done =
 -- ---- the number with which a text begins
 
 pub digit_in : (byte : ℕ) → is_ascii_digit byte ≡ true → IsInRange 48 57 byte
-digit_in byte e = let both = and_parts (leb 48 byte) (leb byte 57) e in (leb-true 48 byte both.0, leb-true byte 57 both.1)
+digit_in byte e = let both = and_parts (leb 48 byte) (leb byte 57) e in
+    (leb-true 48 byte both.0, leb-true byte 57 both.1)
 
 pub digit_out : (byte : ℕ) → is_ascii_digit byte ≡ false → IsInRange 48 57 byte → ⊥
 digit_out byte e r = true≢false (sym (and_from _ _ (le-leb 48 byte r.0) (le-leb byte 57 r.1)) ∙ e)
@@ -134,18 +153,21 @@ pub record IsAhead (text word rest : List ℕ) (n : ℕ) : Type 0 where
   pub ends : EndsWord rest
   pub spells : number_at word ≡ Some n
 
-pub front_byte : (text word rest : List ℕ) (i : ℕ) → text ≡ word ++ rest → i < length word → get_or text i 0 ≡ get_or word i 0
+pub front_byte : (text word rest : List ℕ) (i : ℕ) → text ≡ word ++ rest → i < length word
+    → get_or text i 0 ≡ get_or word i 0
 front_byte text word rest i whole within = ap (λ (l : List ℕ). get_or l i 0) whole ∙ get_or-append word rest 0 i within
 
 pub next_byte : (text word rest : List ℕ) → text ≡ word ++ rest → get_or text (length word) 0 ≡ get_or rest 0 0
 next_byte text word rest whole =
-    ap (λ (l : List ℕ). get_or l (length word) 0) whole ∙ ap (λ (i : ℕ). get_or (word ++ rest) i 0) (sym (add-zero (length word))) ∙ get_or-append-add word rest 0 0
+    ap (λ (l : List ℕ). get_or l (length word) 0) whole
+    ∙ ap (λ (i : ℕ). get_or (word ++ rest) i 0) (sym (add-zero (length word))) ∙ get_or-append-add word rest 0 0
 
 pub front_of : (text word rest : List ℕ) (i : ℕ) → text ≡ word ++ rest → i ≤ length word → take i text ≡ take i word
 front_of text word rest i whole within = ap (take i) whole ∙ take-append-le i word rest within
 
 -- all its bytes are digits
-spelled_digit : (word : List ℕ) (n i : ℕ) → number_at word ≡ Some n → i < length word → IsInRange 48 57 (get_or word i 0)
+spelled_digit : (word : List ℕ) (n i : ℕ) → number_at word ≡ Some n → i < length word
+    → IsInRange 48 57 (get_or word i 0)
 spelled_digit word n i e within =
     let t = number_takes word n e in
     subst (λ (b : List ℕ). IsInRange 48 57 (get_or b i 0)) (sym t.1)
@@ -160,27 +182,34 @@ digit_ahead text word rest n is =
     subst (IsInRange 48 57) (sym (front_byte text word rest 0 is.whole some)) (spelled_digit word n 0 is.spells some)
 
 -- it has no leading zero
-pub no_zero_ahead : (text word rest : List ℕ) (n : ℕ) → IsAhead text word rest n → get_or text 0 0 ≡ 48 → IsInRange 48 57 (get_or text 1 0) → ⊥
+pub no_zero_ahead : (text word rest : List ℕ) (n : ℕ) → IsAhead text word rest n → get_or text 0 0 ≡ 48
+    → IsInRange 48 57 (get_or text 1 0) → ⊥
 no_zero_ahead text word rest n is first digit = elim (cases_lt 1 (length word)) [
-  | inl long ↦ no_longer_none _ _ is.spells (leading_zero word long (sym (front_byte text word rest 0 is.whole (omega (arith, long))) ∙ first))
+  | inl long ↦ no_longer_none _ _ is.spells
+      (leading_zero word long (sym (front_byte text word rest 0 is.whole (omega (arith, long))) ∙ first))
   | inr short ↦
       let one : length word ≡ 1 = omega (arith, short, spelled_some word n is.spells) in
-      let here : get_or text 1 0 ≡ get_or rest 0 0 = ap (λ (i : ℕ). get_or text i 0) (sym one) ∙ next_byte text word rest is.whole in
+      let here : get_or text 1 0 ≡ get_or rest 0 0 = ap (λ (i : ℕ). get_or text i 0) (sym one)
+      ∙ next_byte text word rest is.whole in
       low_is_no_digit _ is.ends (subst (IsInRange 48 57) here digit)
 ]
 
 -- digits that were read are those of the word
-pub still_within : (text word rest : List ℕ) (n i number : ℕ) → IsAhead text word rest n → HasRead text i number → i ≤ length text → i ≤ length word
+pub still_within : (text word rest : List ℕ) (n i number : ℕ) → IsAhead text word rest n → HasRead text i number
+    → i ≤ length text → i ≤ length word
 still_within text word rest n i number is so_far inside = elim (cases_lt (length word) i) [
   | inl past ↦
-      let digit = digit_at (take i text) (length word) so_far.digits (omega (arith, length-take-le i text inside, past)) in
-      let here : get_or (take i text) (length word) 0 ≡ get_or rest 0 0 = get_or-take i text (length word) 0 past ∙ next_byte text word rest is.whole in
+      let digit = digit_at (take i text) (length word) so_far.digits
+      (omega (arith, length-take-le i text inside, past)) in
+      let here : get_or (take i text) (length word) 0 ≡ get_or rest 0 0 = get_or-take i text (length word) 0 past
+      ∙ next_byte text word rest is.whole in
       absurd (low_is_no_digit _ is.ends (subst (IsInRange 48 57) here digit))
   | inr within ↦ within
 ]
 
 -- the same digits were read of the word
-of_the_word : (text word rest : List ℕ) (i number : ℕ) → text ≡ word ++ rest → i ≤ length word → HasRead text i number → HasRead word i number
+of_the_word : (text word rest : List ℕ) (i number : ℕ) → text ≡ word ++ rest → i ≤ length word → HasRead text i number
+    → HasRead word i number
 of_the_word text word rest i number whole within so_far = record {
   digits = subst (AllDigits 10) (front_of text word rest i whole within) so_far.digits;
   value = so_far.value ∙ ap (digits_value 10) (front_of text word rest i whole within);
@@ -188,21 +217,26 @@ of_the_word text word rest i number whole within so_far = record {
 }
 
 -- one more digit is one of the word
-pub one_more_within : (text word rest : List ℕ) (n i number : ℕ) → IsAhead text word rest n → HasRead text i number → i < length text
+pub one_more_within : (text word rest : List ℕ) (n i number : ℕ) → IsAhead text word rest n → HasRead text i number
+    → i < length text
     → IsInRange 48 57 (get_or text i 0) → i < length word
 one_more_within text word rest n i number is so_far inside digit = elim (cases_lt i (length word)) [
   | inl within ↦ within
   | inr past ↦
-      let at : i ≡ length word = omega (arith, past, still_within text word rest n i number is so_far (omega (arith, inside))) in
-      absurd (low_is_no_digit _ is.ends (subst (IsInRange 48 57) (ap (λ (k : ℕ). get_or text k 0) at ∙ next_byte text word rest is.whole) digit))
+      let at : i ≡ length word =
+      omega (arith, past, still_within text word rest n i number is so_far (omega (arith, inside))) in
+      absurd (low_is_no_digit _ is.ends
+      (subst (IsInRange 48 57) (ap (λ (k : ℕ). get_or text k 0) at ∙ next_byte text word rest is.whole) digit))
 ]
 
-pub not_too_large : (text word rest : List ℕ) (n i number : ℕ) → IsAhead text word rest n → HasRead text i number → i < length text
+pub not_too_large : (text word rest : List ℕ) (n i number : ℕ) → IsAhead text word rest n → HasRead text i number
+    → i < length text
     → IsInRange 48 57 (get_or text i 0) → 2 ^ 64 ≤ number * 10 + (get_or text i 0 - 48) → ⊥
 not_too_large text word rest n i number is so_far inside digit large =
     let within = one_more_within text word rest n i number is so_far inside digit in
     let byte = front_byte text word rest i is.whole within in
-    no_longer_none _ _ is.spells (too_large_here word i number within (of_the_word text word rest i number is.whole (omega (arith, within)) so_far)
+    no_longer_none _ _ is.spells
+    (too_large_here word i number within (of_the_word text word rest i number is.whole (omega (arith, within)) so_far)
     (subst (IsInRange 48 57) byte digit) (subst (λ (b : ℕ). 2 ^ 64 ≤ number * 10 + (b - 48)) byte large))
 
 -- the word that was read, and what stands behind it
@@ -210,25 +244,31 @@ pub record IsFound (text rest : List ℕ) (n i number : ℕ) : Type 0 where
   pub same : number ≡ n
   pub behind : drop i text ≡ rest
 
-pub number_found : (text word rest : List ℕ) (n i number : ℕ) → IsAhead text word rest n → HasRead text i number → i ≤ length text
+pub number_found : (text word rest : List ℕ) (n i number : ℕ) → IsAhead text word rest n → HasRead text i number
+    → i ≤ length text
     → (i < length text → IsInRange 48 57 (get_or text i 0) → ⊥) → IsFound text rest n i number
 number_found text word rest n i number is so_far inside no_digit =
     let within = still_within text word rest n i number is so_far inside in
     let at : i ≡ length word = elim (cases_lt i (length word)) [
       | inl less ↦
           let longer : length text ≡ length word + length rest = ap length is.whole ∙ length-append word rest in
-          absurd (no_digit (omega (arith, less, longer)) (subst (IsInRange 48 57) (sym (front_byte text word rest i is.whole less)) (spelled_digit word n i is.spells less)))
+          absurd (no_digit (omega (arith, less, longer))
+          (subst (IsInRange 48 57) (sym (front_byte text word rest i is.whole less))
+          (spelled_digit word n i is.spells less)))
       | inr not_less ↦ omega (arith, not_less, within)
     ] in
-    let read : HasRead word (length word) number = subst (λ (k : ℕ). HasRead word k number) at (of_the_word text word rest i number is.whole within so_far) in
-    let value = all_read word number (spelled_some word n is.spells) (λ long first. no_longer_none _ _ is.spells (leading_zero word long first)) read in
+    let read : HasRead word (length word) number = subst (λ (k : ℕ). HasRead word k number) at
+    (of_the_word text word rest i number is.whole within so_far) in
+    let value = all_read word number (spelled_some word n is.spells)
+    (λ long first. no_longer_none _ _ is.spells (leading_zero word long first)) read in
     record {
       same = same_Some number n (sym value ∙ is.spells);
       behind = ap (λ (k : ℕ). drop k text) at ∙ ap (drop (length word)) is.whole ∙ drop-append_seam word rest;
     }
 
 -- something was read, since a digit stands first
-pub some_read : (text : List ℕ) (i : ℕ) → IsInRange 48 57 (get_or text 0 0) → (i < length text → IsInRange 48 57 (get_or text i 0) → ⊥) → 0 < i
+pub some_read : (text : List ℕ) (i : ℕ) → IsInRange 48 57 (get_or text 0 0)
+    → (i < length text → IsInRange 48 57 (get_or text i 0) → ⊥) → 0 < i
 some_read [] zero first none = absurd (omega (arith, first.0))
 some_read (byte ∷ text) zero first none = absurd (none (omega arith) first)
 some_read text (suc i) first none = omega arith
@@ -242,7 +282,8 @@ number_begins text i number some inside so_far no_zero =
     let plain : 1 < length (take i text) → get_or (take i text) 0 0 ≡ 48 → ⊥ =
     λ more first.
     let second = digit_at (take i text) 1 so_far.digits more in
-    no_zero (sym (get_or-take i text 0 0 (omega (arith, some))) ∙ first) (subst (IsInRange 48 57) (get_or-take i text 1 0 (omega (arith, more, long))) second) in
+    no_zero (sym (get_or-take i text 0 0 (omega (arith, some))) ∙ first)
+    (subst (IsInRange 48 57) (get_or-take i text 1 0 (omega (arith, more, long))) second) in
     record {
       word = take i text;
       whole = sym (take-append-drop i text);
@@ -255,7 +296,8 @@ number_begins text i number some inside so_far no_zero =
 
 -- ---- all bytes as one word
 
-pub whole_number : (bytes rest : List ℕ) (n : ℕ) → Begins number_at bytes n rest → length rest ≡ 0 → number_at bytes ≡ Some n
+pub whole_number : (bytes rest : List ℕ) (n : ℕ) → Begins number_at bytes n rest → length rest ≡ 0
+    → number_at bytes ≡ Some n
 whole_number bytes [] n begins none = ap number_at (begins.whole ∙ append-nil begins.word) ∙ begins.reads
 whole_number bytes (byte ∷ rest) n begins none = absurd (omega arith)
 

@@ -1,5 +1,6 @@
 -- A token is read as it was spelled, and only so.
-use Rattle.std.proofs.Common.{◌≡◌, ℕ, ◌<◌, ◌≤◌, length, get_or, drop, ◌++◌, inl, inr, Bool, true, false, eqb, List, [], ◌∷◌, Option, Some, None, refl, sym, ap, subst, ◌∙◌, decimal, arith, cond}
+use Rattle.std.proofs.Common.{◌≡◌, ℕ, ◌<◌, ◌≤◌, length, get_or, drop, ◌++◌, inl, inr, Bool, true, false, eqb, List, []}
+use Rattle.std.proofs.Common.{◌∷◌, Option, Some, None, refl, sym, ap, subst, ◌∙◌, decimal, arith, cond}
 use Rattle.std.specs.Prelude.{IfSome}
 use Rattle.std.specs.Fmt.{digits}
 use Rattle.std.specs.Int.{IsInRange}
@@ -17,11 +18,13 @@ use Rattle.brc_text.specs.Numbers.{number_at}
 use Rattle.brc_text.specs.Keywords.{keyword, keyword_at}
 use Rattle.brc_text.specs.Tokens.{◌>>=◌, or_else, letter, letter_at, token, place_at, token_at, IsRead}
 use Rattle.brc_text.specs.Words.{EndsWord, Begins}
-use Rattle.brc_text.proofs.NumberLaws.{number_again, number_takes, not_a_digit, no_bytes, digit_in, digit_out, low_is_no_digit, front_byte, next_byte}
+use Rattle.brc_text.proofs.NumberLaws.{number_again, number_takes, not_a_digit, no_bytes, digit_in, digit_out}
+use Rattle.brc_text.proofs.NumberLaws.{low_is_no_digit, front_byte, next_byte}
 use Rattle.brc_text.proofs.KeywordLaws.{same_some, keyword_some, keyword_again, keyword_takes, no_keyword}
 
 -- the value of a reading that gave one
-pub some_bind : {A B : Type 0} (o : Option A) (f : A → Option B) (y : B) → (o >>= f) ≡ Some y → (x : A) × (o ≡ Some x) × (f x ≡ Some y)
+pub some_bind : {A B : Type 0} (o : Option A) (f : A → Option B) (y : B) → (o >>= f) ≡ Some y
+    → (x : A) × (o ≡ Some x) × (f x ≡ Some y)
 some_bind None f y e = absurd cc
 some_bind (Some x) f y e = (x, refl, e)
 
@@ -32,10 +35,15 @@ letter_again letters.Frame = refl
 letter_again _ = refl
 
 letter_takes : (byte : ℕ) (l : Letter) → letter_at byte ≡ Some l → byte ≡ letter l
-letter_takes byte l e = by_tests (eqb byte 102) (eqb byte 101) (eqb byte 105) (eqb byte 119) (eqb byte 113) refl refl refl refl refl e
+letter_takes byte l e = by_tests (eqb byte 102) (eqb byte 101) (eqb byte 105) (eqb byte 119) (eqb byte 113) refl refl
+    refl refl refl e
   where
-    by_tests : (a b c d g : Bool) → eqb byte 102 ≡ a → eqb byte 101 ≡ b → eqb byte 105 ≡ c → eqb byte 119 ≡ d → eqb byte 113 ≡ g
-        → cond a (Some letters.Frame) (cond b (Some letters.Entry) (cond c (Some letters.Immortal) (cond d (Some letters.Work) (cond g (Some letters.Popped) None)))) ≡ Some l → byte ≡ letter l
+    by_tests : (a b c d g : Bool) → eqb byte 102 ≡ a → eqb byte 101 ≡ b → eqb byte 105 ≡ c → eqb byte 119 ≡ d
+        → eqb byte 113 ≡ g
+        → cond a (Some letters.Frame)
+        (cond b (Some letters.Entry)
+        (cond c (Some letters.Immortal) (cond d (Some letters.Work) (cond g (Some letters.Popped) None)))) ≡ Some l
+        → byte ≡ letter l
     by_tests true b c d g p q r s u e = eqb-true _ _ p ∙ ap letter (same_some e)
     by_tests false true c d g p q r s u e = eqb-true _ _ q ∙ ap letter (same_some e)
     by_tests false false true d g p q r s u e = eqb-true _ _ r ∙ ap letter (same_some e)
@@ -85,11 +93,15 @@ pub token_takes : (bytes : List ℕ) (t : Token) → token_at bytes ≡ Some t �
 unfolding token_at
 token_takes bytes t e = by_kind (number_at bytes) (place_at bytes) (keyword_at bytes) refl refl refl e
   where
-    by_kind : (n : Option ℕ) (p : Option Token) (k : Option Keyword) → number_at bytes ≡ n → place_at bytes ≡ p → keyword_at bytes ≡ k
-        → or_else (n >>= λ m. Some (tokens.Number m)) (or_else p (k >>= λ w. Some (tokens.Word w))) ≡ Some t → IsRead t × (bytes ≡ token t)
-    by_kind (Some n) p k hn hp hk e = subst (λ (u : Token). IsRead u × (bytes ≡ token u)) (same_some e) (number_takes bytes n hn)
+    by_kind : (n : Option ℕ) (p : Option Token) (k : Option Keyword) → number_at bytes ≡ n → place_at bytes ≡ p
+        → keyword_at bytes ≡ k
+        → or_else (n >>= λ m. Some (tokens.Number m)) (or_else p (k >>= λ w. Some (tokens.Word w))) ≡ Some t
+        → IsRead t × (bytes ≡ token t)
+    by_kind (Some n) p k hn hp hk e = subst (λ (u : Token). IsRead u × (bytes ≡ token u)) (same_some e)
+        (number_takes bytes n hn)
     by_kind None (Some u) k hn hp hk e = place_takes bytes t (hp ∙ e)
-    by_kind None None (Some w) hn hp hk e = subst (λ (u : Token). IsRead u × (bytes ≡ token u)) (same_some e) (tt, keyword_takes bytes w hk)
+    by_kind None None (Some w) hn hp hk e = subst (λ (u : Token). IsRead u × (bytes ≡ token u)) (same_some e)
+        (tt, keyword_takes bytes w hk)
     by_kind None None None hn hp hk e = absurd cc
 
 -- ---- its first two bytes say what a word can be
@@ -129,11 +141,15 @@ no_place_begins [] low = refl
 no_place_begins (byte ∷ ds) low = letter_at_none byte ds low
 
 -- a word that begins with a digit is a number or nothing
-pub digit_first : (bytes : List ℕ) → is_ascii_digit (get_or bytes 0 0) ≡ true → token_at bytes ≡ (number_at bytes >>= λ n. Some (tokens.Number n))
+pub digit_first : (bytes : List ℕ) → is_ascii_digit (get_or bytes 0 0) ≡ true
+    → token_at bytes ≡ (number_at bytes >>= λ n. Some (tokens.Number n))
 unfolding token_at
 digit_first bytes digit =
     let range = digit_in _ digit in
-    rw (no_place_begins bytes range.1, no_keyword bytes (λ k e. keyword_begins k (subst (λ (b : List ℕ). IsInRange 48 57 (get_or b 0 0)) e range)))
+    rw (
+      no_place_begins bytes range.1,
+      no_keyword bytes (λ k e. keyword_begins k (subst (λ (b : List ℕ). IsInRange 48 57 (get_or b 0 0)) e range)),
+    )
     (or_none (number_at bytes >>= λ n. Some (tokens.Number n)))
 
 no_digit_first : (bytes : List ℕ) → is_ascii_digit (get_or bytes 0 0) ≡ false → number_at bytes ≡ None
@@ -141,11 +157,15 @@ no_digit_first [] first = no_bytes [] refl
 no_digit_first (byte ∷ ds) first = not_a_digit (byte ∷ ds) 0 (omega arith) (digit_out byte first)
 
 -- one whose second byte alone is a digit is a place or nothing
-pub digit_second : (bytes : List ℕ) → is_ascii_digit (get_or bytes 0 0) ≡ false → is_ascii_digit (get_or bytes 1 0) ≡ true → token_at bytes ≡ place_at bytes
+pub digit_second : (bytes : List ℕ) → is_ascii_digit (get_or bytes 0 0) ≡ false
+    → is_ascii_digit (get_or bytes 1 0) ≡ true → token_at bytes ≡ place_at bytes
 unfolding token_at
 digit_second bytes other digit =
     let range = digit_in _ digit in
-    rw (no_digit_first bytes other, no_keyword bytes (λ k e. keyword_goes_on k (subst (λ (b : List ℕ). IsInRange 48 57 (get_or b 1 0)) e range)))
+    rw (
+      no_digit_first bytes other,
+      no_keyword bytes (λ k e. keyword_goes_on k (subst (λ (b : List ℕ). IsInRange 48 57 (get_or b 1 0)) e range)),
+    )
     (or_none (place_at bytes))
 
 no_digit_second : (bytes : List ℕ) → is_ascii_digit (get_or bytes 1 0) ≡ false → place_at bytes ≡ None
@@ -157,7 +177,8 @@ no_digit_second (byte ∷ ds) second = none_from (place_at (byte ∷ ds)) (λ t 
     none_some (sym (no_digit_first ds second) ∙ n.1))
 
 -- any other is a keyword or nothing
-pub digit_neither : (bytes : List ℕ) → is_ascii_digit (get_or bytes 0 0) ≡ false → is_ascii_digit (get_or bytes 1 0) ≡ false
+pub digit_neither : (bytes : List ℕ) → is_ascii_digit (get_or bytes 0 0) ≡ false
+    → is_ascii_digit (get_or bytes 1 0) ≡ false
     → token_at bytes ≡ (keyword_at bytes >>= λ k. Some (tokens.Word k))
 unfolding token_at
 digit_neither bytes first second = rw (no_digit_first bytes first, no_digit_second bytes second) refl
@@ -178,7 +199,8 @@ token_some word t e =
 -- the bytes of the text are those of the word
 pub first_alike : (text word rest : List ℕ) (t : Token) (b : Bool) → text ≡ word ++ rest → token_at word ≡ Some t
     → is_ascii_digit (get_or text 0 0) ≡ b → is_ascii_digit (get_or word 0 0) ≡ b
-first_alike text word rest t b whole e is = ap is_ascii_digit (sym (front_byte text word rest 0 whole (token_some word t e))) ∙ is
+first_alike text word rest t b whole e is =
+    ap is_ascii_digit (sym (front_byte text word rest 0 whole (token_some word t e))) ∙ is
 
 not_digit : (byte : ℕ) → byte ≤ 32 → is_ascii_digit byte ≡ false
 not_digit byte low = by_test (is_ascii_digit byte) refl
@@ -187,19 +209,22 @@ not_digit byte low = by_test (is_ascii_digit byte) refl
     by_test true e = absurd (low_is_no_digit byte low (digit_in byte e))
     by_test false e = e
 
-pub second_alike : (text word rest : List ℕ) (t : Token) (b : Bool) → text ≡ word ++ rest → EndsWord rest → token_at word ≡ Some t
+pub second_alike : (text word rest : List ℕ) (t : Token) (b : Bool) → text ≡ word ++ rest → EndsWord rest
+    → token_at word ≡ Some t
     → is_ascii_digit (get_or text 1 0) ≡ b → is_ascii_digit (get_or word 1 0) ≡ b
 second_alike text word rest t b whole ends e is = elim (cases_lt 1 (length word)) [
   | inl long ↦ ap is_ascii_digit (sym (front_byte text word rest 1 whole long)) ∙ is
   | inr short ↦
       let one : length word ≡ 1 = omega (arith, short, token_some word t e) in
-      let here : get_or text 1 0 ≡ get_or rest 0 0 = ap (λ (i : ℕ). get_or text i 0) (sym one) ∙ next_byte text word rest whole in
+      let here : get_or text 1 0 ≡ get_or rest 0 0 = ap (λ (i : ℕ). get_or text i 0) (sym one)
+      ∙ next_byte text word rest whole in
       let none : get_or word 1 0 ≡ 0 = get_or_past word 1 0 (omega (arith, one)) in
       ap is_ascii_digit none ∙ sym (not_digit _ ends) ∙ ap is_ascii_digit (sym here) ∙ is
 ]
 
 -- what is found is a token
-pub number_begins_token : (text rest : List ℕ) (n : ℕ) → Begins number_at text n rest → Begins token_at text (tokens.Number n) rest
+pub number_begins_token : (text rest : List ℕ) (n : ℕ) → Begins number_at text n rest
+    → Begins token_at text (tokens.Number n) rest
 number_begins_token text rest n begins =
     let is = number_takes begins.word n begins.reads in
     record { word = begins.word; whole = begins.whole; reads = ap token_at is.1 ∙ token_again (tokens.Number n) is.0 }
@@ -209,38 +234,47 @@ place_begins_token text rest t begins =
     let is = place_takes begins.word t begins.reads in
     record { word = begins.word; whole = begins.whole; reads = ap token_at is.1 ∙ token_again t is.0 }
 
-pub place_found : {B : Type 0} (found : Option (Token × B)) (now : B → List ℕ) (text : List ℕ) → IfSome found (λ f. Begins place_at text f.0 (now f.1))
+pub place_found : {B : Type 0} (found : Option (Token × B)) (now : B → List ℕ) (text : List ℕ)
+    → IfSome found (λ f. Begins place_at text f.0 (now f.1))
     → IfSome found (λ f. Begins token_at text f.0 (now f.1))
 place_found None now text h = tt
 place_found (Some f) now text h = place_begins_token text (now f.1) f.0 h
 
-pub keyword_begins_token : (text rest : List ℕ) (k : Keyword) → Begins keyword_at text k rest → Begins token_at text (tokens.Word k) rest
+pub keyword_begins_token : (text rest : List ℕ) (k : Keyword) → Begins keyword_at text k rest
+    → Begins token_at text (tokens.Word k) rest
 keyword_begins_token text rest k begins =
     let is = keyword_takes begins.word k begins.reads in
     record { word = begins.word; whole = begins.whole; reads = ap token_at is ∙ token_again (tokens.Word k) tt }
 
 -- a token is a number, a place or a keyword by the text's first two bytes
-pub number_first : (text word rest : List ℕ) (t : Token) → text ≡ word ++ rest → token_at word ≡ Some t → is_ascii_digit (get_or text 0 0) ≡ true
+pub number_first : (text word rest : List ℕ) (t : Token) → text ≡ word ++ rest → token_at word ≡ Some t
+    → is_ascii_digit (get_or text 0 0) ≡ true
     → (n : ℕ) × (number_at word ≡ Some n) × (tokens.Number n ≡ t)
 number_first text word rest t whole e digit =
-    let read = some_bind (number_at word) (λ n. Some (tokens.Number n)) t (sym (digit_first word (first_alike text word rest t true whole e digit)) ∙ e) in
+    let read = some_bind (number_at word) (λ n. Some (tokens.Number n)) t
+    (sym (digit_first word (first_alike text word rest t true whole e digit)) ∙ e) in
     (read.0, read.1, same_some read.2)
 
-pub place_second : (text word rest : List ℕ) (t : Token) → text ≡ word ++ rest → EndsWord rest → token_at word ≡ Some t → is_ascii_digit (get_or text 0 0) ≡ false
+pub place_second : (text word rest : List ℕ) (t : Token) → text ≡ word ++ rest → EndsWord rest → token_at word ≡ Some t
+    → is_ascii_digit (get_or text 0 0) ≡ false
     → is_ascii_digit (get_or text 1 0) ≡ true → place_at word ≡ Some t
 place_second text word rest t whole ends e first second =
-    sym (digit_second word (first_alike text word rest t false whole e first) (second_alike text word rest t true whole ends e second)) ∙ e
+    sym (digit_second word (first_alike text word rest t false whole e first)
+    (second_alike text word rest t true whole ends e second)) ∙ e
 
-pub keyword_else : (text word rest : List ℕ) (t : Token) → text ≡ word ++ rest → EndsWord rest → token_at word ≡ Some t → is_ascii_digit (get_or text 0 0) ≡ false
+pub keyword_else : (text word rest : List ℕ) (t : Token) → text ≡ word ++ rest → EndsWord rest → token_at word ≡ Some t
+    → is_ascii_digit (get_or text 0 0) ≡ false
     → is_ascii_digit (get_or text 1 0) ≡ false → (k : Keyword) × (keyword_at word ≡ Some k) × (tokens.Word k ≡ t)
 keyword_else text word rest t whole ends e first second =
     let read = some_bind (keyword_at word) (λ k. Some (tokens.Word k)) t
-    (sym (digit_neither word (first_alike text word rest t false whole e first) (second_alike text word rest t false whole ends e second)) ∙ e) in
+    (sym (digit_neither word (first_alike text word rest t false whole e first)
+    (second_alike text word rest t false whole ends e second)) ∙ e) in
     (read.0, read.1, same_some read.2)
 
 -- ---- the place with which a text begins
 
-pub place_begins : (text rest : List ℕ) (l : Letter) (n : ℕ) → 0 < length text → letter_at (get_or text 0 0) ≡ Some l → Begins number_at (drop 1 text) n rest
+pub place_begins : (text rest : List ℕ) (l : Letter) (n : ℕ) → 0 < length text → letter_at (get_or text 0 0) ≡ Some l
+    → Begins number_at (drop 1 text) n rest
     → Begins place_at text (tokens.Place l n) rest
 unfolding place_at
 place_begins [] rest l n some letter begins = absurd (omega arith)
@@ -261,7 +295,8 @@ pub record IsPlaceAhead (text rest : List ℕ) (t : Token) : Type 0 where
   pub behind : drop 1 text ≡ digits_are ++ rest
   pub is : tokens.Place letter_is number ≡ t
 
-pub place_parts : (text word rest : List ℕ) (t : Token) → text ≡ word ++ rest → place_at word ≡ Some t → IsPlaceAhead text rest t
+pub place_parts : (text word rest : List ℕ) (t : Token) → text ≡ word ++ rest → place_at word ≡ Some t
+    → IsPlaceAhead text rest t
 unfolding place_at
 place_parts text [] rest t whole e = absurd cc
 place_parts text (byte ∷ ds) rest t whole e =

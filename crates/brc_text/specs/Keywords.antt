@@ -1,4 +1,5 @@
-use Rattle.std.specs.Prelude.{ℕ, zero, suc, ◌+◌, ◌-◌, ◌*◌, ◌/◌, ◌^◌, nat_le, Bool, ◌&&◌, List, [], ◌∷◌, length, Option, ◌==◌, if◌then◌else◌, codes, find, slice_index}
+use Rattle.std.specs.Prelude.{ℕ, zero, suc, ◌+◌, ◌-◌, ◌*◌, ◌/◌, ◌^◌, nat_le, Bool, ◌&&◌, List, [], ◌∷◌, length, Option}
+use Rattle.std.specs.Prelude.{◌==◌, if◌then◌else◌, codes, find, slice_index}
 use Rattle.std.specs.Str.{bytes_eq}
 use Rattle.brc_text.specs.declared.keyword.Keyword.{Keyword}
 use Rattle.brc_text.specs.declared.keyword.Keyword.TheVariants as words
@@ -107,7 +108,8 @@ candidates_at first =
     else if first == 104 then words.InHand ∷ words.Heap ∷ words.Hand ∷ words.Held ∷ []
     else if first == 105 then words.Int ∷ []
     else if first == 107 then words.Keep ∷ []
-    else if first == 108 then words.Local ∷ words.Last ∷ words.Lock ∷ words.List ∷ words.Locked ∷ words.Ledger ∷ words.Left ∷ []
+    else if first == 108 then words.Local ∷ words.Last ∷ words.Lock ∷ words.List ∷ words.Locked ∷ words.Ledger
+    ∷ words.Left ∷ []
     else if first == 109 then words.Mailbox ∷ words.Merged ∷ []
     else if first == 110 then words.Nudge ∷ []
     else if first == 111 then words.Offer ∷ words.Open ∷ words.Object ∷ words.Over ∷ words.Offered ∷ words.Opening ∷ []

@@ -1,4 +1,5 @@
-use Rattle.std.specs.Prelude.{ℕ, ◌^◌, ◌<◌, List, [], ◌∷◌, Option, Some, None, ◌==◌, if◌then◌else◌, decimal, option_and_then}
+use Rattle.std.specs.Prelude.{ℕ, ◌^◌, ◌<◌, List, [], ◌∷◌, Option, Some, None, ◌==◌, if◌then◌else◌, decimal}
+use Rattle.std.specs.Prelude.{option_and_then}
 use Rattle.brc_text.specs.declared.token.Letter.{Letter}
 use Rattle.brc_text.specs.declared.token.Letter.TheVariants as letters
 use Rattle.brc_text.specs.declared.token.Token.{Token}

@@ -1,5 +1,5 @@
-//! Lines that begin with a head of any bytes: one of words, and one of numbers, as many as there are. Both are put together on
-//! the stack; `specs/Headed.antt` has their texts.
+//! Lines that begin with a head of any bytes: one of words, and one of numbers, as many as there are. Both are put
+//! together on the stack; `specs/Headed.antt` has their texts.
 
 ghost use Rattle.std.specs.Prelude.{◌≡◌, ◌<◌, ◌≤◌, ◌++◌, ◌∷◌, OnOk, length, decimal};
 ghost use Rattle.arrayvec.specs.ArrayVec.{array_vec_len};
@@ -12,8 +12,8 @@ use crate::token::Token;
 use brc_words::Fault;
 use std::io::Write;
 
-/// Writes one line: the head, of at most 21 bytes, and each of at most 7 words behind a space. It is put together on the stack
-/// and written at once; the first error ends it.
+/// Writes one line: the head, of at most 21 bytes, and each of at most 7 words behind a space. It is put together on
+/// the stack and written at once; the first error ends it.
 pub fn put_headed_line<W: Write>(writer: &mut W, head: &[u8], words: &[Token]) -> Result<(), Fault>
     requires head { length head.now ≤ 21 }
     requires words { length words.now ≤ 7 }
@@ -55,8 +55,8 @@ fn add_number<W: Write>(writer: &mut W, text: &mut LineText, number: u32) -> Res
     Ok(())
 }
 
-/// Writes one line: the head, of at most 21 bytes, and each number behind a space. It is put together on the stack and written at
-/// its end, and before that where the next number might not have room; the first error ends it.
+/// Writes one line: the head, of at most 21 bytes, and each number behind a space. It is put together on the stack and
+/// written at its end, and before that where the next number might not have room; the first error ends it.
 pub fn put_numbers_line<W: Write>(writer: &mut W, head: &[u8], numbers: &[u32]) -> Result<(), Fault>
     requires { length head.now ≤ 21 }
 

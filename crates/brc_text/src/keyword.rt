@@ -1,6 +1,7 @@
 //! Keywords: the fixed words of the trace and of the world text.
 
-ghost use Rattle.std.specs.Prelude.{◌≡◌, ◌<◌, ◌-◌, ◌*◌, ℕ, List, ◌++◌, Some, IfSome, IsSomeAnd, length, find, slice_index, nat_le};
+ghost use Rattle.std.specs.Prelude.{◌≡◌, ◌<◌, ◌-◌, ◌*◌, ℕ, List, ◌++◌, Some, IfSome, IsSomeAnd, length, find};
+ghost use Rattle.std.specs.Prelude.{slice_index, nat_le};
 ghost use Rattle.brc_text.specs.declared.keyword.Keyword.{Keyword as TheKeyword};
 ghost use Rattle.brc_text.specs.Keywords.{keyword, packed, bytes_ahead, stands_ahead, candidates_at, keyword_at};
 ghost use Rattle.brc_text.specs.Words.{Begins, EndsWord};
@@ -259,7 +260,8 @@ impl Keyword {
         }
     }
 
-    /// By how much a text's first eight bytes, as one number, are shifted so that only those of this word's length are left.
+    /// By how much a text's first eight bytes, as one number, are shifted so that only those of this word's length are
+    /// left.
     #[inline(always)]
     #[tactic(auto, using(crate::proofs::KeywordLaws::keyword_short, crate::proofs::KeywordLaws::keyword_some))]
     fn shift(self) -> u32
@@ -459,7 +461,8 @@ fn sought_by(first: u8, text: &[u8], front: u64) -> Option<Keyword>
 #[inline(always)]
 pub(crate) fn keyword_ahead(text: &[u8]) -> Option<(Keyword, &[u8])>
     ensures found { IfSome result (λ f. Begins keyword_at text.now f.0 f.1.now) }
-    ensures only { (word rest : List ℕ) (k : TheKeyword) → text.now ≡ word ++ rest → EndsWord rest → keyword_at word ≡ Some k →
+    ensures only { (word rest : List ℕ) (k : TheKeyword) → text.now ≡ word ++ rest → EndsWord rest
+        → keyword_at word ≡ Some k →
         IsSomeAnd result (λ f. (f.0 ≡ k) × (f.1.now ≡ rest)) }
 {
     let [first, ..] = text else {

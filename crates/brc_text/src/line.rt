@@ -60,8 +60,8 @@ impl Words {
 
     /// Reads the first line of the text: 1 to 8 words with one space between them, and a line feed. Answers what
     /// stands behind it; none where the text begins with no such line.
-    // Inlined, like its one caller in each loop over lines, since an answer that goes through memory costs more than the
-    // reading of a word.
+    // Inlined, like its one caller in each loop over lines, since an answer that goes through memory costs more than
+    // the reading of a word.
     #[inline(always)]
     pub fn read<'t>(&mut self, text: &'t [u8]) -> Option<&'t [u8]>
         ensures { MatchOption result (first_line 8 text.now ≡ None)

@@ -51,7 +51,8 @@ fn letter_of(byte: u8) -> Option<Letter>
 #[inline(always)]
 fn place_ahead(text: &[u8]) -> Option<(Token, &[u8])>
     ensures found { IfSome result (λ f. Begins place_at text.now f.0 f.1.now) }
-    ensures only { (word rest : List ℕ) (t : TheToken) → text.now ≡ word ++ rest → EndsWord rest → place_at word ≡ Some t →
+    ensures only { (word rest : List ℕ) (t : TheToken) → text.now ≡ word ++ rest → EndsWord rest
+        → place_at word ≡ Some t →
         IsSomeAnd result (λ f. (f.0 ≡ t) × (f.1.now ≡ rest)) }
 {
     let [first, digits @ ..] = text else {
@@ -70,7 +71,8 @@ fn place_ahead(text: &[u8]) -> Option<(Token, &[u8])>
 #[inline(always)]
 pub(crate) fn token_ahead(text: &[u8]) -> Option<(Token, &[u8])>
     ensures found { IfSome result (λ f. Begins token_at text.now f.0 f.1.now) }
-    ensures only { (word rest : List ℕ) (t : TheToken) → text.now ≡ word ++ rest → EndsWord rest → token_at word ≡ Some t →
+    ensures only { (word rest : List ℕ) (t : TheToken) → text.now ≡ word ++ rest → EndsWord rest
+        → token_at word ≡ Some t →
         IsSomeAnd result (λ f. (f.0 ≡ t) × (f.1.now ≡ rest)) }
 {
     // The first two bytes say which of the three a word can be.

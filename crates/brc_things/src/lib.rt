@@ -1,8 +1,8 @@
-//! Objects as an interpreter needs them: None, False, True, integers, texts, lists, dictionaries and mailboxes, made over a
-//! frame.
+//! Objects as an interpreter needs them: None, False, True, integers, texts, lists, dictionaries and mailboxes, made
+//! over a frame.
 //!
-//! What each maker does is what `brc_count` says of `Frame::immortal` and `Frame::born`; here stands which of the two it is, and
-//! with which contents (`specs/Makers.antt`).
+//! What each maker does is what `brc_count` says of `Frame::immortal` and `Frame::born`; here stands which of the two
+//! it is, and with which contents (`specs/Makers.antt`).
 #![tactic(auto)]
 
 mod makers;

@@ -38,7 +38,8 @@ pub fn truth<H: Home<A>, A: Allocator>(
 ) -> Result<Handle<A>, Fault>
     requires unlocked { IsUnlocked frame.old }
     ensures heap { frame.new.heap ≡ frame.old.heap }
-    ensures given { IfOk result (Given frame.old frame.new (sources.Immortal (truth_cell is_true)) (truth_cell is_true)) }
+    ensures given { IfOk result (Given frame.old frame.new (sources.Immortal (truth_cell is_true))
+        (truth_cell is_true)) }
     ensures refused { IfErr result (Refused frame.old) }
     ensures unchanged { OnErr result (IsAsBefore frame.old frame.new) }
 
@@ -63,8 +64,8 @@ fn small(number: i64) -> Option<u32>
     None
 }
 
-/// An integer: the immortal one from -5 to 256, else a new object. The faults of a new object come in the order FrameFull,
-/// LedgerFull, OutOfMemory, HeapFull.
+/// An integer: the immortal one from -5 to 256, else a new object. The faults of a new object come in the order
+/// FrameFull, LedgerFull, OutOfMemory, HeapFull.
 #[inline(always)]
 pub fn new_int<H: Home<A>, A: Allocator>(
     alloc: A,

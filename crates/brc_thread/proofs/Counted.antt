@@ -19,7 +19,8 @@ use Rattle.law_steps.specs.Joining.{next_thread, registering, gathering}
 use Rattle.law_rule.specs.declared.told.Moved.TheVariants.{Nothing}
 use Rattle.brc_count.specs.declared.ledger.Ledger.{Ledger}
 use Rattle.brc_thread.specs.Threads.{ledger_of}
-use Rattle.brc_thread.specs.Counting.{registers, bears, frees, registrations, gatherings, births_of_all, frees_of_all, in_u32, in_u64, Counts}
+use Rattle.brc_thread.specs.Counting.{registers, bears, frees, registrations, gatherings, births_of_all, frees_of_all}
+use Rattle.brc_thread.specs.Counting.{in_u32, in_u64, Counts}
 
 allocs_step : (s : Step) (n : ℕ) → allocs_after s n ≡ n + one (is_birth s)
 allocs_step (Birth c kind k) n = refl
@@ -38,25 +39,31 @@ apart_frees : (part : Part) (s : Step) → meant part s ≡ None → is_free_ste
 apart_frees part (Free c) none = cc
 apart_frees part _ none = refl
 
-allocs_by : (n : ℕ) (part : Part) (s : Step) (number : ℕ) (entries : List ℕ) (o : Option ℕ) → (o ≡ None → is_birth s ≡ false)
+allocs_by : (n : ℕ) (part : Part) (s : Step) (number : ℕ) (entries : List ℕ) (o : Option ℕ)
+    → (o ≡ None → is_birth s ≡ false)
     → (part_by n part s number entries o).row.allocs ≡ part.row.allocs + one (is_birth s)
 allocs_by n part s number entries None apart = omega (arith, ap one (apart refl))
 allocs_by n part s number entries (Some c) apart = allocs_step s part.row.allocs
 
-frees_by : (n : ℕ) (part : Part) (s : Step) (number : ℕ) (entries : List ℕ) (o : Option ℕ) → (o ≡ None → is_free_step s ≡ false)
+frees_by : (n : ℕ) (part : Part) (s : Step) (number : ℕ) (entries : List ℕ) (o : Option ℕ)
+    → (o ≡ None → is_free_step s ≡ false)
     → (part_by n part s number entries o).row.frees ≡ part.row.frees + one (is_free_step s)
 frees_by n part s number entries None apart = omega (arith, ap one (apart refl))
 frees_by n part s number entries (Some c) apart = frees_step s part.row.frees
 
-allocs_more : (n : ℕ) (x : Told) (log : List Told) → (part_seen n (x ∷ log)).row.allocs ≡ (part_seen n log).row.allocs + bears x
+allocs_more : (n : ℕ) (x : Told) (log : List Told)
+    → (part_seen n (x ∷ log)).row.allocs ≡ (part_seen n log).row.allocs + bears x
 allocs_more n (Did s number moved) log =
-    allocs_by n (part_seen n log) s number (entries_found moved) (meant (part_seen n log) s) (apart_bears (part_seen n log) s)
+    allocs_by n (part_seen n log) s number (entries_found moved) (meant (part_seen n log) s)
+    (apart_bears (part_seen n log) s)
 allocs_more n (Saw word number) log = omega arith
 allocs_more n (Lost word number) log = omega arith
 
-frees_more : (n : ℕ) (x : Told) (log : List Told) → (part_seen n (x ∷ log)).row.frees ≡ (part_seen n log).row.frees + frees x
+frees_more : (n : ℕ) (x : Told) (log : List Told)
+    → (part_seen n (x ∷ log)).row.frees ≡ (part_seen n log).row.frees + frees x
 frees_more n (Did s number moved) log =
-    frees_by n (part_seen n log) s number (entries_found moved) (meant (part_seen n log) s) (apart_frees (part_seen n log) s)
+    frees_by n (part_seen n log) s number (entries_found moved) (meant (part_seen n log) s)
+    (apart_frees (part_seen n log) s)
 frees_more n (Saw word number) log = omega arith
 frees_more n (Lost word number) log = omega arith
 
@@ -85,10 +92,15 @@ next_counted v = rows_counted v.log
 
 -- ---- one more is registered, and one more gathered
 
-pub counts_registered : (v : View) (registered gathered : ℕ) (ledger : Ledger) → Counts v registered gathered ledger → next_thread v ≤ MOST_THREADS
+pub counts_registered : (v : View) (registered gathered : ℕ) (ledger : Ledger) → Counts v registered gathered ledger
+    → next_thread v ≤ MOST_THREADS
     → Counts (registering v) (registered + 1) gathered ledger
 counts_registered v registered gathered ledger counts few = record {
-  all_registered = omega (arith, counts.all_registered, sum_by-cons registers (Did (Register (next_thread v)) 0 Nothing) v.log);
+  all_registered = omega (
+    arith,
+    counts.all_registered,
+    sum_by-cons registers (Did (Register (next_thread v)) 0 Nothing) v.log,
+  );
   few = omega (arith, counts.all_registered, next_counted v, few);
   all_gathered = counts.all_gathered;
   allocs = counts.allocs;
@@ -101,7 +113,8 @@ within_u32 n m k is more = omega (arith, is, more)
 within_u64 : (n m a k : ℕ) → n ≡ in_u64 m → k ≡ min (n + a) 18446744073709551615 → k ≡ in_u64 (a + m)
 within_u64 n m a k is more = omega (arith, is, more)
 
-pub counts_gathered : (v w : View) (registered gathered : ℕ) (ledger : Ledger) (n more allocs given_back : ℕ) (own : Ledger)
+pub counts_gathered : (v w : View) (registered gathered : ℕ) (ledger : Ledger) (n more allocs given_back : ℕ)
+    (own : Ledger)
     → Counts v registered gathered ledger → own ≡ ledger_of n w.log
     → more ≡ min (gathered + 1) 4294967295 → allocs ≡ min (ledger.allocs + own.allocs) 18446744073709551615
     → given_back ≡ min (ledger.frees + own.frees) 18446744073709551615

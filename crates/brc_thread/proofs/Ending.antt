@@ -29,53 +29,66 @@ use Rattle.brc_thread.proofs.Counted.{births_told, frees_told, next_counted}
 use Rattle.brc_thread.proofs.Everyone.{everyone, all_added_up}
 
 -- a registered thread's part of a run's world is what its own steps tell
-pub own_part : (n limit : ℕ) (run : Run) (t : ℕ) → AreOptions n limit → AreItems (opening n limit) (items_of run) → is_registered (world n limit run) t ≡ true
+pub own_part : (n limit : ℕ) (run : Run) (t : ℕ) → AreOptions n limit → AreItems (opening n limit) (items_of run)
+    → is_registered (world n limit run) t ≡ true
     → IsPart (world n limit run) t (part_seen n (own_of t run))
 own_part n limit run t options items registered =
-    subst (λ told. IsPart (world n limit run) t (part_of n told)) (own_items t run) (parts_are_told n limit (items_of run) t options items registered)
+    subst (λ told. IsPart (world n limit run) t (part_of n told)) (own_items t run)
+    (parts_are_told n limit (items_of run) t options items registered)
 
 -- so is what that world counts for it
-own_ledger : (n limit : ℕ) (run : Run) (t : ℕ) → AreOptions n limit → AreItems (opening n limit) (items_of run) → is_registered (world n limit run) t ≡ true
+own_ledger : (n limit : ℕ) (run : Run) (t : ℕ) → AreOptions n limit → AreItems (opening n limit) (items_of run)
+    → is_registered (world n limit run) t ≡ true
     → ledger_at (world n limit run) t ≡ ledger_of n (own_of t run)
 own_ledger n limit run t options items registered =
-    ap (λ (row : Row). record { allocs = row.allocs; frees = row.frees }) (own_part n limit run t options items registered).row_is
+    ap (λ (row : Row). record { allocs = row.allocs; frees = row.frees })
+    (own_part n limit run t options items registered).row_is
 
 -- for the root it counts nothing
-root_ledger : (n limit : ℕ) (run : Run) → AreItems (opening n limit) (items_of run) → Histories (opening n limit) (events_of (items_of run))
+root_ledger : (n limit : ℕ) (run : Run) → AreItems (opening n limit) (items_of run)
+    → Histories (opening n limit) (events_of (items_of run))
     → ledger_at (world n limit run) 0 ≡ record { allocs = 0; frees = 0 }
 root_ledger n limit run items told =
-    let nothing = root_counts_nothing (opening n limit) (events_of (items_of run)) (events_run (opening n limit) (items_of run) items) in
+    let nothing = root_counts_nothing (opening n limit) (events_of (items_of run))
+    (events_run (opening n limit) (items_of run) items) in
     ap (λ (k : ℕ). record { allocs = k; frees = (row_at (world n limit run) 0).frees }) (told.allocs 0 ∙ nothing.0)
     ∙ ap (λ (k : ℕ). record { allocs = 0; frees = k }) (told.frees 0 ∙ nothing.1)
 
 -- ---- as many as were registered
 
-all_of_them : (n limit : ℕ) (run : Run) (root : View) → AreOptions n limit → AreItems (opening n limit) (items_of run) → root.gathered ≡ lives_of run
-    → length (world n limit run).rows ≡ next_thread root → registrations root ≡ gatherings root → AllGathered (world n limit run)
+all_of_them : (n limit : ℕ) (run : Run) (root : View) → AreOptions n limit → AreItems (opening n limit) (items_of run)
+    → root.gathered ≡ lives_of run
+    → length (world n limit run).rows ≡ next_thread root → registrations root ≡ gatherings root
+    → AllGathered (world n limit run)
 all_of_them n limit run root options items lives rows same =
     everyone n limit run options items (omega (arith, rows, next_counted root, same, ap length lives))
 
 -- what the logs count is what the world counts
-module _ (n limit : ℕ) (run : Run) (root : View) (options : AreOptions n limit) (items : AreItems (opening n limit) (items_of run)) where
+module _ (n limit : ℕ) (run : Run) (root : View) (options : AreOptions n limit)
+    (items : AreItems (opening n limit) (items_of run)) where
   no_row_there : row_at (world n limit run) 0 ≡ no_row
-  no_row_there = (root_rests n limit (events_of (items_of run)) options (events_run (opening n limit) (items_of run) items)).row
+  no_row_there = (root_rests n limit (events_of (items_of run)) options
+      (events_run (opening n limit) (items_of run) items)).row
 
   births_added : root.gathered ≡ lives_of run → AllGathered (world n limit run)
       → births_of_all root.gathered ≡ sum_by (λ (row : Row). row.allocs) (world n limit run).rows
   births_added lives all =
       ap births_of_all lives
       ∙ sym (all_added_up n limit run options items (λ (row : Row). row.allocs) (sum_by bears) refl no_row_there
-      (λ older u are there. ap (λ (row : Row). row.allocs) (own_part n limit older u options are there).row_is ∙ births_told n (own_of u older)) all)
+      (λ older u are there. ap (λ (row : Row). row.allocs) (own_part n limit older u options are there).row_is
+      ∙ births_told n (own_of u older)) all)
 
   frees_added : root.gathered ≡ lives_of run → AllGathered (world n limit run)
       → frees_of_all root.gathered ≡ sum_by (λ (row : Row). row.frees) (world n limit run).rows
   frees_added lives all =
       ap frees_of_all lives
       ∙ sym (all_added_up n limit run options items (λ (row : Row). row.frees) (sum_by frees) refl no_row_there
-      (λ older u are there. ap (λ (row : Row). row.frees) (own_part n limit older u options are there).row_is ∙ frees_told n (own_of u older)) all)
+      (λ older u are there. ap (λ (row : Row). row.frees) (own_part n limit older u options are there).row_is
+      ∙ frees_told n (own_of u older)) all)
 
 module _ {A : Type 0} where
-  pub ends_so : (n limit id : ℕ) (root : View) (slots : List (Option (ℕ × Payload A))) → root.active ≡ true → root.thread ≡ 0
+  pub ends_so : (n limit id : ℕ) (root : View) (slots : List (Option (ℕ × Payload A))) → root.active ≡ true
+      → root.thread ≡ 0
       → Remains n limit id root slots → Ends n limit id root slots
   ends_so n limit id root slots active is_root remains =
       let run = remains.kept.run in
@@ -83,8 +96,10 @@ module _ {A : Type 0} where
       let did : own_of 0 run ≡ root.log = subst (λ t. own_of t run ≡ root.log) is_root fits.log in
       let log : own 0 (items_of run) ≡ log_items root.log = own_items 0 run ∙ ap log_items did in
       let lives : root.gathered ≡ lives_of run = fits.lives is_root in
-      let rows : length (world n limit run).rows ≡ next_thread root = rows_are_told n limit (items_of run) remains.kept.options remains.kept.legal.items ∙ ap rows_of log in
-      let told = run_histories n limit (events_of (items_of run)) remains.kept.options (events_run (opening n limit) (items_of run) remains.kept.legal.items) in record {
+      let rows : length (world n limit run).rows ≡ next_thread root =
+      rows_are_told n limit (items_of run) remains.kept.options remains.kept.legal.items ∙ ap rows_of log in
+      let told = run_histories n limit (events_of (items_of run)) remains.kept.options
+      (events_run (opening n limit) (items_of run) remains.kept.legal.items) in record {
         remains = remains;
         reached = kept_reached shows n limit remains.state remains.kept;
         headline = kept_headline shows n limit remains.state remains.kept;
@@ -97,7 +112,8 @@ module _ {A : Type 0} where
         root_counts = root_ledger n limit run remains.kept.legal.items told;
         ledgers = λ t registered. own_ledger n limit run t remains.kept.options remains.kept.legal.items registered;
         registered = rows;
-        gathered = λ t. gathered_are_told n limit (items_of run) t remains.kept.options remains.kept.legal.items ∙ ap (λ items. gathered_of items t) log;
+        gathered = λ t. gathered_are_told n limit (items_of run) t remains.kept.options remains.kept.legal.items
+            ∙ ap (λ items. gathered_of items t) log;
         all_at_home = all_at_home n limit id root slots remains;
         everyone = all_of_them n limit run root remains.kept.options remains.kept.legal.items lives rows;
         births = births_added n limit run root remains.kept.options remains.kept.legal.items lives;

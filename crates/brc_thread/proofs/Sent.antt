@@ -1,5 +1,6 @@
--- A thread at rest, and one that has retired, go to another thread of the machine; their heap is shared with it. The search for this is
--- cut at each type on the way, since it breaks off at the whole: what a seat gives back are blocks, and a block's type is a cycle.
+-- A thread at rest, and one that has retired, go to another thread of the machine; their heap is shared with it. The
+-- search for this is cut at each type on the way, since it breaks off at the whole: what a seat gives back are blocks,
+-- and a block's type is a cycle.
 use denote.Param.Send.{IsSend, IsSync, sendable}
 use denote.RattleType.{RattleType}
 use denote.Hole.{as_row}

@@ -25,7 +25,8 @@ module _ {A : Type 0} where
   }
 
   -- turns of work, and then a poll that was told nothing with no dead block left
-  pub settled_now : (old mid new : FrameSeen A) (told n : ℕ) → IsTrue (nat_eq told 0) → Turns old n mid → Polled mid new told
+  pub settled_now : (old mid new : FrameSeen A) (told n : ℕ) → IsTrue (nat_eq told 0) → Turns old n mid
+      → Polled mid new told
       → (told ≡ 0 → new.works ≡ mid.works) → mid.works ≡ [] → Settles old new
   settled_now old mid new told n nothing turns polled quiet done =
       let none : told ≡ 0 = eqb-true told 0 nothing in record {
@@ -38,9 +39,12 @@ module _ {A : Type 0} where
   -- by all of them the thread only lets go
   pub goes_quietly : (old new : FrameSeen A) → PollsAndWorks old new → Quietly old.seat.log new.seat.log
   goes_quietly old _ Nothing = NoItem
-  goes_quietly old new (Worked n mid _ before turns) = quietly_joined old.seat.log mid.seat.log new.seat.log (goes_quietly old mid before) (turns_quietly mid n new turns)
-  goes_quietly old new (Polls told mid _ before polled) = quietly_joined old.seat.log mid.seat.log new.seat.log (goes_quietly old mid before) (polled_quietly mid new told polled)
+  goes_quietly old new (Worked n mid _ before turns) = quietly_joined old.seat.log mid.seat.log new.seat.log
+      (goes_quietly old mid before) (turns_quietly mid n new turns)
+  goes_quietly old new (Polls told mid _ before polled) = quietly_joined old.seat.log mid.seat.log new.seat.log
+      (goes_quietly old mid before) (polled_quietly mid new told polled)
 
   pub settles_quietly : (old new : FrameSeen A) → Settles old new → Quietly old.seat.log new.seat.log
   settles_quietly old new settled =
-      quietly_joined old.seat.log settled.mid.seat.log new.seat.log (goes_quietly old settled.mid settled.before) (polled_quietly settled.mid new 0 settled.last)
+      quietly_joined old.seat.log settled.mid.seat.log new.seat.log (goes_quietly old settled.mid settled.before)
+      (polled_quietly settled.mid new 0 settled.last)

@@ -1,5 +1,6 @@
 -- A take of an object's last entry, and some after one another.
-use Rattle.std.proofs.Common.{◌≡◌, ◌≢◌, ◌+◌, ◌++◌, ℕ, zero, suc, List, [], ◌∷◌, Some, sym, ◌∙◌, ap, subst, arith, length, length-append, slice_get, remove}
+use Rattle.std.proofs.Common.{◌≡◌, ◌≢◌, ◌+◌, ◌++◌, ℕ, zero, suc, List, [], ◌∷◌, Some, sym, ◌∙◌, ap, subst, arith}
+use Rattle.std.proofs.Common.{length, length-append, slice_get, remove}
 use Rattle.brc_block.specs.declared.payload.Payload.{Payload}
 use Rattle.brc_block.specs.Payload.{kind_of, entries_of}
 use Rattle.law_world.specs.declared.event.Change.TheVariants.{Take}
@@ -9,7 +10,8 @@ use Rattle.law_rule.specs.declared.told.Told.TheVariants.{Did}
 use Rattle.law_rule.specs.Logs.{entries_in}
 use Rattle.brc_table.specs.Shown.{contents_of}
 use Rattle.brc_count.specs.Frames.{FrameSeen, HandleSeen, IsAsBefore, ReleasedOf}
-use Rattle.brc_count.specs.Locking.{Began, Ended, KeepsThread, KeepsFrame, ChangesPlace, cell_in, contents_found, entries_found}
+use Rattle.brc_count.specs.Locking.{Began, Ended, KeepsThread, KeepsFrame, ChangesPlace, cell_in, contents_found}
+use Rattle.brc_count.specs.Locking.{entries_found}
 use Rattle.brc_count.specs.Owned.{Keeps, Gains, Loses}
 use Rattle.brc_containers.specs.Changing.{Changes}
 use Rattle.brc_lock.proofs.Kept.{thread_kept_on}
@@ -17,7 +19,8 @@ use Rattle.brc_thread.specs.Clearing.{TakesLast, TakesSome, OneTake}
 use Rattle.brc_thread.proofs.Payloads.{entries_shown, kind_shown}
 
 -- a list is all before its last entry, and that entry
-last_split : {X : Type 0} (xs : List X) (i : ℕ) (x : X) → i + 1 ≡ length xs → slice_get xs i ≡ Some x → xs ≡ remove xs i ++ x ∷ []
+last_split : {X : Type 0} (xs : List X) (i : ℕ) (x : X) → i + 1 ≡ length xs → slice_get xs i ≡ Some x
+    → xs ≡ remove xs i ++ x ∷ []
 last_split [] i x last at = cc
 last_split (y ∷ []) zero x last at = cc
 last_split (y ∷ z ∷ xs) zero x last at = absurd (omega (arith, last))
@@ -30,7 +33,8 @@ module _ {A : Type 0} where
     pub keeps : KeepsThread before mid
     pub places : (j : ℕ) → cell_in mid j ≡ cell_in before j
 
-  stands : (before now mid : FrameSeen A) (k : ℕ) (block : ℕ × Payload A) → Began before now k block → KeepsThread before now
+  stands : (before now mid : FrameSeen A) (k : ℕ) (block : ℕ × Payload A) → Began before now k block
+      → KeepsThread before now
       → KeepsFrame before now → IsAsBefore now mid → Stands before mid k block
   stands before now mid k block began keeps frame same =
       let P : FrameSeen A → Type 0 = λ f. Stands before f k block in
@@ -57,11 +61,13 @@ module _ {A : Type 0} where
       })
 
   -- what was found has the block's entries
-  pub entries_mid : (now mid : FrameSeen A) (payload : Payload A) → IsAsBefore now mid → contents_found now ≡ contents_of payload
+  pub entries_mid : (now mid : FrameSeen A) (payload : Payload A) → IsAsBefore now mid
+      → contents_found now ≡ contents_of payload
       → entries_found mid ≡ entries_of payload
   entries_mid now mid payload same found = ap entries_found same ∙ ap entries_in found ∙ entries_shown payload
 
-  pub takes_last : (before now mid new : FrameSeen A) (k : ℕ) (block : ℕ × Payload A) (left : Payload A) (index cell : ℕ) (given : HandleSeen)
+  pub takes_last : (before now mid new : FrameSeen A) (k : ℕ) (block : ℕ × Payload A) (left : Payload A)
+      (index cell : ℕ) (given : HandleSeen)
       → Began before now k block → KeepsThread before now → KeepsFrame before now → IsAsBefore now mid
       → Ended mid new (Take index given.place) (block.0, left)
       → index + 1 ≡ length (entries_of block.1) → slice_get (entries_of block.1) index ≡ Some cell
@@ -69,7 +75,8 @@ module _ {A : Type 0} where
       → ChangesPlace mid new given.place (Some cell) → TakesLast before new k given
   takes_last before now mid new k block left index cell given began keeps frame same ended last at leaves kind places =
       let was = stands before now mid k block began keeps frame same in
-      let split : entries_of block.1 ≡ remove (entries_of block.1) index ++ cell ∷ [] = last_split (entries_of block.1) index cell last at in
+      let split : entries_of block.1 ≡ remove (entries_of block.1) index ++ cell ∷ [] =
+      last_split (entries_of block.1) index cell last at in
       let long : length (entries_in (contents_of left)) ≡ index =
       ap length (entries_shown left ∙ leaves)
       ∙ omega (arith, last, ap length split, length-append (remove (entries_of block.1) index) (cell ∷ [])) in
@@ -83,7 +90,9 @@ module _ {A : Type 0} where
         changes = subst P (sym long) (record {
           cell = block.0;
           of_place = was.began.cell;
-          events = ended.event ∙ ap (λ log. Did (Unlock (Take index given.place)) 0 (moves.Put block.0 (contents_of left)) ∷ log) was.began.event;
+          events = ended.event ∙ ap
+              (λ log. Did (Unlock (Take index given.place)) 0 (moves.Put block.0 (contents_of left)) ∷ log)
+              was.began.event;
           unlocked = ended.unlocked;
           keeps = thread_kept_on was.keeps ended.keeps;
         });
@@ -93,7 +102,8 @@ module _ {A : Type 0} where
 
   -- ---- a take and a release
 
-  pub take_keeps : {old mid new : FrameSeen A} {given : HandleSeen} → Gains old mid given → Loses mid new given → Keeps old new
+  pub take_keeps : {old mid new : FrameSeen A} {given : HandleSeen} → Gains old mid given → Loses mid new given
+      → Keeps old new
   take_keeps {given = given} gains loses = record {
     heap = loses.heap ∙ gains.heap;
     len = omega (arith, gains.len, loses.len);
@@ -101,14 +111,18 @@ module _ {A : Type 0} where
   }
 
   -- one more
-  pub took_on : (old mid taken new : FrameSeen A) (k n : ℕ) (given : HandleSeen) → TakesSome old k n mid → TakesLast mid taken k given
-      → ((c : ℕ) → cell_in taken given.place ≡ Some c → ReleasedOf taken new given.place c) → TakesSome old k (n + 1) new
+  pub took_on : (old mid taken new : FrameSeen A) (k n : ℕ) (given : HandleSeen) → TakesSome old k n mid
+      → TakesLast mid taken k given
+      → ((c : ℕ) → cell_in taken given.place ≡ Some c → ReleasedOf taken new given.place c)
+      → TakesSome old k (n + 1) new
   took_on old mid taken new k n given took takes releases =
       OneTake n mid new took (record { mid = taken; given = given; takes = takes; releases = releases })
 
   -- the object's own place has what it had
-  pub same_cell_on : (mid taken new : FrameSeen A) (k : ℕ) (given : HandleSeen) → given.place ≢ k → TakesLast mid taken k given
-      → ((c : ℕ) → cell_in taken given.place ≡ Some c → ReleasedOf taken new given.place c) → cell_in new k ≡ cell_in mid k
+  pub same_cell_on : (mid taken new : FrameSeen A) (k : ℕ) (given : HandleSeen) → given.place ≢ k
+      → TakesLast mid taken k given
+      → ((c : ℕ) → cell_in taken given.place ≡ Some c → ReleasedOf taken new given.place c)
+      → cell_in new k ≡ cell_in mid k
   same_cell_on mid taken new k given apart takes releases =
       let goes = releases takes.entry takes.has in
       goes.others k (λ same. apart (sym same)) ∙ takes.others k (λ same. apart (sym same))

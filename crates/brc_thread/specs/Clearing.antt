@@ -1,5 +1,6 @@
 -- Clearing the globals: their last entry is taken and released, until a look finds none.
-use Rattle.std.specs.Prelude.{◌≡◌, ◌≢◌, ◌<◌, ◌≤◌, ◌+◌, ◌++◌, ◌⊎◌, ℕ, Bool, true, false, [], ◌∷◌, length, Option, Some, None, Result, Ok, Err}
+use Rattle.std.specs.Prelude.{◌≡◌, ◌≢◌, ◌<◌, ◌≤◌, ◌+◌, ◌++◌, ◌⊎◌, ℕ, Bool, true, false, [], ◌∷◌, length, Option, Some}
+use Rattle.std.specs.Prelude.{None, Result, Ok, Err}
 use Rattle.brc_words.specs.declared.fault.Fault.{Fault}
 use Rattle.brc_words.specs.declared.fault.Fault.TheVariants as faults
 use Rattle.brc_words.specs.declared.limits.TheConstants.{GLOBALS, MOST_ENTRIES}
@@ -70,10 +71,11 @@ module _ {A : Type 0} where
   -- so many, one after the other
   pub data TakesSome (old : FrameSeen A) (k : ℕ) : ℕ → FrameSeen A → Type 0 where
     NoTake : TakesSome old k 0 old
-    OneTake : (n : ℕ) (mid new : FrameSeen A) → TakesSome old k n mid → TakesAway mid new k → TakesSome old k (n + 1) new
+    OneTake : (n : ℕ) (mid new : FrameSeen A) → TakesSome old k n mid → TakesAway mid new k
+        → TakesSome old k (n + 1) new
 
-  -- What the last look says after so many takes: Ok where it found no entry. Else it found the object locked, or an entry for which
-  -- there was no place, or an entry after as many takes as a container may have entries.
+  -- What the last look says after so many takes: Ok where it found no entry. Else it found the object locked, or an
+  -- entry for which there was no place, or an entry after as many takes as a container may have entries.
   abbrev pub LooksLast : FrameSeen A → FrameSeen A → ℕ → ℕ → Result (Unit {0}) Fault → Type 0
   LooksLast old new k n (Ok done) = FindsNone old new k
   LooksLast old new k n (Err faults.Busy) = Busy old new k

@@ -38,7 +38,8 @@ births_of_all lives = sum_by (λ (life : ℕ × List Told). sum_by bears life.1)
 abbrev pub frees_of_all : List (ℕ × List Told) → ℕ
 frees_of_all lives = sum_by (λ (life : ℕ × List Told). sum_by frees life.1) lives
 
--- as far as 32 bits count, and as far as 64 bits do: every number that a heap comes to is below that, but no type says so
+-- as far as 32 bits count, and as far as 64 bits do: every number that a heap comes to is below that, but no type says
+-- so
 abbrev pub in_u32 : ℕ → ℕ
 in_u32 n = min n 4294967295
 

@@ -1,5 +1,6 @@
 -- What a heap in which every thread is gathered has at home.
-use Rattle.std.specs.Prelude.{◌≡◌, ℕ, zero, suc, ◌<◌, ◌≤◌, ◌||◌, Bool, true, false, if◌then◌else◌, List, [], ◌∷◌, map, length, Option, Some, None}
+use Rattle.std.specs.Prelude.{◌≡◌, ℕ, zero, suc, ◌<◌, ◌≤◌, ◌||◌, Bool, true, false, if◌then◌else◌, List, [], ◌∷◌, map}
+use Rattle.std.specs.Prelude.{length, Option, Some, None}
 use mathlib.Core.Option.{some}
 use lib.ListN.{get_elem?}
 use Rattle.brc_words.specs.declared.limits.TheConstants.{FIRST_MORTAL}
@@ -36,8 +37,8 @@ module _ {A : Type 0} where
     pub there : get_elem? slots c ≡ some (Some (c, payload))
     pub holds : contents_of payload ≡ contents
 
-  -- Each object that lives is at home, and so is each immortal, with what was put home there last; and where none lives there
-  -- is no block. So the blocks, one after the other, are those of these cells, each once.
+  -- Each object that lives is at home, and so is each immortal, with what was put home there last; and where none lives
+  -- there is no block. So the blocks, one after the other, are those of these cells, each once.
   pub record AllAtHome (n : ℕ) (h : Heap) (run : Run) (slots : List (Option (ℕ × Payload A))) : Type 0 where
     pub deep : length slots ≡ n
     pub immortals : (c : ℕ) → c < FIRST_MORTAL → HasBlock slots c (contents_at run c)

@@ -21,15 +21,16 @@ abbrev pub ledger_at : Heap → ℕ → Ledger
 ledger_at h t = record { allocs = (row_at h t).allocs; frees = (row_at h t).frees }
 
 module _ {A : Type 0} where
-  -- What is left are the slots of a last state that keeps the rule: it is the world of one run of all threads' steps. In that
-  -- world counts are references, an object without references is in some thread's hand, and births less frees are the live
-  -- objects; each object that died had no holder, and died once for its birth. Of that run the root's own steps are its log,
-  -- and those of each thread that was gathered are the log that the root took in: it has one for each registration that ended, and
-  -- each item of a thread stands in one of them or in its seat's, once and in its order. What that world counts for a registered
-  -- thread, as the headline sums it up, is the ledger of all that the thread did, which `Retired` answers; for the root it
-  -- counts nothing. Which threads were registered and which are gathered is told by the root's log: all are, where it has gathered as
-  -- many as it has registered. Where all are gathered, what their logs count, added up, is what that world counts, and the
-  -- blocks that are left are those of all live objects and immortals, each with what was put home there last.
+  -- What is left are the slots of a last state that keeps the rule: it is the world of one run of all threads' steps.
+  -- In that world counts are references, an object without references is in some thread's hand, and births less frees
+  -- are the live objects; each object that died had no holder, and died once for its birth. Of that run the root's own
+  -- steps are its log, and those of each thread that was gathered are the log that the root took in: it has one for
+  -- each registration that ended, and each item of a thread stands in one of them or in its seat's, once and in its
+  -- order. What that world counts for a registered thread, as the headline sums it up, is the ledger of all that the
+  -- thread did, which `Retired` answers; for the root it counts nothing. Which threads were registered and which are
+  -- gathered is told by the root's log: all are, where it has gathered as many as it has registered. Where all are
+  -- gathered, what their logs count, added up, is what that world counts, and the blocks that are left are those of all
+  -- live objects and immortals, each with what was put home there last.
   pub record Ends (n limit id : ℕ) (root : View) (slots : List (Option (ℕ × Payload A))) : Type 0 where
     pub remains : Remains n limit id root slots
     pub reached : IsReached (world n limit remains.kept.run)
@@ -46,7 +47,10 @@ module _ {A : Type 0} where
         → ledger_at (world n limit remains.kept.run) t ≡ ledger_of n (own_of t remains.kept.run)
     pub registered : length (world n limit remains.kept.run).rows ≡ next_thread root
     pub gathered : (t : ℕ) → is_gathered (world n limit remains.kept.run) t ≡ gathered_of (log_items root.log) t
-    pub all_at_home : AllGathered (world n limit remains.kept.run) → AllAtHome n (world n limit remains.kept.run) remains.kept.run slots
+    pub all_at_home : AllGathered (world n limit remains.kept.run)
+        → AllAtHome n (world n limit remains.kept.run) remains.kept.run slots
     pub everyone : registrations root ≡ gatherings root → AllGathered (world n limit remains.kept.run)
-    pub births : AllGathered (world n limit remains.kept.run) → births_of_all root.gathered ≡ sum_by (λ row. row.allocs) (world n limit remains.kept.run).rows
-    pub frees : AllGathered (world n limit remains.kept.run) → frees_of_all root.gathered ≡ sum_by (λ row. row.frees) (world n limit remains.kept.run).rows
+    pub births : AllGathered (world n limit remains.kept.run) → births_of_all root.gathered ≡ sum_by (λ row. row.allocs)
+        (world n limit remains.kept.run).rows
+    pub frees : AllGathered (world n limit remains.kept.run) → frees_of_all root.gathered ≡ sum_by (λ row. row.frees)
+        (world n limit remains.kept.run).rows

@@ -16,15 +16,18 @@ use Rattle.brc_count.specs.Locking.{cell_in}
 abbrev pub world_of : TableSeen → Run → Heap
 world_of heap run = world heap.cells heap.local_limit run
 
--- Of any number of heaps, each with its run: the handle was given, and isn't spent. By the steps of its own thread at its own heap
--- alone, the place that it names has the cell. The last of them that filled the place gave the handle.
+-- Of any number of heaps, each with its run: the handle was given, and isn't spent. By the steps of its own thread at
+-- its own heap alone, the place that it names has the cell. The last of them that filled the place gave the handle.
 pub record IsHeld (runs : TableSeen → Run) (handle : HandleSeen) (c : ℕ) : Type 0 where
   pub some_thread : 0 < handle.thread
   pub registered : is_registered (world_of handle.heap (runs handle.heap)) handle.thread ≡ true
-  pub there : place_at (part_seen handle.heap.cells (own_of handle.thread (runs handle.heap))).frame handle.place ≡ Some c
+  pub there : place_at (part_seen handle.heap.cells (own_of handle.thread (runs handle.heap))).frame
+      handle.place ≡ Some c
 
--- A frame at one of the heaps owns the handle, which has this cell; what the frame did is its thread's part of the heap's run.
-pub record OwnsIn {A : Type 0} (runs : TableSeen → Run) (frame : FrameSeen A) (handle : HandleSeen) (c : ℕ) : Type 0 where
+-- A frame at one of the heaps owns the handle, which has this cell; what the frame did is its thread's part of the
+-- heap's run.
+pub record OwnsIn {A : Type 0} (runs : TableSeen → Run) (frame : FrameSeen A) (handle : HandleSeen)
+    (c : ℕ) : Type 0 where
   pub some_thread : 0 < frame.seat.thread
   pub registered : is_registered (world_of frame.heap (runs frame.heap)) frame.seat.thread ≡ true
   pub did : frame.seat.log ≡ own_of frame.seat.thread (runs frame.heap)

@@ -10,8 +10,8 @@ use Rattle.brc_thread.specs.Settling.{Settles}
 use Rattle.brc_thread.specs.Threads.{RetiredSeen, ledger_of}
 
 module _ {A : Type 0} where
-  -- A thread that has left deals with what is popped and takes its dead blocks apart, until nothing is left; its seat is that with
-  -- which it ended.
+  -- A thread that has left deals with what is popped and takes its dead blocks apart, until nothing is left; its seat
+  -- is that with which it ended.
   pub record Finishes (left : FrameSeen A) (retired : RetiredSeen A) : Type 0 where
     pub turns : ℕ
     pub done : FrameSeen A
@@ -37,7 +37,8 @@ module _ {A : Type 0} where
     pub gathers : new.view ≡ gathering old.view (view_of retired.seat)
     pub counted : ledger ≡ ledger_of retired.heap.cells retired.seat.log
 
-  -- The thread does some turns of work on dead blocks, at most so many, and closes all its queue words: it neither polls nor waits.
+  -- The thread does some turns of work on dead blocks, at most so many, and closes all its queue words: it neither
+  -- polls nor waits.
   pub record Departs (budget : ℕ) (mutator left : FrameSeen A) : Type 0 where
     pub turns : ℕ
     pub few : turns ≤ budget

@@ -25,7 +25,10 @@ pub record RetiredSeen (A : Type 0) : Type 0 where
   pub seat : SeatSeen A
 
 abbrev pub retired_seen : {A : Type 0} → SeatSeen A → ℕ → ℕ → RetiredSeen A
-retired_seen seat cells limit = record { heap = record { table = seat.table; cells = cells; local_limit = limit }; seat = seat }
+retired_seen seat cells limit = record {
+  heap = record { table = seat.table; cells = cells; local_limit = limit };
+  seat = seat;
+}
 
 -- It has left and holds nothing: its hand is free, nothing is popped, its worklist is empty, and no slot is out.
 pub record Retires (A : Type 0) (seat : SeatSeen A) (cells : ℕ) (ledger : Ledger) : Type 0 where

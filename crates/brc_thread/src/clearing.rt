@@ -1,7 +1,8 @@
 //! Clearing the globals.
 //!
-//! Their keys aren't known to whoever clears them, so their last entry is taken out, and its handle released, until a look finds
-//! none. Another thread may put entries in meanwhile: after as many takes as a container may have entries the call gives up.
+//! Their keys aren't known to whoever clears them, so their last entry is taken out, and its handle released, until a
+//! look finds none. Another thread may put entries in meanwhile: after as many takes as a container may have entries
+//! the call gives up.
 
 ghost use Rattle.std.specs.Prelude.{◌≡◌, Some, OnErr};
 ghost use Rattle.brc_words.specs.declared.limits.TheConstants.{GLOBALS};
@@ -15,8 +16,8 @@ use brc_count::{Frame, Handle};
 use brc_words::{Fault, GLOBALS, MOST_ENTRIES};
 use std::alloc::Allocator;
 
-/// The last entry's reference of an object becomes a handle's; None where it has no entry. Busy where another thread has it locked,
-/// then FrameFull and OutOfMemory.
+/// The last entry's reference of an object becomes a handle's; None where it has no entry. Busy where another thread
+/// has it locked, then FrameFull and OutOfMemory.
 fn take_last<H: Home<A>, A: Allocator>(
     frame: &mut Frame<H, A>,
     handle: &Handle<A>,
@@ -88,9 +89,10 @@ fn take_all<H: Home<A>, A: Allocator>(
 }
 
 impl<H: Home<A>, A: Allocator> Mutator<H, A> {
-    /// Gives back what the globals hold, the entry that came last first. FrameFull and OutOfMemory where a handle to the globals
-    /// can't be had; then, at any entry, Busy where another thread has them locked, FrameFull and OutOfMemory; and NotIdle where
-    /// they still have an entry after 1,048,576 were taken. What was taken before a refusal stays given back.
+    /// Gives back what the globals hold, the entry that came last first. FrameFull and OutOfMemory where a handle to
+    /// the globals can't be had; then, at any entry, Busy where another thread has them locked, FrameFull and
+    /// OutOfMemory; and NotIdle where they still have an entry after 1,048,576 were taken. What was taken before a
+    /// refusal stays given back.
     pub fn clear_globals(&mut self) -> Result<(), Fault>
         requires unlocked { IsUnlocked self.old }
         ensures clears { Clears self.old self.new result }

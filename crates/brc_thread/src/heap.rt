@@ -45,11 +45,12 @@ impl<A: Allocator> Model for Heap<A> {
 }
 
 impl<A: Allocator + Copy> Heap<A> {
-    /// A heap with its immortals, and the root that registers its threads. BadOptions, looked at first, where a size is out
-    /// of its range; OutOfMemory where the words or a block can't be had. No call of a thread asks for words or blocks again
-    /// but those that make an object or say so.
+    /// A heap with its immortals, and the root that registers its threads. BadOptions, looked at first, where a size is
+    /// out of its range; OutOfMemory where the words or a block can't be had. No call of a thread asks for words or
+    /// blocks again but those that make an object or say so.
     pub fn new(alloc: A, options: Options) -> Result<(Heap<A>, Root<A>), Fault>
-        ensures sizes { IfOk result (λ made. (made.0.cells ≡ options.cells) × (made.0.local_limit ≡ options.local_limit)) }
+        ensures sizes { IfOk result
+            (λ made. (made.0.cells ≡ options.cells) × (made.0.local_limit ≡ options.local_limit)) }
         ensures root { IfOk result (λ made. made.1.table ≡ made.0.table) }
         ensures view { IfOk result (λ made. made.1.view ≡ first_view) }
         ensures options { (result ≡ Err faults.BadOptions) ↔ ¬ (AreOptions options.cells options.local_limit) }

@@ -12,9 +12,10 @@ ghost use Rattle.brc_thread.specs.Handed.{IsHeld, OwnsIn, Next, Spares};
 
 use std::alloc::Allocator;
 
-/// While a frame owns a handle, from the step that gave it to the one that spends it, no step of any thread at the handle's heap gives
-/// its cell back, and none bears another object there: so what the handle names is one object, and its memory is there (PEP 703,
-/// "Biased Reference Counting"). It is said of any number of heaps: a handle of another heap is owned by no frame of this one.
+/// While a frame owns a handle, from the step that gave it to the one that spends it, no step of any thread at the
+/// handle's heap gives its cell back, and none bears another object there: so what the handle names is one object, and
+/// its memory is there (PEP 703, "Biased Reference Counting"). It is said of any number of heaps: a handle of another
+/// heap is owned by no frame of this one.
 #[tactic(auto, using(crate::proofs::Handed::held_where_owned, crate::proofs::Handed::spared))]
 pub fn handles_keep_their_objects<A: Allocator>()
     ensures held { (runs : TableSeen → Run) (frame : FrameSeen A) (handle : HandleSeen) (c : ℕ)

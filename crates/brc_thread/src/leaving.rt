@@ -1,6 +1,7 @@
 //! A thread that has left, and one that is done.
 
-ghost use Rattle.std.specs.Prelude.{◌≡◌, ◌<◌, ◌≤◌, ◌-◌, [], ◌⊎◌, length, IsTrue, IsFalse, IfOk, IfErr, OnErr, true, false};
+ghost use Rattle.std.specs.Prelude.{◌≡◌, ◌<◌, ◌≤◌, ◌-◌, [], ◌⊎◌, length, IsTrue, IsFalse, IfOk, IfErr, OnErr, true};
+ghost use Rattle.std.specs.Prelude.{false};
 ghost use Rattle.law_world.specs.Lists.{is_blank};
 ghost use Rattle.brc_count.specs.Frames.{KeepsHandles, ledger_seen, popped_seen};
 ghost use Rattle.brc_count.specs.Closing.{TurnsLeaving};
@@ -25,8 +26,8 @@ impl<H: Home<A>, A: Allocator> Model for Leaving<H, A> {
     ghost view = { λ l. l.frame };
 }
 
-/// A thread that holds nothing any more: its seat, for the root to gather. It names no lifetime, so that a thread of the machine
-/// can hand it back as it ends.
+/// A thread that holds nothing any more: its seat, for the root to gather. It names no lifetime, so that a thread of
+/// the machine can hand it back as it ends.
 #[derive(Drop)]
 pub struct Retired<A: Allocator = Global> {
     pub(crate) seat: ThreadSeat<A>,
@@ -68,8 +69,8 @@ impl<H: Home<A>, A: Allocator> Leaving<H, A> {
         self.frame.is_done()
     }
 
-    /// Deals with popped entries and takes dead blocks apart, at most so many turns: entries come first. The answer is the
-    /// number of turns that weren't needed: above 0 only where nothing is left. It takes no memory.
+    /// Deals with popped entries and takes dead blocks apart, at most so many turns: entries come first. The answer is
+    /// the number of turns that weren't needed: above 0 only where nothing is left. It takes no memory.
     pub fn work(&mut self, budget: usize) -> usize
         ensures handles { KeepsHandles self.old self.new }
         ensures few { result ≤ budget }

@@ -1,8 +1,8 @@
 //! The life of a thread at the running heap: it is registered, works through a mutator, leaves, and is gathered.
 //!
-//! `Heap` and `Root` are made together. A `Mutator` is what a thread of the runtime works with: a frame (`brc_count`) and
-//! nothing else. `Resting` is a mutator on its way to another thread of the machine; `Leaving` a thread that has closed its
-//! merge queue, and `Retired` one that is done, for the root to gather. At the end the heap is taken apart.
+//! `Heap` and `Root` are made together. A `Mutator` is what a thread of the runtime works with: a frame (`brc_count`)
+//! and nothing else. `Resting` is a mutator on its way to another thread of the machine; `Leaving` a thread that has
+//! closed its merge queue, and `Retired` one that is done, for the root to gather. At the end the heap is taken apart.
 #![tactic(auto)]
 
 mod clearing;

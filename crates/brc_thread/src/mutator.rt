@@ -1,11 +1,13 @@
 //! A mutator: what a thread of the runtime works with.
 
-ghost use Rattle.std.specs.Prelude.{◌≡◌, ◌<◌, ◌≤◌, ◌-◌, [], ◌⊎◌, length, true, false, IsTrue, IsFalse, IfOk, IfErr, OnOk, OnErr};
+ghost use Rattle.std.specs.Prelude.{◌≡◌, ◌<◌, ◌≤◌, ◌-◌, [], ◌⊎◌, length, true, false, IsTrue, IsFalse, IfOk, IfErr};
+ghost use Rattle.std.specs.Prelude.{OnOk, OnErr};
 ghost use Rattle.brc_words.specs.declared.limits.TheConstants.{GLOBALS};
 ghost use Rattle.law_world.specs.declared.event.Source.TheVariants as sources;
 ghost use Rattle.law_world.specs.Heap.{words_for};
 ghost use Rattle.law_living.specs.Living.{OwnLog};
-ghost use Rattle.brc_count.specs.Frames.{Given, Refused, IsAsBefore, IsUnlocked, KeepsHandles, KeepsButStart, Turns, word_asked, ledger_seen};
+ghost use Rattle.brc_count.specs.Frames.{Given, Refused, IsAsBefore, IsUnlocked, KeepsHandles, KeepsButStart, Turns};
+ghost use Rattle.brc_count.specs.Frames.{word_asked, ledger_seen};
 ghost use Rattle.brc_count.specs.Polling.{Polled};
 ghost use Rattle.brc_count.specs.Closing.{Closes};
 ghost use Rattle.brc_count.specs.Owned.{Keeps, Gains};
@@ -17,7 +19,8 @@ use brc_words::{Fault, GLOBALS};
 use std::alloc::Allocator;
 use std::marker::Model;
 
-/// A thread that is registered and hasn't left: its frame, and nothing else. `H` leads to its heap: `&Heap<A>`, for one.
+/// A thread that is registered and hasn't left: its frame, and nothing else. `H` leads to its heap: `&Heap<A>`, for
+/// one.
 pub struct Mutator<H: Home<A>, A: Allocator> {
     pub(crate) frame: Frame<H, A>,
 }
@@ -64,7 +67,8 @@ impl<H: Home<A>, A: Allocator> Mutator<H, A> {
         self.frame.is_idle()
     }
 
-    /// A handle to the globals, the immortal dictionary of cell 265. FrameFull, then OutOfMemory; a refusal changes nothing.
+    /// A handle to the globals, the immortal dictionary of cell 265. FrameFull, then OutOfMemory; a refusal changes
+    /// nothing.
     pub fn globals(&mut self) -> Result<Handle<A>, Fault>
         requires unlocked { IsUnlocked self.old }
         ensures heap { self.new.heap ≡ self.old.heap }
@@ -79,9 +83,10 @@ impl<H: Home<A>, A: Allocator> Mutator<H, A> {
         self.frame.immortal(GLOBALS)
     }
 
-    /// From now on the thread's claims begin with the 64 cells that have this one, go on to the heap's end, and then from the
-    /// first mortal cell up to there. For a cell below 266, or past the heap's last, that is the first mortal cell, as for a
-    /// mutator that nobody asked. Threads that make objects at once each begin with a part of the heap of their own.
+    /// From now on the thread's claims begin with the 64 cells that have this one, go on to the heap's end, and then
+    /// from the first mortal cell up to there. For a cell below 266, or past the heap's last, that is the first mortal
+    /// cell, as for a mutator that nobody asked. Threads that make objects at once each begin with a part of the heap
+    /// of their own.
     pub fn claim_from(&mut self, cell: u32)
         ensures from { self.new.from ≡ word_asked self.old.heap.cells cell }
         ensures near { self.new.near ≡ false }
@@ -93,8 +98,8 @@ impl<H: Home<A>, A: Allocator> Mutator<H, A> {
         self.frame.claim_from(cell);
     }
 
-    /// As `claim_from`, for the first claim; each later one begins where the thread claimed or freed last: for a heap with few
-    /// free cells, in which a search from the same cell passes over all that is taken.
+    /// As `claim_from`, for the first claim; each later one begins where the thread claimed or freed last: for a heap
+    /// with few free cells, in which a search from the same cell passes over all that is taken.
     pub fn claim_near(&mut self, cell: u32)
         ensures from { self.new.from ≡ word_asked self.old.heap.cells cell }
         ensures near { self.new.near ≡ true }
@@ -106,10 +111,10 @@ impl<H: Home<A>, A: Allocator> Mutator<H, A> {
         self.frame.claim_near(cell);
     }
 
-    /// Takes what the thread was told, drains the queue words that this names, and deals with each entry that was in them.
-    /// The answer is what it was told: 0 where nobody put anything into its queue since the last poll. A runtime polls where
-    /// it can let other threads' requests in: between instructions, say. It takes no memory. What the thread's own log before
-    /// tells of what lives is so.
+    /// Takes what the thread was told, drains the queue words that this names, and deals with each entry that was in
+    /// them. The answer is what it was told: 0 where nobody put anything into its queue since the last poll. A runtime
+    /// polls where it can let other threads' requests in: between instructions, say. It takes no memory. What the
+    /// thread's own log before tells of what lives is so.
     pub fn poll(&mut self) -> u64
         requires unlocked { IsUnlocked self.old }
         ensures handles { KeepsHandles self.old self.new }
@@ -123,9 +128,9 @@ impl<H: Home<A>, A: Allocator> Mutator<H, A> {
         self.frame.poll()
     }
 
-    /// Takes dead blocks apart, at most so many turns: in one, the front block's last entry is released, or, if it has none,
-    /// the block is given back. The answer is the number of turns that weren't needed: above 0 only where no block is left.
-    /// It takes no memory.
+    /// Takes dead blocks apart, at most so many turns: in one, the front block's last entry is released, or, if it has
+    /// none, the block is given back. The answer is the number of turns that weren't needed: above 0 only where no
+    /// block is left. It takes no memory.
     pub fn work(&mut self, budget: usize) -> usize
         requires unlocked { IsUnlocked self.old }
         ensures handles { KeepsHandles self.old self.new }
@@ -139,8 +144,8 @@ impl<H: Home<A>, A: Allocator> Mutator<H, A> {
         self.frame.work(budget)
     }
 
-    /// Leaves: its queue words are closed, by rising number, and from then on others do for it what they asked of it. A mutator
-    /// that isn't idle, with a handle or a dead block, is answered as it was.
+    /// Leaves: its queue words are closed, by rising number, and from then on others do for it what they asked of it. A
+    /// mutator that isn't idle, with a handle or a dead block, is answered as it was.
     pub fn leave(self) -> Result<Leaving<H, A>, Mutator<H, A>>
         requires unlocked { IsUnlocked self }
         ensures heap { IfOk result (λ leaving. leaving.heap ≡ self.heap) }

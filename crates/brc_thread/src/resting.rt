@@ -9,8 +9,8 @@ use brc_count::RestingFrame;
 use std::alloc::{Allocator, Global};
 use std::marker::Model;
 
-/// A mutator without handles, away from its heap. It names no lifetime, and nothing in it must be spent: a closure can own it.
-/// One that is dropped is a thread that can't be gathered any more.
+/// A mutator without handles, away from its heap. It names no lifetime, and nothing in it must be spent: a closure can
+/// own it. One that is dropped is a thread that can't be gathered any more.
 #[derive(Drop)]
 pub struct Resting<A: Allocator = Global> {
     frame: RestingFrame<A>,

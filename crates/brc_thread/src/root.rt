@@ -18,8 +18,8 @@ use brc_words::{Fault, MOST_THREADS};
 use std::alloc::{Allocator, Global};
 use std::marker::Model;
 
-/// The seat of whoever starts threads and waits for their ends. There is one for each heap. It counts whom it registers and whom it
-/// gathers, and adds up what those did that it gathered.
+/// The seat of whoever starts threads and waits for their ends. There is one for each heap. It counts whom it registers
+/// and whom it gathers, and adds up what those did that it gathered.
 pub struct Root<A: Allocator = Global> {
     pub(crate) seat: RootSeat<A>,
     pub(crate) registered: u32,
@@ -36,13 +36,14 @@ impl<A: Allocator> Model for Root<A> {
 
     ghost view = { λ r. r.seat };
 
-    ghost invariant = { λ r. (r.seat.view.active ≡ true) × (r.seat.view.thread ≡ 0) × Counts r.seat.view r.registered r.gathered r.ledger };
+    ghost invariant = { λ r. (r.seat.view.active ≡ true) × (r.seat.view.thread ≡ 0) × Counts r.seat.view r.registered
+        r.gathered r.ledger };
 }
 
 impl<A: Allocator + Copy> Root<A> {
-    /// The mutator of the next thread, which is registered with it: threads are numbered from 1. TooManyThreads, looked at
-    /// first, where 64 have been registered; OutOfMemory where its counts or popped bits can't be had. A refusal changes
-    /// nothing.
+    /// The mutator of the next thread, which is registered with it: threads are numbered from 1. TooManyThreads, looked
+    /// at first, where 64 have been registered; OutOfMemory where its counts or popped bits can't be had. A refusal
+    /// changes nothing.
     pub fn register<H: Home<A> + Drop>(&mut self, alloc: A, heap: H) -> Result<Mutator<H, A>, Fault>
         requires heap { self.old.table ≡ (H.seen heap).table }
         ensures heap { IfOk result (λ mutator. mutator.heap ≡ H.seen heap) }
@@ -86,8 +87,8 @@ impl<A: Allocator> Root<A> {
         self.registered
     }
 
-    /// How many threads have been gathered, as far as 32 bits count. No more are than were registered, 64 at most; but that is so of
-    /// the run of the whole heap, and no type of the root's says it.
+    /// How many threads have been gathered, as far as 32 bits count. No more are than were registered, 64 at most; but
+    /// that is so of the run of the whole heap, and no type of the root's says it.
     pub fn gathered(&self) -> u32
         ensures { result ≡ in_u32 (gatherings self.now.view) }
     {

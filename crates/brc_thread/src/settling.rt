@@ -30,9 +30,9 @@ impl<H: Home<A>, A: Allocator> Mutator<H, A> {
         self.poll() == 0
     }
 
-    /// Works and polls until a poll was told nothing with no dead block left. Another thread may tell it something at any
-    /// time, so that nothing says when that is. The thread only lets go; what its own log before tells of what lives is so. It
-    /// takes no memory.
+    /// Works and polls until a poll was told nothing with no dead block left. Another thread may tell it something at
+    /// any time, so that nothing says when that is. The thread only lets go; what its own log before tells of what
+    /// lives is so. It takes no memory.
     pub fn settle(&mut self, rt: &impl Wait)
         requires unlocked { IsUnlocked self.old }
         ensures handles { KeepsHandles self.old self.new }

@@ -1,5 +1,6 @@
 -- Each operand is read as it was written, and only so.
-use Rattle.std.proofs.Common.{◌≡◌, ℕ, ◌/◌, ◌^◌, ◌<◌, Bool, true, ◌&&◌, if◌then◌else◌, List, [], ◌∷◌, ◌++◌, Option, Some, None, refl, sym, ap, subst, ◌∙◌, arith, leb}
+use Rattle.std.proofs.Common.{◌≡◌, ℕ, ◌/◌, ◌^◌, ◌<◌, Bool, true, ◌&&◌, if◌then◌else◌, List, [], ◌∷◌, ◌++◌, Option, Some}
+use Rattle.std.proofs.Common.{None, refl, sym, ap, subst, ◌∙◌, arith, leb}
 use Rattle.std.specs.List.{AllByRecursion}
 use Rattle.std.proofs.lemmas.Option.{cond_some}
 use Rattle.std.proofs.lemmas.Bool.{and_parts, and_from, leb-true, ltb-true}
@@ -23,7 +24,10 @@ use Rattle.brc_text.specs.declared.token.Token.TheVariants as tokens
 use Rattle.brc_text.specs.Tokens.{◌>>=◌, IsRead}
 use Rattle.brc_text.proofs.KeywordLaws.{same_some}
 use Rattle.brc_text.proofs.TokenLaws.{some_bind}
-use Rattle.brc_trace.specs.Operands.{kind_word, kind_token, source_token, dropped_token, last_token, change_words, is_thread, is_cell, is_place, is_entry, is_queue_word, fits_source, fits_dropped, fits_last, fits_change, number_at, kind_named, kind_at, source_at, dropped_at, last_at, is_bare, only, both, one_of, two_of, change_named, change_at}
+use Rattle.brc_trace.specs.Operands.{kind_word, kind_token, source_token, dropped_token, last_token, change_words}
+use Rattle.brc_trace.specs.Operands.{is_thread, is_cell, is_place, is_entry, is_queue_word, fits_source, fits_dropped}
+use Rattle.brc_trace.specs.Operands.{fits_last, fits_change, number_at, kind_named, kind_at, source_at, dropped_at}
+use Rattle.brc_trace.specs.Operands.{last_at, is_bare, only, both, one_of, two_of, change_named, change_at}
 
 -- what is in its range is written in one way, is read again from that, and from nothing else
 pub record Form {A : Type 0} (write : A → Token) (fits : A → Bool) (read : Token → Option A) : Type 0 where
@@ -32,7 +36,8 @@ pub record Form {A : Type 0} (write : A → Token) (fits : A → Bool) (read : T
   pub small : (x : A) → fits x ≡ true → IsRead (write x)
 
 -- the value was read where its test holds
-tested : {A : Type 0} (write : A → Token) (fits : A → Bool) (b : Bool) (y x : A) → fits y ≡ b → (if b then Some y else None) ≡ Some x
+tested : {A : Type 0} (write : A → Token) (fits : A → Bool) (b : Bool) (y x : A) → fits y ≡ b
+    → (if b then Some y else None) ≡ Some x
     → (fits x ≡ true) × (write x ≡ write y)
 tested write fits b y x test e =
     let parts = cond_some b y x e in
@@ -40,7 +45,8 @@ tested write fits b y x test e =
 
 -- ---- numbers
 
-number_takes : (fits : ℕ → Bool) (a : Token) (n : ℕ) → number_at fits a ≡ Some n → (fits n ≡ true) × (tokens.Number n ≡ a)
+number_takes : (fits : ℕ → Bool) (a : Token) (n : ℕ) → number_at fits a ≡ Some n
+    → (fits n ≡ true) × (tokens.Number n ≡ a)
 number_takes fits (tokens.Number m) n e = tested tokens.Number fits (fits m) m n refl e
 number_takes fits _ n e = absurd cc
 
@@ -52,7 +58,8 @@ numbers fits small = record {
 }
 
 pub threads : Form tokens.Number is_thread (number_at is_thread)
-threads = numbers is_thread (λ t h. omega (arith, leb-true t MOST_THREADS (and_parts (leb 1 t) (leb t MOST_THREADS) h).1))
+threads = numbers is_thread
+    (λ t h. omega (arith, leb-true t MOST_THREADS (and_parts (leb 1 t) (leb t MOST_THREADS) h).1))
 
 cell_small : (c : ℕ) → is_cell c ≡ true → c < 2 ^ 64
 cell_small c h = omega (arith, ltb-true c MOST_CELLS h)
@@ -84,8 +91,10 @@ kind_again kinds.Nothing h = absurd cc
 kind_again kinds.False h = absurd cc
 kind_again kinds.True h = absurd cc
 
-named : (w : Keyword) (y k : Kind) → is_mortal y ≡ true → kind_word y ≡ w → Some y ≡ Some k → (is_mortal k ≡ true) × (kind_token k ≡ tokens.Word w)
-named w y k mortal word e = subst (λ z. (is_mortal z ≡ true) × (kind_token z ≡ tokens.Word w)) (same_some e) (mortal, ap tokens.Word word)
+named : (w : Keyword) (y k : Kind) → is_mortal y ≡ true → kind_word y ≡ w → Some y ≡ Some k
+    → (is_mortal k ≡ true) × (kind_token k ≡ tokens.Word w)
+named w y k mortal word e = subst (λ z. (is_mortal z ≡ true) × (kind_token z ≡ tokens.Word w)) (same_some e)
+    (mortal, ap tokens.Word word)
 
 named_takes : (w : Keyword) (k : Kind) → kind_named w ≡ Some k → (is_mortal k ≡ true) × (kind_token k ≡ tokens.Word w)
 named_takes words.Int k e = named words.Int kinds.Int k refl refl e
@@ -110,9 +119,12 @@ source_again (sources.Entry i) h = rw h refl
 source_again (sources.Immortal c) h = rw h refl
 
 source_takes : (a : Token) (s : Source) → source_at a ≡ Some s → (fits_source s ≡ true) × (source_token s ≡ a)
-source_takes (tokens.Place letters.Frame k) s e = tested source_token fits_source (is_place k) (sources.Frame k) s refl e
-source_takes (tokens.Place letters.Entry i) s e = tested source_token fits_source (is_entry i) (sources.Entry i) s refl e
-source_takes (tokens.Place letters.Immortal c) s e = tested source_token fits_source (is_cell c) (sources.Immortal c) s refl e
+source_takes (tokens.Place letters.Frame k) s e = tested source_token fits_source (is_place k)
+    (sources.Frame k) s refl e
+source_takes (tokens.Place letters.Entry i) s e = tested source_token fits_source (is_entry i)
+    (sources.Entry i) s refl e
+source_takes (tokens.Place letters.Immortal c) s e = tested source_token fits_source (is_cell c)
+    (sources.Immortal c) s refl e
 source_takes _ s e = absurd cc
 
 source_small : (s : Source) → fits_source s ≡ true → IsRead (source_token s)
@@ -128,7 +140,8 @@ dropped_again (drops.Frame k) h = rw h refl
 dropped_again (drops.Work c) h = rw h refl
 
 dropped_takes : (a : Token) (d : Dropped) → dropped_at a ≡ Some d → (fits_dropped d ≡ true) × (dropped_token d ≡ a)
-dropped_takes (tokens.Place letters.Frame k) d e = tested dropped_token fits_dropped (is_place k) (drops.Frame k) d refl e
+dropped_takes (tokens.Place letters.Frame k) d e = tested dropped_token fits_dropped (is_place k)
+    (drops.Frame k) d refl e
 dropped_takes (tokens.Place letters.Work c) d e = tested dropped_token fits_dropped (is_cell c) (drops.Work c) d refl e
 dropped_takes _ d e = absurd cc
 
@@ -146,8 +159,10 @@ last_again (lasts.Popped c) h = rw h refl
 last_again lasts.Hand h = refl
 
 last_takes : (a : Token) (d : LastDropped) → last_at a ≡ Some d → (fits_last d ≡ true) × (last_token d ≡ a)
-last_takes (tokens.Place letters.Frame k) d e = tested last_token fits_last (is_place k) (lasts.Dropped (drops.Frame k)) d refl e
-last_takes (tokens.Place letters.Work c) d e = tested last_token fits_last (is_cell c) (lasts.Dropped (drops.Work c)) d refl e
+last_takes (tokens.Place letters.Frame k) d e = tested last_token fits_last (is_place k)
+    (lasts.Dropped (drops.Frame k)) d refl e
+last_takes (tokens.Place letters.Work c) d e = tested last_token fits_last (is_cell c)
+    (lasts.Dropped (drops.Work c)) d refl e
 last_takes (tokens.Place letters.Popped c) d e = tested last_token fits_last (is_cell c) (lasts.Popped c) d refl e
 last_takes (tokens.Word words.InHand) d e = tested last_token fits_last true lasts.Hand d refl e
 last_takes _ d e = absurd cc
@@ -191,11 +206,13 @@ pub record Spells {S : Type 0} (write : S → List Token) (fits : S → Bool) (o
   pub are : write s ≡ ops
 
 -- no operand
-pub bare_spells : {S : Type 0} (write : S → List Token) (fits : S → Bool) (w : Token) (ops : List Token) (y s : S) → fits y ≡ true → write y ≡ w ∷ []
+pub bare_spells : {S : Type 0} (write : S → List Token) (fits : S → Bool) (w : Token) (ops : List Token) (y s : S)
+    → fits y ≡ true → write y ≡ w ∷ []
     → (if is_bare ops then Some y else None) ≡ Some s → Spells write fits (w ∷ ops) s
 bare_spells write fits w ops y s fit are e =
     let parts = cond_some (is_bare ops) y s e in
-    subst (Spells write fits (w ∷ ops)) parts.1 (record { fit = fit; are = are ∙ ap (λ (l : List Token). w ∷ l) (bare_takes ops parts.0) })
+    subst (Spells write fits (w ∷ ops)) parts.1
+    (record { fit = fit; are = are ∙ ap (λ (l : List Token). w ∷ l) (bare_takes ops parts.0) })
 
 pub one_again : {A : Type 0} {write : A → Token} {fits : A → Bool} {read : Token → Option A} → Form write fits read
     → (x : A) → fits x ≡ true → one_of read (write x ∷ []) ≡ Some x
@@ -208,24 +225,28 @@ one_takes {read = read} form ops x e =
     let is = form.takes a.0 x a.2 in
     record { fit = is.0; are = ap (λ (b : Token). b ∷ []) is.1 ∙ only_takes ops a.0 a.1 }
 
-pub two_again : {A B : Type 0} {write_a : A → Token} {fits_a : A → Bool} {read_a : Token → Option A} {write_b : B → Token} {fits_b : B → Bool} {read_b : Token → Option B}
+pub two_again : {A B : Type 0} {write_a : A → Token} {fits_a : A → Bool} {read_a : Token → Option A} {write_b : B
+    → Token} {fits_b : B → Bool} {read_b : Token → Option B}
     → Form write_a fits_a read_a → Form write_b fits_b read_b → (x : A) (y : B) → (fits_a x && fits_b y) ≡ true
     → two_of read_a read_b (write_a x ∷ write_b y ∷ []) ≡ Some (x, y)
 two_again {write_a = write_a} {write_b = write_b} first second x y h =
     let parts = and_parts _ _ h in
     rw (both_again (write_a x) (write_b y), first.again x parts.0, second.again y parts.1) refl
 
-pair_takes : {A B : Type 0} {write_a : A → Token} {fits_a : A → Bool} {read_a : Token → Option A} {write_b : B → Token} {fits_b : B → Bool} {read_b : Token → Option B}
+pair_takes : {A B : Type 0} {write_a : A → Token} {fits_a : A → Bool} {read_a : Token → Option A} {write_b : B → Token}
+    {fits_b : B → Bool} {read_b : Token → Option B}
     → Form write_a fits_a read_a → Form write_b fits_b read_b → (a b : Token) (them : A × B)
     → (read_a a >>= λ x. read_b b >>= λ y. Some (x, y)) ≡ Some them
     → Spells (λ (p : A × B). write_a p.0 ∷ write_b p.1 ∷ []) (λ (p : A × B). fits_a p.0 && fits_b p.1) (a ∷ b ∷ []) them
-pair_takes {A = A} {B = B} {write_a = write_a} {fits_a = fits_a} {read_a = read_a} {write_b = write_b} {fits_b = fits_b} {read_b = read_b} first second a b them e =
+pair_takes {A = A} {B = B} {write_a = write_a} {fits_a = fits_a} {read_a = read_a} {write_b = write_b} {fits_b = fits_b}
+    {read_b = read_b} first second a b them e =
     by_parts (read_a a) (read_b b) refl refl e
   where
     Them : A × B → Type 0
     Them = Spells (λ (p : A × B). write_a p.0 ∷ write_b p.1 ∷ []) (λ (p : A × B). fits_a p.0 && fits_b p.1) (a ∷ b ∷ [])
 
-    by_parts : (m : Option A) (n : Option B) → read_a a ≡ m → read_b b ≡ n → (m >>= λ x. n >>= λ y. Some (x, y)) ≡ Some them → Them them
+    by_parts : (m : Option A) (n : Option B) → read_a a ≡ m → read_b b ≡ n
+        → (m >>= λ x. n >>= λ y. Some (x, y)) ≡ Some them → Them them
     by_parts None n p q e = absurd cc
     by_parts (Some x) None p q e = absurd cc
     by_parts (Some x) (Some y) p q e =
@@ -236,23 +257,30 @@ pair_takes {A = A} {B = B} {write_a = write_a} {fits_a = fits_a} {read_a = read_
           are = ap (λ (c : Token). c ∷ write_b y ∷ []) is_x.1 ∙ ap (λ (c : Token). a ∷ c ∷ []) is_y.1;
         })
 
-pub two_takes : {A B : Type 0} {write_a : A → Token} {fits_a : A → Bool} {read_a : Token → Option A} {write_b : B → Token} {fits_b : B → Bool} {read_b : Token → Option B}
-    → Form write_a fits_a read_a → Form write_b fits_b read_b → (ops : List Token) (them : A × B) → two_of read_a read_b ops ≡ Some them
+pub two_takes : {A B : Type 0} {write_a : A → Token} {fits_a : A → Bool} {read_a : Token → Option A} {write_b : B
+    → Token} {fits_b : B → Bool} {read_b : Token → Option B}
+    → Form write_a fits_a read_a → Form write_b fits_b read_b → (ops : List Token) (them : A × B)
+    → two_of read_a read_b ops ≡ Some them
     → Spells (λ (p : A × B). write_a p.0 ∷ write_b p.1 ∷ []) (λ (p : A × B). fits_a p.0 && fits_b p.1) ops them
-two_takes {A = A} {B = B} {write_a = write_a} {fits_a = fits_a} {read_a = read_a} {write_b = write_b} {fits_b = fits_b} {read_b = read_b} first second ops them e =
+two_takes {A = A} {B = B} {write_a = write_a} {fits_a = fits_a} {read_a = read_a} {write_b = write_b} {fits_b = fits_b}
+    {read_b = read_b} first second ops them e =
     by_words (both ops) refl e
   where
     By : List Token → Type 0
-    By words = Spells (λ (p : A × B). write_a p.0 ∷ write_b p.1 ∷ []) (λ (p : A × B). fits_a p.0 && fits_b p.1) words them
+    By words = Spells (λ (p : A × B). write_a p.0 ∷ write_b p.1 ∷ []) (λ (p : A × B). fits_a p.0 && fits_b p.1)
+        words them
 
-    by_words : (words : Option (Token × Token)) → both ops ≡ words → (words >>= λ (p : Token × Token). read_a p.0 >>= λ x. read_b p.1 >>= λ y. Some (x, y)) ≡ Some them
+    by_words : (words : Option (Token × Token)) → both ops ≡ words
+        → (words >>= λ (p : Token × Token). read_a p.0 >>= λ x. read_b p.1 >>= λ y. Some (x, y)) ≡ Some them
         → By ops
     by_words None is e = absurd cc
     by_words (Some p) is e = subst By (both_takes ops p is) (pair_takes first second p.0 p.1 them e)
 
 -- what is made of a row that was read
-pub made_spells : {A S : Type 0} (write : A → List Token) (fits : A → Bool) (read : List Token → Option A) (make : A → S) (write_s : S → List Token) (fits_s : S → Bool) (front : List Token) (ops : List Token) (s : S)
-    → ((x : A) → read ops ≡ Some x → Spells write fits ops x) → ((x : A) → fits_s (make x) ≡ fits x) → ((x : A) → write_s (make x) ≡ front ++ write x)
+pub made_spells : {A S : Type 0} (write : A → List Token) (fits : A → Bool) (read : List Token → Option A)
+    (make : A → S) (write_s : S → List Token) (fits_s : S → Bool) (front : List Token) (ops : List Token) (s : S)
+    → ((x : A) → read ops ≡ Some x → Spells write fits ops x) → ((x : A) → fits_s (make x) ≡ fits x)
+    → ((x : A) → write_s (make x) ≡ front ++ write x)
     → (read ops >>= λ x. Some (make x)) ≡ Some s → Spells write_s fits_s (front ++ ops) s
 made_spells write fits read make write_s fits_s front ops s takes same_fits same_words e =
     let x = some_bind (read ops) (λ x. Some (make x)) s e in
@@ -271,20 +299,26 @@ change_again (changes.Put j) h = rw (one_again places j h) refl
 change_again (changes.Take i j) h = rw (two_again entries places i j h) refl
 change_again (changes.Swap i j) h = rw (two_again entries places i j h) refl
 
-change_spells : (w : Keyword) (ops : List Token) (change : Change) → change_named w ops ≡ Some change → Spells change_words fits_change (tokens.Word w ∷ ops) change
-change_spells words.Keep ops change e = bare_spells change_words fits_change (tokens.Word words.Keep) ops changes.Keep change refl refl e
+change_spells : (w : Keyword) (ops : List Token) (change : Change) → change_named w ops ≡ Some change
+    → Spells change_words fits_change (tokens.Word w ∷ ops) change
+change_spells words.Keep ops change e = bare_spells change_words fits_change (tokens.Word words.Keep) ops changes.Keep
+    change refl refl e
 change_spells words.Put ops change e =
-    made_spells _ _ (one_of (number_at is_place)) changes.Put change_words fits_change (tokens.Word words.Put ∷ []) ops change
+    made_spells _ _ (one_of (number_at is_place)) changes.Put change_words fits_change (tokens.Word words.Put ∷ [])
+    ops change
     (one_takes places ops) (λ j. refl) (λ j. refl) e
 change_spells words.Take ops change e =
-    made_spells _ _ (two_of (number_at is_entry) (number_at is_place)) (λ at. changes.Take at.0 at.1) change_words fits_change (tokens.Word words.Take ∷ []) ops change
+    made_spells _ _ (two_of (number_at is_entry) (number_at is_place)) (λ at. changes.Take at.0 at.1) change_words
+    fits_change (tokens.Word words.Take ∷ []) ops change
     (two_takes entries places ops) (λ at. refl) (λ at. refl) e
 change_spells words.Swap ops change e =
-    made_spells _ _ (two_of (number_at is_entry) (number_at is_place)) (λ at. changes.Swap at.0 at.1) change_words fits_change (tokens.Word words.Swap ∷ []) ops change
+    made_spells _ _ (two_of (number_at is_entry) (number_at is_place)) (λ at. changes.Swap at.0 at.1) change_words
+    fits_change (tokens.Word words.Swap ∷ []) ops change
     (two_takes entries places ops) (λ at. refl) (λ at. refl) e
 change_spells _ ops change e = absurd cc
 
-pub change_takes : (ops : List Token) (change : Change) → change_at ops ≡ Some change → Spells change_words fits_change ops change
+pub change_takes : (ops : List Token) (change : Change) → change_at ops ≡ Some change
+    → Spells change_words fits_change ops change
 unfolding change_at
 change_takes (tokens.Word w ∷ ops) change e = change_spells w ops change e
 change_takes _ change e = absurd cc
@@ -292,5 +326,7 @@ change_takes _ change e = absurd cc
 pub change_read : (change : Change) → fits_change change ≡ true → AllByRecursion IsRead (change_words change)
 change_read changes.Keep h = (tt, tt)
 change_read (changes.Put j) h = (tt, (places.small j h, tt))
-change_read (changes.Take i j) h = let parts = and_parts (is_entry i) (is_place j) h in (tt, (entries.small i parts.0, (places.small j parts.1, tt)))
-change_read (changes.Swap i j) h = let parts = and_parts (is_entry i) (is_place j) h in (tt, (entries.small i parts.0, (places.small j parts.1, tt)))
+change_read (changes.Take i j) h = let parts = and_parts (is_entry i) (is_place j) h in
+    (tt, (entries.small i parts.0, (places.small j parts.1, tt)))
+change_read (changes.Swap i j) h = let parts = and_parts (is_entry i) (is_place j) h in
+    (tt, (entries.small i parts.0, (places.small j parts.1, tt)))

@@ -1,5 +1,6 @@
 -- Writing the texts of numbers one after the other: one turn of such a loop.
-use Rattle.std.proofs.Common.{◌≡◌, ◌∙◌, ℕ, zero, suc, ◌+◌, ◌-◌, ◌<◌, ◌≤◌, ◌==◌, Bool, true, false, if◌then◌else◌, List, [], ◌∷◌, ◌++◌, length, Option, Result, Ok, Err, refl, sym, ap, append-nil, arith}
+use Rattle.std.proofs.Common.{◌≡◌, ◌∙◌, ℕ, zero, suc, ◌+◌, ◌-◌, ◌<◌, ◌≤◌, ◌==◌, Bool, true, false, if◌then◌else◌, List}
+use Rattle.std.proofs.Common.{[], ◌∷◌, ◌++◌, length, Option, Result, Ok, Err, refl, sym, ap, append-nil, arith}
 use Rattle.std.specs.Io.KnownBytes.{Appends}
 use Rattle.brc_text.specs.Puts.{Puts, PutsUpTo}
 use Rattle.brc_words.specs.declared.fault.Fault.{Fault}
@@ -35,51 +36,65 @@ over_blank text first (suc count) blank = cc (blank first, over_blank text (firs
 
 -- an empty pile has no line
 pub empty_pile : (h : Heap) (t : ℕ) (pile : Pile) → is_empty_pile h t pile ≡ true → pile_text h t pile ≡ []
-empty_pile h t pile empty = over_blank (lying_text h t pile) 0 (length h.cells) (λ c. unlying h t pile c (lies_nowhere h t pile empty c))
+empty_pile h t pile empty = over_blank (lying_text h t pile) 0 (length h.cells)
+    (λ c. unlying h t pile c (lies_nowhere h t pile empty c))
   where
-    lies_nowhere : (h : Heap) (t : ℕ) (pile : Pile) → is_empty_pile h t pile ≡ true → (c : ℕ) → lies_on h t pile c ≡ false
+    lies_nowhere : (h : Heap) (t : ℕ) (pile : Pile) → is_empty_pile h t pile ≡ true → (c : ℕ)
+        → lies_on h t pile c ≡ false
     lies_nowhere h t piles.Queued empty c = ap (λ n. n == 1) (blank_bits (queue_at h t) empty c)
     lies_nowhere h t piles.Popped empty c = ap (λ n. n == 1) (blank_bits (popped_at h t) empty c)
     lies_nowhere h t piles.Work empty c = no_marks (worklist_at h t) empty c
 
     unlying : (h : Heap) (t : ℕ) (pile : Pile) (c : ℕ) → lies_on h t pile c ≡ false → lying_text h t pile c ≡ []
     unlying h t pile c nowhere =
-        ap (λ (b : Bool). if b then line (tokens.Word (pile_word pile) ∷ tokens.Number t ∷ tokens.Number c ∷ []) else []) nowhere
+        ap (λ (b : Bool). if b then line (tokens.Word (pile_word pile) ∷ tokens.Number t ∷ tokens.Number c ∷ [])
+        else []) nowhere
 
 -- a text without bytes is put by nothing
 pub nothing_puts : (old : Option (List ℕ)) {text : List ℕ} → text ≡ [] → Appends old old text
 nothing_puts old {text = text} none = ends (starts old text) none
 
 -- of so many numbers the texts of these many are put, and those from the first on are left
-pub record PutsOver (old new : Option (List ℕ)) (whole : List ℕ) (text : ℕ → List ℕ) (first count turns : ℕ) : Type 0 where
+pub record PutsOver (old new : Option (List ℕ)) (whole : List ℕ) (text : ℕ → List ℕ)
+    (first count turns : ℕ) : Type 0 where
   pub so_far : PutsUpTo old new whole (over text first (count - turns))
 
-pub turns_begin : (old : Option (List ℕ)) (text : ℕ → List ℕ) (first count : ℕ) → PutsOver old old (over text first count) text first count 0
+pub turns_begin : (old : Option (List ℕ)) (text : ℕ → List ℕ) (first count : ℕ)
+    → PutsOver old old (over text first count) text first count 0
 turns_begin old text first count =
     let all : count - 0 ≡ count = omega arith in
     record { so_far = rw all (starts old (over text first count)) }
 
-pub turn_puts : {old new : Option (List ℕ)} {whole : List ℕ} {text : ℕ → List ℕ} {first count turns : ℕ} (after : Option (List ℕ)) (piece : List ℕ)
+pub turn_puts : {old new : Option (List ℕ)} {whole : List ℕ} {text : ℕ → List ℕ} {first count turns : ℕ}
+    (after : Option (List ℕ)) (piece : List ℕ)
     → PutsOver old new whole text first count turns → turns < count → text first ≡ piece → Appends new after piece
     → PutsOver old after whole text (first + 1) count (turns + 1)
 turn_puts {text = text} {first = first} {count = count} {turns = turns} after piece before within is put = record {
   so_far = goes_on after piece (over text (first + 1) (count - (turns + 1))) before.so_far
-      (over_turn text first count turns within ∙ ap (λ (l : List ℕ). l ++ over text (first + 1) (count - (turns + 1))) is) put;
+      (over_turn text first count turns within
+      ∙ ap (λ (l : List ℕ). l ++ over text (first + 1) (count - (turns + 1))) is) put;
 }
 
-pub turn_fails : {old new after : Option (List ℕ)} {whole left : List ℕ} {text : ℕ → List ℕ} {first count turns : ℕ} (piece : List ℕ)
+pub turn_fails : {old new after : Option (List ℕ)} {whole left : List ℕ} {text : ℕ → List ℕ} {first count turns : ℕ}
+    (piece : List ℕ)
     → PutsOver old new whole text first count turns → turns < count → text first ≡ piece → PutsUpTo new after piece left
     → (rest : List ℕ) × PutsUpTo old after whole rest
 turn_fails {left = left} {text = text} {first = first} {count = count} {turns = turns} piece before within is part =
-    let behind = over text (first + 1) (count - (turns + 1)) in
-    (left ++ behind, fails piece behind before.so_far (over_turn text first count turns within ∙ ap (λ (l : List ℕ). l ++ behind) is) part)
+    let behind = over text (first + 1) (count - (turns + 1)) in (
+      left ++ behind,
+      fails piece behind before.so_far (over_turn text first count turns within
+          ∙ ap (λ (l : List ℕ). l ++ behind) is) part,
+    )
 
 pub turns_end : {old new : Option (List ℕ)} {whole : List ℕ} {text : ℕ → List ℕ} {first count turns : ℕ}
     → PutsOver old new whole text first count turns → count ≤ turns → Appends old new whole
-turns_end {text = text} {first = first} {count = count} {turns = turns} before past = ends before.so_far (over_none text first count turns past)
+turns_end {text = text} {first = first} {count = count} {turns = turns} before past =
+    ends before.so_far (over_none text first count turns past)
 
 -- the last piece, put or not, ends the text
-pub last_puts : {old mid : Option (List ℕ)} {whole rest : List ℕ} (new : Option (List ℕ)) (result : Result (Unit {0}) Fault) (piece : List ℕ) → PutsUpTo old mid whole rest
+pub last_puts : {old mid : Option (List ℕ)} {whole rest : List ℕ} (new : Option (List ℕ))
+    (result : Result (Unit {0}) Fault) (piece : List ℕ) → PutsUpTo old mid whole rest
     → rest ≡ piece → Puts mid new result piece → Puts old new result whole
 last_puts new (Ok done) piece so_far is put = ends (goes_on new piece [] so_far (is ∙ sym (append-nil piece)) put) refl
-last_puts new (Err fault) piece so_far is failed = (failed.0, failed.1 ++ [], fails piece [] so_far (is ∙ sym (append-nil piece)) failed.2)
+last_puts new (Err fault) piece so_far is failed =
+    (failed.0, failed.1 ++ [], fails piece [] so_far (is ∙ sym (append-nil piece)) failed.2)

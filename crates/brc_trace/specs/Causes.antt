@@ -1,5 +1,6 @@
 -- What is wrong with a line that isn't one of a trace.
-use Rattle.std.specs.Prelude.{◌≡◌, ◌≤◌, ℕ, ◌+◌, ◌-◌, ◌==◌, Bool, true, false, if◌then◌else◌, List, [], ◌∷◌, length, map, Option, Some, None, is_some, slice_index_or}
+use Rattle.std.specs.Prelude.{◌≡◌, ◌≤◌, ℕ, ◌+◌, ◌-◌, ◌==◌, Bool, true, false, if◌then◌else◌, List, [], ◌∷◌, length, map}
+use Rattle.std.specs.Prelude.{Option, Some, None, is_some, slice_index_or}
 use Rattle.std.specs.Char.{is_ascii_digit}
 use Rattle.std.specs.List.{list_any}
 use Rattle.law_world.specs.declared.edition.Edition.{Edition}
@@ -71,7 +72,8 @@ is_step_word edition _ = false
 
 -- the event's word, where the line begins with a number and such a word
 abbrev pub event_word : Edition → List Token → Option Keyword
-event_word edition (tokens.Number t ∷ tokens.Word word ∷ operands) = if is_step_word edition word then Some word else None
+event_word edition (tokens.Number t ∷ tokens.Word word ∷ operands) =
+    if is_step_word edition word then Some word else None
 event_word edition _ = None
 
 -- a number stands for any other in its place: 1 is in each range
@@ -99,9 +101,9 @@ pub record LacksForm (edition : Edition) (word : Keyword) (words : List Token) :
   pub begins : event_word edition words ≡ Some word
   pub formless : has_form edition words ≡ false
 
--- This is so of the line with this number, by its bytes and whether a line feed ends it, in a trace of this edition. It is
--- told of bad lines alone: of the head's line that it is no head, and of one with the form of its event that a number is
--- out of its range.
+-- This is so of the line with this number, by its bytes and whether a line feed ends it, in a trace of this edition. It
+-- is told of bad lines alone: of the head's line that it is no head, and of one with the form of its event that a
+-- number is out of its range.
 abbrev pub IsCause : Edition → Cause → ℕ → List ℕ × Bool → Type 0
 IsCause edition causes.NoLineFeed number piece = piece.1 ≡ false
 IsCause edition causes.CarriageReturn number piece = list_any (λ byte. byte == 13) piece.0 ≡ true

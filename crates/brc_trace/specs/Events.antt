@@ -11,7 +11,10 @@ use Rattle.brc_text.specs.declared.keyword.Keyword.TheVariants as words
 use Rattle.brc_text.specs.declared.token.Token.{Token}
 use Rattle.brc_text.specs.declared.token.Token.TheVariants as tokens
 use Rattle.brc_text.specs.Tokens.{◌>>=◌}
-use Rattle.brc_trace.specs.Operands.{kind_token, source_token, dropped_token, last_token, change_words, is_thread, is_cell, is_place, is_queue_word, fits_source, fits_dropped, fits_last, fits_change, number_at, kind_at, source_at, dropped_at, last_at, change_at, is_bare, one_of, two_of}
+use Rattle.brc_trace.specs.Operands.{kind_token, source_token, dropped_token, last_token, change_words, is_thread}
+use Rattle.brc_trace.specs.Operands.{is_cell, is_place, is_queue_word, fits_source, fits_dropped, fits_last}
+use Rattle.brc_trace.specs.Operands.{fits_change, number_at, kind_at, source_at, dropped_at, last_at, change_at}
+use Rattle.brc_trace.specs.Operands.{is_bare, one_of, two_of}
 
 -- the edition that has offers, and queue words that are opened again; all other events are in both
 abbrev pub is_two : Edition → Bool
@@ -98,7 +101,8 @@ fits edition event = fits_thread event.thread event.step && fits_step edition ev
 
 -- a cell, the kind that is born in it, and a place
 unfoldable pub birth_at : List Token → Option Step
-birth_at (a ∷ b ∷ d ∷ []) = number_at is_cell a >>= λ c. kind_at b >>= λ kind. number_at is_place d >>= λ k. Some (steps.Birth c kind k)
+birth_at (a ∷ b ∷ d ∷ []) = number_at is_cell a >>= λ c. kind_at b >>= λ kind. number_at is_place d >>= λ k. Some
+    (steps.Birth c kind k)
 birth_at _ = None
 
 -- each step by its word; a word that the edition hasn't spells none
@@ -107,13 +111,15 @@ step_at edition words.Claim operands = one_of (number_at is_cell) operands >>= �
 step_at edition words.Local operands = one_of (number_at is_cell) operands >>= λ c. Some (steps.InitLocal c)
 step_at edition words.Shared operands = one_of (number_at is_cell) operands >>= λ c. Some (steps.InitShared c)
 step_at edition words.Born operands = birth_at operands
-step_at edition words.Up operands = two_of source_at (number_at is_place) operands >>= λ by. Some (steps.LocalUp by.0 by.1)
+step_at edition words.Up operands = two_of source_at (number_at is_place) operands >>= λ by. Some
+    (steps.LocalUp by.0 by.1)
 step_at edition words.Down operands = one_of dropped_at operands >>= λ dropped. Some (steps.LocalDown dropped)
 step_at edition words.See operands = one_of (number_at is_cell) operands >>= λ c. Some (steps.SeeZero c)
 step_at edition words.Free operands = one_of (number_at is_cell) operands >>= λ c. Some (steps.Free c)
 step_at edition words.Untie operands = one_of (number_at is_cell) operands >>= λ c. Some (steps.Untie c)
 step_at edition words.Zero operands = one_of (number_at is_cell) operands >>= λ c. Some (steps.MergeZero c)
-step_at edition words.Shup operands = two_of source_at (number_at is_place) operands >>= λ by. Some (steps.SharedUp by.0 by.1)
+step_at edition words.Shup operands = two_of source_at (number_at is_place) operands >>= λ by. Some
+    (steps.SharedUp by.0 by.1)
 step_at edition words.Shdown operands = one_of dropped_at operands >>= λ dropped. Some (steps.SharedDown dropped)
 step_at edition words.Ask operands = one_of dropped_at operands >>= λ dropped. Some (steps.Ask dropped)
 step_at edition words.Last operands = one_of last_at operands >>= λ dropped. Some (steps.LastDown dropped)
@@ -121,14 +127,17 @@ step_at edition words.Enq operands = one_of (number_at is_cell) operands >>= λ 
 step_at edition words.Drain operands = one_of (number_at is_queue_word) operands >>= λ k. Some (steps.Drain k)
 step_at edition words.Add operands = one_of (number_at is_cell) operands >>= λ c. Some (steps.MergeAdd c)
 step_at edition words.Close operands = one_of (number_at is_queue_word) operands >>= λ k. Some (steps.Close k)
-step_at edition words.Nudge operands = two_of (number_at is_thread) (number_at is_queue_word) operands >>= λ to. Some (steps.Nudge to.0 to.1)
+step_at edition words.Nudge operands = two_of (number_at is_thread) (number_at is_queue_word) operands >>= λ to. Some
+    (steps.Nudge to.0 to.1)
 step_at edition words.Wake operands = if is_bare operands then Some steps.Wake else None
 step_at edition words.Lock operands = one_of (number_at is_place) operands >>= λ k. Some (steps.Lock k)
 step_at edition words.Unlock operands = change_at operands >>= λ change. Some (steps.Unlock change)
 step_at edition words.Register operands = one_of (number_at is_thread) operands >>= λ r. Some (steps.Register r)
 step_at edition words.Gather operands = one_of (number_at is_thread) operands >>= λ r. Some (steps.Gather r)
-step_at edition words.Offer operands = if is_two edition then (one_of (number_at is_cell) operands >>= λ c. Some (steps.Offer c)) else None
-step_at edition words.Open operands = if is_two edition then (one_of (number_at is_queue_word) operands >>= λ k. Some (steps.Reopen k)) else None
+step_at edition words.Offer operands =
+    if is_two edition then (one_of (number_at is_cell) operands >>= λ c. Some (steps.Offer c)) else None
+step_at edition words.Open operands = if is_two edition then (one_of (number_at is_queue_word) operands >>= λ k. Some
+    (steps.Reopen k)) else None
 step_at edition _ operands = None
 
 -- a step by the thread that may make it

@@ -40,13 +40,15 @@ ExplainsEvents start number events (Some told) = IsRefused start number events t
 pub record ExplainsTrace (bytes : List ℕ) (told : Option Refused) : Type 0 where
   pub trace : Listing
   pub spelled : trace_at bytes ≡ Ok trace
-  pub events : ExplainsEvents (opening_in trace.edition trace.cells trace.local_limit) (first_number trace.edition) trace.events told
+  pub events : ExplainsEvents (opening_in trace.edition trace.cells trace.local_limit) (first_number trace.edition)
+      trace.events told
 
 -- What is told of bytes: that they are too many, their least bad line and what is wrong with it, the first event that
 -- isn't enabled and why, or nothing where they are a trace whose events are a run.
 abbrev pub Explains : List ℕ → Option Why → Type 0
 Explains bytes (Some whys.TooLong) = MOST_INPUT < length bytes
-Explains bytes (Some (whys.Bad line cause)) = (trace_at bytes ≡ Err line) × IsCause (edition_at bytes) cause line (piece_at line bytes)
+Explains bytes (Some (whys.Bad line cause)) = (trace_at bytes ≡ Err line) × IsCause (edition_at bytes) cause line
+    (piece_at line bytes)
 Explains bytes (Some (whys.Refused told)) = ExplainsTrace bytes (Some told)
 Explains bytes None = ExplainsTrace bytes None
 
@@ -64,5 +66,6 @@ fault_of_why (whys.Refused told) = faults.BadTrace told.line reasons.NotEnabled
 -- what is told of a fault is of that fault, if the fault is right; of one that isn't of the trace nothing is told
 abbrev pub Agrees : List ℕ → Fault → Option Why → Type 0
 Agrees bytes fault None = Unit {0}
-Agrees bytes (faults.BadTrace line reason) (Some why) = IsBad reason line bytes → faults.BadTrace line reason ≡ fault_of_why why
+Agrees bytes (faults.BadTrace line reason) (Some why) = IsBad reason line bytes
+    → faults.BadTrace line reason ≡ fault_of_why why
 Agrees bytes _ (Some why) = ⊥

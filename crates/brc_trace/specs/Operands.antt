@@ -1,5 +1,6 @@
 -- The operands of a line: how each is written, its range, and what words are read as one.
-use Rattle.std.specs.Prelude.{ℕ, ◌/◌, Bool, true, false, List, [], ◌∷◌, Option, Some, None, nat_lt, nat_le, ◌&&◌, if◌then◌else◌}
+use Rattle.std.specs.Prelude.{ℕ, ◌/◌, Bool, true, false, List, [], ◌∷◌, Option, Some, None, nat_lt, nat_le, ◌&&◌}
+use Rattle.std.specs.Prelude.{if◌then◌else◌}
 use Rattle.brc_words.specs.declared.limits.TheConstants.{MOST_THREADS, MOST_CELLS, MOST_PLACES, MOST_ENTRIES}
 use Rattle.brc_words.specs.declared.kind.Kind.{Kind}
 use Rattle.brc_words.specs.declared.kind.Kind.TheVariants as kinds
@@ -164,8 +165,10 @@ two_of first second operands = both operands >>= λ them. first them.0 >>= λ x.
 abbrev pub change_named : Keyword → List Token → Option Change
 change_named words.Keep operands = if is_bare operands then Some changes.Keep else None
 change_named words.Put operands = one_of (number_at is_place) operands >>= λ j. Some (changes.Put j)
-change_named words.Take operands = two_of (number_at is_entry) (number_at is_place) operands >>= λ at. Some (changes.Take at.0 at.1)
-change_named words.Swap operands = two_of (number_at is_entry) (number_at is_place) operands >>= λ at. Some (changes.Swap at.0 at.1)
+change_named words.Take operands = two_of (number_at is_entry) (number_at is_place) operands >>= λ at. Some
+    (changes.Take at.0 at.1)
+change_named words.Swap operands = two_of (number_at is_entry) (number_at is_place) operands >>= λ at. Some
+    (changes.Swap at.0 at.1)
 change_named _ operands = None
 
 unfoldable pub change_at : List Token → Option Change

@@ -37,7 +37,8 @@ pub record AreMade (start : Heap) (read : Result (List Event) ℕ) (world : Heap
   pub run : IsRun start (reverse events)
   pub leads : world ≡ world_after start (reverse events)
 
--- the lines, of which the first has this number, are read as events, and the line is that of the first that isn't enabled
+-- the lines, of which the first has this number, are read as events, and the line is that of the first that isn't
+-- enabled
 pub record AreRefused (start : Heap) (number : ℕ) (read : Result (List Event) ℕ) (line : ℕ) : Type 0 where
   pub events : List Event
   pub spelled : read ≡ Ok events
@@ -91,5 +92,6 @@ abbrev pub Replays : Option (List ℕ) → Option (List ℕ) → Option (List �
 Replays input old new (Ok live) = IsWritten input old new live
 Replays input old new (Err (faults.BadTrace line reason)) = Keeps old new × IfSome input (IsBad reason line)
 Replays input old new (Err faults.OutOfMemory) = Keeps old new
-Replays input old new (Err faults.Io) = (front : List ℕ) × Appends old new front × ((front ≡ []) ⊎ IsHalfWritten input front)
+Replays input old new (Err faults.Io) = (front : List ℕ) × Appends old new front
+    × ((front ≡ []) ⊎ IsHalfWritten input front)
 Replays input old new (Err _) = ⊥

@@ -51,7 +51,8 @@ seen h e = record {
   registered = length h.rows - 1;
   thread = thread_spoken_of e.thread e.step;
   status = status_at h (thread_spoken_of e.thread e.step);
-  hand = only_if (is_registered h (thread_spoken_of e.thread e.step)) (row_at h (thread_spoken_of e.thread e.step)).hand;
+  hand = only_if (is_registered h (thread_spoken_of e.thread e.step))
+      (row_at h (thread_spoken_of e.thread e.step)).hand;
   locked = (row_at h (thread_spoken_of e.thread e.step)).locked;
   meant = option_map (cell_seen h) (meant_at h e.thread e.step);
 }

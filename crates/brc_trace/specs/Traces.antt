@@ -1,5 +1,6 @@
 -- What a trace is, its one spelling, and the trace that a text spells or else its first bad line.
-use Rattle.std.specs.Prelude.{◌≡◌, ◌<◌, ℕ, ◌+◌, Bool, true, List, [], ◌∷◌, ◌++◌, length, Option, Some, None, Result, Ok, Err, nat_lt, nat_le, ◌==◌, ◌&&◌, if◌then◌else◌}
+use Rattle.std.specs.Prelude.{◌≡◌, ◌<◌, ℕ, ◌+◌, Bool, true, List, [], ◌∷◌, ◌++◌, length, Option, Some, None, Result, Ok}
+use Rattle.std.specs.Prelude.{Err, nat_lt, nat_le, ◌==◌, ◌&&◌, if◌then◌else◌}
 use Rattle.std.specs.List.{flat_map}
 use Rattle.brc_words.specs.declared.fault.Fault.{Fault}
 use Rattle.brc_words.specs.declared.limits.TheConstants.{FEWEST_CELLS, MOST_CELLS, MOST_LOCAL, MOST_INPUT}
@@ -54,7 +55,8 @@ head_words cells local_limit = tokens.Word words.Heap ∷ tokens.Number cells �
 
 -- the head's line, and a line for each event
 abbrev pub headed_text : Listing → List ℕ
-headed_text trace = line (head_words trace.cells trace.local_limit) ++ flat_map (λ event. line (event_words event)) trace.events
+headed_text trace = line (head_words trace.cells trace.local_limit) ++ flat_map (λ event. line (event_words event))
+    trace.events
 
 -- the mark's line, where there is one, above them
 unfoldable pub trace_text : Listing → List ℕ
@@ -85,7 +87,8 @@ before_others number (Some event) (Err bad) = Err bad
 -- the events of these lines, of which the first has this number
 unfoldable pub events_at : Edition → ℕ → List (List ℕ × Bool) → Result (List Event) ℕ
 events_at edition number [] = Ok []
-events_at edition number (piece ∷ others) = before_others number (by_words (event_at edition) piece) (events_at edition (number + 1) others)
+events_at edition number (piece ∷ others) = before_others number (by_words (event_at edition) piece)
+    (events_at edition (number + 1) others)
 
 -- lines are counted from 1: the number of the head's, and that of the first event's behind it
 abbrev pub head_number : Edition → ℕ
@@ -97,13 +100,15 @@ first_number edition = head_number edition + 1
 
 abbrev pub below_head : Edition → Option (ℕ × ℕ) → Result (List Event) ℕ → Result Listing ℕ
 below_head edition None events = Err (head_number edition)
-below_head edition (Some head) (Ok events) = Ok (record { edition = edition; cells = head.0; local_limit = head.1; events = events })
+below_head edition (Some head) (Ok events) =
+    Ok (record { edition = edition; cells = head.0; local_limit = head.1; events = events })
 below_head edition (Some head) (Err bad) = Err bad
 
 -- a head's line, and those of its events
 unfoldable pub headed_at : Edition → List (List ℕ × Bool) → Result Listing ℕ
 headed_at edition [] = Err (head_number edition)
-headed_at edition (piece ∷ others) = below_head edition (by_words head_at piece) (events_at edition (first_number edition) others)
+headed_at edition (piece ∷ others) = below_head edition (by_words head_at piece)
+    (events_at edition (first_number edition) others)
 
 -- a first line that is no mark is the head of a trace of edition One
 abbrev pub below_mark : Option Edition → List ℕ × Bool → List (List ℕ × Bool) → Result Listing ℕ

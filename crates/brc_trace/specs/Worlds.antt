@@ -1,5 +1,6 @@
 -- The text of a world: what is written where a replay ends.
-use Rattle.std.specs.Prelude.{ℕ, zero, suc, ◌+◌, ◌-◌, ◌==◌, Bool, true, false, if◌then◌else◌, ℤ, pos, negsuc, List, [], ◌∷◌, ◌++◌, length, Option, Some, None, slice_index}
+use Rattle.std.specs.Prelude.{ℕ, zero, suc, ◌+◌, ◌-◌, ◌==◌, Bool, true, false, if◌then◌else◌, ℤ, pos, negsuc, List, []}
+use Rattle.std.specs.Prelude.{◌∷◌, ◌++◌, length, Option, Some, None, slice_index}
 use Rattle.brc_words.specs.declared.limits.TheConstants.{GLOBALS}
 use Rattle.brc_words.specs.declared.owner.Owner.{Owner}
 use Rattle.brc_words.specs.declared.owner.Owner.TheVariants as owners
@@ -13,7 +14,8 @@ use Rattle.law_world.specs.declared.row.Hand.TheVariants as hands
 use Rattle.law_world.specs.declared.row.Phase.{Phase}
 use Rattle.law_world.specs.declared.row.Phase.TheVariants as phases
 use Rattle.law_world.specs.Lists.{bit_of, place_at, is_marked, is_blank, is_unmarked}
-use Rattle.law_world.specs.Heap.{Heap, cell_at, entries_at, row_at, frame_at, popped_at, worklist_at, queue_at, is_gathered}
+use Rattle.law_world.specs.Heap.{Heap, cell_at, entries_at, row_at, frame_at, popped_at, worklist_at, queue_at}
+use Rattle.law_world.specs.Heap.{is_gathered}
 use Rattle.law_world.specs.Holding.{lives_at, total_of, live_count}
 use Rattle.brc_core.specs.declared.readers.Status.{Status}
 use Rattle.brc_core.specs.declared.readers.Status.TheVariants as statuses

@@ -3,7 +3,10 @@
 ghost use Rattle.std.specs.Prelude.{◌≡◌, ◌-◌, ℕ, List, true, Some, None, IfOk, IfSome, MatchOption, drop, map};
 ghost use Rattle.law_world.specs.declared.edition.Edition.{Edition as TheEdition};
 ghost use Rattle.brc_text.specs.Lines.{cut, tokens_at, pieces};
-ghost use Rattle.brc_trace.specs.Causes.{byte_at as byte_there, byte_before as byte_in_front, HasWideSpace, HasLeadingZero, is_step_word as is_of_a_step, event_word as word_of_event, form as form_of_word, has_form as have_form, IsCause, edition_at, first_piece, piece_at};
+ghost use Rattle.brc_trace.specs.Causes.{byte_at as byte_there, byte_before as byte_in_front, HasWideSpace};
+ghost use Rattle.brc_trace.specs.Causes.{HasLeadingZero, is_step_word as is_of_a_step, event_word as word_of_event};
+ghost use Rattle.brc_trace.specs.Causes.{form as form_of_word, has_form as have_form, IsCause, edition_at, first_piece};
+ghost use Rattle.brc_trace.specs.Causes.{piece_at};
 
 use crate::event_line::{is_two, step_of};
 use crate::reading::{head_number, read_mark};
@@ -84,7 +87,8 @@ fn has_leading_zero(line: &[u8]) -> bool
 
 /// What is wrong with the bytes of a line, by no look at its words.
 fn cause_of_bytes(line: &[u8]) -> Option<Cause>
-    ensures { IfSome result (λ cause. (edition : TheEdition) (number : ℕ) → IsCause edition cause number (line.now, true)) }
+    ensures { IfSome result (λ cause. (edition : TheEdition) (number : ℕ)
+        → IsCause edition cause number (line.now, true)) }
 {
     if line.contains(&b'\r') {
         Some(Cause::CarriageReturn)

@@ -6,7 +6,8 @@ ghost use Rattle.brc_text.specs.Lines.{line as spelled};
 ghost use Rattle.brc_text.specs.Puts.{Puts};
 ghost use Rattle.brc_text.specs.declared.keyword.Keyword.TheVariants as words;
 ghost use Rattle.brc_trace.specs.Operands.{change_words};
-ghost use Rattle.brc_trace.specs.Events.{birth_at, step_at, is_root_step as is_of_the_root, made_by, event_at, event_words, is_two as has_offers};
+ghost use Rattle.brc_trace.specs.Events.{birth_at, step_at, is_root_step as is_of_the_root, made_by, event_at};
+ghost use Rattle.brc_trace.specs.Events.{event_words, is_two as has_offers};
 ghost use Rattle.brc_trace.specs.Traces.{by_line};
 
 use crate::operands::{

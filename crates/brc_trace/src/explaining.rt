@@ -1,4 +1,5 @@
-//! Why a text is no trace, or one whose events aren't all enabled: a second look, at the bytes that a replay has refused.
+//! Why a text is no trace, or one whose events aren't all enabled: a second look, at the bytes that a replay has
+//! refused.
 
 ghost use Rattle.std.specs.Prelude.{◌≡◌, ◌≤◌, ◌+◌, IfOk, IfErr, IfSome, Some, None, take, length, false};
 ghost use Rattle.brc_words.specs.declared.limits.TheConstants.{MOST_INPUT};
@@ -124,8 +125,8 @@ fn reason_of<A: Allocator + Copy>(alloc: A, text: &[u8]) -> Result<Option<Why>, 
     }
 }
 
-/// Why a replay refuses the text, and on which line; none exactly where it doesn't, but for want of memory. The text is read
-/// and its events are made once more, and the list of them is kept.
+/// Why a replay refuses the text, and on which line; none exactly where it doesn't, but for want of memory. The text is
+/// read and its events are made once more, and the list of them is kept.
 pub fn explain<A: Allocator + Copy>(alloc: A, text: &[u8]) -> Result<Option<Why>, AllocError>
     ensures told { IfOk result (Explains text.now) }
     ensures none { (world : Heap) → IsReplayed text.now world → IfOk result (λ why. why ≡ None) }
@@ -162,7 +163,8 @@ pub fn run_replay_explained<A: Allocator + Copy, R: Read + Drop, W: Write>(
     mut reader: R,
     writer: &mut W,
 ) -> Result<bool, Unreplayed>
-    ensures replays { Replays (R.remaining reader) (W.contents writer.old) (W.contents writer.new) (without_why result) }
+    ensures replays { Replays (R.remaining reader) (W.contents writer.old) (W.contents writer.new)
+        (without_why result) }
     ensures why { IfErr result (λ told. IfSome told.why (λ why. IfSome (R.remaining reader)
         (λ input. Explains (take (MOST_INPUT + 1) input) (Some why)))) }
 

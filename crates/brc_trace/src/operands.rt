@@ -1,7 +1,12 @@
 //! The operands of a line: numbers in their ranges, kinds, sources, drops and changes, read and written.
 
 ghost use Rattle.std.specs.Prelude.{◌≡◌};
-ghost use Rattle.brc_trace.specs.Operands.{is_thread as thread_fits, is_cell, is_place, is_entry, is_queue_word, number_at, kind_named, kind_at, kind_word, source_at, source_token as source_written, dropped_at, dropped_token as dropped_written, last_at, last_token as last_written, change_named, change_at, is_bare as has_no_word, only as only_word, both as both_words};
+ghost use Rattle.brc_trace.specs.Operands.{is_thread as thread_fits, is_cell, is_place, is_entry, is_queue_word};
+ghost use Rattle.brc_trace.specs.Operands.{number_at, kind_named, kind_at, kind_word, source_at};
+ghost use Rattle.brc_trace.specs.Operands.{source_token as source_written, dropped_at};
+ghost use Rattle.brc_trace.specs.Operands.{dropped_token as dropped_written, last_at, last_token as last_written};
+ghost use Rattle.brc_trace.specs.Operands.{change_named, change_at, is_bare as has_no_word, only as only_word};
+ghost use Rattle.brc_trace.specs.Operands.{both as both_words};
 
 use brc_text::{Keyword, Letter, Token};
 use brc_words::{Kind, MOST_CELLS, MOST_ENTRIES, MOST_PLACES, MOST_THREADS};

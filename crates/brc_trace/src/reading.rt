@@ -2,7 +2,9 @@
 
 ghost use Rattle.std.specs.Prelude.{◌≡◌, ◌≤◌, length, Some, Ok, IfOk, MatchOption, MatchResult};
 ghost use Rattle.brc_text.specs.Lines.{pieces};
-ghost use Rattle.brc_trace.specs.Traces.{Listing, IsTrace, trace_text, mark_at, head_at, head_number as number_of_head, first_number, events_at, headed_at, lines_at, trace_at, by_line, bad_line, IsHead, Refuses, Gives, is_size as size_fits, is_limit as limit_fits};
+ghost use Rattle.brc_trace.specs.Traces.{Listing, IsTrace, trace_text, mark_at, head_at, head_number as number_of_head};
+ghost use Rattle.brc_trace.specs.Traces.{first_number, events_at, headed_at, lines_at, trace_at, by_line, bad_line};
+ghost use Rattle.brc_trace.specs.Traces.{IsHead, Refuses, Gives, is_size as size_fits, is_limit as limit_fits};
 ghost use Rattle.brc_trace.specs.View.{listing};
 
 use crate::event_line::read_event;

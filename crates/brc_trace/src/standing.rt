@@ -11,7 +11,8 @@ use brc_words::{Kind, Owner, State};
 use law_world::is_immortal;
 use std::alloc::Allocator;
 
-/// A cell that an event means: its owner, if it is one of the heap, and what is said of the object in it, if one is there.
+/// A cell that an event means: its owner, if it is one of the heap, and what is said of the object in it, if one is
+/// there.
 #[derive(Clone, Copy, Debug, PartialEq, Eq)]
 pub struct Meant {
     pub cell: u32,

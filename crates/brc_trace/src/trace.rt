@@ -6,8 +6,8 @@ ghost use Rattle.brc_trace.specs.Traces.{is_size, is_limit, all_fit};
 use law_world::{Edition, Event};
 use std::alloc::Allocator;
 
-/// A heap of so many cells, and the events that are to happen in it, in order. They are of one edition, which the text of the
-/// trace tells: each edition has a format of its own.
+/// A heap of so many cells, and the events that are to happen in it, in order. They are of one edition, which the text
+/// of the trace tells: each edition has a format of its own.
 #[derive(Debug, Drop)]
 pub struct Trace<A: Allocator> {
     pub edition: Edition,

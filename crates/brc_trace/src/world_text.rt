@@ -5,7 +5,9 @@ ghost use Rattle.law_world.specs.Heap.{cell_at, entries_at};
 ghost use Rattle.law_world.specs.Holding.{lives_at, live_count};
 ghost use Rattle.brc_core.specs.Readings.{ledgers_of};
 ghost use Rattle.brc_text.specs.Puts.{Puts};
-ghost use Rattle.brc_trace.specs.Worlds.{over, state_word, count_token, owner_number, local_token, entries_text, object_line, object_text, thread_text, edition_text, world_line, ledger_line, world_text};
+ghost use Rattle.brc_trace.specs.Worlds.{over, state_word, count_token, owner_number, local_token, entries_text};
+ghost use Rattle.brc_trace.specs.Worlds.{object_line, object_text, thread_text, edition_text, world_line, ledger_line};
+ghost use Rattle.brc_trace.specs.Worlds.{world_text};
 
 use crate::operands::word_of_kind;
 use crate::world_thread::put_thread;
@@ -81,7 +83,8 @@ fn put_entries<A: Allocator + Copy, W: Write>(
     writer: &mut W,
     cell: u32,
 ) -> Result<(), Fault>
-    ensures { Puts (W.contents writer.old) (W.contents writer.new) result (entries_text cell (entries_at world.now cell)) }
+    ensures { Puts (W.contents writer.old) (W.contents writer.new) result
+        (entries_text cell (entries_at world.now cell)) }
 {
     put_list(writer, cell, world.entries(cell))
 }
@@ -164,7 +167,8 @@ fn put_edition<W: Write>(writer: &mut W, edition: Edition) -> Result<(), Fault>
 
 /// Writes how many cells the heap has, and its local limit.
 fn put_head<A: Allocator + Copy, W: Write>(world: &World<A>, writer: &mut W) -> Result<(), Fault>
-    ensures { Puts (W.contents writer.old) (W.contents writer.new) result (world_line (length world.now.cells) world.now.limit) }
+    ensures { Puts (W.contents writer.old) (W.contents writer.new) result
+        (world_line (length world.now.cells) world.now.limit) }
 {
     put_line(
         writer,
@@ -178,7 +182,8 @@ fn put_head<A: Allocator + Copy, W: Write>(world: &World<A>, writer: &mut W) -> 
 
 /// Writes the births and frees of all threads, and how many objects live.
 fn put_ledger<A: Allocator + Copy, W: Write>(world: &World<A>, writer: &mut W) -> Result<(), Fault>
-    ensures { Puts (W.contents writer.old) (W.contents writer.new) result (ledger_line (ledgers_of world.now) (live_count world.now)) }
+    ensures { Puts (W.contents writer.old) (W.contents writer.new) result
+        (ledger_line (ledgers_of world.now) (live_count world.now)) }
 {
     let ledgers = world.ledgers();
     put_line(

@@ -3,7 +3,9 @@
 ghost use Rattle.std.specs.Prelude.{◌≡◌, length, true};
 ghost use Rattle.law_world.specs.Heap.{is_registered, row_at, frame_at};
 ghost use Rattle.brc_text.specs.Puts.{Puts};
-ghost use Rattle.brc_trace.specs.Worlds.{over, is_over, thread_line, status_word, phase_word, hand_text, place_text, frame_text, locked_text, pile_word, lies_on, lying_text, is_empty_pile, pile_text, holdings_text, thread_text};
+ghost use Rattle.brc_trace.specs.Worlds.{over, is_over, thread_line, status_word, phase_word, hand_text, place_text};
+ghost use Rattle.brc_trace.specs.Worlds.{frame_text, locked_text, pile_word, lies_on, lying_text, is_empty_pile};
+ghost use Rattle.brc_trace.specs.Worlds.{pile_text, holdings_text, thread_text};
 
 use brc_core::{Hand, Phase, Status, World};
 use brc_text::{Keyword, Token, put_line};

@@ -1,5 +1,6 @@
 -- From a call on the object of a register to the instruction that makes it.
-use Rattle.std.proofs.Common.{◌≡◌, ◌≢◌, ◌∙◌, ℕ, ◌<◌, false, List, [], ◌∷◌, zero, suc, length, get_or, set, Option, Some, None, Result, Ok, Err, MatchResult, MatchOption, refl, sym, ap, subst}
+use Rattle.std.proofs.Common.{◌≡◌, ◌≢◌, ◌∙◌, ℕ, ◌<◌, false, List, [], ◌∷◌, zero, suc, length, get_or, set, Option, Some}
+use Rattle.std.proofs.Common.{None, Result, Ok, Err, MatchResult, MatchOption, refl, sym, ap, subst}
 use Rattle.std.proofs.lemmas.List.{get_or-set_other, set-get_or}
 use Rattle.brc_words.specs.declared.fault.Fault.{Fault}
 use Rattle.brc_words.specs.declared.fault.Fault.TheVariants as faults
@@ -13,7 +14,8 @@ use Rattle.brc_meaning.specs.Outcomes.{◌>>=◌}
 use Rattle.brc_meaning.specs.States.{held, holding, calling, called, with_register}
 use Rattle.law_isolation.specs.Means.{Means, MeansBesides}
 use Rattle.law_isolation.specs.Goes.{is_want, Goes}
-use Rattle.law_isolation.specs.Calls.{with_objects, Comes, GivesNone, GivesOne, HandedMeant, HandsMeant, TakesMeant, SwapsMeant, PutsMeant}
+use Rattle.law_isolation.specs.Calls.{with_objects, Comes, GivesNone, GivesOne, HandedMeant, HandsMeant, TakesMeant}
+use Rattle.law_isolation.specs.Calls.{SwapsMeant, PutsMeant}
 use Rattle.law_isolation.specs.Asked.{asking, AsksNone, AsksOne, HandsBack, TakesAsked, SwapsAsked, PutsAsked}
 
 module _ {X Y Z E : Type 0} where
@@ -25,33 +27,47 @@ module _ {A : Type 0} where
   -- ---- what a call comes to, as the register is asked
 
   pub asks : {call : Object A → Result (Option Reference × Object A) Fault} {container : ℕ} {s : State A}
-      {outcome : Result (Option Reference × List (Object A)) Fault} → Comes call container s outcome → asking call container s ≡ outcome
+      {outcome : Result (Option Reference × List (Object A)) Fault} → Comes call container s outcome
+      → asking call container s ≡ outcome
   asks {call = call} {s = s} comes =
-      ap (λ (r : Result Reference Fault). r >>= λ reference. calling call reference s.objects) comes.refers ∙ comes.comes
+      ap (λ (r : Result Reference Fault). r >>= λ reference. calling call reference s.objects) comes.refers
+      ∙ comes.comes
 
-  module _ (call : Object A → Result (Option Reference × Object A) Fault) (container base : ℕ) (new : FrameSeen A) (registers : List (Option HandleSeen)) (s : State A) where
+  module _ (call : Object A → Result (Option Reference × Object A) Fault) (container base : ℕ) (new : FrameSeen A)
+      (registers : List (Option HandleSeen)) (s : State A) where
     none_asked : GivesNone call container base new registers s → AsksNone call container base new registers s
     none_asked gives = record { made = gives.made; comes = asks gives.comes; means = gives.means }
 
-    one_asked : (given : HandleSeen) → GivesOne call container base new registers s given → AsksOne call container base new registers s given
-    one_asked given gives = record { reference = gives.reference; made = gives.made; comes = asks gives.comes; means = gives.means }
+    one_asked : (given : HandleSeen) → GivesOne call container base new registers s given
+        → AsksOne call container base new registers s given
+    one_asked given gives = record {
+      reference = gives.reference;
+      made = gives.made;
+      comes = asks gives.comes;
+      means = gives.means;
+    }
 
     back_asked : {V : Type 0} (value : HandleSeen) (reference : Reference) (handed : Handed V)
-        → HandedMeant call container base new registers s value reference handed → HandsBack call container base new registers s value reference handed
+        → HandedMeant call container base new registers s value reference handed
+        → HandsBack call container base new registers s value reference handed
     back_asked value reference handed meant own = (asks (meant own).0, (meant own).1)
 
     pub takes_asked : {V : Type 0} (value : HandleSeen) (reference : Reference) (result : Result (Unit {0}) (Handed V))
-        → TakesMeant call container base new registers s value reference result → TakesAsked call container base new registers s value reference result
+        → TakesMeant call container base new registers s value reference result
+        → TakesAsked call container base new registers s value reference result
     takes_asked value reference (Ok done) gives = none_asked gives
     takes_asked value reference (Err handed) meant = back_asked value reference handed meant
 
     pub swaps_asked : {V : Type 0} (value : HandleSeen) (reference : Reference) (result : Result HandleSeen (Handed V))
-        → SwapsMeant call container base new registers s value reference result → SwapsAsked call container base new registers s value reference result
+        → SwapsMeant call container base new registers s value reference result
+        → SwapsAsked call container base new registers s value reference result
     swaps_asked value reference (Ok given) gives = one_asked given gives
     swaps_asked value reference (Err handed) meant = back_asked value reference handed meant
 
-    pub puts_asked : {V : Type 0} (value : HandleSeen) (reference : Reference) (result : Result (Option HandleSeen) (Handed V))
-        → PutsMeant call container base new registers s value reference result → PutsAsked call container base new registers s value reference result
+    pub puts_asked : {V : Type 0} (value : HandleSeen) (reference : Reference)
+        (result : Result (Option HandleSeen) (Handed V))
+        → PutsMeant call container base new registers s value reference result
+        → PutsAsked call container base new registers s value reference result
     puts_asked value reference (Ok None) gives = none_asked gives
     puts_asked value reference (Ok (Some given)) gives = one_asked given gives
     puts_asked value reference (Err handed) meant = back_asked value reference handed meant
@@ -60,7 +76,8 @@ module _ {A : Type 0} where
   pub asks_nothing : (call : Object A → Result (Option Reference × Object A) Fault) (container : ℕ) (s : State A)
       → get_or s.registers container None ≡ None → asking call container s ≡ Err faults.NoSuchPlace
   asks_nothing call container s none =
-      ap (λ (r : Option Reference). or_fault faults.NoSuchPlace r >>= λ reference. calling call reference s.objects) none
+      ap (λ (r : Option Reference). or_fault faults.NoSuchPlace r >>= λ reference. calling call reference
+      s.objects) none
 
   -- ---- the instruction, with the answer in a register
 
@@ -77,7 +94,8 @@ module _ {A : Type 0} where
       (outcome : Result (Option Reference × List (Object A)) Fault) → asking call container s ≡ outcome
       → called call container to s ≡ (outcome >>= answered to s)
   called_of call container to s outcome is =
-      called_asks call container to s ∙ ap (λ (r : Result (Option Reference × List (Object A)) Fault). r >>= answered to s) is
+      called_asks call container to s
+      ∙ ap (λ (r : Result (Option Reference × List (Object A)) Fault). r >>= answered to s) is
 
   -- ---- a value out of its register
 
@@ -86,7 +104,8 @@ module _ {A : Type 0} where
   emptied register s = with_register register None s
 
   -- another register has what it had
-  pub asks_emptied : (call : Object A → Result (Option Reference × Object A) Fault) (container value : ℕ) (s : State A) → container ≢ value
+  pub asks_emptied : (call : Object A → Result (Option Reference × Object A) Fault) (container value : ℕ) (s : State A)
+      → container ≢ value
       → asking call container (emptied value s) ≡ asking call container s
   asks_emptied call container value s apart =
       ap (λ (r : Option Reference). or_fault faults.NoSuchPlace r >>= λ reference. calling call reference s.objects)
@@ -100,7 +119,8 @@ set_twice (x ∷ xs) (suc i) a b = ap (λ (ys : List _). x ∷ ys) (set_twice xs
 
 module _ {A : Type 0} where
   -- what comes back into its register is as it was
-  pub put_back : (register : ℕ) (reference : Reference) (s : State A) → get_or s.registers register None ≡ Some reference
+  pub put_back : (register : ℕ) (reference : Reference) (s : State A)
+      → get_or s.registers register None ≡ Some reference
       → with_register register (Some reference) (emptied register s) ≡ s
   put_back register reference s had =
       ap (λ (registers : List (Option Reference)). record s { registers = registers })

@@ -1,6 +1,7 @@
--- What each call of the heap on the object of a register makes of what the frame and the registers mean: what the plain call does.
--- `OwnLog` of the log after the call is what the next poll tells.
-use Rattle.std.proofs.Common.{◌≡◌, ◌≢◌, refl, sym, subst, ℕ, ℤ, true, false, List, Option, Some, None, Result, Ok, Err, IfOk, IfErr}
+-- What each call of the heap on the object of a register makes of what the frame and the registers mean: what the plain
+-- call does. `OwnLog` of the log after the call is what the next poll tells.
+use Rattle.std.proofs.Common.{◌≡◌, ◌≢◌, refl, sym, subst, ℕ, ℤ, true, false, List, Option, Some, None, Result, Ok, Err}
+use Rattle.std.proofs.Common.{IfOk, IfErr}
 use Rattle.std.specs.Prelude.{MatchResult}
 use Rattle.brc_words.specs.declared.fault.Fault.{Fault}
 use Rattle.brc_words.specs.declared.fault.Fault.TheVariants as faults
@@ -31,28 +32,34 @@ use Rattle.law_isolation.specs.Means.{cell_meant, IsMeant, Means, MeansBesides}
 use Rattle.law_isolation.specs.Goes.{is_want}
 use Rattle.law_isolation.specs.Calls.{kind_meant, Finds, GivesOne, HandsMeant, TakesMeant, SwapsMeant, PutsMeant}
 use Rattle.law_isolation.proofs.Mapped_Lists.{same}
-use Rattle.law_isolation.proofs.Matching.{push_matches, pop_matches, get_matches, set_matches, send_matches, receive_matches, put_matches, find_matches, delete_matches}
+use Rattle.law_isolation.proofs.Matching.{push_matches, pop_matches, get_matches, set_matches, send_matches}
+use Rattle.law_isolation.proofs.Matching.{receive_matches, put_matches, find_matches, delete_matches}
 use Rattle.law_isolation.proofs.Showing.{has_kept}
-use Rattle.law_isolation.proofs.Joining.{handed_back, put_in, swapped_in, puts_means, swaps_means, takes_means, shares_means}
+use Rattle.law_isolation.proofs.Joining.{handed_back, put_in, swapped_in, puts_means, swaps_means, takes_means}
+use Rattle.law_isolation.proofs.Joining.{shares_means}
 use Rattle.law_isolation.proofs.Reading.{kind_read, len_read, int_read, text_read}
 
 module _ {A : Type 0} (old new : FrameSeen A) (k : ℕ) (call : PlainCall (Option ℕ)) where
-  plainly_paired : (fault : Fault) → fault ≢ faults.Busy → is_want fault ≡ false → RefusedPair old new k call fault → RefusedPlainly old new k call fault
+  plainly_paired : (fault : Fault) → fault ≢ faults.Busy → is_want fault ≡ false → RefusedPair old new k call fault
+      → RefusedPlainly old new k call fault
   plainly_paired faults.Busy busy want why = absurd (busy refl)
   plainly_paired faults.OutOfMemory busy want why = absurd (let bad : true ≡ false = want in cc)
   plainly_paired fault busy want why = why
 
-module _ {A : Type 0} (base : ℕ) (old new : FrameSeen A) (registers : List (Option HandleSeen)) (s : State A) (own : OwnLog new.heap.cells new.seat.log)
+module _ {A : Type 0} (base : ℕ) (old new : FrameSeen A) (registers : List (Option HandleSeen)) (s : State A)
+    (own : OwnLog new.heap.cells new.seat.log)
     (container : ℕ) (h : HandleSeen) (in_register : slot registers container ≡ Some h) where
   -- ---- a value goes in
 
-  module _ (value : HandleSeen) (reference : Reference) (means : MeansBesides base old registers s value reference) (apart : IsApart value registers) where
+  module _ (value : HandleSeen) (reference : Reference) (means : MeansBesides base old registers s value reference)
+      (apart : IsApart value registers) where
     pub push_means : (result : Result (Unit {0}) (Handed HandleSeen))
         → Late old h.place (λ mid. ListPush mid new h.place value.place result)
         → IfErr result (λ handed. handed.fault ≢ faults.Busy)
         → TakesMeant (object_call (calls.Push reference)) container base new registers s value reference result
     push_means result late busy =
-        puts_means base old new registers s own container h in_register (object_call (calls.Push reference)) (λ number. refl) value reference means apart
+        puts_means base old new registers s own container h in_register (object_call (calls.Push reference))
+        (λ number. refl) value reference means apart
         (λ part here object each. object_kept (IsMeant part) (calls.Push reference) object here each)
         plain_push (push_matches means.cells reference) result late busy
 
@@ -61,7 +68,8 @@ module _ {A : Type 0} (base : ℕ) (old new : FrameSeen A) (registers : List (Op
         → IfErr result (λ handed. handed.fault ≢ faults.Busy)
         → TakesMeant (object_call (calls.Send reference)) container base new registers s value reference result
     send_means result late busy =
-        puts_means base old new registers s own container h in_register (object_call (calls.Send reference)) (λ number. refl) value reference means apart
+        puts_means base old new registers s own container h in_register (object_call (calls.Send reference))
+        (λ number. refl) value reference means apart
         (λ part here object each. object_kept (IsMeant part) (calls.Send reference) object here each)
         plain_send (send_matches means.cells reference) result late busy
 
@@ -71,7 +79,8 @@ module _ {A : Type 0} (base : ℕ) (old new : FrameSeen A) (registers : List (Op
         → IfErr result (λ handed. handed.fault ≢ faults.Busy)
         → SwapsMeant (object_call (calls.Set index reference)) container base new registers s value reference result
     set_means index result late same busy =
-        swaps_means base old new registers s own container h in_register (object_call (calls.Set index reference)) (λ number. refl) value reference means apart
+        swaps_means base old new registers s own container h in_register (object_call (calls.Set index reference))
+        (λ number. refl) value reference means apart
         (λ part here object each. object_kept (IsMeant part) (calls.Set index reference) object here each)
         (plain_set index) (set_matches means.cells index reference) result late same busy
 
@@ -80,20 +89,27 @@ module _ {A : Type 0} (base : ℕ) (old new : FrameSeen A) (registers : List (Op
         → IfErr result (λ handed. handed.fault ≢ faults.Busy)
         → PutsMeant (keyed_call key (keyed.Put reference)) container base new registers s value reference result
     put_means key (Ok None) late busy =
-        put_in base old new registers s own container h in_register (keyed_call key (keyed.Put reference)) (λ number. refl) value reference means apart
+        put_in base old new registers s own container h in_register (keyed_call key (keyed.Put reference))
+        (λ number. refl) value reference means apart
         (λ part here object each. keyed_kept (IsMeant part) key (keyed.Put reference) object here each)
         (plain_put key) same None refl (put_matches means.cells key reference) late.0 late.1 late.2.did
     put_means key (Ok (Some given)) late busy =
         subst (GivesOne (keyed_call key (keyed.Put reference)) container base new registers s) (sym late.2.did.0)
-        (swapped_in base old new registers s own container h in_register (keyed_call key (keyed.Put reference)) (λ number. refl) value reference means apart
+        (swapped_in base old new registers s own container h in_register (keyed_call key (keyed.Put reference))
+        (λ number. refl) value reference means apart
         (λ part here object each. keyed_kept (IsMeant part) key (keyed.Put reference) object here each)
         (plain_put key) same Some (λ entry. refl) (put_matches means.cells key reference) late.0 late.1 late.2.did.1)
     put_means key (Err handed) late busy =
-        handed_back base old new registers s own container h in_register (keyed_call key (keyed.Put reference)) (λ number. refl) value reference means apart
+        handed_back base old new registers s own container h in_register (keyed_call key (keyed.Put reference))
+        (λ number. refl) value reference means apart
         (λ part here object each. keyed_kept (IsMeant part) key (keyed.Put reference) object here each)
-        (plain_put key (cell_meant means.cells reference)) same (put_matches means.cells key reference) late.0 late.1 late.2.frame handed
-        (λ want. plainly_paired late.0 new h.place (plain_put key (cell_meant means.cells reference)) handed.fault busy want
-        (late.2.refused (cell_meant means.cells reference) (has_kept old late.0 means.cells means.part value.place reference ((waits_frame late.1).places value.place) means.has).cell))
+        (plain_put key (cell_meant means.cells reference)) same (put_matches means.cells key reference) late.0 late.1
+        late.2.frame handed
+        (λ want. plainly_paired late.0 new h.place (plain_put key (cell_meant means.cells reference))
+        handed.fault busy want
+        (late.2.refused (cell_meant means.cells reference)
+        (has_kept old late.0 means.cells means.part value.place reference ((waits_frame late.1).places value.place)
+        means.has).cell))
 
   -- ---- a reference comes out
 
@@ -112,7 +128,8 @@ module _ {A : Type 0} (base : ℕ) (old new : FrameSeen A) (registers : List (Op
         → IfErr result (λ fault. fault ≢ faults.Busy)
         → HandsMeant (object_call (calls.Get index)) container base new registers s result
     get_means index result late busy =
-        shares_means base old new registers s own container h in_register (object_call (calls.Get index)) (λ number. refl) means
+        shares_means base old new registers s own container h in_register (object_call (calls.Get index))
+        (λ number. refl) means
         (λ part object each. object_kept (IsMeant part) (calls.Get index) object tt each)
         (plain_get index) (get_matches means.cells index) result late busy
 
@@ -121,7 +138,8 @@ module _ {A : Type 0} (base : ℕ) (old new : FrameSeen A) (registers : List (Op
         → IfErr result (λ fault. fault ≢ faults.Busy)
         → HandsMeant (object_call calls.Receive) container base new registers s result
     receive_means result late busy =
-        takes_means base old new registers s own container h in_register (object_call calls.Receive) (λ number. refl) means
+        takes_means base old new registers s own container h in_register (object_call calls.Receive)
+        (λ number. refl) means
         (λ part object each. object_kept (IsMeant part) calls.Receive object tt each)
         plain_receive (receive_matches means.cells) result late busy
 
@@ -130,7 +148,8 @@ module _ {A : Type 0} (base : ℕ) (old new : FrameSeen A) (registers : List (Op
         → IfErr result (λ fault. fault ≢ faults.Busy)
         → HandsMeant (keyed_call key keyed.Find) container base new registers s result
     find_means key result late busy =
-        shares_means base old new registers s own container h in_register (keyed_call key keyed.Find) (λ number. refl) means
+        shares_means base old new registers s own container h in_register (keyed_call key keyed.Find)
+        (λ number. refl) means
         (λ part object each. keyed_kept (IsMeant part) key keyed.Find object tt each)
         (plain_find key) (find_matches means.cells key) result late busy
 
@@ -139,7 +158,8 @@ module _ {A : Type 0} (base : ℕ) (old new : FrameSeen A) (registers : List (Op
         → IfErr result (λ fault. fault ≢ faults.Busy)
         → HandsMeant (keyed_call key keyed.Delete) container base new registers s result
     delete_means key result late busy =
-        takes_means base old new registers s own container h in_register (keyed_call key keyed.Delete) (λ number. refl) means
+        takes_means base old new registers s own container h in_register (keyed_call key keyed.Delete)
+        (λ number. refl) means
         (λ part object each. keyed_kept (IsMeant part) key keyed.Delete object tt each)
         (plain_del key) (delete_matches means.cells key) result late busy
 

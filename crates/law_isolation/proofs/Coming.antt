@@ -1,5 +1,7 @@
--- A call on the object that a register refers to: what it comes to by the plain meaning, and what is shown after the heap's.
-use Rattle.std.proofs.Common.{◌≡◌, ◌∙◌, refl, sym, ap, subst, ℕ, ℤ, Bool, List, Option, Some, None, IfSome, Result, Ok, Err, IfOk}
+-- A call on the object that a register refers to: what it comes to by the plain meaning, and what is shown after the
+-- heap's.
+use Rattle.std.proofs.Common.{◌≡◌, ◌∙◌, refl, sym, ap, subst, ℕ, ℤ, Bool, List, Option, Some, None, IfSome, Result, Ok}
+use Rattle.std.proofs.Common.{Err, IfOk}
 use Rattle.std.specs.Option.{option_map}
 use Rattle.std.proofs.lemmas.Option.{same_Some}
 use Rattle.brc_words.specs.declared.fault.Fault.{Fault}
@@ -49,7 +51,8 @@ module _ {X Y E : Type 0} (x z : X) (y w : Y) (is : ◌≡◌ {A = Result (X × 
   unfolding second_or
   same_second = ap (second_or y) is
 
-module _ {A R : Type 0} (cells : ℕ → ℕ) (call : ObjectCall A) (plain : PlainCall R) (answered : R → Option ℕ) (matches : Matches cells call plain answered) (object : Object A) where
+module _ {A R : Type 0} (cells : ℕ → ℕ) (call : ObjectCall A) (plain : PlainCall R) (answered : R → Option ℕ)
+    (matches : Matches cells call plain answered) (object : Object A) where
   -- the call on the object is done, with this answer and this left
   pub record IsDone (answer : R) (put : Contents) : Type 0 where
     pub done : Option Reference × Object A
@@ -57,21 +60,28 @@ module _ {A R : Type 0} (cells : ℕ → ℕ) (call : ObjectCall A) (plain : Pla
     pub answers : option_map (cell_meant cells) done.0 ≡ answered answer
     pub leaves : contents_meant cells done.1 ≡ put
 
-  done_by : (answer : R) (put : Contents) (r : Result (Option Reference × Object A) Fault) → call object ≡ r → Ok (answered answer, put) ≡ outcome_meant cells r → IsDone answer put
+  done_by : (answer : R) (put : Contents) (r : Result (Option Reference × Object A) Fault) → call object ≡ r
+      → Ok (answered answer, put) ≡ outcome_meant cells r → IsDone answer put
   done_by answer put (Ok done) went is = record {
     done = done;
     went = went;
-    answers = sym (same_first (answered answer) (option_map (cell_meant cells) done.0) put (contents_meant cells done.1) is);
-    leaves = sym (same_second (answered answer) (option_map (cell_meant cells) done.0) put (contents_meant cells done.1) is);
+    answers = sym (same_first (answered answer) (option_map (cell_meant cells) done.0) put
+        (contents_meant cells done.1) is);
+    leaves = sym (same_second (answered answer) (option_map (cell_meant cells) done.0) put
+        (contents_meant cells done.1) is);
   }
-  done_by answer put (Err fault) went is = absurd (let bad : ◌≡◌ {A = Result (Option ℕ × Contents) Fault} (Ok (answered answer, put)) (Err fault) = is in cc)
+  done_by answer put (Err fault) went is =
+      absurd (let bad : ◌≡◌ {A = Result (Option ℕ × Contents) Fault} (Ok (answered answer, put)) (Err fault) = is in cc)
 
-  pub is_done : (answer : R) (put : Contents) → plain (contents_meant cells object) ≡ Ok (answer, put) → IsDone answer put
+  pub is_done : (answer : R) (put : Contents) → plain (contents_meant cells object) ≡ Ok (answer, put)
+      → IsDone answer put
   is_done answer put is = done_by answer put (call object) refl (ap (told answered) (sym is) ∙ matches object)
 
-  refused_by : (fault : Fault) (r : Result (Option Reference × Object A) Fault) → call object ≡ r → Err fault ≡ outcome_meant cells r → call object ≡ Err fault
+  refused_by : (fault : Fault) (r : Result (Option Reference × Object A) Fault) → call object ≡ r
+      → Err fault ≡ outcome_meant cells r → call object ≡ Err fault
   refused_by fault (Ok done) went is =
-      absurd (let bad : ◌≡◌ {A = Result (Option ℕ × Contents) Fault} (Err fault) (Ok (option_map (cell_meant cells) done.0, contents_meant cells done.1)) = is in cc)
+      absurd (let bad : ◌≡◌ {A = Result (Option ℕ × Contents) Fault} (Err fault)
+      (Ok (option_map (cell_meant cells) done.0, contents_meant cells done.1)) = is in cc)
   refused_by fault (Err other) went is =
       went ∙ ap Err (let alike : ◌≡◌ {A = Result (Option ℕ × Contents) Fault} (Err fault) (Err other) = is in cc)
 
@@ -80,12 +90,14 @@ module _ {A R : Type 0} (cells : ℕ → ℕ) (call : ObjectCall A) (plain : Pla
 
 -- ---- calls on what a register refers to
 
-module _ {A : Type 0} (cells : ℕ → ℕ) (part : ℕ → Bool) (s : State A) (container cell : ℕ) (found : Contents) (there : FoundAs cells part s container cell found) (call : ObjectCall A) where
+module _ {A : Type 0} (cells : ℕ → ℕ) (part : ℕ → Bool) (s : State A) (container cell : ℕ) (found : Contents)
+    (there : FoundAs cells part s container cell found) (call : ObjectCall A) where
   -- what is done with the call's outcome
   abbrev then : Option Reference × Object A → Result (Option Reference × List (Object A)) Fault
   then done = Ok (done.0, changed there.reference done.1 s.objects)
 
-  calls_it : (o : Option (Object A)) (r : Result (Option Reference × Object A) Fault) → o ≡ Some there.object → call there.object ≡ r
+  calls_it : (o : Option (Object A)) (r : Result (Option Reference × Object A) Fault) → o ≡ Some there.object
+      → call there.object ≡ r
       → (or_fault faults.WrongKind o >>= call) >>= then ≡ r >>= then
   calls_it o r stands went =
       ap (λ (seen : Option (Object A)). (or_fault faults.WrongKind seen >>= call) >>= then) stands
@@ -94,24 +106,40 @@ module _ {A : Type 0} (cells : ℕ → ℕ) (part : ℕ → Bool) (s : State A) 
   pub comes_done : (done : Option Reference × Object A) → call there.object ≡ Ok done
       → Comes call container s (Ok (done.0, changed there.reference done.1 s.objects))
   comes_done done went =
-      record { reference = there.reference; refers = there.refers; comes = calls_it (meant there.reference s.objects) (Ok done) there.stands went }
+      record {
+        reference = there.reference;
+        refers = there.refers;
+        comes = calls_it (meant there.reference s.objects)
+            (Ok done) there.stands went;
+      }
 
   pub comes_refused : (fault : Fault) → call there.object ≡ Err fault → Comes call container s (Err fault)
   comes_refused fault went =
-      record { reference = there.reference; refers = there.refers; comes = calls_it (meant there.reference s.objects) (Err fault) there.stands went }
+      record {
+        reference = there.reference;
+        refers = there.refers;
+        comes = calls_it (meant there.reference s.objects)
+            (Err fault) there.stands went;
+      }
 
-module _ {A : Type 0} (base : ℕ) (cells : ℕ → ℕ) (part : ℕ → Bool) (old new : FrameSeen A) (registers : List (Option HandleSeen)) (s : State A) (shows : Shows base cells part old registers s)
-    (own : OwnLog new.heap.cells new.seat.log) (container : ℕ) (h : HandleSeen) (in_register : slot registers container ≡ Some h) (call : ObjectCall A) (places : KeepsPlacesOf old new registers) where
+module _ {A : Type 0} (base : ℕ) (cells : ℕ → ℕ) (part : ℕ → Bool) (old new : FrameSeen A)
+    (registers : List (Option HandleSeen)) (s : State A) (shows : Shows base cells part old registers s)
+    (own : OwnLog new.heap.cells new.seat.log) (container : ℕ) (h : HandleSeen)
+    (in_register : slot registers container ≡ Some h) (call : ObjectCall A)
+    (places : KeepsPlacesOf old new registers) where
   -- ---- the call is refused
 
-  pub refused : {R : Type 0} (plain : PlainCall R) (answered : R → Option ℕ) → Matches cells call plain answered → (fault : Fault) → RefusedPlainly old new h.place plain fault
+  pub refused : {R : Type 0} (plain : PlainCall R) (answered : R → Option ℕ) → Matches cells call plain answered
+      → (fault : Fault) → RefusedPlainly old new h.place plain fault
       → Comes call container s (Err fault) × Shows base cells part new registers s
   refused plain answered matches fault why =
       let looks : LooksOn old new h.place why.found = keep_looks old new h.place why.found own why.looks in
       let there : FoundAs cells part s container looks.cell why.found =
-      found_as base cells part old registers s shows container h in_register looks.cell why.found looks.of_place looks.finds in (
+      found_as base cells part old registers s shows container h in_register looks.cell why.found looks.of_place
+      looks.finds in (
         comes_refused cells part s container looks.cell why.found there call fault
-            (is_refused cells call plain answered matches there.object fault (ap plain (sym there.found_is) ∙ why.plain)),
+            (is_refused cells call plain answered matches there.object fault (ap plain (sym there.found_is)
+            ∙ why.plain)),
         shows_left base cells part old new registers s shows looks.leaves places,
       )
 
@@ -127,38 +155,49 @@ module _ {A : Type 0} (base : ℕ) (cells : ℕ → ℕ) (part : ℕ → Bool) (
     pub is_meant : IfSome answer (IsMeant part)
 
   module _ (no_int : (number : ℤ) → call (objects.Int number) ≡ Err faults.WrongKind)
-      (keeps : (object : Object A) → Each (IsMeant part) object → IfOk (call object) (IsKept (IsMeant part) (Each (IsMeant part)))) where
-    shown_after : (cell : ℕ) (found put : Contents) (replaces : (payload : Contents) → payloads_of old.heap.cells old.seat.log cell ≡ Some payload → ReplacesIn old new cell put)
-        (reference : Reference) → IsMeant part reference → (object : Object A) → meant reference s.objects ≡ Some object → cell ≡ cell_meant cells reference
-        → (done : Option Reference × Object A) → call object ≡ Ok done → contents_meant cells done.1 ≡ put → Each (IsMeant part) done.1
+      (keeps : (object : Object A) → Each (IsMeant part) object
+      → IfOk (call object) (IsKept (IsMeant part) (Each (IsMeant part)))) where
+    shown_after : (cell : ℕ) (found put : Contents) (replaces : (payload : Contents)
+        → payloads_of old.heap.cells old.seat.log cell ≡ Some payload → ReplacesIn old new cell put)
+        (reference : Reference) → IsMeant part reference → (object : Object A) → meant reference s.objects ≡ Some object
+        → cell ≡ cell_meant cells reference
+        → (done : Option Reference × Object A) → call object ≡ Ok done → contents_meant cells done.1 ≡ put
+        → Each (IsMeant part) done.1
         → Shows base cells part new registers (with_objects (changed reference done.1 s.objects) s)
-    shown_after cell found put replaces (references.Small number) is_meant object stands cell_is done went leaves leads =
+    shown_after cell found put replaces (references.Small number) is_meant object stands cell_is done went
+        leaves leads =
         absurd (
         let bad : ◌≡◌ {A = Result (Option Reference × Object A) Fault} (Ok done) (Err faults.WrongKind) =
         sym went ∙ ap call (sym (same_Some (objects.Int number) object stands)) ∙ no_int number in
         cc
         )
-    shown_after cell found put replaces (references.Object place) is_meant object stands cell_is done went leaves leads =
+    shown_after cell found put replaces (references.Object place) is_meant object stands cell_is done went
+        leaves leads =
         let at = shows.lives.there place is_meant in
-        let here : ReplacesIn old new cell put = replaces (contents_meant cells at.object) (ap (payloads_of old.heap.cells old.seat.log) cell_is ∙ at.payload) in
+        let here : ReplacesIn old new cell put = replaces (contents_meant cells at.object)
+        (ap (payloads_of old.heap.cells old.seat.log) cell_is ∙ at.payload) in
         let there : ReplacesIn old new (cells place) put = subst (λ c. ReplacesIn old new c put) cell_is here in
         shows_replaced base cells part old new registers s shows place done.1 is_meant leads
         (subst (λ (contents : Contents). ReplacesIn old new (cells place) contents) (sym leaves) there) places
 
     pub went : {R : Type 0} (plain : PlainCall R) (answered : R → Option ℕ) → Matches cells call plain answered
-        → (found put : Contents) (answer : R) → plain found ≡ Ok (answer, put) → Turns old new h.place found put → Went (answered answer)
+        → (found put : Contents) (answer : R) → plain found ≡ Ok (answer, put) → Turns old new h.place found put
+        → Went (answered answer)
     went plain answered matches found put answer is turn =
         let there : FoundAs cells part s container turn.cell found =
-        found_as base cells part old registers s shows container h in_register turn.cell found turn.of_place turn.finds in
+        found_as base cells part old registers s shows container h in_register turn.cell found turn.of_place
+        turn.finds in
         let done : IsDone cells call plain answered matches there.object answer put =
         is_done cells call plain answered matches there.object answer put (ap plain (sym there.found_is) ∙ is) in
         let kept : IsKept (IsMeant part) (Each (IsMeant part)) done.done =
-        subst (λ (r : Result (Option Reference × Object A) Fault). IfOk r (IsKept (IsMeant part) (Each (IsMeant part)))) done.went (keeps there.object there.leads) in
+        subst (λ (r : Result (Option Reference × Object A) Fault). IfOk r (IsKept (IsMeant part) (Each (IsMeant part))))
+        done.went (keeps there.object there.leads) in
         record {
           answer = done.done.0;
           made = changed there.reference done.done.1 s.objects;
           comes = comes_done cells part s container turn.cell found there call done.done done.went;
-          shown = shown_after turn.cell found put turn.replaces there.reference there.is_meant there.object there.stands there.cell_is done.done done.went done.leaves kept.1;
+          shown = shown_after turn.cell found put turn.replaces there.reference there.is_meant there.object there.stands
+              there.cell_is done.done done.went done.leaves kept.1;
           is_cell = done.answers;
           is_meant = kept.0;
         }
@@ -175,16 +214,23 @@ module _ {A : Type 0} (base : ℕ) (cells : ℕ → ℕ) (part : ℕ → Bool) (
   pub gives_none : Went None → GivesNone call container base new registers s
   gives_none done = record {
     made = done.made;
-    comes = subst (λ (answer : Option Reference). Comes call container s (Ok (answer, done.made))) (none_only done.answer done.is_cell) done.comes;
+    comes = subst (λ (answer : Option Reference). Comes call container s (Ok (answer, done.made)))
+        (none_only done.answer done.is_cell) done.comes;
     means = record { cells = cells; part = part; shows = done.shown };
   }
 
-  pub gives_one : (given : HandleSeen) (c : ℕ) → cell_in new given.place ≡ Some c → Went (Some c) → GivesOne call container base new registers s given
+  pub gives_one : (given : HandleSeen) (c : ℕ) → cell_in new given.place ≡ Some c → Went (Some c)
+      → GivesOne call container base new registers s given
   gives_one given c has done =
       let one = one_only done.answer c done.is_cell done.is_meant in
       record {
         reference = one.0;
         made = done.made;
         comes = subst (λ (answer : Option Reference). Comes call container s (Ok (answer, done.made))) one.1 done.comes;
-        means = record { cells = cells; part = part; shows = done.shown; has = record { cell = has ∙ ap Some one.2; meant = one.3 } };
+        means = record {
+          cells = cells;
+          part = part;
+          shows = done.shown;
+          has = record { cell = has ∙ ap Some one.2; meant = one.3 };
+        };
       }

@@ -1,5 +1,6 @@
 -- What a locking finds in the cell of a register's handle: the object that the register refers to.
-use Rattle.std.proofs.Common.{◌≡◌, ◌∙◌, refl, sym, ap, subst, ℕ, ◌+◌, ◌-◌, ◌<◌, ◌≤◌, ℤ, pos, negsuc, ◌-ℤ◌, Bool, true, eqb, arith, List, Option, Some, None, Ok, get_or}
+use Rattle.std.proofs.Common.{◌≡◌, ◌∙◌, refl, sym, ap, subst, ℕ, ◌+◌, ◌-◌, ◌<◌, ◌≤◌, ℤ, pos, negsuc, ◌-ℤ◌, Bool, true}
+use Rattle.std.proofs.Common.{eqb, arith, List, Option, Some, None, Ok, get_or}
 use Rattle.std.proofs.lemmas.Int.{ints}
 use Rattle.std.proofs.lemmas.Bool.{and_parts, ne_eqb, cond-false}
 use Rattle.brc_words.specs.declared.limits.TheConstants.{GLOBALS}
@@ -57,8 +58,10 @@ small_opens (negsuc n) is =
 -- ---- what is found
 
 -- a register that has a handle refers to what the handle's place has
-has_reference : (n : ℕ) (log : List Told) (cells : ℕ → ℕ) (part : ℕ → Bool) (h : HandleSeen) (o : Option HandleSeen) (q : Option Reference)
-    → o ≡ Some h → HeldAs n log cells part o q → (reference : Reference) × (q ≡ Some reference) × HasAt n log cells part h.place reference
+has_reference : (n : ℕ) (log : List Told) (cells : ℕ → ℕ) (part : ℕ → Bool) (h : HandleSeen) (o : Option HandleSeen)
+    (q : Option Reference)
+    → o ≡ Some h → HeldAs n log cells part o q → (reference : Reference) × (q ≡ Some reference) × HasAt n log cells part
+    h.place reference
 has_reference n log cells part h None q is has = absurd (let bad : None ≡ Some h = is in cc)
 has_reference n log cells part h (Some g) None is has = absurd has
 has_reference n log cells part h (Some g) (Some reference) is has =
@@ -66,7 +69,8 @@ has_reference n log cells part h (Some g) (Some reference) is has =
 
 module _ {A : Type 0} where
   -- the register refers to the object that was found in the cell
-  pub record FoundAs (cells : ℕ → ℕ) (part : ℕ → Bool) (s : State A) (container cell : ℕ) (found : Contents) : Type 0 where
+  pub record FoundAs (cells : ℕ → ℕ) (part : ℕ → Bool) (s : State A) (container cell : ℕ)
+      (found : Contents) : Type 0 where
     pub reference : Reference
     pub refers : held container s.registers ≡ Ok reference
     pub is_meant : IsMeant part reference
@@ -76,10 +80,13 @@ module _ {A : Type 0} where
     pub found_is : found ≡ contents_meant cells object
     pub leads : Each (IsMeant part) object
 
-  module _ (base : ℕ) (cells : ℕ → ℕ) (part : ℕ → Bool) (frame : FrameSeen A) (registers : List (Option HandleSeen)) (s : State A) (shows : Shows base cells part frame registers s)
-      (container : ℕ) (h : HandleSeen) (in_register : slot registers container ≡ Some h) (cell : ℕ) (found : Contents) (of_place : cell_in frame h.place ≡ Some cell)
+  module _ (base : ℕ) (cells : ℕ → ℕ) (part : ℕ → Bool) (frame : FrameSeen A) (registers : List (Option HandleSeen))
+      (s : State A) (shows : Shows base cells part frame registers s)
+      (container : ℕ) (h : HandleSeen) (in_register : slot registers container ≡ Some h) (cell : ℕ) (found : Contents)
+      (of_place : cell_in frame h.place ≡ Some cell)
       (finds : FindsOwn frame.heap.cells frame.seat.log cell found) where
-    found_at : (reference : Reference) → held container s.registers ≡ Ok reference → IsMeant part reference → cell ≡ cell_meant cells reference
+    found_at : (reference : Reference) → held container s.registers ≡ Ok reference → IsMeant part reference
+        → cell ≡ cell_meant cells reference
         → FoundAs cells part s container cell found
     found_at (references.Small number) refers is_meant cell_is =
         let opens : IsSmallCell number (cell_of_small number) = small_opens number is_meant in
@@ -90,7 +97,8 @@ module _ {A : Type 0} where
           cell_is = cell_is;
           object = objects.Int number;
           stands = refl;
-          found_is = finds.small (subst (λ c. c < GLOBALS) (sym cell_is) opens.0) ∙ ap opening_contents cell_is ∙ opens.1;
+          found_is = finds.small (subst (λ c. c < GLOBALS) (sym cell_is) opens.0) ∙ ap opening_contents cell_is
+              ∙ opens.1;
           leads = tt;
         }
     found_at (references.Object place) refers is_meant cell_is =
@@ -102,13 +110,15 @@ module _ {A : Type 0} where
           cell_is = cell_is;
           object = at.object;
           stands = at.stands;
-          found_is = finds.private (contents_meant cells at.object) (ap (payloads_of frame.heap.cells frame.seat.log) cell_is ∙ at.payload);
+          found_is = finds.private (contents_meant cells at.object)
+              (ap (payloads_of frame.heap.cells frame.seat.log) cell_is ∙ at.payload);
           leads = at.leads;
         }
 
     -- what was found in the cell of a register's place is the object that the register refers to
     pub found_as : FoundAs cells part s container cell found
     found_as =
-        let there = has_reference frame.heap.cells frame.seat.log cells part h (slot registers container) (get_or s.registers container None) in_register (shows.held container) in
+        let there = has_reference frame.heap.cells frame.seat.log cells part h (slot registers container)
+        (get_or s.registers container None) in_register (shows.held container) in
         found_at there.0 (ap (or_fault faults.NoSuchPlace) there.1) there.2.meant
         (same_Some cell (cell_meant cells there.0) (sym of_place ∙ there.2.cell))

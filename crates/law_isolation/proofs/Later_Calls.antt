@@ -1,5 +1,6 @@
 -- What a call did stands after what was done before it.
-use Rattle.std.proofs.Common.{arith, ◌≡◌, ◌≤◌, ◌<◌, ℕ, List, [], ◌∷◌, ◌++◌, Option, Some, None, Result, Ok, Err, ◌⊎◌, inl, inr, refl, sym, subst}
+use Rattle.std.proofs.Common.{arith, ◌≡◌, ◌≤◌, ◌<◌, ℕ, List, [], ◌∷◌, ◌++◌, Option, Some, None, Result, Ok, Err, ◌⊎◌}
+use Rattle.std.proofs.Common.{inl, inr, refl, sym, subst}
 use Rattle.std.proofs.lemmas.Bool.Decides.{leb_tells}
 use Rattle.brc_words.specs.declared.fault.Fault.{Fault}
 use Rattle.brc_words.specs.declared.fault.Fault.TheVariants as faults
@@ -15,7 +16,8 @@ use Rattle.brc_count.specs.Making.{Made}
 use Rattle.law_rule.specs.Seen.{counts_seen}
 use Rattle.brc_lock.specs.Waiting.{Waits, IsBusy}
 use Rattle.brc_containers.specs.Called.{Late}
-use Rattle.brc_containers.specs.Changing.{PlainCall, Changes, Puts, Swaps, Takes, Shares, RefusedPlainly, RefusedForWant}
+use Rattle.brc_containers.specs.Changing.{PlainCall, Changes, Puts, Swaps, Takes, Shares, RefusedPlainly}
+use Rattle.brc_containers.specs.Changing.{RefusedForWant}
 use Rattle.brc_containers.specs.Looking.{LooksAt}
 use Rattle.law_living.specs.Later.{IsLater}
 use Rattle.law_living.proofs.Earlier.{later_same, later_one, later_both, later_is}
@@ -35,7 +37,8 @@ one_more : (old : List Told) (x : Told) (new : List Told) → new ≡ x ∷ old 
 one_more old x new is = later_is old new (x ∷ old) is (later_one x old old (later_same old))
 
 module _ {A : Type 0} where
-  pub later_waits : {old : FrameSeen A} {k : ℕ} {new : FrameSeen A} → Waits old k new → IsLater old.seat.log new.seat.log
+  pub later_waits : {old : FrameSeen A} {k : ℕ} {new : FrameSeen A} → Waits old k new
+      → IsLater old.seat.log new.seat.log
   later_waits {old = old} Waits.NoTry = later_same old.seat.log
   later_waits {old = old} {new = new} (Waits.OneMore mid _ waits busy) =
       later_is old.seat.log new.seat.log _ busy.busy.note (later_one _ old.seat.log mid.seat.log (later_waits waits))
@@ -43,13 +46,17 @@ module _ {A : Type 0} where
   pub later_changes : {old new : FrameSeen A} {k : ℕ} {found : Contents} {change : Change} {put : Contents}
       → Changes old new k found change put → IsLater old.seat.log new.seat.log
   later_changes {old = old} {new = new} changes =
-      later_is old.seat.log new.seat.log _ changes.events (later_one _ old.seat.log _ (later_one _ old.seat.log old.seat.log (later_same old.seat.log)))
+      later_is old.seat.log new.seat.log _ changes.events
+      (later_one _ old.seat.log _ (later_one _ old.seat.log old.seat.log (later_same old.seat.log)))
 
-  pub later_looks : {old new : FrameSeen A} {k : ℕ} {found : Contents} → LooksAt old new k found → IsLater old.seat.log new.seat.log
+  pub later_looks : {old new : FrameSeen A} {k : ℕ} {found : Contents} → LooksAt old new k found
+      → IsLater old.seat.log new.seat.log
   later_looks {old = old} {new = new} looks =
-      later_is old.seat.log new.seat.log _ looks.events (later_one _ old.seat.log _ (later_one _ old.seat.log old.seat.log (later_same old.seat.log)))
+      later_is old.seat.log new.seat.log _ looks.events
+      (later_one _ old.seat.log _ (later_one _ old.seat.log old.seat.log (later_same old.seat.log)))
 
-  counted : (old new : FrameSeen A) (source : Source) (k c : ℕ) → CountsUp old new source k c → IsLater old.seat.log new.seat.log
+  counted : (old new : FrameSeen A) (source : Source) (k c : ℕ) → CountsUp old new source k c
+      → IsLater old.seat.log new.seat.log
   counted old new source k c up = elim (leb_tells FIRST_MORTAL c) [
     | inr immortal ↦ one_more old.seat.log _ new.seat.log (up.immortal immortal.1).told
     | inl mortal ↦ elim (here_or old.heap.cells old.heap.local_limit old.seat.log c) [
@@ -58,18 +65,24 @@ module _ {A : Type 0} where
     ]
   ]
 
-  pub later_given : {old new : FrameSeen A} {source : Source} {c : ℕ} {given : HandleSeen} → Given old new source c given
+  pub later_given : {old new : FrameSeen A} {source : Source} {c : ℕ} {given : HandleSeen}
+      → Given old new source c given
       → IsLater old.seat.log new.seat.log
-  later_given {old = old} {new = new} {source = source} {c = c} {given = given} is = counted old new source given.place c is.counted
+  later_given {old = old} {new = new} {source = source} {c = c} {given = given} is =
+      counted old new source given.place c is.counted
 
-  pub later_made : {old new : FrameSeen A} {put : Contents} {given : HandleSeen} → Made old new put given → IsLater old.seat.log new.seat.log
+  pub later_made : {old new : FrameSeen A} {put : Contents} {given : HandleSeen} → Made old new put given
+      → IsLater old.seat.log new.seat.log
   later_made {old = old} {new = new} made =
-      let looked : IsLater old.seat.log made.claimed.mid = record { items = made.claimed.passed.looks; is = made.claimed.passed.above }
-      in let claimed : IsLater old.seat.log made.mid = later_is old.seat.log made.mid _ made.claimed.told (later_one _ old.seat.log made.claimed.mid looked)
+      let looked : IsLater old.seat.log made.claimed.mid =
+      record { items = made.claimed.passed.looks; is = made.claimed.passed.above }
+      in let claimed : IsLater old.seat.log made.mid = later_is old.seat.log made.mid _ made.claimed.told
+      (later_one _ old.seat.log made.claimed.mid looked)
       in later_is old.seat.log new.seat.log _ made.told
       (later_one _ old.seat.log _ (later_one _ old.seat.log _ (later_one _ old.seat.log made.mid claimed)))
 
-  pub later_shares : {old new : FrameSeen A} {k : ℕ} {call : PlainCall ℕ} {given : HandleSeen} → Shares old new k call given
+  pub later_shares : {old new : FrameSeen A} {k : ℕ} {call : PlainCall ℕ} {given : HandleSeen}
+      → Shares old new k call given
       → IsLater old.seat.log new.seat.log
   later_shares {old = old} {new = new} is =
       let locks : IsLater old.seat.log is.locked.seat.log = one_more old.seat.log _ is.locked.seat.log is.locks
@@ -79,6 +92,7 @@ module _ {A : Type 0} where
 
   -- after some lost tries
   pub later_late : {old : FrameSeen A} (new : FrameSeen A) {k : ℕ} {done : FrameSeen A → Type 0}
-      → ((mid : FrameSeen A) → done mid → IsLater mid.seat.log new.seat.log) → Late old k done → IsLater old.seat.log new.seat.log
+      → ((mid : FrameSeen A) → done mid → IsLater mid.seat.log new.seat.log) → Late old k done
+      → IsLater old.seat.log new.seat.log
   later_late {old = old} new then late =
       later_both old.seat.log late.0.seat.log new.seat.log (later_waits late.1) (then late.0 late.2)

@@ -1,5 +1,6 @@
 -- Lines after lines: where the first were all run, what comes of the later ones comes of both.
-use Rattle.std.proofs.Common.{◌≡◌, ◌∙◌, ℕ, true, false, List, [], ◌∷◌, ◌++◌, Option, Result, Ok, Err, refl, sym, ap, subst}
+use Rattle.std.proofs.Common.{◌≡◌, ◌∙◌, ℕ, true, false, List, [], ◌∷◌, ◌++◌, Option, Result, Ok, Err, refl, sym, ap}
+use Rattle.std.proofs.Common.{subst}
 use Rattle.brc_words.specs.declared.fault.Fault.{Fault}
 use Rattle.brc_count.specs.Frames.{FrameSeen, HandleSeen}
 use Rattle.brc_script.specs.Instructions.{NumberedLine}
@@ -26,19 +27,24 @@ module _ {A : Type 0} where
   appended [] ys zs = refl
   appended (x ∷ xs) ys zs = ap (λ (lines : List (NumberedLine A)). x ∷ lines) (appended xs ys zs)
 
-  pub nothing_run : (base : ℕ) (frame : FrameSeen A) (registers : List (Option HandleSeen)) (printed : List ℕ) (s : State A)
+  pub nothing_run : (base : ℕ) (frame : FrameSeen A) (registers : List (Option HandleSeen)) (printed : List ℕ)
+      (s : State A)
       → At base frame registers printed s → WentOn base frame registers printed s []
   nothing_run base frame registers printed s here = record { next = s; meant = refl; here = here }
 
-  pub went_both : {base : ℕ} {frame : FrameSeen A} {registers : List (Option HandleSeen)} {printed : List ℕ} (s next : State A)
-      (lines later : List (NumberedLine A)) → lines_after lines s ≡ Ok next → WentOn base frame registers printed next later
+  pub went_both : {base : ℕ} {frame : FrameSeen A} {registers : List (Option HandleSeen)} {printed : List ℕ}
+      (s next : State A)
+      (lines later : List (NumberedLine A)) → lines_after lines s ≡ Ok next
+      → WentOn base frame registers printed next later
       → WentOn base frame registers printed s (lines ++ later)
   went_both s next lines later is went =
       record { next = went.next; meant = after_both lines later s next is ∙ went.meant; here = went.here }
 
-  pub stopped_after : {base : ℕ} {frame : FrameSeen A} {registers : List (Option HandleSeen)} {printed : List ℕ} {fault : Fault} {line : ℕ}
+  pub stopped_after : {base : ℕ} {frame : FrameSeen A} {registers : List (Option HandleSeen)} {printed : List ℕ}
+      {fault : Fault} {line : ℕ}
       (s next : State A) (lines later : List (NumberedLine A)) → lines_after lines s ≡ Ok next
-      → Stopped base frame registers printed next later fault line → Stopped base frame registers printed s (lines ++ later) fault line
+      → Stopped base frame registers printed next later fault line
+      → Stopped base frame registers printed s (lines ++ later) fault line
   stopped_after s next lines later is stopped = record {
     broke = λ machines.
         let off : BrokeOff _ next later = stopped.broke machines
@@ -59,7 +65,8 @@ module _ {A : Type 0} where
         };
   }
 
-  pub stopped_before : {base : ℕ} {frame : FrameSeen A} {registers : List (Option HandleSeen)} {printed : List ℕ} {fault : Fault} {line : ℕ}
+  pub stopped_before : {base : ℕ} {frame : FrameSeen A} {registers : List (Option HandleSeen)} {printed : List ℕ}
+      {fault : Fault} {line : ℕ}
       (s : State A) (lines later : List (NumberedLine A)) → Stopped base frame registers printed s lines fault line
       → Stopped base frame registers printed s (lines ++ later) fault line
   stopped_before s lines later stopped = record {
@@ -68,7 +75,8 @@ module _ {A : Type 0} where
         in record {
           front = off.front;
           later = off.later ++ later;
-          whole = ap (λ (these : List (NumberedLine A)). these ++ later) off.whole ∙ sym (appended off.front off.later later);
+          whole = ap (λ (these : List (NumberedLine A)). these ++ later) off.whole
+              ∙ sym (appended off.front off.later later);
           next = off.next;
           meant = off.meant;
           same = off.same;

@@ -1,5 +1,6 @@
 -- The calls of lists and queues commute with a map of their entries.
-use Rattle.std.proofs.Common.{◌≡◌, ◌∙◌, refl, sym, ap, ℕ, ◌-◌, Bool, true, false, cond, ltb, List, [], ◌∷◌, ◌++◌, map, length, take, drop, set, Option, Some, None, Result, Ok, Err, slice_get}
+use Rattle.std.proofs.Common.{◌≡◌, ◌∙◌, refl, sym, ap, ℕ, ◌-◌, Bool, true, false, cond, ltb, List, [], ◌∷◌, ◌++◌, map}
+use Rattle.std.proofs.Common.{length, take, drop, set, Option, Some, None, Result, Ok, Err, slice_get}
 use Rattle.std.specs.Option.{option_map}
 use Rattle.std.proofs.lemmas.List.{map-append, length-map, take-map, drop-map, map-set}
 use Rattle.std.proofs.lemmas.Option.{slice_get-map}
@@ -24,7 +25,8 @@ module _ {X Y : Type 0} (f : X → Y) where
   answer_mapped (Ok x) = Ok (f x)
   answer_mapped (Err fault) = Err fault
 
-  pub or_fault_mapped : (fault : Fault) (o : Option X) → or_fault fault (option_map f o) ≡ answer_mapped (or_fault fault o)
+  pub or_fault_mapped : (fault : Fault) (o : Option X) → or_fault fault (option_map f o) ≡ answer_mapped
+      (or_fault fault o)
   or_fault_mapped fault None = refl
   or_fault_mapped fault (Some x) = refl
 
@@ -33,13 +35,16 @@ module _ {X Y : Type 0} (f : X → Y) where
   leaving_mapped rest left (Ok x) = refl
   leaving_mapped rest left (Err fault) = refl
 
-  pub get_mapped : (entries : List X) (index : ℕ) → lists.get (map f entries) index ≡ answer_mapped (lists.get entries index)
+  pub get_mapped : (entries : List X) (index : ℕ) → lists.get (map f entries) index ≡ answer_mapped
+      (lists.get entries index)
   get_mapped entries index =
-      ap (or_fault faults.NoSuchPlace) (slice_get-map f entries index) ∙ or_fault_mapped faults.NoSuchPlace (slice_get entries index)
+      ap (or_fault faults.NoSuchPlace) (slice_get-map f entries index)
+      ∙ or_fault_mapped faults.NoSuchPlace (slice_get entries index)
 
   -- an entry comes out, and others are left
   taken_mapped : (entries left : List X) (index : ℕ) (mapped : List Y) → mapped ≡ map f left
-      → leaving mapped (lists.get (map f entries) index) ≡ outcome_mapped f (map f) (leaving left (lists.get entries index))
+      → leaving mapped (lists.get (map f entries) index) ≡ outcome_mapped f (map f)
+      (leaving left (lists.get entries index))
   taken_mapped entries left index mapped is =
       ap (λ (rest : List Y). leaving rest (lists.get (map f entries) index)) is
       ∙ ap (leaving (map f left)) (get_mapped entries index)
@@ -54,19 +59,24 @@ module _ {X Y : Type 0} (f : X → Y) where
   pub push_mapped : (entries : List X) (value : X)
       → lists.push (map f entries) (f value) ≡ outcome_mapped same (map f) (lists.push entries value)
   push_mapped entries value =
-      ap (λ (len : ℕ). cond (ltb len MOST_ENTRIES) (Ok (tt, map f entries ++ f value ∷ [])) (Err faults.Full)) (length-map entries f)
+      ap (λ (len : ℕ). cond (ltb len MOST_ENTRIES) (Ok (tt, map f entries ++ f value ∷ [])) (Err faults.Full))
+      (length-map entries f)
       ∙ pushed_if (ltb (length entries) MOST_ENTRIES) entries value
 
   pub pop_mapped : (entries : List X) → lists.pop (map f entries) ≡ outcome_mapped f (map f) (lists.pop entries)
   pop_mapped entries =
-      ap (λ (len : ℕ). leaving (take (len - 1) (map f entries)) (lists.get (map f entries) (len - 1))) (length-map entries f)
-      ∙ taken_mapped entries (take (length entries - 1) entries) (length entries - 1) (take (length entries - 1) (map f entries))
+      ap (λ (len : ℕ). leaving (take (len - 1) (map f entries)) (lists.get (map f entries) (len - 1)))
+      (length-map entries f)
+      ∙ taken_mapped entries (take (length entries - 1) entries) (length entries - 1)
+      (take (length entries - 1) (map f entries))
       (take-map f (length entries - 1) entries)
 
   pub set_mapped : (entries : List X) (index : ℕ) (value : X)
       → lists.set (map f entries) index (f value) ≡ outcome_mapped f (map f) (lists.set entries index value)
   set_mapped entries index value =
-      taken_mapped entries (set entries index value) index (set (map f entries) index (f value)) (sym (map-set f entries index value))
+      taken_mapped entries (set entries index value) index (set (map f entries) index (f value))
+      (sym (map-set f entries index value))
 
-  pub receive_mapped : (entries : List X) → queues.receive (map f entries) ≡ outcome_mapped f (map f) (queues.receive entries)
+  pub receive_mapped : (entries : List X) → queues.receive (map f entries) ≡ outcome_mapped f (map f)
+      (queues.receive entries)
   receive_mapped entries = taken_mapped entries (drop 1 entries) 0 (drop 1 (map f entries)) (drop-map f 1 entries)

@@ -23,7 +23,8 @@ use Rattle.brc_meaning.specs.declared.object.Object.TheVariants as objects
 use Rattle.brc_meaning.specs.Outcomes.{◌>>=◌}
 use Rattle.brc_meaning.specs.Objects.{object_call, keyed_call}
 use Rattle.law_isolation.specs.Means.{cell_meant, contents_meant}
-use Rattle.law_isolation.proofs.Mapped_Lists.{outcome_mapped, answer_mapped, same, push_mapped, pop_mapped, get_mapped, set_mapped, receive_mapped}
+use Rattle.law_isolation.proofs.Mapped_Lists.{outcome_mapped, answer_mapped, same, push_mapped, pop_mapped, get_mapped}
+use Rattle.law_isolation.proofs.Mapped_Lists.{set_mapped, receive_mapped}
 use Rattle.law_isolation.proofs.Mapped_Dicts.{values_mapped, put_mapped, find_mapped, delete_mapped}
 
 -- what the plain call answers and leaves, where the answer is told as a cell, or none
@@ -52,7 +53,8 @@ for_shared left r = r >>= λ entry. Ok (Some entry, left)
 
 module _ {A : Type 0} where
   -- what is left is an object again
-  abbrev left_as : {C : Type 0} → (C → Object A) → Result (Option Reference × C) Fault → Result (Option Reference × Object A) Fault
+  abbrev left_as : {C : Type 0} → (C → Object A) → Result (Option Reference × C) Fault
+      → Result (Option Reference × Object A) Fault
   left_as object r = r >>= λ done. Ok (done.0, object done.1)
 
   -- what a call on an object answers and leaves, as cells and as what stands there
@@ -68,7 +70,8 @@ module _ {A : Type 0} where
 
   module _ (cells : ℕ → ℕ) where
     -- an object of one of these kinds is made of what is left of the entries
-    module _ (object : List Reference → Object A) (shown : List ℕ → Contents) (is : (entries : List Reference) → shown (map (cell_meant cells) entries) ≡ contents_meant cells (object entries)) where
+    module _ (object : List Reference → Object A) (shown : List ℕ → Contents) (is : (entries : List Reference)
+        → shown (map (cell_meant cells) entries) ≡ contents_meant cells (object entries)) where
       none_answered : (r : Result (Unit {0} × List Reference) Fault)
           → told no_cell (left_in shown (outcome_mapped same (map (cell_meant cells)) r))
           ≡ outcome_meant cells (left_as object (for_none r))
@@ -82,12 +85,14 @@ module _ {A : Type 0} where
       one_answered (Err fault) = refl
 
       one_shared : (entries : List Reference) (r : Result Reference Fault)
-          → told one_cell (left_in shown (leaving (map (cell_meant cells) entries) (answer_mapped (cell_meant cells) r)))
+          → told one_cell (left_in shown
+          (leaving (map (cell_meant cells) entries) (answer_mapped (cell_meant cells) r)))
           ≡ outcome_meant cells (left_as object (for_shared entries r))
       one_shared entries (Ok entry) = ap (λ (put : Contents). Ok (Some (cell_meant cells entry), put)) (is entries)
       one_shared entries (Err fault) = refl
 
-    pub push_matches : (value : Reference) → Matches cells (object_call {A = A} (calls.Push value)) (plain_push (cell_meant cells value)) no_cell
+    pub push_matches : (value : Reference) → Matches cells (object_call {A = A} (calls.Push value))
+        (plain_push (cell_meant cells value)) no_cell
     push_matches value (objects.Int number) = refl
     push_matches value (objects.Text bytes) = refl
     push_matches value (objects.Dict pairs) = refl
@@ -111,10 +116,12 @@ module _ {A : Type 0} where
     get_matches index (objects.Dict pairs) = refl
     get_matches index (objects.Mailbox entries) = refl
     get_matches index (objects.List entries) =
-        ap (λ r. told one_cell (left_in contents.«List» (leaving (map (cell_meant cells) entries) r))) (get_mapped (cell_meant cells) entries index)
+        ap (λ r. told one_cell (left_in contents.«List» (leaving (map (cell_meant cells) entries) r)))
+        (get_mapped (cell_meant cells) entries index)
         ∙ one_shared objects.List contents.«List» (λ left. refl) entries (lists.get entries index)
 
-    pub set_matches : (index : ℕ) (value : Reference) → Matches cells (object_call {A = A} (calls.Set index value)) (plain_set index (cell_meant cells value)) one_cell
+    pub set_matches : (index : ℕ) (value : Reference) → Matches cells (object_call {A = A} (calls.Set index value))
+        (plain_set index (cell_meant cells value)) one_cell
     set_matches index value (objects.Int number) = refl
     set_matches index value (objects.Text bytes) = refl
     set_matches index value (objects.Dict pairs) = refl
@@ -123,7 +130,8 @@ module _ {A : Type 0} where
         ap (λ r. told one_cell (left_in contents.«List» r)) (set_mapped (cell_meant cells) entries index value)
         ∙ one_answered objects.List contents.«List» (λ left. refl) (lists.set entries index value)
 
-    pub send_matches : (value : Reference) → Matches cells (object_call {A = A} (calls.Send value)) (plain_send (cell_meant cells value)) no_cell
+    pub send_matches : (value : Reference) → Matches cells (object_call {A = A} (calls.Send value))
+        (plain_send (cell_meant cells value)) no_cell
     send_matches value (objects.Int number) = refl
     send_matches value (objects.Text bytes) = refl
     send_matches value (objects.List entries) = refl
@@ -152,23 +160,29 @@ module _ {A : Type 0} where
     same_key_back (keys.Text text) = refl
 
     -- read back, the keys are those that they were
-    read_back : (pairs : List (Key A × Reference)) → pairs_of {A = A} (pairs_shown pairs) ≡ values_mapped (cell_meant cells) pairs
+    read_back : (pairs : List (Key A × Reference)) → pairs_of {A = A} (pairs_shown pairs) ≡ values_mapped
+        (cell_meant cells) pairs
     read_back [] = refl
     read_back (pair ∷ pairs) =
-        ap (λ (key : Key A). (key, cell_meant cells pair.1) ∷ pairs_of {A = A} (pairs_shown pairs)) (same_key_back pair.0)
+        ap (λ (key : Key A). (key, cell_meant cells pair.1) ∷ pairs_of {A = A} (pairs_shown pairs))
+        (same_key_back pair.0)
         ∙ ap (λ (rest : List (Key A × ℕ)). (pair.0, cell_meant cells pair.1) ∷ rest) (read_back pairs)
 
-    shown_again : (pairs : List (Key A × Reference)) → dict_of {A = A} (values_mapped (cell_meant cells) pairs) ≡ contents_meant cells (objects.Dict pairs)
+    shown_again : (pairs : List (Key A × Reference)) → dict_of {A = A} (values_mapped (cell_meant cells) pairs)
+        ≡ contents_meant cells (objects.Dict pairs)
     shown_again pairs = ap contents.Dict (shown_pairs pairs)
       where
-        shown_pairs : (pairs : List (Key A × Reference)) → map (λ (pair : Key A × ℕ). (plain_key pair.0, pair.1)) (values_mapped (cell_meant cells) pairs) ≡ pairs_shown pairs
+        shown_pairs : (pairs : List (Key A × Reference)) → map (λ (pair : Key A × ℕ). (plain_key pair.0, pair.1))
+            (values_mapped (cell_meant cells) pairs) ≡ pairs_shown pairs
         shown_pairs [] = refl
-        shown_pairs (pair ∷ pairs) = ap (λ (rest : List (PlainKey × ℕ)). (plain_key pair.0, cell_meant cells pair.1) ∷ rest) (shown_pairs pairs)
+        shown_pairs (pair ∷ pairs) = ap (λ (rest : List (PlainKey × ℕ)). (plain_key pair.0, cell_meant cells pair.1)
+            ∷ rest) (shown_pairs pairs)
 
     put_answered : (r : Result (Option Reference × List (Key A × Reference)) Fault)
         → told same (leaving_dict (outcome_mapped (option_map (cell_meant cells)) (values_mapped (cell_meant cells)) r))
         ≡ outcome_meant cells (left_as objects.Dict r)
-    put_answered (Ok done) = ap (λ (put : Contents). Ok (option_map (cell_meant cells) done.0, put)) (shown_again done.1)
+    put_answered (Ok done) = ap (λ (put : Contents). Ok (option_map (cell_meant cells) done.0, put))
+        (shown_again done.1)
     put_answered (Err fault) = refl
 
     find_answered : (pairs : List (Key A × Reference)) (r : Result Reference Fault)
@@ -183,13 +197,15 @@ module _ {A : Type 0} where
     delete_answered (Ok done) = ap (λ (put : Contents). Ok (Some (cell_meant cells done.0), put)) (shown_again done.1)
     delete_answered (Err fault) = refl
 
-    pub put_matches : (key : Key A) (value : Reference) → Matches cells (keyed_call key (keyed.Put value)) (plain_put key (cell_meant cells value)) same
+    pub put_matches : (key : Key A) (value : Reference) → Matches cells (keyed_call key (keyed.Put value))
+        (plain_put key (cell_meant cells value)) same
     put_matches key value (objects.Int number) = refl
     put_matches key value (objects.Text bytes) = refl
     put_matches key value (objects.List entries) = refl
     put_matches key value (objects.Mailbox entries) = refl
     put_matches key value (objects.Dict pairs) =
-        ap (λ (read : List (Key A × ℕ)). told same (leaving_dict (dicts.put read key (cell_meant cells value)))) (read_back pairs)
+        ap (λ (read : List (Key A × ℕ)). told same (leaving_dict (dicts.put read key (cell_meant cells value))))
+        (read_back pairs)
         ∙ ap (λ r. told same (leaving_dict r)) (put_mapped (cell_meant cells) key value pairs)
         ∙ put_answered (dicts.put pairs key value)
 
@@ -199,8 +215,10 @@ module _ {A : Type 0} where
     find_matches key (objects.List entries) = refl
     find_matches key (objects.Mailbox entries) = refl
     find_matches key (objects.Dict pairs) =
-        ap (λ (read : List (Key A × ℕ)). told one_cell (leaving (contents.Dict (pairs_shown pairs)) (dicts.find read key))) (read_back pairs)
-        ∙ ap (λ r. told one_cell (leaving (contents.Dict (pairs_shown pairs)) r)) (find_mapped (cell_meant cells) key pairs)
+        ap (λ (read : List (Key A × ℕ)). told one_cell
+        (leaving (contents.Dict (pairs_shown pairs)) (dicts.find read key))) (read_back pairs)
+        ∙ ap (λ r. told one_cell (leaving (contents.Dict (pairs_shown pairs)) r))
+        (find_mapped (cell_meant cells) key pairs)
         ∙ find_answered pairs (dicts.find pairs key)
 
     pub delete_matches : (key : Key A) → Matches cells (keyed_call key keyed.Delete) (plain_del key) one_cell

@@ -17,9 +17,11 @@ use Rattle.law_isolation.proofs.Quiet_Lives.{lives_quietly, held_quietly, allocs
 module _ {A : Type 0} where
   -- ---- one log
 
-  register_quietly : (n : ℕ) (before log : List Told) (cells : ℕ → ℕ) (part : ℕ → Bool) (made : List (Object A)) → OwnLog n log → Quietly before log → Lives n before cells part made
+  register_quietly : (n : ℕ) (before log : List Told) (cells : ℕ → ℕ) (part : ℕ → Bool) (made : List (Object A))
+      → OwnLog n log → Quietly before log → Lives n before cells part made
       → (register : Option HandleSeen) (reference : Option Reference) → HeldAs n before cells part register reference
-      → IfSome register (λ h. place_seen n log h.place ≡ place_seen n before h.place) → HeldAs n log cells (left n log cells part) register reference
+      → IfSome register (λ h. place_seen n log h.place ≡ place_seen n before h.place)
+      → HeldAs n log cells (left n log cells part) register reference
   register_quietly n before log cells part made own goes lives None None held same = held
   register_quietly n before log cells part made own goes lives None (Some reference) held same = held
   register_quietly n before log cells part made own goes lives (Some handle) None held same = held
@@ -29,40 +31,54 @@ module _ {A : Type 0} where
   -- ---- frames
 
   -- a frame at a heap that is the same shows the same
-  at_same_heap : (base : ℕ) (cells : ℕ → ℕ) (part : ℕ → Bool) (old : FrameSeen A) (registers : List (Option HandleSeen)) (s : State A) (heap : TableSeen) → heap ≡ old.heap
+  at_same_heap : (base : ℕ) (cells : ℕ → ℕ) (part : ℕ → Bool) (old : FrameSeen A) (registers : List (Option HandleSeen))
+      (s : State A) (heap : TableSeen) → heap ≡ old.heap
       → Shows base cells part old registers s → Shows base cells part (record old { heap = heap }) registers s
-  at_same_heap base cells part old registers s heap same = subst (λ h. Shows base cells part (record old { heap = h }) registers s) (sym same)
+  at_same_heap base cells part old registers s heap same =
+      subst (λ h. Shows base cells part (record old { heap = h }) registers s) (sym same)
 
-  keeps_at_heap : (old new : FrameSeen A) (registers : List (Option HandleSeen)) (heap : TableSeen) → heap ≡ old.heap → KeepsRegisters old new registers → KeepsRegisters (record old { heap = heap }) new registers
-  keeps_at_heap old new registers heap same = subst (λ h. KeepsRegisters (record old { heap = h }) new registers) (sym same)
+  keeps_at_heap : (old new : FrameSeen A) (registers : List (Option HandleSeen)) (heap : TableSeen) → heap ≡ old.heap
+      → KeepsRegisters old new registers → KeepsRegisters (record old { heap = heap }) new registers
+  keeps_at_heap old new registers heap same = subst (λ h. KeepsRegisters (record old { heap = h }) new registers)
+      (sym same)
 
-  pub shows_quietly : (base : ℕ) (cells : ℕ → ℕ) (part : ℕ → Bool) (old new : FrameSeen A) (registers : List (Option HandleSeen)) (s : State A)
-      → Shows base cells part old registers s → new.heap ≡ old.heap → Quietly old.seat.log new.seat.log → OwnLog new.heap.cells new.seat.log → KeepsRegisters old new registers
+  pub shows_quietly : (base : ℕ) (cells : ℕ → ℕ) (part : ℕ → Bool) (old new : FrameSeen A)
+      (registers : List (Option HandleSeen)) (s : State A)
+      → Shows base cells part old registers s → new.heap ≡ old.heap → Quietly old.seat.log new.seat.log
+      → OwnLog new.heap.cells new.seat.log → KeepsRegisters old new registers
       → Shows base cells (left new.heap.cells new.seat.log cells part) new registers s
   shows_quietly base cells part old new registers s shows same goes own keeps =
       let n : ℕ = new.heap.cells in
-      let was : Shows base cells part (record old { heap = new.heap }) registers s = at_same_heap base cells part old registers s new.heap same shows in
-      let kept : KeepsRegisters (record old { heap = new.heap }) new registers = keeps_at_heap old new registers new.heap same keeps in
+      let was : Shows base cells part (record old { heap = new.heap }) registers s =
+      at_same_heap base cells part old registers s new.heap same shows in
+      let kept : KeepsRegisters (record old { heap = new.heap }) new registers =
+      keeps_at_heap old new registers new.heap same keeps in
       record {
         lives = lives_quietly n old.seat.log new.seat.log cells part s.objects own goes was.lives;
-        held = λ r. register_quietly n old.seat.log new.seat.log cells part s.objects own goes was.lives (slot registers r) (slice_index_or s.registers r None) (was.held r) (kept r);
+        held = λ r. register_quietly n old.seat.log new.seat.log cells part s.objects own goes was.lives
+            (slot registers r) (slice_index_or s.registers r None) (was.held r) (kept r);
         size = was.size;
         same_size = was.same_size;
         made = allocs_quietly n old.seat.log new.seat.log goes ∙ was.made;
       }
 
   -- what has one place that is kept too
-  has_quietly : (base : ℕ) (cells : ℕ → ℕ) (part : ℕ → Bool) (old new : FrameSeen A) (registers : List (Option HandleSeen)) (s : State A) (loose : HandleSeen) (reference : Reference)
-      → Shows base cells part old registers s → new.heap ≡ old.heap → Quietly old.seat.log new.seat.log → OwnLog new.heap.cells new.seat.log → KeepsPlace old new loose
-      → HasAt old.heap.cells old.seat.log cells part loose.place reference → HasAt new.heap.cells new.seat.log cells (left new.heap.cells new.seat.log cells part) loose.place reference
+  has_quietly : (base : ℕ) (cells : ℕ → ℕ) (part : ℕ → Bool) (old new : FrameSeen A)
+      (registers : List (Option HandleSeen)) (s : State A) (loose : HandleSeen) (reference : Reference)
+      → Shows base cells part old registers s → new.heap ≡ old.heap → Quietly old.seat.log new.seat.log
+      → OwnLog new.heap.cells new.seat.log → KeepsPlace old new loose
+      → HasAt old.heap.cells old.seat.log cells part loose.place reference
+      → HasAt new.heap.cells new.seat.log cells (left new.heap.cells new.seat.log cells part) loose.place reference
   has_quietly base cells part old new registers s loose reference shows same goes own keeps has =
       let n : ℕ = new.heap.cells in
-      let was : Shows base cells part (record old { heap = new.heap }) registers s = at_same_heap base cells part old registers s new.heap same shows in
+      let was : Shows base cells part (record old { heap = new.heap }) registers s =
+      at_same_heap base cells part old registers s new.heap same shows in
       held_quietly n old.seat.log new.seat.log cells part s.objects loose.place reference own goes was.lives
       (subst (λ h. HasAt h.cells old.seat.log cells part loose.place reference) (sym same) has) (keeps ∙ has.cell)
 
   pub means_quietly : (base : ℕ) (old new : FrameSeen A) (registers : List (Option HandleSeen)) (s : State A)
-      → Means base old registers s → new.heap ≡ old.heap → Quietly old.seat.log new.seat.log → OwnLog new.heap.cells new.seat.log → KeepsRegisters old new registers
+      → Means base old registers s → new.heap ≡ old.heap → Quietly old.seat.log new.seat.log
+      → OwnLog new.heap.cells new.seat.log → KeepsRegisters old new registers
       → Means base new registers s
   means_quietly base old new registers s means same goes own keeps = record {
     cells = means.cells;
@@ -70,18 +86,23 @@ module _ {A : Type 0} where
     shows = shows_quietly base means.cells means.part old new registers s means.shows same goes own keeps;
   }
 
-  pub besides_quietly : (base : ℕ) (old new : FrameSeen A) (registers : List (Option HandleSeen)) (s : State A) (loose : HandleSeen) (reference : Reference)
-      → MeansBesides base old registers s loose reference → new.heap ≡ old.heap → Quietly old.seat.log new.seat.log → OwnLog new.heap.cells new.seat.log → KeepsRegisters old new registers → KeepsPlace old new loose
+  pub besides_quietly : (base : ℕ) (old new : FrameSeen A) (registers : List (Option HandleSeen)) (s : State A)
+      (loose : HandleSeen) (reference : Reference)
+      → MeansBesides base old registers s loose reference → new.heap ≡ old.heap → Quietly old.seat.log new.seat.log
+      → OwnLog new.heap.cells new.seat.log → KeepsRegisters old new registers → KeepsPlace old new loose
       → MeansBesides base new registers s loose reference
   besides_quietly base old new registers s loose reference means same goes own keeps kept = record {
     cells = means.cells;
     part = left new.heap.cells new.seat.log means.cells means.part;
     shows = shows_quietly base means.cells means.part old new registers s means.shows same goes own keeps;
-    has = has_quietly base means.cells means.part old new registers s loose reference means.shows same goes own kept means.has;
+    has = has_quietly base means.cells means.part old new registers s loose reference means.shows same goes own kept
+        means.has;
   }
 
   -- where every place has what it had
-  pub all_kept : (old new : FrameSeen A) (registers : List (Option HandleSeen)) → ((k : ℕ) → place_seen new.heap.cells new.seat.log k ≡ place_seen old.heap.cells old.seat.log k) → KeepsRegisters old new registers
+  pub all_kept : (old new : FrameSeen A) (registers : List (Option HandleSeen))
+      → ((k : ℕ) → place_seen new.heap.cells new.seat.log k ≡ place_seen old.heap.cells old.seat.log k)
+      → KeepsRegisters old new registers
   all_kept old new registers places r = each (slot registers r)
     where
       each : (o : Option HandleSeen) → IfSome o (KeepsPlace old new)
@@ -89,22 +110,46 @@ module _ {A : Type 0} where
       each (Some h) = places h.place
 
   -- nothing changed that a log or a heap has
-  pub means_same : (base : ℕ) (old new : FrameSeen A) (registers : List (Option HandleSeen)) (s : State A) → Means base old registers s → IsAsBefore old new → Means base new registers s
+  pub means_same : (base : ℕ) (old new : FrameSeen A) (registers : List (Option HandleSeen)) (s : State A)
+      → Means base old registers s → IsAsBefore old new → Means base new registers s
   means_same base old new registers s means same =
       let is : record old { spare = new.spare } ≡ new = sym same in
-      subst (λ frame. Means base frame registers s) is (record { cells = means.cells; part = means.part; shows = of_spare means.cells means.part means.shows })
+      subst (λ frame. Means base frame registers s) is
+      (record { cells = means.cells; part = means.part; shows = of_spare means.cells means.part means.shows })
     where
-      of_spare : (cells : ℕ → ℕ) (part : ℕ → Bool) → Shows base cells part old registers s → Shows base cells part (record old { spare = new.spare }) registers s
-      of_spare cells part shows = record { lives = shows.lives; held = shows.held; size = shows.size; same_size = shows.same_size; made = shows.made }
+      of_spare : (cells : ℕ → ℕ) (part : ℕ → Bool) → Shows base cells part old registers s
+          → Shows base cells part (record old { spare = new.spare }) registers s
+      of_spare cells part shows = record {
+        lives = shows.lives;
+        held = shows.held;
+        size = shows.size;
+        same_size = shows.same_size;
+        made = shows.made;
+      }
 
-  pub besides_same : (base : ℕ) (old new : FrameSeen A) (registers : List (Option HandleSeen)) (s : State A) (loose : HandleSeen) (reference : Reference)
-      → MeansBesides base old registers s loose reference → IsAsBefore old new → MeansBesides base new registers s loose reference
+  pub besides_same : (base : ℕ) (old new : FrameSeen A) (registers : List (Option HandleSeen)) (s : State A)
+      (loose : HandleSeen) (reference : Reference)
+      → MeansBesides base old registers s loose reference → IsAsBefore old new
+      → MeansBesides base new registers s loose reference
   besides_same base old new registers s loose reference means same =
       let is : record old { spare = new.spare } ≡ new = sym same in
-      subst (λ frame. MeansBesides base frame registers s loose reference) is (record { cells = means.cells; part = means.part; shows = of_spare means.cells means.part means.shows; has = means.has })
+      subst (λ frame. MeansBesides base frame registers s loose reference) is
+      (record {
+        cells = means.cells;
+        part = means.part;
+        shows = of_spare means.cells means.part means.shows;
+        has = means.has;
+      })
     where
-      of_spare : (cells : ℕ → ℕ) (part : ℕ → Bool) → Shows base cells part old registers s → Shows base cells part (record old { spare = new.spare }) registers s
-      of_spare cells part shows = record { lives = shows.lives; held = shows.held; size = shows.size; same_size = shows.same_size; made = shows.made }
+      of_spare : (cells : ℕ → ℕ) (part : ℕ → Bool) → Shows base cells part old registers s
+          → Shows base cells part (record old { spare = new.spare }) registers s
+      of_spare cells part shows = record {
+        lives = shows.lives;
+        held = shows.held;
+        size = shows.size;
+        same_size = shows.same_size;
+        made = shows.made;
+      }
 
   -- ---- waiting
 
@@ -133,8 +178,11 @@ module _ {A : Type 0} where
       let was : Waited old new = waited old k new waits in
       means_quietly base old new registers s means was.heap was.quiet own (all_kept old new registers was.places)
 
-  pub besides_waited : (base : ℕ) (old new : FrameSeen A) (registers : List (Option HandleSeen)) (s : State A) (loose : HandleSeen) (reference : Reference) (k : ℕ)
-      → MeansBesides base old registers s loose reference → Waits old k new → OwnLog new.heap.cells new.seat.log → MeansBesides base new registers s loose reference
+  pub besides_waited : (base : ℕ) (old new : FrameSeen A) (registers : List (Option HandleSeen)) (s : State A)
+      (loose : HandleSeen) (reference : Reference) (k : ℕ)
+      → MeansBesides base old registers s loose reference → Waits old k new → OwnLog new.heap.cells new.seat.log
+      → MeansBesides base new registers s loose reference
   besides_waited base old new registers s loose reference k means waits own =
       let was : Waited old new = waited old k new waits in
-      besides_quietly base old new registers s loose reference means was.heap was.quiet own (all_kept old new registers was.places) (was.places loose.place)
+      besides_quietly base old new registers s loose reference means was.heap was.quiet own
+      (all_kept old new registers was.places) (was.places loose.place)

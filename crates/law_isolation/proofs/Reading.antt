@@ -1,5 +1,6 @@
 -- What calls that look at the object of a register tell of the object that the register refers to.
-use Rattle.std.proofs.Common.{◌≡◌, ◌≢◌, ◌∙◌, refl, sym, ap, subst, ℕ, ℤ, true, false, List, length, map, Option, Some, Result, Ok, Err, IfErr}
+use Rattle.std.proofs.Common.{◌≡◌, ◌≢◌, ◌∙◌, refl, sym, ap, subst, ℕ, ℤ, true, false, List, length, map, Option, Some}
+use Rattle.std.proofs.Common.{Result, Ok, Err, IfErr}
 use Rattle.std.specs.Prelude.{MatchResult}
 use Rattle.std.proofs.lemmas.List.{length-map}
 use Rattle.brc_words.specs.declared.fault.Fault.{Fault}
@@ -18,7 +19,8 @@ use Rattle.brc_count.specs.Locking.{KeepsThread, KeepsFrame}
 use Rattle.brc_handles.specs.Handles.{slot}
 use Rattle.brc_lock.specs.Waiting.{Waits}
 use Rattle.brc_lock.proofs.Kept.{waits_frame}
-use Rattle.brc_containers.specs.Looking.{IsInt, IsText, IsContainer, LooksAt, RefusedLook, RefusedCopy, LenOf, IntOf, TextOf, KindOf}
+use Rattle.brc_containers.specs.Looking.{IsInt, IsText, IsContainer, LooksAt, RefusedLook, RefusedCopy, LenOf, IntOf}
+use Rattle.brc_containers.specs.Looking.{TextOf, KindOf}
 use Rattle.brc_containers.specs.Called.{Late}
 use Rattle.brc_meaning.specs.declared.reference.Reference.{Reference}
 use Rattle.brc_meaning.specs.declared.object.Object.{Object}
@@ -44,44 +46,59 @@ module _ {A : Type 0} (cells : ℕ → ℕ) where
   kind_shown (objects.Dict pairs) = refl
   kind_shown (objects.Mailbox entries) = refl
 
-  len_shown : (object : Object A) → IsContainer (contents_meant cells object) → entries_in object ≡ Ok (length (logs.entries_in (contents_meant cells object)))
+  len_shown : (object : Object A) → IsContainer (contents_meant cells object)
+      → entries_in object ≡ Ok (length (logs.entries_in (contents_meant cells object)))
   len_shown (objects.Int number) fits = absurd (let bad : false ≡ true = fits in cc)
   len_shown (objects.Text bytes) fits = absurd (let bad : false ≡ true = fits in cc)
   len_shown (objects.List entries) fits = ap Ok (sym (length-map entries (cell_meant cells)))
   len_shown (objects.Dict pairs) fits =
-      let shown : List (PlainKey × ℕ) = map (λ (pair : Key A × Reference). (plain_key pair.0, cell_meant cells pair.1)) pairs in
-      ap Ok (sym (length-map shown (λ (pair : PlainKey × ℕ). pair.1) ∙ length-map pairs (λ (pair : Key A × Reference). (plain_key pair.0, cell_meant cells pair.1))))
+      let shown : List (PlainKey × ℕ) =
+      map (λ (pair : Key A × Reference). (plain_key pair.0, cell_meant cells pair.1)) pairs in
+      ap Ok (sym (length-map shown (λ (pair : PlainKey × ℕ). pair.1)
+      ∙ length-map pairs (λ (pair : Key A × Reference). (plain_key pair.0, cell_meant cells pair.1))))
   len_shown (objects.Mailbox entries) fits = ap Ok (sym (length-map entries (cell_meant cells)))
 
-  len_none : (object : Object A) → (IsContainer (contents_meant cells object) → ⊥) → entries_in object ≡ Err faults.WrongKind
+  len_none : (object : Object A) → (IsContainer (contents_meant cells object) → ⊥)
+      → entries_in object ≡ Err faults.WrongKind
   len_none (objects.Int number) misfits = refl
   len_none (objects.Text bytes) misfits = refl
   len_none (objects.List entries) misfits = absurd (misfits refl)
   len_none (objects.Dict pairs) misfits = absurd (misfits refl)
   len_none (objects.Mailbox entries) misfits = absurd (misfits refl)
 
-  number_shown : (object : Object A) (number : ℤ) → contents.Int number ≡ contents_meant cells object → number_in object ≡ Ok number
-  number_shown (objects.Int other) number is = ap Ok (let back : contents.Int other ≡ contents.Int number = sym is in cc)
+  number_shown : (object : Object A) (number : ℤ) → contents.Int number ≡ contents_meant cells object
+      → number_in object ≡ Ok number
+  number_shown (objects.Int other) number is = ap Ok (let back : contents.Int other ≡ contents.Int number =
+      sym is in cc)
   number_shown (objects.Text bytes) number is = absurd (let bad : contents.Int number ≡ contents.Text bytes = is in cc)
-  number_shown (objects.List entries) number is = absurd (let bad : contents.Int number ≡ contents.«List» (map (cell_meant cells) entries) = is in cc)
+  number_shown (objects.List entries) number is =
+      absurd (let bad : contents.Int number ≡ contents.«List» (map (cell_meant cells) entries) = is in cc)
   number_shown (objects.Dict pairs) number is =
-      absurd (let bad : contents.Int number ≡ contents.Dict (map (λ (pair : Key A × Reference). (plain_key pair.0, cell_meant cells pair.1)) pairs) = is in cc)
-  number_shown (objects.Mailbox entries) number is = absurd (let bad : contents.Int number ≡ contents.Mailbox (map (cell_meant cells) entries) = is in cc)
+      absurd (let bad : contents.Int number ≡ contents.Dict
+      (map (λ (pair : Key A × Reference). (plain_key pair.0, cell_meant cells pair.1)) pairs) = is in cc)
+  number_shown (objects.Mailbox entries) number is =
+      absurd (let bad : contents.Int number ≡ contents.Mailbox (map (cell_meant cells) entries) = is in cc)
 
-  number_none : (object : Object A) → (IsInt (contents_meant cells object) → ⊥) → number_in object ≡ Err faults.WrongKind
+  number_none : (object : Object A) → (IsInt (contents_meant cells object) → ⊥)
+      → number_in object ≡ Err faults.WrongKind
   number_none (objects.Int number) misfits = absurd (misfits refl)
   number_none (objects.Text bytes) misfits = refl
   number_none (objects.List entries) misfits = refl
   number_none (objects.Dict pairs) misfits = refl
   number_none (objects.Mailbox entries) misfits = refl
 
-  text_shown : (object : Object A) (text : List ℕ) → contents.Text text ≡ contents_meant cells object → object ≡ objects.Text text
+  text_shown : (object : Object A) (text : List ℕ) → contents.Text text ≡ contents_meant cells object
+      → object ≡ objects.Text text
   text_shown (objects.Int number) text is = absurd (let bad : contents.Text text ≡ contents.Int number = is in cc)
-  text_shown (objects.Text bytes) text is = ap objects.Text (let back : contents.Text bytes ≡ contents.Text text = sym is in cc)
-  text_shown (objects.List entries) text is = absurd (let bad : contents.Text text ≡ contents.«List» (map (cell_meant cells) entries) = is in cc)
+  text_shown (objects.Text bytes) text is = ap objects.Text (let back : contents.Text bytes ≡ contents.Text text =
+      sym is in cc)
+  text_shown (objects.List entries) text is =
+      absurd (let bad : contents.Text text ≡ contents.«List» (map (cell_meant cells) entries) = is in cc)
   text_shown (objects.Dict pairs) text is =
-      absurd (let bad : contents.Text text ≡ contents.Dict (map (λ (pair : Key A × Reference). (plain_key pair.0, cell_meant cells pair.1)) pairs) = is in cc)
-  text_shown (objects.Mailbox entries) text is = absurd (let bad : contents.Text text ≡ contents.Mailbox (map (cell_meant cells) entries) = is in cc)
+      absurd (let bad : contents.Text text ≡ contents.Dict
+      (map (λ (pair : Key A × Reference). (plain_key pair.0, cell_meant cells pair.1)) pairs) = is in cc)
+  text_shown (objects.Mailbox entries) text is =
+      absurd (let bad : contents.Text text ≡ contents.Mailbox (map (cell_meant cells) entries) = is in cc)
 
 -- ---- refusals
 
@@ -90,14 +107,16 @@ module _ {A : Type 0} (old new : FrameSeen A) (k : ℕ) (fits : Contents → Typ
   abbrev Misfits : Type 0
   Misfits = (found : Contents) × LooksAt old new k found × (fits found → ⊥)
 
-  misfit : (fault : Fault) → fault ≢ faults.Busy → RefusedLook old new k fits fault → (fault ≡ faults.WrongKind) × Misfits
+  misfit : (fault : Fault) → fault ≢ faults.Busy → RefusedLook old new k fits fault
+      → (fault ≡ faults.WrongKind) × Misfits
   misfit faults.Busy busy why = absurd (busy refl)
   misfit faults.WrongKind busy why = (refl, why)
   misfit fault busy why = absurd why
 
   -- memory for a copy was missing, or what was found is of another kind
   copy_misfit : (fault : Fault) → fault ≢ faults.Busy → RefusedCopy old new k fits fault
-      → (found : Contents) × LooksAt old new k found × (fault ≢ faults.OutOfMemory → (fault ≡ faults.WrongKind) × (fits found → ⊥))
+      → (found : Contents) × LooksAt old new k found × (fault ≢ faults.OutOfMemory
+      → (fault ≡ faults.WrongKind) × (fits found → ⊥))
   copy_misfit faults.Busy busy why = absurd (busy refl)
   copy_misfit faults.OutOfMemory busy why = (why.0, why.1, λ other. absurd (other refl))
   copy_misfit faults.WrongKind busy why = (why.0, why.1, λ other. (refl, why.2))
@@ -105,21 +124,28 @@ module _ {A : Type 0} (old new : FrameSeen A) (k : ℕ) (fits : Contents → Typ
 
 -- ---- the calls
 
-module _ {A : Type 0} (base : ℕ) (old new : FrameSeen A) (registers : List (Option HandleSeen)) (s : State A) (own : OwnLog new.heap.cells new.seat.log)
-    (container : ℕ) (h : HandleSeen) (in_register : slot registers container ≡ Some h) (means : Means base old registers s) where
+module _ {A : Type 0} (base : ℕ) (old new : FrameSeen A) (registers : List (Option HandleSeen)) (s : State A)
+    (own : OwnLog new.heap.cells new.seat.log)
+    (container : ℕ) (h : HandleSeen) (in_register : slot registers container ≡ Some h)
+    (means : Means base old registers s) where
   -- a look, after lost tries: the object is what was found, and all means what it did
-  looked : (mid : FrameSeen A) → Waits old h.place mid → KeepsThread mid new → KeepsFrame mid new → (found : Contents) → LooksAt mid new h.place found
-      → (P : Object A → Type 0) → ((object : Object A) → found ≡ contents_meant means.cells object → P object) → Means base new registers s × Finds container s P
+  looked : (mid : FrameSeen A) → Waits old h.place mid → KeepsThread mid new → KeepsFrame mid new → (found : Contents)
+      → LooksAt mid new h.place found
+      → (P : Object A → Type 0) → ((object : Object A) → found ≡ contents_meant means.cells object → P object)
+      → Means base new registers s × Finds container s P
   looked mid waits keeps_thread keeps_frame found looks P tells =
       let shows : Shows base means.cells means.part mid registers s =
-      shows_left base means.cells means.part old mid registers s means.shows (waits_leave waits) (all_places old mid registers (waits_frame waits).places) in
+      shows_left base means.cells means.part old mid registers s means.shows (waits_leave waits)
+      (all_places old mid registers (waits_frame waits).places) in
       let on : LooksOn mid new h.place found = look_looks mid new h.place found own keeps_thread.heap looks in
       let there : FoundAs means.cells means.part s container on.cell found =
-      found_as base means.cells means.part mid registers s shows container h in_register on.cell found on.of_place on.finds in (
+      found_as base means.cells means.part mid registers s shows container h in_register on.cell found on.of_place
+      on.finds in (
         record {
           cells = means.cells;
           part = means.part;
-          shows = shows_left base means.cells means.part mid new registers s shows on.leaves (all_places mid new registers keeps_frame.places);
+          shows = shows_left base means.cells means.part mid new registers s shows on.leaves
+              (all_places mid new registers keeps_frame.places);
         },
         record {
           reference = there.reference;
@@ -143,17 +169,20 @@ module _ {A : Type 0} (base : ℕ) (old new : FrameSeen A) (registers : List (Op
   len_read (Ok len) late busy =
       let told = late.2.found in
       looked late.0 late.1 late.2.thread late.2.frame told.0 told.1 (λ object. entries_in object ≡ Ok len)
-      (λ object is. len_shown means.cells object (subst IsContainer is told.2) ∙ ap (λ (found : Contents). Ok (length (logs.entries_in found))) (sym is) ∙ ap Ok told.3)
+      (λ object is. len_shown means.cells object (subst IsContainer is told.2)
+      ∙ ap (λ (found : Contents). Ok (length (logs.entries_in found))) (sym is) ∙ ap Ok told.3)
   len_read (Err fault) late busy =
       let why = misfit late.0 new h.place IsContainer fault busy late.2.refused in
       looked late.0 late.1 late.2.thread late.2.frame why.1.0 why.1.1 (λ object. entries_in object ≡ Err fault)
-      (λ object is. len_none means.cells object (λ fits. why.1.2 (subst IsContainer (sym is) fits)) ∙ ap Err (sym why.0))
+      (λ object is. len_none means.cells object (λ fits. why.1.2 (subst IsContainer (sym is) fits))
+      ∙ ap Err (sym why.0))
 
   pub int_read : (result : Result ℤ Fault) → Late old h.place (λ mid. IntOf mid new h.place result)
       → IfErr result (λ fault. fault ≢ faults.Busy)
       → Means base new registers s × Finds container s (λ object. number_in object ≡ result)
   int_read (Ok number) late busy =
-      looked late.0 late.1 late.2.thread late.2.frame (contents.Int number) late.2.found (λ object. number_in object ≡ Ok number)
+      looked late.0 late.1 late.2.thread late.2.frame (contents.Int number) late.2.found
+      (λ object. number_in object ≡ Ok number)
       (λ object is. number_shown means.cells object number is)
   int_read (Err fault) late busy =
       let why = misfit late.0 new h.place IsInt fault busy late.2.refused in
@@ -166,9 +195,15 @@ module _ {A : Type 0} (base : ℕ) (old new : FrameSeen A) (registers : List (Op
       (λ text. object ≡ objects.Text text)
       (λ fault. fault ≢ faults.OutOfMemory → (fault ≡ faults.WrongKind) × (kind_meant object ≢ kinds.Text)))
   text_read (Ok text) late busy =
-      looked late.0 late.1 late.2.thread late.2.frame (contents.Text text) late.2.found (λ object. object ≡ objects.Text text)
+      looked late.0 late.1 late.2.thread late.2.frame (contents.Text text) late.2.found
+      (λ object. object ≡ objects.Text text)
       (λ object is. text_shown means.cells object text is)
   text_read (Err fault) late busy =
       let why = copy_misfit late.0 new h.place IsText fault busy late.2.refused in
-      looked late.0 late.1 late.2.thread late.2.frame why.0 why.1 (λ object. fault ≢ faults.OutOfMemory → (fault ≡ faults.WrongKind) × (kind_meant object ≢ kinds.Text))
-      (λ object is other. ((why.2 other).0, λ kind. (why.2 other).1 (ap kind_in is ∙ kind_shown means.cells object ∙ kind)))
+      looked late.0 late.1 late.2.thread late.2.frame why.0 why.1 (λ object. fault ≢ faults.OutOfMemory
+      → (fault ≡ faults.WrongKind) × (kind_meant object ≢ kinds.Text))
+      (λ object is other. (
+        (why.2 other).0,
+        λ kind. (why.2 other).1 (ap kind_in is
+            ∙ kind_shown means.cells object ∙ kind),
+      ))

@@ -1,5 +1,7 @@
--- What the frame and the registers show stays where payloads and dead cells do, and follows a payload that is another one's now.
-use Rattle.std.proofs.Common.{◌≡◌, ◌∙◌, sym, ap, subst, ℕ, ◌+◌, ◌<◌, Bool, true, eqb, List, length, set, get_or, Option, Some, None, IfSome, slice_get, ◌⊎◌, inl, inr}
+-- What the frame and the registers show stays where payloads and dead cells do, and follows a payload that is another
+-- one's now.
+use Rattle.std.proofs.Common.{◌≡◌, ◌∙◌, sym, ap, subst, ℕ, ◌+◌, ◌<◌, Bool, true, eqb, List, length, set, get_or, Option}
+use Rattle.std.proofs.Common.{Some, None, IfSome, slice_get, ◌⊎◌, inl, inr}
 use Rattle.std.proofs.lemmas.Bool.{cases_eq, eq-eqb, ne_eqb, cond-true, cond-false}
 use Rattle.std.proofs.lemmas.List.{length-set, get_or-set_same, get_or-set_other}
 use Rattle.std.proofs.lemmas.Option.{slice_get-get_or, slice_get_within, get_or_from_slice_get}
@@ -21,9 +23,11 @@ module _ {X : Type 0} where
   set_there : (xs : List X) (i : ℕ) (x was : X) → slice_get xs i ≡ Some was → slice_get (set xs i x) i ≡ Some x
   set_there xs i x was is =
       let within : i < length xs = slice_get_within xs i was is in
-      slice_get-get_or (set xs i x) i x (subst (λ len. i < len) (sym (length-set xs i x)) within) ∙ ap Some (get_or-set_same xs i x x within)
+      slice_get-get_or (set xs i x) i x (subst (λ len. i < len) (sym (length-set xs i x)) within)
+      ∙ ap Some (get_or-set_same xs i x x within)
 
-  set_elsewhere : (xs : List X) (i j : ℕ) (x other : X) → (j ≡ i → ⊥) → slice_get xs j ≡ Some other → slice_get (set xs i x) j ≡ Some other
+  set_elsewhere : (xs : List X) (i j : ℕ) (x other : X) → (j ≡ i → ⊥) → slice_get xs j ≡ Some other
+      → slice_get (set xs i x) j ≡ Some other
   set_elsewhere xs i j x other off is =
       let within : j < length xs = slice_get_within xs j other is in
       slice_get-get_or (set xs i x) j other (subst (λ len. j < len) (sym (length-set xs i x)) within)
@@ -43,16 +47,20 @@ module _ {A : Type 0} where
     apart = lives.apart;
   }
 
-  module _ (n m : ℕ) (before log : List Told) (cells : ℕ → ℕ) (part : ℕ → Bool) (made : List (Object A)) (lives : Lives n before cells part made)
+  module _ (n m : ℕ) (before log : List Told) (cells : ℕ → ℕ) (part : ℕ → Bool) (made : List (Object A))
+      (lives : Lives n before cells part made)
       (place : ℕ) (object : Object A) (in_part : part place ≡ true) (leads : Each (IsMeant part) object)
       (replaces : Replaces n before m log (cells place) (contents_meant cells object)) where
-    there_now : (p : ℕ) → part p ≡ true → (p ≡ place) ⊎ (p ≡ place → ⊥) → LivesAt m log cells part (set made place object) p
+    there_now : (p : ℕ) → part p ≡ true → (p ≡ place) ⊎ (p ≡ place → ⊥)
+        → LivesAt m log cells part (set made place object) p
     there_now p is (inl on) =
         let at = lives.there place in_part in
         record {
           object = object;
-          stands = subst (λ q. slice_get (set made place object) q ≡ Some object) (sym on) (set_there made place object at.object at.stands);
-          payload = replaces.payloads (cells p) ∙ cond-true (eqb (cells place) (cells p)) _ _ (eq-eqb (cells place) (cells p) (ap cells (sym on)));
+          stands = subst (λ q. slice_get (set made place object) q ≡ Some object) (sym on)
+              (set_there made place object at.object at.stands);
+          payload = replaces.payloads (cells p) ∙ cond-true (eqb (cells place) (cells p)) _ _
+              (eq-eqb (cells place) (cells p) (ap cells (sym on)));
           alive = replaces.dead (cells p) ∙ (lives.there p is).alive;
           leads = leads;
         }
@@ -61,7 +69,8 @@ module _ {A : Type 0} where
         record {
           object = at.object;
           stands = set_elsewhere made place p object at.object off at.stands;
-          payload = replaces.payloads (cells p) ∙ cond-false (eqb (cells place) (cells p)) _ _ (ne_eqb (cells place) (cells p) (λ same. off (lives.apart p place is in_part (sym same)))) ∙ at.payload;
+          payload = replaces.payloads (cells p) ∙ cond-false (eqb (cells place) (cells p)) _ _
+              (ne_eqb (cells place) (cells p) (λ same. off (lives.apart p place is in_part (sym same)))) ∙ at.payload;
           alive = replaces.dead (cells p) ∙ at.alive;
           leads = at.leads;
         }
@@ -77,11 +86,13 @@ module _ {A : Type 0} where
   KeepsPlacesOf old new registers = (r : ℕ) → IfSome (slot registers r) (λ h. cell_in new h.place ≡ cell_in old h.place)
 
   module _ (old new : FrameSeen A) (cells : ℕ → ℕ) (part : ℕ → Bool) where
-    pub has_kept : (k : ℕ) (reference : Reference) → cell_in new k ≡ cell_in old k → HasAt old.heap.cells old.seat.log cells part k reference
+    pub has_kept : (k : ℕ) (reference : Reference) → cell_in new k ≡ cell_in old k
+        → HasAt old.heap.cells old.seat.log cells part k reference
         → HasAt new.heap.cells new.seat.log cells part k reference
     has_kept k reference same has = record { cell = same ∙ has.cell; meant = has.meant }
 
-    held_kept : (o : Option HandleSeen) (q : Option Reference) → IfSome o (λ h. cell_in new h.place ≡ cell_in old h.place)
+    held_kept : (o : Option HandleSeen) (q : Option Reference)
+        → IfSome o (λ h. cell_in new h.place ≡ cell_in old h.place)
         → HeldAs old.heap.cells old.seat.log cells part o q → HeldAs new.heap.cells new.seat.log cells part o q
     held_kept None None same has = tt
     held_kept (Some h) (Some reference) same has = has_kept h.place reference same has
@@ -89,14 +100,17 @@ module _ {A : Type 0} where
     held_kept (Some h) None same has = absurd has
 
     -- a place that was vacant is no register's
-    places_kept : (o : Option HandleSeen) (q : Option Reference) (k : ℕ) → cell_in old k ≡ None → ((j : ℕ) → (j ≡ k → ⊥) → cell_in new j ≡ cell_in old j)
+    places_kept : (o : Option HandleSeen) (q : Option Reference) (k : ℕ) → cell_in old k ≡ None
+        → ((j : ℕ) → (j ≡ k → ⊥) → cell_in new j ≡ cell_in old j)
         → HeldAs old.heap.cells old.seat.log cells part o q → IfSome o (λ h. cell_in new h.place ≡ cell_in old h.place)
     places_kept None q k vacant others has = tt
     places_kept (Some h) None k vacant others has = absurd has
     places_kept (Some h) (Some reference) k vacant others has =
-        others h.place (λ same. let bad : None ≡ Some (cell_meant cells reference) = sym vacant ∙ ap (cell_in old) (sym same) ∙ has.cell in absurd (cc))
+        others h.place (λ same. let bad : None ≡ Some (cell_meant cells reference) = sym vacant
+        ∙ ap (cell_in old) (sym same) ∙ has.cell in absurd (cc))
 
-  module _ (base : ℕ) (cells : ℕ → ℕ) (part : ℕ → Bool) (old new : FrameSeen A) (registers : List (Option HandleSeen)) (s : State A) (shows : Shows base cells part old registers s) where
+  module _ (base : ℕ) (cells : ℕ → ℕ) (part : ℕ → Bool) (old new : FrameSeen A) (registers : List (Option HandleSeen))
+      (s : State A) (shows : Shows base cells part old registers s) where
     pub shows_left : LeavesAll old new → KeepsPlacesOf old new registers → Shows base cells part new registers s
     shows_left leaves places = record {
       lives = lives_left cells part s.objects leaves shows.lives;
@@ -110,13 +124,15 @@ module _ {A : Type 0} where
         → ReplacesIn old new (cells place) (contents_meant cells object) → KeepsPlacesOf old new registers
         → Shows base cells part new registers (with_objects (set s.objects place object) s)
     shows_replaced place object in_part leads replaces places = record {
-      lives = lives_replaced old.heap.cells new.heap.cells old.seat.log new.seat.log cells part s.objects shows.lives place object in_part leads replaces;
+      lives = lives_replaced old.heap.cells new.heap.cells old.seat.log new.seat.log cells part s.objects shows.lives
+          place object in_part leads replaces;
       held = λ r. held_kept old new cells part (slot registers r) (get_or s.registers r None) (places r) (shows.held r);
       size = shows.size;
       same_size = shows.same_size;
       made = replaces.allocs ∙ shows.made ∙ ap (λ len. base + len) (sym (length-set s.objects place object));
     }
 
-    pub vacant_apart : (k : ℕ) → cell_in old k ≡ None → ((j : ℕ) → (j ≡ k → ⊥) → cell_in new j ≡ cell_in old j) → KeepsPlacesOf old new registers
+    pub vacant_apart : (k : ℕ) → cell_in old k ≡ None → ((j : ℕ) → (j ≡ k → ⊥) → cell_in new j ≡ cell_in old j)
+        → KeepsPlacesOf old new registers
     vacant_apart k vacant others r =
         places_kept old new cells part (slot registers r) (get_or s.registers r None) k vacant others (shows.held r)

@@ -13,13 +13,15 @@ module _ {A : Type 0} where
   refused_for_want old faults.OutOfMemory is = refl
   refused_for_want old _ is = absurd is
 
-  pub making_refused_for_want : (old new : FrameSeen A) (fault : Fault) → RefusedMaking old new fault → is_want fault ≡ true
+  pub making_refused_for_want : (old new : FrameSeen A) (fault : Fault) → RefusedMaking old new fault
+      → is_want fault ≡ true
   making_refused_for_want old new faults.FrameFull is = refl
   making_refused_for_want old new faults.LedgerFull is = refl
   making_refused_for_want old new faults.OutOfMemory is = refl
   making_refused_for_want old new faults.HeapFull is = refl
   making_refused_for_want old new _ is = absurd is
 
-  pub integer_refused_for_want : (old new : FrameSeen A) (cell : Option ℕ) (fault : Fault) → RefusedTo old new cell fault → is_want fault ≡ true
+  pub integer_refused_for_want : (old new : FrameSeen A) (cell : Option ℕ) (fault : Fault)
+      → RefusedTo old new cell fault → is_want fault ≡ true
   integer_refused_for_want old new (Some c) fault is = refused_for_want old fault is.0
   integer_refused_for_want old new None fault is = making_refused_for_want old new fault is

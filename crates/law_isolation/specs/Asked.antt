@@ -1,4 +1,5 @@
--- What an instruction's call comes to by the plain meaning, its register's emptiness looked at too; and so the instruction.
+-- What an instruction's call comes to by the plain meaning, its register's emptiness looked at too; and so the
+-- instruction.
 use Rattle.std.specs.Prelude.{◌≡◌, ℕ, ℤ, false, List, Option, Some, None, Result, Ok, Err, MatchResult, MatchOption}
 use Rattle.brc_words.specs.declared.fault.Fault.{Fault}
 use Rattle.brc_count.specs.declared.handed.Handed.{Handed}
@@ -18,10 +19,12 @@ use Rattle.law_isolation.specs.Calls.{with_objects}
 
 module _ {A : Type 0} where
   -- the call on what the register refers to: an empty one is no place
-  abbrev pub asking : (Object A → Result (Option Reference × Object A) Fault) → ℕ → State A → Result (Option Reference × List (Object A)) Fault
+  abbrev pub asking : (Object A → Result (Option Reference × Object A) Fault) → ℕ → State A
+      → Result (Option Reference × List (Object A)) Fault
   asking call container s = held container s.registers >>= λ reference. calling call reference s.objects
 
-  module _ (call : Object A → Result (Option Reference × Object A) Fault) (container base : ℕ) (new : FrameSeen A) (registers : List (Option HandleSeen)) (s : State A) where
+  module _ (call : Object A → Result (Option Reference × Object A) Fault) (container base : ℕ) (new : FrameSeen A)
+      (registers : List (Option HandleSeen)) (s : State A) where
     -- the call has no answer for a register
     pub record AsksNone : Type 0 where
       pub made : List (Object A)
@@ -38,7 +41,8 @@ module _ {A : Type 0} where
     -- a refusal, other than for want, is the plain one, and the value's handle has it still
     abbrev pub HandsBack : {V : Type 0} → HandleSeen → Reference → Handed V → Type 0
     HandsBack value reference handed =
-        is_want handed.fault ≡ false → (asking call container s ≡ Err handed.fault) × MeansBesides base new registers s value reference
+        is_want handed.fault ≡ false → (asking call container s ≡ Err handed.fault) × MeansBesides base new registers s
+        value reference
 
     abbrev pub TakesAsked : {V : Type 0} → HandleSeen → Reference → Result (Unit {0}) (Handed V) → Type 0
     TakesAsked value reference result = MatchResult result (λ _. AsksNone) (HandsBack value reference)
@@ -63,9 +67,10 @@ module _ {A : Type 0} where
     more ← asked number_in other s.objects
     integer_sum number more
 
-  -- From any state that frame and registers meant, the instruction leads as it is meant to. What its calls found is told by the log
-  -- after it, at the thread's next poll.
-  abbrev pub Follows : FrameSeen A → FrameSeen A → List (Option HandleSeen) → List (Option HandleSeen) → Instruction A → Result (Unit {0}) Fault → Type 0
+  -- From any state that frame and registers meant, the instruction leads as it is meant to. What its calls found is
+  -- told by the log after it, at the thread's next poll.
+  abbrev pub Follows : FrameSeen A → FrameSeen A → List (Option HandleSeen) → List (Option HandleSeen) → Instruction A
+      → Result (Unit {0}) Fault → Type 0
   Follows old new before now instruction answer =
       (base : ℕ) (s : State A) → OwnLog new.heap.cells new.seat.log → Means base old before s
       → Goes base new now s (after instruction s) answer

@@ -1,5 +1,5 @@
--- What a call on the object that a register refers to comes to by the plain meaning, and what the frame and the registers mean after
--- the heap's own call.
+-- What a call on the object that a register refers to comes to by the plain meaning, and what the frame and the
+-- registers mean after the heap's own call.
 use Rattle.std.specs.Prelude.{◌≡◌, ℕ, List, Option, Some, None, Result, Ok, Err, MatchResult, MatchOption, false}
 use Rattle.brc_words.specs.declared.fault.Fault.{Fault}
 use Rattle.brc_words.specs.declared.kind.Kind.{Kind}
@@ -30,7 +30,8 @@ module _ {A : Type 0} where
   -- ---- by the plain meaning
 
   -- the register refers to what the call comes to this on
-  pub record Comes (call : Object A → Result (Option Reference × Object A) Fault) (container : ℕ) (s : State A) (outcome : Result (Option Reference × List (Object A)) Fault) : Type 0 where
+  pub record Comes (call : Object A → Result (Option Reference × Object A) Fault) (container : ℕ) (s : State A)
+      (outcome : Result (Option Reference × List (Object A)) Fault) : Type 0 where
     pub reference : Reference
     pub refers : held container s.registers ≡ Ok reference
     pub comes : calling call reference s.objects ≡ outcome
@@ -45,7 +46,8 @@ module _ {A : Type 0} where
 
   -- ---- and by the heap's call
 
-  module _ (call : Object A → Result (Option Reference × Object A) Fault) (container base : ℕ) (new : FrameSeen A) (registers : List (Option HandleSeen)) (s : State A) where
+  module _ (call : Object A → Result (Option Reference × Object A) Fault) (container base : ℕ) (new : FrameSeen A)
+      (registers : List (Option HandleSeen)) (s : State A) where
     -- the call has no answer for a register
     pub record GivesNone : Type 0 where
       pub made : List (Object A)
@@ -67,7 +69,8 @@ module _ {A : Type 0} where
     -- why a value wasn't taken, which its handle has still
     abbrev pub HandedMeant : {V : Type 0} → HandleSeen → Reference → Handed V → Type 0
     HandedMeant value reference handed =
-        is_want handed.fault ≡ false → Comes call container s (Err handed.fault) × MeansBesides base new registers s value reference
+        is_want handed.fault ≡ false → Comes call container s (Err handed.fault) × MeansBesides base new registers s
+        value reference
 
     -- a call that takes a value in
     abbrev pub TakesMeant : {V : Type 0} → HandleSeen → Reference → Result (Unit {0}) (Handed V) → Type 0

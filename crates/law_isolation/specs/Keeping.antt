@@ -6,7 +6,8 @@ use Rattle.brc_handles.specs.Handles.{slot}
 module _ {A : Type 0} where
   -- the handle's place has what it had
   abbrev pub KeepsPlace : FrameSeen A → FrameSeen A → HandleSeen → Type 0
-  KeepsPlace old new handle = place_seen new.heap.cells new.seat.log handle.place ≡ place_seen old.heap.cells old.seat.log handle.place
+  KeepsPlace old new handle = place_seen new.heap.cells new.seat.log handle.place ≡ place_seen old.heap.cells
+      old.seat.log handle.place
 
   -- so of each register that holds something
   abbrev pub KeepsRegisters : FrameSeen A → FrameSeen A → List (Option HandleSeen) → Type 0

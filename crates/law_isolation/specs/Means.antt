@@ -1,6 +1,7 @@
--- What a running section's frame and registers mean: each object of its plain meaning that lives has a private cell of its own, in
--- which it lies with cells for objects.
-use Rattle.std.specs.Prelude.{◌≡◌, ℕ, ◌+◌, ◌-◌, ℤ, pos, negsuc, Bool, true, false, ◌&&◌, not, List, map, length, Option, Some, None, is_some, slice_get, slice_index_or}
+-- What a running section's frame and registers mean: each object of its plain meaning that lives has a private cell of
+-- its own, in which it lies with cells for objects.
+use Rattle.std.specs.Prelude.{◌≡◌, ℕ, ◌+◌, ◌-◌, ℤ, pos, negsuc, Bool, true, false, ◌&&◌, not, List, map, length, Option}
+use Rattle.std.specs.Prelude.{Some, None, is_some, slice_get, slice_index_or}
 use Rattle.brc_words.specs.declared.key.Key.{Key}
 use Rattle.law_rule.specs.declared.contents.Contents.{Contents}
 use Rattle.law_rule.specs.declared.contents.Contents.TheVariants as contents
@@ -48,7 +49,8 @@ module _ {A : Type 0} where
   -- ---- objects
 
   -- The object lies in its cell, which is private to the log's thread and isn't dead; and what it refers to lives too.
-  pub record LivesAt (n : ℕ) (log : List Told) (cells : ℕ → ℕ) (part : ℕ → Bool) (made : List (Object A)) (place : ℕ) : Type 0 where
+  pub record LivesAt (n : ℕ) (log : List Told) (cells : ℕ → ℕ) (part : ℕ → Bool) (made : List (Object A))
+      (place : ℕ) : Type 0 where
     pub object : Object A
     pub stands : slice_get made place ≡ Some object
     pub payload : payloads_of n log (cells place) ≡ Some (contents_meant cells object)
@@ -68,7 +70,8 @@ left n log cells part place =
 -- ---- references
 
 -- the place of the frame has what the reference means, which lives
-pub record HasAt (n : ℕ) (log : List Told) (cells : ℕ → ℕ) (part : ℕ → Bool) (k : ℕ) (reference : Reference) : Type 0 where
+pub record HasAt (n : ℕ) (log : List Told) (cells : ℕ → ℕ) (part : ℕ → Bool) (k : ℕ)
+    (reference : Reference) : Type 0 where
   pub cell : place_seen n log k ≡ Some (cell_meant cells reference)
   pub meant : IsMeant part reference
 
@@ -85,11 +88,13 @@ abbrev pub SIXTEEN : ℕ
 SIXTEEN = 16
 
 module _ {A : Type 0} where
-  -- The frame and the registers show the state, with these cells for objects, of which those of the part live. `base` is how many
-  -- objects the thread had made when the section began.
-  pub record Shows (base : ℕ) (cells : ℕ → ℕ) (part : ℕ → Bool) (frame : FrameSeen A) (registers : List (Option HandleSeen)) (s : State A) : Type 0 where
+  -- The frame and the registers show the state, with these cells for objects, of which those of the part live. `base`
+  -- is how many objects the thread had made when the section began.
+  pub record Shows (base : ℕ) (cells : ℕ → ℕ) (part : ℕ → Bool) (frame : FrameSeen A)
+      (registers : List (Option HandleSeen)) (s : State A) : Type 0 where
     pub lives : Lives frame.heap.cells frame.seat.log cells part s.objects
-    pub held : (r : ℕ) → HeldAs frame.heap.cells frame.seat.log cells part (slot registers r) (slice_index_or s.registers r None)
+    pub held : (r : ℕ) → HeldAs frame.heap.cells frame.seat.log cells part (slot registers r)
+        (slice_index_or s.registers r None)
     pub size : length s.registers ≡ SIXTEEN
     pub same_size : length registers ≡ SIXTEEN
     pub made : (ledger_seen frame).allocs ≡ base + length s.objects
@@ -101,7 +106,8 @@ module _ {A : Type 0} where
     pub shows : Shows base cells part frame registers s
 
   -- so, and beside the registers one handle more has what the reference means
-  pub record MeansBesides (base : ℕ) (frame : FrameSeen A) (registers : List (Option HandleSeen)) (s : State A) (loose : HandleSeen) (reference : Reference) : Type 0 where
+  pub record MeansBesides (base : ℕ) (frame : FrameSeen A) (registers : List (Option HandleSeen)) (s : State A)
+      (loose : HandleSeen) (reference : Reference) : Type 0 where
     pub cells : ℕ → ℕ
     pub part : ℕ → Bool
     pub shows : Shows base cells part frame registers s

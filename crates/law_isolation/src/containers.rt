@@ -1,5 +1,5 @@
-//! What calls of the heap on the object of a register make of what is meant, each part as the contract of a function with nothing
-//! to do.
+//! What calls of the heap on the object of a register make of what is meant, each part as the contract of a function
+//! with nothing to do.
 
 ghost use Rattle.std.specs.Prelude.{◌≡◌, ◌≢◌, ℕ, ℤ, List, Option, Some, Result, Ok, MatchResult, IfOk, IfErr};
 ghost use Rattle.brc_words.specs.declared.fault.Fault.{Fault as fault};
@@ -24,9 +24,9 @@ ghost use Rattle.law_living.specs.Living.{OwnLog};
 ghost use Rattle.law_isolation.specs.Means.{Means, MeansBesides};
 ghost use Rattle.law_isolation.specs.Calls.{kind_meant, Finds, HandsMeant, TakesMeant, SwapsMeant, PutsMeant};
 
-/// A value that goes into the object of a register goes into the object that the register means, by the plain call: beside it the
-/// registers mean what they did. A refusal, other than for want of memory or of a place, is the plain one, and then the handle that
-/// is handed back has the value still.
+/// A value that goes into the object of a register goes into the object that the register means, by the plain call:
+/// beside it the registers mean what they did. A refusal, other than for want of memory or of a place, is the plain
+/// one, and then the handle that is handed back has the value still.
 pub fn calls_put_in_what_is_meant<A>()
     ensures push { (base : ℕ) (old new : frame A) (registers : List (Option handle)) (s : state A)
         → OwnLog new.heap.cells new.seat.log → (container : ℕ) (h : handle)
@@ -62,8 +62,9 @@ pub fn calls_put_in_what_is_meant<A>()
         → PutsMeant (keyed_call at (keyed.Put r)) container base new registers s value r result }
 {}
 
-/// What comes out of the object of a register, or is counted up there, is what the plain call answers of the object that the register
-/// means. A refusal, other than for want of memory or of a place, is the plain one, and changes nothing.
+/// What comes out of the object of a register, or is counted up there, is what the plain call answers of the object
+/// that the register means. A refusal, other than for want of memory or of a place, is the plain one, and changes
+/// nothing.
 pub fn calls_hand_out_what_is_meant<A>()
     ensures pop { (base : ℕ) (old new : frame A) (registers : List (Option handle)) (s : state A)
         → OwnLog new.heap.cells new.seat.log → (container : ℕ) (h : handle)

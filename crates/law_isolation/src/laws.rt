@@ -1,10 +1,11 @@
-//! What calls of the heap make of what a frame and its registers mean, each part as the contract of a function with nothing to
-//! do.
+//! What calls of the heap make of what a frame and its registers mean, each part as the contract of a function with
+//! nothing to do.
 
 ghost use Rattle.std.specs.Prelude.{◌≡◌, ◌<◌, ℕ, ℤ, List, Option, Some, None, length, slice_set, slice_index_or};
 ghost use Rattle.law_world.specs.declared.event.Source.TheVariants as sources;
 ghost use Rattle.law_rule.specs.declared.contents.Contents.TheVariants as contents;
-ghost use Rattle.brc_count.specs.Frames.{FrameSeen as frame, HandleSeen as handle, Given, ReleasedOf, Turns, KeepsHandles, IsAsBefore, place_seen, ledger_seen};
+ghost use Rattle.brc_count.specs.Frames.{FrameSeen as frame, HandleSeen as handle, Given, ReleasedOf, Turns};
+ghost use Rattle.brc_count.specs.Frames.{KeepsHandles, IsAsBefore, place_seen, ledger_seen};
 ghost use Rattle.brc_count.specs.Making.{Made};
 ghost use Rattle.brc_count.specs.Polling.{Polled};
 ghost use Rattle.brc_handles.specs.Handles.{slot, IsApart, IsBare};
@@ -22,9 +23,9 @@ ghost use Rattle.law_isolation.specs.Means.{Means, MeansBesides, SIXTEEN, conten
 ghost use Rattle.law_living.specs.Living.{OwnLog};
 ghost use Rattle.law_living.specs.Quiet.{Quietly};
 
-/// While the thread only lets go, gives back and looks, its frame shows the state that it showed, where the places of its
-/// registers have what they had: over a release of another handle, turns of the work on dead blocks, a poll, and waiting for a
-/// lock. What else ends meanwhile is none of the state's. Premise is what the log tells of itself.
+/// While the thread only lets go, gives back and looks, its frame shows the state that it showed, where the places of
+/// its registers have what they had: over a release of another handle, turns of the work on dead blocks, a poll, and
+/// waiting for a lock. What else ends meanwhile is none of the state's. Premise is what the log tells of itself.
 pub fn letting_go_keeps_what_is_meant<A>()
     ensures quiet { (base : ℕ) (old new : frame A) (registers : List (Option handle)) (s : state A)
         → Means base old registers s → new.heap ≡ old.heap → Quietly old.seat.log new.seat.log
@@ -47,8 +48,8 @@ pub fn letting_go_keeps_what_is_meant<A>()
         → Means base old registers s → IsAsBefore old new → Means base new registers s }
 {}
 
-/// As a section starts no register holds anything, and nothing was made. A register that is given a handle holds what that has,
-/// and what it held is loose; so is what is taken out of one.
+/// As a section starts no register holds anything, and nothing was made. A register that is given a handle holds what
+/// that has, and what it held is loose; so is what is taken out of one.
 pub fn registers_hold_what_they_are_given<A>()
     ensures begins { (frame : frame A) (registers : List (Option handle)) → IsBare registers
         → length registers ≡ SIXTEEN → Means (ledger_seen frame).allocs frame registers start }
@@ -66,8 +67,8 @@ pub fn registers_hold_what_they_are_given<A>()
         × MeansBesides base frame (slice_set registers from None) (with_register from None s) h r }
 {}
 
-/// A new handle has what it is given: what a register's handle has, a new object that refers to nothing, or an integer, which is
-/// there always or is a new object.
+/// A new handle has what it is given: what a register's handle has, a new object that refers to nothing, or an integer,
+/// which is there always or is a new object.
 pub fn handles_have_what_they_are_given<A>()
     ensures retained { (base : ℕ) (old new : frame A) (registers : List (Option handle)) (s : state A)
         (from c : ℕ) (h given : handle) → Means base old registers s → slot registers from ≡ Some h

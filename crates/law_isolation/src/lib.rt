@@ -1,4 +1,5 @@
-//! What a running section's frame and registers mean, and what each call of the heap makes of that: definitions and laws.
+//! What a running section's frame and registers mean, and what each call of the heap makes of that: definitions and
+//! laws.
 #![tactic(auto)]
 
 pub mod containers;

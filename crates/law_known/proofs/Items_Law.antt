@@ -1,5 +1,6 @@
 -- A thread's own part of the world is what its own items say.
-use Rattle.std.proofs.Common.{◌≡◌, ◌≢◌, ℕ, Bool, true, false, List, [], length, replicate, Some, None, sym, ◌∙◌, ap, subst, arith}
+use Rattle.std.proofs.Common.{◌≡◌, ◌≢◌, ℕ, Bool, true, false, List, [], length, replicate, Some, None, sym, ◌∙◌, ap}
+use Rattle.std.proofs.Common.{subst, arith}
 use Rattle.std.proofs.lemmas.List.{get_or_push}
 use Rattle.std.proofs.lemmas.Bool.{true≢false}
 use Rattle.brc_words.specs.declared.owner.Owner.TheVariants as owners
@@ -7,12 +8,15 @@ use Rattle.law_world.specs.declared.event.Event.{Event}
 use Rattle.law_world.specs.declared.event.Step.{Step}
 use Rattle.law_world.specs.declared.row.Row.{Row}
 use Rattle.law_world.specs.Lists.{place_at, word_at, is_marked, is_bare, is_blank}
-use Rattle.law_world.specs.Heap.{Heap, opening, cell_at, row_at, frame_at, popped_at, worklist_at, new_row, no_row, is_registered, AreOptions}
-use Rattle.law_world.specs.Steps.{enabled, after, after_target, target, target_at, locked_cell, registered, gathered_in, locked_at}
+use Rattle.law_world.specs.Heap.{Heap, opening, cell_at, row_at, frame_at, popped_at, worklist_at, new_row, no_row}
+use Rattle.law_world.specs.Heap.{is_registered, AreOptions}
+use Rattle.law_world.specs.Steps.{enabled, after, after_target, target, target_at, locked_cell, registered, gathered_in}
+use Rattle.law_world.specs.Steps.{locked_at}
 use Rattle.law_world.specs.Holding.{lives}
 use Rattle.law_world.specs.Sound.{IsSound, WorklistFits}
 use Rattle.law_lasting.specs.Staying.{IsAnothers, SameOwn}
-use Rattle.law_known.specs.Items.{Did, ItemRun, world_of_items, AreItems, own, found, Part, new_part, part_after, part_of, meant, IsPart, IsTold}
+use Rattle.law_known.specs.Items.{Did, ItemRun, world_of_items, AreItems, own, found, Part, new_part, part_after}
+use Rattle.law_known.specs.Items.{part_of, meant, IsPart, IsTold}
 use Rattle.law_world.proofs.Asking.{May}
 use Rattle.law_world.proofs.Naming.{one-true}
 use Rattle.law_world.proofs.Counting.{marked_unheld}
@@ -30,20 +34,27 @@ use Rattle.law_known.proofs.Items_Tells.{Follows, tells}
 is_live : (h : Heap) (t c : ℕ) → WorklistFits t c (cell_at h c) → (cell_at h c).owner ≢ owners.Free
 is_live h t c fits free = true≢false (sym fits.lives ∙ ap lives free)
 
-others_part : (h : Heap) (e : Event) (t : ℕ) (part : Part) → IsSound h → enabled h e ≡ true → IsAnothers t e → IsPart h t part → IsPart (after h e) t part
+others_part : (h : Heap) (e : Event) (t : ℕ) (part : Part) → IsSound h → enabled h e ≡ true → IsAnothers t e
+    → IsPart h t part → IsPart (after h e) t part
 others_part h e t part sound ok others is =
     let same : SameOwn t h (after h e) = others_own h e t sound ok others in
-    let locked : locked_at (after h e) t ≡ locked_at h t = ap (λ (r : Row). locked_cell (frame_at (after h e) t) r.locked) same.row ∙ ap (λ f. locked_cell f (row_at h t).locked) same.frame in
+    let locked : locked_at (after h e) t ≡ locked_at h t =
+    ap (λ (r : Row). locked_cell (frame_at (after h e) t) r.locked) same.row
+    ∙ ap (λ f. locked_cell f (row_at h t).locked) same.frame in
     record {
       row_is = same.row ∙ is.row_is;
       frame_is = same.frame ∙ is.frame_is;
       popped_is = same.popped ∙ is.popped_is;
       work_is = same.worklist ∙ is.work_is;
-      locked_has = λ c at. let was : locked_at h t ≡ Some c = sym locked ∙ at in (locked_stays h e t c sound ok others.other was).2 ∙ is.locked_has c was;
+      locked_has = λ c at. let was : locked_at h t ≡ Some c = sym locked
+          ∙ at in (locked_stays h e t c sound ok others.other was).2 ∙ is.locked_has c was;
       work_has = λ c marked.
-          let was : is_marked (worklist_at h t) c ≡ true = ap (λ marks. is_marked marks c) (sym same.worklist) ∙ marked in
+          let was : is_marked (worklist_at h t) c ≡ true = ap (λ marks. is_marked marks c) (sym same.worklist)
+          ∙ marked in
           let fits : WorklistFits t c (cell_at h c) = sound.worklists t c was in
-          (alone_stays h e t c sound ok others.other fits.mortal (omega (arith, one-true (is_marked (worklist_at h t) c) was)) (marked_unheld h t c sound was) (is_live h t c fits)).1 ∙ is.work_has c was;
+          (alone_stays h e t c sound ok others.other fits.mortal
+          (omega (arith, one-true (is_marked (worklist_at h t) c) was)) (marked_unheld h t c sound was)
+          (is_live h t c fits)).1 ∙ is.work_has c was;
     }
 
 -- ---- a thread as it is registered
@@ -51,14 +62,18 @@ others_part h e t part sound ok others is =
 new_is : (h : Heap) (t : ℕ) → IsSound h → t ≡ length h.rows → IsPart (registered h) t (new_part (length h.cells))
 new_is h t sound last =
     let row : row_at (registered h) t ≡ new_row = get_or_push h.rows new_row no_row t (sym last) in
-    let worklist : worklist_at (registered h) t ≡ replicate (length h.cells) false = get_or_push h.worklists _ [] t (sound.shaped.worklists ∙ sym last) in
+    let worklist : worklist_at (registered h) t ≡ replicate (length h.cells) false = get_or_push h.worklists _ [] t
+    (sound.shaped.worklists ∙ sym last) in
     record {
       row_is = row;
       frame_is = get_or_push h.frames [] [] t (sound.shaped.frames ∙ sym last);
       popped_is = get_or_push h.popped _ [] t (sound.shaped.popped ∙ sym last);
       work_is = worklist;
-      locked_has = λ c at. absurd (let e : None ≡ Some c = ap (λ (r : Row). locked_cell (frame_at (registered h) t) r.locked) (sym row) ∙ at in cc);
-      work_has = λ c marked. absurd (true≢false (sym marked ∙ ap (λ (ws : List Bool). is_marked ws c) worklist ∙ new_mark (length h.cells) c));
+      locked_has = λ c at. absurd
+          (let e : None ≡ Some c = ap (λ (r : Row). locked_cell (frame_at (registered h) t) r.locked) (sym row)
+          ∙ at in cc);
+      work_has = λ c marked. absurd (true≢false (sym marked ∙ ap (λ (ws : List Bool). is_marked ws c) worklist
+          ∙ new_mark (length h.cells) c));
     }
 
 -- gathering a thread changes nothing of its part
@@ -90,7 +105,8 @@ now_is h t part is =
     ∙ ap (λ ws. record (now h t part.has) { row = part.row; frame = part.frame; popped = ws }) is.popped_is
     ∙ ap (λ ws. record part { worklist = ws }) is.work_is
 
-own_part : (h : Heap) (t : ℕ) (s : Step) (number : ℕ) (entries : List ℕ) (part : Part) → IsSound h → QueuesFit h → May h t s → IsTold h t s number → entries ≡ found h t s → IsPart h t part
+own_part : (h : Heap) (t : ℕ) (s : Step) (number : ℕ) (entries : List ℕ) (part : Part) → IsSound h → QueuesFit h
+    → May h t s → IsTold h t s number → entries ≡ found h t s → IsPart h t part
     → IsPart (after_target h t s (target_at h t s)) t (part_after (length h.cells) part (Did s number entries))
 own_part h t s number entries part sound fit may told_is found_is is =
     let w : Heap = after_target h t s (target_at h t s) in
@@ -103,10 +119,13 @@ own_part h t s number entries part sound fit may told_is found_is is =
 
 pub part_follows : (t cells : ℕ) → Follows t cells (λ h log. IsPart h t (part_of cells log))
 part_follows t cells = record {
-  starts = λ h reached size last. subst (λ n. IsPart (registered h) t (new_part n)) size (new_is h t (reached_sound h reached) last);
-  others = λ h e log reached ok others before. others_part h e t (part_of cells log) (reached_sound h reached) ok others before;
+  starts = λ h reached size last. subst (λ n. IsPart (registered h) t (new_part n)) size
+      (new_is h t (reached_sound h reached) last);
+  others = λ h e log reached ok others before. others_part h e t (part_of cells log) (reached_sound h reached) ok
+      others before;
   owns = λ h s number entries log reached size fit may told_is found_is before.
-      subst (λ n. IsPart (after_target h t s (target_at h t s)) t (part_after n (part_of cells log) (Did s number entries))) size
+      subst (λ n. IsPart (after_target h t s (target_at h t s)) t
+      (part_after n (part_of cells log) (Did s number entries))) size
       (own_part h t s number entries (part_of cells log) (reached_sound h reached) fit may told_is found_is before);
   gathers = λ h u log before. gathered_is h u t (part_of cells log) before;
   saw = λ h word number log reached shows before. before;
@@ -114,26 +133,37 @@ part_follows t cells = record {
 }
 
 -- a registered thread's part of the world is what its own items say
-pub parts_are_told : (cells limit : ℕ) (items : ItemRun) (t : ℕ) → AreOptions cells limit → AreItems (opening cells limit) items
-    → is_registered (world_of_items (opening cells limit) items) t ≡ true → IsPart (world_of_items (opening cells limit) items) t (part_of cells (own t items))
-parts_are_told cells limit items t options are there = tells t cells (λ h log. IsPart h t (part_of cells log)) (part_follows t cells) limit items options are there
+pub parts_are_told : (cells limit : ℕ) (items : ItemRun) (t : ℕ) → AreOptions cells limit
+    → AreItems (opening cells limit) items
+    → is_registered (world_of_items (opening cells limit) items) t ≡ true
+    → IsPart (world_of_items (opening cells limit) items) t (part_of cells (own t items))
+parts_are_told cells limit items t options are there = tells t cells (λ h log. IsPart h t (part_of cells log))
+    (part_follows t cells) limit items options are there
 
 -- the cell that a step means by the thread's own items is the one that it means in the world
-pub meant_is_told : (cells limit : ℕ) (items : ItemRun) (t : ℕ) (s : Step) → AreOptions cells limit → AreItems (opening cells limit) items
+pub meant_is_told : (cells limit : ℕ) (items : ItemRun) (t : ℕ) (s : Step) → AreOptions cells limit
+    → AreItems (opening cells limit) items
     → is_registered (world_of_items (opening cells limit) items) t ≡ true
     → meant (part_of cells (own t items)) s ≡ target_at (world_of_items (opening cells limit) items) t s
 meant_is_told cells limit items t s options are there =
-    part_target (world_of_items (opening cells limit) items) t (part_of cells (own t items)) s (parts_are_told cells limit items t options are there)
+    part_target (world_of_items (opening cells limit) items) t (part_of cells (own t items)) s
+    (parts_are_told cells limit items t options are there)
 
 -- a frame whose places are all vacant is bare in the world, and popped words without a bit are blank there
-pub bare_is_told : (cells limit : ℕ) (items : ItemRun) (t : ℕ) → AreOptions cells limit → AreItems (opening cells limit) items
-    → is_registered (world_of_items (opening cells limit) items) t ≡ true → ((k : ℕ) → place_at (part_of cells (own t items)).frame k ≡ None)
+pub bare_is_told : (cells limit : ℕ) (items : ItemRun) (t : ℕ) → AreOptions cells limit
+    → AreItems (opening cells limit) items
+    → is_registered (world_of_items (opening cells limit) items) t ≡ true
+    → ((k : ℕ) → place_at (part_of cells (own t items)).frame k ≡ None)
     → is_bare (frame_at (world_of_items (opening cells limit) items) t) ≡ true
 bare_is_told cells limit items t options are there vacant =
-    all_vacant (frame_at (world_of_items (opening cells limit) items) t) (λ k. ap (λ f. place_at f k) (parts_are_told cells limit items t options are there).frame_is ∙ vacant k)
+    all_vacant (frame_at (world_of_items (opening cells limit) items) t)
+    (λ k. ap (λ f. place_at f k) (parts_are_told cells limit items t options are there).frame_is ∙ vacant k)
 
-pub blank_is_told : (cells limit : ℕ) (items : ItemRun) (t : ℕ) → AreOptions cells limit → AreItems (opening cells limit) items
-    → is_registered (world_of_items (opening cells limit) items) t ≡ true → ((k : ℕ) → word_at (part_of cells (own t items)).popped k ≡ 0)
+pub blank_is_told : (cells limit : ℕ) (items : ItemRun) (t : ℕ) → AreOptions cells limit
+    → AreItems (opening cells limit) items
+    → is_registered (world_of_items (opening cells limit) items) t ≡ true
+    → ((k : ℕ) → word_at (part_of cells (own t items)).popped k ≡ 0)
     → is_blank (popped_at (world_of_items (opening cells limit) items) t) ≡ true
 blank_is_told cells limit items t options are there none =
-    all_blank (popped_at (world_of_items (opening cells limit) items) t) (λ k. ap (λ (ws : List ℕ). word_at ws k) (parts_are_told cells limit items t options are there).popped_is ∙ none k)
+    all_blank (popped_at (world_of_items (opening cells limit) items) t)
+    (λ k. ap (λ (ws : List ℕ). word_at ws k) (parts_are_told cells limit items t options are there).popped_is ∙ none k)

@@ -1,5 +1,6 @@
 -- A shared word's count and state, and the tests of them, on the number that was told.
-use Rattle.std.proofs.Common.{◌≡◌, ◌≢◌, ℕ, ◌+◌, ◌-◌, ◌*◌, ◌/◌, ◌%◌, ◌<◌, ◌==◌, not, Bool, true, false, if◌then◌else◌, ℤ, pos, negsuc, ◌+ℤ◌, ◌-ℤ◌, ◌*ℤ◌, refl, sym, ◌∙◌, ap, inl, inr, arith, ◌^◌}
+use Rattle.std.proofs.Common.{◌≡◌, ◌≢◌, ℕ, ◌+◌, ◌-◌, ◌*◌, ◌/◌, ◌%◌, ◌<◌, ◌==◌, not, Bool, true, false, if◌then◌else◌, ℤ}
+use Rattle.std.proofs.Common.{pos, negsuc, ◌+ℤ◌, ◌-ℤ◌, ◌*ℤ◌, refl, sym, ◌∙◌, ap, inl, inr, arith, ◌^◌}
 use Rattle.std.proofs.lemmas.Bool.{cases_eq, cases_Bool, eq-eqb, ne_eqb}
 use Rattle.std.proofs.lemmas.Int.{ints}
 use Rattle.brc_words.specs.Shared.{Spells, bits_of}
@@ -33,7 +34,8 @@ merged_told n usual = elim (cases_eq (n % 4) 0) [
   | inl zero ↦ ap (λ r. is_merged (by_tests (r == 0) (r == 2))) zero ∙ sym (ap (λ r. r == 3) zero)
   | inr more ↦ elim (cases_eq (n % 4) 2) [
     | inl two ↦ ap (λ r. is_merged (by_tests (r == 0) (r == 2))) two ∙ sym (ap (λ r. r == 3) two)
-    | inr rest ↦ let three : n % 4 ≡ 3 = omega (arith, usual, more, rest) in ap (λ r. is_merged (by_tests (r == 0) (r == 2))) three ∙ sym (ap (λ r. r == 3) three)
+    | inr rest ↦ let three : n % 4 ≡ 3 = omega (arith, usual, more, rest) in
+        ap (λ r. is_merged (by_tests (r == 0) (r == 2))) three ∙ sym (ap (λ r. r == 3) three)
   ]
 ]
 
@@ -58,7 +60,8 @@ one_told n = zero_at (count_told n -ℤ pos 1) (n / 4) 1099511627777 (omega (ari
 
 -- ---- a number that spells a count and a state tells them
 
-spelled_told : (number : ℕ) (count : ℤ) (bits : ℕ) → bits < 4 → pos number ≡ ((count +ℤ pos (2 ^ 40)) *ℤ pos 4) +ℤ pos bits → (count_told number ≡ count) × (number % 4 ≡ bits)
+spelled_told : (number : ℕ) (count : ℤ) (bits : ℕ) → bits < 4
+    → pos number ≡ ((count +ℤ pos (2 ^ 40)) *ℤ pos 4) +ℤ pos bits → (count_told number ≡ count) × (number % 4 ≡ bits)
 spelled_told number (pos n) bits few is =
     let same : number ≡ (n + 2 ^ 40) * 4 + bits = omega (arith, ints, is) in
     (omega (arith, ints, same, few), omega (arith, same, few))
@@ -79,22 +82,27 @@ bits_small states.Queued = omega arith
 bits_small states.Merged = omega arith
 
 pub count_spelled : (number : ℕ) (count : ℤ) (state : State) → Spells number count state → count_told number ≡ count
-count_spelled number count state spells = (spelled_told number count (bits_of state) (bits_small state) spells.spelled).0
+count_spelled number count state spells =
+    (spelled_told number count (bits_of state) (bits_small state) spells.spelled).0
 
 pub state_spelled : (number : ℕ) (count : ℤ) (state : State) → Spells number count state → state_told number ≡ state
-state_spelled number count state spells = state_of_bits number state (spelled_told number count (bits_of state) (bits_small state) spells.spelled).1
+state_spelled number count state spells = state_of_bits number state
+    (spelled_told number count (bits_of state) (bits_small state) spells.spelled).1
 
 -- the cell as a step was told it, where it was told its shared word
 abbrev pub spelled_cell : ℤ → State → Cell
 spelled_cell count state = record no_cell { count = count; state = state }
 
 -- whether a step takes a block, by the count and the state that its number spells
-pub takes_spelled : (s : Step) (number : ℕ) (count : ℤ) (state : State) → Spells number count state → takes_block s (cell_told s number) ≡ takes_block s (spelled_cell count state)
+pub takes_spelled : (s : Step) (number : ℕ) (count : ℤ) (state : State) → Spells number count state
+    → takes_block s (cell_told s number) ≡ takes_block s (spelled_cell count state)
 takes_spelled (LocalDown drop) number count state spells = refl
 takes_spelled s number count state spells =
     ap (λ n. takes_block s (spelled_cell n (state_told number))) (count_spelled number count state spells)
     ∙ ap (λ g. takes_block s (spelled_cell count g)) (state_spelled number count state spells)
 
 -- whether a number tells of a state that has risen
-pub risen_spelled : (number : ℕ) (count : ℤ) (state : State) → Spells number count state → is_risen_word number ≡ not (is_default state)
-risen_spelled number count state spells = ap not (sym (default_told number) ∙ ap is_default (state_spelled number count state spells))
+pub risen_spelled : (number : ℕ) (count : ℤ) (state : State) → Spells number count state
+    → is_risen_word number ≡ not (is_default state)
+risen_spelled number count state spells = ap not (sym (default_told number)
+    ∙ ap is_default (state_spelled number count state spells))

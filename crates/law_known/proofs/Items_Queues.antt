@@ -1,5 +1,7 @@
 -- Queue words have bits of their 32 cells alone, and a heap has as many cells as it opened with.
-use Rattle.std.proofs.Common.{◌≡◌, ℕ, ◌/◌, ◌%◌, ◌<◌, ◌==◌, nat_lt, Bool, true, false, if◌then◌else◌, List, [], ◌∷◌, length, get_or, set, replicate, zero, suc, Option, Some, None, refl, sym, ◌∙◌, subst, inl, inr, arith}
+use Rattle.std.proofs.Common.{◌≡◌, ℕ, ◌/◌, ◌%◌, ◌<◌, ◌==◌, nat_lt, Bool, true, false, if◌then◌else◌, List, [], ◌∷◌}
+use Rattle.std.proofs.Common.{length, get_or, set, replicate, zero, suc, Option, Some, None, refl, sym, ◌∙◌, subst, inl}
+use Rattle.std.proofs.Common.{inr, arith}
 use Rattle.std.proofs.lemmas.List.{length-set, get_or_past}
 use Rattle.std.proofs.lemmas.Bool.{cases_eq, cases_lt, cases_Bool}
 use Rattle.std.proofs.lemmas.Nat.{or_lt, pow_below}
@@ -8,7 +10,8 @@ use Rattle.law_world.specs.declared.event.Step.{Step}
 use Rattle.law_world.specs.declared.event.Step.TheVariants.{Enqueue, Register, Gather}
 use Rattle.law_world.specs.Lists.{word_at, with_bit}
 use Rattle.law_world.specs.Heap.{Heap, opening, queue_at, cell_at, words_for}
-use Rattle.law_world.specs.Steps.{after, after_target, root_after, registered, registered_again, target_at, is_shut, queues_after, drained_word, without_drained}
+use Rattle.law_world.specs.Steps.{after, after_target, root_after, registered, registered_again, target_at, is_shut}
+use Rattle.law_world.specs.Steps.{queues_after, drained_word, without_drained}
 use Rattle.law_world.specs.Runs.{world_after}
 use Rattle.law_world.proofs.Changes.{read_by, read_there}
 use Rattle.law_world.proofs.Registering.{read_push, new_word}
@@ -16,7 +19,8 @@ use Rattle.law_world.proofs.Beginning.{length-opening}
 use Rattle.law_known.proofs.Items_Told.{QueuesFit}
 
 -- what holds of all that is read, and of the new value, holds after it is put, within the list or past its end
-set_keeps : {A : Type 0} (P : A → Type 0) (xs : List A) (i : ℕ) (v d : A) → P d → P v → ((j : ℕ) → P (get_or xs j d)) → (j : ℕ) → P (get_or (set xs i v) j d)
+set_keeps : {A : Type 0} (P : A → Type 0) (xs : List A) (i : ℕ) (v d : A) → P d → P v → ((j : ℕ) → P (get_or xs j d))
+    → (j : ℕ) → P (get_or (set xs i v) j d)
 set_keeps {A} P xs i v d past here there j = elim (cases_lt i (length xs)) [
   | inl inside ↦ read_by (λ _. P) xs i v d inside here (λ k _. there k) j
   | inr beyond ↦ elim (cases_eq j i) [
@@ -39,12 +43,14 @@ set_small words k w few small = set_keeps (λ v. v < 4294967296) words k w 0 (om
 
 with_bit_small : (words : List ℕ) (c : ℕ) → Small words → Small (with_bit words c)
 unfolding Small
-with_bit_small words c small = set_small words (c / 32) _ (or_lt 32 _ _ (small (c / 32)) (pow_below (c % 32) 32 (omega arith))) small
+with_bit_small words c small = set_small words (c / 32) _
+    (or_lt 32 _ _ (small (c / 32)) (pow_below (c % 32) 32 (omega arith))) small
 
 AllSmall : List (List ℕ) → Type 0
 AllSmall queues = (t : ℕ) → Small (get_or queues t [])
 
-put_small : (queues : List (List ℕ)) (t : ℕ) (words : List ℕ) → Small words → AllSmall queues → AllSmall (set queues t words)
+put_small : (queues : List (List ℕ)) (t : ℕ) (words : List ℕ) → Small words → AllSmall queues
+    → AllSmall (set queues t words)
 unfolding AllSmall
 put_small queues t words small all = set_keeps Small queues t words [] none_small small all
 
@@ -55,8 +61,10 @@ taken_small (Some k) queue small = set_small queue k 0 (omega arith) small
 queued_small : (h : Heap) (s : Step) (c : ℕ) → AllSmall h.queues → AllSmall (queues_after h s c)
 unfolding AllSmall
 queued_small h (Enqueue d) c small = elim (cases_Bool (is_shut h c)) [
-  | inl shut ↦ subst (λ b. AllSmall (if b then h.queues else set h.queues (cell_at h c).bearer (with_bit (queue_at h (cell_at h c).bearer) c))) (sym shut) small
-  | inr apart ↦ subst (λ b. AllSmall (if b then h.queues else set h.queues (cell_at h c).bearer (with_bit (queue_at h (cell_at h c).bearer) c))) (sym apart)
+  | inl shut ↦ subst (λ b. AllSmall (if b then h.queues else set h.queues (cell_at h c).bearer
+      (with_bit (queue_at h (cell_at h c).bearer) c))) (sym shut) small
+  | inr apart ↦ subst (λ b. AllSmall (if b then h.queues else set h.queues (cell_at h c).bearer
+      (with_bit (queue_at h (cell_at h c).bearer) c))) (sym apart)
       (put_small h.queues _ _ (with_bit_small _ c (small (cell_at h c).bearer)) small)
 ]
 queued_small h _ c small = small
@@ -70,7 +78,8 @@ root_small h (Register u) small = by_number (nat_lt u (length h.rows))
 
     by_number : (b : Bool) → AllSmall (if b then registered_again h u else registered h).queues
     by_number true = put_small h.queues u _ blank small
-    by_number false = read_push (λ _ words. Small words) h.queues (replicate (words_for (length h.cells)) 0) [] blank (λ j _. small j)
+    by_number false = read_push (λ _ words. Small words) h.queues (replicate (words_for (length h.cells)) 0) [] blank
+        (λ j _. small j)
 root_small h (Gather u) small = small
 root_small h _ small = small
 
@@ -119,7 +128,8 @@ target_cells h t s (Some c) = length-set h.cells c _
 after_cells : (h : Heap) (e : Event) → length (after h e).cells ≡ length h.cells
 after_cells h e =
     let moved : Heap = after_target h e.thread e.step (target_at h e.thread e.step) in
-    let P : Bool → Type 0 = λ b. let w : Heap = if b then root_after h e.step else moved in length w.cells ≡ length h.cells in
+    let P : Bool → Type 0 = λ b. let w : Heap = if b then root_after h e.step else moved in
+    length w.cells ≡ length h.cells in
     elim (cases_Bool (e.thread == 0)) [
       | inl root ↦ subst P (sym root) (root_cells h e.step)
       | inr thread ↦ subst P (sym thread) (target_cells h e.thread e.step (target_at h e.thread e.step))

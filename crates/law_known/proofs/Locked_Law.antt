@@ -1,5 +1,6 @@
 -- What a thread has locked, and with which entries, is what its own items say.
-use Rattle.std.proofs.Common.{◌≡◌, ◌≢◌, ℕ, Bool, true, false, List, [], Option, Some, None, refl, sym, ◌∙◌, ap, subst, inl, inr, arith}
+use Rattle.std.proofs.Common.{◌≡◌, ◌≢◌, ℕ, Bool, true, false, List, [], Option, Some, None, refl, sym, ◌∙◌, ap, subst}
+use Rattle.std.proofs.Common.{inl, inr, arith}
 use Rattle.std.proofs.lemmas.List.{get_or_push}
 use Rattle.std.proofs.lemmas.Bool.{cases_Bool, true≢false}
 use Rattle.law_world.specs.declared.event.Event.{Event}
@@ -8,12 +9,15 @@ use Rattle.law_world.specs.declared.event.Step.{Step}
 use Rattle.law_world.specs.declared.event.Step.TheVariants.{LocalUp, SharedUp, Lock, Unlock}
 use Rattle.law_world.specs.declared.row.Row.{Row}
 use Rattle.law_world.specs.Lists.{place_at, filled, is_marked}
-use Rattle.law_world.specs.Heap.{Heap, opening, entries_at, row_at, frame_at, worklist_at, no_row, new_row, is_registered, AreOptions}
-use Rattle.law_world.specs.Steps.{enabled, after, after_target, stepped, target_at, target_ok, lock_ok, locked_cell, locked_after, locked_at, gathered_in}
+use Rattle.law_world.specs.Heap.{Heap, opening, entries_at, row_at, frame_at, worklist_at, no_row, new_row}
+use Rattle.law_world.specs.Heap.{is_registered, AreOptions}
+use Rattle.law_world.specs.Steps.{enabled, after, after_target, stepped, target_at, target_ok, lock_ok, locked_cell}
+use Rattle.law_world.specs.Steps.{locked_after, locked_at, gathered_in}
 use Rattle.law_world.specs.Runs.{IsReached}
 use Rattle.law_world.specs.Sound.{IsSound}
 use Rattle.law_lasting.specs.Staying.{IsAnothers, SameOwn}
-use Rattle.law_known.specs.Items.{Did, ItemRun, AreItems, events_of, world_of_items, own, found, found_at, part_of, IsPart}
+use Rattle.law_known.specs.Items.{Did, ItemRun, AreItems, events_of, world_of_items, own, found, found_at, part_of}
+use Rattle.law_known.specs.Items.{IsPart}
 use Rattle.law_known.specs.Locked.{locked_on, locked_of, place_locked, HasLocked}
 use Rattle.law_world.proofs.Asking.{May, Vacant, vacant}
 use Rattle.law_world.proofs.Changes.{read_here}
@@ -40,15 +44,18 @@ LockIs h t (Some lock) = LocksFound h t lock.0 lock.1
 
 -- ---- others change nothing of it
 
-others_lock : (h : Heap) (e : Event) (t : ℕ) (lock : Option (ℕ × List ℕ)) → IsReached h → enabled h e ≡ true → IsAnothers t e → LockIs h t lock → LockIs (after h e) t lock
-others_lock h e t None reached ok others is = ap (λ (r : Row). r.locked) (others_own h e t (reached_sound h reached) ok others).row ∙ is
+others_lock : (h : Heap) (e : Event) (t : ℕ) (lock : Option (ℕ × List ℕ)) → IsReached h → enabled h e ≡ true
+    → IsAnothers t e → LockIs h t lock → LockIs (after h e) t lock
+others_lock h e t None reached ok others is = ap (λ (r : Row). r.locked)
+    (others_own h e t (reached_sound h reached) ok others).row ∙ is
 others_lock h e t (Some lock) reached ok others is =
     let sound : IsSound h = reached_sound h reached in
     let same : SameOwn t h (after h e) = others_own h e t sound ok others in
     record {
       locked = ap (λ (r : Row). r.locked) same.row ∙ is.locked;
       cell = is.cell;
-      named = ap (λ (r : Row). locked_cell (frame_at (after h e) t) r.locked) same.row ∙ ap (λ f. locked_cell f (row_at h t).locked) same.frame ∙ is.named;
+      named = ap (λ (r : Row). locked_cell (frame_at (after h e) t) r.locked) same.row
+          ∙ ap (λ f. locked_cell f (row_at h t).locked) same.frame ∙ is.named;
       has = (locked_stays h e t is.cell sound ok others.other is.named).2 ∙ is.has;
     }
 
@@ -65,54 +72,84 @@ same_locked (Unlock change) locked apart = absurd (true≢false apart)
 same_locked _ locked apart = refl
 
 -- the locked place isn't the vacant one that is filled
-still_locked : (h w : Heap) (t k c place : ℕ) (entries : List ℕ) → Vacant (frame_at h t) k → (row_at w t).locked ≡ (row_at h t).locked → frame_at w t ≡ filled (frame_at h t) k c
+still_locked : (h w : Heap) (t k c place : ℕ) (entries : List ℕ) → Vacant (frame_at h t) k
+    → (row_at w t).locked ≡ (row_at h t).locked → frame_at w t ≡ filled (frame_at h t) k c
     → ((d : ℕ) → entries_at w d ≡ entries_at h d) → LocksFound h t place entries → LocksFound w t place entries
 still_locked h w t k c place entries room row frame same is =
-    let there : place_at (frame_at h t) place ≡ Some is.cell = sym (ap (locked_cell (frame_at h t)) is.locked) ∙ is.named in
-    let apart : place ≢ k = λ at. (let bad : None ≡ Some is.cell = sym room.none ∙ ap (place_at (frame_at h t)) (sym at) ∙ there in cc) in
+    let there : place_at (frame_at h t) place ≡ Some is.cell = sym (ap (locked_cell (frame_at h t)) is.locked)
+    ∙ is.named in
+    let apart : place ≢ k = λ at. (let bad : None ≡ Some is.cell = sym room.none ∙ ap (place_at (frame_at h t)) (sym at)
+    ∙ there in cc) in
     record {
       locked = row ∙ is.locked;
       cell = is.cell;
-      named = ap (locked_cell (frame_at w t)) (row ∙ is.locked) ∙ ap (λ f. place_at f place) frame ∙ place_at-filled_else (frame_at h t) k c place apart ∙ there;
+      named = ap (locked_cell (frame_at w t)) (row ∙ is.locked) ∙ ap (λ f. place_at f place) frame
+          ∙ place_at-filled_else (frame_at h t) k c place apart ∙ there;
       has = same is.cell ∙ is.has;
     }
 
 -- while it has a lock, a thread only counts up from the entries
-under_lock : (h : Heap) (t : ℕ) (s : Step) (c place : ℕ) (entries : List ℕ) → IsSound h → May h t s → changes_lock s ≡ false → LocksFound h t place entries → LocksFound (stepped h t s c) t place entries
+under_lock : (h : Heap) (t : ℕ) (s : Step) (c place : ℕ) (entries : List ℕ) → IsSound h → May h t s
+    → changes_lock s ≡ false → LocksFound h t place entries → LocksFound (stepped h t s c) t place entries
 under_lock h t (LocalUp (sources.Entry i) k) c place entries sound may apart is =
-    still_locked h (stepped h t (LocalUp (sources.Entry i) k) c) t k c place entries (vacant _ k may.own) (ap (λ (r : Row). r.locked) (read_here h.rows t _ no_row may.inside))
+    still_locked h (stepped h t (LocalUp (sources.Entry i) k) c) t k c place entries (vacant _ k may.own)
+    (ap (λ (r : Row). r.locked) (read_here h.rows t _ no_row may.inside))
     (read_here h.frames t _ [] (omega (arith, sound.shaped.frames, may.inside))) (λ d. refl) is
 under_lock h t (SharedUp (sources.Entry i) k) c place entries sound may apart is =
-    still_locked h (stepped h t (SharedUp (sources.Entry i) k) c) t k c place entries (vacant _ k may.own) (ap (λ (r : Row). r.locked) (read_here h.rows t _ no_row may.inside))
+    still_locked h (stepped h t (SharedUp (sources.Entry i) k) c) t k c place entries (vacant _ k may.own)
+    (ap (λ (r : Row). r.locked) (read_here h.rows t _ no_row may.inside))
     (read_here h.frames t _ [] (omega (arith, sound.shaped.frames, may.inside))) (λ d. refl) is
 under_lock h t (Unlock change) c place entries sound may apart is = absurd (true≢false apart)
-under_lock h t s c place entries sound may apart is = absurd (true≢false (sym (ap (λ o. lock_ok o s) (sym is.locked) ∙ may.lock)))
+under_lock h t s c place entries sound may apart is =
+    absurd (true≢false (sym (ap (λ o. lock_ok o s) (sym is.locked) ∙ may.lock)))
 
-same_lock : (h : Heap) (t : ℕ) (s : Step) (o : Option ℕ) (lock : Option (ℕ × List ℕ)) → IsSound h → May h t s → changes_lock s ≡ false → LockIs h t lock → LockIs (after_target h t s o) t lock
+same_lock : (h : Heap) (t : ℕ) (s : Step) (o : Option ℕ) (lock : Option (ℕ × List ℕ)) → IsSound h → May h t s
+    → changes_lock s ≡ false → LockIs h t lock → LockIs (after_target h t s o) t lock
 same_lock h t s None None sound may apart is = ap (λ (r : Row). r.locked) (read_here h.rows t _ no_row may.inside) ∙ is
-same_lock h t s (Some c) None sound may apart is = ap (λ (r : Row). r.locked) (read_here h.rows t _ no_row may.inside) ∙ same_locked s (row_at h t).locked apart ∙ is
+same_lock h t s (Some c) None sound may apart is = ap (λ (r : Row). r.locked) (read_here h.rows t _ no_row may.inside)
+    ∙ same_locked s (row_at h t).locked apart ∙ is
 same_lock h t s None (Some lock) sound may apart is =
-    let row : (row_at (after_target h t s None) t).locked ≡ (row_at h t).locked = ap (λ (r : Row). r.locked) (read_here h.rows t _ no_row may.inside) in
-    record { locked = row ∙ is.locked; cell = is.cell; named = ap (locked_cell (frame_at h t)) row ∙ is.named; has = is.has }
+    let row : (row_at (after_target h t s None) t).locked ≡ (row_at h t).locked = ap (λ (r : Row). r.locked)
+    (read_here h.rows t _ no_row may.inside) in
+    record {
+      locked = row ∙ is.locked;
+      cell = is.cell;
+      named = ap (locked_cell (frame_at h t)) row
+          ∙ is.named;
+      has = is.has;
+    }
 same_lock h t s (Some c) (Some lock) sound may apart is = under_lock h t s c lock.0 lock.1 sound may apart is
 
 -- ---- an own step that locks, or unlocks
 
-newly_locked : (h : Heap) (t k : ℕ) (entries : List ℕ) (o : Option ℕ) → IsSound h → May h t (Lock k) → target_at h t (Lock k) ≡ o → entries ≡ found_at h (Lock k) o
+newly_locked : (h : Heap) (t k : ℕ) (entries : List ℕ) (o : Option ℕ) → IsSound h → May h t (Lock k)
+    → target_at h t (Lock k) ≡ o → entries ≡ found_at h (Lock k) o
     → LocksFound (after_target h t (Lock k) o) t k entries
-newly_locked h t k entries None sound may named are = absurd (true≢false (sym (subst (λ o. target_ok h t (row_at h t) (Lock k) o ≡ true) named may.on_target)))
+newly_locked h t k entries None sound may named are =
+    absurd (true≢false (sym (subst (λ o. target_ok h t (row_at h t) (Lock k) o ≡ true) named may.on_target)))
 newly_locked h t k entries (Some c) sound may named are =
     let w : Heap = stepped h t (Lock k) c in
     let row : (row_at w t).locked ≡ Some k = ap (λ (r : Row). r.locked) (read_here h.rows t _ no_row may.inside) in
-    let frame : frame_at w t ≡ frame_at h t = read_here h.frames t _ [] (omega (arith, sound.shaped.frames, may.inside)) in
-    record { locked = row; cell = c; named = ap (locked_cell (frame_at w t)) row ∙ ap (λ f. place_at f k) frame ∙ named; has = sym are }
+    let frame : frame_at w t ≡ frame_at h t = read_here h.frames t _ []
+    (omega (arith, sound.shaped.frames, may.inside)) in
+    record {
+      locked = row;
+      cell = c;
+      named = ap (locked_cell (frame_at w t)) row ∙ ap (λ f. place_at f k) frame
+          ∙ named;
+      has = sym are;
+    }
 
-owns_lock : (h : Heap) (t : ℕ) (s : Step) (number : ℕ) (entries : List ℕ) (lock : Option (ℕ × List ℕ)) → IsSound h → May h t s → entries ≡ found h t s → LockIs h t lock
+owns_lock : (h : Heap) (t : ℕ) (s : Step) (number : ℕ) (entries : List ℕ) (lock : Option (ℕ × List ℕ)) → IsSound h
+    → May h t s → entries ≡ found h t s → LockIs h t lock
     → LockIs (after_target h t s (target_at h t s)) t (locked_on (Did s number entries) lock)
-owns_lock h t (Lock k) number entries lock sound may are is = newly_locked h t k entries (target_at h t (Lock k)) sound may refl are
-owns_lock h t (Unlock change) number entries lock sound may are is = by_cell (target_at h t (Unlock change)) may.on_target
+owns_lock h t (Lock k) number entries lock sound may are is = newly_locked h t k entries (target_at h t (Lock k)) sound
+    may refl are
+owns_lock h t (Unlock change) number entries lock sound may are is =
+    by_cell (target_at h t (Unlock change)) may.on_target
   where
-    by_cell : (o : Option ℕ) → target_ok h t (row_at h t) (Unlock change) o ≡ true → (row_at (after_target h t (Unlock change) o) t).locked ≡ None
+    by_cell : (o : Option ℕ) → target_ok h t (row_at h t) (Unlock change) o ≡ true
+        → (row_at (after_target h t (Unlock change) o) t).locked ≡ None
     by_cell None ok = absurd (true≢false (sym ok))
     by_cell (Some c) ok = ap (λ (r : Row). r.locked) (read_here h.rows t _ no_row may.inside)
 owns_lock h t s number entries lock sound may are is = same_lock h t s (target_at h t s) lock sound may refl is
@@ -127,16 +164,20 @@ locked_follows : (t cells : ℕ) → Follows t cells (λ h log. LockIs h t (lock
 locked_follows t cells = record {
   starts = λ h reached size last. ap (λ (r : Row). r.locked) (get_or_push h.rows new_row no_row t (sym last));
   others = λ h e log reached ok others before. others_lock h e t (locked_of log) reached ok others before;
-  owns = λ h s number entries log reached size fit may told_is found_is before. owns_lock h t s number entries (locked_of log) (reached_sound h reached) may found_is before;
+  owns = λ h s number entries log reached size fit may told_is found_is before. owns_lock h t s number entries
+      (locked_of log) (reached_sound h reached) may found_is before;
   gathers = λ h u log before. gathered_lock h u t (locked_of log) before;
   saw = λ h word number log reached shows before. before;
   lost = λ h word number log reached shows before. before;
 }
 
 -- a registered thread's lock, and the entries of what it has locked, are what its own items say
-lock_is_told : (cells limit : ℕ) (items : ItemRun) (t : ℕ) → AreOptions cells limit → AreItems (opening cells limit) items
-    → is_registered (world_of_items (opening cells limit) items) t ≡ true → LockIs (world_of_items (opening cells limit) items) t (locked_of (own t items))
-lock_is_told cells limit items t options are there = tells t cells (λ h log. LockIs h t (locked_of log)) (locked_follows t cells) limit items options are there
+lock_is_told : (cells limit : ℕ) (items : ItemRun) (t : ℕ) → AreOptions cells limit
+    → AreItems (opening cells limit) items
+    → is_registered (world_of_items (opening cells limit) items) t ≡ true
+    → LockIs (world_of_items (opening cells limit) items) t (locked_of (own t items))
+lock_is_told cells limit items t options are there = tells t cells (λ h log. LockIs h t (locked_of log))
+    (locked_follows t cells) limit items options are there
 
 -- ---- the same of the thread's own part
 
@@ -144,23 +185,31 @@ row_locked : (h : Heap) (t : ℕ) (lock : Option (ℕ × List ℕ)) → LockIs h
 row_locked h t None is = is
 row_locked h t (Some lock) is = is.locked
 
-pub place_is_told : (cells limit : ℕ) (items : ItemRun) (t : ℕ) → AreOptions cells limit → AreItems (opening cells limit) items
-    → is_registered (world_of_items (opening cells limit) items) t ≡ true → (part_of cells (own t items)).row.locked ≡ place_locked (locked_of (own t items))
+pub place_is_told : (cells limit : ℕ) (items : ItemRun) (t : ℕ) → AreOptions cells limit
+    → AreItems (opening cells limit) items
+    → is_registered (world_of_items (opening cells limit) items) t ≡ true
+    → (part_of cells (own t items)).row.locked ≡ place_locked (locked_of (own t items))
 place_is_told cells limit items t options are there =
     let h : Heap = world_of_items (opening cells limit) items in
     let part : IsPart h t (part_of cells (own t items)) = parts_are_told cells limit items t options are there in
-    ap (λ (r : Row). r.locked) (sym part.row_is) ∙ row_locked h t (locked_of (own t items)) (lock_is_told cells limit items t options are there)
+    ap (λ (r : Row). r.locked) (sym part.row_is)
+    ∙ row_locked h t (locked_of (own t items)) (lock_is_told cells limit items t options are there)
 
 -- and the cell in the locked place has the entries found
-pub locked_is_told : (cells limit : ℕ) (items : ItemRun) (t place : ℕ) (entries : List ℕ) → AreOptions cells limit → AreItems (opening cells limit) items
-    → is_registered (world_of_items (opening cells limit) items) t ≡ true → locked_of (own t items) ≡ Some (place, entries)
+pub locked_is_told : (cells limit : ℕ) (items : ItemRun) (t place : ℕ) (entries : List ℕ) → AreOptions cells limit
+    → AreItems (opening cells limit) items
+    → is_registered (world_of_items (opening cells limit) items) t ≡ true
+    → locked_of (own t items) ≡ Some (place, entries)
     → HasLocked cells (world_of_items (opening cells limit) items) t (own t items) place entries
 locked_is_told cells limit items t place entries options are there lock =
     let h : Heap = world_of_items (opening cells limit) items in
-    let reached : IsReached h = run_reached cells limit (events_of items) options (events_run (opening cells limit) items are) in
-    let is : LocksFound h t place entries = subst (LockIs h t) lock (lock_is_told cells limit items t options are there) in
+    let reached : IsReached h = run_reached cells limit (events_of items) options
+    (events_run (opening cells limit) items are) in
+    let is : LocksFound h t place entries = subst (LockIs h t) lock
+    (lock_is_told cells limit items t options are there) in
     let part : IsPart h t (part_of cells (own t items)) = parts_are_told cells limit items t options are there in
-    let at : place_at (frame_at h t) place ≡ Some is.cell = sym (ap (locked_cell (frame_at h t)) is.locked) ∙ is.named in
+    let at : place_at (frame_at h t) place ≡ Some is.cell = sym (ap (locked_cell (frame_at h t)) is.locked)
+    ∙ is.named in
     let mutex = locked_mutex h t is.cell (reached_sound h reached) is.named in
     let off : is_marked (worklist_at h t) is.cell ≡ false = elim (cases_Bool (is_marked (worklist_at h t) is.cell)) [
       | inr off ↦ off

@@ -24,10 +24,16 @@ thread_spelled (owners.Claimed s) q is low few = absurd (omega (arith, is, few))
 thread_spelled owners.Free q is low few = absurd (omega (arith, is, few))
 
 -- a word of a cell in which nobody lives may have it too: it was registered
-found_registered : (h : Heap) (word : Word) (number q : ℕ) → IsReached h → Shows h word number → (is_owner_word word && (number == q)) ≡ true → 0 < q → is_registered h q ≡ true
+found_registered : (h : Heap) (word : Word) (number q : ℕ) → IsReached h → Shows h word number
+    → (is_owner_word word && (number == q)) ≡ true → 0 < q → is_registered h q ≡ true
 found_registered h (Of Owner c) number q reached shows found low =
     both_true (lt-ltb 0 q low) (lt-ltb q (length h.rows)
-    (omega (arith, eqb-true number q found, shown_below (length h.rows) (cell_at h c).owner number (omega (arith, (reached_sound h reached).shaped.root)) (reached_owners h reached c) shows)))
+    (omega (
+      arith,
+      eqb-true number q found,
+      shown_below (length h.rows) (cell_at h c).owner number
+          (omega (arith, (reached_sound h reached).shaped.root)) (reached_owners h reached c) shows,
+    )))
 found_registered h _ number q reached shows found low = absurd (true≢false (sym found))
 
 AreRegistered : Heap → List Item → Type 0
@@ -41,19 +47,24 @@ owners_follow t cells = record {
   owns = λ h s number entries log reached size fit may told found before q seen low few.
       ap (λ n. nat_lt 0 q && nat_lt q n) (same_rows h t s (target_at h t s)) ∙ before q seen low few;
   gathers = λ h u log before. before;
-  saw = λ h word number log reached shows before q seen low few. elim (or_cases (is_owner_word word && (number == q)) (has_seen_owner log q) seen) [
-    | inl now ↦ found_registered h word number q reached shows now low
-    | inr since ↦ before q since low few
-  ];
-  lost = λ h word number log reached shows before q seen low few. elim (or_cases (is_owner_word word && (number == q)) (has_seen_owner log q) seen) [
-    | inl now ↦ found_registered h word number q reached shows now low
-    | inr since ↦ before q since low few
-  ];
+  saw = λ h word number log reached shows before q seen low few. elim
+      (or_cases (is_owner_word word && (number == q)) (has_seen_owner log q) seen) [
+        | inl now ↦ found_registered h word number q reached shows now low
+        | inr since ↦ before q since low few
+      ];
+  lost = λ h word number log reached shows before q seen low few. elim
+      (or_cases (is_owner_word word && (number == q)) (has_seen_owner log q) seen) [
+        | inl now ↦ found_registered h word number q reached shows now low
+        | inr since ↦ before q since low few
+      ];
 }
 
 -- who was found as an owner by a registered thread is registered
-pub owners_are_registered : (cells limit : ℕ) (items : ItemRun) (t q : ℕ) → AreOptions cells limit → AreItems (opening cells limit) items
-    → is_registered (world_of_items (opening cells limit) items) t ≡ true → has_seen_owner (own t items) q ≡ true → 0 < q → q ≤ MOST_THREADS
+pub owners_are_registered : (cells limit : ℕ) (items : ItemRun) (t q : ℕ) → AreOptions cells limit
+    → AreItems (opening cells limit) items
+    → is_registered (world_of_items (opening cells limit) items) t ≡ true → has_seen_owner (own t items) q ≡ true
+    → 0 < q → q ≤ MOST_THREADS
     → is_registered (world_of_items (opening cells limit) items) q ≡ true
 unfolding AreRegistered
-owners_are_registered cells limit items t q options are there seen low few = tells t cells AreRegistered (owners_follow t cells) limit items options are there q seen low few
+owners_are_registered cells limit items t q options are there seen low few = tells t cells AreRegistered
+    (owners_follow t cells) limit items options are there q seen low few

@@ -1,6 +1,7 @@
--- What a queue word has is a reference of each cell whose bit is set, so these are cells of the heap; and how many objects a
--- thread may have given back.
-use Rattle.std.proofs.Common.{◌≡◌, ℕ, ◌+◌, ◌*◌, ◌/◌, ◌%◌, ◌<◌, ◌≤◌, ◌^◌, ◌==◌, nat_lt, Bool, true, false, if◌then◌else◌, List, [], ◌∷◌, length, Option, Some, None, refl, sym, ◌∙◌, ap, subst, inl, inr, arith}
+-- What a queue word has is a reference of each cell whose bit is set, so these are cells of the heap; and how many
+-- objects a thread may have given back.
+use Rattle.std.proofs.Common.{◌≡◌, ℕ, ◌+◌, ◌*◌, ◌/◌, ◌%◌, ◌<◌, ◌≤◌, ◌^◌, ◌==◌, nat_lt, Bool, true, false, if◌then◌else◌}
+use Rattle.std.proofs.Common.{List, [], ◌∷◌, length, Option, Some, None, refl, sym, ◌∙◌, ap, subst, inl, inr, arith}
 use Rattle.std.specs.Int.{bit_at}
 use Rattle.std.proofs.lemmas.Bool.{cases_lt}
 use Rattle.std.proofs.lemmas.List.{get_or_past}
@@ -30,23 +31,32 @@ use Rattle.law_known.proofs.Items_Law.{parts_are_told}
 -- ---- queue words
 
 queued_held : (h : Heap) (t c : ℕ) → bit_of (queue_at h t) c ≡ 1 → 1 ≤ held h c
-queued_held h t c on = omega (arith, on, sum_one (λ (words : List ℕ). bit_of words c) h.queues t [] (bit_at-zero (c % 32)))
+queued_held h t c on = omega (
+  arith,
+  on,
+  sum_one (λ (words : List ℕ). bit_of words c) h.queues t []
+      (bit_at-zero (c % 32)),
+)
 
 -- what is queued lives
 queued_inside : (h : Heap) (t c : ℕ) → IsReached h → bit_of (queue_at h t) c ≡ 1 → c < length h.cells
 queued_inside h t c reached on = elim (cases_lt c (length h.cells)) [
   | inl inside ↦ inside
-  | inr past ↦ absurd (live_owner _ (held_live h c (reached_sound h reached) (queued_held h t c on)) (ap (λ (x : Cell). x.owner) (get_or_past h.cells c no_cell past)))
+  | inr past ↦ absurd (live_owner _ (held_live h c (reached_sound h reached) (queued_held h t c on))
+      (ap (λ (x : Cell). x.owner) (get_or_past h.cells c no_cell past)))
 ]
 
 -- what an event does to a world is the same in either edition
 abbrev in_edition : Edition → Heap → Heap
 in_edition edition h = record h { edition = edition }
 
-event_alike : (edition : Edition) (h : Heap) (e : Event) → after (in_edition edition h) e ≡ in_edition edition (after h e)
+event_alike : (edition : Edition) (h : Heap) (e : Event) → after (in_edition edition h) e ≡ in_edition edition
+    (after h e)
 event_alike edition h e = by_thread (e.thread == 0)
   where
-    by_number : (u : ℕ) (b : Bool) → (if b then registered_again (in_edition edition h) u else registered (in_edition edition h)) ≡ in_edition edition (if b then registered_again h u else registered h)
+    by_number : (u : ℕ) (b : Bool)
+        → (if b then registered_again (in_edition edition h) u else registered (in_edition edition h))
+        ≡ in_edition edition (if b then registered_again h u else registered h)
     by_number u true = refl
     by_number u false = refl
 
@@ -54,23 +64,29 @@ event_alike edition h e = by_thread (e.thread == 0)
     by_step (Register u) = by_number u (nat_lt u (length h.rows))
     by_step _ = refl
 
-    by_target : (t : ℕ) (s : Step) (o : Option ℕ) → after_target (in_edition edition h) t s o ≡ in_edition edition (after_target h t s o)
+    by_target : (t : ℕ) (s : Step) (o : Option ℕ) → after_target (in_edition edition h) t s o ≡ in_edition edition
+        (after_target h t s o)
     by_target t s None = refl
     by_target t s (Some c) = refl
 
-    by_thread : (b : Bool) → (if b then root_after (in_edition edition h) e.step else after_target (in_edition edition h) e.thread e.step (target_at (in_edition edition h) e.thread e.step))
-        ≡ in_edition edition (if b then root_after h e.step else after_target h e.thread e.step (target_at h e.thread e.step))
+    by_thread : (b : Bool) → (if b then root_after (in_edition edition h) e.step else after_target
+        (in_edition edition h) e.thread e.step (target_at (in_edition edition h) e.thread e.step))
+        ≡ in_edition edition (if b then root_after h e.step else after_target h e.thread e.step
+        (target_at h e.thread e.step))
     by_thread true = by_step e.step
     by_thread false = by_target e.thread e.step (target_at h e.thread e.step)
 
-run_alike : (edition : Edition) (start : Heap) (run : List Event) → world_after (in_edition edition start) run ≡ in_edition edition (world_after start run)
+run_alike : (edition : Edition) (start : Heap) (run : List Event) → world_after (in_edition edition start) run
+    ≡ in_edition edition (world_after start run)
 run_alike edition start [] = refl
-run_alike edition start (e ∷ run) = ap (λ w. after w e) (run_alike edition start run) ∙ event_alike edition (world_after start run) e
+run_alike edition start (e ∷ run) = ap (λ w. after w e) (run_alike edition start run)
+    ∙ event_alike edition (world_after start run) e
 
 pub reached_queues : (h : Heap) → IsReached h → QueuesFit h
 reached_queues h reached =
     let same = run_alike reached.edition (opening reached.cells reached.limit) reached.run in
-    subst QueuesFit reached.leads_here (subst QueuesFit (sym same) (record { small = (run_queues reached.cells reached.limit reached.run).small }))
+    subst QueuesFit reached.leads_here
+    (subst QueuesFit (sym same) (record { small = (run_queues reached.cells reached.limit reached.run).small }))
 
 bits_below : (word i : ℕ) → word < 4294967296 → bit_at word i ≡ 1 → i < 32
 bits_below word i small on = elim (cases_lt i 32) [
@@ -79,12 +95,16 @@ bits_below word i small on = elim (cases_lt i 32) [
 ]
 
 -- each bit of a queue word is one of its 32 cells, and that is a cell of the heap
-pub queue_bits : (h : Heap) (t k i : ℕ) → IsReached h → bit_at (word_at (queue_at h t) k) i ≡ 1 → (i < 32) × (k * 32 + i < length h.cells)
+pub queue_bits : (h : Heap) (t k i : ℕ) → IsReached h → bit_at (word_at (queue_at h t) k) i ≡ 1
+    → (i < 32) × (k * 32 + i < length h.cells)
 queue_bits h t k i reached on =
     let low : i < 32 = bits_below (word_at (queue_at h t) k) i ((reached_queues h reached).small t k) on in
     let word : (k * 32 + i) / 32 ≡ k = omega (arith, low) in
-    let bit : (k * 32 + i) % 32 ≡ i = omega (arith, low) in
-    (low, queued_inside h t (k * 32 + i) reached (ap (λ m. bit_at (word_at (queue_at h t) m) ((k * 32 + i) % 32)) word ∙ ap (bit_at (word_at (queue_at h t) k)) bit ∙ on))
+    let bit : (k * 32 + i) % 32 ≡ i = omega (arith, low) in (
+      low,
+      queued_inside h t (k * 32 + i) reached (ap (λ m. bit_at (word_at (queue_at h t) m) ((k * 32 + i) % 32)) word
+          ∙ ap (bit_at (word_at (queue_at h t) k)) bit ∙ on),
+    )
 
 -- ---- what a thread has given back
 
@@ -92,8 +112,10 @@ queue_bits h t k i reached on =
 pub reached_frees : (h : Heap) (t : ℕ) → IsReached h → (row_at h t).frees < 2 ^ 64
 reached_frees h t reached = omega (arith, frees_fit h (reached_sound h reached) t)
 
-pub frees_are_few : (cells limit : ℕ) (items : ItemRun) (t : ℕ) → AreOptions cells limit → AreItems (opening cells limit) items
-    → is_registered (world_of_items (opening cells limit) items) t ≡ true → (part_of cells (own t items)).row.frees < 2 ^ 64
+pub frees_are_few : (cells limit : ℕ) (items : ItemRun) (t : ℕ) → AreOptions cells limit
+    → AreItems (opening cells limit) items
+    → is_registered (world_of_items (opening cells limit) items) t ≡ true
+    → (part_of cells (own t items)).row.frees < 2 ^ 64
 frees_are_few cells limit items t options are there =
     let h : Heap = world_of_items (opening cells limit) items in
     subst (λ (row : Row). row.frees < 2 ^ 64) (parts_are_told cells limit items t options are there).row_is

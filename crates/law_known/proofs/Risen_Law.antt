@@ -1,5 +1,6 @@
 -- What a thread has seen risen stays so while it has it: states only rise.
-use Rattle.std.proofs.Common.{◌≡◌, ℕ, ◌%◌, ◌≤◌, ◌==◌, ◌&&◌, not, true, List, [], ◌∷◌, Option, Some, None, refl, sym, ◌∙◌, ap, subst, inl, inr, arith}
+use Rattle.std.proofs.Common.{◌≡◌, ℕ, ◌%◌, ◌≤◌, ◌==◌, ◌&&◌, not, true, List, [], ◌∷◌, Option, Some, None, refl, sym}
+use Rattle.std.proofs.Common.{◌∙◌, ap, subst, inl, inr, arith}
 use Rattle.std.proofs.lemmas.Bool.{and_parts, or_cases, eqb-true, true≢false}
 use Rattle.brc_words.specs.declared.limits.TheConstants.{FIRST_MORTAL}
 use Rattle.brc_words.specs.declared.state.State.{State}
@@ -16,7 +17,8 @@ use Rattle.law_world.specs.Steps.{enabled, after, after_target, target_at, dropp
 use Rattle.law_world.specs.Runs.{IsReached}
 use Rattle.law_world.specs.Sound.{IsSound, held}
 use Rattle.law_lasting.specs.Staying.{rank}
-use Rattle.law_known.specs.Items.{Item, Did, Word, Of, Shared, ItemRun, AreItems, world_of_items, own, Part, part_of, meant, IsPart, IsTold, Shows, shared_word, told_at}
+use Rattle.law_known.specs.Items.{Item, Did, Word, Of, Shared, ItemRun, AreItems, world_of_items, own, Part, part_of}
+use Rattle.law_known.specs.Items.{meant, IsPart, IsTold, Shows, shared_word, told_at}
 use Rattle.law_known.specs.Risen.{drop_in, is_risen_word, is_shared_of, tells_risen, is_risen}
 use Rattle.law_world.proofs.Asking.{May}
 use Rattle.law_world.proofs.Dropping.{source_held, dropped_held}
@@ -29,7 +31,8 @@ use Rattle.law_known.proofs.Items_Tells.{Follows, tells}
 
 -- ---- the number of a shared word
 
-risen_state : (x : Cell) (number : ℕ) → number ≡ shared_word x.count x.state → is_risen_word number ≡ true → 1 ≤ rank x.state
+risen_state : (x : Cell) (number : ℕ) → number ≡ shared_word x.count x.state → is_risen_word number ≡ true
+    → 1 ≤ rank x.state
 risen_state x number is risen = by_state x.state refl
   where
     by_state : (s : State) → x.state ≡ s → 1 ≤ rank x.state
@@ -45,7 +48,8 @@ pub named_cell : (c : ℕ) (o : Option ℕ) → names c o ≡ true → o ≡ Som
 named_cell c None is = absurd (true≢false (sym is))
 named_cell c (Some d) is = ap Some (eqb-true d c is)
 
-place_held : (h : Heap) (t c : ℕ) (part : Part) (drop : Dropped) → IsPart h t part → names c (drop_in part drop) ≡ true → 1 ≤ held h c
+place_held : (h : Heap) (t c : ℕ) (part : Part) (drop : Dropped) → IsPart h t part → names c (drop_in part drop) ≡ true
+    → 1 ≤ held h c
 place_held h t c part drop is named =
     let same : drop_in part drop ≡ dropped_cell (frame_at h t) (worklist_at h t) (entries_at h) drop =
     ap (λ f. dropped_cell f part.worklist part.has drop) (sym is.frame_is)
@@ -53,31 +57,37 @@ place_held h t c part drop is named =
     ∙ drop_alike h t part.has drop (record { locked = is.locked_has; worklists = is.work_has }) in
     dropped_held h t c drop (sym same ∙ named_cell c _ named)
 
-event_risen : (h : Heap) (e : Event) (c : ℕ) → IsReached h → enabled h e ≡ true → 1 ≤ held h c → 1 ≤ rank (cell_at h c).state → 1 ≤ rank (cell_at (after h e) c).state
+event_risen : (h : Heap) (e : Event) (c : ℕ) → IsReached h → enabled h e ≡ true → 1 ≤ held h c
+    → 1 ≤ rank (cell_at h c).state → 1 ≤ rank (cell_at (after h e) c).state
 event_risen h e c reached ok some risen =
     let sound : IsSound h = reached_sound h reached in
     omega (arith, risen, (event_keeps h e c sound ok (held_live h c sound some) (inl some)).state)
 
-own_risen : (h : Heap) (t : ℕ) (s : Step) (c : ℕ) → IsReached h → May h t s → 1 ≤ held h c → 1 ≤ rank (cell_at h c).state → 1 ≤ rank (cell_at (after_target h t s (target_at h t s)) c).state
+own_risen : (h : Heap) (t : ℕ) (s : Step) (c : ℕ) → IsReached h → May h t s → 1 ≤ held h c
+    → 1 ≤ rank (cell_at h c).state → 1 ≤ rank (cell_at (after_target h t s (target_at h t s)) c).state
 own_risen h t s c reached may some risen =
     let sound : IsSound h = reached_sound h reached in
     elim (target_cell h t s (target_at h t s) c may.on_target) [
       | inl same ↦ subst (λ (x : Cell). 1 ≤ rank x.state) (sym same) risen
-      | inr at ↦ subst (λ (x : Cell). 1 ≤ rank x.state) (sym at.1) (omega (arith, risen, (live_step h t s c sound may at.0 (held_live h c sound some) (inl some)).state))
+      | inr at ↦ subst (λ (x : Cell). 1 ≤ rank x.state) (sym at.1)
+          (omega (arith, risen, (live_step h t s c sound may at.0 (held_live h c sound some) (inl some)).state))
     ]
 
 -- ---- the law
 
 -- what was seen risen is named by its place now
-pub risen_named : (cells : ℕ) (log : List Item) (drop : Dropped) (c : ℕ) → is_risen cells log drop c ≡ true → names c (drop_in (part_of cells log) drop) ≡ true
+pub risen_named : (cells : ℕ) (log : List Item) (drop : Dropped) (c : ℕ) → is_risen cells log drop c ≡ true
+    → names c (drop_in (part_of cells log) drop) ≡ true
 risen_named cells [] drop c risen = absurd (true≢false (sym risen))
 risen_named cells (x ∷ items) drop c risen = (and_parts _ _ risen).0
 
 Risen : ℕ → ℕ → Heap → List Item → Type 0
-Risen t cells h log = IsPart h t (part_of cells log) × ((drop : Dropped) (c : ℕ) → is_risen cells log drop c ≡ true → FIRST_MORTAL ≤ c → 1 ≤ rank (cell_at h c).state)
+Risen t cells h log = IsPart h t (part_of cells log) × ((drop : Dropped) (c : ℕ) → is_risen cells log drop c ≡ true
+    → FIRST_MORTAL ≤ c → 1 ≤ rank (cell_at h c).state)
 
 -- a look at a shared word
-seen_risen : (h : Heap) (word : Word) (number c : ℕ) → Shows h word number → (is_shared_of c word && is_risen_word number) ≡ true → 1 ≤ rank (cell_at h c).state
+seen_risen : (h : Heap) (word : Word) (number c : ℕ) → Shows h word number
+    → (is_shared_of c word && is_risen_word number) ≡ true → 1 ≤ rank (cell_at h c).state
 seen_risen h (Of Shared d) number c shows tells =
     let parts = and_parts (d == c) (is_risen_word number) tells in
     ap-rank (eqb-true d c parts.0) (risen_state (cell_at h d) number shows parts.1)
@@ -87,7 +97,8 @@ seen_risen h (Of Shared d) number c shows tells =
 seen_risen h _ number c shows tells = absurd (true≢false (sym tells))
 
 -- an own step that is told the shared word
-told_risen : (h : Heap) (t : ℕ) (s : Step) (number : ℕ) (entries : List ℕ) (part : Part) (c : ℕ) → IsReached h → May h t s → IsTold h t s number → IsPart h t part → FIRST_MORTAL ≤ c
+told_risen : (h : Heap) (t : ℕ) (s : Step) (number : ℕ) (entries : List ℕ) (part : Part) (c : ℕ) → IsReached h
+    → May h t s → IsTold h t s number → IsPart h t part → FIRST_MORTAL ≤ c
     → tells_risen part c (Did s number entries) ≡ true → (1 ≤ held h c) × (1 ≤ rank (cell_at h c).state)
 told_risen h t (SharedUp source k) number entries part c reached may told is mortal risen =
     let s : Step = SharedUp source k in
@@ -106,38 +117,54 @@ unfolding Risen
 risen_follows t cells =
     let parts = part_follows t cells in
     record {
-      starts = λ h reached size last. (parts.starts h reached size last, λ drop c risen mortal. absurd (true≢false (sym risen)));
+      starts = λ h reached size last. (
+        parts.starts h reached size last,
+        λ drop c risen mortal. absurd
+            (true≢false (sym risen)),
+      );
       others = λ h e log reached ok others before. (
         parts.others h e log reached ok others before.0,
-        λ drop c risen mortal. event_risen h e c reached ok (place_held h t c (part_of cells log) drop before.0 (risen_named cells log drop c risen)) (before.1 drop c risen mortal),
+        λ drop c risen mortal. event_risen h e c reached ok
+            (place_held h t c (part_of cells log) drop before.0 (risen_named cells log drop c risen))
+            (before.1 drop c risen mortal),
       );
       owns = λ h s number entries log reached size fit may told found before. (
         parts.owns h s number entries log reached size fit may told found before.0,
-        λ drop c risen mortal. elim (or_cases (tells_risen (part_of cells log) c (Did s number entries)) (is_risen cells log drop c) (and_parts _ _ risen).1) [
-          | inl now ↦ let seen = told_risen h t s number entries (part_of cells log) c reached may told before.0 mortal now in own_risen h t s c reached may seen.0 seen.1
-          | inr since ↦ own_risen h t s c reached may (place_held h t c (part_of cells log) drop before.0 (risen_named cells log drop c since)) (before.1 drop c since mortal)
-        ],
+        λ drop c risen mortal. elim (or_cases (tells_risen (part_of cells log) c (Did s number entries))
+            (is_risen cells log drop c) (and_parts _ _ risen).1) [
+              | inl now ↦ let seen = told_risen h t s number entries (part_of cells log) c reached may told
+                  before.0 mortal
+                  now in own_risen h t s c reached may seen.0 seen.1
+              | inr since ↦ own_risen h t s c reached may
+                  (place_held h t c (part_of cells log) drop before.0 (risen_named cells log drop c since))
+                  (before.1 drop c since mortal)
+            ],
       );
       gathers = λ h u log before. (parts.gathers h u log before.0, before.1);
       saw = λ h word number log reached shows before. (
         before.0,
-        λ drop c risen mortal. elim (or_cases (is_shared_of c word && is_risen_word number) (is_risen cells log drop c) (and_parts _ _ risen).1) [
-          | inl now ↦ seen_risen h word number c shows now
-          | inr since ↦ before.1 drop c since mortal
-        ],
+        λ drop c risen mortal. elim (or_cases (is_shared_of c word && is_risen_word number) (is_risen cells log drop c)
+            (and_parts _ _ risen).1) [
+              | inl now ↦ seen_risen h word number c shows now
+              | inr since ↦ before.1 drop c since mortal
+            ],
       );
       lost = λ h word number log reached shows before. (
         before.0,
-        λ drop c risen mortal. elim (or_cases (is_shared_of c word && is_risen_word number) (is_risen cells log drop c) (and_parts _ _ risen).1) [
-          | inl now ↦ seen_risen h word number c shows now
-          | inr since ↦ before.1 drop c since mortal
-        ],
+        λ drop c risen mortal. elim (or_cases (is_shared_of c word && is_risen_word number) (is_risen cells log drop c)
+            (and_parts _ _ risen).1) [
+              | inl now ↦ seen_risen h word number c shows now
+              | inr since ↦ before.1 drop c since mortal
+            ],
       );
     }
 
 -- what a registered thread has seen risen, in a place or as a last entry that has had it since, is queued or merged
-pub risen_is_told : (cells limit : ℕ) (items : ItemRun) (t c : ℕ) (drop : Dropped) → AreOptions cells limit → AreItems (opening cells limit) items
-    → is_registered (world_of_items (opening cells limit) items) t ≡ true → is_risen cells (own t items) drop c ≡ true → FIRST_MORTAL ≤ c
+pub risen_is_told : (cells limit : ℕ) (items : ItemRun) (t c : ℕ) (drop : Dropped) → AreOptions cells limit
+    → AreItems (opening cells limit) items
+    → is_registered (world_of_items (opening cells limit) items) t ≡ true → is_risen cells (own t items) drop c ≡ true
+    → FIRST_MORTAL ≤ c
     → 1 ≤ rank (cell_at (world_of_items (opening cells limit) items) c).state
 unfolding Risen
-risen_is_told cells limit items t c drop options are there risen mortal = (tells t cells (Risen t cells) (risen_follows t cells) limit items options are there).1 drop c risen mortal
+risen_is_told cells limit items t c drop options are there risen mortal =
+    (tells t cells (Risen t cells) (risen_follows t cells) limit items options are there).1 drop c risen mortal

@@ -1,20 +1,26 @@
--- What a thread knows from its own items, and what one more item makes of it: one line a kind of step. Whoever stands above
--- cites these, and needs neither the definitions that go over items nor the world.
-use Rattle.std.specs.Prelude.{◌≡◌, ℕ, ◌+◌, ◌==◌, ◌&&◌, not, Bool, true, false, if◌then◌else◌, List, [], ◌∷◌, Option, Some, None, slice_set}
+-- What a thread knows from its own items, and what one more item makes of it: one line a kind of step. Whoever stands
+-- above cites these, and needs neither the definitions that go over items nor the world.
+use Rattle.std.specs.Prelude.{◌≡◌, ℕ, ◌+◌, ◌==◌, ◌&&◌, not, Bool, true, false, if◌then◌else◌, List, [], ◌∷◌, Option}
+use Rattle.std.specs.Prelude.{Some, None, slice_set}
 use Rattle.law_world.specs.declared.event.Change.{Change}
 use Rattle.law_world.specs.declared.event.Change.TheVariants as changes
 use Rattle.law_world.specs.declared.event.Dropped.{Dropped}
 use Rattle.law_world.specs.declared.event.Dropped.TheVariants as dropped
 use Rattle.law_world.specs.declared.event.LastDropped.TheVariants as lasts
 use Rattle.law_world.specs.declared.event.Step.{Step}
-use Rattle.law_world.specs.declared.event.Step.TheVariants.{Claim, InitLocal, InitShared, Birth, LocalUp, LocalDown, SeeZero, Free, Untie, MergeZero, SharedUp, SharedDown, Ask, LastDown, Enqueue, Drain, MergeAdd, Close, Reopen, Offer, Lock, Unlock}
+use Rattle.law_world.specs.declared.event.Step.TheVariants.{Claim, InitLocal, InitShared, Birth, LocalUp, LocalDown}
+use Rattle.law_world.specs.declared.event.Step.TheVariants.{SeeZero, Free, Untie, MergeZero, SharedUp, SharedDown, Ask}
+use Rattle.law_world.specs.declared.event.Step.TheVariants.{LastDown, Enqueue, Drain, MergeAdd, Close, Reopen, Offer}
+use Rattle.law_world.specs.declared.event.Step.TheVariants.{Lock, Unlock}
 use Rattle.law_world.specs.declared.row.Hand.{Hand}
 use Rattle.law_world.specs.declared.row.Hand.TheVariants as hands
 use Rattle.law_world.specs.declared.row.Phase.TheVariants as phases
 use Rattle.law_world.specs.Lists.{filled, without_bit}
 use Rattle.law_world.specs.Heap.{is_immortal, words_for}
-use Rattle.law_world.specs.Steps.{takes_block, is_default, untied_hand, added_hand, frame_without, frame_changed, entries_changed, closed_more, opened_more}
-use Rattle.law_known.specs.Items.{Item, Part, part_of, cell_told, state_told, is_shut_word, put, has_found, has_without, popped_told}
+use Rattle.law_world.specs.Steps.{takes_block, is_default, untied_hand, added_hand, frame_without, frame_changed}
+use Rattle.law_world.specs.Steps.{entries_changed, closed_more, opened_more}
+use Rattle.law_known.specs.Items.{Item, Part, part_of, cell_told, state_told, is_shut_word, put, has_found, has_without}
+use Rattle.law_known.specs.Items.{popped_told}
 use Rattle.law_known.specs.Counts.{counts_of}
 use Rattle.law_known.specs.Taken.{Blocks, taken_of, cut_by, taken_on, off}
 use Rattle.law_known.specs.Locked.{locked_of}
@@ -27,7 +33,12 @@ pub record Known : Type 0 where
   pub lock : Option (ℕ × List ℕ)
 
 abbrev pub known_of : ℕ → List Item → Known
-known_of cells items = record { part = part_of cells items; counts = counts_of cells items; blocks = taken_of cells items; lock = locked_of items }
+known_of cells items = record {
+  part = part_of cells items;
+  counts = counts_of cells items;
+  blocks = taken_of cells items;
+  lock = locked_of items;
+}
 
 -- with one more item, that is what the thread knows
 pub record GoesOn (cells : ℕ) (items : List Item) (item : Item) (now : Known) : Type 0 where
@@ -65,7 +76,10 @@ part_taking takes c entries part = record part {
 }
 
 abbrev pub taking : Bool → ℕ → List ℕ → Known → Known
-taking takes c entries old = record old { part = part_taking takes c entries old.part; blocks = taken_on false takes c entries old.blocks }
+taking takes c entries old = record old {
+  part = part_taking takes c entries old.part;
+  blocks = taken_on false takes c entries old.blocks;
+}
 
 -- the bits of a queue word are popped
 abbrev pub popping : ℕ → ℕ → Known → Known
@@ -84,11 +98,13 @@ bearing c old = record old {
 
 -- at count 0 the object is in the hand
 abbrev pub counting_down : Bool → Dropped → ℕ → ℕ → Known → Known
-counting_down ends drop c number old = handing (if ends then hands.Busy phases.Zero c else old.part.row.hand) (giving_up (Some drop) (counting c number old))
+counting_down ends drop c number old = handing (if ends then hands.Busy phases.Zero c else old.part.row.hand)
+    (giving_up (Some drop) (counting c number old))
 
 -- the shared word is all 0: the object is dead; else the counts are merged
 abbrev pub seeing_zero : Bool → ℕ → List ℕ → Known → Known
-seeing_zero untouched c entries old = handing (if untouched then hands.Free else hands.Busy phases.Over c) (taking untouched c entries old)
+seeing_zero untouched c entries old = handing (if untouched then hands.Free else hands.Busy phases.Over c)
+    (taking untouched c entries old)
 
 -- one block more was given back
 abbrev pub giving_back : ℕ → Known → Known
@@ -102,7 +118,8 @@ giving_back c old = record old {
 
 -- who turns the state has the reference in its hand; who comes late still has it where it was
 abbrev pub asking : Bool → Dropped → ℕ → Known → Known
-asking turns drop c old = handing (if turns then hands.Busy phases.Asked c else old.part.row.hand) (giving_up (if turns then Some drop else None) old)
+asking turns drop c old = handing (if turns then hands.Busy phases.Asked c else old.part.row.hand)
+    (giving_up (if turns then Some drop else None) old)
 
 abbrev pub dropping_last : Bool → Dropped → ℕ → List ℕ → Known → Known
 dropping_last takes drop c entries old = record old {
@@ -132,11 +149,18 @@ unlocking change c old = record old {
 
 -- one queue word more is closed, and the thread counts nothing of its own from then on
 abbrev pub closing : ℕ → ℕ → Known → Known
-closing cells k old = record old { part = record old.part { row = record old.part.row { stage = closed_more (words_for cells) k } }; counts = λ d. 0 }
+closing cells k old = record old {
+  part =
+      record old.part { row = record old.part.row { stage = closed_more (words_for cells) k } };
+  counts = λ d. 0;
+}
 
 -- one queue word more of a number that is used again is open
 abbrev pub reopening : ℕ → ℕ → Known → Known
-reopening cells k old = record old { part = record old.part { row = record old.part.row { stage = opened_more (words_for cells) k } } }
+reopening cells k old = record old {
+  part =
+      record old.part { row = record old.part.row { stage = opened_more (words_for cells) k } };
+}
 
 -- ---- the table
 
@@ -147,19 +171,30 @@ knows_after (InitLocal d) c number entries old = handing (hands.Busy phases.Coun
 knows_after (InitShared d) c number entries old = handing (hands.Busy phases.Ready c) old
 knows_after (Birth d kind k) c number entries old = filling k c (counting c 1 (bearing d old))
 knows_after (LocalUp source k) c number entries old = filling k c (counting c number old)
-knows_after (LocalDown drop) c number entries old = counting_down (not (is_immortal c) && (number + 1 == 1)) drop c number old
-knows_after (SeeZero d) c number entries old = seeing_zero (takes_block (SeeZero d) (cell_told (SeeZero d) number)) c entries old
+knows_after (LocalDown drop) c number entries old = counting_down (not (is_immortal c) && (number + 1 == 1)) drop c
+    number old
+knows_after (SeeZero d) c number entries old = seeing_zero (takes_block (SeeZero d) (cell_told (SeeZero d) number)) c
+    entries old
 knows_after (Free d) c number entries old = giving_back c old
 knows_after (Untie d) c number entries old = handing (untied_hand c old.part.row.hand) (counting c 0 old)
-knows_after (MergeZero d) c number entries old = handing hands.Free (taking (takes_block (MergeZero d) (cell_told (MergeZero d) number)) c entries old)
+knows_after (MergeZero d) c number entries old =
+    handing hands.Free (taking (takes_block (MergeZero d) (cell_told (MergeZero d) number)) c entries old)
 knows_after (SharedUp source k) c number entries old = filling k c old
 knows_after (SharedDown drop) c number entries old = giving_up (Some drop) old
 knows_after (Ask drop) c number entries old = asking (is_default (state_told number)) drop c old
-knows_after (LastDown (lasts.Dropped drop)) c number entries old = dropping_last (takes_block (LastDown (lasts.Dropped drop)) (cell_told (LastDown (lasts.Dropped drop)) number)) drop c entries old
-knows_after (LastDown (lasts.Popped d)) c number entries old = settling d (taking (takes_block (LastDown (lasts.Popped d)) (cell_told (LastDown (lasts.Popped d)) number)) c entries old)
-knows_after (LastDown lasts.Hand) c number entries old = handing hands.Free (taking (takes_block (LastDown lasts.Hand) (cell_told (LastDown lasts.Hand) number)) c entries old)
-knows_after (Enqueue d) c number entries old = handing (if is_shut_word number then hands.Busy phases.Shut c else hands.Free) old
-knows_after (MergeAdd d) c number entries old = handing (added_hand c old.part.row.hand) (taking (takes_block (MergeAdd d) (cell_told (MergeAdd d) number)) c entries old)
+knows_after (LastDown (lasts.Dropped drop)) c number entries old =
+    dropping_last (takes_block (LastDown (lasts.Dropped drop)) (cell_told (LastDown (lasts.Dropped drop)) number)) drop
+    c entries old
+knows_after (LastDown (lasts.Popped d)) c number entries old =
+    settling d (taking (takes_block (LastDown (lasts.Popped d)) (cell_told (LastDown (lasts.Popped d)) number)) c
+    entries old)
+knows_after (LastDown lasts.Hand) c number entries old =
+    handing hands.Free (taking (takes_block (LastDown lasts.Hand) (cell_told (LastDown lasts.Hand) number)) c
+    entries old)
+knows_after (Enqueue d) c number entries old =
+    handing (if is_shut_word number then hands.Busy phases.Shut c else hands.Free) old
+knows_after (MergeAdd d) c number entries old = handing (added_hand c old.part.row.hand)
+    (taking (takes_block (MergeAdd d) (cell_told (MergeAdd d) number)) c entries old)
 knows_after (Offer d) c number entries old = handing (hands.Busy phases.Offered c) old
 knows_after (Lock k) c number entries old = locking k c entries old
 knows_after (Unlock change) c number entries old = unlocking change c old

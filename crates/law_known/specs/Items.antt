@@ -1,7 +1,9 @@
 -- Items: what a thread's table answers to each of its steps and looks, and what the thread knows from its own items.
 --
 -- A run of items is a list of (thread, item), newest first. Its events are a run; its notes change nothing.
-use Rattle.std.specs.Prelude.{◌≡◌, ℕ, ◌+◌, ◌-◌, ◌*◌, ◌/◌, ◌%◌, ◌==◌, nat_le, Bool, true, false, if◌then◌else◌, ℤ, pos, negsuc, ◌-ℤ◌, List, [], ◌∷◌, length, replicate, bit_or, Option, Some, None, slice_set, ◌^◌, ◌≤◌, ◌<◌}
+use Rattle.std.specs.Prelude.{◌≡◌, ℕ, ◌+◌, ◌-◌, ◌*◌, ◌/◌, ◌%◌, ◌==◌, nat_le, Bool, true, false, if◌then◌else◌, ℤ, pos}
+use Rattle.std.specs.Prelude.{negsuc, ◌-ℤ◌, List, [], ◌∷◌, length, replicate, bit_or, Option, Some, None, slice_set}
+use Rattle.std.specs.Prelude.{◌^◌, ◌≤◌, ◌<◌}
 use Rattle.brc_words.specs.declared.limits.TheConstants.{MOST_THREADS}
 use Rattle.brc_words.specs.Owners.{word_of}
 use Rattle.brc_words.specs.Shared.{bits_of}
@@ -10,13 +12,18 @@ use Rattle.brc_words.specs.declared.state.State.TheVariants as states
 use Rattle.law_world.specs.declared.cell.Cell.{Cell}
 use Rattle.law_world.specs.declared.event.Event.{Event}
 use Rattle.law_world.specs.declared.event.Step.{Step}
-use Rattle.law_world.specs.declared.event.Step.TheVariants.{Claim, InitLocal, InitShared, Birth, LocalUp, LocalDown, Free, Untie, Enqueue, Drain, MergeAdd, Close, Nudge, Wake, Lock, Unlock, Register, Reopen}
+use Rattle.law_world.specs.declared.event.Step.TheVariants.{Claim, InitLocal, InitShared, Birth, LocalUp, LocalDown}
+use Rattle.law_world.specs.declared.event.Step.TheVariants.{Free, Untie, Enqueue, Drain, MergeAdd, Close, Nudge, Wake}
+use Rattle.law_world.specs.declared.event.Step.TheVariants.{Lock, Unlock, Register, Reopen}
 use Rattle.law_world.specs.declared.event.Dropped.{Dropped}
 use Rattle.law_world.specs.declared.event.Dropped.TheVariants as dropped
 use Rattle.law_world.specs.declared.row.Row.{Row}
 use Rattle.law_world.specs.Lists.{front_of, word_at, is_marked, number_in}
-use Rattle.law_world.specs.Heap.{Heap, no_cell, new_row, cell_at, entries_at, row_at, frame_at, popped_at, worklist_at, queue_at, words_for, is_registered}
-use Rattle.law_world.specs.Steps.{enabled, target, target_at, cell_after, takes_block, is_closed, row_after, frame_after, popped_after, worklist_after, gone, entries_changed, stage_after, drained_word, is_shut, locked_at}
+use Rattle.law_world.specs.Heap.{Heap, no_cell, new_row, cell_at, entries_at, row_at, frame_at, popped_at, worklist_at}
+use Rattle.law_world.specs.Heap.{queue_at, words_for, is_registered}
+use Rattle.law_world.specs.Steps.{enabled, target, target_at, cell_after, takes_block, is_closed, row_after}
+use Rattle.law_world.specs.Steps.{frame_after, popped_after, worklist_after, gone, entries_changed, stage_after}
+use Rattle.law_world.specs.Steps.{drained_word, is_shut, locked_at}
 use Rattle.law_world.specs.Runs.{world_after}
 use Rattle.law_known.specs.Free_Words.{free_words_for, free_bits, ShowsOwner}
 pub use Rattle.law_known.specs.declared.word.Field.{Field}
@@ -127,7 +134,8 @@ ShowsQueue false closed bits number = number ≡ 0
 ShowsQueue true closed bits number = ToldBy closed bits number
 
 abbrev pub Shows : Heap → Word → ℕ → Type 0
-Shows h (Queue t k) number = ShowsQueue (is_registered h t) (is_closed (row_at h t).stage k) (word_at (queue_at h t) k) number
+Shows h (Queue t k) number = ShowsQueue (is_registered h t) (is_closed (row_at h t).stage k)
+    (word_at (queue_at h t) k) number
 Shows h (Of Owner c) number = ShowsOwner (length h.rows) (cell_at h c).owner number
 Shows h word number = number ≡ spelled h word
 
@@ -187,9 +195,11 @@ events_of (x ∷ items) = with_event x.0 x.1 (events_of items)
 abbrev pub world_of_items : Heap → ItemRun → Heap
 world_of_items start items = world_after start (events_of items)
 
--- the item may come next: a step that is enabled, with what it is told and finds; a note with a number that may be there
+-- the item may come next: a step that is enabled, with what it is told and finds; a note with a number that may be
+-- there
 abbrev pub MayCome : Heap → ℕ → Item → Type 0
-MayCome h t (Did s number entries) = (enabled h (record { thread = t; step = s }) ≡ true) × IsTold h t s number × (entries ≡ found h t s)
+MayCome h t (Did s number entries) = (enabled h (record { thread = t; step = s }) ≡ true) × IsTold h t s number
+    × (entries ≡ found h t s)
 MayCome h t (Saw word number) = Shows h word number
 MayCome h t (Lost word number) = Shows h word number
 
@@ -234,7 +244,8 @@ abbrev pub count_told : ℕ → ℤ
 count_told number = pos (number / 4) -ℤ pos (2 ^ 40)
 
 abbrev pub state_told : ℕ → State
-state_told number = if number % 4 == 0 then states.Default else (if number % 4 == 2 then states.Queued else states.Merged)
+state_told number = if number % 4 ==
+    0 then states.Default else (if number % 4 == 2 then states.Queued else states.Merged)
 
 -- the cell as a step's number tells it: the local count before one was taken, or count and state
 abbrev pub cell_told : Step → ℕ → Cell

@@ -18,9 +18,11 @@ abbrev pub is_shared_of : ℕ → Word → Bool
 is_shared_of c (Of Shared d) = d == c
 is_shared_of c _ = false
 
--- the item tells that the cell's state has risen: who counts up or asks is told its shared word, and so is who looks at it
+-- the item tells that the cell's state has risen: who counts up or asks is told its shared word, and so is who looks at
+-- it
 abbrev pub tells_risen : Part → ℕ → Item → Bool
-tells_risen part c (Did (SharedUp source k) number entries) = names c (meant part (SharedUp source k)) && is_risen_word number
+tells_risen part c (Did (SharedUp source k) number entries) =
+    names c (meant part (SharedUp source k)) && is_risen_word number
 tells_risen part c (Did (Ask drop) number entries) = names c (meant part (Ask drop)) && is_risen_word number
 tells_risen part c (Did s number entries) = false
 tells_risen part c (Saw word number) = is_shared_of c word && is_risen_word number
@@ -29,4 +31,5 @@ tells_risen part c (Lost word number) = is_shared_of c word && is_risen_word num
 -- the place, or the entry, has had the cell since an item told that its state has risen
 abbrev pub is_risen : ℕ → List Item → Dropped → ℕ → Bool
 is_risen cells [] drop c = false
-is_risen cells (x ∷ items) drop c = names c (drop_in (part_of cells (x ∷ items)) drop) && (tells_risen (part_of cells items) c x || is_risen cells items drop c)
+is_risen cells (x ∷ items) drop c = names c (drop_in (part_of cells (x ∷ items)) drop) &&
+    (tells_risen (part_of cells items) c x || is_risen cells items drop c)

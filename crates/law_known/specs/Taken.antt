@@ -1,5 +1,5 @@
--- The dead blocks that a thread has taken and not yet given back, newest first, with the entries that they still have: as
--- its own items tell them.
+-- The dead blocks that a thread has taken and not yet given back, newest first, with the entries that they still have:
+-- as its own items tell them.
 use Rattle.std.specs.Prelude.{ℕ, ◌==◌, Bool, true, false, if◌then◌else◌, List, [], ◌∷◌, Option, Some, None}
 use Rattle.law_world.specs.declared.event.Dropped.{Dropped}
 use Rattle.law_world.specs.declared.event.Dropped.TheVariants as dropped
@@ -42,7 +42,8 @@ taken_on false false c entries blocks = blocks
 
 abbrev pub taken_by : Step → ℕ → List ℕ → Option ℕ → Blocks → Blocks
 taken_by s number entries None blocks = blocks
-taken_by s number entries (Some c) blocks = taken_on (is_free_step s) (takes_block s (cell_told s number)) c entries (cut_by (gone s (cell_told s number)) blocks)
+taken_by s number entries (Some c) blocks = taken_on (is_free_step s) (takes_block s (cell_told s number)) c entries
+    (cut_by (gone s (cell_told s number)) blocks)
 
 abbrev pub taken_after : Part → Blocks → Item → Blocks
 taken_after part blocks (Did s number entries) = taken_by s number entries (meant part s) blocks

@@ -1,6 +1,7 @@
 //! What a thread's own items tell it, each as the contract of a function with nothing to do.
 
-ghost use Rattle.std.specs.Prelude.{◌≡◌, ◌≢◌, ◌≤◌, ℕ, ◌+◌, ◌*◌, ◌^◌, ◌<◌, ◌==◌, ◌&&◌, List, [], ◌∷◌, Some, None, true, false, length, slice_index_or};
+ghost use Rattle.std.specs.Prelude.{◌≡◌, ◌≢◌, ◌≤◌, ℕ, ◌+◌, ◌*◌, ◌^◌, ◌<◌, ◌==◌, ◌&&◌, List, [], ◌∷◌, Some, None, true};
+ghost use Rattle.std.specs.Prelude.{false, length, slice_index_or};
 ghost use Rattle.std.specs.Int.{bit_at};
 ghost use Rattle.law_world.specs.declared.cell.Cell.{Cell as cell};
 ghost use Rattle.law_world.specs.declared.row.Hand.TheVariants as hands;
@@ -14,10 +15,12 @@ ghost use Rattle.law_world.specs.declared.event.Event.{Event as event};
 ghost use Rattle.law_world.specs.Lists.{one, names, place_at, word_at, is_marked, is_bare, is_unmarked, is_blank};
 ghost use Rattle.brc_words.specs.Owners.{word_of};
 ghost use Rattle.law_world.specs.Holding.{lives};
-ghost use Rattle.law_world.specs.Heap.{Heap, opening, cell_at, entries_at, row_at, frame_at, popped_at, queue_at, worklist_at, is_registered, is_gathered, AreOptions};
+ghost use Rattle.law_world.specs.Heap.{Heap, opening, cell_at, entries_at, row_at, frame_at, popped_at, queue_at};
+ghost use Rattle.law_world.specs.Heap.{worklist_at, is_registered, is_gathered, AreOptions};
 ghost use Rattle.brc_words.specs.declared.owner.Owner.TheVariants as owners;
 ghost use Rattle.law_known.specs.Owned.{IsAlive};
-ghost use Rattle.law_world.specs.Steps.{is_mine, is_active, needs_no_cell, takes_block, thread_may, after_target, target_at, owned_are_marked};
+ghost use Rattle.law_world.specs.Steps.{is_mine, is_active, needs_no_cell, takes_block, thread_may, after_target};
+ghost use Rattle.law_world.specs.Steps.{target_at, owned_are_marked};
 ghost use Rattle.law_world.specs.Runs.{IsRun, IsReached};
 ghost use Rattle.law_known.specs.Going_On.{GoesOn, known_of, knows_after, knows_apart, given_up, touched_place};
 ghost use Rattle.law_known.specs.Locked.{locked_of, place_locked, HasLocked};
@@ -31,7 +34,9 @@ ghost use Rattle.law_world.specs.declared.row.Stage.{Stage as stage};
 ghost use Rattle.brc_words.specs.declared.limits.TheConstants.{FIRST_MORTAL, MOST_THREADS};
 ghost use Rattle.law_lasting.specs.Staying.{rank};
 ghost use Rattle.law_known.specs.Free_Words.{is_free_cell};
-ghost use Rattle.law_known.specs.Items.{Word as word, IsWord, Shows, works_on, Of, Owner, Shared, FreeWord, Item, Did, Saw, Lost, ItemRun, MayCome, AreItems, IsPart, events_of, world_of_items, part_of, meant, cell_told, own};
+ghost use Rattle.law_known.specs.Items.{Word as word, IsWord, Shows, works_on, Of, Owner, Shared, FreeWord, Item, Did};
+ghost use Rattle.law_known.specs.Items.{Saw, Lost, ItemRun, MayCome, AreItems, IsPart, events_of, world_of_items};
+ghost use Rattle.law_known.specs.Items.{part_of, meant, cell_told, own};
 
 /// Items are runs with what each step was told: the events of items are a run, and each run is the events of items. A
 /// thread's own part of the world, with the entries of what it has locked and of its worklist, is a function of its own
@@ -62,8 +67,8 @@ pub fn root_items_tell_the_threads()
         → is_gathered (world_of_items (opening cells limit) items) u ≡ gathered_of (own 0 items) u }
 {}
 
-/// A queue word has bits of its 32 cells alone, and each of these is a cell of the heap: a bit is a reference of its cell, so
-/// that lives.
+/// A queue word has bits of its 32 cells alone, and each of these is a cell of the heap: a bit is a reference of its
+/// cell, so that lives.
 pub fn queue_words_name_cells()
     ensures { (h : Heap) (t k i : ℕ) → IsReached h → bit_at (word_at (queue_at h t) k) i ≡ 1
         → (i < 32) × (k * 32 + i < length h.cells) }
@@ -77,8 +82,8 @@ pub fn own_items_tell_few_frees()
         → (part_of cells (own t items)).row.frees < 2 ^ 64 }
 {}
 
-/// The local count of each of a thread's own objects is a function of its own items, with the numbers that they were told:
-/// an active thread counts on what it owns without a look. 0 says that it doesn't count there on the local word.
+/// The local count of each of a thread's own objects is a function of its own items, with the numbers that they were
+/// told: an active thread counts on what it owns without a look. 0 says that it doesn't count there on the local word.
 pub fn own_items_tell_the_counts()
     ensures { (cells limit : ℕ) (items : ItemRun) (t c : ℕ) → AreOptions cells limit
         → AreItems (opening cells limit) items
@@ -87,7 +92,8 @@ pub fn own_items_tell_the_counts()
         (cell_at (world_of_items (opening cells limit) items) c) ≡ counts_of cells (own t items) c }
 {}
 
-/// What an active thread with a free hand owns are the cells that it counts, all alive, and dead ones on its own worklist.
+/// What an active thread with a free hand owns are the cells that it counts, all alive, and dead ones on its own
+/// worklist.
 pub fn own_counts_tell_what_is_owned()
     ensures alive { (cells limit : ℕ) (items : ItemRun) (t c : ℕ) → AreOptions cells limit
         → AreItems (opening cells limit) items
@@ -122,8 +128,8 @@ pub fn counts_say_who_counts()
         → (is_mine t g x ≡ true) × (x.local ≡ own_count t g x) }
 {}
 
-/// An object that a thread found queued or merged, in a place of its frame or as the last entry of a dead block that has
-/// had it since, is still queued or merged: its release goes straight to the shared word.
+/// An object that a thread found queued or merged, in a place of its frame or as the last entry of a dead block that
+/// has had it since, is still queued or merged: its release goes straight to the shared word.
 pub fn own_items_tell_what_has_risen()
     ensures { (cells limit : ℕ) (items : ItemRun) (t c : ℕ) (drop : dropped) → AreOptions cells limit
         → AreItems (opening cells limit) items
@@ -132,8 +138,8 @@ pub fn own_items_tell_what_has_risen()
         → 1 ≤ rank (cell_at (world_of_items (opening cells limit) items) c).state }
 {}
 
-/// The dead blocks that a thread has taken, with the entries that they still have, are a function of its own items: they
-/// are those on its worklist. A block that a step takes, by the number that the step is told, isn't listed before.
+/// The dead blocks that a thread has taken, with the entries that they still have, are a function of its own items:
+/// they are those on its worklist. A block that a step takes, by the number that the step is told, isn't listed before.
 pub fn own_items_tell_the_blocks()
     ensures listed { (cells limit : ℕ) (items : ItemRun) (t c : ℕ) → AreOptions cells limit
         → AreItems (opening cells limit) items
@@ -149,8 +155,8 @@ pub fn own_items_tell_the_blocks()
         → listed_at (taken_of cells (own t items)) c ≡ None }
 {}
 
-/// What a thread has locked, with the entries that it found there, is a function of its own items: the place of its frame,
-/// whose cell the world has locked and whose entries are those found, until it unlocks.
+/// What a thread has locked, with the entries that it found there, is a function of its own items: the place of its
+/// frame, whose cell the world has locked and whose entries are those found, until it unlocks.
 pub fn own_items_tell_the_lock()
     ensures place { (cells limit : ℕ) (items : ItemRun) (t : ℕ) → AreOptions cells limit
         → AreItems (opening cells limit) items
@@ -164,9 +170,9 @@ pub fn own_items_tell_the_lock()
         entries }
 {}
 
-/// What a thread knows goes on with each of its items as one table says, kind by kind of step; a note changes nothing of it.
-/// A step leaves every place of the frame but the one that it may change, and the last entry of every block but the one that
-/// it means and the one that gives up its last.
+/// What a thread knows goes on with each of its items as one table says, kind by kind of step; a note changes nothing
+/// of it. A step leaves every place of the frame but the one that it may change, and the last entry of every block but
+/// the one that it means and the one that gives up its last.
 pub fn own_steps_go_on()
     ensures meant { (cells : ℕ) (items : List Item) (s : step) (c number : ℕ) (entries : List ℕ)
         → meant (part_of cells items) s ≡ Some c
@@ -190,9 +196,9 @@ pub fn own_steps_go_on()
         → GoesOn cells items (Lost w number) (known_of cells items) }
 {}
 
-/// What was seen risen of a place, or of a last entry, is still seen with one more item exactly where these have the cell
-/// still: not in a place whose cell was put into the locked object, nor in one that was vacant before, and in one whose
-/// cell was exchanged where the same cell came back. It is seen anew by who counts up, asks or looks.
+/// What was seen risen of a place, or of a last entry, is still seen with one more item exactly where these have the
+/// cell still: not in a place whose cell was put into the locked object, nor in one that was vacant before, and in one
+/// whose cell was exchanged where the same cell came back. It is seen anew by who counts up, asks or looks.
 pub fn what_has_risen_stays_seen()
     ensures kept { (cells : ℕ) (items : List Item) (x : Item) (drop : dropped) (c : ℕ)
         → is_risen cells items drop c ≡ true → is_risen cells (x ∷ items) drop c

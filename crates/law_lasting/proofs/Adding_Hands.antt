@@ -1,19 +1,26 @@
--- In the second edition no hand merges what came late to a closed queue word, and only an active thread merges what it popped.
-use Rattle.std.proofs.Common.{◌≡◌, ◌≢◌, ℕ, ◌==◌, ◌&&◌, not, Bool, true, false, if◌then◌else◌, List, [], ◌∷◌, zero, suc, length, Option, Some, None, refl, sym, ◌∙◌, ap, subst, inl, inr}
+-- In the second edition no hand merges what came late to a closed queue word, and only an active thread merges what it
+-- popped.
+use Rattle.std.proofs.Common.{◌≡◌, ◌≢◌, ℕ, ◌==◌, ◌&&◌, not, Bool, true, false, if◌then◌else◌, List, [], ◌∷◌, zero, suc}
+use Rattle.std.proofs.Common.{length, Option, Some, None, refl, sym, ◌∙◌, ap, subst, inl, inr}
 use Rattle.std.proofs.lemmas.Bool.{cases_Bool, and_parts, true≢false}
 use Rattle.law_world.specs.declared.cell.Cell.{Cell}
 use Rattle.law_world.specs.declared.edition.Edition.{Edition}
 use Rattle.law_world.specs.declared.edition.Edition.TheVariants as editions
 use Rattle.law_world.specs.declared.event.Event.{Event}
 use Rattle.law_world.specs.declared.event.Step.{Step}
-use Rattle.law_world.specs.declared.event.Step.TheVariants.{Claim, InitLocal, InitShared, Birth, LocalDown, SeeZero, Untie, MergeZero, MergeAdd, Ask, LastDown, Enqueue, Close, Reopen, Offer, Register, Gather}
+use Rattle.law_world.specs.declared.event.Step.TheVariants.{Claim, InitLocal, InitShared, Birth, LocalDown, SeeZero}
+use Rattle.law_world.specs.declared.event.Step.TheVariants.{Untie, MergeZero, MergeAdd, Ask, LastDown, Enqueue, Close}
+use Rattle.law_world.specs.declared.event.Step.TheVariants.{Reopen, Offer, Register, Gather}
 use Rattle.law_world.specs.declared.event.LastDropped.TheVariants as lasts
 use Rattle.law_world.specs.declared.row.Row.{Row}
 use Rattle.law_world.specs.declared.row.Hand.{Hand}
 use Rattle.law_world.specs.declared.row.Hand.TheVariants as hands
 use Rattle.law_world.specs.declared.row.Phase.TheVariants as phases
-use Rattle.law_world.specs.Heap.{Heap, cell_at, row_at, no_row, new_row, again_row, opening_in, words_for, is_immortal, AreOptions}
-use Rattle.law_world.specs.Steps.{enabled, after, after_target, root_after, root_may, thread_may, target_at, registered, registered_again, edition_ok, hand_ok, is_active, is_shut_hand, is_untouched, is_default, is_shut, untied_hand, added_hand, hand_after, row_after, stage_after}
+use Rattle.law_world.specs.Heap.{Heap, cell_at, row_at, no_row, new_row, again_row, opening_in, words_for, is_immortal}
+use Rattle.law_world.specs.Heap.{AreOptions}
+use Rattle.law_world.specs.Steps.{enabled, after, after_target, root_after, root_may, thread_may, target_at, registered}
+use Rattle.law_world.specs.Steps.{registered_again, edition_ok, hand_ok, is_active, is_shut_hand, is_untouched}
+use Rattle.law_world.specs.Steps.{is_default, is_shut, untied_hand, added_hand, hand_after, row_after, stage_after}
 use Rattle.law_world.specs.Runs.{world_after, IsRun, IsReached}
 use Rattle.law_world.specs.Sound.{IsSound}
 use Rattle.law_world.proofs.Asking.{May, may_parts}
@@ -35,7 +42,8 @@ fits_hand active (hands.Busy _ d) = true
 row_fits : Row → Bool
 row_fits row = fits_hand (is_active row.stage) row.hand
 
-untied_fits : (active : Bool) (c : ℕ) (hand : Hand) → active ≡ true → is_shut_hand hand ≡ false → fits_hand active (untied_hand c hand) ≡ true
+untied_fits : (active : Bool) (c : ℕ) (hand : Hand) → active ≡ true → is_shut_hand hand ≡ false
+    → fits_hand active (untied_hand c hand) ≡ true
 unfolding fits_hand
 untied_fits active c hands.Free on off = on
 untied_fits active c (hands.Busy phases.Shut d) on off = absurd (true≢false off)
@@ -52,7 +60,8 @@ not_shut : (b : Bool) → not b ≡ true → b ≡ false
 not_shut true is = absurd (true≢false (sym is))
 not_shut false is = refl
 
-step_fits : (s : Step) (c : ℕ) (x : Cell) (shut : Bool) (row : Row) → edition_ok editions.Two row s ≡ true → row_fits row ≡ true → row_fits (row_after s c x shut row) ≡ true
+step_fits : (s : Step) (c : ℕ) (x : Cell) (shut : Bool) (row : Row) → edition_ok editions.Two row s ≡ true
+    → row_fits row ≡ true → row_fits (row_after s c x shut row) ≡ true
 unfolding row_fits fits_hand
 step_fits (Claim d) c x shut row ok fits = refl
 step_fits (InitLocal d) c x shut row ok fits = refl
@@ -90,10 +99,13 @@ step_fits (LastDown (lasts.Popped d)) c x shut row ok fits = fits
 step_fits _ c x shut row ok fits = fits
 
 -- a thread that begins or goes on to close, or to open, has nothing in its hand
-kept_fits : (words : ℕ) (s : Step) (row : Row) → hand_ok row.hand s ≡ true → row_fits row ≡ true → row_fits (record row { stage = stage_after words s row.stage }) ≡ true
+kept_fits : (words : ℕ) (s : Step) (row : Row) → hand_ok row.hand s ≡ true → row_fits row ≡ true
+    → row_fits (record row { stage = stage_after words s row.stage }) ≡ true
 unfolding row_fits fits_hand
-kept_fits words (Close k) row ok fits = ap (fits_hand (is_active (stage_after words (Close k) row.stage))) (free_hand row.hand ok)
-kept_fits words (Reopen k) row ok fits = ap (fits_hand (is_active (stage_after words (Reopen k) row.stage))) (free_hand row.hand ok)
+kept_fits words (Close k) row ok fits = ap (fits_hand (is_active (stage_after words (Close k) row.stage)))
+    (free_hand row.hand ok)
+kept_fits words (Reopen k) row ok fits = ap (fits_hand (is_active (stage_after words (Reopen k) row.stage)))
+    (free_hand row.hand ok)
 kept_fits words _ row ok fits = fits
 
 -- ---- all rows, after each step
@@ -101,31 +113,40 @@ kept_fits words _ row ok fits = fits
 AllFit : Heap → Type 0
 AllFit h = (t : ℕ) → row_fits (row_at h t) ≡ true
 
-target_fits : (h : Heap) (t : ℕ) (s : Step) (o : Option ℕ) → May h t s → h.edition ≡ editions.Two → AllFit h → AllFit (after_target h t s o)
+target_fits : (h : Heap) (t : ℕ) (s : Step) (o : Option ℕ) → May h t s → h.edition ≡ editions.Two → AllFit h
+    → AllFit (after_target h t s o)
 unfolding AllFit
-target_fits h t s None may two fits = read_by (λ _ row. row_fits row ≡ true) h.rows t _ no_row may.inside (kept_fits (words_for (length h.cells)) s (row_at h t) may.hand (fits t)) (λ j _. fits j)
+target_fits h t s None may two fits = read_by (λ _ row. row_fits row ≡ true) h.rows t _ no_row may.inside
+    (kept_fits (words_for (length h.cells)) s (row_at h t) may.hand (fits t)) (λ j _. fits j)
 target_fits h t s (Some c) may two fits = read_by (λ _ row. row_fits row ≡ true) h.rows t _ no_row may.inside
-    (step_fits s c (cell_at h c) (is_shut h c) (row_at h t) (subst (λ e. edition_ok e (row_at h t) s ≡ true) two may.edition) (fits t)) (λ j _. fits j)
+    (step_fits s c (cell_at h c) (is_shut h c) (row_at h t)
+    (subst (λ e. edition_ok e (row_at h t) s ≡ true) two may.edition) (fits t)) (λ j _. fits j)
 
 root_fits : (h : Heap) (s : Step) → IsSound h → root_may h s ≡ true → AllFit h → AllFit (root_after h s)
 unfolding AllFit row_fits fits_hand
 root_fits h (Register u) sound ok fits = elim (registers h u sound ok) [
-  | fresh next most few is ↦ subst AllFit (sym is) (read_push (λ _ row. row_fits row ≡ true) h.rows new_row no_row refl (λ j _. fits j))
-  | reused vacated few is ↦ subst AllFit (sym is) (read_by (λ _ row. row_fits row ≡ true) h.rows u again_row no_row vacated.inside refl (λ j _. fits j))
+  | fresh next most few is ↦ subst AllFit (sym is) (read_push (λ _ row. row_fits row ≡ true) h.rows new_row no_row refl
+      (λ j _. fits j))
+  | reused vacated few is ↦ subst AllFit (sym is)
+      (read_by (λ _ row. row_fits row ≡ true) h.rows u again_row no_row vacated.inside refl (λ j _. fits j))
 ]
 root_fits h (Gather u) sound ok fits = fits
 root_fits h _ sound ok fits = fits
 
-event_fits : (h : Heap) (e : Event) → IsSound h → h.edition ≡ editions.Two → enabled h e ≡ true → AllFit h → AllFit (after h e)
+event_fits : (h : Heap) (e : Event) → IsSound h → h.edition ≡ editions.Two → enabled h e ≡ true → AllFit h
+    → AllFit (after h e)
 event_fits h e sound two ok fits =
     let moved : Heap = after_target h e.thread e.step (target_at h e.thread e.step) in
-    let P : Bool → Type 0 = λ b. (if b then root_may h e.step else thread_may h e.thread e.step) ≡ true → AllFit (if b then root_after h e.step else moved) in
+    let P : Bool → Type 0 = λ b. (if b then root_may h e.step else thread_may h e.thread e.step) ≡ true
+    → AllFit (if b then root_after h e.step else moved) in
     elim (cases_Bool (e.thread == 0)) [
       | inl root ↦ subst P (sym root) (λ may. root_fits h e.step sound may fits) ok
-      | inr thread ↦ subst P (sym thread) (λ may. target_fits h e.thread e.step (target_at h e.thread e.step) (may_parts h e.thread e.step may) two fits) ok
+      | inr thread ↦ subst P (sym thread) (λ may. target_fits h e.thread e.step (target_at h e.thread e.step)
+          (may_parts h e.thread e.step may) two fits) ok
     ]
 
-run_fits : (cells limit : ℕ) (run : List Event) → AreOptions cells limit → IsRun (opening_in editions.Two cells limit) run → AllFit (world_after (opening_in editions.Two cells limit) run)
+run_fits : (cells limit : ℕ) (run : List Event) → AreOptions cells limit
+    → IsRun (opening_in editions.Two cells limit) run → AllFit (world_after (opening_in editions.Two cells limit) run)
 unfolding AllFit row_fits fits_hand
 run_fits cells limit [] options is_run = opens
   where
@@ -134,23 +155,32 @@ run_fits cells limit [] options is_run = opens
     opens (suc t) = refl
 run_fits cells limit (e ∷ run) options is_run =
     let start : Heap = opening_in editions.Two cells limit in
-    event_fits (world_after start run) e (run_sound editions.Two cells limit run options is_run.0) (run_edition start run) is_run.1 (run_fits cells limit run options is_run.0)
+    event_fits (world_after start run) e (run_sound editions.Two cells limit run options is_run.0)
+    (run_edition start run) is_run.1 (run_fits cells limit run options is_run.0)
 
 -- the edition that a world began in is its own
 pub reached_edition : (h : Heap) (reached : IsReached h) → reached.edition ≡ h.edition
-reached_edition h reached = sym (run_edition (opening_in reached.edition reached.cells reached.limit) reached.run) ∙ ap (λ (w : Heap). w.edition) reached.leads_here
+reached_edition h reached = sym (run_edition (opening_in reached.edition reached.cells reached.limit) reached.run)
+    ∙ ap (λ (w : Heap). w.edition) reached.leads_here
 
 reached_fits : (h : Heap) → IsReached h → h.edition ≡ editions.Two → AllFit h
 reached_fits h reached two =
-    let P : Edition → Type 0 = λ e. IsRun (opening_in e reached.cells reached.limit) reached.run → AllFit (world_after (opening_in e reached.cells reached.limit) reached.run) in
-    subst AllFit reached.leads_here (subst P (sym (reached_edition h reached ∙ two)) (run_fits reached.cells reached.limit reached.run reached.options) reached.is_run)
+    let P : Edition → Type 0 = λ e. IsRun (opening_in e reached.cells reached.limit) reached.run
+    → AllFit (world_after (opening_in e reached.cells reached.limit) reached.run) in
+    subst AllFit reached.leads_here
+    (subst P (sym (reached_edition h reached ∙ two)) (run_fits reached.cells reached.limit reached.run reached.options)
+    reached.is_run)
 
 -- ---- what it says of a hand
 
-pub never_takes : (h : Heap) (t c : ℕ) → IsReached h → h.edition ≡ editions.Two → (row_at h t).hand ≢ hands.Busy phases.Taking c
+pub never_takes : (h : Heap) (t c : ℕ) → IsReached h → h.edition ≡ editions.Two
+    → (row_at h t).hand ≢ hands.Busy phases.Taking c
 unfolding AllFit row_fits fits_hand
-never_takes h t c reached two busy = true≢false (sym (reached_fits h reached two t) ∙ ap (fits_hand (is_active (row_at h t).stage)) busy)
+never_takes h t c reached two busy = true≢false (sym (reached_fits h reached two t)
+    ∙ ap (fits_hand (is_active (row_at h t).stage)) busy)
 
-pub pops_active : (h : Heap) (t c : ℕ) → IsReached h → h.edition ≡ editions.Two → (row_at h t).hand ≡ hands.Busy phases.Popping c → is_active (row_at h t).stage ≡ true
+pub pops_active : (h : Heap) (t c : ℕ) → IsReached h → h.edition ≡ editions.Two
+    → (row_at h t).hand ≡ hands.Busy phases.Popping c → is_active (row_at h t).stage ≡ true
 unfolding AllFit row_fits fits_hand
-pops_active h t c reached two busy = sym (ap (fits_hand (is_active (row_at h t).stage)) busy) ∙ reached_fits h reached two t
+pops_active h t c reached two busy = sym (ap (fits_hand (is_active (row_at h t).stage)) busy)
+    ∙ reached_fits h reached two t

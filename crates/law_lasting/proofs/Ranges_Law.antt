@@ -1,5 +1,7 @@
 -- Numbers that a reached world holds are numbers of its own: owners are registered threads, entries are cells.
-use Rattle.std.proofs.Common.{◌≡◌, ℕ, ◌<◌, ◌≤◌, ◌==◌, ◌&&◌, nat_lt, Bool, true, false, if◌then◌else◌, List, [], ◌∷◌, length, Option, Some, None, refl, sym, ◌∙◌, ap, subst, inl, inr, arith, get_or-set_same, true≢false, ◌⊎◌}
+use Rattle.std.proofs.Common.{◌≡◌, ℕ, ◌<◌, ◌≤◌, ◌==◌, ◌&&◌, nat_lt, Bool, true, false, if◌then◌else◌, List, [], ◌∷◌}
+use Rattle.std.proofs.Common.{length, Option, Some, None, refl, sym, ◌∙◌, ap, subst, inl, inr, arith, get_or-set_same}
+use Rattle.std.proofs.Common.{true≢false, ◌⊎◌}
 use Rattle.std.proofs.lemmas.List.{length-set, get_or_past, get_or-set_same}
 use Rattle.std.proofs.lemmas.Bool.{cases_lt, cases_eq, cases_Bool, and_parts, ltb-true, lt-ltb, true≢false}
 use Rattle.std.specs.Prelude.{slice_get}
@@ -13,14 +15,17 @@ use Rattle.law_world.specs.declared.row.Phase.TheVariants as phases
 use Rattle.law_lasting.proofs.Reasons.{offered_alone}
 use Rattle.law_world.specs.declared.event.Event.{Event}
 use Rattle.law_world.specs.declared.event.Step.{Step}
-use Rattle.law_world.specs.declared.event.Step.TheVariants.{Claim, Birth, LocalUp, LocalDown, Free, Untie, Ask, Register, Gather}
+use Rattle.law_world.specs.declared.event.Step.TheVariants.{Claim, Birth, LocalUp, LocalDown, Free, Untie, Ask}
+use Rattle.law_world.specs.declared.event.Step.TheVariants.{Register, Gather}
 use Rattle.law_world.specs.declared.row.Hand.TheVariants as hands
 use Rattle.law_world.specs.declared.row.Phase.{Phase}
 use Rattle.law_world.specs.declared.row.Role.{Role}
 use Rattle.law_world.specs.declared.row.Role.TheVariants as roles
 use Rattle.law_world.specs.Lists.{is_marked, one}
-use Rattle.law_world.specs.Heap.{Heap, opening, cell_at, entries_at, row_at, worklist_at, no_cell, is_immortal, is_registered, new_row, AreOptions, opening_in, again_row}
-use Rattle.law_world.specs.Steps.{enabled, after, after_target, root_after, root_may, thread_may, target_at, cell_after, is_default, registered, registered_again}
+use Rattle.law_world.specs.Heap.{Heap, opening, cell_at, entries_at, row_at, worklist_at, no_cell, is_immortal}
+use Rattle.law_world.specs.Heap.{is_registered, new_row, AreOptions, opening_in, again_row}
+use Rattle.law_world.specs.Steps.{enabled, after, after_target, root_after, root_may, thread_may, target_at, cell_after}
+use Rattle.law_world.specs.Steps.{is_default, registered, registered_again}
 use Rattle.law_world.specs.Runs.{IsReached, IsRun, world_after}
 use Rattle.law_world.specs.Sound.{IsSound, held, grips, Offered}
 use Rattle.law_lasting.specs.Ranges.{OwnerFits}
@@ -43,12 +48,14 @@ still_fits old new (owners.Thread t) more fits = (fits.0, omega (arith, fits.1, 
 still_fits old new (owners.Claimed t) more fits = (fits.0, omega (arith, fits.1, more))
 still_fits old new owners.Free more fits = tt
 
-either_fits : (threads : ℕ) (b : Bool) (x y : Cell) → OwnerFits threads x.owner → OwnerFits threads y.owner → OwnerFits threads (if b then x else y).owner
+either_fits : (threads : ℕ) (b : Bool) (x y : Cell) → OwnerFits threads x.owner → OwnerFits threads y.owner
+    → OwnerFits threads (if b then x else y).owner
 either_fits threads true x y one other = one
 either_fits threads false x y one other = other
 
 -- a step makes its own thread the owner, or nobody
-step_owner : (threads t : ℕ) (s : Step) (c : ℕ) (x : Cell) → 0 < t → t < threads → OwnerFits threads x.owner → OwnerFits threads (cell_after t s c x).owner
+step_owner : (threads t : ℕ) (s : Step) (c : ℕ) (x : Cell) → 0 < t → t < threads → OwnerFits threads x.owner
+    → OwnerFits threads (cell_after t s c x).owner
 step_owner threads t (Claim d) c x low inside fits = (low, inside)
 step_owner threads t (Birth d kind k) c x low inside fits = (low, inside)
 step_owner threads t (Free d) c x low inside fits = tt
@@ -65,23 +72,30 @@ pub same_rows : (h : Heap) (t : ℕ) (s : Step) (o : Option ℕ) → length (aft
 same_rows h t s None = length-set h.rows t _
 same_rows h t s (Some c) = length-set h.rows t _
 
-target_owners : (h : Heap) (t : ℕ) (s : Step) (o : Option ℕ) → 0 < t → t < length h.rows → Owners h → Owners (after_target h t s o)
+target_owners : (h : Heap) (t : ℕ) (s : Step) (o : Option ℕ) → 0 < t → t < length h.rows → Owners h
+    → Owners (after_target h t s o)
 unfolding Owners
 target_owners h t s None low inside fits d = still_fits _ _ _ (omega (arith, same_rows h t s None)) (fits d)
-target_owners h t s (Some c) low inside fits d = still_fits (length h.rows) _ _ (omega (arith, same_rows h t s (Some c))) (elim (cases_eq d c) [
-  | inr other ↦ subst (λ (x : Cell). OwnerFits (length h.rows) x.owner) (sym (read_there h.cells c d _ no_cell other)) (fits d)
-  | inl same ↦ elim (cases_lt c (length h.cells)) [
-    | inl here ↦ subst (λ (x : Cell). OwnerFits (length h.rows) x.owner) (sym (ap (λ i. cell_at (after_target h t s (Some c)) i) same ∙ get_or-set_same h.cells c _ no_cell here))
-        (step_owner (length h.rows) t s c (cell_at h c) low inside (fits c))
-    | inr past ↦ subst (λ (x : Cell). OwnerFits (length h.rows) x.owner) (sym (get_or_past (after_target h t s (Some c)).cells d no_cell (omega (arith, past, same, length-set h.cells c (cell_after t s c (cell_at h c)))))) tt
-  ]
-])
+target_owners h t s (Some c) low inside fits d = still_fits (length h.rows) _ _
+    (omega (arith, same_rows h t s (Some c))) (elim (cases_eq d c) [
+      | inr other ↦ subst (λ (x : Cell). OwnerFits (length h.rows) x.owner)
+          (sym (read_there h.cells c d _ no_cell other)) (fits d)
+      | inl same ↦ elim (cases_lt c (length h.cells)) [
+        | inl here ↦ subst (λ (x : Cell). OwnerFits (length h.rows) x.owner)
+            (sym (ap (λ i. cell_at (after_target h t s (Some c)) i) same ∙ get_or-set_same h.cells c _ no_cell here))
+            (step_owner (length h.rows) t s c (cell_at h c) low inside (fits c))
+        | inr past ↦ subst (λ (x : Cell). OwnerFits (length h.rows) x.owner)
+            (sym (get_or_past (after_target h t s (Some c)).cells d no_cell
+            (omega (arith, past, same, length-set h.cells c (cell_after t s c (cell_at h c)))))) tt
+      ]
+    ])
 
 root_owners : (h : Heap) (s : Step) → Owners h → Owners (root_after h s)
 unfolding Owners
 root_owners h (Register u) fits d = by_number (nat_lt u (length h.rows))
   where
-    by_number : (b : Bool) → OwnerFits (length (if b then registered_again h u else registered h).rows) (cell_at (if b then registered_again h u else registered h) d).owner
+    by_number : (b : Bool) → OwnerFits (length (if b then registered_again h u else registered h).rows)
+        (cell_at (if b then registered_again h u else registered h) d).owner
     by_number true = still_fits (length h.rows) _ _ (omega (arith, length-set h.rows u again_row)) (fits d)
     by_number false = still_fits (length h.rows) _ _ (omega (arith, length-push h.rows new_row)) (fits d)
 root_owners h (Gather u) fits d = fits d
@@ -93,24 +107,33 @@ event_owners h e ok fits =
     elim (cases_Bool (e.thread == 0)) [
       | inl root ↦ subst (λ b. Owners (if b then root_after h e.step else moved)) (sym root) (root_owners h e.step fits)
       | inr thread ↦
-          let may : May h e.thread e.step = may_parts h e.thread e.step (subst (λ b. (if b then root_may h e.step else thread_may h e.thread e.step) ≡ true) thread ok) in
-          subst (λ b. Owners (if b then root_after h e.step else moved)) (sym thread) (target_owners h e.thread e.step (target_at h e.thread e.step) may.some_thread may.inside fits)
+          let may : May h e.thread e.step = may_parts h e.thread e.step
+          (subst (λ b. (if b then root_may h e.step else thread_may h e.thread e.step) ≡ true) thread ok) in
+          subst (λ b. Owners (if b then root_after h e.step else moved)) (sym thread)
+          (target_owners h e.thread e.step (target_at h e.thread e.step) may.some_thread may.inside fits)
     ]
 
-opening_owners : (edition : Edition) (cells limit : ℕ) → AreOptions cells limit → Owners (opening_in edition cells limit)
+opening_owners : (edition : Edition) (cells limit : ℕ) → AreOptions cells limit
+    → Owners (opening_in edition cells limit)
 unfolding Owners
 opening_owners edition cells limit options c = elim (cases_lt c FIRST_MORTAL) [
-  | inl low ↦ subst (λ (x : Cell). OwnerFits 1 x.owner) (sym (immortal_cell cells c (omega (arith, options.enough)) low)) tt
+  | inl low ↦ subst (λ (x : Cell). OwnerFits 1 x.owner)
+      (sym (immortal_cell cells c (omega (arith, options.enough)) low)) tt
   | inr high ↦ subst (λ (x : Cell). OwnerFits 1 x.owner) (sym (free_cell cells c high)) tt
 ]
 
-run_owners : (edition : Edition) (cells limit : ℕ) (run : List Event) → AreOptions cells limit → IsRun (opening_in edition cells limit) run → Owners (world_after (opening_in edition cells limit) run)
+run_owners : (edition : Edition) (cells limit : ℕ) (run : List Event) → AreOptions cells limit
+    → IsRun (opening_in edition cells limit) run → Owners (world_after (opening_in edition cells limit) run)
 run_owners edition cells limit [] options is_run = opening_owners edition cells limit options
-run_owners edition cells limit (e ∷ run) options is_run = event_owners (world_after (opening_in edition cells limit) run) e is_run.1 (run_owners edition cells limit run options is_run.0)
+run_owners edition cells limit (e ∷ run) options is_run =
+    event_owners (world_after (opening_in edition cells limit) run) e is_run.1
+    (run_owners edition cells limit run options is_run.0)
 
 pub reached_owners : (h : Heap) → IsReached h → (c : ℕ) → OwnerFits (length h.rows) (cell_at h c).owner
 unfolding Owners
-reached_owners h reached = subst (λ (w : Heap). (c : ℕ) → OwnerFits (length w.rows) (cell_at w c).owner) reached.leads_here (run_owners reached.edition reached.cells reached.limit reached.run reached.options reached.is_run)
+reached_owners h reached = subst (λ (w : Heap). (c : ℕ) → OwnerFits (length w.rows) (cell_at w c).owner)
+    reached.leads_here (run_owners reached.edition reached.cells reached.limit reached.run reached.options
+    reached.is_run)
 
 -- ---- registered numbers
 
@@ -128,8 +151,10 @@ pub event_rows : (h : Heap) (e : Event) → length h.rows ≤ length (after h e)
 event_rows h e =
     let moved : Heap = after_target h e.thread e.step (target_at h e.thread e.step) in
     elim (cases_Bool (e.thread == 0)) [
-      | inl root ↦ subst (λ b. length h.rows ≤ length (if b then root_after h e.step else moved).rows) (sym root) (root_rows h e.step)
-      | inr thread ↦ subst (λ b. length h.rows ≤ length (if b then root_after h e.step else moved).rows) (sym thread) (omega (arith, same_rows h e.thread e.step (target_at h e.thread e.step)))
+      | inl root ↦ subst (λ b. length h.rows ≤ length (if b then root_after h e.step else moved).rows) (sym root)
+          (root_rows h e.step)
+      | inr thread ↦ subst (λ b. length h.rows ≤ length (if b then root_after h e.step else moved).rows) (sym thread)
+          (omega (arith, same_rows h e.thread e.step (target_at h e.thread e.step)))
     ]
 
 -- so a number that is registered stays registered
@@ -137,12 +162,15 @@ pub registered_stays : (h : Heap) (e : Event) (q : ℕ) → is_registered h q �
 registered_stays h e q there =
     let parts = and_parts _ _ there in
     let inside : q < length h.rows = ltb-true q (length h.rows) parts.1 in
-    ap (λ b. b && nat_lt q (length (after h e).rows)) parts.0 ∙ lt-ltb q (length (after h e).rows) (omega (arith, inside, event_rows h e))
+    ap (λ b. b && nat_lt q (length (after h e).rows)) parts.0
+    ∙ lt-ltb q (length (after h e).rows) (omega (arith, inside, event_rows h e))
 
 -- and who owns a cell is registered
-pub owner_registered : (h : Heap) (c q : ℕ) → IsReached h → (cell_at h c).owner ≡ owners.Thread q → is_registered h q ≡ true
+pub owner_registered : (h : Heap) (c q : ℕ) → IsReached h → (cell_at h c).owner ≡ owners.Thread q
+    → is_registered h q ≡ true
 owner_registered h c q reached owned =
-    let fits : OwnerFits (length h.rows) (owners.Thread q) = subst (OwnerFits (length h.rows)) owned (reached_owners h reached c) in
+    let fits : OwnerFits (length h.rows) (owners.Thread q) = subst (OwnerFits (length h.rows)) owned
+    (reached_owners h reached c) in
     ap (λ b. b && nat_lt q (length h.rows)) (lt-ltb 0 q fits.0) ∙ lt-ltb q (length h.rows) fits.1
 
 -- ---- entries
@@ -153,7 +181,8 @@ held_inside h c reached some = elim (cases_lt c FIRST_MORTAL) [
   | inl low ↦ omega (arith, low, (reached_sound h reached).shaped.options.enough)
   | inr high ↦ elim (cases_lt c (length h.cells)) [
     | inl inside ↦ inside
-    | inr past ↦ absurd (live_owner _ (held_live h c (reached_sound h reached) (some high)) (ap (λ (x : Cell). x.owner) (get_or_past h.cells c no_cell past)))
+    | inr past ↦ absurd (live_owner _ (held_live h c (reached_sound h reached) (some high))
+        (ap (λ (x : Cell). x.owner) (get_or_past h.cells c no_cell past)))
   ]
 ]
 
@@ -162,7 +191,8 @@ entries_inside h d i c reached there = held_inside h c reached (λ mortal. held_
 
 -- ---- what a hand has is on no worklist
 
-pub hand_unmarked : (h : Heap) (t s c : ℕ) (p : Phase) → IsReached h → (row_at h t).hand ≡ hands.Busy p c → is_marked (worklist_at h s) c ≡ false
+pub hand_unmarked : (h : Heap) (t s c : ℕ) (p : Phase) → IsReached h → (row_at h t).hand ≡ hands.Busy p c
+    → is_marked (worklist_at h s) c ≡ false
 hand_unmarked h t s c p reached busy =
     let sound : IsSound h = reached_sound h reached in
     let mortal : FIRST_MORTAL ≤ c = (sound.hands t c p busy).mortal in
@@ -176,7 +206,8 @@ hand_unmarked h t s c p reached busy =
       | inl grip ↦
           let own : one (grips c (row_at h t).hand) ≡ 1 = hand_grips h t c p busy grip in
           elim (cases_eq s t) [
-            | inl same ↦ ap (λ i. is_marked (worklist_at h i) c) same ∙ one-false _ (omega (arith, own, grips_once h c t sound mortal))
+            | inl same ↦ ap (λ i. is_marked (worklist_at h i) c) same
+                ∙ one-false _ (omega (arith, own, grips_once h c t sound mortal))
             | inr other ↦ one-false _ (sole_grip h c t sound mortal (omega (arith, own)) s other).mark
           ]
     ]
@@ -188,8 +219,10 @@ hand_unmarked h t s c p reached busy =
     not_gripping phases.Offered off = inr refl
     not_gripping _ off = absurd (true≢false off)
 
-    offered_owner : (h : Heap) (t c : ℕ) → IsSound h → (row_at h t).hand ≡ hands.Busy phases.Offered c → (cell_at h c).owner ≡ owners.Thread t
-    offered_owner h t c sound at = let fits : Offered t (cell_at h c) = (sound.hands t c phases.Offered at).fits in fits.owner
+    offered_owner : (h : Heap) (t c : ℕ) → IsSound h → (row_at h t).hand ≡ hands.Busy phases.Offered c
+        → (cell_at h c).owner ≡ owners.Thread t
+    offered_owner h t c sound at = let fits : Offered t (cell_at h c) = (sound.hands t c phases.Offered at).fits in
+        fits.owner
 
 -- ---- what stays
 
@@ -210,8 +243,10 @@ event_limit : (h : Heap) (e : Event) → (after h e).limit ≡ h.limit
 event_limit h e =
     let moved : Heap = after_target h e.thread e.step (target_at h e.thread e.step) in
     elim (cases_Bool (e.thread == 0)) [
-      | inl root ↦ ap (λ b. let w : Heap = if b then root_after h e.step else moved in w.limit) root ∙ root_limit h e.step
-      | inr thread ↦ ap (λ b. let w : Heap = if b then root_after h e.step else moved in w.limit) thread ∙ target_limit h e.thread e.step (target_at h e.thread e.step)
+      | inl root ↦ ap (λ b. let w : Heap = if b then root_after h e.step else moved in w.limit) root
+          ∙ root_limit h e.step
+      | inr thread ↦ ap (λ b. let w : Heap = if b then root_after h e.step else moved in w.limit) thread
+          ∙ target_limit h e.thread e.step (target_at h e.thread e.step)
     ]
 
 pub run_limit : (cells limit : ℕ) (run : List Event) → (world_after (opening cells limit) run).limit ≡ limit

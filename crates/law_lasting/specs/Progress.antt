@@ -1,9 +1,10 @@
--- No thread is stuck by a condition: whatever it has in its hand it can go on with, and whatever it holds it can give up.
--- Another thread's lock aside; nothing is said of when it does.
+-- No thread is stuck by a condition: whatever it has in its hand it can go on with, and whatever it holds it can give
+-- up. Another thread's lock aside; nothing is said of when it does.
 use Rattle.std.specs.Prelude.{◌≡◌, ◌≢◌, ℕ, ◌||◌, true, false, if◌then◌else◌, None}
 use Rattle.law_world.specs.declared.cell.Cell.{Cell}
 use Rattle.law_world.specs.declared.event.Step.{Step}
-use Rattle.law_world.specs.declared.event.Step.TheVariants.{InitLocal, InitShared, LocalDown, SeeZero, Untie, MergeZero, Ask, LastDown, Enqueue, MergeAdd}
+use Rattle.law_world.specs.declared.event.Step.TheVariants.{InitLocal, InitShared, LocalDown, SeeZero, Untie, MergeZero}
+use Rattle.law_world.specs.declared.event.Step.TheVariants.{Ask, LastDown, Enqueue, MergeAdd}
 use Rattle.law_world.specs.declared.event.Dropped.{Dropped}
 use Rattle.law_world.specs.declared.event.LastDropped.TheVariants as lasts
 use Rattle.law_world.specs.declared.row.Hand.TheVariants as hands
@@ -43,9 +44,12 @@ next_step phases.Popping c x = MergeAdd c
 next_step phases.Offered c x = Untie c
 next_step phases.Yielding c x = MergeAdd c
 
--- how a place or an entry is given up at the least: by the owner; by asking; once asked for or merged, by the shared word
+-- how a place or an entry is given up at the least: by the owner; by asking; once asked for or merged, by the shared
+-- word
 abbrev pub release_step : ℕ → Stage → ℕ → Cell → Dropped → Step
-release_step t stage c x drop = if is_immortal c || is_mine t stage x then LocalDown drop else (if is_default x.state then Ask drop else LastDown (lasts.Dropped drop))
+release_step t stage c x drop =
+    if is_immortal c || is_mine t stage x then LocalDown drop else (if is_default x.state then Ask drop else LastDown
+    (lasts.Dropped drop))
 
 -- how a popped entry is dealt with
 abbrev pub popped_step : ℕ → Cell → Step

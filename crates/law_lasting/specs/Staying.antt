@@ -14,7 +14,8 @@ use Rattle.law_world.specs.declared.row.Phase.TheVariants as phases
 use Rattle.law_world.specs.declared.row.Hand.TheVariants as hands
 use Rattle.law_world.specs.declared.row.Stage.TheVariants as stages
 use Rattle.law_world.specs.Lists.{place_at, bit_of, is_marked}
-use Rattle.law_world.specs.Heap.{Heap, cell_at, entries_at, row_at, frame_at, popped_at, worklist_at, queue_at, is_gathered}
+use Rattle.law_world.specs.Heap.{Heap, cell_at, entries_at, row_at, frame_at, popped_at, worklist_at, queue_at}
+use Rattle.law_world.specs.Heap.{is_gathered}
 use Rattle.law_world.specs.Steps.{locked_at, enabled, after, is_active, is_default, is_merged}
 use Rattle.law_world.specs.Runs.{IsReached}
 use Rattle.law_world.specs.Holding.{carries, lives}
@@ -56,7 +57,8 @@ pub record HasEntry (h : Heap) (t c : ℕ) : Type 0 where
 
 -- the thread has the cell: in a place, in its hand with a reference, popped, or as an entry
 abbrev pub Has : Heap → ℕ → ℕ → Type 0
-Has h t c = ((k : ℕ) × (place_at (frame_at h t) k ≡ Some c)) ⊎ ((carries c (row_at h t).hand ≡ true) ⊎ ((bit_of (popped_at h t) c ≡ 1) ⊎ HasEntry h t c))
+Has h t c = ((k : ℕ) × (place_at (frame_at h t) k ≡ Some c))
+    ⊎ ((carries c (row_at h t).hand ≡ true) ⊎ ((bit_of (popped_at h t) c ≡ 1) ⊎ HasEntry h t c))
 
 -- the states only rise
 abbrev pub rank : State → ℕ
@@ -161,7 +163,8 @@ Tells t phases.Zero x = (x.owner ≡ owners.Thread t) × (x.local ≡ 0) × (is_
 Tells t phases.Over x = (x.owner ≡ owners.Thread t) × (x.local ≡ 0) × (is_merged x.state ≡ false)
 Tells t phases.Untied x = (x.owner ≡ owners.Nobody) × (x.local ≡ 0) × (is_merged x.state ≡ false)
 Tells t phases.Asked x = is_default x.state ≡ false
-Tells t phases.Shut x = ((x.owner ≡ owners.Nobody) × (is_default x.state ≡ false)) ⊎ ((s : ℕ) × (x.owner ≡ owners.Thread s) × (x.state ≡ states.Queued))
+Tells t phases.Shut x = ((x.owner ≡ owners.Nobody) × (is_default x.state ≡ false))
+    ⊎ ((s : ℕ) × (x.owner ≡ owners.Thread s) × (x.state ≡ states.Queued))
 Tells t phases.Taking x = (x.owner ≡ owners.Nobody) × (x.state ≡ states.Queued)
 Tells t phases.Held x = (x.owner ≡ owners.Nobody) × (x.state ≡ states.Merged)
 Tells t phases.Popping x = (x.owner ≡ owners.Nobody) × (x.state ≡ states.Queued)

@@ -1,5 +1,5 @@
-//! The laws that a running thread rests on while others step, each as the contract of a function with nothing to do: what
-//! lasts, what a hand tells without a look, and that no condition stands in its way.
+//! The laws that a running thread rests on while others step, each as the contract of a function with nothing to do:
+//! what lasts, what a hand tells without a look, and that no condition stands in its way.
 //!
 //! What lasts over one event of another thread's lasts over any number of them: `proofs/Standing.antt`, `lasts_over`.
 
@@ -18,16 +18,20 @@ ghost use Rattle.law_world.specs.declared.event.Change.TheVariants as changes;
 ghost use Rattle.law_world.specs.declared.row.Stage.TheVariants as stages;
 ghost use Rattle.law_world.specs.declared.event.Event.{Event as event};
 ghost use Rattle.law_world.specs.Lists.{bit_of, is_marked, is_bare, is_unmarked, is_blank};
-ghost use Rattle.law_world.specs.Heap.{Heap, opening, cell_at, entries_at, row_at, frame_at, popped_at, worklist_at, queue_at, is_registered, is_gathered};
+ghost use Rattle.law_world.specs.Heap.{Heap, opening, cell_at, entries_at, row_at, frame_at, popped_at, worklist_at};
+ghost use Rattle.law_world.specs.Heap.{queue_at, is_registered, is_gathered};
 ghost use Rattle.brc_words.specs.Kinds.{is_mortal};
 ghost use Rattle.law_lasting.specs.Progress.{Stands, IsAtRest, next_step, release_step, popped_step};
-ghost use Rattle.law_world.specs.Steps.{locked_at, dropped_cell, is_vacant, enabled, after, target_at, takes_block, may_leave};
+ghost use Rattle.law_world.specs.Steps.{locked_at, dropped_cell, is_vacant, enabled, after, target_at, takes_block};
+ghost use Rattle.law_world.specs.Steps.{may_leave};
 ghost use Rattle.law_world.specs.Runs.{IsReached, world_after};
 ghost use Rattle.law_world.specs.Sound.{held};
 ghost use Rattle.law_lasting.specs.Ranges.{OwnerFits};
 ghost use Rattle.law_world.specs.declared.row.Stage.{Stage as stage};
 ghost use Rattle.brc_words.specs.declared.limits.TheConstants.{FIRST_MORTAL};
-ghost use Rattle.law_lasting.specs.Staying.{IsAnothers, Lasts, SameOwn, Bears, Buries, Locked, Keeps, Foreign, OwnedOrNot, Nobodys, Owns, Merges, Yields, Adopts, PoppedOwn, Tells, PoppedTells, HoldsNothing};
+ghost use Rattle.law_lasting.specs.Staying.{IsAnothers, Lasts, SameOwn, Bears, Buries, Locked, Keeps, Foreign};
+ghost use Rattle.law_lasting.specs.Staying.{OwnedOrNot, Nobodys, Owns, Merges, Yields, Adopts, PoppedOwn, Tells};
+ghost use Rattle.law_lasting.specs.Staying.{PoppedTells, HoldsNothing};
 
 /// While others step, a thread's own part stays as it is, and a bit of its merge queue stays set.
 pub fn own_parts_last()
@@ -79,8 +83,8 @@ pub fn dead_blocks_are_unlocked()
         → takes_block e.step (cell_at h c) ≡ true → (cell_at h c).mutex ≡ 0 }
 {}
 
-/// A block is taken once, and while it is held it is neither freed nor made anew: what a step takes is on no worklist, and a
-/// cell that is held is no step's to free or to bear.
+/// A block is taken once, and while it is held it is neither freed nor made anew: what a step takes is on no worklist,
+/// and a cell that is held is no step's to free or to bear.
 pub fn blocks_are_taken_once()
     ensures taken { (h : Heap) (e : event) (c u : ℕ) → IsReached h → enabled h e ≡ true
         → target_at h e.thread e.step ≡ Some c → takes_block e.step (cell_at h c) ≡ true
@@ -103,8 +107,8 @@ pub fn gathered_threads_hold_nothing()
     ensures { (h : Heap) (t : ℕ) → IsReached h → is_gathered h t ≡ true → HoldsNothing h t }
 {}
 
-/// Owners are registered threads, which stay so; entries are cells of the heap, the cell in a hand is on no worklist, and
-/// the local limit stays as the heap was opened.
+/// Owners are registered threads, which stay so; entries are cells of the heap, the cell in a hand is on no worklist,
+/// and the local limit stays as the heap was opened.
 pub fn numbers_name_what_is_there()
     ensures owners { (h : Heap) (c : ℕ) → IsReached h
         → OwnerFits (length h.rows) (cell_at h c).owner }
@@ -118,11 +122,11 @@ pub fn numbers_name_what_is_there()
         → (world_after (opening cells limit) run).limit ≡ limit }
 {}
 
-/// No thread is stuck by a condition, in either edition. Whatever is in its hand it can go on with, for which a ready object wants a
-/// vacant place: a thread whose places are all filled must not claim. A lock it can let go. At rest it can give up every
-/// place and every last entry of a dead block, deal with every popped entry, and give back every block without entries;
-/// with nothing left it can begin to leave, go on leaving, and then be gathered. In the second edition it can hand over
-/// before whatever it owns, and a number that is used again opens its words one by one.
+/// No thread is stuck by a condition, in either edition. Whatever is in its hand it can go on with, for which a ready
+/// object wants a vacant place: a thread whose places are all filled must not claim. A lock it can let go. At rest it
+/// can give up every place and every last entry of a dead block, deal with every popped entry, and give back every
+/// block without entries; with nothing left it can begin to leave, go on leaving, and then be gathered. In the second
+/// edition it can hand over before whatever it owns, and a number that is used again opens its words one by one.
 pub fn no_thread_is_stuck()
     ensures hands { (h : Heap) (t c : ℕ) (p : phase) → IsReached h → Stands h t
         → (row_at h t).hand ≡ hands.Busy p c → p ≢ phases.Ready

@@ -1,8 +1,8 @@
 //! What a running thread may rely on while others step: definitions and laws on runs of `law_world`.
 //!
 //! `specs/Staying.antt` says which facts last and what a hand tells without a look, `specs/Ranges.antt` which numbers
-//! stand for what is there, and `specs/Progress.antt` which step a thread can go on with. Nothing runs here; the running
-//! table cites these laws.
+//! stand for what is there, and `specs/Progress.antt` which step a thread can go on with. Nothing runs here; the
+//! running table cites these laws.
 #![tactic(auto)]
 
 mod laws;

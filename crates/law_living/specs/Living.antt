@@ -1,5 +1,5 @@
--- What a thread's own log tells of what lives. A cell that a place of its frame has, or an entry of a private cell that isn't dead,
--- isn't dead; and each own step fits what stood before it.
+-- What a thread's own log tells of what lives. A cell that a place of its frame has, or an entry of a private cell that
+-- isn't dead, isn't dead; and each own step fits what stood before it.
 use Rattle.std.specs.Prelude.{◌≡◌, ℕ, Bool, true, false, List, [], ◌∷◌, Some, slice_get}
 use Rattle.law_world.specs.Lists.{place_at, is_marked}
 use Rattle.law_world.specs.declared.event.Step.TheVariants.{Lock, Birth, Free}
@@ -21,8 +21,8 @@ pub record Living (n : ℕ) (log : List Told) : Type 0 where
   pub entered : (c i d : ℕ) (payload : Contents) → payloads_of n log c ≡ Some payload → is_dead n log c ≡ false
       → slice_get (entries_in payload) i ≡ Some d → is_dead n log d ≡ false
 
--- A locking found what was the thread's own; a cell that was given back was dead; and a cell in which an object was born wasn't
--- private.
+-- A locking found what was the thread's own; a cell that was given back was dead; and a cell in which an object was
+-- born wasn't private.
 abbrev pub ItemFits : ℕ → List Told → Told → Type 0
 ItemFits n before (Did (Lock k) number (moves.Found c found)) = FindsOwn n before c found
 ItemFits n before (Did (Free c) number moved) = is_dead n before c ≡ true

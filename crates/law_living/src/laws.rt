@@ -20,9 +20,9 @@ ghost use Rattle.law_payloads.specs.Payloads.{payloads_of, locked_seen};
 ghost use Rattle.law_living.specs.Living.{is_dead, OwnLog};
 ghost use Rattle.law_living.specs.Quiet.{is_quiet, frees};
 
-/// The log of an active thread, in every run: each locking found what was the thread's own, each cell that was given back was
-/// dead, none in which an object was born was private, and at each time what a place had wasn't dead, nor what a private cell
-/// had that wasn't.
+/// The log of an active thread, in every run: each locking found what was the thread's own, each cell that was given
+/// back was dead, none in which an object was born was private, and at each time what a place had wasn't dead, nor what
+/// a private cell had that wasn't.
 pub fn own_logs_tell_what_lives<B>()
     ensures runs { (n limit : ℕ) (run : Run) (t : ℕ) → AreOptions n limit → IsLegal n limit run
         → 0 < t → is_active (row_at (world n limit run) t).stage ≡ true → OwnLog n (own_of t run) }
@@ -33,9 +33,9 @@ pub fn own_logs_tell_what_lives<B>()
         → 0 < v.thread → is_active (part_seen n v.log).row.stage ≡ true → OwnLog n v.log }
 {}
 
-/// After an item by which the thread only lets go, each place has what it had, or nothing; nothing was born; and each payload
-/// is as it was, or its cell was given back. Whatever the item is: what isn't dead after it wasn't dead before, but for the
-/// cell that it gives back.
+/// After an item by which the thread only lets go, each place has what it had, or nothing; nothing was born; and each
+/// payload is as it was, or its cell was given back. Whatever the item is: what isn't dead after it wasn't dead before,
+/// but for the cell that it gives back.
 pub fn quiet_items_only_let_go()
     ensures places { (n : ℕ) (x : told) (log : List told) (k c : ℕ) → is_quiet x ≡ true
         → place_at (part_seen n (x ∷ log)).frame k ≡ Some c

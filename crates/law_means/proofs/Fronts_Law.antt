@@ -1,5 +1,6 @@
 -- Lines only add: what is printed, and how many objects there are.
-use Rattle.std.proofs.Common.{◌≡◌, ℕ, List, [], ◌∷◌, ◌++◌, length, Option, Result, Ok, Err, IfOk, length-set, length-append, append_assoc, append-nil, arith, refl, sym, ◌∙◌, ap, subst}
+use Rattle.std.proofs.Common.{◌≡◌, ℕ, List, [], ◌∷◌, ◌++◌, length, Option, Result, Ok, Err, IfOk, length-set}
+use Rattle.std.proofs.Common.{length-append, append_assoc, append-nil, arith, refl, sym, ◌∙◌, ap, subst}
 use Rattle.brc_words.specs.declared.fault.Fault.{Fault}
 use Rattle.brc_script.specs.declared.instruction.Instruction.{Instruction}
 use Rattle.brc_script.specs.declared.script.Section.{Section}
@@ -22,26 +23,39 @@ adds_nothing s = record { printed = ([], sym (append-nil s.printed)); objects = 
 
 adds_twice : {A : Type 0} (s z next : State A) → AddsTo s z → AddsTo z next → AddsTo s next
 adds_twice s z next one other = record {
-  printed = (one.printed.0 ++ other.printed.0, other.printed.1 ∙ ap (λ (bytes : List ℕ). bytes ++ other.printed.0) one.printed.1 ∙ append_assoc s.printed one.printed.0 other.printed.0);
+  printed = (
+    one.printed.0 ++ other.printed.0,
+    other.printed.1
+        ∙ ap (λ (bytes : List ℕ). bytes ++ other.printed.0) one.printed.1
+        ∙ append_assoc s.printed one.printed.0 other.printed.0,
+  );
   objects = omega (arith, one.objects, other.objects);
 }
 
 module _ {A : Type 0} where
-  same_many : (reference : Reference) (object : Object A) (made : List (Object A)) → length (changed reference object made) ≡ length made
+  same_many : (reference : Reference) (object : Object A) (made : List (Object A))
+      → length (changed reference object made) ≡ length made
   same_many (references.Small number) object made = refl
   same_many (references.Object place) object made = length-set made place object
 
-  adds_call : (s : State A) (call : Object A → Result (Option Reference × Object A) Fault) (container to : ℕ) → IfOk (called call container to s) (AddsTo s)
+  adds_call : (s : State A) (call : Object A → Result (Option Reference × Object A) Fault) (container to : ℕ)
+      → IfOk (called call container to s) (AddsTo s)
   adds_call s call container to = by_held (held container s.registers)
     where
       next : Option Reference × List (Object A) → Result (State A) Fault
       next done = Ok (record { registers = holding to done.0 s.registers; objects = done.1; printed = s.printed })
 
-      by_asked : (reference : Reference) (r : Result (Option Reference × Object A) Fault) → IfOk ((r >>= λ done. Ok (done.0, changed reference done.1 s.objects)) >>= next) (AddsTo s)
-      by_asked reference (Ok done) = record { printed = ([], sym (append-nil s.printed)); objects = omega (arith, same_many reference done.1 s.objects) }
+      by_asked : (reference : Reference) (r : Result (Option Reference × Object A) Fault)
+          → IfOk ((r >>= λ done. Ok (done.0, changed reference done.1 s.objects)) >>= next) (AddsTo s)
+      by_asked reference (Ok done) =
+          record {
+            printed = ([], sym (append-nil s.printed));
+            objects = omega (arith, same_many reference done.1 s.objects);
+          }
       by_asked reference (Err fault) = tt
 
-      by_held : (r : Result Reference Fault) → IfOk (r >>= λ reference. calling call reference s.objects >>= next) (AddsTo s)
+      by_held : (r : Result Reference Fault) → IfOk (r >>= λ reference. calling call reference s.objects >>= next)
+          (AddsTo s)
       by_held (Ok reference) = by_asked reference (asked call reference s.objects)
       by_held (Err fault) = tt
 
@@ -51,7 +65,10 @@ module _ {A : Type 0} where
     small = λ number. tt;
     same = adds_nothing s;
     register = λ to reference here. record { printed = ([], sym (append-nil s.printed)); objects = omega arith };
-    object = λ to object each. record { printed = ([], sym (append-nil s.printed)); objects = omega (arith, length-append s.objects (object ∷ [])) };
+    object = λ to object each. record {
+      printed = ([], sym (append-nil s.printed));
+      objects = omega (arith, length-append s.objects (object ∷ []));
+    };
     call = λ call container to keeps. adds_call s call container to;
     print = λ more. record { printed = (more, refl); objects = omega arith };
   }) instruction
@@ -74,7 +91,8 @@ module _ {A : Type 0} where
   adds_line line s = by_line (after line.instruction s) s line.number (adds_after line.instruction s)
 
   -- what comes after only adds
-  adds_later : (r : Result (State A) (Stop A)) (next : State A → Result (State A) (Stop A)) → ((s : State A) → AddsTo s (ended (next s))) → AddsTo (ended r) (ended (r >>= next))
+  adds_later : (r : Result (State A) (Stop A)) (next : State A → Result (State A) (Stop A))
+      → ((s : State A) → AddsTo s (ended (next s))) → AddsTo (ended r) (ended (r >>= next))
   adds_later (Ok s) next adds = adds s
   adds_later (Err stop) next adds = adds_nothing stop.state
 
@@ -84,7 +102,8 @@ module _ {A : Type 0} where
       adds_twice s (ended (line_after line s)) (ended (lines_after (line ∷ lines) s)) (adds_line line s)
       (adds_later (line_after line s) (λ next. lines_after lines next) (λ z. adds_lines lines z))
 
-  pub front_adds : (lines later : List (NumberedLine A)) (s : State A) → AddsTo (ended (lines_after lines s)) (ended (lines_after (lines ++ later) s))
+  pub front_adds : (lines later : List (NumberedLine A)) (s : State A)
+      → AddsTo (ended (lines_after lines s)) (ended (lines_after (lines ++ later) s))
   front_adds lines later s =
       subst (λ r. AddsTo (ended (lines_after lines s)) (ended r)) (lines_append lines later s)
       (adds_later (lines_after lines s) (λ next. lines_after later next) (λ z. adds_lines later z))
@@ -96,15 +115,21 @@ module _ {A : Type 0} where
   told_front s (Ok next) adds = record { lines = adds.printed; made = adds.objects }
   told_front s (Err stop) adds = record { lines = adds.printed; made = adds.objects }
 
-  meant_by : (section : Section A) (lines later : List (NumberedLine A)) → written_out section.pieces ≡ lines ++ later → meaning section ≡ told (lines_after (lines ++ later) start)
-  meant_by section lines later are = section_written_out section ∙ ap (λ (all : List (NumberedLine A)). told (lines_after all start)) are
+  meant_by : (section : Section A) (lines later : List (NumberedLine A)) → written_out section.pieces ≡ lines ++ later
+      → meaning section ≡ told (lines_after (lines ++ later) start)
+  meant_by section lines later are = section_written_out section
+      ∙ ap (λ (all : List (NumberedLine A)). told (lines_after all start)) are
 
-  pub front_meant : (section : Section A) (lines later : List (NumberedLine A)) → written_out section.pieces ≡ lines ++ later → IsFrontOf (ended (lines_after lines start)) (meaning section)
+  pub front_meant : (section : Section A) (lines later : List (NumberedLine A))
+      → written_out section.pieces ≡ lines ++ later → IsFrontOf (ended (lines_after lines start)) (meaning section)
   front_meant section lines later are =
       subst (IsFrontOf (ended (lines_after lines start))) (sym (meant_by section lines later are))
       (told_front (ended (lines_after lines start)) (lines_after (lines ++ later) start) (front_adds lines later start))
 
-  pub stop_meant : (section : Section A) (lines later : List (NumberedLine A)) (stop : Stop A) → written_out section.pieces ≡ lines ++ later → lines_after lines start ≡ Err stop → meaning section ≡ told (Err stop)
+  pub stop_meant : (section : Section A) (lines later : List (NumberedLine A)) (stop : Stop A)
+      → written_out section.pieces ≡ lines ++ later → lines_after lines start ≡ Err stop
+      → meaning section ≡ told (Err stop)
   stop_meant section lines later stop are stopped =
       meant_by section lines later are
-      ∙ ap told (sym (lines_append lines later start) ∙ ap (λ (r : Result (State A) (Stop A)). r >>= λ next. lines_after later next) stopped)
+      ∙ ap told (sym (lines_append lines later start)
+      ∙ ap (λ (r : Result (State A) (Stop A)). r >>= λ next. lines_after later next) stopped)

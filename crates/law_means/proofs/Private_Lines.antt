@@ -39,7 +39,8 @@ module _ {A : Type 0} where
       All-cons Shares line (written_out later) parts.0 (of_pieces later parts.1)
   of_pieces (pieces.Repeat times lines ∷ later) none =
       let parts = neither (list_any line_shares lines) (list_any shares later) none in
-      All-append Shares (repeat times lines) (written_out later) (of_turns times lines (of_lines lines parts.0)) (of_pieces later parts.1)
+      All-append Shares (repeat times lines) (written_out later) (of_turns times lines (of_lines lines parts.0))
+      (of_pieces later parts.1)
 
   pub private_lines : (section : Section A) → is_private section ≡ true → All Shares (written_out section.pieces)
   private_lines section is = of_pieces section.pieces (no_longer (list_any shares section.pieces) is)

@@ -17,7 +17,8 @@ abbrev pub HoldsIn : (ℕ → Bool) → Option Reference → Type 0
 HoldsIn part held = IfSome held (In part)
 
 module _ {A : Type 0} where
-  -- Registers refer into the part, and its objects do. Of other objects, which nothing reaches any more, nothing is said.
+  -- Registers refer into the part, and its objects do. Of other objects, which nothing reaches any more, nothing is
+  -- said.
   pub record IsWithin (part : ℕ → Bool) (s : State A) : Type 0 where
     pub registers : All (HoldsIn part) s.registers
     pub objects : (place : ℕ) (object : Object A) → part place ≡ true → slice_get s.objects place ≡ Some object

@@ -1,4 +1,5 @@
-//! The laws of the plain meaning that a running section is held against, each as the contract of a function with nothing to do.
+//! The laws of the plain meaning that a running section is held against, each as the contract of a function with
+//! nothing to do.
 
 ghost use Rattle.std.specs.Prelude.{◌≡◌, ℕ, Bool, List, ◌++◌, length, false, true, IfOk, Err};
 ghost use Rattle.std.specs.List.{All};
@@ -16,8 +17,8 @@ ghost use Rattle.law_means.specs.Fronts.{AddsTo, IsFrontOf};
 
 use std::alloc::Allocator;
 
-/// Where registers, and the objects of a part, refer into that part, they still do after an instruction, and wherever lines
-/// lead, with the objects made since in it. A section starts within any part.
+/// Where registers, and the objects of a part, refer into that part, they still do after an instruction, and wherever
+/// lines lead, with the objects made since in it. A section starts within any part.
 pub fn lines_stay_within<A: Allocator>()
     ensures begins { (part : ℕ → Bool) → IsWithin {A = A} part start }
     ensures one { (part : ℕ → Bool) (step : instruction A) (s : state A) → IsWithin part s
@@ -33,7 +34,8 @@ pub fn lines_only_add<A: Allocator>()
         → AddsTo (ended (lines_after lines s)) (ended (lines_after (lines ++ later) s)) }
 {}
 
-/// Where the first lines of a section lead is a front of its meaning; and where they end by a fault, that is its meaning.
+/// Where the first lines of a section lead is a front of its meaning; and where they end by a fault, that is its
+/// meaning.
 pub fn meanings_have_fronts<A: Allocator>()
     ensures front { (section : TheSection A) (lines later : List (NumberedLine A))
         → written_out section.pieces ≡ lines ++ later

@@ -1,7 +1,8 @@
 -- The moves of the holder map that an event makes, read off the world before it.
 --
 -- The map is the yardstick of `brc_model`: live objects with their kinds, entries and sets of holders, and no counts.
-use Rattle.std.specs.Prelude.{ℕ, zero, suc, ◌+◌, ◌-◌, ◌*◌, ◌==◌, ◌&&◌, not, Bool, false, if◌then◌else◌, List, [], ◌∷◌, length, drop, Option, Some, None, slice_index_or}
+use Rattle.std.specs.Prelude.{ℕ, zero, suc, ◌+◌, ◌-◌, ◌*◌, ◌==◌, ◌&&◌, not, Bool, false, if◌then◌else◌, List, [], ◌∷◌}
+use Rattle.std.specs.Prelude.{length, drop, Option, Some, None, slice_index_or}
 use Rattle.std.specs.Int.{bit_at}
 use Rattle.brc_model.specs.declared.holder.Holder.{Holder}
 use Rattle.brc_model.specs.declared.holder.Holder.TheVariants as holders
@@ -13,7 +14,8 @@ use Rattle.brc_model.specs.declared.moves.Exchange.TheVariants as exchanges
 use Rattle.brc_model.specs.Holders.{Map, Same, Allowed, moved, is_number}
 use Rattle.law_world.specs.declared.event.Event.{Event}
 use Rattle.law_world.specs.declared.event.Step.{Step}
-use Rattle.law_world.specs.declared.event.Step.TheVariants.{Birth, LocalUp, LocalDown, Free, SharedUp, SharedDown, Ask, LastDown, Enqueue, Drain, Close, Unlock}
+use Rattle.law_world.specs.declared.event.Step.TheVariants.{Birth, LocalUp, LocalDown, Free, SharedUp, SharedDown, Ask}
+use Rattle.law_world.specs.declared.event.Step.TheVariants.{LastDown, Enqueue, Drain, Close, Unlock}
 use Rattle.law_world.specs.declared.event.Dropped.{Dropped}
 use Rattle.law_world.specs.declared.event.Dropped.TheVariants as dropped
 use Rattle.law_world.specs.declared.event.LastDropped.TheVariants as lasts
@@ -60,27 +62,36 @@ passes c old new = moves.Pass (record { object = c; «from» = old; to = new } �
 -- a reference that a release gave up is the hand's
 abbrev pub asking : {A : Type 0} → Heap → ℕ → Dropped → ℕ → List (Move A)
 asking h t (dropped.Frame k) c = passes c (holders.Frame t k) (holders.Hand t c)
-asking h t (dropped.Work d) c = moves.Add c (holders.Hand t c) ∷ moves.Remove c (holders.Entry d (length (entries_at h d) - 1)) ∷ []
+asking h t (dropped.Work d) c = moves.Add c (holders.Hand t c) ∷ moves.Remove c
+    (holders.Entry d (length (entries_at h d) - 1)) ∷ []
 
 -- what f makes of each set bit of a word, from one bit on
 abbrev pub each_bit : {A : Type 0} → (ℕ → A) → ℕ → ℕ → ℕ → List A
 each_bit f word i zero = []
-each_bit f word i (suc more) = if bit_at word i == 1 then (f i ∷ each_bit f word (suc i) more) else each_bit f word (suc i) more
+each_bit f word i (suc more) = if bit_at word i == 1 then (f i ∷ each_bit f word (suc i) more) else each_bit f word
+    (suc i) more
 
 -- the references of one queue word are popped, by rising cells
 abbrev pub popping : ℕ → ℕ → ℕ → List Handover
-popping t k word = each_bit (λ i. record { object = k * 32 + i; «from» = holders.Queue t (k * 32 + i); to = holders.Popped t (k * 32 + i) }) word 0 32
+popping t k word = each_bit
+    (λ i. record {
+      object = k * 32 + i;
+      «from» = holders.Queue t (k * 32 + i);
+      to = holders.Popped t (k * 32 + i);
+    }) word 0 32
 
 -- an unlock's change, with the cells that move
 abbrev pub exchange : Heap → ℕ → Change → ℕ → Exchange
 exchange h t changes.Keep c = exchanges.Put 0 0
 exchange h t (changes.Put j) c = exchanges.Put j (number_in (place_at (frame_at h t) j))
 exchange h t (changes.Take i j) c = exchanges.Take i j (slice_index_or (entries_at h c) i 0)
-exchange h t (changes.Swap i j) c = exchanges.Swap i j (number_in (place_at (frame_at h t) j)) (slice_index_or (entries_at h c) i 0)
+exchange h t (changes.Swap i j) c = exchanges.Swap i j (number_in (place_at (frame_at h t) j))
+    (slice_index_or (entries_at h c) i 0)
 
 abbrev pub changing : {A : Type 0} → Heap → ℕ → Change → ℕ → List (Move A)
 changing h t changes.Keep c = []
-changing h t change c = moves.Change c (record { thread = t; place = number_in (row_at h t).locked }) (exchange h t change c) ∷ []
+changing h t change c = moves.Change c (record { thread = t; place = number_in (row_at h t).locked })
+    (exchange h t change c) ∷ []
 
 -- a step on one cell, where it has one
 abbrev pub with_cell : {A : Type 0} → Option ℕ → (ℕ → List (Move A)) → List (Move A)
@@ -99,7 +110,8 @@ moves_of h t (LastDown (lasts.Popped d)) cell = moves.Remove d (holders.Popped t
 moves_of h t (LastDown lasts.Hand) cell = with_cell cell (λ c. moves.Remove c (holders.Hand t c) ∷ [])
 moves_of h t (Free d) cell = moves.Dies d ∷ []
 moves_of h t (Ask drop) cell = with_cell cell (λ c. if is_default (cell_at h c).state then asking h t drop c else [])
-moves_of h t (Enqueue d) cell = if is_shut h d then [] else passes d (holders.Hand t d) (holders.Queue (cell_at h d).bearer d)
+moves_of h t (Enqueue d) cell = if is_shut h d then [] else passes d (holders.Hand t d)
+    (holders.Queue (cell_at h d).bearer d)
 moves_of h t (Drain k) cell = moves.Pass (popping t k (word_at (queue_at h t) k)) ∷ []
 moves_of h t (Close k) cell = moves.Pass (popping t k (word_at (queue_at h t) k)) ∷ []
 moves_of h t (Unlock change) cell = with_cell cell (changing h t change)

@@ -1,5 +1,6 @@
 -- What one more item makes of the payloads of private cells.
-use Rattle.std.proofs.Common.{◌≡◌, ℕ, ◌==◌, Bool, true, false, if◌then◌else◌, List, ◌∷◌, Option, Some, None, refl, sym, ◌∙◌, ap}
+use Rattle.std.proofs.Common.{◌≡◌, ℕ, ◌==◌, Bool, true, false, if◌then◌else◌, List, ◌∷◌, Option, Some, None, refl, sym}
+use Rattle.std.proofs.Common.{◌∙◌, ap}
 use Rattle.std.proofs.lemmas.Bool.{eqb-true, true≢false}
 use Rattle.brc_words.specs.declared.kind.Kind.{Kind}
 use Rattle.law_world.specs.declared.event.Change.{Change}
@@ -19,52 +20,72 @@ use Rattle.law_payloads.specs.Payloads.{private_seen, last_put, payloads_of, loc
 abbrev payload_if : Bool → Contents → Option Contents
 payload_if b put = if b then Some put else None
 
-born_there : (b m : Bool) (new old : Contents) → payload_if (if b then true else m) (if b then new else old) ≡ (if b then Some new else payload_if m old)
+born_there : (b m : Bool) (new old : Contents) → payload_if (if b then true else m) (if b then new else old)
+    ≡ (if b then Some new else payload_if m old)
 born_there true m new old = refl
 born_there false m new old = refl
 
 pub born : (n : ℕ) (log : List Told) (d : ℕ) (kind : Kind) (k number : ℕ) (contents : Contents) (c : ℕ)
-    → payloads_of n (Did (Birth d kind k) number (moves.Put d contents) ∷ log) c ≡ (if d == c then Some contents else payloads_of n log c)
+    → payloads_of n (Did (Birth d kind k) number (moves.Put d contents) ∷ log) c
+    ≡ (if d == c then Some contents else payloads_of n log c)
 born n log d kind k number contents c = born_there (d == c) (private_seen n log c) contents (last_put log c)
 
-freed_there : (b m : Bool) (old : Contents) → payload_if (if b then false else m) old ≡ (if b then None else payload_if m old)
+freed_there : (b m : Bool) (old : Contents)
+    → payload_if (if b then false else m) old ≡ (if b then None else payload_if m old)
 freed_there true m old = refl
 freed_there false m old = refl
 
-pub freed : (n : ℕ) (log : List Told) (d number c : ℕ) → payloads_of n (Did (Free d) number moves.Nothing ∷ log) c ≡ (if d == c then None else payloads_of n log c)
+pub freed : (n : ℕ) (log : List Told) (d number c : ℕ) → payloads_of n (Did (Free d) number moves.Nothing ∷ log) c
+    ≡ (if d == c then None else payloads_of n log c)
 freed n log d number c = freed_there (d == c) (private_seen n log c) (last_put log c)
 
-pub offered : (n : ℕ) (log : List Told) (d number c : ℕ) → payloads_of n (Did (Offer d) number moves.Nothing ∷ log) c ≡ (if private_seen n log d then None else payloads_of n log c)
+pub offered : (n : ℕ) (log : List Told) (d number c : ℕ) → payloads_of n (Did (Offer d) number moves.Nothing ∷ log) c
+    ≡ (if private_seen n log d then None else payloads_of n log c)
 offered n log d number c = freed_there (private_seen n log d) (private_seen n log c) (last_put log c)
 
-pub shared : (n : ℕ) (log : List Told) (change : Change) (number : ℕ) (moved : Moved) (c : ℕ) → is_shared (private_seen n log) (part_seen n log).frame (locked_seen n log) change ≡ true
+pub shared : (n : ℕ) (log : List Told) (change : Change) (number : ℕ) (moved : Moved) (c : ℕ)
+    → is_shared (private_seen n log) (part_seen n log).frame (locked_seen n log) change ≡ true
     → payloads_of n (Did (Unlock change) number moved ∷ log) c ≡ None
-shared n log change number moved c is = ap (λ b. payload_if (if b then false else private_seen n log c) (last_put (Did (Unlock change) number moved ∷ log) c)) is
+shared n log change number moved c is =
+    ap (λ b. payload_if (if b then false else private_seen n log c)
+    (last_put (Did (Unlock change) number moved ∷ log) c)) is
 
-unshared_there : (b m : Bool) (new old : Contents) → (b ≡ true → m ≡ true) → payload_if m (if b then new else old) ≡ (if b then Some new else payload_if m old)
+unshared_there : (b m : Bool) (new old : Contents) → (b ≡ true → m ≡ true)
+    → payload_if m (if b then new else old) ≡ (if b then Some new else payload_if m old)
 unshared_there true true new old own = refl
 unshared_there true false new old own = absurd (true≢false (sym (own refl)))
 unshared_there false m new old own = refl
 
-outside_there : (b m : Bool) (new old : Contents) → (b ≡ true → m ≡ false) → payload_if m (if b then new else old) ≡ payload_if m old
+outside_there : (b m : Bool) (new old : Contents) → (b ≡ true → m ≡ false)
+    → payload_if m (if b then new else old) ≡ payload_if m old
 outside_there true true new old out = absurd (true≢false (out refl))
 outside_there true false new old out = refl
 outside_there false m new old out = refl
 
-pub changed : (n : ℕ) (log : List Told) (change : Change) (number d : ℕ) (contents : Contents) (c : ℕ) → is_shared (private_seen n log) (part_seen n log).frame (locked_seen n log) change ≡ false
-    → private_seen n log d ≡ true → payloads_of n (Did (Unlock change) number (moves.Put d contents) ∷ log) c ≡ (if d == c then Some contents else payloads_of n log c)
+pub changed : (n : ℕ) (log : List Told) (change : Change) (number d : ℕ) (contents : Contents) (c : ℕ)
+    → is_shared (private_seen n log) (part_seen n log).frame (locked_seen n log) change ≡ false
+    → private_seen n log d ≡ true → payloads_of n (Did (Unlock change) number (moves.Put d contents) ∷ log) c
+    ≡ (if d == c then Some contents else payloads_of n log c)
 changed n log change number d contents c kept own =
     ap (λ b. payload_if (if b then false else private_seen n log c) (if d == c then contents else last_put log c)) kept
-    ∙ unshared_there (d == c) (private_seen n log c) contents (last_put log c) (λ same. ap (private_seen n log) (sym (eqb-true d c same)) ∙ own)
+    ∙ unshared_there (d == c) (private_seen n log c) contents (last_put log c)
+    (λ same. ap (private_seen n log) (sym (eqb-true d c same)) ∙ own)
 
-pub outside : (n : ℕ) (log : List Told) (change : Change) (number d : ℕ) (contents : Contents) (c : ℕ) → is_shared (private_seen n log) (part_seen n log).frame (locked_seen n log) change ≡ false
-    → private_seen n log d ≡ false → payloads_of n (Did (Unlock change) number (moves.Put d contents) ∷ log) c ≡ payloads_of n log c
+pub outside : (n : ℕ) (log : List Told) (change : Change) (number d : ℕ) (contents : Contents) (c : ℕ)
+    → is_shared (private_seen n log) (part_seen n log).frame (locked_seen n log) change ≡ false
+    → private_seen n log d ≡ false → payloads_of n (Did (Unlock change) number (moves.Put d contents) ∷ log) c
+    ≡ payloads_of n log c
 outside n log change number d contents c kept out =
     ap (λ b. payload_if (if b then false else private_seen n log c) (if d == c then contents else last_put log c)) kept
-    ∙ outside_there (d == c) (private_seen n log c) contents (last_put log c) (λ same. ap (private_seen n log) (sym (eqb-true d c same)) ∙ out)
+    ∙ outside_there (d == c) (private_seen n log c) contents (last_put log c)
+    (λ same. ap (private_seen n log) (sym (eqb-true d c same)) ∙ out)
 
-pub plain : (n : ℕ) (log : List Told) (s : Step) (number c : ℕ) → is_plain s ≡ true → payloads_of n (Did s number moves.Nothing ∷ log) c ≡ payloads_of n log c
-plain n log s number c is = ap (λ b. payload_if b (last_put log c)) (same_set (part_seen n log).frame (locked_seen n log) s (private_seen n log) c is)
+pub plain : (n : ℕ) (log : List Told) (s : Step) (number c : ℕ) → is_plain s ≡ true
+    → payloads_of n (Did s number moves.Nothing ∷ log) c ≡ payloads_of n log c
+plain n log s number c is = ap (λ b. payload_if b (last_put log c))
+    (same_set (part_seen n log).frame (locked_seen n log) s (private_seen n log) c is)
 
-pub found : (n : ℕ) (log : List Told) (s : Step) (number d : ℕ) (contents : Contents) (c : ℕ) → is_plain s ≡ true → payloads_of n (Did s number (moves.Found d contents) ∷ log) c ≡ payloads_of n log c
-found n log s number d contents c is = ap (λ b. payload_if b (last_put log c)) (same_set (part_seen n log).frame (locked_seen n log) s (private_seen n log) c is)
+pub found : (n : ℕ) (log : List Told) (s : Step) (number d : ℕ) (contents : Contents) (c : ℕ) → is_plain s ≡ true
+    → payloads_of n (Did s number (moves.Found d contents) ∷ log) c ≡ payloads_of n log c
+found n log s number d contents c is = ap (λ b. payload_if b (last_put log c))
+    (same_set (part_seen n log).frame (locked_seen n log) s (private_seen n log) c is)

@@ -1,5 +1,6 @@
 -- What lies in a private cell is what its thread put home there last: nobody else puts anything home there.
-use Rattle.std.proofs.Common.{◌≡◌, ◌≢◌, ℕ, ◌<◌, ◌==◌, Bool, true, false, if◌then◌else◌, List, [], ◌∷◌, length, Option, Some, None, refl, sym, ◌∙◌, ap, subst, inl, inr, ◌⊎◌, arith}
+use Rattle.std.proofs.Common.{◌≡◌, ◌≢◌, ℕ, ◌<◌, ◌==◌, Bool, true, false, if◌then◌else◌, List, [], ◌∷◌, length, Option}
+use Rattle.std.proofs.Common.{Some, None, refl, sym, ◌∙◌, ap, subst, inl, inr, ◌⊎◌, arith}
 use Rattle.std.proofs.lemmas.List.{get_or_past}
 use Rattle.std.proofs.lemmas.Bool.{cases_eq, cases_lt, cases_Bool, eq-eqb, eqb-true, lt-ltb, true≢false}
 use Rattle.std.specs.Cmp.Derive.{both_true}
@@ -24,7 +25,8 @@ use Rattle.law_rule.specs.declared.told.Moved.{Moved}
 use Rattle.law_rule.specs.declared.told.Moved.TheVariants as moves
 use Rattle.law_rule.specs.declared.told.Told.{Told}
 use Rattle.law_rule.specs.declared.told.Told.TheVariants.{Did, Saw, Lost}
-use Rattle.law_rule.specs.Logs.{item_of, Run, items_of, own_of, world, put_by, contents_at, puts, MovesWith, IsMoved, IsLegal}
+use Rattle.law_rule.specs.Logs.{item_of, Run, items_of, own_of, world, put_by, contents_at, puts, MovesWith, IsMoved}
+use Rattle.law_rule.specs.Logs.{IsLegal}
 use Rattle.law_rule.proofs.Own_Logs.{own_items, own_more, own_same}
 use Rattle.law_rule.proofs.Stepping.{moved_on, no_start}
 use Rattle.law_rule.proofs.Locked_Contents.{not_put}
@@ -46,16 +48,19 @@ born_puts h t (Birth d kind k) c is = is
 born_puts h t s c is = absurd (let bad : None ≡ Some c = is in cc)
 
 -- after a step that puts it home the cell has what it put there, whatever it had
-put_anew : (h : Heap) (run : Run) (t : ℕ) (s : Step) (moved : Moved) (c : ℕ) (a b : Contents) → MovesWith h run t s moved → puts h t s ≡ Some c → put_by moved c a ≡ put_by moved c b
+put_anew : (h : Heap) (run : Run) (t : ℕ) (s : Step) (moved : Moved) (c : ℕ) (a b : Contents)
+    → MovesWith h run t s moved → puts h t s ≡ Some c → put_by moved c a ≡ put_by moved c b
 put_anew h run t s moves.Nothing c a b goes is = absurd (let bad : None ≡ Some c = sym goes.0 ∙ is in cc)
-put_anew h run t s (moves.Found d contents) c a b goes is = absurd (let bad : None ≡ Some c = sym goes.puts_none ∙ is in cc)
+put_anew h run t s (moves.Found d contents) c a b goes is = absurd (let bad : None ≡ Some c = sym goes.puts_none
+    ∙ is in cc)
 put_anew h run t s (moves.Put d contents) c a b goes is =
     let there : Some d ≡ Some c = sym goes.cell ∙ is in
     let same : d ≡ c = cc in
     ap (λ e. if e then contents else a) (eq-eqb d c same) ∙ sym (ap (λ e. if e then contents else b) (eq-eqb d c same))
 
 -- a cell that is private after a step was so before, or is born there
-was_private : (frame : List (Option ℕ)) (into : Option ℕ) (s : Step) (set : ℕ → Bool) (c : ℕ) → private_by frame into s set c ≡ true → (set c ≡ true) ⊎ (born_cell s ≡ Some c)
+was_private : (frame : List (Option ℕ)) (into : Option ℕ) (s : Step) (set : ℕ → Bool) (c : ℕ)
+    → private_by frame into s set c ≡ true → (set c ≡ true) ⊎ (born_cell s ≡ Some c)
 was_private frame into (Birth d kind k) set c is = elim (cases_Bool (d == c)) [
   | inl born ↦ inr (ap Some (eqb-true d c born))
   | inr off ↦ inl (sym (ap (λ b. if b then true else set c) off) ∙ is)
@@ -86,7 +91,8 @@ active_registered h t some_thread active = elim (cases_lt t (length h.rows)) [
 
 module _ (n limit : ℕ) (options : AreOptions n limit) where
   pub legal_reached : (run : Run) → IsLegal n limit run → IsReached (world n limit run)
-  legal_reached run legal = run_reached n limit (events_of (items_of run)) options (events_run (opening n limit) (items_of run) legal.items)
+  legal_reached run legal = run_reached n limit (events_of (items_of run)) options
+      (events_run (opening n limit) (items_of run) legal.items)
 
   pub legal_sound : (run : Run) → IsLegal n limit run → IsSound (world n limit run)
   legal_sound run legal = reached_sound (world n limit run) (legal_reached run legal)
@@ -95,91 +101,121 @@ module _ (n limit : ℕ) (options : AreOptions n limit) where
   legal_before x run legal = record { items = legal.items.0; moved = legal.moved.0 }
 
   -- an active thread's private cells are its own
-  pub isolated : (run : Run) (t : ℕ) → IsLegal n limit run → 0 < t → is_active (row_at (world n limit run) t).stage ≡ true → Isolated (world n limit run) t (private_seen n (own_of t run))
+  pub isolated : (run : Run) (t : ℕ) → IsLegal n limit run → 0 < t → is_active (row_at (world n limit run) t).stage
+      ≡ true → Isolated (world n limit run) t (private_seen n (own_of t run))
   isolated run t legal some_thread active =
       subst (λ log. Isolated (world n limit run) t (private_of n log)) (own_items t run)
-      (private_cells_stay n limit (items_of run) t options legal.items (active_registered (world n limit run) t some_thread active) active)
+      (private_cells_stay n limit (items_of run) t options legal.items
+      (active_registered (world n limit run) t some_thread active) active)
 
   -- what lies in a private cell of an active thread is what the thread put home there last
   OwnPuts : Run → ℕ → Type 0
-  OwnPuts run t = is_active (row_at (world n limit run) t).stage ≡ true → (c : ℕ) → private_seen n (own_of t run) c ≡ true → contents_at run c ≡ last_put (own_of t run) c
+  OwnPuts run t = is_active (row_at (world n limit run) t).stage ≡ true → (c : ℕ)
+      → private_seen n (own_of t run) c ≡ true → contents_at run c ≡ last_put (own_of t run) c
 
   -- an item that is no own one, and puts nothing home in private cells
-  calm : (run : Run) (t u : ℕ) (x : Told) (c : ℕ) → own_of t ((u, x) ∷ run) ≡ own_of t run → (private_seen n (own_of t run) c ≡ true → contents_at ((u, x) ∷ run) c ≡ contents_at run c)
+  calm : (run : Run) (t u : ℕ) (x : Told) (c : ℕ) → own_of t ((u, x) ∷ run) ≡ own_of t run
+      → (private_seen n (own_of t run) c ≡ true → contents_at ((u, x) ∷ run) c ≡ contents_at run c)
       → (private_seen n (own_of t run) c ≡ true → contents_at run c ≡ last_put (own_of t run) c)
-      → private_seen n (own_of t ((u, x) ∷ run)) c ≡ true → contents_at ((u, x) ∷ run) c ≡ last_put (own_of t ((u, x) ∷ run)) c
+      → private_seen n (own_of t ((u, x) ∷ run)) c ≡ true
+      → contents_at ((u, x) ∷ run) c ≡ last_put (own_of t ((u, x) ∷ run)) c
   calm run t u x c own same before is =
       let was : private_seen n (own_of t run) c ≡ true = ap (λ log. private_seen n log c) (sym own) ∙ is in
       same was ∙ before was ∙ sym (ap (λ log. last_put log c) own)
 
   -- the thread's own step
-  own_step : (run : Run) (t : ℕ) (s : Step) (number : ℕ) (moved : Moved) → May (world n limit run) t s → MovesWith (world n limit run) run t s moved → OwnPuts run t
-      → is_active (row_at (moved_on (world n limit run) t s) t).stage ≡ true → (c : ℕ) → private_seen n (own_of t ((t, Did s number moved) ∷ run)) c ≡ true
+  own_step : (run : Run) (t : ℕ) (s : Step) (number : ℕ) (moved : Moved) → May (world n limit run) t s
+      → MovesWith (world n limit run) run t s moved → OwnPuts run t
+      → is_active (row_at (moved_on (world n limit run) t s) t).stage ≡ true → (c : ℕ)
+      → private_seen n (own_of t ((t, Did s number moved) ∷ run)) c ≡ true
       → contents_at ((t, Did s number moved) ∷ run) c ≡ last_put (own_of t ((t, Did s number moved) ∷ run)) c
   unfolding OwnPuts
   own_step run t s number moved may goes before active c is =
       let h : Heap = world n limit run in
       let x : Told = Did s number moved in
       let own : own_of t ((t, x) ∷ run) ≡ x ∷ own_of t run = own_more t x run (no_start h t s number moved may t) in
-      let was : is_active (row_at h t).stage ≡ true = active_before h t s (target_at h t s) (run_edition (opening n limit) (events_of (items_of run))) may active in
+      let was : is_active (row_at h t).stage ≡ true = active_before h t s (target_at h t s)
+      (run_edition (opening n limit) (events_of (items_of run))) may active in
       elim (was_private _ _ s (private_seen n (own_of t run)) c (ap (λ log. private_seen n log c) (sym own) ∙ is)) [
         | inl old ↦ ap (put_by moved c) (before was c old)
-        | inr born ↦ put_anew h run t s moved c (contents_at run c) (last_put (own_of t run) c) goes (born_puts h t s c born)
+        | inr born ↦ put_anew h run t s moved c (contents_at run c) (last_put (own_of t run) c) goes
+            (born_puts h t s c born)
       ]
       ∙ sym (ap (λ log. last_put log c) own)
 
   -- another thread's
-  others_step : (run : Run) (t u : ℕ) (s : Step) (number : ℕ) (moved : Moved) → IsLegal n limit run → 0 < t → u ≢ t → thread_may (world n limit run) u s ≡ true → MovesWith (world n limit run) run u s moved → OwnPuts run t
-      → is_active (row_at (world n limit run) t).stage ≡ true → (c : ℕ) → private_seen n (own_of t ((u, Did s number moved) ∷ run)) c ≡ true
+  others_step : (run : Run) (t u : ℕ) (s : Step) (number : ℕ) (moved : Moved) → IsLegal n limit run → 0 < t → u ≢ t
+      → thread_may (world n limit run) u s ≡ true → MovesWith (world n limit run) run u s moved → OwnPuts run t
+      → is_active (row_at (world n limit run) t).stage ≡ true → (c : ℕ)
+      → private_seen n (own_of t ((u, Did s number moved) ∷ run)) c ≡ true
       → contents_at ((u, Did s number moved) ∷ run) c ≡ last_put (own_of t ((u, Did s number moved) ∷ run)) c
   unfolding OwnPuts
   others_step run t u s number moved legal some_thread other may goes before active c is =
       let h : Heap = world n limit run in
-      let older : is_start t (item_of (Did s number moved)) ≡ false = no_start h u s number moved (may_parts h u s may) t in
+      let older : is_start t (item_of (Did s number moved)) ≡ false = no_start h u s number moved
+      (may_parts h u s may) t in
       calm run t u (Did s number moved) c (own_same u t (Did s number moved) run older other)
-      (λ mine. not_put run u s number moved h c goes (λ puts_it. others_leave h t u (private_seen n (own_of t run)) s c (legal_sound run legal) (isolated run t legal some_thread active) other may (puts_meant h u s c puts_it) mine))
+      (λ mine. not_put run u s number moved h c goes (λ puts_it. others_leave h t u (private_seen n (own_of t run)) s c
+      (legal_sound run legal) (isolated run t legal some_thread active) other may (puts_meant h u s c puts_it) mine))
       (before active c) is
 
   -- the root's
-  root_step : (run : Run) (t : ℕ) (s : Step) (number : ℕ) (moved : Moved) → IsLegal n limit run → 0 < t → enabled (world n limit run) (record { thread = 0; step = s }) ≡ true → root_may (world n limit run) s ≡ true
+  root_step : (run : Run) (t : ℕ) (s : Step) (number : ℕ) (moved : Moved) → IsLegal n limit run → 0 < t
+      → enabled (world n limit run) (record { thread = 0; step = s }) ≡ true → root_may (world n limit run) s ≡ true
       → MovesWith (world n limit run) run 0 s moved → OwnPuts run t
-      → is_active (row_at (after (world n limit run) (record { thread = 0; step = s })) t).stage ≡ true → (c : ℕ) → private_seen n (own_of t ((0, Did s number moved) ∷ run)) c ≡ true
+      → is_active (row_at (after (world n limit run) (record { thread = 0; step = s })) t).stage ≡ true → (c : ℕ)
+      → private_seen n (own_of t ((0, Did s number moved) ∷ run)) c ≡ true
       → contents_at ((0, Did s number moved) ∷ run) c ≡ last_put (own_of t ((0, Did s number moved) ∷ run)) c
   unfolding OwnPuts
   root_step run t (Gather v) number moved legal some_thread ok may goes before active c is =
-      calm run t 0 (Did (Gather v) number moved) c (own_same 0 t (Did (Gather v) number moved) run refl (λ e. omega (arith, e, some_thread)))
-      (λ mine. not_put run 0 (Gather v) number moved (world n limit run) c goes (λ bad. (let none : None ≡ Some c = bad in cc)))
+      calm run t 0 (Did (Gather v) number moved) c
+      (own_same 0 t (Did (Gather v) number moved) run refl (λ e. omega (arith, e, some_thread)))
+      (λ mine. not_put run 0 (Gather v) number moved (world n limit run) c goes
+      (λ bad. (let none : None ≡ Some c = bad in cc)))
       (before active c) is
-  root_step run t (Register v) number moved legal some_thread ok may goes before active c is = elim (cases_Bool (v == t)) [
-    | inl mine ↦
-        let x : Told = Did (Register v) number moved in
-        let own : own_of t ((0, x) ∷ run) ≡ [] = ap (λ b. if b then [] else (if 0 == t then x ∷ own_of t run else own_of t run)) mine in
-        absurd (true≢false (sym is ∙ ap (λ log. private_seen n log c) own))
-    | inr apart ↦
-        let h : Heap = world n limit run in
-        let e : Event = record { thread = 0; step = Register v } in
-        let other : 0 ≢ t = λ e. omega (arith, e, some_thread) in
-        let was : is_active (row_at h t).stage ≡ true = ap (λ (r : Row). is_active r.stage) (sym (others_own h e t (legal_sound run legal) ok (record { other = other; apart = apart })).row) ∙ active in
-        calm run t 0 (Did (Register v) number moved) c (own_same 0 t (Did (Register v) number moved) run apart other)
-        (λ mine. not_put run 0 (Register v) number moved h c goes (λ bad. (let none : None ≡ Some c = bad in cc)))
-        (before was c) is
-  ]
+  root_step run t (Register v) number moved legal some_thread ok may goes before active c is =
+      elim (cases_Bool (v == t)) [
+        | inl mine ↦
+            let x : Told = Did (Register v) number moved in
+            let own : own_of t ((0, x) ∷ run) ≡ [] =
+            ap (λ b. if b then [] else (if 0 == t then x ∷ own_of t run else own_of t run)) mine in
+            absurd (true≢false (sym is ∙ ap (λ log. private_seen n log c) own))
+        | inr apart ↦
+            let h : Heap = world n limit run in
+            let e : Event = record { thread = 0; step = Register v } in
+            let other : 0 ≢ t = λ e. omega (arith, e, some_thread) in
+            let was : is_active (row_at h t).stage ≡ true = ap (λ (r : Row). is_active r.stage)
+            (sym (others_own h e t (legal_sound run legal) ok (record { other = other; apart = apart })).row)
+            ∙ active in
+            calm run t 0 (Did (Register v) number moved) c
+            (own_same 0 t (Did (Register v) number moved) run apart other)
+            (λ mine. not_put run 0 (Register v) number moved h c goes (λ bad. (let none : None ≡ Some c = bad in cc)))
+            (before was c) is
+      ]
   root_step run t s number moved legal some_thread ok may goes before active c is = absurd (true≢false (sym may))
 
   -- a note puts nothing home
-  note : (run : Run) (t u : ℕ) (x : Told) → is_start t (item_of x) ≡ false → ((log : List Told) (c : ℕ) → private_seen n (x ∷ log) c ≡ private_seen n log c) → ((log : List Told) (c : ℕ) → last_put (x ∷ log) c ≡ last_put log c)
-      → ((c : ℕ) → contents_at ((u, x) ∷ run) c ≡ contents_at run c) → ((c : ℕ) → private_seen n (own_of t run) c ≡ true → contents_at run c ≡ last_put (own_of t run) c)
-      → (c : ℕ) → private_seen n (own_of t ((u, x) ∷ run)) c ≡ true → contents_at ((u, x) ∷ run) c ≡ last_put (own_of t ((u, x) ∷ run)) c
+  note : (run : Run) (t u : ℕ) (x : Told) → is_start t (item_of x) ≡ false
+      → ((log : List Told) (c : ℕ) → private_seen n (x ∷ log) c ≡ private_seen n log c)
+      → ((log : List Told) (c : ℕ) → last_put (x ∷ log) c ≡ last_put log c)
+      → ((c : ℕ) → contents_at ((u, x) ∷ run) c ≡ contents_at run c)
+      → ((c : ℕ) → private_seen n (own_of t run) c ≡ true → contents_at run c ≡ last_put (own_of t run) c)
+      → (c : ℕ) → private_seen n (own_of t ((u, x) ∷ run)) c ≡ true
+      → contents_at ((u, x) ∷ run) c ≡ last_put (own_of t ((u, x) ∷ run)) c
   note run t u x older sets lasts same before c is = elim (cases_eq u t) [
     | inr other ↦ calm run t u x c (own_same u t x run older other) (λ mine. same c) (before c) is
     | inl mine ↦
-        let own : own_of t ((u, x) ∷ run) ≡ x ∷ own_of t run = ap (λ v. own_of t ((v, x) ∷ run)) mine ∙ own_more t x run older in
-        same c ∙ before c (sym (sets (own_of t run) c) ∙ ap (λ log. private_seen n log c) (sym own) ∙ is) ∙ sym (lasts (own_of t run) c) ∙ sym (ap (λ log. last_put log c) own)
+        let own : own_of t ((u, x) ∷ run) ≡ x ∷ own_of t run = ap (λ v. own_of t ((v, x) ∷ run)) mine
+        ∙ own_more t x run older in
+        same c ∙ before c (sym (sets (own_of t run) c) ∙ ap (λ log. private_seen n log c) (sym own) ∙ is)
+        ∙ sym (lasts (own_of t run) c) ∙ sym (ap (λ log. last_put log c) own)
   ]
 
-  did_step : (run : Run) (t u : ℕ) (s : Step) (number : ℕ) (moved : Moved) → IsLegal n limit run → 0 < t → enabled (world n limit run) (record { thread = u; step = s }) ≡ true
+  did_step : (run : Run) (t u : ℕ) (s : Step) (number : ℕ) (moved : Moved) → IsLegal n limit run → 0 < t
+      → enabled (world n limit run) (record { thread = u; step = s }) ≡ true
       → MovesWith (world n limit run) run u s moved → OwnPuts run t
-      → is_active (row_at (after (world n limit run) (record { thread = u; step = s })) t).stage ≡ true → (c : ℕ) → private_seen n (own_of t ((u, Did s number moved) ∷ run)) c ≡ true
+      → is_active (row_at (after (world n limit run) (record { thread = u; step = s })) t).stage ≡ true → (c : ℕ)
+      → private_seen n (own_of t ((u, Did s number moved) ∷ run)) c ≡ true
       → contents_at ((u, Did s number moved) ∷ run) c ≡ last_put (own_of t ((u, Did s number moved) ∷ run)) c
   unfolding OwnPuts
   did_step run t u s number moved legal some_thread ok goes before active c is =
@@ -189,22 +225,31 @@ module _ (n limit : ℕ) (options : AreOptions n limit) where
         | inl root ↦
             let zero_is : u ≡ 0 = eqb-true u 0 root in
             subst (λ v. contents_at ((v, x) ∷ run) c ≡ last_put (own_of t ((v, x) ∷ run)) c) (sym zero_is)
-            (root_step run t s number moved legal some_thread (subst (λ v. enabled h (record { thread = v; step = s }) ≡ true) zero_is ok)
-            (subst (λ b. (if b then root_may h s else thread_may h u s) ≡ true) root ok) (subst (λ v. MovesWith h run v s moved) zero_is goes) before
-            (subst (λ v. is_active (row_at (after h (record { thread = v; step = s })) t).stage ≡ true) zero_is active) c
+            (root_step run t s number moved legal some_thread
+            (subst (λ v. enabled h (record { thread = v; step = s }) ≡ true) zero_is ok)
+            (subst (λ b. (if b then root_may h s else thread_may h u s) ≡ true) root ok)
+            (subst (λ v. MovesWith h run v s moved) zero_is goes) before
+            (subst (λ v. is_active (row_at (after h (record { thread = v; step = s })) t).stage ≡ true)
+            zero_is active) c
             (subst (λ v. private_seen n (own_of t ((v, x) ∷ run)) c ≡ true) zero_is is))
         | inr thread ↦
-            let may : thread_may h u s ≡ true = subst (λ b. (if b then root_may h s else thread_may h u s) ≡ true) thread ok in
-            let is_after : after h (record { thread = u; step = s }) ≡ moved_on h u s = ap (λ b. if b then root_after h s else moved_on h u s) thread in
+            let may : thread_may h u s ≡ true = subst (λ b. (if b then root_may h s else thread_may h u s) ≡ true)
+            thread ok in
+            let is_after : after h (record { thread = u; step = s }) ≡ moved_on h u s =
+            ap (λ b. if b then root_after h s else moved_on h u s) thread in
             elim (cases_eq u t) [
               | inl mine ↦
                   subst (λ v. contents_at ((v, x) ∷ run) c ≡ last_put (own_of t ((v, x) ∷ run)) c) (sym mine)
-                  (own_step run t s number moved (subst (λ v. May h v s) mine (may_parts h u s may)) (subst (λ v. MovesWith h run v s moved) mine goes) before
-                  (subst (λ v. is_active (row_at (moved_on h v s) t).stage ≡ true) mine (ap (λ w. is_active (row_at w t).stage) (sym is_after) ∙ active)) c
+                  (own_step run t s number moved (subst (λ v. May h v s) mine (may_parts h u s may))
+                  (subst (λ v. MovesWith h run v s moved) mine goes) before
+                  (subst (λ v. is_active (row_at (moved_on h v s) t).stage ≡ true) mine
+                  (ap (λ w. is_active (row_at w t).stage) (sym is_after) ∙ active)) c
                   (subst (λ v. private_seen n (own_of t ((v, x) ∷ run)) c ≡ true) mine is))
               | inr other ↦
-                  let same = others_own h (record { thread = u; step = s }) t (legal_sound run legal) ok (record { other = other; apart = no_about h u s t (may_parts h u s may) }) in
-                  others_step run t u s number moved legal some_thread other may goes before (ap (λ (r : Row). is_active r.stage) (sym same.row) ∙ active) c is
+                  let same = others_own h (record { thread = u; step = s }) t (legal_sound run legal) ok
+                  (record { other = other; apart = no_about h u s t (may_parts h u s may) }) in
+                  others_step run t u s number moved legal some_thread other may goes before
+                  (ap (λ (r : Row). is_active r.stage) (sym same.row) ∙ active) c is
             ]
       ]
     where
@@ -213,19 +258,26 @@ module _ (n limit : ℕ) (options : AreOptions n limit) where
       no_about h u (Gather v) t may = absurd (true≢false (sym may.hand))
       no_about h u _ t may = refl
 
-  item_step : (run : Run) (t u : ℕ) (x : Told) → IsLegal n limit run → 0 < t → MayCome (world n limit run) u (item_of x) → IsMoved (world n limit run) run u x → OwnPuts run t → OwnPuts ((u, x) ∷ run) t
+  item_step : (run : Run) (t u : ℕ) (x : Told) → IsLegal n limit run → 0 < t → MayCome (world n limit run) u (item_of x)
+      → IsMoved (world n limit run) run u x → OwnPuts run t → OwnPuts ((u, x) ∷ run) t
   unfolding OwnPuts
-  item_step run t u (Did s number moved) legal some_thread comes goes before active c is = did_step run t u s number moved legal some_thread comes.0 goes before active c is
-  item_step run t u (Saw word number) legal some_thread comes goes before active c is = note run t u (Saw word number) refl (λ log c. refl) (λ log c. refl) (λ c. refl) (before active) c is
-  item_step run t u (Lost word number) legal some_thread comes goes before active c is = note run t u (Lost word number) refl (λ log c. refl) (λ log c. refl) (λ c. refl) (before active) c is
+  item_step run t u (Did s number moved) legal some_thread comes goes before active c is =
+      did_step run t u s number moved legal some_thread comes.0 goes before active c is
+  item_step run t u (Saw word number) legal some_thread comes goes before active c is =
+      note run t u (Saw word number) refl (λ log c. refl) (λ log c. refl) (λ c. refl) (before active) c is
+  item_step run t u (Lost word number) legal some_thread comes goes before active c is =
+      note run t u (Lost word number) refl (λ log c. refl) (λ log c. refl) (λ c. refl) (before active) c is
 
   own_puts : (run : Run) (t : ℕ) → IsLegal n limit run → 0 < t → OwnPuts run t
   unfolding OwnPuts
   own_puts [] t legal some_thread active c is = absurd (true≢false (sym is))
   own_puts (x ∷ run) t legal some_thread active c is =
-      item_step run t x.0 x.1 (legal_before x run legal) some_thread legal.items.1 legal.moved.1 (own_puts run t (legal_before x run legal) some_thread) active c is
+      item_step run t x.0 x.1 (legal_before x run legal) some_thread legal.items.1 legal.moved.1
+      (own_puts run t (legal_before x run legal) some_thread) active c is
 
   -- what lies in a private cell is what its thread put home there last
-  pub last_put_is_there : (run : Run) (t c : ℕ) → IsLegal n limit run → 0 < t → is_active (row_at (world n limit run) t).stage ≡ true → private_seen n (own_of t run) c ≡ true → contents_at run c ≡ last_put (own_of t run) c
+  pub last_put_is_there : (run : Run) (t c : ℕ) → IsLegal n limit run → 0 < t
+      → is_active (row_at (world n limit run) t).stage ≡ true → private_seen n (own_of t run) c ≡ true
+      → contents_at run c ≡ last_put (own_of t run) c
   unfolding OwnPuts
   last_put_is_there run t c legal some_thread active is = own_puts run t legal some_thread active c is

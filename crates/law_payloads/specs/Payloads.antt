@@ -1,5 +1,5 @@
--- The payloads of private cells: what their thread put home there last, told by its log alone. No other thread opens such a
--- cell, so that is what a locking finds there.
+-- The payloads of private cells: what their thread put home there last, told by its log alone. No other thread opens
+-- such a cell, so that is what a locking finds there.
 use Rattle.std.specs.Prelude.{◌≡◌, ℕ, ◌<◌, Bool, true, if◌then◌else◌, List, [], ◌∷◌, Option, Some, None, slice_get}
 use Rattle.brc_words.specs.declared.limits.TheConstants.{GLOBALS}
 use Rattle.law_world.specs.declared.event.Step.TheVariants.{Lock}
@@ -25,8 +25,8 @@ last_put (x ∷ log) c = put_in x c (last_put log c)
 abbrev pub payloads_of : ℕ → List Told → ℕ → Option Contents
 payloads_of n log c = if private_seen n log c then Some (last_put log c) else None
 
--- What a locking of the cell found is its payload, where the cell was private before; in the cells below the globals, None,
--- False, True and the integers from -5 to 256, it found what the heap was opened with.
+-- What a locking of the cell found is its payload, where the cell was private before; in the cells below the globals,
+-- None, False, True and the integers from -5 to 256, it found what the heap was opened with.
 pub record FindsOwn (n : ℕ) (before : List Told) (c : ℕ) (found : Contents) : Type 0 where
   pub private : (payload : Contents) → payloads_of n before c ≡ Some payload → found ≡ payload
   pub small : c < GLOBALS → found ≡ opening_contents c

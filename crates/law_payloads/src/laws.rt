@@ -22,11 +22,12 @@ ghost use Rattle.law_rule.specs.Logs.{Run, world, own_of, contents_at, opening_c
 ghost use Rattle.law_rule.specs.Rule.{Kept};
 ghost use Rattle.law_rule.specs.Seen.{part_seen};
 ghost use Rattle.law_private.specs.Private.{is_shared, is_plain};
-ghost use Rattle.law_payloads.specs.Payloads.{private_seen, payloads_of, locked_seen, OwnLocks, HasOwn, keeps_own_seen, HoldsOwn};
+ghost use Rattle.law_payloads.specs.Payloads.{private_seen, payloads_of, locked_seen, OwnLocks, HasOwn, keeps_own_seen};
+ghost use Rattle.law_payloads.specs.Payloads.{HoldsOwn};
 
-/// Each locking of a thread found what was its own: in a cell that was private, the payload that the thread put home there
-/// last; in a cell below the globals, what the heap was opened with. What it has locked now was found so. Both are said of
-/// its log alone, in every run, and so of the log of every seat.
+/// Each locking of a thread found what was its own: in a cell that was private, the payload that the thread put home
+/// there last; in a cell below the globals, what the heap was opened with. What it has locked now was found so. Both
+/// are said of its log alone, in every run, and so of the log of every seat.
 pub fn lockings_find_own_payloads<B>()
     ensures found { (n limit : ℕ) (run : Run) (t : ℕ) → AreOptions n limit → IsLegal n limit run
         → OwnLocks n (own_of t run) }
@@ -42,8 +43,8 @@ pub fn lockings_find_own_payloads<B>()
         → v.active ≡ true → 0 < v.thread → locked_seen n v.log ≡ Some c → HasOwn n v.log c }
 {}
 
-/// The payload of an active thread's private cell is what was put home there last, by whomever; and in the cells below the
-/// globals lies for good what the heap was opened with.
+/// The payload of an active thread's private cell is what was put home there last, by whomever; and in the cells below
+/// the globals lies for good what the heap was opened with.
 pub fn payloads_lie_in_their_cells()
     ensures own { (n limit : ℕ) (run : Run) (t c : ℕ) (payload : contents) → AreOptions n limit
         → IsLegal n limit run → 0 < t → is_active (row_at (world n limit run) t).stage ≡ true
@@ -52,8 +53,8 @@ pub fn payloads_lie_in_their_cells()
         → c < GLOBALS → contents_at run c ≡ opening_contents c }
 {}
 
-/// Where a thread put own cells alone into its private ones, what it finds in a private cell that it has locked leads to own
-/// ones alone: private cells, or cells below the globals.
+/// Where a thread put own cells alone into its private ones, what it finds in a private cell that it has locked leads
+/// to own ones alone: private cells, or cells below the globals.
 pub fn payloads_lead_to_own_cells<B>()
     ensures locked { (n limit : ℕ) (run : Run) (t c : ℕ) (payload : contents) → AreOptions n limit
         → IsLegal n limit run → 0 < t → locked_at (world n limit run) t ≡ Some c
@@ -68,9 +69,10 @@ pub fn payloads_lead_to_own_cells<B>()
         → payloads_of n v.log c ≡ Some payload → HoldsOwn n v.log payload }
 {}
 
-/// What one more item makes of the payloads: a birth adds its cell with what it puts home, an unlock puts another payload in
-/// the place of a private cell's, a free takes its cell away, and an unlock that puts a private cell into one that isn't
-/// leaves none, nor does a thread that hands a private cell over. Every other item leaves them as they are.
+/// What one more item makes of the payloads: a birth adds its cell with what it puts home, an unlock puts another
+/// payload in the place of a private cell's, a free takes its cell away, and an unlock that puts a private cell into
+/// one that isn't leaves none, nor does a thread that hands a private cell over. Every other item leaves them as they
+/// are.
 pub fn payloads_go_on()
     ensures none { (n c : ℕ) → payloads_of n [] c ≡ None }
     ensures born { (n : ℕ) (log : List told) (d : ℕ) (kind : kind) (k number : ℕ) (put : contents)

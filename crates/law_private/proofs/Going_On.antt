@@ -6,7 +6,8 @@ use Rattle.law_world.specs.declared.event.Step.TheVariants.{Birth, Free, Unlock,
 use Rattle.law_private.specs.Private.{is_plain, private_by}
 
 -- a step that neither bears nor frees nor unlocks nor hands over leaves them
-pub same_set : (frame : List (Option ℕ)) (into : Option ℕ) (s : Step) (set : ℕ → Bool) (c : ℕ) → is_plain s ≡ true → private_by frame into s set c ≡ set c
+pub same_set : (frame : List (Option ℕ)) (into : Option ℕ) (s : Step) (set : ℕ → Bool) (c : ℕ) → is_plain s ≡ true
+    → private_by frame into s set c ≡ set c
 same_set frame into (Birth d kind k) set c plain = absurd (true≢false (sym plain))
 same_set frame into (Free d) set c plain = absurd (true≢false (sym plain))
 same_set frame into (Unlock change) set c plain = absurd (true≢false (sym plain))

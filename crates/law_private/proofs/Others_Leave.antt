@@ -1,5 +1,6 @@
 -- A private cell is its thread's alone: step by step.
-use Rattle.std.proofs.Common.{◌≡◌, ◌≢◌, ℕ, Bool, true, false, if◌then◌else◌, Option, Some, None, refl, sym, ◌∙◌, ap, inl, inr, arith}
+use Rattle.std.proofs.Common.{◌≡◌, ◌≢◌, ℕ, Bool, true, false, if◌then◌else◌, Option, Some, None, refl, sym, ◌∙◌, ap}
+use Rattle.std.proofs.Common.{inl, inr, arith}
 use Rattle.std.proofs.lemmas.Bool.{cases_Bool, and_parts, eqb-true, ltb-true, true≢false}
 use Rattle.brc_words.specs.declared.limits.TheConstants.{FIRST_MORTAL}
 use Rattle.brc_words.specs.declared.owner.Owner.TheVariants as owners
@@ -11,7 +12,10 @@ use Rattle.law_world.specs.declared.event.LastDropped.TheVariants as lasts
 use Rattle.law_world.specs.declared.event.Source.{Source}
 use Rattle.law_world.specs.declared.event.Source.TheVariants as sources
 use Rattle.law_world.specs.declared.event.Step.{Step}
-use Rattle.law_world.specs.declared.event.Step.TheVariants.{Claim, InitLocal, InitShared, Birth, LocalUp, LocalDown, SeeZero, Free, Untie, MergeZero, SharedUp, SharedDown, Ask, LastDown, Enqueue, Drain, MergeAdd, Close, Nudge, Wake, Lock, Unlock, Register, Gather, Offer, Reopen}
+use Rattle.law_world.specs.declared.event.Step.TheVariants.{Claim, InitLocal, InitShared, Birth, LocalUp, LocalDown}
+use Rattle.law_world.specs.declared.event.Step.TheVariants.{SeeZero, Free, Untie, MergeZero, SharedUp, SharedDown, Ask}
+use Rattle.law_world.specs.declared.event.Step.TheVariants.{LastDown, Enqueue, Drain, MergeAdd, Close, Nudge, Wake}
+use Rattle.law_world.specs.declared.event.Step.TheVariants.{Lock, Unlock, Register, Gather, Offer, Reopen}
 use Rattle.law_world.specs.declared.row.Hand.TheVariants as hands
 use Rattle.law_world.specs.declared.row.Phase.{Phase}
 use Rattle.law_world.specs.declared.row.Phase.TheVariants as phases
@@ -41,7 +45,8 @@ module _ (h : Heap) (t u : ℕ) (mine : ℕ → Bool) (sound : IsSound h) (apart
   is_locked None c is named = absurd (cc)
   is_locked (Some k) c is named = in_place k c is named
 
-  as_entry : (o : Option ℕ) (i c : ℕ) → ((d : ℕ) → mine d ≡ true → o ≡ Some d → ⊥) → mine c ≡ true → entry_of (entries_at h) o i ≡ Some c → ⊥
+  as_entry : (o : Option ℕ) (i c : ℕ) → ((d : ℕ) → mine d ≡ true → o ≡ Some d → ⊥) → mine c ≡ true
+      → entry_of (entries_at h) o i ≡ Some c → ⊥
   as_entry None i c none is named = absurd (cc)
   as_entry (Some d) i c none is named = none d (apart.entries d i c is named) refl
 
@@ -53,17 +58,25 @@ module _ (h : Heap) (t u : ℕ) (mine : ℕ → Bool) (sound : IsSound h) (apart
   immortal_true d c true named = refl
   immortal_true d c false named = absurd (cc)
 
-  by_source : (source : Source) (c : ℕ) → mine c ≡ true → source_cell (row_at h u) (frame_at h u) (entries_at h) source ≡ Some c → ⊥
+  by_source : (source : Source) (c : ℕ) → mine c ≡ true → source_cell (row_at h u) (frame_at h u) (entries_at h) source
+      ≡ Some c → ⊥
   by_source (sources.Frame k) c is named = in_place k c is named
-  by_source (sources.Entry i) c is named = as_entry (locked_cell (frame_at h u) (row_at h u).locked) i c (λ d there locked. is_locked (row_at h u).locked d there locked) is named
+  by_source (sources.Entry i) c is named = as_entry (locked_cell (frame_at h u) (row_at h u).locked) i c
+      (λ d there locked. is_locked (row_at h u).locked d there locked) is named
   by_source (sources.Immortal d) c is named =
-      omega (arith, ltb-true d FIRST_MORTAL (immortal_true d c (is_immortal d) named), immortal_source d c (is_immortal d) named, apart.mortal c is)
+      omega (
+        arith,
+        ltb-true d FIRST_MORTAL (immortal_true d c (is_immortal d) named),
+        immortal_source d c (is_immortal d) named,
+        apart.mortal c is,
+      )
 
   marked_true : (o : Option ℕ) (b : Bool) (c : ℕ) → (if b then o else None) ≡ Some c → b ≡ true
   marked_true o true c named = refl
   marked_true o false c named = absurd (cc)
 
-  by_drop : (drop : Dropped) (c : ℕ) → mine c ≡ true → dropped_cell (frame_at h u) (worklist_at h u) (entries_at h) drop ≡ Some c → ⊥
+  by_drop : (drop : Dropped) (c : ℕ) → mine c ≡ true → dropped_cell (frame_at h u) (worklist_at h u) (entries_at h) drop
+      ≡ Some c → ⊥
   by_drop (dropped.Frame k) c is named = in_place k c is named
   by_drop (dropped.Work d) c is named =
       let entry = work_source (last_of (entries_at h d)) (is_marked (worklist_at h u) d) c named in
@@ -75,7 +88,8 @@ module _ (h : Heap) (t u : ℕ) (mine : ℕ → Bool) (sound : IsSound h) (apart
   not_meant : (s : Step) (c : ℕ) → May h u s → target_at h u s ≡ Some c → mine c ≡ true → ⊥
   not_meant (Claim d) c may named is =
       let same : d ≡ c = cc in
-      let free : (cell_at h d).owner ≡ owners.Free = free_owner _ (and_parts _ _ (on_cell h u (Claim d) d may.on_target).fits).1 in
+      let free : (cell_at h d).owner ≡ owners.Free =
+      free_owner _ (and_parts _ _ (on_cell h u (Claim d) d may.on_target).fits).1 in
       true≢false (sym (apart.cells d (ap mine same ∙ is)).live ∙ ap lives free)
   not_meant (InitLocal d) c may named is = at_phase d c phases.Claimed (cc) is may.hand
   not_meant (InitShared d) c may named is = at_phase d c phases.Counted (cc) is may.hand
@@ -83,7 +97,8 @@ module _ (h : Heap) (t u : ℕ) (mine : ℕ → Bool) (sound : IsSound h) (apart
   not_meant (LocalUp source k) c may named is = by_source source c is named
   not_meant (LocalDown drop) c may named is = by_drop drop c is named
   not_meant (SeeZero d) c may named is = at_phase d c phases.Zero (cc) is may.hand
-  not_meant (Free d) c may named is = let same : d ≡ c = cc in other (apart.worklists u d (ap mine same ∙ is) (and_parts _ _ may.own).0)
+  not_meant (Free d) c may named is = let same : d ≡ c = cc in
+      other (apart.worklists u d (ap mine same ∙ is) (and_parts _ _ may.own).0)
   not_meant (Untie d) c may named is =
       let same : d ≡ c = cc in
       elim (untie_way h u d sound may) [
@@ -99,7 +114,8 @@ module _ (h : Heap) (t u : ℕ) (mine : ℕ → Bool) (sound : IsSound h) (apart
   not_meant (LastDown (lasts.Dropped drop)) c may named is = by_drop drop c is named
   not_meant (LastDown (lasts.Popped d)) c may named is = is_popped d c (cc) is (eqb-true _ _ may.own)
   not_meant (LastDown lasts.Hand) c may named is =
-      let hand : (p : Phase) × ((row_at h u).hand ≡ hands.Busy p c) × (is_ending p ≡ true) = ending_hand (row_at h u).hand c may.hand named in
+      let hand : (p : Phase) × ((row_at h u).hand ≡ hands.Busy p c) × (is_ending p ≡ true) =
+      ending_hand (row_at h u).hand c may.hand named in
       in_hand c hand.0 is hand.1
   not_meant (Enqueue d) c may named is = at_phase d c phases.Asked (cc) is may.hand
   not_meant (Drain k) c may named is = absurd (cc)
@@ -120,9 +136,12 @@ module _ (h : Heap) (t u : ℕ) (mine : ℕ → Bool) (sound : IsSound h) (apart
   not_meant (Offer d) c may named is =
       let same : d ≡ c = cc in
       let own : OwnCell t (cell_at h d) = apart.cells d (ap mine same ∙ is) in
-      let owner : (cell_at h d).owner ≡ owners.Thread u = thread_owner u _ (on_cell h u (Offer d) d may.on_target).fits in
+      let owner : (cell_at h d).owner ≡ owners.Thread u =
+      thread_owner u _ (on_cell h u (Offer d) d may.on_target).fits in
       other (sym ((sound.cells d (apart.mortal d (ap mine same ∙ is))).owned_by_bearer u owner) ∙ own.bearer)
   not_meant (Reopen k) c may named is = absurd (cc)
 
-pub others_leave : (h : Heap) (t u : ℕ) (mine : ℕ → Bool) (s : Step) (c : ℕ) → IsSound h → Isolated h t mine → u ≢ t → thread_may h u s ≡ true → target_at h u s ≡ Some c → mine c ≢ true
-others_leave h t u mine s c sound apart other may named is = not_meant h t u mine sound apart other s c (may_parts h u s may) named is
+pub others_leave : (h : Heap) (t u : ℕ) (mine : ℕ → Bool) (s : Step) (c : ℕ) → IsSound h → Isolated h t mine → u ≢ t
+    → thread_may h u s ≡ true → target_at h u s ≡ Some c → mine c ≢ true
+others_leave h t u mine s c sound apart other may named is = not_meant h t u mine sound apart other s c
+    (may_parts h u s may) named is

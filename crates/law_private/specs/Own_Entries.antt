@@ -18,7 +18,8 @@ is_own_or_none set (Some c) = is_own set c
 
 -- an unlock of a private cell puts an own one into it, or none
 abbrev pub puts_own : List (Option ℕ) → Option ℕ → (ℕ → Bool) → Step → Bool
-puts_own frame into set (Unlock change) = not (is_in set into) || is_own_or_none set (locked_cell frame (place_put change))
+puts_own frame into set (Unlock change) =
+    not (is_in set into) || is_own_or_none set (locked_cell frame (place_put change))
 puts_own frame into set _ = true
 
 abbrev pub puts_own_on : List (Option ℕ) → Option ℕ → (ℕ → Bool) → Item → Bool
@@ -29,7 +30,8 @@ puts_own_on frame into set (Lost word number) = true
 -- each of the thread's items did so
 abbrev pub keeps_own : ℕ → List Item → Bool
 keeps_own cells [] = true
-keeps_own cells (x ∷ items) = keeps_own cells items && puts_own_on (part_of cells items).frame (locked_told cells items) (private_of cells items) x
+keeps_own cells (x ∷ items) = keeps_own cells items && puts_own_on (part_of cells items).frame (locked_told cells items)
+    (private_of cells items) x
 
 -- the entries of private cells are own ones, also those that a dead block still has
 abbrev pub OwnEntries : Heap → (ℕ → Bool) → Type 0

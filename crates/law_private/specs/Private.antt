@@ -1,6 +1,8 @@
--- The private cells of a thread: those that it bore, and neither put into a cell that isn't private nor handed over, as Go's
--- and Java's escape analysis call an object that doesn't escape its thread; here it is told by what the thread did.
-use Rattle.std.specs.Prelude.{◌≡◌, ◌⊎◌, ℕ, ◌≤◌, ◌==◌, ◌&&◌, not, Bool, true, false, if◌then◌else◌, List, [], ◌∷◌, Option, Some, None, slice_get}
+-- The private cells of a thread: those that it bore, and neither put into a cell that isn't private nor handed over, as
+-- Go's and Java's escape analysis call an object that doesn't escape its thread; here it is told by what the thread
+-- did.
+use Rattle.std.specs.Prelude.{◌≡◌, ◌⊎◌, ℕ, ◌≤◌, ◌==◌, ◌&&◌, not, Bool, true, false, if◌then◌else◌, List, [], ◌∷◌}
+use Rattle.std.specs.Prelude.{Option, Some, None, slice_get}
 use Rattle.brc_words.specs.declared.limits.TheConstants.{FIRST_MORTAL}
 use Rattle.law_world.specs.Phases.{is_active_phase}
 use Rattle.law_world.specs.Holding.{lives}
@@ -32,9 +34,9 @@ is_in set (Some c) = set c
 abbrev pub is_shared : (ℕ → Bool) → List (Option ℕ) → Option ℕ → Change → Bool
 is_shared set frame into change = is_in set (locked_cell frame (place_put change)) && not (is_in set into)
 
--- The private cells after a step of the thread, which has this frame and has locked this cell. A birth adds its cell, and a
--- free takes it away. An unlock that shares one leaves none: which others the shared one leads to isn't looked at. Nor is it
--- of one that the thread hands over.
+-- The private cells after a step of the thread, which has this frame and has locked this cell. A birth adds its cell,
+-- and a free takes it away. An unlock that shares one leaves none: which others the shared one leads to isn't looked
+-- at. Nor is it of one that the thread hands over.
 abbrev pub private_by : List (Option ℕ) → Option ℕ → Step → (ℕ → Bool) → ℕ → Bool
 private_by frame into (Birth d kind k) set c = if d == c then true else set c
 private_by frame into (Free d) set c = if d == c then false else set c
@@ -54,7 +56,8 @@ private_on frame into set (Lost word number) c = set c
 -- the private cells, told by own items alone; a thread begins without any
 abbrev pub private_of : ℕ → List Item → ℕ → Bool
 private_of cells [] c = false
-private_of cells (x ∷ items) c = private_on (part_of cells items).frame (locked_told cells items) (private_of cells items) x c
+private_of cells (x ∷ items) c = private_on (part_of cells items).frame (locked_told cells items)
+    (private_of cells items) x c
 
 -- what the words of a private cell say: it lives, its thread bore it, and nobody has asked its owner for it
 pub record OwnCell (t : ℕ) (x : Cell) : Type 0 where
@@ -62,13 +65,15 @@ pub record OwnCell (t : ℕ) (x : Cell) : Type 0 where
   pub bearer : x.bearer ≡ t
   pub unasked : is_queued x.state ≡ false
 
--- Whoever holds or grips a private cell is its thread, or a private cell: it stands in no other frame, hand or worklist, and
--- as an entry of private cells alone. None of it is queued or popped, and the hand has it at its birth or its burial alone.
+-- Whoever holds or grips a private cell is its thread, or a private cell: it stands in no other frame, hand or
+-- worklist, and as an entry of private cells alone. None of it is queued or popped, and the hand has it at its birth or
+-- its burial alone.
 pub record Isolated (h : Heap) (t : ℕ) (set : ℕ → Bool) : Type 0 where
   pub mortal : (c : ℕ) → set c ≡ true → FIRST_MORTAL ≤ c
   pub cells : (c : ℕ) → set c ≡ true → OwnCell t (cell_at h c)
   pub frames : (u k c : ℕ) → set c ≡ true → place_at (frame_at h u) k ≡ Some c → u ≡ t
-  pub hands : (u c : ℕ) (p : Phase) → set c ≡ true → (row_at h u).hand ≡ hands.Busy p c → (u ≡ t) × (is_active_phase p ≡ true)
+  pub hands : (u c : ℕ) (p : Phase) → set c ≡ true → (row_at h u).hand ≡ hands.Busy p c
+      → (u ≡ t) × (is_active_phase p ≡ true)
   pub popped : (u c : ℕ) → set c ≡ true → bit_of (popped_at h u) c ≡ 0
   pub queues : (u c : ℕ) → set c ≡ true → bit_of (queue_at h u) c ≡ 0
   pub worklists : (u c : ℕ) → set c ≡ true → is_marked (worklist_at h u) c ≡ true → u ≡ t

@@ -1,7 +1,8 @@
-//! The law of private cells, each part as the contract of a function with nothing to do: after every list of items, and then
-//! kind by kind of step.
+//! The law of private cells, each part as the contract of a function with nothing to do: after every list of items, and
+//! then kind by kind of step.
 
-ghost use Rattle.std.specs.Prelude.{◌≡◌, ◌≢◌, ℕ, ◌==◌, if◌then◌else◌, Bool, true, false, List, [], ◌∷◌, Some, slice_get};
+ghost use Rattle.std.specs.Prelude.{◌≡◌, ◌≢◌, ℕ, ◌==◌, if◌then◌else◌, Bool, true, false, List, [], ◌∷◌, Some};
+ghost use Rattle.std.specs.Prelude.{slice_get};
 ghost use Rattle.std.specs.Prelude.{◌<◌, length};
 ghost use Rattle.brc_words.specs.declared.kind.Kind.{Kind as kind};
 ghost use Rattle.brc_words.specs.declared.limits.TheConstants.{GLOBALS};
@@ -11,17 +12,20 @@ ghost use Rattle.law_world.specs.declared.row.Hand.TheVariants as hands;
 ghost use Rattle.law_world.specs.declared.row.Phase.{Phase as phase};
 ghost use Rattle.law_world.specs.Lists.{place_at, bit_of};
 ghost use Rattle.law_world.specs.declared.event.Step.{Step as step};
-ghost use Rattle.law_world.specs.Heap.{Heap, opening, is_registered, AreOptions, row_at, cell_at, frame_at, queue_at, entries_at};
+ghost use Rattle.law_world.specs.Heap.{Heap, opening, is_registered, AreOptions, row_at, cell_at, frame_at, queue_at};
+ghost use Rattle.law_world.specs.Heap.{entries_at};
 ghost use Rattle.law_world.specs.Sound.{IsSound};
-ghost use Rattle.law_world.specs.Steps.{thread_may, target_at, locked_at, stepped, kept_cells, registered, registered_again, gathered_in, is_active, is_default, is_keep, is_others, hand_after};
+ghost use Rattle.law_world.specs.Steps.{thread_may, target_at, locked_at, stepped, kept_cells, registered};
+ghost use Rattle.law_world.specs.Steps.{registered_again, gathered_in, is_active, is_default, is_keep, is_others};
+ghost use Rattle.law_world.specs.Steps.{hand_after};
 ghost use Rattle.law_known.specs.declared.word.Word.{Word as word};
 ghost use Rattle.law_known.specs.Items.{Item, Did, Saw, Lost, ItemRun, AreItems, world_of_items, own, part_of};
 ghost use Rattle.law_private.specs.Private.{Isolated, Leaves, is_plain, is_shared, private_by, private_of, locked_told};
 ghost use Rattle.law_private.specs.Own_Entries.{keeps_own, OwnEntries};
 
-/// After every list of items the cells that an active thread's own items call private are its own: whoever holds or grips
-/// one is that thread or a private cell, and none is in a merge queue. So no step of another thread means one: none counts
-/// it, locks it, frees it or buries it.
+/// After every list of items the cells that an active thread's own items call private are its own: whoever holds or
+/// grips one is that thread or a private cell, and none is in a merge queue. So no step of another thread means one:
+/// none counts it, locks it, frees it or buries it.
 pub fn own_items_tell_the_private_cells()
     ensures apart { (cells limit : ℕ) (items : ItemRun) (t : ℕ) → AreOptions cells limit
         → AreItems (opening cells limit) items
@@ -37,8 +41,8 @@ pub fn own_items_tell_the_private_cells()
         → private_of cells (own t items) c ≢ true }
 {}
 
-/// Where a thread put own cells alone into its private ones, private cells or those below the globals, the entries of its
-/// private cells are such: what it finds in one of them is again its own.
+/// Where a thread put own cells alone into its private ones, private cells or those below the globals, the entries of
+/// its private cells are such: what it finds in one of them is again its own.
 pub fn own_items_tell_own_entries()
     ensures { (cells limit : ℕ) (items : ItemRun) (t : ℕ) → AreOptions cells limit
         → AreItems (opening cells limit) items
@@ -48,9 +52,9 @@ pub fn own_items_tell_own_entries()
         → OwnEntries (world_of_items (opening cells limit) items) (private_of cells (own t items)) }
 {}
 
-/// Which cells are private after one more own item: a birth adds its cell, a free takes its cell away, and an unlock that puts
-/// a private cell into one that isn't leaves none, nor does a thread that hands a private cell over. Every other item leaves
-/// them as they are.
+/// Which cells are private after one more own item: a birth adds its cell, a free takes its cell away, and an unlock
+/// that puts a private cell into one that isn't leaves none, nor does a thread that hands a private cell over. Every
+/// other item leaves them as they are.
 pub fn private_cells_go_on()
     ensures none { (cells c : ℕ) → private_of cells [] c ≡ false }
     ensures born { (cells : ℕ) (items : List Item) (d : ℕ) (kind : kind) (k number : ℕ)
@@ -101,8 +105,8 @@ pub fn steps_keep_private_cells()
         → private_by (frame_at h t) (locked_at h t) (steps.Unlock change) set e ≡ true }
 {}
 
-/// An active thread is the owner of its private cells in the default state, so it never asks for one; and its hand has one
-/// only at its birth or its burial.
+/// An active thread is the owner of its private cells in the default state, so it never asks for one; and its hand has
+/// one only at its birth or its burial.
 pub fn private_cells_are_never_asked_for()
     ensures owned { (h : Heap) (t : ℕ) (set : ℕ → Bool) → IsSound h → Isolated h t set → (c : ℕ)
         → set c ≡ true → is_active (row_at h t).stage ≡ true → (row_at h t).hand ≡ hands.Free
@@ -122,8 +126,8 @@ pub fn others_keep_private_cells_apart()
         → Isolated (stepped h u s d) t set }
 {}
 
-/// A step of the thread's own keeps its private cells apart: an unlock, whatever it shares, the handing over of an object, and
-/// every step that neither bears nor frees one.
+/// A step of the thread's own keeps its private cells apart: an unlock, whatever it shares, the handing over of an
+/// object, and every step that neither bears nor frees one.
 pub fn own_steps_keep_private_cells_apart()
     ensures unlock { (h : Heap) (t : ℕ) (set : ℕ → Bool) → IsSound h → Isolated h t set
         → is_active (row_at h t).stage ≡ true → (change : change) (d : ℕ)

@@ -1,6 +1,8 @@
--- No key of a dictionary stands twice: each unlocking leaves the keys as they were put home last, or one fewer, or one more that
--- wasn't there.
-use Rattle.std.proofs.Common.{◌≡◌, ◌≢◌, ℕ, ◌<◌, ◌≤◌, ◌==◌, Bool, true, false, if◌then◌else◌, pos, ◌-ℤ◌, zero, suc, List, [], ◌∷◌, length, remove, AllPairs, Option, Some, refl, sym, ◌∙◌, ap, subst, inl, inr, arith}
+-- No key of a dictionary stands twice: each unlocking leaves the keys as they were put home last, or one fewer, or one
+-- more that wasn't there.
+use Rattle.std.proofs.Common.{◌≡◌, ◌≢◌, ℕ, ◌<◌, ◌≤◌, ◌==◌, Bool, true, false, if◌then◌else◌, pos, ◌-ℤ◌, zero, suc, List}
+use Rattle.std.proofs.Common.{[], ◌∷◌, length, remove, AllPairs, Option, Some, refl, sym, ◌∙◌, ap, subst, inl, inr}
+use Rattle.std.proofs.Common.{arith}
 use Rattle.std.proofs.lemmas.Bool.{cases_eq, cases_lt, eq-eqb, ne_eqb}
 use Rattle.std.proofs.lemmas.List.Quantifiers.{all_pairs_push, all_pairs_remove}
 use mathlib.Core.Option.{some}
@@ -63,15 +65,19 @@ put_distinct (Dict pairs) home more distinct =
     (all_pairs_push (λ first later. first ≢ later) (keys_in (Dict pairs)) more.key distinct more.absent)
 put_distinct _ home none distinct = subst (AllPairs (λ first later. first ≢ later)) (sym none) none_distinct
 
-change_distinct : (change : Change) (found home : Contents) → KeysGo change found home → HasDistinctKeys found → HasDistinctKeys home
+change_distinct : (change : Change) (found home : Contents) → KeysGo change found home → HasDistinctKeys found
+    → HasDistinctKeys home
 unfolding AreDistinct
-change_distinct changes.Keep found home same distinct = subst (AllPairs (λ first later. first ≢ later)) (sym same) distinct
+change_distinct changes.Keep found home same distinct = subst (AllPairs (λ first later. first ≢ later))
+    (sym same) distinct
 change_distinct (changes.Put j) found home more distinct = put_distinct found home more distinct
 change_distinct (changes.Take i j) found home less distinct =
     subst (AllPairs (λ first later. first ≢ later)) (sym less) (less_distinct (keys_in found) i distinct)
-change_distinct (changes.Swap i j) found home same distinct = subst (AllPairs (λ first later. first ≢ later)) (sym same) distinct
+change_distinct (changes.Swap i j) found home same distinct = subst (AllPairs (λ first later. first ≢ later))
+    (sym same) distinct
 
-step_distinct : (s : Step) (found home : Contents) → KeysAfter s found home → HasDistinctKeys found → HasDistinctKeys home
+step_distinct : (s : Step) (found home : Contents) → KeysAfter s found home → HasDistinctKeys found
+    → HasDistinctKeys home
 unfolding AreDistinct
 step_distinct (Unlock change) found home goes distinct = change_distinct change found home goes distinct
 step_distinct _ found home none distinct = subst (AllPairs (λ first later. first ≢ later)) (sym none) none_distinct
@@ -79,7 +85,9 @@ step_distinct _ found home none distinct = subst (AllPairs (λ first later. firs
 -- ---- over runs
 
 opening_distinct : (zero one two globals : Bool) (c : ℕ)
-    → HasDistinctKeys (if zero then Nothing else (if one then Truth false else (if two then Truth true else (if globals then Dict [] else Int (pos c -ℤ pos 8)))))
+    → HasDistinctKeys (if zero then Nothing
+    else (if one then Truth false else (if two then Truth true else (if globals then Dict [] else Int
+    (pos c -ℤ pos 8)))))
 unfolding AreDistinct
 opening_distinct true one two globals c = none_distinct
 opening_distinct false true two globals c = none_distinct
@@ -95,7 +103,8 @@ module _ (n limit : ℕ) where
   at_home ((t, Did s number (moves.Put d contents)) ∷ run) c moved = elim (cases_eq d c) [
     | inl same ↦ subst HasDistinctKeys (sym (ap (λ b. if b then contents else contents_at run c) (eq-eqb d c same)))
         (step_distinct s (contents_at run d) contents moved.1.keys (at_home run d moved.0))
-    | inr other ↦ subst HasDistinctKeys (sym (ap (λ b. if b then contents else contents_at run c) (ne_eqb d c other))) (at_home run c moved.0)
+    | inr other ↦ subst HasDistinctKeys (sym (ap (λ b. if b then contents else contents_at run c) (ne_eqb d c other)))
+        (at_home run c moved.0)
   ]
   at_home ((t, Saw word number) ∷ run) c moved = at_home run c moved.0
   at_home ((t, Lost word number) ∷ run) c moved = at_home run c moved.0
@@ -115,17 +124,20 @@ module _ (n limit : ℕ) where
   found_on run t (Did (Unlock change) number put) before p moved older is = absurd (cc)
   found_on run t _ before p moved older is = older is
 
-  found_in : (run : Run) (t : ℕ) (p : Contents) → AreMoved n limit run → contents_locked (own_of t run) ≡ Some p → HasDistinctKeys p
+  found_in : (run : Run) (t : ℕ) (p : Contents) → AreMoved n limit run → contents_locked (own_of t run) ≡ Some p
+      → HasDistinctKeys p
   found_in [] t p moved is = absurd (cc)
   found_in (x ∷ run) t p moved is = by_test (is_start t (item_of x.1)) (x.0 == t) (found_in run t p moved.0) is
     where
       by_test : (starts mine : Bool) → (contents_locked (own_of t run) ≡ Some p → HasDistinctKeys p)
-          → contents_locked (if starts then [] else (if mine then x.1 ∷ own_of t run else own_of t run)) ≡ Some p → HasDistinctKeys p
+          → contents_locked (if starts then [] else (if mine then x.1 ∷ own_of t run else own_of t run)) ≡ Some p
+          → HasDistinctKeys p
       by_test true mine older is = absurd (cc)
       by_test false true older is = found_on run x.0 x.1 (contents_locked (own_of t run)) p moved older is
       by_test false false older is = older is
 
-  pub keys_found : (run : Run) (t : ℕ) (p : Contents) → IsLegal n limit run → contents_locked (own_of t run) ≡ Some p → HasDistinctKeys p
+  pub keys_found : (run : Run) (t : ℕ) (p : Contents) → IsLegal n limit run → contents_locked (own_of t run) ≡ Some p
+      → HasDistinctKeys p
   keys_found run t p legal is = found_in run t p legal.moved is
 
   -- what an unlocking puts home has the keys that its change leaves
@@ -140,15 +152,19 @@ module _ {B : Type 0} (shows : B → ℕ × Contents) (n limit : ℕ) where
   same_block a b e = cc
 
   -- what lies at home of an unlocked object
-  pub keys_of_block : (st : State (Option B) View) (r : Kept shows n limit st) (c : ℕ) (block : B) → c < n → AtRest (world n limit r.run) c
-      → (cell_at (world n limit r.run) c).mutex ≡ 0 → get_elem? st.homes c ≡ some (some (Some block)) → HasDistinctKeys (shows block).1
+  pub keys_of_block : (st : State (Option B) View) (r : Kept shows n limit st) (c : ℕ) (block : B) → c < n
+      → AtRest (world n limit r.run) c
+      → (cell_at (world n limit r.run) c).mutex ≡ 0 → get_elem? st.homes c ≡ some (some (Some block))
+      → HasDistinctKeys (shows block).1
   keys_of_block st r c block low rest unlocked there =
-      let lies : LiesThere shows st.homes c (contents_at r.run c) = (r.each_home c low).lies rest.live unlocked rest.off in
+      let lies : LiesThere shows st.homes c (contents_at r.run c) =
+      (r.each_home c low).lies rest.live unlocked rest.off in
       subst (λ b. HasDistinctKeys (shows b).1) (same_block lies.block block (sym lies.there ∙ there))
       (subst HasDistinctKeys (sym lies.holds) (keys_at_home n limit r.run c r.legal))
 
   -- what a seat's locking found
-  pub keys_of_seat : (st : State (Option B) View) (r : Kept shows n limit st) (j : ℕ) (v : View) (p : Contents) → get_elem? st.views j ≡ some v
+  pub keys_of_seat : (st : State (Option B) View) (r : Kept shows n limit st) (j : ℕ) (v : View) (p : Contents)
+      → get_elem? st.views j ≡ some v
       → v.active ≡ true → contents_locked v.log ≡ Some p → HasDistinctKeys p
   keys_of_seat st r j v p at active found =
       keys_found n limit r.run v.thread p r.legal (ap contents_locked (r.each_seat j v at active).log ∙ found)

@@ -1,6 +1,7 @@
--- What a seat's log says is so in the world of the rule, and so its own part and the cell that it means decide whether a
--- step is enabled.
-use Rattle.std.proofs.Common.{◌≡◌, ℕ, ◌<◌, ◌≤◌, nat_lt, ◌&&◌, Bool, true, false, if◌then◌else◌, List, [], ◌∷◌, length, Option, Some, None, refl, sym, ◌∙◌, ap, subst, arith}
+-- What a seat's log says is so in the world of the rule, and so its own part and the cell that it means decide whether
+-- a step is enabled.
+use Rattle.std.proofs.Common.{◌≡◌, ℕ, ◌<◌, ◌≤◌, nat_lt, ◌&&◌, Bool, true, false, if◌then◌else◌, List, [], ◌∷◌, length}
+use Rattle.std.proofs.Common.{Option, Some, None, refl, sym, ◌∙◌, ap, subst, arith}
 use Rattle.std.proofs.lemmas.Bool.{and_parts}
 use Rattle.std.specs.Cmp.Derive.{both_true}
 use mathlib.Core.Option.{some}
@@ -13,8 +14,10 @@ use Rattle.law_world.specs.declared.event.Dropped.{Dropped}
 use Rattle.law_world.specs.declared.event.Step.{Step}
 use Rattle.law_world.specs.declared.event.Step.TheVariants.{Free, Unlock}
 use Rattle.law_world.specs.Lists.{is_marked}
-use Rattle.law_world.specs.Heap.{Heap, opening, cell_at, entries_at, row_at, frame_at, popped_at, worklist_at, is_registered, words_for, AreOptions}
-use Rattle.law_world.specs.Steps.{thread_may, stage_ok, lock_ok, hand_ok, own_ok, own_ok_at, others_ok, edition_ok, target_ok, target_at, is_empty, change_ok, locked_entries, locked_at}
+use Rattle.law_world.specs.Heap.{Heap, opening, cell_at, entries_at, row_at, frame_at, popped_at, worklist_at}
+use Rattle.law_world.specs.Heap.{is_registered, words_for, AreOptions}
+use Rattle.law_world.specs.Steps.{thread_may, stage_ok, lock_ok, hand_ok, own_ok, own_ok_at, others_ok, edition_ok}
+use Rattle.law_world.specs.Steps.{target_ok, target_at, is_empty, change_ok, locked_entries, locked_at}
 use Rattle.law_world.specs.Holding.{Headline}
 use Rattle.law_world.specs.Runs.{IsReached}
 use Rattle.law_world.proofs.Lifetimes.{run_edition}
@@ -57,13 +60,17 @@ pub record Known (n limit : ℕ) (h : Heap) (t : ℕ) (log : List Told) : Type 0
   pub part : IsPart h t (part_seen n log)
   pub counts : (c : ℕ) → FIRST_MORTAL ≤ c → own_count t (row_at h t).stage (cell_at h c) ≡ counts_seen n log c
   pub owners : (q : ℕ) → has_seen_owner (log_items log) q ≡ true → 0 < q → q ≤ MOST_THREADS → is_registered h q ≡ true
-  pub risen : (drop : Dropped) (c : ℕ) → risen_seen n log drop c ≡ true → FIRST_MORTAL ≤ c → 1 ≤ rank (cell_at h c).state
+  pub risen : (drop : Dropped) (c : ℕ) → risen_seen n log drop c ≡ true → FIRST_MORTAL ≤ c
+      → 1 ≤ rank (cell_at h c).state
 
 -- the run begins in the first edition, and stays there
-pub known_edition : (n limit : ℕ) (h : Heap) (t : ℕ) (log : List Told) → Known n limit h t log → h.edition ≡ editions.One
-known_edition n limit h t log known = sym (ap (λ z. z.edition) known.is_world) ∙ run_edition (opening n limit) (events_of (items_of known.run))
+pub known_edition : (n limit : ℕ) (h : Heap) (t : ℕ) (log : List Told) → Known n limit h t log
+    → h.edition ≡ editions.One
+known_edition n limit h t log known = sym (ap (λ z. z.edition) known.is_world)
+    ∙ run_edition (opening n limit) (events_of (items_of known.run))
 
-pub knows_run : (n limit : ℕ) (run : Run) (t : ℕ) → AreOptions n limit → IsLegal n limit run → stands (world n limit run) t ≡ true → 0 < t → Known n limit (world n limit run) t (own_of t run)
+pub knows_run : (n limit : ℕ) (run : Run) (t : ℕ) → AreOptions n limit → IsLegal n limit run
+    → stands (world n limit run) t ≡ true → 0 < t → Known n limit (world n limit run) t (own_of t run)
 knows_run n limit run t options legal stood some_thread =
     let h : Heap = world n limit run in
     let log : own t (items_of run) ≡ log_items (own_of t run) = own_items t run in
@@ -74,23 +81,30 @@ knows_run n limit run t options legal stood some_thread =
       is_world = refl;
       is_own = refl;
       options = options;
-      reached = run_reached n limit (events_of (items_of run)) options (events_run (opening n limit) (items_of run) legal.items);
+      reached = run_reached n limit (events_of (items_of run)) options
+          (events_run (opening n limit) (items_of run) legal.items);
       cells = run_cells n limit (events_of (items_of run));
       limit_is = run_limit n limit (events_of (items_of run));
       queues = run_queues n limit (events_of (items_of run));
       stood = stood;
-      part = subst (λ items. IsPart h t (part_of n items)) log (parts_are_told n limit (items_of run) t options legal.items there);
-      counts = λ c mortal. counts_are_told n limit (items_of run) t c options legal.items there mortal ∙ ap (λ items. counts_of n items c) log;
-      owners = λ q seen low few. owners_are_registered n limit (items_of run) t q options legal.items there (ap (λ items. has_seen_owner items q) log ∙ seen) low few;
-      risen = λ drop c seen mortal. risen_is_told n limit (items_of run) t c drop options legal.items there (ap (λ items. is_risen n items drop c) log ∙ seen) mortal;
+      part = subst (λ items. IsPart h t (part_of n items)) log
+          (parts_are_told n limit (items_of run) t options legal.items there);
+      counts = λ c mortal. counts_are_told n limit (items_of run) t c options legal.items there mortal
+          ∙ ap (λ items. counts_of n items c) log;
+      owners = λ q seen low few. owners_are_registered n limit (items_of run) t q options legal.items there
+          (ap (λ items. has_seen_owner items q) log ∙ seen) low few;
+      risen = λ drop c seen mortal. risen_is_told n limit (items_of run) t c drop options legal.items there
+          (ap (λ items. is_risen n items drop c) log ∙ seen) mortal;
     }
 
 module _ {B : Type 0} (shows : B → ℕ × Contents) (n limit : ℕ) where
-  pub knows : (s : State (Option B) View) (r : Kept shows n limit s) (id : ℕ) (v : View) → get_elem? s.views id ≡ some v → v.active ≡ true → 0 < v.thread
+  pub knows : (s : State (Option B) View) (r : Kept shows n limit s) (id : ℕ) (v : View) → get_elem? s.views id ≡ some v
+      → v.active ≡ true → 0 < v.thread
       → Known n limit (world n limit r.run) v.thread v.log
   knows s r id v at active some_thread =
       let fits : Fits (world n limit r.run) r.run r.seat id v = r.each_seat id v at active in
-      subst (Known n limit (world n limit r.run) v.thread) fits.log (knows_run n limit r.run v.thread r.options r.legal fits.there some_thread)
+      subst (Known n limit (world n limit r.run) v.thread) fits.log
+      (knows_run n limit r.run v.thread r.options r.legal fits.there some_thread)
 
 -- ---- the own part decides
 
@@ -103,12 +117,17 @@ own_ok_alike words h t has (Free c) knows ok =
     subst (λ (es : List ℕ). (is_marked (worklist_at h t) c && is_empty es) ≡ true) (sym (knows.worklists c parts.0)) ok
 own_ok_alike words h t has (Unlock change) knows ok = by_lock (locked_at h t) refl ok
   where
-    by_lock : (o : Option ℕ) → locked_at h t ≡ o → change_ok (row_at h t).locked (frame_at h t) (locked_entries has (locked_at h t)) change ≡ true
+    by_lock : (o : Option ℕ) → locked_at h t ≡ o → change_ok (row_at h t).locked (frame_at h t)
+        (locked_entries has (locked_at h t)) change ≡ true
         → change_ok (row_at h t).locked (frame_at h t) (locked_entries (entries_at h) (locked_at h t)) change ≡ true
-    by_lock None at ok = subst (λ l. change_ok (row_at h t).locked (frame_at h t) (locked_entries (entries_at h) l) change ≡ true) (sym at)
+    by_lock None at ok = subst (λ l. change_ok (row_at h t).locked (frame_at h t) (locked_entries (entries_at h) l)
+        change ≡ true) (sym at)
         (subst (λ l. change_ok (row_at h t).locked (frame_at h t) (locked_entries has l) change ≡ true) at ok)
-    by_lock (Some c) at ok = subst (λ l. change_ok (row_at h t).locked (frame_at h t) (locked_entries (entries_at h) l) change ≡ true) (sym at)
-        (subst (λ (es : List ℕ). change_ok (row_at h t).locked (frame_at h t) es change ≡ true) (sym (knows.locked c at))
+    by_lock (Some c) at ok =
+        subst (λ l. change_ok (row_at h t).locked (frame_at h t) (locked_entries (entries_at h) l) change
+        ≡ true) (sym at)
+        (subst (λ (es : List ℕ). change_ok (row_at h t).locked (frame_at h t) es change ≡ true)
+        (sym (knows.locked c at))
         (subst (λ l. change_ok (row_at h t).locked (frame_at h t) (locked_entries has l) change ≡ true) at ok))
 own_ok_alike words h t has _ knows ok = ok
 
@@ -117,43 +136,63 @@ own_tests : (n : ℕ) (h : Heap) (t : ℕ) (part : Part) (s : Step) → IsPart h
     → (stage_ok (row_at h t).stage s && lock_ok (row_at h t).locked s && hand_ok (row_at h t).hand s
     && own_ok (words_for n) (row_at h t) (frame_at h t) (popped_at h t) (worklist_at h t) part.has s) ≡ true
 own_tests n h t part s is ok =
-    subst (λ (w : List Bool). (stage_ok (row_at h t).stage s && lock_ok (row_at h t).locked s && hand_ok (row_at h t).hand s && own_ok (words_for n) (row_at h t) (frame_at h t) (popped_at h t) w part.has s) ≡ true) (sym is.work_is)
-    (subst (λ (p : List ℕ). (stage_ok (row_at h t).stage s && lock_ok (row_at h t).locked s && hand_ok (row_at h t).hand s && own_ok (words_for n) (row_at h t) (frame_at h t) p part.worklist part.has s) ≡ true) (sym is.popped_is)
-    (subst (λ (f : List (Option ℕ)). (stage_ok (row_at h t).stage s && lock_ok (row_at h t).locked s && hand_ok (row_at h t).hand s && own_ok (words_for n) (row_at h t) f part.popped part.worklist part.has s) ≡ true) (sym is.frame_is)
-    (subst (λ (r : Row). (stage_ok r.stage s && lock_ok r.locked s && hand_ok r.hand s && own_ok (words_for n) r part.frame part.popped part.worklist part.has s) ≡ true) (sym is.row_is) ok)))
+    subst (λ (w : List Bool). (stage_ok (row_at h t).stage s && lock_ok (row_at h t).locked s && hand_ok
+    (row_at h t).hand s && own_ok (words_for n) (row_at h t) (frame_at h t) (popped_at h t) w part.has s) ≡ true)
+    (sym is.work_is)
+    (subst (λ (p : List ℕ). (stage_ok (row_at h t).stage s && lock_ok (row_at h t).locked s && hand_ok
+    (row_at h t).hand s && own_ok (words_for n) (row_at h t) (frame_at h t) p part.worklist part.has s) ≡ true)
+    (sym is.popped_is)
+    (subst (λ (f : List (Option ℕ)). (stage_ok (row_at h t).stage s && lock_ok (row_at h t).locked s && hand_ok
+    (row_at h t).hand s && own_ok (words_for n) (row_at h t) f part.popped part.worklist part.has s) ≡ true)
+    (sym is.frame_is)
+    (subst (λ (r : Row). (stage_ok r.stage s && lock_ok r.locked s && hand_ok r.hand s && own_ok
+    (words_for n) r part.frame part.popped part.worklist part.has s) ≡ true) (sym is.row_is) ok)))
 
 -- the hand that the step needs
-pub hand_there : (n limit : ℕ) (h : Heap) (t : ℕ) (log : List Told) (s : Step) → Known n limit h t log → own_may n (part_seen n log) s ≡ true → hand_ok (row_at h t).hand s ≡ true
-hand_there n limit h t log s known own = (and_parts _ _ (and_parts _ _ (own_tests n h t (part_seen n log) s known.part own)).0).1
+pub hand_there : (n limit : ℕ) (h : Heap) (t : ℕ) (log : List Told) (s : Step) → Known n limit h t log
+    → own_may n (part_seen n log) s ≡ true → hand_ok (row_at h t).hand s ≡ true
+hand_there n limit h t log s known own =
+    (and_parts _ _ (and_parts _ _ (own_tests n h t (part_seen n log) s known.part own)).0).1
 
 -- the own part allows the step, and so do the edition, whom it tells and the cell that it means
-pub is_enabled : (n limit : ℕ) (h : Heap) (t : ℕ) (log : List Told) (s : Step) → 0 < t → Known n limit h t log → own_may n (part_seen n log) s ≡ true
-    → edition_ok editions.One (row_at h t) s ≡ true → others_ok h t s ≡ true → target_ok h t (row_at h t) s (target_at h t s) ≡ true → thread_may h t s ≡ true
+pub is_enabled : (n limit : ℕ) (h : Heap) (t : ℕ) (log : List Told) (s : Step) → 0 < t → Known n limit h t log
+    → own_may n (part_seen n log) s ≡ true
+    → edition_ok editions.One (row_at h t) s ≡ true → others_ok h t s ≡ true
+    → target_ok h t (row_at h t) s (target_at h t s) ≡ true → thread_may h t s ≡ true
 is_enabled n limit h t log s some_thread known own edition others target =
     let part : Part = part_seen n log in
     let all = own_tests n h t part s known.part own in
     let a = and_parts _ _ all in
     let b = and_parts _ _ a.0 in
     let c = and_parts _ _ b.0 in
-    let mine : own_ok_at h t s ≡ true = subst (λ m. own_ok (words_for m) (row_at h t) (frame_at h t) (popped_at h t) (worklist_at h t) (entries_at h) s ≡ true) (sym known.cells)
-    (own_ok_alike (words_for n) h t part.has s (record { locked = known.part.locked_has; worklists = known.part.work_has }) a.1) in
-    let there = both_true (stands_registered h t known.stood some_thread) (ap Rattle.std.proofs.Common.not (stands_ungathered h t known.stood some_thread)) in
-    let first : edition_ok h.edition (row_at h t) s ≡ true = subst (λ e. edition_ok e (row_at h t) s ≡ true) (sym (known_edition n limit h t log known)) edition in
-    both_true (both_true (both_true (both_true (both_true (both_true (both_true there c.0) c.1) b.1) mine) others) first) target
+    let mine : own_ok_at h t s ≡ true =
+    subst (λ m. own_ok (words_for m) (row_at h t) (frame_at h t) (popped_at h t) (worklist_at h t) (entries_at h) s
+    ≡ true) (sym known.cells)
+    (own_ok_alike (words_for n) h t part.has s
+    (record { locked = known.part.locked_has; worklists = known.part.work_has }) a.1) in
+    let there = both_true (stands_registered h t known.stood some_thread)
+    (ap Rattle.std.proofs.Common.not (stands_ungathered h t known.stood some_thread)) in
+    let first : edition_ok h.edition (row_at h t) s ≡ true = subst (λ e. edition_ok e (row_at h t) s ≡ true)
+    (sym (known_edition n limit h t log known)) edition in
+    both_true (both_true (both_true (both_true (both_true (both_true (both_true there c.0) c.1) b.1) mine) others)
+    first) target
 
 -- the cell that the log's part means is the world's
-pub meant_there : (n limit : ℕ) (h : Heap) (t : ℕ) (log : List Told) (s : Step) (o : Option ℕ) → Known n limit h t log → meant (part_seen n log) s ≡ o → target_at h t s ≡ o
+pub meant_there : (n limit : ℕ) (h : Heap) (t : ℕ) (log : List Told) (s : Step) (o : Option ℕ) → Known n limit h t log
+    → meant (part_seen n log) s ≡ o → target_at h t s ≡ o
 meant_there n limit h t log s o known is = sym (part_target h t (part_seen n log) s known.part) ∙ is
 
 -- ---- what stands in a table that keeps the rule
 
 module _ {B : Type 0} (shows : B → ℕ × Contents) (n limit : ℕ) where
   pub kept_reached : (s : State (Option B) View) (r : Kept shows n limit s) → IsReached (world n limit r.run)
-  kept_reached s r = run_reached n limit (events_of (items_of r.run)) r.options (events_run (opening n limit) (items_of r.run) r.legal.items)
+  kept_reached s r = run_reached n limit (events_of (items_of r.run)) r.options
+      (events_run (opening n limit) (items_of r.run) r.legal.items)
 
   pub kept_headline : (s : State (Option B) View) (r : Kept shows n limit s) → Headline (world n limit r.run)
   kept_headline s r = reached_headline (world n limit r.run) (kept_reached s r)
 
-  pub kept_part : (s : State (Option B) View) (r : Kept shows n limit s) (j : ℕ) (v : View) → get_elem? s.views j ≡ some v → v.active ≡ true → 0 < v.thread
+  pub kept_part : (s : State (Option B) View) (r : Kept shows n limit s) (j : ℕ) (v : View)
+      → get_elem? s.views j ≡ some v → v.active ≡ true → 0 < v.thread
       → IsPart (world n limit r.run) v.thread (part_seen n v.log)
   kept_part s r j v at active some_thread = (knows shows n limit s r j v at active some_thread).part

@@ -1,5 +1,6 @@
 -- What a note tells of its cell, and what its thread's part says of hand and popped bits.
-use Rattle.std.proofs.Common.{◌≡◌, ◌≢◌, ◌⊎◌, ℕ, ◌%◌, ◌||◌, true, false, ℤ, List, length, refl, sym, ◌∙◌, ap, inl, inr, arith}
+use Rattle.std.proofs.Common.{◌≡◌, ◌≢◌, ◌⊎◌, ℕ, ◌%◌, ◌||◌, true, false, ℤ, List, length, refl, sym, ◌∙◌, ap, inl, inr}
+use Rattle.std.proofs.Common.{arith}
 use Rattle.std.proofs.lemmas.Bool.{and_parts, or_cases, eq-eqb, true≢false}
 use Rattle.std.specs.Cmp.Derive.{both_true}
 use Rattle.brc_words.specs.declared.owner.Owner.{Owner}
@@ -41,12 +42,14 @@ use Rattle.law_rule.proofs.Knowing.{Known}
 -- ---- numbers
 
 -- the shared word of a merged object ends in 3, and no other does
-pub merged_word : (count : ℤ) (state : State) (number : ℕ) → number ≡ shared_word count state → number % 4 ≡ 3 → state ≡ states.Merged
+pub merged_word : (count : ℤ) (state : State) (number : ℕ) → number ≡ shared_word count state → number % 4 ≡ 3
+    → state ≡ states.Merged
 merged_word count states.Default number is ends = absurd (omega (arith, is, ends))
 merged_word count states.Queued number is ends = absurd (omega (arith, is, ends))
 merged_word count states.Merged number is ends = refl
 
-pub unmerged_word : (count : ℤ) (state : State) (number : ℕ) → number ≡ shared_word count state → number % 4 ≢ 3 → state ≢ states.Merged
+pub unmerged_word : (count : ℤ) (state : State) (number : ℕ) → number ≡ shared_word count state → number % 4 ≢ 3
+    → state ≢ states.Merged
 unmerged_word count state number is other merged = other (omega (arith, is, ap bits_of merged))
 
 -- an owner word of 0 is nobody's
@@ -61,27 +64,35 @@ nobodys_word threads owners.Free fits is = absurd (omega (arith, is))
 pub part_hand : (n : ℕ) (part : Part) (s : Step) → own_may n part s ≡ true → hand_ok part.row.hand s ≡ true
 part_hand n part s own = (and_parts _ _ (and_parts _ _ own).0).1
 
-pub part_own : (n : ℕ) (part : Part) (s : Step) → own_may n part s ≡ true → own_ok (words_for n) part.row part.frame part.popped part.worklist part.has s ≡ true
+pub part_own : (n : ℕ) (part : Part) (s : Step) → own_may n part s ≡ true
+    → own_ok (words_for n) part.row part.frame part.popped part.worklist part.has s ≡ true
 part_own n part s own = (and_parts _ _ own).1
 
 -- what the part of one log says is so in the world of another with the same part
-pub hand_in : (n limit : ℕ) (h : Heap) (t : ℕ) (log now : List Told) (hand : Hand) → Known n limit h t log → part_seen n log ≡ part_seen n now → (part_seen n now).row.hand ≡ hand → (row_at h t).hand ≡ hand
-hand_in n limit h t log now hand known same is = ap (λ (r : Row). r.hand) known.part.row_is ∙ ap (λ (p : Part). p.row.hand) same ∙ is
+pub hand_in : (n limit : ℕ) (h : Heap) (t : ℕ) (log now : List Told) (hand : Hand) → Known n limit h t log
+    → part_seen n log ≡ part_seen n now → (part_seen n now).row.hand ≡ hand → (row_at h t).hand ≡ hand
+hand_in n limit h t log now hand known same is = ap (λ (r : Row). r.hand) known.part.row_is
+    ∙ ap (λ (p : Part). p.row.hand) same ∙ is
 
-pub bit_in : (n limit : ℕ) (h : Heap) (t : ℕ) (log now : List Told) (c : ℕ) → Known n limit h t log → part_seen n log ≡ part_seen n now → bit_of (part_seen n now).popped c ≡ 1 → bit_of (popped_at h t) c ≡ 1
-bit_in n limit h t log now c known same is = ap (λ (words : List ℕ). bit_of words c) known.part.popped_is ∙ ap (λ (p : Part). bit_of p.popped c) same ∙ is
+pub bit_in : (n limit : ℕ) (h : Heap) (t : ℕ) (log now : List Told) (c : ℕ) → Known n limit h t log
+    → part_seen n log ≡ part_seen n now → bit_of (part_seen n now).popped c ≡ 1 → bit_of (popped_at h t) c ≡ 1
+bit_in n limit h t log now c known same is = ap (λ (words : List ℕ). bit_of words c) known.part.popped_is
+    ∙ ap (λ (p : Part). bit_of p.popped c) same ∙ is
 
 -- ---- what the thread has
 
 pub has_popped : (h : Heap) (t c : ℕ) → bit_of (popped_at h t) c ≡ 1 → Has h t c
 has_popped h t c bit = inr (inr (inl bit))
 
-pub has_in_hand : (h : Heap) (t c : ℕ) (p : Phase) → (row_at h t).hand ≡ hands.Busy p c → has_reference p ≡ true → Has h t c
+pub has_in_hand : (h : Heap) (t c : ℕ) (p : Phase) → (row_at h t).hand ≡ hands.Busy p c → has_reference p ≡ true
+    → Has h t c
 has_in_hand h t c p busy refers = inr (inl (ap (carries c) busy ∙ both_true refers (eq-eqb c c refl)))
 
 -- the owner word of an object that the thread has tells its owner
-pub owner_told : (h : Heap) (t c number : ℕ) → IsReached h → Has h t c → Shows h (Of OwnerWord c) number → number ≡ word_of (cell_at h c).owner
-owner_told h t c number reached has shown = live_shown (length h.rows) (cell_at h c).owner number (held_live h c (reached_sound h reached) (has_held h t c has)) shown
+pub owner_told : (h : Heap) (t c number : ℕ) → IsReached h → Has h t c → Shows h (Of OwnerWord c) number
+    → number ≡ word_of (cell_at h c).owner
+owner_told h t c number reached has shown = live_shown (length h.rows) (cell_at h c).owner number
+    (held_live h c (reached_sound h reached) (has_held h t c has)) shown
 
 -- ---- a merge by a note of the local count
 
@@ -89,27 +100,35 @@ owner_told h t c number reached has shown = live_shown (length h.rows) (cell_at 
 abbrev pub IsMerging : Phase → Type 0
 IsMerging p = (p ≡ phases.Taking) ⊎ (p ≡ phases.Popping)
 
-pub merging_hand : (hand : Hand) (c : ℕ) → is_handing hand ≡ false → hand_ok hand (MergeAdd c) ≡ true → (p : Phase) × (hand ≡ hands.Busy p c) × IsMerging p
-merging_hand hand c off at = elim (or_cases (is_at phases.Taking c hand || is_at phases.Popping c hand) (is_at phases.Yielding c hand) at) [
-  | inr yielding ↦ absurd (true≢false (sym (ap is_handing (busy_hand phases.Yielding c hand yielding)) ∙ off))
-  | inl own ↦ elim (or_cases (is_at phases.Taking c hand) (is_at phases.Popping c hand) own) [
-    | inl taking ↦ (phases.Taking, busy_hand phases.Taking c hand taking, inl refl)
-    | inr popping ↦ (phases.Popping, busy_hand phases.Popping c hand popping, inr refl)
-  ]
-]
+pub merging_hand : (hand : Hand) (c : ℕ) → is_handing hand ≡ false → hand_ok hand (MergeAdd c) ≡ true
+    → (p : Phase) × (hand ≡ hands.Busy p c) × IsMerging p
+merging_hand hand c off at =
+    elim (or_cases (is_at phases.Taking c hand || is_at phases.Popping c hand) (is_at phases.Yielding c hand) at) [
+      | inr yielding ↦ absurd (true≢false (sym (ap is_handing (busy_hand phases.Yielding c hand yielding)) ∙ off))
+      | inl own ↦ elim (or_cases (is_at phases.Taking c hand) (is_at phases.Popping c hand) own) [
+        | inl taking ↦ (phases.Taking, busy_hand phases.Taking c hand taking, inl refl)
+        | inr popping ↦ (phases.Popping, busy_hand phases.Popping c hand popping, inr refl)
+      ]
+    ]
 
 -- nobody whose log is known hands an object over
-pub own_handing : (n limit : ℕ) (h : Heap) (t : ℕ) (log : List Told) → Known n limit h t log → is_handing (part_seen n log).row.hand ≡ false
+pub own_handing : (n limit : ℕ) (h : Heap) (t : ℕ) (log : List Told) → Known n limit h t log
+    → is_handing (part_seen n log).row.hand ≡ false
 own_handing n limit h t log known =
-    sym (ap (λ (r : Row). is_handing r.hand) known.part.row_is) ∙ sym (ap (λ z. is_handing (row_at z t).hand) known.is_world)
-    ∙ none_handing n limit (events_of (items_of known.run)) known.options (events_run (opening n limit) (items_of known.run) known.legal.items) t
+    sym (ap (λ (r : Row). is_handing r.hand) known.part.row_is)
+    ∙ sym (ap (λ z. is_handing (row_at z t).hand) known.is_world)
+    ∙ none_handing n limit (events_of (items_of known.run)) known.options
+    (events_run (opening n limit) (items_of known.run) known.legal.items) t
 
 -- the hand of a thread that may add
-pub adding_hand : (n limit : ℕ) (h : Heap) (t : ℕ) (log : List Told) (c : ℕ) → Known n limit h t log → own_may n (part_seen n log) (MergeAdd c) ≡ true
+pub adding_hand : (n limit : ℕ) (h : Heap) (t : ℕ) (log : List Told) (c : ℕ) → Known n limit h t log
+    → own_may n (part_seen n log) (MergeAdd c) ≡ true
     → (p : Phase) × ((part_seen n log).row.hand ≡ hands.Busy p c) × IsMerging p
-adding_hand n limit h t log c known own = merging_hand (part_seen n log).row.hand c (own_handing n limit h t log known) (part_hand n (part_seen n log) (MergeAdd c) own)
+adding_hand n limit h t log c known own = merging_hand (part_seen n log).row.hand c (own_handing n limit h t log known)
+    (part_hand n (part_seen n log) (MergeAdd c) own)
 
-pub merging_words : (h : Heap) (t c : ℕ) (p : Phase) → IsReached h → (row_at h t).hand ≡ hands.Busy p c → IsMerging p → ((cell_at h c).owner ≡ owners.Nobody) × ((cell_at h c).state ≡ states.Queued)
+pub merging_words : (h : Heap) (t c : ℕ) (p : Phase) → IsReached h → (row_at h t).hand ≡ hands.Busy p c → IsMerging p
+    → ((cell_at h c).owner ≡ owners.Nobody) × ((cell_at h c).state ≡ states.Queued)
 merging_words h t c p reached busy which = elim which [
   | inl taking ↦ (hand_tells h t c phases.Taking reached (busy ∙ ap (λ q. hands.Busy q c) taking)).1
   | inr popping ↦ (hand_tells h t c phases.Popping reached (busy ∙ ap (λ q. hands.Busy q c) popping)).1

@@ -1,5 +1,6 @@
 -- Logs of threads in runs: one more item joins its own thread's log, and no other's.
-use Rattle.std.proofs.Common.{◌≡◌, ◌≢◌, ℕ, ◌==◌, ◌&&◌, ◌||◌, not, nat_lt, ◌<◌, Bool, true, false, if◌then◌else◌, List, [], ◌∷◌, length, refl, ◌∙◌, ap, inl, inr, arith}
+use Rattle.std.proofs.Common.{◌≡◌, ◌≢◌, ℕ, ◌==◌, ◌&&◌, ◌||◌, not, nat_lt, ◌<◌, Bool, true, false, if◌then◌else◌, List}
+use Rattle.std.proofs.Common.{[], ◌∷◌, length, refl, ◌∙◌, ap, inl, inr, arith}
 use Rattle.std.proofs.lemmas.Bool.{eq-eqb, ne_eqb, eqb-true, and_parts, or_cases, not-true}
 use Rattle.law_world.specs.Heap.{Heap, is_registered, is_gathered}
 use Rattle.law_known.specs.Items.{own, is_start}
@@ -19,11 +20,13 @@ own_items t (x ∷ run) = by_test (is_start t (item_of x.1)) (x.0 == t) (own_ite
     by_test false true before = ap (λ log. item_of x.1 ∷ log) before
     by_test false false before = before
 
-pub own_more : (t : ℕ) (x : Told) (run : Run) → is_start t (item_of x) ≡ false → own_of t ((t, x) ∷ run) ≡ x ∷ own_of t run
+pub own_more : (t : ℕ) (x : Told) (run : Run) → is_start t (item_of x) ≡ false
+    → own_of t ((t, x) ∷ run) ≡ x ∷ own_of t run
 own_more t x run older = ap (λ b. if b then [] else (if t == t then x ∷ own_of t run else own_of t run)) older
     ∙ ap (λ b. if b then x ∷ own_of t run else own_of t run) (eq-eqb t t refl)
 
-pub own_same : (t u : ℕ) (x : Told) (run : Run) → is_start u (item_of x) ≡ false → t ≢ u → own_of u ((t, x) ∷ run) ≡ own_of u run
+pub own_same : (t u : ℕ) (x : Told) (run : Run) → is_start u (item_of x) ≡ false → t ≢ u
+    → own_of u ((t, x) ∷ run) ≡ own_of u run
 own_same t u x run older other = ap (λ b. if b then [] else (if t == u then x ∷ own_of u run else own_of u run)) older
     ∙ ap (λ b. if b then x ∷ own_of u run else own_of u run) (ne_eqb t u other)
 
@@ -48,7 +51,9 @@ pub record SameThreads (h new : Heap) : Type 0 where
 pub same_stands : (h new : Heap) (t : ℕ) → SameThreads h new → stands new t ≡ stands h t
 same_stands h new t same =
     ap (λ m. (t == 0) || (nat_lt 0 t && nat_lt t m && not (is_gathered new t))) same.rows
-    ∙ ap (λ (marks : List Bool). (t == 0) || (is_registered h t && not (Rattle.std.specs.Prelude.slice_index_or marks t false))) same.gathered
+    ∙ ap (λ (marks : List Bool). (t == 0) ||
+    (is_registered h t && not (Rattle.std.specs.Prelude.slice_index_or marks t false))) same.gathered
 
 pub same_gathered : (h new : Heap) (t : ℕ) → SameThreads h new → is_gathered new t ≡ is_gathered h t
-same_gathered h new t same = ap (λ (marks : List Bool). Rattle.std.specs.Prelude.slice_index_or marks t false) same.gathered
+same_gathered h new t same = ap (λ (marks : List Bool). Rattle.std.specs.Prelude.slice_index_or marks t false)
+    same.gathered

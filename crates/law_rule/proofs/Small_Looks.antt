@@ -1,4 +1,5 @@
--- Looks at the words of a cell in the hand: the owner is a thread's number or 0, and the local count is within the limit.
+-- Looks at the words of a cell in the hand: the owner is a thread's number or 0, and the local count is within the
+-- limit.
 use Rattle.std.proofs.Common.{◌≡◌, ℕ, ◌+◌, ◌<◌, ◌≤◌, true, List, length, get_or, Option, refl, sym, ◌∙◌, ap, arith}
 use Rattle.std.proofs.lemmas.Bool.{true≢false}
 use Rattle.atomic_table.specs.Table.{State as Table, Allows, keeps}
@@ -37,49 +38,73 @@ use Rattle.law_rule.proofs.Looking.{saw, unmoved}
 use Rattle.law_rule.proofs.Noting.{hand_in, adding_hand, merging_words}
 
 -- the owner of an object that lives is a thread or nobody
-owner_small : (threads : ℕ) (owner : Owner) (number : ℕ) → threads ≤ MOST_THREADS + 1 → OwnerFits threads owner → lives owner ≡ true → number ≡ word_of owner → number ≤ MOST_THREADS
+owner_small : (threads : ℕ) (owner : Owner) (number : ℕ) → threads ≤ MOST_THREADS + 1 → OwnerFits threads owner
+    → lives owner ≡ true → number ≡ word_of owner → number ≤ MOST_THREADS
 owner_small threads owners.Nobody number few fits live is = omega (arith, is)
 owner_small threads (owners.Thread q) number few fits live is = omega (arith, is, few, fits.1)
 owner_small threads (owners.Claimed q) number few fits live is = absurd (true≢false (sym live))
 owner_small threads owners.Free number few fits live is = absurd (true≢false (sym live))
 
-carried_owner : (n limit : ℕ) (h : Heap) (t : ℕ) (log : List Told) (c number : ℕ) → Known n limit h t log → carries c (part_seen n log).row.hand ≡ true → Shows h (Of OwnerWord c) number → number ≤ MOST_THREADS
+carried_owner : (n limit : ℕ) (h : Heap) (t : ℕ) (log : List Told) (c number : ℕ) → Known n limit h t log
+    → carries c (part_seen n log).row.hand ≡ true → Shows h (Of OwnerWord c) number → number ≤ MOST_THREADS
 carried_owner n limit h t log c number known carried shown =
     let sound : IsSound h = reached_sound h known.reached in
-    let carrying : carries c (row_at h t).hand ≡ true = ap (λ (r : Row). carries c r.hand) known.part.row_is ∙ carried in
+    let carrying : carries c (row_at h t).hand ≡ true = ap (λ (r : Row). carries c r.hand) known.part.row_is
+    ∙ carried in
     let live : lives (cell_at h c).owner ≡ true = held_live h c sound (carried_held h t c (one-true _ carrying)) in
-    owner_small (length h.rows) (cell_at h c).owner number sound.shaped.threads (reached_owners h known.reached c) live (live_shown (length h.rows) (cell_at h c).owner number live shown)
+    owner_small (length h.rows) (cell_at h c).owner number sound.shaped.threads (reached_owners h known.reached c) live
+    (live_shown (length h.rows) (cell_at h c).owner number live shown)
 
-merging_local : (n limit : ℕ) (h : Heap) (t : ℕ) (log : List Told) (c number : ℕ) → Known n limit h t log → own_may n (part_seen n log) (MergeAdd c) ≡ true → Shows h (Of Local c) number → number ≤ limit
+merging_local : (n limit : ℕ) (h : Heap) (t : ℕ) (log : List Told) (c number : ℕ) → Known n limit h t log
+    → own_may n (part_seen n log) (MergeAdd c) ≡ true → Shows h (Of Local c) number → number ≤ limit
 merging_local n limit h t log c number known own shown =
     let hand = adding_hand n limit h t log c known own in
-    let busy : (row_at h t).hand ≡ hands.Busy hand.0 c = hand_in n limit h t log log (hands.Busy hand.0 c) known refl hand.1 in
+    let busy : (row_at h t).hand ≡ hands.Busy hand.0 c = hand_in n limit h t log log (hands.Busy hand.0 c) known
+    refl hand.1 in
     let live : lives (cell_at h c).owner ≡ true = ap lives (merging_words h t c hand.0 known.reached busy hand.2).0 in
-    omega (arith, shown, ((reached_sound h known.reached).cells c (hand_tells h t c hand.0 known.reached busy).0).limited live, known.limit_is)
+    omega (
+      arith,
+      shown,
+      ((reached_sound h known.reached).cells c
+          (hand_tells h t c hand.0 known.reached busy).0).limited live,
+      known.limit_is,
+    )
 
 module _ {B : Type 0} (shows : B → ℕ × Contents) (n limit : ℕ) where
   abbrev Rule : Table (Option B) View → Type 0
   Rule = Kept shows n limit
 
   -- a load, and what the log says of the number
-  looks_and : (id : ℕ) (v : View) (slots : List (ℕ × Option B)) (w : Word) (Says : ℕ → Type 0) → v.active ≡ true → 0 < v.thread → IsWord n w
+  looks_and : (id : ℕ) (v : View) (slots : List (ℕ × Option B)) (w : Word) (Says : ℕ → Type 0) → v.active ≡ true
+      → 0 < v.thread → IsWord n w
       → ((h : Heap) (there : ℕ) → Known n limit h v.thread v.log → Shows h w there → Says there)
-      → Allows Rule n id (v, slots) (spot n w) (λ number. number) (λ number me. (me ≡ (with_told (Saw w number) v, slots)) × Says number)
+      → Allows Rule n id (v, slots) (spot n w) (λ number. number)
+      (λ number me. (me ≡ (with_told (Saw w number) v, slots)) × Says number)
   looks_and id v slots w Says active some_thread is says s r deep at small =
       let there : ℕ = get_or s.words (spot n w) 0 in (
         with_told (Saw w there) v,
         keeps,
         tt,
         unmoved shows n limit s r id v w (Saw w there) at active is saw,
-        (refl, says (world n limit r.run) there (knows shows n limit s r id v at active some_thread) (r.each_word w is)),
+        (
+          refl,
+          says (world n limit r.run) there (knows shows n limit s r id v at active some_thread)
+              (r.each_word w is),
+        ),
       )
 
-  pub looks_owner : (id : ℕ) (v : View) (slots : List (ℕ × Option B)) (c : ℕ) → v.active ≡ true → 0 < v.thread → c < n → carries c (part_seen n v.log).row.hand ≡ true
-      → Allows Rule n id (v, slots) (spot n (Of OwnerWord c)) (λ number. number) (λ number me. (me ≡ (with_told (Saw (Of OwnerWord c) number) v, slots)) × (number ≤ MOST_THREADS))
+  pub looks_owner : (id : ℕ) (v : View) (slots : List (ℕ × Option B)) (c : ℕ) → v.active ≡ true → 0 < v.thread → c < n
+      → carries c (part_seen n v.log).row.hand ≡ true
+      → Allows Rule n id (v, slots) (spot n (Of OwnerWord c)) (λ number. number)
+      (λ number me. (me ≡ (with_told (Saw (Of OwnerWord c) number) v, slots)) × (number ≤ MOST_THREADS))
   looks_owner id v slots c active some_thread low carried =
-      looks_and id v slots (Of OwnerWord c) (λ number. number ≤ MOST_THREADS) active some_thread low (λ h there known shown. carried_owner n limit h v.thread v.log c there known carried shown)
+      looks_and id v slots (Of OwnerWord c) (λ number. number ≤ MOST_THREADS) active some_thread low
+      (λ h there known shown. carried_owner n limit h v.thread v.log c there known carried shown)
 
-  pub looks_local : (id : ℕ) (v : View) (slots : List (ℕ × Option B)) (c : ℕ) → v.active ≡ true → 0 < v.thread → c < n → own_may n (part_seen n v.log) (MergeAdd c) ≡ true
-      → Allows Rule n id (v, slots) (spot n (Of Local c)) (λ number. number) (λ number me. (me ≡ (with_told (Saw (Of Local c) number) v, slots)) × (number ≤ limit))
+  pub looks_local : (id : ℕ) (v : View) (slots : List (ℕ × Option B)) (c : ℕ) → v.active ≡ true → 0 < v.thread → c < n
+      → own_may n (part_seen n v.log) (MergeAdd c) ≡ true
+      → Allows Rule n id (v, slots) (spot n (Of Local c)) (λ number. number)
+      (λ number me. (me ≡ (with_told (Saw (Of Local c) number) v, slots)) × (number ≤ limit))
   looks_local id v slots c active some_thread low own =
-      looks_and id v slots (Of Local c) (λ number. number ≤ limit) active some_thread low (λ h there known shown. merging_local n limit h v.thread v.log c there known own shown)
+      looks_and id v slots (Of Local c) (λ number. number ≤ limit) active some_thread low
+      (λ h there known shown. merging_local n limit h v.thread v.log c there known own shown)

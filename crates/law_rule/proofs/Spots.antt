@@ -50,7 +50,8 @@ apart n (Queue t k) (Of Owner d) is that same = absurd (omega (arith, is.0, is.1
 apart n (Queue t k) (Of Local d) is that same = absurd (omega (arith, is.0, is.1, that, same))
 apart n (Queue t k) (Of Shared d) is that same = absurd (omega (arith, is.0, is.1, that, same))
 apart n (Queue t k) (Of Mutex d) is that same = absurd (omega (arith, is.0, is.1, that, same))
-apart n (Queue t k) (Queue u j) is that same = let at : t ≡ u = omega (arith, is.0, is.1, that.0, that.1, same) in let e : k ≡ j = omega (arith, is.0, is.1, that.0, that.1, same) in ap (λ x. Queue x k) at ∙ ap (Queue u) e
+apart n (Queue t k) (Queue u j) is that same = let at : t ≡ u = omega (arith, is.0, is.1, that.0, that.1, same) in
+    let e : k ≡ j = omega (arith, is.0, is.1, that.0, that.1, same) in ap (λ x. Queue x k) at ∙ ap (Queue u) e
 apart n (Queue t k) (NotifyWord u) is that same = absurd (omega (arith, is.0, is.1, that, same))
 apart n (Queue t k) (FreeWord j) is that same = absurd (omega (arith, is.0, is.1, that, same))
 apart n (NotifyWord t) (Of Owner d) is that same = absurd (omega (arith, is, that, same))

@@ -15,16 +15,19 @@ abbrev pub Homes : Type 0 → Type 0
 Homes B = List (maybe.Option (Option B))
 
 -- a block lies there that is the cell's, with these contents
-pub record LiesThere {B : Type 0} (shows : B → ℕ × Contents) (homes : Homes B) (c : ℕ) (contents : Contents) : Type 0 where
+pub record LiesThere {B : Type 0} (shows : B → ℕ × Contents) (homes : Homes B) (c : ℕ)
+    (contents : Contents) : Type 0 where
   pub block : B
   pub there : get_elem? homes c ≡ some (some (Some block))
   pub of_cell : (shows block).0 ≡ c
   pub holds : (shows block).1 ≡ contents
 
 -- a free cell has no block; that of a live object which nobody has locked and which is on no worklist is at home
-pub record HomeShown {B : Type 0} (shows : B → ℕ × Contents) (homes : Homes B) (h : Heap) (run : Run) (c : ℕ) : Type 0 where
+pub record HomeShown {B : Type 0} (shows : B → ℕ × Contents) (homes : Homes B) (h : Heap) (run : Run)
+    (c : ℕ) : Type 0 where
   pub bare : (cell_at h c).owner ≡ owners.Free → get_elem? homes c ≡ some (some None)
-  pub lies : lives (cell_at h c).owner ≡ true → (cell_at h c).mutex ≡ 0 → ((t : ℕ) → is_marked (worklist_at h t) c ≡ false)
+  pub lies : lives (cell_at h c).owner ≡ true → (cell_at h c).mutex ≡ 0
+      → ((t : ℕ) → is_marked (worklist_at h t) c ≡ false)
       → LiesThere shows homes c (contents_at run c)
 
 -- the object lives, and is on no worklist

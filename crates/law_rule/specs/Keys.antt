@@ -29,8 +29,8 @@ abbrev pub KeyPut : Contents → Contents → Type 0
 KeyPut (Dict pairs) home = OneKeyMore (keys_in (Dict pairs)) (keys_in home)
 KeyPut found home = keys_in home ≡ []
 
--- What an unlocking puts home has the keys that its locking found; where an entry was put in, one more; and where one was
--- taken, all but that entry's.
+-- What an unlocking puts home has the keys that its locking found; where an entry was put in, one more; and where one
+-- was taken, all but that entry's.
 abbrev pub KeysGo : Change → Contents → Contents → Type 0
 KeysGo Keep found home = keys_in home ≡ keys_in found
 KeysGo (Put j) found home = KeyPut found home

@@ -1,10 +1,11 @@
 -- Where the words of a heap of n cells lie in the table.
 --
 -- The counts come first, so that a cell's are found by its number alone. Those of neighbouring cells, which belong to
--- different threads, share no cache line: a local word has a line of 64 bytes of its own, and the shared word and the mutex
--- have the next. All owner words lie side by side: they are read far more often than written. So do all free words: a search
--- for a free cell reads them one after the other. And so do the 32 queue words of a thread that one bit of its notify word
--- names: a poll drains them in a row, and they share no line with another thread's, but at their ends.
+-- different threads, share no cache line: a local word has a line of 64 bytes of its own, and the shared word and the
+-- mutex have the next. All owner words lie side by side: they are read far more often than written. So do all free
+-- words: a search for a free cell reads them one after the other. And so do the 32 queue words of a thread that one bit
+-- of its notify word names: a poll drains them in a row, and they share no line with another thread's, but at their
+-- ends.
 use Rattle.std.specs.Prelude.{ℕ, ◌+◌, ◌*◌, ◌/◌, ◌%◌}
 use Rattle.brc_words.specs.declared.limits.TheConstants.{MOST_THREADS}
 use Rattle.law_world.specs.Heap.{words_for}

@@ -1,5 +1,6 @@
 -- Items with the contents that go with them, and the runs that they make.
-use Rattle.std.specs.Prelude.{◌≡◌, ℕ, ◌==◌, Bool, true, false, if◌then◌else◌, pos, ◌-ℤ◌, List, [], ◌∷◌, ◌++◌, map, Option, Some, None}
+use Rattle.std.specs.Prelude.{◌≡◌, ℕ, ◌==◌, Bool, true, false, if◌then◌else◌, pos, ◌-ℤ◌, List, [], ◌∷◌, ◌++◌, map}
+use Rattle.std.specs.Prelude.{Option, Some, None}
 use Rattle.brc_words.specs.declared.limits.TheConstants.{GLOBALS}
 use Rattle.brc_words.specs.declared.kind.Kind.{Kind}
 use Rattle.brc_words.specs.declared.kind.Kind.TheVariants as kinds
@@ -12,7 +13,8 @@ use Rattle.law_known.specs.Items as items
 use Rattle.law_known.specs.Items.{Item, ItemRun, AreItems, world_of_items, is_start, finds}
 use Rattle.law_rule.specs.declared.contents.PlainKey.{PlainKey}
 use Rattle.law_rule.specs.declared.contents.Contents.{Contents}
-use Rattle.law_rule.specs.declared.contents.Contents.TheVariants.{Nothing, Truth, Int, Text, «List» as Cells, Dict, Mailbox}
+use Rattle.law_rule.specs.declared.contents.Contents.TheVariants.{Nothing, Truth, Int, Text, «List» as Cells, Dict}
+use Rattle.law_rule.specs.declared.contents.Contents.TheVariants.{Mailbox}
 use Rattle.law_rule.specs.declared.told.Moved.{Moved}
 use Rattle.law_rule.specs.declared.told.Moved.TheVariants as moves
 use Rattle.law_rule.specs.declared.told.Told.{Told}
@@ -109,7 +111,9 @@ put_in (Lost word number) c before = before
 
 -- the immortals, as the heap is opened: none, false, true, the integers from -5 to 256, and the empty globals
 abbrev pub opening_contents : ℕ → Contents
-opening_contents c = if c == 0 then Nothing else (if c == 1 then Truth false else (if c == 2 then Truth true else (if c == GLOBALS then Dict [] else Int (pos c -ℤ pos 8))))
+opening_contents c = if c ==
+    0 then Nothing else (if c == 1 then Truth
+    false else (if c == 2 then Truth true else (if c == GLOBALS then Dict [] else Int (pos c -ℤ pos 8))))
 
 -- what the last Birth or Unlock of the cell put home; before the first, what the heap was opened with
 abbrev pub contents_at : Run → ℕ → Contents

@@ -1,5 +1,5 @@
--- What a seat has noted since its last step. A look changes nothing, and so what it found may be used, where it stays while
--- others step.
+-- What a seat has noted since its last step. A look changes nothing, and so what it found may be used, where it stays
+-- while others step.
 use Rattle.std.specs.Prelude.{ℕ, ◌==◌, ◌&&◌, Bool, false, if◌then◌else◌, List, [], ◌∷◌, Option, Some, None}
 use Rattle.law_world.specs.declared.event.Step.{Step}
 use Rattle.law_known.specs.declared.word.Field.{Field}

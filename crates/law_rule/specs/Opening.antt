@@ -16,7 +16,8 @@ use Rattle.law_rule.specs.Homes.{LiesThere}
 abbrev pub first_view : View
 first_view = record { active = true; thread = 0; log = []; gathered = [] }
 
-pub record Opens {B : Type 0} (shows : B → ℕ × Contents) (n limit : ℕ) (words : List ℕ) (slots : List (Option B)) : Type 0 where
+pub record Opens {B : Type 0} (shows : B → ℕ × Contents) (n limit : ℕ) (words : List ℕ)
+    (slots : List (Option B)) : Type 0 where
   pub wide : length words ≡ extent n
   pub deep : length slots ≡ n
   pub each_word : (w : Word) → IsWord n w → Shows (opening n limit) w (slice_index words (spot n w))

@@ -1,5 +1,6 @@
 -- The rule of the running table: what its words, its blocks at home and its seats' views show is the world of one run.
-use Rattle.std.specs.Prelude.{◌≡◌, ℕ, ◌==◌, ◌&&◌, ◌||◌, not, ◌<◌, Bool, true, if◌then◌else◌, List, [], ◌∷◌, ◌++◌, length, slice_index, Option, Some, None}
+use Rattle.std.specs.Prelude.{◌≡◌, ℕ, ◌==◌, ◌&&◌, ◌||◌, not, ◌<◌, Bool, true, if◌then◌else◌, List, [], ◌∷◌, ◌++◌}
+use Rattle.std.specs.Prelude.{length, slice_index, Option, Some, None}
 use mathlib.Core.Option.{some}
 use lib.ListN.{get_elem?}
 use Rattle.atomic_table.specs.Table.{State}
@@ -35,8 +36,8 @@ pub record Fits (h : Heap) (run : Run) (seat : ℕ → ℕ) (j : ℕ) (v : View)
   pub gathered : v.thread ≡ 0 → (u : ℕ) → 0 < u → is_gathered h u ≡ true → log_in v.gathered u ≡ Some (own_of u run)
   pub lives : v.thread ≡ 0 → v.gathered ≡ lives_of run
 
--- Each item of a thread stands in one log, once and in its order: in its seat's, where it has one, or before that in one of
--- those of its registrations that have ended.
+-- Each item of a thread stands in one log, once and in its order: in its seat's, where it has one, or before that in
+-- one of those of its registrations that have ended.
 abbrev pub StandsOnce : Heap → Run → ℕ → Type 0
 StandsOnce h run t = all_of t run ≡ (if stands h t then own_of t run else []) ++ ended_in t (lives_of run)
 
@@ -58,6 +59,7 @@ pub record Kept {B : Type 0} (shows : B → ℕ × Contents) (n limit : ℕ) (s 
   pub deep : length s.homes ≡ n
   pub each_word : (w : Word) → IsWord n w → Shows (world n limit run) w (slice_index s.words (spot n w))
   pub each_home : (c : ℕ) → c < n → HomeShown shows s.homes (world n limit run) run c
-  pub each_seat : (j : ℕ) (v : View) → get_elem? s.views j ≡ some v → v.active ≡ true → Fits (world n limit run) run seat j v
+  pub each_seat : (j : ℕ) (v : View) → get_elem? s.views j ≡ some v → v.active ≡ true
+      → Fits (world n limit run) run seat j v
   pub each_thread : (t : ℕ) → stands (world n limit run) t ≡ true → Seated s.views t (seat t)
   pub each_once : (t : ℕ) → 0 < t → StandsOnce (world n limit run) run t

@@ -1,5 +1,5 @@
-//! The laws of the rule, each as the contract of a function with nothing to do. Its lemmas are in `proofs/`; that each kind
-//! of step keeps the rule is `law_steps`.
+//! The laws of the rule, each as the contract of a function with nothing to do. Its lemmas are in `proofs/`; that each
+//! kind of step keeps the rule is `law_steps`.
 
 ghost use Rattle.std.specs.Prelude.{◌≡◌, ℕ, ◌<◌, ◌≤◌, List, ◌∷◌, Option, Some, true};
 ghost use mathlib.Core.Option.{some};
@@ -43,8 +43,8 @@ pub fn tables_open_by_the_rule<B>()
         → Kept shows n limit (opens_with words slots first_view) }
 {}
 
-/// What stands in a table that keeps the rule is a reached world, so counts are references there; and each seat's part of
-/// it is what the seat's own log says.
+/// What stands in a table that keeps the rule is a reached world, so counts are references there; and each seat's part
+/// of it is what the seat's own log says.
 pub fn what_stands_here_is_one_run<B>()
     ensures reached { (shows : B → ℕ × contents) (n limit : ℕ) (s : State (Option B) view)
         (r : Kept shows n limit s) → IsReached (world n limit r.run) }
@@ -55,8 +55,8 @@ pub fn what_stands_here_is_one_run<B>()
         → 0 < v.thread → IsPart (world n limit r.run) v.thread (part_seen n v.log) }
 {}
 
-/// Each item of that run stands in one log, once and in its order: each of the root's in its seat's, and each of a thread in
-/// its seat's, where it has one, or in one of those that the root keeps of registrations that have ended.
+/// Each item of that run stands in one log, once and in its order: each of the root's in its seat's, and each of a
+/// thread in its seat's, where it has one, or in one of those that the root keeps of registrations that have ended.
 pub fn each_item_stands_in_one_log<B>()
     ensures seats { (shows : B → ℕ × contents) (n limit : ℕ) (s : State (Option B) view)
         (r : Kept shows n limit s) (j : ℕ) (v : view) → get_elem? s.views j ≡ some v → v.active ≡ true
@@ -79,8 +79,8 @@ pub fn looks_keep_the_rule<B>()
         (λ number me. me ≡ (with_told (told.Saw w number) v, slots)) }
 {}
 
-/// A look at the owner word of a cell that the thread carries finds a thread's number or 0, and one at the local word of an
-/// object that it merges a count within the limit.
+/// A look at the owner word of a cell that the thread carries finds a thread's number or 0, and one at the local word
+/// of an object that it merges a count within the limit.
 #[tactic(auto, using(crate::proofs::Small_Looks::looks_owner, crate::proofs::Small_Looks::looks_local))]
 pub fn looks_at_the_hands_cell_find_small_numbers<B>()
     ensures owner { (shows : B → ℕ × contents) (n limit id : ℕ) (v : view) (slots : List (ℕ × Option B)) (c : ℕ)
@@ -95,9 +95,9 @@ pub fn looks_at_the_hands_cell_find_small_numbers<B>()
         × (number ≤ limit)) }
 {}
 
-/// What a locking finds is what the last birth or unlock of that cell put home, and so is what the taker of a dead block
-/// finds; an unlock that keeps puts home what its locking found. What was put home last is of the kind, and has the
-/// entries, that the world has there, but for a dead block, which loses its entries one by one.
+/// What a locking finds is what the last birth or unlock of that cell put home, and so is what the taker of a dead
+/// block finds; an unlock that keeps puts home what its locking found. What was put home last is of the kind, and has
+/// the entries, that the world has there, but for a dead block, which loses its entries one by one.
 #[tactic(auto, using(crate::proofs::Locked_Contents::found_is_put, crate::proofs::Locked_Contents::kept_is_put, crate::proofs::Locked_Contents::locked_contents, crate::proofs::Contents_Law::contents_fit))]
 pub fn lockings_find_what_was_put_home()
     ensures found { (n limit : ℕ) (run : Run) (t : ℕ) (s : step) (number c : ℕ) (p : contents)
@@ -112,8 +112,8 @@ pub fn lockings_find_what_was_put_home()
         → AtRest (world n limit run) c → ContentsFit (world n limit run) run c }
 {}
 
-/// What an unlocking puts home has the keys that were put home last in that cell, which are those that its locking found: all
-/// of them, in a dictionary one more that wasn't there, or one fewer.
+/// What an unlocking puts home has the keys that were put home last in that cell, which are those that its locking
+/// found: all of them, in a dictionary one more that wasn't there, or one fewer.
 #[tactic(auto, using(crate::proofs::Keys_Law::keys_unlocked))]
 pub fn unlockings_pin_the_keys()
     ensures { (n limit : ℕ) (run : Run) (t : ℕ) (how : change) (number c : ℕ) (p : contents)
@@ -121,8 +121,8 @@ pub fn unlockings_pin_the_keys()
         → KeysGo how (contents_at run c) p }
 {}
 
-/// No key of a dictionary stands twice: in what was put home last in any cell, in what a thread's locking found, and so in the
-/// blocks of unlocked objects and in what each seat knows.
+/// No key of a dictionary stands twice: in what was put home last in any cell, in what a thread's locking found, and so
+/// in the blocks of unlocked objects and in what each seat knows.
 pub fn no_key_stands_twice<B>()
     ensures home { (n limit : ℕ) (run : Run) (c : ℕ) → IsLegal n limit run
         → HasDistinctKeys (contents_at run c) }

@@ -1,5 +1,6 @@
 -- MergeAdd: the local count joins the shared one, and the object is merged.
-use Rattle.std.proofs.Common.{◌≡◌, ℕ, ◌+◌, ◌*◌, ◌<◌, ◌≤◌, ◌/◌, ◌%◌, ◌^◌, true, false, if◌then◌else◌, pos, ◌+ℤ◌, List, [], length, Option, Some, None, refl, sym, ◌∙◌, ap, subst, inl, inr, arith}
+use Rattle.std.proofs.Common.{◌≡◌, ℕ, ◌+◌, ◌*◌, ◌<◌, ◌≤◌, ◌/◌, ◌%◌, ◌^◌, true, false, if◌then◌else◌, pos, ◌+ℤ◌, List}
+use Rattle.std.proofs.Common.{[], length, Option, Some, None, refl, sym, ◌∙◌, ap, subst, inl, inr, arith}
 use Rattle.std.proofs.lemmas.Int.{ints}
 use Rattle.atomic_table.specs.Table.{State as Table, Allows}
 use Rattle.brc_words.specs.declared.limits.TheConstants.{FIRST_MORTAL}
@@ -45,50 +46,63 @@ use Rattle.law_steps.proofs.Telling.{tells_found}
 use Rattle.law_rule.proofs.Since.{since}
 use Rattle.law_rule.proofs.Noting.{hand_in, IsMerging, adding_hand, merging_words}
 
-noted_local : (h : Heap) (t c local : ℕ) (p : Phase) → IsReached h → (row_at h t).hand ≡ hands.Busy p c → IsMerging p → Shows h (Of Local c) local → Merges h t c local p
+noted_local : (h : Heap) (t c local : ℕ) (p : Phase) → IsReached h → (row_at h t).hand ≡ hands.Busy p c → IsMerging p
+    → Shows h (Of Local c) local → Merges h t c local p
 noted_local h t c local p reached busy which found =
     let words = merging_words h t c p reached busy which in
     record { hand = busy; phase = which; owner = words.0; state = words.1; count = sym found }
 
 -- the local count is the one that was noted, since nobody else writes it
-merges_now : (n limit : ℕ) (h : Heap) (t : ℕ) (log : List Told) (c local : ℕ) → 0 < t → Known n limit h t log → AddsLocal n log c local → (p : Phase) × Merges h t c local p
+merges_now : (n limit : ℕ) (h : Heap) (t : ℕ) (log : List Told) (c local : ℕ) → 0 < t → Known n limit h t log
+    → AddsLocal n log c local → (p : Phase) × Merges h t c local p
 merges_now n limit h t log c local some_thread known adds =
     let hand = adding_hand n limit h t log c known adds.own in (
       hand.0,
-      since n limit h t log Local c local (λ z. Merges z t c local hand.0) some_thread known adds.found (merging_lasts t c local hand.0)
-          (λ old before was same found. noted_local old t c local hand.0 was.reached (hand_in n limit old t before log (hands.Busy hand.0 c) was same hand.1) hand.2 found),
+      since n limit h t log Local c local (λ z. Merges z t c local hand.0) some_thread known adds.found
+          (merging_lasts t c local hand.0)
+          (λ old before was same found. noted_local old t c local hand.0 was.reached
+          (hand_in n limit old t before log (hands.Busy hand.0 c) was same hand.1) hand.2 found),
     )
 
 -- the object counts the reference with which it is merged
 merging_held : (h : Heap) (t c local : ℕ) (p : Phase) → IsReached h → Merges h t c local p → 1 ≤ held h c
 merging_held h t c local p reached now = elim now.phase [
-  | inl taking ↦ carried_held h t c (busy_carrier phases.Taking c (row_at h t).hand refl (now.hand ∙ ap (λ q. hands.Busy q c) taking))
-  | inr popping ↦ popped_held h t c ((reached_sound h reached).hands t c phases.Popping (now.hand ∙ ap (λ q. hands.Busy q c) popping)).fits.1
+  | inl taking ↦ carried_held h t c
+      (busy_carrier phases.Taking c (row_at h t).hand refl (now.hand ∙ ap (λ q. hands.Busy q c) taking))
+  | inr popping ↦ popped_held h t c
+      ((reached_sound h reached).hands t c phases.Popping (now.hand ∙ ap (λ q. hands.Busy q c) popping)).fits.1
 ]
 
 -- so its counts together are all its references, and it doesn't die
-merging_sum : (h : Heap) (t c local : ℕ) (p : Phase) → IsReached h → Merges h t c local p → (cell_at h c).count +ℤ pos (cell_at h c).local ≡ pos (held h c)
+merging_sum : (h : Heap) (t c local : ℕ) (p : Phase) → IsReached h → Merges h t c local p
+    → (cell_at h c).count +ℤ pos (cell_at h c).local ≡ pos (held h c)
 merging_sum h t c local p reached now =
     let x : Cell = cell_at h c in
     let mortal : FIRST_MORTAL ≤ c = (hand_tells h t c p reached now.hand).0 in
     let total : count_of_state states.Queued x.local x.count ≡ pos (held h c) =
-    sym (live_counts x (ap lives now.owner) ∙ ap (λ s. count_of_state s x.local x.count) now.state) ∙ (reached_sound h reached).counted c mortal in
+    sym (live_counts x (ap lives now.owner) ∙ ap (λ s. count_of_state s x.local x.count) now.state)
+    ∙ (reached_sound h reached).counted c mortal in
     omega (arith, ints, total)
 
-merging_lives : (h : Heap) (t c local : ℕ) (p : Phase) → IsReached h → Merges h t c local p → takes_block (MergeAdd c) (cell_at h c) ≡ false
-merging_lives h t c local p reached now = nonzero ((cell_at h c).count +ℤ pos (cell_at h c).local) (held h c) (merging_sum h t c local p reached now) (merging_held h t c local p reached now)
+merging_lives : (h : Heap) (t c local : ℕ) (p : Phase) → IsReached h → Merges h t c local p
+    → takes_block (MergeAdd c) (cell_at h c) ≡ false
+merging_lives h t c local p reached now = nonzero ((cell_at h c).count +ℤ pos (cell_at h c).local) (held h c)
+    (merging_sum h t c local p reached now) (merging_held h t c local p reached now)
 
 merging_inside : (h : Heap) (t c local : ℕ) (p : Phase) → IsReached h → Merges h t c local p → c < length h.cells
 merging_inside h t c local p reached now = inside h c (live_owner _ (ap lives now.owner))
 
-may_add : (n limit : ℕ) (h : Heap) (t : ℕ) (log : List Told) (c local : ℕ) → 0 < t → Known n limit h t log → AddsLocal n log c local → thread_may h t (MergeAdd c) ≡ true
+may_add : (n limit : ℕ) (h : Heap) (t : ℕ) (log : List Told) (c local : ℕ) → 0 < t → Known n limit h t log
+    → AddsLocal n log c local → thread_may h t (MergeAdd c) ≡ true
 may_add n limit h t log c local some_thread known adds =
     let merging = merges_now n limit h t log c local some_thread known adds in
     is_enabled n limit h t log (MergeAdd c) some_thread known adds.own refl refl
-    (fits_cell n limit h t log (MergeAdd c) c known refl (merging_inside h t c local merging.0 known.reached merging.1) refl)
+    (fits_cell n limit h t log (MergeAdd c) c known refl
+    (merging_inside h t c local merging.0 known.reached merging.1) refl)
 
 -- what the word is after it: the sum, of a merged object
-sum_stored : (n limit : ℕ) (h : Heap) (t : ℕ) (log : List Told) (c local there : ℕ) → 0 < t → Known n limit h t log → AddsLocal n log c local → Shows h (Of Shared c) there
+sum_stored : (n limit : ℕ) (h : Heap) (t : ℕ) (log : List Told) (c local there : ℕ) → 0 < t → Known n limit h t log
+    → AddsLocal n log c local → Shows h (Of Shared c) there
     → (there + (local * 4 + 1)) % 2 ^ 64 ≡ shared_word ((cell_at h c).count +ℤ pos (cell_at h c).local) states.Merged
 sum_stored n limit h t log c local there some_thread known adds shown =
     let s : Step = MergeAdd c in
@@ -99,25 +113,36 @@ sum_stored n limit h t log c local there some_thread known adds shown =
     let low : c < length h.cells = merging_inside h t c local merging.0 known.reached now in
     let mortal : FIRST_MORTAL ≤ c = (hand_tells h t c merging.0 known.reached now.hand).0 in
     let more : CountFits (x.count +ℤ pos local) = subst (λ m. CountFits (x.count +ℤ pos m)) now.count
-    (subst (λ (y : Cell). CountFits y.count) (read_cell h t s c low) (count_after h t s c c sound some_thread (may_add n limit h t log c local some_thread known adds) refl)) in
-    let few : local < 2 ^ 33 = omega (arith, (sound.cells c mortal).limited (ap lives now.owner), now.count, known.limit_is, known.options.below_immortal) in
-    ap (λ m. (m + (local * 4 + 1)) % 2 ^ 64) (shown ∙ ap (shared_word x.count) now.state) ∙ sym (word_merged x.count local (reached_count_range h known.reached c) more few)
+    (subst (λ (y : Cell). CountFits y.count) (read_cell h t s c low)
+    (count_after h t s c c sound some_thread (may_add n limit h t log c local some_thread known adds) refl)) in
+    let few : local < 2 ^ 33 = omega (
+      arith,
+      (sound.cells c mortal).limited (ap lives now.owner),
+      now.count,
+      known.limit_is,
+      known.options.below_immortal,
+    ) in
+    ap (λ m. (m + (local * 4 + 1)) % 2 ^ 64) (shown ∙ ap (shared_word x.count) now.state)
+    ∙ sym (word_merged x.count local (reached_count_range h known.reached c) more few)
     ∙ ap (λ m. shared_word (x.count +ℤ pos m) states.Merged) (sym now.count)
 
 -- a count above 0, as it is spelled
 counts_word : (count : ℕ) → 1 ≤ count → 2 ^ 40 < ((2 ^ 40 + count) * 4 + 3) / 4
 counts_word count some = omega (arith, some)
 
-sum_counts : (n limit : ℕ) (h : Heap) (t : ℕ) (log : List Told) (c local there : ℕ) → 0 < t → Known n limit h t log → AddsLocal n log c local → Shows h (Of Shared c) there
+sum_counts : (n limit : ℕ) (h : Heap) (t : ℕ) (log : List Told) (c local there : ℕ) → 0 < t → Known n limit h t log
+    → AddsLocal n log c local → Shows h (Of Shared c) there
     → CountsSome ((there + (local * 4 + 1)) % 2 ^ 64)
 sum_counts n limit h t log c local there some_thread known adds shown =
     let merging = merges_now n limit h t log c local some_thread known adds in
     let is : (there + (local * 4 + 1)) % 2 ^ 64 ≡ shared_word (pos (held h c)) states.Merged =
-    sum_stored n limit h t log c local there some_thread known adds shown ∙ ap (λ m. shared_word m states.Merged) (merging_sum h t c local merging.0 known.reached merging.1) in
+    sum_stored n limit h t log c local there some_thread known adds shown
+    ∙ ap (λ m. shared_word m states.Merged) (merging_sum h t c local merging.0 known.reached merging.1) in
     let some : 1 ≤ held h c = merging_held h t c local merging.0 known.reached merging.1 in
     subst CountsSome (sym is) (counts_word (held h c) some)
 
-adds_up : (n limit : ℕ) (h : Heap) (t : ℕ) (log : List Told) (c local there : ℕ) → 0 < t → Known n limit h t log → AddsLocal n log c local → Shows h (Of Shared c) there
+adds_up : (n limit : ℕ) (h : Heap) (t : ℕ) (log : List Told) (c local there : ℕ) → 0 < t → Known n limit h t log
+    → AddsLocal n log c local → Shows h (Of Shared c) there
     → IsPlain n h t (MergeAdd c) (Of Shared c) ((there + (local * 4 + 1)) % 2 ^ 64) ((there + (local * 4 + 1)) % 2 ^ 64)
 adds_up n limit h t log c local there some_thread known adds shown =
     let s : Step = MergeAdd c in
@@ -125,7 +150,8 @@ adds_up n limit h t log c local there some_thread known adds shown =
     let merging = merges_now n limit h t log c local some_thread known adds in
     let low : c < length h.cells = merging_inside h t c local merging.0 known.reached merging.1 in
     let off : takes_block s x ≡ false = merging_lives h t c local merging.0 known.reached merging.1 in
-    let sum : (there + (local * 4 + 1)) % 2 ^ 64 ≡ shared_word (x.count +ℤ pos x.local) states.Merged = sum_stored n limit h t log c local there some_thread known adds shown in
+    let sum : (there + (local * 4 + 1)) % 2 ^ 64 ≡ shared_word (x.count +ℤ pos x.local) states.Merged =
+    sum_stored n limit h t log c local there some_thread known adds shown in
     plain_on n h t s c (Of Shared c) ((there + (local * 4 + 1)) % 2 ^ 64) ((there + (local * 4 + 1)) % 2 ^ 64) (record {
       may = may_add n limit h t log c local some_thread known adds;
       target = refl;
@@ -142,11 +168,17 @@ module _ {B : Type 0} (shows : B → ℕ × Contents) (n limit : ℕ) where
   abbrev Rule : Table (Option B) View → Type 0
   Rule = Kept shows n limit
 
-  pub adds_local : (id : ℕ) (v : View) (slots : List (ℕ × Option B)) (c local : ℕ) → v.active ≡ true → 0 < v.thread → c < n → AddsLocal n v.log c local
-      → Allows Rule n id (v, slots) (spot n (Of Shared c)) (λ there. (there + (local * 4 + 1)) % 2 ^ 64) (λ there me. (me ≡ (with_told (Did (MergeAdd c) ((there + (local * 4 + 1)) % 2 ^ 64) moves.Nothing) v, slots)) × CountsSome ((there + (local * 4 + 1)) % 2 ^ 64))
+  pub adds_local : (id : ℕ) (v : View) (slots : List (ℕ × Option B)) (c local : ℕ) → v.active ≡ true → 0 < v.thread
+      → c < n → AddsLocal n v.log c local
+      → Allows Rule n id (v, slots) (spot n (Of Shared c)) (λ there. (there + (local * 4 + 1)) % 2 ^ 64)
+      (λ there me. (me ≡ (with_told (Did (MergeAdd c) ((there + (local * 4 + 1)) % 2 ^ 64) moves.Nothing) v, slots))
+      × CountsSome ((there + (local * 4 + 1)) % 2 ^ 64))
   adds_local id v slots c local active some_thread low adds =
-      tells_found shows n limit (λ there. CountsSome ((there + (local * 4 + 1)) % 2 ^ 64)) id v slots (Of Shared c) (λ there. (there + (local * 4 + 1)) % 2 ^ 64)
-      (λ there me. me ≡ (with_told (Did (MergeAdd c) ((there + (local * 4 + 1)) % 2 ^ 64) moves.Nothing) v, slots)) active some_thread low
+      tells_found shows n limit (λ there. CountsSome ((there + (local * 4 + 1)) % 2 ^ 64)) id v slots (Of Shared c)
+      (λ there. (there + (local * 4 + 1)) % 2 ^ 64)
+      (λ there me. me ≡ (with_told (Did (MergeAdd c) ((there + (local * 4 + 1)) % 2 ^ 64) moves.Nothing) v, slots))
+      active some_thread low
       (λ h there known shown. sum_counts n limit h v.thread v.log c local there some_thread known adds shown)
-      (plain_step shows n limit id v slots (MergeAdd c) (Of Shared c) (λ there. (there + (local * 4 + 1)) % 2 ^ 64) (λ there. (there + (local * 4 + 1)) % 2 ^ 64) active some_thread low
+      (plain_step shows n limit id v slots (MergeAdd c) (Of Shared c) (λ there. (there + (local * 4 + 1)) % 2 ^ 64)
+      (λ there. (there + (local * 4 + 1)) % 2 ^ 64) active some_thread low
       (λ h there known shown small. adds_up n limit h v.thread v.log c local there some_thread known adds shown))

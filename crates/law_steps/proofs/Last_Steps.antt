@@ -1,5 +1,6 @@
 -- LastDown by a note: of a popped bit, and of the reference in a hand.
-use Rattle.std.proofs.Common.{◌≡◌, ℕ, ◌+◌, ◌-◌, ◌<◌, ◌≤◌, ◌^◌, ◌%◌, true, false, List, length, Option, refl, sym, ap, subst, inl, inr, arith}
+use Rattle.std.proofs.Common.{◌≡◌, ℕ, ◌+◌, ◌-◌, ◌<◌, ◌≤◌, ◌^◌, ◌%◌, true, false, List, length, Option, refl, sym, ap}
+use Rattle.std.proofs.Common.{subst, inl, inr, arith}
 use Rattle.std.proofs.lemmas.Bool.{eqb-true, true≢false}
 use Rattle.atomic_table.specs.Table.{State as Table, Allows}
 use Rattle.brc_words.specs.declared.kind.Kind.{Kind}
@@ -42,7 +43,8 @@ use Rattle.law_rule.proofs.Knowing.{Known}
 use Rattle.law_steps.proofs.Local_Steps.{read_cell}
 use Rattle.law_rule.proofs.Stepping.{moved_on}
 use Rattle.law_rule.proofs.Since.{since, since_step}
-use Rattle.law_rule.proofs.Noting.{merged_word, nobodys_word, part_hand, part_own, hand_in, bit_in, has_popped, has_in_hand, owner_told}
+use Rattle.law_rule.proofs.Noting.{merged_word, nobodys_word, part_hand, part_own, hand_in, bit_in, has_popped}
+use Rattle.law_rule.proofs.Noting.{has_in_hand, owner_told}
 use Rattle.law_steps.proofs.Ending_Steps.{LastFits, last_down}
 use Rattle.law_steps.proofs.Taking_Steps.{end_step}
 
@@ -61,7 +63,8 @@ stays_last t c least h e reached ok others stays = record {
   keeps = keeping_lasts t c stays.kind stays.bearer least h e reached ok others stays.keeps;
 }
 
-popped_stays : (h : Heap) (t c : ℕ) → IsReached h → bit_of (popped_at h t) c ≡ 1 → (cell_at h c).state ≡ states.Merged → Stays h t c 2
+popped_stays : (h : Heap) (t c : ℕ) → IsReached h → bit_of (popped_at h t) c ≡ 1 → (cell_at h c).state ≡ states.Merged
+    → Stays h t c 2
 popped_stays h t c reached bit merged =
     let sound : IsSound h = reached_sound h reached in
     let mortal = (sound.bits t c (omega (arith, bit))).0 in
@@ -79,8 +82,10 @@ popped_stays h t c reached bit merged =
     }
 
 -- the bit is set, as the step wants it
-popped_bit : (n : ℕ) (log : List Told) (c : ℕ) → own_may n (part_seen n log) (LastDown (lasts.Popped c)) ≡ true → bit_of (part_seen n log).popped c ≡ 1
-popped_bit n log c own = eqb-true (bit_of (part_seen n log).popped c) 1 (part_own n (part_seen n log) (LastDown (lasts.Popped c)) own)
+popped_bit : (n : ℕ) (log : List Told) (c : ℕ) → own_may n (part_seen n log) (LastDown (lasts.Popped c)) ≡ true
+    → bit_of (part_seen n log).popped c ≡ 1
+popped_bit n log c own = eqb-true (bit_of (part_seen n log).popped c) 1
+    (part_own n (part_seen n log) (LastDown (lasts.Popped c)) own)
 
 top_state : (state : State) → 2 ≤ rank state → state ≡ states.Merged
 top_state states.Default high = absurd (omega (arith, high))
@@ -90,7 +95,8 @@ top_state states.Merged high = refl
 -- ---- the hand
 
 -- an object whose reference may end is queued or merged
-ending_risen : (h : Heap) (t c : ℕ) (p : Phase) → IsReached h → (row_at h t).hand ≡ hands.Busy p c → is_ending p ≡ true → is_default (cell_at h c).state ≡ false
+ending_risen : (h : Heap) (t c : ℕ) (p : Phase) → IsReached h → (row_at h t).hand ≡ hands.Busy p c → is_ending p ≡ true
+    → is_default (cell_at h c).state ≡ false
 ending_risen h t c phases.Asked reached busy ends = (hand_tells h t c phases.Asked reached busy).1
 ending_risen h t c phases.Shut reached busy ends = elim (hand_tells h t c phases.Shut reached busy).1 [
   | inl nobody ↦ nobody.1
@@ -110,7 +116,8 @@ module _ {B : Type 0} (shows : B → ℕ × Contents) (n limit : ℕ) where
 
   -- ---- a popped bit
 
-  popped_fits : (h : Heap) (t : ℕ) (log : List Told) (c : ℕ) → Known n limit h t log → own_may n (part_seen n log) (LastDown (lasts.Popped c)) ≡ true → Stays h t c 2
+  popped_fits : (h : Heap) (t : ℕ) (log : List Told) (c : ℕ) → Known n limit h t log
+      → own_may n (part_seen n log) (LastDown (lasts.Popped c)) ≡ true → Stays h t c 2
       → LastFits shows n limit h t log (lasts.Popped c) c
   popped_fits h t log c known own now =
       let merged : (cell_at h c).state ≡ states.Merged = top_state (cell_at h c).state now.keeps.state in
@@ -122,36 +129,51 @@ module _ {B : Type 0} (shows : B → ℕ × Contents) (n limit : ℕ) where
         fits = ap is_merged merged;
       }
 
-  noted_merged : (h : Heap) (t : ℕ) (log : List Told) (c number : ℕ) → 0 < t → Known n limit h t log → EndsPopped n log c number → Stays h t c 2
-  noted_merged h t log c number some_thread known ends = since n limit h t log Shared c number (λ z. Stays z t c 2) some_thread known ends.found (stays_last t c 2)
-      (λ old before was same found. popped_stays old t c was.reached (bit_in n limit old t before log c was same (popped_bit n log c ends.own))
+  noted_merged : (h : Heap) (t : ℕ) (log : List Told) (c number : ℕ) → 0 < t → Known n limit h t log
+      → EndsPopped n log c number → Stays h t c 2
+  noted_merged h t log c number some_thread known ends = since n limit h t log Shared c number
+      (λ z. Stays z t c 2) some_thread known ends.found (stays_last t c 2)
+      (λ old before was same found. popped_stays old t c was.reached
+      (bit_in n limit old t before log c was same (popped_bit n log c ends.own))
       (merged_word (cell_at old c).count (cell_at old c).state number found ends.merged))
 
-  pub ends_popped : (id : ℕ) (v : View) (slots : List (ℕ × Option B)) (c number : ℕ) → v.active ≡ true → 0 < v.thread → c < n → EndsPopped n v.log c number
+  pub ends_popped : (id : ℕ) (v : View) (slots : List (ℕ × Option B)) (c number : ℕ) → v.active ≡ true → 0 < v.thread
+      → c < n → EndsPopped n v.log c number
       → Allows Rule n id (v, slots) (spot n (Of Shared c)) (λ there. (there + (2 ^ 64 - 4)) % 2 ^ 64)
-      (λ there me. Ended shows n v slots (LastDown (lasts.Popped c)) c there (takes_block (LastDown (lasts.Popped c)) (cell_told (LastDown (lasts.Popped c)) there)) me)
+      (λ there me. Ended shows n v slots (LastDown (lasts.Popped c)) c there
+      (takes_block (LastDown (lasts.Popped c)) (cell_told (LastDown (lasts.Popped c)) there)) me)
   ends_popped id v slots c number active some_thread low ends =
-      end_step shows n limit id v slots (LastDown (lasts.Popped c)) c (Of Shared c) (λ there. (there + (2 ^ 64 - 4)) % 2 ^ 64) active some_thread low low
+      end_step shows n limit id v slots (LastDown (lasts.Popped c)) c (Of Shared c)
+      (λ there. (there + (2 ^ 64 - 4)) % 2 ^ 64) active some_thread low low
       (λ h there known shown small. last_down shows n limit h v.thread v.log (lasts.Popped c) c there some_thread known
-      (popped_fits h v.thread v.log c known ends.own (noted_merged h v.thread v.log c number some_thread known ends)) shown)
+      (popped_fits h v.thread v.log c known ends.own
+      (noted_merged h v.thread v.log c number some_thread known ends)) shown)
 
   -- it has just been merged, by the thread's own hand
-  just_merged : (h : Heap) (t : ℕ) (log : List Told) (c : ℕ) → 0 < t → Known n limit h t log → EndsAdded n log c → Stays h t c 2
-  just_merged h t log c some_thread known ends = since_step n limit h t log (MergeAdd c) (λ z. Stays z t c 2) some_thread known ends.added (stays_last t c 2)
-      (λ old later may was same. popped_stays (moved_on old t (MergeAdd c)) t c was.reached (bit_in n limit (moved_on old t (MergeAdd c)) t later log c was same (popped_bit n log c ends.own))
+  just_merged : (h : Heap) (t : ℕ) (log : List Told) (c : ℕ) → 0 < t → Known n limit h t log → EndsAdded n log c
+      → Stays h t c 2
+  just_merged h t log c some_thread known ends = since_step n limit h t log (MergeAdd c)
+      (λ z. Stays z t c 2) some_thread known ends.added (stays_last t c 2)
+      (λ old later may was same. popped_stays (moved_on old t (MergeAdd c)) t c was.reached
+      (bit_in n limit (moved_on old t (MergeAdd c)) t later log c was same (popped_bit n log c ends.own))
       (ap (λ (x : Cell). x.state) (read_cell old t (MergeAdd c) c (on_cell old t (MergeAdd c) c may.on_target).inside)))
 
-  pub ends_added : (id : ℕ) (v : View) (slots : List (ℕ × Option B)) (c : ℕ) → v.active ≡ true → 0 < v.thread → c < n → EndsAdded n v.log c
+  pub ends_added : (id : ℕ) (v : View) (slots : List (ℕ × Option B)) (c : ℕ) → v.active ≡ true → 0 < v.thread → c < n
+      → EndsAdded n v.log c
       → Allows Rule n id (v, slots) (spot n (Of Shared c)) (λ there. (there + (2 ^ 64 - 4)) % 2 ^ 64)
-      (λ there me. Ended shows n v slots (LastDown (lasts.Popped c)) c there (takes_block (LastDown (lasts.Popped c)) (cell_told (LastDown (lasts.Popped c)) there)) me)
+      (λ there me. Ended shows n v slots (LastDown (lasts.Popped c)) c there
+      (takes_block (LastDown (lasts.Popped c)) (cell_told (LastDown (lasts.Popped c)) there)) me)
   ends_added id v slots c active some_thread low ends =
-      end_step shows n limit id v slots (LastDown (lasts.Popped c)) c (Of Shared c) (λ there. (there + (2 ^ 64 - 4)) % 2 ^ 64) active some_thread low low
+      end_step shows n limit id v slots (LastDown (lasts.Popped c)) c (Of Shared c)
+      (λ there. (there + (2 ^ 64 - 4)) % 2 ^ 64) active some_thread low low
       (λ h there known shown small. last_down shows n limit h v.thread v.log (lasts.Popped c) c there some_thread known
       (popped_fits h v.thread v.log c known ends.own (just_merged h v.thread v.log c some_thread known ends)) shown)
 
   -- ---- the hand
 
-  hand_fits : (h : Heap) (t : ℕ) (log : List Told) (c : ℕ) (p : Phase) → Known n limit h t log → own_may n (part_seen n log) (LastDown lasts.Hand) ≡ true → (row_at h t).hand ≡ hands.Busy p c → is_ending p ≡ true → ends_ok (hands.Busy p c) (cell_at h c) ≡ true
+  hand_fits : (h : Heap) (t : ℕ) (log : List Told) (c : ℕ) (p : Phase) → Known n limit h t log
+      → own_may n (part_seen n log) (LastDown lasts.Hand) ≡ true → (row_at h t).hand ≡ hands.Busy p c
+      → is_ending p ≡ true → ends_ok (hands.Busy p c) (cell_at h c) ≡ true
       → LastFits shows n limit h t log lasts.Hand c
   hand_fits h t log c p known own busy ends ok = record {
     own = own;
@@ -161,31 +183,46 @@ module _ {B : Type 0} (shows : B → ℕ × Contents) (n limit : ℕ) where
     fits = subst (λ g. ends_ok g (cell_at h c) ≡ true) (sym busy) ok;
   }
 
-  pub ends_held : (id : ℕ) (v : View) (slots : List (ℕ × Option B)) (c : ℕ) → v.active ≡ true → 0 < v.thread → c < n → EndsHeld n v.log c
+  pub ends_held : (id : ℕ) (v : View) (slots : List (ℕ × Option B)) (c : ℕ) → v.active ≡ true → 0 < v.thread → c < n
+      → EndsHeld n v.log c
       → Allows Rule n id (v, slots) (spot n (Of Shared c)) (λ there. (there + (2 ^ 64 - 4)) % 2 ^ 64)
-      (λ there me. Ended shows n v slots (LastDown lasts.Hand) c there (takes_block (LastDown lasts.Hand) (cell_told (LastDown lasts.Hand) there)) me)
+      (λ there me. Ended shows n v slots (LastDown lasts.Hand) c there
+      (takes_block (LastDown lasts.Hand) (cell_told (LastDown lasts.Hand) there)) me)
   ends_held id v slots c active some_thread low ends =
-      end_step shows n limit id v slots (LastDown lasts.Hand) c (Of Shared c) (λ there. (there + (2 ^ 64 - 4)) % 2 ^ 64) active some_thread low low
+      end_step shows n limit id v slots (LastDown lasts.Hand) c (Of Shared c) (λ there. (there + (2 ^ 64 - 4)) % 2 ^ 64)
+      active some_thread low low
       (λ h there known shown small. last_down shows n limit h v.thread v.log lasts.Hand c there some_thread known
-      (hand_fits h v.thread v.log c phases.Held known ends.own (hand_in n limit h v.thread v.log v.log (hands.Busy phases.Held c) known refl ends.hand) refl refl) shown)
+      (hand_fits h v.thread v.log c phases.Held known ends.own
+      (hand_in n limit h v.thread v.log v.log (hands.Busy phases.Held c) known refl ends.hand) refl refl) shown)
 
-  nobodys_fits : (h : Heap) (t : ℕ) (log : List Told) (c : ℕ) → 0 < t → Known n limit h t log → EndsNobodys n log c → LastFits shows n limit h t log lasts.Hand c
+  nobodys_fits : (h : Heap) (t : ℕ) (log : List Told) (c : ℕ) → 0 < t → Known n limit h t log → EndsNobodys n log c
+      → LastFits shows n limit h t log lasts.Hand c
   nobodys_fits h t log c some_thread known ends =
-      let hand = ending_hand (part_seen n log).row.hand c (part_hand n (part_seen n log) (LastDown lasts.Hand) ends.own) ends.cell in
-      let now : Nobodys h t c = since n limit h t log Owner c 0 (λ z. Nobodys z t c) some_thread known ends.found (nobodys_last t c)
-      (λ old before was same found. noted_nobodys old t c hand.0 was.reached (hand_in n limit old t before log (hands.Busy hand.0 c) was same hand.1) hand.2 found) in
-      hand_fits h t log c hand.0 known ends.own (hand_in n limit h t log log (hands.Busy hand.0 c) known refl hand.1) hand.2 (ends_nobody hand.0 c (cell_at h c) now.owner)
+      let hand = ending_hand (part_seen n log).row.hand c (part_hand n (part_seen n log) (LastDown lasts.Hand) ends.own)
+      ends.cell in
+      let now : Nobodys h t c = since n limit h t log Owner c 0 (λ z. Nobodys z t c) some_thread known ends.found
+      (nobodys_last t c)
+      (λ old before was same found. noted_nobodys old t c hand.0 was.reached
+      (hand_in n limit old t before log (hands.Busy hand.0 c) was same hand.1) hand.2 found) in
+      hand_fits h t log c hand.0 known ends.own (hand_in n limit h t log log (hands.Busy hand.0 c) known refl hand.1)
+      hand.2 (ends_nobody hand.0 c (cell_at h c) now.owner)
     where
-      noted_nobodys : (h : Heap) (t c : ℕ) (p : Phase) → IsReached h → (row_at h t).hand ≡ hands.Busy p c → is_ending p ≡ true → Shows h (Of Owner c) 0 → Nobodys h t c
+      noted_nobodys : (h : Heap) (t c : ℕ) (p : Phase) → IsReached h → (row_at h t).hand ≡ hands.Busy p c
+          → is_ending p ≡ true → Shows h (Of Owner c) 0 → Nobodys h t c
       noted_nobodys h t c p reached busy ends found = record {
         held = has_in_hand h t c p busy (ending_reference p ends);
         mortal = (hand_tells h t c p reached busy).0;
-        owner = nobodys_word (length h.rows) (cell_at h c).owner (reached_owners h reached c) (owner_told h t c 0 reached (has_in_hand h t c p busy (ending_reference p ends)) found);
+        owner = nobodys_word (length h.rows) (cell_at h c).owner (reached_owners h reached c)
+            (owner_told h t c 0 reached (has_in_hand h t c p busy (ending_reference p ends)) found);
       }
 
-  pub ends_nobodys : (id : ℕ) (v : View) (slots : List (ℕ × Option B)) (c : ℕ) → v.active ≡ true → 0 < v.thread → c < n → EndsNobodys n v.log c
+  pub ends_nobodys : (id : ℕ) (v : View) (slots : List (ℕ × Option B)) (c : ℕ) → v.active ≡ true → 0 < v.thread → c < n
+      → EndsNobodys n v.log c
       → Allows Rule n id (v, slots) (spot n (Of Shared c)) (λ there. (there + (2 ^ 64 - 4)) % 2 ^ 64)
-      (λ there me. Ended shows n v slots (LastDown lasts.Hand) c there (takes_block (LastDown lasts.Hand) (cell_told (LastDown lasts.Hand) there)) me)
+      (λ there me. Ended shows n v slots (LastDown lasts.Hand) c there
+      (takes_block (LastDown lasts.Hand) (cell_told (LastDown lasts.Hand) there)) me)
   ends_nobodys id v slots c active some_thread low ends =
-      end_step shows n limit id v slots (LastDown lasts.Hand) c (Of Shared c) (λ there. (there + (2 ^ 64 - 4)) % 2 ^ 64) active some_thread low low
-      (λ h there known shown small. last_down shows n limit h v.thread v.log lasts.Hand c there some_thread known (nobodys_fits h v.thread v.log c some_thread known ends) shown)
+      end_step shows n limit id v slots (LastDown lasts.Hand) c (Of Shared c) (λ there. (there + (2 ^ 64 - 4)) % 2 ^ 64)
+      active some_thread low low
+      (λ h there known shown small. last_down shows n limit h v.thread v.log lasts.Hand c there some_thread known
+      (nobodys_fits h v.thread v.log c some_thread known ends) shown)

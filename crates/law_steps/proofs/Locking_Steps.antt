@@ -1,6 +1,7 @@
 -- Lock takes the block of the cell, with the contents that were put home last; Unlock puts it home with those that the
 -- change makes of them.
-use Rattle.std.proofs.Common.{◌≡◌, ℕ, ◌<◌, ◌≤◌, ◌==◌, ◌||◌, true, if◌then◌else◌, List, [], ◌∷◌, length, set, get_or, Option, Some, refl, sym, ◌∙◌, ap, subst, inl, inr, arith}
+use Rattle.std.proofs.Common.{◌≡◌, ℕ, ◌<◌, ◌≤◌, ◌==◌, ◌||◌, true, if◌then◌else◌, List, [], ◌∷◌, length, set, get_or}
+use Rattle.std.proofs.Common.{Option, Some, refl, sym, ◌∙◌, ap, subst, inl, inr, arith}
 use Rattle.std.proofs.lemmas.Bool.{cases_eq, eq-eqb, ne_eqb, true≢false}
 use mathlib.Core.Option.{some, none}
 use lib.ListN.{get_elem?}
@@ -58,13 +59,18 @@ record Named (h : Heap) (c : ℕ) : Type 0 where
   low : c < length h.cells
   rest : AtRest h c
 
-named_rests : (n limit : ℕ) (h : Heap) (t : ℕ) (log : List Told) (c : ℕ) → Known n limit h t log → 1 ≤ held h c → Named h c
+named_rests : (n limit : ℕ) (h : Heap) (t : ℕ) (log : List Told) (c : ℕ) → Known n limit h t log → 1 ≤ held h c
+    → Named h c
 named_rests n limit h t log c known holds =
     let sound : IsSound h = reached_sound h known.reached in
     let live : lives (cell_at h c).owner ≡ true = held_live h c sound holds in
     record {
       low = inside h c (live_owner _ live);
-      rest = record { live = live; off = λ u. one-false (is_marked (worklist_at h u) c) (held_unmarked h u c sound holds) };
+      rest = record {
+        live = live;
+        off = λ u. one-false (is_marked (worklist_at h u) c)
+            (held_unmarked h u c sound holds);
+      };
     }
 
 module _ {B : Type 0} (shows : B → ℕ × Contents) (n limit : ℕ) where
@@ -74,18 +80,25 @@ module _ {B : Type 0} (shows : B → ℕ × Contents) (n limit : ℕ) where
   -- ---- Lock
 
   -- the block that the locking finds
-  lies_there : (st : Table (Option B) View) (r : Rule st) (id : ℕ) (v : View) (k c : ℕ) → get_elem? st.views id ≡ some v → v.active ≡ true → 0 < v.thread → c < n → Carries n v.log (Lock k) c
+  lies_there : (st : Table (Option B) View) (r : Rule st) (id : ℕ) (v : View) (k c : ℕ) → get_elem? st.views id ≡ some v
+      → v.active ≡ true → 0 < v.thread → c < n → Carries n v.log (Lock k) c
       → get_or st.words (spot n (Of Mutex c)) 0 ≡ 0 → LiesThere shows st.homes c (contents_at r.run c)
   lies_there st r id v k c at active some_thread low carries zero =
       let h : Heap = world n limit r.run in
       let known : Known n limit h v.thread v.log = knows shows n limit st r id v at active some_thread in
-      let named : target_at h v.thread (Lock k) ≡ Some c = meant_there n limit h v.thread v.log (Lock k) (Some c) known carries.cell in
+      let named : target_at h v.thread (Lock k) ≡ Some c = meant_there n limit h v.thread v.log (Lock k)
+      (Some c) known carries.cell in
       let cell : Named h c = named_rests n limit h v.thread v.log c known (held_by_place h v.thread k c named) in
       (r.each_home c low).lies cell.rest.live (sym (r.each_word (Of Mutex c) low) ∙ zero) cell.rest.off
 
-  locking : (st : Table (Option B) View) (r : Rule st) (id : ℕ) (v : View) (k c : ℕ) → get_elem? st.views id ≡ some v → v.active ≡ true → 0 < v.thread → c < n → Carries n v.log (Lock k) c
+  locking : (st : Table (Option B) View) (r : Rule st) (id : ℕ) (v : View) (k c : ℕ) → get_elem? st.views id ≡ some v
+      → v.active ≡ true → 0 < v.thread → c < n → Carries n v.log (Lock k) c
       → get_or st.words (spot n (Of Mutex c)) 0 ≡ 0 → (lies : LiesThere shows st.homes c (contents_at r.run c))
-      → Rule (record { words = set st.words (spot n (Of Mutex c)) v.thread; homes = set st.homes c none; views = set st.views id (with_told (Did (Lock k) 0 (moves.Found c (shows lies.block).1)) v) })
+      → Rule (record {
+        words = set st.words (spot n (Of Mutex c)) v.thread;
+        homes = set st.homes c none;
+        views = set st.views id (with_told (Did (Lock k) 0 (moves.Found c (shows lies.block).1)) v);
+      })
   locking st r id v k c at active some_thread low carries zero lies =
       let t : ℕ = v.thread in
       let s : Step = Lock k in
@@ -99,7 +112,8 @@ module _ {B : Type 0} (shows : B → ℕ × Contents) (n limit : ℕ) where
       block_moved shows n limit st r id v s c (Of Mutex c) t 0 (moves.Found c (shows lies.block).1) none at active low
       (record {
         some_thread = some_thread;
-        may = is_enabled n limit h t v.log s some_thread known carries.own refl refl (fits_cell n limit h t v.log s c known named cell.low (eq-eqb x.mutex 0 free));
+        may = is_enabled n limit h t v.log s some_thread known carries.own refl refl
+            (fits_cell n limit h t v.log s c known named cell.low (eq-eqb x.mutex 0 free));
         target = named;
         low = cell.low;
         word = refl;
@@ -109,19 +123,29 @@ module _ {B : Type 0} (shows : B → ℕ × Contents) (n limit : ℕ) where
         moves = record { puts_none = refl; cell = ap (takes_of h s) named; there = lies.holds };
         elsewhere = λ d other. refl;
       })
-      (home_out shows (set st.homes c none) (stepped h t s c) ((t, Did s 0 (moves.Found c (shows lies.block).1)) ∷ r.run) c
+      (home_out shows (set st.homes c none) (stepped h t s c)
+      ((t, Did s 0 (moves.Found c (shows lies.block).1)) ∷ r.run) c
       (λ bad. live_owner x.owner cell.rest.live (sym (ap (λ (y : Cell). y.owner) now) ∙ bad))
       (λ live unlocked off. omega (arith, some_thread, sym (ap (λ (y : Cell). y.mutex) now) ∙ unlocked)))
 
-  -- What was found is the thread's own, where it is private to it: in a state of the rule each log says so of its lockings.
-  found_own : (st : Table (Option B) View) (v : View) (id : ℕ) (k c : ℕ) (found : Contents) (words : List ℕ) (homes : List (mathlib.Core.Option.Option (Option B))) → get_elem? st.views id ≡ some v → v.active ≡ true
-      → Rule (record { words = words; homes = homes; views = set st.views id (with_told (Did (Lock k) 0 (moves.Found c found)) v) }) → FindsOwn n v.log c found
+  -- What was found is the thread's own, where it is private to it: in a state of the rule each log says so of its
+  -- lockings.
+  found_own : (st : Table (Option B) View) (v : View) (id : ℕ) (k c : ℕ) (found : Contents) (words : List ℕ)
+      (homes : List (mathlib.Core.Option.Option (Option B))) → get_elem? st.views id ≡ some v → v.active ≡ true
+      → Rule (record {
+        words = words;
+        homes = homes;
+        views = set st.views id
+            (with_told (Did (Lock k) 0 (moves.Found c found)) v);
+      }) → FindsOwn n v.log c found
   found_own st v id k c found words homes at active after =
       let told : View = with_told (Did (Lock k) 0 (moves.Found c found)) v in
       (seats_own_locks shows n limit _ after id told (set_here st.views id told (at_inside st.views id v at)) active).1
 
-  pub locks_cell : (id : ℕ) (v : View) (slots : List (ℕ × Option B)) (k c : ℕ) → v.active ≡ true → 0 < v.thread → c < n → Carries n v.log (Lock k) c
-      → Allows Rule n id (v, slots) (spot n (Of Mutex c)) (λ there. either (there == 0) v.thread there) (λ there me. Locked shows n v slots k c there (there == 0) me)
+  pub locks_cell : (id : ℕ) (v : View) (slots : List (ℕ × Option B)) (k c : ℕ) → v.active ≡ true → 0 < v.thread → c < n
+      → Carries n v.log (Lock k) c
+      → Allows Rule n id (v, slots) (spot n (Of Mutex c)) (λ there. either (there == 0) v.thread there)
+      (λ there me. Locked shows n v slots k c there (there == 0) me)
   locks_cell id v slots k c active some_thread low carries st r deep at small =
       let w = Of Mutex c in
       let there : ℕ = get_or st.words (spot n w) 0 in
@@ -129,15 +153,25 @@ module _ {B : Type 0} (shows : B → ℕ × Contents) (n limit : ℕ) where
         | inl same ↦
             let h : Heap = world n limit r.run in
             let known : Known n limit h v.thread v.log = knows shows n limit st r id v at active some_thread in
-            let cell : Named h c = named_rests n limit h v.thread v.log c known (held_by_place h v.thread k c (meant_there n limit h v.thread v.log (Lock k) (Some c) known carries.cell)) in
-            let lies : LiesThere shows st.homes c (contents_at r.run c) = lies_there st r id v k c at active some_thread low carries same in
-            let are : entries_in (shows lies.block).1 ≡ entries_at h c = ap entries_in lies.holds ∙ (contents_fit n limit r.run c r.options r.legal cell.rest).entries in (
+            let cell : Named h c = named_rests n limit h v.thread v.log c known
+            (held_by_place h v.thread k c
+            (meant_there n limit h v.thread v.log (Lock k) (Some c) known carries.cell)) in
+            let lies : LiesThere shows st.homes c (contents_at r.run c) = lies_there st r id v k c at active some_thread
+            low carries same in
+            let are : entries_in (shows lies.block).1 ≡ entries_at h c = ap entries_in lies.holds
+            ∙ (contents_fit n limit r.run c r.options r.legal cell.rest).entries in (
               with_told (Did (Lock k) 0 (moves.Found c (shows lies.block).1)) v,
               takes c (Some lies.block),
               lies.there,
-              subst (λ b. Rule (record { words = set st.words (spot n w) (either b v.thread there); homes = set st.homes c none; views = set st.views id (with_told (Did (Lock k) 0 (moves.Found c (shows lies.block).1)) v) }))
+              subst (λ b. Rule (record {
+                words = set st.words (spot n w) (either b v.thread there);
+                homes = set st.homes c none;
+                views = set st.views id (with_told (Did (Lock k) 0 (moves.Found c (shows lies.block).1)) v);
+              }))
                   (sym (eq-eqb there 0 same)) (locking st r id v k c at active some_thread low carries same lies),
-              subst (λ b. Locked shows n v slots k c there b (with_told (Did (Lock k) 0 (moves.Found c (shows lies.block).1)) v, (c, Some lies.block) ∷ slots)) (sym (eq-eqb there 0 same))
+              subst (λ b. Locked shows n v slots k c there b
+                  (with_told (Did (Lock k) 0 (moves.Found c (shows lies.block).1)) v, (c, Some lies.block) ∷ slots))
+                  (sym (eq-eqb there 0 same))
                   (record {
                     took = record {
                       block = lies.block;
@@ -147,16 +181,22 @@ module _ {B : Type 0} (shows : B → ℕ × Contents) (n limit : ℕ) where
                       few = found_few n limit h v.thread v.log c _ known are;
                       after_is = refl;
                     };
-                    own = found_own st v id k c (shows lies.block).1 _ _ at active (locking st r id v k c at active some_thread low carries same lies);
+                    own = found_own st v id k c (shows lies.block).1 _ _ at active
+                        (locking st r id v k c at active some_thread low carries same lies);
                   }),
             )
         | inr other ↦ (
           with_told (Lost w there) v,
           keeps,
           tt,
-          subst (λ b. Rule (record { words = set st.words (spot n w) (either b v.thread there); homes = st.homes; views = set st.views id (with_told (Lost w there) v) })) (sym (ne_eqb there 0 other))
+          subst (λ b. Rule (record {
+            words = set st.words (spot n w) (either b v.thread there);
+            homes = st.homes;
+            views = set st.views id (with_told (Lost w there) v);
+          })) (sym (ne_eqb there 0 other))
               (unmoved shows n limit st r id v w (Lost w there) at active low lost),
-          subst (λ b. Locked shows n v slots k c there b (with_told (Lost w there) v, slots)) (sym (ne_eqb there 0 other)) refl,
+          subst (λ b. Locked shows n v slots k c there b (with_told (Lost w there) v, slots))
+              (sym (ne_eqb there 0 other)) refl,
         )
       ]
 
@@ -165,11 +205,17 @@ module _ {B : Type 0} (shows : B → ℕ × Contents) (n limit : ℕ) where
   -- the entries after the change, by those that the locking found
   changed_entries : (h : Heap) (t c : ℕ) (change : Change) → c < length h.entries
       → entries_at (stepped h t (Unlock change) c) c ≡ entries_changed change (frame_at h t) (entries_at h c)
-  changed_entries h t c change low = read_here h.entries c (entries_changed change (frame_at h t) (entries_at h c)) [] low
+  changed_entries h t c change low =
+      read_here h.entries c (entries_changed change (frame_at h t) (entries_at h c)) [] low
 
-  unlocking : (st : Table (Option B) View) (r : Rule st) (id : ℕ) (v : View) (block : B) (found : Contents) (change : Change) (c : ℕ) → get_elem? st.views id ≡ some v → v.active ≡ true → 0 < v.thread → c < n
+  unlocking : (st : Table (Option B) View) (r : Rule st) (id : ℕ) (v : View) (block : B) (found : Contents)
+      (change : Change) (c : ℕ) → get_elem? st.views id ≡ some v → v.active ≡ true → 0 < v.thread → c < n
       → Unlocks n v.log (shows block) found change c
-      → Rule (record { words = set st.words (spot n (Of Mutex c)) 0; homes = set st.homes c (some (Some block)); views = set st.views id (with_told (Did (Unlock change) 0 (moves.Put c (shows block).1)) v) })
+      → Rule (record {
+        words = set st.words (spot n (Of Mutex c)) 0;
+        homes = set st.homes c (some (Some block));
+        views = set st.views id (with_told (Did (Unlock change) 0 (moves.Put c (shows block).1)) v);
+      })
   unlocking st r id v block found change c at active some_thread low unlocks =
       let t : ℕ = v.thread in
       let s : Step = Unlock change in
@@ -184,7 +230,8 @@ module _ {B : Type 0} (shows : B → ℕ × Contents) (n limit : ℕ) where
       let cell : Named h c = named_rests n limit h t v.log c known lock.2 in
       let fits : ContentsFit h r.run c = contents_fit n limit r.run c r.options r.legal cell.rest in
       let there : found ≡ contents_at r.run c = same_contents found (contents_at r.run c)
-      (sym unlocks.was_found ∙ ap contents_locked (sym (r.each_seat id v at active).log) ∙ locked_contents n limit r.run t c r.options r.legal some_thread named) in
+      (sym unlocks.was_found ∙ ap contents_locked (sym (r.each_seat id v at active).log)
+      ∙ locked_contents n limit r.run t c r.options r.legal some_thread named) in
       let kind_is : kind_in found ≡ x.kind = ap kind_in there ∙ fits.kind in
       let entries_are : entries_in found ≡ entries_at h c = ap entries_in there ∙ fits.entries in
       let now : cell_at (stepped h t s c) c ≡ cell_after t s c x = read_cell h t s c cell.low in
@@ -193,7 +240,8 @@ module _ {B : Type 0} (shows : B → ℕ × Contents) (n limit : ℕ) where
       block_moved shows n limit st r id v s c (Of Mutex c) 0 0 (moves.Put c p) (some (Some block)) at active low
       (record {
         some_thread = some_thread;
-        may = is_enabled n limit h t v.log s some_thread known unlocks.own refl refl (fits_cell n limit h t v.log s c known named cell.low
+        may = is_enabled n limit h t v.log s some_thread known unlocks.own refl refl
+            (fits_cell n limit h t v.log s c known named cell.low
             (ap (λ kind. is_keep change || is_container kind) (sym kind_is) ∙ unlocks.container));
         target = named;
         low = cell.low;
@@ -204,9 +252,12 @@ module _ {B : Type 0} (shows : B → ℕ × Contents) (n limit : ℕ) where
         moves = record {
           cell = named;
           finds_none = ap (takes_of h s) named;
-          kind = unlocks.same_kind ∙ kind_is ∙ sym (ap (λ (y : Cell). y.kind) now) ∙ sym (ap (λ z. (cell_at z c).kind) on_cell);
-          entries = unlocks.entries ∙ ap (λ (f : List (Option ℕ)). entries_changed change f (entries_in found)) (sym known.part.frame_is) ∙ ap (entries_changed change (frame_at h t)) entries_are
-              ∙ sym (changed_entries h t c change (omega (arith, sound.shaped.entries, cell.low))) ∙ sym (ap (λ z. entries_at z c) on_cell);
+          kind = unlocks.same_kind ∙ kind_is ∙ sym (ap (λ (y : Cell). y.kind) now)
+              ∙ sym (ap (λ z. (cell_at z c).kind) on_cell);
+          entries = unlocks.entries ∙ ap (λ (f : List (Option ℕ)). entries_changed change f (entries_in found))
+              (sym known.part.frame_is) ∙ ap (entries_changed change (frame_at h t)) entries_are
+              ∙ sym (changed_entries h t c change (omega (arith, sound.shaped.entries, cell.low)))
+              ∙ sym (ap (λ z. entries_at z c) on_cell);
           keys = subst (λ f. KeysGo change f p) there unlocks.keys;
           kept = λ keep. kept_there change keep unlocks.kept ∙ there;
         };
@@ -225,14 +276,22 @@ module _ {B : Type 0} (shows : B → ℕ × Contents) (n limit : ℕ) where
       same_contents : (a b : Contents) → Some a ≡ Some b → a ≡ b
       same_contents a b is = cc
 
-      kept_there : (change : Change) → Rattle.law_rule.specs.Logs.keeps (Unlock change) ≡ true → (is_keep change ≡ true → (shows block).1 ≡ found) → (shows block).1 ≡ found
+      kept_there : (change : Change) → Rattle.law_rule.specs.Logs.keeps (Unlock change) ≡ true
+          → (is_keep change ≡ true → (shows block).1 ≡ found) → (shows block).1 ≡ found
       kept_there changes.Keep keep kept = kept refl
       kept_there (changes.Put j) keep kept = absurd (true≢false (sym keep))
       kept_there (changes.Take i j) keep kept = absurd (true≢false (sym keep))
       kept_there (changes.Swap i j) keep kept = absurd (true≢false (sym keep))
 
-  pub unlocks_cell : (id : ℕ) (v : View) (rest : List (ℕ × Option B)) (block : B) (found : Contents) (change : Change) (c : ℕ) → v.active ≡ true → 0 < v.thread → c < n
+  pub unlocks_cell : (id : ℕ) (v : View) (rest : List (ℕ × Option B)) (block : B) (found : Contents) (change : Change)
+      (c : ℕ) → v.active ≡ true → 0 < v.thread → c < n
       → Unlocks n v.log (shows block) found change c
-      → Allows Rule n id (v, (c, Some block) ∷ rest) (spot n (Of Mutex c)) (λ there. 0) (λ there me. me ≡ (with_told (Did (Unlock change) 0 (moves.Put c (shows block).1)) v, rest))
-  unlocks_cell id v rest block found change c active some_thread low unlocks st r deep at small =
-      (with_told (Did (Unlock change) 0 (moves.Put c (shows block).1)) v, gives, tt, unlocking st r id v block found change c at active some_thread low unlocks, refl)
+      → Allows Rule n id (v, (c, Some block) ∷ rest) (spot n (Of Mutex c)) (λ there. 0)
+      (λ there me. me ≡ (with_told (Did (Unlock change) 0 (moves.Put c (shows block).1)) v, rest))
+  unlocks_cell id v rest block found change c active some_thread low unlocks st r deep at small = (
+    with_told (Did (Unlock change) 0 (moves.Put c (shows block).1)) v,
+    gives,
+    tt,
+    unlocking st r id v block found change c at active some_thread low unlocks,
+    refl,
+  )

@@ -1,5 +1,7 @@
 -- The life of a cell's block: Claim, InitLocal, InitShared and Birth make an object, and Free gives its cell back.
-use Rattle.std.proofs.Common.{◌≡◌, ◌≢◌, ℕ, ◌+◌, ◌-◌, ◌*◌, ◌/◌, ◌%◌, ◌<◌, ◌≤◌, ◌^◌, ◌==◌, nat_le, ◌&&◌, Bool, true, false, if◌then◌else◌, pos, List, [], ◌∷◌, length, set, get_or, Option, Some, None, refl, sym, ◌∙◌, ap, subst, inl, inr, arith}
+use Rattle.std.proofs.Common.{◌≡◌, ◌≢◌, ℕ, ◌+◌, ◌-◌, ◌*◌, ◌/◌, ◌%◌, ◌<◌, ◌≤◌, ◌^◌, ◌==◌, nat_le, ◌&&◌, Bool, true}
+use Rattle.std.proofs.Common.{false, if◌then◌else◌, pos, List, [], ◌∷◌, length, set, get_or, Option, Some, None, refl}
+use Rattle.std.proofs.Common.{sym, ◌∙◌, ap, subst, inl, inr, arith}
 use Rattle.std.specs.Prelude.{bit_and, bit_or}
 use Rattle.std.specs.Int.{bit_at}
 use Rattle.std.proofs.lemmas.Bool.{cases_Bool, cases_eq, eq-eqb, ne_eqb, le-leb, lt-ltb, and_parts, true≢false}
@@ -64,21 +66,26 @@ free_inside : (n c : ℕ) → c < n → IsWord n (FreeWord (c / 64))
 free_inside n c low = omega (arith, low)
 
 -- a cell whose bit is 1 is free
-bit_free : (h : Heap) (c there : ℕ) → Shows h (FreeWord (c / 64)) there → bit_at there (c % 64) ≡ 1 → (cell_at h c).owner ≡ owners.Free
+bit_free : (h : Heap) (c there : ℕ) → Shows h (FreeWord (c / 64)) there → bit_at there (c % 64) ≡ 1
+    → (cell_at h c).owner ≡ owners.Free
 bit_free h c there shows bit =
-    let told : is_free_cell h (c / 64 * 64 + c % 64) ≡ true = told_true (λ i. is_free_cell h (c / 64 * 64 + i)) 64 (c % 64) (omega arith) (ap (λ m. bit_at m (c % 64)) (sym shows) ∙ bit) in
+    let told : is_free_cell h (c / 64 * 64 + c % 64) ≡ true = told_true (λ i. is_free_cell h (c / 64 * 64 + i)) 64
+    (c % 64) (omega arith) (ap (λ m. bit_at m (c % 64)) (sym shows) ∙ bit) in
     free_owner _ (and_parts _ _ (sym (ap (is_free_cell h) (cell_of_bit c)) ∙ told)).1
 
 -- the bits of other cells stay
-other_bits : (h : Heap) (t : ℕ) (s : Step) (c i : ℕ) → i < 64 → i ≢ c % 64 → is_free_cell (stepped h t s c) (c / 64 * 64 + i) ≡ is_free_cell h (c / 64 * 64 + i)
+other_bits : (h : Heap) (t : ℕ) (s : Step) (c i : ℕ) → i < 64 → i ≢ c % 64
+    → is_free_cell (stepped h t s c) (c / 64 * 64 + i) ≡ is_free_cell h (c / 64 * 64 + i)
 other_bits h t s c i low other = cell_free h t s c (c / 64 * 64 + i) (λ e. other (bit_of_cell c (c / 64) i low e).1)
 
 -- the free word after a claim, which takes the cell's bit
-bit_is_taken : (h : Heap) (t : ℕ) (s : Step) (c there : ℕ) → Shows h (FreeWord (c / 64)) there → is_free (cell_at (stepped h t s c) c).owner ≡ false
+bit_is_taken : (h : Heap) (t : ℕ) (s : Step) (c there : ℕ) → Shows h (FreeWord (c / 64)) there
+    → is_free (cell_at (stepped h t s c) c).owner ≡ false
     → Shows (stepped h t s c) (FreeWord (c / 64)) (bit_and there (2 ^ 64 - 1 - 2 ^ (c % 64)))
 bit_is_taken h t s c there shows gone =
     ap (λ m. bit_and m (2 ^ 64 - 1 - 2 ^ (c % 64))) shows
-    ∙ bit_taken (λ i. is_free_cell h (c / 64 * 64 + i)) (λ i. is_free_cell (stepped h t s c) (c / 64 * 64 + i)) (c % 64) (omega arith) (λ i low other. other_bits h t s c i low other)
+    ∙ bit_taken (λ i. is_free_cell h (c / 64 * 64 + i)) (λ i. is_free_cell (stepped h t s c) (c / 64 * 64 + i)) (c % 64)
+    (omega arith) (λ i low other. other_bits h t s c i low other)
     (ap (is_free_cell (stepped h t s c)) (cell_of_bit c) ∙ both_false _ _ gone)
   where
     both_false : (a b : Bool) → b ≡ false → (a && b) ≡ false
@@ -86,26 +93,33 @@ bit_is_taken h t s c there shows gone =
     both_false false b is = refl
 
 -- and after a free, which gives it
-bit_is_given : (h : Heap) (t : ℕ) (s : Step) (c there : ℕ) → Shows h (FreeWord (c / 64)) there → c < length h.cells → is_free (cell_at (stepped h t s c) c).owner ≡ true
+bit_is_given : (h : Heap) (t : ℕ) (s : Step) (c there : ℕ) → Shows h (FreeWord (c / 64)) there → c < length h.cells
+    → is_free (cell_at (stepped h t s c) c).owner ≡ true
     → Shows (stepped h t s c) (FreeWord (c / 64)) (bit_or there (2 ^ (c % 64)))
 bit_is_given h t s c there shows low given =
     ap (λ m. bit_or m (2 ^ (c % 64))) shows
-    ∙ bit_given (λ i. is_free_cell h (c / 64 * 64 + i)) (λ i. is_free_cell (stepped h t s c) (c / 64 * 64 + i)) (c % 64) (omega arith) (λ i inside other. other_bits h t s c i inside other)
-    (ap (is_free_cell (stepped h t s c)) (cell_of_bit c) ∙ both_true (lt-ltb c _ (omega (arith, low, length-set h.cells c (cell_after t s c (cell_at h c))))) given)
+    ∙ bit_given (λ i. is_free_cell h (c / 64 * 64 + i)) (λ i. is_free_cell (stepped h t s c) (c / 64 * 64 + i)) (c % 64)
+    (omega arith) (λ i inside other. other_bits h t s c i inside other)
+    (ap (is_free_cell (stepped h t s c)) (cell_of_bit c)
+    ∙ both_true (lt-ltb c _ (omega (arith, low, length-set h.cells c (cell_after t s c (cell_at h c))))) given)
 
 -- a claim of a cell that has no bit leaves the word
-bit_missed : (h : Heap) (c there : ℕ) → Shows h (FreeWord (c / 64)) there → bit_at there (c % 64) ≢ 1 → bit_and there (2 ^ 64 - 1 - 2 ^ (c % 64)) ≡ there
+bit_missed : (h : Heap) (c there : ℕ) → Shows h (FreeWord (c / 64)) there → bit_at there (c % 64) ≢ 1
+    → bit_and there (2 ^ 64 - 1 - 2 ^ (c % 64)) ≡ there
 bit_missed h c there shows missing =
     let f : ℕ → Bool = λ i. is_free_cell h (c / 64 * 64 + i) in
     ap (λ m. bit_and m (2 ^ 64 - 1 - 2 ^ (c % 64))) shows
-    ∙ bit_taken f f (c % 64) (omega arith) (λ i low other. refl) (no_one (f (c % 64)) (λ e. missing (ap (λ m. bit_at m (c % 64)) shows ∙ told_bit f 64 (c % 64) (omega arith) ∙ e))) ∙ sym shows
+    ∙ bit_taken f f (c % 64) (omega arith) (λ i low other. refl)
+    (no_one (f (c % 64)) (λ e. missing (ap (λ m. bit_at m (c % 64)) shows ∙ told_bit f 64 (c % 64) (omega arith) ∙ e)))
+    ∙ sym shows
   where
     no_one : (b : Bool) → one b ≢ 1 → b ≡ false
     no_one true bad = absurd (bad refl)
     no_one false bad = refl
 
 -- what is on a worklist lives, so a free cell is on none
-free_unmarked : (h : Heap) (u c : ℕ) → IsSound h → (cell_at h c).owner ≡ owners.Free → is_marked (worklist_at h u) c ≡ false
+free_unmarked : (h : Heap) (u c : ℕ) → IsSound h → (cell_at h c).owner ≡ owners.Free
+    → is_marked (worklist_at h u) c ≡ false
 free_unmarked h u c sound free = elim (cases_Bool (is_marked (worklist_at h u) c)) [
   | inl on ↦ absurd (true≢false (sym (sound.worklists u c on).lives ∙ ap lives free))
   | inr off ↦ off
@@ -117,14 +131,17 @@ module _ {B : Type 0} (shows : B → ℕ × Contents) (n limit : ℕ) where
 
   -- ---- InitLocal and InitShared
 
-  inits_local : (h : Heap) (t : ℕ) (log : List Told) (c : ℕ) → 0 < t → Known n limit h t log → Carries n log (InitLocal c) c → IsPlain n h t (InitLocal c) (Of Local c) 1 1
+  inits_local : (h : Heap) (t : ℕ) (log : List Told) (c : ℕ) → 0 < t → Known n limit h t log
+      → Carries n log (InitLocal c) c → IsPlain n h t (InitLocal c) (Of Local c) 1 1
   inits_local h t log c some_thread known carries =
       let s : Step = InitLocal c in
       let x : Cell = cell_at h c in
-      let busy : (row_at h t).hand ≡ hands.Busy phases.Claimed c = busy_hand phases.Claimed c _ (hand_there n limit h t log s known carries.own) in
+      let busy : (row_at h t).hand ≡ hands.Busy phases.Claimed c = busy_hand phases.Claimed c _
+      (hand_there n limit h t log s known carries.own) in
       let low : c < length h.cells = making_low h t c (hand_tells h t c phases.Claimed known.reached busy).1 in
       plain_on n h t s c (Of Local c) 1 1 (record {
-        may = is_enabled n limit h t log s some_thread known carries.own refl refl (fits_cell n limit h t log s c known refl low refl);
+        may = is_enabled n limit h t log s some_thread known carries.own refl refl
+            (fits_cell n limit h t log s c known refl low refl);
         target = refl;
         word = refl;
         shown = sym (ap (λ (y : Cell). y.local) (read_cell h t s c low));
@@ -135,20 +152,25 @@ module _ {B : Type 0} (shows : B → ℕ × Contents) (n limit : ℕ) where
         stays = stays_on h t s c low refl refl (same_owner x (cell_after t s c x) refl refl);
       })
 
-  pub sets_local : (id : ℕ) (v : View) (slots : List (ℕ × Option B)) (c : ℕ) → v.active ≡ true → 0 < v.thread → c < n → Carries n v.log (InitLocal c) c
-      → Allows Rule n id (v, slots) (spot n (Of Local c)) (λ there. 1) (λ there me. me ≡ (with_told (Did (InitLocal c) 1 moves.Nothing) v, slots))
+  pub sets_local : (id : ℕ) (v : View) (slots : List (ℕ × Option B)) (c : ℕ) → v.active ≡ true → 0 < v.thread → c < n
+      → Carries n v.log (InitLocal c) c
+      → Allows Rule n id (v, slots) (spot n (Of Local c)) (λ there. 1)
+      (λ there me. me ≡ (with_told (Did (InitLocal c) 1 moves.Nothing) v, slots))
   sets_local id v slots c active some_thread low carries =
       plain_step shows n limit id v slots (InitLocal c) (Of Local c) (λ there. 1) (λ there. 1) active some_thread low
       (λ h there known shown small. inits_local h v.thread v.log c some_thread known carries)
 
-  inits_shared : (h : Heap) (t : ℕ) (log : List Told) (c : ℕ) → 0 < t → Known n limit h t log → Carries n log (InitShared c) c → IsPlain n h t (InitShared c) (Of Shared c) (2 ^ 42) (2 ^ 42)
+  inits_shared : (h : Heap) (t : ℕ) (log : List Told) (c : ℕ) → 0 < t → Known n limit h t log
+      → Carries n log (InitShared c) c → IsPlain n h t (InitShared c) (Of Shared c) (2 ^ 42) (2 ^ 42)
   inits_shared h t log c some_thread known carries =
       let s : Step = InitShared c in
       let x : Cell = cell_at h c in
-      let busy : (row_at h t).hand ≡ hands.Busy phases.Counted c = busy_hand phases.Counted c _ (hand_there n limit h t log s known carries.own) in
+      let busy : (row_at h t).hand ≡ hands.Busy phases.Counted c = busy_hand phases.Counted c _
+      (hand_there n limit h t log s known carries.own) in
       let low : c < length h.cells = making_low h t c (hand_tells h t c phases.Counted known.reached busy).1.0 in
       plain_on n h t s c (Of Shared c) (2 ^ 42) (2 ^ 42) (record {
-        may = is_enabled n limit h t log s some_thread known carries.own refl refl (fits_cell n limit h t log s c known refl low refl);
+        may = is_enabled n limit h t log s some_thread known carries.own refl refl
+            (fits_cell n limit h t log s c known refl low refl);
         target = refl;
         word = refl;
         shown = sym (ap (λ (y : Cell). shared_word y.count y.state) (read_cell h t s c low));
@@ -159,21 +181,27 @@ module _ {B : Type 0} (shows : B → ℕ × Contents) (n limit : ℕ) where
         stays = stays_on h t s c low refl refl (same_owner x (cell_after t s c x) refl refl);
       })
 
-  pub sets_shared : (id : ℕ) (v : View) (slots : List (ℕ × Option B)) (c : ℕ) → v.active ≡ true → 0 < v.thread → c < n → Carries n v.log (InitShared c) c
-      → Allows Rule n id (v, slots) (spot n (Of Shared c)) (λ there. 2 ^ 42) (λ there me. me ≡ (with_told (Did (InitShared c) (2 ^ 42) moves.Nothing) v, slots))
+  pub sets_shared : (id : ℕ) (v : View) (slots : List (ℕ × Option B)) (c : ℕ) → v.active ≡ true → 0 < v.thread → c < n
+      → Carries n v.log (InitShared c) c
+      → Allows Rule n id (v, slots) (spot n (Of Shared c)) (λ there. 2 ^ 42)
+      (λ there me. me ≡ (with_told (Did (InitShared c) (2 ^ 42) moves.Nothing) v, slots))
   sets_shared id v slots c active some_thread low carries =
-      plain_step shows n limit id v slots (InitShared c) (Of Shared c) (λ there. 2 ^ 42) (λ there. 2 ^ 42) active some_thread low
+      plain_step shows n limit id v slots (InitShared c) (Of Shared c) (λ there. 2 ^ 42) (λ there. 2 ^ 42) active
+      some_thread low
       (λ h there known shown small. inits_shared h v.thread v.log c some_thread known carries)
 
   -- ---- Claim
 
   found_free : (st : Table (Option B) View) (r : Rule st) (c : ℕ) → c < n
-      → bit_at (get_or st.words (spot n (FreeWord (c / 64))) 0) (c % 64) ≡ 1 → (cell_at (world n limit r.run) c).owner ≡ owners.Free
+      → bit_at (get_or st.words (spot n (FreeWord (c / 64))) 0) (c % 64) ≡ 1
+      → (cell_at (world n limit r.run) c).owner ≡ owners.Free
   found_free st r c low found =
-      bit_free (world n limit r.run) c (get_or st.words (spot n (FreeWord (c / 64))) 0) (r.each_word (FreeWord (c / 64)) (free_inside n c low)) found
+      bit_free (world n limit r.run) c (get_or st.words (spot n (FreeWord (c / 64))) 0)
+      (r.each_word (FreeWord (c / 64)) (free_inside n c low)) found
 
   -- it is none of the dead blocks that the log tells
-  found_fresh : (st : Table (Option B) View) (r : Rule st) (id : ℕ) (v : View) (c : ℕ) → get_elem? st.views id ≡ some v → v.active ≡ true → 0 < v.thread → c < n
+  found_fresh : (st : Table (Option B) View) (r : Rule st) (id : ℕ) (v : View) (c : ℕ) → get_elem? st.views id ≡ some v
+      → v.active ≡ true → 0 < v.thread → c < n
       → bit_at (get_or st.words (spot n (FreeWord (c / 64))) 0) (c % 64) ≡ 1 → listed_at (taken_seen n v.log) c ≡ None
   found_fresh st r id v c at active some_thread low found =
       let h : Heap = world n limit r.run in
@@ -181,10 +209,15 @@ module _ {B : Type 0} (shows : B → ℕ × Contents) (n limit : ℕ) where
       unlisted_seen n limit h v.thread v.log c known some_thread
       (free_unmarked h v.thread c (reached_sound h known.reached) (found_free st r c low found))
 
-  claiming : (st : Table (Option B) View) (r : Rule st) (id : ℕ) (v : View) (c there : ℕ) → get_elem? st.views id ≡ some v → v.active ≡ true → 0 < v.thread → c < n → Claims n v.log c
+  claiming : (st : Table (Option B) View) (r : Rule st) (id : ℕ) (v : View) (c there : ℕ)
+      → get_elem? st.views id ≡ some v → v.active ≡ true → 0 < v.thread → c < n → Claims n v.log c
       → get_or st.words (spot n (FreeWord (c / 64))) 0 ≡ there → bit_at there (c % 64) ≡ 1
       → (get_elem? st.homes c ≡ some (some None))
-      × Rule (record { words = set st.words (spot n (FreeWord (c / 64))) (bit_and there (2 ^ 64 - 1 - 2 ^ (c % 64))); homes = set st.homes c none; views = set st.views id (with_told (Did (Claim c) there moves.Nothing) v) })
+      × Rule (record {
+        words = set st.words (spot n (FreeWord (c / 64))) (bit_and there (2 ^ 64 - 1 - 2 ^ (c % 64)));
+        homes = set st.homes c none;
+        views = set st.views id (with_told (Did (Claim c) there moves.Nothing) v);
+      })
   claiming st r id v c there at active some_thread low claims is found =
       let t : ℕ = v.thread in
       let s : Step = Claim c in
@@ -192,15 +225,19 @@ module _ {B : Type 0} (shows : B → ℕ × Contents) (n limit : ℕ) where
       let x : Cell = cell_at h c in
       let known : Known n limit h t v.log = knows shows n limit st r id v at active some_thread in
       let inside_is : c < length h.cells = omega (arith, known.cells, low) in
-      let shows_word : Shows h (FreeWord (c / 64)) there = sym is ∙ r.each_word (FreeWord (c / 64)) (free_inside n c low) in
+      let shows_word : Shows h (FreeWord (c / 64)) there = sym is
+      ∙ r.each_word (FreeWord (c / 64)) (free_inside n c low) in
       let free : x.owner ≡ owners.Free = bit_free h c there shows_word found in
-      let now : (cell_at (stepped h t s c) c).owner ≡ owners.Claimed t = ap (λ (y : Cell). y.owner) (read_cell h t s c inside_is) in (
+      let now : (cell_at (stepped h t s c) c).owner ≡ owners.Claimed t = ap (λ (y : Cell). y.owner)
+      (read_cell h t s c inside_is) in (
         (r.each_home c low).bare free,
-        block_moved shows n limit st r id v s c (FreeWord (c / 64)) (bit_and there (2 ^ 64 - 1 - 2 ^ (c % 64))) there moves.Nothing none at active (free_inside n c low)
+        block_moved shows n limit st r id v s c (FreeWord (c / 64)) (bit_and there (2 ^ 64 - 1 - 2 ^ (c % 64))) there
+            moves.Nothing none at active (free_inside n c low)
             (record {
               some_thread = some_thread;
               may = is_enabled n limit h t v.log s some_thread known claims.own refl refl
-                  (fits_cell n limit h t v.log s c known refl inside_is (both_true (le-leb _ _ claims.mortal) (ap is_free free)));
+                  (fits_cell n limit h t v.log s c known refl inside_is
+                  (both_true (le-leb _ _ claims.mortal) (ap is_free free)));
               target = refl;
               low = inside_is;
               word = refl;
@@ -217,8 +254,10 @@ module _ {B : Type 0} (shows : B → ℕ × Contents) (n limit : ℕ) where
       claimed_free : (t : ℕ) → owners.Claimed t ≡ owners.Free → ⊥
       claimed_free t bad = absurd (cc)
 
-  pub claims_cell : (id : ℕ) (v : View) (slots : List (ℕ × Option B)) (c : ℕ) → v.active ≡ true → 0 < v.thread → c < n → Claims n v.log c
-      → Allows Rule n id (v, slots) (spot n (FreeWord (c / 64))) (λ there. bit_and there (2 ^ 64 - 1 - 2 ^ (c % 64))) (λ there me. Claimed n v slots c there (bit_at there (c % 64) == 1) me)
+  pub claims_cell : (id : ℕ) (v : View) (slots : List (ℕ × Option B)) (c : ℕ) → v.active ≡ true → 0 < v.thread → c < n
+      → Claims n v.log c
+      → Allows Rule n id (v, slots) (spot n (FreeWord (c / 64))) (λ there. bit_and there (2 ^ 64 - 1 - 2 ^ (c % 64)))
+      (λ there me. Claimed n v slots c there (bit_at there (c % 64) == 1) me)
   claims_cell id v slots c active some_thread low claims st r deep at small =
       let w = FreeWord (c / 64) in
       let there : ℕ = get_or st.words (spot n w) 0 in
@@ -229,25 +268,40 @@ module _ {B : Type 0} (shows : B → ℕ × Contents) (n limit : ℕ) where
               takes c None,
               done.0,
               done.1,
-              subst (λ b. Claimed n v slots c there b (with_told (Did (Claim c) there moves.Nothing) v, (c, None) ∷ slots)) (sym (eq-eqb (bit_at there (c % 64)) 1 same))
+              subst (λ b. Claimed n v slots c there b (
+                with_told (Did (Claim c) there moves.Nothing) v,
+                (c, None) ∷ slots,
+              )) (sym (eq-eqb (bit_at there (c % 64)) 1 same))
                   (record { fresh = found_fresh st r id v c at active some_thread low same; after_is = refl }),
             )
         | inr other ↦ (
           with_told (Lost w there) v,
           keeps,
           tt,
-          subst (λ m. Rule (record { words = set st.words (spot n w) m; homes = st.homes; views = set st.views id (with_told (Lost w there) v) }))
+          subst (λ m. Rule (record {
+            words = set st.words (spot n w) m;
+            homes = st.homes;
+            views = set st.views id
+                (with_told (Lost w there) v);
+          }))
               (sym (bit_missed (world n limit r.run) c there (r.each_word w (free_inside n c low)) other))
               (unmoved shows n limit st r id v w (Lost w there) at active (free_inside n c low) lost),
-          subst (λ b. Claimed n v slots c there b (with_told (Lost w there) v, slots)) (sym (ne_eqb (bit_at there (c % 64)) 1 other)) refl,
+          subst (λ b. Claimed n v slots c there b (with_told (Lost w there) v, slots))
+              (sym (ne_eqb (bit_at there (c % 64)) 1 other)) refl,
         )
       ]
 
   -- ---- Birth
 
-  bearing : (st : Table (Option B) View) (r : Rule st) (id : ℕ) (v : View) (block : B) (kind : Kind) (k c : ℕ) → get_elem? st.views id ≡ some v → v.active ≡ true → 0 < v.thread → c < n
+  bearing : (st : Table (Option B) View) (r : Rule st) (id : ℕ) (v : View) (block : B) (kind : Kind) (k c : ℕ)
+      → get_elem? st.views id ≡ some v → v.active ≡ true → 0 < v.thread → c < n
       → Bears n v.log (shows block) kind k c
-      → Rule (record { words = set st.words (spot n (Of OwnerWord c)) v.thread; homes = set st.homes c (some (Some block)); views = set st.views id (with_told (Did (Birth c kind k) v.thread (moves.Put c (shows block).1)) v) })
+      → Rule (record {
+        words = set st.words (spot n (Of OwnerWord c)) v.thread;
+        homes = set st.homes c
+            (some (Some block));
+        views = set st.views id (with_told (Did (Birth c kind k) v.thread (moves.Put c (shows block).1)) v);
+      })
   bearing st r id v block kind k c at active some_thread low bears =
       let t : ℕ = v.thread in
       let s : Step = Birth c kind k in
@@ -256,14 +310,16 @@ module _ {B : Type 0} (shows : B → ℕ × Contents) (n limit : ℕ) where
       let x : Cell = cell_at h c in
       let later : Run = (t, Did s t (moves.Put c p)) ∷ r.run in
       let known : Known n limit h t v.log = knows shows n limit st r id v at active some_thread in
-      let busy : (row_at h t).hand ≡ hands.Busy phases.Ready c = busy_hand phases.Ready c _ (hand_there n limit h t v.log s known bears.own) in
+      let busy : (row_at h t).hand ≡ hands.Busy phases.Ready c = busy_hand phases.Ready c _
+      (hand_there n limit h t v.log s known bears.own) in
       let inside_is : c < length h.cells = omega (arith, known.cells, low) in
       let now : cell_at (stepped h t s c) c ≡ cell_after t s c x = read_cell h t s c inside_is in
       let put_here : contents_at later c ≡ p = ap (λ b. if b then p else contents_at r.run c) (eq-eqb c c refl) in
       block_moved shows n limit st r id v s c (Of OwnerWord c) t t (moves.Put c p) (some (Some block)) at active low
       (record {
         some_thread = some_thread;
-        may = is_enabled n limit h t v.log s some_thread known bears.own refl refl (fits_cell n limit h t v.log s c known refl inside_is refl);
+        may = is_enabled n limit h t v.log s some_thread known bears.own refl refl
+            (fits_cell n limit h t v.log s c known refl inside_is refl);
         target = refl;
         low = inside_is;
         word = refl;
@@ -298,29 +354,44 @@ module _ {B : Type 0} (shows : B → ℕ × Contents) (n limit : ℕ) where
       set_empty (xs ∷ lists) Rattle.std.proofs.Common.zero = refl
       set_empty (xs ∷ lists) (Rattle.std.proofs.Common.suc c) = set_empty lists c
 
-  pub bears_object : (id : ℕ) (v : View) (rest : List (ℕ × Option B)) (block : B) (kind : Kind) (k c : ℕ) → v.active ≡ true → 0 < v.thread → c < n → Bears n v.log (shows block) kind k c
+  pub bears_object : (id : ℕ) (v : View) (rest : List (ℕ × Option B)) (block : B) (kind : Kind) (k c : ℕ)
+      → v.active ≡ true → 0 < v.thread → c < n → Bears n v.log (shows block) kind k c
       → Allows Rule n id (v, (c, Some block) ∷ rest) (spot n (Of OwnerWord c)) (λ there. v.thread)
       (λ there me. me ≡ (with_told (Did (Birth c kind k) v.thread (moves.Put c (shows block).1)) v, rest))
-  bears_object id v rest block kind k c active some_thread low bears st r deep at small =
-      (with_told (Did (Birth c kind k) v.thread (moves.Put c (shows block).1)) v, gives, tt, bearing st r id v block kind k c at active some_thread low bears, refl)
+  bears_object id v rest block kind k c active some_thread low bears st r deep at small = (
+    with_told (Did (Birth c kind k) v.thread (moves.Put c (shows block).1)) v,
+    gives,
+    tt,
+    bearing st r id v block kind k c at active some_thread low bears,
+    refl,
+  )
 
   -- ---- Free
 
-  freeing : (st : Table (Option B) View) (r : Rule st) (id : ℕ) (v : View) (c there : ℕ) → get_elem? st.views id ≡ some v → v.active ≡ true → 0 < v.thread → c < n → Carries n v.log (Free c) c
+  freeing : (st : Table (Option B) View) (r : Rule st) (id : ℕ) (v : View) (c there : ℕ)
+      → get_elem? st.views id ≡ some v → v.active ≡ true → 0 < v.thread → c < n → Carries n v.log (Free c) c
       → get_or st.words (spot n (FreeWord (c / 64))) 0 ≡ there
-      → Rule (record { words = set st.words (spot n (FreeWord (c / 64))) (bit_or there (2 ^ (c % 64))); homes = set st.homes c (some None); views = set st.views id (with_told (Did (Free c) there moves.Nothing) v) })
+      → Rule (record {
+        words = set st.words (spot n (FreeWord (c / 64))) (bit_or there (2 ^ (c % 64)));
+        homes = set st.homes c (some None);
+        views = set st.views id (with_told (Did (Free c) there moves.Nothing) v);
+      })
   freeing st r id v c there at active some_thread low carries is =
       let t : ℕ = v.thread in
       let s : Step = Free c in
       let h : Heap = world n limit r.run in
       let known : Known n limit h t v.log = knows shows n limit st r id v at active some_thread in
       let inside_is : c < length h.cells = omega (arith, known.cells, low) in
-      let shows_word : Shows h (FreeWord (c / 64)) there = sym is ∙ r.each_word (FreeWord (c / 64)) (free_inside n c low) in
-      let now : (cell_at (stepped h t s c) c).owner ≡ owners.Free = ap (λ (y : Cell). y.owner) (read_cell h t s c inside_is) in
-      block_moved shows n limit st r id v s c (FreeWord (c / 64)) (bit_or there (2 ^ (c % 64))) there moves.Nothing (some None) at active (free_inside n c low)
+      let shows_word : Shows h (FreeWord (c / 64)) there = sym is
+      ∙ r.each_word (FreeWord (c / 64)) (free_inside n c low) in
+      let now : (cell_at (stepped h t s c) c).owner ≡ owners.Free = ap (λ (y : Cell). y.owner)
+      (read_cell h t s c inside_is) in
+      block_moved shows n limit st r id v s c (FreeWord (c / 64)) (bit_or there (2 ^ (c % 64))) there moves.Nothing
+      (some None) at active (free_inside n c low)
       (record {
         some_thread = some_thread;
-        may = is_enabled n limit h t v.log s some_thread known carries.own refl refl (fits_cell n limit h t v.log s c known refl inside_is refl);
+        may = is_enabled n limit h t v.log s some_thread known carries.own refl refl
+            (fits_cell n limit h t v.log s c known refl inside_is refl);
         target = refl;
         low = inside_is;
         word = refl;
@@ -335,8 +406,16 @@ module _ {B : Type 0} (shows : B → ℕ × Contents) (n limit : ℕ) where
         lies = λ live unlocked off. absurd (true≢false (sym live ∙ ap lives now));
       })
 
-  pub frees_cell : (id : ℕ) (v : View) (rest : List (ℕ × Option B)) (c : ℕ) → v.active ≡ true → 0 < v.thread → c < n → Carries n v.log (Free c) c
-      → Allows Rule n id (v, (c, None) ∷ rest) (spot n (FreeWord (c / 64))) (λ there. bit_or there (2 ^ (c % 64))) (λ there me. me ≡ (with_told (Did (Free c) there moves.Nothing) v, rest))
+  pub frees_cell : (id : ℕ) (v : View) (rest : List (ℕ × Option B)) (c : ℕ) → v.active ≡ true → 0 < v.thread → c < n
+      → Carries n v.log (Free c) c
+      → Allows Rule n id (v, (c, None) ∷ rest) (spot n (FreeWord (c / 64))) (λ there. bit_or there (2 ^ (c % 64)))
+      (λ there me. me ≡ (with_told (Did (Free c) there moves.Nothing) v, rest))
   frees_cell id v rest c active some_thread low carries st r deep at small =
-      let there : ℕ = get_or st.words (spot n (FreeWord (c / 64))) 0 in
-      (with_told (Did (Free c) there moves.Nothing) v, gives, tt, freeing st r id v c there at active some_thread low carries refl, refl)
+      let there : ℕ = get_or st.words (spot n (FreeWord (c / 64))) 0 in (
+        with_told (Did (Free c) there moves.Nothing) v,
+        gives,
+        tt,
+        freeing st r id v c there at active some_thread low
+            carries refl,
+        refl,
+      )

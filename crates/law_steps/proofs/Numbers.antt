@@ -16,10 +16,12 @@ raised_is (negsuc k) fits = omega (arith, ints, fits.0)
 pub raised_up : (count : ℤ) → CountFits count → CountFits (count +ℤ pos 1) → raised (count +ℤ pos 1) ≡ raised count + 1
 raised_up count fits more = omega (arith, ints, raised_is count fits, raised_is (count +ℤ pos 1) more)
 
-pub raised_down : (count : ℤ) → CountFits count → CountFits (count -ℤ pos 1) → raised (count -ℤ pos 1) + 1 ≡ raised count
+pub raised_down : (count : ℤ) → CountFits count → CountFits (count -ℤ pos 1)
+    → raised (count -ℤ pos 1) + 1 ≡ raised count
 raised_down count fits less = omega (arith, ints, raised_is count fits, raised_is (count -ℤ pos 1) less)
 
-pub raised_by : (count : ℤ) (local : ℕ) → CountFits count → CountFits (count +ℤ pos local) → raised (count +ℤ pos local) ≡ raised count + local
+pub raised_by : (count : ℤ) (local : ℕ) → CountFits count → CountFits (count +ℤ pos local)
+    → raised (count +ℤ pos local) ≡ raised count + local
 raised_by count local fits more = omega (arith, ints, raised_is count fits, raised_is (count +ℤ pos local) more)
 
 raised_small : (count : ℤ) → CountFits count → raised count < 2 ^ 41
@@ -34,19 +36,23 @@ pub word_small : (count : ℤ) (state : State) → CountFits count → shared_wo
 word_small count state fits = omega (arith, raised_small count fits, bits_small state)
 
 -- one reference more, or less
-pub word_up : (count : ℤ) (state : State) → CountFits count → CountFits (count +ℤ pos 1) → shared_word (count +ℤ pos 1) state ≡ (shared_word count state + 4) % 2 ^ 64
+pub word_up : (count : ℤ) (state : State) → CountFits count → CountFits (count +ℤ pos 1)
+    → shared_word (count +ℤ pos 1) state ≡ (shared_word count state + 4) % 2 ^ 64
 word_up count state fits more = omega (arith, raised_up count fits more, word_small count state fits)
 
-pub word_down : (count : ℤ) (state : State) → CountFits count → CountFits (count -ℤ pos 1) → shared_word (count -ℤ pos 1) state ≡ shared_word count state - 4
+pub word_down : (count : ℤ) (state : State) → CountFits count → CountFits (count -ℤ pos 1)
+    → shared_word (count -ℤ pos 1) state ≡ shared_word count state - 4
 word_down count state fits less = omega (arith, raised_down count fits less)
 
-pub word_taken : (count : ℤ) (state : State) → CountFits count → CountFits (count -ℤ pos 1) → shared_word (count -ℤ pos 1) state ≡ (shared_word count state + (2 ^ 64 - 4)) % 2 ^ 64
+pub word_taken : (count : ℤ) (state : State) → CountFits count → CountFits (count -ℤ pos 1)
+    → shared_word (count -ℤ pos 1) state ≡ (shared_word count state + (2 ^ 64 - 4)) % 2 ^ 64
 word_taken count state fits less = omega (arith, raised_down count fits less, word_small count state fits)
 
 -- the local count joins, and the state goes from queued to merged
 pub word_merged : (count : ℤ) (local : ℕ) → CountFits count → CountFits (count +ℤ pos local) → local < 2 ^ 33
     → shared_word (count +ℤ pos local) states.Merged ≡ (shared_word count states.Queued + (local * 4 + 1)) % 2 ^ 64
-word_merged count local fits more few = omega (arith, raised_by count local fits more, word_small count states.Queued fits, few)
+word_merged count local fits more few =
+    omega (arith, raised_by count local fits more, word_small count states.Queued fits, few)
 
 -- ---- bits
 

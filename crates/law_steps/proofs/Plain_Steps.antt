@@ -1,5 +1,6 @@
 -- Steps that move no block.
-use Rattle.std.proofs.Common.{◌≡◌, ◌≢◌, ℕ, ◌<◌, ◌^◌, ◌==◌, true, false, if◌then◌else◌, List, [], ◌∷◌, length, set, get_or, Option, Some, None, refl, sym, ◌∙◌, ap, subst, inl, inr, arith}
+use Rattle.std.proofs.Common.{◌≡◌, ◌≢◌, ℕ, ◌<◌, ◌^◌, ◌==◌, true, false, if◌then◌else◌, List, [], ◌∷◌, length, set}
+use Rattle.std.proofs.Common.{get_or, Option, Some, None, refl, sym, ◌∙◌, ap, subst, inl, inr, arith}
 use Rattle.std.proofs.lemmas.Bool.{cases_eq, eq-eqb, ne_eqb}
 use mathlib.Core.Option.{some}
 use prog.Atomic.{either}
@@ -11,7 +12,8 @@ use Rattle.law_world.specs.declared.event.Step.{Step}
 use Rattle.law_world.specs.Lists.{is_marked}
 use Rattle.law_world.specs.Heap.{Heap, cell_at, worklist_at, no_cell}
 use Rattle.law_world.specs.Holding.{lives}
-use Rattle.law_world.specs.Steps.{thread_may, target_at, cell_after, after_target, stepped, kept_cells, is_free_step, takes_block, worklist_with}
+use Rattle.law_world.specs.Steps.{thread_may, target_at, cell_after, after_target, stepped, kept_cells, is_free_step}
+use Rattle.law_world.specs.Steps.{takes_block, worklist_with}
 use Rattle.law_world.proofs.Changes.{read_here, read_there}
 use Rattle.law_known.specs.declared.word.Word.{Word}
 use Rattle.law_known.specs.Items.{IsWord, Shows, ToldBy, IsTold, meets_closed, told_at, found, found_at, works_on}
@@ -37,10 +39,16 @@ pub record CellStays (x y : Cell) : Type 0 where
   pub mutex : y.mutex ≡ x.mutex
 
 pub same_owner : (x y : Cell) → y.owner ≡ x.owner → y.mutex ≡ x.mutex → CellStays x y
-same_owner x y owner mutex = record { free = λ is. sym owner ∙ is; lives = λ is. ap lives (sym owner) ∙ is; mutex = mutex }
+same_owner x y owner mutex = record {
+  free = λ is. sym owner ∙ is;
+  lives = λ is. ap lives (sym owner)
+      ∙ is;
+  mutex = mutex;
+}
 
 -- a step on a cell that neither takes nor gives back a block
-pub stays_on : (h : Heap) (t : ℕ) (s : Step) (c : ℕ) → c < length h.cells → is_free_step s ≡ false → takes_block s (cell_at h c) ≡ false
+pub stays_on : (h : Heap) (t : ℕ) (s : Step) (c : ℕ) → c < length h.cells → is_free_step s ≡ false
+    → takes_block s (cell_at h c) ≡ false
     → CellStays (cell_at h c) (cell_after t s c (cell_at h c)) → (d : ℕ) → Stays h (stepped h t s c) d
 stays_on h t s c inside frees takes stays d = record {
   free = λ is. by_cell (λ x. x.owner ≡ owners.Free) stays.free is;
@@ -49,17 +57,22 @@ stays_on h t s c inside frees takes stays d = record {
   marks = λ off u. sym (same_marks u) ∙ off u;
 }
   where
-    by_cell : (P : Cell → Type 0) → (P (cell_after t s c (cell_at h c)) → P (cell_at h c)) → P (cell_at (stepped h t s c) d) → P (cell_at h d)
+    by_cell : (P : Cell → Type 0) → (P (cell_after t s c (cell_at h c)) → P (cell_at h c))
+        → P (cell_at (stepped h t s c) d) → P (cell_at h d)
     by_cell P back is = elim (cases_eq d c) [
-      | inl same ↦ subst (λ i. P (cell_at h i)) (sym same) (back (subst P (ap (cell_at (stepped h t s c)) same ∙ read_here h.cells c (cell_after t s c (cell_at h c)) no_cell inside) is))
+      | inl same ↦ subst (λ i. P (cell_at h i)) (sym same)
+          (back (subst P (ap (cell_at (stepped h t s c)) same
+          ∙ read_here h.cells c (cell_after t s c (cell_at h c)) no_cell inside) is))
       | inr other ↦ subst P (read_there h.cells c d (cell_after t s c (cell_at h c)) no_cell other) is
     ]
 
     same_list : worklist_with (is_free_step s) (takes_block s (cell_at h c)) c (worklist_at h t) ≡ worklist_at h t
-    same_list = ap (λ b. worklist_with b (takes_block s (cell_at h c)) c (worklist_at h t)) frees ∙ ap (λ b. worklist_with false b c (worklist_at h t)) takes
+    same_list = ap (λ b. worklist_with b (takes_block s (cell_at h c)) c (worklist_at h t)) frees
+        ∙ ap (λ b. worklist_with false b c (worklist_at h t)) takes
 
     same_marks : (u : ℕ) → is_marked (worklist_at (stepped h t s c) u) d ≡ is_marked (worklist_at h u) d
-    same_marks u = ap (λ (w : List Rattle.std.proofs.Common.Bool). is_marked w d) (kept_by (λ (w : List Rattle.std.proofs.Common.Bool). w) h.worklists t _ [] same_list u)
+    same_marks u = ap (λ (w : List Rattle.std.proofs.Common.Bool). is_marked w d)
+        (kept_by (λ (w : List Rattle.std.proofs.Common.Bool). w) h.worklists t _ [] same_list u)
 
 -- a step on a word that is no cell's
 pub stays_off : (h : Heap) (t : ℕ) (s : Step) (d : ℕ) → Stays h (kept_cells h t s) d
@@ -90,7 +103,8 @@ pub record PlainOn (h : Heap) (t : ℕ) (s : Step) (c : ℕ) (w : Word) (written
   pub takes_none : takes_of h s (Some c) ≡ None
   pub stays : (d : ℕ) → Stays h (stepped h t s c) d
 
-pub plain_on : (n : ℕ) (h : Heap) (t : ℕ) (s : Step) (c : ℕ) (w : Word) (written number : ℕ) → PlainOn h t s c w written number → IsPlain n h t s w written number
+pub plain_on : (n : ℕ) (h : Heap) (t : ℕ) (s : Step) (c : ℕ) (w : Word) (written number : ℕ)
+    → PlainOn h t s c w written number → IsPlain n h t s w written number
 plain_on n h t s c w written number on =
     let back : Some c ≡ target_at h t s = sym on.target in
     record {
@@ -111,10 +125,17 @@ module _ {B : Type 0} (shows : B → ℕ × Contents) (n limit : ℕ) where
   abbrev Rule : Table → Type 0
   Rule = Kept shows n limit
 
-  pub plainly : (st : Table) (r : Rule st) (id : ℕ) (v : View) (s : Step) (w : Word) (written number : ℕ) → get_elem? st.views id ≡ some v → v.active ≡ true → 0 < v.thread → IsWord n w
+  pub plainly : (st : Table) (r : Rule st) (id : ℕ) (v : View) (s : Step) (w : Word) (written number : ℕ)
+      → get_elem? st.views id ≡ some v → v.active ≡ true → 0 < v.thread → IsWord n w
       → IsPlain n (world n limit r.run) v.thread s w written number
-      → Rule (record { words = set st.words (spot n w) written; homes = st.homes; views = set st.views id (with_told (Did s number moves.Nothing) v) })
-  plainly st r id v s w written number at active some_thread is plain = does shows n limit st r id v s w written number moves.Nothing st.homes at active
+      → Rule (record {
+        words = set st.words (spot n w) written;
+        homes = st.homes;
+        views = set st.views id
+            (with_told (Did s number moves.Nothing) v);
+      })
+  plainly st r id v s w written number at active some_thread is plain = does shows n limit st r id v s w written number
+      moves.Nothing st.homes at active
       (record {
         some_thread = some_thread;
         may = plain.may;
@@ -125,27 +146,37 @@ module _ {B : Type 0} (shows : B → ℕ × Contents) (n limit : ℕ) where
         entries = sym plain.finds_none;
         moves = (plain.puts_none, plain.takes_none);
       }) r.deep
-      (λ d low. home_stays shows st.homes (world n limit r.run) (moved_on (world n limit r.run) v.thread s) r.run ((v.thread, Did s number moves.Nothing) ∷ r.run) d (plain.stays d low) refl (r.each_home d low))
+      (λ d low. home_stays shows st.homes (world n limit r.run) (moved_on (world n limit r.run) v.thread s) r.run
+      ((v.thread, Did s number moves.Nothing) ∷ r.run) d (plain.stays d low) refl (r.each_home d low))
 
   -- what the log says is enough for the event, whatever number is found
-  pub plain_step : (id : ℕ) (v : View) (slots : List (ℕ × Option B)) (s : Step) (w : Word) (written number : ℕ → ℕ) → v.active ≡ true → 0 < v.thread → IsWord n w
-      → ((h : Heap) (there : ℕ) → Known n limit h v.thread v.log → Shows h w there → there < 2 ^ 64 → IsPlain n h v.thread s w (written there) (number there))
-      → Allows Rule n id (v, slots) (spot n w) written (λ there me. me ≡ (with_told (Did s (number there) moves.Nothing) v, slots))
+  pub plain_step : (id : ℕ) (v : View) (slots : List (ℕ × Option B)) (s : Step) (w : Word) (written number : ℕ → ℕ)
+      → v.active ≡ true → 0 < v.thread → IsWord n w
+      → ((h : Heap) (there : ℕ) → Known n limit h v.thread v.log → Shows h w there → there < 2 ^ 64
+      → IsPlain n h v.thread s w (written there) (number there))
+      → Allows Rule n id (v, slots) (spot n w) written
+      (λ there me. me ≡ (with_told (Did s (number there) moves.Nothing) v, slots))
   plain_step id v slots s w written number active some_thread is plain st r deep at small =
       let there : ℕ = get_or st.words (spot n w) 0 in (
         with_told (Did s (number there) moves.Nothing) v,
         keeps,
         tt,
         plainly st r id v s w (written there) (number there) at active some_thread is
-            (plain (world n limit r.run) there (knows shows n limit st r id v at active some_thread) (r.each_word w is) small),
+            (plain (world n limit r.run) there (knows shows n limit st r id v at active some_thread)
+            (r.each_word w is) small),
         refl,
       )
 
   -- a compare-exchange: it makes the event where it finds the number that it expects, and else is a note
-  pub exchange_step : (id : ℕ) (v : View) (slots : List (ℕ × Option B)) (s : Step) (w : Word) (old new : ℕ) → v.active ≡ true → 0 < v.thread → IsWord n w
+  pub exchange_step : (id : ℕ) (v : View) (slots : List (ℕ × Option B)) (s : Step) (w : Word) (old new : ℕ)
+      → v.active ≡ true → 0 < v.thread → IsWord n w
       → ((h : Heap) → Known n limit h v.thread v.log → Shows h w old → IsPlain n h v.thread s w new old)
       → Allows Rule n id (v, slots) (spot n w) (λ there. either (there == old) new there)
-      (λ there me. me ≡ ((if there == old then with_told (Did s old moves.Nothing) v else with_told (Lost w there) v), slots))
+      (λ there me. me ≡ (
+        (if there == old then with_told (Did s old moves.Nothing) v else with_told
+            (Lost w there) v),
+        slots,
+      ))
   exchange_step id v slots s w old new active some_thread is plain st r deep at small =
       let there : ℕ = get_or st.words (spot n w) 0 in
       elim (cases_eq there old) [
@@ -153,17 +184,28 @@ module _ {B : Type 0} (shows : B → ℕ × Contents) (n limit : ℕ) where
           with_told (Did s old moves.Nothing) v,
           keeps,
           tt,
-          subst (λ b. Rule (record { words = set st.words (spot n w) (either b new there); homes = st.homes; views = set st.views id (with_told (Did s old moves.Nothing) v) })) (sym (eq-eqb there old same))
+          subst (λ b. Rule (record {
+            words = set st.words (spot n w) (either b new there);
+            homes = st.homes;
+            views = set st.views id (with_told (Did s old moves.Nothing) v);
+          })) (sym (eq-eqb there old same))
               (plainly st r id v s w new old at active some_thread is
-              (plain (world n limit r.run) (knows shows n limit st r id v at active some_thread) (subst (Shows (world n limit r.run) w) same (r.each_word w is)))),
-          sym (ap (λ b. ((if b then with_told (Did s old moves.Nothing) v else with_told (Lost w there) v), slots)) (eq-eqb there old same)),
+              (plain (world n limit r.run) (knows shows n limit st r id v at active some_thread)
+              (subst (Shows (world n limit r.run) w) same (r.each_word w is)))),
+          sym (ap (λ b. ((if b then with_told (Did s old moves.Nothing) v else with_told (Lost w there) v), slots))
+              (eq-eqb there old same)),
         )
         | inr other ↦ (
           with_told (Lost w there) v,
           keeps,
           tt,
-          subst (λ b. Rule (record { words = set st.words (spot n w) (either b new there); homes = st.homes; views = set st.views id (with_told (Lost w there) v) })) (sym (ne_eqb there old other))
+          subst (λ b. Rule (record {
+            words = set st.words (spot n w) (either b new there);
+            homes = st.homes;
+            views = set st.views id (with_told (Lost w there) v);
+          })) (sym (ne_eqb there old other))
               (unmoved shows n limit st r id v w (Lost w there) at active is lost),
-          sym (ap (λ b. ((if b then with_told (Did s old moves.Nothing) v else with_told (Lost w there) v), slots)) (ne_eqb there old other)),
+          sym (ap (λ b. ((if b then with_told (Did s old moves.Nothing) v else with_told (Lost w there) v), slots))
+              (ne_eqb there old other)),
         )
       ]

@@ -1,6 +1,7 @@
--- Steps on words that are no cell's: Drain and Close take the bits of an own queue word, Nudge sets a bit of a notify word
--- and Wake takes them all.
-use Rattle.std.proofs.Common.{◌≡◌, ℕ, ◌+◌, ◌*◌, ◌/◌, ◌<◌, ◌≤◌, ◌^◌, nat_lt, ◌&&◌, Bool, true, false, if◌then◌else◌, List, [], length, set, Option, None, refl, sym, ◌∙◌, ap, subst, inl, inr, arith}
+-- Steps on words that are no cell's: Drain and Close take the bits of an own queue word, Nudge sets a bit of a notify
+-- word and Wake takes them all.
+use Rattle.std.proofs.Common.{◌≡◌, ℕ, ◌+◌, ◌*◌, ◌/◌, ◌<◌, ◌≤◌, ◌^◌, nat_lt, ◌&&◌, Bool, true, false, if◌then◌else◌}
+use Rattle.std.proofs.Common.{List, [], length, set, Option, None, refl, sym, ◌∙◌, ap, subst, inl, inr, arith}
 use Rattle.std.specs.Int.{bit_at}
 use Rattle.std.specs.Int.RustNames.{bit_or}
 use Rattle.std.proofs.lemmas.Bool.{cases_eq, eq-eqb, ne_eqb, lt-ltb, ltb-true, and_parts}
@@ -15,13 +16,15 @@ use Rattle.law_world.specs.declared.row.Stage.TheVariants as stages
 use Rattle.law_world.specs.Lists.{word_at, is_unmarked}
 use Rattle.law_world.specs.Heap.{Heap, row_at, queue_at, worklist_at, no_row, is_registered, words_for}
 use Rattle.law_world.specs.Sound.{IsSound}
-use Rattle.law_world.specs.Steps.{thread_may, target_at, after_target, kept_cells, stage_after, is_closed, closed_more, may_leave}
+use Rattle.law_world.specs.Steps.{thread_may, target_at, after_target, kept_cells, stage_after, is_closed, closed_more}
+use Rattle.law_world.specs.Steps.{may_leave}
 use Rattle.law_world.proofs.Asking.{May, may_parts}
 use Rattle.law_world.proofs.Changes.{read_here}
 use Rattle.law_world.proofs.Reached.{reached_sound}
 use Rattle.law_known.specs.declared.word.Word.{Word}
 use Rattle.law_known.specs.declared.word.Word.TheVariants.{Queue, NotifyWord}
-use Rattle.law_known.specs.Items.{IsWord, Shows, ShowsQueue, ToldBy, meets_closed, told_at, found_at, works_on, closing_bit}
+use Rattle.law_known.specs.Items.{IsWord, Shows, ShowsQueue, ToldBy, meets_closed, told_at, found_at, works_on}
+use Rattle.law_known.specs.Items.{closing_bit}
 use Rattle.law_known.proofs.Items_Own.{next_open, drains_open}
 use Rattle.law_known.proofs.Queued_Law.{queue_bits}
 use Rattle.law_rule.specs.declared.contents.Contents.{Contents}
@@ -48,7 +51,8 @@ record PlainOff (h : Heap) (t : ℕ) (s : Step) (w : Word) (written number : ℕ
   told : ToldBy (meets_closed h s) (told_at h t s None) number
   puts_none : puts h t s ≡ None
 
-plain_off : (n : ℕ) (h : Heap) (t : ℕ) (s : Step) (w : Word) (written number : ℕ) → PlainOff h t s w written number → IsPlain n h t s w written number
+plain_off : (n : ℕ) (h : Heap) (t : ℕ) (s : Step) (w : Word) (written number : ℕ) → PlainOff h t s w written number
+    → IsPlain n h t s w written number
 plain_off n h t s w written number off =
     let back : None ≡ target_at h t s = sym off.target in
     record {
@@ -59,29 +63,37 @@ plain_off n h t s w written number off =
       finds_none = ap (found_at h s) off.target;
       puts_none = off.puts_none;
       takes_none = ap (takes_of h s) off.target;
-      stays = λ d low. subst (λ o. Rattle.law_rule.proofs.Homing.Stays h (after_target h t s o) d) back (stays_off h t s d);
+      stays = λ d low. subst (λ o. Rattle.law_rule.proofs.Homing.Stays h (after_target h t s o) d) back
+          (stays_off h t s d);
     }
 
 -- what an open queue word of a registered thread shows
-open_shows : (h : Heap) (t k there : ℕ) → is_registered h t ≡ true → is_closed (row_at h t).stage k ≡ false → Shows h (Queue t k) there → there ≡ word_at (queue_at h t) k
+open_shows : (h : Heap) (t k there : ℕ) → is_registered h t ≡ true → is_closed (row_at h t).stage k ≡ false
+    → Shows h (Queue t k) there → there ≡ word_at (queue_at h t) k
 open_shows h t k there registered open_word shown =
-    subst (λ closed. ToldBy closed (word_at (queue_at h t) k) there) open_word (subst (λ reg. ShowsQueue reg (is_closed (row_at h t).stage k) (word_at (queue_at h t) k) there) registered shown)
+    subst (λ closed. ToldBy closed (word_at (queue_at h t) k) there) open_word
+    (subst (λ reg. ShowsQueue reg (is_closed (row_at h t).stage k) (word_at (queue_at h t) k) there) registered shown)
 
-told_open : (h : Heap) (t k there : ℕ) → is_closed (row_at h t).stage k ≡ false → there ≡ word_at (queue_at h t) k → there ≡ word_at (queue_at h t) k + closing_bit (is_closed (row_at h t).stage k)
+told_open : (h : Heap) (t k there : ℕ) → is_closed (row_at h t).stage k ≡ false → there ≡ word_at (queue_at h t) k
+    → there ≡ word_at (queue_at h t) k + closing_bit (is_closed (row_at h t).stage k)
 told_open h t k there open_word is = omega (arith, is, ap closing_bit open_word)
 
 -- the number of a queue word after a step on it
-queue_shows : (new : Heap) (t k written : ℕ) (closed : Bool) (bits : ℕ) → is_registered new t ≡ true → is_closed (row_at new t).stage k ≡ closed → word_at (queue_at new t) k ≡ bits → ToldBy closed bits written
+queue_shows : (new : Heap) (t k written : ℕ) (closed : Bool) (bits : ℕ) → is_registered new t ≡ true
+    → is_closed (row_at new t).stage k ≡ closed → word_at (queue_at new t) k ≡ bits → ToldBy closed bits written
     → Shows new (Queue t k) written
 queue_shows new t k written closed bits registered stage queue said =
-    subst (λ reg. ShowsQueue reg (is_closed (row_at new t).stage k) (word_at (queue_at new t) k) written) (sym registered)
-    (subst (λ b. ShowsQueue true b (word_at (queue_at new t) k) written) (sym stage) (subst (λ q. ToldBy closed q written) (sym queue) said))
+    subst (λ reg. ShowsQueue reg (is_closed (row_at new t).stage k) (word_at (queue_at new t) k) written)
+    (sym registered)
+    (subst (λ b. ShowsQueue true b (word_at (queue_at new t) k) written) (sym stage)
+    (subst (λ q. ToldBy closed q written) (sym queue) said))
 
 -- the word that is closed
 now_closed : (words k : ℕ) → is_closed (closed_more words k) k ≡ true
 now_closed words k = elim (cases_eq (k + 1) words) [
   | inl last ↦ ap (λ b. is_closed (if b then stages.Left else stages.Closing (k + 1)) k) (eq-eqb (k + 1) words last)
-  | inr more ↦ ap (λ b. is_closed (if b then stages.Left else stages.Closing (k + 1)) k) (ne_eqb (k + 1) words more) ∙ lt-ltb k (k + 1) (omega arith)
+  | inr more ↦ ap (λ b. is_closed (if b then stages.Left else stages.Closing (k + 1)) k) (ne_eqb (k + 1) words more)
+      ∙ lt-ltb k (k + 1) (omega arith)
 ]
 
 module _ {B : Type 0} (shows : B → ℕ × Contents) (n limit : ℕ) where
@@ -89,17 +101,24 @@ module _ {B : Type 0} (shows : B → ℕ × Contents) (n limit : ℕ) where
   Rule = Kept shows n limit
 
   -- an open word of the thread's own shows its bits, and these are cells
-  bits_shown : (h : Heap) (t : ℕ) (log : List Told) (k there : ℕ) → 0 < t → Known n limit h t log → is_closed (row_at h t).stage k ≡ false → Shows h (Queue t k) there → AreQueued n k there
+  bits_shown : (h : Heap) (t : ℕ) (log : List Told) (k there : ℕ) → 0 < t → Known n limit h t log
+      → is_closed (row_at h t).stage k ≡ false → Shows h (Queue t k) there → AreQueued n k there
   bits_shown h t log k there some_thread known open_word shown i on =
-      let is : there ≡ word_at (queue_at h t) k = open_shows h t k there (stands_registered h t known.stood some_thread) open_word shown in
-      subst (λ m. (i < 32) × (k * 32 + i < m)) known.cells (queue_bits h t k i known.reached (ap (λ m. bit_at m i) (sym is) ∙ on))
+      let is : there ≡ word_at (queue_at h t) k = open_shows h t k there (stands_registered h t known.stood some_thread)
+      open_word shown in
+      subst (λ m. (i < 32) × (k * 32 + i < m)) known.cells
+      (queue_bits h t k i known.reached (ap (λ m. bit_at m i) (sym is) ∙ on))
 
   -- ---- Drain
 
-  drained_open : (h : Heap) (t : ℕ) (log : List Told) (k : ℕ) → 0 < t → Known n limit h t log → Allowed n log (Drain k) → is_closed (row_at h t).stage k ≡ false
-  drained_open h t log k some_thread known allowed = drains_open (row_at h t).stage k (may_parts h t (Drain k) (is_enabled n limit h t log (Drain k) some_thread known allowed.own refl refl refl)).stage
+  drained_open : (h : Heap) (t : ℕ) (log : List Told) (k : ℕ) → 0 < t → Known n limit h t log → Allowed n log (Drain k)
+      → is_closed (row_at h t).stage k ≡ false
+  drained_open h t log k some_thread known allowed = drains_open (row_at h t).stage k
+      (may_parts h t (Drain k) (is_enabled n limit h t log (Drain k) some_thread known allowed.own refl refl
+      refl)).stage
 
-  drained : (h : Heap) (t : ℕ) (log : List Told) (k there : ℕ) → 0 < t → k < words_for n → Known n limit h t log → Allowed n log (Drain k) → Shows h (Queue t k) there
+  drained : (h : Heap) (t : ℕ) (log : List Told) (k there : ℕ) → 0 < t → k < words_for n → Known n limit h t log
+      → Allowed n log (Drain k) → Shows h (Queue t k) there
       → IsPlain n h t (Drain k) (Queue t k) 0 there
   drained h t log k there some_thread inside known allowed shown =
       let s : Step = Drain k in
@@ -109,42 +128,59 @@ module _ {B : Type 0} (shows : B → ℕ × Contents) (n limit : ℕ) where
       let registered : is_registered h t ≡ true = stands_registered h t known.stood some_thread in
       let open_word : is_closed (row_at h t).stage k ≡ false = drained_open h t log k some_thread known allowed in
       let is : there ≡ word_at (queue_at h t) k = open_shows h t k there registered open_word shown in
-      let row : row_at (kept_cells h t s) t ≡ record (row_at h t) { stage = stage_after (words_for (length h.cells)) s (row_at h t).stage } = read_here h.rows t _ no_row parts.inside in
-      let queue : queue_at (kept_cells h t s) t ≡ set (queue_at h t) k 0 = read_here h.queues t _ [] (omega (arith, sound.shaped.queues, parts.inside)) in
+      let row : row_at (kept_cells h t s) t ≡ record (row_at h t) {
+        stage = stage_after (words_for (length h.cells)) s
+            (row_at h t).stage;
+      } = read_here h.rows t _ no_row parts.inside in
+      let queue : queue_at (kept_cells h t s) t ≡ set (queue_at h t) k 0 = read_here h.queues t _ []
+      (omega (arith, sound.shaped.queues, parts.inside)) in
       plain_off n h t s (Queue t k) 0 there (record {
         may = may;
         target = refl;
         word = refl;
-        shown = queue_shows (kept_cells h t s) t k 0 false 0 (ap (λ m. nat_lt 0 t && nat_lt t m) (Rattle.law_lasting.proofs.Ranges_Law.same_rows h t s None) ∙ registered)
+        shown = queue_shows (kept_cells h t s) t k 0 false 0
+            (ap (λ m. nat_lt 0 t && nat_lt t m) (Rattle.law_lasting.proofs.Ranges_Law.same_rows h t s None)
+            ∙ registered)
             (ap (λ (r : Row). is_closed r.stage k) row ∙ open_word)
-            (ap (λ (q : List ℕ). word_at q k) queue ∙ read_here (queue_at h t) k 0 0 (omega (arith, inside, known.cells, sound.shaped.queue_words t some_thread parts.inside))) refl;
+            (ap (λ (q : List ℕ). word_at q k) queue
+            ∙ read_here (queue_at h t) k 0 0
+            (omega (arith, inside, known.cells, sound.shaped.queue_words t some_thread parts.inside))) refl;
         told = told_open h t k there open_word is;
         puts_none = refl;
       })
 
-  pub drains : (id : ℕ) (v : View) (slots : List (ℕ × Option B)) (k : ℕ) → v.active ≡ true → 0 < v.thread → v.thread ≤ MOST_THREADS → k < words_for n → Allowed n v.log (Drain k)
-      → Allows Rule n id (v, slots) (spot n (Queue v.thread k)) (λ there. 0) (λ there me. (me ≡ (with_told (Did (Drain k) there moves.Nothing) v, slots)) × AreQueued n k there)
+  pub drains : (id : ℕ) (v : View) (slots : List (ℕ × Option B)) (k : ℕ) → v.active ≡ true → 0 < v.thread
+      → v.thread ≤ MOST_THREADS → k < words_for n → Allowed n v.log (Drain k)
+      → Allows Rule n id (v, slots) (spot n (Queue v.thread k)) (λ there. 0)
+      (λ there me. (me ≡ (with_told (Did (Drain k) there moves.Nothing) v, slots)) × AreQueued n k there)
   drains id v slots k active some_thread few inside allowed =
       let is : IsWord n (Queue v.thread k) = (omega (arith, few), inside) in
-      tells_found shows n limit (AreQueued n k) id v slots (Queue v.thread k) (λ there. 0) (λ there me. me ≡ (with_told (Did (Drain k) there moves.Nothing) v, slots)) active some_thread is
-      (λ h there known shown. bits_shown h v.thread v.log k there some_thread known (drained_open h v.thread v.log k some_thread known allowed) shown)
-      (plain_step shows n limit id v slots (Drain k) (Queue v.thread k) (λ there. 0) (λ there. there) active some_thread is
+      tells_found shows n limit (AreQueued n k) id v slots (Queue v.thread k) (λ there. 0)
+      (λ there me. me ≡ (with_told (Did (Drain k) there moves.Nothing) v, slots)) active some_thread is
+      (λ h there known shown. bits_shown h v.thread v.log k there some_thread known
+      (drained_open h v.thread v.log k some_thread known allowed) shown)
+      (plain_step shows n limit id v slots (Drain k) (Queue v.thread k) (λ there. 0) (λ there. there) active
+      some_thread is
       (λ h there known shown small. drained h v.thread v.log k there some_thread inside known allowed shown))
 
   -- ---- Close
 
   -- its worklist is empty, which is what the first edition asks of it
-  may_close : (h : Heap) (t : ℕ) (log : List Told) (k : ℕ) → 0 < t → Known n limit h t log → Allowed n log (Close k) → thread_may h t (Close k) ≡ true
+  may_close : (h : Heap) (t : ℕ) (log : List Told) (k : ℕ) → 0 < t → Known n limit h t log → Allowed n log (Close k)
+      → thread_may h t (Close k) ≡ true
   may_close h t log k some_thread known allowed =
       is_enabled n limit h t log (Close k) some_thread known allowed.own refl
-      (subst (λ e. may_leave e t h.cells (worklist_at h t) ≡ true) (sym (known_edition n limit h t log known)) (ap is_unmarked known.part.work_is ∙ allowed.done)) refl
+      (subst (λ e. may_leave e t h.cells (worklist_at h t) ≡ true) (sym (known_edition n limit h t log known))
+      (ap is_unmarked known.part.work_is ∙ allowed.done)) refl
 
-  closed_open : (h : Heap) (t : ℕ) (log : List Told) (k : ℕ) → 0 < t → Known n limit h t log → Allowed n log (Close k) → is_closed (row_at h t).stage k ≡ false
+  closed_open : (h : Heap) (t : ℕ) (log : List Told) (k : ℕ) → 0 < t → Known n limit h t log → Allowed n log (Close k)
+      → is_closed (row_at h t).stage k ≡ false
   closed_open h t log k some_thread known allowed =
       let parts : May h t (Close k) = may_parts h t (Close k) (may_close h t log k some_thread known allowed) in
       next_open (row_at h t).stage k (and_parts _ _ (and_parts _ _ (and_parts _ _ parts.own).0).0).1
 
-  closed : (h : Heap) (t : ℕ) (log : List Told) (k there : ℕ) → 0 < t → k < words_for n → Known n limit h t log → Allowed n log (Close k) → Shows h (Queue t k) there
+  closed : (h : Heap) (t : ℕ) (log : List Told) (k there : ℕ) → 0 < t → k < words_for n → Known n limit h t log
+      → Allowed n log (Close k) → Shows h (Queue t k) there
       → IsPlain n h t (Close k) (Queue t k) (bit_or there 9223372036854775808) there
   closed h t log k there some_thread inside known allowed shown =
       let s : Step = Close k in
@@ -154,30 +190,43 @@ module _ {B : Type 0} (shows : B → ℕ × Contents) (n limit : ℕ) where
       let registered : is_registered h t ≡ true = stands_registered h t known.stood some_thread in
       let open_word : is_closed (row_at h t).stage k ≡ false = closed_open h t log k some_thread known allowed in
       let is : there ≡ word_at (queue_at h t) k = open_shows h t k there registered open_word shown in
-      let row : row_at (kept_cells h t s) t ≡ record (row_at h t) { stage = stage_after (words_for (length h.cells)) s (row_at h t).stage } = read_here h.rows t _ no_row parts.inside in
+      let row : row_at (kept_cells h t s) t ≡ record (row_at h t) {
+        stage = stage_after (words_for (length h.cells)) s
+            (row_at h t).stage;
+      } = read_here h.rows t _ no_row parts.inside in
       plain_off n h t s (Queue t k) (bit_or there 9223372036854775808) there (record {
         may = may;
         target = refl;
         word = refl;
-        shown = queue_shows (kept_cells h t s) t k (bit_or there 9223372036854775808) true (word_at (queue_at (kept_cells h t s) t) k)
-            (ap (λ m. nat_lt 0 t && nat_lt t m) (Rattle.law_lasting.proofs.Ranges_Law.same_rows h t s None) ∙ registered)
-            (ap (λ (r : Row). is_closed r.stage k) row ∙ now_closed (words_for (length h.cells)) k) refl (le_or_r there 9223372036854775808);
+        shown = queue_shows (kept_cells h t s) t k (bit_or there 9223372036854775808) true
+            (word_at (queue_at (kept_cells h t s) t) k)
+            (ap (λ m. nat_lt 0 t && nat_lt t m) (Rattle.law_lasting.proofs.Ranges_Law.same_rows h t s None)
+            ∙ registered)
+            (ap (λ (r : Row). is_closed r.stage k) row ∙ now_closed (words_for (length h.cells)) k) refl
+            (le_or_r there 9223372036854775808);
         told = told_open h t k there open_word is;
         puts_none = refl;
       })
 
-  pub closes : (id : ℕ) (v : View) (slots : List (ℕ × Option B)) (k : ℕ) → v.active ≡ true → 0 < v.thread → v.thread ≤ MOST_THREADS → k < words_for n → Allowed n v.log (Close k)
-      → Allows Rule n id (v, slots) (spot n (Queue v.thread k)) (λ there. bit_or there 9223372036854775808) (λ there me. (me ≡ (with_told (Did (Close k) there moves.Nothing) v, slots)) × AreQueued n k there)
+  pub closes : (id : ℕ) (v : View) (slots : List (ℕ × Option B)) (k : ℕ) → v.active ≡ true → 0 < v.thread
+      → v.thread ≤ MOST_THREADS → k < words_for n → Allowed n v.log (Close k)
+      → Allows Rule n id (v, slots) (spot n (Queue v.thread k)) (λ there. bit_or there 9223372036854775808)
+      (λ there me. (me ≡ (with_told (Did (Close k) there moves.Nothing) v, slots)) × AreQueued n k there)
   closes id v slots k active some_thread few inside allowed =
       let is : IsWord n (Queue v.thread k) = (omega (arith, few), inside) in
-      tells_found shows n limit (AreQueued n k) id v slots (Queue v.thread k) (λ there. bit_or there 9223372036854775808) (λ there me. me ≡ (with_told (Did (Close k) there moves.Nothing) v, slots)) active some_thread is
-      (λ h there known shown. bits_shown h v.thread v.log k there some_thread known (closed_open h v.thread v.log k some_thread known allowed) shown)
-      (plain_step shows n limit id v slots (Close k) (Queue v.thread k) (λ there. bit_or there 9223372036854775808) (λ there. there) active some_thread is
+      tells_found shows n limit (AreQueued n k) id v slots (Queue v.thread k)
+      (λ there. bit_or there 9223372036854775808)
+      (λ there me. me ≡ (with_told (Did (Close k) there moves.Nothing) v, slots)) active some_thread is
+      (λ h there known shown. bits_shown h v.thread v.log k there some_thread known
+      (closed_open h v.thread v.log k some_thread known allowed) shown)
+      (plain_step shows n limit id v slots (Close k) (Queue v.thread k) (λ there. bit_or there 9223372036854775808)
+      (λ there. there) active some_thread is
       (λ h there known shown small. closed h v.thread v.log k there some_thread inside known allowed shown))
 
   -- ---- Nudge and Wake
 
-  nudged : (h : Heap) (t : ℕ) (log : List Told) (q k there : ℕ) → 0 < t → Known n limit h t log → Tells n log q k → Shows h (NotifyWord q) there
+  nudged : (h : Heap) (t : ℕ) (log : List Told) (q k there : ℕ) → 0 < t → Known n limit h t log → Tells n log q k
+      → Shows h (NotifyWord q) there
       → IsPlain n h t (Nudge q k) (NotifyWord q) (bit_or there (2 ^ (k / 32))) there
   nudged h t log q k there some_thread known tells shown =
       let s : Step = Nudge q k in
@@ -185,35 +234,46 @@ module _ {B : Type 0} (shows : B → ℕ × Contents) (n limit : ℕ) where
       let registered : is_registered h q ≡ true = known.owners q tells.seen tells.some_thread tells.few in
       let low : q < length h.rows = ltb-true _ _ (and_parts (nat_lt 0 q) (nat_lt q (length h.rows)) registered).1 in
       plain_off n h t s (NotifyWord q) (bit_or there (2 ^ (k / 32))) there (record {
-        may = is_enabled n limit h t log s some_thread known tells.own refl (both_true registered (lt-ltb _ _ (subst (λ m. k < words_for m) (sym known.cells) tells.word))) refl;
+        may = is_enabled n limit h t log s some_thread known tells.own refl
+            (both_true registered (lt-ltb _ _ (subst (λ m. k < words_for m) (sym known.cells) tells.word))) refl;
         target = refl;
         word = refl;
-        shown = ap (λ m. bit_or m (2 ^ (k / 32))) shown ∙ sym (read_here h.notify_words q _ 0 (omega (arith, sound.shaped.notify_words, low)));
+        shown = ap (λ m. bit_or m (2 ^ (k / 32))) shown
+            ∙ sym (read_here h.notify_words q _ 0 (omega (arith, sound.shaped.notify_words, low)));
         told = shown;
         puts_none = refl;
       })
 
-  pub nudges : (id : ℕ) (v : View) (slots : List (ℕ × Option B)) (q k : ℕ) → v.active ≡ true → 0 < v.thread → Tells n v.log q k
-      → Allows Rule n id (v, slots) (spot n (NotifyWord q)) (λ there. bit_or there (2 ^ (k / 32))) (λ there me. me ≡ (with_told (Did (Nudge q k) there moves.Nothing) v, slots))
+  pub nudges : (id : ℕ) (v : View) (slots : List (ℕ × Option B)) (q k : ℕ) → v.active ≡ true → 0 < v.thread
+      → Tells n v.log q k
+      → Allows Rule n id (v, slots) (spot n (NotifyWord q)) (λ there. bit_or there (2 ^ (k / 32)))
+      (λ there me. me ≡ (with_told (Did (Nudge q k) there moves.Nothing) v, slots))
   nudges id v slots q k active some_thread tells =
-      plain_step shows n limit id v slots (Nudge q k) (NotifyWord q) (λ there. bit_or there (2 ^ (k / 32))) (λ there. there) active some_thread (omega (arith, tells.few))
+      plain_step shows n limit id v slots (Nudge q k) (NotifyWord q) (λ there. bit_or there (2 ^ (k / 32)))
+      (λ there. there) active some_thread (omega (arith, tells.few))
       (λ h there known shown small. nudged h v.thread v.log q k there some_thread known tells shown)
 
-  woken : (h : Heap) (t : ℕ) (log : List Told) (there : ℕ) → 0 < t → Known n limit h t log → Allowed n log Wake → Shows h (NotifyWord t) there → IsPlain n h t Wake (NotifyWord t) 0 there
+  woken : (h : Heap) (t : ℕ) (log : List Told) (there : ℕ) → 0 < t → Known n limit h t log → Allowed n log Wake
+      → Shows h (NotifyWord t) there → IsPlain n h t Wake (NotifyWord t) 0 there
   woken h t log there some_thread known allowed shown =
       let sound : IsSound h = reached_sound h known.reached in
-      let may : thread_may h t Wake ≡ true = is_enabled n limit h t log Wake some_thread known allowed.own refl refl refl in
+      let may : thread_may h t Wake ≡ true = is_enabled n limit h t log Wake some_thread known allowed.own refl
+      refl refl in
       plain_off n h t Wake (NotifyWord t) 0 there (record {
         may = may;
         target = refl;
         word = refl;
-        shown = sym (read_here h.notify_words t 0 0 (omega (arith, sound.shaped.notify_words, (may_parts h t Wake may).inside)));
+        shown = sym (read_here h.notify_words t 0 0
+            (omega (arith, sound.shaped.notify_words, (may_parts h t Wake may).inside)));
         told = shown;
         puts_none = refl;
       })
 
-  pub wakes : (id : ℕ) (v : View) (slots : List (ℕ × Option B)) → v.active ≡ true → 0 < v.thread → v.thread ≤ MOST_THREADS → Allowed n v.log Wake
-      → Allows Rule n id (v, slots) (spot n (NotifyWord v.thread)) (λ there. 0) (λ there me. me ≡ (with_told (Did Wake there moves.Nothing) v, slots))
+  pub wakes : (id : ℕ) (v : View) (slots : List (ℕ × Option B)) → v.active ≡ true → 0 < v.thread
+      → v.thread ≤ MOST_THREADS → Allowed n v.log Wake
+      → Allows Rule n id (v, slots) (spot n (NotifyWord v.thread)) (λ there. 0)
+      (λ there me. me ≡ (with_told (Did Wake there moves.Nothing) v, slots))
   wakes id v slots active some_thread few allowed =
-      plain_step shows n limit id v slots Wake (NotifyWord v.thread) (λ there. 0) (λ there. there) active some_thread (omega (arith, few))
+      plain_step shows n limit id v slots Wake (NotifyWord v.thread) (λ there. 0) (λ there. there) active some_thread
+      (omega (arith, few))
       (λ h there known shown small. woken h v.thread v.log there some_thread known allowed shown)

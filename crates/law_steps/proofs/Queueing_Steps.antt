@@ -1,5 +1,6 @@
 -- Enqueue: an asked cell's bit goes into a queue word of its bearer, which is open or closed.
-use Rattle.std.proofs.Common.{◌≡◌, ℕ, ◌+◌, ◌/◌, ◌%◌, ◌<◌, ◌≤◌, ◌^◌, ◌&&◌, nat_lt, Bool, true, false, List, [], length, set, get_or, Option, Some, refl, sym, ◌∙◌, ap, subst, arith}
+use Rattle.std.proofs.Common.{◌≡◌, ℕ, ◌+◌, ◌/◌, ◌%◌, ◌<◌, ◌≤◌, ◌^◌, ◌&&◌, nat_lt, Bool, true, false, List, [], length}
+use Rattle.std.proofs.Common.{set, get_or, Option, Some, refl, sym, ◌∙◌, ap, subst, arith}
 use Rattle.std.specs.Int.RustNames.{bit_or}
 use Rattle.std.proofs.lemmas.Bool.{lt-ltb}
 use Rattle.std.proofs.lemmas.List.{get_or-set_same}
@@ -55,14 +56,17 @@ record BornBy (h : Heap) (t c q : ℕ) : Type 0 where
   keeps : Keeps h t c kind q 0
 
 born_lasts : (t c q : ℕ) → Lasts t (λ h. BornBy h t c q)
-born_lasts t c q h e reached ok others born = record { kind = born.kind; keeps = keeping_lasts t c born.kind q 0 h e reached ok others born.keeps }
+born_lasts t c q h e reached ok others born =
+    record { kind = born.kind; keeps = keeping_lasts t c born.kind q 0 h e reached ok others born.keeps }
 
 -- its owner is its bearer
-noted_bearer : (h : Heap) (t c q : ℕ) → IsReached h → (row_at h t).hand ≡ hands.Busy phases.Asked c → Shows h (Of Owner c) q → 0 < q → q ≤ MOST_THREADS → BornBy h t c q
+noted_bearer : (h : Heap) (t c q : ℕ) → IsReached h → (row_at h t).hand ≡ hands.Busy phases.Asked c
+    → Shows h (Of Owner c) q → 0 < q → q ≤ MOST_THREADS → BornBy h t c q
 noted_bearer h t c q reached busy found some_thread few =
     let sound : IsSound h = reached_sound h reached in
     let mortal : FIRST_MORTAL ≤ c = (sound.hands t c phases.Asked busy).mortal in
-    let owner : (cell_at h c).owner ≡ owners.Thread q = thread_spelled (cell_at h c).owner q (owner_told h t c q reached (has_in_hand h t c phases.Asked busy refl) found) some_thread few in
+    let owner : (cell_at h c).owner ≡ owners.Thread q = thread_spelled (cell_at h c).owner q
+    (owner_told h t c q reached (has_in_hand h t c phases.Asked busy refl) found) some_thread few in
     record {
       kind = (cell_at h c).kind;
       keeps = record {
@@ -75,11 +79,14 @@ noted_bearer h t c q reached busy found some_thread few =
       };
     }
 
-born_now : (n limit : ℕ) (h : Heap) (t : ℕ) (log : List Told) (c q : ℕ) → 0 < t → Known n limit h t log → Enqueues n log c q → BornBy h t c q
+born_now : (n limit : ℕ) (h : Heap) (t : ℕ) (log : List Told) (c q : ℕ) → 0 < t → Known n limit h t log
+    → Enqueues n log c q → BornBy h t c q
 born_now n limit h t log c q some_thread known asks =
-    let busy : (part_seen n log).row.hand ≡ hands.Busy phases.Asked c = busy_hand phases.Asked c _ (part_hand n (part_seen n log) (Enqueue c) asks.own) in
+    let busy : (part_seen n log).row.hand ≡ hands.Busy phases.Asked c = busy_hand phases.Asked c _
+    (part_hand n (part_seen n log) (Enqueue c) asks.own) in
     since n limit h t log Owner c q (λ z. BornBy z t c q) some_thread known asks.found (born_lasts t c q)
-    (λ old before was same found. noted_bearer old t c q was.reached (hand_in n limit old t before log (hands.Busy phases.Asked c) was same busy) found asks.owned asks.thread)
+    (λ old before was same found. noted_bearer old t c q was.reached
+    (hand_in n limit old t before log (hands.Busy phases.Asked c) was same busy) found asks.owned asks.thread)
 
 -- ---- the queue word
 
@@ -89,7 +96,8 @@ record HasWord (h : Heap) (u c : ℕ) : Type 0 where
   thread : u < length h.queues
   inside : c / 32 < length (queue_at h u)
 
-has_word : (h : Heap) (c : ℕ) → IsSound h → FIRST_MORTAL ≤ c → lives (cell_at h c).owner ≡ true → c < length h.cells → HasWord h (cell_at h c).bearer c
+has_word : (h : Heap) (c : ℕ) → IsSound h → FIRST_MORTAL ≤ c → lives (cell_at h c).owner ≡ true → c < length h.cells
+    → HasWord h (cell_at h c).bearer c
 has_word h c sound mortal live low =
     let born : (0 < (cell_at h c).bearer) × ((cell_at h c).bearer < length h.rows) = (sound.cells c mortal).born live in
     record {
@@ -99,9 +107,11 @@ has_word h c sound mortal live low =
     }
 
 -- what is found in it
-word_found : (h : Heap) (c there : ℕ) → is_registered h (cell_at h c).bearer ≡ true → Shows h (Queue (cell_at h c).bearer (c / 32)) there
+word_found : (h : Heap) (c there : ℕ) → is_registered h (cell_at h c).bearer ≡ true
+    → Shows h (Queue (cell_at h c).bearer (c / 32)) there
     → ToldBy (is_shut h c) (word_at (queue_at h (cell_at h c).bearer) (c / 32)) there
-word_found h c there registered shown = subst (λ b. ShowsQueue b (is_shut h c) (word_at (queue_at h (cell_at h c).bearer) (c / 32)) there) registered shown
+word_found h c there registered shown =
+    subst (λ b. ShowsQueue b (is_shut h c) (word_at (queue_at h (cell_at h c).bearer) (c / 32)) there) registered shown
 
 word_told : (h : Heap) (c there : ℕ) → ToldBy (is_shut h c) (word_at (queue_at h (cell_at h c).bearer) (c / 32)) there
     → ToldBy (is_shut h c) (spelled h (Queue (cell_at h c).bearer (c / 32))) there
@@ -114,17 +124,22 @@ word_told h c there found = by_shut (is_shut h c) refl found
 
 -- the word with the cell's bit
 word_after : (h : Heap) (u c : ℕ) (queues : List (List ℕ)) → u < length queues → c / 32 < length (get_or queues u [])
-    → word_at (get_or (set queues u (with_bit (get_or queues u []) c)) u []) (c / 32) ≡ bit_or (word_at (get_or queues u []) (c / 32)) (2 ^ (c % 32))
+    → word_at (get_or (set queues u (with_bit (get_or queues u []) c)) u []) (c / 32) ≡ bit_or
+    (word_at (get_or queues u []) (c / 32)) (2 ^ (c % 32))
 word_after h u c queues low inside =
     ap (λ (words : List ℕ). word_at words (c / 32)) (get_or-set_same queues u (with_bit (get_or queues u []) c) [] low)
-    ∙ get_or-set_same (get_or queues u []) (c / 32) (bit_or (word_at (get_or queues u []) (c / 32)) (2 ^ (c % 32))) 0 inside
+    ∙ get_or-set_same (get_or queues u []) (c / 32)
+    (bit_or (word_at (get_or queues u []) (c / 32)) (2 ^ (c % 32))) 0 inside
 
 -- a closed word stays one, whatever bits are set in it
-word_shown : (h : Heap) (t c there : ℕ) → HasWord h (cell_at h c).bearer c → ToldBy (is_shut h c) (word_at (queue_at h (cell_at h c).bearer) (c / 32)) there
+word_shown : (h : Heap) (t c there : ℕ) → HasWord h (cell_at h c).bearer c
+    → ToldBy (is_shut h c) (word_at (queue_at h (cell_at h c).bearer) (c / 32)) there
     → Shows (stepped h t (Enqueue c) c) (Queue (cell_at h c).bearer (c / 32)) (bit_or there (2 ^ (c % 32)))
 word_shown h t c there has found =
-    subst (λ b. ShowsQueue b (is_closed (row_at new u).stage (c / 32)) (word_at (queue_at new u) (c / 32)) after_bit) (sym (ap (λ m. nat_lt 0 u && nat_lt u m) (same_rows h t (Enqueue c) (Some c)) ∙ has.registered))
-    (subst (λ b. ToldBy b (word_at (queue_at new u) (c / 32)) after_bit) (sym (kept_by (λ (row : Row). is_closed row.stage (c / 32)) h.rows t _ no_row refl u))
+    subst (λ b. ShowsQueue b (is_closed (row_at new u).stage (c / 32)) (word_at (queue_at new u) (c / 32)) after_bit)
+    (sym (ap (λ m. nat_lt 0 u && nat_lt u m) (same_rows h t (Enqueue c) (Some c)) ∙ has.registered))
+    (subst (λ b. ToldBy b (word_at (queue_at new u) (c / 32)) after_bit)
+    (sym (kept_by (λ (row : Row). is_closed row.stage (c / 32)) h.rows t _ no_row refl u))
     (by_shut (is_shut h c) refl found))
   where
     u : ℕ
@@ -140,11 +155,13 @@ word_shown h t c there has found =
         → ToldBy b (word_at (get_or (queues_with true (is_shut h c) u c h.queues) u []) (c / 32)) after_bit
     by_shut true shut found = omega (arith, found, le_or_l there (2 ^ (c % 32)))
     by_shut false apart found = ap (λ m. bit_or m (2 ^ (c % 32))) found
-        ∙ sym (ap (λ b. word_at (get_or (queues_with true b u c h.queues) u []) (c / 32)) apart ∙ word_after h u c h.queues has.thread has.inside)
+        ∙ sym (ap (λ b. word_at (get_or (queues_with true b u c h.queues) u []) (c / 32)) apart
+        ∙ word_after h u c h.queues has.thread has.inside)
 
 -- ---- the step
 
-enqueued : (n limit : ℕ) (h : Heap) (t : ℕ) (log : List Told) (c q there : ℕ) → 0 < t → Known n limit h t log → Enqueues n log c q → Shows h (Queue q (c / 32)) there
+enqueued : (n limit : ℕ) (h : Heap) (t : ℕ) (log : List Told) (c q there : ℕ) → 0 < t → Known n limit h t log
+    → Enqueues n log c q → Shows h (Queue q (c / 32)) there
     → IsPlain n h t (Enqueue c) (Queue q (c / 32)) (bit_or there (2 ^ (c % 32))) there
 enqueued n limit h t log c q there some_thread known asks shown =
     let s : Step = Enqueue c in
@@ -153,12 +170,15 @@ enqueued n limit h t log c q there some_thread known asks shown =
     let low : c < length h.cells = inside h c (live_owner _ now.keeps.live) in
     let bearer : x.bearer ≡ q = now.keeps.same_bearer in
     let has : HasWord h x.bearer c = has_word h c (reached_sound h known.reached) now.keeps.mortal now.keeps.live low in
-    let found : ToldBy (is_shut h c) (word_at (queue_at h x.bearer) (c / 32)) there = word_found h c there has.registered (subst (λ b. Shows h (Queue b (c / 32)) there) (sym bearer) shown) in
+    let found : ToldBy (is_shut h c) (word_at (queue_at h x.bearer) (c / 32)) there =
+    word_found h c there has.registered (subst (λ b. Shows h (Queue b (c / 32)) there) (sym bearer) shown) in
     plain_on n h t s c (Queue q (c / 32)) (bit_or there (2 ^ (c % 32))) there (record {
-      may = is_enabled n limit h t log s some_thread known asks.own refl refl (fits_cell n limit h t log s c known refl low refl);
+      may = is_enabled n limit h t log s some_thread known asks.own refl refl
+          (fits_cell n limit h t log s c known refl low refl);
       target = refl;
       word = ap (λ b. Queue b (c / 32)) bearer;
-      shown = subst (λ b. Shows (stepped h t s c) (Queue b (c / 32)) (bit_or there (2 ^ (c % 32)))) bearer (word_shown h t c there has found);
+      shown = subst (λ b. Shows (stepped h t s c) (Queue b (c / 32)) (bit_or there (2 ^ (c % 32)))) bearer
+          (word_shown h t c there has found);
       told = word_told h c there found;
       finds_none = refl;
       puts_none = refl;
@@ -171,10 +191,13 @@ module _ {B : Type 0} (shows : B → ℕ × Contents) (n limit : ℕ) where
   Rule = Kept shows n limit
 
   -- a number of 2^63 or more says that the word was closed, and then the hand is shut
-  pub enqueues : (id : ℕ) (v : View) (slots : List (ℕ × Option B)) (c q : ℕ) → v.active ≡ true → 0 < v.thread → c < n → Enqueues n v.log c q
-      → Allows Rule n id (v, slots) (spot n (Queue q (c / 32))) (λ there. bit_or there (2 ^ (c % 32))) (λ there me. me ≡ (with_told (Did (Enqueue c) there moves.Nothing) v, slots))
+  pub enqueues : (id : ℕ) (v : View) (slots : List (ℕ × Option B)) (c q : ℕ) → v.active ≡ true → 0 < v.thread → c < n
+      → Enqueues n v.log c q
+      → Allows Rule n id (v, slots) (spot n (Queue q (c / 32))) (λ there. bit_or there (2 ^ (c % 32)))
+      (λ there me. me ≡ (with_told (Did (Enqueue c) there moves.Nothing) v, slots))
   enqueues id v slots c q active some_thread low asks =
       let few : q < MOST_THREADS + 1 = omega (arith, asks.thread) in
       let inside_is : c / 32 < words_for n = omega (arith, low) in
-      plain_step shows n limit id v slots (Enqueue c) (Queue q (c / 32)) (λ there. bit_or there (2 ^ (c % 32))) (λ there. there) active some_thread (few, inside_is)
+      plain_step shows n limit id v slots (Enqueue c) (Queue q (c / 32)) (λ there. bit_or there (2 ^ (c % 32)))
+      (λ there. there) active some_thread (few, inside_is)
       (λ h there known shown small. enqueued n limit h v.thread v.log c q there some_thread known asks shown)

@@ -1,7 +1,10 @@
 -- Register splits the root's seat, and Gather joins a thread's to it.
-use Rattle.std.proofs.Common.{◌≡◌, ◌≢◌, ◌⊎◌, ℕ, zero, suc, ◌<◌, ◌==◌, nat_lt, ◌&&◌, ◌||◌, not, Bool, true, false, if◌then◌else◌, List, [], ◌∷◌, ◌++◌, length, set, get_or, replicate, Option, Some, refl, sym, ◌∙◌, ap, subst, inl, inr, ⊎_elim, arith, length-set}
+use Rattle.std.proofs.Common.{◌≡◌, ◌≢◌, ◌⊎◌, ℕ, zero, suc, ◌<◌, ◌==◌, nat_lt, ◌&&◌, ◌||◌, not, Bool, true, false}
+use Rattle.std.proofs.Common.{if◌then◌else◌, List, [], ◌∷◌, ◌++◌, length, set, get_or, replicate, Option, Some, refl}
+use Rattle.std.proofs.Common.{sym, ◌∙◌, ap, subst, inl, inr, ⊎_elim, arith, length-set}
 use Rattle.std.proofs.lemmas.List.{get_or_past, get_or_push}
-use Rattle.std.proofs.lemmas.Bool.{cases_eq, cases_lt, eq-eqb, ne_eqb, eqb-true, lt-ltb, le-ltb, le-leb, ltb-true, and_parts, or_cases, true≢false}
+use Rattle.std.proofs.lemmas.Bool.{cases_eq, cases_lt, eq-eqb, ne_eqb, eqb-true, lt-ltb, le-ltb, le-leb, ltb-true}
+use Rattle.std.proofs.lemmas.Bool.{and_parts, or_cases, true≢false}
 use Rattle.std.specs.Cmp.Derive.{both_true}
 use mathlib.Core.Option.{some, some-injective, some-ne-none}
 use lib.ListN.{get_elem?}
@@ -11,10 +14,12 @@ use Rattle.law_world.specs.declared.edition.Edition.TheVariants as editions
 use Rattle.law_world.specs.declared.event.Step.TheVariants.{Register, Gather}
 use Rattle.law_world.specs.declared.row.Row.{Row}
 use Rattle.law_world.specs.Lists.{word_at, is_blank, is_marked, is_unmarked}
-use Rattle.law_world.specs.Heap.{Heap, opening, cell_at, row_at, queue_at, worklist_at, new_row, no_row, is_registered, is_gathered, words_for}
+use Rattle.law_world.specs.Heap.{Heap, opening, cell_at, row_at, queue_at, worklist_at, new_row, no_row, is_registered}
+use Rattle.law_world.specs.Heap.{is_gathered, words_for}
 use Rattle.law_world.specs.Runs.{IsReached}
 use Rattle.law_world.specs.Sound.{IsSound}
-use Rattle.law_world.specs.Steps.{root_may, root_after, number_ok, registered, registered_again, gathered_in, is_closed, is_left, is_free_hand}
+use Rattle.law_world.specs.Steps.{root_may, root_after, number_ok, registered, registered_again, gathered_in, is_closed}
+use Rattle.law_world.specs.Steps.{is_left, is_free_hand}
 use Rattle.law_world.proofs.Changes.{read_here, read_there}
 use Rattle.law_world.proofs.Lifetimes.{run_edition}
 use Rattle.law_world.proofs.Reached.{reached_sound}
@@ -48,7 +53,8 @@ use Rattle.law_rule.proofs.Contents_Law.{marks_of_root}
 
 -- ---- lists of views
 
-at_push : {A : Type 0} (l : List A) (a b : A) (j : ℕ) → get_elem? (l ++ a ∷ []) j ≡ some b → (get_elem? l j ≡ some b) ⊎ ((j ≡ length l) × (a ≡ b))
+at_push : {A : Type 0} (l : List A) (a b : A) (j : ℕ) → get_elem? (l ++ a ∷ []) j ≡ some b
+    → (get_elem? l j ≡ some b) ⊎ ((j ≡ length l) × (a ≡ b))
 at_push [] a b zero e = inr (refl, some-injective a b e)
 at_push [] a b (suc j) e = absurd (some-ne-none b (sym e))
 at_push (x ∷ xs) a b zero e = inl e
@@ -60,7 +66,8 @@ at_push (x ∷ xs) a b (suc j) e = ⊎_elim (λ there. inl there) (λ last. inr 
 stood_before : (h : Heap) (t : ℕ) → IsSound h → t ≢ length h.rows → stands (registered h) t ≡ stands h t
 stood_before h t sound other =
     ap (λ b. (t == 0) || (nat_lt 0 t && b && not (is_gathered (registered h) t))) low
-    ∙ ap (λ b. (t == 0) || (is_registered h t && not b)) (push_else h.gathered false false t (λ e. other (e ∙ sound.shaped.gathered)))
+    ∙ ap (λ b. (t == 0) || (is_registered h t && not b))
+    (push_else h.gathered false false t (λ e. other (e ∙ sound.shaped.gathered)))
   where
     low : nat_lt t (length (h.rows ++ new_row ∷ [])) ≡ nat_lt t (length h.rows)
     low = elim (cases_lt t (length h.rows)) [
@@ -70,9 +77,12 @@ stood_before h t sound other =
 
 new_stands : (h : Heap) → IsSound h → stands (registered h) (length h.rows) ≡ true
 new_stands h sound =
-    let inside : is_registered (registered h) (length h.rows) ≡ true = both_true (lt-ltb _ _ sound.shaped.root) (lt-ltb _ _ (omega (arith, length-push h.rows new_row))) in
-    let out : is_gathered (registered h) (length h.rows) ≡ false = get_or_push h.gathered false false (length h.rows) sound.shaped.gathered in
-    ap (λ b. b || (is_registered (registered h) (length h.rows) && not (is_gathered (registered h) (length h.rows)))) (ne_eqb (length h.rows) 0 (λ e. omega (arith, e, sound.shaped.root)))
+    let inside : is_registered (registered h) (length h.rows) ≡ true = both_true (lt-ltb _ _ sound.shaped.root)
+    (lt-ltb _ _ (omega (arith, length-push h.rows new_row))) in
+    let out : is_gathered (registered h) (length h.rows) ≡ false = get_or_push h.gathered false false
+    (length h.rows) sound.shaped.gathered in
+    ap (λ b. b || (is_registered (registered h) (length h.rows) && not (is_gathered (registered h) (length h.rows))))
+    (ne_eqb (length h.rows) 0 (λ e. omega (arith, e, sound.shaped.root)))
     ∙ both_true inside (ap not out)
 
 and_false : (b : Bool) → (b && false) ≡ false
@@ -90,7 +100,8 @@ gathered_inside h w out = elim (cases_lt w (length h.gathered)) [
 
 -- each word shows what it showed
 shown_registered : (n : ℕ) (h : Heap) (w : Word) (m : ℕ) → IsSound h → Shows h w m → Shows (registered h) w m
-shown_registered n h (Of Owner c) m sound shown = shown_longer (length h.rows) (length (registered h).rows) (cell_at h c).owner m (omega (arith, length-push h.rows new_row)) shown
+shown_registered n h (Of Owner c) m sound shown = shown_longer (length h.rows) (length (registered h).rows)
+    (cell_at h c).owner m (omega (arith, length-push h.rows new_row)) shown
 shown_registered n h (Of Local c) m sound shown = shown
 shown_registered n h (Of Shared c) m sound shown = shown
 shown_registered n h (Of Mutex c) m sound shown = shown
@@ -101,15 +112,21 @@ shown_registered n h (NotifyWord t) m sound shown = shown ∙ sym (elim (cases_e
 ])
 shown_registered n h (Queue t k) m sound shown = elim (cases_eq t (length h.rows)) [
   | inr other ↦
-      subst (λ b. ShowsQueue b (is_closed (row_at (registered h) t).stage k) (word_at (queue_at (registered h) t) k) m) (sym (same_registered h t other))
-      (subst (λ (row : Row). ShowsQueue (is_registered h t) (is_closed row.stage k) (word_at (queue_at (registered h) t) k) m) (sym (push_else h.rows new_row no_row t other))
+      subst (λ b. ShowsQueue b (is_closed (row_at (registered h) t).stage k) (word_at (queue_at (registered h) t) k) m)
+      (sym (same_registered h t other))
+      (subst (λ (row : Row). ShowsQueue (is_registered h t) (is_closed row.stage k)
+      (word_at (queue_at (registered h) t) k) m) (sym (push_else h.rows new_row no_row t other))
       (subst (λ (q : List ℕ). ShowsQueue (is_registered h t) (is_closed (row_at h t).stage k) (word_at q k) m)
-      (sym (push_else h.queues (replicate (words_for (length h.cells)) 0) [] t (λ e. other (e ∙ sound.shaped.queues)))) shown))
+      (sym (push_else h.queues (replicate (words_for (length h.cells)) 0) [] t
+      (λ e. other (e ∙ sound.shaped.queues)))) shown))
   | inl last ↦
-      let none : m ≡ 0 = subst (λ b. ShowsQueue b (is_closed (row_at h t).stage k) (word_at (queue_at h t) k) m) (not_registered h t last) shown in
+      let none : m ≡ 0 = subst (λ b. ShowsQueue b (is_closed (row_at h t).stage k) (word_at (queue_at h t) k) m)
+      (not_registered h t last) shown in
       let row : row_at (registered h) t ≡ new_row = get_or_push h.rows new_row no_row t (sym last) in
-      let queue : queue_at (registered h) t ≡ replicate (words_for (length h.cells)) 0 = get_or_push h.queues (replicate (words_for (length h.cells)) 0) [] t (sound.shaped.queues ∙ sym last) in
-      subst (λ b. ShowsQueue b (is_closed (row_at (registered h) t).stage k) (word_at (queue_at (registered h) t) k) m) (sym (now_registered h t sound last))
+      let queue : queue_at (registered h) t ≡ replicate (words_for (length h.cells)) 0 =
+      get_or_push h.queues (replicate (words_for (length h.cells)) 0) [] t (sound.shaped.queues ∙ sym last) in
+      subst (λ b. ShowsQueue b (is_closed (row_at (registered h) t).stage k) (word_at (queue_at (registered h) t) k) m)
+      (sym (now_registered h t sound last))
       (subst (λ (r : Row). ShowsQueue true (is_closed r.stage k) (word_at (queue_at (registered h) t) k) m) (sym row)
       (none ∙ sym (ap (λ (q : List ℕ). word_at q k) queue ∙ new_word (words_for (length h.cells)) k)))
 ]
@@ -121,21 +138,26 @@ shown_registered n h (Queue t k) m sound shown = elim (cases_eq t (length h.rows
     ])
 
     not_registered : (h : Heap) (t : ℕ) → t ≡ length h.rows → is_registered h t ≡ false
-    not_registered h t last = ap (λ b. nat_lt 0 t && b) (le-ltb t (length h.rows) (omega (arith, last))) ∙ and_false (nat_lt 0 t)
+    not_registered h t last = ap (λ b. nat_lt 0 t && b) (le-ltb t (length h.rows) (omega (arith, last)))
+        ∙ and_false (nat_lt 0 t)
 
     now_registered : (h : Heap) (t : ℕ) → IsSound h → t ≡ length h.rows → is_registered (registered h) t ≡ true
-    now_registered h t sound last = both_true (lt-ltb 0 t (omega (arith, last, sound.shaped.root))) (lt-ltb _ _ (omega (arith, last, length-push h.rows new_row)))
+    now_registered h t sound last = both_true (lt-ltb 0 t (omega (arith, last, sound.shaped.root)))
+        (lt-ltb _ _ (omega (arith, last, length-push h.rows new_row)))
 
 -- the next number has no rows yet
 new_thread : (h : Heap) (u : ℕ) → u ≡ length h.rows → root_after h (Register u) ≡ registered h
-new_thread h u is = ap (λ b. if b then registered_again h u else registered h) (le-ltb u (length h.rows) (omega (arith, is)))
+new_thread h u is = ap (λ b. if b then registered_again h u else registered h)
+    (le-ltb u (length h.rows) (omega (arith, is)))
 
-stays_registered : (h : Heap) (c : ℕ) → IsSound h → root_may h (Register (length h.rows)) ≡ true → Stays h (registered h) c
+stays_registered : (h : Heap) (c : ℕ) → IsSound h → root_may h (Register (length h.rows)) ≡ true
+    → Stays h (registered h) c
 stays_registered h c sound ok = record {
   free = λ is. is;
   lives = λ is. is;
   mutex = λ is. is;
-  marks = λ off u. marks_of_root h (Register (length h.rows)) c u sound ok (ap (λ z. is_marked (worklist_at z u) c) (new_thread h (length h.rows) refl) ∙ off u);
+  marks = λ off u. marks_of_root h (Register (length h.rows)) c u sound ok
+      (ap (λ z. is_marked (worklist_at z u) c) (new_thread h (length h.rows) refl) ∙ off u);
 }
 
 -- ---- a world in which one thread more is gathered
@@ -155,15 +177,18 @@ shown_gathered h u (NotifyWord t) m shown = shown
 -- a number that is to come doesn't stand, nor does a thread that is gathered
 not_yet : (h : Heap) (t : ℕ) → IsSound h → t ≡ length h.rows → stands h t ≡ false
 not_yet h t sound next =
-    ap (λ b. b || (is_registered h t && not (is_gathered h t))) (ne_eqb t 0 (λ e. omega (arith, e, next, sound.shaped.root)))
+    ap (λ b. b || (is_registered h t && not (is_gathered h t)))
+    (ne_eqb t 0 (λ e. omega (arith, e, next, sound.shaped.root)))
     ∙ ap (λ b. (nat_lt 0 t && b) && not (is_gathered h t)) (le-ltb t (length h.rows) (omega (arith, next)))
     ∙ ap (λ b. b && not (is_gathered h t)) (and_false (nat_lt 0 t))
 
 gone_now : (h : Heap) (u t : ℕ) → 0 < u → u < length h.rows → IsSound h → u ≡ t → stands (gathered_in h u) t ≡ false
 gone_now h u t positive low sound same =
     ap (stands (gathered_in h u)) (sym same)
-    ∙ ap (λ b. b || (is_registered h u && not (is_gathered (gathered_in h u) u))) (ne_eqb u 0 (λ e. omega (arith, e, positive)))
-    ∙ ap (λ b. is_registered h u && not b) (read_here h.gathered u true false (omega (arith, low, sound.shaped.gathered)))
+    ∙ ap (λ b. b || (is_registered h u && not (is_gathered (gathered_in h u) u)))
+    (ne_eqb u 0 (λ e. omega (arith, e, positive)))
+    ∙ ap (λ b. is_registered h u && not b)
+    (read_here h.gathered u true false (omega (arith, low, sound.shaped.gathered)))
     ∙ and_false (is_registered h u)
 
 module _ {B : Type 0} (shows : B → ℕ × Contents) (n limit : ℕ) where
@@ -174,13 +199,16 @@ module _ {B : Type 0} (shows : B → ℕ × Contents) (n limit : ℕ) where
   Rule = Kept shows n limit
 
   reached : (s : Table) (r : Rule s) → IsReached (world n limit r.run)
-  reached s r = run_reached n limit (events_of (items_of r.run)) r.options (events_run (opening n limit) (items_of r.run) r.legal.items)
+  reached s r = run_reached n limit (events_of (items_of r.run)) r.options
+      (events_run (opening n limit) (items_of r.run) r.legal.items)
 
   -- the root's log tells how many rows there are
-  next_is : (s : Table) (r : Rule s) (id : ℕ) (v : View) → get_elem? s.views id ≡ some v → Registers v → next_thread v ≡ length (world n limit r.run).rows
+  next_is : (s : Table) (r : Rule s) (id : ℕ) (v : View) → get_elem? s.views id ≡ some v → Registers v
+      → next_thread v ≡ length (world n limit r.run).rows
   next_is s r id v at registers =
       let fits : Fits (world n limit r.run) r.run r.seat id v = r.each_seat id v at registers.active in
-      sym (rows_are_told n limit (items_of r.run) r.options r.legal.items ∙ ap rows_of (own_items 0 r.run ∙ ap log_items (ap (λ t. own_of t r.run) (sym registers.root) ∙ fits.log)))
+      sym (rows_are_told n limit (items_of r.run) r.options r.legal.items
+      ∙ ap rows_of (own_items 0 r.run ∙ ap log_items (ap (λ t. own_of t r.run) (sym registers.root) ∙ fits.log)))
 
   abbrev with_seat : (ℕ → ℕ) → ℕ → ℕ → ℕ → ℕ
   with_seat seat u j t = if t == u then j else seat t
@@ -195,7 +223,9 @@ module _ {B : Type 0} (shows : B → ℕ × Contents) (n limit : ℕ) where
       let sound : IsSound h = reached_sound h (reached s r) in
       let is : u ≡ length h.rows = next_is s r id v at registers in
       let first : h.edition ≡ editions.One = run_edition (opening n limit) (events_of (items_of r.run)) in
-      let ok : root_may h (Register u) ≡ true = both_true (subst (λ e. number_ok e h u ≡ true) (sym first) (eq-eqb u (length h.rows) is)) (le-leb _ _ registers.few) in
+      let ok : root_may h (Register u) ≡ true =
+      both_true (subst (λ e. number_ok e h u ≡ true) (sym first) (eq-eqb u (length h.rows) is))
+      (le-leb _ _ registers.few) in
       let leads : world n limit later ≡ registered h = new_thread h u is in
       let some_thread : 0 < u = omega (arith, is, sound.shaped.root) in
       let fits : Fits h r.run r.seat id v = r.each_seat id v at registers.active in
@@ -208,68 +238,98 @@ module _ {B : Type 0} (shows : B → ℕ × Contents) (n limit : ℕ) where
         legal = record { items = (r.legal.items, (ok, refl, refl)); moved = (r.legal.moved, (refl, refl)) };
         wide = r.wide;
         deep = r.deep;
-        each_word = λ w inside. subst (λ z. Shows z w (get_or s.words (spot n w) 0)) (sym leads) (shown_registered n h w (get_or s.words (spot n w) 0) sound (r.each_word w inside));
+        each_word = λ w inside. subst (λ z. Shows z w (get_or s.words (spot n w) 0)) (sym leads)
+            (shown_registered n h w (get_or s.words (spot n w) 0) sound (r.each_word w inside));
         each_home = λ c low. subst (λ z. HomeShown shows s.homes z later c) (sym leads)
-            (home_stays shows s.homes h (registered h) r.run later c (stays_registered h c sound (subst (λ k. root_may h (Register k) ≡ true) is ok)) refl (r.each_home c low));
-        each_seat = λ j w there live. subst (λ z. Fits z later (with_seat r.seat u (length s.views)) j w) (sym leads) (⊎_elim
+            (home_stays shows s.homes h (registered h) r.run later c
+            (stays_registered h c sound (subst (λ k. root_may h (Register k) ≡ true) is ok)) refl (r.each_home c low));
+        each_seat = λ j w there live. subst (λ z. Fits z later (with_seat r.seat u (length s.views)) j w)
+            (sym leads) (⊎_elim
             (λ (old : get_elem? (set s.views id (registering v)) j ≡ some w). ⊎_elim
-            (λ (mine : (j ≡ id) × (registering v ≡ w)). subst (λ (z : ℕ × View). Fits (registered h) later (with_seat r.seat u (length s.views)) z.0 z.1) (λ i. (sym mine.0 i, mine.1 i))
+            (λ (mine : (j ≡ id) × (registering v ≡ w)). subst
+            (λ (z : ℕ × View). Fits (registered h) later (with_seat r.seat u (length s.views)) z.0 z.1)
+            (λ i. (sym mine.0 i, mine.1 i))
             (root_fits s r id v u registers sound is some_thread fits))
-            (λ (other : (j ≢ id) × (get_elem? s.views j ≡ some w)). thread_fits s r j w u id sound is some_thread root_here other.0 (r.each_seat j w other.1 live))
+            (λ (other : (j ≢ id) × (get_elem? s.views j ≡ some w)). thread_fits s r j w u id sound is some_thread
+            root_here other.0 (r.each_seat j w other.1 live))
             (at_set s.views id j (registering v) w old))
             (λ (new : (j ≡ length (set s.views id (registering v))) × (starting v ≡ w)).
-            subst (λ (z : ℕ × View). Fits (registered h) later (with_seat r.seat u (length s.views)) z.0 z.1) (λ i. (sym (new.0 ∙ length-set s.views id (registering v)) i, new.1 i))
+            subst (λ (z : ℕ × View). Fits (registered h) later (with_seat r.seat u (length s.views)) z.0 z.1)
+            (λ i. (sym (new.0 ∙ length-set s.views id (registering v)) i, new.1 i))
             (start_fits s r v u registers sound is some_thread refl))
             (at_push (set s.views id (registering v)) (starting v) w j there));
-        each_thread = λ t there. seated s r id v t u at registers is some_thread sound refl (subst (λ z. stands z t ≡ true) leads there);
+        each_thread = λ t there. seated s r id v t u at registers is some_thread sound refl
+            (subst (λ z. stands z t ≡ true) leads there);
         each_once = λ t positive. subst (λ z. StandsOnce z later t) (sym leads) (elim (cases_eq u t) [
-          | inl same ↦ once_started h (registered h) r.run t x positive (eq-eqb u t same) refl (not_yet h t sound (sym same ∙ is)) (r.each_once t positive)
-          | inr other ↦ once_calm h (registered h) r.run 0 t x (ne_eqb u t other) refl refl (stood_before h t sound (λ e. other (is ∙ sym e))) (r.each_once t positive)
+          | inl same ↦ once_started h (registered h) r.run t x positive (eq-eqb u t same) refl
+              (not_yet h t sound (sym same ∙ is)) (r.each_once t positive)
+          | inr other ↦ once_calm h (registered h) r.run 0 t x (ne_eqb u t other) refl refl
+              (stood_before h t sound (λ e. other (is ∙ sym e))) (r.each_once t positive)
         ]);
       }
     where
-      start_fits : (s : Table) (r : Rule s) (v : View) (u : ℕ) → Registers v → IsSound (world n limit r.run) → u ≡ length (world n limit r.run).rows → 0 < u → u ≡ next_thread v
-          → Fits (registered (world n limit r.run)) ((0, Did (Register u) 0 moves.Nothing) ∷ r.run) (with_seat r.seat u (length s.views)) (length s.views) (starting v)
+      start_fits : (s : Table) (r : Rule s) (v : View) (u : ℕ) → Registers v → IsSound (world n limit r.run)
+          → u ≡ length (world n limit r.run).rows → 0 < u → u ≡ next_thread v
+          → Fits (registered (world n limit r.run)) ((0, Did (Register u) 0 moves.Nothing) ∷ r.run)
+          (with_seat r.seat u (length s.views)) (length s.views) (starting v)
       start_fits s r v u registers sound is some_thread next = record {
-        here = ap (with_seat r.seat u (length s.views)) (sym next) ∙ ap (λ b. if b then length s.views else r.seat u) (eq-eqb u u refl);
+        here = ap (with_seat r.seat u (length s.views)) (sym next) ∙ ap (λ b. if b then length s.views else r.seat u)
+            (eq-eqb u u refl);
         there = ap (stands (registered (world n limit r.run))) (sym next ∙ is) ∙ new_stands (world n limit r.run) sound;
         log = ap (λ t. own_of t ((0, Did (Register u) 0 moves.Nothing) ∷ r.run)) (sym next)
-            ∙ ap (λ b. if b then [] else (if 0 == u then Did (Register u) 0 moves.Nothing ∷ own_of u r.run else own_of u r.run)) (eq-eqb u u refl);
+            ∙ ap (λ b. if b then [] else (if 0 == u then Did (Register u) 0 moves.Nothing ∷ own_of u r.run else own_of u
+            r.run)) (eq-eqb u u refl);
         gathered = λ root. absurd (omega (arith, root, sym next, some_thread));
         lives = λ root. absurd (omega (arith, root, sym next, some_thread));
       }
 
       not_new : (r_rows u t : ℕ) (h : Heap) → u ≡ length h.rows → stands h t ≡ true → 0 < u → t ≢ u
-      not_new r_rows u t h is stood some_thread same = elim (or_cases (t == 0) (is_registered h t && not (is_gathered h t)) stood) [
-        | inl root ↦ omega (arith, eqb-true t 0 root, same, some_thread)
-        | inr thread ↦ omega (arith, ltb-true t (length h.rows) (and_parts (nat_lt 0 t) (nat_lt t (length h.rows)) (and_parts (is_registered h t) (not (is_gathered h t)) thread).0).1, same, is)
-      ]
+      not_new r_rows u t h is stood some_thread same =
+          elim (or_cases (t == 0) (is_registered h t && not (is_gathered h t)) stood) [
+            | inl root ↦ omega (arith, eqb-true t 0 root, same, some_thread)
+            | inr thread ↦ omega (
+              arith,
+              ltb-true t (length h.rows)
+                  (and_parts (nat_lt 0 t) (nat_lt t (length h.rows))
+                  (and_parts (is_registered h t) (not (is_gathered h t)) thread).0).1,
+              same,
+              is,
+            )
+          ]
 
-      thread_fits : (s : Table) (r : Rule s) (j : ℕ) (w : View) (u id : ℕ) → IsSound (world n limit r.run) → u ≡ length (world n limit r.run).rows → 0 < u → r.seat 0 ≡ id → j ≢ id
+      thread_fits : (s : Table) (r : Rule s) (j : ℕ) (w : View) (u id : ℕ) → IsSound (world n limit r.run)
+          → u ≡ length (world n limit r.run).rows → 0 < u → r.seat 0 ≡ id → j ≢ id
           → Fits (world n limit r.run) r.run r.seat j w
-          → Fits (registered (world n limit r.run)) ((0, Did (Register u) 0 moves.Nothing) ∷ r.run) (with_seat r.seat u (length s.views)) j w
+          → Fits (registered (world n limit r.run)) ((0, Did (Register u) 0 moves.Nothing) ∷ r.run)
+          (with_seat r.seat u (length s.views)) j w
       thread_fits s r j w u id sound is some_thread root_here other fits =
           let apart : w.thread ≢ u = not_new 0 u w.thread (world n limit r.run) is fits.there some_thread in
           let not_root : 0 ≢ w.thread = λ e. other (sym fits.here ∙ ap r.seat (sym e) ∙ root_here) in
           record {
             here = ap (λ b. if b then length s.views else r.seat w.thread) (ne_eqb w.thread u apart) ∙ fits.here;
             there = stood_before (world n limit r.run) w.thread sound (λ e. apart (e ∙ sym is)) ∙ fits.there;
-            log = own_same 0 w.thread (Did (Register u) 0 moves.Nothing) r.run (ne_eqb u w.thread (λ e. apart (sym e))) not_root ∙ fits.log;
+            log = own_same 0 w.thread (Did (Register u) 0 moves.Nothing) r.run (ne_eqb u w.thread (λ e. apart (sym e)))
+                not_root ∙ fits.log;
             gathered = λ root. absurd (not_root (sym root));
             lives = λ root. absurd (not_root (sym root));
           }
 
-      root_fits : (s : Table) (r : Rule s) (id : ℕ) (v : View) (u : ℕ) → Registers v → IsSound (world n limit r.run) → u ≡ length (world n limit r.run).rows → 0 < u
+      root_fits : (s : Table) (r : Rule s) (id : ℕ) (v : View) (u : ℕ) → Registers v → IsSound (world n limit r.run)
+          → u ≡ length (world n limit r.run).rows → 0 < u
           → Fits (world n limit r.run) r.run r.seat id v
-          → Fits (registered (world n limit r.run)) ((0, Did (Register u) 0 moves.Nothing) ∷ r.run) (with_seat r.seat u (length s.views)) id (Rattle.law_rule.specs.Rule.with_told (Did (Register u) 0 moves.Nothing) v)
+          → Fits (registered (world n limit r.run)) ((0, Did (Register u) 0 moves.Nothing) ∷ r.run)
+          (with_seat r.seat u (length s.views)) id
+          (Rattle.law_rule.specs.Rule.with_told (Did (Register u) 0 moves.Nothing) v)
       root_fits s r id v u registers sound is some_thread fits =
           let h : Heap = world n limit r.run in
           let apart : v.thread ≢ u = λ e. omega (arith, registers.root, e, some_thread) in
           record {
             here = ap (λ b. if b then length s.views else r.seat v.thread) (ne_eqb v.thread u apart) ∙ fits.here;
             there = stood_before h v.thread sound (λ e. apart (e ∙ sym is)) ∙ fits.there;
-            log = subst (λ t. own_of v.thread ((t, Did (Register u) 0 moves.Nothing) ∷ r.run) ≡ Did (Register u) 0 moves.Nothing ∷ v.log) registers.root
-                (own_more v.thread (Did (Register u) 0 moves.Nothing) r.run (ne_eqb u v.thread (λ e. apart (sym e))) ∙ ap (λ log. Did (Register u) 0 moves.Nothing ∷ log) fits.log);
+            log = subst (λ t. own_of v.thread ((t, Did (Register u) 0 moves.Nothing) ∷ r.run) ≡ Did
+                (Register u) 0 moves.Nothing ∷ v.log) registers.root
+                (own_more v.thread (Did (Register u) 0 moves.Nothing) r.run (ne_eqb u v.thread (λ e. apart (sym e)))
+                ∙ ap (λ log. Did (Register u) 0 moves.Nothing ∷ log) fits.log);
             gathered = λ root w low out.
                 let old : is_gathered h w ≡ true = sym (push_else h.gathered false false w (not_last h w out)) ∙ out in
                 let before : w < length h.gathered = gathered_inside h w old in
@@ -278,31 +338,41 @@ module _ {B : Type 0} (shows : B → ℕ × Contents) (n limit : ℕ) where
             lives = λ root. fits.lives root;
           }
 
-      seated : (s : Table) (r : Rule s) (id : ℕ) (v : View) (t u : ℕ) → get_elem? s.views id ≡ some v → Registers v → u ≡ length (world n limit r.run).rows → 0 < u → IsSound (world n limit r.run) → u ≡ next_thread v
-          → stands (registered (world n limit r.run)) t ≡ true → Seated (set s.views id (registering v) ++ starting v ∷ []) t (with_seat r.seat u (length s.views) t)
+      seated : (s : Table) (r : Rule s) (id : ℕ) (v : View) (t u : ℕ) → get_elem? s.views id ≡ some v → Registers v
+          → u ≡ length (world n limit r.run).rows → 0 < u → IsSound (world n limit r.run) → u ≡ next_thread v
+          → stands (registered (world n limit r.run)) t ≡ true
+          → Seated (set s.views id (registering v) ++ starting v ∷ []) t (with_seat r.seat u (length s.views) t)
       seated s r id v t u at registers is some_thread sound next there = elim (cases_eq t u) [
         | inl new ↦
-            subst (λ j. Seated (set s.views id (registering v) ++ starting v ∷ []) t j) (sym (ap (λ b. if b then length s.views else r.seat t) (eq-eqb t u new)))
+            subst (λ j. Seated (set s.views id (registering v) ++ starting v ∷ []) t j)
+            (sym (ap (λ b. if b then length s.views else r.seat t) (eq-eqb t u new)))
             (record {
               view = starting v;
-              there = at_last (set s.views id (registering v)) (starting v) (length s.views) (length-set s.views id (registering v));
+              there = at_last (set s.views id (registering v)) (starting v) (length s.views)
+                  (length-set s.views id (registering v));
               active = refl;
               thread = sym next ∙ sym new;
             })
         | inr old ↦
-            let before : Seated s.views t (r.seat t) = r.each_thread t (sym (stood_before (world n limit r.run) t sound (λ e. old (e ∙ sym is))) ∙ there) in
-            subst (λ j. Seated (set s.views id (registering v) ++ starting v ∷ []) t j) (sym (ap (λ b. if b then length s.views else r.seat t) (ne_eqb t u old)))
+            let before : Seated s.views t (r.seat t) =
+            r.each_thread t (sym (stood_before (world n limit r.run) t sound (λ e. old (e ∙ sym is))) ∙ there) in
+            subst (λ j. Seated (set s.views id (registering v) ++ starting v ∷ []) t j)
+            (sym (ap (λ b. if b then length s.views else r.seat t) (ne_eqb t u old)))
             (elim (cases_eq (r.seat t) id) [
               | inl same ↦ record {
                 view = registering v;
                 there = ap (get_elem? (set s.views id (registering v) ++ starting v ∷ [])) same
-                    ∙ at_longer (set s.views id (registering v)) (starting v ∷ []) id (registering v) (set_here s.views id (registering v) (at_inside s.views id v at));
+                    ∙ at_longer (set s.views id (registering v)) (starting v ∷ []) id (registering v)
+                    (set_here s.views id (registering v) (at_inside s.views id v at));
                 active = registers.active;
-                thread = ap (λ (w : View). w.thread) (some-injective v before.view (sym at ∙ sym (ap (get_elem? s.views) same) ∙ before.there)) ∙ before.thread;
+                thread = ap (λ (w : View). w.thread)
+                    (some-injective v before.view (sym at ∙ sym (ap (get_elem? s.views) same) ∙ before.there))
+                    ∙ before.thread;
               }
               | inr other ↦ record {
                 view = before.view;
-                there = at_longer (set s.views id (registering v)) (starting v ∷ []) (r.seat t) before.view (set_else s.views id (r.seat t) (registering v) other ∙ before.there);
+                there = at_longer (set s.views id (registering v)) (starting v ∷ []) (r.seat t) before.view
+                    (set_else s.views id (r.seat t) (registering v) other ∙ before.there);
                 active = before.active;
                 thread = before.thread;
               }
@@ -310,55 +380,73 @@ module _ {B : Type 0} (shows : B → ℕ × Contents) (n limit : ℕ) where
       ]
 
   -- Gather: the root's seat takes in that of a thread that has left
-  gather_may : (s : Table) (r : Rule s) (id : ℕ) (w : View) → get_elem? s.views id ≡ some w → Leaves n w → root_may (world n limit r.run) (Gather w.thread) ≡ true
+  gather_may : (s : Table) (r : Rule s) (id : ℕ) (w : View) → get_elem? s.views id ≡ some w → Leaves n w
+      → root_may (world n limit r.run) (Gather w.thread) ≡ true
   gather_may s r id w at leaves =
       let h : Heap = world n limit r.run in
       let known : Known n limit h w.thread w.log = knows shows n limit s r id w at leaves.active leaves.some_thread in
       let part = part_seen n w.log in
-      both_true (both_true (both_true (both_true (both_true (stands_registered h w.thread known.stood leaves.some_thread) (ap not (stands_ungathered h w.thread known.stood leaves.some_thread)))
+      both_true (both_true (both_true
+      (both_true (both_true (stands_registered h w.thread known.stood leaves.some_thread)
+      (ap not (stands_ungathered h w.thread known.stood leaves.some_thread)))
       (ap (λ (row : Row). is_left row.stage) known.part.row_is ∙ leaves.left))
       (ap (λ (row : Row). is_free_hand row.hand) known.part.row_is ∙ leaves.hand))
       (ap is_blank known.part.popped_is ∙ leaves.popped))
       (ap is_unmarked known.part.work_is ∙ leaves.worklist)
 
-  pub joins : (id : ℕ) (v : View) (other : ℕ) (w : View) → v.active ≡ true → v.thread ≡ 0 → Leaves n w → Joins Rule id v other w (gathering v w) spent
+  pub joins : (id : ℕ) (v : View) (other : ℕ) (w : View) → v.active ≡ true → v.thread ≡ 0 → Leaves n w
+      → Joins Rule id v other w (gathering v w) spent
   joins id v other w active root leaves s r at apart_seats there_other =
       let h : Heap = world n limit r.run in
       let u : ℕ = w.thread in
       let x : Told = Did (Gather u) 0 moves.Nothing in
       let later : Run = (0, x) ∷ r.run in
-      let at_other : get_elem? s.views other ≡ some w = sym (set_else s.views id other (gathering v w) apart_seats) ∙ there_other in
+      let at_other : get_elem? s.views other ≡ some w = sym (set_else s.views id other (gathering v w) apart_seats)
+      ∙ there_other in
       let fits : Fits h r.run r.seat id v = r.each_seat id v at active in
       let his : Fits h r.run r.seat other w = r.each_seat other w at_other leaves.active in
       let sound : IsSound h = reached_sound h (reached s r) in
-      let low : u < length h.rows = ltb-true u (length h.rows) (and_parts (nat_lt 0 u) (nat_lt u (length h.rows)) (stands_registered h u his.there leaves.some_thread)).1 in
+      let low : u < length h.rows = ltb-true u (length h.rows)
+      (and_parts (nat_lt 0 u) (nat_lt u (length h.rows)) (stands_registered h u his.there leaves.some_thread)).1 in
       record {
         run = later;
         seat = r.seat;
         options = r.options;
-        legal = record { items = (r.legal.items, (gather_may s r other w at_other leaves, refl, refl)); moved = (r.legal.moved, (refl, refl)) };
+        legal = record {
+          items = (r.legal.items, (gather_may s r other w at_other leaves, refl, refl));
+          moved = (r.legal.moved, (refl, refl));
+        };
         wide = r.wide;
         deep = r.deep;
         each_word = λ z inside. shown_gathered h u z (get_or s.words (spot n z) 0) (r.each_word z inside);
-        each_home = λ c inside. home_stays shows s.homes h (gathered_in h u) r.run later c (record { free = λ is. is; lives = λ is. is; mutex = λ is. is; marks = λ off. off }) refl (r.each_home c inside);
+        each_home = λ c inside. home_stays shows s.homes h (gathered_in h u) r.run later c
+            (record { free = λ is. is; lives = λ is. is; mutex = λ is. is; marks = λ off. off }) refl
+            (r.each_home c inside);
         each_seat = λ j z there live. ⊎_elim
             (λ (e : (j ≡ other) × (spent ≡ z)). absurd (true≢false (sym live ∙ ap (λ (y : View). y.active) (sym e.1))))
             (λ (e : (j ≢ other) × (get_elem? (set s.views id (gathering v w)) j ≡ some z)). ⊎_elim
-            (λ (mine : (j ≡ id) × (gathering v w ≡ z)). subst (λ (y : ℕ × View). Fits (gathered_in h u) later r.seat y.0 y.1) (λ i. (sym mine.0 i, mine.1 i))
+            (λ (mine : (j ≡ id) × (gathering v w ≡ z)). subst
+            (λ (y : ℕ × View). Fits (gathered_in h u) later r.seat y.0 y.1) (λ i. (sym mine.0 i, mine.1 i))
             (root_joined s r id other v w root leaves.some_thread low sound fits his))
-            (λ (else_ : (j ≢ id) × (get_elem? s.views j ≡ some z)). thread_joined s r id other j z v w root fits his else_.0 e.0 (r.each_seat j z else_.1 live))
+            (λ (else_ : (j ≢ id) × (get_elem? s.views j ≡ some z)). thread_joined s r id other j z v w root fits his
+            else_.0 e.0 (r.each_seat j z else_.1 live))
             (at_set s.views id j (gathering v w) z e.1))
             (at_set (set s.views id (gathering v w)) other j spent z there);
-        each_thread = λ t there. seated_joined s r id other v w t at at_other active root leaves.some_thread low sound his there;
+        each_thread = λ t there. seated_joined s r id other v w t at at_other active root leaves.some_thread low sound
+            his there;
         each_once = λ t positive. elim (cases_eq u t) [
-          | inl same ↦ once_gathered h (gathered_in h u) r.run t x positive (ap Some same) (ap (stands h) (sym same) ∙ his.there) (gone_now h u t leaves.some_thread low sound same) (r.each_once t positive)
-          | inr apart ↦ once_else h (gathered_in h u) r.run t u x positive refl refl apart (same_stood h u t (λ e. apart (sym e))) (r.each_once t positive)
+          | inl same ↦ once_gathered h (gathered_in h u) r.run t x positive (ap Some same) (ap (stands h) (sym same)
+              ∙ his.there) (gone_now h u t leaves.some_thread low sound same) (r.each_once t positive)
+          | inr apart ↦ once_else h (gathered_in h u) r.run t u x positive refl refl apart
+              (same_stood h u t (λ e. apart (sym e))) (r.each_once t positive)
         ];
       }
     where
-      root_joined : (s : Table) (r : Rule s) (id other : ℕ) (v w : View) → v.thread ≡ 0 → 0 < w.thread → w.thread < length (world n limit r.run).rows → IsSound (world n limit r.run)
+      root_joined : (s : Table) (r : Rule s) (id other : ℕ) (v w : View) → v.thread ≡ 0 → 0 < w.thread
+          → w.thread < length (world n limit r.run).rows → IsSound (world n limit r.run)
           → Fits (world n limit r.run) r.run r.seat id v → Fits (world n limit r.run) r.run r.seat other w
-          → Fits (gathered_in (world n limit r.run) w.thread) ((0, Did (Gather w.thread) 0 moves.Nothing) ∷ r.run) r.seat id (gathering v w)
+          → Fits (gathered_in (world n limit r.run) w.thread) ((0, Did (Gather w.thread) 0 moves.Nothing) ∷ r.run)
+          r.seat id (gathering v w)
       root_joined s r id other v w root some_thread low sound fits his =
           let h : Heap = world n limit r.run in
           let u : ℕ = w.thread in
@@ -366,24 +454,31 @@ module _ {B : Type 0} (shows : B → ℕ × Contents) (n limit : ℕ) where
           record {
             here = fits.here;
             there = same_stood h u v.thread (λ e. omega (arith, root, e, some_thread)) ∙ fits.there;
-            log = subst (λ t. own_of v.thread ((t, x) ∷ r.run) ≡ x ∷ v.log) root (own_more v.thread x r.run refl ∙ ap (λ log. x ∷ log) fits.log);
+            log = subst (λ t. own_of v.thread ((t, x) ∷ r.run) ≡ x ∷ v.log) root (own_more v.thread x r.run refl
+                ∙ ap (λ log. x ∷ log) fits.log);
             gathered = λ at_root q low_q out. elim (cases_eq u q) [
               | inl same ↦ ap (λ b. if b then Some w.log else log_in v.gathered q) (eq-eqb u q same)
-                  ∙ ap Some (sym his.log ∙ ap (λ t. own_of t r.run) same ∙ sym (own_same 0 q x r.run refl (λ e. omega (arith, e, low_q))))
+                  ∙ ap Some (sym his.log ∙ ap (λ t. own_of t r.run) same
+                  ∙ sym (own_same 0 q x r.run refl (λ e. omega (arith, e, low_q))))
               | inr apart ↦ ap (λ b. if b then Some w.log else log_in v.gathered q) (ne_eqb u q apart)
                   ∙ fits.gathered root q low_q (sym (read_there h.gathered u q true false (λ e. apart (sym e))) ∙ out)
                   ∙ ap Some (sym (own_same 0 q x r.run refl (λ e. omega (arith, e, low_q))))
             ];
-            lives = λ at_root. ap (λ (log : List Told). (u, log) ∷ v.gathered) (sym his.log) ∙ ap (λ (lives : List (ℕ × List Told)). (u, own_of u r.run) ∷ lives) (fits.lives root);
+            lives = λ at_root. ap (λ (log : List Told). (u, log) ∷ v.gathered) (sym his.log)
+                ∙ ap (λ (lives : List (ℕ × List Told)). (u, own_of u r.run) ∷ lives) (fits.lives root);
           }
 
-      thread_joined : (s : Table) (r : Rule s) (id other j : ℕ) (z v w : View) → v.thread ≡ 0 → Fits (world n limit r.run) r.run r.seat id v → Fits (world n limit r.run) r.run r.seat other w → j ≢ id → j ≢ other
-          → Fits (world n limit r.run) r.run r.seat j z → Fits (gathered_in (world n limit r.run) w.thread) ((0, Did (Gather w.thread) 0 moves.Nothing) ∷ r.run) r.seat j z
+      thread_joined : (s : Table) (r : Rule s) (id other j : ℕ) (z v w : View) → v.thread ≡ 0
+          → Fits (world n limit r.run) r.run r.seat id v → Fits (world n limit r.run) r.run r.seat other w → j ≢ id
+          → j ≢ other
+          → Fits (world n limit r.run) r.run r.seat j z → Fits (gathered_in (world n limit r.run) w.thread)
+          ((0, Did (Gather w.thread) 0 moves.Nothing) ∷ r.run) r.seat j z
       thread_joined s r id other j z v w root fits his not_mine not_his thread =
           let not_root : 0 ≢ z.thread = λ e. not_mine (sym thread.here ∙ ap r.seat (sym e ∙ sym root) ∙ fits.here) in
           record {
             here = thread.here;
-            there = same_stood (world n limit r.run) w.thread z.thread (λ e. not_his (sym thread.here ∙ ap r.seat e ∙ his.here)) ∙ thread.there;
+            there = same_stood (world n limit r.run) w.thread z.thread
+                (λ e. not_his (sym thread.here ∙ ap r.seat e ∙ his.here)) ∙ thread.there;
             log = own_same 0 z.thread (Did (Gather w.thread) 0 moves.Nothing) r.run refl not_root ∙ thread.log;
             gathered = λ zero_is. absurd (not_root (sym zero_is));
             lives = λ zero_is. absurd (not_root (sym zero_is));
@@ -391,27 +486,39 @@ module _ {B : Type 0} (shows : B → ℕ × Contents) (n limit : ℕ) where
 
       gathered_now : (h : Heap) (u : ℕ) → 0 < u → u < length h.gathered → stands (gathered_in h u) u ≡ true → ⊥
       gathered_now h u some_thread low stood =
-          true≢false (sym (read_here h.gathered u true false low) ∙ stands_ungathered (gathered_in h u) u stood some_thread)
+          true≢false (sym (read_here h.gathered u true false low)
+          ∙ stands_ungathered (gathered_in h u) u stood some_thread)
 
-      seated_joined : (s : Table) (r : Rule s) (id other : ℕ) (v w : View) (t : ℕ) → get_elem? s.views id ≡ some v → get_elem? s.views other ≡ some w → v.active ≡ true → v.thread ≡ 0 → 0 < w.thread
-          → w.thread < length (world n limit r.run).rows → IsSound (world n limit r.run) → Fits (world n limit r.run) r.run r.seat other w
-          → stands (gathered_in (world n limit r.run) w.thread) t ≡ true → Seated (set (set s.views id (gathering v w)) other spent) t (r.seat t)
+      seated_joined : (s : Table) (r : Rule s) (id other : ℕ) (v w : View) (t : ℕ) → get_elem? s.views id ≡ some v
+          → get_elem? s.views other ≡ some w → v.active ≡ true → v.thread ≡ 0 → 0 < w.thread
+          → w.thread < length (world n limit r.run).rows → IsSound (world n limit r.run)
+          → Fits (world n limit r.run) r.run r.seat other w
+          → stands (gathered_in (world n limit r.run) w.thread) t ≡ true
+          → Seated (set (set s.views id (gathering v w)) other spent) t (r.seat t)
       seated_joined s r id other v w t at at_other active root some_thread low sound his stood =
           let h : Heap = world n limit r.run in
-          let apart : t ≢ w.thread = λ e. gathered_now h w.thread some_thread (omega (arith, low, sound.shaped.gathered)) (subst (λ q. stands (gathered_in h w.thread) q ≡ true) e stood) in
+          let apart : t ≢ w.thread = λ e. gathered_now h w.thread some_thread
+          (omega (arith, low, sound.shaped.gathered)) (subst (λ q. stands (gathered_in h w.thread) q ≡ true) e stood) in
           let before : Seated s.views t (r.seat t) = r.each_thread t (sym (same_stood h w.thread t apart) ∙ stood) in
-          let not_other : r.seat t ≢ other = λ e. apart (sym before.thread ∙ ap (λ (y : View). y.thread) (some-injective before.view w (sym before.there ∙ ap (get_elem? s.views) e ∙ at_other))) in
+          let not_other : r.seat t ≢ other =
+          λ e. apart (sym before.thread
+          ∙ ap (λ (y : View). y.thread) (some-injective before.view w (sym before.there ∙ ap (get_elem? s.views) e
+          ∙ at_other))) in
           elim (cases_eq (r.seat t) id) [
             | inl same ↦ record {
               view = gathering v w;
               there = set_else (set s.views id (gathering v w)) other (r.seat t) spent not_other
-                  ∙ ap (get_elem? (set s.views id (gathering v w))) same ∙ set_here s.views id (gathering v w) (at_inside s.views id v at);
+                  ∙ ap (get_elem? (set s.views id (gathering v w))) same
+                  ∙ set_here s.views id (gathering v w) (at_inside s.views id v at);
               active = active;
-              thread = ap (λ (y : View). y.thread) (some-injective v before.view (sym at ∙ sym (ap (get_elem? s.views) same) ∙ before.there)) ∙ before.thread;
+              thread = ap (λ (y : View). y.thread)
+                  (some-injective v before.view (sym at ∙ sym (ap (get_elem? s.views) same) ∙ before.there))
+                  ∙ before.thread;
             }
             | inr not_root ↦ record {
               view = before.view;
-              there = set_else (set s.views id (gathering v w)) other (r.seat t) spent not_other ∙ set_else s.views id (r.seat t) (gathering v w) not_root ∙ before.there;
+              there = set_else (set s.views id (gathering v w)) other (r.seat t) spent not_other
+                  ∙ set_else s.views id (r.seat t) (gathering v w) not_root ∙ before.there;
               active = before.active;
               thread = before.thread;
             }

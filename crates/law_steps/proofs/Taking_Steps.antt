@@ -1,5 +1,6 @@
 -- Steps that may take the block of a dead object: SeeZero, MergeZero, LastDown. The number found decides.
-use Rattle.std.proofs.Common.{◌≡◌, ℕ, ◌<◌, ◌≤◌, ◌^◌, Bool, true, false, if◌then◌else◌, List, [], ◌∷◌, length, set, get_or, Option, Some, None, refl, sym, ◌∙◌, ap, subst, inl, inr, arith}
+use Rattle.std.proofs.Common.{◌≡◌, ℕ, ◌<◌, ◌≤◌, ◌^◌, Bool, true, false, if◌then◌else◌, List, [], ◌∷◌, length, set}
+use Rattle.std.proofs.Common.{get_or, Option, Some, None, refl, sym, ◌∙◌, ap, subst, inl, inr, arith}
 use Rattle.std.specs.Prelude.{slice_get}
 use Rattle.std.proofs.lemmas.Bool.{cases_Bool, true≢false}
 use mathlib.Core.Option.{some, none}
@@ -61,7 +62,8 @@ pub record EndsOn (h : Heap) (t : ℕ) (s : Step) (c : ℕ) (w : Word) (written 
   pub unmarked : (u : ℕ) → is_marked (worklist_at h u) c ≡ false
 
 -- nothing is found where nothing is taken
-not_taking : (h : Heap) (t : ℕ) (s : Step) (c : ℕ) (w : Word) (written number : ℕ) → EndsOn h t s c w written number → takes_block s (cell_at h c) ≡ false → PlainOn h t s c w written number
+not_taking : (h : Heap) (t : ℕ) (s : Step) (c : ℕ) (w : Word) (written number : ℕ) → EndsOn h t s c w written number
+    → takes_block s (cell_at h c) ≡ false → PlainOn h t s c w written number
 not_taking h t s c w written number ends stays = record {
   may = ends.may;
   target = ends.target;
@@ -75,10 +77,13 @@ not_taking h t s c w written number ends stays = record {
 }
 
 -- the cell is on the thread's worklist afterwards
-taken_mark : (h : Heap) (t : ℕ) (s : Step) (c : ℕ) → IsSound h → May h t s → c < length h.cells → is_free_step s ≡ false → takes_block s (cell_at h c) ≡ true
+taken_mark : (h : Heap) (t : ℕ) (s : Step) (c : ℕ) → IsSound h → May h t s → c < length h.cells → is_free_step s ≡ false
+    → takes_block s (cell_at h c) ≡ true
     → is_marked (worklist_at (stepped h t s c) t) c ≡ true
 taken_mark h t s c sound may low frees takes_it =
-    ap (λ (w : List Bool). is_marked w c) (read_here h.worklists t (worklist_with (is_free_step s) (takes_block s (cell_at h c)) c (worklist_at h t)) [] (omega (arith, sound.shaped.worklists, may.inside)))
+    ap (λ (w : List Bool). is_marked w c)
+    (read_here h.worklists t (worklist_with (is_free_step s) (takes_block s (cell_at h c)) c (worklist_at h t)) []
+    (omega (arith, sound.shaped.worklists, may.inside)))
     ∙ ap (λ b. is_marked (worklist_with b (takes_block s (cell_at h c)) c (worklist_at h t)) c) frees
     ∙ ap (λ b. is_marked (worklist_with false b c (worklist_at h t)) c) takes_it
     ∙ read_here (worklist_at h t) c true false (omega (arith, low, sound.shaped.marks t may.some_thread may.inside))
@@ -86,7 +91,8 @@ taken_mark h t s c sound may low frees takes_it =
 -- ---- what the block is to its seat
 
 -- a cell that isn't on the thread's worklist is none of the dead blocks that its log tells
-pub unlisted_seen : (n limit : ℕ) (h : Heap) (t : ℕ) (log : List Told) (c : ℕ) → Known n limit h t log → 0 < t → is_marked (worklist_at h t) c ≡ false → listed_at (taken_seen n log) c ≡ None
+pub unlisted_seen : (n limit : ℕ) (h : Heap) (t : ℕ) (log : List Told) (c : ℕ) → Known n limit h t log → 0 < t
+    → is_marked (worklist_at h t) c ≡ false → listed_at (taken_seen n log) c ≡ None
 unlisted_seen n limit h t log c known some_thread off =
     let run : Run = known.run in
     let of_run : world n limit run ≡ h = known.is_world in
@@ -96,13 +102,17 @@ unlisted_seen n limit h t log c known some_thread off =
     (ap (λ (z : Heap). is_marked (worklist_at z t) c) of_run ∙ off)
 
 -- entries that a cell has are cells of the heap
-pub found_cells : (n limit : ℕ) (h : Heap) (t : ℕ) (log : List Told) (c : ℕ) (entries : List ℕ) → Known n limit h t log → entries ≡ entries_at h c → AreCells n entries
+pub found_cells : (n limit : ℕ) (h : Heap) (t : ℕ) (log : List Told) (c : ℕ) (entries : List ℕ) → Known n limit h t log
+    → entries ≡ entries_at h c → AreCells n entries
 found_cells n limit h t log c entries known are i d there =
-    subst (λ cells. d < cells) known.cells (entries_inside h c i d known.reached (ap (λ (xs : List ℕ). slice_get xs i) (sym are) ∙ there))
+    subst (λ cells. d < cells) known.cells
+    (entries_inside h c i d known.reached (ap (λ (xs : List ℕ). slice_get xs i) (sym are) ∙ there))
 
 -- no cell has too many entries
-pub found_few : (n limit : ℕ) (h : Heap) (t : ℕ) (log : List Told) (c : ℕ) (entries : List ℕ) → Known n limit h t log → entries ≡ entries_at h c → length entries ≤ MOST_ENTRIES
-found_few n limit h t log c entries known are = subst (λ xs. length xs ≤ MOST_ENTRIES) (sym are) (reached_entries h known.reached c)
+pub found_few : (n limit : ℕ) (h : Heap) (t : ℕ) (log : List Told) (c : ℕ) (entries : List ℕ) → Known n limit h t log
+    → entries ≡ entries_at h c → length entries ≤ MOST_ENTRIES
+found_few n limit h t log c entries known are = subst (λ xs. length xs ≤ MOST_ENTRIES) (sym are)
+    (reached_entries h known.reached c)
 
 module _ {B : Type 0} (shows : B → ℕ × Contents) (n limit : ℕ) where
   abbrev Table : Type 0
@@ -112,10 +122,17 @@ module _ {B : Type 0} (shows : B → ℕ × Contents) (n limit : ℕ) where
   Rule = Kept shows n limit
 
   -- the step takes the block
-  taking : (st : Table) (r : Rule st) (id : ℕ) (v : View) (s : Step) (c : ℕ) (w : Word) (written number : ℕ) → get_elem? st.views id ≡ some v → v.active ≡ true → 0 < v.thread → c < n → IsWord n w
-      → EndsOn (world n limit r.run) v.thread s c w written number → takes_block s (cell_at (world n limit r.run) c) ≡ true
+  taking : (st : Table) (r : Rule st) (id : ℕ) (v : View) (s : Step) (c : ℕ) (w : Word) (written number : ℕ)
+      → get_elem? st.views id ≡ some v → v.active ≡ true → 0 < v.thread → c < n → IsWord n w
+      → EndsOn (world n limit r.run) v.thread s c w written number
+      → takes_block s (cell_at (world n limit r.run) c) ≡ true
       → (lies : LiesThere shows st.homes c (contents_at r.run c))
-      → Rule (record { words = set st.words (spot n w) written; homes = set st.homes c none; views = set st.views id (with_told (Did s number (moves.Found c (shows lies.block).1)) v) })
+      → Rule (record {
+        words = set st.words (spot n w) written;
+        homes = set st.homes c none;
+        views = set st.views id
+            (with_told (Did s number (moves.Found c (shows lies.block).1)) v);
+      })
   taking st r id v s c w written number at active some_thread low is ends takes_it lies =
       let t : ℕ = v.thread in
       let h : Heap = world n limit r.run in
@@ -129,7 +146,9 @@ module _ {B : Type 0} (shows : B → ℕ × Contents) (n limit : ℕ) where
         word = ends.word;
         shown = ends.shown;
         told = ends.told;
-        entries = ap entries_in lies.holds ∙ (contents_fit n limit r.run c r.options r.legal (record { live = ends.live; off = ends.unmarked })).entries
+        entries = ap entries_in lies.holds
+            ∙ (contents_fit n limit r.run c r.options r.legal
+            (record { live = ends.live; off = ends.unmarked })).entries
             ∙ sym (ap (λ b. if b then entries_at h c else []) (ends.finds_taken ∙ takes_it));
         moves = record {
           puts_none = ends.puts_none;
@@ -138,14 +157,22 @@ module _ {B : Type 0} (shows : B → ℕ × Contents) (n limit : ℕ) where
         };
         elsewhere = λ d other. refl;
       })
-      (home_out shows (set st.homes c none) (stepped h t s c) ((t, Did s number (moves.Found c (shows lies.block).1)) ∷ r.run) c
-      (λ free. live_owner (cell_at h c).owner ends.live (sym (ap (λ (x : Cell). x.owner) (read_here h.cells c (cell_after t s c (cell_at h c)) no_cell ends.low) ∙ ends.same_owner) ∙ free))
-      (λ live unlocked off. true≢false (sym (taken_mark h t s c (reached_sound h known.reached) (may_parts h t s ends.may) ends.low ends.frees_none takes_it) ∙ off t)))
+      (home_out shows (set st.homes c none) (stepped h t s c) ((t, Did s number (moves.Found c (shows lies.block).1))
+      ∷ r.run) c
+      (λ free. live_owner (cell_at h c).owner ends.live
+      (sym (ap (λ (x : Cell). x.owner) (read_here h.cells c (cell_after t s c (cell_at h c)) no_cell ends.low)
+      ∙ ends.same_owner) ∙ free))
+      (λ live unlocked off. true≢false
+      (sym (taken_mark h t s c (reached_sound h known.reached) (may_parts h t s ends.may) ends.low ends.frees_none
+      takes_it) ∙ off t)))
 
   -- the number that is found decides whether the block is taken
-  pub end_step : (id : ℕ) (v : View) (slots : List (ℕ × Option B)) (s : Step) (c : ℕ) (w : Word) (written : ℕ → ℕ) → v.active ≡ true → 0 < v.thread → c < n → IsWord n w
-      → ((h : Heap) (there : ℕ) → Known n limit h v.thread v.log → Shows h w there → there < 2 ^ 64 → EndsOn h v.thread s c w (written there) there)
-      → Allows Rule n id (v, slots) (spot n w) written (λ there me. Ended shows n v slots s c there (takes_block s (cell_told s there)) me)
+  pub end_step : (id : ℕ) (v : View) (slots : List (ℕ × Option B)) (s : Step) (c : ℕ) (w : Word) (written : ℕ → ℕ)
+      → v.active ≡ true → 0 < v.thread → c < n → IsWord n w
+      → ((h : Heap) (there : ℕ) → Known n limit h v.thread v.log → Shows h w there → there < 2 ^ 64
+      → EndsOn h v.thread s c w (written there) there)
+      → Allows Rule n id (v, slots) (spot n w) written
+      (λ there me. Ended shows n v slots s c there (takes_block s (cell_told s there)) me)
   end_step id v slots s c w written active some_thread low is ends st r deep at small =
       let t : ℕ = v.thread in
       let h : Heap = world n limit r.run in
@@ -157,18 +184,24 @@ module _ {B : Type 0} (shows : B → ℕ × Contents) (n limit : ℕ) where
           with_told (Did s there moves.Nothing) v,
           keeps,
           tt,
-          plainly shows n limit st r id v s w (written there) there at active some_thread is (plain_on n h t s c w (written there) there (not_taking h t s c w (written there) there e off)),
-          subst (λ b. Ended shows n v slots s c there b (with_told (Did s there moves.Nothing) v, slots)) (sym (e.number_tells ∙ off)) refl,
+          plainly shows n limit st r id v s w (written there) there at active some_thread is
+              (plain_on n h t s c w (written there) there (not_taking h t s c w (written there) there e off)),
+          subst (λ b. Ended shows n v slots s c there b (with_told (Did s there moves.Nothing) v, slots))
+              (sym (e.number_tells ∙ off)) refl,
         )
         | inl on ↦
-            let lies : LiesThere shows st.homes c (contents_at r.run c) = (r.each_home c low).lies e.live (unlocked h t s c known e on) e.unmarked in
+            let lies : LiesThere shows st.homes c (contents_at r.run c) = (r.each_home c low).lies e.live
+            (unlocked h t s c known e on) e.unmarked in
             let are : entries_in (shows lies.block).1 ≡ entries_at h c =
-            ap entries_in lies.holds ∙ (contents_fit n limit r.run c r.options r.legal (record { live = e.live; off = e.unmarked })).entries in (
+            ap entries_in lies.holds
+            ∙ (contents_fit n limit r.run c r.options r.legal (record { live = e.live; off = e.unmarked })).entries in (
               with_told (Did s there (moves.Found c (shows lies.block).1)) v,
               takes c (Some lies.block),
               lies.there,
               taking st r id v s c w (written there) there at active some_thread low is e on lies,
-              subst (λ b. Ended shows n v slots s c there b (with_told (Did s there (moves.Found c (shows lies.block).1)) v, (c, Some lies.block) ∷ slots)) (sym (e.number_tells ∙ on))
+              subst (λ b. Ended shows n v slots s c there b
+                  (with_told (Did s there (moves.Found c (shows lies.block).1)) v, (c, Some lies.block) ∷ slots))
+                  (sym (e.number_tells ∙ on))
                   (record {
                     block = lies.block;
                     of_cell = lies.of_cell;
@@ -180,8 +213,10 @@ module _ {B : Type 0} (shows : B → ℕ × Contents) (n limit : ℕ) where
             )
       ]
     where
-      unlocked : (h : Heap) (t : ℕ) (s : Step) (c : ℕ) → Known n limit h t v.log → EndsOn h t s c w (written (get_or st.words (spot n w) 0)) (get_or st.words (spot n w) 0)
+      unlocked : (h : Heap) (t : ℕ) (s : Step) (c : ℕ) → Known n limit h t v.log
+          → EndsOn h t s c w (written (get_or st.words (spot n w) 0)) (get_or st.words (spot n w) 0)
           → takes_block s (cell_at h c) ≡ true → (cell_at h c).mutex ≡ 0
       unlocked h t s c known e on =
           let may : May h t s = may_parts h t s e.may in
-          taken_unlocked h (record { thread = t; step = s }) c known.reached (thread_enabled h t s may.some_thread e.may) (λ zero. omega (arith, zero, may.some_thread)) e.target on
+          taken_unlocked h (record { thread = t; step = s }) c known.reached
+          (thread_enabled h t s may.some_thread e.may) (λ zero. omega (arith, zero, may.some_thread)) e.target on

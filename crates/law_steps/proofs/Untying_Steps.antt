@@ -1,5 +1,6 @@
 -- Untie: a thread makes an object nobody's, at count 0, in the place of an owner that has left, or for a popped entry.
-use Rattle.std.proofs.Common.{◌≡◌, ◌≢◌, ℕ, ◌<◌, ◌%◌, not, true, List, length, Option, refl, sym, ◌∙◌, ap, subst, inl, inr, arith}
+use Rattle.std.proofs.Common.{◌≡◌, ◌≢◌, ℕ, ◌<◌, ◌%◌, not, true, List, length, Option, refl, sym, ◌∙◌, ap, subst, inl}
+use Rattle.std.proofs.Common.{inr, arith}
 use Rattle.std.proofs.lemmas.Bool.{eqb-true, eq-eqb}
 use Rattle.std.specs.Cmp.Derive.{both_true}
 use Rattle.atomic_table.specs.Table.{State as Table, Allows}
@@ -45,21 +46,25 @@ record MayUntie (h : Heap) (t c : ℕ) : Type 0 where
   live : lives (cell_at h c).owner ≡ true
   ok : untied_ok t (row_at h t).hand (cell_at h c) ≡ true
 
-unties : (n limit : ℕ) (h : Heap) (t : ℕ) (log : List Told) (c : ℕ) → 0 < t → Known n limit h t log → own_may n (part_seen n log) (Untie c) ≡ true → MayUntie h t c
+unties : (n limit : ℕ) (h : Heap) (t : ℕ) (log : List Told) (c : ℕ) → 0 < t → Known n limit h t log
+    → own_may n (part_seen n log) (Untie c) ≡ true → MayUntie h t c
     → IsPlain n h t (Untie c) (Of Owner c) 0 0
 unties n limit h t log c some_thread known own ways =
     let s : Step = Untie c in
     let low : c < length h.cells = inside h c (live_owner _ ways.live) in
     plain_on n h t s c (Of Owner c) 0 0 (record {
-      may = is_enabled n limit h t log s some_thread known own refl refl (fits_cell n limit h t log s c known refl low ways.ok);
+      may = is_enabled n limit h t log s some_thread known own refl refl
+          (fits_cell n limit h t log s c known refl low ways.ok);
       target = refl;
       word = refl;
-      shown = subst (λ o. ShowsOwner (length (stepped h t s c).rows) o 0) (sym (ap (λ (y : Cell). y.owner) (read_cell h t s c low))) refl;
+      shown = subst (λ o. ShowsOwner (length (stepped h t s c).rows) o 0)
+          (sym (ap (λ (y : Cell). y.owner) (read_cell h t s c low))) refl;
       told = refl;
       finds_none = refl;
       puts_none = refl;
       takes_none = refl;
-      stays = stays_on h t s c low refl refl (record { free = λ bad. absurd (nobody_free bad); lives = λ is. ways.live; mutex = refl });
+      stays = stays_on h t s c low refl refl
+          (record { free = λ bad. absurd (nobody_free bad); lives = λ is. ways.live; mutex = refl });
     })
   where
     nobody_free : owners.Nobody ≡ owners.Free → ⊥
@@ -67,9 +72,11 @@ unties n limit h t log c some_thread known own ways =
 
 -- ---- at count 0
 
-over_way : (n limit : ℕ) (h : Heap) (t : ℕ) (log : List Told) (c : ℕ) → Known n limit h t log → UntiesOver n log c → MayUntie h t c
+over_way : (n limit : ℕ) (h : Heap) (t : ℕ) (log : List Told) (c : ℕ) → Known n limit h t log → UntiesOver n log c
+    → MayUntie h t c
 over_way n limit h t log c known way =
-    let busy : (row_at h t).hand ≡ hands.Busy phases.Over c = hand_in n limit h t log log (hands.Busy phases.Over c) known refl way.hand in
+    let busy : (row_at h t).hand ≡ hands.Busy phases.Over c = hand_in n limit h t log log (hands.Busy phases.Over c)
+    known refl way.hand in
     record {
       live = ap lives (hand_tells h t c phases.Over known.reached busy).1.0;
       ok = ap (λ g. untied_ok t g (cell_at h c)) busy;
@@ -90,9 +97,15 @@ adoptable_lasts t c h e reached ok others was = record {
   adopts = adopting_lasts t c was.from was.local h e reached ok others was.adopts;
 }
 
-noted_owned : (h : Heap) (t c number : ℕ) → IsReached h → (row_at h t).hand ≡ hands.Busy phases.Shut c → Shows h (Of Owner c) number → 0 < number → Adoptable h t c
+noted_owned : (h : Heap) (t c number : ℕ) → IsReached h → (row_at h t).hand ≡ hands.Busy phases.Shut c
+    → Shows h (Of Owner c) number → 0 < number → Adoptable h t c
 noted_owned h t c number reached busy found owned = elim (hand_tells h t c phases.Shut reached busy).1 [
-  | inl nobody ↦ absurd (omega (arith, owner_told h t c number reached (has_in_hand h t c phases.Shut busy refl) found, owned, ap word_of nobody.0))
+  | inl nobody ↦ absurd (omega (
+    arith,
+    owner_told h t c number reached (has_in_hand h t c phases.Shut busy refl) found,
+    owned,
+    ap word_of nobody.0,
+  ))
   | inr theirs ↦ record {
     from = theirs.0;
     local = (cell_at h c).local;
@@ -100,10 +113,13 @@ noted_owned h t c number reached busy found owned = elim (hand_tells h t c phase
   }
 ]
 
-shut_way : (n limit : ℕ) (h : Heap) (t : ℕ) (log : List Told) (c number : ℕ) → 0 < t → Known n limit h t log → UntiesShut n log c number → MayUntie h t c
+shut_way : (n limit : ℕ) (h : Heap) (t : ℕ) (log : List Told) (c number : ℕ) → 0 < t → Known n limit h t log
+    → UntiesShut n log c number → MayUntie h t c
 shut_way n limit h t log c number some_thread known way =
-    let now : Adoptable h t c = since n limit h t log Owner c number (λ z. Adoptable z t c) some_thread known way.found (adoptable_lasts t c)
-    (λ old before was same found. noted_owned old t c number was.reached (hand_in n limit old t before log (hands.Busy phases.Shut c) was same way.hand) found way.owned) in
+    let now : Adoptable h t c = since n limit h t log Owner c number (λ z. Adoptable z t c) some_thread known way.found
+    (adoptable_lasts t c)
+    (λ old before was same found. noted_owned old t c number was.reached
+    (hand_in n limit old t before log (hands.Busy phases.Shut c) was same way.hand) found way.owned) in
     record {
       live = ap lives now.adopts.owner;
       ok = ap (λ g. untied_ok t g (cell_at h c)) now.adopts.hand ∙ ap (λ o. not (is_nobody o)) now.adopts.owner;
@@ -117,23 +133,40 @@ record Popped (h : Heap) (t c : ℕ) : Type 0 where
   own : PoppedOwn h t c local
 
 own_popped_lasts : (t c : ℕ) → Lasts t (λ h. Popped h t c)
-own_popped_lasts t c h e reached ok others was = record { local = was.local; own = popped_lasts t c was.local h e reached ok others was.own }
+own_popped_lasts t c h e reached ok others was =
+    record { local = was.local; own = popped_lasts t c was.local h e reached ok others was.own }
 
-noted_unmerged : (h : Heap) (t c number : ℕ) → IsReached h → (row_at h t).hand ≡ hands.Free → bit_of (popped_at h t) c ≡ 1 → Shows h (Of Shared c) number → number % 4 ≢ 3 → Popped h t c
+noted_unmerged : (h : Heap) (t c number : ℕ) → IsReached h → (row_at h t).hand ≡ hands.Free
+    → bit_of (popped_at h t) c ≡ 1 → Shows h (Of Shared c) number → number % 4 ≢ 3 → Popped h t c
 noted_unmerged h t c number reached free bit found other = elim (popped_tells h t c reached free bit) [
   | inl merged ↦ absurd (unmerged_word (cell_at h c).count (cell_at h c).state number found other merged)
-  | inr his ↦ record { local = (cell_at h c).local; own = record { popped = bit; owner = his.0; state = his.1; count = refl } }
+  | inr his ↦ record {
+    local = (cell_at h c).local;
+    own = record {
+      popped = bit;
+      owner = his.0;
+      state = his.1;
+      count = refl;
+    };
+  }
 ]
 
-popped_way : (n limit : ℕ) (h : Heap) (t : ℕ) (log : List Told) (c number : ℕ) → 0 < t → Known n limit h t log → UntiesPopped n log c number → MayUntie h t c
+popped_way : (n limit : ℕ) (h : Heap) (t : ℕ) (log : List Told) (c number : ℕ) → 0 < t → Known n limit h t log
+    → UntiesPopped n log c number → MayUntie h t c
 popped_way n limit h t log c number some_thread known way =
-    let bit : bit_of (part_seen n log).popped c ≡ 1 = eqb-true (bit_of (part_seen n log).popped c) 1 (subst (λ g. untie_ok g (part_seen n log).popped c ≡ true) way.hand (part_own n (part_seen n log) (Untie c) way.own)) in
+    let bit : bit_of (part_seen n log).popped c ≡ 1 = eqb-true (bit_of (part_seen n log).popped c) 1
+    (subst (λ g. untie_ok g (part_seen n log).popped c ≡ true) way.hand
+    (part_own n (part_seen n log) (Untie c) way.own)) in
     let free : (row_at h t).hand ≡ hands.Free = hand_in n limit h t log log hands.Free known refl way.hand in
-    let now : Popped h t c = since n limit h t log Shared c number (λ z. Popped z t c) some_thread known way.found (own_popped_lasts t c)
-    (λ old before was same found. noted_unmerged old t c number was.reached (hand_in n limit old t before log hands.Free was same way.hand) (bit_in n limit old t before log c was same bit) found way.unmerged) in
+    let now : Popped h t c = since n limit h t log Shared c number (λ z. Popped z t c) some_thread known way.found
+    (own_popped_lasts t c)
+    (λ old before was same found. noted_unmerged old t c number was.reached
+    (hand_in n limit old t before log hands.Free was same way.hand) (bit_in n limit old t before log c was same bit)
+    found way.unmerged) in
     record {
       live = ap lives now.own.owner;
-      ok = ap (λ g. untied_ok t g (cell_at h c)) free ∙ both_true (ap (is_owned_by t) now.own.owner ∙ eq-eqb t t refl) (ap is_queued now.own.state);
+      ok = ap (λ g. untied_ok t g (cell_at h c)) free ∙ both_true (ap (is_owned_by t) now.own.owner ∙ eq-eqb t t refl)
+          (ap is_queued now.own.state);
     }
 
 -- ---- the laws
@@ -142,20 +175,29 @@ module _ {B : Type 0} (shows : B → ℕ × Contents) (n limit : ℕ) where
   abbrev Rule : Table (Option B) View → Type 0
   Rule = Kept shows n limit
 
-  pub unties_over : (id : ℕ) (v : View) (slots : List (ℕ × Option B)) (c : ℕ) → v.active ≡ true → 0 < v.thread → c < n → UntiesOver n v.log c
-      → Allows Rule n id (v, slots) (spot n (Of Owner c)) (λ there. 0) (λ there me. me ≡ (with_told (Did (Untie c) 0 moves.Nothing) v, slots))
+  pub unties_over : (id : ℕ) (v : View) (slots : List (ℕ × Option B)) (c : ℕ) → v.active ≡ true → 0 < v.thread → c < n
+      → UntiesOver n v.log c
+      → Allows Rule n id (v, slots) (spot n (Of Owner c)) (λ there. 0)
+      (λ there me. me ≡ (with_told (Did (Untie c) 0 moves.Nothing) v, slots))
   unties_over id v slots c active some_thread low way =
       plain_step shows n limit id v slots (Untie c) (Of Owner c) (λ there. 0) (λ there. 0) active some_thread low
-      (λ h there known shown small. unties n limit h v.thread v.log c some_thread known way.own (over_way n limit h v.thread v.log c known way))
+      (λ h there known shown small. unties n limit h v.thread v.log c some_thread known way.own
+      (over_way n limit h v.thread v.log c known way))
 
-  pub unties_shut : (id : ℕ) (v : View) (slots : List (ℕ × Option B)) (c number : ℕ) → v.active ≡ true → 0 < v.thread → c < n → UntiesShut n v.log c number
-      → Allows Rule n id (v, slots) (spot n (Of Owner c)) (λ there. 0) (λ there me. me ≡ (with_told (Did (Untie c) 0 moves.Nothing) v, slots))
+  pub unties_shut : (id : ℕ) (v : View) (slots : List (ℕ × Option B)) (c number : ℕ) → v.active ≡ true → 0 < v.thread
+      → c < n → UntiesShut n v.log c number
+      → Allows Rule n id (v, slots) (spot n (Of Owner c)) (λ there. 0)
+      (λ there me. me ≡ (with_told (Did (Untie c) 0 moves.Nothing) v, slots))
   unties_shut id v slots c number active some_thread low way =
       plain_step shows n limit id v slots (Untie c) (Of Owner c) (λ there. 0) (λ there. 0) active some_thread low
-      (λ h there known shown small. unties n limit h v.thread v.log c some_thread known way.own (shut_way n limit h v.thread v.log c number some_thread known way))
+      (λ h there known shown small. unties n limit h v.thread v.log c some_thread known way.own
+      (shut_way n limit h v.thread v.log c number some_thread known way))
 
-  pub unties_popped : (id : ℕ) (v : View) (slots : List (ℕ × Option B)) (c number : ℕ) → v.active ≡ true → 0 < v.thread → c < n → UntiesPopped n v.log c number
-      → Allows Rule n id (v, slots) (spot n (Of Owner c)) (λ there. 0) (λ there me. me ≡ (with_told (Did (Untie c) 0 moves.Nothing) v, slots))
+  pub unties_popped : (id : ℕ) (v : View) (slots : List (ℕ × Option B)) (c number : ℕ) → v.active ≡ true → 0 < v.thread
+      → c < n → UntiesPopped n v.log c number
+      → Allows Rule n id (v, slots) (spot n (Of Owner c)) (λ there. 0)
+      (λ there me. me ≡ (with_told (Did (Untie c) 0 moves.Nothing) v, slots))
   unties_popped id v slots c number active some_thread low way =
       plain_step shows n limit id v slots (Untie c) (Of Owner c) (λ there. 0) (λ there. 0) active some_thread low
-      (λ h there known shown small. unties n limit h v.thread v.log c some_thread known way.own (popped_way n limit h v.thread v.log c number some_thread known way))
+      (λ h there known shown small. unties n limit h v.thread v.log c some_thread known way.own
+      (popped_way n limit h v.thread v.log c number some_thread known way))

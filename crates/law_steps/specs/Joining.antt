@@ -26,7 +26,10 @@ starting v = record { active = true; thread = next_thread v; log = []; gathered 
 
 -- the root's view with that of a thread that has left
 abbrev pub gathering : View → View → View
-gathering v w = record (with_told (Did (Gather w.thread) 0 moves.Nothing) v) { gathered = (w.thread, w.log) ∷ v.gathered }
+gathering v w = record (with_told (Did (Gather w.thread) 0 moves.Nothing) v) {
+  gathered = (w.thread, w.log)
+      ∷ v.gathered;
+}
 
 -- what is left to the thread's seat
 abbrev pub spent : View

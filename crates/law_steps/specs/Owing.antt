@@ -5,7 +5,8 @@ use Rattle.law_world.specs.declared.event.Source.{Source}
 use Rattle.law_world.specs.declared.event.Dropped.{Dropped}
 use Rattle.law_world.specs.declared.event.Change.{Change}
 use Rattle.law_world.specs.declared.event.Step.{Step}
-use Rattle.law_world.specs.declared.event.Step.TheVariants.{Claim, Birth, LocalUp, LocalDown, SharedUp, LastDown, Untie, MergeAdd, Enqueue, Close, Nudge, Unlock}
+use Rattle.law_world.specs.declared.event.Step.TheVariants.{Claim, Birth, LocalUp, LocalDown, SharedUp, LastDown, Untie}
+use Rattle.law_world.specs.declared.event.Step.TheVariants.{MergeAdd, Enqueue, Close, Nudge, Unlock}
 use Rattle.law_world.specs.declared.event.LastDropped.TheVariants as lasts
 use Rattle.brc_words.specs.Kinds.{is_container}
 use Rattle.law_world.specs.Lists.{is_unmarked}
@@ -92,7 +93,8 @@ pub record Bears (n : ℕ) (log : List Told) (block : ℕ × Contents) (kind : K
 
 -- The block of the locked object, changed as the unlock says: it is of the kind that the locking found, and has the
 -- entries and the keys that the change makes of those found; where nothing changes it is as it was found.
-pub record Unlocks (n : ℕ) (log : List Told) (block : ℕ × Contents) (found : Contents) (change : Change) (c : ℕ) : Type 0 where
+pub record Unlocks (n : ℕ) (log : List Told) (block : ℕ × Contents) (found : Contents) (change : Change)
+    (c : ℕ) : Type 0 where
   pub own : own_may n (part_seen n log) (Unlock change) ≡ true
   pub cell : meant (part_seen n log) (Unlock change) ≡ Some c
   pub of_cell : block.0 ≡ c

@@ -1,7 +1,8 @@
-//! Each kind of step keeps the rule: what it asks of its seat's log, the word that it works on and what becomes of it, and
-//! what its seat knows afterwards. In each clause `there` is the number that the word had.
+//! Each kind of step keeps the rule: what it asks of its seat's log, the word that it works on and what becomes of it,
+//! and what its seat knows afterwards. In each clause `there` is the number that the word had.
 
-ghost use Rattle.std.specs.Prelude.{◌≡◌, ℕ, ◌+◌, ◌-◌, ◌*◌, ◌/◌, ◌%◌, ◌^◌, ◌<◌, ◌≤◌, ◌==◌, if◌then◌else◌, List, ◌∷◌, Option, Some, None, true, bit_and, bit_or};
+ghost use Rattle.std.specs.Prelude.{◌≡◌, ℕ, ◌+◌, ◌-◌, ◌*◌, ◌/◌, ◌%◌, ◌^◌, ◌<◌, ◌≤◌, ◌==◌, if◌then◌else◌, List, ◌∷◌};
+ghost use Rattle.std.specs.Prelude.{Option, Some, None, true, bit_and, bit_or};
 ghost use Rattle.std.specs.Int.{bit_at};
 ghost use prog.Atomic.{either};
 ghost use Rattle.atomic_table.specs.Table.{Allows, Splits, Joins};
@@ -23,7 +24,10 @@ ghost use Rattle.law_rule.specs.declared.told.Told.TheVariants as told;
 ghost use Rattle.law_rule.specs.declared.view.View.{View as view};
 ghost use Rattle.law_rule.specs.Layout.{spot};
 ghost use Rattle.law_rule.specs.Rule.{with_told, Kept};
-ghost use Rattle.law_steps.specs.Owing.{Raises, RaisesImmortal, Lowers, LowersImmortal, RaisesShared, Releases, Carries, EndsRisen, Claims, Bears, Unlocks, Allowed, Tells, EndsPopped, EndsAdded, EndsHeld, EndsNobodys, UntiesOver, UntiesShut, UntiesPopped, AddsLocal, Enqueues};
+ghost use Rattle.law_steps.specs.Owing.{Raises, RaisesImmortal, Lowers, LowersImmortal, RaisesShared, Releases};
+ghost use Rattle.law_steps.specs.Owing.{Carries, EndsRisen, Claims, Bears, Unlocks, Allowed, Tells, EndsPopped};
+ghost use Rattle.law_steps.specs.Owing.{EndsAdded, EndsHeld, EndsNobodys, UntiesOver, UntiesShut, UntiesPopped};
+ghost use Rattle.law_steps.specs.Owing.{AddsLocal, Enqueues};
 ghost use Rattle.law_steps.specs.Taking.{AreQueued, CountsSome, Ended, Claimed, Locked};
 ghost use Rattle.law_steps.specs.Joining.{registering, starting, gathering, spent, Registers, Leaves};
 
@@ -31,42 +35,51 @@ ghost use Rattle.law_steps.specs.Joining.{registering, starting, gathering, spen
 /// stays.
 #[tactic(auto, using(crate::proofs::Local_Steps::counts_up, crate::proofs::Local_Steps::counts_down, crate::proofs::Local_Steps::counts_immortal_up, crate::proofs::Local_Steps::counts_immortal_down))]
 pub fn owners_count<B>()
-    ensures up { (shows : B → ℕ × contents) (n limit id : ℕ) (v : view) (slots : List (ℕ × Option B)) (source : source) (k c count : ℕ)
+    ensures up { (shows : B → ℕ × contents) (n limit id : ℕ) (v : view) (slots : List (ℕ × Option B)) (source : source)
+        (k c count : ℕ)
         → v.active ≡ true → 0 < v.thread → c < n → Raises n limit v.log source k c count
         → Allows (Kept shows n limit) n id (v, slots) (spot n (words.Of fields.Local c)) (λ there. count + 1)
         (λ there me. me ≡ (with_told (told.Did (steps.LocalUp source k) (count + 1) moves.Nothing) v, slots)) }
-    ensures down { (shows : B → ℕ × contents) (n limit id : ℕ) (v : view) (slots : List (ℕ × Option B)) (drop : dropped) (c count : ℕ)
+    ensures down { (shows : B → ℕ × contents) (n limit id : ℕ) (v : view) (slots : List (ℕ × Option B)) (drop : dropped)
+        (c count : ℕ)
         → v.active ≡ true → 0 < v.thread → c < n → Lowers n v.log drop c count
         → Allows (Kept shows n limit) n id (v, slots) (spot n (words.Of fields.Local c)) (λ there. count - 1)
         (λ there me. me ≡ (with_told (told.Did (steps.LocalDown drop) (count - 1) moves.Nothing) v, slots)) }
-    ensures immortal_up { (shows : B → ℕ × contents) (n limit id : ℕ) (v : view) (slots : List (ℕ × Option B)) (source : source) (k c : ℕ)
+    ensures immortal_up { (shows : B → ℕ × contents) (n limit id : ℕ) (v : view) (slots : List (ℕ × Option B))
+        (source : source) (k c : ℕ)
         → v.active ≡ true → 0 < v.thread → c < n → RaisesImmortal n v.log source k c
         → Allows (Kept shows n limit) n id (v, slots) (spot n (words.Of fields.Local c)) (λ there. there)
         (λ there me. me ≡ (with_told (told.Did (steps.LocalUp source k) there moves.Nothing) v, slots)) }
-    ensures immortal_down { (shows : B → ℕ × contents) (n limit id : ℕ) (v : view) (slots : List (ℕ × Option B)) (drop : dropped) (c : ℕ)
+    ensures immortal_down { (shows : B → ℕ × contents) (n limit id : ℕ) (v : view) (slots : List (ℕ × Option B))
+        (drop : dropped) (c : ℕ)
         → v.active ≡ true → 0 < v.thread → c < n → LowersImmortal n v.log drop c
         → Allows (Kept shows n limit) n id (v, slots) (spot n (words.Of fields.Local c)) (λ there. there)
         (λ there me. me ≡ (with_told (told.Did (steps.LocalDown drop) there moves.Nothing) v, slots)) }
 {}
 
-/// Who doesn't own counts on the shared word: up by an addition of 4, down by a compare-exchange of a word that says default
-/// with a count above 0, which may be lost; and asks the owner to merge by setting the bit of queued.
+/// Who doesn't own counts on the shared word: up by an addition of 4, down by a compare-exchange of a word that says
+/// default with a count above 0, which may be lost; and asks the owner to merge by setting the bit of queued.
 #[tactic(auto, using(crate::proofs::Shared_Steps::counts_up_shared, crate::proofs::Shared_Steps::counts_down_shared, crate::proofs::Shared_Steps::asks))]
 pub fn others_count<B>()
-    ensures up { (shows : B → ℕ × contents) (n limit id : ℕ) (v : view) (slots : List (ℕ × Option B)) (source : source) (k c : ℕ)
+    ensures up { (shows : B → ℕ × contents) (n limit id : ℕ) (v : view) (slots : List (ℕ × Option B))
+        (source : source) (k c : ℕ)
         → v.active ≡ true → 0 < v.thread → c < n → RaisesShared n limit v.log source k c
-        → Allows (Kept shows n limit) n id (v, slots) (spot n (words.Of fields.Shared c)) (λ there. (there + 4) % 2 ^ 64)
+        → Allows (Kept shows n limit) n id (v, slots) (spot n (words.Of fields.Shared c))
+        (λ there. (there + 4) % 2 ^ 64)
         (λ there me. me ≡ (with_told (told.Did (steps.SharedUp source k) there moves.Nothing) v, slots)) }
-    ensures down { (shows : B → ℕ × contents) (n limit id : ℕ) (v : view) (slots : List (ℕ × Option B)) (drop : dropped) (c old : ℕ)
+    ensures down { (shows : B → ℕ × contents) (n limit id : ℕ) (v : view) (slots : List (ℕ × Option B)) (drop : dropped)
+        (c old : ℕ)
         → v.active ≡ true → 0 < v.thread → c < n → Releases n v.log (steps.SharedDown drop) c
         → old % 4 ≡ 0 → 2 ^ 42 + 4 ≤ old
-        → Allows (Kept shows n limit) n id (v, slots) (spot n (words.Of fields.Shared c)) (λ there. either (there == old) (old - 4) there)
+        → Allows (Kept shows n limit) n id (v, slots) (spot n (words.Of fields.Shared c))
+        (λ there. either (there == old) (old - 4) there)
         (λ there me. me ≡ (
           (if there == old then with_told (told.Did (steps.SharedDown drop) old moves.Nothing) v
               else with_told (told.Lost (words.Of fields.Shared c) there) v),
           slots,
         )) }
-    ensures ask { (shows : B → ℕ × contents) (n limit id : ℕ) (v : view) (slots : List (ℕ × Option B)) (drop : dropped) (c : ℕ)
+    ensures ask { (shows : B → ℕ × contents) (n limit id : ℕ) (v : view) (slots : List (ℕ × Option B))
+        (drop : dropped) (c : ℕ)
         → v.active ≡ true → 0 < v.thread → c < n → Releases n v.log (steps.Ask drop) c
         → Allows (Kept shows n limit) n id (v, slots) (spot n (words.Of fields.Shared c)) (λ there. bit_or there 2)
         (λ there me. me ≡ (with_told (told.Did (steps.Ask drop) there moves.Nothing) v, slots)) }
@@ -78,26 +91,32 @@ pub fn objects_end<B>()
     ensures see_zero { (shows : B → ℕ × contents) (n limit id : ℕ) (v : view) (slots : List (ℕ × Option B)) (c : ℕ)
         → v.active ≡ true → 0 < v.thread → c < n → Carries n v.log (steps.SeeZero c) c
         → Allows (Kept shows n limit) n id (v, slots) (spot n (words.Of fields.Shared c)) (λ there. there)
-        (λ there me. Ended shows n v slots (steps.SeeZero c) c there (takes_block (steps.SeeZero c) (cell_told (steps.SeeZero c) there)) me) }
+        (λ there me. Ended shows n v slots (steps.SeeZero c) c there
+        (takes_block (steps.SeeZero c) (cell_told (steps.SeeZero c) there)) me) }
     ensures merge_zero { (shows : B → ℕ × contents) (n limit id : ℕ) (v : view) (slots : List (ℕ × Option B)) (c : ℕ)
         → v.active ≡ true → 0 < v.thread → c < n → Carries n v.log (steps.MergeZero c) c
         → Allows (Kept shows n limit) n id (v, slots) (spot n (words.Of fields.Shared c)) (λ there. bit_or there 3)
-        (λ there me. Ended shows n v slots (steps.MergeZero c) c there (takes_block (steps.MergeZero c) (cell_told (steps.MergeZero c) there)) me) }
-    ensures last_down { (shows : B → ℕ × contents) (n limit id : ℕ) (v : view) (slots : List (ℕ × Option B)) (drop : dropped) (c : ℕ)
+        (λ there me. Ended shows n v slots (steps.MergeZero c) c there
+        (takes_block (steps.MergeZero c) (cell_told (steps.MergeZero c) there)) me) }
+    ensures last_down { (shows : B → ℕ × contents) (n limit id : ℕ) (v : view) (slots : List (ℕ × Option B))
+        (drop : dropped) (c : ℕ)
         → v.active ≡ true → 0 < v.thread → c < n → EndsRisen n v.log drop c
-        → Allows (Kept shows n limit) n id (v, slots) (spot n (words.Of fields.Shared c)) (λ there. (there + (2 ^ 64 - 4)) % 2 ^ 64)
+        → Allows (Kept shows n limit) n id (v, slots) (spot n (words.Of fields.Shared c))
+        (λ there. (there + (2 ^ 64 - 4)) % 2 ^ 64)
         (λ there me. Ended shows n v slots (steps.LastDown (lasts.Dropped drop)) c there
-        (takes_block (steps.LastDown (lasts.Dropped drop)) (cell_told (steps.LastDown (lasts.Dropped drop)) there)) me) }
+        (takes_block (steps.LastDown (lasts.Dropped drop))
+        (cell_told (steps.LastDown (lasts.Dropped drop)) there)) me) }
 {}
 
 /// A free cell, which is none of the thread's dead blocks, is claimed by taking its bit from the free word, which tells
-/// whether it had it; its words are set by plain stores, and its birth puts the block home; its end gives the empty slot
-/// back, and the bit.
+/// whether it had it; its words are set by plain stores, and its birth puts the block home; its end gives the empty
+/// slot back, and the bit.
 #[tactic(auto, using(crate::proofs::Making_Steps::claims_cell, crate::proofs::Making_Steps::sets_local, crate::proofs::Making_Steps::sets_shared, crate::proofs::Making_Steps::bears_object, crate::proofs::Making_Steps::frees_cell))]
 pub fn cells_are_used_again<B>()
     ensures claim { (shows : B → ℕ × contents) (n limit id : ℕ) (v : view) (slots : List (ℕ × Option B)) (c : ℕ)
         → v.active ≡ true → 0 < v.thread → c < n → Claims n v.log c
-        → Allows (Kept shows n limit) n id (v, slots) (spot n (words.FreeWord (c / 64))) (λ there. bit_and there (2 ^ 64 - 1 - 2 ^ (c % 64)))
+        → Allows (Kept shows n limit) n id (v, slots) (spot n (words.FreeWord (c / 64)))
+        (λ there. bit_and there (2 ^ 64 - 1 - 2 ^ (c % 64)))
         (λ there me. Claimed n v slots c there (bit_at there (c % 64) == 1) me) }
     ensures init_local { (shows : B → ℕ × contents) (n limit id : ℕ) (v : view) (slots : List (ℕ × Option B)) (c : ℕ)
         → v.active ≡ true → 0 < v.thread → c < n → Carries n v.log (steps.InitLocal c) c
@@ -107,32 +126,41 @@ pub fn cells_are_used_again<B>()
         → v.active ≡ true → 0 < v.thread → c < n → Carries n v.log (steps.InitShared c) c
         → Allows (Kept shows n limit) n id (v, slots) (spot n (words.Of fields.Shared c)) (λ there. 2 ^ 42)
         (λ there me. me ≡ (with_told (told.Did (steps.InitShared c) (2 ^ 42) moves.Nothing) v, slots)) }
-    ensures birth { (shows : B → ℕ × contents) (n limit id : ℕ) (v : view) (rest : List (ℕ × Option B)) (block : B) (kind : kind) (k c : ℕ)
+    ensures birth { (shows : B → ℕ × contents) (n limit id : ℕ) (v : view) (rest : List (ℕ × Option B)) (block : B)
+        (kind : kind) (k c : ℕ)
         → v.active ≡ true → 0 < v.thread → c < n → Bears n v.log (shows block) kind k c
-        → Allows (Kept shows n limit) n id (v, (c, Some block) ∷ rest) (spot n (words.Of fields.Owner c)) (λ there. v.thread)
-        (λ there me. me ≡ (with_told (told.Did (steps.Birth c kind k) v.thread (moves.Put c (shows block).1)) v, rest)) }
+        → Allows (Kept shows n limit) n id (v, (c, Some block) ∷ rest) (spot n (words.Of fields.Owner c))
+        (λ there. v.thread)
+        (λ there me. me ≡ (
+          with_told (told.Did (steps.Birth c kind k) v.thread (moves.Put c (shows block).1))
+              v,
+          rest,
+        )) }
     ensures free { (shows : B → ℕ × contents) (n limit id : ℕ) (v : view) (rest : List (ℕ × Option B)) (c : ℕ)
         → v.active ≡ true → 0 < v.thread → c < n → Carries n v.log (steps.Free c) c
-        → Allows (Kept shows n limit) n id (v, (c, None) ∷ rest) (spot n (words.FreeWord (c / 64))) (λ there. bit_or there (2 ^ (c % 64)))
+        → Allows (Kept shows n limit) n id (v, (c, None) ∷ rest) (spot n (words.FreeWord (c / 64)))
+        (λ there. bit_or there (2 ^ (c % 64)))
         (λ there me. me ≡ (with_told (told.Did (steps.Free c) there moves.Nothing) v, rest)) }
 {}
 
-/// A lock is taken by a compare-exchange of 0, with the block and the contents that were put home last; its unlocking puts
-/// the block home with those that the change makes of them.
+/// A lock is taken by a compare-exchange of 0, with the block and the contents that were put home last; its unlocking
+/// puts the block home with those that the change makes of them.
 #[tactic(auto, using(crate::proofs::Locking_Steps::locks_cell, crate::proofs::Locking_Steps::unlocks_cell))]
 pub fn objects_are_locked<B>()
     ensures lock { (shows : B → ℕ × contents) (n limit id : ℕ) (v : view) (slots : List (ℕ × Option B)) (k c : ℕ)
         → v.active ≡ true → 0 < v.thread → c < n → Carries n v.log (steps.Lock k) c
-        → Allows (Kept shows n limit) n id (v, slots) (spot n (words.Of fields.Mutex c)) (λ there. either (there == 0) v.thread there)
+        → Allows (Kept shows n limit) n id (v, slots) (spot n (words.Of fields.Mutex c))
+        (λ there. either (there == 0) v.thread there)
         (λ there me. Locked shows n v slots k c there (there == 0) me) }
-    ensures unlock { (shows : B → ℕ × contents) (n limit id : ℕ) (v : view) (rest : List (ℕ × Option B)) (block : B) (found : contents) (change : change) (c : ℕ)
+    ensures unlock { (shows : B → ℕ × contents) (n limit id : ℕ) (v : view) (rest : List (ℕ × Option B)) (block : B)
+        (found : contents) (change : change) (c : ℕ)
         → v.active ≡ true → 0 < v.thread → c < n → Unlocks n v.log (shows block) found change c
         → Allows (Kept shows n limit) n id (v, (c, Some block) ∷ rest) (spot n (words.Of fields.Mutex c)) (λ there. 0)
         (λ there me. me ≡ (with_told (told.Did (steps.Unlock change) 0 (moves.Put c (shows block).1)) v, rest)) }
 {}
 
-/// A thread takes the bits of its own queue words, which are cells of the heap, closes them, tells another that it should
-/// drain, and takes what it was told.
+/// A thread takes the bits of its own queue words, which are cells of the heap, closes them, tells another that it
+/// should drain, and takes what it was told.
 #[tactic(auto, using(crate::proofs::Queue_Steps::drains, crate::proofs::Queue_Steps::closes, crate::proofs::Queue_Steps::nudges, crate::proofs::Queue_Steps::wakes))]
 pub fn queues_are_drained<B>()
     ensures drain { (shows : B → ℕ × contents) (n limit id : ℕ) (v : view) (slots : List (ℕ × Option B)) (k : ℕ)
@@ -141,11 +169,13 @@ pub fn queues_are_drained<B>()
         (λ there me. (me ≡ (with_told (told.Did (steps.Drain k) there moves.Nothing) v, slots)) × AreQueued n k there) }
     ensures close { (shows : B → ℕ × contents) (n limit id : ℕ) (v : view) (slots : List (ℕ × Option B)) (k : ℕ)
         → v.active ≡ true → 0 < v.thread → v.thread ≤ MOST_THREADS → k < words_for n → Allowed n v.log (steps.Close k)
-        → Allows (Kept shows n limit) n id (v, slots) (spot n (words.Queue v.thread k)) (λ there. bit_or there 9223372036854775808)
+        → Allows (Kept shows n limit) n id (v, slots) (spot n (words.Queue v.thread k))
+        (λ there. bit_or there 9223372036854775808)
         (λ there me. (me ≡ (with_told (told.Did (steps.Close k) there moves.Nothing) v, slots)) × AreQueued n k there) }
     ensures nudge { (shows : B → ℕ × contents) (n limit id : ℕ) (v : view) (slots : List (ℕ × Option B)) (q k : ℕ)
         → v.active ≡ true → 0 < v.thread → Tells n v.log q k
-        → Allows (Kept shows n limit) n id (v, slots) (spot n (words.NotifyWord q)) (λ there. bit_or there (2 ^ (k / 32)))
+        → Allows (Kept shows n limit) n id (v, slots) (spot n (words.NotifyWord q))
+        (λ there. bit_or there (2 ^ (k / 32)))
         (λ there me. me ≡ (with_told (told.Did (steps.Nudge q k) there moves.Nothing) v, slots)) }
     ensures wake { (shows : B → ℕ × contents) (n limit id : ℕ) (v : view) (slots : List (ℕ × Option B))
         → v.active ≡ true → 0 < v.thread → v.thread ≤ MOST_THREADS → Allowed n v.log steps.Wake
@@ -153,7 +183,8 @@ pub fn queues_are_drained<B>()
         (λ there me. me ≡ (with_told (told.Did steps.Wake there moves.Nothing) v, slots)) }
 {}
 
-/// A registered thread's seat is split off the root's; that of a thread that has left is joined to it, and its log is kept.
+/// A registered thread's seat is split off the root's; that of a thread that has left is joined to it, and its log is
+/// kept.
 #[tactic(auto, using(crate::proofs::Root_Steps::splits, crate::proofs::Root_Steps::joins))]
 pub fn threads_come_and_go<B>()
     ensures register { (shows : B → ℕ × contents) (n limit id : ℕ) (v : view) → Registers v
@@ -164,34 +195,38 @@ pub fn threads_come_and_go<B>()
 {}
 
 /// The last reference that went through a merge queue goes: a popped bit of an object that was looked at and merged, or
-/// that the thread has just merged itself; the hand's after an adoption, or the hand's of an object that was looked at and
-/// is nobody's.
+/// that the thread has just merged itself; the hand's after an adoption, or the hand's of an object that was looked at
+/// and is nobody's.
 #[tactic(auto, using(crate::proofs::Last_Steps::ends_popped, crate::proofs::Last_Steps::ends_added, crate::proofs::Last_Steps::ends_held, crate::proofs::Last_Steps::ends_nobodys))]
 pub fn queued_references_end<B>()
     ensures popped { (shows : B → ℕ × contents) (n limit id : ℕ) (v : view) (slots : List (ℕ × Option B)) (c number : ℕ)
         → v.active ≡ true → 0 < v.thread → c < n → EndsPopped n v.log c number
-        → Allows (Kept shows n limit) n id (v, slots) (spot n (words.Of fields.Shared c)) (λ there. (there + (2 ^ 64 - 4)) % 2 ^ 64)
+        → Allows (Kept shows n limit) n id (v, slots) (spot n (words.Of fields.Shared c))
+        (λ there. (there + (2 ^ 64 - 4)) % 2 ^ 64)
         (λ there me. Ended shows n v slots (steps.LastDown (lasts.Popped c)) c there
         (takes_block (steps.LastDown (lasts.Popped c)) (cell_told (steps.LastDown (lasts.Popped c)) there)) me) }
     ensures added { (shows : B → ℕ × contents) (n limit id : ℕ) (v : view) (slots : List (ℕ × Option B)) (c : ℕ)
         → v.active ≡ true → 0 < v.thread → c < n → EndsAdded n v.log c
-        → Allows (Kept shows n limit) n id (v, slots) (spot n (words.Of fields.Shared c)) (λ there. (there + (2 ^ 64 - 4)) % 2 ^ 64)
+        → Allows (Kept shows n limit) n id (v, slots) (spot n (words.Of fields.Shared c))
+        (λ there. (there + (2 ^ 64 - 4)) % 2 ^ 64)
         (λ there me. Ended shows n v slots (steps.LastDown (lasts.Popped c)) c there
         (takes_block (steps.LastDown (lasts.Popped c)) (cell_told (steps.LastDown (lasts.Popped c)) there)) me) }
     ensures held { (shows : B → ℕ × contents) (n limit id : ℕ) (v : view) (slots : List (ℕ × Option B)) (c : ℕ)
         → v.active ≡ true → 0 < v.thread → c < n → EndsHeld n v.log c
-        → Allows (Kept shows n limit) n id (v, slots) (spot n (words.Of fields.Shared c)) (λ there. (there + (2 ^ 64 - 4)) % 2 ^ 64)
+        → Allows (Kept shows n limit) n id (v, slots) (spot n (words.Of fields.Shared c))
+        (λ there. (there + (2 ^ 64 - 4)) % 2 ^ 64)
         (λ there me. Ended shows n v slots (steps.LastDown lasts.Hand) c there
         (takes_block (steps.LastDown lasts.Hand) (cell_told (steps.LastDown lasts.Hand) there)) me) }
     ensures nobodys { (shows : B → ℕ × contents) (n limit id : ℕ) (v : view) (slots : List (ℕ × Option B)) (c : ℕ)
         → v.active ≡ true → 0 < v.thread → c < n → EndsNobodys n v.log c
-        → Allows (Kept shows n limit) n id (v, slots) (spot n (words.Of fields.Shared c)) (λ there. (there + (2 ^ 64 - 4)) % 2 ^ 64)
+        → Allows (Kept shows n limit) n id (v, slots) (spot n (words.Of fields.Shared c))
+        (λ there. (there + (2 ^ 64 - 4)) % 2 ^ 64)
         (λ there me. Ended shows n v slots (steps.LastDown lasts.Hand) c there
         (takes_block (steps.LastDown lasts.Hand) (cell_told (steps.LastDown lasts.Hand) there)) me) }
 {}
 
-/// Who merges an object first stores that it is nobody's: at local count 0, in place of an owner that has left, or for a
-/// popped entry; and then adds the local count that it has looked at.
+/// Who merges an object first stores that it is nobody's: at local count 0, in place of an owner that has left, or for
+/// a popped entry; and then adds the local count that it has looked at.
 #[tactic(auto, using(crate::proofs::Untying_Steps::unties_over, crate::proofs::Untying_Steps::unties_shut, crate::proofs::Untying_Steps::unties_popped, crate::proofs::Adding_Steps::adds_local))]
 pub fn objects_are_merged<B>()
     ensures over { (shows : B → ℕ × contents) (n limit id : ℕ) (v : view) (slots : List (ℕ × Option B)) (c : ℕ)
@@ -208,8 +243,13 @@ pub fn objects_are_merged<B>()
         (λ there me. me ≡ (with_told (told.Did (steps.Untie c) 0 moves.Nothing) v, slots)) }
     ensures add { (shows : B → ℕ × contents) (n limit id : ℕ) (v : view) (slots : List (ℕ × Option B)) (c local : ℕ)
         → v.active ≡ true → 0 < v.thread → c < n → AddsLocal n v.log c local
-        → Allows (Kept shows n limit) n id (v, slots) (spot n (words.Of fields.Shared c)) (λ there. (there + (local * 4 + 1)) % 2 ^ 64)
-        (λ there me. (me ≡ (with_told (told.Did (steps.MergeAdd c) ((there + (local * 4 + 1)) % 2 ^ 64) moves.Nothing) v, slots)) × CountsSome ((there + (local * 4 + 1)) % 2 ^ 64)) }
+        → Allows (Kept shows n limit) n id (v, slots) (spot n (words.Of fields.Shared c))
+        (λ there. (there + (local * 4 + 1)) % 2 ^ 64)
+        (λ there me. (me ≡ (
+          with_told (told.Did (steps.MergeAdd c) ((there + (local * 4 + 1)) % 2 ^ 64) moves.Nothing)
+              v,
+          slots,
+        )) × CountsSome ((there + (local * 4 + 1)) % 2 ^ 64)) }
 {}
 
 /// An asked reference goes into the merge queue of the thread that was found as the owner, or meets a closed word.
@@ -217,6 +257,7 @@ pub fn objects_are_merged<B>()
 pub fn asked_references_are_queued<B>()
     ensures { (shows : B → ℕ × contents) (n limit id : ℕ) (v : view) (slots : List (ℕ × Option B)) (c q : ℕ)
         → v.active ≡ true → 0 < v.thread → c < n → Enqueues n v.log c q
-        → Allows (Kept shows n limit) n id (v, slots) (spot n (words.Queue q (c / 32))) (λ there. bit_or there (2 ^ (c % 32)))
+        → Allows (Kept shows n limit) n id (v, slots) (spot n (words.Queue q (c / 32)))
+        (λ there. bit_or there (2 ^ (c % 32)))
         (λ there me. me ≡ (with_told (told.Did (steps.Enqueue c) there moves.Nothing) v, slots)) }
 {}

@@ -1,5 +1,6 @@
 -- What it means that a thread's step is enabled, test by test.
-use Rattle.std.proofs.Common.{◌≡◌, ℕ, ◌<◌, true, false, List, length, Option, Some, None, is_none, refl, sym, subst, inl, inr, ap, ◌∙◌, not}
+use Rattle.std.proofs.Common.{◌≡◌, ℕ, ◌<◌, true, false, List, length, Option, Some, None, is_none, refl, sym, subst}
+use Rattle.std.proofs.Common.{inl, inr, ap, ◌∙◌, not}
 use Rattle.std.proofs.lemmas.Bool.{cases_Bool, and_parts, not-true, eqb-true, ltb-true, true≢false}
 use Rattle.brc_words.specs.declared.limits.TheConstants.{MOST_PLACES}
 use Rattle.brc_words.specs.declared.owner.Owner.TheVariants as owners
@@ -15,7 +16,9 @@ use Rattle.law_world.specs.declared.row.Stage.{Stage}
 use Rattle.law_world.specs.declared.row.Stage.TheVariants as stages
 use Rattle.law_world.specs.Lists.{place_at, bit_of}
 use Rattle.law_world.specs.Heap.{Heap, cell_at, row_at, popped_at, is_gathered}
-use Rattle.law_world.specs.Steps.{thread_may, stage_ok, lock_ok, hand_ok, own_ok_at, others_ok, target_ok, target_at, cell_ok, is_vacant, is_mine, is_at, is_nobody, untie_ok, untied_ok, edition_ok, is_shut_hand}
+use Rattle.law_world.specs.Steps.{thread_may, stage_ok, lock_ok, hand_ok, own_ok_at, others_ok, target_ok, target_at}
+use Rattle.law_world.specs.Steps.{cell_ok, is_vacant, is_mine, is_at, is_nobody, untie_ok, untied_ok, edition_ok}
+use Rattle.law_world.specs.Steps.{is_shut_hand}
 use Rattle.law_world.specs.Sound.{IsSound}
 use Rattle.law_world.proofs.Naming.{third, busy_hand, free_hand, thread_owner, active_stage, fourth}
 
@@ -82,20 +85,25 @@ pub record Mine (t : ℕ) (stage : Stage) (x : Cell) : Type 0 where
   pub active : stage ≡ stages.Active
 
 pub mine : (t : ℕ) (stage : Stage) (x : Cell) → is_mine t stage x ≡ true → Mine t stage x
-mine t stage x h = let parts = and_parts _ _ h in record { owner = thread_owner t _ parts.0; active = active_stage _ parts.1 }
+mine t stage x h = let parts = and_parts _ _ h in
+    record { owner = thread_owner t _ parts.0; active = active_stage _ parts.1 }
 
 -- a thread unties in place of another in the first edition alone
-shut_first : (e : Edition) (row : Row) (c d : ℕ) → row.hand ≡ hands.Busy phases.Shut d → edition_ok e row (Untie c) ≡ true → e ≡ editions.One
+shut_first : (e : Edition) (row : Row) (c d : ℕ) → row.hand ≡ hands.Busy phases.Shut d
+    → edition_ok e row (Untie c) ≡ true → e ≡ editions.One
 shut_first editions.One row c d busy ok = refl
-shut_first editions.Two row c d busy ok = absurd (true≢false (sym (and_parts _ _ ok).1 ∙ ap (λ hand. not (is_shut_hand hand)) busy))
+shut_first editions.Two row c d busy ok =
+    absurd (true≢false (sym (and_parts _ _ ok).1 ∙ ap (λ hand. not (is_shut_hand hand)) busy))
 
--- how a thread lets an object go: its own at count 0, one whose owner closed its merge queue to the thread, its own that
--- it hands over, or its own that it popped
+-- how a thread lets an object go: its own at count 0, one whose owner closed its merge queue to the thread, its own
+-- that it hands over, or its own that it popped
 pub data UntieWay (h : Heap) (t c : ℕ) : Type 0 where
   at_end : (row_at h t).hand ≡ hands.Busy phases.Over c → (cell_at h c).owner ≡ owners.Thread t → UntieWay h t c
-  shut_out : (row_at h t).hand ≡ hands.Busy phases.Shut c → is_nobody (cell_at h c).owner ≡ false → h.edition ≡ editions.One → UntieWay h t c
+  shut_out : (row_at h t).hand ≡ hands.Busy phases.Shut c → is_nobody (cell_at h c).owner ≡ false
+      → h.edition ≡ editions.One → UntieWay h t c
   handed_over : (row_at h t).hand ≡ hands.Busy phases.Offered c → (cell_at h c).owner ≡ owners.Thread t → UntieWay h t c
-  from_queue : (row_at h t).hand ≡ hands.Free → bit_of (popped_at h t) c ≡ 1 → (cell_at h c).owner ≡ owners.Thread t → UntieWay h t c
+  from_queue : (row_at h t).hand ≡ hands.Free → bit_of (popped_at h t) c ≡ 1 → (cell_at h c).owner ≡ owners.Thread t
+      → UntieWay h t c
 
 pub untie_way : (h : Heap) (t c : ℕ) → IsSound h → May h t (Untie c) → UntieWay h t c
 untie_way h t c sound may =
@@ -103,9 +111,12 @@ untie_way h t c sound may =
     elim (cases_Bool (is_at phases.Over c (row_at h t).hand)) [
       | inl over ↦ let busy = busy_hand phases.Over c _ over in at_end busy (sound.hands t c phases.Over busy).fits
       | inr apart ↦ elim (cases_Bool (is_at phases.Shut c (row_at h t).hand)) [
-        | inl shut ↦ let busy = busy_hand phases.Shut c _ shut in shut_out busy (not-true _ (subst (λ g. untied_ok t g (cell_at h c) ≡ true) busy at_cell.fits)) (shut_first h.edition (row_at h t) c c busy may.edition)
+        | inl shut ↦ let busy = busy_hand phases.Shut c _ shut in
+            shut_out busy (not-true _ (subst (λ g. untied_ok t g (cell_at h c) ≡ true) busy at_cell.fits))
+            (shut_first h.edition (row_at h t) c c busy may.edition)
         | inr off ↦ elim (cases_Bool (is_at phases.Offered c (row_at h t).hand)) [
-          | inl over ↦ let busy = busy_hand phases.Offered c _ over in handed_over busy (sound.hands t c phases.Offered busy).fits.owner
+          | inl over ↦ let busy = busy_hand phases.Offered c _ over in
+              handed_over busy (sound.hands t c phases.Offered busy).fits.owner
           | inr still ↦
               let free = free_hand _ (fourth _ _ _ _ apart off still may.hand) in
               from_queue free (eqb-true _ _ (subst (λ g. untie_ok g (popped_at h t) c ≡ true) free may.own))

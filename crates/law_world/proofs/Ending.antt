@@ -1,5 +1,6 @@
 -- The end of an object: its shared word is looked at, its block goes to the worklist, and is given back.
-use Rattle.std.proofs.Common.{◌≡◌, ◌≢◌, ℕ, ◌<◌, ◌≤◌, ◌==◌, ◌&&◌, Bool, true, false, if◌then◌else◌, pos, ◌+ℤ◌, ◌≤ℤ◌, List, [], ◌∷◌, length, set, Some, None, refl, sym, ◌∙◌, ap, subst, inl, inr, arith}
+use Rattle.std.proofs.Common.{◌≡◌, ◌≢◌, ℕ, ◌<◌, ◌≤◌, ◌==◌, ◌&&◌, Bool, true, false, if◌then◌else◌, pos, ◌+ℤ◌, ◌≤ℤ◌}
+use Rattle.std.proofs.Common.{List, [], ◌∷◌, length, set, Some, None, refl, sym, ◌∙◌, ap, subst, inl, inr, arith}
 use Rattle.std.proofs.lemmas.List.{get_or-set_same, get_or-set_other, length-set}
 use Rattle.std.proofs.lemmas.Bool.{cases_eq, cases_Bool, eq-eqb, ne_eqb, eqb-true, and_parts, true≢false}
 use Rattle.std.proofs.lemmas.Int.{ints}
@@ -13,11 +14,15 @@ use Rattle.law_world.specs.declared.row.Hand.TheVariants as hands
 use Rattle.law_world.specs.declared.row.Phase.TheVariants as phases
 use Rattle.law_world.specs.declared.row.Stage.TheVariants as stages
 use Rattle.law_world.specs.Lists.{one, is_marked}
-use Rattle.law_world.specs.Heap.{Heap, cell_at, entries_at, row_at, frame_at, popped_at, worklist_at, queue_at, is_gathered, words_for, no_row}
+use Rattle.law_world.specs.Heap.{Heap, cell_at, entries_at, row_at, frame_at, popped_at, worklist_at, queue_at}
+use Rattle.law_world.specs.Heap.{is_gathered, words_for, no_row}
 use Rattle.law_world.specs.Steps.{thread_may, is_shut, stepped, cell_after, row_after, is_untouched, is_queued}
 use Rattle.law_world.specs.Holding.{lives, carries, count_of_state}
-use Rattle.law_world.specs.Sound.{IsSound, ThreadFits, PhaseFits, HandFits, WorklistFits, counted_in, grips_of, grips_by_owner, grips, gripped, offering}
-use Rattle.law_world.proofs.Naming.{Unheld, Ungripped, unheld, sole_grip, grips_once, unnamed, no_mark, one-true, free_hand, busy_hand, live_counts, zero_count, default_state, sum_one, grips_of-le, offers_none, unoffered, gripped_unoffered, offers_free}
+use Rattle.law_world.specs.Sound.{IsSound, ThreadFits, PhaseFits, HandFits, WorklistFits, counted_in, grips_of}
+use Rattle.law_world.specs.Sound.{grips_by_owner, grips, gripped, offering}
+use Rattle.law_world.proofs.Naming.{Unheld, Ungripped, unheld, sole_grip, grips_once, unnamed, no_mark, one-true}
+use Rattle.law_world.proofs.Naming.{free_hand, busy_hand, live_counts, zero_count, default_state, sum_one, grips_of-le}
+use Rattle.law_world.proofs.Naming.{offers_none, unoffered, gripped_unoffered, offers_free}
 use Rattle.law_world.proofs.Birthing.{active_from, active_fits, no_lock, busy_else, busy_grips, one_and}
 use Rattle.law_world.proofs.Counting.{marked_unheld, total_unmerged}
 use Rattle.law_world.proofs.Asking.{May, OnCell, on_cell, may_parts}
@@ -46,8 +51,10 @@ zero_parts h t c sound ok =
     let said : HandFits h t phases.Zero c = sound.hands t c phases.Zero busy in
     let owner : (cell_at h c).owner ≡ owners.Thread t = said.fits in
     let grip : one (grips c (row_at h t).hand) ≡ 1 = ap (λ z. one (grips c z)) busy ∙ busy_grips phases.Zero c refl in
-    let all : 1 ≤ gripped h c = omega (arith, grip, sum_one (λ (row : Row). one (grips c row.hand)) h.rows t no_row refl) in
-    let gone : one ((cell_at h c).local == 0) ≡ grips_of (cell_at h c) = sym (ap (λ o. grips_by_owner o (cell_at h c).state (cell_at h c).local (cell_at h c).count) owner) in
+    let all : 1 ≤ gripped h c =
+    omega (arith, grip, sum_one (λ (row : Row). one (grips c row.hand)) h.rows t no_row refl) in
+    let gone : one ((cell_at h c).local == 0) ≡ grips_of (cell_at h c) =
+    sym (ap (λ o. grips_by_owner o (cell_at h c).state (cell_at h c).local (cell_at h c).count) owner) in
     record {
       may = may;
       inside = (on_cell h t (SeeZero c) c may.on_target).inside;
@@ -60,21 +67,35 @@ zero_parts h t c sound ok =
       mark = omega (arith, grips_once h c t sound said.mortal, grip);
       local = elim (cases_eq (cell_at h c).local 0) [
         | inl zero ↦ zero
-        | inr more ↦ absurd (omega (arith, all, gone, sound.gripped c said.mortal, ap one (ne_eqb (cell_at h c).local 0 more)))
+        | inr more ↦ absurd (omega (
+          arith,
+          all,
+          gone,
+          sound.gripped c said.mortal,
+          ap one (ne_eqb (cell_at h c).local 0 more),
+        ))
       ];
     }
 
 -- nothing was ever counted on the shared word: the block goes to the worklist
 taken_fits : (h : Heap) (t c : ℕ) → IsSound h → Zero h t c → is_untouched (cell_at h c) ≡ true
-    → Plain h t c (cell_at h c) (record (row_at h t) { hand = hands.Free }) (frame_at h t) (set (worklist_at h t) c true) h.entries
+    → Plain h t c (cell_at h c) (record (row_at h t) { hand = hands.Free }) (frame_at h t)
+    (set (worklist_at h t) c true) h.entries
 taken_fits h t c sound zero untouched =
     let parts = and_parts _ _ untouched in
     let count : (cell_at h c).count ≡ pos 0 = zero_count _ parts.0 in
     let state : (cell_at h c).state ≡ states.Default = default_state _ parts.1 in
-    let within : c < length (worklist_at h t) = omega (arith, sound.shaped.marks t zero.may.some_thread zero.may.inside, zero.inside) in
-    let marked : one (is_marked (set (worklist_at h t) c true) c) ≡ 1 = ap one (get_or-set_same (worklist_at h t) c true false within) in
-    let else_marked : (q : ℕ) → q ≢ c → is_marked (set (worklist_at h t) c true) q ≡ is_marked (worklist_at h t) q = λ q ne. get_or-set_other (worklist_at h t) c q true false ne in
-    let hand_else : (q : ℕ) → q ≢ c → one (grips q (row_at h t).hand) ≡ 0 = λ q ne. ap (λ z. one (grips q z)) zero.busy ∙ (busy_else phases.Zero c q ne).0 in
+    let within : c < length (worklist_at h t) = omega (
+      arith,
+      sound.shaped.marks t zero.may.some_thread zero.may.inside,
+      zero.inside,
+    ) in
+    let marked : one (is_marked (set (worklist_at h t) c true) c) ≡ 1 =
+    ap one (get_or-set_same (worklist_at h t) c true false within) in
+    let else_marked : (q : ℕ) → q ≢ c → is_marked (set (worklist_at h t) c true) q ≡ is_marked (worklist_at h t) q =
+    λ q ne. get_or-set_other (worklist_at h t) c q true false ne in
+    let hand_else : (q : ℕ) → q ≢ c → one (grips q (row_at h t).hand) ≡ 0 = λ q ne. ap (λ z. one (grips q z)) zero.busy
+    ∙ (busy_else phases.Zero c q ne).0 in
     let no_carry : (q : ℕ) → one (carries q (row_at h t).hand) ≡ 0 = λ q. ap (λ z. one (carries q z)) zero.busy in
     let sum : pos (cell_at h c).local +ℤ (cell_at h c).count ≡ pos 0 = omega (arith, ints, zero.local, count) in
     record {
@@ -94,7 +115,12 @@ taken_fits h t c sound zero untouched =
       gripped_here = λ _. omega (arith, zero.grip, zero.mark, marked);
       gripped_else = λ q _ ne. omega (arith, hand_else q ne, ap one (else_marked q ne));
       most_here = λ _. omega (arith, sound.most c zero.mortal, no_carry c);
-      least_here = λ _. omega (arith, sound.least c zero.mortal, no_carry c, offers_none phases.Zero c c _ refl zero.busy);
+      least_here = λ _. omega (
+        arith,
+        sound.least c zero.mortal,
+        no_carry c,
+        offers_none phases.Zero c c _ refl zero.busy,
+      );
       offers_else = λ q _ ne. sym (offers_none phases.Zero c q _ refl zero.busy);
       asks_else = λ q _ _. sym (no_carry q);
       hand = λ p d busy. let bad : hands.Free ≡ hands.Busy p d = busy in absurd (cc);
@@ -109,17 +135,20 @@ taken_fits h t c sound zero untouched =
       };
       works_own = λ q ne on. sym (else_marked q ne) ∙ on;
       works_else = λ s ne on. sound.worklists s c on;
-      own = active_fits _ _ (row_at h t) _ (frame_at h t) (frame_at h t) _ (worklist_at h t) _ _ _ zero.active zero.may.not_gathered refl
+      own = active_fits _ _ (row_at h t) _ (frame_at h t) (frame_at h t) _ (worklist_at h t) _ _ _ zero.active
+          zero.may.not_gathered refl
           (λ _ _. refl) (sound.threads t).births (sound.threads t).places;
       ledger = refl;
     }
 
 -- somebody has counted or asked: the thread goes on to merge
 over_fits : (h : Heap) (t c : ℕ) → IsSound h → Zero h t c
-    → Plain h t c (cell_at h c) (record (row_at h t) { hand = hands.Busy phases.Over c }) (frame_at h t) (worklist_at h t) h.entries
+    → Plain h t c (cell_at h c) (record (row_at h t) { hand = hands.Busy phases.Over c }) (frame_at h t)
+    (worklist_at h t) h.entries
 over_fits h t c sound zero =
     let here : one (c == c) ≡ 1 = ap one (eq-eqb c c refl) in
-    let hand_else : (q : ℕ) → q ≢ c → one (grips q (row_at h t).hand) ≡ 0 = λ q ne. ap (λ z. one (grips q z)) zero.busy ∙ (busy_else phases.Zero c q ne).0 in
+    let hand_else : (q : ℕ) → q ≢ c → one (grips q (row_at h t).hand) ≡ 0 = λ q ne. ap (λ z. one (grips q z)) zero.busy
+    ∙ (busy_else phases.Zero c q ne).0 in
     let no_carry : (q : ℕ) → one (carries q (row_at h t).hand) ≡ 0 = λ q. ap (λ z. one (carries q z)) zero.busy in
     record {
       thread = zero.may.some_thread;
@@ -138,24 +167,36 @@ over_fits h t c sound zero =
       gripped_here = λ _. omega (arith, zero.grip, here);
       gripped_else = λ q _ ne. omega (arith, hand_else q ne, (busy_else phases.Over c q ne).0);
       most_here = λ _. omega (arith, sound.most c zero.mortal, no_carry c);
-      least_here = λ _. omega (arith, sound.least c zero.mortal, no_carry c, offers_none phases.Zero c c _ refl zero.busy);
+      least_here = λ _. omega (
+        arith,
+        sound.least c zero.mortal,
+        no_carry c,
+        offers_none phases.Zero c c _ refl zero.busy,
+      );
       offers_else = λ q _ ne. sym (offers_none phases.Zero c q _ refl zero.busy);
       asks_else = λ q _ _. sym (no_carry q);
       hand = λ p d busy. let same : hands.Busy phases.Over c ≡ hands.Busy p d = busy in
-          let phase : p ≡ phases.Over = cc in
-          (cc, zero.mortal, subst (λ z. PhaseFits h.edition t (record (row_at h t) { hand = hands.Busy phases.Over c }) (popped_at h t) (cell_at h c) (row_at h (cell_at h c).bearer).stage c z) (sym phase) zero.owner);
+          let phase : p ≡ phases.Over = cc in (
+            cc,
+            zero.mortal,
+            subst (λ z. PhaseFits h.edition t (record (row_at h t) { hand = hands.Busy phases.Over c })
+                (popped_at h t) (cell_at h c) (row_at h (cell_at h c).bearer).stage c z) (sym phase) zero.owner,
+          );
       hands_else = λ s p ne busy. (sound.hands s c p busy).fits;
       cell = sound.cells c;
       fewer = λ q _. same_entries _;
       works_here = sound.worklists t c;
       works_own = λ q _ on. on;
       works_else = λ s ne on. sound.worklists s c on;
-      own = active_fits _ _ (row_at h t) _ (frame_at h t) (frame_at h t) _ (worklist_at h t) _ _ _ zero.active zero.may.not_gathered refl
-          (λ k e. let bad : None ≡ Some k = sym zero.unlocked ∙ e in absurd (cc)) (sound.threads t).births (sound.threads t).places;
+      own = active_fits _ _ (row_at h t) _ (frame_at h t) (frame_at h t) _ (worklist_at h t) _ _ _ zero.active
+          zero.may.not_gathered refl
+          (λ k e. let bad : None ≡ Some k = sym zero.unlocked ∙ e in absurd (cc)) (sound.threads t).births
+          (sound.threads t).places;
       ledger = refl;
     }
 
-pub see_sound : (h : Heap) (t c : ℕ) → IsSound h → thread_may h t (SeeZero c) ≡ true → IsSound (stepped h t (SeeZero c) c)
+pub see_sound : (h : Heap) (t c : ℕ) → IsSound h → thread_may h t (SeeZero c) ≡ true
+    → IsSound (stepped h t (SeeZero c) c)
 see_sound h t c sound ok =
     let zero : Zero h t c = zero_parts h t c sound ok in
     elim (cases_Bool (is_untouched (cell_at h c))) [
@@ -192,9 +233,16 @@ dead_count h t c sound on =
       | inl merged ↦ sym (ap (λ s. count_of_state s x.local x.count) merged) ∙ fits.total
       | inr owner ↦
           let unmerged = (sound.cells c fits.mortal).owned_unmerged t owner in
-          let sum : pos x.local +ℤ x.count ≡ pos 0 = sym (total_unmerged x.state x.local x.count unmerged) ∙ fits.total in
+          let sum : pos x.local +ℤ x.count ≡ pos 0 = sym (total_unmerged x.state x.local x.count unmerged)
+          ∙ fits.total in
           let gone : one (x.local == 0) ≡ grips_of x = sym (ap (λ o. grips_by_owner o x.state x.local x.count) owner) in
-          let all : 1 ≤ gripped h c = omega (arith, one-true _ on, sum_one (λ (marks : List Bool). one (is_marked marks c)) h.worklists t [] refl) in
+          let all : 1 ≤ gripped h c =
+          omega (
+            arith,
+            one-true _ on,
+            sum_one (λ (marks : List Bool). one (is_marked marks c)) h.worklists t
+                [] refl,
+          ) in
           let none : x.local ≡ 0 = elim (cases_eq x.local 0) [
             | inl zero ↦ zero
             | inr more ↦ absurd (omega (arith, all, gone, sound.gripped c fits.mortal, ap one (ne_eqb x.local 0 more)))
@@ -212,20 +260,41 @@ free_sound h t c sound ok =
     let hand : (row_at h t).hand ≡ hands.Free = free_hand _ may.hand in
     let none : Unheld h c = unheld h c (marked_unheld h t c sound on) in
     let others : (s : ℕ) → s ≢ t → Ungripped h c s = sole_grip h c t sound fits.mortal (omega (arith, one-true _ on)) in
-    let within : c < length (worklist_at h t) = omega (arith, sound.shaped.marks t may.some_thread may.inside, at_cell.inside) in
-    let off : is_marked (set (worklist_at h t) c false) c ≡ false = get_or-set_same (worklist_at h t) c false false within in
-    let else_marked : (q : ℕ) → q ≢ c → is_marked (set (worklist_at h t) c false) q ≡ is_marked (worklist_at h t) q = λ q ne. get_or-set_other (worklist_at h t) c q false false ne in
-    let fewer : (q : ℕ) → is_marked (worklist_at h t) q ≡ false → is_marked (set (worklist_at h t) c false) q ≡ false = λ q e.
-    elim (cases_eq q c) [ inl same ↦ ap (is_marked (set (worklist_at h t) c false)) same ∙ off | inr ne ↦ else_marked q ne ∙ e ] in
+    let within : c < length (worklist_at h t) = omega (
+      arith,
+      sound.shaped.marks t may.some_thread may.inside,
+      at_cell.inside,
+    ) in
+    let off : is_marked (set (worklist_at h t) c false) c ≡ false =
+    get_or-set_same (worklist_at h t) c false false within in
+    let else_marked : (q : ℕ) → q ≢ c → is_marked (set (worklist_at h t) c false) q ≡ is_marked (worklist_at h t) q =
+    λ q ne. get_or-set_other (worklist_at h t) c q false false ne in
+    let fewer : (q : ℕ) → is_marked (worklist_at h t) q ≡ false → is_marked (set (worklist_at h t) c false) q
+    ≡ false = λ q e.
+    elim (cases_eq q c) [
+      | inl same ↦ ap (is_marked (set (worklist_at h t) c false)) same ∙ off
+      | inr ne ↦ else_marked q ne ∙ e
+    ] in
     let old_grip : grips_of (cell_at h c) ≡ 1 =
-    omega (arith, sound.gripped c fits.mortal, one-true _ on, sum_one (λ (marks : List Bool). one (is_marked marks c)) h.worklists t [] refl, grips_of-le (cell_at h c).owner (cell_at h c).state (cell_at h c).local (cell_at h c).count) in
-    let some_grip : 1 ≤ gripped h c = omega (arith, one-true _ on, sum_one (λ (marks : List Bool). one (is_marked marks c)) h.worklists t [] refl) in
+    omega (
+      arith,
+      sound.gripped c fits.mortal,
+      one-true _ on,
+      sum_one (λ (marks : List Bool). one (is_marked marks c))
+          h.worklists t [] refl,
+      grips_of-le (cell_at h c).owner (cell_at h c).state (cell_at h c).local (cell_at h c).count,
+    ) in
+    let some_grip : 1 ≤ gripped h c =
+    omega (arith, one-true _ on, sum_one (λ (marks : List Bool). one (is_marked marks c)) h.worklists t [] refl) in
     let old_count : counted_in (cell_at h c) ≡ pos 0 = live_counts (cell_at h c) fits.lives ∙ fits.total in
     let empty : entries_at h c ≡ [] = no_entries (entries_at h c) parts.1 in
     let count : (cell_at h c).count ≡ pos 0 = dead_count h t c sound on in
     let asked : one (is_queued (cell_at h c).state && false) ≡ 0 = one_and (is_queued (cell_at h c).state) false refl in
-    let old : ThreadFits h.edition (words_for (length h.cells)) (row_at h t) (frame_at h t) (popped_at h t) (worklist_at h t) (queue_at h t) (is_gathered h t) = sound.threads t in
-    plain_sound h t c (cell_after t (Free c) c (cell_at h c)) (row_after (Free c) c (cell_at h c) (is_shut h c) (row_at h t)) (frame_at h t) (set (worklist_at h t) c false) h.entries sound (record {
+    let old : ThreadFits h.edition (words_for (length h.cells)) (row_at h t) (frame_at h t) (popped_at h t)
+    (worklist_at h t) (queue_at h t) (is_gathered h t) = sound.threads t in
+    plain_sound h t c (cell_after t (Free c) c (cell_at h c))
+    (row_after (Free c) c (cell_at h c) (is_shut h c) (row_at h t)) (frame_at h t) (set (worklist_at h t) c false)
+    h.entries sound (record {
       thread = may.some_thread;
       thread_inside = may.inside;
       cell_inside = at_cell.inside;
@@ -246,7 +315,8 @@ free_sound h t c sound ok =
       offers_else = λ q _ ne. refl;
       asks_else = λ q _ _. refl;
       hand = λ p d busy. let bad : hands.Free ≡ hands.Busy p d = sym hand ∙ busy in absurd (cc);
-      hands_else = λ s p ne busy. absurd (unnamed p c (row_at h s).hand (others s ne).hand (none.hands s) (unoffered h s c _ sound refl (gripped_unoffered h s c sound fits.mortal some_grip)) busy);
+      hands_else = λ s p ne busy. absurd (unnamed p c (row_at h s).hand (others s ne).hand (none.hands s)
+          (unoffered h s c _ sound refl (gripped_unoffered h s c sound fits.mortal some_grip)) busy);
       cell = λ _. record {
         default = λ _. subst (λ z. pos 0 ≤ℤ z) (sym count) (omega (arith, ints));
         owned_unmerged = λ s e. let bad : owners.Free ≡ owners.Thread s = e in absurd (cc);

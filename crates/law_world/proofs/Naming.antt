@@ -1,5 +1,7 @@
 -- Who names a cell: what the sums say of one place, one hand, one worklist.
-use Rattle.std.proofs.Common.{◌≡◌, ◌≢◌, ℕ, ◌+◌, ◌≤◌, ◌==◌, ◌%◌, ◌&&◌, ◌||◌, Bool, true, false, Option, Some, None, is_some, ℤ, pos, negsuc, List, [], length, get_or, set, sum_by, refl, sym, ◌∙◌, ap, inl, inr, arith, if◌then◌else◌, ◌⊎◌, subst, not}
+use Rattle.std.proofs.Common.{◌≡◌, ◌≢◌, ℕ, ◌+◌, ◌≤◌, ◌==◌, ◌%◌, ◌&&◌, ◌||◌, Bool, true, false, Option, Some, None}
+use Rattle.std.proofs.Common.{is_some, ℤ, pos, negsuc, List, [], length, get_or, set, sum_by, refl, sym, ◌∙◌, ap, inl}
+use Rattle.std.proofs.Common.{inr, arith, if◌then◌else◌, ◌⊎◌, subst, not}
 use Rattle.std.proofs.lemmas.List.{get_or-set_other, get_or_past}
 use Rattle.std.proofs.lemmas.List.Sums.{sum_by-set, get_or-le-sum_by}
 use Rattle.std.proofs.lemmas.Bool.{cases_lt, eq-eqb, eqb-true, and_parts, true≢false, cases_eq, ne_eqb}
@@ -25,9 +27,11 @@ use Rattle.law_world.specs.declared.row.Stage.{Stage}
 use Rattle.law_world.specs.declared.row.Stage.TheVariants as stages
 use Rattle.law_world.specs.Lists.{one, times, bit_of, is_marked, number_in}
 use Rattle.law_world.specs.Heap.{Heap, cell_at, row_at, frame_at, popped_at, worklist_at, queue_at, no_row}
-use Rattle.law_world.specs.Steps.{is_free_hand, is_at, phase_number, is_free, is_owned_by, is_nobody, is_active, is_zero, is_default, is_merged}
+use Rattle.law_world.specs.Steps.{is_free_hand, is_at, phase_number, is_free, is_owned_by, is_nobody, is_active}
+use Rattle.law_world.specs.Steps.{is_zero, is_default, is_merged}
 use Rattle.law_world.specs.Holding.{lives, total_of, carries}
-use Rattle.law_world.specs.Sound.{IsSound, counted_in, grips_by_owner, grips, gripped, held, asks, in_entries, PhaseFits, ShutFits, Offered, Yielding, offering, rests}
+use Rattle.law_world.specs.Sound.{IsSound, counted_in, grips_by_owner, grips, gripped, held, asks, in_entries}
+use Rattle.law_world.specs.Sound.{PhaseFits, ShutFits, Offered, Yielding, offering, rests}
 
 -- ---- sums
 
@@ -40,7 +44,8 @@ sum_one {A} f xs i d none =
     ]
 
 -- two terms are within the sum together
-pub sum_two : {A : Type 0} (f : A → ℕ) (xs : List A) (i j : ℕ) (d : A) → f d ≡ 0 → j ≢ i → f (get_or xs i d) + f (get_or xs j d) ≤ sum_by f xs
+pub sum_two : {A : Type 0} (f : A → ℕ) (xs : List A) (i j : ℕ) (d : A) → f d ≡ 0 → j ≢ i
+    → f (get_or xs i d) + f (get_or xs j d) ≤ sum_by f xs
 sum_two {A} f xs i j d none ne =
     elim (cases_lt i (length xs)) [
       | inl inside ↦
@@ -92,7 +97,18 @@ some_there (Some c) is = refl
 -- ---- phases and hands
 
 phase_of : ℕ → Phase
-phase_of n = if n == 0 then phases.Claimed else (if n == 1 then phases.Counted else (if n == 2 then phases.Ready else (if n == 3 then phases.Zero else (if n == 4 then phases.Over else (if n == 5 then phases.Untied else (if n == 6 then phases.Asked else (if n == 7 then phases.Shut else (if n == 8 then phases.Taking else (if n == 9 then phases.Held else (if n == 10 then phases.Popping else (if n == 11 then phases.Offered else phases.Yielding)))))))))))
+phase_of n = if n == 0 then phases.Claimed
+    else (if n == 1 then phases.Counted
+    else (if n == 2 then phases.Ready
+    else (if n == 3 then phases.Zero
+    else (if n == 4 then phases.Over
+    else (if n == 5 then phases.Untied
+    else (if n == 6 then phases.Asked
+    else (if n == 7 then phases.Shut
+    else (if n == 8 then phases.Taking
+    else (if n == 9 then phases.Held
+    else (if n == 10 then phases.Popping
+    else (if n == 11 then phases.Offered else phases.Yielding)))))))))))
 
 phase_of_number : (p : Phase) → phase_of (phase_number p) ≡ p
 unfolding phase_of
@@ -111,16 +127,21 @@ busy_hand p c (hands.Busy q d) h =
     ap (λ (x : Phase). hands.Busy x d) same ∙ ap (hands.Busy p) (eqb-true _ _ parts.1)
 
 -- what a hand that was shut out says hangs on the owner alone, or on the bearer's stage
-pub same_shut : (e : Edition) (x y : Cell) (g : Stage) (c : ℕ) → (x.owner ≡ owners.Nobody → y.owner ≡ owners.Nobody) → ShutFits e x g c → ShutFits e y g c
+pub same_shut : (e : Edition) (x y : Cell) (g : Stage) (c : ℕ) → (x.owner ≡ owners.Nobody → y.owner ≡ owners.Nobody)
+    → ShutFits e x g c → ShutFits e y g c
 same_shut editions.One x y g c nobody fits = fits
 same_shut editions.Two x y g c nobody fits = nobody fits
 
 -- a phase looks at the owner, the local count, the state and the bearer of its cell
-pub same_phase : (e : Edition) (s : ℕ) (row : Row) (popped : List ℕ) (x y : Cell) (g : Stage) (c : ℕ) (p : Phase) → x.owner ≡ y.owner → x.local ≡ y.local → x.state ≡ y.state → x.bearer ≡ y.bearer
+pub same_phase : (e : Edition) (s : ℕ) (row : Row) (popped : List ℕ) (x y : Cell) (g : Stage) (c : ℕ) (p : Phase)
+    → x.owner ≡ y.owner → x.local ≡ y.local → x.state ≡ y.state → x.bearer ≡ y.bearer
     → PhaseFits e s row popped x g c p → PhaseFits e s row popped y g c p
-same_phase e s row popped x y g c phases.Claimed owner local state bearer fits = record { claimed = sym owner ∙ fits.claimed; more = fits.more }
-same_phase e s row popped x y g c phases.Counted owner local state bearer fits = (record { claimed = sym owner ∙ fits.0.claimed; more = fits.0.more }, sym local ∙ fits.1)
-same_phase e s row popped x y g c phases.Ready owner local state bearer fits = (record { claimed = sym owner ∙ fits.0.claimed; more = fits.0.more }, sym local ∙ fits.1, sym state ∙ fits.2)
+same_phase e s row popped x y g c phases.Claimed owner local state bearer fits =
+    record { claimed = sym owner ∙ fits.claimed; more = fits.more }
+same_phase e s row popped x y g c phases.Counted owner local state bearer fits =
+    (record { claimed = sym owner ∙ fits.0.claimed; more = fits.0.more }, sym local ∙ fits.1)
+same_phase e s row popped x y g c phases.Ready owner local state bearer fits =
+    (record { claimed = sym owner ∙ fits.0.claimed; more = fits.0.more }, sym local ∙ fits.1, sym state ∙ fits.2)
 same_phase e s row popped x y g c phases.Zero owner local state bearer fits = sym owner ∙ fits
 same_phase e s row popped x y g c phases.Over owner local state bearer fits = sym owner ∙ fits
 same_phase e s row popped x y g c phases.Untied owner local state bearer fits = record {
@@ -129,7 +150,8 @@ same_phase e s row popped x y g c phases.Untied owner local state bearer fits = 
   not_merged = ap is_merged (sym state) ∙ fits.not_merged;
   bearer = sym bearer ∙ fits.bearer;
 }
-same_phase e s row popped x y g c phases.Shut owner local state bearer fits = same_shut e x y g c (λ is. sym owner ∙ is) fits
+same_phase e s row popped x y g c phases.Shut owner local state bearer fits = same_shut e x y g c (λ is. sym owner
+    ∙ is) fits
 same_phase e s row popped x y g c phases.Offered owner local state bearer fits = record {
   owner = sym owner ∙ fits.owner;
   local = subst (λ n. 1 ≤ n) local fits.local;
@@ -146,7 +168,8 @@ same_phase e s row popped x y g c phases.Popping owner local state bearer fits =
 same_phase e s row popped x y g c _ owner local state bearer fits = fits
 
 -- whoever grips a cell has claimed it, owns it, or has let it go
-pub gripping_owner : (e : Edition) (s : ℕ) (row : Row) (popped : List ℕ) (x : Cell) (g : Stage) (c : ℕ) (p : Phase) → PhaseFits e s row popped x g c p → is_gripping p ≡ true
+pub gripping_owner : (e : Edition) (s : ℕ) (row : Row) (popped : List ℕ) (x : Cell) (g : Stage) (c : ℕ) (p : Phase)
+    → PhaseFits e s row popped x g c p → is_gripping p ≡ true
     → (x.owner ≡ owners.Claimed s) ⊎ ((x.owner ≡ owners.Thread s) ⊎ (x.owner ≡ owners.Nobody))
 gripping_owner e s row popped x g c phases.Claimed fits grip = inl fits.claimed
 gripping_owner e s row popped x g c phases.Counted fits grip = inl fits.0.claimed
@@ -160,7 +183,8 @@ gripping_owner e s row popped x g c phases.Yielding fits grip = inr (inr fits.ow
 gripping_owner e s row popped x g c _ fits grip = absurd (true≢false (sym grip))
 
 -- a hand that names a cell grips it, has a reference to it, or is about to hand it over
-pub hand_names : (p : Phase) (c : ℕ) → 1 ≤ one (grips c (hands.Busy p c)) + one (carries c (hands.Busy p c)) + one (offering c (hands.Busy p c))
+pub hand_names : (p : Phase) (c : ℕ) → 1 ≤ one (grips c (hands.Busy p c)) + one (carries c (hands.Busy p c)) + one
+    (offering c (hands.Busy p c))
 hand_names p c = by_role (role_of p)
   where
     here : one (c == c) ≡ 1
@@ -171,8 +195,10 @@ hand_names p c = by_role (role_of p)
     by_role _ = omega (arith, here)
 
 -- a hand with a reference counts it
-pub busy_carrier : (p : Phase) (c : ℕ) (hand : Hand) → has_reference p ≡ true → hand ≡ hands.Busy p c → one (carries c hand) ≡ 1
-busy_carrier p c hand has e = ap (λ z. one (carries c z)) e ∙ ap (λ b. one (b && (c == c))) has ∙ ap one (eq-eqb c c refl)
+pub busy_carrier : (p : Phase) (c : ℕ) (hand : Hand) → has_reference p ≡ true → hand ≡ hands.Busy p c
+    → one (carries c hand) ≡ 1
+busy_carrier p c hand has e = ap (λ z. one (carries c z)) e ∙ ap (λ b. one (b && (c == c))) has
+    ∙ ap one (eq-eqb c c refl)
 
 pub grips_free : (c : ℕ) (hand : Hand) → hand ≡ hands.Free → one (grips c hand) ≡ 0
 grips_free c hand e = ap (λ x. one (grips c x)) e
@@ -184,11 +210,13 @@ pub offers_free : (c : ℕ) (hand : Hand) → hand ≡ hands.Free → one (offer
 offers_free c hand e = ap (λ x. one (offering c x)) e
 
 -- a hand in another phase hands nothing over
-pub offers_none : (p : Phase) (c q : ℕ) (hand : Hand) → is_offering p ≡ false → hand ≡ hands.Busy p c → one (offering q hand) ≡ 0
+pub offers_none : (p : Phase) (c q : ℕ) (hand : Hand) → is_offering p ≡ false → hand ≡ hands.Busy p c
+    → one (offering q hand) ≡ 0
 offers_none p c q hand off e = ap (λ x. one (offering q x)) e ∙ ap (λ b. one (b && (c == q))) off
 
 -- nor does a hand that has another cell
-pub offers_else : (c q : ℕ) (hand : Hand) → ((p : Phase) (d : ℕ) → hand ≡ hands.Busy p d → d ≡ c) → q ≢ c → one (offering q hand) ≡ 0
+pub offers_else : (c q : ℕ) (hand : Hand) → ((p : Phase) (d : ℕ) → hand ≡ hands.Busy p d → d ≡ c) → q ≢ c
+    → one (offering q hand) ≡ 0
 offers_else c q hands.Free at_c ne = refl
 offers_else c q (hands.Busy p d) at_c ne = other (is_offering p)
   where
@@ -197,12 +225,23 @@ offers_else c q (hands.Busy p d) at_c ne = other (is_offering p)
     other false = refl
 
 -- a hand that neither grips, nor has a reference, nor hands over doesn't name the cell
-pub unnamed : (p : Phase) (c : ℕ) (hand : Hand) → one (grips c hand) ≡ 0 → one (carries c hand) ≡ 0 → one (offering c hand) ≡ 0 → hand ≡ hands.Busy p c → ⊥
+pub unnamed : (p : Phase) (c : ℕ) (hand : Hand) → one (grips c hand) ≡ 0 → one (carries c hand) ≡ 0
+    → one (offering c hand) ≡ 0 → hand ≡ hands.Busy p c → ⊥
 unnamed p c hand no_grip no_reference no_offer e =
-    omega (arith, hand_names p c, ap (λ x. one (grips c x)) e, ap (λ x. one (carries c x)) e, ap (λ x. one (offering c x)) e, no_grip, no_reference, no_offer)
+    omega (
+      arith,
+      hand_names p c,
+      ap (λ x. one (grips c x)) e,
+      ap (λ x. one (carries c x)) e,
+      ap (λ x. one (offering c x)) e,
+      no_grip,
+      no_reference,
+      no_offer,
+    )
 
 -- a cell that isn't as an offered one must be is offered by no hand
-pub unoffered : (h : Heap) (s c : ℕ) (hand : Hand) → IsSound h → (row_at h s).hand ≡ hand → (Offered s (cell_at h c) → ⊥) → one (offering c hand) ≡ 0
+pub unoffered : (h : Heap) (s c : ℕ) (hand : Hand) → IsSound h → (row_at h s).hand ≡ hand
+    → (Offered s (cell_at h c) → ⊥) → one (offering c hand) ≡ 0
 unoffered h s c hands.Free sound e isnt = refl
 unoffered h s c (hands.Busy p d) sound e isnt =
     elim (cases_eq d c) [
@@ -214,15 +253,23 @@ unoffered h s c (hands.Busy p d) sound e isnt =
     apart true off = ap one off
     apart false off = refl
 
-    by_phase : (p : Phase) → PhaseFits h.edition s (row_at h s) (popped_at h s) (cell_at h c) (row_at h (cell_at h c).bearer).stage c p → is_offering p ≡ false
+    by_phase : (p : Phase) → PhaseFits h.edition s (row_at h s) (popped_at h s) (cell_at h c)
+        (row_at h (cell_at h c).bearer).stage c p → is_offering p ≡ false
     by_phase phases.Offered fits = absurd (isnt fits)
     by_phase _ fits = refl
 
 -- what somebody grips is offered by nobody
-pub gripped_unoffered : (h : Heap) (s c : ℕ) → IsSound h → FIRST_MORTAL ≤ c → 1 ≤ gripped h c → Offered s (cell_at h c) → ⊥
+pub gripped_unoffered : (h : Heap) (s c : ℕ) → IsSound h → FIRST_MORTAL ≤ c → 1 ≤ gripped h c
+    → Offered s (cell_at h c) → ⊥
 gripped_unoffered h s c sound mortal some offer =
     let x : Cell = cell_at h c in
-    omega (arith, some, sound.gripped c mortal, ap (λ o. grips_by_owner o x.state x.local x.count) offer.owner, ap one (ne_eqb x.local 0 (λ e. omega (arith, e, offer.local))))
+    omega (
+      arith,
+      some,
+      sound.gripped c mortal,
+      ap (λ o. grips_by_owner o x.state x.local x.count) offer.owner,
+      ap one (ne_eqb x.local 0 (λ e. omega (arith, e, offer.local))),
+    )
 
 -- ---- cells
 
@@ -303,7 +350,12 @@ unheld h c none = record {
   sum = none;
   frames = λ s. omega (arith, none, sum_one (times c) h.frames s [] refl);
   hands = λ s. omega (arith, none, sum_one (λ (row : Row). one (carries c row.hand)) h.rows s no_row refl);
-  bits = λ s. omega (arith, none, sum_one (λ (words : List ℕ). bit_of words c) h.queues s [] (no_bit c), sum_one (λ (words : List ℕ). bit_of words c) h.popped s [] (no_bit c));
+  bits = λ s. omega (
+    arith,
+    none,
+    sum_one (λ (words : List ℕ). bit_of words c) h.queues s [] (no_bit c),
+    sum_one (λ (words : List ℕ). bit_of words c) h.popped s [] (no_bit c),
+  );
   entries = omega (arith, none);
   asks = omega (arith, none);
 }
@@ -325,7 +377,8 @@ ungripped h c none s = record {
 }
 
 -- a thread that grips the cell is the only one, and does so once
-pub sole_grip : (h : Heap) (c t : ℕ) → IsSound h → FIRST_MORTAL ≤ c → 1 ≤ one (is_marked (worklist_at h t) c) + one (grips c (row_at h t).hand)
+pub sole_grip : (h : Heap) (c t : ℕ) → IsSound h → FIRST_MORTAL ≤ c → 1 ≤ one (is_marked (worklist_at h t) c) + one
+    (grips c (row_at h t).hand)
     → (s : ℕ) → s ≢ t → Ungripped h c s
 sole_grip h c t sound mortal some s ne =
     let marks = sum_two (λ (marks : List Bool). one (is_marked marks c)) h.worklists t s [] refl ne in
@@ -337,7 +390,8 @@ sole_grip h c t sound mortal some s ne =
       hand = omega (arith, marks, rows, most, total, some);
     }
 
-pub grips_once : (h : Heap) (c t : ℕ) → IsSound h → FIRST_MORTAL ≤ c → one (is_marked (worklist_at h t) c) + one (grips c (row_at h t).hand) ≤ 1
+pub grips_once : (h : Heap) (c t : ℕ) → IsSound h → FIRST_MORTAL ≤ c
+    → one (is_marked (worklist_at h t) c) + one (grips c (row_at h t).hand) ≤ 1
 grips_once h c t sound mortal =
     omega (
       arith,

@@ -1,9 +1,13 @@
 -- Each thread's step that is enabled keeps all that reached worlds keep.
-use Rattle.std.proofs.Common.{◌≡◌, ℕ, ◌+◌, ◌-◌, ◌≤◌, ◌==◌, ◌&&◌, ◌||◌, not, Bool, true, if◌then◌else◌, List, set, Option, Some, None, refl, sym, subst, inl, inr}
+use Rattle.std.proofs.Common.{◌≡◌, ℕ, ◌+◌, ◌-◌, ◌≤◌, ◌==◌, ◌&&◌, ◌||◌, not, Bool, true, if◌then◌else◌, List, set}
+use Rattle.std.proofs.Common.{Option, Some, None, refl, sym, subst, inl, inr}
 use Rattle.std.proofs.lemmas.Bool.{cases_Bool, and_parts, ltb-true, ltb-false, true≢false}
 use Rattle.brc_words.specs.declared.limits.TheConstants.{FIRST_MORTAL}
 use Rattle.law_world.specs.declared.event.Step.{Step}
-use Rattle.law_world.specs.declared.event.Step.TheVariants.{Claim, InitLocal, InitShared, Birth, LocalUp, LocalDown, SeeZero, Free, Untie, MergeZero, SharedUp, SharedDown, Ask, LastDown, Enqueue, Drain, MergeAdd, Close, Nudge, Wake, Lock, Unlock, Register, Gather, Offer, Reopen}
+use Rattle.law_world.specs.declared.event.Step.TheVariants.{Claim, InitLocal, InitShared, Birth, LocalUp, LocalDown}
+use Rattle.law_world.specs.declared.event.Step.TheVariants.{SeeZero, Free, Untie, MergeZero, SharedUp, SharedDown, Ask}
+use Rattle.law_world.specs.declared.event.Step.TheVariants.{LastDown, Enqueue, Drain, MergeAdd, Close, Nudge, Wake}
+use Rattle.law_world.specs.declared.event.Step.TheVariants.{Lock, Unlock, Register, Gather, Offer, Reopen}
 use Rattle.law_world.specs.declared.event.Source.{Source}
 use Rattle.law_world.specs.declared.event.Dropped.{Dropped}
 use Rattle.law_world.specs.declared.event.LastDropped.TheVariants as lasts
@@ -11,12 +15,14 @@ use Rattle.law_world.specs.declared.row.Hand.TheVariants as hands
 use Rattle.law_world.specs.declared.row.Phase.TheVariants as phases
 use Rattle.law_world.specs.Lists.{filled}
 use Rattle.law_world.specs.Heap.{Heap, cell_at, entries_at, row_at, frame_at, popped_at, worklist_at, is_immortal}
-use Rattle.law_world.specs.Steps.{thread_may, after_target, target_at, target_ok, source_cell, dropped_cell, frame_without, entries_without, is_mine, counts_up_locally}
+use Rattle.law_world.specs.Steps.{thread_may, after_target, target_at, target_ok, source_cell, dropped_cell}
+use Rattle.law_world.specs.Steps.{frame_without, entries_without, is_mine, counts_up_locally}
 use Rattle.law_world.specs.Sound.{IsSound}
 use Rattle.law_world.proofs.Naming.{free_hand}
 use Rattle.law_world.proofs.Asking.{May, may_parts, OnCell, on_cell, vacant, Mine, mine}
 use Rattle.law_world.proofs.Birthing.{active_from, claim_sound, local_sound, shared_sound, birth_sound}
-use Rattle.law_world.proofs.Counting.{Ups, Downs, up_fits, raises_immortal, raises_local, down_fits, lowers_immortal, lowers_local}
+use Rattle.law_world.proofs.Counting.{Ups, Downs, up_fits, raises_immortal, raises_local, down_fits, lowers_immortal}
+use Rattle.law_world.proofs.Counting.{lowers_local}
 use Rattle.law_world.proofs.Plainly.{plain_sound}
 use Rattle.law_world.proofs.Turning.{acts}
 use Rattle.law_world.proofs.Dropping.{source_held, drop_downs}
@@ -30,7 +36,8 @@ use Rattle.law_world.proofs.Resting.{nudge_sound, wake_sound}
 -- ---- the owner counts up
 
 up_target : (h : Heap) (t k : ℕ) (source : Source) (o : Option ℕ) → IsSound h → May h t (LocalUp source k)
-    → source_cell (row_at h t) (frame_at h t) (entries_at h) source ≡ o → target_ok h t (row_at h t) (LocalUp source k) o ≡ true
+    → source_cell (row_at h t) (frame_at h t) (entries_at h) source ≡ o
+    → target_ok h t (row_at h t) (LocalUp source k) o ≡ true
     → IsSound (after_target h t (LocalUp source k) o)
 up_target h t k source None sound may named ok = absurd (true≢false (sym ok))
 up_target h t k source (Some c) sound may named ok =
@@ -52,7 +59,9 @@ up_target h t k source (Some c) sound may named ok =
       worklists = set h.worklists t (worklist_at h t);
     }) in
     elim (cases_Bool (is_immortal c)) [
-      | inl immortal ↦ subst P (sym immortal) (plain_sound h t c _ _ _ _ _ sound (up_fits h t c k _ sound ups (raises_immortal h t c sound (ltb-true c FIRST_MORTAL immortal))))
+      | inl immortal ↦ subst P (sym immortal)
+          (plain_sound h t c _ _ _ _ _ sound
+          (up_fits h t c k _ sound ups (raises_immortal h t c sound (ltb-true c FIRST_MORTAL immortal))))
       | inr mortal ↦
           let high : FIRST_MORTAL ≤ c = ltb-false c FIRST_MORTAL mortal in
           let rest : counts_up_locally h.limit t (row_at h t).stage (cell_at h c) ≡ true =
@@ -60,56 +69,75 @@ up_target h t k source (Some c) sound may named ok =
           let parts = and_parts _ _ rest in
           let own : Mine t (row_at h t).stage (cell_at h c) = mine t _ _ parts.0 in
           subst P (sym mortal) (plain_sound h t c _ _ _ _ _ sound
-          (up_fits h t c k _ sound ups (raises_local h t c sound ups.hand high own.owner own.active (ltb-true _ _ parts.1) (source_held h t c source named high))))
+          (up_fits h t c k _ sound ups (raises_local h t c sound ups.hand high own.owner own.active
+          (ltb-true _ _ parts.1) (source_held h t c source named high))))
     ]
 
 -- ---- the owner counts down
 
 down_target : (h : Heap) (t : ℕ) (drop : Dropped) (o : Option ℕ) → IsSound h → May h t (LocalDown drop)
-    → dropped_cell (frame_at h t) (worklist_at h t) (entries_at h) drop ≡ o → target_ok h t (row_at h t) (LocalDown drop) o ≡ true
+    → dropped_cell (frame_at h t) (worklist_at h t) (entries_at h) drop ≡ o
+    → target_ok h t (row_at h t) (LocalDown drop) o ≡ true
     → IsSound (after_target h t (LocalDown drop) o)
 down_target h t drop None sound may named ok = absurd (true≢false (sym ok))
 down_target h t drop (Some c) sound may named ok =
     let at_cell : OnCell h t (LocalDown drop) c = on_cell h t (LocalDown drop) c ok in
     let f : List (Option ℕ) = frame_without (Some drop) (frame_at h t) in
     let es : List (List ℕ) = entries_without (Some drop) h.entries in
-    let downs : Downs h t c f es = drop_downs h t c drop sound (acts h t (LocalDown drop) may refl refl refl) at_cell.inside (free_hand _ may.hand) named in
+    let downs : Downs h t c f es = drop_downs h t c drop sound (acts h t (LocalDown drop) may refl refl refl)
+    at_cell.inside (free_hand _ may.hand) named in
     let P : Bool → Type 0 = λ b. IsSound (record h {
       cells = set h.cells c (if b then cell_at h c else record (cell_at h c) { local = (cell_at h c).local - 1 });
       entries = es;
-      rows = set h.rows t (record (row_at h t) { hand = if not b && ((cell_at h c).local == 1) then hands.Busy phases.Zero c else (row_at h t).hand });
+      rows = set h.rows t (record (row_at h t) {
+        hand = if not b && ((cell_at h c).local == 1) then hands.Busy
+            phases.Zero c else (row_at h t).hand;
+      });
       frames = set h.frames t f;
       popped = set h.popped t (popped_at h t);
       worklists = set h.worklists t (worklist_at h t);
     }) in
     elim (cases_Bool (is_immortal c)) [
-      | inl immortal ↦ subst P (sym immortal) (plain_sound h t c _ _ _ _ _ sound (down_fits h t c _ _ f es sound downs (lowers_immortal h t c f es sound downs (ltb-true c FIRST_MORTAL immortal))))
+      | inl immortal ↦ subst P (sym immortal)
+          (plain_sound h t c _ _ _ _ _ sound
+          (down_fits h t c _ _ f es sound downs
+          (lowers_immortal h t c f es sound downs (ltb-true c FIRST_MORTAL immortal))))
       | inr mortal ↦
           let high : FIRST_MORTAL ≤ c = ltb-false c FIRST_MORTAL mortal in
-          let own : Mine t (row_at h t).stage (cell_at h c) = mine t _ _ (subst (λ b. (b || is_mine t (row_at h t).stage (cell_at h c)) ≡ true) mortal at_cell.fits) in
-          subst P (sym mortal) (plain_sound h t c _ _ _ _ _ sound (down_fits h t c _ _ f es sound downs (lowers_local h t c f es sound downs high own.owner own.active)))
+          let own : Mine t (row_at h t).stage (cell_at h c) =
+          mine t _ _ (subst (λ b. (b || is_mine t (row_at h t).stage (cell_at h c)) ≡ true) mortal at_cell.fits) in
+          subst P (sym mortal) (plain_sound h t c _ _ _ _ _ sound
+          (down_fits h t c _ _ f es sound downs (lowers_local h t c f es sound downs high own.owner own.active)))
     ]
 
 -- ---- all steps of threads
 
-pub step_sound : (h : Heap) (t : ℕ) (s : Step) → IsSound h → thread_may h t s ≡ true → IsSound (after_target h t s (target_at h t s))
+pub step_sound : (h : Heap) (t : ℕ) (s : Step) → IsSound h → thread_may h t s ≡ true
+    → IsSound (after_target h t s (target_at h t s))
 step_sound h t (Claim c) sound ok = claim_sound h t c sound ok
 step_sound h t (InitLocal c) sound ok = local_sound h t c sound ok
 step_sound h t (InitShared c) sound ok = shared_sound h t c sound ok
 step_sound h t (Birth c kind k) sound ok = birth_sound h t c kind k sound ok
-step_sound h t (LocalUp source k) sound ok = let may : May h t (LocalUp source k) = may_parts h t (LocalUp source k) ok in up_target h t k source _ sound may refl may.on_target
-step_sound h t (LocalDown drop) sound ok = let may : May h t (LocalDown drop) = may_parts h t (LocalDown drop) ok in down_target h t drop _ sound may refl may.on_target
+step_sound h t (LocalUp source k) sound ok = let may : May h t (LocalUp source k) =
+    may_parts h t (LocalUp source k) ok in up_target h t k source _ sound may refl may.on_target
+step_sound h t (LocalDown drop) sound ok = let may : May h t (LocalDown drop) = may_parts h t (LocalDown drop) ok in
+    down_target h t drop _ sound may refl may.on_target
 step_sound h t (SeeZero c) sound ok = see_sound h t c sound ok
 step_sound h t (Free c) sound ok = free_sound h t c sound ok
 step_sound h t (Untie c) sound ok = untie_sound h t c sound ok
 step_sound h t (MergeZero c) sound ok = merge_zero_sound h t c sound ok
-step_sound h t (SharedUp source k) sound ok = let may : May h t (SharedUp source k) = may_parts h t (SharedUp source k) ok in shared_up_sound h t k source _ sound may refl may.on_target
-step_sound h t (SharedDown drop) sound ok = let may : May h t (SharedDown drop) = may_parts h t (SharedDown drop) ok in shared_down_sound h t drop _ sound may refl may.on_target
-step_sound h t (Ask drop) sound ok = let may : May h t (Ask drop) = may_parts h t (Ask drop) ok in ask_sound h t drop _ sound may refl may.on_target
+step_sound h t (SharedUp source k) sound ok = let may : May h t (SharedUp source k) =
+    may_parts h t (SharedUp source k) ok in shared_up_sound h t k source _ sound may refl may.on_target
+step_sound h t (SharedDown drop) sound ok = let may : May h t (SharedDown drop) = may_parts h t (SharedDown drop) ok in
+    shared_down_sound h t drop _ sound may refl may.on_target
+step_sound h t (Ask drop) sound ok = let may : May h t (Ask drop) = may_parts h t (Ask drop) ok in
+    ask_sound h t drop _ sound may refl may.on_target
 step_sound h t (LastDown (lasts.Dropped drop)) sound ok =
-    let may : May h t (LastDown (lasts.Dropped drop)) = may_parts h t (LastDown (lasts.Dropped drop)) ok in last_dropped_sound h t drop _ sound may refl may.on_target
+    let may : May h t (LastDown (lasts.Dropped drop)) = may_parts h t (LastDown (lasts.Dropped drop)) ok in
+    last_dropped_sound h t drop _ sound may refl may.on_target
 step_sound h t (LastDown (lasts.Popped c)) sound ok = last_popped_sound h t c sound ok
-step_sound h t (LastDown lasts.Hand) sound ok = let may : May h t (LastDown lasts.Hand) = may_parts h t (LastDown lasts.Hand) ok in last_hand_sound h t _ sound may refl may.on_target
+step_sound h t (LastDown lasts.Hand) sound ok = let may : May h t (LastDown lasts.Hand) =
+    may_parts h t (LastDown lasts.Hand) ok in last_hand_sound h t _ sound may refl may.on_target
 step_sound h t (Enqueue c) sound ok = enqueue_sound h t c sound ok
 step_sound h t (Drain k) sound ok = drain_sound h t k sound ok
 step_sound h t (MergeAdd c) sound ok = merge_add_sound h t c sound ok
@@ -118,7 +146,9 @@ step_sound h t (Offer c) sound ok = offer_sound h t c sound ok
 step_sound h t (Reopen k) sound ok = reopen_sound h t k sound ok
 step_sound h t (Nudge u k) sound ok = nudge_sound h t u k sound
 step_sound h t Wake sound ok = wake_sound h t sound
-step_sound h t (Lock k) sound ok = let may : May h t (Lock k) = may_parts h t (Lock k) ok in lock_sound h t k _ sound may refl may.on_target
-step_sound h t (Unlock change) sound ok = let may : May h t (Unlock change) = may_parts h t (Unlock change) ok in unlock_sound h t change _ sound may refl may.on_target
+step_sound h t (Lock k) sound ok = let may : May h t (Lock k) = may_parts h t (Lock k) ok in
+    lock_sound h t k _ sound may refl may.on_target
+step_sound h t (Unlock change) sound ok = let may : May h t (Unlock change) = may_parts h t (Unlock change) ok in
+    unlock_sound h t change _ sound may refl may.on_target
 step_sound h t (Register u) sound ok = absurd (true≢false (sym (may_parts h t (Register u) ok).hand))
 step_sound h t (Gather u) sound ok = absurd (true≢false (sym (may_parts h t (Gather u) ok).hand))

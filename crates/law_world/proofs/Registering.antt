@@ -1,5 +1,7 @@
 -- One more thread: empty lists are appended, and nothing else changes.
-use Rattle.std.proofs.Common.{◌≡◌, ◌≢◌, ℕ, ◌+◌, ◌/◌, ◌%◌, ◌<◌, ◌≤◌, Bool, true, false, pos, List, [], ◌∷◌, ◌++◌, length, get_or, replicate, Some, None, refl, sym, ◌∙◌, ap, subst, inl, inr, arith, length-append, ◌*◌, sum_by}
+use Rattle.std.proofs.Common.{◌≡◌, ◌≢◌, ℕ, ◌+◌, ◌/◌, ◌%◌, ◌<◌, ◌≤◌, Bool, true, false, pos, List, [], ◌∷◌, ◌++◌, length}
+use Rattle.std.proofs.Common.{get_or, replicate, Some, None, refl, sym, ◌∙◌, ap, subst, inl, inr, arith, length-append}
+use Rattle.std.proofs.Common.{◌*◌, sum_by}
 use Rattle.std.proofs.lemmas.List.{get_or_append_left, get_or_past, get_or_push, get_or-replicate, length-replicate}
 use Rattle.std.proofs.lemmas.List.Sums.{sum_by_push}
 use Rattle.std.proofs.lemmas.Bool.{cases_eq, cases_lt, cases_Bool, true≢false}
@@ -15,10 +17,12 @@ use Rattle.law_world.specs.declared.row.Hand.TheVariants as hands
 use Rattle.law_world.specs.declared.row.Phase.{Phase}
 use Rattle.law_world.specs.declared.row.Phase.TheVariants as phases
 use Rattle.law_world.specs.Lists.{one, times, bit_of, is_marked, place_at}
-use Rattle.law_world.specs.Heap.{Heap, cell_at, entries_at, row_at, frame_at, popped_at, worklist_at, queue_at, is_gathered, no_row, new_row, words_for, no_cell}
+use Rattle.law_world.specs.Heap.{Heap, cell_at, entries_at, row_at, frame_at, popped_at, worklist_at, queue_at}
+use Rattle.law_world.specs.Heap.{is_gathered, no_row, new_row, words_for, no_cell}
 use Rattle.law_world.specs.Steps.{registered, is_closed}
 use Rattle.law_world.specs.Holding.{lives, carries}
-use Rattle.law_world.specs.Sound.{IsSound, IsShaped, CellFits, ThreadFits, PhaseFits, HandFits, WorklistFits, Locks, grips, gripped, held, asks, rests, rests_at, offered, offering}
+use Rattle.law_world.specs.Sound.{IsSound, IsShaped, CellFits, ThreadFits, PhaseFits, HandFits, WorklistFits, Locks}
+use Rattle.law_world.specs.Sound.{grips, gripped, held, asks, rests, rests_at, offered, offering}
 use Rattle.law_world.proofs.Naming.{dead_unheld, Unheld, busy_carrier}
 use Rattle.law_world.proofs.Changes.{other_bearer}
 use Rattle.law_world.proofs.Birthing.{active_fits}
@@ -33,10 +37,12 @@ push_else {A} xs v d j other =
     ]
 
 -- what holds of the new value at the end and of all that was read before holds everywhere
-pub read_push : {A : Type 0} (P : ℕ → A → Type 0) (xs : List A) (v d : A) → P (length xs) v → ((j : ℕ) → j ≢ length xs → P j (get_or xs j d)) → (j : ℕ) → P j (get_or (xs ++ v ∷ []) j d)
+pub read_push : {A : Type 0} (P : ℕ → A → Type 0) (xs : List A) (v d : A) → P (length xs) v
+    → ((j : ℕ) → j ≢ length xs → P j (get_or xs j d)) → (j : ℕ) → P j (get_or (xs ++ v ∷ []) j d)
 read_push {A} P xs v d here there j =
     elim (cases_eq j (length xs)) [
-      | inl same ↦ subst (λ k. P k (get_or (xs ++ v ∷ []) k d)) (sym same) (subst (P (length xs)) (sym (get_or_push xs v d (length xs) refl)) here)
+      | inl same ↦ subst (λ k. P k (get_or (xs ++ v ∷ []) k d)) (sym same)
+          (subst (P (length xs)) (sym (get_or_push xs v d (length xs) refl)) here)
       | inr other ↦ subst (P j) (sym (push_else xs v d j other)) (there j other)
     ]
 
@@ -82,12 +88,21 @@ module _ (h : Heap) (sound : IsSound h) where
         queues = length-push h.queues _ ∙ ap (λ m. m + 1) sound.shaped.queues ∙ sym (one_more);
         notify_words = length-push h.notify_words 0 ∙ ap (λ m. m + 1) sound.shaped.notify_words ∙ sym (one_more);
         gathered = length-push h.gathered false ∙ ap (λ m. m + 1) sound.shaped.gathered ∙ sym (one_more);
-        marks = λ s low high. read_push (λ j (marks : List Bool). 0 < j → j < length h.rows + 1 → length marks ≡ n) h.worklists (replicate n false) []
-            (λ _ _. length-replicate n false) (λ j other a b. sound.shaped.marks j a (omega (arith, sound.shaped.worklists, other, b))) s low (subst (λ m. s < m) (one_more) high);
-        popped_words = λ s low high. read_push (λ j (words : List ℕ). 0 < j → j < length h.rows + 1 → length words ≡ words_for n) h.popped (replicate (words_for n) 0) []
-            (λ _ _. length-replicate (words_for n) 0) (λ j other a b. sound.shaped.popped_words j a (omega (arith, sound.shaped.popped, other, b))) s low (subst (λ m. s < m) (one_more) high);
-        queue_words = λ s low high. read_push (λ j (words : List ℕ). 0 < j → j < length h.rows + 1 → length words ≡ words_for n) h.queues (replicate (words_for n) 0) []
-            (λ _ _. length-replicate (words_for n) 0) (λ j other a b. sound.shaped.queue_words j a (omega (arith, sound.shaped.queues, other, b))) s low (subst (λ m. s < m) (one_more) high);
+        marks = λ s low high. read_push (λ j (marks : List Bool). 0 < j → j < length h.rows + 1 → length marks ≡ n)
+            h.worklists (replicate n false) []
+            (λ _ _. length-replicate n false)
+            (λ j other a b. sound.shaped.marks j a (omega (arith, sound.shaped.worklists, other, b))) s low
+            (subst (λ m. s < m) (one_more) high);
+        popped_words = λ s low high. read_push (λ j (words : List ℕ). 0 < j → j < length h.rows + 1
+            → length words ≡ words_for n) h.popped (replicate (words_for n) 0) []
+            (λ _ _. length-replicate (words_for n) 0)
+            (λ j other a b. sound.shaped.popped_words j a (omega (arith, sound.shaped.popped, other, b))) s low
+            (subst (λ m. s < m) (one_more) high);
+        queue_words = λ s low high. read_push (λ j (words : List ℕ). 0 < j → j < length h.rows + 1
+            → length words ≡ words_for n) h.queues (replicate (words_for n) 0) []
+            (λ _ _. length-replicate (words_for n) 0)
+            (λ j other a b. sound.shaped.queue_words j a (omega (arith, sound.shaped.queues, other, b))) s low
+            (subst (λ m. s < m) (one_more) high);
       }
 
   -- the new thread adds nothing to any sum
@@ -127,7 +142,8 @@ module _ (h : Heap) (sound : IsSound h) where
   same_offered : (q : ℕ) → offered h' q ≡ offered h q
   same_offered q = omega (arith, sum_by_push (λ (row : Row). one (offering q row.hand)) h.rows new_row)
 
-  shut_bearer : (s d : ℕ) → (row_at h s).hand ≡ hands.Busy phases.Shut d → FIRST_MORTAL ≤ d → (cell_at h d).bearer ≢ length h.rows
+  shut_bearer : (s d : ℕ) → (row_at h s).hand ≡ hands.Busy phases.Shut d → FIRST_MORTAL ≤ d
+      → (cell_at h d).bearer ≢ length h.rows
   shut_bearer s d busy mortal e =
       elim (cases_Bool (lives (cell_at h d).owner)) [
         | inl live ↦ omega (arith, ((sound.cells d mortal).born live).1, e)
@@ -138,20 +154,27 @@ module _ (h : Heap) (sound : IsSound h) where
 
   hands_fit : (s d : ℕ) (p : Phase) → (row_at h' s).hand ≡ hands.Busy p d → HandFits h' s p d
   hands_fit s d p busy =
-      let bearer : (j : ℕ) → (row_at h j).hand ≡ hands.Busy p d → p ≡ phases.Shut → (row_at h (cell_at h d).bearer).stage ≡ (row_at h' (cell_at h d).bearer).stage =
+      let bearer : (j : ℕ) → (row_at h j).hand ≡ hands.Busy p d → p ≡ phases.Shut
+      → (row_at h (cell_at h d).bearer).stage ≡ (row_at h' (cell_at h d).bearer).stage =
       λ j at_d shut. ap (λ (row : Row). row.stage) (sym (push_else h.rows new_row no_row (cell_at h d).bearer
       (shut_bearer j d (at_d ∙ ap (λ z. hands.Busy z d) shut) (sound.hands j d p at_d).mortal))) in
       let old : (j : ℕ) → j ≢ length h.rows → (row_at h j).hand ≡ hands.Busy p d
-      → (FIRST_MORTAL ≤ d) × PhaseFits h.edition j (row_at h j) (popped_at h' j) (cell_at h d) (row_at h' (cell_at h d).bearer).stage d p =
+      → (FIRST_MORTAL ≤ d) × PhaseFits h.edition j (row_at h j) (popped_at h' j) (cell_at h d)
+      (row_at h' (cell_at h d).bearer).stage d p =
       λ j other at_d.
       let fits : HandFits h j p d = sound.hands j d p at_d in (
         fits.mortal,
-        other_bearer h.edition j (row_at h j) (popped_at h' j) (cell_at h d) (row_at h (cell_at h d).bearer).stage (row_at h' (cell_at h d).bearer).stage d p (λ shut _ closed. subst (λ g. is_closed g (d / 32) ≡ true) (bearer j at_d shut) closed)
-            (subst (λ popped. PhaseFits h.edition j (row_at h j) popped (cell_at h d) (row_at h (cell_at h d).bearer).stage d p)
+        other_bearer h.edition j (row_at h j) (popped_at h' j) (cell_at h d) (row_at h (cell_at h d).bearer).stage
+            (row_at h' (cell_at h d).bearer).stage d p (λ shut _ closed. subst (λ g. is_closed g (d / 32) ≡ true)
+            (bearer j at_d shut) closed)
+            (subst (λ popped. PhaseFits h.edition j (row_at h j) popped (cell_at h d)
+            (row_at h (cell_at h d).bearer).stage d p)
             (sym (push_else h.popped _ [] j (λ e. other (e ∙ sound.shaped.popped)))) fits.fits),
       ) in
-      let said : (FIRST_MORTAL ≤ d) × PhaseFits h.edition s (row_at h' s) (popped_at h' s) (cell_at h d) (row_at h' (cell_at h d).bearer).stage d p =
-      read_push (λ j (row : Row). row.hand ≡ hands.Busy p d → (FIRST_MORTAL ≤ d) × PhaseFits h.edition j row (popped_at h' j) (cell_at h d) (row_at h' (cell_at h d).bearer).stage d p) h.rows new_row no_row
+      let said : (FIRST_MORTAL ≤ d) × PhaseFits h.edition s (row_at h' s) (popped_at h' s) (cell_at h d)
+      (row_at h' (cell_at h d).bearer).stage d p =
+      read_push (λ j (row : Row). row.hand ≡ hands.Busy p d → (FIRST_MORTAL ≤ d) × PhaseFits h.edition j row
+      (popped_at h' j) (cell_at h d) (row_at h' (cell_at h d).bearer).stage d p) h.rows new_row no_row
       (λ bad. absurd (let e : hands.Free ≡ hands.Busy p d = bad in cc)) old s busy in
       record { mortal = said.0; fits = said.1 }
 
@@ -160,13 +183,16 @@ module _ (h : Heap) (sound : IsSound h) where
   new_works editions.One = refl
   new_works editions.Two = refl
 
-  rested_else : {x : Cell} {entries : List ℕ} → CellFits (length h.rows) h.limit (rests_at h) x entries → (s : ℕ) → x.owner ≡ owners.Thread s → rests_at h' s ≡ true → x.local ≡ 0
+  rested_else : {x : Cell} {entries : List ℕ} → CellFits (length h.rows) h.limit (rests_at h) x entries → (s : ℕ)
+      → x.owner ≡ owners.Thread s → rests_at h' s ≡ true → x.local ≡ 0
   rested_else {x} {entries} fits s owner =
-      read_push (λ j (row : Row). x.owner ≡ owners.Thread j → rests h.edition row.stage ≡ true → x.local ≡ 0) h.rows new_row no_row
+      read_push (λ j (row : Row). x.owner ≡ owners.Thread j → rests h.edition row.stage ≡ true → x.local ≡ 0) h.rows
+      new_row no_row
       (λ _ rest. absurd (true≢false (sym rest ∙ new_works h.edition)))
       (λ j _ e rest. fits.rested j e rest) s owner
 
-  cells_fit : (q : ℕ) → FIRST_MORTAL ≤ q → CellFits (length h'.rows) h.limit (rests_at h') (cell_at h q) (entries_at h q)
+  cells_fit : (q : ℕ) → FIRST_MORTAL ≤ q → CellFits (length h'.rows) h.limit (rests_at h') (cell_at h q)
+      (entries_at h q)
   cells_fit q mortal =
       let fits : CellFits (length h.rows) h.limit (rests_at h) (cell_at h q) (entries_at h q) = sound.cells q mortal in
       record {
@@ -183,7 +209,8 @@ module _ (h : Heap) (sound : IsSound h) where
       }
 
   threads_fit : (s : ℕ)
-      → ThreadFits h.edition (words_for (length h.cells)) (row_at h' s) (frame_at h' s) (popped_at h' s) (worklist_at h' s) (queue_at h' s) (is_gathered h' s)
+      → ThreadFits h.edition (words_for (length h.cells)) (row_at h' s) (frame_at h' s) (popped_at h' s)
+      (worklist_at h' s) (queue_at h' s) (is_gathered h' s)
   threads_fit s =
       let n : ℕ = words_for (length h.cells) in
       let m : ℕ = length h.cells in
@@ -194,9 +221,12 @@ module _ (h : Heap) (sound : IsSound h) where
             let at_works : s ≡ length h.worklists = same ∙ sym sound.shaped.worklists in
             let at_queues : s ≡ length h.queues = same ∙ sym sound.shaped.queues in
             let at_gathered : s ≡ length h.gathered = same ∙ sym sound.shaped.gathered in
-            subst (λ row. ThreadFits h.edition n row (frame_at h' s) (popped_at h' s) (worklist_at h' s) (queue_at h' s) (is_gathered h' s)) (sym (get_or_push h.rows new_row no_row s (sym same)))
-            (subst (λ frame. ThreadFits h.edition n new_row frame (popped_at h' s) (worklist_at h' s) (queue_at h' s) (is_gathered h' s)) (sym (get_or_push h.frames [] [] s (sym at_frames)))
-            (active_fits h.edition n new_row new_row [] [] (popped_at h' s) (worklist_at h' s) (worklist_at h' s) (queue_at h' s) (is_gathered h' s) refl
+            subst (λ row. ThreadFits h.edition n row (frame_at h' s) (popped_at h' s) (worklist_at h' s) (queue_at h' s)
+            (is_gathered h' s)) (sym (get_or_push h.rows new_row no_row s (sym same)))
+            (subst (λ frame. ThreadFits h.edition n new_row frame (popped_at h' s) (worklist_at h' s) (queue_at h' s)
+            (is_gathered h' s)) (sym (get_or_push h.frames [] [] s (sym at_frames)))
+            (active_fits h.edition n new_row new_row [] [] (popped_at h' s) (worklist_at h' s) (worklist_at h' s)
+            (queue_at h' s) (is_gathered h' s) refl
             (get_or_push h.gathered false false s (sym at_gathered)) refl (λ k _. refl) (omega arith) (omega arith)))
         | inr other ↦
             let not_frames : s ≢ length h.frames = λ e. other (e ∙ sound.shaped.frames) in
@@ -204,20 +234,28 @@ module _ (h : Heap) (sound : IsSound h) where
             let not_works : s ≢ length h.worklists = λ e. other (e ∙ sound.shaped.worklists) in
             let not_queues : s ≢ length h.queues = λ e. other (e ∙ sound.shaped.queues) in
             let not_gathered : s ≢ length h.gathered = λ e. other (e ∙ sound.shaped.gathered) in
-            subst (λ row. ThreadFits h.edition n row (frame_at h' s) (popped_at h' s) (worklist_at h' s) (queue_at h' s) (is_gathered h' s)) (sym (push_else h.rows new_row no_row s other))
-            (subst (λ frame. ThreadFits h.edition n (row_at h s) frame (popped_at h' s) (worklist_at h' s) (queue_at h' s) (is_gathered h' s)) (sym (push_else h.frames [] [] s not_frames))
-            (subst (λ popped. ThreadFits h.edition n (row_at h s) (frame_at h s) popped (worklist_at h' s) (queue_at h' s) (is_gathered h' s)) (sym (push_else h.popped _ [] s not_popped))
-            (subst (λ worklist. ThreadFits h.edition n (row_at h s) (frame_at h s) (popped_at h s) worklist (queue_at h' s) (is_gathered h' s)) (sym (push_else h.worklists _ [] s not_works))
-            (subst (λ queue. ThreadFits h.edition n (row_at h s) (frame_at h s) (popped_at h s) (worklist_at h s) queue (is_gathered h' s)) (sym (push_else h.queues _ [] s not_queues))
-            (subst (λ gathered. ThreadFits h.edition n (row_at h s) (frame_at h s) (popped_at h s) (worklist_at h s) (queue_at h s) gathered) (sym (push_else h.gathered false false s not_gathered))
+            subst (λ row. ThreadFits h.edition n row (frame_at h' s) (popped_at h' s) (worklist_at h' s) (queue_at h' s)
+            (is_gathered h' s)) (sym (push_else h.rows new_row no_row s other))
+            (subst (λ frame. ThreadFits h.edition n (row_at h s) frame (popped_at h' s) (worklist_at h' s)
+            (queue_at h' s) (is_gathered h' s)) (sym (push_else h.frames [] [] s not_frames))
+            (subst (λ popped. ThreadFits h.edition n (row_at h s) (frame_at h s) popped (worklist_at h' s)
+            (queue_at h' s) (is_gathered h' s)) (sym (push_else h.popped _ [] s not_popped))
+            (subst (λ worklist. ThreadFits h.edition n (row_at h s) (frame_at h s) (popped_at h s) worklist
+            (queue_at h' s) (is_gathered h' s)) (sym (push_else h.worklists _ [] s not_works))
+            (subst (λ queue. ThreadFits h.edition n (row_at h s) (frame_at h s) (popped_at h s) (worklist_at h s) queue
+            (is_gathered h' s)) (sym (push_else h.queues _ [] s not_queues))
+            (subst (λ gathered. ThreadFits h.edition n (row_at h s) (frame_at h s) (popped_at h s) (worklist_at h s)
+            (queue_at h s) gathered) (sym (push_else h.gathered false false s not_gathered))
             (sound.threads s))))))
       ]
 
   works_fit : (s q : ℕ) → is_marked (worklist_at h' s) q ≡ true → WorklistFits s q (cell_at h q)
-  works_fit s q = read_push (λ j (marks : List Bool). is_marked marks q ≡ true → WorklistFits j q (cell_at h q)) h.worklists (replicate (length h.cells) false) []
+  works_fit s q = read_push (λ j (marks : List Bool). is_marked marks q ≡ true → WorklistFits j q (cell_at h q))
+      h.worklists (replicate (length h.cells) false) []
       (λ on. absurd (true≢false (sym on ∙ new_mark (length h.cells) q))) (λ j _ on. sound.worklists j q on) s
 
-  bits_fit : (s q : ℕ) → 0 < bit_of (queue_at h' s) q + bit_of (popped_at h' s) q → (FIRST_MORTAL ≤ q) × ((cell_at h q).bearer ≡ s)
+  bits_fit : (s q : ℕ) → 0 < bit_of (queue_at h' s) q + bit_of (popped_at h' s) q
+      → (FIRST_MORTAL ≤ q) × ((cell_at h q).bearer ≡ s)
   bits_fit s q some =
       let n : ℕ = words_for (length h.cells) in
       elim (cases_eq s (length h.rows)) [
@@ -241,15 +279,18 @@ module _ (h : Heap) (sound : IsSound h) where
   old_lock s k q other lock = record {
     thread = lock.thread;
     place = ap (λ (row : Row). row.locked) (push_else h.rows new_row no_row s other) ∙ lock.place;
-    names = ap (λ frame. place_at frame k) (push_else h.frames [] [] s (λ e. other (e ∙ sound.shaped.frames))) ∙ lock.names;
+    names = ap (λ frame. place_at frame k) (push_else h.frames [] [] s (λ e. other (e ∙ sound.shaped.frames)))
+        ∙ lock.names;
   }
 
   locks_fit : (s k : ℕ) → (row_at h' s).locked ≡ Some k → (q : ℕ) × Locks h' s k q × ((cell_at h q).mutex ≡ s)
   locks_fit s k locked =
       elim (cases_eq s (length h.rows)) [
-        | inl same ↦ absurd (let e : None ≡ Some k = sym (ap (λ (row : Row). row.locked) (get_or_push h.rows new_row no_row s (sym same))) ∙ locked in cc)
+        | inl same ↦ absurd (let e : None ≡ Some k =
+            sym (ap (λ (row : Row). row.locked) (get_or_push h.rows new_row no_row s (sym same))) ∙ locked in cc)
         | inr other ↦
-            let old : (q : ℕ) × Locks h s k q × ((cell_at h q).mutex ≡ s) = sound.locks s k (sym (ap (λ (row : Row). row.locked) (push_else h.rows new_row no_row s other)) ∙ locked) in
+            let old : (q : ℕ) × Locks h s k q × ((cell_at h q).mutex ≡ s) =
+            sound.locks s k (sym (ap (λ (row : Row). row.locked) (push_else h.rows new_row no_row s other)) ∙ locked) in
             (old.0, old_lock s k old.0 other old.1, old.2)
       ]
 
@@ -258,7 +299,9 @@ module _ (h : Heap) (sound : IsSound h) where
       let old : (k : ℕ) × Locks h s k q = sound.mutexes s q some mutex in (
         old.0,
         old_lock s old.0 q (λ same.
-            let e : None ≡ Some old.0 = sym (ap (λ (row : Row). row.locked) (get_or_past h.rows s no_row (omega (arith, same)))) ∙ old.1.place in absurd (cc)) old.1,
+            let e : None ≡ Some old.0 =
+            sym (ap (λ (row : Row). row.locked) (get_or_past h.rows s no_row (omega (arith, same))))
+            ∙ old.1.place in absurd (cc)) old.1,
       )
 
   pub registered_sound : length h.rows ≤ MOST_THREADS → h.registrations < MOST_REGISTRATIONS → IsSound h'
@@ -276,7 +319,12 @@ module _ (h : Heap) (sound : IsSound h) where
     bits = bits_fit;
     locks = locks_fit;
     mutexes = mutexes_fit;
-    ledger = omega (arith, sound.ledger, sum_by_push (λ (row : Row). row.allocs) h.rows new_row, sum_by_push (λ (row : Row). row.frees) h.rows new_row);
+    ledger = omega (
+      arith,
+      sound.ledger,
+      sum_by_push (λ (row : Row). row.allocs) h.rows new_row,
+      sum_by_push (λ (row : Row). row.frees) h.rows new_row,
+    );
     past = (omega (arith, sound.past.0), omega (arith, few));
     first = λ one. omega (arith, sound.first one, one_more);
   }

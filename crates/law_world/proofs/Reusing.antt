@@ -1,8 +1,11 @@
 -- A number is registered: the next one, or one that was gathered, whose ledger joins the past.
-use Rattle.std.proofs.Common.{◌≡◌, ◌≢◌, ℕ, ◌+◌, ◌*◌, ◌<◌, ◌≤◌, ◌==◌, ◌&&◌, nat_lt, nat_le, Bool, true, false, if◌then◌else◌, pos, List, [], ◌∷◌, zero, suc, length, get_or, set, replicate, Some, None, sum_by, refl, sym, ◌∙◌, ap, subst, inl, inr, ◌⊎◌, arith, Option, ◌/◌, ◌%◌}
+use Rattle.std.proofs.Common.{◌≡◌, ◌≢◌, ℕ, ◌+◌, ◌*◌, ◌<◌, ◌≤◌, ◌==◌, ◌&&◌, nat_lt, nat_le, Bool, true, false}
+use Rattle.std.proofs.Common.{if◌then◌else◌, pos, List, [], ◌∷◌, zero, suc, length, get_or, set, replicate, Some, None}
+use Rattle.std.proofs.Common.{sum_by, refl, sym, ◌∙◌, ap, subst, inl, inr, ◌⊎◌, arith, Option, ◌/◌, ◌%◌}
 use Rattle.std.proofs.lemmas.List.{length-set, set-get_or, get_or_past, length-replicate}
 use Rattle.std.proofs.lemmas.List.Sums.{sum_by-set}
-use Rattle.std.proofs.lemmas.Bool.{cases_eq, cases_lt, cases_Bool, and_parts, eqb-true, leb-true, ltb-true, lt-ltb, le-ltb, true≢false, ltb-false}
+use Rattle.std.proofs.lemmas.Bool.{cases_eq, cases_lt, cases_Bool, and_parts, eqb-true, leb-true, ltb-true, lt-ltb}
+use Rattle.std.proofs.lemmas.Bool.{le-ltb, true≢false, ltb-false}
 use Rattle.std.proofs.lemmas.Int.{ints}
 use Rattle.std.proofs.lemmas.Nat.Bits.{bit_at-zero}
 use Rattle.std.specs.Int.{bit_at}
@@ -16,21 +19,25 @@ use Rattle.law_world.specs.declared.row.Row.{Row}
 use Rattle.law_world.specs.declared.row.Hand.TheVariants as hands
 use Rattle.law_world.specs.declared.row.Stage.TheVariants as stages
 use Rattle.law_world.specs.Lists.{one, times, bit_of, is_marked, place_at, word_at, names}
-use Rattle.law_world.specs.Heap.{Heap, cell_at, entries_at, row_at, frame_at, popped_at, worklist_at, queue_at, is_gathered, no_cell, no_row, again_row, words_for}
-use Rattle.law_world.specs.Steps.{root_may, root_after, number_ok, first_gathered, registered, registered_again, is_closed, is_active}
+use Rattle.law_world.specs.Heap.{Heap, cell_at, entries_at, row_at, frame_at, popped_at, worklist_at, queue_at}
+use Rattle.law_world.specs.Heap.{is_gathered, no_cell, no_row, again_row, words_for}
+use Rattle.law_world.specs.Steps.{root_may, root_after, number_ok, first_gathered, registered, registered_again}
+use Rattle.law_world.specs.Steps.{is_closed, is_active}
 use Rattle.law_world.specs.Holding.{carries}
 use Rattle.law_world.specs.Sound.{IsSound, ThreadFits, rests, grips, offering, in_queues}
 use Rattle.law_world.proofs.Naming.{no_bit, carries_free, grips_free, offers_free, one-true, sum_one}
 use Rattle.law_world.proofs.Counting.{sum_none}
 use Rattle.law_world.proofs.Merging.{gripped_local}
-use Rattle.law_world.proofs.Changes.{New, Fits, changed_sound, same_entries, same_locks, same_bits, read_by, read_here, read_there}
+use Rattle.law_world.proofs.Changes.{New, Fits, changed_sound, same_entries, same_locks, same_bits, read_by, read_here}
+use Rattle.law_world.proofs.Changes.{read_there}
 use Rattle.law_world.proofs.Registering.{registered_sound, new_bit, new_mark, new_word}
 use Rattle.law_world.proofs.Resting.{aside_sound}
 
 -- ---- which number
 
 -- the first that is gathered, or none is
-first_is : (xs : List Bool) → (first_gathered xs ≡ length xs) ⊎ ((first_gathered xs < length xs) × (get_or xs (first_gathered xs) false ≡ true))
+first_is : (xs : List Bool)
+    → (first_gathered xs ≡ length xs) ⊎ ((first_gathered xs < length xs) × (get_or xs (first_gathered xs) false ≡ true))
 first_is [] = inl refl
 first_is (true ∷ xs) = inr (omega arith, refl)
 first_is (false ∷ xs) = elim (first_is xs) [
@@ -86,14 +93,22 @@ again_fits : (h : Heap) (u : ℕ) → IsSound h → Again h u → Fits h u 0 (ag
 again_fits h u sound a =
     let words : ℕ = words_for (length h.cells) in
     let blank : List ℕ = replicate words 0 in
-    let old : ThreadFits h.edition words (row_at h u) (frame_at h u) (popped_at h u) (worklist_at h u) (queue_at h u) (is_gathered h u) = sound.threads u in
+    let old : ThreadFits h.edition words (row_at h u) (frame_at h u) (popped_at h u) (worklist_at h u) (queue_at h u)
+    (is_gathered h u) = sound.threads u in
     let at_queues : u < length h.queues = omega (arith, sound.shaped.queues, a.inside) in
     let at_popped : u < length h.popped = omega (arith, sound.shaped.popped, a.inside) in
     let empty : (k : ℕ) → word_at (queue_at h u) k ≡ 0 = λ k. old.closed k (ap (λ stage. is_closed stage k) a.left) in
-    let no_queue : (q : ℕ) → bit_of (queue_at h u) q ≡ 0 = λ q. ap (λ w. bit_at w (q % 32)) (empty (q / 32)) ∙ bit_at-zero (q % 32) in
+    let no_queue : (q : ℕ) → bit_of (queue_at h u) q ≡ 0 = λ q. ap (λ w. bit_at w (q % 32)) (empty (q / 32))
+    ∙ bit_at-zero (q % 32) in
     let sum : (q : ℕ) → sum_by (λ (ws : List ℕ). bit_of ws q) (set h.queues u blank) ≡ in_queues h q = λ q.
-    omega (arith, sum_by-set (λ (ws : List ℕ). bit_of ws q) h.queues u blank [] at_queues, no_queue q, new_bit words q) in
-    let closed_else : (s k : ℕ) → is_closed (row_at h s).stage k ≡ true → word_at (get_or (set h.queues u blank) s []) k ≡ 0 = λ s k closed.
+    omega (
+      arith,
+      sum_by-set (λ (ws : List ℕ). bit_of ws q) h.queues u blank [] at_queues,
+      no_queue q,
+      new_bit words q,
+    ) in
+    let closed_else : (s k : ℕ) → is_closed (row_at h s).stage k ≡ true → word_at (get_or (set h.queues u blank) s []) k
+    ≡ 0 = λ s k closed.
     read_by (λ j (ws : List ℕ). is_closed (row_at h j).stage k ≡ true → word_at ws k ≡ 0) h.queues u blank [] at_queues
     (λ _. new_word words k) (λ j _ closed. (sound.threads j).closed k closed) s closed in
     record {
@@ -107,9 +122,21 @@ again_fits h u sound a =
       queue_words = λ s. read_by (λ j (ws : List ℕ). length ws ≡ length (queue_at h j)) h.queues u blank [] at_queues
           (length-replicate words 0 ∙ sym (sound.shaped.queue_words u a.thread a.inside)) (λ j _. refl) s;
       counted_here = not_mortal;
-      counted_else = λ q _ _. omega (arith, times_none q (frame_at h u) a.frame, (a.work q).1, carries_free q _ a.free, sum q, new_bit words q);
+      counted_else = λ q _ _. omega (
+        arith,
+        times_none q (frame_at h u) a.frame,
+        (a.work q).1,
+        carries_free q _ a.free,
+        sum q,
+        new_bit words q,
+      );
       gripped_here = not_mortal;
-      gripped_else = λ q _ _. omega (arith, ap one (a.work q).0, grips_free q _ a.free, ap one (new_mark (length h.cells) q));
+      gripped_else = λ q _ _. omega (
+        arith,
+        ap one (a.work q).0,
+        grips_free q _ a.free,
+        ap one (new_mark (length h.cells) q),
+      );
       most_here = not_mortal;
       least_here = not_mortal;
       asks_else = λ q _ _. omega (arith, (a.work q).1, carries_free q _ a.free, sum q, new_bit words q);
@@ -123,15 +150,19 @@ again_fits h u sound a =
       works_own = λ q _ on. absurd (true≢false (sym on ∙ new_mark (length h.cells) q));
       works_else = λ s _ on. sound.worklists s 0 on;
       closes = λ first. let bad : editions.One ≡ editions.Two = sym first ∙ a.two in absurd (cc);
-      resting = λ q. subst (λ cells. FIRST_MORTAL ≤ q → (get_or cells q no_cell).owner ≡ owners.Thread u → rests h.edition again_row.stage ≡ true → (get_or cells q no_cell).local ≡ 0) (sym (set-get_or h.cells 0 no_cell))
-          (λ mortal owner _. (sound.cells q mortal).rested u owner (ap (λ e. rests e (row_at h u).stage) a.two ∙ ap (rests editions.Two) a.left));
+      resting = λ q. subst (λ cells. FIRST_MORTAL ≤ q → (get_or cells q no_cell).owner ≡ owners.Thread u
+          → rests h.edition again_row.stage ≡ true → (get_or cells q no_cell).local ≡ 0)
+          (sym (set-get_or h.cells 0 no_cell))
+          (λ mortal owner _. (sound.cells q mortal).rested u owner (ap (λ e. rests e (row_at h u).stage) a.two
+          ∙ ap (rests editions.Two) a.left));
       own = record {
         inactive_hand = λ _. refl;
         inactive_frame = λ _ k. refl;
         inactive_lock = λ _. refl;
         closing = λ n is. let bad : stages.Opening 0 ≡ stages.Closing n = is in absurd (cc);
         closing_work = λ n q _ is. let bad : stages.Opening 0 ≡ stages.Closing n = is in absurd (cc);
-        opening = λ n is. let same : stages.Opening 0 ≡ stages.Opening n = is in let m : 0 ≡ n = cc in (omega (arith, m, sound.shaped.options.enough), refl);
+        opening = λ n is. let same : stages.Opening 0 ≡ stages.Opening n = is in let m : 0 ≡ n = cc in
+            (omega (arith, m, sound.shaped.options.enough), refl);
         opening_rest = λ n q _. (new_mark (length h.cells) q, new_bit words q);
         closed = λ k _. ap (λ (ws : List ℕ). word_at ws k) (read_here h.queues u blank [] at_queues) ∙ new_word words k;
         gathered_left = λ g. absurd (true≢false (sym g ∙ a.here));
@@ -148,8 +179,10 @@ again_fits h u sound a =
               arith,
               some,
               new_bit words q,
-              ap (λ (ws : List ℕ). bit_of ws q) (ap (λ j. get_or (set h.queues u blank) j []) same ∙ read_here h.queues u blank [] at_queues),
-              ap (λ (ws : List ℕ). bit_of ws q) (ap (λ j. get_or (set h.popped u blank) j []) same ∙ read_here h.popped u blank [] at_popped),
+              ap (λ (ws : List ℕ). bit_of ws q) (ap (λ j. get_or (set h.queues u blank) j []) same
+                  ∙ read_here h.queues u blank [] at_queues),
+              ap (λ (ws : List ℕ). bit_of ws q) (ap (λ j. get_or (set h.popped u blank) j []) same
+                  ∙ read_here h.popped u blank [] at_popped),
             ))
             | inr other ↦ omega (
               arith,
@@ -158,21 +191,30 @@ again_fits h u sound a =
               ap (λ (ws : List ℕ). bit_of ws q) (read_there h.popped u s blank [] other),
             )
           ]) (inl refl);
-      locks = same_locks h u 0 (again h u) sound a.inside (omega (arith, sound.shaped.options.enough)) (record { mutex = refl; locked = sym a.unlocked; place = λ k e. let bad : None ≡ Some k = sym a.unlocked ∙ e in absurd (cc) });
+      locks = same_locks h u 0 (again h u) sound a.inside (omega (arith, sound.shaped.options.enough))
+          (record {
+            mutex = refl;
+            locked = sym a.unlocked;
+            place = λ k e. let bad : None ≡ Some k = sym a.unlocked
+                ∙ e in absurd (cc);
+          });
       ledger = omega arith;
       past = a.counted;
     }
 
 -- first the number counts as no gathered one's, and the registration is counted
-again_sound : (h : Heap) (u : ℕ) → IsSound h → h.edition ≡ editions.Two → 0 < u → u < length h.rows → is_gathered h u ≡ true → h.registrations < MOST_REGISTRATIONS → IsSound (registered_again h u)
+again_sound : (h : Heap) (u : ℕ) → IsSound h → h.edition ≡ editions.Two → 0 < u → u < length h.rows
+    → is_gathered h u ≡ true → h.registrations < MOST_REGISTRATIONS → IsSound (registered_again h u)
 again_sound h u sound two thread inside gathered few =
     let words : ℕ = words_for (length h.cells) in
-    let old : ThreadFits h.edition words (row_at h u) (frame_at h u) (popped_at h u) (worklist_at h u) (queue_at h u) (is_gathered h u) = sound.threads u in
+    let old : ThreadFits h.edition words (row_at h u) (frame_at h u) (popped_at h u) (worklist_at h u) (queue_at h u)
+    (is_gathered h u) = sound.threads u in
     let at_gathered : u < length h.gathered = omega (arith, sound.shaped.gathered, inside) in
     let h1 : Heap = record h { gathered = set h.gathered u false; registrations = h.registrations + 1 } in
     let left : (row_at h u).stage ≡ stages.Left = old.gathered_left gathered in
     let off : is_active (row_at h u).stage ≡ false = ap is_active left in
-    let own : ThreadFits h.edition words (row_at h u) (frame_at h u) (popped_at h u) (worklist_at h u) (queue_at h u) false = record {
+    let own : ThreadFits h.edition words (row_at h u) (frame_at h u) (popped_at h u) (worklist_at h u)
+    (queue_at h u) false = record {
       inactive_hand = old.inactive_hand;
       inactive_frame = old.inactive_frame;
       inactive_lock = old.inactive_lock;
@@ -188,9 +230,12 @@ again_sound h u sound two thread inside gathered few =
       births = old.births;
       places = old.places;
     } in
-    let sound1 : IsSound h1 = aside_sound h h.notify_words (set h.gathered u false) (h.registrations + 1) sound refl (length-set h.gathered u false)
-    (read_by (λ t g. ThreadFits h.edition words (row_at h t) (frame_at h t) (popped_at h t) (worklist_at h t) (queue_at h t) g) h.gathered u false false at_gathered own (λ t _. sound.threads t))
-    (omega arith) (omega (arith, few)) (λ first. let bad : editions.One ≡ editions.Two = sym first ∙ two in absurd (cc)) in
+    let sound1 : IsSound h1 = aside_sound h h.notify_words (set h.gathered u false) (h.registrations + 1) sound refl
+    (length-set h.gathered u false)
+    (read_by (λ t g. ThreadFits h.edition words (row_at h t) (frame_at h t) (popped_at h t) (worklist_at h t)
+    (queue_at h t) g) h.gathered u false false at_gathered own (λ t _. sound.threads t))
+    (omega arith) (omega (arith, few)) (λ first. let bad : editions.One ≡ editions.Two = sym first
+    ∙ two in absurd (cc)) in
     let a : Again h1 u = record {
       thread = thread;
       inside = inside;
@@ -222,9 +267,11 @@ pub record Vacated (h : Heap) (u : ℕ) : Type 0 where
   pub popped : (q : ℕ) → bit_of (popped_at h u) q ≡ 0
   pub queue : (q : ℕ) → bit_of (queue_at h u) q ≡ 0
 
-vacated : (h : Heap) (u : ℕ) → IsSound h → h.edition ≡ editions.Two → 0 < u → u < length h.rows → is_gathered h u ≡ true → Vacated h u
+vacated : (h : Heap) (u : ℕ) → IsSound h → h.edition ≡ editions.Two → 0 < u → u < length h.rows → is_gathered h u ≡ true
+    → Vacated h u
 vacated h u sound two thread inside gathered =
-    let old : ThreadFits h.edition (words_for (length h.cells)) (row_at h u) (frame_at h u) (popped_at h u) (worklist_at h u) (queue_at h u) (is_gathered h u) = sound.threads u in
+    let old : ThreadFits h.edition (words_for (length h.cells)) (row_at h u) (frame_at h u) (popped_at h u)
+    (worklist_at h u) (queue_at h u) (is_gathered h u) = sound.threads u in
     let left : (row_at h u).stage ≡ stages.Left = old.gathered_left gathered in
     record {
       thread = thread;
@@ -237,37 +284,56 @@ vacated h u sound two thread inside gathered =
       frame = old.inactive_frame (ap is_active left);
       work = λ q. (old.gathered_work gathered q).0;
       popped = λ q. (old.gathered_work gathered q).1;
-      queue = λ q. ap (λ w. bit_at w (q % 32)) (old.closed (q / 32) (ap (λ stage. is_closed stage (q / 32)) left)) ∙ bit_at-zero (q % 32);
+      queue = λ q. ap (λ w. bit_at w (q % 32)) (old.closed (q / 32) (ap (λ stage. is_closed stage (q / 32)) left))
+          ∙ bit_at-zero (q % 32);
     }
 
 -- the number is the next one, or one that was gathered, of the second edition
 pub data Registers (h : Heap) (u : ℕ) : Type 0 where
-  fresh : u ≡ length h.rows → u ≤ MOST_THREADS → h.registrations < MOST_REGISTRATIONS → root_after h (Register u) ≡ registered h → Registers h u
-  reused : Vacated h u → h.registrations < MOST_REGISTRATIONS → root_after h (Register u) ≡ registered_again h u → Registers h u
+  fresh : u ≡ length h.rows → u ≤ MOST_THREADS → h.registrations < MOST_REGISTRATIONS
+      → root_after h (Register u) ≡ registered h → Registers h u
+  reused : Vacated h u → h.registrations < MOST_REGISTRATIONS → root_after h (Register u) ≡ registered_again h u
+      → Registers h u
 
-by_edition : (e : Edition) (h : Heap) (u : ℕ) → IsSound h → h.edition ≡ e → number_ok e h u ≡ true → u ≤ MOST_THREADS → (b : Bool) → nat_lt u (length h.rows) ≡ b → Registers h u
-by_edition editions.One h u sound is ok most true low = let new : u ≡ length h.rows = eqb-true u (length h.rows) ok in absurd (omega (arith, new, ltb-true u (length h.rows) low))
+by_edition : (e : Edition) (h : Heap) (u : ℕ) → IsSound h → h.edition ≡ e → number_ok e h u ≡ true → u ≤ MOST_THREADS
+    → (b : Bool) → nat_lt u (length h.rows) ≡ b → Registers h u
+by_edition editions.One h u sound is ok most true low = let new : u ≡ length h.rows = eqb-true u (length h.rows) ok in
+    absurd (omega (arith, new, ltb-true u (length h.rows) low))
 by_edition editions.One h u sound is ok most false high =
     let new : u ≡ length h.rows = eqb-true u (length h.rows) ok in
-    fresh new most (omega (arith, sound.first is, new, most)) (ap (λ b. if b then registered_again h u else registered h) high)
+    fresh new most (omega (arith, sound.first is, new, most))
+    (ap (λ b. if b then registered_again h u else registered h) high)
 by_edition editions.Two h u sound is ok most true low =
-    let parts = and_parts (nat_lt 0 u && (u == first_gathered h.gathered)) (nat_lt h.registrations MOST_REGISTRATIONS) ok in
+    let parts = and_parts (nat_lt 0 u && (u == first_gathered h.gathered))
+    (nat_lt h.registrations MOST_REGISTRATIONS) ok in
     let more = and_parts (nat_lt 0 u) (u == first_gathered h.gathered) parts.0 in
     let inside : u < length h.rows = ltb-true u (length h.rows) low in
-    reused (vacated h u sound is (ltb-true 0 u more.0) inside (again_gathered h.gathered u (eqb-true u (first_gathered h.gathered) more.1) (omega (arith, inside, sound.shaped.gathered))))
-    (ltb-true h.registrations MOST_REGISTRATIONS parts.1) (ap (λ b. if b then registered_again h u else registered h) low)
+    reused (vacated h u sound is (ltb-true 0 u more.0) inside
+    (again_gathered h.gathered u (eqb-true u (first_gathered h.gathered) more.1)
+    (omega (arith, inside, sound.shaped.gathered))))
+    (ltb-true h.registrations MOST_REGISTRATIONS parts.1)
+    (ap (λ b. if b then registered_again h u else registered h) low)
 by_edition editions.Two h u sound is ok most false high =
-    let parts = and_parts (nat_lt 0 u && (u == first_gathered h.gathered)) (nat_lt h.registrations MOST_REGISTRATIONS) ok in
+    let parts = and_parts (nat_lt 0 u && (u == first_gathered h.gathered))
+    (nat_lt h.registrations MOST_REGISTRATIONS) ok in
     let more = and_parts (nat_lt 0 u) (u == first_gathered h.gathered) parts.0 in
-    fresh (omega (arith, eqb-true u (first_gathered h.gathered) more.1, new_last h.gathered, sound.shaped.gathered, ltb-false u (length h.rows) high)) most
-    (ltb-true h.registrations MOST_REGISTRATIONS parts.1) (ap (λ b. if b then registered_again h u else registered h) high)
+    fresh (omega (
+      arith,
+      eqb-true u (first_gathered h.gathered) more.1,
+      new_last h.gathered,
+      sound.shaped.gathered,
+      ltb-false u (length h.rows) high,
+    )) most
+    (ltb-true h.registrations MOST_REGISTRATIONS parts.1)
+    (ap (λ b. if b then registered_again h u else registered h) high)
 
 pub registers : (h : Heap) (u : ℕ) → IsSound h → root_may h (Register u) ≡ true → Registers h u
 registers h u sound ok =
     let parts = and_parts (number_ok h.edition h u) (nat_le u MOST_THREADS) ok in
     by_edition h.edition h u sound refl parts.0 (leb-true u MOST_THREADS parts.1) (nat_lt u (length h.rows)) refl
 
-pub register_sound : (h : Heap) (u : ℕ) → IsSound h → root_may h (Register u) ≡ true → IsSound (root_after h (Register u))
+pub register_sound : (h : Heap) (u : ℕ) → IsSound h → root_may h (Register u) ≡ true
+    → IsSound (root_after h (Register u))
 register_sound h u sound ok = elim (registers h u sound ok) [
   | fresh new most few is ↦ subst IsSound (sym is) (registered_sound h sound (omega (arith, new, most)) few)
   | reused v few is ↦ subst IsSound (sym is) (again_sound h u sound v.two v.thread v.inside v.gathered few)

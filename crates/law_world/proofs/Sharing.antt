@@ -1,5 +1,7 @@
 -- Everyone but the owner counts on the shared word: up, down, asking, and the last references.
-use Rattle.std.proofs.Common.{◌≡◌, ◌≢◌, ℕ, ◌+◌, ◌<◌, ◌≤◌, ◌==◌, ◌&&◌, not, Bool, true, false, if◌then◌else◌, ℤ, pos, negsuc, ◌+ℤ◌, ◌-ℤ◌, ◌≤ℤ◌, List, [], length, get_or, set, Option, Some, None, refl, sym, ◌∙◌, ap, subst, inl, inr, arith}
+use Rattle.std.proofs.Common.{◌≡◌, ◌≢◌, ℕ, ◌+◌, ◌<◌, ◌≤◌, ◌==◌, ◌&&◌, not, Bool, true, false, if◌then◌else◌, ℤ, pos}
+use Rattle.std.proofs.Common.{negsuc, ◌+ℤ◌, ◌-ℤ◌, ◌≤ℤ◌, List, [], length, get_or, set, Option, Some, None, refl, sym}
+use Rattle.std.proofs.Common.{◌∙◌, ap, subst, inl, inr, arith}
 use Rattle.std.proofs.lemmas.Bool.{cases_Bool, eq-eqb, ne_eqb, and_parts, not-true, ltb-true, ltb-false, true≢false}
 use Rattle.std.proofs.lemmas.Int.{ints}
 use Rattle.brc_words.specs.declared.limits.TheConstants.{FIRST_MORTAL}
@@ -24,11 +26,18 @@ use Rattle.law_world.specs.declared.row.Phase.{Phase}
 use Rattle.law_world.specs.declared.row.Phase.TheVariants as phases
 use Rattle.law_world.specs.declared.row.Stage.{Stage}
 use Rattle.law_world.specs.Lists.{one, is_marked}
-use Rattle.law_world.specs.Heap.{Heap, cell_at, entries_at, row_at, frame_at, popped_at, worklist_at, is_immortal, no_row}
-use Rattle.law_world.specs.Steps.{after_target, target_ok, source_cell, dropped_cell, cell_in_hand, frame_without, entries_without, is_default, is_queued, is_merged, is_zero, is_positive, is_nobody, is_ending_hand, ends_ok}
+use Rattle.law_world.specs.Heap.{Heap, cell_at, entries_at, row_at, frame_at, popped_at, worklist_at, is_immortal}
+use Rattle.law_world.specs.Heap.{no_row}
+use Rattle.law_world.specs.Steps.{after_target, target_ok, source_cell, dropped_cell, cell_in_hand, frame_without}
+use Rattle.law_world.specs.Steps.{entries_without, is_default, is_queued, is_merged, is_zero, is_positive, is_nobody}
+use Rattle.law_world.specs.Steps.{is_ending_hand, ends_ok}
 use Rattle.law_world.specs.Holding.{lives, carries, count_of_state}
-use Rattle.law_world.specs.Sound.{IsSound, CellFits, PhaseFits, WorklistFits, counted_in, grips_of, grips_by_owner, grips, is_active_hand, held, asks, asks_least, asks_most, is_threads, rests_at, offering, offered, Offered}
-use Rattle.law_world.proofs.Naming.{merged_state, no_mark, one-le, free_hand, busy_carrier, live_counts, zero_count, default_state, grips_free, carries_free, sum_one, same_phase, offers_free, same_shut}
+use Rattle.law_world.specs.Sound.{IsSound, CellFits, PhaseFits, WorklistFits, counted_in, grips_of, grips_by_owner}
+use Rattle.law_world.specs.Sound.{grips, is_active_hand, held, asks, asks_least, asks_most, is_threads, rests_at}
+use Rattle.law_world.specs.Sound.{offering, offered, Offered}
+use Rattle.law_world.proofs.Naming.{merged_state, no_mark, one-le, free_hand, busy_carrier, live_counts, zero_count}
+use Rattle.law_world.proofs.Naming.{default_state, grips_free, carries_free, sum_one, same_phase, offers_free}
+use Rattle.law_world.proofs.Naming.{same_shut}
 use Rattle.law_world.proofs.Asking.{May, OnCell, on_cell, vacant}
 use Rattle.law_world.proofs.Birthing.{active_from, one_and}
 use Rattle.law_world.proofs.Counting.{Raises, up_fits, Downs, held_unmarked}
@@ -41,7 +50,8 @@ use Rattle.law_world.proofs.Dropping.{source_held, dropped_held, drop_downs}
 -- ---- the shared count alone changes
 
 -- the words of a live object, at another shared count
-pub moved_counts : (x : Cell) (n : ℤ) → lives x.owner ≡ true → counted_in (record x { count = n }) +ℤ x.count ≡ counted_in x +ℤ n
+pub moved_counts : (x : Cell) (n : ℤ) → lives x.owner ≡ true → counted_in (record x { count = n }) +ℤ x.count
+    ≡ counted_in x +ℤ n
 moved_counts x n live =
     let new = live_counts (record x { count = n }) live in
     let old = live_counts x live in
@@ -53,7 +63,8 @@ moved_counts x n live =
     by_state states.Merged = omega (arith, ints)
 
 -- what grips the object doesn't hang on the count before the merge
-same_grips : (o : Owner) (s : State) (local : ℕ) (n m : ℤ) → (is_merged s ≡ true → is_zero n ≡ is_zero m) → grips_by_owner o s local n ≡ grips_by_owner o s local m
+same_grips : (o : Owner) (s : State) (local : ℕ) (n m : ℤ) → (is_merged s ≡ true → is_zero n ≡ is_zero m)
+    → grips_by_owner o s local n ≡ grips_by_owner o s local m
 same_grips owners.Nobody states.Default local n m same = refl
 same_grips owners.Nobody states.Queued local n m same = refl
 same_grips owners.Nobody states.Merged local n m same = ap one (same refl)
@@ -62,11 +73,15 @@ same_grips (owners.Claimed t) s local n m same = refl
 same_grips owners.Free s local n m same = refl
 
 -- no hand looks at the count
-pub count_hands : (h : Heap) (t c : ℕ) (n : ℤ) → IsSound h → (s : ℕ) (p : Phase) → s ≢ t → (row_at h s).hand ≡ hands.Busy p c
-    → PhaseFits h.edition s (row_at h s) (popped_at h s) (record (cell_at h c) { count = n }) (row_at h (cell_at h c).bearer).stage c p
-count_hands h t c n sound s p ne busy = same_phase h.edition s (row_at h s) (popped_at h s) (cell_at h c) (record (cell_at h c) { count = n }) _ c p refl refl refl refl (sound.hands s c p busy).fits
+pub count_hands : (h : Heap) (t c : ℕ) (n : ℤ) → IsSound h → (s : ℕ) (p : Phase) → s ≢ t
+    → (row_at h s).hand ≡ hands.Busy p c
+    → PhaseFits h.edition s (row_at h s) (popped_at h s) (record (cell_at h c) { count = n })
+    (row_at h (cell_at h c).bearer).stage c p
+count_hands h t c n sound s p ne busy = same_phase h.edition s (row_at h s) (popped_at h s) (cell_at h c)
+    (record (cell_at h c) { count = n }) _ c p refl refl refl refl (sound.hands s c p busy).fits
 
-pub count_cell : (threads limit : ℕ) (resting : ℕ → Bool) (x : Cell) (n : ℤ) (old new : List ℕ) → lives x.owner ≡ true → (x.state ≡ states.Default → pos 0 ≤ℤ n) → (old ≡ [] → new ≡ []) → length new ≤ length old
+pub count_cell : (threads limit : ℕ) (resting : ℕ → Bool) (x : Cell) (n : ℤ) (old new : List ℕ) → lives x.owner ≡ true
+    → (x.state ≡ states.Default → pos 0 ≤ℤ n) → (old ≡ [] → new ≡ []) → length new ≤ length old
     → CellFits threads limit resting x old → CellFits threads limit resting (record x { count = n }) new
 count_cell threads limit resting x n old new live default empty few fits = record {
   default = default;
@@ -87,20 +102,23 @@ merged_total states.Default local n merged = absurd (true≢false (sym merged))
 merged_total states.Queued local n merged = absurd (true≢false (sym merged))
 merged_total states.Merged local n merged = refl
 
-merged_held : (h : Heap) (c : ℕ) → IsSound h → FIRST_MORTAL ≤ c → lives (cell_at h c).owner ≡ true → is_merged (cell_at h c).state ≡ true → (cell_at h c).count ≡ pos (held h c)
+merged_held : (h : Heap) (c : ℕ) → IsSound h → FIRST_MORTAL ≤ c → lives (cell_at h c).owner ≡ true
+    → is_merged (cell_at h c).state ≡ true → (cell_at h c).count ≡ pos (held h c)
 merged_held h c sound mortal live merged =
     let x : Cell = cell_at h c in
     sym (live_counts x live ∙ merged_total x.state x.local x.count merged) ∙ sound.counted c mortal
 
 -- ---- up
 
-raises_shared : (h : Heap) (t c : ℕ) → IsSound h → FIRST_MORTAL ≤ c → 1 ≤ held h c → Raises h t c (record (cell_at h c) { count = (cell_at h c).count +ℤ pos 1 })
+raises_shared : (h : Heap) (t c : ℕ) → IsSound h → FIRST_MORTAL ≤ c → 1 ≤ held h c
+    → Raises h t c (record (cell_at h c) { count = (cell_at h c).count +ℤ pos 1 })
 raises_shared h t c sound mortal some =
     let x : Cell = cell_at h c in
     let live : lives x.owner ≡ true = held_owner h c sound mortal some in
     let merged : is_merged x.state ≡ true → is_zero (x.count +ℤ pos 1) ≡ is_zero x.count = λ merged.
     let count : x.count ≡ pos (held h c) = merged_held h c sound mortal live merged in
-    nonzero (x.count +ℤ pos 1) (held h c + 1) (omega (arith, ints, count)) (omega arith) ∙ sym (nonzero x.count (held h c) count some) in
+    nonzero (x.count +ℤ pos 1) (held h c + 1) (omega (arith, ints, count)) (omega arith)
+    ∙ sym (nonzero x.count (held h c) count some) in
     record {
       immortal = λ low. absurd (omega (arith, low, mortal));
       mutex = refl;
@@ -110,12 +128,14 @@ raises_shared h t c sound mortal some =
       counted = λ _. omega (arith, ints, moved_counts x (x.count +ℤ pos 1) live);
       gripped = λ _. same_grips x.owner x.state x.local (x.count +ℤ pos 1) x.count merged;
       hands_else = count_hands h t c (x.count +ℤ pos 1) sound;
-      cell = λ _. count_cell _ _ _ x (x.count +ℤ pos 1) (entries_at h c) (entries_at h c) live (λ e. omega (arith, ints, (sound.cells c mortal).default e)) (λ e. e) (omega arith) (sound.cells c mortal);
+      cell = λ _. count_cell _ _ _ x (x.count +ℤ pos 1) (entries_at h c) (entries_at h c) live
+          (λ e. omega (arith, ints, (sound.cells c mortal).default e)) (λ e. e) (omega arith) (sound.cells c mortal);
       worklists = λ s on. absurd (no_mark _ (held_unmarked h s c sound some) on);
     }
 
 pub shared_up_sound : (h : Heap) (t k : ℕ) (source : Source) (o : Option ℕ) → IsSound h → May h t (SharedUp source k)
-    → source_cell (row_at h t) (frame_at h t) (entries_at h) source ≡ o → target_ok h t (row_at h t) (SharedUp source k) o ≡ true
+    → source_cell (row_at h t) (frame_at h t) (entries_at h) source ≡ o
+    → target_ok h t (row_at h t) (SharedUp source k) o ≡ true
     → IsSound (after_target h t (SharedUp source k) o)
 shared_up_sound h t k source None sound may named ok = absurd (true≢false (sym ok))
 shared_up_sound h t k source (Some c) sound may named ok =
@@ -135,7 +155,8 @@ shared_up_sound h t k source (Some c) sound may named ok =
 -- ---- one reference goes, or becomes the hand's
 
 -- what is common to all that lets a place or an entry go
-record Lets (h : Heap) (t c : ℕ) (x : Cell) (now : Hand) (f : List (Option ℕ)) (w : List Bool) (es : List (List ℕ)) : Type 0 where
+record Lets (h : Heap) (t c : ℕ) (x : Cell) (now : Hand) (f : List (Option ℕ)) (w : List Bool)
+    (es : List (List ℕ)) : Type 0 where
   acts : Acts h t
   downs : Downs h t c f es
   mortal : FIRST_MORTAL ≤ c
@@ -148,15 +169,19 @@ record Lets (h : Heap) (t c : ℕ) (x : Cell) (now : Hand) (f : List (Option ℕ
   no_grip : one (grips c now) ≡ 0
   most : asks h c + one (carries c now) ≤ asks_most x
   least : asks_least x ≤ asks h c + offered h c + one (carries c now)
-  after : (p : Phase) (d : ℕ) → now ≡ hands.Busy p d → (d ≡ c) × PhaseFits h.edition t (record (row_at h t) { hand = now }) (popped_at h t) x (row_at h x.bearer).stage c p
+  after : (p : Phase) (d : ℕ) → now ≡ hands.Busy p d
+      → (d ≡ c) × PhaseFits h.edition t (record (row_at h t) { hand = now }) (popped_at h t) x
+      (row_at h x.bearer).stage c p
   idle : is_active_hand now ≡ false
-  hands_else : (s : ℕ) (p : Phase) → s ≢ t → (row_at h s).hand ≡ hands.Busy p c → PhaseFits h.edition s (row_at h s) (popped_at h s) x (row_at h x.bearer).stage c p
+  hands_else : (s : ℕ) (p : Phase) → s ≢ t → (row_at h s).hand ≡ hands.Busy p c
+      → PhaseFits h.edition s (row_at h s) (popped_at h s) x (row_at h x.bearer).stage c p
   cell : CellFits (length h.rows) h.limit (rests_at h) x (get_or es c [])
   marks : length w ≡ length (worklist_at h t)
   works_here : is_marked w c ≡ true → WorklistFits t c x
   marks_else : (q : ℕ) → q ≢ c → is_marked w q ≡ is_marked (worklist_at h t) q
 
-lets_turn : (h : Heap) (t c : ℕ) (x : Cell) (now : Hand) (f : List (Option ℕ)) (w : List Bool) (es : List (List ℕ)) → IsSound h → Lets h t c x now f w es → Turn h t c x now f w es
+lets_turn : (h : Heap) (t c : ℕ) (x : Cell) (now : Hand) (f : List (Option ℕ)) (w : List Bool) (es : List (List ℕ))
+    → IsSound h → Lets h t c x now f w es → Turn h t c x now f w es
 lets_turn h t c x now f w es sound lets =
     let here : one (c == c) ≡ 1 = ap one (eq-eqb c c refl) in
     let free : (row_at h t).hand ≡ hands.Free = lets.downs.hand in
@@ -173,7 +198,13 @@ lets_turn h t c x now f w es sound lets =
       lists = lets.downs.lists;
       counted_here = omega (arith, ints, lets.counted, lets.downs.let_go c, here, carries_free c _ free);
       part_else = λ q ne. omega (arith, lets.downs.let_go q, ap one (ne_eqb c q (λ e. ne (sym e))));
-      gripped_here = omega (arith, lets.gripped, lets.no_grip, grips_free c _ free, held_unmarked h t c sound lets.some);
+      gripped_here = omega (
+        arith,
+        lets.gripped,
+        lets.no_grip,
+        grips_free c _ free,
+        held_unmarked h t c sound lets.some,
+      );
       most_here = omega (arith, lets.most, carries_free c _ free);
       least_here = omega (arith, lets.least, carries_free c _ free, offers_free c _ free);
       before = λ p d e. let bad : hands.Free ≡ hands.Busy p d = sym free ∙ e in absurd (cc);
@@ -202,7 +233,8 @@ unmerged_default states.Queued h = refl
 unmerged_default states.Merged h = absurd (true≢false (sym h))
 
 pub shared_down_sound : (h : Heap) (t : ℕ) (drop : Dropped) (o : Option ℕ) → IsSound h → May h t (SharedDown drop)
-    → dropped_cell (frame_at h t) (worklist_at h t) (entries_at h) drop ≡ o → target_ok h t (row_at h t) (SharedDown drop) o ≡ true
+    → dropped_cell (frame_at h t) (worklist_at h t) (entries_at h) drop ≡ o
+    → target_ok h t (row_at h t) (SharedDown drop) o ≡ true
     → IsSound (after_target h t (SharedDown drop) o)
 shared_down_sound h t drop None sound may named ok = absurd (true≢false (sym ok))
 shared_down_sound h t drop (Some c) sound may named ok =
@@ -216,8 +248,10 @@ shared_down_sound h t drop (Some c) sound may named ok =
     let some : 1 ≤ held h c = dropped_held h t c drop named in
     let live : lives x.owner ≡ true = held_owner h c sound mortal some in
     let who : Acts h t = acts h t (SharedDown drop) may refl refl refl in
-    let downs : Downs h t c (frame_without (Some drop) (frame_at h t)) (entries_without (Some drop) h.entries) = drop_downs h t c drop sound who at_cell.inside free named in
-    turn_sound h t c (record x { count = n }) (row_at h t).hand _ (worklist_at h t) _ sound (lets_turn h t c (record x { count = n }) (row_at h t).hand _ (worklist_at h t) _ sound (record {
+    let downs : Downs h t c (frame_without (Some drop) (frame_at h t)) (entries_without (Some drop) h.entries) =
+    drop_downs h t c drop sound who at_cell.inside free named in
+    turn_sound h t c (record x { count = n }) (row_at h t).hand _ (worklist_at h t) _ sound
+    (lets_turn h t c (record x { count = n }) (row_at h t).hand _ (worklist_at h t) _ sound (record {
       acts = who;
       downs = downs;
       mortal = mortal;
@@ -226,14 +260,20 @@ shared_down_sound h t drop (Some c) sound may named ok =
       bearer = refl;
       live = refl;
       counted = omega (arith, ints, moved_counts x n live, carries_free c _ free);
-      gripped = omega (arith, same_grips x.owner x.state x.local n x.count (λ merged. absurd (true≢false (sym merged ∙ unmerged_default x.state default))), held_unmarked h t c sound some);
+      gripped = omega (
+        arith,
+        same_grips x.owner x.state x.local n x.count
+            (λ merged. absurd (true≢false (sym merged ∙ unmerged_default x.state default))),
+        held_unmarked h t c sound some,
+      );
       no_grip = grips_free c _ free;
       most = omega (arith, sound.most c mortal, carries_free c _ free);
       least = omega (arith, sound.least c mortal);
       after = λ p d e. let bad : hands.Free ≡ hands.Busy p d = sym free ∙ e in absurd (cc);
       idle = ap is_active_hand free;
       hands_else = count_hands h t c n sound;
-      cell = count_cell _ _ _ x n (entries_at h c) _ live (λ _. omega (arith, ints, positive_count x.count parts.1)) (downs.fewer c).empty (downs.fewer c).few (sound.cells c mortal);
+      cell = count_cell _ _ _ x n (entries_at h c) _ live (λ _. omega (arith, ints, positive_count x.count parts.1))
+          (downs.fewer c).empty (downs.fewer c).few (sound.cells c mortal);
       marks = refl;
       works_here = λ on. absurd (no_mark _ (held_unmarked h t c sound some) on);
       marks_else = λ q _. refl;
@@ -242,38 +282,52 @@ shared_down_sound h t drop (Some c) sound may named ok =
 -- ---- asking
 
 -- a hand that isn't bearing the object sees no difference between default and queued
-queued_phase : (e : Edition) (s : ℕ) (row : Row) (popped : List ℕ) (x : Cell) (g : Stage) (c : ℕ) (p : Phase) → x.state ≡ states.Default → lives x.owner ≡ true
+queued_phase : (e : Edition) (s : ℕ) (row : Row) (popped : List ℕ) (x : Cell) (g : Stage) (c : ℕ) (p : Phase)
+    → x.state ≡ states.Default → lives x.owner ≡ true
     → PhaseFits e s row popped x g c p → PhaseFits e s row popped (record x { state = states.Queued }) g c p
 queued_phase e s row popped x g c phases.Claimed default live fits = record { claimed = fits.claimed; more = fits.more }
-queued_phase e s row popped x g c phases.Counted default live fits = (record { claimed = fits.0.claimed; more = fits.0.more }, fits.1)
-queued_phase e s row popped x g c phases.Ready default live fits = absurd (true≢false (sym live ∙ ap lives fits.0.claimed))
-queued_phase e s row popped x g c phases.Untied default live fits = record { owner = fits.owner; local = fits.local; not_merged = refl; bearer = fits.bearer }
-queued_phase e s row popped x g c phases.Held default live fits = let bad : states.Default ≡ states.Merged = sym default ∙ fits in absurd (cc)
-queued_phase e s row popped x g c phases.Shut default live fits = same_shut e x (record x { state = states.Queued }) g c (λ is. is) fits
-queued_phase e s row popped x g c phases.Offered default live fits = let bad : states.Default ≡ states.Queued = sym default ∙ fits.state in absurd (cc)
-queued_phase e s row popped x g c phases.Yielding default live fits = let bad : states.Default ≡ states.Queued = sym default ∙ fits.state in absurd (cc)
+queued_phase e s row popped x g c phases.Counted default live fits =
+    (record { claimed = fits.0.claimed; more = fits.0.more }, fits.1)
+queued_phase e s row popped x g c phases.Ready default live fits =
+    absurd (true≢false (sym live ∙ ap lives fits.0.claimed))
+queued_phase e s row popped x g c phases.Untied default live fits =
+    record { owner = fits.owner; local = fits.local; not_merged = refl; bearer = fits.bearer }
+queued_phase e s row popped x g c phases.Held default live fits = let bad : states.Default ≡ states.Merged = sym default
+    ∙ fits in absurd (cc)
+queued_phase e s row popped x g c phases.Shut default live fits = same_shut e x (record x { state = states.Queued }) g c
+    (λ is. is) fits
+queued_phase e s row popped x g c phases.Offered default live fits = let bad : states.Default ≡ states.Queued =
+    sym default ∙ fits.state in absurd (cc)
+queued_phase e s row popped x g c phases.Yielding default live fits = let bad : states.Default ≡ states.Queued =
+    sym default ∙ fits.state in absurd (cc)
 queued_phase e s row popped x g c _ default live fits = fits
 
-queued_grips : (o : Owner) (local : ℕ) (n : ℤ) → grips_by_owner o states.Queued local n ≡ grips_by_owner o states.Default local n
+queued_grips : (o : Owner) (local : ℕ) (n : ℤ)
+    → grips_by_owner o states.Queued local n ≡ grips_by_owner o states.Default local n
 queued_grips owners.Nobody local n = refl
 queued_grips (owners.Thread t) local n = refl
 queued_grips (owners.Claimed t) local n = refl
 queued_grips owners.Free local n = refl
 
-asked_lets : (h : Heap) (t c : ℕ) (drop : Dropped) → IsSound h → Acts h t → c < length h.cells → FIRST_MORTAL ≤ c → (row_at h t).hand ≡ hands.Free
+asked_lets : (h : Heap) (t c : ℕ) (drop : Dropped) → IsSound h → Acts h t → c < length h.cells → FIRST_MORTAL ≤ c
+    → (row_at h t).hand ≡ hands.Free
     → dropped_cell (frame_at h t) (worklist_at h t) (entries_at h) drop ≡ Some c → (cell_at h c).state ≡ states.Default
-    → Lets h t c (record (cell_at h c) { state = states.Queued }) (hands.Busy phases.Asked c) (frame_without (Some drop) (frame_at h t)) (worklist_at h t) (entries_without (Some drop) h.entries)
+    → Lets h t c (record (cell_at h c) { state = states.Queued }) (hands.Busy phases.Asked c)
+    (frame_without (Some drop) (frame_at h t)) (worklist_at h t) (entries_without (Some drop) h.entries)
 asked_lets h t c drop sound who inside mortal free named default =
     let x : Cell = cell_at h c in
     let y : Cell = record x { state = states.Queued } in
     let some : 1 ≤ held h c = dropped_held h t c drop named in
     let live : lives x.owner ≡ true = held_owner h c sound mortal some in
     let here : one (c == c) ≡ 1 = ap one (eq-eqb c c refl) in
-    let downs : Downs h t c (frame_without (Some drop) (frame_at h t)) (entries_without (Some drop) h.entries) = drop_downs h t c drop sound who inside free named in
+    let downs : Downs h t c (frame_without (Some drop) (frame_at h t)) (entries_without (Some drop) h.entries) =
+    drop_downs h t c drop sound who inside free named in
     let fits : CellFits (length h.rows) h.limit (rests_at h) x (entries_at h c) = sound.cells c mortal in
     let none : asks h c ≡ 0 = omega (arith, sound.most c mortal, ap (λ s. one (not (is_default s))) default) in
-    let same : counted_in y ≡ counted_in x = live_counts y live ∙ sym (live_counts x live ∙ ap (λ s. count_of_state s x.local x.count) default) in
-    let grips : grips_of y ≡ grips_of x = queued_grips x.owner x.local x.count ∙ sym (ap (λ s. grips_by_owner x.owner s x.local x.count) default) in
+    let same : counted_in y ≡ counted_in x = live_counts y live
+    ∙ sym (live_counts x live ∙ ap (λ s. count_of_state s x.local x.count) default) in
+    let grips : grips_of y ≡ grips_of x = queued_grips x.owner x.local x.count
+    ∙ sym (ap (λ s. grips_by_owner x.owner s x.local x.count) default) in
     record {
       acts = who;
       downs = downs;
@@ -287,10 +341,14 @@ asked_lets h t c drop sound who inside mortal free named default =
       no_grip = refl;
       most = omega (arith, none, here);
       least = omega (arith, none, here, one-le (is_threads x.owner));
-      after = λ p d e. let same = busy_same phases.Asked c (hands.Busy phases.Asked c) refl p d e in
-          (same.0, subst (λ z. PhaseFits h.edition t (record (row_at h t) { hand = hands.Busy phases.Asked c }) (popped_at h t) y (row_at h x.bearer).stage c z) (sym same.1) tt);
+      after = λ p d e. let same = busy_same phases.Asked c (hands.Busy phases.Asked c) refl p d e in (
+        same.0,
+        subst (λ z. PhaseFits h.edition t (record (row_at h t) { hand = hands.Busy phases.Asked c })
+            (popped_at h t) y (row_at h x.bearer).stage c z) (sym same.1) tt,
+      );
       idle = refl;
-      hands_else = λ s p ne busy. queued_phase h.edition s (row_at h s) (popped_at h s) x (row_at h x.bearer).stage c p default live (sound.hands s c p busy).fits;
+      hands_else = λ s p ne busy. queued_phase h.edition s (row_at h s) (popped_at h s) x (row_at h x.bearer).stage c p
+          default live (sound.hands s c p busy).fits;
       cell = record {
         default = λ e. let bad : states.Queued ≡ states.Default = e in absurd (cc);
         owned_unmerged = λ s e. refl;
@@ -309,7 +367,8 @@ asked_lets h t c drop sound who inside mortal free named default =
     }
 
 -- nothing changes
-still_turn : (h : Heap) (t c : ℕ) → IsSound h → Acts h t → c < length h.cells → FIRST_MORTAL ≤ c → (row_at h t).hand ≡ hands.Free
+still_turn : (h : Heap) (t c : ℕ) → IsSound h → Acts h t → c < length h.cells → FIRST_MORTAL ≤ c
+    → (row_at h t).hand ≡ hands.Free
     → Turn h t c (cell_at h c) (row_at h t).hand (frame_at h t) (worklist_at h t) h.entries
 still_turn h t c sound who inside mortal free = record {
   acts = who;
@@ -339,7 +398,8 @@ still_turn h t c sound who inside mortal free = record {
 }
 
 pub ask_sound : (h : Heap) (t : ℕ) (drop : Dropped) (o : Option ℕ) → IsSound h → May h t (Ask drop)
-    → dropped_cell (frame_at h t) (worklist_at h t) (entries_at h) drop ≡ o → target_ok h t (row_at h t) (Ask drop) o ≡ true
+    → dropped_cell (frame_at h t) (worklist_at h t) (entries_at h) drop ≡ o
+    → target_ok h t (row_at h t) (Ask drop) o ≡ true
     → IsSound (after_target h t (Ask drop) o)
 ask_sound h t drop None sound may named ok = absurd (true≢false (sym ok))
 ask_sound h t drop (Some c) sound may named ok =
@@ -357,14 +417,19 @@ ask_sound h t drop (Some c) sound may named ok =
       worklists = set h.worklists t (worklist_at h t);
     }) in
     elim (cases_Bool (is_default x.state)) [
-      | inl default ↦ subst P (sym default) (turn_sound h t c _ _ _ _ _ sound (lets_turn h t c _ _ _ _ _ sound (asked_lets h t c drop sound who at_cell.inside mortal free named (default_state x.state default))))
-      | inr apart ↦ subst P (sym apart) (turn_sound h t c _ _ _ _ _ sound (still_turn h t c sound who at_cell.inside mortal free))
+      | inl default ↦ subst P (sym default)
+          (turn_sound h t c _ _ _ _ _ sound
+          (lets_turn h t c _ _ _ _ _ sound (asked_lets h t c drop sound who at_cell.inside mortal free named
+          (default_state x.state default))))
+      | inr apart ↦ subst P (sym apart)
+          (turn_sound h t c _ _ _ _ _ sound (still_turn h t c sound who at_cell.inside mortal free))
     ]
 
 -- ---- the last references
 
 -- the words of an object that was asked for or merged, one reference fewer
-pub last_grips : (o : Owner) (s : State) (local : ℕ) (n m : ℤ) → lives o ≡ true → ((t : ℕ) → o ≡ owners.Thread t → is_merged s ≡ false) → (is_merged s ≡ true → is_zero m ≡ false)
+pub last_grips : (o : Owner) (s : State) (local : ℕ) (n m : ℤ) → lives o ≡ true
+    → ((t : ℕ) → o ≡ owners.Thread t → is_merged s ≡ false) → (is_merged s ≡ true → is_zero m ≡ false)
     → grips_by_owner o s local n ≡ grips_by_owner o s local m + one (is_merged s && is_zero n)
 last_grips owners.Nobody states.Default local n m live owned some = omega arith
 last_grips owners.Nobody states.Queued local n m live owned some = omega arith
@@ -378,9 +443,12 @@ last_grips owners.Free s local n m live owned some = absurd (true≢false (sym l
 -- the facts that all last references share
 pub record Lasts (h : Heap) (t c : ℕ) : Type 0 where
   pub live : lives (cell_at h c).owner ≡ true
-  pub counted : counted_in (record (cell_at h c) { count = (cell_at h c).count -ℤ pos 1 }) +ℤ pos 1 ≡ counted_in (cell_at h c)
-  pub gripped : grips_of (record (cell_at h c) { count = (cell_at h c).count -ℤ pos 1 }) ≡ grips_of (cell_at h c) + one (is_merged (cell_at h c).state && is_zero ((cell_at h c).count -ℤ pos 1))
-  pub dead : (is_merged (cell_at h c).state && is_zero ((cell_at h c).count -ℤ pos 1)) ≡ true → WorklistFits t c (record (cell_at h c) { count = (cell_at h c).count -ℤ pos 1 })
+  pub counted : counted_in (record (cell_at h c) { count = (cell_at h c).count -ℤ pos 1 }) +ℤ pos 1 ≡ counted_in
+      (cell_at h c)
+  pub gripped : grips_of (record (cell_at h c) { count = (cell_at h c).count -ℤ pos 1 }) ≡ grips_of (cell_at h c) + one
+      (is_merged (cell_at h c).state && is_zero ((cell_at h c).count -ℤ pos 1))
+  pub dead : (is_merged (cell_at h c).state && is_zero ((cell_at h c).count -ℤ pos 1)) ≡ true
+      → WorklistFits t c (record (cell_at h c) { count = (cell_at h c).count -ℤ pos 1 })
 
 pub lasts_of : (h : Heap) (t c : ℕ) → IsSound h → FIRST_MORTAL ≤ c → 1 ≤ held h c → Lasts h t c
 lasts_of h t c sound mortal some =
@@ -390,7 +458,8 @@ lasts_of h t c sound mortal some =
     record {
       live = live;
       counted = omega (arith, ints, moved_counts x n live);
-      gripped = last_grips x.owner x.state x.local n x.count live (sound.cells c mortal).owned_unmerged (λ merged. nonzero x.count (held h c) (merged_held h c sound mortal live merged) some);
+      gripped = last_grips x.owner x.state x.local n x.count live (sound.cells c mortal).owned_unmerged
+          (λ merged. nonzero x.count (held h c) (merged_held h c sound mortal live merged) some);
       dead = λ takes. let parts = and_parts _ _ takes in record {
         mortal = mortal;
         lives = live;
@@ -403,8 +472,10 @@ pub queued_or_merged : (s : State) → not (is_default s) ≡ true → s ≡ sta
 queued_or_merged s more e = true≢false (sym more ∙ ap (λ z. not (is_default z)) e)
 
 -- a place or an entry
-pub last_dropped_sound : (h : Heap) (t : ℕ) (drop : Dropped) (o : Option ℕ) → IsSound h → May h t (LastDown (lasts.Dropped drop))
-    → dropped_cell (frame_at h t) (worklist_at h t) (entries_at h) drop ≡ o → target_ok h t (row_at h t) (LastDown (lasts.Dropped drop)) o ≡ true
+pub last_dropped_sound : (h : Heap) (t : ℕ) (drop : Dropped) (o : Option ℕ) → IsSound h
+    → May h t (LastDown (lasts.Dropped drop))
+    → dropped_cell (frame_at h t) (worklist_at h t) (entries_at h) drop ≡ o
+    → target_ok h t (row_at h t) (LastDown (lasts.Dropped drop)) o ≡ true
     → IsSound (after_target h t (LastDown (lasts.Dropped drop)) o)
 last_dropped_sound h t drop None sound may named ok = absurd (true≢false (sym ok))
 last_dropped_sound h t drop (Some c) sound may named ok =
@@ -419,10 +490,18 @@ last_dropped_sound h t drop (Some c) sound may named ok =
     let some : 1 ≤ held h c = dropped_held h t c drop named in
     let last : Lasts h t c = lasts_of h t c sound mortal some in
     let who : Acts h t = acts h t s may refl refl refl in
-    let downs : Downs h t c (frame_without (Some drop) (frame_at h t)) (entries_without (Some drop) h.entries) = drop_downs h t c drop sound who at_cell.inside free named in
-    let within : c < length (worklist_at h t) = omega (arith, sound.shaped.marks t may.some_thread may.inside, at_cell.inside) in
+    let downs : Downs h t c (frame_without (Some drop) (frame_at h t)) (entries_without (Some drop) h.entries) =
+    drop_downs h t c drop sound who at_cell.inside free named in
+    let within : c < length (worklist_at h t) = omega (
+      arith,
+      sound.shaped.marks t may.some_thread may.inside,
+      at_cell.inside,
+    ) in
     let marks = taken_marks (worklist_at h t) c within (held_unmarked h t c sound some) takes in
-    turn_sound h t c (record x { count = n }) (row_at h t).hand _ (if takes then set (worklist_at h t) c true else worklist_at h t) _ sound (lets_turn h t c (record x { count = n }) (row_at h t).hand _ (if takes then set (worklist_at h t) c true else worklist_at h t) _ sound (record {
+    turn_sound h t c (record x { count = n }) (row_at h t).hand _
+    (if takes then set (worklist_at h t) c true else worklist_at h t) _ sound
+    (lets_turn h t c (record x { count = n }) (row_at h t).hand _
+    (if takes then set (worklist_at h t) c true else worklist_at h t) _ sound (record {
       acts = who;
       downs = downs;
       mortal = mortal;
@@ -438,14 +517,16 @@ last_dropped_sound h t drop (Some c) sound may named ok =
       after = λ p d e. let bad : hands.Free ≡ hands.Busy p d = sym free ∙ e in absurd (cc);
       idle = ap is_active_hand free;
       hands_else = count_hands h t c n sound;
-      cell = count_cell _ _ _ x n (entries_at h c) _ last.live (λ e. absurd (queued_or_merged x.state parts.0 e)) (downs.fewer c).empty (downs.fewer c).few (sound.cells c mortal);
+      cell = count_cell _ _ _ x n (entries_at h c) _ last.live (λ e. absurd (queued_or_merged x.state parts.0 e))
+          (downs.fewer c).empty (downs.fewer c).few (sound.cells c mortal);
       marks = marks.1;
       works_here = λ on. last.dead (marked_so takes _ (ap one on) marks.0);
       marks_else = marks.2;
     }))
 
 -- what is in a hand whose reference may end, and that the object isn't its owner's any more
-pub ending_hand : (hand : Hand) (c : ℕ) → is_ending_hand hand ≡ true → cell_in_hand hand ≡ Some c → (p : Phase) × (hand ≡ hands.Busy p c) × (is_ending p ≡ true)
+pub ending_hand : (hand : Hand) (c : ℕ) → is_ending_hand hand ≡ true → cell_in_hand hand ≡ Some c
+    → (p : Phase) × (hand ≡ hands.Busy p c) × (is_ending p ≡ true)
 ending_hand hands.Free c ends named = absurd (true≢false (sym ends))
 ending_hand (hands.Busy p d) c ends named = (p, (let e : d ≡ c = cc in ap (hands.Busy p) e), ends)
 
@@ -470,10 +551,14 @@ nobodys (owners.Thread t) nobody = absurd (true≢false (sym nobody))
 nobodys (owners.Claimed t) nobody = refl
 nobodys owners.Free nobody = refl
 
-no_least : (h : Heap) (t c : ℕ) (p : Phase) → IsSound h → (row_at h t).hand ≡ hands.Busy p c → is_ending p ≡ true → ends_ok (hands.Busy p c) (cell_at h c) ≡ true → asks_least (cell_at h c) ≡ 0
-no_least h t c phases.Asked sound busy ends ok = one_and (is_queued (cell_at h c).state) (is_threads (cell_at h c).owner) (nobodys _ ok)
-no_least h t c phases.Shut sound busy ends ok = one_and (is_queued (cell_at h c).state) (is_threads (cell_at h c).owner) (nobodys _ ok)
-no_least h t c phases.Held sound busy ends ok = ap (λ s. one (is_queued s && is_threads (cell_at h c).owner)) (sound.hands t c phases.Held busy).fits
+no_least : (h : Heap) (t c : ℕ) (p : Phase) → IsSound h → (row_at h t).hand ≡ hands.Busy p c → is_ending p ≡ true
+    → ends_ok (hands.Busy p c) (cell_at h c) ≡ true → asks_least (cell_at h c) ≡ 0
+no_least h t c phases.Asked sound busy ends ok = one_and (is_queued (cell_at h c).state)
+    (is_threads (cell_at h c).owner) (nobodys _ ok)
+no_least h t c phases.Shut sound busy ends ok = one_and (is_queued (cell_at h c).state) (is_threads (cell_at h c).owner)
+    (nobodys _ ok)
+no_least h t c phases.Held sound busy ends ok = ap (λ s. one (is_queued s && is_threads (cell_at h c).owner))
+    (sound.hands t c phases.Held busy).fits
 no_least h t c _ sound busy ends ok = absurd (true≢false (sym ends))
 
 -- the one in the hand
@@ -488,16 +573,25 @@ last_hand_sound h t (Some c) sound may named ok =
     let n : ℤ = x.count -ℤ pos 1 in
     let takes : Bool = is_merged x.state && is_zero n in
     let parts = and_parts _ _ at_cell.fits in
-    let hand : (p : Phase) × ((row_at h t).hand ≡ hands.Busy p c) × (is_ending p ≡ true) = ending_hand (row_at h t).hand c may.hand named in
+    let hand : (p : Phase) × ((row_at h t).hand ≡ hands.Busy p c) × (is_ending p ≡ true) =
+    ending_hand (row_at h t).hand c may.hand named in
     let mortal : FIRST_MORTAL ≤ c = (sound.hands t c hand.0 hand.1).mortal in
-    let carried : one (carries c (row_at h t).hand) ≡ 1 = busy_carrier hand.0 c (row_at h t).hand (ending_reference hand.0 hand.2) hand.1 in
-    let grip : one (grips c (row_at h t).hand) ≡ 0 = ap (λ z. one (grips c z)) hand.1 ∙ ap (λ b. one (b && (c == c))) (ending_grips hand.0 hand.2) in
-    let least : asks_least x ≡ 0 = no_least h t c hand.0 sound hand.1 hand.2 (subst (λ g. ends_ok g x ≡ true) hand.1 parts.1) in
+    let carried : one (carries c (row_at h t).hand) ≡ 1 = busy_carrier hand.0 c (row_at h t).hand
+    (ending_reference hand.0 hand.2) hand.1 in
+    let grip : one (grips c (row_at h t).hand) ≡ 0 = ap (λ z. one (grips c z)) hand.1
+    ∙ ap (λ b. one (b && (c == c))) (ending_grips hand.0 hand.2) in
+    let least : asks_least x ≡ 0 = no_least h t c hand.0 sound hand.1 hand.2
+    (subst (λ g. ends_ok g x ≡ true) hand.1 parts.1) in
     let some : 1 ≤ held h c = carried_held h t c carried in
     let last : Lasts h t c = lasts_of h t c sound mortal some in
-    let within : c < length (worklist_at h t) = omega (arith, sound.shaped.marks t may.some_thread may.inside, at_cell.inside) in
+    let within : c < length (worklist_at h t) = omega (
+      arith,
+      sound.shaped.marks t may.some_thread may.inside,
+      at_cell.inside,
+    ) in
     let marks = taken_marks (worklist_at h t) c within (held_unmarked h t c sound some) takes in
-    turn_sound h t c (record x { count = n }) hands.Free (frame_at h t) (if takes then set (worklist_at h t) c true else worklist_at h t) h.entries sound (record {
+    turn_sound h t c (record x { count = n }) hands.Free (frame_at h t)
+    (if takes then set (worklist_at h t) c true else worklist_at h t) h.entries sound (record {
       acts = acts h t s may refl refl refl;
       cell_inside = at_cell.inside;
       mortal = mortal;
@@ -512,12 +606,19 @@ last_hand_sound h t (Some c) sound may named ok =
       part_else = λ q _. refl;
       gripped_here = omega (arith, last.gripped, marks.0, grip, held_unmarked h t c sound some);
       most_here = omega (arith, sound.most c mortal, carried);
-      least_here = omega (arith, least, carried, sum_one (λ (row : Row). one (carries c row.hand)) h.rows t no_row refl, sum_one (λ (row : Row). one (offering c row.hand)) h.rows t no_row refl);
+      least_here = omega (
+        arith,
+        least,
+        carried,
+        sum_one (λ (row : Row). one (carries c row.hand)) h.rows t no_row refl,
+        sum_one (λ (row : Row). one (offering c row.hand)) h.rows t no_row refl,
+      );
       before = λ p d e. (busy_same hand.0 c (row_at h t).hand hand.1 p d e).0;
       after = λ p d e. let bad : hands.Free ≡ hands.Busy p d = e in absurd (cc);
       idle = λ _. refl;
       hands_else = count_hands h t c n sound;
-      cell = count_cell _ _ _ x n (entries_at h c) (entries_at h c) last.live (λ e. absurd (queued_or_merged x.state parts.0 e)) (λ e. e) (omega arith) (sound.cells c mortal);
+      cell = count_cell _ _ _ x n (entries_at h c) (entries_at h c) last.live
+          (λ e. absurd (queued_or_merged x.state parts.0 e)) (λ e. e) (omega arith) (sound.cells c mortal);
       fewer = λ q _. same_entries _;
       works_here = λ on. last.dead (marked_so takes _ (ap one on) marks.0);
       marks_else = marks.2;

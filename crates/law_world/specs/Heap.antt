@@ -1,6 +1,8 @@
 -- The world of the heap: the words of every cell, the own part of every thread, and what stands between threads.
-use Rattle.std.specs.Prelude.{ℕ, zero, suc, ◌+◌, ◌/◌, ◌==◌, ◌≤◌, nat_lt, ◌&&◌, Bool, false, if◌then◌else◌, pos, List, [], ◌∷◌, ◌++◌, length, replicate, Option, None, slice_index_or}
-use Rattle.brc_words.specs.declared.limits.TheConstants.{FIRST_MORTAL, GLOBALS, IMMORTAL_LOCAL, MOST_LOCAL, MOST_CELLS, FEWEST_CELLS}
+use Rattle.std.specs.Prelude.{ℕ, zero, suc, ◌+◌, ◌/◌, ◌==◌, ◌≤◌, nat_lt, ◌&&◌, Bool, false, if◌then◌else◌, pos, List}
+use Rattle.std.specs.Prelude.{[], ◌∷◌, ◌++◌, length, replicate, Option, None, slice_index_or}
+use Rattle.brc_words.specs.declared.limits.TheConstants.{FIRST_MORTAL, GLOBALS, IMMORTAL_LOCAL, MOST_LOCAL, MOST_CELLS}
+use Rattle.brc_words.specs.declared.limits.TheConstants.{FEWEST_CELLS}
 use Rattle.brc_words.specs.declared.kind.Kind.{Kind}
 use Rattle.brc_words.specs.declared.kind.Kind.TheVariants as kinds
 use Rattle.brc_words.specs.declared.owner.Owner.TheVariants as owners
@@ -33,7 +35,15 @@ pub record Heap : Type 0 where
 
 -- no object: what is read past the last cell, and what a free cell of the opening world is
 abbrev pub no_cell : Cell
-no_cell = record { owner = owners.Free; local = 0; count = pos 0; state = states.Default; mutex = 0; bearer = 0; kind = kinds.Nothing }
+no_cell = record {
+  owner = owners.Free;
+  local = 0;
+  count = pos 0;
+  state = states.Default;
+  mutex = 0;
+  bearer = 0;
+  kind = kinds.Nothing;
+}
 
 -- no thread: what is read of a number that isn't registered, and of the root
 abbrev pub no_row : Row
@@ -84,11 +94,21 @@ abbrev pub is_immortal : ℕ → Bool
 is_immortal c = nat_lt c FIRST_MORTAL
 
 abbrev pub immortal_kind : ℕ → Kind
-immortal_kind c = if c == 0 then kinds.Nothing else (if c == 1 then kinds.False else (if c == 2 then kinds.True else (if c == GLOBALS then kinds.Dict else kinds.Int)))
+immortal_kind c = if c ==
+    0 then kinds.Nothing else (if c ==
+    1 then kinds.False else (if c == 2 then kinds.True else (if c == GLOBALS then kinds.Dict else kinds.Int)))
 
 -- PEP 703, "Immortal objects": the local word is UINT32_MAX, and counting changes nothing
 abbrev pub immortal : ℕ → Cell
-immortal c = record { owner = owners.Nobody; local = IMMORTAL_LOCAL; count = pos 0; state = states.Default; mutex = 0; bearer = 0; kind = immortal_kind c }
+immortal c = record {
+  owner = owners.Nobody;
+  local = IMMORTAL_LOCAL;
+  count = pos 0;
+  state = states.Default;
+  mutex = 0;
+  bearer = 0;
+  kind = immortal_kind c;
+}
 
 abbrev pub opening_cell : ℕ → Cell
 opening_cell c = if is_immortal c then immortal c else no_cell

@@ -1,8 +1,10 @@
 -- References, and what the theorem on them says of a world.
 --
--- A holder is a place that keeps an object alive; it is read off frames, entries, queue bits, popped bits and hands, and
--- never off a count. The total is the count of PEP 703: the shared count once merged, else local and shared together.
-use Rattle.std.specs.Prelude.{◌≡◌, ℕ, suc, ◌+◌, ◌==◌, ◌&&◌, ◌||◌, not, Bool, true, false, if◌then◌else◌, ℤ, pos, ◌+ℤ◌, List, [], ◌∷◌, ◌++◌, length, drop, sum_by, count_by}
+-- A holder is a place that keeps an object alive; it is read off frames, entries, queue bits, popped bits and hands,
+-- and never off a count. The total is the count of PEP 703: the shared count once merged, else local and shared
+-- together.
+use Rattle.std.specs.Prelude.{◌≡◌, ℕ, suc, ◌+◌, ◌==◌, ◌&&◌, ◌||◌, not, Bool, true, false, if◌then◌else◌, ℤ, pos, ◌+ℤ◌}
+use Rattle.std.specs.Prelude.{List, [], ◌∷◌, ◌++◌, length, drop, sum_by, count_by}
 use Rattle.brc_words.specs.declared.limits.TheConstants.{FIRST_MORTAL}
 use Rattle.brc_words.specs.declared.owner.Owner.{Owner}
 use Rattle.brc_words.specs.declared.owner.Owner.TheVariants as owners
@@ -57,8 +59,8 @@ abbrev pub if_so : Bool → Holder → List Holder
 if_so true holder = holder ∷ []
 if_so false holder = []
 
--- The holders of a cell: frame places, entries, queue bits, popped bits, hands, each by rising numbers. The entries of a
--- locked container count as they stood when it was locked.
+-- The holders of a cell: frame places, entries, queue bits, popped bits, hands, each by rising numbers. The entries of
+-- a locked container count as they stood when it was locked.
 abbrev pub holders_of : Heap → ℕ → List Holder
 holders_of h q =
     each (λ t frame. each (λ k x. if_so (names q x) (holders.Frame t k)) 0 frame) 0 h.frames
@@ -86,7 +88,8 @@ live_count h = sum_by (λ x. one (lives x.owner)) (drop FIRST_MORTAL h.cells)
 pub record Headline (h : Heap) : Type 0 where
   pub counted : (c : ℕ) → lives_at h c ≡ true → total_of (cell_at h c) ≡ pos (length (holders_of h c))
   pub in_hand : (c : ℕ) → lives_at h c ≡ true → holders_of h c ≡ [] → IsInHand h c
-  pub ledger : sum_by (λ row. row.allocs) h.rows + h.past_allocs ≡ sum_by (λ row. row.frees) h.rows + h.past_frees + live_count h
+  pub ledger : sum_by (λ row. row.allocs) h.rows + h.past_allocs ≡ sum_by (λ row. row.frees) h.rows + h.past_frees
+      + live_count h
 
 -- ---- lives and ledgers, told by the run alone
 

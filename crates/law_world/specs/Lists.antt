@@ -1,5 +1,7 @@
 -- Small words on lists: places of a frame, bits of words, marks.
-use Rattle.std.specs.Prelude.{ℕ, ◌+◌, ◌-◌, ◌/◌, ◌%◌, ◌^◌, ◌==◌, not, Bool, true, false, List, ◌++◌, length, take, replicate, Option, Some, None, is_some, slice_index_or, slice_get, slice_set, sum_by, count_by, bit_or, bit_xor}
+use Rattle.std.specs.Prelude.{ℕ, ◌+◌, ◌-◌, ◌/◌, ◌%◌, ◌^◌, ◌==◌, not, Bool, true, false, List, ◌++◌, length, take}
+use Rattle.std.specs.Prelude.{replicate, Option, Some, None, is_some, slice_index_or, slice_get, slice_set, sum_by}
+use Rattle.std.specs.Prelude.{count_by, bit_or, bit_xor}
 use Rattle.std.specs.Int.{bit_at}
 
 -- 1 for yes

@@ -23,19 +23,22 @@ counted_since false before more = before + more
 -- how many of the thread's steps count, since its number was last registered
 abbrev pub steps_since : (Step → Bool) → ℕ → List Event → ℕ
 steps_since counts t [] = 0
-steps_since counts t (e ∷ run) = counted_since ((e.thread == 0) && registers_number t e.step) (steps_since counts t run) (one ((e.thread == t) && counts e.step))
+steps_since counts t (e ∷ run) = counted_since ((e.thread == 0) && registers_number t e.step) (steps_since counts t run)
+    (one ((e.thread == t) && counts e.step))
 
 -- how many of all steps count
 abbrev pub steps_in : (Step → Bool) → List Event → ℕ
 steps_in counts [] = 0
 steps_in counts (e ∷ run) = steps_in counts run + one (counts e.step)
 
--- What the run says of lives and ledgers is so in its world, in either edition: each thread's ledger since its number was last
--- registered, and all ledgers with those of numbers that were used before.
+-- What the run says of lives and ledgers is so in its world, in either edition: each thread's ledger since its number
+-- was last registered, and all ledgers with those of numbers that were used before.
 pub record HistoriesSince (start : Heap) (run : List Event) : Type 0 where
   pub lives : (c : ℕ) → lives_at (world_after start run) c ≡ lives_by run c
   pub allocs : (t : ℕ) → (row_at (world_after start run) t).allocs ≡ steps_since is_birth t run
   pub frees : (t : ℕ) → (row_at (world_after start run) t).frees ≡ steps_since is_free_step t run
-  pub all_allocs : sum_by (λ row. row.allocs) (world_after start run).rows + (world_after start run).past_allocs ≡ steps_in is_birth run
-  pub all_frees : sum_by (λ row. row.frees) (world_after start run).rows + (world_after start run).past_frees ≡ steps_in is_free_step run
+  pub all_allocs : sum_by (λ row. row.allocs) (world_after start run).rows + (world_after start run).past_allocs
+      ≡ steps_in is_birth run
+  pub all_frees : sum_by (λ row. row.frees) (world_after start run).rows + (world_after start run).past_frees
+      ≡ steps_in is_free_step run
   pub deaths : IsOncePerBirth start run

@@ -3,8 +3,10 @@
 --
 -- The picture: a cell has at most one reference on its way through a merge queue; the owner word goes from a thread to
 -- nobody once, by one hand; and an object without holders shows in exactly one hand or on one worklist.
-use Rattle.std.specs.Prelude.{◌≡◌, ◌≢◌, ℕ, ◌+◌, ◌*◌, ◌/◌, ◌==◌, ◌<◌, ◌≤◌, ◌&&◌, not, Bool, true, false, if◌then◌else◌, ℤ, pos, ◌≤ℤ◌, List, [], length, Option, Some, None, slice_index_or, sum_by, ◌⊎◌}
-use Rattle.brc_words.specs.declared.limits.TheConstants.{FIRST_MORTAL, GLOBALS, MOST_ENTRIES, MOST_BIRTHS, IMMORTAL_LOCAL, MOST_PLACES, MOST_THREADS, MOST_REGISTRATIONS}
+use Rattle.std.specs.Prelude.{◌≡◌, ◌≢◌, ℕ, ◌+◌, ◌*◌, ◌/◌, ◌==◌, ◌<◌, ◌≤◌, ◌&&◌, not, Bool, true, false, if◌then◌else◌}
+use Rattle.std.specs.Prelude.{ℤ, pos, ◌≤ℤ◌, List, [], length, Option, Some, None, slice_index_or, sum_by, ◌⊎◌}
+use Rattle.brc_words.specs.declared.limits.TheConstants.{FIRST_MORTAL, GLOBALS, MOST_ENTRIES, MOST_BIRTHS}
+use Rattle.brc_words.specs.declared.limits.TheConstants.{IMMORTAL_LOCAL, MOST_PLACES, MOST_THREADS, MOST_REGISTRATIONS}
 use Rattle.brc_words.specs.declared.owner.Owner.{Owner}
 use Rattle.brc_words.specs.declared.owner.Owner.TheVariants as owners
 use Rattle.brc_words.specs.declared.state.State.{State}
@@ -22,7 +24,8 @@ use Rattle.law_world.specs.declared.row.Phase.TheVariants as phases
 use Rattle.law_world.specs.declared.row.Stage.{Stage}
 use Rattle.law_world.specs.declared.row.Stage.TheVariants as stages
 use Rattle.law_world.specs.Lists.{one, times, entry_times, bit_of, is_marked, place_at}
-use Rattle.law_world.specs.Heap.{Heap, cell_at, entries_at, row_at, frame_at, popped_at, worklist_at, queue_at, immortal_kind, is_gathered, words_for, AreOptions}
+use Rattle.law_world.specs.Heap.{Heap, cell_at, entries_at, row_at, frame_at, popped_at, worklist_at, queue_at}
+use Rattle.law_world.specs.Heap.{immortal_kind, is_gathered, words_for, AreOptions}
 use Rattle.law_world.specs.Steps.{is_active, is_default, is_queued, is_merged, is_closed, is_zero}
 use Rattle.law_world.specs.Holding.{lives, total_of, carries, live_count}
 
@@ -185,7 +188,8 @@ is_active_hand hands.Free = false
 is_active_hand (hands.Busy phase c) = is_active_phase phase
 
 -- what one thread's own part says, beside its queue words and whether it is gathered
-pub record ThreadFits (edition : Edition) (words : ℕ) (row : Row) (frame : List (Option ℕ)) (popped : List ℕ) (worklist : List Bool) (queue : List ℕ) (gathered : Bool) : Type 0 where
+pub record ThreadFits (edition : Edition) (words : ℕ) (row : Row) (frame : List (Option ℕ)) (popped : List ℕ)
+    (worklist : List Bool) (queue : List ℕ) (gathered : Bool) : Type 0 where
   pub inactive_hand : is_active row.stage ≡ false → is_active_hand row.hand ≡ false
   pub inactive_frame : is_active row.stage ≡ false → (k : ℕ) → place_at frame k ≡ None
   pub inactive_lock : is_active row.stage ≡ false → row.locked ≡ None
@@ -220,7 +224,8 @@ pub record IsShaped (h : Heap) : Type 0 where
 -- what a hand says of its cell, which is mortal
 pub record HandFits (h : Heap) (t : ℕ) (phase : Phase) (d : ℕ) : Type 0 where
   pub mortal : FIRST_MORTAL ≤ d
-  pub fits : PhaseFits h.edition t (row_at h t) (popped_at h t) (cell_at h d) (row_at h (cell_at h d).bearer).stage d phase
+  pub fits : PhaseFits h.edition t (row_at h t) (popped_at h t) (cell_at h d)
+      (row_at h (cell_at h d).bearer).stage d phase
 
 -- a lock is told by the thread's place and by the cell's mutex alike
 pub record Locks (h : Heap) (t k q : ℕ) : Type 0 where
@@ -240,10 +245,13 @@ pub record IsSound (h : Heap) : Type 0 where
   pub cells : (q : ℕ) → FIRST_MORTAL ≤ q → CellFits (length h.rows) h.limit (rests_at h) (cell_at h q) (entries_at h q)
   pub immortals : (q : ℕ) → q < FIRST_MORTAL → ImmortalFits q (cell_at h q) (entries_at h q)
   pub worklists : (t q : ℕ) → is_marked (worklist_at h t) q ≡ true → WorklistFits t q (cell_at h q)
-  pub threads : (t : ℕ) → ThreadFits h.edition (words_for (length h.cells)) (row_at h t) (frame_at h t) (popped_at h t) (worklist_at h t) (queue_at h t) (is_gathered h t)
-  pub bits : (t q : ℕ) → 0 < bit_of (queue_at h t) q + bit_of (popped_at h t) q → (FIRST_MORTAL ≤ q) × ((cell_at h q).bearer ≡ t)
+  pub threads : (t : ℕ) → ThreadFits h.edition (words_for (length h.cells)) (row_at h t) (frame_at h t) (popped_at h t)
+      (worklist_at h t) (queue_at h t) (is_gathered h t)
+  pub bits : (t q : ℕ) → 0 < bit_of (queue_at h t) q + bit_of (popped_at h t) q
+      → (FIRST_MORTAL ≤ q) × ((cell_at h q).bearer ≡ t)
   pub locks : (t k : ℕ) → (row_at h t).locked ≡ Some k → (q : ℕ) × Locks h t k q × ((cell_at h q).mutex ≡ t)
   pub mutexes : (t q : ℕ) → 0 < t → (cell_at h q).mutex ≡ t → (k : ℕ) × Locks h t k q
-  pub ledger : sum_by (λ row. row.allocs) h.rows + h.past_allocs ≡ sum_by (λ row. row.frees) h.rows + h.past_frees + live_count h
+  pub ledger : sum_by (λ row. row.allocs) h.rows + h.past_allocs ≡ sum_by (λ row. row.frees) h.rows + h.past_frees
+      + live_count h
   pub past : (h.past_allocs ≤ h.registrations * MOST_BIRTHS) × (h.registrations ≤ MOST_REGISTRATIONS)
   pub first : h.edition ≡ editions.One → h.registrations + 1 ≡ length h.rows

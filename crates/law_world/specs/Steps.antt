@@ -1,11 +1,15 @@
 -- The atomic steps: when each is enabled, and what it does.
 --
--- Both are factored: what the thread's own part must be, which one cell is meant (read off the own part alone), and what
--- that cell must be; then what becomes of the cell, of the own part, of entries and of queue words. Counting, merging,
--- asking and the merge queue are those of PEP 703, "Biased Reference Counting", and of Choi, Shull and Torrellas;
--- claiming, the hand, closed queue words and the worklist are this heap's own.
-use Rattle.std.specs.Prelude.{ℕ, zero, suc, ◌+◌, ◌-◌, ◌/◌, ◌^◌, ◌==◌, nat_lt, nat_le, ◌&&◌, ◌||◌, not, Bool, true, false, if◌then◌else◌, ℤ, pos, negsuc, ◌+ℤ◌, ◌-ℤ◌, List, [], ◌∷◌, ◌++◌, length, replicate, remove, bit_or, Option, Some, None, is_none, is_some, slice_index_or, slice_get, slice_set}
-use Rattle.brc_words.specs.declared.limits.TheConstants.{FIRST_MORTAL, MOST_ENTRIES, MOST_BIRTHS, MOST_PLACES, MOST_THREADS, MOST_REGISTRATIONS}
+-- Both are factored: what the thread's own part must be, which one cell is meant (read off the own part alone), and
+-- what that cell must be; then what becomes of the cell, of the own part, of entries and of queue words. Counting,
+-- merging, asking and the merge queue are those of PEP 703, "Biased Reference Counting", and of Choi, Shull and
+-- Torrellas; claiming, the hand, closed queue words and the worklist are this heap's own.
+use Rattle.std.specs.Prelude.{ℕ, zero, suc, ◌+◌, ◌-◌, ◌/◌, ◌^◌, ◌==◌, nat_lt, nat_le, ◌&&◌, ◌||◌, not, Bool, true}
+use Rattle.std.specs.Prelude.{false, if◌then◌else◌, ℤ, pos, negsuc, ◌+ℤ◌, ◌-ℤ◌, List, [], ◌∷◌, ◌++◌, length, replicate}
+use Rattle.std.specs.Prelude.{remove, bit_or, Option, Some, None, is_none, is_some, slice_index_or, slice_get}
+use Rattle.std.specs.Prelude.{slice_set}
+use Rattle.brc_words.specs.declared.limits.TheConstants.{FIRST_MORTAL, MOST_ENTRIES, MOST_BIRTHS, MOST_PLACES}
+use Rattle.brc_words.specs.declared.limits.TheConstants.{MOST_THREADS, MOST_REGISTRATIONS}
 use Rattle.brc_words.specs.Kinds.{is_mortal, is_container}
 use Rattle.brc_words.specs.declared.owner.Owner.{Owner}
 use Rattle.brc_words.specs.declared.owner.Owner.TheVariants as owners
@@ -17,7 +21,10 @@ use Rattle.law_world.specs.declared.edition.Edition.{Edition}
 use Rattle.law_world.specs.declared.edition.Edition.TheVariants as editions
 use Rattle.law_world.specs.declared.event.Event.{Event}
 use Rattle.law_world.specs.declared.event.Step.{Step}
-use Rattle.law_world.specs.declared.event.Step.TheVariants.{Claim, InitLocal, InitShared, Birth, LocalUp, LocalDown, SeeZero, Free, Untie, MergeZero, SharedUp, SharedDown, Ask, LastDown, Enqueue, Drain, MergeAdd, Close, Nudge, Wake, Lock, Unlock, Register, Gather, Offer, Reopen}
+use Rattle.law_world.specs.declared.event.Step.TheVariants.{Claim, InitLocal, InitShared, Birth, LocalUp, LocalDown}
+use Rattle.law_world.specs.declared.event.Step.TheVariants.{SeeZero, Free, Untie, MergeZero, SharedUp, SharedDown, Ask}
+use Rattle.law_world.specs.declared.event.Step.TheVariants.{LastDown, Enqueue, Drain, MergeAdd, Close, Nudge, Wake}
+use Rattle.law_world.specs.declared.event.Step.TheVariants.{Lock, Unlock, Register, Gather, Offer, Reopen}
 use Rattle.law_world.specs.declared.event.Source.{Source}
 use Rattle.law_world.specs.declared.event.Source.TheVariants as sources
 use Rattle.law_world.specs.declared.event.Dropped.{Dropped}
@@ -33,8 +40,10 @@ use Rattle.law_world.specs.declared.row.Phase.{Phase}
 use Rattle.law_world.specs.declared.row.Phase.TheVariants as phases
 use Rattle.law_world.specs.declared.row.Stage.{Stage}
 use Rattle.law_world.specs.declared.row.Stage.TheVariants as stages
-use Rattle.law_world.specs.Lists.{place_at, filled, vacated, is_marked, last_of, front_of, number_in, bit_of, word_at, with_bit, without_bit, is_bare, is_unmarked, is_blank}
-use Rattle.law_world.specs.Heap.{Heap, cell_at, entries_at, row_at, frame_at, popped_at, worklist_at, queue_at, no_cell, new_row, again_row, is_registered, is_gathered, is_immortal, words_for}
+use Rattle.law_world.specs.Lists.{place_at, filled, vacated, is_marked, last_of, front_of, number_in, bit_of, word_at}
+use Rattle.law_world.specs.Lists.{with_bit, without_bit, is_bare, is_unmarked, is_blank}
+use Rattle.law_world.specs.Heap.{Heap, cell_at, entries_at, row_at, frame_at, popped_at, worklist_at, queue_at, no_cell}
+use Rattle.law_world.specs.Heap.{new_row, again_row, is_registered, is_gathered, is_immortal, words_for}
 
 -- ---- which cell a step means
 
@@ -190,7 +199,8 @@ hand_ok hand (LocalUp source k) = is_free_hand hand
 hand_ok hand (LocalDown drop) = is_free_hand hand
 hand_ok hand (SeeZero c) = is_at phases.Zero c hand
 hand_ok hand (Free c) = is_free_hand hand
-hand_ok hand (Untie c) = is_at phases.Over c hand || is_at phases.Shut c hand || is_at phases.Offered c hand || is_free_hand hand
+hand_ok hand (Untie c) = is_at phases.Over c hand || is_at phases.Shut c hand || is_at phases.Offered c hand ||
+    is_free_hand hand
 hand_ok hand (MergeZero c) = is_at phases.Untied c hand
 hand_ok hand (SharedUp source k) = is_free_hand hand
 hand_ok hand (SharedDown drop) = is_free_hand hand
@@ -270,9 +280,12 @@ is_unlocked (Some k) j = not (k == j)
 -- what the change needs of the frame and of the entries of the locked object
 abbrev pub change_ok : Option ℕ → List (Option ℕ) → List ℕ → Change → Bool
 change_ok locked frame entries changes.Keep = true
-change_ok locked frame entries (changes.Put j) = nat_lt (length entries) MOST_ENTRIES && is_some (place_at frame j) && is_unlocked locked j
-change_ok locked frame entries (changes.Take i j) = nat_lt i (length entries) && is_vacant frame j && is_unlocked locked j
-change_ok locked frame entries (changes.Swap i j) = nat_lt i (length entries) && is_some (place_at frame j) && is_unlocked locked j
+change_ok locked frame entries (changes.Put j) = nat_lt (length entries) MOST_ENTRIES && is_some
+    (place_at frame j) && is_unlocked locked j
+change_ok locked frame entries (changes.Take i j) = nat_lt i (length entries) && is_vacant frame j &&
+    is_unlocked locked j
+change_ok locked frame entries (changes.Swap i j) = nat_lt i (length entries) && is_some
+    (place_at frame j) && is_unlocked locked j
 
 -- the entries of the locked object
 abbrev pub locked_entries : (ℕ → List ℕ) → Option ℕ → List ℕ
@@ -294,8 +307,10 @@ own_ok words row frame popped worklist has (Untie c) = untie_ok row.hand popped 
 own_ok words row frame popped worklist has (SharedUp source k) = is_vacant frame k
 own_ok words row frame popped worklist has (LastDown (lasts.Popped c)) = bit_of popped c == 1
 own_ok words row frame popped worklist has (Drain k) = nat_lt k words
-own_ok words row frame popped worklist has (Close k) = nat_lt k words && closes_next row.stage k && is_bare frame && may_begin_closing popped k
-own_ok words row frame popped worklist has (Unlock change) = change_ok row.locked frame (locked_entries has (locked_cell frame row.locked)) change
+own_ok words row frame popped worklist has (Close k) = nat_lt k words && closes_next row.stage k && is_bare frame &&
+    may_begin_closing popped k
+own_ok words row frame popped worklist has (Unlock change) = change_ok row.locked frame
+    (locked_entries has (locked_cell frame row.locked)) change
 own_ok words row frame popped worklist has (Offer c) = not (is_marked worklist c)
 own_ok words row frame popped worklist has (Reopen k) = nat_lt k words && opens_next row.stage k
 own_ok words row frame popped worklist has _ = true
@@ -409,7 +424,8 @@ edition_ok editions.Two row _ = true
 -- of the first so many cells each that the thread owns is on its worklist
 abbrev pub owned_are_marked : ℕ → List Cell → List Bool → ℕ → Bool
 owned_are_marked t cells worklist zero = true
-owned_are_marked t cells worklist (suc n) = owned_are_marked t cells worklist n && (not (is_owned_by t (slice_index_or cells n no_cell).owner) || is_marked worklist n)
+owned_are_marked t cells worklist (suc n) = owned_are_marked t cells worklist n &&
+    (not (is_owned_by t (slice_index_or cells n no_cell).owner) || is_marked worklist n)
 
 -- what a thread must have done with its objects before it closes: in the first edition its worklist is empty, in the
 -- second each object that it owns is on its worklist
@@ -427,7 +443,8 @@ abbrev pub target_at : Heap → ℕ → Step → Option ℕ
 target_at h t s = target (row_at h t) (frame_at h t) (worklist_at h t) (entries_at h) s
 
 abbrev pub own_ok_at : Heap → ℕ → Step → Bool
-own_ok_at h t s = own_ok (words_for (length h.cells)) (row_at h t) (frame_at h t) (popped_at h t) (worklist_at h t) (entries_at h) s
+own_ok_at h t s = own_ok (words_for (length h.cells)) (row_at h t) (frame_at h t) (popped_at h t) (worklist_at h t)
+    (entries_at h) s
 
 -- a thread's step
 abbrev pub thread_may : Heap → ℕ → Step → Bool
@@ -454,7 +471,8 @@ abbrev pub root_may : Heap → Step → Bool
 root_may h (Register u) = number_ok h.edition h u && nat_le u MOST_THREADS
 root_may h (Gather u) =
     is_registered h u && not (is_gathered h u)
-    && is_left (row_at h u).stage && is_free_hand (row_at h u).hand && is_blank (popped_at h u) && is_unmarked (worklist_at h u)
+    && is_left (row_at h u).stage && is_free_hand (row_at h u).hand && is_blank (popped_at h u) && is_unmarked
+    (worklist_at h u)
 root_may h _ = false
 
 abbrev pub enabled : Heap → Event → Bool
@@ -513,7 +531,8 @@ hand_after (Claim d) c x shut hand = hands.Busy phases.Claimed c
 hand_after (InitLocal d) c x shut hand = hands.Busy phases.Counted c
 hand_after (InitShared d) c x shut hand = hands.Busy phases.Ready c
 hand_after (Birth d kind k) c x shut hand = hands.Free
-hand_after (LocalDown drop) c x shut hand = if not (is_immortal c) && (x.local == 1) then hands.Busy phases.Zero c else hand
+hand_after (LocalDown drop) c x shut hand = if not (is_immortal c) && (x.local == 1) then hands.Busy phases.Zero
+    c else hand
 hand_after (SeeZero d) c x shut hand = if is_untouched x then hands.Free else hands.Busy phases.Over c
 hand_after (Untie d) c x shut hand = untied_hand c hand
 hand_after (MergeZero d) c x shut hand = hands.Free
@@ -538,7 +557,12 @@ frees_after (Free d) n = n + 1
 frees_after _ n = n
 
 abbrev pub row_after : Step → ℕ → Cell → Bool → Row → Row
-row_after s c x shut row = record row { hand = hand_after s c x shut row.hand; locked = locked_after s row.locked; allocs = allocs_after s row.allocs; frees = frees_after s row.frees }
+row_after s c x shut row = record row {
+  hand = hand_after s c x shut row.hand;
+  locked = locked_after s row.locked;
+  allocs = allocs_after s row.allocs;
+  frees = frees_after s row.frees;
+}
 
 -- ---- the parts of an effect: what a step fills, lets go, changes, settles and marks
 
@@ -618,7 +642,8 @@ without_settled (Some c) popped = without_bit popped c
 
 -- a worklist: a block goes, or is taken
 abbrev pub worklist_with : Bool → Bool → ℕ → List Bool → List Bool
-worklist_with frees takes c worklist = if frees then slice_set worklist c false else (if takes then slice_set worklist c true else worklist)
+worklist_with frees takes c worklist =
+    if frees then slice_set worklist c false else (if takes then slice_set worklist c true else worklist)
 
 -- the merge queues: the cell's bit is set in a thread's, unless that word is closed
 abbrev pub queues_with : Bool → Bool → ℕ → ℕ → List (List ℕ) → List (List ℕ)
@@ -645,7 +670,8 @@ frame_after (Unlock change) c x entries frame = frame_changed change entries fra
 frame_after s c x entries frame = frame_with (filled_place s) (gone s x) c frame
 
 abbrev pub entries_after : Step → ℕ → Cell → List (Option ℕ) → List (List ℕ) → List (List ℕ)
-entries_after (Unlock change) c x frame lists = slice_set lists c (entries_changed change frame (slice_index_or lists c []))
+entries_after (Unlock change) c x frame lists =
+    slice_set lists c (entries_changed change frame (slice_index_or lists c []))
 entries_after s c x frame lists = entries_with (born_cell s) (gone s x) lists
 
 abbrev pub popped_after : Step → List ℕ → List ℕ
@@ -704,14 +730,16 @@ without_drained (Some k) queue = slice_set queue k 0
 
 -- the notify words: one more bit for 32 queue words, or all taken
 abbrev pub notify_words_after : ℕ → Step → List ℕ → List ℕ
-notify_words_after t (Nudge u k) notify_words = slice_set notify_words u (bit_or (word_at notify_words u) (2 ^ (k / 32)))
+notify_words_after t (Nudge u k) notify_words = slice_set notify_words u
+    (bit_or (word_at notify_words u) (2 ^ (k / 32)))
 notify_words_after t Wake notify_words = slice_set notify_words t 0
 notify_words_after t _ notify_words = notify_words
 
 -- what a thread's step does that means no cell
 abbrev pub kept_cells : Heap → ℕ → Step → Heap
 kept_cells h t s = record h {
-  rows = slice_set h.rows t (record (row_at h t) { stage = stage_after (words_for (length h.cells)) s (row_at h t).stage });
+  rows = slice_set h.rows t
+      (record (row_at h t) { stage = stage_after (words_for (length h.cells)) s (row_at h t).stage });
   popped = slice_set h.popped t (with_drained (drained_word s) (queue_at h t) (popped_at h t));
   queues = slice_set h.queues t (without_drained (drained_word s) (queue_at h t));
   notify_words = notify_words_after t s h.notify_words;

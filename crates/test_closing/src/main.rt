@@ -1,5 +1,5 @@
-//! Heaps that are closed, and their reports: a list that holds itself, a text that the globals hold, globals that are cleared, a thread
-//! that nobody gathered, and a report for which memory is wanting.
+//! Heaps that are closed, and their reports: a list that holds itself, a text that the globals hold, globals that are
+//! cleared, a thread that nobody gathered, and a report for which memory is wanting.
 #![tactic(auto)]
 
 mod lives;

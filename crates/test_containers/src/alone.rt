@@ -1,5 +1,5 @@
-//! Lives of one thread on a heap of its own, each of which leaves nothing: calls that never wait where no other thread has the object
-//! locked, and objects edited by guards.
+//! Lives of one thread on a heap of its own, each of which leaves nothing: calls that never wait where no other thread
+//! has the object locked, and objects edited by guards.
 
 ghost use Rattle.brc_count.specs.Frames.{IsUnlocked};
 ghost use Rattle.brc_count.specs.Owned.{Keeps};

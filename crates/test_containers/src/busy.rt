@@ -32,8 +32,8 @@ fn has_an_empty_list<R: Abort + Wait, H: Home<A>, A: Allocator>(
     assert!(rt; try_int_of(frame, list) == Err(Fault::WrongKind));
 }
 
-/// While the first thread has the globals locked, with room and a place, the second one finds them Busy; its own list it can use.
-/// It answers its list.
+/// While the first thread has the globals locked, with room and a place, the second one finds them Busy; its own list
+/// it can use. It answers its list.
 fn locks_meanwhile<R: Abort + Wait, H: Home<A>, A: Allocator + Copy>(
     rt: &R,
     frame: &mut Frame<H, A>,

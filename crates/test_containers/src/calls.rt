@@ -1,5 +1,5 @@
-//! Calls on containers by their names: those that a value is given to, those that answer a handle to an entry, and those that
-//! exchange the two. Each says of the frame's handles what the call itself says.
+//! Calls on containers by their names: those that a value is given to, those that answer a handle to an entry, and
+//! those that exchange the two. Each says of the frame's handles what the call itself says.
 
 ghost use Rattle.std.specs.Prelude.{◌≡◌, ◌≢◌, IfOk, IfErr, IfSome, OnOk, OnErr};
 ghost use Rattle.brc_count.specs.Frames.{IsUnlocked, Owns};

@@ -1,5 +1,5 @@
-//! Globals that can't be cleared for want of memory: for the handle to them, and for the one to an entry. What they hold and what the
-//! thread has is as before, and with memory they are cleared.
+//! Globals that can't be cleared for want of memory: for the handle to them, and for the one to an entry. What they
+//! hold and what the thread has is as before, and with memory they are cleared.
 
 ghost use Rattle.std.specs.Prelude.{◌≡◌, All};
 ghost use Rattle.brc_count.specs.Frames.{IsUnlocked, Owns};

@@ -1,6 +1,6 @@
-//! A copy refused for want of memory, of a text or of a dictionary's key, or the place of the value beside it: the frame and the object
-//! are as before, and with memory the copy is had. Memory is all taken at first, with the frame's places, and comes back a piece at a
-//! time.
+//! A copy refused for want of memory, of a text or of a dictionary's key, or the place of the value beside it: the
+//! frame and the object are as before, and with memory the copy is had. Memory is all taken at first, with the frame's
+//! places, and comes back a piece at a time.
 
 ghost use Rattle.std.specs.Prelude.{◌≡◌};
 ghost use Rattle.brc_count.specs.Frames.{IsUnlocked, Owns};

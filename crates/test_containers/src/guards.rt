@@ -1,4 +1,5 @@
-//! Objects that are locked by a guard: looked at, and unlocked as they were found, or with one entry more, fewer or exchanged.
+//! Objects that are locked by a guard: looked at, and unlocked as they were found, or with one entry more, fewer or
+//! exchanged.
 
 ghost use Rattle.std.specs.Prelude.{◌≡◌, ◌≢◌, IfOk, IfErr, OnOk, OnErr};
 ghost use Rattle.brc_count.specs.Frames.{IsUnlocked, Owns};

@@ -1,9 +1,9 @@
-//! Worked runs of containers that threads share, run by the gate: what no script of `brc run` can say of them. An object that another
-//! thread has locked, objects edited by a guard, calls that never wait, refused growths and copies, letters of two real threads in
-//! their order, and a thread that departs.
+//! Worked runs of containers that threads share, run by the gate: what no script of `brc run` can say of them. An
+//! object that another thread has locked, objects edited by a guard, calls that never wait, refused growths and copies,
+//! letters of two real threads in their order, and a thread that departs.
 //!
-//! Tests, and what they look at. Each call's conditions are shown from the contracts of the crates below alone; only of handles
-//! that a vector keeps it is looked at, as the test runs, whether the frame owns them.
+//! Tests, and what they look at. Each call's conditions are shown from the contracts of the crates below alone; only of
+//! handles that a vector keeps it is looked at, as the test runs, whether the frame owns them.
 #![tactic(auto)]
 
 mod sums;

@@ -1,6 +1,6 @@
-//! Each growth of a container call refused in turn: the call answers OutOfMemory and hands back what it took, the container has
-//! as many entries as before, and the frame as many handles; with memory it then passes. Memory is all taken at first, and
-//! comes back a piece at a time.
+//! Each growth of a container call refused in turn: the call answers OutOfMemory and hands back what it took, the
+//! container has as many entries as before, and the frame as many handles; with memory it then passes. Memory is all
+//! taken at first, and comes back a piece at a time.
 
 ghost use Rattle.std.specs.Prelude.{◌≡◌, ◌<◌, ◌++◌, ◌∷◌, [], All, length, OnOk, OnErr};
 ghost use Rattle.brc_count.specs.Frames.{HandleSeen, IsUnlocked, Owns};
@@ -238,8 +238,8 @@ fn putting(getting: Getting) -> Giving {
     }
 }
 
-/// An entry is refused for want of memory, another thread finds the container free and as it was, and with memory the entry goes
-/// in.
+/// An entry is refused for want of memory, another thread finds the container free and as it was, and with memory the
+/// entry goes in.
 fn refuses_an_entry<'h, R: Abort + Wait, H: Home<&'h LocalHeap>>(
     rt: &R,
     alloc: Global,

@@ -1,5 +1,5 @@
-//! Calls that need no memory, while none is left: each does its work. What they want was had before: places of the frame, and room in
-//! the list.
+//! Calls that need no memory, while none is left: each does its work. What they want was had before: places of the
+//! frame, and room in the list.
 
 ghost use Rattle.std.specs.Prelude.{◌≡◌, ◌≢◌};
 ghost use Rattle.brc_count.specs.Frames.{IsUnlocked, Owns};
@@ -43,7 +43,8 @@ fn reads_both<R: Abort + Wait, H: Home<A>, A: Allocator>(
     assert!(rt; int_of(rt, frame, number) == Ok(1_002));
 }
 
-/// An entry is looked at, exchanged three times, put in as a third, and taken out; the answer is a handle to what was the first.
+/// An entry is looked at, exchanged three times, put in as a third, and taken out; the answer is a handle to what was
+/// the first.
 fn edits<R: Abort + Wait, H: Home<A>, A: Allocator + Copy>(
     rt: &R,
     frame: &mut Frame<H, A>,
@@ -69,7 +70,8 @@ fn edits<R: Abort + Wait, H: Home<A>, A: Allocator + Copy>(
     gets(rt, frame, list, Getting::Take(2, way))
 }
 
-/// A list and an integer are made; then no memory is left, and they are read, edited and released. The answer is the memory.
+/// A list and an integer are made; then no memory is left, and they are read, edited and released. The answer is the
+/// memory.
 fn uses_without_memory<'h, R: Abort + Wait, H: Home<&'h LocalHeap>>(
     rt: &R,
     alloc: Global,

@@ -1,5 +1,5 @@
-//! The examples, run: each trace of `data/` is replayed, and its world compared with the text that stands beside it; each script is
-//! run as its first line says, and its output compared.
+//! The examples, run: each trace of `data/` is replayed, and its world compared with the text that stands beside it;
+//! each script is run as its first line says, and its output compared.
 #![tactic(auto)]
 
 mod library;

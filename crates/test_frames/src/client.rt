@@ -1,5 +1,5 @@
-//! What a client writes over its handles: a stack that grows, registers, and calls that take a handle's reference. Nothing here
-//! has a proof of its own but the loop's invariant.
+//! What a client writes over its handles: a stack that grows, registers, and calls that take a handle's reference.
+//! Nothing here has a proof of its own but the loop's invariant.
 
 ghost use Rattle.std.specs.Prelude.{◌≡◌, ◌≢◌, ◌<◌, IsSome, IfErr, OnOk, OnErr, length};
 ghost use Rattle.brc_count.specs.Frames.{IsUnlocked, Owns};
@@ -83,8 +83,8 @@ fn gives<H: Home<A>, A: Allocator>(
     Ok(())
 }
 
-/// The value of one register is given to the list of another; it stays in its own where that refuses it, or where there is no
-/// list.
+/// The value of one register is given to the list of another; it stays in its own where that refuses it, or where there
+/// is no list.
 pub(crate) fn gives_register<H: Home<A>, A: Allocator>(
     frame: &mut Frame<H, A>,
     handles: &mut Handles<A>,

@@ -9,7 +9,8 @@ use brc_words::Fault;
 use std::alloc::{Allocator, Global};
 use std::process::Abort;
 
-/// Whether a thread enters with what memory is left. If it doesn't, the root is as it was, and the next thread is the first.
+/// Whether a thread enters with what memory is left. If it doesn't, the root is as it was, and the next thread is the
+/// first.
 fn enters<A: Allocator + Copy>(rt: &impl Abort, memories: Memories<A>) -> bool {
     let (table, root) = opened(rt, memories.ample);
     let mut root = root;
@@ -48,7 +49,8 @@ fn counts_with(rt: &impl Abort, alloc: Global, bytes: usize) -> bool {
     first_counts(&scarce, 512).is_ok()
 }
 
-/// The local counts are had as a thread enters, and then the popped words: each growth of both is refused with some memory.
+/// The local counts are had as a thread enters, and then the popped words: each growth of both is refused with some
+/// memory.
 #[test]
 fn a_thread_without_memory_is_not_registered(rt: HostRuntime) {
     let (mut no_counts, mut no_words) = (false, false);

@@ -1,5 +1,5 @@
-//! Many handles of one frame, kept in a vector. Of what the vector has, proofs know the heap alone, so whether the frame owns a
-//! handle that comes out of it is looked at.
+//! Many handles of one frame, kept in a vector. Of what the vector has, proofs know the heap alone, so whether the
+//! frame owns a handle that comes out of it is looked at.
 
 ghost use Rattle.std.specs.Prelude.{◌≡◌, ◌++◌, ◌∷◌, [], ◌<◌, All, length};
 ghost use Rattle.brc_count.specs.Frames.{IsUnlocked};

@@ -1,4 +1,5 @@
-//! None, False, True and integers: which are there already, and in which cells, and which are made; and a frame that has a handle.
+//! None, False, True and integers: which are there already, and in which cells, and which are made; and a frame that
+//! has a handle.
 
 ghost use Rattle.brc_count.specs.Frames.{IsUnlocked, Owns};
 ghost use Rattle.brc_count.specs.Owned.{GoesOn, Loses};
@@ -61,7 +62,8 @@ fn immortals<H: Home<A>, A: Allocator + Copy>(rt: &impl Abort, alloc: A, frame: 
     is_in(rt, alloc, frame, 256, LAST_INTEGER);
 }
 
-/// Nobody counts an immortal, and releases of it leave nothing to be done; the next integer is made, and dies in one turn.
+/// Nobody counts an immortal, and releases of it leave nothing to be done; the next integer is made, and dies in one
+/// turn.
 #[test]
 fn what_is_immortal_is_not_made(rt: HostRuntime) {
     let (table, root) = opened(&rt, rt.alloc());

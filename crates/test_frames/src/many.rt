@@ -1,4 +1,5 @@
-//! Many handles in one value: a stack that goes together, registers that are copied and given away, and a growth that is refused.
+//! Many handles in one value: a stack that goes together, registers that are copied and given away, and a growth that
+//! is refused.
 
 ghost use Rattle.std.specs.Prelude.{◌≡◌};
 ghost use Rattle.brc_count.specs.Frames.{IsUnlocked};

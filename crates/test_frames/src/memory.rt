@@ -1,4 +1,5 @@
-//! Memory that is bounded: an arena, which takes nothing back, and a heap whose pieces are all taken and come back one by one.
+//! Memory that is bounded: an arena, which takes nothing back, and a heap whose pieces are all taken and come back one
+//! by one.
 
 use bumpalo::Bump;
 use linked_list_allocator::LocalHeap;

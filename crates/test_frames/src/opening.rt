@@ -1,4 +1,5 @@
-//! A heap that has too little memory to open, and a thread that has too little to be registered, with a bit more each time.
+//! A heap that has too little memory to open, and a thread that has too little to be registered, with a bit more each
+//! time.
 
 ghost use Rattle.std.specs.Prelude.{◌≡◌};
 
@@ -53,7 +54,8 @@ fn is_registered<R: Abort + Wait, A: Allocator + Copy>(
     }
 }
 
-/// Whether a thread is registered that has scarce memory. If it isn't, the root is as it was, and the next thread is the first.
+/// Whether a thread is registered that has scarce memory. If it isn't, the root is as it was, and the next thread is
+/// the first.
 fn registers<R: Abort + Wait, A: Allocator + Copy>(rt: &R, ample: A, scarce: A) -> bool {
     let Ok((heap, mut root)) = Heap::new(ample, OPTIONS) else {
         panic!(rt; "no heap can be had")

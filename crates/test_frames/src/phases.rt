@@ -1,4 +1,5 @@
-//! What the worked runs share: a table that opens, a frame that is entered, a reference that is had, and a thread that leaves.
+//! What the worked runs share: a table that opens, a frame that is entered, a reference that is had, and a thread that
+//! leaves.
 
 ghost use Rattle.std.specs.Prelude.{◌≡◌, ◌<◌, ◌≤◌, []};
 ghost use Rattle.brc_words.specs.declared.limits.TheConstants.{FIRST_MORTAL, MOST_THREADS};
@@ -109,8 +110,8 @@ pub(crate) fn stays<H: Home<A>, A: Allocator>(rt: &impl Abort, frame: Frame<H, A
     }
 }
 
-/// A thread that has no handle leaves, and so many turns of work are left to it then; the root gathers it, and the answer is its
-/// last ledger.
+/// A thread that has no handle leaves, and so many turns of work are left to it then; the root gathers it, and the
+/// answer is its last ledger.
 pub(crate) fn leaves_late<H: Home<A> + Drop, A: Allocator>(
     rt: &impl Abort,
     table: &HeapTable<A>,

@@ -1,5 +1,6 @@
-//! Each growth of a call refused in turn: the call answers OutOfMemory, and what is seen of the frame is as it was. Memory is all
-//! taken at first and comes back a piece at a time, so each growth is the one that is refused at some time.
+//! Each growth of a call refused in turn: the call answers OutOfMemory, and what is seen of the frame is as it was.
+//! Memory is all taken at first and comes back a piece at a time, so each growth is the one that is refused at some
+//! time.
 
 ghost use Rattle.std.specs.Prelude.{◌≡◌, ◌<◌, All, IfOk, OnErr, IfSome, IfNone, length};
 ghost use Rattle.brc_count.specs.Frames.{HandleSeen, IsUnlocked, Owns};
@@ -144,8 +145,8 @@ struct Growths {
     block: bool,
 }
 
-/// The call, with a piece of memory more each time, until it passes. A place that is had stays had, by which it is told which
-/// growth was refused.
+/// The call, with a piece of memory more each time, until it passes. A place that is had stays had, by which it is told
+/// which growth was refused.
 fn until_it_passes<'h, H: Home<&'h LocalHeap>>(
     rt: &impl Abort,
     pieces: &mut Pieces<'h>,
@@ -178,7 +179,8 @@ fn until_it_passes<'h, H: Home<&'h LocalHeap>>(
     panic!(rt; "the call never passes")
 }
 
-/// The call is refused at each of its growths, and then passes: the handle is to this cell. Nothing is left of the refusals.
+/// The call is refused at each of its growths, and then passes: the handle is to this cell. Nothing is left of the
+/// refusals.
 fn is_refused_in_turn<'h>(
     rt: &impl Abort,
     alloc: Global,

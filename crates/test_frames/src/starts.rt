@@ -51,7 +51,8 @@ fn claims_go_round(rt: HostRuntime) {
     ends(&rt, table, root);
 }
 
-/// A cell of a lower word that was freed is the next one claimed, but where its word is below the one that was asked for.
+/// A cell of a lower word that was freed is the next one claimed, but where its word is below the one that was asked
+/// for.
 #[test]
 fn claims_stay_near_what_was_freed(rt: HostRuntime) {
     let (table, root) = opened(&rt, rt.alloc());

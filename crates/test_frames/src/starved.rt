@@ -1,5 +1,5 @@
-//! Deaths and an asked owner while no memory is left: what a call gives back is taken at once, so that a release, a poll, turns of
-//! work and all that a thread does on its way out take none.
+//! Deaths and an asked owner while no memory is left: what a call gives back is taken at once, so that a release, a
+//! poll, turns of work and all that a thread does on its way out take none.
 
 ghost use Rattle.brc_count.specs.Frames.{IsUnlocked, Owns};
 ghost use Rattle.brc_count.specs.Owned.{GoesOn};
@@ -142,7 +142,8 @@ fn a_long_chain_dies_a_turn_at_a_time(rt: HostRuntime) {
     assert_eq!(rt; memory.used(), 0);
 }
 
-/// A thread asks the owners of two lists that it lets go: the one polls and works then, and the other finds the request on its way out.
+/// A thread asks the owners of two lists that it lets go: the one polls and works then, and the other finds the request
+/// on its way out.
 fn asks_on_a_heap<'h>(rt: &(impl Abort + Wait), alloc: Global, memory: &'h LocalHeap) {
     let (table, root) = opened_with(rt, memory, 512);
     let mut root = root;

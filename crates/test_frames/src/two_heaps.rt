@@ -1,5 +1,5 @@
-//! Two heaps at once: objects live and die each at its own. That a handle is of one heap and not of the other is what contracts
-//! say of it; both heaps have a thread 1, a place 0 and a cell 266.
+//! Two heaps at once: objects live and die each at its own. That a handle is of one heap and not of the other is what
+//! contracts say of it; both heaps have a thread 1, a place 0 and a cell 266.
 
 use crate::phases::says;
 use crate::things::{an_empty_list, an_int};

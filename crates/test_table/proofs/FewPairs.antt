@@ -12,7 +12,8 @@ one_item [] x long there = absurd (omega (arith, long))
 one_item (y ∷ []) x long there = cc
 one_item (y ∷ z ∷ ys) x long there = absurd (omega (arith, long))
 
-two_items : {X : Type 0} (xs : List X) (x y : X) → length xs ≡ 2 → slice_get xs 0 ≡ Some x → slice_get xs 1 ≡ Some y → xs ≡ x ∷ y ∷ []
+two_items : {X : Type 0} (xs : List X) (x y : X) → length xs ≡ 2 → slice_get xs 0 ≡ Some x → slice_get xs 1 ≡ Some y
+    → xs ≡ x ∷ y ∷ []
 two_items [] x y long first second = absurd (omega (arith, long))
 two_items (v ∷ vs) x y long first second =
     let here : v ≡ x = cc in
@@ -22,7 +23,8 @@ module _ {A : Type 0} (pairs : Row (Key A × ℕ)) (cell : ℕ) where
   pub shows_one : (key : ℤ) → length pairs.items ≡ 1 → slice_get pairs.items 0 ≡ Some (keys.Int key, cell)
       → contents_of (payloads.Dict pairs) ≡ with_entry key cell
   shows_one key long there =
-      ap (λ items. contents_of (payloads.Dict (record { items = items; spare = pairs.spare }))) (one_item pairs.items (keys.Int key, cell) long there)
+      ap (λ items. contents_of (payloads.Dict (record { items = items; spare = pairs.spare })))
+      (one_item pairs.items (keys.Int key, cell) long there)
 
   pub shows_two : length pairs.items ≡ 2 → slice_get pairs.items 0 ≡ Some (keys.Int (pos 1), cell)
       → slice_get pairs.items 1 ≡ Some (keys.Int (pos 2), cell) → contents_of (payloads.Dict pairs) ≡ with_entries cell

@@ -1,5 +1,6 @@
 -- The mark of a dead object whose block a call answers is set.
-use Rattle.std.proofs.Common.{◌≡◌, ℕ, ◌<◌, true, false, if◌then◌else◌, List, set, Option, Some, None, IfSome, sym, ◌∙◌, ap, subst}
+use Rattle.std.proofs.Common.{◌≡◌, ℕ, ◌<◌, true, false, if◌then◌else◌, List, set, Option, Some, None, IfSome, sym, ◌∙◌}
+use Rattle.std.proofs.Common.{ap, subst}
 use Rattle.brc_block.specs.declared.payload.Payload.{Payload}
 use Rattle.law_world.specs.Lists.{is_marked}
 use Rattle.law_world.proofs.Changes.{read_here}
@@ -10,8 +11,10 @@ use Rattle.brc_biased.proofs.Marking.{marks_wide}
 
 module _ {A : Type 0} where
   pub marked_after : (n : ℕ) (before log : List Told) (c : ℕ) (block : Option (ℕ × Payload A))
-      → (part_seen n log).worklist ≡ (if is_there block then set (part_seen n before).worklist c true else (part_seen n before).worklist) → c < n
+      → (part_seen n log).worklist
+      ≡ (if is_there block then set (part_seen n before).worklist c true else (part_seen n before).worklist) → c < n
       → IfSome block (λ there. is_marked (part_seen n log).worklist c ≡ true)
   marked_after n before log c None now low = tt
   marked_after n before log c (Some there) now low =
-      ap (λ marks. is_marked marks c) now ∙ read_here (part_seen n before).worklist c true false (subst (λ m. c < m) (sym (marks_wide n before)) low)
+      ap (λ marks. is_marked marks c) now ∙ read_here (part_seen n before).worklist c true false
+      (subst (λ m. c < m) (sym (marks_wide n before)) low)

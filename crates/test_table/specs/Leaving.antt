@@ -24,7 +24,10 @@ abbrev pub popped_below : ℕ → ℕ → List ℕ
 popped_below bits word = if nat_le word 8 then replicate 16 0 else slice_set (replicate 16 0) 8 bits
 
 abbrev pub closing_at : ℕ → ℕ → Part → Part
-closing_at bits word part = record part { row = record part.row { stage = closed_below word }; popped = popped_below bits word }
+closing_at bits word part = record part {
+  row = record part.row { stage = closed_below word };
+  popped = popped_below bits word;
+}
 
 -- all are closed
 abbrev pub left_with : ℕ → Part → Part

@@ -1,10 +1,12 @@
--- The logs of seats after the parts that worked runs share. The list is at cell 266, and the globals have it under a key.
+-- The logs of seats after the parts that worked runs share. The list is at cell 266, and the globals have it under a
+-- key.
 use Rattle.std.specs.Prelude.{ℕ, ℤ, pos, List, [], ◌∷◌}
 use Rattle.brc_words.specs.declared.kind.Kind.TheVariants as kinds
 use Rattle.law_world.specs.declared.event.Change.TheVariants as changes
 use Rattle.law_world.specs.declared.event.Dropped.TheVariants as dropped
 use Rattle.law_world.specs.declared.event.Source.TheVariants as sources
-use Rattle.law_world.specs.declared.event.Step.TheVariants.{Claim, InitLocal, InitShared, Birth, LocalUp, LocalDown, SeeZero, Untie, MergeZero, SharedUp, Lock, Unlock}
+use Rattle.law_world.specs.declared.event.Step.TheVariants.{Claim, InitLocal, InitShared, Birth, LocalUp, LocalDown}
+use Rattle.law_world.specs.declared.event.Step.TheVariants.{SeeZero, Untie, MergeZero, SharedUp, Lock, Unlock}
 use Rattle.law_rule.specs.declared.contents.PlainKey.TheVariants as plain
 use Rattle.law_rule.specs.declared.contents.Contents.{Contents}
 use Rattle.law_rule.specs.declared.contents.Contents.TheVariants as contents

@@ -1,4 +1,5 @@
-//! How the tests compare. A call of a function here costs a caller's proof less than what an assertion writes out there.
+//! How the tests compare. A call of a function here costs a caller's proof less than what an assertion writes out
+//! there.
 
 ghost use Rattle.std.specs.Prelude.{◌≡◌};
 

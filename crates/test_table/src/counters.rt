@@ -83,7 +83,8 @@ fn gone<H: Home<A>, A: Allocator>(
 )
     requires inside { cell < counter.old.heap.cells }
     requires slot { IfSome block (λ there. counter.old.seat.slots ≡ (cell, None) ∷ []) }
-    requires dead { IfSome block (λ there. HasDead counter.old.heap.cells counter.old.seat.log cell (entries_in (contents_of there.1))) }
+    requires dead { IfSome block (λ there. HasDead counter.old.heap.cells counter.old.seat.log cell
+        (entries_in (contents_of there.1))) }
     requires stands { Stands counter.old.heap.cells counter.old.seat.log hands.Free }
     ensures heap { counter.new.heap ≡ counter.old.heap }
     ensures slots { counter.new.seat.slots ≡ [] }

@@ -241,8 +241,8 @@ pub(crate) fn alive<A: Allocator>(rt: &impl Abort, block: Option<Block<A>>)
     }
 }
 
-/// The object is dead, and was a list without entries: its memory goes back, and its cell is free. It was the only mortal
-/// cell that wasn't: cell 266.
+/// The object is dead, and was a list without entries: its memory goes back, and its cell is free. It was the only
+/// mortal cell that wasn't: cell 266.
 pub(crate) fn gone<A: Allocator>(
     rt: &impl Abort,
     table: &HeapTable<A>,
@@ -253,7 +253,8 @@ pub(crate) fn gone<A: Allocator>(
     requires table { seat.old.table ≡ table.now.table }
     requires inside { cell < table.now.cells }
     requires slot { IfSome block (λ there. seat.old.slots ≡ (cell, None) ∷ []) }
-    requires entries { IfSome block (λ there. (part_seen table.now.cells seat.old.log).has cell ≡ entries_in (contents_of there.1)) }
+    requires entries { IfSome block (λ there. (part_seen table.now.cells seat.old.log).has cell ≡ entries_in
+        (contents_of there.1)) }
     requires marked { IfSome block (λ there. is_marked (part_seen table.now.cells seat.old.log).worklist cell ≡ true) }
     requires hand { is_free_hand (part_seen table.now.cells seat.old.log).row.hand ≡ true }
     requires stage { stage_ok (part_seen table.now.cells seat.old.log).row.stage (steps.Free cell) ≡ true }

@@ -1,6 +1,6 @@
-//! A thread that holds nothing closes all its queue words on its way out: before another one asks for its list, or after. These are
-//! calls on the seats of two threads that one test holds, of the queues where there is one, and each answers what the trace's step
-//! finds.
+//! A thread that holds nothing closes all its queue words on its way out: before another one asks for its list, or
+//! after. These are calls on the seats of two threads that one test holds, of the queues where there is one, and each
+//! answers what the trace's step finds.
 
 ghost use Rattle.std.specs.Prelude.{◌≡◌, [], true, replicate};
 ghost use Rattle.law_world.specs.Lists.{is_bare, is_unmarked};

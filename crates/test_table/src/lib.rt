@@ -1,8 +1,8 @@
-//! Worked runs of the heap as calls on the seats of its table, run by the gate: one object's whole life, merges, asks and
-//! drains, counts below zero, an adoption, a lost exchange, threads that leave.
+//! Worked runs of the heap as calls on the seats of its table, run by the gate: one object's whole life, merges, asks
+//! and drains, counts below zero, an adoption, a lost exchange, threads that leave.
 //!
-//! Tests, and what they look at. Each call's conditions are shown from the contracts of `brc_table` alone, so this is also how
-//! a caller uses them; and each answer is compared with what the trace's step finds.
+//! Tests, and what they look at. Each call's conditions are shown from the contracts of `brc_table` alone, so this is
+//! also how a caller uses them; and each answer is compared with what the trace's step finds.
 #![tactic(auto)]
 
 mod globals;

@@ -2,7 +2,8 @@
 
 ghost use Rattle.std.specs.Prelude.{◌≡◌, [], pos};
 ghost use Rattle.brc_table.specs.Seated.{Continues};
-ghost use Rattle.test_table.specs.Parts.{born_log, shared_log, taken_back_log, merged_log, shared_twice_log, shared_both_log, counted_log, taken_log, taken_first_log};
+ghost use Rattle.test_table.specs.Parts.{born_log, shared_log, taken_back_log, merged_log, shared_twice_log};
+ghost use Rattle.test_table.specs.Parts.{shared_both_log, counted_log, taken_log, taken_first_log};
 
 use crate::comparing::is;
 use crate::helpers::{

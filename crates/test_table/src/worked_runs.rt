@@ -1,8 +1,8 @@
-//! The worked runs of the examples, as calls on the seats of up to three threads that one test holds. Each call answers what
-//! the trace's step finds.
+//! The worked runs of the examples, as calls on the seats of up to three threads that one test holds. Each call answers
+//! what the trace's step finds.
 //!
-//! A test makes the table and the seats, and lends them to the function of its run: calls beside values that have destructors
-//! cost the proof more.
+//! A test makes the table and the seats, and lends them to the function of its run: calls beside values that have
+//! destructors cost the proof more.
 
 ghost use Rattle.std.specs.Prelude.{◌≡◌, []};
 
@@ -20,7 +20,8 @@ use law_world::{Change, Dropped, Source};
 use std::alloc::Global;
 use std::process::Abort;
 
-/// The owner lets its list go: at count 0 it finds the other's count, and merges. The other's reference is then the last.
+/// The owner lets its list go: at count 0 it finds the other's count, and merges. The other's reference is then the
+/// last.
 fn ends_what_was_merged(
     rt: &impl Abort,
     alloc: Global,
@@ -213,7 +214,8 @@ fn counts_below_zero(
     two: &mut ThreadSeat<Global>,
     three: &mut ThreadSeat<Global>,
 )
-    requires table { (one.old.table ≡ table.now.table) × (two.old.table ≡ table.now.table) × (three.old.table ≡ table.now.table) }
+    requires table { (one.old.table ≡ table.now.table) × (two.old.table ≡ table.now.table)
+        × (three.old.table ≡ table.now.table) }
     requires cells { table.now.cells ≡ 512 }
     requires limit { table.now.local_limit ≡ 4294967294 }
     requires first { (one.old.log ≡ []) × (one.old.slots ≡ []) }
@@ -343,7 +345,8 @@ fn an_exchange_is_lost(rt: HostRuntime) {
     assert_eq!(rt; end_all(&rt, table.take_apart(root)), 267);
 }
 
-/// The second has counted the list up three times, and asks where the count is above zero, as one does that lost an exchange.
+/// The second has counted the list up three times, and asks where the count is above zero, as one does that lost an
+/// exchange.
 fn asks_above_zero(
     rt: &impl Abort,
     alloc: Global,

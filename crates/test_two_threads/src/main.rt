@@ -1,4 +1,5 @@
-//! Two threads of a runtime push a number each onto one list, which they find in the globals; a third takes it out, and all dies with it.
+//! Two threads of a runtime push a number each onto one list, which they find in the globals; a third takes it out, and
+//! all dies with it.
 #![tactic(auto)]
 
 ghost use Rattle.std.specs.Prelude.{◌≡◌};

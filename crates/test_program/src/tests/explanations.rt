@@ -8,8 +8,8 @@ use std::sync::Wait;
 use std::test::*;
 use std::thread::Threads;
 
-/// The input is refused with this first line and this reason, and nothing is written on standard output; without the option
-/// the first line is the same, and alone.
+/// The input is refused with this first line and this reason, and nothing is written on standard output; without the
+/// option the first line is the same, and alone.
 fn refused<R: Abort + AllocGlobal + Threads + Wait + Sync>(
     rt: &R,
     case: &str,

@@ -1,4 +1,5 @@
-//! Each instruction, worked by hand from the table of instructions; and a section that shares nothing against its plain meaning.
+//! Each instruction, worked by hand from the table of instructions; and a section that shares nothing against its plain
+//! meaning.
 
 use crate::tests::running::{ended, same, status_of};
 use brc_meaning::plain_run;

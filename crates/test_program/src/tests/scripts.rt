@@ -138,8 +138,9 @@ fn worked_scripts_are_alike_in_each_run(rt: HostRuntime) -> Result<(), Fail> {
     Ok(())
 }
 
-/// Twenty lists, each of which goes into a mailbox, and into the globals in place of the one before it. Two sections take eight of them
-/// each out of the mailbox, and as often the one that is in the globals then; the last thread finds the other four, and the globals' one.
+/// Twenty lists, each of which goes into a mailbox, and into the globals in place of the one before it. Two sections
+/// take eight of them each out of the mailbox, and as often the one that is in the globals then; the last thread finds
+/// the other four, and the globals' one.
 const HANDED_OVER: Case = (
     "lists that two sections take while a third makes them",
     "section a\nmailbox r0\ncopy r1 r0\nshare box r1\nrepeat 20\nlist r1\ncopy r2 r1\nshare last r2\nsend r0 r1\nend\nsection b\nfetch r0 box\nrepeat 8\nrecv r1 r0\nfetch r2 last\ncopy r3 r2\ndrop r1\ndrop r2\ndrop r3\nend\nsection c\nfetch r0 box\nrepeat 8\nrecv r1 r0\nfetch r2 last\ncopy r3 r2\ndrop r1\ndrop r2\ndrop r3\nend\n",
@@ -159,12 +160,14 @@ fn each_list_that_is_handed_over_ends(rt: HostRuntime) -> Result<(), Fail> {
     Ok(())
 }
 
-/// A section that plays 10,000 turns, of numbers from 1,001 up. In each turn a number is put in place of another in a dictionary, and one
-/// in a list; one is pushed and one popped, one is sent and one received. At the end it sends the sum of what it got.
+/// A section that plays 10,000 turns, of numbers from 1,001 up. In each turn a number is put in place of another in a
+/// dictionary, and one in a list; one is pushed and one popped, one is sent and one received. At the end it sends the
+/// sum of what it got.
 const PLAYS: &str =
     "fetch r0 list\nfetch r1 box\nfetch r2 dict\nint r4 0\nint r5 1000\nint r6 1\nrepeat 10000\nadd r7 r5 r6\nput r2 'k r7\nadd r8 r4 r7\ncopy r4 r8\nadd r7 r5 r6\nset r0 0 r7\nadd r8 r4 r7\ncopy r4 r8\nadd r7 r5 r6\npush r0 r7\npop r7 r0\nadd r8 r4 r7\ncopy r4 r8\nadd r7 r5 r6\nsend r1 r7\nrecv r7 r1\nadd r8 r4 r7\ncopy r4 r8\nadd r7 r5 r6\ncopy r5 r7\nend\nfetch r9 sums\nsend r9 r4\n";
 
-/// What the last section shares: a list with one number, an empty mailbox, a dictionary with one number, and a mailbox for the sums.
+/// What the last section shares: a list with one number, an empty mailbox, a dictionary with one number, and a mailbox
+/// for the sums.
 const SHARES: &str =
     "section last\nlist r0\nint r4 1000\npush r0 r4\ncopy r4 r0\nshare list r4\nmailbox r1\ncopy r4 r1\nshare box r4\ndict r2\nint r4 1000\nput r2 'k r4\ncopy r4 r2\nshare dict r4\nmailbox r3\ncopy r4 r3\nshare sums r4\n";
 
@@ -172,9 +175,10 @@ const SHARES: &str =
 const ADDS_LEFT: &str =
     "pop r5 r0\nadd r6 r4 r5\ncopy r4 r6\ndel r5 r2 'k\nadd r6 r4 r5\nprint r6\nprint r0\nprint r1\nprint r2\n";
 
-/// So many sections play, and so it ends. Each number that was given is got once or left, so the sum is theirs: a section gives 4 times
-/// the numbers from 1,001 to 11,000, which is 240,020,000, and there were 2,000 at first. A section makes 9 integers in a turn and one before;
-/// the last one makes 6 objects, and an integer for each number that it adds.
+/// So many sections play, and so it ends. Each number that was given is got once or left, so the sum is theirs: a
+/// section gives 4 times the numbers from 1,001 to 11,000, which is 240,020,000, and there were 2,000 at first. A
+/// section makes 9 integers in a turn and one before; the last one makes 6 objects, and an integer for each number that
+/// it adds.
 fn play<T: Abort + AllocGlobal + Threads + Wait + Sync>(
     rt: &T,
     sections: u32,
@@ -291,8 +295,8 @@ fn a_budget_is_of_so_many_turns(rt: HostRuntime) -> Result<(), Fail> {
     Ok(())
 }
 
-/// Long scripts, which only end so where each section polls and works between its instructions and while it waits, and where no wakeup is
-/// lost; and a long death.
+/// Long scripts, which only end so where each section polls and works between its instructions and while it waits, and
+/// where no wakeup is lost; and a long death.
 #[test]
 fn long_scripts(rt: HostRuntime) -> Result<(), Fail> {
     const CASES: &[(&str, &str, &str, &str)] = &[
@@ -334,8 +338,8 @@ fn long_scripts(rt: HostRuntime) -> Result<(), Fail> {
     Ok(())
 }
 
-/// A list that one section hands to the other while both let it go: at the same time its maker releases, works and leaves, and the other one
-/// releases, works and leaves.
+/// A list that one section hands to the other while both let it go: at the same time its maker releases, works and
+/// leaves, and the other one releases, works and leaves.
 const LEFT_AT_ONCE: Case = (
     "two sections leave while both let a list go",
     "section a\nlist r0\ncopy r1 r0\nshare box r1\nfetch r1 taken\ndrop r0\nsection b\nfetch r0 box\nunshare r1 box\nint r2 1\nshare taken r2\ndrop r0\ndrop r1\n",
@@ -353,7 +357,8 @@ fn two_sections_leave_at_the_same_time(rt: HostRuntime) -> Result<(), Fail> {
     Ok(())
 }
 
-/// Sixty-three sections find one list and let it go, a hundred times each; the first of them made it. The 64th thread clears the globals.
+/// Sixty-three sections find one list and let it go, a hundred times each; the first of them made it. The 64th thread
+/// clears the globals.
 #[test]
 fn all_find_one_list(rt: HostRuntime) -> Result<(), Fail> {
     let mut script = String::new(rt.alloc());
@@ -370,12 +375,13 @@ fn all_find_one_list(rt: HostRuntime) -> Result<(), Fail> {
     Ok(())
 }
 
-/// A section that shares nothing makes a thousand numbers, and a thousand sums of them; each goes through a container of its own.
+/// A section that shares nothing makes a thousand numbers, and a thousand sums of them; each goes through a container
+/// of its own.
 const OWN: &str =
     "section own\nlist r0\ndict r1\nmailbox r2\nint r3 0\nrepeat 1000\nint r4 1000\nadd r5 r3 r4\ncopy r3 r5\npush r0 r4\nsend r2 r5\npop r4 r0\nput r1 'k r4\nrecv r5 r2\nend\nprint r3\nfind r4 r1 'k\nprint r4\nprint r0\nprint r1\nprint r2\n";
 
-/// It prints what it would print alone, beside 62 sections that lock one list, push to it and pop from it a hundred times each, and so
-/// free cells and use them again. Ten runs.
+/// It prints what it would print alone, beside 62 sections that lock one list, push to it and pop from it a hundred
+/// times each, and so free cells and use them again. Ten runs.
 #[test]
 fn a_section_of_its_own_beside_all_others(rt: HostRuntime) -> Result<(), Fail> {
     let mut script = String::new(rt.alloc());
@@ -439,8 +445,8 @@ fn deep_and_wide(rt: HostRuntime) -> Result<(), Fail> {
     Ok(())
 }
 
-/// A list gets as many entries as it may have, 1,048,576, and takes no more: the last turn of a loop is one too many, or the instruction
-/// behind it.
+/// A list gets as many entries as it may have, 1,048,576, and takes no more: the last turn of a loop is one too many,
+/// or the instruction behind it.
 #[test]
 fn a_full_list_takes_no_entry(rt: HostRuntime) -> Result<(), Fail> {
     const FILLS: &str = "section a\nlist r0\nrepeat 1000000\nint r1 1\npush r0 r1\nend\n";

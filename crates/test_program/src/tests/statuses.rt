@@ -108,7 +108,8 @@ fn statuses_and_lines(rt: HostRuntime) -> Result<(), Fail> {
     Ok(())
 }
 
-/// An input of one byte more than the most, 16,777,216, all of it lines that are empty or comments: it is looked at before its lines are.
+/// An input of one byte more than the most, 16,777,216, all of it lines that are empty or comments: it is looked at
+/// before its lines are.
 #[test]
 fn an_input_that_is_too_long(rt: HostRuntime) -> Result<(), Fail> {
     const CASES: &[(&str, &str)] = &[

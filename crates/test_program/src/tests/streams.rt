@@ -1,4 +1,5 @@
-//! Streams that fail at each read, each write and each flush in turn, that are interrupted there, and that give or take a byte at a time.
+//! Streams that fail at each read, each write and each flush in turn, that are interrupted there, and that give or take
+//! a byte at a time.
 
 ghost use Rattle.std.specs.Prelude.{◌≡◌, IfOk};
 
@@ -209,7 +210,8 @@ fn a_byte_at_a_time(rt: HostRuntime) -> Result<(), Fail> {
     Ok(())
 }
 
-/// The first read fails, the second, and so on, until the input is read before one fails: 16 bytes a read, and one read for its end.
+/// The first read fails, the second, and so on, until the input is read before one fails: 16 bytes a read, and one read
+/// for its end.
 #[test]
 fn each_read_fails(rt: HostRuntime) -> Result<(), Fail> {
     for (line, input, status, output, _told) in ANSWERS {

@@ -346,7 +346,8 @@ fn refused_memory(rt: HostRuntime) -> Result<(), Fail> {
     Ok(())
 }
 
-/// What a replay that says why answers in the heap's memory: whether it says why; none where it is told that there was no more.
+/// What a replay that says why answers in the heap's memory: whether it says why; none where it is told that there was
+/// no more.
 fn says_why_in<A: Allocator + Copy>(
     rt: &impl Abort,
     alloc: Global,

@@ -1,5 +1,5 @@
-//! Sections run by themselves. What a section comes to is the contract of `plain_run`; the texts here are worked by hand
-//! from the table of instructions.
+//! Sections run by themselves. What a section comes to is the contract of `plain_run`; the texts here are worked by
+//! hand from the table of instructions.
 
 use crate::tests::comparing::{same, same_at};
 use brc_meaning::plain_run;

@@ -381,7 +381,8 @@ impl Write for Counting {
     }
 }
 
-/// The report goes to a stream with this room, which has the front of its text then. This is answered; how often it wrote.
+/// The report goes to a stream with this room, which has the front of its text then. This is answered; how often it
+/// wrote.
 fn writes_to(
     rt: &impl Abort,
     alloc: Global,

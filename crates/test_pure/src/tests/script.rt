@@ -8,7 +8,8 @@ use std::alloc::{AllocError, Allocator, Global};
 use std::process::Abort;
 use std::test::*;
 
-/// The name of an instruction, and the registers that follow it. Each of these functions writes into a text of its caller's.
+/// The name of an instruction, and the registers that follow it. Each of these functions writes into a text of its
+/// caller's.
 fn put(text: &mut String, name: &str, registers: &[Register]) -> Result<(), AllocError> {
     text.push_str(name)?;
     put_registers(text, registers)

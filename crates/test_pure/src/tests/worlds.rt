@@ -70,8 +70,8 @@ fn a_replay_answers_a_world_or_a_fault(rt: HostRuntime) -> Result<(), Fault> {
     Ok(())
 }
 
-/// Thread 2 asks for the only reference to a list of thread 1, which offers it, merges it and leaves. The asker frees it, and
-/// another thread 1 makes an integer and frees it.
+/// Thread 2 asks for the only reference to a list of thread 1, which offers it, merges it and leaves. The asker frees
+/// it, and another thread 1 makes an integer and frees it.
 const COMES_AGAIN: &str =
     "trace 2\nheap 512 4294967294\n0 register 1\n0 register 2\n1 claim 266\n1 local 266\n1 shared 266\n1 born 266 list 0\n1 up i265 1\n1 lock 1\n1 unlock put 0\n2 up i265 0\n2 lock 0\n2 unlock take 0 1\n1 down f1\n2 ask f1\n1 offer 266\n1 untie 266\n1 add 266\n1 close 0\n1 close 1\n1 close 2\n1 close 3\n1 close 4\n1 close 5\n1 close 6\n1 close 7\n1 close 8\n1 close 9\n1 close 10\n1 close 11\n1 close 12\n1 close 13\n1 close 14\n1 close 15\n2 enq 266\n2 last h\n2 free 266\n0 gather 1\n0 register 1\n1 open 0\n1 open 1\n1 open 2\n1 open 3\n1 open 4\n1 open 5\n1 open 6\n1 open 7\n1 open 8\n1 open 9\n1 open 10\n1 open 11\n1 open 12\n1 open 13\n1 open 14\n1 open 15\n1 claim 266\n1 local 266\n1 shared 266\n1 born 266 int 0\n1 down f0\n1 see 266\n1 free 266\n";
 
@@ -83,8 +83,8 @@ const OFFERED: &str =
 const LEFT: &str =
     "trace 2\nheap 512 4294967294\n0 register 1\n0 register 2\n1 claim 266\n1 local 266\n1 shared 266\n1 born 266 list 0\n1 up i265 1\n1 lock 1\n1 unlock put 0\n2 up i265 0\n2 lock 0\n2 unlock take 0 1\n1 down f1\n2 ask f1\n1 close 0\n";
 
-/// How a world of either edition ends: its ledgers, with those of the threads before, those of these alone, how far thread 1
-/// is, and how many objects live.
+/// How a world of either edition ends: its ledgers, with those of the threads before, those of these alone, how far
+/// thread 1 is, and how many objects live.
 type End = (Ledger, Ledger, Option<Status>, u32);
 
 /// The end behind the events of a trace in a heap of this edition, or why there is no world.
@@ -166,14 +166,14 @@ fn world_behind(alloc: Global, lines: &[u8]) -> Result<World<Global>, Fault> {
     )?)
 }
 
-/// Thread 1 holds two lists. A text of its is dead, on its worklist, and another was freed. Thread 2 gave up a reference to each
-/// list: one lies in the queue of thread 1, one is popped. Thread 1 has the globals locked, and thread 2 has a dictionary in
-/// its hand that nothing holds any more.
+/// Thread 1 holds two lists. A text of its is dead, on its worklist, and another was freed. Thread 2 gave up a
+/// reference to each list: one lies in the queue of thread 1, one is popped. Thread 1 has the globals locked, and
+/// thread 2 has a dictionary in its hand that nothing holds any more.
 const BUSY: &[u8] =
     b"heap 512 7\n0 register 1\n0 register 2\n1 claim 267\n1 local 267\n1 shared 267\n1 born 267 text 1\n1 down f1\n1 see 267\n1 free 267\n1 claim 266\n1 local 266\n1 shared 266\n1 born 266 list 0\n1 claim 300\n1 local 300\n1 shared 300\n1 born 300 list 1\n1 claim 267\n1 local 267\n1 shared 267\n1 born 267 text 5\n1 up f0 2\n1 up i265 3\n1 lock 3\n1 unlock put 2\n1 lock 3\n1 unlock put 1\n2 up i265 0\n2 lock 0\n2 unlock take 0 1\n2 ask f1\n2 enq 266\n2 lock 0\n2 unlock take 0 1\n2 ask f1\n2 enq 300\n1 drain 9\n1 down f5\n1 see 267\n1 lock 3\n2 claim 301\n2 local 301\n2 shared 301\n2 born 301 dict 1\n2 down f1\n";
 
-/// Thread 1 holds a list, and put a second reference to it into the globals; thread 2 took that out and gave it up, and it lies in the
-/// queue of thread 1.
+/// Thread 1 holds a list, and put a second reference to it into the globals; thread 2 took that out and gave it up, and
+/// it lies in the queue of thread 1.
 const ASKED: &[u8] =
     b"heap 512 4294967294\n0 register 1\n0 register 2\n1 claim 266\n1 local 266\n1 shared 266\n1 born 266 list 0\n1 up f0 1\n1 up i265 2\n1 lock 2\n1 unlock put 1\n2 up i265 0\n2 lock 0\n2 unlock take 0 1\n2 ask f1\n2 enq 266\n2 nudge 1 8\n";
 

@@ -26,8 +26,8 @@ impl Gate for Open {
     }
 }
 
-/// Holds each section at its first instruction until all have been asked about theirs, for at most 10,000 turns, each a sleep of one
-/// millisecond.
+/// Holds each section at its first instruction until all have been asked about theirs, for at most 10,000 turns, each a
+/// sleep of one millisecond.
 struct Meeting<'c, C> {
     clock: &'c C,
     /// A bit for each section that was asked.
@@ -91,7 +91,8 @@ fn sections_meet(rt: HostRuntime) {
     }
 }
 
-/// Refuses one line of one section, and keeps what it was asked, by section: of each ask one decimal digit, the line's last.
+/// Refuses one line of one section, and keeps what it was asked, by section: of each ask one decimal digit, the line's
+/// last.
 #[derive(Drop)]
 struct Refusing {
     section: u32,
@@ -125,7 +126,8 @@ impl Gate for Refusing {
     }
 }
 
-/// A gate is asked before each instruction of each section, in the order in which they run, and no more once it has refused one.
+/// A gate is asked before each instruction of each section, in the order in which they run, and no more once it has
+/// refused one.
 #[test]
 fn each_line_is_asked_for(rt: HostRuntime) {
     let text =

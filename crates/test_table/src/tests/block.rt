@@ -1,7 +1,7 @@
 //! Blocks, their lists and what they hold, with ample memory and with none.
 //!
-//! A test makes the values that have destructors, and lends them to the function that makes the calls, which then cost the
-//! proof less.
+//! A test makes the values that have destructors, and lends them to the function that makes the calls, which then cost
+//! the proof less.
 
 ghost use Rattle.std.specs.Prelude.{◌≡◌, ◌≢◌, false, All};
 ghost use Rattle.brc_block.specs.Payload.{keys_of};

@@ -91,7 +91,8 @@ fn sizes_of_no_heap_are_refused(rt: HostRuntime) {
     }
 }
 
-/// Each size of memory in turn: every growth of a table's opening is refused at some of them, and what was made goes back.
+/// Each size of memory in turn: every growth of a table's opening is refused at some of them, and what was made goes
+/// back.
 #[test]
 fn refused_growths_open_no_table(rt: HostRuntime) -> Result<(), Fault> {
     let mut refused = 0u32;

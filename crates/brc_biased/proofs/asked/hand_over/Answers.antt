@@ -3,9 +3,11 @@ use Rattle.brc_biased.specs.Released.{AskedQueued, AskedShut}
 use Rattle.brc_biased.proofs.asked.hand_over.Goals as goal
 
 pub returns-then-found-clause-told : goal.returns-then-found-clause-told
-returns-then-found-clause-told g c = AskedQueued c.load_owner-owner.result c.enqueue-found.result c.nudge-told.result (search rules) (search rules) refl (search rules)
+returns-then-found-clause-told g c = AskedQueued c.load_owner-owner.result c.enqueue-found.result c.nudge-told.result
+    (search rules) (search rules) refl (search rules)
 
 pub returns-clause-told : goal.returns-clause-told
 returns-clause-told g c =
     let queued = rw c.enqueue-found.ensures.told at c.adopt.ensures.told in
-    AskedShut c.load_owner-owner.result c.enqueue-found.result (search rules) (search rules) (rw c.load_owner-owner.ensures.told at queued)
+    AskedShut c.load_owner-owner.result c.enqueue-found.result (search rules) (search rules)
+    (rw c.load_owner-owner.ensures.told at queued)

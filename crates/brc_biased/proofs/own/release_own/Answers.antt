@@ -13,11 +13,13 @@ pub returns-then-count-eq1-clause-block : goal.returns-then-count-eq1-clause-blo
 returns-then-count-eq1-clause-block g c =
     let answers = c.end_own.ensures.block in record {
       of_cell = answers.of_cell;
-      fresh = fresh_before (Some c.args.drop) c.args.table.now.cells c.args.seat.now.log c.local_down.new.seat.log c.args.cell c.end_own.result c.local_down.ensures.knows.blocks answers.fresh;
+      fresh = fresh_before (Some c.args.drop) c.args.table.now.cells c.args.seat.now.log c.local_down.new.seat.log
+          c.args.cell c.end_own.result c.local_down.ensures.knows.blocks answers.fresh;
       entries = answers.entries;
       out = search rules;
     }
 
 pub returns-then-count-eq1-clause-keeps : goal.returns-then-count-eq1-clause-keeps
 returns-then-count-eq1-clause-keeps g c =
-    keeps_on (drop_keeps c.args.drop (ap (λ (p : Part). p.frame) c.local_down.ensures.knows.part) c.local_down.ensures.keeps) c.end_own.ensures.keeps
+    keeps_on (drop_keeps c.args.drop (ap (λ (p : Part). p.frame) c.local_down.ensures.knows.part)
+    c.local_down.ensures.keeps) c.end_own.ensures.keeps

@@ -4,15 +4,18 @@ use Rattle.brc_biased.proofs.Keeping.{look_keeps, keeps_on}
 use Rattle.brc_biased.proofs.shared.release_shared.Goals as goal
 
 pub returns-then-word-ne0-clause-told : goal.returns-then-word-ne0-clause-told
-returns-then-word-ne0-clause-told g c = SharedRisen c.load_shared-word.result (search rules) (rw c.load_shared-word.ensures.told at c.release_risen.ensures.told)
+returns-then-word-ne0-clause-told g c = SharedRisen c.load_shared-word.result (search rules)
+    (rw c.load_shared-word.ensures.told at c.release_risen.ensures.told)
 
 pub returns-then-word-lt-ONE_COUNTED-clause-told : goal.returns-then-word-lt-ONE_COUNTED-clause-told
 returns-then-word-lt-ONE_COUNTED-clause-told g c =
-    SharedNoCount c.load_shared-word.result (search rules) (search rules) (rw c.load_shared-word.ensures.told at c.release_asking.ensures.told)
+    SharedNoCount c.load_shared-word.result (search rules) (search rules)
+    (rw c.load_shared-word.ensures.told at c.release_asking.ensures.told)
 
 pub returns-then-word-lt-ONE_COUNTED-clause-keeps : goal.returns-then-word-lt-ONE_COUNTED-clause-keeps
 returns-then-word-lt-ONE_COUNTED-clause-keeps g c =
-    keeps_on (look_keeps c.load_shared-word.ensures.knows c.load_shared-word.ensures.keeps) c.release_asking.ensures.keeps
+    keeps_on (look_keeps c.load_shared-word.ensures.knows c.load_shared-word.ensures.keeps)
+    c.release_asking.ensures.keeps
 
 pub returns-in-Ok-clause-told : goal.returns-in-Ok-clause-told
 returns-in-Ok-clause-told g c = SharedCounted c.load_shared-word.result (search rules) refl (search rules)
@@ -20,7 +23,8 @@ returns-in-Ok-clause-told g c = SharedCounted c.load_shared-word.result (search 
 pub returns-in-Err-clause-told : goal.returns-in-Err-clause-told
 returns-in-Err-clause-told g c =
     let moved = rw c.in-Err.ensures.lost at c.release_asking-in-Err.ensures.told in
-    SharedMoved c.load_shared-word.result c.in-Err.field-0 (search rules) (search rules) c.in-Err.ensures.moved (rw c.load_shared-word.ensures.told at moved)
+    SharedMoved c.load_shared-word.result c.in-Err.field-0 (search rules) (search rules) c.in-Err.ensures.moved
+    (rw c.load_shared-word.ensures.told at moved)
 
 pub returns-in-Err-clause-keeps : goal.returns-in-Err-clause-keeps
 returns-in-Err-clause-keeps g c =

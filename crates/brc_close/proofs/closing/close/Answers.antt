@@ -9,12 +9,15 @@ pub report_of-requires : goal.report_of-requires
 report_of-requires g c =
     let heap = c.args.heap in
     let root = c.args.root in
-    let same = all_counted root.view c.registered-registered.result c.gathered-gathered.result c.registered-registered.ensures.told
+    let same = all_counted root.view c.registered-registered.result c.gathered-gathered.result
+    c.registered-registered.ensures.told
     c.registered-registered.ensures.few c.gathered-gathered.ensures (omega (arith, c.if-registered-gathered.false)) in
     record {
-      held = λ none. remains_there heap.cells heap.local_limit root.id root.view c.take_apart-rest.result c.take_apart-rest.ensures.ended same
+      held = λ none. remains_there heap.cells heap.local_limit root.id root.view c.take_apart-rest.result
+          c.take_apart-rest.ensures.ended same
           (sym (ap remains_of c.in-Some.ensures) ∙ none);
-      spelled = λ remains are. remains_spelled heap.cells heap.local_limit root.id root.view c.take_apart-rest.result c.take_apart-rest.ensures.ended same
+      spelled = λ remains are. remains_spelled heap.cells heap.local_limit root.id root.view c.take_apart-rest.result
+          c.take_apart-rest.ensures.ended same
           remains (sym (ap remains_of c.in-Some.ensures) ∙ are);
     }
 
@@ -22,9 +25,12 @@ pub returns-in-Some-report_of-clause-report : goal.returns-in-Some-report_of-cla
 returns-in-Some-report_of-clause-report g c =
     let heap = c.args.heap in
     let root = c.args.root in
-    let same = all_counted root.view c.registered-registered.result c.gathered-gathered.result c.registered-registered.ensures.told
+    let same = all_counted root.view c.registered-registered.result c.gathered-gathered.result
+    c.registered-registered.ensures.told
     c.registered-registered.ensures.few c.gathered-gathered.ensures (omega (arith, c.if-registered-gathered.false)) in
     let ledger : Ledger = record { allocs = c.ledger-done.result.allocs; frees = c.ledger-done.result.frees } in
-    closes_so heap.cells heap.local_limit root.id root.view c.take_apart-rest.result c.take_apart-rest.ensures.ended same
+    closes_so heap.cells heap.local_limit root.id root.view c.take_apart-rest.result
+    c.take_apart-rest.ensures.ended same
     ledger c.in-Some-report_of.report c.ledger-done.ensures.allocs c.ledger-done.ensures.frees
-    (subst (λ contents. Reports ledger contents c.in-Some-report_of.report) c.in-Some.ensures c.in-Some-report_of.ensures)
+    (subst (λ contents. Reports ledger contents c.in-Some-report_of.report) c.in-Some.ensures
+    c.in-Some-report_of.ensures)

@@ -4,7 +4,8 @@ use Rattle.brc_close.specs.Contents.{contents_in}
 use Rattle.brc_close.proofs.collecting.collect.Given as goal
 
 abbrev pub invariant-loop-block : goal.invariant-loop-block
-invariant-loop-block g l = IfSome l.found (λ contents. contents.items ++ contents_in (blocks_in l.rest) ≡ contents_in (blocks_in l.fn.rest))
+invariant-loop-block g l = IfSome l.found (λ contents. contents.items ++ contents_in (blocks_in l.rest) ≡ contents_in
+    (blocks_in l.fn.rest))
 
 abbrev pub decreases-loop-block : goal.decreases-loop-block
 decreases-loop-block g l = length l.rest

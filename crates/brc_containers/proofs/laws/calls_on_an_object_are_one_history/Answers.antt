@@ -1,4 +1,5 @@
-use Rattle.brc_containers.proofs.One_History.{is_sequential, last_stands, later_extends, earlier_legal, fronts_sequential, own_calls}
+use Rattle.brc_containers.proofs.One_History.{is_sequential, last_stands, later_extends, earlier_legal}
+use Rattle.brc_containers.proofs.One_History.{fronts_sequential, own_calls}
 use Rattle.brc_containers.proofs.laws.calls_on_an_object_are_one_history.Goals as goal
 
 pub returns-clause-sequential : goal.returns-clause-sequential

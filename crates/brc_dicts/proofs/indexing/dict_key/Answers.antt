@@ -14,6 +14,8 @@ returns-clause-reads g c =
       late.waits,
       looked late.mid locked c.key_locked.new.frame k c.begin_late-block.result
           (λ before j key. Reads before c.key_locked.new.frame j (plain_key_at c.args.index) key)
-          (λ before j fault. RefusedEntry before c.key_locked.new.frame j (plain_key_at {A = g.row.A.Denot} c.args.index) fault)
-          c.key_locked.result (locked_late c.args.frame.now locked k c.begin_late-block.result late) done.thread done.frame done.reads done.refused,
+          (λ before j fault. RefusedEntry before c.key_locked.new.frame j
+          (plain_key_at {A = g.row.A.Denot} c.args.index) fault)
+          c.key_locked.result (locked_late c.args.frame.now locked k c.begin_late-block.result late) done.thread
+          done.frame done.reads done.refused,
     )

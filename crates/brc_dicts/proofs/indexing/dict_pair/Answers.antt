@@ -14,6 +14,8 @@ returns-clause-shares g c =
       late.waits,
       hands_out late.mid locked c.pair_locked.new.frame k c.begin_late-block.result
           (λ before j pair. SharesPair before c.pair_locked.new.frame j c.args.index pair)
-          (λ before j fault. RefusedPlace before c.pair_locked.new.frame j (plain_value_at g.row.A.Denot c.args.index) fault)
-          c.pair_locked.result (locked_late c.args.frame.now locked k c.begin_late-block.result late) up.thread up.shares up.places up.refused,
+          (λ before j fault. RefusedPlace before c.pair_locked.new.frame j
+          (plain_value_at g.row.A.Denot c.args.index) fault)
+          c.pair_locked.result (locked_late c.args.frame.now locked k c.begin_late-block.result late) up.thread
+          up.shares up.places up.refused,
     )

@@ -13,11 +13,14 @@ up_entry-given-requires-clause-entry g c =
 pub returns-in-Ok-clause-shares : goal.returns-in-Ok-clause-shares
 returns-in-Ok-clause-shares g c = λ before k since.
     let there : IsAt c.args.block.1 c.args.index c.in-Ok.key c.in-Ok.cell = c.in-Ok.ensures.there in
-    let was = stood_placed before c.args.frame.now c.pair_and_place.new.frame k c.args.block since c.pair_and_place.ensures.same in
+    let was = stood_placed before c.args.frame.now c.pair_and_place.new.frame k c.args.block since
+    c.pair_and_place.ensures.same in
     record {
-      value = shares_since before c.pair_and_place.new.frame c.up_entry-given.new.self c.end_keep-in-Ok.new.self k c.args.block
+      value = shares_since before c.pair_and_place.new.frame c.up_entry-given.new.self c.end_keep-in-Ok.new.self k
+          c.args.block
           (plain_value_at g.row.A.Denot c.args.index) c.args.index c.in-Ok.cell c.up_entry-given.result
-          was c.up_entry-given.ensures.given c.up_entry-given.ensures.heap c.end_keep-in-Ok.ensures.ended c.end_keep-in-Ok.ensures.frame
+          was c.up_entry-given.ensures.given c.up_entry-given.ensures.heap c.end_keep-in-Ok.ensures.ended
+          c.end_keep-in-Ok.ensures.frame
           (entry_at c.args.block.1 c.args.index c.in-Ok.key c.in-Ok.cell there)
           (value_there c.args.block.1 c.args.index c.in-Ok.key c.in-Ok.cell there);
       key = key_there c.args.block.1 c.args.index c.in-Ok.key c.in-Ok.cell there;

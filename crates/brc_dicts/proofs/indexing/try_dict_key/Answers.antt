@@ -12,5 +12,6 @@ returns-clause-reads g c =
     let done = c.key_locked.ensures in
     looked c.args.frame.now c.begin.new.self c.key_locked.new.frame c.args.dict.now.place c.in-Some.block
     (λ before k key. Reads before c.key_locked.new.frame k (plain_key_at c.args.index) key)
-    (λ before k fault. RefusedEntry before c.key_locked.new.frame k (plain_key_at {A = g.row.A.Denot} c.args.index) fault)
+    (λ before k fault. RefusedEntry before c.key_locked.new.frame k
+    (plain_key_at {A = g.row.A.Denot} c.args.index) fault)
     c.key_locked.result since done.thread done.frame done.reads done.refused

@@ -13,5 +13,6 @@ returns-clause-put g c =
       takes_in late.mid locked c.put_locked.new.frame k c.begin_late-block.result
           (λ before j answer. HasPut before c.put_locked.new.frame j c.args.key c.args.value answer)
           (λ before j fault. RefusedPut before c.put_locked.new.frame j c.args.key c.args.value fault)
-          c.put_locked.result (locked_late c.args.frame.now locked k c.begin_late-block.result late) up.thread up.put up.frame up.refused,
+          c.put_locked.result (locked_late c.args.frame.now locked k c.begin_late-block.result late) up.thread up.put
+          up.frame up.refused,
     )

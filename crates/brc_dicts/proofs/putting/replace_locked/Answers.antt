@@ -10,11 +10,16 @@ use Rattle.brc_dicts.proofs.putting.replace_locked.Goals as goal
 
 pub overflow_cast-place : goal.overflow_cast-place
 overflow_cast-place g c =
-    omega (arith, entry_within c.args.block.1 c.args.key c.args.index c.args.entry c.requires.there, few_entries c.args.frame.now c.args.block.1 c.requires.locked c.requires.found)
+    omega (
+      arith,
+      entry_within c.args.block.1 c.args.key c.args.index c.args.entry c.requires.there,
+      few_entries c.args.frame.now c.args.block.1 c.requires.locked c.requires.found,
+    )
 
 pub set-requires : goal.set-requires
 set-requires g c =
-    let there = subst (λ p. IsThere p c.args.key c.args.index c.args.entry) (sym c.payload_mut.ensures.value) c.requires.there in
+    let there = subst (λ p. IsThere p c.args.key c.args.index c.args.entry) (sym c.payload_mut.ensures.value)
+    c.requires.there in
     record { within = entry_within c.payload_mut.result.now c.args.key c.args.index c.args.entry there }
 
 pub end_swap-old-requires-clause-entry : goal.end_swap-old-requires-clause-entry
@@ -38,7 +43,8 @@ returns-clause-put g c = λ before k since.
     let lent = c.payload_mut.ensures.value in
     let there = c.requires.there in (
       c.end_swap-old.ensures.same,
-      swaps_since before c.args.frame.now c.end_swap-old.new.self k c.args.value.place c.args.block c.set.new.self (plain_put c.args.key) Some
+      swaps_since before c.args.frame.now c.end_swap-old.new.self k c.args.value.place c.args.block c.set.new.self
+          (plain_put c.args.key) Some
           c.cell-cell.result c.args.index c.args.entry
           (stood before c.args.frame.now k c.args.block since) c.end_swap-old.ensures.ended c.cell-cell.ensures.cell
           (entry_there c.args.block.1 c.args.key c.args.index c.args.entry there)

@@ -11,12 +11,14 @@ returns-in_default-find g c = record {
 
 pub unreachable-requires : goal.unreachable-requires
 unreachable-requires g c =
-    cell_beside c.args.key.now c.in-Dict.pairs.items c.in-Some.index c.in-Some.ensures.found (sym c.entry.ensures ∙ c.in-None.is)
+    cell_beside c.args.key.now c.in-Dict.pairs.items c.in-Some.index c.in-Some.ensures.found (sym c.entry.ensures
+    ∙ c.in-None.is)
 
 pub returns : goal.returns
 returns g c = record {
   pairs = c.in-Dict.pairs;
   is = c.in-Dict.is;
-  stands = first_stands c.args.key.now c.in-Dict.pairs.items c.in-Some.index c.in-Some.ensures.found c.in-Some.ensures.first;
+  stands = first_stands c.args.key.now c.in-Dict.pairs.items c.in-Some.index c.in-Some.ensures.found
+      c.in-Some.ensures.first;
   beside = sym c.entry.ensures ∙ c.in-Some-entry.is;
 }

@@ -14,5 +14,6 @@ returns-clause-takes g c =
       hands_out late.mid locked c.del_locked.new.frame k c.begin_late-block.result
           (λ before j given. Takes before c.del_locked.new.frame j (plain_del c.args.key.now) given)
           (λ before j fault. RefusedPlace before c.del_locked.new.frame j (plain_del c.args.key.now) fault)
-          c.del_locked.result (locked_late c.args.frame.now locked k c.begin_late-block.result late) up.thread up.takes up.places up.refused,
+          c.del_locked.result (locked_late c.args.frame.now locked k c.begin_late-block.result late) up.thread up.takes
+          up.places up.refused,
     )

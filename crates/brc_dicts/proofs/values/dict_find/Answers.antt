@@ -14,5 +14,6 @@ returns-clause-shares g c =
       hands_out late.mid locked c.find_locked.new.frame k c.begin_late-block.result
           (λ before j given. Shares before c.find_locked.new.frame j (plain_find c.args.key.now) given)
           (λ before j fault. RefusedPlace before c.find_locked.new.frame j (plain_find c.args.key.now) fault)
-          c.find_locked.result (locked_late c.args.frame.now locked k c.begin_late-block.result late) up.thread up.shares up.places up.refused,
+          c.find_locked.result (locked_late c.args.frame.now locked k c.begin_late-block.result late) up.thread
+          up.shares up.places up.refused,
     )

@@ -11,28 +11,36 @@ use Rattle.brc_instructions.proofs.dicts.put_taken.Goals as goal
 
 pub returns-in-Ok-dict_put-clause-later : goal.returns-in-Ok-dict_put-clause-later
 returns-in-Ok-dict_put-clause-later g c =
-    later_put c.args.frame.now c.dict_put.new.frame c.in-Some.dict.now.place c.in-Ok.key c.args.given c.dict_put.result c.requires.besides.owned c.dict_put.ensures.keeps c.dict_put.ensures.put
+    later_put c.args.frame.now c.dict_put.new.frame c.in-Some.dict.now.place c.in-Ok.key c.args.given c.dict_put.result
+    c.requires.besides.owned c.dict_put.ensures.keeps c.dict_put.ensures.put
 
 pub returns-in-Ok-dict_put-clause-asked : goal.returns-in-Ok-dict_put-clause-asked
 returns-in-Ok-dict_put-clause-asked g c base s reference own means =
     let new = c.dict_put.new.frame in
     let result = Ok c.in-Ok-dict_put.old in
-    let late = subst (λ (key : Key g.row.A.Denot). Late c.args.frame.now c.in-Some.dict.now.place (λ mid. DictPut mid new c.in-Some.dict.now.place key c.args.given result))
+    let late = subst (λ (key : Key g.row.A.Denot). Late c.args.frame.now c.in-Some.dict.now.place
+    (λ mid. DictPut mid new c.in-Some.dict.now.place key c.args.given result))
     c.in-Ok.ensures.copied c.in-Ok-dict_put.ensures.put in
-    puts_asked (keyed_call c.args.key.now (keyed.Put reference)) c.args.dict base new c.args.registers.now s c.args.given reference result
-    (put_means base c.args.frame.now new c.args.registers.now s own c.args.dict c.in-Some.dict.now (sym c.in-Some.ensures)
+    puts_asked (keyed_call c.args.key.now (keyed.Put reference)) c.args.dict base new c.args.registers.now s
+    c.args.given reference result
+    (put_means base c.args.frame.now new c.args.registers.now s own c.args.dict c.in-Some.dict.now
+    (sym c.in-Some.ensures)
     c.args.given reference means c.requires.besides.apart c.args.key.now result late c.in-Ok-dict_put.ensures.waited)
 
 pub returns-in-Err-dict_put-clause-later : goal.returns-in-Err-dict_put-clause-later
 returns-in-Err-dict_put-clause-later g c =
-    later_put c.args.frame.now c.dict_put.new.frame c.in-Some.dict.now.place c.in-Ok.key c.args.given c.dict_put.result c.requires.besides.owned c.dict_put.ensures.keeps c.dict_put.ensures.put
+    later_put c.args.frame.now c.dict_put.new.frame c.in-Some.dict.now.place c.in-Ok.key c.args.given c.dict_put.result
+    c.requires.besides.owned c.dict_put.ensures.keeps c.dict_put.ensures.put
 
 pub returns-in-Err-dict_put-clause-asked : goal.returns-in-Err-dict_put-clause-asked
 returns-in-Err-dict_put-clause-asked g c base s reference own means =
     let new = c.dict_put.new.frame in
     let result = Err c.in-Err-dict_put.field-0 in
-    let late = subst (λ (key : Key g.row.A.Denot). Late c.args.frame.now c.in-Some.dict.now.place (λ mid. DictPut mid new c.in-Some.dict.now.place key c.args.given result))
+    let late = subst (λ (key : Key g.row.A.Denot). Late c.args.frame.now c.in-Some.dict.now.place
+    (λ mid. DictPut mid new c.in-Some.dict.now.place key c.args.given result))
     c.in-Ok.ensures.copied c.in-Err-dict_put.ensures.put in
-    puts_asked (keyed_call c.args.key.now (keyed.Put reference)) c.args.dict base new c.args.registers.now s c.args.given reference result
-    (put_means base c.args.frame.now new c.args.registers.now s own c.args.dict c.in-Some.dict.now (sym c.in-Some.ensures)
+    puts_asked (keyed_call c.args.key.now (keyed.Put reference)) c.args.dict base new c.args.registers.now s
+    c.args.given reference result
+    (put_means base c.args.frame.now new c.args.registers.now s own c.args.dict c.in-Some.dict.now
+    (sym c.in-Some.ensures)
     c.args.given reference means c.requires.besides.apart c.args.key.now result late c.in-Err-dict_put.ensures.waited)

@@ -6,13 +6,18 @@ use Rattle.brc_instructions.proofs.holding.copy.Goals as goal
 
 pub returns-clause-later : goal.returns-clause-later
 returns-clause-later g c =
-    let at = cell_of (owned_at c.args.frame.now c.args.registers.now c.args.from c.requires.stands.holds.owned (sym c.in-Some.ensures)) in
-    later_held c.args.frame.now c.retain.new.self c.hold.new.frame (later_given (c.in_ok-more.ensures.given at.0 at.1)) c.hold.ensures.quiet
+    let at = cell_of (owned_at c.args.frame.now c.args.registers.now c.args.from c.requires.stands.holds.owned
+    (sym c.in-Some.ensures)) in
+    later_held c.args.frame.now c.retain.new.self c.hold.new.frame (later_given (c.in_ok-more.ensures.given at.0 at.1))
+    c.hold.ensures.quiet
 
 pub returns-clause-follows : goal.returns-clause-follows
 returns-clause-follows g c base s own means =
-    let at = cell_of (owned_at c.args.frame.now c.args.registers.now c.args.from c.requires.stands.holds.owned (sym c.in-Some.ensures)) in
-    copies base c.retain.new.self c.hold.new.frame c.args.registers.now c.hold.new.registers s c.args.to c.args.from c.in_ok-more.more
-    (means_retained base c.args.frame.now c.retain.new.self c.args.registers.now s c.args.from at.0 c.in-Some.handle.now c.in_ok-more.more
+    let at = cell_of (owned_at c.args.frame.now c.args.registers.now c.args.from c.requires.stands.holds.owned
+    (sym c.in-Some.ensures)) in
+    copies base c.retain.new.self c.hold.new.frame c.args.registers.now c.hold.new.registers s c.args.to c.args.from
+    c.in_ok-more.more
+    (means_retained base c.args.frame.now c.retain.new.self c.args.registers.now s c.args.from at.0 c.in-Some.handle.now
+    c.in_ok-more.more
     means (sym c.in-Some.ensures) at.1 c.retain.ensures.heap (c.in_ok-more.ensures.given at.0 at.1))
     own c.hold.ensures.means

@@ -5,11 +5,15 @@ use Rattle.brc_instructions.proofs.holding.drop_held.Goals as goal
 
 pub returns-clause-later : goal.returns-clause-later
 returns-clause-later g c =
-    let gone = released_of (owned_at c.args.frame.now c.args.registers.now c.args.from c.requires.stands.holds.owned c.in-Some.ensures.comes.was) c.release.ensures.released in
-    quietly_later c.args.frame.now.seat.log c.release.new.self.seat.log (release_quietly c.args.frame.now c.release.new.self c.in-Some.handle.place gone.0 gone.1)
+    let gone = released_of (owned_at c.args.frame.now c.args.registers.now c.args.from c.requires.stands.holds.owned
+    c.in-Some.ensures.comes.was) c.release.ensures.released in
+    quietly_later c.args.frame.now.seat.log c.release.new.self.seat.log
+    (release_quietly c.args.frame.now c.release.new.self c.in-Some.handle.place gone.0 gone.1)
 
 pub returns-clause-follows : goal.returns-clause-follows
 returns-clause-follows g c base s own means =
-    let gone = released_of (owned_at c.args.frame.now c.args.registers.now c.args.from c.requires.stands.holds.owned c.in-Some.ensures.comes.was) c.release.ensures.released in
-    drops base c.args.frame.now c.release.new.self c.args.registers.now c.take.new.self s c.args.from c.in-Some.handle gone.0
+    let gone = released_of (owned_at c.args.frame.now c.args.registers.now c.args.from c.requires.stands.holds.owned
+    c.in-Some.ensures.comes.was) c.release.ensures.released in
+    drops base c.args.frame.now c.release.new.self c.args.registers.now c.take.new.self s c.args.from
+    c.in-Some.handle gone.0
     means c.in-Some.ensures.comes.was c.take.ensures.set c.in-Some.ensures.comes.apart gone.1 c.release.ensures.heap own

@@ -5,14 +5,19 @@ use Rattle.brc_instructions.proofs.lists.push.Goals as goal
 
 pub returns-in-Ok-clause-follows : goal.returns-in-Ok-clause-follows
 returns-in-Ok-clause-follows g c apart base s own means =
-    took (λ reference. object_call (calls.Push reference)) c.args.list c.args.value base c.args.frame.now c.args.registers.now c.take.new.self s c.in-Some.given
+    took (λ reference. object_call (calls.Push reference)) c.args.list c.args.value base c.args.frame.now
+    c.args.registers.now c.take.new.self s c.in-Some.given
     apart means c.in-Some.ensures.comes.was c.take.ensures.set c.push_taken.new.frame own c.in-Ok.ensures.asked
 
 pub returns-in-Err-clause-later : goal.returns-in-Err-clause-later
-returns-in-Err-clause-later g c = later_held c.args.frame.now c.push_taken.new.frame c.hold.new.frame c.push_taken.ensures.later c.hold.ensures.quiet
+returns-in-Err-clause-later g c = later_held c.args.frame.now c.push_taken.new.frame c.hold.new.frame
+    c.push_taken.ensures.later c.hold.ensures.quiet
 
 pub returns-in-Err-clause-follows : goal.returns-in-Err-clause-follows
 returns-in-Err-clause-follows g c apart base s own means =
-    handed_back (λ reference. object_call (calls.Push reference)) c.args.list c.args.value base c.args.frame.now c.args.registers.now c.take.new.self s c.in-Some.given
-    apart means c.in-Some.ensures.comes.was c.take.ensures.set c.push_taken.new.frame c.hold.new.frame c.hold.new.registers c.in-Err.handed.back c.in-Err.handed.fault
-    (own_before c.push_taken.new.frame c.hold.new.frame c.hold.ensures.heap c.hold.ensures.quiet own) own c.in-Err.ensures.same c.in-Err.ensures.asked c.hold.ensures.means
+    handed_back (λ reference. object_call (calls.Push reference)) c.args.list c.args.value base c.args.frame.now
+    c.args.registers.now c.take.new.self s c.in-Some.given
+    apart means c.in-Some.ensures.comes.was c.take.ensures.set c.push_taken.new.frame c.hold.new.frame
+    c.hold.new.registers c.in-Err.handed.back c.in-Err.handed.fault
+    (own_before c.push_taken.new.frame c.hold.new.frame c.hold.ensures.heap c.hold.ensures.quiet own) own
+    c.in-Err.ensures.same c.in-Err.ensures.asked c.hold.ensures.means

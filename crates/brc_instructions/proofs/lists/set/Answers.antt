@@ -4,19 +4,27 @@ use Rattle.brc_instructions.proofs.Follows_Of.{later_held, own_before, swapped, 
 use Rattle.brc_instructions.proofs.lists.set.Goals as goal
 
 pub returns-in-Ok-clause-later : goal.returns-in-Ok-clause-later
-returns-in-Ok-clause-later g c = later_held c.args.frame.now c.set_taken.new.frame c.hold.new.frame c.set_taken.ensures.later c.hold.ensures.quiet
+returns-in-Ok-clause-later g c = later_held c.args.frame.now c.set_taken.new.frame c.hold.new.frame
+    c.set_taken.ensures.later c.hold.ensures.quiet
 
 pub returns-in-Ok-clause-follows : goal.returns-in-Ok-clause-follows
 returns-in-Ok-clause-follows g c apart base s own means =
-    swapped (λ reference. object_call (calls.Set c.args.index reference)) c.args.list c.args.value base c.args.frame.now c.args.registers.now c.take.new.self s c.in-Some.given
-    apart means c.in-Some.ensures.comes.was c.take.ensures.set c.set_taken.new.frame c.hold.new.frame c.hold.new.registers c.in-Ok.old
-    (own_before c.set_taken.new.frame c.hold.new.frame c.hold.ensures.heap c.hold.ensures.quiet own) own c.in-Ok.ensures.asked c.hold.ensures.means
+    swapped (λ reference. object_call (calls.Set c.args.index reference)) c.args.list c.args.value base c.args.frame.now
+    c.args.registers.now c.take.new.self s c.in-Some.given
+    apart means c.in-Some.ensures.comes.was c.take.ensures.set c.set_taken.new.frame c.hold.new.frame
+    c.hold.new.registers c.in-Ok.old
+    (own_before c.set_taken.new.frame c.hold.new.frame c.hold.ensures.heap c.hold.ensures.quiet own) own
+    c.in-Ok.ensures.asked c.hold.ensures.means
 
 pub returns-in-Err-clause-later : goal.returns-in-Err-clause-later
-returns-in-Err-clause-later g c = later_held c.args.frame.now c.set_taken.new.frame c.hold-in-Err.new.frame c.set_taken.ensures.later c.hold-in-Err.ensures.quiet
+returns-in-Err-clause-later g c = later_held c.args.frame.now c.set_taken.new.frame c.hold-in-Err.new.frame
+    c.set_taken.ensures.later c.hold-in-Err.ensures.quiet
 
 pub returns-in-Err-clause-follows : goal.returns-in-Err-clause-follows
 returns-in-Err-clause-follows g c apart base s own means =
-    handed_back (λ reference. object_call (calls.Set c.args.index reference)) c.args.list c.args.value base c.args.frame.now c.args.registers.now c.take.new.self s c.in-Some.given
-    apart means c.in-Some.ensures.comes.was c.take.ensures.set c.set_taken.new.frame c.hold-in-Err.new.frame c.hold-in-Err.new.registers c.in-Err.handed.back c.in-Err.handed.fault
-    (own_before c.set_taken.new.frame c.hold-in-Err.new.frame c.hold-in-Err.ensures.heap c.hold-in-Err.ensures.quiet own) own c.in-Err.ensures.same c.in-Err.ensures.asked c.hold-in-Err.ensures.means
+    handed_back (λ reference. object_call (calls.Set c.args.index reference)) c.args.list c.args.value base
+    c.args.frame.now c.args.registers.now c.take.new.self s c.in-Some.given
+    apart means c.in-Some.ensures.comes.was c.take.ensures.set c.set_taken.new.frame c.hold-in-Err.new.frame
+    c.hold-in-Err.new.registers c.in-Err.handed.back c.in-Err.handed.fault
+    (own_before c.set_taken.new.frame c.hold-in-Err.new.frame c.hold-in-Err.ensures.heap c.hold-in-Err.ensures.quiet
+    own) own c.in-Err.ensures.same c.in-Err.ensures.asked c.hold-in-Err.ensures.means

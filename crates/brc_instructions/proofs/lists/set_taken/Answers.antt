@@ -9,10 +9,14 @@ use Rattle.brc_instructions.proofs.lists.set_taken.Goals as goal
 
 pub returns-in-Some-clause-later : goal.returns-in-Some-clause-later
 returns-in-Some-clause-later g c =
-    late_swaps c.args.frame.now c.list_set.new.frame c.in-Some.list.now.place c.args.given (plain_set c.args.index) c.list_set.result c.requires.besides.owned c.list_set.ensures.set
+    late_swaps c.args.frame.now c.list_set.new.frame c.in-Some.list.now.place c.args.given (plain_set c.args.index)
+    c.list_set.result c.requires.besides.owned c.list_set.ensures.set
 
 pub returns-in-Some-clause-asked : goal.returns-in-Some-clause-asked
 returns-in-Some-clause-asked g c base s reference own means =
-    swaps_asked (object_call (calls.Set c.args.index reference)) c.args.list base c.list_set.new.frame c.args.registers.now s c.args.given reference c.list_set.result
-    (set_means base c.args.frame.now c.list_set.new.frame c.args.registers.now s own c.args.list c.in-Some.list.now (sym c.in-Some.ensures)
-    c.args.given reference means c.requires.besides.apart c.args.index c.list_set.result c.list_set.ensures.set c.list_set.ensures.same c.list_set.ensures.waited)
+    swaps_asked (object_call (calls.Set c.args.index reference)) c.args.list base c.list_set.new.frame
+    c.args.registers.now s c.args.given reference c.list_set.result
+    (set_means base c.args.frame.now c.list_set.new.frame c.args.registers.now s own c.args.list c.in-Some.list.now
+    (sym c.in-Some.ensures)
+    c.args.given reference means c.requires.besides.apart c.args.index c.list_set.result c.list_set.ensures.set
+    c.list_set.ensures.same c.list_set.ensures.waited)

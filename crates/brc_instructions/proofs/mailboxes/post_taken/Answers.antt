@@ -8,10 +8,13 @@ use Rattle.brc_instructions.proofs.mailboxes.post_taken.Goals as goal
 
 pub returns-in-Some-clause-later : goal.returns-in-Some-clause-later
 returns-in-Some-clause-later g c =
-    later_send c.args.frame.now c.send.new.frame c.in-Some.mailbox.now.place c.args.given c.send.result c.requires.besides.owned c.send.ensures.keeps c.send.ensures.sent
+    later_send c.args.frame.now c.send.new.frame c.in-Some.mailbox.now.place c.args.given c.send.result
+    c.requires.besides.owned c.send.ensures.keeps c.send.ensures.sent
 
 pub returns-in-Some-clause-asked : goal.returns-in-Some-clause-asked
 returns-in-Some-clause-asked g c base s reference own means =
-    takes_asked (object_call (calls.Send reference)) c.args.mailbox base c.send.new.frame c.args.registers.now s c.args.given reference c.send.result
-    (send_means base c.args.frame.now c.send.new.frame c.args.registers.now s own c.args.mailbox c.in-Some.mailbox.now (sym c.in-Some.ensures)
+    takes_asked (object_call (calls.Send reference)) c.args.mailbox base c.send.new.frame c.args.registers.now s
+    c.args.given reference c.send.result
+    (send_means base c.args.frame.now c.send.new.frame c.args.registers.now s own c.args.mailbox c.in-Some.mailbox.now
+    (sym c.in-Some.ensures)
     c.args.given reference means c.requires.besides.apart c.send.result c.send.ensures.sent c.send.ensures.waited)

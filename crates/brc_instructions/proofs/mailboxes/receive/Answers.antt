@@ -10,7 +10,10 @@ use Rattle.brc_instructions.proofs.Calls_Follow.{own_before, given_follows, refu
 use Rattle.brc_instructions.proofs.mailboxes.receive.Goals as goal
 
 pub hold-requires : goal.hold-requires
-hold-requires g c = record { besides = gains_besides c.requires.stands c.in_ok-given.ensures.gains c.in_ok-given.ensures.unlocked }
+hold-requires g c = record {
+  besides = gains_besides c.requires.stands c.in_ok-given.ensures.gains
+      c.in_ok-given.ensures.unlocked;
+}
 
 pub returns-in_err-given-clause-later : goal.returns-in_err-given-clause-later
 returns-in_err-given-clause-later g c =
@@ -21,8 +24,10 @@ returns-in_err-given-clause-follows g c =
     let p = err_from_is_err_and c.from_residual.result c.from_residual.ensures.1 in
     let fault = c.in_err-given.field-0.0 in
     rw (p.1, p.2) (λ base s own means.
-    refused_follows (object_call calls.Receive) c.args.mailbox c.args.to base c.args.registers.now s c.recv.new.frame fault
-    (receive_means base c.args.frame.now c.recv.new.frame c.args.registers.now s own c.args.mailbox c.in-Some.mailbox.now (sym c.in-Some.ensures)
+    refused_follows (object_call calls.Receive) c.args.mailbox c.args.to base c.args.registers.now s
+    c.recv.new.frame fault
+    (receive_means base c.args.frame.now c.recv.new.frame c.args.registers.now s own c.args.mailbox
+    c.in-Some.mailbox.now (sym c.in-Some.ensures)
     means (Err fault) c.in_err-given.ensures.received c.in_err-given.ensures.waited))
 
 pub returns-clause-later : goal.returns-clause-later
@@ -35,7 +40,10 @@ pub returns-clause-follows : goal.returns-clause-follows
 returns-clause-follows g c base s own means =
     let mid = c.recv.new.frame in
     let given = c.in_ok-given.given in
-    given_follows (object_call calls.Receive) c.args.mailbox c.args.to base c.args.registers.now s mid c.hold.new.frame c.hold.new.registers given
-    (receive_means base c.args.frame.now mid c.args.registers.now s (own_before mid c.hold.new.frame c.hold.ensures.heap c.hold.ensures.quiet own)
-    c.args.mailbox c.in-Some.mailbox.now (sym c.in-Some.ensures) means (Ok given) c.in_ok-given.ensures.received c.in_ok-given.ensures.waited)
+    given_follows (object_call calls.Receive) c.args.mailbox c.args.to base c.args.registers.now s mid c.hold.new.frame
+    c.hold.new.registers given
+    (receive_means base c.args.frame.now mid c.args.registers.now s
+    (own_before mid c.hold.new.frame c.hold.ensures.heap c.hold.ensures.quiet own)
+    c.args.mailbox c.in-Some.mailbox.now (sym c.in-Some.ensures) means (Ok given) c.in_ok-given.ensures.received
+    c.in_ok-given.ensures.waited)
     (λ next reference besides. c.hold.ensures.means base next reference own besides)

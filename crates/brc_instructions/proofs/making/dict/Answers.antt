@@ -9,5 +9,7 @@ returns-clause-later g c =
 
 pub returns-clause-follows : goal.returns-clause-follows
 returns-clause-follows g c base s own means =
-    makes_dict base c.args.frame.now c.new_dict.new.frame c.hold.new.frame c.args.registers.now c.hold.new.registers s c.args.to c.in_ok-made.made
-    means c.new_dict.ensures.heap c.hold.ensures.heap c.hold.ensures.quiet own c.hold.ensures.means c.in_ok-made.ensures.made
+    makes_dict base c.args.frame.now c.new_dict.new.frame c.hold.new.frame c.args.registers.now c.hold.new.registers s
+    c.args.to c.in_ok-made.made
+    means c.new_dict.ensures.heap c.hold.ensures.heap c.hold.ensures.quiet own c.hold.ensures.means
+    c.in_ok-made.ensures.made

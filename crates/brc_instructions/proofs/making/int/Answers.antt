@@ -8,10 +8,13 @@ use Rattle.brc_instructions.proofs.making.int.Goals as goal
 pub returns-clause-later : goal.returns-clause-later
 returns-clause-later g c =
     later_held c.args.frame.now c.new_int.new.frame c.hold.new.frame
-    (later_answered c.args.frame.now c.new_int.new.frame _ _ c.in_ok-made.made c.in_ok-made.ensures.made) c.hold.ensures.quiet
+    (later_answered c.args.frame.now c.new_int.new.frame _ _ c.in_ok-made.made c.in_ok-made.ensures.made)
+    c.hold.ensures.quiet
 
 pub returns-clause-follows : goal.returns-clause-follows
 returns-clause-follows g c base s own means =
-    makes_int base c.args.frame.now c.new_int.new.frame c.hold.new.frame c.args.registers.now c.hold.new.registers s c.args.to c.in_ok-made.made
+    makes_int base c.args.frame.now c.new_int.new.frame c.hold.new.frame c.args.registers.now c.hold.new.registers s
+    c.args.to c.in_ok-made.made
     means c.new_int.ensures.heap c.hold.ensures.heap c.hold.ensures.quiet own c.hold.ensures.means c.args.number
-    (subst (λ (z : ℤ). Answered c.args.frame.now c.new_int.new.frame (small_cell z) (contents.Int z) c.in_ok-made.made) (to_z-of_z w64 c.args.number c.ranges.number) c.in_ok-made.ensures.made)
+    (subst (λ (z : ℤ). Answered c.args.frame.now c.new_int.new.frame (small_cell z) (contents.Int z) c.in_ok-made.made)
+    (to_z-of_z w64 c.args.number c.ranges.number) c.in_ok-made.ensures.made)

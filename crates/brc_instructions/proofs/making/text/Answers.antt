@@ -6,10 +6,13 @@ use Rattle.brc_instructions.proofs.Follows_Of.{later_held, makes_text}
 use Rattle.brc_instructions.proofs.making.text.Goals as goal
 
 pub returns-in-Ok-clause-later : goal.returns-in-Ok-clause-later
-returns-in-Ok-clause-later g c = later_held c.args.frame.now c.new_text.new.frame c.hold.new.frame (later_made c.in-Ok.ensures.made) c.hold.ensures.quiet
+returns-in-Ok-clause-later g c = later_held c.args.frame.now c.new_text.new.frame c.hold.new.frame
+    (later_made c.in-Ok.ensures.made) c.hold.ensures.quiet
 
 pub returns-in-Ok-clause-follows : goal.returns-in-Ok-clause-follows
 returns-in-Ok-clause-follows g c base s own means =
-    makes_text base c.args.frame.now c.new_text.new.frame c.hold.new.frame c.args.registers.now c.hold.new.registers s c.args.to c.in-Ok.made
+    makes_text base c.args.frame.now c.new_text.new.frame c.hold.new.frame c.args.registers.now c.hold.new.registers s
+    c.args.to c.in-Ok.made
     means c.new_text.ensures.heap c.hold.ensures.heap c.hold.ensures.quiet own c.hold.ensures.means c.args.text.now
-    (subst (λ (bytes : List ℕ). Made c.args.frame.now c.new_text.new.frame (contents.Text bytes) c.in-Ok.made) c.in_ok-copy.ensures.copied c.in-Ok.ensures.made)
+    (subst (λ (bytes : List ℕ). Made c.args.frame.now c.new_text.new.frame (contents.Text bytes) c.in-Ok.made)
+    c.in_ok-copy.ensures.copied c.in-Ok.ensures.made)

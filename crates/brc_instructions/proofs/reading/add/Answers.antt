@@ -9,13 +9,17 @@ use Rattle.brc_instructions.proofs.reading.add.Goals as goal
 
 pub returns-clause-later : goal.returns-clause-later
 returns-clause-later g c =
-    later_both c.args.frame.now.seat.log c.sum.new.frame.seat.log c.int.new.frame.seat.log c.sum.ensures.later c.int.ensures.later
+    later_both c.args.frame.now.seat.log c.sum.new.frame.seat.log c.int.new.frame.seat.log c.sum.ensures.later
+    c.int.ensures.later
 
 pub returns-clause-follows : goal.returns-clause-follows
 returns-clause-follows g c base s own means =
     let mid = c.sum.new.frame in
     let fits : FitsSigned w64 c.in_ok-sum.sum = search rules in
-    let told = c.in_ok-sum.ensures.reads base s (own_at mid c.int.new.frame c.int.ensures.heap c.int.ensures.later own) means in
-    subst (λ meant. Goes base c.int.new.frame c.int.new.registers s meant c.int.result) (sym (adds s c.args.to c.args.first c.args.second (Ok c.in_ok-sum.sum) told.1))
-    (subst (λ z. Goes base c.int.new.frame c.int.new.registers s (Ok (with_integer z c.args.to s)) c.int.result) (to_z-of_z w64 c.in_ok-sum.sum fits)
+    let told = c.in_ok-sum.ensures.reads base s
+    (own_at mid c.int.new.frame c.int.ensures.heap c.int.ensures.later own) means in
+    subst (λ meant. Goes base c.int.new.frame c.int.new.registers s meant c.int.result)
+    (sym (adds s c.args.to c.args.first c.args.second (Ok c.in_ok-sum.sum) told.1))
+    (subst (λ z. Goes base c.int.new.frame c.int.new.registers s (Ok (with_integer z c.args.to s)) c.int.result)
+    (to_z-of_z w64 c.in_ok-sum.sum fits)
     (c.int.ensures.follows base s own told.0))

@@ -20,26 +20,36 @@ returns-in_err-entries-clause-follows g c =
     let p = err_from_is_err_and c.from_residual.result c.from_residual.ensures.1 in
     let fault = c.in_err-entries.field-0.0 in
     rw (p.1, p.2) (λ base s own means.
-    let told = len_means base c.args.frame.now c.len_of.new.frame c.args.registers.now s own c.args.container c.in-Some.container.now (sym c.in-Some.ensures)
+    let told = len_means base c.args.frame.now c.len_of.new.frame c.args.registers.now s own c.args.container
+    c.in-Some.container.now (sym c.in-Some.ensures)
     means (Err fault) c.in_err-entries.ensures.looked c.in_err-entries.ensures.waited in
-    λ want. (counts s c.args.to c.args.container (Err fault) (found_read entries_in c.args.container s (Err fault) told.1), told.0))
+    λ want. (
+      counts s c.args.to c.args.container (Err fault)
+          (found_read entries_in c.args.container s (Err fault) told.1),
+      told.0,
+    ))
 
 pub returns-in-Ok-clause-later : goal.returns-in-Ok-clause-later
 returns-in-Ok-clause-later g c =
     later_both c.args.frame.now.seat.log c.len_of.new.frame.seat.log c.int.new.frame.seat.log
-    (later_len c.args.frame.now c.len_of.new.frame c.in-Some.container.now.place c.len_of.result c.len_of.ensures.looked) c.int.ensures.later
+    (later_len c.args.frame.now c.len_of.new.frame c.in-Some.container.now.place c.len_of.result
+    c.len_of.ensures.looked) c.int.ensures.later
 
 pub returns-in-Ok-clause-follows : goal.returns-in-Ok-clause-follows
 returns-in-Ok-clause-follows g c base s own means =
     let mid = c.len_of.new.frame in
-    let told = len_means base c.args.frame.now mid c.args.registers.now s (own_at mid c.int.new.frame c.int.ensures.heap c.int.ensures.later own)
-    c.args.container c.in-Some.container.now (sym c.in-Some.ensures) means (Ok c.in_ok-entries.entries) c.in_ok-entries.ensures.looked c.in_ok-entries.ensures.waited in
+    let told = len_means base c.args.frame.now mid c.args.registers.now s
+    (own_at mid c.int.new.frame c.int.ensures.heap c.int.ensures.later own)
+    c.args.container c.in-Some.container.now (sym c.in-Some.ensures) means (Ok c.in_ok-entries.entries)
+    c.in_ok-entries.ensures.looked c.in_ok-entries.ensures.waited in
     subst (λ meant. Goes base c.int.new.frame c.int.new.registers s meant c.int.result)
-    (sym (counts s c.args.to c.args.container (Ok c.in_ok-entries.entries) (found_read entries_in c.args.container s (Ok c.in_ok-entries.entries) told.1)))
+    (sym (counts s c.args.to c.args.container (Ok c.in_ok-entries.entries)
+    (found_read entries_in c.args.container s (Ok c.in_ok-entries.entries) told.1)))
     (let number = c.in-Ok.entries in
     let is : number ≡ pos c.in_ok-entries.entries = (c.in-Ok.ensures).1 in
     let fits : FitsSigned w64 number = subst (FitsSigned w64) (sym is) (c.in-Ok.ensures).0 in
-    subst (λ z. Goes base c.int.new.frame c.int.new.registers s (Ok (with_integer z c.args.to s)) c.int.result) (to_z-of_z w64 number fits ∙ is)
+    subst (λ z. Goes base c.int.new.frame c.int.new.registers s (Ok (with_integer z c.args.to s)) c.int.result)
+    (to_z-of_z w64 number fits ∙ is)
     (c.int.ensures.follows base s own told.0))
 
 pub returns-in-Err-clause-later : goal.returns-in-Err-clause-later

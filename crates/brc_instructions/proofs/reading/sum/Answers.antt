@@ -11,7 +11,8 @@ pub returns-in_err-number-clause-reads : goal.returns-in_err-number-clause-reads
 returns-in_err-number-clause-reads g c =
     let p = err_from_is_err_and c.from_residual.result c.from_residual.ensures.1 in
     let fault = c.in_err-number.field-0.0 in
-    let filled = filled_of c.get-else-is_none.result _ _ c.get-else-is_none.ensures c.is_none-else-is_none.ensures c.if-is_none-2.false in
+    let filled = filled_of c.get-else-is_none.result _ _ c.get-else-is_none.ensures c.is_none-else-is_none.ensures
+    c.if-is_none-2.false in
     rw (p.1, p.2) (λ base s own means.
     let told = c.in_err-number.ensures.reads base s own means in
     let other = means_register base c.args.frame.now c.args.registers.now s c.args.second filled.0 means filled.1 in
@@ -19,7 +20,8 @@ returns-in_err-number-clause-reads g c =
 
 pub returns-in_err-more-clause-later : goal.returns-in_err-more-clause-later
 returns-in_err-more-clause-later g c =
-    later_both c.args.frame.now.seat.log c.number_of.new.frame.seat.log c.number_of-2.new.frame.seat.log c.number_of.ensures.later c.number_of-2.ensures.later
+    later_both c.args.frame.now.seat.log c.number_of.new.frame.seat.log c.number_of-2.new.frame.seat.log
+    c.number_of.ensures.later c.number_of-2.ensures.later
 
 pub returns-in_err-more-clause-reads : goal.returns-in_err-more-clause-reads
 returns-in_err-more-clause-reads g c =
@@ -27,13 +29,15 @@ returns-in_err-more-clause-reads g c =
     let fault = c.in_err-more.field-0.0 in
     let mid = c.number_of.new.frame in
     rw (p.1, p.2) (λ base s own means.
-    let told = c.in_ok-number.ensures.reads base s (own_at mid c.number_of-2.new.frame c.number_of-2.ensures.heap c.number_of-2.ensures.later own) means in
+    let told = c.in_ok-number.ensures.reads base s
+    (own_at mid c.number_of-2.new.frame c.number_of-2.ensures.heap c.number_of-2.ensures.later own) means in
     let more = c.in_err-more.ensures.reads base s own told.0 in
     (more.0, second_refused s c.args.first c.args.second c.in_ok-number.number fault told.1 more.1))
 
 pub returns-in-Some-clause-later : goal.returns-in-Some-clause-later
 returns-in-Some-clause-later g c =
-    later_both c.args.frame.now.seat.log c.number_of.new.frame.seat.log c.number_of-2.new.frame.seat.log c.number_of.ensures.later c.number_of-2.ensures.later
+    later_both c.args.frame.now.seat.log c.number_of.new.frame.seat.log c.number_of-2.new.frame.seat.log
+    c.number_of.ensures.later c.number_of-2.ensures.later
 
 pub returns-in-Some-clause-reads : goal.returns-in-Some-clause-reads
 returns-in-Some-clause-reads g c base s own means =
@@ -42,7 +46,8 @@ returns-in-Some-clause-reads g c base s own means =
     let more = c.in_ok-more.more in
     let number_fits : FitsSigned w64 number = search rules in
     let more_fits : FitsSigned w64 more = search rules in
-    let told = c.in_ok-number.ensures.reads base s (own_at mid c.number_of-2.new.frame c.number_of-2.ensures.heap c.number_of-2.ensures.later own) means in
+    let told = c.in_ok-number.ensures.reads base s
+    (own_at mid c.number_of-2.new.frame c.number_of-2.ensures.heap c.number_of-2.ensures.later own) means in
     let then = c.in_ok-more.ensures.reads base s own told.0 in (
       then.0,
       numbers_summed s c.args.first c.args.second number more told.1 then.1
@@ -51,7 +56,8 @@ returns-in-Some-clause-reads g c base s own means =
 
 pub returns-in-None-clause-later : goal.returns-in-None-clause-later
 returns-in-None-clause-later g c =
-    later_both c.args.frame.now.seat.log c.number_of.new.frame.seat.log c.number_of-2.new.frame.seat.log c.number_of.ensures.later c.number_of-2.ensures.later
+    later_both c.args.frame.now.seat.log c.number_of.new.frame.seat.log c.number_of-2.new.frame.seat.log
+    c.number_of.ensures.later c.number_of-2.ensures.later
 
 pub returns-in-None-clause-reads : goal.returns-in-None-clause-reads
 returns-in-None-clause-reads g c base s own means =
@@ -60,8 +66,10 @@ returns-in-None-clause-reads g c base s own means =
     let more = c.in_ok-more.more in
     let number_fits : FitsSigned w64 number = search rules in
     let more_fits : FitsSigned w64 more = search rules in
-    let told = c.in_ok-number.ensures.reads base s (own_at mid c.number_of-2.new.frame c.number_of-2.ensures.heap c.number_of-2.ensures.later own) means in
+    let told = c.in_ok-number.ensures.reads base s
+    (own_at mid c.number_of-2.new.frame c.number_of-2.ensures.heap c.number_of-2.ensures.later own) means in
     let then = c.in_ok-more.ensures.reads base s own told.0 in (
       then.0,
-      numbers_summed s c.args.first c.args.second number more told.1 then.1 ∙ sym (sum_refused number more number_fits more_fits c.in-None.ensures),
+      numbers_summed s c.args.first c.args.second number more told.1 then.1
+          ∙ sym (sum_refused number more number_fits more_fits c.in-None.ensures),
     )

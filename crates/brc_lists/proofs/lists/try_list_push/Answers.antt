@@ -6,4 +6,5 @@ pub returns-clause-pushed : goal.returns-clause-pushed
 returns-clause-pushed g c =
     puts_value c.args.value.place plain_push c.put_locked.result
     c.begin.new.self c.put_locked.new.frame c.in-Some.ensures.began c.begin.ensures.keeps c.begin.ensures.frame
-    c.put_locked.ensures.thread c.put_locked.ensures.put c.put_locked.ensures.frame c.put_locked.ensures.kept c.put_locked.ensures.refused
+    c.put_locked.ensures.thread c.put_locked.ensures.put c.put_locked.ensures.frame c.put_locked.ensures.kept
+    c.put_locked.ensures.refused

@@ -6,4 +6,5 @@ pub returns-clause-set : goal.returns-clause-set
 returns-clause-set g c =
     swaps_value c.args.value.place (plain_set c.args.index) c.swap_locked.result
     c.begin.new.self c.swap_locked.new.frame c.in-Some.ensures.began c.begin.ensures.keeps c.begin.ensures.frame
-    c.swap_locked.ensures.thread c.swap_locked.ensures.swapped c.swap_locked.ensures.frame c.swap_locked.ensures.kept c.swap_locked.ensures.refused
+    c.swap_locked.ensures.thread c.swap_locked.ensures.swapped c.swap_locked.ensures.frame c.swap_locked.ensures.kept
+    c.swap_locked.ensures.refused

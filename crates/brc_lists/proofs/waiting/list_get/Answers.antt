@@ -9,5 +9,6 @@ returns-clause-shared g c =
       begins.waits,
       shares_entry (plain_get c.args.index) c.share_locked.result
           c.begin_late-block.new.frame c.share_locked.new.frame begins.began begins.keeps begins.frame
-          c.share_locked.ensures.thread c.share_locked.ensures.shared c.share_locked.ensures.places c.share_locked.ensures.kept c.share_locked.ensures.refused,
+          c.share_locked.ensures.thread c.share_locked.ensures.shared c.share_locked.ensures.places
+          c.share_locked.ensures.kept c.share_locked.ensures.refused,
     )

@@ -9,5 +9,6 @@ returns-clause-pushed g c =
       begins.waits,
       puts_value c.args.value.place plain_push c.put_locked.result
           c.begin_late-block.new.frame c.put_locked.new.frame begins.began begins.keeps begins.frame
-          c.put_locked.ensures.thread c.put_locked.ensures.put c.put_locked.ensures.frame c.put_locked.ensures.kept c.put_locked.ensures.refused,
+          c.put_locked.ensures.thread c.put_locked.ensures.put c.put_locked.ensures.frame c.put_locked.ensures.kept
+          c.put_locked.ensures.refused,
     )

@@ -9,5 +9,6 @@ returns-clause-set g c =
       begins.waits,
       swaps_value c.args.value.place (plain_set c.args.index) c.swap_locked.result
           c.begin_late-block.new.frame c.swap_locked.new.frame begins.began begins.keeps begins.frame
-          c.swap_locked.ensures.thread c.swap_locked.ensures.swapped c.swap_locked.ensures.frame c.swap_locked.ensures.kept c.swap_locked.ensures.refused,
+          c.swap_locked.ensures.thread c.swap_locked.ensures.swapped c.swap_locked.ensures.frame
+          c.swap_locked.ensures.kept c.swap_locked.ensures.refused,
     )

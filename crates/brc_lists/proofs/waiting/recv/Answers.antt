@@ -12,5 +12,6 @@ returns-clause-received g c =
       begins.waits,
       takes_entry (plain_take kinds.Mailbox 0) plain_receive c.take_locked.result
           c.begin_late-block.new.frame c.take_locked.new.frame (refl) begins.began begins.keeps begins.frame
-          c.take_locked.ensures.thread c.take_locked.ensures.taken c.take_locked.ensures.places c.take_locked.ensures.kept c.take_locked.ensures.refused,
+          c.take_locked.ensures.thread c.take_locked.ensures.taken c.take_locked.ensures.places
+          c.take_locked.ensures.kept c.take_locked.ensures.refused,
     )

@@ -5,5 +5,6 @@ use Rattle.brc_lists.proofs.within.share_locked.Goals as goal
 
 pub returns-in-Err-clause-refused : goal.returns-in-Err-clause-refused
 returns-in-Err-clause-refused g c =
-    place_found c.args.frame.now kinds.«List» c.args.index (λ cells. cells) (contents_found c.args.frame.now) c.args.block.1 c.in-Err.fault
+    place_found c.args.frame.now kinds.«List» c.args.index (λ cells. cells) (contents_found c.args.frame.now)
+    c.args.block.1 c.in-Err.fault
     c.requires.has.found (c.in-Err.ensures.refused (λ cells. cells))

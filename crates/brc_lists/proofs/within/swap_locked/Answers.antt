@@ -15,9 +15,12 @@ pub returns-in-Ok-clause-swapped : goal.returns-in-Ok-clause-swapped
 returns-in-Ok-clause-swapped g c =
     let here = c.payload.ensures in
     let there = c.payload_mut.ensures.value in
-    swaps_in c.args.frame.now c.end_swap.new.self c.args.value.place c.cell-cell.result c.args.index c.in-Ok.entry _ c.args.block.1
+    swaps_in c.args.frame.now c.end_swap.new.self c.args.value.place c.cell-cell.result c.args.index c.in-Ok.entry _
+    c.args.block.1
     c.requires.has.locks_cell c.requires.has.found c.cell-cell.ensures.cell
-    (ap kind_of (sym here) ∙ c.in-Ok.ensures.is) (ap (λ (p : Payload g.row.A.Denot). slice_get (entries_of p) c.args.index) (sym here) ∙ c.in-Ok.ensures.entry)
+    (ap kind_of (sym here) ∙ c.in-Ok.ensures.is)
+    (ap (λ (p : Payload g.row.A.Denot). slice_get (entries_of p) c.args.index) (sym here) ∙ c.in-Ok.ensures.entry)
     (c.set.ensures.kind ∙ ap kind_of there)
-    (c.set.ensures.set ∙ ap (λ (p : Payload g.row.A.Denot). slice_set (entries_of p) c.args.index c.cell-cell.result) there)
+    (c.set.ensures.set ∙ ap (λ (p : Payload g.row.A.Denot). slice_set (entries_of p) c.args.index
+    c.cell-cell.result) there)
     c.end_swap.ensures.ended c.end_swap.ensures.places c.end_swap.ensures.len

@@ -8,14 +8,16 @@ loop-init g c = (tt, tt, NoTry, c.requires.unlocked)
 
 pub begin-requires-clause-owned : goal.begin-requires-clause-owned
 begin-requires-clause-owned g c =
-    owns_kept c.args.frame.now c.loop.frame c.args.handle.now (waits_thread c.loop.invariant.2) (waits_frame c.loop.invariant.2) c.requires.owned
+    owns_kept c.args.frame.now c.loop.frame c.args.handle.now (waits_thread c.loop.invariant.2)
+    (waits_frame c.loop.invariant.2) c.requires.owned
 
 pub loop-preserved : goal.loop-preserved
 loop-preserved g c =
     let kept = c.in_default.ensures in (
       tt,
       tt,
-      OneMore c.loop.frame c.begin.new.self c.loop.invariant.2 (record { busy = kept.busy; keeps = kept.keeps; frame = kept.frame }),
+      OneMore c.loop.frame c.begin.new.self c.loop.invariant.2
+          (record { busy = kept.busy; keeps = kept.keeps; frame = kept.frame }),
       kept.busy.unlocked,
     )
 

@@ -9,5 +9,8 @@ use Rattle.brc_model.proofs.edits.replace.Goals as goal
 pub loop-fact-preserved : goal.loop-fact-preserved
 loop-fact-preserved c =
     let x = slice_index_or c.loop-fact.facts c.loop-fact.fact-index (Lives 0 kinds.Int) in
-    let read : x ≡ slice_index_or c.loop-fact.facts c.loop-fact.fact-index x = let within : c.loop-fact.fact-index < length c.loop-fact.facts = omega arith in get_or_default c.loop-fact.facts c.loop-fact.fact-index (Lives 0 kinds.Int) x within in
-    rw c.renamed.ensures (map_over_more (replaced c.args.object c.args.«from».now c.args.to) c.args.facts.now c.loop-fact.facts c.loop-fact.fact-index x c.loop-fact-test.true c.loop-fact.invariant read)
+    let read : x ≡ slice_index_or c.loop-fact.facts c.loop-fact.fact-index x =
+    let within : c.loop-fact.fact-index < length c.loop-fact.facts = omega arith in
+    get_or_default c.loop-fact.facts c.loop-fact.fact-index (Lives 0 kinds.Int) x within in
+    rw c.renamed.ensures (map_over_more (replaced c.args.object c.args.«from».now c.args.to) c.args.facts.now
+    c.loop-fact.facts c.loop-fact.fact-index x c.loop-fact-test.true c.loop-fact.invariant read)

@@ -15,7 +15,8 @@ returns-then-byte-eq10-clause-line c =
     )
 
 pub loop-at-preserved : goal.loop-at-preserved
-loop-at-preserved c = goes_past c.args.text.now c.loop-at.at c.loop-at-test.true (ne_eqb _ _ c.if-byte-eq10.false) c.loop-at.invariant
+loop-at-preserved c = goes_past c.args.text.now c.loop-at.at c.loop-at-test.true (ne_eqb _ _ c.if-byte-eq10.false)
+    c.loop-at.invariant
 
 pub returns-clause-line : goal.returns-clause-line
 returns-clause-line c =

@@ -21,7 +21,8 @@ no_line name (byte ∷ text) none = absurd (omega arith)
 pub returns-in_err-put_told_line : goal.returns-in_err-put_told_line
 returns-in_err-put_told_line g c =
     let p = err_from_is_err_and c.from_residual.result c.from_residual.ensures.1 in
-    let split = next_line c.args.name.now c.loop-rest.rest.now c.first_line.result.0.now c.first_line.result.1.now c.first_line.ensures.line in
+    let split = next_line c.args.name.now c.loop-rest.rest.now c.first_line.result.0.now c.first_line.result.1.now
+    c.first_line.ensures.line in
     let behind = told_lines c.args.name.now c.first_line.result.1.now in
     rw (p.1, p.2) (
       c.in_err-put_told_line.ensures.0,
@@ -31,9 +32,12 @@ returns-in_err-put_told_line g c =
 
 pub loop-rest-preserved : goal.loop-rest-preserved
 loop-rest-preserved g c =
-    let split = next_line c.args.name.now c.loop-rest.rest.now c.first_line.result.0.now c.first_line.result.1.now c.first_line.ensures.line in
-    goes_on _ _ (told_lines c.args.name.now c.first_line.result.1.now) c.loop-rest.invariant split c.in_ok-put_told_line.ensures
+    let split = next_line c.args.name.now c.loop-rest.rest.now c.first_line.result.0.now c.first_line.result.1.now
+    c.first_line.ensures.line in
+    goes_on _ _ (told_lines c.args.name.now c.first_line.result.1.now) c.loop-rest.invariant split
+    c.in_ok-put_told_line.ensures
 
 pub returns : goal.returns
 returns g c =
-    ends c.loop-rest.invariant (no_line c.args.name.now c.loop-rest.rest.now (eqb-true _ _ (sym c.is_empty.ensures ∙ c.loop-rest-test.false)))
+    ends c.loop-rest.invariant
+    (no_line c.args.name.now c.loop-rest.rest.now (eqb-true _ _ (sym c.is_empty.ensures ∙ c.loop-rest-test.false)))

@@ -1,4 +1,5 @@
-use Rattle.std.proofs.Common.{◌≡◌, ◌<◌, ◌+◌, ◌++◌, ℕ, List, [], Bor, length, get_or, drop, drop-cons, add-one, ap, ◌∙◌, sym}
+use Rattle.std.proofs.Common.{◌≡◌, ◌<◌, ◌+◌, ◌++◌, ℕ, List, [], Bor, length, get_or, drop, drop-cons, add-one, ap, ◌∙◌}
+use Rattle.std.proofs.Common.{sym}
 use Rattle.std.proofs.lemmas.Result.{err_from_is_err_and}
 use Rattle.brc_text.proofs.PutLaws.{goes_on, fails}
 use Rattle.brc_output.specs.Parts.{joined}
@@ -14,7 +15,8 @@ next_part parts i other within =
 pub returns-in_err-put_bytes : goal.returns-in_err-put_bytes
 returns-in_err-put_bytes g c =
     let p = err_from_is_err_and c.from_residual.result c.from_residual.ensures.1 in
-    let split = next_part c.args.parts.now c.loop-part.part-index (record { ref_ptr = (0, 0); now = [] }) c.loop-part-test.true in
+    let split = next_part c.args.parts.now c.loop-part.part-index (record { ref_ptr = (0, 0); now = [] })
+    c.loop-part-test.true in
     let behind = joined (drop (c.loop-part.part-index + 1) c.args.parts.now) in
     rw (p.1, p.2) (
       c.in_err-put_bytes.ensures.0,
@@ -24,5 +26,7 @@ returns-in_err-put_bytes g c =
 
 pub loop-part-preserved : goal.loop-part-preserved
 loop-part-preserved g c =
-    let split = next_part c.args.parts.now c.loop-part.part-index (record { ref_ptr = (0, 0); now = [] }) c.loop-part-test.true in
-    goes_on _ _ (joined (drop (c.loop-part.part-index + 1) c.args.parts.now)) c.loop-part.invariant split c.in_ok-put_bytes.ensures
+    let split = next_part c.args.parts.now c.loop-part.part-index (record { ref_ptr = (0, 0); now = [] })
+    c.loop-part-test.true in
+    goes_on _ _ (joined (drop (c.loop-part.part-index + 1) c.args.parts.now)) c.loop-part.invariant split
+    c.in_ok-put_bytes.ensures

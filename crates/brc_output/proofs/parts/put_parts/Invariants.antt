@@ -5,4 +5,5 @@ use Rattle.brc_output.proofs.parts.put_parts.Given as goal
 
 abbrev pub invariant-loop-part : goal.invariant-loop-part
 invariant-loop-part g l =
-    PutsUpTo (g.W.Write.contents l.fn.writer) (g.W.Write.contents l.writer) (joined l.parts) (joined (drop l.part-index l.parts))
+    PutsUpTo (g.W.Write.contents l.fn.writer) (g.W.Write.contents l.writer) (joined l.parts)
+    (joined (drop l.part-index l.parts))

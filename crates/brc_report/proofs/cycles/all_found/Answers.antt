@@ -14,6 +14,7 @@ loop-remain-preserved g c = (
       c.in_ok-keep.ensures),
   settled_more (holder_in c.args.remains.now) (sees c.loop-remain.seen) (sees c.walk.new.seen) _
       c.in_ok-path.path.items c.in_ok-path.end c.args.remains.now c.loop-remain.remain-index c.in_ok-path.ensures
-      (λ d. ap (λ (remain : Remain). remain.cell) (get_or_within c.args.remains.now c.loop-remain.remain-index d _ c.loop-remain-test.true))
+      (λ d. ap (λ (remain : Remain). remain.cell)
+      (get_or_within c.args.remains.now c.loop-remain.remain-index d _ c.loop-remain-test.true))
       c.loop-remain.invariant.1,
 )

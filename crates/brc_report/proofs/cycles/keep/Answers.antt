@@ -13,7 +13,8 @@ returns g c =
     on_ok_map c.put.result
     (λ put. kept_from c.args.path.now c.args.end (at c.args.found.now) (at c.put.new.self) c.in-Some.place
     c.index-first.result.now c.in_ok-cycle.cycle.items (sym c.place_of.ensures ∙ c.in-Some.is)
-    (subst (λ w. IsTurned w c.in_ok-cycle.cycle.items) (tail_range c.args.path.now c.in-Some.place) c.in_ok-cycle.ensures)
+    (subst (λ w. IsTurned w c.in_ok-cycle.cycle.items) (tail_range c.args.path.now c.in-Some.place)
+    c.in_ok-cycle.ensures)
     c.index-first.ensures
     (λ cell. put cell
     ∙ ap (λ (w : List ℕ). if c.index-first.result.now == cell then Some w else at c.args.found.now cell) c.new.ensures))

@@ -16,12 +16,22 @@ returns-in_err-put_ledger g c =
     let p = err_from_is_err_and c.from_residual.result c.from_residual.ensures.1 in
     rw (p.1, p.2) (
       c.in_err-put_ledger.ensures.0,
-      c.in_err-put_ledger.ensures.1 ++ (remains_text c.args.report.now.remains.items ++ cycles_text c.args.report.now.cycles.items),
-      first_fails (g.W.Write.contents c.args.writer.now) _ (ledger_line c.args.report.now.ledger c.args.report.now.live) (remains_text c.args.report.now.remains.items ++ cycles_text c.args.report.now.cycles.items)
-          (report_text c.args.report.now.ledger c.args.report.now.live c.args.report.now.remains.items c.args.report.now.cycles.items) c.in_err-put_ledger.ensures.1 (text_is c.args.report.now.ledger c.args.report.now.live c.args.report.now.remains.items c.args.report.now.cycles.items) c.in_err-put_ledger.ensures.2,
+      c.in_err-put_ledger.ensures.1
+          ++ (remains_text c.args.report.now.remains.items ++ cycles_text c.args.report.now.cycles.items),
+      first_fails (g.W.Write.contents c.args.writer.now) _ (ledger_line c.args.report.now.ledger c.args.report.now.live)
+          (remains_text c.args.report.now.remains.items ++ cycles_text c.args.report.now.cycles.items)
+          (report_text c.args.report.now.ledger c.args.report.now.live c.args.report.now.remains.items
+          c.args.report.now.cycles.items) c.in_err-put_ledger.ensures.1
+          (text_is c.args.report.now.ledger c.args.report.now.live c.args.report.now.remains.items
+          c.args.report.now.cycles.items) c.in_err-put_ledger.ensures.2,
     )
 
 pub returns : goal.returns
 returns g c =
-    second_puts (g.W.Write.contents c.args.writer.now) _ _ c.put_rest.result (ledger_line c.args.report.now.ledger c.args.report.now.live) (remains_text c.args.report.now.remains.items ++ cycles_text c.args.report.now.cycles.items)
-    (report_text c.args.report.now.ledger c.args.report.now.live c.args.report.now.remains.items c.args.report.now.cycles.items) (text_is c.args.report.now.ledger c.args.report.now.live c.args.report.now.remains.items c.args.report.now.cycles.items) c.in_ok-put_ledger.ensures c.put_rest.ensures
+    second_puts (g.W.Write.contents c.args.writer.now) _ _ c.put_rest.result
+    (ledger_line c.args.report.now.ledger c.args.report.now.live)
+    (remains_text c.args.report.now.remains.items ++ cycles_text c.args.report.now.cycles.items)
+    (report_text c.args.report.now.ledger c.args.report.now.live c.args.report.now.remains.items
+    c.args.report.now.cycles.items)
+    (text_is c.args.report.now.ledger c.args.report.now.live c.args.report.now.remains.items
+    c.args.report.now.cycles.items) c.in_ok-put_ledger.ensures c.put_rest.ensures

@@ -6,7 +6,8 @@ use Rattle.brc_run.proofs.joining.begin_each.Goals as goal
 pub loop-section-preserved : goal.loop-section-preserved
 loop-section-preserved g c =
     let was = c.loop-section.invariant in (
-      one_more _ _ _ _ _ _ _ _ _ was.0 (omega arith) c.section-item.is (omega arith) c.begin.ensures c.push_reserved.ensures.items,
+      one_more _ _ _ _ _ _ _ _ _ was.0 (omega arith) c.section-item.is (omega arith) c.begin.ensures
+          c.push_reserved.ensures.items,
       others_at _ _ _ _ c.in-Some.ensures.items was.1,
       omega (arith, ap length c.in-Some.ensures.items, was.2),
       omega arith,

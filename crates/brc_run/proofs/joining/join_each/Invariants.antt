@@ -7,7 +7,9 @@ use Rattle.brc_run.proofs.joining.join_each.Given as goal
 
 abbrev pub invariant-loop-one : goal.invariant-loop-one
 invariant-loop-one g l =
-    ((heap : _) (gate : _) (sections : _) → InOrder (IsBegun heap gate (g.G.Gate.may_refuse gate)) 1 sections (vec_items l.fn.begun)
-    → Underway (IsBegun heap gate (g.G.Gate.may_refuse gate)) (IsDone heap (g.G.Gate.may_refuse gate)) sections (into_iter_items l.one-iterator) (vec_items l.done))
+    ((heap : _) (gate : _) (sections : _) → InOrder (IsBegun heap gate (g.G.Gate.may_refuse gate)) 1 sections
+    (vec_items l.fn.begun)
+    → Underway (IsBegun heap gate (g.G.Gate.may_refuse gate)) (IsDone heap (g.G.Gate.may_refuse gate)) sections
+    (into_iter_items l.one-iterator) (vec_items l.done))
     × (vec_len l.done + length (into_iter_items l.one-iterator) ≤ vec_capacity l.done)
     × (length (into_iter_items l.one-iterator) ≡ into_iter_len l.one-iterator)

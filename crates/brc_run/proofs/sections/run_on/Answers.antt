@@ -5,5 +5,6 @@ use Rattle.brc_run.proofs.sections.run_on.Goals as goal
 
 pub gather_all-requires-clause-same_heap : goal.gather_all-requires-clause-same_heap
 gather_all-requires-clause-same_heap g c =
-    each_is (IsDone c.args.heap.now (g.G.Gate.may_refuse c.args.gate.now)) (λ one. one.retired.heap ≡ c.args.heap.now) (λ n x y so. so.heap_is) 1
+    each_is (IsDone c.args.heap.now (g.G.Gate.may_refuse c.args.gate.now)) (λ one. one.retired.heap ≡ c.args.heap.now)
+    (λ n x y so. so.heap_is) 1
     c.args.sections.now c.run_all-done.result.items c.run_all-done.ensures.done

@@ -13,7 +13,12 @@ use Rattle.brc_run.proofs.starting.start_one.Goals as goal
 pub spawn_with-started-requires-send-F : goal.spawn_with-started-requires-send-F
 spawn_with-started-requires-send-F g c κs within =
     let e = κs.1.1.1.1.1.1 in
-    let T = type_at _ (of-22 g.row.E g.row.R g.row.G g.E.laws g.R.laws g.G.laws g.R.Threads g.R.Threads-dict g.R.Wait g.R.Wait-dict g.G.Gate g.G.Gate-dict record { mir = named 6; lft = e.0 } record { mir = named 7; lft = e.1.0 } record { mir = named 8; lft = e.1.1.0 } record { mir = named 9; lft = e.1.1.1.0 } record { mir = named 10; lft = e.1.1.1.1.0 }) in
+    let T = type_at _ (of-22 g.row.E g.row.R g.row.G g.E.laws g.R.laws g.G.laws g.R.Threads g.R.Threads-dict g.R.Wait
+    g.R.Wait-dict g.G.Gate g.G.Gate-dict record { mir = named 6; lft = e.0 } record { mir = named 7; lft = e.1.0 }
+    record { mir = named 8; lft = e.1.1.0 } record { mir = named 9; lft = e.1.1.1.0 } record {
+      mir = named 10;
+      lft = e.1.1.1.1.0;
+    }) in
     param_send 2 _
     (arg_send _ no _ (recorded_send (Struct (shape T)) T.D T.to T.to_one (struct_send (shape T) (
       search (sendable, c.type_bounds.sync-R),

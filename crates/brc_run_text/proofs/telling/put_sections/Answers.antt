@@ -13,9 +13,12 @@ pub returns-in_err-write_section : goal.returns-in_err-write_section
 returns-in_err-write_section g c =
     let p = err_from_is_err_and c.from_residual.result c.from_residual.ensures.1 in
     let found = c.in-Some.ensures.lookup in
-    let split = next_section c.args.sections.now c.args.ends.now c.loop-at.at c.index-sections-at.result c.in-Some.end.now c.as_bytes.result.now c.as_slice.result.now
-    c.loop-at-test.true found.3.0 c.index-sections-at.is found.1 (c.as_bytes.ensures.value ∙ c.as_str-name.ensures) c.as_slice.ensures.value in
-    let behind = sections_text (drop (c.loop-at.at + 1) c.args.sections.now) (drop (c.loop-at.at + 1) c.args.ends.now) in
+    let split = next_section c.args.sections.now c.args.ends.now c.loop-at.at c.index-sections-at.result
+    c.in-Some.end.now c.as_bytes.result.now c.as_slice.result.now
+    c.loop-at-test.true found.3.0 c.index-sections-at.is found.1 (c.as_bytes.ensures.value ∙ c.as_str-name.ensures)
+    c.as_slice.ensures.value in
+    let behind = sections_text (drop (c.loop-at.at + 1) c.args.sections.now)
+    (drop (c.loop-at.at + 1) c.args.ends.now) in
     rw (p.1, p.2) (
       c.in_err-write_section.ensures.0,
       c.in_err-write_section.ensures.1 ++ behind,
@@ -25,9 +28,13 @@ returns-in_err-write_section g c =
 pub loop-at-preserved : goal.loop-at-preserved
 loop-at-preserved g c =
     let found = c.in-Some.ensures.lookup in
-    let split = next_section c.args.sections.now c.args.ends.now c.loop-at.at c.index-sections-at.result c.in-Some.end.now c.as_bytes.result.now c.as_slice.result.now
-    c.loop-at-test.true found.3.0 c.index-sections-at.is found.1 (c.as_bytes.ensures.value ∙ c.as_str-name.ensures) c.as_slice.ensures.value in
-    goes_on _ _ (sections_text (drop (c.loop-at.at + 1) c.args.sections.now) (drop (c.loop-at.at + 1) c.args.ends.now)) c.loop-at.invariant split c.in_ok-write_section.ensures
+    let split = next_section c.args.sections.now c.args.ends.now c.loop-at.at c.index-sections-at.result
+    c.in-Some.end.now c.as_bytes.result.now c.as_slice.result.now
+    c.loop-at-test.true found.3.0 c.index-sections-at.is found.1 (c.as_bytes.ensures.value ∙ c.as_str-name.ensures)
+    c.as_slice.ensures.value in
+    goes_on _ _ (sections_text (drop (c.loop-at.at + 1) c.args.sections.now) (drop (c.loop-at.at + 1) c.args.ends.now))
+    c.loop-at.invariant split c.in_ok-write_section.ensures
 
 pub returns : goal.returns
-returns g c = ends c.loop-at.invariant (sections_done c.args.sections.now c.args.ends.now c.loop-at.at c.loop-at-test.false)
+returns g c = ends c.loop-at.invariant
+    (sections_done c.args.sections.now c.args.ends.now c.loop-at.at c.loop-at-test.false)

@@ -11,9 +11,11 @@ pub returns-in_err-script-clause-runs : goal.returns-in_err-script-clause-runs
 returns-in_err-script-clause-runs g c =
     let p = err_from_is_err_and c.from_residual-in_err-script.result c.from_residual-in_err-script.ensures.1 in
     rw (p.1, p.2) (
-    not_spelled c.args.options (g.G.Gate.may_refuse c.args.gate.now) (g.R.Read.remaining c.args.reader) (g.W.Write.contents c.args.writer.now)
+    not_spelled c.args.options (g.G.Gate.may_refuse c.args.gate.now) (g.R.Read.remaining c.args.reader)
+    (g.W.Write.contents c.args.writer.now)
     c.in_ok-input.input.items c.in_err-script.field-0.0 c.in_ok-input.ensures.bytes
-    (subst (λ (b : List ℕ). Refuses c.in_err-script.field-0.0 (script_at {A = Global} b)) c.as_slice.ensures.value c.in_err-script.ensures.exact)
+    (subst (λ (b : List ℕ). Refuses c.in_err-script.field-0.0 (script_at {A = Global} b)) c.as_slice.ensures.value
+    c.in_err-script.ensures.exact)
     )
 
 pub returns-in_err-write_run-clause-runs : goal.returns-in_err-write_run-clause-runs
@@ -23,11 +25,14 @@ returns-in_err-write_run-clause-runs g c =
     let input = g.R.Read.remaining c.args.reader in
     let script = c.in_ok-script.script in
     let run' = c.in_ok-run.run' in
-    let spelled = subst (λ (b : List ℕ). script_at {A = Global} b ≡ Ok script) c.as_slice.ensures.value c.in_ok-script.ensures.exact in
+    let spelled = subst (λ (b : List ℕ). script_at {A = Global} b ≡ Ok script) c.as_slice.ensures.value
+    c.in_ok-script.ensures.exact in
     rw (p.1, p.2) (
-    not_written c.args.options refuses input (g.W.Write.contents c.args.writer.now) (g.W.Write.contents c.write_run.new.writer)
+    not_written c.args.options refuses input (g.W.Write.contents c.args.writer.now)
+    (g.W.Write.contents c.write_run.new.writer)
     c.in_err-write_run.ensures.1 script run'.sections.items run'.report c.in_err-write_run.field-0.0
-    (run_of c.args.options refuses input c.in_ok-input.input.items script run'.sections.items run'.report c.in_ok-input.ensures.bytes spelled
+    (run_of c.args.options refuses input c.in_ok-input.input.items script run'.sections.items run'.report
+    c.in_ok-input.ensures.bytes spelled
     c.in_ok-run.ensures.sections c.in_ok-run.ensures.report)
     c.in_err-write_run.ensures.0 c.in_err-write_run.ensures.2
     )
@@ -38,12 +43,14 @@ returns-clause-runs g c =
     let input = g.R.Read.remaining c.args.reader in
     let script = c.in_ok-script.script in
     let run' = c.in_ok-run.run' in
-    let spelled = subst (λ (b : List ℕ). script_at {A = Global} b ≡ Ok script) c.as_slice.ensures.value c.in_ok-script.ensures.exact in
+    let spelled = subst (λ (b : List ℕ). script_at {A = Global} b ≡ Ok script) c.as_slice.ensures.value
+    c.in_ok-script.ensures.exact in
     record {
       script = script;
       ends = run'.sections.items;
       report = run'.report;
-      run = run_of c.args.options refuses input c.in_ok-input.input.items script run'.sections.items run'.report c.in_ok-input.ensures.bytes spelled
+      run = run_of c.args.options refuses input c.in_ok-input.input.items script run'.sections.items run'.report
+          c.in_ok-input.ensures.bytes spelled
           c.in_ok-run.ensures.sections c.in_ok-run.ensures.report;
       written = c.in_ok-write_run.ensures;
       lives = refl;

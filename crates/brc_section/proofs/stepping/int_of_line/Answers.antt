@@ -6,5 +6,6 @@ use Rattle.brc_section.proofs.stepping.int_of_line.Goals as goal
 
 pub returns-clause-follows : goal.returns-clause-follows
 returns-clause-follows g c =
-    subst (λ (z : ℤ). Follows c.args.frame.now c.int.new.frame c.args.registers.now c.int.new.registers (does.Int c.args.to z) c.int.result)
+    subst (λ (z : ℤ). Follows c.args.frame.now c.int.new.frame c.args.registers.now c.int.new.registers
+    (does.Int c.args.to z) c.int.result)
     (to_z-of_z w64 c.args.number.now (search rules)) c.int.ensures.follows

@@ -4,11 +4,13 @@ use Rattle.brc_section.proofs.stepping.step.Goals as goal
 
 pub returns-in-Ok-clause-follows : goal.returns-in-Ok-clause-follows
 returns-in-Ok-clause-follows g c = λ own differ.
-    prints_shown c.args.frame.now c.print.new.frame c.args.registers.now c.args.instruction.now c.in-Print.from c.in-Print.is c.in-Ok.shown c.in-Ok.ensures.follows
+    prints_shown c.args.frame.now c.print.new.frame c.args.registers.now c.args.instruction.now c.in-Print.from
+    c.in-Print.is c.in-Ok.shown c.in-Ok.ensures.follows
 
 pub returns-in-Err-clause-follows : goal.returns-in-Err-clause-follows
 returns-in-Err-clause-follows g c = λ own differ.
-    prints_refused c.args.frame.now c.print.new.frame c.args.registers.now c.args.instruction.now c.in-Print.from c.in-Print.is c.in-Err.fault c.in-Err.ensures.follows
+    prints_refused c.args.frame.now c.print.new.frame c.args.registers.now c.args.instruction.now c.in-Print.from
+    c.in-Print.is c.in-Err.fault c.in-Err.ensures.follows
 
 pub returns-in-Ok-step_silent : goal.returns-in-Ok-step_silent
 returns-in-Ok-step_silent g c = record {
@@ -17,7 +19,8 @@ returns-in-Ok-step_silent g c = record {
   waits = tt;
   later = c.step_silent.ensures.later;
   follows = λ own differ.
-      silent_done c.args.frame.now c.step_silent.new.frame c.args.registers.now c.step_silent.new.registers c.args.instruction.now c.in_default.not-Print
+      silent_done c.args.frame.now c.step_silent.new.frame c.args.registers.now c.step_silent.new.registers
+      c.args.instruction.now c.in_default.not-Print
       (c.in-Ok-step_silent.ensures.follows own differ (silent_of c.args.instruction.now c.in_default.not-Print));
 }
 
@@ -28,6 +31,8 @@ returns-in-Err-step_silent g c = record {
   waits = c.in-Err-step_silent.ensures.waits;
   later = c.step_silent.ensures.later;
   follows = λ own differ.
-      silent_refused c.args.frame.now c.step_silent.new.frame c.args.registers.now c.step_silent.new.registers c.args.instruction.now c.in_default.not-Print
-      c.in-Err-step_silent.fault (c.in-Err-step_silent.ensures.follows own differ (silent_of c.args.instruction.now c.in_default.not-Print));
+      silent_refused c.args.frame.now c.step_silent.new.frame c.args.registers.now c.step_silent.new.registers
+      c.args.instruction.now c.in_default.not-Print
+      c.in-Err-step_silent.fault
+      (c.in-Err-step_silent.ensures.follows own differ (silent_of c.args.instruction.now c.in_default.not-Print));
 }

@@ -13,7 +13,9 @@ pub returns-in-Push-clause-follows : goal.returns-in-Push-clause-follows
 returns-in-Push-clause-follows g c = λ own differ silent.
     led c.args.frame.now c.push-done.new.frame c.args.registers.now c.push-done.new.registers c.args.instruction.now
     (does.Push c.in-Push.list c.in-Push.value) c.push-done.result c.stirs.result c.in-Push.is c.stirs.ensures
-    (c.push-done.ensures.follows (two_apart c.args.instruction.now (does.Push c.in-Push.list c.in-Push.value) c.in-Push.list c.in-Push.value c.in-Push.is refl differ))
+    (c.push-done.ensures.follows
+    (two_apart c.args.instruction.now (does.Push c.in-Push.list c.in-Push.value) c.in-Push.list c.in-Push.value
+    c.in-Push.is refl differ))
 
 pub returns-in-Pop-clause-follows : goal.returns-in-Pop-clause-follows
 returns-in-Pop-clause-follows g c = λ own differ silent.
@@ -30,14 +32,18 @@ returns-in-Get-clause-follows g c = λ own differ silent.
 pub returns-in-Set-clause-follows : goal.returns-in-Set-clause-follows
 returns-in-Set-clause-follows g c = λ own differ silent.
     led c.args.frame.now c.set-done.new.frame c.args.registers.now c.set-done.new.registers c.args.instruction.now
-    (does.Set c.in-Set.list c.in-Set.index c.in-Set.value) c.set-done.result c.stirs-in-Set.result c.in-Set.is c.stirs-in-Set.ensures
-    (c.set-done.ensures.follows (two_apart c.args.instruction.now (does.Set c.in-Set.list c.in-Set.index c.in-Set.value) c.in-Set.list c.in-Set.value c.in-Set.is refl differ))
+    (does.Set c.in-Set.list c.in-Set.index c.in-Set.value) c.set-done.result c.stirs-in-Set.result c.in-Set.is
+    c.stirs-in-Set.ensures
+    (c.set-done.ensures.follows (two_apart c.args.instruction.now (does.Set c.in-Set.list c.in-Set.index c.in-Set.value)
+    c.in-Set.list c.in-Set.value c.in-Set.is refl differ))
 
 pub returns-in-Put-clause-follows : goal.returns-in-Put-clause-follows
 returns-in-Put-clause-follows g c = λ own differ silent.
     led c.args.frame.now c.put-done.new.frame c.args.registers.now c.put-done.new.registers c.args.instruction.now
-    (does.Put c.in-Put.dict c.in-Put.key c.in-Put.value) c.put-done.result c.stirs-in-Put.result c.in-Put.is c.stirs-in-Put.ensures
-    (c.put-done.ensures.follows (two_apart c.args.instruction.now (does.Put c.in-Put.dict c.in-Put.key c.in-Put.value) c.in-Put.dict c.in-Put.value c.in-Put.is refl differ))
+    (does.Put c.in-Put.dict c.in-Put.key c.in-Put.value) c.put-done.result c.stirs-in-Put.result c.in-Put.is
+    c.stirs-in-Put.ensures
+    (c.put-done.ensures.follows (two_apart c.args.instruction.now (does.Put c.in-Put.dict c.in-Put.key c.in-Put.value)
+    c.in-Put.dict c.in-Put.value c.in-Put.is refl differ))
 
 pub returns-in-Find-clause-follows : goal.returns-in-Find-clause-follows
 returns-in-Find-clause-follows g c = λ own differ silent.
@@ -48,14 +54,17 @@ returns-in-Find-clause-follows g c = λ own differ silent.
 pub returns-in-Delete-clause-follows : goal.returns-in-Delete-clause-follows
 returns-in-Delete-clause-follows g c = λ own differ silent.
     led c.args.frame.now c.delete-done.new.frame c.args.registers.now c.delete-done.new.registers c.args.instruction.now
-    (does.Delete c.in-Delete.to c.in-Delete.dict c.in-Delete.key) c.delete-done.result c.stirs-in-Delete.result c.in-Delete.is c.stirs-in-Delete.ensures
+    (does.Delete c.in-Delete.to c.in-Delete.dict c.in-Delete.key) c.delete-done.result c.stirs-in-Delete.result
+    c.in-Delete.is c.stirs-in-Delete.ensures
     c.delete-done.ensures.follows
 
 pub returns-in-Send-clause-follows : goal.returns-in-Send-clause-follows
 returns-in-Send-clause-follows g c = λ own differ silent.
     led c.args.frame.now c.post-done.new.frame c.args.registers.now c.post-done.new.registers c.args.instruction.now
-    (does.Send c.in-Send.mailbox c.in-Send.value) c.post-done.result c.stirs-in-Send.result c.in-Send.is c.stirs-in-Send.ensures
-    (c.post-done.ensures.follows (two_apart c.args.instruction.now (does.Send c.in-Send.mailbox c.in-Send.value) c.in-Send.mailbox c.in-Send.value c.in-Send.is refl differ))
+    (does.Send c.in-Send.mailbox c.in-Send.value) c.post-done.result c.stirs-in-Send.result c.in-Send.is
+    c.stirs-in-Send.ensures
+    (c.post-done.ensures.follows (two_apart c.args.instruction.now (does.Send c.in-Send.mailbox c.in-Send.value)
+    c.in-Send.mailbox c.in-Send.value c.in-Send.is refl differ))
 
 pub returns-in-Receive-clause-later : goal.returns-in-Receive-clause-later
 returns-in-Receive-clause-later g c = λ own. c.await_it.ensures.later c.in-Receive.mailbox refl

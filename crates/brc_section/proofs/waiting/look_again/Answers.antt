@@ -8,32 +8,46 @@ use Rattle.brc_section.proofs.waiting.look_again.Goals as goal
 pub returns-then-not-is_nothing-clause-later : goal.returns-then-not-is_nothing-clause-later
 returns-then-not-is_nothing-clause-later g c = λ mailbox is.
     let stays : StaysMeant c.args.frame.now c.args.registers.now c.work-left.new.self c.loop.registers
-    = stays_on c.args.frame.now c.loop.frame c.poll-told.new.self c.work-left.new.self c.args.registers.now c.loop.registers c.poll-told.result _
-    (c.loop.invariant.4 mailbox is) c.poll-told.ensures.polled c.poll-told.ensures.handles c.work-left.ensures.turns c.work-left.ensures.handles
-    in later_both c.args.frame.now.seat.log c.work-left.new.self.seat.log c.look-tried.new.frame.seat.log stays.later (c.look-tried.ensures.later mailbox is)
+    = stays_on c.args.frame.now c.loop.frame c.poll-told.new.self c.work-left.new.self c.args.registers.now
+    c.loop.registers c.poll-told.result _
+    (c.loop.invariant.4 mailbox is) c.poll-told.ensures.polled c.poll-told.ensures.handles c.work-left.ensures.turns
+    c.work-left.ensures.handles
+    in later_both c.args.frame.now.seat.log c.work-left.new.self.seat.log c.look-tried.new.frame.seat.log stays.later
+    (c.look-tried.ensures.later mailbox is)
 
 pub returns-then-not-is_nothing-clause-follows : goal.returns-then-not-is_nothing-clause-follows
 returns-then-not-is_nothing-clause-follows g c = λ mailbox is.
     let stays : StaysMeant c.args.frame.now c.args.registers.now c.work-left.new.self c.loop.registers
-    = stays_on c.args.frame.now c.loop.frame c.poll-told.new.self c.work-left.new.self c.args.registers.now c.loop.registers c.poll-told.result _
-    (c.loop.invariant.4 mailbox is) c.poll-told.ensures.polled c.poll-told.ensures.handles c.work-left.ensures.turns c.work-left.ensures.handles
-    in follows_on c.args.frame.now c.work-left.new.self c.look-tried.new.frame c.args.registers.now c.loop.registers c.look-tried.new.registers
-    (does.Receive c.args.to mailbox) c.look-tried.result stays c.look-tried.ensures.heap (c.look-tried.ensures.later mailbox is) (c.look-tried.ensures.follows mailbox is)
+    = stays_on c.args.frame.now c.loop.frame c.poll-told.new.self c.work-left.new.self c.args.registers.now
+    c.loop.registers c.poll-told.result _
+    (c.loop.invariant.4 mailbox is) c.poll-told.ensures.polled c.poll-told.ensures.handles c.work-left.ensures.turns
+    c.work-left.ensures.handles
+    in follows_on c.args.frame.now c.work-left.new.self c.look-tried.new.frame c.args.registers.now c.loop.registers
+    c.look-tried.new.registers
+    (does.Receive c.args.to mailbox) c.look-tried.result stays c.look-tried.ensures.heap
+    (c.look-tried.ensures.later mailbox is) (c.look-tried.ensures.follows mailbox is)
 
 pub returns-then-not-waits-clause-later : goal.returns-then-not-waits-clause-later
 returns-then-not-waits-clause-later g c = λ mailbox is.
     let stays : StaysMeant c.args.frame.now c.args.registers.now c.work-left.new.self c.loop.registers
-    = stays_on c.args.frame.now c.loop.frame c.poll-told.new.self c.work-left.new.self c.args.registers.now c.loop.registers c.poll-told.result _
-    (c.loop.invariant.4 mailbox is) c.poll-told.ensures.polled c.poll-told.ensures.handles c.work-left.ensures.turns c.work-left.ensures.handles
-    in later_both c.args.frame.now.seat.log c.work-left.new.self.seat.log c.look-tried.new.frame.seat.log stays.later (c.look-tried.ensures.later mailbox is)
+    = stays_on c.args.frame.now c.loop.frame c.poll-told.new.self c.work-left.new.self c.args.registers.now
+    c.loop.registers c.poll-told.result _
+    (c.loop.invariant.4 mailbox is) c.poll-told.ensures.polled c.poll-told.ensures.handles c.work-left.ensures.turns
+    c.work-left.ensures.handles
+    in later_both c.args.frame.now.seat.log c.work-left.new.self.seat.log c.look-tried.new.frame.seat.log stays.later
+    (c.look-tried.ensures.later mailbox is)
 
 pub returns-then-not-waits-clause-follows : goal.returns-then-not-waits-clause-follows
 returns-then-not-waits-clause-follows g c = λ mailbox is.
     let stays : StaysMeant c.args.frame.now c.args.registers.now c.work-left.new.self c.loop.registers
-    = stays_on c.args.frame.now c.loop.frame c.poll-told.new.self c.work-left.new.self c.args.registers.now c.loop.registers c.poll-told.result _
-    (c.loop.invariant.4 mailbox is) c.poll-told.ensures.polled c.poll-told.ensures.handles c.work-left.ensures.turns c.work-left.ensures.handles
-    in follows_on c.args.frame.now c.work-left.new.self c.look-tried.new.frame c.args.registers.now c.loop.registers c.look-tried.new.registers
-    (does.Receive c.args.to mailbox) c.look-tried.result stays c.look-tried.ensures.heap (c.look-tried.ensures.later mailbox is) (c.look-tried.ensures.follows mailbox is)
+    = stays_on c.args.frame.now c.loop.frame c.poll-told.new.self c.work-left.new.self c.args.registers.now
+    c.loop.registers c.poll-told.result _
+    (c.loop.invariant.4 mailbox is) c.poll-told.ensures.polled c.poll-told.ensures.handles c.work-left.ensures.turns
+    c.work-left.ensures.handles
+    in follows_on c.args.frame.now c.work-left.new.self c.look-tried.new.frame c.args.registers.now c.loop.registers
+    c.look-tried.new.registers
+    (does.Receive c.args.to mailbox) c.look-tried.result stays c.look-tried.ensures.heap
+    (c.look-tried.ensures.later mailbox is) (c.look-tried.ensures.follows mailbox is)
 
 pub loop-preserved : goal.loop-preserved
 loop-preserved g c = (
@@ -43,9 +57,13 @@ loop-preserved g c = (
   search rules,
   λ mailbox is.
       let stays : StaysMeant c.args.frame.now c.args.registers.now c.work-left.new.self c.loop.registers
-      = stays_on c.args.frame.now c.loop.frame c.poll-told.new.self c.work-left.new.self c.args.registers.now c.loop.registers c.poll-told.result _
-      (c.loop.invariant.4 mailbox is) c.poll-told.ensures.polled c.poll-told.ensures.handles c.work-left.ensures.turns c.work-left.ensures.handles
-      in stays_tried c.args.frame.now c.work-left.new.self c.look-tried.new.frame c.args.registers.now c.loop.registers c.look-tried.new.registers
-      (does.Receive c.args.to mailbox) c.look-tried.result stays c.look-tried.ensures.heap (c.look-tried.ensures.later mailbox is) (c.look-tried.ensures.follows mailbox is)
+      = stays_on c.args.frame.now c.loop.frame c.poll-told.new.self c.work-left.new.self c.args.registers.now
+      c.loop.registers c.poll-told.result _
+      (c.loop.invariant.4 mailbox is) c.poll-told.ensures.polled c.poll-told.ensures.handles c.work-left.ensures.turns
+      c.work-left.ensures.handles
+      in stays_tried c.args.frame.now c.work-left.new.self c.look-tried.new.frame c.args.registers.now c.loop.registers
+      c.look-tried.new.registers
+      (does.Receive c.args.to mailbox) c.look-tried.result stays c.look-tried.ensures.heap
+      (c.look-tried.ensures.later mailbox is) (c.look-tried.ensures.follows mailbox is)
       (c.is_nothing.ensures c.if-not-is_nothing.false),
 )

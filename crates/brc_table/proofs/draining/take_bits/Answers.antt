@@ -8,5 +8,6 @@ use Rattle.brc_table.proofs.draining.take_bits.Goals as goal
 pub swap-requires : goal.swap-requires
 swap-requires g c =
     let me = c.args.seat.now.me in
-    step_allowed shows me (λ _. 0) (λ there after. (after ≡ (with_told (g.M.Draining.item there) me.0, me.1)) × AreQueued g.M.Draining.cells g.M.Draining.word there) c.args.word
+    step_allowed shows me (λ _. 0) (λ there after. (after ≡ (with_told (g.M.Draining.item there) me.0, me.1))
+    × AreQueued g.M.Draining.cells g.M.Draining.word there) c.args.word
     c.table.invariant c.table.view_is c.spot_of-at.ensures c.requires.same c.requires.inside c.requires.allowed

@@ -11,5 +11,7 @@ pub fetch_and-requires : goal.fetch_and-requires
 fetch_and-requires g c =
     let me = c.args.seat.now.me in
     step_allowed shows me (λ there. bit_and there c.args.mask)
-    (λ there after. Claimed g.M.Winning.cells me.0 me.1 g.M.Winning.cell there (bit_at there (g.M.Winning.cell % 64) == 1) after) (FreeWord (c.args.cell / 64))
-    c.table.invariant c.table.view_is c.spot_of-at.ensures c.requires.same (free_inside c.args.table.now.cells c.args.cell c.requires.inside) c.requires.allowed
+    (λ there after. Claimed g.M.Winning.cells me.0 me.1 g.M.Winning.cell there
+    (bit_at there (g.M.Winning.cell % 64) == 1) after) (FreeWord (c.args.cell / 64))
+    c.table.invariant c.table.view_is c.spot_of-at.ensures c.requires.same
+    (free_inside c.args.table.now.cells c.args.cell c.requires.inside) c.requires.allowed

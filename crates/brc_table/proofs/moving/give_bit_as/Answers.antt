@@ -9,5 +9,7 @@ use Rattle.brc_table.proofs.moving.give_bit_as.Goals as goal
 pub fetch_or-requires : goal.fetch_or-requires
 fetch_or-requires g c =
     let me = c.args.seat.now.me in
-    step_allowed shows me (λ there. bit_or there c.args.bits) (λ there after. (after ≡ (with_told (g.M.Giving.item there) me.0, rest me.1)) × FewFrees g.M.Giving.cells after.0.log) c.args.word
+    step_allowed shows me (λ there. bit_or there c.args.bits)
+    (λ there after. (after ≡ (with_told (g.M.Giving.item there) me.0, rest me.1)) × FewFrees g.M.Giving.cells
+    after.0.log) c.args.word
     c.table.invariant c.table.view_is c.spot_of-at.ensures c.requires.same c.requires.inside c.requires.allowed

@@ -12,5 +12,7 @@ pub fetch_sub-requires : goal.fetch_sub-requires
 fetch_sub-requires g c =
     let me = c.args.seat.now.me in
     let s = g.M.Ending.step in
-    step_allowed shows me (λ there. (there + (18446744073709551616 - c.args.less)) % 18446744073709551616) (λ there after. Ended shows g.M.Ending.cells me.0 me.1 s g.M.Ending.cell there (takes_block s (cell_told s there)) after) (Of Shared c.args.cell)
+    step_allowed shows me (λ there. (there + (18446744073709551616 - c.args.less)) % 18446744073709551616)
+    (λ there after. Ended shows g.M.Ending.cells me.0 me.1 s g.M.Ending.cell there (takes_block s (cell_told s there))
+    after) (Of Shared c.args.cell)
     c.table.invariant c.table.view_is c.spot_of-at.ensures c.requires.same c.requires.inside c.requires.allowed

@@ -1,4 +1,5 @@
-use Rattle.std.proofs.Common.{◌≡◌, ◌<◌, ◌+◌, ◌++◌, ℕ, suc, List, [], ◌∷◌, length, decimal, get_or, drop, drop-cons, add-one, ap, sym, subst, ◌∙◌, append_assoc}
+use Rattle.std.proofs.Common.{◌≡◌, ◌<◌, ◌+◌, ◌++◌, ℕ, suc, List, [], ◌∷◌, length, decimal, get_or, drop, drop-cons}
+use Rattle.std.proofs.Common.{add-one, ap, sym, subst, ◌∙◌, append_assoc}
 use Rattle.std.proofs.lemmas.List.{drop_all}
 use Rattle.std.proofs.lemmas.Result.{err_from_is_err_and}
 use Rattle.brc_text.specs.Puts.{Puts}
@@ -31,7 +32,8 @@ loop-number-preserved g c =
     let split = next_number c.args.numbers.now c.loop-number.number-index c.loop-number-test.true in
     let behind = spaced_numbers (drop (c.loop-number.number-index + 1) c.args.numbers.now) ++ 10 ∷ [] in
     record {
-      puts = keeps_on c.loop-number.text.items _ behind c.loop-number.invariant.puts split c.in_ok-add_number.ensures.puts;
+      puts = keeps_on c.loop-number.text.items _ behind c.loop-number.invariant.puts split
+          c.in_ok-add_number.ensures.puts;
       room = c.in_ok-add_number.ensures.room;
     }
 
@@ -40,5 +42,6 @@ returns g c =
     let none_left = drop_all c.loop-number.number-index c.args.numbers.now c.loop-number-test.false in
     let behind = ap (λ (l : List ℕ). c.loop-number.text.items ++ (spaced_numbers l ++ 10 ∷ [])) none_left in
     rest_puts _ c.put_bytes.result c.loop-number.invariant.puts
-    (subst (Puts (g.W.Write.contents c.loop-number.writer) (g.W.Write.contents c.put_bytes.new.writer) c.put_bytes.result)
+    (subst (Puts (g.W.Write.contents c.loop-number.writer) (g.W.Write.contents c.put_bytes.new.writer)
+    c.put_bytes.result)
     (c.as_slice.ensures.value ∙ c.push.ensures.items ∙ sym behind) c.put_bytes.ensures)

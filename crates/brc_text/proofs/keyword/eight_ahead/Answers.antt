@@ -6,19 +6,24 @@ use Rattle.brc_text.proofs.keyword.eight_ahead.Goals as goal
 pub overflow_mul-key : goal.overflow_mul-key
 overflow_mul-key c =
     let few : c.loop-at.at < 8 = omega (arith, c.loop-at-test.true) in
-    let fits = eight_fit c.loop-at.at _ few (one_fits c.loop-at.at c.loop-at.key 0 few c.loop-at.invariant.fits (omega arith)) in
+    let fits = eight_fit c.loop-at.at _ few (one_fits c.loop-at.at c.loop-at.key 0 few c.loop-at.invariant.fits
+    (omega arith)) in
     record { fits = omega (arith, fits) }
 
 pub overflow_add-key : goal.overflow_add-key
 overflow_add-key c =
     let few : c.loop-at.at < 8 = omega (arith, c.loop-at-test.true) in
-    record { fits = eight_fit c.loop-at.at _ few (one_fits c.loop-at.at c.loop-at.key _ few c.loop-at.invariant.fits c.byte_ahead.type_inv) }
+    record {
+      fits = eight_fit c.loop-at.at _ few
+          (one_fits c.loop-at.at c.loop-at.key _ few c.loop-at.invariant.fits c.byte_ahead.type_inv);
+    }
 
 pub loop-at-preserved : goal.loop-at-preserved
 loop-at-preserved c =
     let few : c.loop-at.at < 8 = omega (arith, c.loop-at-test.true) in
     record {
-      so_far = ap (λ (n : ℕ). c.loop-at.key * 256 + n) c.byte_ahead.ensures ∙ packed_more c.args.text.now c.loop-at.at c.loop-at.key c.loop-at.invariant.so_far;
+      so_far = ap (λ (n : ℕ). c.loop-at.key * 256 + n) c.byte_ahead.ensures
+          ∙ packed_more c.args.text.now c.loop-at.at c.loop-at.key c.loop-at.invariant.so_far;
       fits = one_fits c.loop-at.at c.loop-at.key _ few c.loop-at.invariant.fits c.byte_ahead.type_inv;
     }
 

@@ -9,5 +9,7 @@ loop-rest-preserved g c =
     let contents = g.W.Write.contents in
     let rest = c.loop-rest.rest.now in
     let count = c.in-Ok.count in
-    subst (PutsUpTo (contents c.args.writer.now) (contents c.write.new.self) c.args.bytes.now) (sym (take_rest rest count))
-    (goes_on (contents c.write.new.self) (take count rest) (drop count rest) c.loop-rest.invariant (sym (take-append-drop count rest)) c.in-Ok.ensures.bytes)
+    subst (PutsUpTo (contents c.args.writer.now) (contents c.write.new.self) c.args.bytes.now)
+    (sym (take_rest rest count))
+    (goes_on (contents c.write.new.self) (take count rest) (drop count rest) c.loop-rest.invariant
+    (sym (take-append-drop count rest)) c.in-Ok.ensures.bytes)

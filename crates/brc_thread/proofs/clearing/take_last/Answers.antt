@@ -8,14 +8,18 @@ use Rattle.brc_thread.proofs.clearing.take_last.Goals as goal
 
 pub end_take-requires-clause-entry : goal.end_take-requires-clause-entry
 end_take-requires-clause-entry g c =
-    ap (λ es. slice_get es (c.len-len.result - 1)) (entries_mid c.begin.new.self c.place.new.self c.in-Some.block.1 c.place.ensures.same c.in-Some.ensures.began.found)
-    ∙ ap (λ p. slice_get (entries_of p) (c.len-len.result - 1)) (sym c.payload_mut.ensures.value) ∙ c.remove-cell.ensures.taken
+    ap (λ es. slice_get es (c.len-len.result - 1))
+    (entries_mid c.begin.new.self c.place.new.self c.in-Some.block.1 c.place.ensures.same c.in-Some.ensures.began.found)
+    ∙ ap (λ p. slice_get (entries_of p) (c.len-len.result - 1)) (sym c.payload_mut.ensures.value)
+    ∙ c.remove-cell.ensures.taken
 
 pub end_take-requires-clause-entries : goal.end_take-requires-clause-entries
 end_take-requires-clause-entries g c =
     entries_shown c.remove-cell.new.self ∙ c.remove-cell.ensures.left
     ∙ ap (λ p. remove (entries_of p) (c.len-len.result - 1)) c.payload_mut.ensures.value
-    ∙ ap (λ es. remove es (c.len-len.result - 1)) (sym (entries_mid c.begin.new.self c.place.new.self c.in-Some.block.1 c.place.ensures.same c.in-Some.ensures.began.found))
+    ∙ ap (λ es. remove es (c.len-len.result - 1))
+    (sym (entries_mid c.begin.new.self c.place.new.self c.in-Some.block.1 c.place.ensures.same
+    c.in-Some.ensures.began.found))
 
 pub end_take-requires-clause-keys : goal.end_take-requires-clause-keys
 end_take-requires-clause-keys g c =
@@ -26,7 +30,8 @@ end_take-requires-clause-keys g c =
 pub returns-clause-takes : goal.returns-clause-takes
 returns-clause-takes g c =
     let lent = c.payload_mut.ensures.value in
-    takes_last c.args.frame.now c.begin.new.self c.place.new.self c.end_take.new.self c.args.handle.now.place c.in-Some.block c.remove-cell.new.self
+    takes_last c.args.frame.now c.begin.new.self c.place.new.self c.end_take.new.self c.args.handle.now.place
+    c.in-Some.block c.remove-cell.new.self
     (c.len-len.result - 1) c.remove-cell.result c.end_take.result
     c.in-Some.ensures.began c.begin.ensures.keeps c.begin.ensures.frame c.place.ensures.same c.end_take.ensures.ended
     (omega (arith, c.if-len-eq0.false, c.len-len.ensures, ap (λ p. length (entries_of p)) c.payload.ensures))

@@ -8,8 +8,11 @@ pub returns : goal.returns
 returns g c =
     let table = c.heap.inside.table in
     let seat = c.root.inside.seat in
-    let ended = ends_so table.cells table.local_limit seat.id seat.view c.take_apart.result c.root.invariant.0 c.root.invariant.1 c.take_apart.ensures in
+    let ended = ends_so table.cells table.local_limit seat.id seat.view c.take_apart.result c.root.invariant.0
+    c.root.invariant.1 c.take_apart.ensures in
     record {
-      ended = subst (λ (h : TableSeen). Ends h.cells h.local_limit c.args.root.id c.args.root.view c.take_apart.result) c.heap.view_is
-          (subst (λ (r : RootSeen). Ends table.cells table.local_limit r.id r.view c.take_apart.result) c.root.view_is ended);
+      ended = subst (λ (h : TableSeen). Ends h.cells h.local_limit c.args.root.id c.args.root.view c.take_apart.result)
+          c.heap.view_is
+          (subst (λ (r : RootSeen). Ends table.cells table.local_limit r.id r.view c.take_apart.result)
+          c.root.view_is ended);
     }

@@ -15,7 +15,8 @@ returns-then-byte-eq10-clause-behind c =
     ∙ ap (λ (l : List ℕ). Some l) (sym (take_rest c.args.text.now (c.loop-at.at + 1)))
 
 pub loop-at-preserved : goal.loop-at-preserved
-loop-at-preserved c = lacks_more c.args.text.now c.loop-at.at c.loop-at-test.true c.if-byte-eq10.false c.loop-at.invariant
+loop-at-preserved c = lacks_more c.args.text.now c.loop-at.at c.loop-at-test.true c.if-byte-eq10.false
+    c.loop-at.invariant
 
 pub returns-clause-line : goal.returns-clause-line
 returns-clause-line c =

@@ -5,7 +5,8 @@ use Rattle.brc_trace.proofs.causes.text_from.Goals as goal
 
 pub loop-preserved : goal.loop-preserved
 loop-preserved c =
-    one_line_on c.args.text.now c.loop.rest.now c.behind_line-rest.result.now c.loop.counter c.loop.invariant c.behind_line-rest.ensures
+    one_line_on c.args.text.now c.loop.rest.now c.behind_line-rest.result.now c.loop.counter c.loop.invariant
+    c.behind_line-rest.ensures
 
 pub returns : goal.returns
 returns c =

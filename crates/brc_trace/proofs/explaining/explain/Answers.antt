@@ -7,7 +7,8 @@ use Rattle.brc_trace.specs.Explaining.{Explains}
 use Rattle.brc_trace.proofs.ExplainingLaws.{told_of_none}
 use Rattle.brc_trace.proofs.explaining.explain.Goals as goal
 
-none_is_told : {E : Type 0} (text : List ℕ) (world : Heap) (answer : Result (Option Why) E) → IsReplayed text world → IfOk answer (Explains text)
+none_is_told : {E : Type 0} (text : List ℕ) (world : Heap) (answer : Result (Option Why) E) → IsReplayed text world
+    → IfOk answer (Explains text)
     → IfOk answer (λ why. why ≡ None)
 none_is_told text world (Ok why) is told = told_of_none text world why is told
 none_is_told text world (Err e) is told = tt

@@ -7,7 +7,8 @@ use Rattle.brc_trace.proofs.reading.events_of.Given as goal
 
 abbrev pub invariant-loop-rest : goal.invariant-loop-rest
 invariant-loop-rest g l = record {
-  so_far : with_front l.events.items (events_at l.edition l.number (pieces l.rest)) ≡ events_at l.edition (first_number l.edition) (pieces l.text);
+  so_far : with_front l.events.items (events_at l.edition l.number (pieces l.rest)) ≡ events_at l.edition
+      (first_number l.edition) (pieces l.text);
   counted : l.number + length l.rest ≤ MOST_INPUT + 3;
 }
 

@@ -18,4 +18,5 @@ returns-clause-found g c = read_is_spelled listing c.trace_of.result c.args.text
 pub returns-clause-only : goal.returns-clause-only
 returns-clause-only g c trace is short spelled =
     subst (Gives listing c.trace_of.result)
-    (ap trace_at spelled ∙ trace_again trace is (subst (λ (l : List ℕ). length l ≤ MOST_INPUT) spelled short)) c.trace_of.ensures
+    (ap trace_at spelled ∙ trace_again trace is (subst (λ (l : List ℕ). length l ≤ MOST_INPUT) spelled short))
+    c.trace_of.ensures

@@ -17,14 +17,16 @@ returns-in_err-events g c =
     let fault = c.in_err-events.field-0.0 in
     rw (p.1, p.2) (
     refused_same fault _ _ (sym c.in_ok-head.ensures.read)
-    (refused_below c.in_ok-head.head.edition fault (c.in_ok-head.head.cells, c.in_ok-head.head.local_limit) _ c.in_err-events.ensures)
+    (refused_below c.in_ok-head.head.edition fault (c.in_ok-head.head.cells, c.in_ok-head.head.local_limit) _
+    c.in_err-events.ensures)
     )
 
 pub invariant_of-result : goal.invariant_of-result
 invariant_of-result g c = record {
   size = c.in_ok-head.ensures.size;
   limit = c.in_ok-head.ensures.limit;
-  fit = events_fit c.in_ok-head.head.edition (first_number c.in_ok-head.head.edition) (pieces c.in_ok-head.behind.now) c.in_ok-events.events.items c.in_ok-events.ensures;
+  fit = events_fit c.in_ok-head.head.edition (first_number c.in_ok-head.head.edition) (pieces c.in_ok-head.behind.now)
+      c.in_ok-events.events.items c.in_ok-events.ensures;
 }
 
 pub returns : goal.returns

@@ -7,7 +7,8 @@ use Rattle.brc_trace.proofs.stepping.fault_of_refused.Given as goal
 
 abbrev pub invariant-loop-rest : goal.invariant-loop-rest
 invariant-loop-rest l = record {
-  so_far : told l.refused (events_at l.edition l.number (pieces l.rest)) ≡ told l.refused (events_at l.edition (l.refused + 1) (pieces l.behind));
+  so_far : told l.refused (events_at l.edition l.number (pieces l.rest)) ≡ told l.refused
+      (events_at l.edition (l.refused + 1) (pieces l.behind));
   counted : l.number + length l.rest ≤ MOST_INPUT + 3;
 }
 

@@ -8,5 +8,7 @@ use Rattle.brc_trace.proofs.stepping.world_of.Goals as goal
 
 pub returns : goal.returns
 returns g c =
-    lines_replayed c.in_ok-head.head.edition c.args.text.now c.in_ok-head.behind.now c.in_ok-head.head.cells c.in_ok-head.head.local_limit c.step_lines.new.world c.in_ok-head.ensures
-    (subst (λ (h : Heap). AreMade h (events_at c.in_ok-head.head.edition (first_number c.in_ok-head.head.edition) (pieces c.in_ok-head.behind.now)) c.step_lines.new.world) c.in_ok-world.ensures.world c.in_ok-step_lines.ensures)
+    lines_replayed c.in_ok-head.head.edition c.args.text.now c.in_ok-head.behind.now c.in_ok-head.head.cells
+    c.in_ok-head.head.local_limit c.step_lines.new.world c.in_ok-head.ensures
+    (subst (λ (h : Heap). AreMade h (events_at c.in_ok-head.head.edition (first_number c.in_ok-head.head.edition)
+    (pieces c.in_ok-head.behind.now)) c.step_lines.new.world) c.in_ok-world.ensures.world c.in_ok-step_lines.ensures)

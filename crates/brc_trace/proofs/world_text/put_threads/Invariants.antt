@@ -5,5 +5,6 @@ use Rattle.brc_trace.proofs.world_text.put_threads.Given as goal
 
 abbrev pub invariant-loop-before : goal.invariant-loop-before
 invariant-loop-before g l =
-    PutsOver (g.W.Write.contents l.fn.writer) (g.W.Write.contents l.writer) (over (thread_text l.world) 1 (length l.world.rows - 1))
+    PutsOver (g.W.Write.contents l.fn.writer) (g.W.Write.contents l.writer)
+    (over (thread_text l.world) 1 (length l.world.rows - 1))
     (thread_text l.world) (l.before + 1) (length l.world.rows - 1) l.before

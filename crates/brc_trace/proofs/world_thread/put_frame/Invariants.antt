@@ -6,5 +6,6 @@ use Rattle.brc_trace.proofs.world_thread.put_frame.Given as goal
 
 abbrev pub invariant-loop-place : goal.invariant-loop-place
 invariant-loop-place g l =
-    PutsOver (g.W.Write.contents l.fn.writer) (g.W.Write.contents l.writer) (over (frame_text l.world l.thread) 0 (length (frame_at l.world l.thread)))
+    PutsOver (g.W.Write.contents l.fn.writer) (g.W.Write.contents l.writer)
+    (over (frame_text l.world l.thread) 0 (length (frame_at l.world l.thread)))
     (frame_text l.world l.thread) (l.place) (length (frame_at l.world l.thread)) l.place

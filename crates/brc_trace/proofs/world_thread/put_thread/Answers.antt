@@ -28,7 +28,8 @@ returns-in_err-put_status g c =
     let status = c.in-Some-Some.status in
     let is = some_read (is_registered h t) (status_at h t) status c.requires c.in-Some-Some.ensures in
     let behind = behind_line h t (is_over status) in
-    let short = fails (thread_line t status) behind (starts (g.W.Write.contents c.args.writer.now) (thread_text h t)) (thread_is h t status (is_over status) is refl)
+    let short = fails (thread_line t status) behind (starts (g.W.Write.contents c.args.writer.now) (thread_text h t))
+    (thread_is h t status (is_over status) is refl)
     c.in_err-put_status.ensures.2 in
     rw (p.1, p.2) (c.in_err-put_status.ensures.0, c.in_err-put_status.ensures.1 ++ behind, short)
 
@@ -39,7 +40,8 @@ returns-then-is_over g c =
     let status = c.in-Some-Some.status in
     let is = some_read (is_registered h t) (status_at h t) status c.requires c.in-Some-Some.ensures in
     let over = sym c.if-is_over.true ∙ c.is_over.ensures in
-    ends (goes_on _ (thread_line t status) (behind_line h t true) (starts (g.W.Write.contents c.args.writer.now) (thread_text h t)) (thread_is h t status true is over)
+    ends (goes_on _ (thread_line t status) (behind_line h t true)
+    (starts (g.W.Write.contents c.args.writer.now) (thread_text h t)) (thread_is h t status true is over)
     c.in_ok-put_status.ensures) refl
 
 pub returns : goal.returns
@@ -49,6 +51,8 @@ returns g c =
     let status = c.in-Some-Some.status in
     let is = some_read (is_registered h t) (status_at h t) status c.requires c.in-Some-Some.ensures in
     let over = sym c.if-is_over.false ∙ c.is_over.ensures in
-    let after_line = goes_on _ (thread_line t status) (behind_line h t false) (starts (g.W.Write.contents c.args.writer.now) (thread_text h t)) (thread_is h t status false is over)
+    let after_line = goes_on _ (thread_line t status) (behind_line h t false)
+    (starts (g.W.Write.contents c.args.writer.now) (thread_text h t)) (thread_is h t status false is over)
     c.in_ok-put_status.ensures in
-    last_puts (g.W.Write.contents c.put_holdings.new.writer) c.put_holdings.result (holdings_text h t) after_line refl c.put_holdings.ensures
+    last_puts (g.W.Write.contents c.put_holdings.new.writer) c.put_holdings.result (holdings_text h t) after_line refl
+    c.put_holdings.ensures

@@ -6,7 +6,8 @@ use Rattle.law_known.proofs.Free_Law.{told_bit, told_below, live_shown}
 use Rattle.law_known.proofs.laws.free_words_tell_the_free_cells.Goals as goal
 
 pub returns-clause-free : goal.returns-clause-free
-returns-clause-free c = λ h k i number low shows. ap (λ n. bit_at n i) shows ∙ told_bit (λ j. is_free_cell h (k * 64 + j)) 64 i low
+returns-clause-free c = λ h k i number low shows. ap (λ n. bit_at n i) shows
+    ∙ told_bit (λ j. is_free_cell h (k * 64 + j)) 64 i low
 
 pub returns-clause-small : goal.returns-clause-small
 returns-clause-small c = λ h k number shows. omega (arith, shows, told_below (λ j. is_free_cell h (k * 64 + j)) 64)

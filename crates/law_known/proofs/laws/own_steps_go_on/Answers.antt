@@ -3,4 +3,11 @@ use Rattle.law_known.proofs.Kept_Law.{places_kept, entries_kept}
 use Rattle.law_known.proofs.laws.own_steps_go_on.Goals as goal
 
 pub returns : goal.returns
-returns c = record { meant = goes_on; apart = goes_apart; places = places_kept; entries = entries_kept; saw = saw_goes; lost = lost_goes }
+returns c = record {
+  meant = goes_on;
+  apart = goes_apart;
+  places = places_kept;
+  entries = entries_kept;
+  saw = saw_goes;
+  lost = lost_goes;
+}

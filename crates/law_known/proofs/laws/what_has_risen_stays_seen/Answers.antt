@@ -1,4 +1,6 @@
-use Rattle.law_known.proofs.Risen_Kept.{risen_if, risen_places_kept, risen_entries_kept, risen_apart_kept, risen_after_put, risen_after_take, risen_after_swap, risen_by_up, risen_by_ask, risen_by_look, risen_by_loss}
+use Rattle.law_known.proofs.Risen_Kept.{risen_if, risen_places_kept, risen_entries_kept, risen_apart_kept}
+use Rattle.law_known.proofs.Risen_Kept.{risen_after_put, risen_after_take, risen_after_swap, risen_by_up, risen_by_ask}
+use Rattle.law_known.proofs.Risen_Kept.{risen_by_look, risen_by_loss}
 use Rattle.law_known.proofs.laws.what_has_risen_stays_seen.Goals as goal
 
 pub returns : goal.returns

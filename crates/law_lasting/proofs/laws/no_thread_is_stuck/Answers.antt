@@ -1,4 +1,5 @@
-use Rattle.law_lasting.proofs.Progress.{hands_go_on, births_go_on, references_go, popped_go, blocks_go, locks_go, leavings_begin, offers_go, closings_go, gatherings_go, openings_go}
+use Rattle.law_lasting.proofs.Progress.{hands_go_on, births_go_on, references_go, popped_go, blocks_go, locks_go}
+use Rattle.law_lasting.proofs.Progress.{leavings_begin, offers_go, closings_go, gatherings_go, openings_go}
 use Rattle.law_lasting.proofs.laws.no_thread_is_stuck.Goals as goal
 
 pub returns-clause-hands : goal.returns-clause-hands

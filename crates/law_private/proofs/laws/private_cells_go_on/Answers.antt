@@ -20,7 +20,8 @@ pub returns-clause-offered : goal.returns-clause-offered
 returns-clause-offered c = λ cells items d number entries e. refl
 
 pub returns-clause-plain : goal.returns-clause-plain
-returns-clause-plain c = λ cells items s number entries d plain. same_set (part_of cells items).frame (locked_told cells items) s (private_of cells items) d plain
+returns-clause-plain c = λ cells items s number entries d plain. same_set (part_of cells items).frame
+    (locked_told cells items) s (private_of cells items) d plain
 
 pub returns-clause-saw : goal.returns-clause-saw
 returns-clause-saw c = λ cells items w number d. refl

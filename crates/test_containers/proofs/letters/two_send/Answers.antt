@@ -13,7 +13,13 @@ use Rattle.test_containers.proofs.letters.two_send.Goals as goal
 pub join-requires-send-F : goal.join-requires-send-F
 join-requires-send-F g c κs within =
     let e = κs.1.1.1.1.1.1 in
-    let T = type_at _ (of-8 g.row.R g.R.laws g.R.Threads-dict g.R.Abort-dict g.R.Wait-dict record { mir = named 6; lft = e.0 } record { mir = named 7; lft = e.1.0 } record { mir = named 8; lft = e.1.1.0 }) in
+    let T = type_at _ (of-8 g.row.R g.R.laws g.R.Threads-dict g.R.Abort-dict g.R.Wait-dict record {
+      mir = named 6;
+      lft = e.0;
+    } record { mir = named 7; lft = e.1.0 } record { mir = named 8; lft = e.1.1.0 }) in
     param_send 1 _
     (arg_send _ no _ (recorded_send (Struct (shape T)) T.D T.to T.to_one
-    (struct_send (shape T) (search (sendable, c.type_bounds.sync-R), (search (sendable, global_sync), (search (sendable, heap_sync), (search (sendable, resting_send), tt)))))))
+    (struct_send (shape T) (
+      search (sendable, c.type_bounds.sync-R),
+      (search (sendable, global_sync), (search (sendable, heap_sync), (search (sendable, resting_send), tt))),
+    ))))

@@ -5,4 +5,5 @@ use Rattle.test_table.specs.Leaving.{closing_at}
 use Rattle.test_table.proofs.leaving.closes_all.Given as goal
 
 abbrev pub invariant-loop-word : goal.invariant-loop-word
-invariant-loop-word g l = (part_seen 512 l.seat.log ≡ closing_at l.bits l.word (part_seen 512 l.fn.seat.log)) × Stays l.fn.seat l.seat
+invariant-loop-word g l = (part_seen 512 l.seat.log ≡ closing_at l.bits l.word (part_seen 512 l.fn.seat.log))
+    × Stays l.fn.seat l.seat

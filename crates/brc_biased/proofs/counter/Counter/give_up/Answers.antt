@@ -7,7 +7,8 @@ use Rattle.brc_biased.proofs.Marking.{dead_released, dead_stays}
 use Rattle.brc_biased.proofs.counter.Counter.give_up.Goals as goal
 
 pub returns-then-cell-lt-FIRST_MORTAL-clause-told : goal.returns-then-cell-lt-FIRST_MORTAL-clause-told
-returns-then-cell-lt-FIRST_MORTAL-clause-told g c = ReleaseImmortal c.immortal_down-found.result (search rules) refl (search rules)
+returns-then-cell-lt-FIRST_MORTAL-clause-told g c = ReleaseImmortal c.immortal_down-found.result (search rules) refl
+    (search rules)
 
 pub returns-then-count-eq0-clause-told : goal.returns-then-count-eq0-clause-told
 returns-then-count-eq0-clause-told g c =
@@ -30,34 +31,41 @@ returns-clause-bounded g c = bounded (returns-clause-told g c)
 pub returns-then-has_risen-clause-dead : goal.returns-then-has_risen-clause-dead
 returns-then-has_risen-clause-dead g c =
     let known = rw c.table-table.ensures at c.release_risen.ensures.knows.part in
-    rw (← c.self.view_is) (dead_released _ c.self.inside.seat.log c.release_risen.new.seat.log c.args.cell c.args.drop c.release_risen.result known (search rules))
+    rw (← c.self.view_is) (dead_released _ c.self.inside.seat.log c.release_risen.new.seat.log c.args.cell c.args.drop
+    c.release_risen.result known (search rules))
 
 pub returns-then-count-eq0-clause-dead : goal.returns-then-count-eq0-clause-dead
 returns-then-count-eq0-clause-dead g c =
     let known = rw c.table-table.ensures at c.release_shared.ensures.knows.part in
-    rw (← c.self.view_is) (dead_released _ c.self.inside.seat.log c.release_shared.new.seat.log c.args.cell c.args.drop c.release_shared.result known (search rules))
+    rw (← c.self.view_is) (dead_released _ c.self.inside.seat.log c.release_shared.new.seat.log c.args.cell c.args.drop
+    c.release_shared.result known (search rules))
 
 pub returns-clause-dead : goal.returns-clause-dead
 returns-clause-dead g c =
     let known = rw c.table-table.ensures at c.release_own.ensures.knows.part in
-    rw (← c.self.view_is) (dead_released _ c.self.inside.seat.log c.release_own.new.seat.log c.args.cell c.args.drop c.release_own.result known (search rules))
+    rw (← c.self.view_is) (dead_released _ c.self.inside.seat.log c.release_own.new.seat.log c.args.cell c.args.drop
+    c.release_own.result known (search rules))
 
 pub returns-then-cell-lt-FIRST_MORTAL-clause-others : goal.returns-then-cell-lt-FIRST_MORTAL-clause-others
 returns-then-cell-lt-FIRST_MORTAL-clause-others g c =
     let known = rw c.table-table.ensures at c.immortal_down-found.ensures.knows.part in
-    rw (← c.self.view_is) (dead_stays _ c.self.inside.seat.log c.immortal_down-found.new.seat.log c.args.cell c.args.drop false [] known)
+    rw (← c.self.view_is) (dead_stays _ c.self.inside.seat.log c.immortal_down-found.new.seat.log c.args.cell
+    c.args.drop false [] known)
 
 pub returns-then-has_risen-clause-others : goal.returns-then-has_risen-clause-others
 returns-then-has_risen-clause-others g c =
     let known = rw c.table-table.ensures at c.release_risen.ensures.knows.part in
-    rw (← c.self.view_is) (dead_stays _ c.self.inside.seat.log c.release_risen.new.seat.log c.args.cell c.args.drop (is_there c.release_risen.result) (entries_of c.release_risen.result) known)
+    rw (← c.self.view_is) (dead_stays _ c.self.inside.seat.log c.release_risen.new.seat.log c.args.cell c.args.drop
+    (is_there c.release_risen.result) (entries_of c.release_risen.result) known)
 
 pub returns-then-count-eq0-clause-others : goal.returns-then-count-eq0-clause-others
 returns-then-count-eq0-clause-others g c =
     let known = rw c.table-table.ensures at c.release_shared.ensures.knows.part in
-    rw (← c.self.view_is) (dead_stays _ c.self.inside.seat.log c.release_shared.new.seat.log c.args.cell c.args.drop (is_there c.release_shared.result) (entries_of c.release_shared.result) known)
+    rw (← c.self.view_is) (dead_stays _ c.self.inside.seat.log c.release_shared.new.seat.log c.args.cell c.args.drop
+    (is_there c.release_shared.result) (entries_of c.release_shared.result) known)
 
 pub returns-clause-others : goal.returns-clause-others
 returns-clause-others g c =
     let known = rw c.table-table.ensures at c.release_own.ensures.knows.part in
-    rw (← c.self.view_is) (dead_stays _ c.self.inside.seat.log c.release_own.new.seat.log c.args.cell c.args.drop (is_there c.release_own.result) (entries_of c.release_own.result) known)
+    rw (← c.self.view_is) (dead_stays _ c.self.inside.seat.log c.release_own.new.seat.log c.args.cell c.args.drop
+    (is_there c.release_own.result) (entries_of c.release_own.result) known)

@@ -7,7 +7,8 @@ use Rattle.law_world.specs.Holding.{live_count}
 use Rattle.brc_core.proofs.world.World.live.Goals as goal
 
 pub overflow_cast-result : goal.overflow_cast-result
-overflow_cast-result g c = let counted = rw c.cells.ensures at c.live.ensures in omega (arith, live_fits _ c.self.invariant)
+overflow_cast-result g c = let counted = rw c.cells.ensures at c.live.ensures in
+    omega (arith, live_fits _ c.self.invariant)
 
 pub returns-clause-live : goal.returns-clause-live
 returns-clause-live g c =
@@ -17,6 +18,8 @@ returns-clause-live g c =
 
 pub returns-clause-ledger : goal.returns-clause-ledger
 returns-clause-ledger g c =
-    let P : Heap → Type 0 = λ h. sum_by (λ row. row.allocs) h.rows + h.past_allocs ≡ sum_by (λ row. row.frees) h.rows + h.past_frees + c.live.result in
+    let P : Heap → Type 0 = λ h. sum_by (λ row. row.allocs) h.rows + h.past_allocs ≡ sum_by (λ row. row.frees) h.rows
+    + h.past_frees + c.live.result in
     let counted = rw c.cells.ensures at c.live.ensures in
-    subst P c.self.view_is (rw (counted, live-count_by (drop FIRST_MORTAL c.self.inside.tables.cells)) ((reached_headline _ c.self.invariant).ledger))
+    subst P c.self.view_is (rw (counted, live-count_by (drop FIRST_MORTAL c.self.inside.tables.cells))
+    ((reached_headline _ c.self.invariant).ledger))

@@ -14,7 +14,8 @@ use Rattle.brc_core.proofs.world.World.make.Goals as goal
 use Rattle.brc_core.proofs.world.World.make.Goals.{in-Ok, in-Err}
 
 -- the moves of an event, where the worlds before and after it go by other names
-made_moves : (inside old new : Heap) (e : Event) → inside ≡ old → new ≡ after inside e → IsReached inside → enabled inside e ≡ true → MakesMoves {A = Unit {0}} (map_of old) (moves_by old e) (map_of new)
+made_moves : (inside old new : Heap) (e : Event) → inside ≡ old → new ≡ after inside e → IsReached inside
+    → enabled inside e ≡ true → MakesMoves {A = Unit {0}} (map_of old) (moves_by old e) (map_of new)
 made_moves inside old new e is_old is_after reached may =
     let P : Heap → Type 0 = λ h. MakesMoves {A = Unit {0}} (map_of h) (moves_by h e) (map_of new) in
     let Q : Heap → Type 0 = λ h. MakesMoves {A = Unit {0}} (map_of inside) (moves_by inside e) (map_of h) in
@@ -36,7 +37,8 @@ pub apply-requires-clause-cells : goal.apply-requires-clause-cells
 apply-requires-clause-cells g c = cells_fit c.self.inside.tables c.self.invariant
 
 pub apply-requires-clause-few : goal.apply-requires-clause-few
-apply-requires-clause-few g c = registers_few c.self.inside.tables c.args.event.now c.self.invariant (sym c.enabled.ensures ∙ c.if-not-enabled.false)
+apply-requires-clause-few g c = registers_few c.self.inside.tables c.args.event.now c.self.invariant
+    (sym c.enabled.ensures ∙ c.if-not-enabled.false)
 
 pub apply-requires-clause-past_allocs : goal.apply-requires-clause-past_allocs
 apply-requires-clause-past_allocs g c = past_allocs_fit c.self.inside.tables c.self.invariant
@@ -47,13 +49,15 @@ apply-requires-clause-past_frees g c = past_frees_fit c.self.inside.tables c.sel
 pub invariant_of-self : goal.invariant_of-self
 invariant_of-self g c =
     elim c.match-apply.branch [
-      | in-Ok w ↦ subst IsReached (sym w.in-Ok.ensures.ok) (reached_after _ c.args.event.now c.self.invariant (sym c.enabled.ensures ∙ c.if-not-enabled.false))
+      | in-Ok w ↦ subst IsReached (sym w.in-Ok.ensures.ok)
+          (reached_after _ c.args.event.now c.self.invariant (sym c.enabled.ensures ∙ c.if-not-enabled.false))
       | in-Err w ↦ subst IsReached (sym w.in-Err.ensures.err) c.self.invariant
     ]
 
 pub returns-clause-moves : goal.returns-clause-moves
 returns-clause-moves g c =
     elim c.match-apply.branch [
-      | in-Ok w ↦ rw w.result-is (made_moves c.self.inside.tables c.args.self.now c.apply.new.self c.args.event.now c.self.view_is w.in-Ok.ensures.ok c.self.invariant (sym c.enabled.ensures ∙ c.if-not-enabled.false))
+      | in-Ok w ↦ rw w.result-is (made_moves c.self.inside.tables c.args.self.now c.apply.new.self c.args.event.now
+          c.self.view_is w.in-Ok.ensures.ok c.self.invariant (sym c.enabled.ensures ∙ c.if-not-enabled.false))
       | in-Err w ↦ rw w.result-is tt
     ]

@@ -12,4 +12,5 @@ returns g c =
     let three = one_more _ _ _ _ _ two c.in_ok-put_part.ensures in
     let four = one_more _ _ _ _ _ three c.in_ok-put_part-2.ensures in
     let five = one_more _ _ _ _ _ four c.in_ok-put_part-3.ensures in
-    five ∙ ap (λ (xs : List Holder). c.args.found.now.items ++ xs) (sym (holders_by_parts c.args.self.now c.args.cell shaped))
+    five ∙ ap (λ (xs : List Holder). c.args.found.now.items ++ xs)
+    (sym (holders_by_parts c.args.self.now c.args.cell shaped))

@@ -4,4 +4,5 @@ use Rattle.law_world.specs.Holding.{if_so}
 use Rattle.brc_core.proofs.world.World.put_part.Given as goal
 
 abbrev pub invariant-loop-number : goal.invariant-loop-number
-invariant-loop-number g l = Found (λ k. if_so (holds l.self l.part l.cell k) (holder_in l.part l.cell k)) l.number l.fn.found.items l.found.items
+invariant-loop-number g l = Found (λ k. if_so (holds l.self l.part l.cell k) (holder_in l.part l.cell k)) l.number
+    l.fn.found.items l.found.items

@@ -18,4 +18,5 @@ returns-clause-references g c =
     let Q : Heap → Type 0 = λ h. lives_at h c.args.cell ≡ true in
     let lives = subst Q (sym c.self.view_is) (sym c.is_live.ensures ∙ c.if-not-is_live.false) in
     to_z-of_z w64 c.total_of.result fits
-    ∙ subst P c.self.view_is (c.total_of.ensures ∙ ap (λ x. total_of x) c.cell.ensures ∙ references _ c.self.invariant _ lives)
+    ∙ subst P c.self.view_is (c.total_of.ensures ∙ ap (λ x. total_of x) c.cell.ensures
+    ∙ references _ c.self.invariant _ lives)

@@ -5,7 +5,8 @@ use Rattle.brc_count.proofs.closed.ClosedFrame.turn.Goals as goal
 
 pub returns-in_default-clause-turned : goal.returns-in_default-clause-turned
 returns-in_default-clause-turned g c = λ is.
-    subst (λ (f : FrameSeen g.row.A.Denot). TurnedLeaving f c.turn.new.self) c.self.view_is (BlockTurned c.in_default.ensures.none (c.turn.ensures.turned is))
+    subst (λ (f : FrameSeen g.row.A.Denot). TurnedLeaving f c.turn.new.self) c.self.view_is
+    (BlockTurned c.in_default.ensures.none (c.turn.ensures.turned is))
 
 pub returns-clause-turned : goal.returns-clause-turned
 returns-clause-turned g c = λ is.

@@ -13,6 +13,7 @@ pub loop-left-preserved : goal.loop-left-preserved
 loop-left-preserved g c =
     let some : 0 < c.loop-left.left = search rules in (
       omega (arith, some, c.loop-left.invariant.0),
-      one_more_turn c.args.self.now c.loop-left.self c.turn.new.self c.args.budget c.loop-left.left some c.loop-left.invariant.0 c.loop-left.invariant.1 (c.turn.ensures.turned (search rules)),
+      one_more_turn c.args.self.now c.loop-left.self c.turn.new.self c.args.budget c.loop-left.left some
+          c.loop-left.invariant.0 c.loop-left.invariant.1 (c.turn.ensures.turned (search rules)),
       kept_on c.loop-left.invariant.2 c.turn.ensures.keeps,
     )

@@ -7,7 +7,8 @@ use Rattle.brc_count.proofs.frame.Frame.close.Goals as goal
 pub invariant_of-result : goal.invariant_of-result
 invariant_of-result g c =
     let n = c.self.inside.holdings.heap.cells in
-    let stage = ap is_left c.close_all.ensures.stage ∙ stage_left (words_for n) (subst (λ m. 0 < m) c.words-words.ensures.words c.words-words.ensures.some) in
+    let stage = ap is_left c.close_all.ensures.stage
+    ∙ stage_left (words_for n) (subst (λ m. 0 < m) c.words-words.ensures.words c.words-words.ensures.some) in
     record {
       same_thread = c.close_all.ensures.thread ∙ c.self.invariant.same_thread;
       some_thread = c.self.invariant.some_thread;

@@ -9,7 +9,8 @@ pub lock-requires-clause-carries : goal.lock-requires-clause-carries
 lock-requires-clause-carries g c =
     lock_carries c.self.inside.counter.seat c.self.inside.counter.seat c.args.place c.in-Some.cell c.self.invariant
     (subst IsActive (sym c.self.view_is) c.requires.active) (subst IsUnlocked (sym c.self.view_is) c.requires.unlocked)
-    (subst (λ (f : FrameSeen g.row.A.Denot). cell_in f c.args.place ≡ Some c.in-Some.cell) (sym c.self.view_is) (c.cell.ensures.has ∙ c.in-Some.is))
+    (subst (λ (f : FrameSeen g.row.A.Denot). cell_in f c.args.place ≡ Some c.in-Some.cell) (sym c.self.view_is)
+    (c.cell.ensures.has ∙ c.in-Some.is))
 
 -- found locked
 pub invariant_of-self : goal.invariant_of-self
@@ -21,7 +22,9 @@ invariant_of-self g c =
 pub invariant_of-self-2 : goal.invariant_of-self-2
 invariant_of-self-2 g c =
     let won = c.in-Ok.ensures in
-    rw c.lock.ensures.heap (after_lock c.self.inside.counter.seat c.lock.new.self.seat c.args.place c.in-Some.cell (contents_of c.in-Ok.block.1) c.self.invariant
+    rw c.lock.ensures.heap (after_lock c.self.inside.counter.seat c.lock.new.self.seat c.args.place c.in-Some.cell
+    (contents_of c.in-Ok.block.1) c.self.invariant
     (subst IsUnlocked (sym c.self.view_is) c.requires.unlocked)
-    (subst (λ (f : FrameSeen g.row.A.Denot). cell_in f c.args.place ≡ Some c.in-Some.cell) (sym c.self.view_is) (c.cell.ensures.has ∙ c.in-Some.is))
+    (subst (λ (f : FrameSeen g.row.A.Denot). cell_in f c.args.place ≡ Some c.in-Some.cell) (sym c.self.view_is)
+    (c.cell.ensures.has ∙ c.in-Some.is))
     won.out won.won_knows won.keeps won.fresh won.won_found)

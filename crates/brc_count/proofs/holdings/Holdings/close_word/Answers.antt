@@ -11,20 +11,25 @@ use Rattle.brc_count.proofs.holdings.Holdings.close_word.Goals as goal
 pub close-bits-requires-clause-allowed : goal.close-bits-requires-clause-allowed
 close-bits-requires-clause-allowed g c =
     let none = rw (← c.self.view_is) at c.requires.idle in
-    let keeps = subst (λ w. Holding g.row.A.Denot c.self.inside.counter.heap c.self.inside.counter.seat c.self.inside.places w c.self.inside.popped.items c.self.inside.ledger) none.1 c.self.invariant in
+    let keeps = subst (λ w. Holding g.row.A.Denot c.self.inside.counter.heap c.self.inside.counter.seat
+    c.self.inside.places w c.self.inside.popped.items c.self.inside.ledger) none.1 c.self.invariant in
     may_close c.args.word keeps none.0 (subst IsUnlocked (sym c.self.view_is) c.requires.unlocked)
-    (subst (λ (f : FrameSeen g.row.A.Denot). (part_seen f.heap.cells f.seat.log).row.stage ≡ stage_with (words_for f.heap.cells) c.args.word) (sym c.self.view_is) c.requires.stage)
+    (subst (λ (f : FrameSeen g.row.A.Denot). (part_seen f.heap.cells f.seat.log).row.stage ≡ stage_with
+    (words_for f.heap.cells) c.args.word) (sym c.self.view_is) c.requires.stage)
     (rw (← c.self.view_is) at c.requires.inside)
     (λ first. subst (λ f. is_blank (popped_seen f) ≡ true) (sym c.self.view_is) (c.requires.blank first))
 
 pub invariant_of-self : goal.invariant_of-self
 invariant_of-self g c =
     let up = c.close-bits.ensures in
-    rw (up.heap, c.join.ensures) (after_pops c.self.inside.counter.seat c.close-bits.new.self.seat c.args.word c.close-bits.result
+    rw (up.heap, c.join.ensures) (after_pops c.self.inside.counter.seat c.close-bits.new.self.seat c.args.word
+    c.close-bits.result
     (word_at c.self.inside.popped.items c.args.word) c.self.invariant up.seat
-    (closed_pops c.self.inside.counter.heap.cells c.self.inside.counter.seat.log c.close-bits.new.self.seat.log c.args.word c.close-bits.result up.knows) up.keeps up.cells
+    (closed_pops c.self.inside.counter.heap.cells c.self.inside.counter.seat.log c.close-bits.new.self.seat.log
+    c.args.word c.close-bits.result up.knows) up.keeps up.cells
     (rw (← c.self.view_is) at c.requires.inside) refl (subst IsUnlocked (sym c.self.view_is) c.requires.unlocked))
 
 pub returns-clause-closes : goal.returns-clause-closes
 returns-clause-closes g c = λ before closes.
-    rw c.close-bits.ensures.told (Closed c.args.word c.close-bits.result c.self.inside.counter.seat.log (rw (← c.self.view_is) at closes))
+    rw c.close-bits.ensures.told (Closed c.args.word c.close-bits.result c.self.inside.counter.seat.log
+    (rw (← c.self.view_is) at closes))

@@ -24,10 +24,12 @@ returns-clause-drains g c =
       heap = drained.keeps.heap;
       drained = drained.told;
       works = drained.works;
-      dealt = subst (λ b. DealsBits c.args.word b c.drain-bits.new.self 32 c.settle_word.new.self) (drained.found none) c.settle_word.ensures.dealt;
+      dealt = subst (λ b. DealsBits c.args.word b c.drain-bits.new.self 32 c.settle_word.new.self)
+          (drained.found none) c.settle_word.ensures.dealt;
     }
 
 pub returns-clause-blank : goal.returns-clause-blank
 returns-clause-blank g c =
-    still_blank c.args.word c.drain-bits.result (popped_seen c.args.self.now) (popped_seen c.drain-bits.new.self) (popped_seen c.settle_word.new.self)
+    still_blank c.args.word c.drain-bits.result (popped_seen c.args.self.now) (popped_seen c.drain-bits.new.self)
+    (popped_seen c.settle_word.new.self)
     c.requires.blank c.drain-bits.ensures.popped c.settle_word.ensures.done c.settle_word.ensures.others

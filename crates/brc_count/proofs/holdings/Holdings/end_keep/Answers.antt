@@ -11,5 +11,7 @@ invariant_of-self g c =
     let was = c.self.invariant in
     rw now.heap (after_end c.self.inside.counter.seat c.unlock.new.self.seat changes.Keep c.args.block.0 was
     (subst IsLocked (sym c.self.view_is) c.requires.locked)
-    (subst (λ (f : FrameSeen g.row.A.Denot). cell_locked f ≡ Some c.args.block.0) (sym c.self.view_is) c.requires.of_cell)
-    now.home now.knows now.keeps (record { placed = was.placed; risen = λ j held there is. there; inside = was.inside }))
+    (subst (λ (f : FrameSeen g.row.A.Denot). cell_locked f ≡ Some c.args.block.0)
+    (sym c.self.view_is) c.requires.of_cell)
+    now.home now.knows now.keeps
+    (record { placed = was.placed; risen = λ j held there is. there; inside = was.inside }))

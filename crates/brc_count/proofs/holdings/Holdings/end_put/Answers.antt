@@ -7,6 +7,9 @@ use Rattle.brc_count.proofs.holdings.Holdings.end_put.Goals as goal
 pub invariant_of-self : goal.invariant_of-self
 invariant_of-self g c =
     let now = c.unlock.ensures in
-    let locked = subst (λ (f : FrameSeen g.row.A.Denot). cell_locked f ≡ Some c.args.block.0) (sym c.self.view_is) c.requires.of_cell in
-    rw now.heap (after_end_put c.self.inside.counter.seat c.unlock.new.self.seat c.args.block.0 c.args.place c.self.invariant
-    (subst IsLocked (sym c.self.view_is) c.requires.locked) locked now.home now.knows now.keeps c.try_remove-held.ensures.updates)
+    let locked = subst (λ (f : FrameSeen g.row.A.Denot). cell_locked f ≡ Some c.args.block.0)
+    (sym c.self.view_is) c.requires.of_cell in
+    rw now.heap (after_end_put c.self.inside.counter.seat c.unlock.new.self.seat c.args.block.0 c.args.place
+    c.self.invariant
+    (subst IsLocked (sym c.self.view_is) c.requires.locked) locked now.home now.knows now.keeps
+    c.try_remove-held.ensures.updates)

@@ -6,23 +6,31 @@ use Rattle.brc_count.proofs.holdings.Holdings.fill.Goals as goal
 
 pub up-risen-requires-clause-raising : goal.up-risen-requires-clause-raising
 up-risen-requires-clause-raising g c =
-    rw c.vacant_key-place.ensures.value (raising c.args.source c.self.inside.places.vacant_key c.args.cell c.self.invariant (subst IsActive (sym c.self.view_is) c.requires.active)
-    (subst (SourceFits c.args.source) (sym c.self.view_is) c.requires.fits) (subst (SourceNames c.args.source c.args.cell) (sym c.self.view_is) c.requires.named) (rw (← c.self.view_is) at c.requires.low)
+    rw c.vacant_key-place.ensures.value
+    (raising c.args.source c.self.inside.places.vacant_key c.args.cell c.self.invariant
+    (subst IsActive (sym c.self.view_is) c.requires.active)
+    (subst (SourceFits c.args.source) (sym c.self.view_is) c.requires.fits)
+    (subst (SourceNames c.args.source c.args.cell) (sym c.self.view_is) c.requires.named)
+    (rw (← c.self.view_is) at c.requires.low)
     (rw c.vacant_key-place.ensures.value at c.vacant_key-place.ensures.vacant))
 
 pub invariant_of-self : goal.invariant_of-self
 invariant_of-self g c =
     let up = c.up-risen.ensures in
-    let at_key = rw (c.insert_reserved-key.ensures.key ∙ sym c.vacant_key-place.ensures.value) at c.insert_reserved-key.ensures.updates in
-    rw up.heap (after_up c.self.inside.counter.seat c.up-risen.new.self.seat c.vacant_key-place.result c.args.cell c.up-risen.result
+    let at_key = rw (c.insert_reserved-key.ensures.key ∙ sym c.vacant_key-place.ensures.value) at
+    c.insert_reserved-key.ensures.updates in
+    rw up.heap (after_up c.self.inside.counter.seat c.up-risen.new.self.seat c.vacant_key-place.result c.args.cell
+    c.up-risen.result
     c.self.invariant up.seat up.knows up.keeps up.risen (rw (← c.self.view_is) at c.requires.inside)
     (record { changed = at_key.changed; others = at_key.others }) c.vacant_key-place.ensures.vacant up.found)
 
 pub returns-clause-given : goal.returns-clause-given
 returns-clause-given g c =
     let up = c.up-risen.ensures in
-    let at_key = rw (c.insert_reserved-key.ensures.key ∙ sym c.vacant_key-place.ensures.value) at c.insert_reserved-key.ensures.updates in
-    let all = after_up c.self.inside.counter.seat c.up-risen.new.self.seat {places = c.insert_reserved-key.new.self} c.vacant_key-place.result c.args.cell c.up-risen.result
+    let at_key = rw (c.insert_reserved-key.ensures.key ∙ sym c.vacant_key-place.ensures.value) at
+    c.insert_reserved-key.ensures.updates in
+    let all = after_up c.self.inside.counter.seat c.up-risen.new.self.seat {places = c.insert_reserved-key.new.self}
+    c.vacant_key-place.result c.args.cell c.up-risen.result
     c.self.invariant up.seat up.knows up.keeps up.risen (rw (← c.self.view_is) at c.requires.inside)
     (record { changed = at_key.changed; others = at_key.others }) c.vacant_key-place.ensures.vacant up.found in
     rw (← c.self.view_is, up.heap) record {
@@ -37,5 +45,10 @@ returns-clause-given g c =
       seat = up.seat;
       len = c.insert_reserved-key.ensures.len;
       works = refl;
-      rest = record { stage = ap (λ (p : Part). p.row.stage) up.knows.part; lock = ap (λ (p : Part). p.row.locked) up.knows.part; from = refl; near = refl };
+      rest = record {
+        stage = ap (λ (p : Part). p.row.stage) up.knows.part;
+        lock = ap (λ (p : Part). p.row.locked) up.knows.part;
+        from = refl;
+        near = refl;
+      };
     }

@@ -9,10 +9,13 @@ pub invariant_of-self-2 : goal.invariant_of-self-2
 invariant_of-self-2 g c =
     let n = c.self.inside.counter.heap.cells in
     let unlocked = subst IsUnlocked (sym c.self.view_is) c.requires.unlocked in
-    let at_key = rw (c.insert_reserved-key.ensures.key ∙ sym c.vacant_key-place.ensures.value) at c.insert_reserved-key.ensures.updates in
+    let at_key = rw (c.insert_reserved-key.ensures.key ∙ sym c.vacant_key-place.ensures.value) at
+    c.insert_reserved-key.ensures.updates in
     let born = rw (c.seek_from.ensures.heap, c.set_cell.ensures) at c.bear.ensures.knows in
-    let all = after_birth c.self.inside.counter.seat c.seek_from.new.self.seat c.bear.new.self.seat {places = c.insert_reserved-key.new.self} c.vacant_key-place.result c.in-Some.cell
-    c.self.invariant c.in-Some.ensures.claimed_knows born c.seek_from.ensures.keeps (rw c.seek_from.ensures.heap at c.bear.ensures.risen)
+    let all = after_birth c.self.inside.counter.seat c.seek_from.new.self.seat c.bear.new.self.seat
+    {places = c.insert_reserved-key.new.self} c.vacant_key-place.result c.in-Some.cell
+    c.self.invariant c.in-Some.ensures.claimed_knows born c.seek_from.ensures.keeps
+    (rw c.seek_from.ensures.heap at c.bear.ensures.risen)
     c.in-Some.ensures.out c.bear.ensures.home c.in-Some.ensures.fresh c.in-Some.ensures.inside
     (record { changed = at_key.changed; others = at_key.others }) c.vacant_key-place.ensures.vacant unlocked in
     rw (c.bear.ensures.heap, c.seek_from.ensures.heap) all
@@ -21,13 +24,17 @@ pub returns-clause-made : goal.returns-clause-made
 returns-clause-made g c =
     let n = c.self.inside.counter.heap.cells in
     let unlocked = subst IsUnlocked (sym c.self.view_is) c.requires.unlocked in
-    let at_key = rw (c.insert_reserved-key.ensures.key ∙ sym c.vacant_key-place.ensures.value) at c.insert_reserved-key.ensures.updates in
+    let at_key = rw (c.insert_reserved-key.ensures.key ∙ sym c.vacant_key-place.ensures.value) at
+    c.insert_reserved-key.ensures.updates in
     let born = rw (c.seek_from.ensures.heap, c.set_cell.ensures) at c.bear.ensures.knows in
-    let all = after_birth c.self.inside.counter.seat c.seek_from.new.self.seat c.bear.new.self.seat {places = c.insert_reserved-key.new.self} c.vacant_key-place.result c.in-Some.cell
-    c.self.invariant c.in-Some.ensures.claimed_knows born c.seek_from.ensures.keeps (rw c.seek_from.ensures.heap at c.bear.ensures.risen)
+    let all = after_birth c.self.inside.counter.seat c.seek_from.new.self.seat c.bear.new.self.seat
+    {places = c.insert_reserved-key.new.self} c.vacant_key-place.result c.in-Some.cell
+    c.self.invariant c.in-Some.ensures.claimed_knows born c.seek_from.ensures.keeps
+    (rw c.seek_from.ensures.heap at c.bear.ensures.risen)
     c.in-Some.ensures.out c.bear.ensures.home c.in-Some.ensures.fresh c.in-Some.ensures.inside
     (record { changed = at_key.changed; others = at_key.others }) c.vacant_key-place.ensures.vacant unlocked in
-    let part = born_known n c.self.inside.counter.seat.log c.seek_from.new.self.seat.log c.bear.new.self.seat.log c.vacant_key-place.result c.in-Some.cell c.in-Some.ensures.claimed_knows born in
+    let part = born_known n c.self.inside.counter.seat.log c.seek_from.new.self.seat.log c.bear.new.self.seat.log
+    c.vacant_key-place.result c.in-Some.cell c.in-Some.ensures.claimed_knows born in
     rw (← c.self.view_is, c.bear.ensures.heap, c.seek_from.ensures.heap) record {
       cell = c.in-Some.cell;
       mortal = c.in-Some.ensures.mortal;
@@ -36,7 +43,10 @@ returns-clause-made g c =
       start = c.word.result;
       claimed = c.in-Some.ensures.claimed;
       as_asked = c.word.ensures.as_asked;
-      told = rw (← c.kind-kind.ensures ∙ ap kind_of c.payload.ensures ∙ contents_kind c.args.block.1, sym c.seek_from.ensures.seat.1) (rw c.set_cell.ensures at c.bear.ensures.told);
+      told = rw (
+        ← c.kind-kind.ensures ∙ ap kind_of c.payload.ensures ∙ contents_kind c.args.block.1,
+        sym c.seek_from.ensures.seat.1,
+      ) (rw c.set_cell.ensures at c.bear.ensures.told);
       heap = refl;
       thread = c.bear.ensures.seat.1 ∙ c.seek_from.ensures.seat.1;
       place = c.vacant_key-place.ensures.value;

@@ -24,7 +24,8 @@ pub loop-bit-init : goal.loop-bit-init
 loop-bit-init g c = (
   NoName,
   kept c.wake-named.new.self,
-  λ k. ap (λ ws. word_at ws k) c.wake-named.ensures.popped ∙ blank_word (popped_seen c.args.self.now) k c.requires.blank,
+  λ k. ap (λ ws. word_at ws k) c.wake-named.ensures.popped
+      ∙ blank_word (popped_seen c.args.self.now) k c.requires.blank,
 )
 
 pub loop-bit-preserved : goal.loop-bit-preserved
@@ -32,12 +33,14 @@ loop-bit-preserved g c =
     let inv = c.loop-bit.invariant in
     let bit = c.loop-bit.bit in
     let words = c.words-words.result in
-    let P = λ (s : FrameSeen g.row.A.Denot). DrainsNamed c.wake-named.result words c.wake-named.new.self (bit + 1) s × KeepsHandles c.wake-named.new.self s
+    let P = λ (s : FrameSeen g.row.A.Denot). DrainsNamed c.wake-named.result words c.wake-named.new.self (bit + 1) s
+    × KeepsHandles c.wake-named.new.self s
     × ((k : ℕ) → word_at (popped_seen s) k ≡ 0) in
     elim c.if-is_named.branch [
       | then-is_named w ↦
           let each = w.drain_each.ensures in
-          let drains = subst (λ m. DrainsEach (bit * 32) c.loop-bit.self m w.drain_each.new.self) w.past_named.ensures each.drains in
+          let drains = subst (λ m. DrainsEach (bit * 32) c.loop-bit.self m w.drain_each.new.self) w.past_named.ensures
+          each.drains in
           subst P (sym w.self-is) (
             Named bit c.loop-bit.self w.drain_each.new.self inv.0 (c.is_named.ensures.named w.if-is_named.true) drains,
             kept_on inv.1 each.keeps,

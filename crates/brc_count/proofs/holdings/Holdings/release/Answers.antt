@@ -7,17 +7,21 @@ use Rattle.brc_count.proofs.holdings.Holdings.release.Goals as goal
 pub invariant_of-self : goal.invariant_of-self
 invariant_of-self g c =
     let up = c.give_up.ensures in
-    let all = after_release c.self.inside.counter.seat c.give_up.new.self.seat c.args.place c.in-Some.held c.give_up.result
+    let all = after_release c.self.inside.counter.seat c.give_up.new.self.seat c.args.place c.in-Some.held
+    c.give_up.result
     c.self.invariant up.seat up.knows up.keeps up.block
-    (c.self.invariant.inside c.args.place c.in-Some.held (sym c.try_remove.ensures.value ∙ c.in-Some.is)) c.try_remove.ensures.updates (subst IsUnlocked (sym c.self.view_is) c.requires.unlocked) in
+    (c.self.invariant.inside c.args.place c.in-Some.held (sym c.try_remove.ensures.value ∙ c.in-Some.is))
+    c.try_remove.ensures.updates (subst IsUnlocked (sym c.self.view_is) c.requires.unlocked) in
     rw (up.heap, c.push.ensures) (rw c.in-Some-give_up.is at all)
 
 pub invariant_of-self-in_default-give_up : goal.invariant_of-self-in_default-give_up
 invariant_of-self-in_default-give_up g c =
     let up = c.give_up.ensures in
-    let all = after_release c.self.inside.counter.seat c.give_up.new.self.seat c.args.place c.in-Some.held c.give_up.result
+    let all = after_release c.self.inside.counter.seat c.give_up.new.self.seat c.args.place c.in-Some.held
+    c.give_up.result
     c.self.invariant up.seat up.knows up.keeps up.block
-    (c.self.invariant.inside c.args.place c.in-Some.held (sym c.try_remove.ensures.value ∙ c.in-Some.is)) c.try_remove.ensures.updates (subst IsUnlocked (sym c.self.view_is) c.requires.unlocked) in
+    (c.self.invariant.inside c.args.place c.in-Some.held (sym c.try_remove.ensures.value ∙ c.in-Some.is))
+    c.try_remove.ensures.updates (subst IsUnlocked (sym c.self.view_is) c.requires.unlocked) in
     rw up.heap (rw c.in_default-give_up.is at all)
 
 pub returns-in-Some-give_up-clause-released : goal.returns-in-Some-give_up-clause-released
@@ -25,9 +29,11 @@ returns-in-Some-give_up-clause-released g c = λ d there.
     let up = c.give_up.ensures in
     let gone = c.try_remove.ensures.updates in
     let was = c.self.invariant.placed c.args.place ∙ ap cell_held (sym c.try_remove.ensures.value ∙ c.in-Some.is) in
-    let all = after_release c.self.inside.counter.seat c.give_up.new.self.seat c.args.place c.in-Some.held c.give_up.result
+    let all = after_release c.self.inside.counter.seat c.give_up.new.self.seat c.args.place c.in-Some.held
+    c.give_up.result
     c.self.invariant up.seat up.knows up.keeps up.block
-    (c.self.invariant.inside c.args.place c.in-Some.held (sym c.try_remove.ensures.value ∙ c.in-Some.is)) gone (subst IsUnlocked (sym c.self.view_is) c.requires.unlocked) in
+    (c.self.invariant.inside c.args.place c.in-Some.held (sym c.try_remove.ensures.value ∙ c.in-Some.is)) gone
+    (subst IsUnlocked (sym c.self.view_is) c.requires.unlocked) in
     rw (← c.self.view_is, up.heap, ← same_cell (sym was ∙ (rw (← c.self.view_is) at there))) record {
       seen = c.in-Some.held.risen;
       block = c.give_up.result;
@@ -35,5 +41,10 @@ returns-in-Some-give_up-clause-released g c = λ d there.
       works = c.push.ensures ∙ ap (λ b. pushed b c.self.inside.works) (sym c.in-Some-give_up.is);
       vacant = all.placed c.args.place ∙ ap cell_held gone.changed;
       others = λ j other. all.placed j ∙ ap cell_held (gone.others j other) ∙ sym (c.self.invariant.placed j);
-      rest = record { stage = ap (λ (p : Part). p.row.stage) up.knows.part; lock = ap (λ (p : Part). p.row.locked) up.knows.part; from = refl; near = refl };
+      rest = record {
+        stage = ap (λ (p : Part). p.row.stage) up.knows.part;
+        lock = ap (λ (p : Part). p.row.locked) up.knows.part;
+        from = refl;
+        near = refl;
+      };
     }

@@ -10,5 +10,6 @@ fill-requires-clause-named g c =
 
 pub returns-clause-lock : goal.returns-clause-lock
 returns-clause-lock g c =
-    entry_up c.args.self.now c.fill.new.self (sources.Entry c.args.index) c.args.cell (handle_at c.fill.new.self c.fill.result)
+    entry_up c.args.self.now c.fill.new.self (sources.Entry c.args.index) c.args.cell
+    (handle_at c.fill.new.self c.fill.result)
     c.fill.ensures.given c.fill.ensures.heap c.requires.locked

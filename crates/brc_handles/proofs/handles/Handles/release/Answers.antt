@@ -7,4 +7,5 @@ pub returns-in-None-clause-quiet : goal.returns-in-None-clause-quiet
 returns-in-None-clause-quiet g c = NoItem
 
 pub returns-in-Some-clause-quiet : goal.returns-in-Some-clause-quiet
-returns-in-Some-clause-quiet g c = let_go_quietly c.args.frame.now c.release.new.self c.in-Some.handle (search rules) c.release.ensures.released
+returns-in-Some-clause-quiet g c = let_go_quietly c.args.frame.now c.release.new.self c.in-Some.handle
+    (search rules) c.release.ensures.released

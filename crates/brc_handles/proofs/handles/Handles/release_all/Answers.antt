@@ -26,5 +26,6 @@ loop-index-preserved g c = record {
   empty = search rules;
   places = search rules;
   owns = search rules;
-  quiet = quietly_joined c.args.frame.now.seat.log c.loop-index.frame.seat.log c.release.new.frame.seat.log c.loop-index.invariant.quiet c.release.ensures.quiet;
+  quiet = quietly_joined c.args.frame.now.seat.log c.loop-index.frame.seat.log c.release.new.frame.seat.log
+      c.loop-index.invariant.quiet c.release.ensures.quiet;
 }

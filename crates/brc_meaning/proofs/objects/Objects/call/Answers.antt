@@ -7,5 +7,6 @@ pub returns : goal.returns
 returns g c =
     rw c.in-Object.is
     (called_seen (object_call c.args.call) c.self.inside.made.items c.args.self.now c.in-Object.place
-    c.index_mut-object.result.now c.call.new.self c.call.result c.self.view_is (omega arith) c.index_mut-object.ensures.value
+    c.index_mut-object.result.now c.call.new.self c.call.result c.self.view_is
+    (omega arith) c.index_mut-object.ensures.value
     c.call.ensures)

@@ -1,6 +1,7 @@
 use Rattle.std.proofs.Common.{◌<◌, ◌∙◌, [], length, ◌∷◌, ◌++◌, ap, sym, arith, get_or, set}
 use Rattle.std.proofs.lemmas.List.{length-set}
-use Rattle.brc_plain.proofs.Pairs.{found_there, found_nowhere, put_there, put_full, put_more, put_refused, distinct_set, distinct_more}
+use Rattle.brc_plain.proofs.Pairs.{found_there, found_nowhere, put_there, put_full, put_more, put_refused, distinct_set}
+use Rattle.brc_plain.proofs.Pairs.{distinct_more}
 use Rattle.brc_plain.proofs.dict.PlainDict.put.Goals as goal
 use Rattle.brc_plain.proofs.dict.PlainDict.put.Goals.{in-Ok, in-Err}
 
@@ -36,7 +37,8 @@ invariant_of-self-2 g c =
     elim c.match-push.branch [
       | in-Ok w ↦ (
         omega (arith, w.in-Ok.ensures.len),
-        rw w.in-Ok.ensures.items (distinct_more c.args.key c.args.value c.self.inside.pairs.items none c.self.invariant.1),
+        rw w.in-Ok.ensures.items
+            (distinct_more c.args.key c.args.value c.self.inside.pairs.items none c.self.invariant.1),
       )
       | in-Err w ↦ rw w.in-Err.ensures.items c.self.invariant
     ]

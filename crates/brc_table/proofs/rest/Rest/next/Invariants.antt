@@ -5,7 +5,8 @@ use Rattle.brc_table.specs.Rest.{from_block}
 use Rattle.brc_table.proofs.rest.Rest.next.Given as goal
 
 abbrev pub invariant-loop-at : goal.invariant-loop-at
-invariant-loop-at g l = (l.at ≤ slots_len l.closed.slots) × Filled (slots_filled l.closed.slots) l.at (slots_len l.closed.slots)
+invariant-loop-at g l = (l.at ≤ slots_len l.closed.slots) × Filled (slots_filled l.closed.slots) l.at
+    (slots_len l.closed.slots)
     × ((k : ℕ) → k < l.at → slice_index_or (slots_filled l.closed.slots) k false ≡ false)
     × (from_block l.fn.self ≡ from_block (drop l.at (slots_items l.closed.slots)))
 

@@ -14,7 +14,11 @@ pub take_bits-requires-clause-allowed : goal.take_bits-requires-clause-allowed
 take_bits-requires-clause-allowed g c =
     let n : ℕ = c.args.self.now.cells in let place = c.seat.inside.place in let is = c.seat.invariant in
     let some_thread : 0 < place.me.0.thread = subst (λ t. 0 < t) (sym is.1) is.2 in
-    let owes : Allowed n place.me.0.log (Drain c.args.word) = subst (λ (z : SeatSeen g.row.A.Denot). Allowed n z.log (Drain c.args.word)) (sym c.seat.view_is) c.requires.allowed in
+    let owes : Allowed n place.me.0.log (Drain c.args.word) =
+    subst (λ (z : SeatSeen g.row.A.Denot). Allowed n z.log (Drain c.args.word))
+    (sym c.seat.view_is) c.requires.allowed in
     let few : place.me.0.thread ≤ 64 = subst (λ t. t ≤ 64) (sym is.1) is.3 in
-    subst (λ t. MayTake shows n c.args.self.now.local_limit place.id place.me (Queue t c.args.word) (λ _. 0) (λ there. Did (Drain c.args.word) there Nothing) n c.args.word) is.1
-    (drains shows n c.args.self.now.local_limit place.id place.me.0 place.me.1 c.args.word is.0 some_thread few c.requires.inside owes)
+    subst (λ t. MayTake shows n c.args.self.now.local_limit place.id place.me (Queue t c.args.word) (λ _. 0)
+    (λ there. Did (Drain c.args.word) there Nothing) n c.args.word) is.1
+    (drains shows n c.args.self.now.local_limit place.id place.me.0 place.me.1 c.args.word is.0 some_thread few
+    c.requires.inside owes)

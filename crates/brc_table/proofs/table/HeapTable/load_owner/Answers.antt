@@ -7,4 +7,5 @@ pub look_within-requires-clause-allowed : goal.look_within-requires-clause-allow
 look_within-requires-clause-allowed g c =
     let t = c.args.self.now in let place = c.seat.inside.place in let is = c.seat.invariant in
     let some_thread : 0 < place.me.0.thread = subst (λ u. 0 < u) (sym is.1) is.2 in
-    finds_owner shows t.cells t.local_limit place.id place.me.0 place.me.1 c.args.cell is.0 some_thread c.requires.inside
+    finds_owner shows t.cells t.local_limit place.id place.me.0 place.me.1 c.args.cell is.0 some_thread
+    c.requires.inside

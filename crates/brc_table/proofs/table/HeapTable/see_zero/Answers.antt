@@ -11,5 +11,8 @@ pub end_by_load-requires-clause-allowed : goal.end_by_load-requires-clause-allow
 end_by_load-requires-clause-allowed g c =
     let n : ℕ = c.args.self.now.cells in let place = c.seat.inside.place in let is = c.seat.invariant in
     let some_thread : 0 < place.me.0.thread = subst (λ t. 0 < t) (sym is.1) is.2 in
-    let owes : Carries n place.me.0.log (SeeZero c.args.cell) c.args.cell = subst (λ (z : SeatSeen g.row.A.Denot). Carries n z.log (SeeZero c.args.cell) c.args.cell) (sym c.seat.view_is) c.requires.carries in
-    ends_at_zero shows n c.args.self.now.local_limit place.id place.me.0 place.me.1 c.args.cell is.0 some_thread c.requires.inside owes
+    let owes : Carries n place.me.0.log (SeeZero c.args.cell) c.args.cell =
+    subst (λ (z : SeatSeen g.row.A.Denot). Carries n z.log (SeeZero c.args.cell) c.args.cell)
+    (sym c.seat.view_is) c.requires.carries in
+    ends_at_zero shows n c.args.self.now.local_limit place.id place.me.0 place.me.1 c.args.cell is.0 some_thread
+    c.requires.inside owes

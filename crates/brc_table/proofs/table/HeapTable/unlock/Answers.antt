@@ -15,14 +15,18 @@ use Rattle.brc_table.proofs.table.HeapTable.unlock.Goals as goal
 
 pub give-requires-clause-allowed : goal.give-requires-clause-allowed
 give-requires-clause-allowed g c =
-    let n : ℕ = c.args.self.now.cells in let limit : ℕ = c.args.self.now.local_limit in let place = c.seat.inside.place in let is = c.seat.invariant in
+    let n : ℕ = c.args.self.now.cells in let limit : ℕ = c.args.self.now.local_limit in let place =
+    c.seat.inside.place in let is = c.seat.invariant in
     let block = c.args.block in
     let some_thread : 0 < place.me.0.thread = subst (λ t. 0 < t) (sym is.1) is.2 in
     let found = found_locked place.me.0.log in
     let owes : Unlocks n place.me.0.log (shows block) found c.args.change block.0 =
-    subst (λ (z : SeatSeen g.row.A.Denot). Unlocks n z.log (shows block) (found_locked z.log) c.args.change block.0) (sym c.seat.view_is) c.requires.unlocks in
+    subst (λ (z : SeatSeen g.row.A.Denot). Unlocks n z.log (shows block) (found_locked z.log) c.args.change block.0)
+    (sym c.seat.view_is) c.requires.unlocks in
     let filled : c.put_in.new.seat.me ≡ (place.me.0, (block.0, Some block) ∷ rest place.me.1) =
     c.put_in.ensures.now ∙ ap (λ d. (place.me.0, (d, Some block) ∷ rest place.me.1)) c.cell-cell.ensures in
-    subst (λ (z : ℕ × (ℕ × Me (Option (ℕ × Payload g.row.A.Denot)) View)). MayGive n limit z.0 z.1.1 (Of Mutex z.1.0) 0 (Did (Unlock c.args.change) 0 (put_home z.1.1.1)))
+    subst (λ (z : ℕ × (ℕ × Me (Option (ℕ × Payload g.row.A.Denot)) View)). MayGive n limit z.0 z.1.1 (Of Mutex z.1.0) 0
+    (Did (Unlock c.args.change) 0 (put_home z.1.1.1)))
     (λ i. (sym c.put_in.ensures.same.1 i, (sym c.cell-cell.ensures i, sym filled i)))
-    (unlocks_cell shows n limit place.id place.me.0 (rest place.me.1) block found c.args.change block.0 is.0 some_thread c.requires.inside owes)
+    (unlocks_cell shows n limit place.id place.me.0 (rest place.me.1) block found c.args.change block.0 is.0 some_thread
+    c.requires.inside owes)

@@ -9,5 +9,8 @@ pub store-requires-clause-allowed : goal.store-requires-clause-allowed
 store-requires-clause-allowed g c =
     let n : ℕ = c.args.self.now.cells in let place = c.seat.inside.place in let is = c.seat.invariant in
     let some_thread : 0 < place.me.0.thread = subst (λ t. 0 < t) (sym is.1) is.2 in
-    let owes : UntiesShut n place.me.0.log c.args.cell c.args.owner = subst (λ (z : SeatSeen g.row.A.Denot). UntiesShut n z.log c.args.cell c.args.owner) (sym c.seat.view_is) c.requires.unties in
-    unties_shut shows n c.args.self.now.local_limit place.id place.me.0 place.me.1 c.args.cell c.args.owner is.0 some_thread c.requires.inside owes
+    let owes : UntiesShut n place.me.0.log c.args.cell c.args.owner =
+    subst (λ (z : SeatSeen g.row.A.Denot). UntiesShut n z.log c.args.cell c.args.owner)
+    (sym c.seat.view_is) c.requires.unties in
+    unties_shut shows n c.args.self.now.local_limit place.id place.me.0 place.me.1 c.args.cell c.args.owner is.0
+    some_thread c.requires.inside owes

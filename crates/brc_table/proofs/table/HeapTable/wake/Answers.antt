@@ -14,7 +14,9 @@ pub take_told-requires-clause-allowed : goal.take_told-requires-clause-allowed
 take_told-requires-clause-allowed g c =
     let n : ℕ = c.args.self.now.cells in let place = c.seat.inside.place in let is = c.seat.invariant in
     let some_thread : 0 < place.me.0.thread = subst (λ t. 0 < t) (sym is.1) is.2 in
-    let owes : Allowed n place.me.0.log Wake = subst (λ (z : SeatSeen g.row.A.Denot). Allowed n z.log Wake) (sym c.seat.view_is) c.requires.allowed in
+    let owes : Allowed n place.me.0.log Wake = subst (λ (z : SeatSeen g.row.A.Denot). Allowed n z.log Wake)
+    (sym c.seat.view_is) c.requires.allowed in
     let few : place.me.0.thread ≤ 64 = subst (λ t. t ≤ 64) (sym is.1) is.3 in
-    subst (λ t. MayWake shows n c.args.self.now.local_limit place.id place.me (NotifyWord t) (λ _. 0) (λ there. Did Wake there Nothing) n) is.1
+    subst (λ t. MayWake shows n c.args.self.now.local_limit place.id place.me (NotifyWord t) (λ _. 0)
+    (λ there. Did Wake there Nothing) n) is.1
     (wakes_own shows n c.args.self.now.local_limit place.id place.me.0 place.me.1 is.0 some_thread few owes)

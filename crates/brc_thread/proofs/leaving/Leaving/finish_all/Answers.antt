@@ -13,11 +13,17 @@ loop-preserved g c =
       tt,
       tt,
       kept_on was.2 c.work.ensures.handles,
-      (was.3.0 + (64 - c.work.result), turns_on c.args.self c.loop.leaving c.work.new.self was.3.0 (64 - c.work.result) was.3.1 c.work.ensures.turns),
+      (
+        was.3.0 + (64 - c.work.result),
+        turns_on c.args.self c.loop.leaving c.work.new.self was.3.0
+            (64 - c.work.result) was.3.1 c.work.ensures.turns,
+      ),
     )
 
 pub returns-in-Ok : goal.returns-in-Ok
 returns-in-Ok g c =
     let was = c.loop.invariant in
-    finishes_after c.args.self c.work.new.self c.in-Ok.retired (was.3.0 + (64 - c.work.result)) (kept_on was.2 c.work.ensures.handles)
-    (turns_on c.args.self c.loop.leaving c.work.new.self was.3.0 (64 - c.work.result) was.3.1 c.work.ensures.turns) c.in-Ok.ensures.seat c.in-Ok.ensures.heap
+    finishes_after c.args.self c.work.new.self c.in-Ok.retired (was.3.0 + (64 - c.work.result))
+    (kept_on was.2 c.work.ensures.handles)
+    (turns_on c.args.self c.loop.leaving c.work.new.self was.3.0 (64 - c.work.result) was.3.1 c.work.ensures.turns)
+    c.in-Ok.ensures.seat c.in-Ok.ensures.heap

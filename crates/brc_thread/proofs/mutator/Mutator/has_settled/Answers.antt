@@ -14,8 +14,10 @@ returns-clause-went g c =
 
 pub returns-clause-settled : goal.returns-clause-settled
 returns-clause-settled g c = λ nothing.
-    settled_now c.args.self.now c.work.new.self c.poll.new.self c.poll.result _ nothing c.work.ensures.turns c.poll.ensures.polled
+    settled_now c.args.self.now c.work.new.self c.poll.new.self c.poll.result _ nothing c.work.ensures.turns
+    c.poll.ensures.polled
     c.poll.ensures.quiet (c.work.ensures.done (search rules))
 
 pub returns-clause-own : goal.returns-clause-own
-returns-clause-own g c = λ nothing. own_earlier c.args.self.now c.work.new.self c.work.ensures.handles.heap (turns_quietly c.args.self.now _ c.work.new.self c.work.ensures.turns) c.poll.ensures.own
+returns-clause-own g c = λ nothing. own_earlier c.args.self.now c.work.new.self c.work.ensures.handles.heap
+    (turns_quietly c.args.self.now _ c.work.new.self c.work.ensures.turns) c.poll.ensures.own

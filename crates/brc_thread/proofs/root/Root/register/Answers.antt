@@ -6,7 +6,13 @@ use Rattle.brc_thread.proofs.root.Root.register.Goals as goal
 
 pub overflow_add-self : goal.overflow_add-self
 overflow_add-self g c =
-    omega (arith, c.self.invariant.2.all_registered, next_counted c.self.inside.seat.view, c.next.ensures, c.if-next-gt-MOST_THREADS.false)
+    omega (
+      arith,
+      c.self.invariant.2.all_registered,
+      next_counted c.self.inside.seat.view,
+      c.next.ensures,
+      c.if-next-gt-MOST_THREADS.false,
+    )
 
 pub invariant_of-self : goal.invariant_of-self
 invariant_of-self g c =
