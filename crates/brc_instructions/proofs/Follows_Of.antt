@@ -1,9 +1,10 @@
 -- What answers of several instructions share: from a call's clauses to what the frame and the registers mean after it.
 use Rattle.std.proofs.Common.{◌≡◌, ◌≢◌, ◌∙◌, ℕ, ℤ, true, false, List, [], Option, Some, None, is_some, Result, Ok, Err}
-use Rattle.std.proofs.Common.{slice_index_or, slice_set, refl, sym, ap, subst}
+use Rattle.std.proofs.Common.{slice_index_or, slice_set, MatchOption, refl, sym, ap, subst}
 use Rattle.std.specs.Prelude.{IfSome}
 use Rattle.brc_words.specs.declared.fault.Fault.{Fault}
 use Rattle.brc_words.specs.declared.fault.Fault.TheVariants as faults
+use Rattle.brc_words.specs.declared.key.Key.{Key}
 use Rattle.brc_script.specs.declared.instruction.Instruction.TheVariants as does
 use Rattle.law_rule.specs.declared.contents.Contents.{Contents}
 use Rattle.law_rule.specs.declared.contents.Contents.TheVariants as contents
@@ -16,6 +17,9 @@ use Rattle.brc_handles.specs.Handles.{slot, OwnsEach, IsApart}
 use Rattle.brc_containers.specs.Called.{Late}
 use Rattle.brc_containers.specs.Changing.{PlainCall, RefusedCall, RefusedEntry, RefusedPlace}
 use Rattle.brc_lists.specs.Calls.{PutsValue, SwapsValue, TakesEntry, SharesEntry}
+use Rattle.brc_dicts.specs.Calls.{DictPut}
+use Rattle.brc_dicts.specs.Plain.{plain_put}
+use Rattle.brc_dicts.specs.Putting.{RefusedPair}
 use Rattle.brc_meaning.specs.declared.reference.Reference.{Reference}
 use Rattle.brc_meaning.specs.declared.object.Object.{Object}
 use Rattle.brc_meaning.specs.declared.state.State.{State}
@@ -125,7 +129,7 @@ module _ {A : Type 0} where
       (is.refused c at)
 
   -- what the place of a value has, once some tries are lost
-  cell_still : (old : FrameSeen A) (k : ℕ) (value : HandleSeen) (done : FrameSeen A → Type 0) → Owns old value
+  pub cell_still : (old : FrameSeen A) (k : ℕ) (value : HandleSeen) (done : FrameSeen A → Type 0) → Owns old value
       → (late : Late old k done)
       → (c : ℕ) × (cell_in late.0 value.place ≡ Some c)
   cell_still old k value done owns late =
@@ -161,6 +165,29 @@ module _ {A : Type 0} where
       later_both old.seat.log late.0.seat.log new.seat.log (later_waits late.1)
       (later_swaps late.0 new k value.place at.0 call result at.1 late.2)
 
+  later_refused_pair : (old new : FrameSeen A) (k : ℕ) (call : PlainCall (Option ℕ)) (fault : Fault)
+      → RefusedPair old new k call fault → IsLater old.seat.log new.seat.log
+  later_refused_pair old new k call faults.Busy why = later_busy old new k why
+  later_refused_pair old new k call faults.OutOfMemory why = later_changes why.looks
+  later_refused_pair old new k call fault why = later_changes why.looks
+
+  later_pair_put : (old new : FrameSeen A) (k : ℕ) (key : Key A) (value : HandleSeen) (c : ℕ)
+      (result : Result (Option HandleSeen) (Handed (Key A × HandleSeen))) → cell_in old value.place ≡ Some c
+      → DictPut old new k key value result → IsLater old.seat.log new.seat.log
+  later_pair_put old new k key value c (Ok None) at is = later_changes is.did.changes
+  later_pair_put old new k key value c (Ok (Some given)) at is = later_changes is.did.1.changes
+  later_pair_put old new k key value c (Err handed) at is =
+      later_refused_pair old new k (plain_put key c) handed.fault (is.refused c at)
+
+  pub late_pair_put : (old new : FrameSeen A) (k : ℕ) (key : Key A) (value : HandleSeen)
+      (result : Result (Option HandleSeen) (Handed (Key A × HandleSeen))) → Owns old value
+      → Late old k (λ mid. DictPut mid new k key value result) → IsLater old.seat.log new.seat.log
+  late_pair_put old new k key value result owns late =
+      let at : (c : ℕ) × (cell_in late.0 value.place ≡ Some c) = cell_still old k value
+      (λ mid. DictPut mid new k key value result) owns late in
+      later_both old.seat.log late.0.seat.log new.seat.log (later_waits late.1)
+      (later_pair_put late.0 new k key value at.0 result at.1 late.2)
+
   pub later_refused_making : (old new : FrameSeen A) (fault : Fault) → RefusedMaking old new fault
       → IsLater old.seat.log new.seat.log
   later_refused_making old new faults.FrameFull is = later_as_before old new is.1
@@ -181,13 +208,17 @@ module _ {A : Type 0} where
 
   -- ---- own logs
 
-  -- before the handle went into a register
+  -- before a later call the log was the thread's own too
+  pub own_at : (mid new : FrameSeen A) → new.heap ≡ mid.heap → IsLater mid.seat.log new.seat.log
+      → OwnLog new.heap.cells new.seat.log → OwnLog mid.heap.cells mid.seat.log
+  own_at mid new same later own =
+      subst (λ heap. OwnLog heap.cells mid.seat.log) same
+      (own_earlier new.heap.cells mid.seat.log new.seat.log later own)
+
+  -- and before the handle went into a register
   pub own_before : (mid new : FrameSeen A) → new.heap ≡ mid.heap → Quietly mid.seat.log new.seat.log
       → OwnLog new.heap.cells new.seat.log → OwnLog mid.heap.cells mid.seat.log
-  own_before mid new same quiet own =
-      let earlier : OwnLog new.heap.cells mid.seat.log = own_earlier new.heap.cells mid.seat.log new.seat.log
-      (quietly_later mid.seat.log new.seat.log quiet) own in
-      subst (λ heap. OwnLog heap.cells mid.seat.log) same earlier
+  own_before mid new same quiet own = own_at mid new same (quietly_later mid.seat.log new.seat.log quiet) own
 
   -- what `hold` says of any state
   abbrev pub HoldsInto : FrameSeen A → FrameSeen A → List (Option HandleSeen) → List (Option HandleSeen) → ℕ
@@ -387,3 +418,19 @@ module _ {A : Type 0} where
           subst (Means base new registers) (put_back value now.0 s now.1)
               means_now,
         )
+
+  -- ---- what a put answers
+
+  module _ (call : Object A → Result (Option Reference × Object A) Fault) (container base : ℕ) (new : FrameSeen A)
+      (registers : List (Option HandleSeen)) (s : State A) where
+    abbrev Answers : Option HandleSeen → Type 0
+    Answers answer = MatchOption answer (AsksNone call container base new registers s)
+        (AsksOne call container base new registers s)
+
+    pub put_none : (answer : Option HandleSeen) → answer ≡ None → Answers answer
+        → AsksNone call container base new registers s
+    put_none answer is asks = subst Answers is asks
+
+    pub put_one : (answer : Option HandleSeen) (given : HandleSeen) → answer ≡ Some given → Answers answer
+        → AsksOne call container base new registers s given
+    put_one answer given is asks = subst Answers is asks

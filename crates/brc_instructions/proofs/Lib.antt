@@ -1,6 +1,7 @@
 mod Gained
 mod Follows_Of
-mod Whole_Calls
-mod Calls_Follow
+mod Looks
 mod Sums_Read
 mod Shows_As
+mod Plain_Refusals
+pub mod Causes_Of

@@ -11,6 +11,7 @@ ghost use Rattle.law_living.specs.Later.{IsLater};
 ghost use Rattle.brc_meaning.specs.Objects.{keyed_call};
 ghost use Rattle.law_isolation.specs.Asked.{PutsAsked, Follows};
 ghost use Rattle.law_isolation.specs.Means.{MeansBesides};
+ghost use Rattle.brc_instructions.specs.Causes.{Caused, WantsNoRoom};
 ghost use Rattle.brc_instructions.specs.Registers.{Stands, Besides};
 
 use crate::holding::hold;
@@ -58,6 +59,7 @@ fn put_taken<R: Wait, H: Home<A>, A: Allocator + Copy>(
     ensures waits { IfErr result (λ handed. handed.fault ≢ faults.Busy) }
     ensures same { IfErr result (λ handed. handed.back ≡ given) }
     ensures later { IsLater frame.old.seat.log frame.new.seat.log }
+    ensures room { IfErr result (λ handed. WantsNoRoom handed.fault) }
     ensures asked { (base : ℕ) (s : state A) (reference : reference) → OwnLog frame.new.heap.cells frame.new.seat.log
         → MeansBesides base frame.old registers.now s given reference
         → PutsAsked (keyed_call key.now (keyed.Put reference)) dict base frame.new registers.now s given
@@ -99,6 +101,7 @@ pub fn put<R: Wait, H: Home<A>, A: Allocator + Copy>(
     ensures heap { frame.new.heap ≡ frame.old.heap }
     ensures waits { IfErr result (λ fault. fault ≢ faults.Busy) }
     ensures later { IsLater frame.old.seat.log frame.new.seat.log }
+    ensures room { IfErr result WantsNoRoom }
     ensures follows { dict ≢ value → Follows frame.old frame.new registers.old registers.new
         (does.Put dict key.now value) result }
 {
@@ -132,6 +135,7 @@ pub fn find<R: Wait, H: Home<A>, A: Allocator>(
     ensures heap { frame.new.heap ≡ frame.old.heap }
     ensures waits { IfErr result (λ fault. fault ≢ faults.Busy) }
     ensures later { IsLater frame.old.seat.log frame.new.seat.log }
+    ensures caused { IfErr result (Caused frame.old frame.new) }
     ensures follows { Follows frame.old frame.new registers.old registers.new (does.Find to dict key.now) result }
 {
     let Some(dict) = registers.get(dict) else {
@@ -156,6 +160,7 @@ pub fn delete<R: Wait, H: Home<A>, A: Allocator>(
     ensures heap { frame.new.heap ≡ frame.old.heap }
     ensures waits { IfErr result (λ fault. fault ≢ faults.Busy) }
     ensures later { IsLater frame.old.seat.log frame.new.seat.log }
+    ensures caused { IfErr result (Caused frame.old frame.new) }
     ensures follows { Follows frame.old frame.new registers.old registers.new (does.Delete to dict key.now) result }
 {
     let Some(dict) = registers.get(dict) else {

@@ -11,6 +11,7 @@ ghost use Rattle.law_living.specs.Quiet.{Quietly};
 ghost use Rattle.brc_meaning.specs.States.{with_register};
 ghost use Rattle.law_isolation.specs.Asked.{Follows};
 ghost use Rattle.law_isolation.specs.Means.{Means, MeansBesides};
+ghost use Rattle.brc_instructions.specs.Causes.{Caused, WantsNoRoom};
 ghost use Rattle.brc_instructions.specs.Registers.{Stands, Besides};
 
 use crate::registers::Registers;
@@ -53,6 +54,7 @@ pub fn copy<H: Home<A>, A: Allocator>(
     ensures heap { frame.new.heap ≡ frame.old.heap }
     ensures waits { IfErr result (λ fault. fault ≢ faults.Busy) }
     ensures later { IsLater frame.old.seat.log frame.new.seat.log }
+    ensures caused { IfErr result (Caused frame.old frame.new) }
     ensures follows { Follows frame.old frame.new registers.old registers.new (does.Copy to from) result }
 {
     let Some(handle) = registers.get(from) else {
@@ -74,6 +76,7 @@ pub fn drop_held<H: Home<A>, A: Allocator>(
     ensures heap { frame.new.heap ≡ frame.old.heap }
     ensures waits { IfErr result (λ fault. fault ≢ faults.Busy) }
     ensures later { IsLater frame.old.seat.log frame.new.seat.log }
+    ensures room { IfErr result WantsNoRoom }
     ensures follows { Follows frame.old frame.new registers.old registers.new (does.Drop from) result }
 {
     let Some(handle) = registers.take(from) else {

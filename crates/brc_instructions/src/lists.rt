@@ -11,6 +11,7 @@ ghost use Rattle.law_living.specs.Later.{IsLater};
 ghost use Rattle.brc_meaning.specs.Objects.{object_call};
 ghost use Rattle.law_isolation.specs.Asked.{TakesAsked, SwapsAsked, Follows};
 ghost use Rattle.law_isolation.specs.Means.{MeansBesides};
+ghost use Rattle.brc_instructions.specs.Causes.{Caused, WantsNoRoom};
 ghost use Rattle.brc_instructions.specs.Registers.{Stands, Besides};
 
 use crate::holding::hold;
@@ -39,6 +40,7 @@ fn push_taken<R: Wait, H: Home<A>, A: Allocator>(
     ensures waits { IfErr result (λ handed. handed.fault ≢ faults.Busy) }
     ensures same { IfErr result (λ handed. handed.back ≡ given) }
     ensures later { IsLater frame.old.seat.log frame.new.seat.log }
+    ensures room { IfErr result (λ handed. WantsNoRoom handed.fault) }
     ensures asked { (base : ℕ) (s : state A) (reference : reference) → OwnLog frame.new.heap.cells frame.new.seat.log
         → MeansBesides base frame.old registers.now s given reference
         → TakesAsked (object_call (calls.Push reference)) list base frame.new registers.now s given reference result }
@@ -66,6 +68,7 @@ pub fn push<R: Wait, H: Home<A>, A: Allocator>(
     ensures heap { frame.new.heap ≡ frame.old.heap }
     ensures waits { IfErr result (λ fault. fault ≢ faults.Busy) }
     ensures later { IsLater frame.old.seat.log frame.new.seat.log }
+    ensures room { IfErr result WantsNoRoom }
     ensures follows { list ≢ value → Follows frame.old frame.new registers.old registers.new
         (does.Push list value) result }
 {
@@ -95,6 +98,7 @@ pub fn pop<R: Wait, H: Home<A>, A: Allocator>(
     ensures heap { frame.new.heap ≡ frame.old.heap }
     ensures waits { IfErr result (λ fault. fault ≢ faults.Busy) }
     ensures later { IsLater frame.old.seat.log frame.new.seat.log }
+    ensures caused { IfErr result (Caused frame.old frame.new) }
     ensures follows { Follows frame.old frame.new registers.old registers.new (does.Pop to list) result }
 {
     let Some(list) = registers.get(list) else {
@@ -120,6 +124,7 @@ pub fn get<R: Wait, H: Home<A>, A: Allocator>(
     ensures heap { frame.new.heap ≡ frame.old.heap }
     ensures waits { IfErr result (λ fault. fault ≢ faults.Busy) }
     ensures later { IsLater frame.old.seat.log frame.new.seat.log }
+    ensures caused { IfErr result (Caused frame.old frame.new) }
     ensures follows { Follows frame.old frame.new registers.old registers.new (does.Get to list index) result }
 {
     let Some(list) = registers.get(list) else {
@@ -146,6 +151,7 @@ fn set_taken<R: Wait, H: Home<A>, A: Allocator>(
     ensures waits { IfErr result (λ handed. handed.fault ≢ faults.Busy) }
     ensures same { IfErr result (λ handed. handed.back ≡ given) }
     ensures later { IsLater frame.old.seat.log frame.new.seat.log }
+    ensures room { IfErr result (λ handed. WantsNoRoom handed.fault) }
     ensures asked { (base : ℕ) (s : state A) (reference : reference) → OwnLog frame.new.heap.cells frame.new.seat.log
         → MeansBesides base frame.old registers.now s given reference
         → SwapsAsked (object_call (calls.Set index reference)) list base frame.new registers.now s given
@@ -174,6 +180,7 @@ pub fn set<R: Wait, H: Home<A>, A: Allocator>(
     ensures heap { frame.new.heap ≡ frame.old.heap }
     ensures waits { IfErr result (λ fault. fault ≢ faults.Busy) }
     ensures later { IsLater frame.old.seat.log frame.new.seat.log }
+    ensures room { IfErr result WantsNoRoom }
     ensures follows { list ≢ value → Follows frame.old frame.new registers.old registers.new
         (does.Set list index value) result }
 {

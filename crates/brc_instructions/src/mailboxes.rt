@@ -11,6 +11,7 @@ ghost use Rattle.law_living.specs.Later.{IsLater};
 ghost use Rattle.brc_meaning.specs.Objects.{object_call};
 ghost use Rattle.law_isolation.specs.Asked.{TakesAsked, Follows};
 ghost use Rattle.law_isolation.specs.Means.{MeansBesides};
+ghost use Rattle.brc_instructions.specs.Causes.{Caused, WantsNoRoom};
 ghost use Rattle.brc_instructions.specs.Registers.{Stands, Besides};
 
 use crate::holding::hold;
@@ -39,6 +40,7 @@ fn post_taken<R: Wait, H: Home<A>, A: Allocator>(
     ensures waits { IfErr result (λ handed. handed.fault ≢ faults.Busy) }
     ensures same { IfErr result (λ handed. handed.back ≡ given) }
     ensures later { IsLater frame.old.seat.log frame.new.seat.log }
+    ensures room { IfErr result (λ handed. WantsNoRoom handed.fault) }
     ensures asked { (base : ℕ) (s : state A) (reference : reference) → OwnLog frame.new.heap.cells frame.new.seat.log
         → MeansBesides base frame.old registers.now s given reference
         → TakesAsked (object_call (calls.Send reference)) mailbox base frame.new registers.now s given
@@ -67,6 +69,7 @@ pub fn post<R: Wait, H: Home<A>, A: Allocator>(
     ensures heap { frame.new.heap ≡ frame.old.heap }
     ensures waits { IfErr result (λ fault. fault ≢ faults.Busy) }
     ensures later { IsLater frame.old.seat.log frame.new.seat.log }
+    ensures room { IfErr result WantsNoRoom }
     ensures follows { mailbox ≢ value → Follows frame.old frame.new registers.old registers.new
         (does.Send mailbox value) result }
 {
@@ -96,6 +99,7 @@ pub fn receive<R: Wait, H: Home<A>, A: Allocator>(
     ensures heap { frame.new.heap ≡ frame.old.heap }
     ensures waits { IfErr result (λ fault. fault ≢ faults.Busy) }
     ensures later { IsLater frame.old.seat.log frame.new.seat.log }
+    ensures caused { IfErr result (Caused frame.old frame.new) }
     ensures follows { Follows frame.old frame.new registers.old registers.new (does.Receive to mailbox) result }
 {
     let Some(mailbox) = registers.get(mailbox) else {

@@ -5,6 +5,7 @@ ghost use Rattle.brc_words.specs.declared.fault.Fault.TheVariants as faults;
 ghost use Rattle.brc_script.specs.declared.instruction.Instruction.TheVariants as does;
 ghost use Rattle.law_living.specs.Later.{IsLater};
 ghost use Rattle.law_isolation.specs.Asked.{Follows};
+ghost use Rattle.brc_instructions.specs.Causes.{Caused};
 ghost use Rattle.brc_instructions.specs.Registers.{Stands};
 
 use crate::holding::hold;
@@ -30,6 +31,7 @@ pub fn int<H: Home<A>, A: Allocator>(
     ensures heap { frame.new.heap ≡ frame.old.heap }
     ensures waits { IfErr result (λ fault. fault ≢ faults.Busy) }
     ensures later { IsLater frame.old.seat.log frame.new.seat.log }
+    ensures caused { IfErr result (Caused frame.old frame.new) }
     ensures follows { Follows frame.old frame.new registers.old registers.new (does.Int to number) result }
 {
     let made = new_int(alloc, frame, number)?;
@@ -59,6 +61,7 @@ pub fn text<H: Home<A>, A: Allocator + Copy>(
     ensures heap { frame.new.heap ≡ frame.old.heap }
     ensures waits { IfErr result (λ fault. fault ≢ faults.Busy) }
     ensures later { IsLater frame.old.seat.log frame.new.seat.log }
+    ensures caused { IfErr result (Caused frame.old frame.new) }
     ensures follows { Follows frame.old frame.new registers.old registers.new (does.Text to text.now) result }
 {
     let copy = copy_text(alloc, text)?;
@@ -83,6 +86,7 @@ pub fn list<H: Home<A>, A: Allocator + Copy>(
     ensures heap { frame.new.heap ≡ frame.old.heap }
     ensures waits { IfErr result (λ fault. fault ≢ faults.Busy) }
     ensures later { IsLater frame.old.seat.log frame.new.seat.log }
+    ensures caused { IfErr result (Caused frame.old frame.new) }
     ensures follows { Follows frame.old frame.new registers.old registers.new (does.List to) result }
 {
     let made = new_list(alloc, frame)?;
@@ -102,6 +106,7 @@ pub fn dict<H: Home<A>, A: Allocator + Copy>(
     ensures heap { frame.new.heap ≡ frame.old.heap }
     ensures waits { IfErr result (λ fault. fault ≢ faults.Busy) }
     ensures later { IsLater frame.old.seat.log frame.new.seat.log }
+    ensures caused { IfErr result (Caused frame.old frame.new) }
     ensures follows { Follows frame.old frame.new registers.old registers.new (does.Dict to) result }
 {
     let made = new_dict(alloc, frame)?;
@@ -121,6 +126,7 @@ pub fn mailbox<H: Home<A>, A: Allocator + Copy>(
     ensures heap { frame.new.heap ≡ frame.old.heap }
     ensures waits { IfErr result (λ fault. fault ≢ faults.Busy) }
     ensures later { IsLater frame.old.seat.log frame.new.seat.log }
+    ensures caused { IfErr result (Caused frame.old frame.new) }
     ensures follows { Follows frame.old frame.new registers.old registers.new (does.Mailbox to) result }
 {
     let made = new_mailbox(alloc, frame)?;

@@ -10,6 +10,7 @@ ghost use Rattle.law_living.specs.Later.{IsLater};
 ghost use Rattle.brc_count.specs.Frames.{HandleSeen as handle_seen};
 ghost use Rattle.brc_handles.specs.Handles.{slot};
 ghost use Rattle.law_isolation.specs.Means.{Means};
+ghost use Rattle.brc_instructions.specs.Causes.{WantsNoRoom};
 ghost use Rattle.brc_instructions.specs.Printing.{ShownAs, PrintsAs};
 ghost use Rattle.brc_instructions.specs.Registers.{Stands};
 
@@ -37,6 +38,7 @@ fn show<R: Wait, H: Home<A>, A: Allocator>(
     ensures unlocked { IsUnlocked frame.new }
     ensures waits { IfErr result (λ fault. fault ≢ faults.Busy) }
     ensures later { IsLater frame.old.seat.log frame.new.seat.log }
+    ensures room { IfErr result WantsNoRoom }
     ensures shows { (base : ℕ) (registers : List (Option handle_seen)) (r : ℕ) (s : state A)
         → OwnLog frame.new.heap.cells frame.new.seat.log
         → slot registers r ≡ Some handle.now → Means base frame.old registers s
@@ -65,6 +67,7 @@ pub fn print<R: Wait, H: Home<A>, A: Allocator>(
     ensures heap { frame.new.heap ≡ frame.old.heap }
     ensures waits { IfErr result (λ fault. fault ≢ faults.Busy) }
     ensures later { IsLater frame.old.seat.log frame.new.seat.log }
+    ensures room { IfErr result WantsNoRoom }
     ensures follows { (base : ℕ) (s : state A) → OwnLog frame.new.heap.cells frame.new.seat.log
         → Means base frame.old registers.now s
         → PrintsAs base frame.new registers.now from s result }

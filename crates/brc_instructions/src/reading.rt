@@ -9,6 +9,7 @@ ghost use Rattle.law_living.specs.Later.{IsLater};
 ghost use Rattle.brc_meaning.specs.Objects.{number_in};
 ghost use Rattle.law_isolation.specs.Asked.{read, summed, Follows};
 ghost use Rattle.law_isolation.specs.Means.{Means};
+ghost use Rattle.brc_instructions.specs.Causes.{Caused, WantsNoRoom};
 ghost use Rattle.brc_instructions.specs.Registers.{Stands};
 
 use crate::making::int;
@@ -35,6 +36,7 @@ pub fn len<R: Wait, H: Home<A>, A: Allocator>(
     ensures heap { frame.new.heap ≡ frame.old.heap }
     ensures waits { IfErr result (λ fault. fault ≢ faults.Busy) }
     ensures later { IsLater frame.old.seat.log frame.new.seat.log }
+    ensures caused { IfErr result (Caused frame.old frame.new) }
     ensures follows { Follows frame.old frame.new registers.old registers.new (does.Len to container) result }
 {
     let Some(container) = registers.get(container) else {
@@ -60,6 +62,7 @@ fn number_of<R: Wait, H: Home<A>, A: Allocator>(
     ensures heap { frame.new.heap ≡ frame.old.heap }
     ensures waits { IfErr result (λ fault. fault ≢ faults.Busy) }
     ensures later { IsLater frame.old.seat.log frame.new.seat.log }
+    ensures room { IfErr result WantsNoRoom }
     ensures reads { (base : ℕ) (s : state A) → OwnLog frame.new.heap.cells frame.new.seat.log
         → Means base frame.old registers.now s
         → Means base frame.new registers.now s × (read number_in from s ≡ result) }
@@ -83,6 +86,7 @@ fn sum<R: Wait, H: Home<A>, A: Allocator>(
     ensures heap { frame.new.heap ≡ frame.old.heap }
     ensures waits { IfErr result (λ fault. fault ≢ faults.Busy) }
     ensures later { IsLater frame.old.seat.log frame.new.seat.log }
+    ensures room { IfErr result WantsNoRoom }
     ensures reads { (base : ℕ) (s : state A) → OwnLog frame.new.heap.cells frame.new.seat.log
         → Means base frame.old registers.now s
         → Means base frame.new registers.now s × (summed first second s ≡ result) }
@@ -114,6 +118,7 @@ pub fn add<R: Wait, H: Home<A>, A: Allocator>(
     ensures heap { frame.new.heap ≡ frame.old.heap }
     ensures waits { IfErr result (λ fault. fault ≢ faults.Busy) }
     ensures later { IsLater frame.old.seat.log frame.new.seat.log }
+    ensures caused { IfErr result (Caused frame.old frame.new) }
     ensures follows { Follows frame.old frame.new registers.old registers.new (does.Add to first second) result }
 {
     let sum = sum(rt, frame, registers, first, second)?;

@@ -6,3 +6,4 @@ mod Tries
 mod Instructions_Led
 mod Silent
 mod Steps_As
+mod Wants_Of

@@ -1,8 +1,7 @@
 -- One line: its instruction, the poll that tells what its calls found, and work.
-use Rattle.std.proofs.Common.{◌≡◌, ◌∙◌, ℕ, true, false, List, [], ◌∷◌, Option, Result, Ok, Err, is_ok, MatchResult}
-use Rattle.std.proofs.Common.{refl, sym, ap, subst, true≢false}
+use Rattle.std.proofs.Common.{◌≡◌, ◌∙◌, ℕ, List, Option, Result, Ok, Err, is_ok}
+use Rattle.std.proofs.Common.{sym, ap, subst, true≢false}
 use Rattle.brc_words.specs.declared.fault.Fault.{Fault}
-use Rattle.brc_words.specs.declared.fault.Fault.TheVariants as faults
 use Rattle.brc_script.specs.declared.instruction.Instruction.{Instruction}
 use Rattle.brc_table.specs.Seated.{TableSeen}
 use Rattle.brc_count.specs.Frames.{FrameSeen, HandleSeen, KeepsHandles, Turns}

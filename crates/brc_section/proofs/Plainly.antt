@@ -1,6 +1,6 @@
 -- From lines to the section: what it printed is its plain meaning, or a front of it.
-use Rattle.std.proofs.Common.{arith, ◌≡◌, ◌∙◌, ℕ, ◌+◌, Bool, true, false, not, List, [], ◌∷◌, ◌++◌, length, Option}
-use Rattle.std.proofs.Common.{Some, None, Result, Ok, Err, IfErr, IfSome, refl, sym, ap, subst, true≢false}
+use Rattle.std.proofs.Common.{arith, ◌≡◌, ◌∙◌, ℕ, ◌+◌, Bool, true, false, List, [], length, Option}
+use Rattle.std.proofs.Common.{Some, None, is_some, Result, Ok, Err, IfErr, IfSome, refl, sym, ap, subst, true≢false}
 use Rattle.std.proofs.lemmas.List.{append-nil}
 use Rattle.brc_words.specs.Faults.{number_of}
 use Rattle.brc_words.specs.declared.fault.Fault.{Fault}
@@ -16,7 +16,7 @@ use Rattle.brc_meaning.specs.States.{start}
 use Rattle.brc_meaning.specs.Sections.{Stop, Meaning, lines_after, written_out, told, meaning}
 use Rattle.brc_meaning.specs.Wholes.{ended}
 use Rattle.brc_meaning.proofs.WrittenOut.{section_written_out}
-use Rattle.law_means.specs.Fronts.{IsFront, IsFrontOf}
+use Rattle.law_means.specs.Fronts.{IsFront}
 use Rattle.law_means.proofs.Fronts_Law.{front_meant}
 use Rattle.law_means.proofs.Private_Lines.{private_lines}
 use Rattle.law_living.specs.Living.{OwnLog}
@@ -28,8 +28,8 @@ use Rattle.law_isolation.specs.Lines.{At, WentOn, BrokeOff, Stopped, Faulted}
 use Rattle.law_isolation.proofs.Quiet_Lives.{allocs_quietly}
 use Rattle.law_isolation.proofs.Registers_Kept.{means_begins}
 use Rattle.brc_section.specs.declared.running.Halt.{Halt}
-use Rattle.brc_section.specs.Isolation.{is_own_end, Prints, PrintsPlainly}
-use Rattle.brc_section.specs.Running.{AreOwn, RunsOn, Ran, HaltOf, FaultOf, Bore, RanAll, MetFault, Ended}
+use Rattle.brc_section.specs.Isolation.{is_own_end, PrintsPlainly}
+use Rattle.brc_section.specs.Running.{AreOwn, Ran, HaltOf, FaultOf, Bore, MetFault, Ended}
 use Rattle.brc_section.proofs.Runs.{all_own}
 
 -- a fault of a section's own is none of the machine's
@@ -226,14 +226,39 @@ pub halt_holds : (P : Halt → Type 0) (ran : Result (Unit {0}) Halt) (result : 
 halt_holds P (Ok done) result is holds = subst (λ (r : Option Halt). IfSome r P) (sym is) tt
 halt_holds P (Err halt) result is holds = subst (λ (r : Option Halt). IfSome r P) (sym is) holds
 
-pub fault_some : (halt : Option Halt) (met : Option (ℕ × ℕ)) (h : Halt) (number : ℕ) → halt ≡ Some h
-    → met ≡ Some (number, h.line)
-    → number ≡ number_of h.fault → FaultOf halt met
-fault_some halt met h number is told same =
-    subst (λ (o : Option Halt). FaultOf o met) (sym is) (told ∙ ap (λ (n : ℕ). Some (n, h.line)) same)
+-- what holds of a halt's line holds of the line that is told
+pub line_told : (P : ℕ → Type 0) (halt : Option Halt) (met : Option (ℕ × ℕ)) → FaultOf halt met
+    → IfSome halt (λ h. P h.line) → IfSome met (λ fault. P fault.1)
+line_told P None met is holds = subst (λ (m : Option (ℕ × ℕ)). IfSome m (λ fault. P fault.1)) (sym is) tt
+line_told P (Some h) met is holds = subst (λ (m : Option (ℕ × ℕ)). IfSome m (λ fault. P fault.1)) (sym is) holds
 
-pub fault_none : (halt : Option Halt) (met : Option (ℕ × ℕ)) → halt ≡ None → met ≡ None → FaultOf halt met
-fault_none halt met is none = subst (λ (o : Option Halt). FaultOf o met) (sym is) none
+abbrev number_in : Option (ℕ × ℕ) → ℕ
+number_in None = 0
+number_in (Some fault) = fault.0
+
+abbrev line_in : Option (ℕ × ℕ) → ℕ
+line_in None = 0
+line_in (Some fault) = fault.1
+
+-- the halt that is told of by this number and this line
+pub halt_told : (P : Fault → ℕ → Type 0) (halt : Option Halt) (met : Option (ℕ × ℕ)) (number line : ℕ)
+    → FaultOf halt met
+    → met ≡ Some (number, line) → IfSome halt (λ h. P h.fault h.line)
+    → (fault : Fault) × (number_of fault ≡ number) × P fault line
+halt_told P None met number line is says holds = absurd (true≢false (sym (ap is_some (sym is ∙ says))))
+halt_told P (Some h) met number line is says holds =
+    let same : Some (number_of h.fault, h.line) ≡ Some (number, line) = sym is ∙ says
+    in (h.fault, ap number_in same, subst (P h.fault) (ap line_in same) holds)
+
+busy_by : (fault : Fault) → number_of fault ≡ number_of faults.Busy → fault ≡ faults.Busy
+busy_by faults.Busy same = refl
+busy_by fault same = absurd (omega (arith, same))
+
+pub busy_told : (P : ℕ → Type 0) (halt : Option Halt) (met : Option (ℕ × ℕ)) (line : ℕ) → FaultOf halt met
+    → met ≡ Some (number_of faults.Busy, line) → IfSome halt (λ h. h.fault ≡ faults.Busy → P h.line) → P line
+busy_told P halt met line is says holds =
+    let at = halt_told (λ fault line. fault ≡ faults.Busy → P line) halt met (number_of faults.Busy) line is says holds
+    in at.2 (busy_by at.0 at.1)
 
 module _ {A : Type 0} where
   -- a section from its first line to its thread's rest: `began` is the frame that its lines began with, `ran` the one

@@ -1,5 +1,5 @@
 -- Lines after lines: a loop over them keeps that those before were run as they are meant.
-use Rattle.std.proofs.Common.{arith, ◌≡◌, ◌≢◌, ◌∙◌, true≢false, ℕ, ◌+◌, ◌-◌, ◌<◌, ◌≤◌, zero, suc, true, false, List, []}
+use Rattle.std.proofs.Common.{arith, ◌≡◌, ◌≢◌, ◌∙◌, true≢false, ℕ, ◌+◌, ◌-◌, ◌<◌, ◌≤◌, zero, suc, false, List, []}
 use Rattle.std.proofs.Common.{◌∷◌, ◌++◌, length, get_or, take, drop, Option, Result, Ok, Err, refl, sym, ap, subst}
 use Rattle.std.proofs.Math.Seq.{take-suc}
 use Rattle.std.proofs.lemmas.List.{take-append-drop, take_all, append_assoc, append-nil}
@@ -12,7 +12,7 @@ use Rattle.brc_script.specs.Instructions.{NumberedLine, is_shared}
 use Rattle.brc_count.specs.Frames.{FrameSeen, HandleSeen}
 use Rattle.brc_meaning.specs.declared.state.State.{State}
 use Rattle.brc_meaning.specs.Outcomes.{◌>>=◌}
-use Rattle.brc_meaning.specs.Sections.{Stop, line_after, lines_after, written_out}
+use Rattle.brc_meaning.specs.Sections.{Stop, lines_after, written_out}
 use Rattle.brc_meaning.specs.Steps.{after}
 use Rattle.law_isolation.specs.Goes.{is_want, is_machines}
 use Rattle.law_isolation.specs.Lines.{At, WentOn, Stopped}
@@ -156,6 +156,12 @@ module _ {A : Type 0} where
       (take-suc body k line inside ∙ ap (λ (l : NumberedLine A). take k body ++ (l ∷ [])) (sym is))
       ∙ append_assoc (take k body) (line ∷ []) (drop (suc k) body)
 
+  pub line_own : (body : List (NumberedLine A)) (k : ℕ) (line : NumberedLine A) → k < length body
+      → line ≡ get_or body k line
+      → AreOwn body → AreOwn (line ∷ [])
+  line_own body k line inside is =
+      part_own body (take k body) (line ∷ []) (drop (suc k) body) (line_between body k line inside is)
+
   line_more : (body : List (NumberedLine A)) (k : ℕ) (line : NumberedLine A) → k < length body
       → line ≡ get_or body k line
       → take k body ++ (line ∷ []) ≡ take (k + 1) body
@@ -212,6 +218,10 @@ module _ {A : Type 0} where
   turn_between times k body inside =
       ap (λ (n : ℕ). repeat n body) (the_rest times k inside) ∙ repeat_both k (suc (times - suc k)) body
 
+  pub turn_own : (times k : ℕ) (body : List (NumberedLine A)) → k < times → AreOwn (repeat times body) → AreOwn body
+  turn_own times k body inside =
+      part_own (repeat times body) (repeat k body) body (repeat (times - suc k) body) (turn_between times k body inside)
+
   module _ {old : FrameSeen A} {before : List (Option HandleSeen)} {had : List ℕ} {frame : FrameSeen A}
       {registers : List (Option HandleSeen)} {printed : List ℕ}
       {new : FrameSeen A} {now : List (Option HandleSeen)} {has : List ℕ} (times k : ℕ) (body : List (NumberedLine A))
@@ -253,6 +263,12 @@ module _ {A : Type 0} where
       (ap (λ (p : List (Piece A)). written_out p) (sym (piece_more all k piece inside is))
       ∙ written_both (take k all) (piece ∷ []))
       ∙ append_assoc (written_out (take k all)) (written_out (piece ∷ [])) (written_out (drop (suc k) all))
+
+  pub piece_own : (all : List (Piece A)) (k : ℕ) (piece : Piece A) → k < length all → piece ≡ get_or all k piece
+      → AreOwn (written_out all) → AreOwn (written_out (piece ∷ []))
+  piece_own all k piece inside is =
+      part_own (written_out all) (written_out (take k all)) (written_out (piece ∷ [])) (written_out (drop (suc k) all))
+      (piece_between all k piece inside is)
 
   module _ {old : FrameSeen A} {before : List (Option HandleSeen)} {had : List ℕ} {frame : FrameSeen A}
       {registers : List (Option HandleSeen)} {printed : List ℕ}

@@ -1,6 +1,6 @@
 -- An instruction that doesn't print leaves what was printed as it is.
-use Rattle.std.proofs.Common.{◌≡◌, ℕ, ℤ, pos, Bool, true, false, if◌then◌else◌, List, Option, Some, Result, Ok, Err}
-use Rattle.std.proofs.Common.{IfOk, refl, sym, ap, subst, true≢false}
+use Rattle.std.proofs.Common.{◌≡◌, ℕ, ℤ, pos, Bool, true, false, if◌then◌else◌, Option, Some, Result, Ok, Err}
+use Rattle.std.proofs.Common.{IfOk, refl, true≢false}
 use Rattle.brc_words.specs.declared.fault.Fault.{Fault}
 use Rattle.brc_script.specs.declared.instruction.Instruction.{Instruction}
 use Rattle.brc_script.specs.declared.instruction.Instruction.TheVariants as does

@@ -1,6 +1,6 @@
 -- What an instruction comes to, with what it shows.
-use Rattle.std.proofs.Common.{◌≡◌, ◌∙◌, ℕ, false, List, [], ◌∷◌, ◌++◌, Option, Some, None, Result, Ok, Err, IfOk, refl}
-use Rattle.std.proofs.Common.{sym, ap, subst}
+use Rattle.std.proofs.Common.{◌≡◌, ◌∙◌, ℕ, List, Option, Some, None, Result, Ok, Err, IfOk, refl}
+use Rattle.std.proofs.Common.{ap, subst}
 use Rattle.brc_words.specs.declared.fault.Fault.{Fault}
 use Rattle.brc_script.specs.declared.instruction.Instruction.{Instruction}
 use Rattle.brc_script.specs.declared.instruction.Instruction.TheVariants as does
@@ -12,7 +12,7 @@ use Rattle.brc_instructions.specs.Printing.{text_shown, with_line, PrintsAs}
 use Rattle.law_living.specs.Living.{OwnLog}
 use Rattle.law_isolation.specs.Means.{Means, Shows}
 use Rattle.law_isolation.specs.Asked.{Follows}
-use Rattle.brc_section.specs.Stepping.{is_print, StepsAs}
+use Rattle.brc_section.specs.Stepping.{StepsAs}
 use Rattle.brc_section.proofs.Silent.{prints_nothing, silent_of}
 
 module _ {A : Type 0} where

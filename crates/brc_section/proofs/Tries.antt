@@ -1,18 +1,16 @@
 -- A try that found nothing leaves what frame and registers mean, and so do a poll and work after it.
-use Rattle.std.proofs.Common.{◌≡◌, ◌≢◌, ◌∙◌, ℕ, Bool, true, false, List, [], ◌∷◌, Option, Result, Ok, Err, inl, inr}
-use Rattle.std.proofs.Common.{refl, sym, ap, subst, true≢false, eq-eqb}
+use Rattle.std.proofs.Common.{◌≡◌, ◌∙◌, ℕ, false, List, Option, Result, Err, inl, inr}
+use Rattle.std.proofs.Common.{refl, sym, ap, subst}
 use Rattle.brc_words.specs.declared.fault.Fault.{Fault}
 use Rattle.brc_words.specs.declared.fault.Fault.TheVariants as faults
 use Rattle.brc_script.specs.declared.instruction.Instruction.{Instruction}
 use Rattle.brc_table.specs.Seated.{TableSeen}
 use Rattle.brc_count.specs.Frames.{FrameSeen, HandleSeen, KeepsHandles, Turns}
 use Rattle.brc_count.specs.Polling.{Polled}
-use Rattle.brc_meaning.specs.declared.state.State.{State}
 use Rattle.brc_meaning.specs.Steps.{after}
 use Rattle.law_living.specs.Living.{OwnLog}
 use Rattle.law_living.specs.Later.{IsLater}
 use Rattle.law_living.proofs.Earlier.{own_earlier, later_same, later_both, quietly_later}
-use Rattle.law_isolation.specs.Means.{Means}
 use Rattle.law_isolation.specs.Goes.{is_want, Goes}
 use Rattle.law_isolation.specs.Asked.{Follows}
 use Rattle.brc_count.proofs.Quiet.{turns_quietly, polled_quietly}

@@ -4,3 +4,4 @@ pub mod Tries
 pub mod Stepping
 pub mod Running
 pub mod Isolation
+pub mod Wants

@@ -3,6 +3,8 @@
 ghost use Rattle.std.specs.Prelude.{◌≡◌, ◌≢◌, ℕ, ◌∷◌, [], false, IfErr};
 ghost use Rattle.std.specs.List.{repeat};
 ghost use Rattle.brc_words.specs.declared.fault.Fault.TheVariants as faults;
+ghost use Rattle.law_living.specs.Later.{IsLater};
+ghost use Rattle.brc_instructions.specs.Causes.{Caused};
 ghost use Rattle.brc_instructions.specs.Registers.{Stands};
 ghost use Rattle.brc_script.specs.Instructions.{is_shared};
 ghost use Rattle.brc_meaning.specs.declared.state.State.{State as state};
@@ -10,7 +12,8 @@ ghost use Rattle.brc_meaning.specs.Sections.{written_out};
 ghost use Rattle.brc_meaning.specs.Steps.{after};
 ghost use Rattle.law_isolation.specs.Lines.{At};
 ghost use Rattle.brc_section.specs.Ends.{IsLineIn, IsLineOf};
-ghost use Rattle.brc_section.specs.Running.{Notes, Did, RunsOn};
+ghost use Rattle.brc_section.specs.Running.{AreOwn, Notes, Did, RunsOn};
+ghost use Rattle.brc_section.specs.Wants.{HaltsForCause};
 
 use crate::gate::Gate;
 use crate::names::{Names, name_at};
@@ -62,6 +65,8 @@ fn do_line<R: Wait, H: Home<A>, A: Allocator + Copy>(
     ensures stands { Stands frame.new registers.new }
     ensures heap { frame.new.heap ≡ frame.old.heap }
     ensures waits { IfErr result (λ fault. fault ≢ faults.Busy) }
+    ensures later { is_shared line.now.instruction ≡ false → IsLater frame.old.seat.log frame.new.seat.log }
+    ensures caused { is_shared line.now.instruction ≡ false → IfErr result (Caused frame.old frame.new) }
     ensures follows { (base : ℕ) (s : state A) → is_shared line.now.instruction ≡ false
         → At base frame.old registers.old lines.old s
         → Did base frame.new registers.new lines.new s (after line.now.instruction s) result }
@@ -96,6 +101,7 @@ fn run_line<R: Wait, G: Gate, H: Home<A>, A: Allocator + Copy>(
     ensures line { IfErr result (λ halt. line.now.number ≡ halt.line) }
     ensures busy { IfErr result (λ halt. halt.fault ≡ faults.Busy → G.may_refuse gate.now seated.now.number halt.line) }
     ensures runs { RunsOn frame.old registers.old lines.old frame.new registers.new lines.new (line.now ∷ []) result }
+    ensures wants { AreOwn (line.now ∷ []) → HaltsForCause frame.old frame.new result }
 {
     let number = line.number();
     if !gate.at(rt, seated.number, number) {
@@ -132,6 +138,7 @@ fn run_lines<R: Wait, G: Gate, H: Home<A>, A: Allocator + Copy>(
     ensures line { IfErr result (λ halt. IsLineIn halt.line body.now) }
     ensures busy { IfErr result (λ halt. halt.fault ≡ faults.Busy → G.may_refuse gate.now seated.now.number halt.line) }
     ensures runs { RunsOn frame.old registers.old lines.old frame.new registers.new lines.new (body.now) result }
+    ensures wants { AreOwn body.now → HaltsForCause frame.old frame.new result }
 {
     for (at, line) in body.iter().enumerate() {
         let key = name_at(keys, at);
@@ -163,6 +170,7 @@ fn run_times<R: Wait, G: Gate, H: Home<A>, A: Allocator + Copy>(
     ensures busy { IfErr result (λ halt. halt.fault ≡ faults.Busy → G.may_refuse gate.now seated.now.number halt.line) }
     ensures runs { RunsOn frame.old registers.old lines.old frame.new registers.new lines.new
         (repeat times body.now) result }
+    ensures wants { AreOwn (repeat times body.now) → HaltsForCause frame.old frame.new result }
 {
     for turn in 0..times {
         let _done = turn;
@@ -193,6 +201,7 @@ fn run_piece<R: Wait, G: Gate, H: Home<A>, A: Allocator + Copy>(
     ensures busy { IfErr result (λ halt. halt.fault ≡ faults.Busy → G.may_refuse gate.now seated.now.number halt.line) }
     ensures runs { RunsOn frame.old registers.old lines.old frame.new registers.new lines.new
         (written_out (piece.now ∷ [])) result }
+    ensures wants { AreOwn (written_out (piece.now ∷ [])) → HaltsForCause frame.old frame.new result }
 {
     match piece {
         Piece::One(line) => {
@@ -234,6 +243,7 @@ pub(crate) fn run_pieces<R: Wait, G: Gate, H: Home<A>, A: Allocator + Copy>(
     ensures busy { IfErr result (λ halt. halt.fault ≡ faults.Busy → G.may_refuse gate.now seated.now.number halt.line) }
     ensures runs { RunsOn frame.old registers.old lines.old frame.new registers.new lines.new
         (written_out pieces.now) result }
+    ensures wants { AreOwn (written_out pieces.now) → HaltsForCause frame.old frame.new result }
 {
     for (at, piece) in pieces.iter().enumerate() {
         let keys = names.piece(at);

@@ -1,13 +1,16 @@
 //! A section from its first line to its end.
 
-ghost use Rattle.std.specs.Prelude.{◌≡◌, ℕ, ◌+◌, true, [], ◌∷◌, Some, IfSome, IfNone};
+ghost use Rattle.std.specs.Prelude.{◌≡◌, ◌≤◌, ℕ, ◌+◌, true, [], ◌∷◌, Some, IfSome, IfNone};
 ghost use Rattle.brc_words.specs.declared.fault.Fault.TheVariants as faults;
+ghost use Rattle.brc_words.specs.declared.limits.TheConstants.{MOST_BIRTHS};
 ghost use Rattle.brc_words.specs.Faults.{number_of};
 ghost use Rattle.brc_script.specs.Scripts.{is_private};
 ghost use Rattle.brc_meaning.specs.Sections.{written_out, meaning};
 ghost use Rattle.brc_count.specs.Frames.{IsUnlocked, ledger_seen};
+ghost use Rattle.brc_instructions.specs.Causes.{NoneWasFree};
 ghost use Rattle.brc_section.specs.Ends.{IsLineOf};
-ghost use Rattle.brc_section.specs.Running.{AreOwn, HaltOf, Ended};
+ghost use Rattle.brc_section.specs.Running.{AreOwn, HaltOf, FaultOf, Ended};
+ghost use Rattle.brc_section.specs.Wants.{CauseLeft};
 ghost use Rattle.brc_section.specs.Isolation.{is_own_end, Prints};
 
 use crate::board::Board;
@@ -72,6 +75,16 @@ fn halt_of(ran: Result<(), Halt>) -> Option<Halt>
     }
 }
 
+/// The number of the fault, and the line that met it.
+fn fault_of(halt: Option<Halt>) -> Option<(u8, u32)>
+    ensures { FaultOf halt result }
+{
+    match halt {
+        Some(halt) => Some((halt.fault.number(), halt.line)),
+        None => None,
+    }
+}
+
 /// The lines of the section over its frame, which has no handle before and after. The registers are made at the first
 /// line, whose fault it is where they can't be had, and released at the end.
 fn run_over<R: Wait, G: Gate, H: Home<A>, A: Allocator + Copy>(
@@ -93,6 +106,8 @@ fn run_over<R: Wait, G: Gate, H: Home<A>, A: Allocator + Copy>(
         → G.may_refuse gate.now seated.now.number halt.line) }
     ensures ended { lines.old ≡ [] → AreOwn (written_out section.now.pieces) →
         Ended (ledger_seen frame.old).allocs frame.new lines.new (written_out section.now.pieces) result }
+    ensures wanted { AreOwn (written_out section.now.pieces)
+        → IfSome result (λ halt. CauseLeft frame.old frame.new halt.fault) }
 {
     let pieces = section.pieces.as_slice();
     let Some(first) = first_line(pieces) else {
@@ -150,6 +165,15 @@ pub fn run_section<R: Wait, G: Gate, H: Home<A>, A: Allocator + Copy>(
     ensures prints { is_private section.now ≡ true → Prints section.now result.lines.items result.fault }
     ensures births { is_private section.now ≡ true → is_own_end result.fault ≡ true →
         (ledger_seen mutator.new).allocs ≡ (ledger_seen mutator.old).allocs + (meaning section.now).made }
+
+    // It ends by HeapFull only after a search that found no mortal cell free, and by LedgerFull only where its thread
+    // has made 2^47 objects.
+    ensures heap_full { is_private section.now ≡ true → (line : ℕ)
+        → result.fault ≡ Some (number_of faults.HeapFull, line)
+        → NoneWasFree mutator.old.heap.cells mutator.old.seat.log mutator.new.seat.log }
+    ensures ledger_full { is_private section.now ≡ true → (line : ℕ)
+        → result.fault ≡ Some (number_of faults.LedgerFull, line)
+        → MOST_BIRTHS ≤ (ledger_seen mutator.new).allocs }
 {
     let mut lines = Lines::none(alloc);
     let seated = Seated {
@@ -170,9 +194,6 @@ pub fn run_section<R: Wait, G: Gate, H: Home<A>, A: Allocator + Copy>(
     mutator.settle(rt);
     SectionEnd {
         lines: lines.into_bytes(),
-        fault: match halt {
-            Some(halt) => Some((halt.fault.number(), halt.line)),
-            None => None,
-        },
+        fault: fault_of(halt),
     }
 }

@@ -6,6 +6,7 @@ ghost use Rattle.brc_script.specs.declared.instruction.Instruction.TheVariants a
 ghost use Rattle.brc_script.specs.Instructions.{is_shared, registers_differ};
 ghost use Rattle.law_living.specs.Later.{IsLater};
 ghost use Rattle.law_isolation.specs.Asked.{Follows};
+ghost use Rattle.brc_instructions.specs.Causes.{Caused};
 ghost use Rattle.brc_instructions.specs.Registers.{Stands};
 ghost use Rattle.brc_section.specs.Stepping.{is_print, StepsAs};
 
@@ -106,6 +107,7 @@ fn int_of_line<H: Home<A>, A: Allocator>(
     ensures heap { frame.new.heap ≡ frame.old.heap }
     ensures waits { IfErr result (λ fault. fault ≢ faults.Busy) }
     ensures later { IsLater frame.old.seat.log frame.new.seat.log }
+    ensures caused { IfErr result (Caused frame.old frame.new) }
     ensures follows { Follows frame.old frame.new registers.old registers.new (does.Int to number.now) result }
 {
     let number = *number;
@@ -128,6 +130,7 @@ fn step_silent<R: Wait, H: Home<A>, A: Allocator + Copy>(
     ensures heap { frame.new.heap ≡ frame.old.heap }
     ensures waits { IfErr result (λ fault. fault ≢ faults.Busy) }
     ensures later { is_shared instruction.now ≡ false → IsLater frame.old.seat.log frame.new.seat.log }
+    ensures caused { is_shared instruction.now ≡ false → IfErr result (Caused frame.old frame.new) }
     ensures follows { is_shared instruction.now ≡ false → registers_differ instruction.now ≡ true
         → is_print instruction.now ≡ false →
         Follows frame.old frame.new registers.old registers.new instruction.now result }
@@ -220,6 +223,7 @@ pub(crate) fn step<R: Wait, H: Home<A>, A: Allocator + Copy>(
     ensures heap { frame.new.heap ≡ frame.old.heap }
     ensures waits { IfErr result (λ fault. fault ≢ faults.Busy) }
     ensures later { is_shared instruction.now ≡ false → IsLater frame.old.seat.log frame.new.seat.log }
+    ensures caused { is_shared instruction.now ≡ false → IfErr result (Caused frame.old frame.new) }
     ensures follows { is_shared instruction.now ≡ false → registers_differ instruction.now ≡ true →
         StepsAs frame.old frame.new registers.old registers.new instruction.now result }
 {

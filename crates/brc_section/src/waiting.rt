@@ -5,6 +5,7 @@ ghost use Rattle.brc_words.specs.declared.fault.Fault.TheVariants as faults;
 ghost use Rattle.brc_script.specs.declared.instruction.Instruction.TheVariants as does;
 ghost use Rattle.law_living.specs.Later.{IsLater};
 ghost use Rattle.law_isolation.specs.Asked.{Follows};
+ghost use Rattle.brc_instructions.specs.Causes.{Caused};
 ghost use Rattle.brc_instructions.specs.Registers.{Stands};
 ghost use Rattle.brc_section.specs.declared.waiting.Awaited.TheVariants as awaits;
 ghost use Rattle.brc_section.specs.Waiting.{FoundNothing};
@@ -47,6 +48,7 @@ fn look<R: Wait, H: Home<A>, A: Allocator>(
     ensures waits { IfErr result (λ fault. fault ≢ faults.Busy) }
     ensures later { (mailbox : ℕ) → awaited.now ≡ awaits.Letter mailbox
         → IsLater frame.old.seat.log frame.new.seat.log }
+    ensures caused { (mailbox : ℕ) → awaited.now ≡ awaits.Letter mailbox → IfErr result (Caused frame.old frame.new) }
     ensures follows { (mailbox : ℕ) → awaited.now ≡ awaits.Letter mailbox →
         Follows frame.old frame.new registers.old registers.new (does.Receive to mailbox) result }
 {
@@ -79,6 +81,7 @@ fn look_again<R: Wait, H: Home<A>, A: Allocator>(
     ensures waits { IfErr result (λ fault. fault ≢ faults.Busy) }
     ensures later { (mailbox : ℕ) → awaited.now ≡ awaits.Letter mailbox
         → IsLater frame.old.seat.log frame.new.seat.log }
+    ensures caused { (mailbox : ℕ) → awaited.now ≡ awaits.Letter mailbox → IfErr result (Caused frame.old frame.new) }
     ensures follows { (mailbox : ℕ) → awaited.now ≡ awaits.Letter mailbox →
         Follows frame.old frame.new registers.old registers.new (does.Receive to mailbox) result }
 {
@@ -114,6 +117,7 @@ pub(crate) fn await_it<R: Wait, H: Home<A>, A: Allocator>(
     ensures waits { IfErr result (λ fault. fault ≢ faults.Busy) }
     ensures later { (mailbox : ℕ) → awaited.now ≡ awaits.Letter mailbox
         → IsLater frame.old.seat.log frame.new.seat.log }
+    ensures caused { (mailbox : ℕ) → awaited.now ≡ awaits.Letter mailbox → IfErr result (Caused frame.old frame.new) }
     ensures follows { (mailbox : ℕ) → awaited.now ≡ awaits.Letter mailbox →
         Follows frame.old frame.new registers.old registers.new (does.Receive to mailbox) result }
 {

@@ -2,6 +2,8 @@ use Rattle.std.proofs.Common.{sym}
 use Rattle.law_isolation.proofs.Later_Calls.{later_given}
 use Rattle.law_isolation.proofs.Retaining.{means_retained}
 use Rattle.brc_instructions.proofs.Follows_Of.{owned_at, cell_of, later_held, copies}
+use Rattle.std.proofs.lemmas.Result.{err_from_is_err_and}
+use Rattle.brc_instructions.proofs.Causes_Of.{caused_handle}
 use Rattle.brc_instructions.proofs.holding.copy.Goals as goal
 
 pub returns-clause-later : goal.returns-clause-later
@@ -21,3 +23,9 @@ returns-clause-follows g c base s own means =
     c.in_ok-more.more
     means (sym c.in-Some.ensures) at.1 c.retain.ensures.heap (c.in_ok-more.ensures.given at.0 at.1))
     own c.hold.ensures.means
+
+pub returns-in_err-more-clause-caused : goal.returns-in_err-more-clause-caused
+returns-in_err-more-clause-caused g c =
+    let answer = err_from_is_err_and c.from_residual.result c.from_residual.ensures.1 in
+    rw (answer.1, answer.2) (caused_handle c.args.frame.now c.retain.new.self _ c.in_err-more.ensures.refused
+    c.in_err-more.ensures.unchanged)

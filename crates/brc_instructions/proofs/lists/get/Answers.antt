@@ -6,6 +6,8 @@ use Rattle.brc_meaning.specs.Objects.{object_call}
 use Rattle.law_isolation.proofs.Calls_Mean.{get_means}
 use Rattle.brc_instructions.proofs.Gained.{gains_besides}
 use Rattle.brc_instructions.proofs.Follows_Of.{late_shares, later_held, own_before, called_gives, called_refused}
+use Rattle.brc_instructions.proofs.Causes_Of.{shares_caused}
+use Rattle.brc_instructions.proofs.Plain_Refusals.{get_needs}
 use Rattle.brc_instructions.proofs.lists.get.Goals as goal
 
 pub hold-requires : goal.hold-requires
@@ -44,3 +46,10 @@ returns-in_err-given-clause-follows g c base s own means =
     (get_means base c.args.frame.now c.list_get.new.frame c.args.registers.now s own
     c.args.list c.in-Some.list.now (sym c.in-Some.ensures) means c.args.index (Err _) c.in_err-given.ensures.shared
     c.in_err-given.ensures.waited want))
+
+pub returns-in_err-given-clause-caused : goal.returns-in_err-given-clause-caused
+returns-in_err-given-clause-caused g c =
+    let answer = err_from_is_err_and c.from_residual.result c.from_residual.ensures.1 in
+    rw (answer.1, answer.2) (shares_caused c.args.frame.now c.list_get.new.frame c.in-Some.list.now.place
+    (plain_get c.args.index) (Err _)
+    (get_needs c.args.index) c.in_err-given.ensures.shared)

@@ -6,6 +6,8 @@ use Rattle.brc_meaning.specs.Objects.{object_call}
 use Rattle.law_isolation.proofs.Calls_Mean.{pop_means}
 use Rattle.brc_instructions.proofs.Gained.{gains_besides}
 use Rattle.brc_instructions.proofs.Follows_Of.{late_takes, later_held, own_before, called_gives, called_refused}
+use Rattle.brc_instructions.proofs.Causes_Of.{takes_caused}
+use Rattle.brc_instructions.proofs.Plain_Refusals.{pop_needs}
 use Rattle.brc_instructions.proofs.lists.pop.Goals as goal
 
 pub hold-requires : goal.hold-requires
@@ -43,3 +45,10 @@ returns-in_err-given-clause-follows g c base s own means =
     (pop_means base c.args.frame.now c.list_pop.new.frame c.args.registers.now s own
     c.args.list c.in-Some.list.now (sym c.in-Some.ensures) means (Err _) c.in_err-given.ensures.popped
     c.in_err-given.ensures.waited want))
+
+pub returns-in_err-given-clause-caused : goal.returns-in_err-given-clause-caused
+returns-in_err-given-clause-caused g c =
+    let answer = err_from_is_err_and c.from_residual.result c.from_residual.ensures.1 in
+    rw (answer.1, answer.2) (takes_caused c.args.frame.now c.list_pop.new.frame c.in-Some.list.now.place plain_pop
+    (Err _)
+    pop_needs c.in_err-given.ensures.popped)

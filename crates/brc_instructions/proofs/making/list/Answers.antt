@@ -1,5 +1,7 @@
 use Rattle.law_isolation.proofs.Later_Calls.{later_made}
 use Rattle.brc_instructions.proofs.Follows_Of.{later_held, makes_list}
+use Rattle.std.proofs.lemmas.Result.{err_from_is_err_and}
+use Rattle.brc_instructions.proofs.Causes_Of.{caused_making}
 use Rattle.brc_instructions.proofs.making.list.Goals as goal
 
 pub returns-clause-later : goal.returns-clause-later
@@ -13,3 +15,8 @@ returns-clause-follows g c base s own means =
     c.args.to c.in_ok-made.made
     means c.new_list.ensures.heap c.hold.ensures.heap c.hold.ensures.quiet own c.hold.ensures.means
     c.in_ok-made.ensures.made
+
+pub returns-in_err-made-clause-caused : goal.returns-in_err-made-clause-caused
+returns-in_err-made-clause-caused g c =
+    let answer = err_from_is_err_and c.from_residual.result c.from_residual.ensures.1 in
+    rw (answer.1, answer.2) (caused_making c.args.frame.now c.new_list.new.frame _ c.in_err-made.ensures.refused)

@@ -3,11 +3,12 @@ use Rattle.std.proofs.lemmas.Result.{err_from_is_err_and}
 use Rattle.brc_words.specs.declared.fault.Fault.TheVariants as faults
 use Rattle.law_living.proofs.Earlier.{later_both}
 use Rattle.law_isolation.proofs.Calls_Mean.{kind_means, int_means, len_means, text_means}
-use Rattle.brc_instructions.proofs.Whole_Calls.{later_kind, later_int, later_len, later_text}
-use Rattle.brc_instructions.proofs.Calls_Follow.{own_at}
+use Rattle.brc_instructions.proofs.Looks.{later_kind, later_int, later_len, later_text}
+use Rattle.brc_instructions.proofs.Follows_Of.{own_at}
 use Rattle.brc_instructions.proofs.Shows_As.{shows_held_number, shows_text, shows_list, shows_dict, shows_mailbox}
 use Rattle.brc_instructions.proofs.Shows_As.{refuses_number, refuses_text, refuses_entries, has_entries, shows_none}
 use Rattle.brc_instructions.proofs.Shows_As.{none_made}
+use Rattle.brc_instructions.proofs.Causes_Of.{int_room, text_room, len_room}
 use Rattle.brc_instructions.proofs.printing.show.Goals as goal
 
 pub returns-in_err-int_of-in-Int-clause-later : goal.returns-in_err-int_of-in-Int-clause-later
@@ -208,3 +209,38 @@ returns-in-Nothing-clause-shows g c base registers r s own is means =
     let kind = kind_means base c.args.frame.now c.kind_of.new.frame registers s own r c.args.handle.now is means
     c.kind_of.result c.kind_of.ensures.looked in
     (kind.0, shows_none r s c.kind_of.result (none_made c.kind_of.result c.in-Nothing.is) kind.1 faults.WrongKind)
+
+pub returns-in_err-int_of-in-Int-clause-room : goal.returns-in_err-int_of-in-Int-clause-room
+returns-in_err-int_of-in-Int-clause-room g c =
+    let p = err_from_is_err_and c.from_residual.result
+    c.from_residual.ensures.1 in
+    rw (p.1, p.2) (int_room c.kind_of.new.frame c.int_of.new.frame c.args.handle.now.place (Err _)
+    c.in_err-int_of-in-Int.ensures.looked)
+
+pub returns-in_err-text_of-in-Text-clause-room : goal.returns-in_err-text_of-in-Text-clause-room
+returns-in_err-text_of-in-Text-clause-room g c =
+    let p = err_from_is_err_and c.from_residual-in_err-text_of-in-Text.result
+    c.from_residual-in_err-text_of-in-Text.ensures.1 in
+    rw (p.1, p.2) (text_room c.kind_of.new.frame c.text_of.new.frame c.args.handle.now.place (Err _)
+    c.in_err-text_of-in-Text.ensures.looked)
+
+pub returns-in_err-len_of-in-List-clause-room : goal.returns-in_err-len_of-in-List-clause-room
+returns-in_err-len_of-in-List-clause-room g c =
+    let p = err_from_is_err_and c.from_residual-in_err-len_of-in-List.result
+    c.from_residual-in_err-len_of-in-List.ensures.1 in
+    rw (p.1, p.2) (len_room c.kind_of.new.frame c.len_of.new.frame c.args.handle.now.place (Err _)
+    c.in_err-len_of-in-List.ensures.looked)
+
+pub returns-in_err-len_of-in-Dict-clause-room : goal.returns-in_err-len_of-in-Dict-clause-room
+returns-in_err-len_of-in-Dict-clause-room g c =
+    let p = err_from_is_err_and c.from_residual-in_err-len_of-in-Dict.result
+    c.from_residual-in_err-len_of-in-Dict.ensures.1 in
+    rw (p.1, p.2) (len_room c.kind_of.new.frame c.len_of-in-Dict.new.frame c.args.handle.now.place (Err _)
+    c.in_err-len_of-in-Dict.ensures.looked)
+
+pub returns-in_err-len_of-in-Mailbox-clause-room : goal.returns-in_err-len_of-in-Mailbox-clause-room
+returns-in_err-len_of-in-Mailbox-clause-room g c =
+    let p = err_from_is_err_and c.from_residual-in_err-len_of-in-Mailbox.result
+    c.from_residual-in_err-len_of-in-Mailbox.ensures.1 in
+    rw (p.1, p.2) (len_room c.kind_of.new.frame c.len_of-in-Mailbox.new.frame c.args.handle.now.place (Err _)
+    c.in_err-len_of-in-Mailbox.ensures.looked)

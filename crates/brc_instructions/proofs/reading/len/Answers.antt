@@ -6,9 +6,10 @@ use Rattle.brc_meaning.specs.States.{with_integer}
 use Rattle.law_living.proofs.Earlier.{later_both}
 use Rattle.law_isolation.specs.Goes.{Goes}
 use Rattle.law_isolation.proofs.Calls_Mean.{len_means}
-use Rattle.brc_instructions.proofs.Whole_Calls.{later_len}
-use Rattle.brc_instructions.proofs.Calls_Follow.{own_at}
+use Rattle.brc_instructions.proofs.Looks.{later_len}
+use Rattle.brc_instructions.proofs.Follows_Of.{own_at}
 use Rattle.brc_instructions.proofs.Sums_Read.{found_read, counts}
+use Rattle.brc_instructions.proofs.Causes_Of.{uncaused, len_room, caused_from_in}
 use Rattle.brc_instructions.proofs.reading.len.Goals as goal
 
 pub returns-in_err-entries-clause-later : goal.returns-in_err-entries-clause-later
@@ -58,3 +59,16 @@ returns-in-Err-clause-later g c =
 
 pub returns-in-Err-clause-follows : goal.returns-in-Err-clause-follows
 returns-in-Err-clause-follows g c base s own means want = absurd (let bad : true ≡ false = want in cc)
+
+pub returns-in_err-entries-clause-caused : goal.returns-in_err-entries-clause-caused
+returns-in_err-entries-clause-caused g c =
+    let answer = err_from_is_err_and c.from_residual.result c.from_residual.ensures.1 in
+    rw (answer.1, answer.2) (uncaused c.args.frame.now c.len_of.new.frame _
+    (len_room c.args.frame.now c.len_of.new.frame c.in-Some.container.now.place (Err _)
+    c.in_err-entries.ensures.looked))
+
+pub returns-in-Ok-clause-caused : goal.returns-in-Ok-clause-caused
+returns-in-Ok-clause-caused g c =
+    caused_from_in c.args.frame.now c.len_of.new.frame c.int.new.frame c.int.result c.len_of.ensures.keeps.heap
+    (later_len c.args.frame.now c.len_of.new.frame c.in-Some.container.now.place c.len_of.result
+    c.len_of.ensures.looked) c.int.ensures.caused

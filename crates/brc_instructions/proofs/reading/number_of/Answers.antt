@@ -1,8 +1,9 @@
 use Rattle.std.proofs.Common.{sym}
 use Rattle.brc_meaning.specs.Objects.{number_in}
 use Rattle.law_isolation.proofs.Calls_Mean.{int_means}
-use Rattle.brc_instructions.proofs.Whole_Calls.{later_int}
+use Rattle.brc_instructions.proofs.Looks.{later_int}
 use Rattle.brc_instructions.proofs.Sums_Read.{found_read}
+use Rattle.brc_instructions.proofs.Causes_Of.{int_room}
 use Rattle.brc_instructions.proofs.reading.number_of.Goals as goal
 
 pub returns-clause-later : goal.returns-clause-later
@@ -15,3 +16,7 @@ returns-clause-reads g c base s own means =
     c.in-Some.handle.now (sym c.in-Some.ensures)
     means c.int_of.result c.int_of.ensures.looked c.int_of.ensures.waited in
     (told.0, found_read number_in c.args.from s c.int_of.result told.1)
+
+pub returns-clause-room : goal.returns-clause-room
+returns-clause-room g c = int_room c.args.frame.now c.int_of.new.frame c.in-Some.handle.now.place c.int_of.result
+    c.int_of.ensures.looked

@@ -3,7 +3,7 @@ use Rattle.std.proofs.lemmas.Result.{err_from_is_err_and}
 use Rattle.brc_meaning.proofs.Sums.{sum_found, sum_refused}
 use Rattle.law_living.proofs.Earlier.{later_both}
 use Rattle.law_isolation.proofs.Registers_Kept.{means_register}
-use Rattle.brc_instructions.proofs.Calls_Follow.{own_at}
+use Rattle.brc_instructions.proofs.Follows_Of.{own_at}
 use Rattle.brc_instructions.proofs.Sums_Read.{filled_of, numbers_summed, first_refused, second_refused}
 use Rattle.brc_instructions.proofs.reading.sum.Goals as goal
 
@@ -73,3 +73,13 @@ returns-in-None-clause-reads g c base s own means =
       numbers_summed s c.args.first c.args.second number more told.1 then.1
           ∙ sym (sum_refused number more number_fits more_fits c.in-None.ensures),
     )
+
+pub returns-in_err-number-clause-room : goal.returns-in_err-number-clause-room
+returns-in_err-number-clause-room g c =
+    let answer = err_from_is_err_and c.from_residual.result c.from_residual.ensures.1 in
+    rw (answer.1, answer.2) c.in_err-number.ensures.room
+
+pub returns-in_err-more-clause-room : goal.returns-in_err-more-clause-room
+returns-in_err-more-clause-room g c =
+    let answer = err_from_is_err_and c.from_residual-in_err-more.result c.from_residual-in_err-more.ensures.1 in
+    rw (answer.1, answer.2) c.in_err-more.ensures.room

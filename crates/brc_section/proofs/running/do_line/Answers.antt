@@ -1,9 +1,10 @@
-use Rattle.std.proofs.Common.{◌≡◌, ◌∙◌, false, Ok, Err, ap, subst}
+use Rattle.std.proofs.Common.{◌≡◌, ◌∙◌, false, ap, subst}
 use Rattle.brc_script.specs.Instructions.{is_shared}
 use Rattle.brc_script.specs.declared.instruction.Instruction.{Instruction}
 use Rattle.brc_section.specs.Stepping.{StepsAs}
 use Rattle.brc_section.specs.Running.{Notes}
 use Rattle.brc_section.proofs.Line_Did.{did_refused, did_all}
+use Rattle.brc_section.proofs.Wants_Of.{later_polled, later_worked, caused_polled}
 use Rattle.brc_section.proofs.running.do_line.Goals as goal
 
 pub returns-in-Err-clause-follows : goal.returns-in-Err-clause-follows
@@ -38,3 +39,22 @@ returns-clause-follows g c = λ base s own here.
     c.work-left.new.self _ steps
     (subst (Notes c.step-done.result c.args.lines.now c.note.new.lines) c.in-Ok.is c.note.ensures)
     c.work-left.ensures.turns c.work-left.ensures.handles
+
+pub returns-in-Err-clause-later : goal.returns-in-Err-clause-later
+returns-in-Err-clause-later g c own =
+    later_polled c.args.frame.now c.step-done.new.frame c.poll-told.new.self c.poll-told.result
+    (c.step-done.ensures.later (ap is_shared c.instruction.ensures.is ∙ own)) c.poll-told.ensures.polled
+
+pub returns-in-Err-clause-caused : goal.returns-in-Err-clause-caused
+returns-in-Err-clause-caused g c own =
+    let line : is_shared c.instruction.result.now ≡ false = ap is_shared c.instruction.ensures.is ∙ own
+    in caused_polled c.args.frame.now c.step-done.new.frame c.poll-told.new.self c.poll-told.result
+    (c.step-done.ensures.later line) c.poll-told.ensures.polled c.args.lines.now c.note.new.lines c.step-done.result
+    c.in-Err.fault c.poll-told.ensures.handles (c.step-done.ensures.caused line)
+    (subst (Notes c.step-done.result c.args.lines.now c.note.new.lines) c.in-Err.is c.note.ensures)
+
+pub returns-clause-later : goal.returns-clause-later
+returns-clause-later g c own =
+    later_worked c.args.frame.now c.step-done.new.frame c.poll-told.new.self c.poll-told.result
+    (c.step-done.ensures.later (ap is_shared c.instruction.ensures.is ∙ own)) c.poll-told.ensures.polled
+    c.work-left.new.self _ c.work-left.ensures.turns

@@ -1,5 +1,6 @@
 use Rattle.std.proofs.Common.{◌∙◌}
-use Rattle.brc_section.proofs.Runs.{lines_next, lines_stop, lines_end}
+use Rattle.brc_section.proofs.Runs.{lines_next, lines_stop, lines_end, line_own}
+use Rattle.brc_section.proofs.Wants_Of.{goes_one, goes_next, halts_next}
 use Rattle.brc_section.proofs.running.run_lines.Goals as goal
 
 pub returns-in-Err-clause-runs : goal.returns-in-Err-clause-runs
@@ -13,7 +14,19 @@ loop-at-preserved g c = (
   c.in-Ok.ensures.stands,
   lines_next c.args.body.now c.loop-at.at c.index-body-at.result c.loop-at-test.true c.index-body-at.is
       c.loop-at.invariant.2 c.in-Ok.ensures.runs,
+  λ own. goes_next c.args.frame.now c.loop-at.frame c.run_line.new.frame c.loop-at.invariant.0
+      (c.loop-at.invariant.3 own) (c.in-Ok.ensures.wants (line_own c.args.body.now c.loop-at.at c.index-body-at.result
+      c.loop-at-test.true c.index-body-at.is own)),
 )
 
 pub returns-clause-runs : goal.returns-clause-runs
 returns-clause-runs g c = lines_end c.args.body.now c.loop-at.at c.loop-at-test.false c.loop-at.invariant.2
+
+pub returns-in-Err-clause-wants : goal.returns-in-Err-clause-wants
+returns-in-Err-clause-wants g c own =
+    halts_next c.args.frame.now c.loop-at.frame c.run_line.new.frame c.loop-at.invariant.0 (c.loop-at.invariant.3 own)
+    c.in-Err.halt (c.in-Err.ensures.wants (line_own c.args.body.now c.loop-at.at c.index-body-at.result
+    c.loop-at-test.true c.index-body-at.is own))
+
+pub returns-clause-wants : goal.returns-clause-wants
+returns-clause-wants g c own = goes_one (c.loop-at.invariant.3 own)

@@ -1,9 +1,11 @@
 use Rattle.std.proofs.Common.{◌≡◌, take}
+use Rattle.law_living.specs.Later.{IsLater}
 use Rattle.brc_instructions.specs.Registers.{Stands}
-use Rattle.brc_section.specs.Running.{HasRun}
+use Rattle.brc_section.specs.Running.{AreOwn, HasRun}
 use Rattle.brc_section.proofs.running.run_lines.Given as goal
 
 abbrev pub invariant-loop-at : goal.invariant-loop-at
 invariant-loop-at g l =
     (l.frame.heap ≡ l.fn.frame.heap) × Stands l.frame l.registers
     × HasRun l.fn.frame l.fn.registers l.fn.lines l.frame l.registers l.lines l.body (take l.at l.body)
+    × (AreOwn l.body → IsLater l.fn.frame.seat.log l.frame.seat.log)

@@ -1,6 +1,7 @@
 use Rattle.std.proofs.Common.{◌∙◌}
 use Rattle.brc_section.proofs.Lines.{piece_at}
-use Rattle.brc_section.proofs.Runs.{pieces_next, pieces_stop, pieces_end}
+use Rattle.brc_section.proofs.Runs.{pieces_next, pieces_stop, pieces_end, piece_own}
+use Rattle.brc_section.proofs.Wants_Of.{goes_one, goes_next, halts_next}
 use Rattle.brc_section.proofs.running.run_pieces.Goals as goal
 
 pub returns-in-Err-clause-line : goal.returns-in-Err-clause-line
@@ -19,7 +20,19 @@ loop-at-preserved g c = (
   c.in-Ok.ensures.stands,
   pieces_next c.args.pieces.now c.loop-at.at c.index-pieces-at.result c.loop-at-test.true c.index-pieces-at.is
       c.loop-at.invariant.2 c.in-Ok.ensures.runs,
+  λ own. goes_next c.args.frame.now c.loop-at.frame c.run_piece.new.frame c.loop-at.invariant.0
+      (c.loop-at.invariant.3 own) (c.in-Ok.ensures.wants (piece_own c.args.pieces.now c.loop-at.at
+      c.index-pieces-at.result c.loop-at-test.true c.index-pieces-at.is own)),
 )
 
 pub returns-clause-runs : goal.returns-clause-runs
 returns-clause-runs g c = pieces_end c.args.pieces.now c.loop-at.at c.loop-at-test.false c.loop-at.invariant.2
+
+pub returns-in-Err-clause-wants : goal.returns-in-Err-clause-wants
+returns-in-Err-clause-wants g c own =
+    halts_next c.args.frame.now c.loop-at.frame c.run_piece.new.frame c.loop-at.invariant.0 (c.loop-at.invariant.3 own)
+    c.in-Err.halt (c.in-Err.ensures.wants (piece_own c.args.pieces.now c.loop-at.at c.index-pieces-at.result
+    c.loop-at-test.true c.index-pieces-at.is own))
+
+pub returns-clause-wants : goal.returns-clause-wants
+returns-clause-wants g c own = goes_one (c.loop-at.invariant.3 own)

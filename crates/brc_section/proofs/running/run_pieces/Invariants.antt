@@ -1,7 +1,8 @@
 use Rattle.std.proofs.Common.{◌≡◌, take}
 use Rattle.brc_meaning.specs.Sections.{written_out}
+use Rattle.law_living.specs.Later.{IsLater}
 use Rattle.brc_instructions.specs.Registers.{Stands}
-use Rattle.brc_section.specs.Running.{HasRun}
+use Rattle.brc_section.specs.Running.{AreOwn, HasRun}
 use Rattle.brc_section.proofs.running.run_pieces.Given as goal
 
 abbrev pub invariant-loop-at : goal.invariant-loop-at
@@ -9,3 +10,4 @@ invariant-loop-at g l =
     (l.frame.heap ≡ l.fn.frame.heap) × Stands l.frame l.registers
     × HasRun l.fn.frame l.fn.registers l.fn.lines l.frame l.registers l.lines (written_out l.pieces)
     (written_out (take l.at l.pieces))
+    × (AreOwn (written_out l.pieces) → IsLater l.fn.frame.seat.log l.frame.seat.log)

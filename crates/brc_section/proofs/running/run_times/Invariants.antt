@@ -1,7 +1,8 @@
 use Rattle.std.proofs.Common.{◌≡◌}
 use Rattle.std.specs.List.{repeat}
+use Rattle.law_living.specs.Later.{IsLater}
 use Rattle.brc_instructions.specs.Registers.{Stands}
-use Rattle.brc_section.specs.Running.{HasRun}
+use Rattle.brc_section.specs.Running.{AreOwn, HasRun}
 use Rattle.brc_section.proofs.running.run_times.Given as goal
 
 abbrev pub invariant-loop-turn : goal.invariant-loop-turn
@@ -9,3 +10,4 @@ invariant-loop-turn g l =
     (l.frame.heap ≡ l.fn.frame.heap) × Stands l.frame l.registers
     × HasRun l.fn.frame l.fn.registers l.fn.lines l.frame l.registers l.lines (repeat l.times l.body)
     (repeat l.turn l.body)
+    × (AreOwn (repeat l.times l.body) → IsLater l.fn.frame.seat.log l.frame.seat.log)

@@ -1,4 +1,4 @@
-use Rattle.std.proofs.Common.{◌≡◌, List, [], subst, ap}
+use Rattle.std.proofs.Common.{◌≡◌, List, [], sym, subst, ap}
 use Rattle.brc_script.specs.declared.script.Piece.{Piece}
 use Rattle.brc_count.specs.Frames.{ledger_seen}
 use Rattle.brc_meaning.specs.Sections.{written_out}
@@ -6,6 +6,7 @@ use Rattle.brc_meaning.specs.States.{start}
 use Rattle.law_isolation.specs.Goes.{is_machines}
 use Rattle.brc_section.specs.Running.{AreOwn, RunsOn}
 use Rattle.brc_section.proofs.Plainly.{begins_at, ended_of, ended_first, ended_without}
+use Rattle.brc_section.proofs.Wants_Of.{left_of, left_memory}
 use Rattle.brc_section.proofs.section.run_over.Goals as goal
 
 pub returns-in_default-clause-ended : goal.returns-in_default-clause-ended
@@ -36,3 +37,15 @@ returns-clause-ended g c = λ none own.
     c.release_all.ensures.heap c.release_all.ensures.quiet
     (runs (ledger_seen c.args.frame.now).allocs start own
     (begins_at c.args.frame.now c.in-Ok.registers c.args.lines.now c.in-Ok.ensures.bare c.in-Ok.ensures.size none))
+
+pub returns-in-Err-clause-wanted : goal.returns-in-Err-clause-wanted
+returns-in-Err-clause-wanted g c own = left_memory c.args.frame.now c.args.frame.now c.in-Err.fault
+    c.in-Err.ensures.refused
+
+pub returns-clause-wanted : goal.returns-clause-wanted
+returns-clause-wanted g c own =
+    let pieces : AreOwn (written_out c.as_slice-pieces.result.now)
+    = subst (λ (pieces : List (Piece g.row.A.Denot)). AreOwn (written_out pieces)) (sym c.as_slice-pieces.ensures) own
+    in left_of c.args.frame.now c.run_pieces-ran.new.frame c.release_all.new.frame c.run_pieces-ran.result
+    c.halt_of.result c.halt_of.ensures c.release_all.ensures.heap c.release_all.ensures.quiet
+    (c.run_pieces-ran.ensures.wants pieces)

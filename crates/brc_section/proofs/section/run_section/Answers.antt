@@ -1,33 +1,39 @@
-use Rattle.std.proofs.Common.{◌≡◌, ℕ, Option}
-use Rattle.brc_section.specs.Running.{FaultOf}
-use Rattle.brc_section.proofs.Plainly.{plainly, fault_some, fault_none}
+use Rattle.brc_section.specs.Ends.{IsLineOf}
+use Rattle.brc_section.proofs.Plainly.{plainly, line_told, busy_told}
+use Rattle.brc_section.proofs.Wants_Of.{heap_full, ledger_full}
 use Rattle.brc_section.proofs.section.run_section.Goals as goal
-use Rattle.brc_section.proofs.section.run_section.Goals.{in-Some, in-None}
+
+pub returns-clause-line : goal.returns-clause-line
+returns-clause-line g c = line_told (λ line. IsLineOf line c.args.section.now.pieces) c.run_over-halt.result
+    c.fault_of.result c.fault_of.ensures c.run_over-halt.ensures.line
+
+pub returns-clause-busy : goal.returns-clause-busy
+returns-clause-busy g c = λ line is. busy_told (g.G.Gate.may_refuse c.args.gate.now c.args.number)
+    c.run_over-halt.result
+    c.fault_of.result line c.fault_of.ensures is c.run_over-halt.ensures.busy
 
 pub returns-clause-prints : goal.returns-clause-prints
 returns-clause-prints g c = λ private.
-    let told : FaultOf c.run_over-halt.result c.match-halt.result = elim c.match-halt.branch [
-      | in-Some w ↦ fault_some c.run_over-halt.result c.match-halt.result w.in-Some.halt w.number.result w.in-Some.is
-          w.result-is w.number.ensures
-      | in-None w ↦ fault_none c.run_over-halt.result c.match-halt.result w.in-None.is w.result-is
-    ]
-    in (plainly c.args.section.now c.args.mutator.now c.frame.result.now c.run_over-halt.new.frame c.settle.new.self
-    c.none-lines.result c.run_over-halt.new.lines
-    c.into_bytes.result.items c.run_over-halt.result c.match-halt.result c.frame.ensures.frame c.none-lines.ensures
-    c.into_bytes.ensures
-    c.run_over-halt.ensures.ended c.settle.ensures.own c.settle.ensures.handles.heap c.settle.ensures.quiet told
-    private).prints
+    (plainly c.args.section.now c.args.mutator.now c.frame.result.now c.run_over-halt.new.frame c.settle.new.self
+    c.none-lines.result c.run_over-halt.new.lines c.into_bytes.result.items c.run_over-halt.result c.fault_of.result
+    c.frame.ensures.frame c.none-lines.ensures c.into_bytes.ensures c.run_over-halt.ensures.ended c.settle.ensures.own
+    c.settle.ensures.handles.heap c.settle.ensures.quiet c.fault_of.ensures private).prints
 
 pub returns-clause-births : goal.returns-clause-births
 returns-clause-births g c = λ private.
-    let told : FaultOf c.run_over-halt.result c.match-halt.result = elim c.match-halt.branch [
-      | in-Some w ↦ fault_some c.run_over-halt.result c.match-halt.result w.in-Some.halt w.number.result w.in-Some.is
-          w.result-is w.number.ensures
-      | in-None w ↦ fault_none c.run_over-halt.result c.match-halt.result w.in-None.is w.result-is
-    ]
-    in (plainly c.args.section.now c.args.mutator.now c.frame.result.now c.run_over-halt.new.frame c.settle.new.self
-    c.none-lines.result c.run_over-halt.new.lines
-    c.into_bytes.result.items c.run_over-halt.result c.match-halt.result c.frame.ensures.frame c.none-lines.ensures
-    c.into_bytes.ensures
-    c.run_over-halt.ensures.ended c.settle.ensures.own c.settle.ensures.handles.heap c.settle.ensures.quiet told
-    private).births
+    (plainly c.args.section.now c.args.mutator.now c.frame.result.now c.run_over-halt.new.frame c.settle.new.self
+    c.none-lines.result c.run_over-halt.new.lines c.into_bytes.result.items c.run_over-halt.result c.fault_of.result
+    c.frame.ensures.frame c.none-lines.ensures c.into_bytes.ensures c.run_over-halt.ensures.ended c.settle.ensures.own
+    c.settle.ensures.handles.heap c.settle.ensures.quiet c.fault_of.ensures private).births
+
+pub returns-clause-heap_full : goal.returns-clause-heap_full
+returns-clause-heap_full g c = λ private line is.
+    heap_full c.args.section.now c.args.mutator.now c.frame.result.now c.run_over-halt.new.frame c.settle.new.self
+    c.run_over-halt.result c.fault_of.result c.frame.ensures.frame c.run_over-halt.ensures.wanted
+    c.settle.ensures.handles.heap c.settle.ensures.quiet c.fault_of.ensures private line is
+
+pub returns-clause-ledger_full : goal.returns-clause-ledger_full
+returns-clause-ledger_full g c = λ private line is.
+    ledger_full c.args.section.now c.args.mutator.now c.frame.result.now c.run_over-halt.new.frame c.settle.new.self
+    c.run_over-halt.result c.fault_of.result c.frame.ensures.frame c.run_over-halt.ensures.wanted
+    c.settle.ensures.handles.heap c.settle.ensures.quiet c.fault_of.ensures private line is

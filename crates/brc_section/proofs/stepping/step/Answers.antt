@@ -1,5 +1,6 @@
 use Rattle.brc_section.proofs.Silent.{silent_of}
 use Rattle.brc_section.proofs.Steps_As.{prints_shown, prints_refused, silent_done, silent_refused}
+use Rattle.brc_instructions.proofs.Causes_Of.{uncaused}
 use Rattle.brc_section.proofs.stepping.step.Goals as goal
 
 pub returns-in-Ok-clause-follows : goal.returns-in-Ok-clause-follows
@@ -18,6 +19,7 @@ returns-in-Ok-step_silent g c = record {
   heap = c.step_silent.ensures.heap;
   waits = tt;
   later = c.step_silent.ensures.later;
+  caused = λ own. tt;
   follows = λ own differ.
       silent_done c.args.frame.now c.step_silent.new.frame c.args.registers.now c.step_silent.new.registers
       c.args.instruction.now c.in_default.not-Print
@@ -30,9 +32,14 @@ returns-in-Err-step_silent g c = record {
   heap = c.step_silent.ensures.heap;
   waits = c.in-Err-step_silent.ensures.waits;
   later = c.step_silent.ensures.later;
+  caused = c.in-Err-step_silent.ensures.caused;
   follows = λ own differ.
       silent_refused c.args.frame.now c.step_silent.new.frame c.args.registers.now c.step_silent.new.registers
       c.args.instruction.now c.in_default.not-Print
       c.in-Err-step_silent.fault
       (c.in-Err-step_silent.ensures.follows own differ (silent_of c.args.instruction.now c.in_default.not-Print));
 }
+
+pub returns-in-Err-clause-caused : goal.returns-in-Err-clause-caused
+returns-in-Err-clause-caused g c own =
+    uncaused c.args.frame.now c.print.new.frame c.in-Err.fault c.in-Err.ensures.room

@@ -1,6 +1,9 @@
 use Rattle.std.proofs.Common.{refl}
 use Rattle.brc_script.specs.declared.instruction.Instruction.TheVariants as does
 use Rattle.brc_section.proofs.Instructions_Led.{led, two_apart}
+use Rattle.brc_instructions.specs.Causes.{Caused}
+use Rattle.brc_instructions.proofs.Causes_Of.{uncaused_in}
+use Rattle.brc_section.proofs.Wants_Of.{of_answer}
 use Rattle.brc_section.proofs.stepping.step_silent.Goals as goal
 
 pub returns-in-Int-clause-follows : goal.returns-in-Int-clause-follows
@@ -74,3 +77,45 @@ returns-in-Receive-clause-follows g c = λ own differ silent.
     led c.args.frame.now c.await_it.new.frame c.args.registers.now c.await_it.new.registers c.args.instruction.now
     (does.Receive c.in-Receive.to c.in-Receive.mailbox) c.await_it.result c.await_it.result c.in-Receive.is refl
     (c.await_it.ensures.follows c.in-Receive.mailbox refl)
+
+pub returns-in-Drop-clause-caused : goal.returns-in-Drop-clause-caused
+returns-in-Drop-clause-caused g c own =
+    uncaused_in c.args.frame.now c.drop_held.new.frame c.drop_held.result c.drop_held.ensures.room
+
+pub returns-in-Push-clause-caused : goal.returns-in-Push-clause-caused
+returns-in-Push-clause-caused g c own =
+    of_answer (Caused c.args.frame.now c.push-done.new.frame) c.push-done.result c.stirs.result c.stirs.ensures
+    (uncaused_in c.args.frame.now c.push-done.new.frame c.push-done.result c.push-done.ensures.room)
+
+pub returns-in-Set-clause-caused : goal.returns-in-Set-clause-caused
+returns-in-Set-clause-caused g c own =
+    of_answer (Caused c.args.frame.now c.set-done.new.frame) c.set-done.result c.stirs-in-Set.result
+    c.stirs-in-Set.ensures
+    (uncaused_in c.args.frame.now c.set-done.new.frame c.set-done.result c.set-done.ensures.room)
+
+pub returns-in-Put-clause-caused : goal.returns-in-Put-clause-caused
+returns-in-Put-clause-caused g c own =
+    of_answer (Caused c.args.frame.now c.put-done.new.frame) c.put-done.result c.stirs-in-Put.result
+    c.stirs-in-Put.ensures
+    (uncaused_in c.args.frame.now c.put-done.new.frame c.put-done.result c.put-done.ensures.room)
+
+pub returns-in-Send-clause-caused : goal.returns-in-Send-clause-caused
+returns-in-Send-clause-caused g c own =
+    of_answer (Caused c.args.frame.now c.post-done.new.frame) c.post-done.result c.stirs-in-Send.result
+    c.stirs-in-Send.ensures
+    (uncaused_in c.args.frame.now c.post-done.new.frame c.post-done.result c.post-done.ensures.room)
+
+pub returns-in-Pop-clause-caused : goal.returns-in-Pop-clause-caused
+returns-in-Pop-clause-caused g c own =
+    of_answer (Caused c.args.frame.now c.pop-done.new.frame) c.pop-done.result c.stirs-in-Pop.result
+    c.stirs-in-Pop.ensures
+    c.pop-done.ensures.caused
+
+pub returns-in-Delete-clause-caused : goal.returns-in-Delete-clause-caused
+returns-in-Delete-clause-caused g c own =
+    of_answer (Caused c.args.frame.now c.delete-done.new.frame) c.delete-done.result c.stirs-in-Delete.result
+    c.stirs-in-Delete.ensures
+    c.delete-done.ensures.caused
+
+pub returns-in-Receive-clause-caused : goal.returns-in-Receive-clause-caused
+returns-in-Receive-clause-caused g c own = c.await_it.ensures.caused c.in-Receive.mailbox refl

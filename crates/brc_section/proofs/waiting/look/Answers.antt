@@ -1,4 +1,4 @@
-use Rattle.std.proofs.Common.{◌≡◌, ℕ, subst}
+use Rattle.std.proofs.Common.{ℕ, subst}
 use Rattle.brc_script.specs.declared.instruction.Instruction.TheVariants as does
 use Rattle.law_isolation.specs.Asked.{Follows}
 use Rattle.brc_section.proofs.Tries.{same_letter}
