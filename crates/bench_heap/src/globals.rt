@@ -4,65 +4,34 @@ ghost use Rattle.std.specs.Prelude.{IfSome, IfNone};
 ghost use Rattle.brc_count.specs.Frames.{IsUnlocked, Owns};
 ghost use Rattle.brc_count.specs.Owned.{Keeps, Gains, Loses};
 
-use crate::handles::release;
+use crate::dicts::put_new;
 use brc_biased::Home;
-use brc_count::{Frame, Handed, Handle};
-use brc_dicts::{dict_del, dict_put};
+use brc_count::{Frame, Handle};
+use brc_dicts::dict_del;
 use brc_words::{GLOBALS, Key};
 use std::alloc::Allocator;
 use std::sync::Wait;
 
-/// A handle to the globals; None where there is no place for it.
-fn the_globals<H: Home<A>, A: Allocator>(frame: &mut Frame<H, A>) -> Option<Handle<A>>
-    requires unlocked { IsUnlocked frame.old }
-    ensures gains { IfSome result (Gains frame.old frame.new) }
-    ensures keeps { IfNone result (Keeps frame.old frame.new) }
-    ensures unlocked { IsUnlocked frame.new }
-{
-    match frame.immortal(GLOBALS) {
-        Ok(globals) => Some(globals),
-        Err(_) => None,
-    }
-}
-
 /// The handle's reference goes into the globals, under this new key; where that fails, no reference is left, and the
-/// answer is false.
+/// answer is None.
 pub fn put_into_globals<R: Wait, H: Home<A>, A: Allocator + Copy>(
     rt: &R,
     frame: &mut Frame<H, A>,
     handle: Handle<A>,
     key: i64,
-) -> bool
+) -> Option<()>
     requires owned { Owns frame.old handle }
     requires unlocked { IsUnlocked frame.old }
     ensures loses { Loses frame.old frame.new handle }
     ensures unlocked { IsUnlocked frame.new }
 {
-    let Some(globals) = the_globals(frame) else {
-        release(frame, handle);
-        return false;
+    let Ok(globals) = frame.immortal(GLOBALS) else {
+        frame.release(handle);
+        return None;
     };
-    match dict_put(rt, frame, &globals, Key::Int(key), handle) {
-        Ok(None) => {
-            release(frame, globals);
-            true
-        }
-        Ok(Some(other)) => {
-            release(frame, other);
-            release(frame, globals);
-            false
-        }
-        Err(
-            Handed {
-                back: (_, back),
-                ..
-            },
-        ) => {
-            release(frame, back);
-            release(frame, globals);
-            false
-        }
-    }
+    let put = put_new(rt, frame, &globals, Key::Int(key), handle);
+    frame.release(globals);
+    put
 }
 
 /// The reference that is in the globals under this key, taken out of them; None where it can't be had.
@@ -76,16 +45,14 @@ pub fn take_from_globals<R: Wait, H: Home<A>, A: Allocator>(
     ensures keeps { IfNone result (Keeps frame.old frame.new) }
     ensures unlocked { IsUnlocked frame.new }
 {
-    let Some(globals) = the_globals(frame) else {
-        return None;
-    };
+    let globals = frame.immortal(GLOBALS).ok()?;
     match dict_del(rt, frame, &globals, &Key::Int(key)) {
         Ok(handle) => {
-            release(frame, globals);
+            frame.release(globals);
             Some(handle)
         }
         Err(_) => {
-            release(frame, globals);
+            frame.release(globals);
             None
         }
     }

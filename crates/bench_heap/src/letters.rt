@@ -1,10 +1,11 @@
 //! A mailbox: two threads send integers, and a third receives them.
 
-ghost use Rattle.std.specs.Prelude.{◌≢◌};
 ghost use Rattle.brc_count.specs.Frames.{IsUnlocked, Owns};
-ghost use Rattle.brc_count.specs.Owned.{Keeps, Loses};
+ghost use Rattle.brc_count.specs.Owned.{Keeps};
 
-use crate::handles::{an_integer, poll, release, work};
+use crate::many::Source;
+use crate::operations::Integers;
+use crate::repeating::Operation;
 use brc_biased::Home;
 use brc_count::{Frame, Handle};
 use brc_lists::{recv, send};
@@ -59,184 +60,93 @@ impl Post {
     }
 }
 
-/// Meanwhile the thread deals with its own, until so many letters have been received; false where another thread gave
+/// Meanwhile the thread deals with its own, until so many letters have been received; None where another thread gave
 /// up.
 fn awaits<R: Wait, H: Home<A>, A: Allocator>(
     rt: &R,
     frame: &mut Frame<H, A>,
     post: &Post,
     count: u64,
-) -> bool
+) -> Option<()>
     requires unlocked { IsUnlocked frame.old }
     ensures keeps { Keeps frame.old frame.new }
     ensures unlocked { IsUnlocked frame.new }
 {
     for _ in rt.forever() {
         if count <= post.received.load(Ordering::Relaxed) {
-            return true;
+            return Some(());
         }
         if post.is_given_up.load(Ordering::Relaxed) {
-            return false;
+            return None;
         }
-        poll(frame);
-        work(frame, 64);
+        frame.poll();
+        frame.work(64);
         thread::yield_now();
     }
     unreachable!()
 }
 
-/// The letter goes into the mailbox; where it is refused, it is released, and the answer is false.
-#[inline(always)]
-fn post_letter<R: Wait, H: Home<A>, A: Allocator>(
-    rt: &R,
-    frame: &mut Frame<H, A>,
-    mailbox: &Handle<A>,
-    letter: Handle<A>,
-) -> bool
-    requires owned { Owns frame.old mailbox.now }
-    requires letter_owned { Owns frame.old letter }
-    requires apart { letter.place ≢ mailbox.now.place }
-    requires unlocked { IsUnlocked frame.old }
-    ensures loses { Loses frame.old frame.new letter }
-    ensures unlocked { IsUnlocked frame.new }
-{
-    match send(rt, frame, mailbox, letter) {
-        Ok(()) => true,
-        Err(handed) => {
-            release(frame, handed.back);
-            false
+/// A new integer is sent; it fails where it can't be had or is refused, or another thread gave up.
+#[derive(Drop)]
+pub struct SendOne<'h, R, A: Allocator> {
+    pub rt: &'h R,
+    pub alloc: A,
+    pub mailbox: &'h Handle<A>,
+    pub post: &'h Post,
+}
+
+impl<'h, R: Wait, H: Home<A>, A: Allocator + Copy> Operation<H, A> for SendOne<'h, R, A> {
+    ghost ready = { λ send frame. Owns frame send.mailbox.now };
+
+    ghost stays = { λ send old new keeps owned. keeps.owns send.mailbox.now owned };
+
+    #[inline(always)]
+    fn operate(&self, frame: &mut Frame<H, A>, before: u64) -> Option<()> {
+        let sent = before.saturating_mul(SENDERS as u64);
+        awaits(self.rt, frame, self.post, sent.saturating_sub(UNDER_WAY))?;
+        let letter = Integers { alloc: self.alloc }.next(frame, before)?;
+        if let Err(handed) = send(self.rt, frame, self.mailbox, letter) {
+            frame.release(handed.back);
+            return None;
         }
+        frame.poll();
+        frame.work(8);
+        Some(())
     }
 }
 
-/// A new integer is sent; false where it can't be had or is refused.
-#[inline(always)]
-fn sends_one<R: Wait, H: Home<A>, A: Allocator>(
-    rt: &R,
-    alloc: A,
-    frame: &mut Frame<H, A>,
-    mailbox: &Handle<A>,
-    number: i64,
-) -> bool
-    requires owned { Owns frame.old mailbox.now }
-    requires unlocked { IsUnlocked frame.old }
-    ensures keeps { Keeps frame.old frame.new }
-    ensures unlocked { IsUnlocked frame.new }
-{
-    let Some(letter) = an_integer(alloc, frame, number) else {
-        return false;
-    };
-    if !post_letter(rt, frame, mailbox, letter) {
-        return false;
-    }
-    poll(frame);
-    work(frame, 8);
-    true
+/// A letter is received, once one is there, and released; it fails where that is refused, or another thread gave up.
+#[derive(Drop)]
+pub struct ReceiveOne<'h, R, A: Allocator> {
+    pub rt: &'h R,
+    pub mailbox: &'h Handle<A>,
+    pub post: &'h Post,
 }
 
-/// So many integers are sent; false where one can't be, or another thread gave up.
-fn sends<R: Wait, H: Home<A>, A: Allocator + Copy>(
-    rt: &R,
-    alloc: A,
-    frame: &mut Frame<H, A>,
-    mailbox: &Handle<A>,
-    post: &Post,
-    n: u64,
-) -> bool
-    requires owned { Owns frame.old mailbox.now }
-    requires unlocked { IsUnlocked frame.old }
-    ensures keeps { Keeps frame.old frame.new }
-    ensures unlocked { IsUnlocked frame.new }
-{
-    for i in 0..n {
-        let sent = i.saturating_mul(SENDERS as u64);
-        if !awaits(rt, frame, post, sent.saturating_sub(UNDER_WAY)) {
-            return false;
-        }
-        if !sends_one(rt, alloc, frame, mailbox, 1_000 + (i % 65_536) as i64) {
-            return false;
-        }
-    }
-    true
-}
+impl<'h, R: Wait, H: Home<A>, A: Allocator> Operation<H, A> for ReceiveOne<'h, R, A> {
+    ghost ready = { λ receive frame. Owns frame receive.mailbox.now };
 
-/// What is first in the mailbox goes; NoSuchPlace where nothing is there.
-#[inline(always)]
-fn receives_one<R: Wait, H: Home<A>, A: Allocator>(
-    rt: &R,
-    frame: &mut Frame<H, A>,
-    mailbox: &Handle<A>,
-) -> Result<(), Fault>
-    requires owned { Owns frame.old mailbox.now }
-    requires unlocked { IsUnlocked frame.old }
-    ensures keeps { Keeps frame.old frame.new }
-    ensures unlocked { IsUnlocked frame.new }
-{
-    match recv(rt, frame, mailbox) {
-        Ok(letter) => {
-            release(frame, letter);
-            work(frame, 8);
-            Ok(())
-        }
-        Err(fault) => Err(fault),
-    }
-}
+    ghost stays = { λ receive old new keeps owned. keeps.owns receive.mailbox.now owned };
 
-/// So many are received; false where one can't be, or another thread gave up.
-fn receives<R: Wait, H: Home<A>, A: Allocator>(
-    rt: &R,
-    frame: &mut Frame<H, A>,
-    mailbox: &Handle<A>,
-    post: &Post,
-    count: u64,
-) -> bool
-    requires owned { Owns frame.old mailbox.now }
-    requires unlocked { IsUnlocked frame.old }
-    ensures keeps { Keeps frame.old frame.new }
-    ensures unlocked { IsUnlocked frame.new }
-{
-    let mut received: u64 = 0;
-    for _ in rt.forever() {
-        if received >= count {
-            post.received.store(count, Ordering::Relaxed);
-            return true;
+    #[inline(always)]
+    fn operate(&self, frame: &mut Frame<H, A>, before: u64) -> Option<()> {
+        if before % 64 == 0 {
+            self.post.received.store(before, Ordering::Relaxed);
         }
-        match receives_one(rt, frame, mailbox) {
-            Ok(()) => received = received.wrapping_add(1),
-            Err(Fault::NoSuchPlace) => thread::yield_now(),
-            Err(_) => return false,
+        for _ in self.rt.forever() {
+            match recv(self.rt, frame, self.mailbox) {
+                Ok(letter) => {
+                    frame.release(letter);
+                    frame.work(8);
+                    return Some(());
+                }
+                Err(Fault::NoSuchPlace) => thread::yield_now(),
+                Err(_) => return None,
+            }
+            if self.post.is_given_up.load(Ordering::Relaxed) {
+                return None;
+            }
         }
-        if received % 64 == 0 {
-            post.received.store(received, Ordering::Relaxed);
-        }
-        if post.is_given_up.load(Ordering::Relaxed) {
-            return false;
-        }
+        unreachable!()
     }
-    unreachable!()
-}
-
-/// What this thread does of the sending of so many integers by each of two threads, and their receiving by a third.
-pub fn mails<R: Wait, H: Home<A>, A: Allocator + Copy>(
-    rt: &R,
-    alloc: A,
-    frame: &mut Frame<H, A>,
-    mailbox: &Handle<A>,
-    post: &Post,
-    n: u64,
-) -> bool
-    requires owned { Owns frame.old mailbox.now }
-    requires unlocked { IsUnlocked frame.old }
-    ensures keeps { Keeps frame.old frame.new }
-    ensures unlocked { IsUnlocked frame.new }
-{
-    let whole = if frame.thread() <= SENDERS {
-        sends(rt, alloc, frame, mailbox, post, n)
-    } else {
-        receives(rt, frame, mailbox, post, n.saturating_mul(SENDERS as u64))
-    };
-    if !whole {
-        post.give_up();
-    }
-    whole
 }

@@ -1,16 +1,21 @@
 //! A thread's life: it wakes, has its objects, does what is timed, lets them go, and leaves.
 
-ghost use Rattle.std.specs.Prelude.{◌≡◌, IfSome, IfNone};
+ghost use Rattle.std.specs.Prelude.{◌≡◌};
 ghost use Rattle.brc_count.specs.Frames.{IsUnlocked};
-ghost use Rattle.brc_count.specs.Owned.{Keeps, Gains};
+ghost use Rattle.brc_count.specs.Owned.{Keeps};
 ghost use Rattle.brc_handles.specs.Handles.{Holds};
 
-use crate::deaths::{a_chain, times_death, times_making};
-use crate::dicts::{Keys, puts_and_finds};
-use crate::letters::{Post, mails};
-use crate::lists::{a_full_list, lists, pushes_and_pops};
-use crate::many::{makes, makes_dict, makes_list, takes};
-use crate::operations::{integers, pairs, pairs_in_turn, pairs_strewn, polled_pairs, texts};
+use crate::containers::Full;
+use crate::deaths::{Chains, life_of};
+use crate::dicts::{DictOf, Keys, puts_and_finds};
+use crate::globals::take_from_globals;
+use crate::letters::{Post, ReceiveOne, SENDERS, SendOne};
+use crate::lists::{ListOf, pushes_and_pops};
+use crate::many::{Source, takes};
+use crate::operations::{
+    Ending, Integers, NewList10, Pair, PairStrewn, Polled, Texts16, new_integers, pairs_in_turn,
+};
+use crate::repeating::repeat;
 use crate::request::Case;
 use crate::timing::{Span, refused, this_moment};
 use brc_biased::Home;
@@ -19,10 +24,10 @@ use brc_handles::Handles;
 use brc_thread::{Heap, Mutator, Resting};
 use brc_words::FIRST_MORTAL;
 use std::alloc::{Allocator, Global};
-use std::io;
 use std::rt::Clock;
 use std::sync::Wait;
 use std::time::CpuClock;
+use std::{io, thread};
 
 /// How many cells a heap has.
 pub const CELLS: u32 = 65_536;
@@ -76,128 +81,134 @@ fn begins_claims<H: Home<A>, A: Allocator>(frame: &mut Frame<H, A>, asked: Asked
     }
 }
 
-/// The thread gets the handles that the case needs; false where one can't be had.
-fn fills<R: Wait, H: Home<A>, A: Allocator + Copy>(
-    rt: &R,
-    alloc: A,
-    frame: &mut Frame<H, A>,
-    handles: &mut Handles<A>,
-    asked: Asked,
-) -> bool
-    requires holds { Holds 0 frame.old handles.old }
-    requires unlocked { IsUnlocked frame.old }
-    ensures holds { Holds 0 frame.new handles.new }
-    ensures heap { frame.new.heap ≡ frame.old.heap }
-    ensures unlocked { IsUnlocked frame.new }
-{
-    let thread = frame.thread();
-    match asked.case {
-        Case::PairOwn | Case::NewList10 | Case::NewList10Apart => makes(alloc, frame, handles, 1),
-        Case::PairOwn8 => makes(alloc, frame, handles, 8),
-        Case::PairOwn256 => makes(alloc, frame, handles, 256),
-        Case::ClaimFull | Case::ClaimFullNear => makes(alloc, frame, handles, NEARLY_ALL),
-        Case::PairShared | Case::ListShared | Case::Mail => takes(rt, frame, handles, thread, 1),
-        Case::PairForeign => {
-            // The idle threads, as many as these, are the first ones.
-            let owner = thread.saturating_sub(asked.threads);
-            takes(rt, frame, handles, first_key(owner), FOREIGN)
-        }
-        Case::List => makes_list(rt, alloc, frame, handles),
-        Case::Dict => makes_dict(rt, alloc, frame, handles, Keys::Many),
-        Case::Dict4 => makes_dict(rt, alloc, frame, handles, Keys::Few),
-        Case::NewInt | Case::NewIntApart | Case::NewText16 | Case::NewText16Apart => true,
-        Case::Chain | Case::MakeChain | Case::MakeChainNear | Case::Wide => true,
-    }
-}
-
-/// So many operations of a case on handles; false where there is none, or where one failed.
-fn counts<R: Wait, H: Home<A>, A: Allocator + Copy>(
-    rt: &R,
-    alloc: A,
-    frame: &mut Frame<H, A>,
-    handles: &Handles<A>,
-    post: &Post,
-    case: Case,
-    n: u64,
-) -> bool
-    requires holds { Holds 0 frame.old handles.now }
-    requires unlocked { IsUnlocked frame.old }
-    ensures keeps { Keeps frame.old frame.new }
-    ensures unlocked { IsUnlocked frame.new }
-{
-    let Some(first) = handles.get(0) else {
-        post.give_up();
-        return false;
-    };
+/// How many handles a thread needs for the operations of a case.
+fn handles_for(case: Case) -> u64 {
     match case {
-        Case::PairOwn => pairs(frame, first, n),
-        Case::PairShared => polled_pairs(frame, first, n),
-        Case::NewList10 | Case::NewList10Apart => lists(rt, alloc, frame, first, n),
-        Case::List | Case::ListShared => pushes_and_pops(rt, alloc, frame, first, n),
-        Case::Dict => puts_and_finds(rt, alloc, frame, first, Keys::Many, n),
-        Case::Dict4 => puts_and_finds(rt, alloc, frame, first, Keys::Few, n),
-        Case::PairOwn256 => pairs_strewn(frame, handles, n),
-        Case::Mail => mails(rt, alloc, frame, first, post, n),
-        _ => pairs_in_turn(frame, handles, n),
+        Case::PairOwn | Case::PairShared | Case::NewList10 | Case::NewList10Apart => 1,
+        Case::List | Case::ListShared | Case::Dict | Case::Dict4 | Case::Mail => 1,
+        Case::PairOwn8 => 8,
+        Case::PairOwn256 => 256,
+        Case::PairForeign => FOREIGN as u64,
+        Case::ClaimFull | Case::ClaimFullNear => NEARLY_ALL as u64,
+        Case::NewInt | Case::NewIntApart | Case::NewText16 | Case::NewText16Apart => 0,
+        Case::Chain | Case::MakeChain | Case::MakeChainNear | Case::Wide => 0,
     }
 }
 
-/// So many operations of a case; false where one failed.
+/// The objects that a thread needs for what it is asked: handles for its operations, or what lives while it is timed.
+#[derive(Drop)]
+struct Needed<'r, R, A> {
+    rt: &'r R,
+    alloc: A,
+    asked: Asked,
+}
+
+impl<'r, R: Wait, H: Home<A>, A: Allocator + Copy> Source<H, A> for Needed<'r, R, A> {
+    fn next(&self, frame: &mut Frame<H, A>, before: u64) -> Option<Handle<A>> {
+        let rt = self.rt;
+        let alloc = self.alloc;
+        let number = frame.thread();
+        match self.asked.case {
+            Case::PairShared | Case::ListShared | Case::Mail => {
+                take_from_globals(rt, frame, number as i64)
+            }
+            Case::PairForeign => {
+                // The idle threads, as many as these, are the first ones.
+                let first = first_key(number.saturating_sub(self.asked.threads));
+                take_from_globals(rt, frame, first as i64 + (before % 65_536) as i64)
+            }
+            Case::List => {
+                let kind = ListOf { rt, count: 10 };
+                Full { alloc, kind }.next(frame, before)
+            }
+            Case::Wide => {
+                let kind = ListOf {
+                    rt,
+                    count: self.asked.n,
+                };
+                Full { alloc, kind }.next(frame, before)
+            }
+            Case::Dict => {
+                let kind = DictOf {
+                    rt,
+                    keys: Keys::Many,
+                };
+                Full { alloc, kind }.next(frame, before)
+            }
+            Case::Dict4 => {
+                let kind = DictOf {
+                    rt,
+                    keys: Keys::Few,
+                };
+                Full { alloc, kind }.next(frame, before)
+            }
+            Case::Chain | Case::MakeChain | Case::MakeChainNear => {
+                let count = self.asked.n;
+                Chains { rt, alloc, count }.next(frame, before)
+            }
+            _ => {
+                if before % 4 == 3 {
+                    thread::yield_now();
+                }
+                Integers { alloc }.next(frame, before)
+            }
+        }
+    }
+}
+
+/// The operations of a case; None where one failed, or where there is no handle that it needs.
 fn operates<R: Wait, H: Home<A>, A: Allocator + Copy>(
     rt: &R,
     alloc: A,
     frame: &mut Frame<H, A>,
     handles: &Handles<A>,
     post: &Post,
-    case: Case,
-    n: u64,
-) -> bool
+    asked: Asked,
+) -> Option<()>
     requires holds { Holds 0 frame.old handles.now }
     requires unlocked { IsUnlocked frame.old }
     ensures keeps { Keeps frame.old frame.new }
     ensures unlocked { IsUnlocked frame.new }
 {
-    match case {
-        Case::NewInt | Case::NewIntApart | Case::ClaimFull | Case::ClaimFullNear => {
-            integers(alloc, frame, n)
-        }
-        Case::NewText16 | Case::NewText16Apart => texts(alloc, frame, n),
-        _ => counts(rt, alloc, frame, handles, post, case, n),
-    }
-}
-
-/// What is taken apart while it is timed; None where it can't be had.
-fn has_to_die<R: Wait, H: Home<A>, A: Allocator + Copy>(
-    rt: &R,
-    alloc: A,
-    frame: &mut Frame<H, A>,
-    asked: Asked,
-) -> Option<Handle<A>>
-    requires unlocked { IsUnlocked frame.old }
-    ensures gains { IfSome result (Gains frame.old frame.new) }
-    ensures keeps { IfNone result (Keeps frame.old frame.new) }
-    ensures unlocked { IsUnlocked frame.new }
-{
+    let n = asked.n;
     match asked.case {
-        Case::Chain => a_chain(rt, alloc, frame, asked.n),
-        _ => a_full_list(rt, alloc, frame, asked.n),
+        Case::NewInt | Case::NewIntApart | Case::ClaimFull | Case::ClaimFullNear => {
+            return new_integers(alloc, frame, n);
+        }
+        Case::NewText16 | Case::NewText16Apart => {
+            let source = Texts16 { alloc };
+            return repeat(&Ending { source }, frame, n);
+        }
+        _ => {}
     }
-}
-
-/// When the thread began and ended to take it apart; or why it couldn't.
-fn measures_death<R: Wait + Clock + CpuClock, H: Home<A>, A: Allocator + Copy>(
-    rt: &R,
-    alloc: A,
-    frame: &mut Frame<H, A>,
-    asked: Asked,
-) -> io::Result<Span>
-    requires unlocked { IsUnlocked frame.old }
-    ensures keeps { Keeps frame.old frame.new }
-    ensures unlocked { IsUnlocked frame.new }
-{
-    match has_to_die(rt, alloc, frame, asked) {
-        Some(handle) => times_death(rt, frame, handle),
-        None => Err(refused()),
+    let handle = handles.get(0)?;
+    let pair = Pair { handle };
+    match asked.case {
+        Case::PairOwn => repeat(&pair, frame, n),
+        Case::PairShared => repeat(&Polled { operation: pair }, frame, n),
+        Case::PairOwn256 => repeat(&PairStrewn { handles }, frame, n),
+        Case::NewList10 | Case::NewList10Apart => {
+            let value = handle;
+            repeat(&NewList10 { rt, alloc, value }, frame, n)
+        }
+        Case::List | Case::ListShared => pushes_and_pops(rt, alloc, frame, handle, n),
+        Case::Dict => puts_and_finds(rt, alloc, frame, handle, Keys::Many, n),
+        Case::Dict4 => puts_and_finds(rt, alloc, frame, handle, Keys::Few, n),
+        Case::Mail => {
+            let mailbox = handle;
+            if frame.thread() > SENDERS {
+                let receive = ReceiveOne { rt, mailbox, post };
+                return repeat(&receive, frame, n.saturating_mul(SENDERS as u64));
+            }
+            let send = SendOne {
+                rt,
+                alloc,
+                mailbox,
+                post,
+            };
+            repeat(&send, frame, n)
+        }
+        _ => pairs_in_turn(frame, handles, n),
     }
 }
 
@@ -212,9 +223,10 @@ fn measures_one<R: Wait + Clock + CpuClock, H: Home<A>, A: Allocator + Copy>(
     ensures keeps { Keeps frame.old frame.new }
     ensures unlocked { IsUnlocked frame.new }
 {
+    let life = life_of(rt, &Needed { rt, alloc, asked }, frame)?;
     match asked.case {
-        Case::MakeChain | Case::MakeChainNear => times_making(rt, alloc, frame, asked.n),
-        _ => measures_death(rt, alloc, frame, asked),
+        Case::MakeChain | Case::MakeChainNear => Ok(life.making()),
+        _ => Ok(life.end()),
     }
 }
 
@@ -235,13 +247,15 @@ fn measures<R: Wait + Clock + CpuClock, H: Home<A>, A: Allocator + Copy>(
 {
     let mut handles = Handles::new(alloc);
     post.begin_together(rt, asked.threads, 1);
-    let filled = fills(rt, alloc, frame, &mut handles, asked);
+    let needed = Needed { rt, alloc, asked };
+    let filled = takes(&needed, frame, &mut handles, handles_for(asked.case));
     post.begin_together(rt, asked.threads, 2);
     let began = this_moment(rt);
-    let whole = operates(rt, alloc, frame, &handles, post, asked.case, asked.n);
+    let whole = operates(rt, alloc, frame, &handles, post, asked);
     let ended = this_moment(rt);
     handles.release_all(frame);
-    if !filled || !whole {
+    if filled.is_none() || whole.is_none() {
+        post.give_up();
         return Err(refused());
     }
     Ok(Span {

@@ -6,15 +6,16 @@
 //! all threads together made and how many cells they gave back, which is the same whatever the schedule.
 #![tactic(auto)]
 
+mod containers;
 mod deaths;
 mod dicts;
 mod globals;
-mod handles;
 mod letters;
 mod lists;
 mod lives;
 mod many;
 mod operations;
+mod repeating;
 mod request;
 mod runs;
 mod timing;

@@ -1,202 +1,214 @@
 //! The operations that are timed.
 
+ghost use Rattle.std.specs.Prelude.{⊤};
 ghost use Rattle.brc_count.specs.Frames.{IsUnlocked, Owns};
 ghost use Rattle.brc_count.specs.Owned.{Keeps};
 ghost use Rattle.brc_handles.specs.Handles.{Holds};
+ghost use Rattle.bench_heap.specs.Held.{held_still};
 
-use crate::handles::{a_text, an_integer, another, poll, release, work};
+use crate::containers::Container;
+use crate::lists::ListOf;
+use crate::many::Source;
+use crate::repeating::{Operation, repeat};
 use brc_biased::Home;
 use brc_count::{Frame, Handle};
 use brc_handles::Handles;
+use brc_things::{new_int, new_list, new_text};
 use brc_words::Text;
 use std::alloc::Allocator;
+use std::sync::Wait;
 
-/// One reference more to the handle's object, and one less; false where there is no place for it.
-#[inline(always)]
-fn pair<H: Home<A>, A: Allocator>(frame: &mut Frame<H, A>, handle: &Handle<A>) -> bool
-    requires owned { Owns frame.old handle.now }
-    requires unlocked { IsUnlocked frame.old }
-    ensures keeps { Keeps frame.old frame.new }
-    ensures unlocked { IsUnlocked frame.new }
-{
-    match another(frame, handle) {
-        Some(more) => {
-            release(frame, more);
-            true
-        }
-        None => false,
+/// One reference more to the handle's object, and one less.
+#[derive(Drop)]
+pub struct Pair<'h, A: Allocator> {
+    pub handle: &'h Handle<A>,
+}
+
+impl<'h, H: Home<A>, A: Allocator> Operation<H, A> for Pair<'h, A> {
+    ghost ready = { λ pair frame. Owns frame pair.handle.now };
+
+    ghost stays = { λ pair old new keeps owned. keeps.owns pair.handle.now owned };
+
+    #[inline(always)]
+    fn operate(&self, frame: &mut Frame<H, A>, _before: u64) -> Option<()> {
+        let more = frame.retain(self.handle).ok()?;
+        frame.release(more);
+        Some(())
     }
 }
 
-/// So many pairs on one object.
-pub fn pairs<H: Home<A>, A: Allocator>(frame: &mut Frame<H, A>, handle: &Handle<A>, n: u64) -> bool
-    requires owned { Owns frame.old handle.now }
-    requires unlocked { IsUnlocked frame.old }
-    ensures keeps { Keeps frame.old frame.new }
-    ensures unlocked { IsUnlocked frame.new }
-{
-    for _ in 0..n {
-        if !pair(frame, handle) {
-            return false;
-        }
-    }
-    true
+/// An operation, with a poll after each 256th.
+#[derive(Drop)]
+pub struct Polled<O> {
+    pub operation: O,
 }
 
-/// The same, with a poll at each 256th.
-pub fn polled_pairs<H: Home<A>, A: Allocator>(
-    frame: &mut Frame<H, A>,
-    handle: &Handle<A>,
-    n: u64,
-) -> bool
-    requires owned { Owns frame.old handle.now }
-    requires unlocked { IsUnlocked frame.old }
-    ensures keeps { Keeps frame.old frame.new }
-    ensures unlocked { IsUnlocked frame.new }
-{
-    for i in 0..n {
-        if !pair(frame, handle) {
-            return false;
+impl<O: Operation<H, A>, H: Home<A>, A: Allocator> Operation<H, A> for Polled<O> {
+    ghost ready = { λ polled frame. O.ready polled.operation frame };
+
+    ghost stays = { λ polled. O.stays polled.operation };
+
+    #[inline(always)]
+    fn operate(&self, frame: &mut Frame<H, A>, before: u64) -> Option<()> {
+        self.operation.operate(frame, before)?;
+        if before % 256 == 0 {
+            frame.poll();
         }
-        if i % 256 == 0 {
-            poll(frame);
-        }
+        Some(())
     }
-    true
 }
 
-/// A pair on each of the first so many objects.
-#[inline(always)]
-fn pairs_of_first<H: Home<A>, A: Allocator>(
-    frame: &mut Frame<H, A>,
-    handles: &Handles<A>,
-    count: usize,
-) -> bool
-    requires holds { Holds 0 frame.old handles.now }
-    requires unlocked { IsUnlocked frame.old }
-    ensures keeps { Keeps frame.old frame.new }
-    ensures unlocked { IsUnlocked frame.new }
-{
-    for i in 0..count {
-        match handles.get(i) {
-            Some(handle) => {
-                if !pair(frame, handle) {
-                    return false;
-                }
-            }
-            None => return false,
-        }
-    }
-    true
+/// A pair on the object of this number; it fails where there is none.
+#[derive(Drop)]
+struct PairOf<'h, A: Allocator> {
+    handles: &'h Handles<A>,
 }
 
-/// So many pairs on these objects in turn; false where there is none.
+impl<'h, H: Home<A>, A: Allocator> Operation<H, A> for PairOf<'h, A> {
+    ghost ready = { λ pair frame. Holds 0 frame pair.handles.now };
+
+    ghost stays = { λ pair. held_still pair.handles.now };
+
+    #[inline(always)]
+    fn operate(&self, frame: &mut Frame<H, A>, before: u64) -> Option<()> {
+        let handle = self.handles.get(before as usize)?;
+        Pair { handle }.operate(frame, before)
+    }
+}
+
+/// A pair on one of 256 objects, far from the one before.
+#[derive(Drop)]
+pub struct PairStrewn<'h, A: Allocator> {
+    pub handles: &'h Handles<A>,
+}
+
+impl<'h, H: Home<A>, A: Allocator> Operation<H, A> for PairStrewn<'h, A> {
+    ghost ready = { λ pair frame. Holds 0 frame pair.handles.now };
+
+    ghost stays = { λ pair. held_still pair.handles.now };
+
+    #[inline(always)]
+    fn operate(&self, frame: &mut Frame<H, A>, before: u64) -> Option<()> {
+        let pair_of = PairOf {
+            handles: self.handles,
+        };
+        pair_of.operate(frame, before % 256 * 37 % 256)
+    }
+}
+
+/// So many pairs on these objects in turn; None where there is no object.
 pub fn pairs_in_turn<H: Home<A>, A: Allocator>(
     frame: &mut Frame<H, A>,
     handles: &Handles<A>,
     n: u64,
-) -> bool
+) -> Option<()>
     requires holds { Holds 0 frame.old handles.now }
     requires unlocked { IsUnlocked frame.old }
     ensures keeps { Keeps frame.old frame.new }
     ensures unlocked { IsUnlocked frame.new }
 {
-    let count = handles.len();
+    let count = handles.len() as u64;
     if count == 0 {
-        return false;
+        return None;
     }
-    for _ in 0..n / count as u64 {
-        if !pairs_of_first(frame, handles, count) {
-            return false;
-        }
+    for _round in 0..n / count {
+        repeat(&PairOf { handles }, frame, count)?;
     }
-    pairs_of_first(frame, handles, (n % count as u64) as usize)
-}
-
-/// So many pairs on these objects, each in its turn, far from the one before; false where there is none.
-pub fn pairs_strewn<H: Home<A>, A: Allocator>(
-    frame: &mut Frame<H, A>,
-    handles: &Handles<A>,
-    n: u64,
-) -> bool
-    requires holds { Holds 0 frame.old handles.now }
-    requires unlocked { IsUnlocked frame.old }
-    ensures keeps { Keeps frame.old frame.new }
-    ensures unlocked { IsUnlocked frame.new }
-{
-    for i in 0..n {
-        match handles.get((i % 256 * 37 % 256) as usize) {
-            Some(handle) => {
-                if !pair(frame, handle) {
-                    return false;
-                }
-            }
-            None => return false,
-        }
-    }
-    true
+    repeat(&PairOf { handles }, frame, n % count)
 }
 
 /// So many turns of work follow each object that is made.
-pub const TURNS: usize = 64;
+const TURNS: usize = 64;
 
-/// An integer is made and released, and taken apart; false where it can't be had.
-#[inline(always)]
-fn integer_lives<H: Home<A>, A: Allocator>(alloc: A, frame: &mut Frame<H, A>, number: i64) -> bool
+/// So many integers, each made, released, and taken apart; None where one can't be had.
+pub fn new_integers<H: Home<A>, A: Allocator + Copy>(
+    alloc: A,
+    frame: &mut Frame<H, A>,
+    n: u64,
+) -> Option<()>
     requires unlocked { IsUnlocked frame.old }
     ensures keeps { Keeps frame.old frame.new }
     ensures unlocked { IsUnlocked frame.new }
 {
-    let Some(handle) = an_integer(alloc, frame, number) else {
-        return false;
-    };
-    release(frame, handle);
-    work(frame, TURNS);
-    true
-}
-
-/// A text of sixteen bytes is made and released, and taken apart; false where it can't be had.
-#[inline(always)]
-fn text_lives<H: Home<A>, A: Allocator + Copy>(alloc: A, frame: &mut Frame<H, A>) -> bool
-    requires unlocked { IsUnlocked frame.old }
-    ensures keeps { Keeps frame.old frame.new }
-    ensures unlocked { IsUnlocked frame.new }
-{
-    let Ok(text) = String::from_str(alloc, "sixteen bytes ..") else {
-        return false;
-    };
-    let Some(handle) = a_text(alloc, frame, Text::new(text)) else {
-        return false;
-    };
-    release(frame, handle);
-    work(frame, TURNS);
-    true
-}
-
-/// So many integers, one after the other.
-pub fn integers<H: Home<A>, A: Allocator + Copy>(alloc: A, frame: &mut Frame<H, A>, n: u64) -> bool
-    requires unlocked { IsUnlocked frame.old }
-    ensures keeps { Keeps frame.old frame.new }
-    ensures unlocked { IsUnlocked frame.new }
-{
+    // A loop of its own: in the one that texts have, LLVM makes a call of taking the block off the worklist.
     for i in 0..n {
-        if !integer_lives(alloc, frame, 1_000 + (i % 65_536) as i64) {
-            return false;
-        }
+        let integer = new_int(alloc, frame, 1_000 + (i % 65_536) as i64).ok()?;
+        frame.release(integer);
+        frame.work(TURNS);
     }
-    true
+    Some(())
 }
 
-/// So many texts, one after the other.
-pub fn texts<H: Home<A>, A: Allocator + Copy>(alloc: A, frame: &mut Frame<H, A>, n: u64) -> bool
-    requires unlocked { IsUnlocked frame.old }
-    ensures keeps { Keeps frame.old frame.new }
-    ensures unlocked { IsUnlocked frame.new }
-{
-    for _ in 0..n {
-        if !text_lives(alloc, frame) {
-            return false;
-        }
+/// What the source has next is released, and taken apart.
+#[derive(Drop)]
+pub struct Ending<S> {
+    pub source: S,
+}
+
+impl<S: Source<H, A>, H: Home<A>, A: Allocator> Operation<H, A> for Ending<S> {
+    ghost ready = { λ _ _. ⊤ };
+
+    ghost stays = { λ _ _ _ _ ready. ready };
+
+    #[inline(always)]
+    fn operate(&self, frame: &mut Frame<H, A>, before: u64) -> Option<()> {
+        let object = self.source.next(frame, before)?;
+        frame.release(object);
+        frame.work(TURNS);
+        Some(())
     }
-    true
+}
+
+/// New integers.
+#[derive(Drop)]
+pub struct Integers<A> {
+    pub alloc: A,
+}
+
+impl<H: Home<A>, A: Allocator + Copy> Source<H, A> for Integers<A> {
+    #[inline(always)]
+    fn next(&self, frame: &mut Frame<H, A>, before: u64) -> Option<Handle<A>> {
+        new_int(self.alloc, frame, 1_000 + (before % 65_536) as i64).ok()
+    }
+}
+
+/// New texts of sixteen bytes.
+#[derive(Drop)]
+pub struct Texts16<A> {
+    pub alloc: A,
+}
+
+impl<H: Home<A>, A: Allocator + Copy> Source<H, A> for Texts16<A> {
+    #[inline(always)]
+    fn next(&self, frame: &mut Frame<H, A>, _before: u64) -> Option<Handle<A>> {
+        let bytes = String::from_str(self.alloc, "sixteen bytes ..").ok()?;
+        new_text(self.alloc, frame, Text::new(bytes)).ok()
+    }
+}
+
+/// A list of ten references to the value is made, released, and taken apart.
+#[derive(Drop)]
+pub struct NewList10<'h, R, A: Allocator> {
+    pub rt: &'h R,
+    pub alloc: A,
+    pub value: &'h Handle<A>,
+}
+
+impl<'h, R: Wait, H: Home<A>, A: Allocator + Copy> Operation<H, A> for NewList10<'h, R, A> {
+    ghost ready = { λ new frame. Owns frame new.value.now };
+
+    ghost stays = { λ new old after keeps owned. keeps.owns new.value.now owned };
+
+    #[inline(always)]
+    fn operate(&self, frame: &mut Frame<H, A>, _before: u64) -> Option<()> {
+        let list = new_list(self.alloc, frame).ok()?;
+        let ten = ListOf {
+            rt: self.rt,
+            count: 10,
+        };
+        let filled = ten.fill(frame, &list, self.value);
+        frame.release(list);
+        frame.work(TURNS);
+        filled
+    }
 }

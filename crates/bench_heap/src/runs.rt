@@ -1,19 +1,23 @@
 //! The cases: threads on one heap, each with what it is to do.
 
-ghost use Rattle.std.specs.Prelude.{◌≡◌, IfOk, IfSome, IfNone};
+ghost use Rattle.std.specs.Prelude.{◌≡◌, ⊤, IfOk, OnErr};
 ghost use Rattle.std.specs.List.{All};
 ghost use Rattle.brc_count.specs.Frames.{IsUnlocked, Owns};
 ghost use Rattle.brc_count.specs.Owned.{Keeps, Gains};
 
 use crate::globals::put_into_globals;
-use crate::handles::{a_list, a_mailbox, an_integer, another, release};
 use crate::letters::{Post, SENDERS};
 use crate::lives::{Asked, CELLS, Done, FOREIGN, first_key, lives, rests};
+use crate::many::Source;
+use crate::operations::Integers;
+use crate::repeating::{Operation, repeat};
 use crate::request::Case;
 use crate::timing::{Times, refused, times_of};
 use brc_biased::Home;
 use brc_count::{Frame, Handle};
+use brc_things::{new_int, new_list, new_mailbox};
 use brc_thread::{Heap, Options, Resting, Root, give_back, take_apart};
+use brc_words::Fault;
 use std::alloc::{AllocError, Allocator, Global};
 use std::rt::Clock;
 use std::sync::Wait;
@@ -39,119 +43,105 @@ enum Gift {
     References(Shared, u32),
 }
 
-/// Integers of the thread's own go into the globals; false where one can't be made or put there.
-fn gives_integers<R: Wait, H: Home<A>, A: Allocator + Copy>(
-    rt: &R,
+/// An integer of the thread's own goes into the globals, under the next key from the first one on.
+#[derive(Drop)]
+struct GiveInteger<'r, R, A> {
+    rt: &'r R,
     alloc: A,
-    frame: &mut Frame<H, A>,
-    count: u32,
-) -> bool
-    requires unlocked { IsUnlocked frame.old }
-    ensures keeps { Keeps frame.old frame.new }
-    ensures unlocked { IsUnlocked frame.new }
-{
-    let first = first_key(frame.thread()) as i64;
-    for i in 0..count {
-        let Some(handle) = an_integer(alloc, frame, 1_000 + i as i64) else {
-            return false;
-        };
-        if !put_into_globals(rt, frame, handle, first + i as i64) {
-            return false;
-        }
-    }
-    true
+    first: u32,
 }
 
-/// One reference more to the handle's object goes into the globals; false where there is no room.
-fn shares<R: Wait, H: Home<A>, A: Allocator + Copy>(
-    rt: &R,
-    frame: &mut Frame<H, A>,
-    handle: &Handle<A>,
-    key: i64,
-) -> bool
-    requires owned { Owns frame.old handle.now }
-    requires unlocked { IsUnlocked frame.old }
-    ensures keeps { Keeps frame.old frame.new }
-    ensures unlocked { IsUnlocked frame.new }
-{
-    match another(frame, handle) {
-        Some(more) => put_into_globals(rt, frame, more, key),
-        None => false,
+impl<'r, R: Wait, H: Home<A>, A: Allocator + Copy> Operation<H, A> for GiveInteger<'r, R, A> {
+    ghost ready = { λ _ _. ⊤ };
+
+    ghost stays = { λ _ _ _ _ ready. ready };
+
+    fn operate(&self, frame: &mut Frame<H, A>, before: u64) -> Option<()> {
+        let integer = Integers { alloc: self.alloc }.next(frame, before)?;
+        put_into_globals(
+            self.rt,
+            frame,
+            integer,
+            self.first as i64 + (before % 65_536) as i64,
+        )
     }
 }
 
-/// So many of them do, under the numbers of the threads from 1 on.
-fn shares_often<R: Wait, H: Home<A>, A: Allocator + Copy>(
-    rt: &R,
-    frame: &mut Frame<H, A>,
-    handle: &Handle<A>,
-    count: u32,
-) -> bool
-    requires owned { Owns frame.old handle.now }
-    requires unlocked { IsUnlocked frame.old }
-    ensures keeps { Keeps frame.old frame.new }
-    ensures unlocked { IsUnlocked frame.new }
-{
-    for i in 0..count {
-        if !shares(rt, frame, handle, 1 + i as i64) {
-            return false;
-        }
-    }
-    true
+/// One reference more to the handle's object goes into the globals, under the number of the next thread from 1 on.
+#[derive(Drop)]
+struct GiveReference<'h, R, A: Allocator> {
+    rt: &'h R,
+    handle: &'h Handle<A>,
 }
 
-/// A new object to be shared; None where it can't be had.
+impl<'h, R: Wait, H: Home<A>, A: Allocator + Copy> Operation<H, A> for GiveReference<'h, R, A> {
+    ghost ready = { λ give frame. Owns frame give.handle.now };
+
+    ghost stays = { λ give old new keeps owned. keeps.owns give.handle.now owned };
+
+    fn operate(&self, frame: &mut Frame<H, A>, before: u64) -> Option<()> {
+        let more = frame.retain(self.handle).ok()?;
+        put_into_globals(self.rt, frame, more, 1 + (before % 65_536) as i64)
+    }
+}
+
+/// A new object to be shared.
 fn to_share<H: Home<A>, A: Allocator + Copy>(
     alloc: A,
     frame: &mut Frame<H, A>,
     shared: Shared,
-) -> Option<Handle<A>>
+) -> Result<Handle<A>, Fault>
     requires unlocked { IsUnlocked frame.old }
-    ensures gains { IfSome result (Gains frame.old frame.new) }
-    ensures keeps { IfNone result (Keeps frame.old frame.new) }
+    ensures gains { IfOk result (Gains frame.old frame.new) }
+    ensures keeps { OnErr result (Keeps frame.old frame.new) }
     ensures unlocked { IsUnlocked frame.new }
 {
     match shared {
-        Shared::Int => an_integer(alloc, frame, 1_000),
-        Shared::List => a_list(alloc, frame),
-        Shared::Mailbox => a_mailbox(alloc, frame),
+        Shared::Int => new_int(alloc, frame, 1_000),
+        Shared::List => new_list(alloc, frame),
+        Shared::Mailbox => new_mailbox(alloc, frame),
     }
 }
 
-/// References to one object of the thread's own go into the globals; false where that fails.
+/// References to one object of the thread's own go into the globals; None where that fails.
 fn gives_references<R: Wait, H: Home<A>, A: Allocator + Copy>(
     rt: &R,
     alloc: A,
     frame: &mut Frame<H, A>,
     shared: Shared,
     count: u32,
-) -> bool
+) -> Option<()>
     requires unlocked { IsUnlocked frame.old }
     ensures keeps { Keeps frame.old frame.new }
     ensures unlocked { IsUnlocked frame.new }
 {
-    let Some(handle) = to_share(alloc, frame, shared) else {
-        return false;
+    let handle = to_share(alloc, frame, shared).ok()?;
+    let give = GiveReference {
+        rt,
+        handle: &handle,
     };
-    let whole = shares_often(rt, frame, &handle, count);
-    release(frame, handle);
-    whole
+    let given = repeat(&give, frame, count as u64);
+    frame.release(handle);
+    given
 }
 
-/// The gift goes into the globals; false where that fails.
+/// The gift goes into the globals; None where that fails.
 fn gives<R: Wait, H: Home<A>, A: Allocator + Copy>(
     rt: &R,
     alloc: A,
     frame: &mut Frame<H, A>,
     gift: Gift,
-) -> bool
+) -> Option<()>
     requires unlocked { IsUnlocked frame.old }
     ensures keeps { Keeps frame.old frame.new }
     ensures unlocked { IsUnlocked frame.new }
 {
     match gift {
-        Gift::Nothing => true,
-        Gift::Integers(count) => gives_integers(rt, alloc, frame, count),
+        Gift::Nothing => Some(()),
+        Gift::Integers(count) => {
+            let first = first_key(frame.thread());
+            repeat(&GiveInteger { rt, alloc, first }, frame, count as u64)
+        }
         Gift::References(shared, count) => gives_references(rt, alloc, frame, shared, count),
     }
 }
@@ -174,7 +164,7 @@ fn registered(
             let mut mutator = mutator;
             let given = gives(rt, alloc, mutator.frame(), gift);
             let resting = rests(rt, mutator);
-            if !given {
+            if given.is_none() {
                 return Err(refused());
             }
             Ok(resting)

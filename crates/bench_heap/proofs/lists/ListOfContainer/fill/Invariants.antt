@@ -1,6 +1,6 @@
 use Rattle.brc_count.specs.Frames.{IsUnlocked}
 use Rattle.brc_count.specs.Owned.{Keeps}
-use Rattle.bench_heap.proofs.lists.push_often.Given as goal
+use Rattle.bench_heap.proofs.lists.ListOfContainer.fill.Given as goal
 
 abbrev pub invariant-loop : goal.invariant-loop
 invariant-loop g l = Keeps l.fn.frame l.frame × IsUnlocked l.frame

@@ -1,6 +1,6 @@
 use Rattle.brc_count.specs.Frames.{IsUnlocked}
 use Rattle.brc_count.specs.Owned.{Keeps}
-use Rattle.bench_heap.proofs.letters.receives.Given as goal
+use Rattle.bench_heap.proofs.letters.ReceiveOneOperation.operate.Given as goal
 
 abbrev pub invariant-loop : goal.invariant-loop
 invariant-loop g l =
