@@ -1,39 +1,24 @@
 //! While one thread has the globals locked.
 
-ghost use Rattle.std.specs.Prelude.{◌≡◌, ◌≢◌};
+ghost use Rattle.std.specs.Prelude.{◌≡◌};
 ghost use Rattle.brc_count.specs.Frames.{IsUnlocked, Owns};
-ghost use Rattle.brc_count.specs.Owned.{Keeps, Loses};
+ghost use Rattle.test_containers.specs.Calls.{OwnsBoth, Stays, Parts};
 
 use crate::calls::{Getting, Giving, gets, gets_none, gives, refuses};
-use crate::objects::{Thing, made, the_globals};
+use crate::objects::{Thing, made};
 use crate::threads::{a_heap, a_thread, is_empty};
 use brc_biased::Home;
 use brc_block::Payload;
 use brc_containers::try_int_of;
 use brc_count::{Frame, Handle};
 use brc_lock::try_lock;
-use brc_words::Fault;
+use brc_words::{Fault, GLOBALS};
 use std::alloc::Allocator;
 use std::process::Abort;
 use std::sync::Wait;
 
-/// An own empty list has nothing to pop, and no number.
-fn has_an_empty_list<R: Abort + Wait, H: Home<A>, A: Allocator>(
-    rt: &R,
-    frame: &mut Frame<H, A>,
-    list: &Handle<A>,
-)
-    requires owned { Owns frame.old list.now }
-    requires unlocked { IsUnlocked frame.old }
-    ensures keeps { Keeps frame.old frame.new }
-    ensures unlocked { IsUnlocked frame.new }
-{
-    gets_none(rt, frame, list, Getting::TryPop);
-    assert!(rt; try_int_of(frame, list) == Err(Fault::WrongKind));
-}
-
-/// While the first thread has the globals locked, with room and a place, the second one finds them Busy; its own list
-/// it can use. It answers its list.
+/// While the first thread has the globals locked, with room and a place, the second one finds them Busy; its own empty
+/// list it can use, which has nothing to pop, and no number. It answers its list.
 fn locks_meanwhile<R: Abort + Wait, H: Home<A>, A: Allocator + Copy>(
     rt: &R,
     frame: &mut Frame<H, A>,
@@ -43,15 +28,11 @@ fn locks_meanwhile<R: Abort + Wait, H: Home<A>, A: Allocator + Copy>(
     list: Handle<A>,
 ) -> Handle<A>
     requires owned { Owns frame.old globals.now }
-    requires others_owned { Owns other.old others.now }
-    requires list_owned { Owns other.old list }
-    requires apart { list.place ≢ others.now.place }
     requires unlocked { IsUnlocked frame.old }
-    requires other_unlocked { IsUnlocked other.old }
-    ensures keeps { Keeps frame.old frame.new }
-    ensures other_keeps { Keeps other.old other.new }
-    ensures unlocked { IsUnlocked frame.new }
-    ensures other_unlocked { IsUnlocked other.new }
+    requires other { OwnsBoth other.old others.now list }
+    ensures stays { Stays frame.old frame.new }
+    ensures other_stays { Stays other.old other.new }
+    ensures other { OwnsBoth other.new others.now result }
     ensures same { result ≡ list }
 {
     match try_lock(frame, globals) {
@@ -64,7 +45,8 @@ fn locks_meanwhile<R: Abort + Wait, H: Home<A>, A: Allocator + Copy>(
             assert!(rt; locked.room().is_ok());
             assert!(rt; locked.place().is_ok());
             let list = refuses(rt, other, others, Giving::TryPut(7), list, Fault::Busy);
-            has_an_empty_list(rt, other, &list);
+            gets_none(rt, other, &list, Getting::TryPop);
+            assert!(rt; try_int_of(other, &list) == Err(Fault::WrongKind));
             locked.unlock();
             list
         }
@@ -78,12 +60,9 @@ fn puts_then<R: Abort + Wait, H: Home<A>, A: Allocator + Copy>(
     globals: &Handle<A>,
     list: Handle<A>,
 )
-    requires owned { Owns frame.old globals.now }
-    requires list_owned { Owns frame.old list }
-    requires apart { list.place ≢ globals.now.place }
-    requires unlocked { IsUnlocked frame.old }
-    ensures loses { Loses frame.old frame.new list }
-    ensures unlocked { IsUnlocked frame.new }
+    requires { OwnsBoth frame.old globals.now list }
+    ensures parts { Parts frame.old frame.new list }
+    ensures owned { Owns frame.new globals.now }
 {
     gives(rt, frame, globals, Giving::TryPut(7), list);
     let found = gets(rt, frame, globals, Getting::TryFind(7));
@@ -94,12 +73,17 @@ fn puts_then<R: Abort + Wait, H: Home<A>, A: Allocator + Copy>(
 
 #[test]
 fn what_another_thread_has_locked_is_busy(rt: HostRuntime) {
-    let (heap, root) = a_heap(&rt, rt.alloc(), 512);
-    let mut root = root;
+    let (heap, mut root) = a_heap(&rt, rt.alloc(), 512);
     let mut first = a_thread(&rt, rt.alloc(), &heap, &mut root);
     let mut second = a_thread(&rt, rt.alloc(), &heap, &mut root);
-    let globals = the_globals(&rt, first.frame());
-    let others = the_globals(&rt, second.frame());
+    let globals = first
+        .frame()
+        .immortal(GLOBALS)
+        .expect(&rt, "no place is left");
+    let others = second
+        .frame()
+        .immortal(GLOBALS)
+        .expect(&rt, "no place is left");
     let list = made(&rt, rt.alloc(), second.frame(), Thing::List);
     let list = locks_meanwhile(&rt, first.frame(), &globals, second.frame(), &others, list);
     puts_then(&rt, second.frame(), &others, list);

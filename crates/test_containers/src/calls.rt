@@ -1,13 +1,14 @@
 //! Calls on containers by their names: those that a value is given to, those that answer a handle to an entry, and
 //! those that exchange the two. Each says of the frame's handles what the call itself says.
 
-ghost use Rattle.std.specs.Prelude.{◌≡◌, ◌≢◌, IfOk, IfErr, IfSome, OnOk, OnErr};
+ghost use Rattle.std.specs.Prelude.{◌≡◌, IfOk, IfErr, IfSome, OnErr};
 ghost use Rattle.brc_count.specs.Frames.{IsUnlocked, Owns};
-ghost use Rattle.brc_count.specs.Owned.{Keeps, Gains, Loses};
+ghost use Rattle.brc_count.specs.Owned.{Keeps};
 ghost use Rattle.brc_dicts.specs.Putting.{OwnsPut};
+ghost use Rattle.test_containers.specs.Calls.{OwnsBoth, Stays, Adds, Parts, LosesOrKeeps, GainsOrKeeps};
 
-use crate::guards::{Way, entry_by_guard, put_by_guard, swap_by_guard, take_by_guard};
-use crate::objects::{Thing, made, number_of, the_globals};
+use crate::guards::{Entry, Way, had_by_guard, put_by_guard, swap_by_guard};
+use crate::objects::{Thing, made, number_of};
 use brc_biased::Home;
 use brc_count::{Frame, Handed, Handle};
 use brc_dicts::{dict_del, dict_find, dict_put, try_dict_del, try_dict_find, try_dict_put};
@@ -15,7 +16,7 @@ use brc_lists::{
     list_get, list_pop, list_push, list_set, list_take, recv, send, try_list_get, try_list_pop,
     try_list_push, try_list_set, try_list_take, try_recv, try_send,
 };
-use brc_words::{Fault, Key};
+use brc_words::{Fault, GLOBALS, Key};
 use std::alloc::Allocator;
 use std::process::Abort;
 use std::sync::Wait;
@@ -73,10 +74,7 @@ fn put<R: Abort + Wait, H: Home<A>, A: Allocator + Copy>(
     value: Handle<A>,
     way: Way,
 ) -> Result<Option<Handle<A>>, Handed<(Key<A>, Handle<A>)>>
-    requires owned { Owns frame.old dict.now }
-    requires value_owned { Owns frame.old value }
-    requires apart { value.place ≢ dict.now.place }
-    requires unlocked { IsUnlocked frame.old }
+    requires { OwnsBoth frame.old dict.now value }
     ensures owns { IfOk result (OwnsPut frame.old frame.new value) }
     ensures same { IfOk result (λ old. IfSome old (λ given. given ≡ value)) }
     ensures keeps { OnErr result (Keeps frame.old frame.new) }
@@ -98,14 +96,8 @@ fn put_new<R: Abort + Wait, H: Home<A>, A: Allocator + Copy>(
     value: Handle<A>,
     way: Way,
 ) -> Result<(), Handed<Handle<A>>>
-    requires owned { Owns frame.old dict.now }
-    requires value_owned { Owns frame.old value }
-    requires apart { value.place ≢ dict.now.place }
-    requires unlocked { IsUnlocked frame.old }
-    ensures loses { OnOk result (Loses frame.old frame.new value) }
-    ensures keeps { OnErr result (Keeps frame.old frame.new) }
-    ensures unlocked { IsUnlocked frame.new }
-    ensures back { IfErr result (λ handed. handed.back ≡ value) }
+    requires { OwnsBoth frame.old dict.now value }
+    ensures { LosesOrKeeps frame.old frame.new value result }
 {
     match put(rt, frame, dict, key, value, way) {
         Ok(None) => Ok(()),
@@ -130,14 +122,8 @@ pub(crate) fn given<R: Abort + Wait, H: Home<A>, A: Allocator + Copy>(
     giving: Giving,
     value: Handle<A>,
 ) -> Result<(), Handed<Handle<A>>>
-    requires owned { Owns frame.old container.now }
-    requires value_owned { Owns frame.old value }
-    requires apart { value.place ≢ container.now.place }
-    requires unlocked { IsUnlocked frame.old }
-    ensures loses { OnOk result (Loses frame.old frame.new value) }
-    ensures keeps { OnErr result (Keeps frame.old frame.new) }
-    ensures unlocked { IsUnlocked frame.new }
-    ensures back { IfErr result (λ handed. handed.back ≡ value) }
+    requires { OwnsBoth frame.old container.now value }
+    ensures { LosesOrKeeps frame.old frame.new value result }
 {
     match giving {
         Giving::Push => list_push(rt, frame, container, value),
@@ -158,12 +144,8 @@ pub(crate) fn gives<R: Abort + Wait, H: Home<A>, A: Allocator + Copy>(
     giving: Giving,
     value: Handle<A>,
 )
-    requires owned { Owns frame.old container.now }
-    requires value_owned { Owns frame.old value }
-    requires apart { value.place ≢ container.now.place }
-    requires unlocked { IsUnlocked frame.old }
-    ensures loses { Loses frame.old frame.new value }
-    ensures unlocked { IsUnlocked frame.new }
+    requires { OwnsBoth frame.old container.now value }
+    ensures { Parts frame.old frame.new value }
 {
     match given(rt, frame, container, giving, value) {
         Ok(()) => {}
@@ -180,12 +162,8 @@ pub(crate) fn refuses<R: Abort + Wait, H: Home<A>, A: Allocator + Copy>(
     value: Handle<A>,
     why: Fault,
 ) -> Handle<A>
-    requires owned { Owns frame.old container.now }
-    requires value_owned { Owns frame.old value }
-    requires apart { value.place ≢ container.now.place }
-    requires unlocked { IsUnlocked frame.old }
-    ensures keeps { Keeps frame.old frame.new }
-    ensures unlocked { IsUnlocked frame.new }
+    requires { OwnsBoth frame.old container.now value }
+    ensures stays { Stays frame.old frame.new }
     ensures same { result ≡ value }
 {
     match given(rt, frame, container, giving, value) {
@@ -206,9 +184,7 @@ pub(crate) fn had<R: Abort + Wait, H: Home<A>, A: Allocator>(
 ) -> Result<Handle<A>, Fault>
     requires owned { Owns frame.old container.now }
     requires unlocked { IsUnlocked frame.old }
-    ensures gains { IfOk result (Gains frame.old frame.new) }
-    ensures keeps { OnErr result (Keeps frame.old frame.new) }
-    ensures unlocked { IsUnlocked frame.new }
+    ensures { GainsOrKeeps frame.old frame.new result }
 {
     match getting {
         Getting::Pop => list_pop(rt, frame, container),
@@ -223,8 +199,10 @@ pub(crate) fn had<R: Abort + Wait, H: Home<A>, A: Allocator>(
         Getting::TryFind(key) => try_dict_find(frame, container, &Key::Int(key)),
         Getting::Del(key) => dict_del(rt, frame, container, &Key::Int(key)),
         Getting::TryDel(key) => try_dict_del(frame, container, &Key::Int(key)),
-        Getting::Entry(index, way) => entry_by_guard(rt, frame, container, index, way),
-        Getting::Take(index, way) => take_by_guard(rt, frame, container, index, way),
+        Getting::Entry(index, way) => {
+            had_by_guard(rt, frame, container, index, way, Entry::Stays)
+        }
+        Getting::Take(index, way) => had_by_guard(rt, frame, container, index, way, Entry::Goes),
     }
 }
 
@@ -237,13 +215,9 @@ pub(crate) fn gets<R: Abort + Wait, H: Home<A>, A: Allocator>(
 ) -> Handle<A>
     requires owned { Owns frame.old container.now }
     requires unlocked { IsUnlocked frame.old }
-    ensures gains { Gains frame.old frame.new result }
-    ensures unlocked { IsUnlocked frame.new }
+    ensures { Adds frame.old frame.new result }
 {
-    match had(rt, frame, container, getting) {
-        Ok(handle) => handle,
-        Err(_) => panic!(rt; "an entry isn't had"),
-    }
+    had(rt, frame, container, getting).expect(rt, "an entry isn't had")
 }
 
 /// The entry is an integer with this number.
@@ -256,8 +230,7 @@ pub(crate) fn gets_number<R: Abort + Wait, H: Home<A>, A: Allocator>(
 )
     requires owned { Owns frame.old container.now }
     requires unlocked { IsUnlocked frame.old }
-    ensures keeps { Keeps frame.old frame.new }
-    ensures unlocked { IsUnlocked frame.new }
+    ensures { Stays frame.old frame.new }
 {
     let handle = gets(rt, frame, container, getting);
     assert_eq!(rt; number_of(rt, frame, handle), number);
@@ -272,8 +245,7 @@ pub(crate) fn gets_none<R: Abort + Wait, H: Home<A>, A: Allocator>(
 )
     requires owned { Owns frame.old container.now }
     requires unlocked { IsUnlocked frame.old }
-    ensures keeps { Keeps frame.old frame.new }
-    ensures unlocked { IsUnlocked frame.new }
+    ensures { Stays frame.old frame.new }
 {
     match had(rt, frame, container, getting) {
         Ok(_handle) => panic!(rt; "an entry is there"),
@@ -289,12 +261,8 @@ pub(crate) fn exchanges<R: Abort + Wait, H: Home<A>, A: Allocator>(
     exchanging: Exchanging,
     value: Handle<A>,
 ) -> Handle<A>
-    requires owned { Owns frame.old container.now }
-    requires value_owned { Owns frame.old value }
-    requires apart { value.place ≢ container.now.place }
-    requires unlocked { IsUnlocked frame.old }
-    ensures keeps { Keeps frame.old frame.new }
-    ensures unlocked { IsUnlocked frame.new }
+    requires { OwnsBoth frame.old container.now value }
+    ensures stays { Stays frame.old frame.new }
     ensures same { result ≡ value }
 {
     match exchanging {
@@ -319,10 +287,9 @@ pub(crate) fn shares<R: Abort + Wait, H: Home<A>, A: Allocator + Copy>(
 )
     requires owned { Owns frame.old value }
     requires unlocked { IsUnlocked frame.old }
-    ensures loses { Loses frame.old frame.new value }
-    ensures unlocked { IsUnlocked frame.new }
+    ensures { Parts frame.old frame.new value }
 {
-    let globals = the_globals(rt, frame);
+    let globals = frame.immortal(GLOBALS).expect(rt, "no place is left");
     gives(rt, frame, &globals, Giving::Put(key), value);
     frame.release(globals);
 }
@@ -334,10 +301,9 @@ pub(crate) fn fetches<R: Abort + Wait, H: Home<A>, A: Allocator>(
     getting: Getting,
 ) -> Handle<A>
     requires unlocked { IsUnlocked frame.old }
-    ensures gains { Gains frame.old frame.new result }
-    ensures unlocked { IsUnlocked frame.new }
+    ensures { Adds frame.old frame.new result }
 {
-    let globals = the_globals(rt, frame);
+    let globals = frame.immortal(GLOBALS).expect(rt, "no place is left");
     let found = gets(rt, frame, &globals, getting);
     frame.release(globals);
     found
@@ -354,8 +320,7 @@ pub(crate) fn gives_number<R: Abort + Wait, H: Home<A>, A: Allocator + Copy>(
 )
     requires owned { Owns frame.old container.now }
     requires unlocked { IsUnlocked frame.old }
-    ensures keeps { Keeps frame.old frame.new }
-    ensures unlocked { IsUnlocked frame.new }
+    ensures { Stays frame.old frame.new }
 {
     let value = made(rt, alloc, frame, Thing::Int(number));
     gives(rt, frame, container, giving, value);
@@ -370,8 +335,7 @@ pub(crate) fn shares_new<R: Abort + Wait, H: Home<A>, A: Allocator + Copy>(
     thing: Thing,
 )
     requires unlocked { IsUnlocked frame.old }
-    ensures keeps { Keeps frame.old frame.new }
-    ensures unlocked { IsUnlocked frame.new }
+    ensures { Stays frame.old frame.new }
 {
     let value = made(rt, alloc, frame, thing);
     shares(rt, frame, key, value);

@@ -1,19 +1,21 @@
 //! Globals that can't be cleared for want of memory: for the handle to them, and for the one to an entry. What they
 //! hold and what the thread has is as before, and with memory they are cleared.
 
-ghost use Rattle.std.specs.Prelude.{◌≡◌, All};
+ghost use Rattle.std.specs.Prelude.{◌≡◌};
 ghost use Rattle.brc_count.specs.Frames.{IsUnlocked, Owns};
-ghost use Rattle.brc_count.specs.Owned.{Keeps, GoesOn};
+ghost use Rattle.brc_count.specs.Owned.{GoesOn};
+ghost use Rattle.test_containers.specs.Calls.{Stays};
 
 use crate::calls::shares;
-use crate::memory::{Pieces, a_local_heap};
-use crate::objects::{entries, the_globals};
-use crate::refused::{a_none, fills_places, give_all_back, give_back};
+use crate::memory::{Memories, Pieces, a_local_heap};
+use crate::objects::entries;
+use crate::refused::{fills_places, give_all_back, give_back};
 use crate::threads::{a_heap, a_thread, is_empty};
 use brc_biased::Home;
-use brc_count::{Frame, Handle};
+use brc_count::Handle;
+use brc_things::none;
 use brc_thread::Mutator;
-use brc_words::Fault;
+use brc_words::{Fault, GLOBALS};
 use linked_list_allocator::LocalHeap;
 use std::alloc::{Allocator, Global};
 use std::process::Abort;
@@ -27,8 +29,7 @@ fn clears_nothing<R: Abort + Wait, H: Home<A>, A: Allocator>(
 )
     requires owned { Owns thread.old globals.now }
     requires unlocked { IsUnlocked thread.old }
-    ensures keeps { Keeps thread.old thread.new }
-    ensures unlocked { IsUnlocked thread.new }
+    ensures { Stays thread.old thread.new }
 {
     let handles = thread.frame().len();
     let before = entries(rt, thread.frame(), globals);
@@ -40,8 +41,7 @@ fn clears_nothing<R: Abort + Wait, H: Home<A>, A: Allocator>(
 /// No handle to the globals is had.
 fn has_no_globals<R: Abort, H: Home<A>, A: Allocator>(rt: &R, thread: &mut Mutator<H, A>)
     requires unlocked { IsUnlocked thread.old }
-    ensures keeps { Keeps thread.old thread.new }
-    ensures unlocked { IsUnlocked thread.new }
+    ensures { Stays thread.old thread.new }
 {
     match thread.globals() {
         Ok(_handle) => panic!(rt; "there was memory"),
@@ -58,8 +58,7 @@ fn clears_with_memory<'h, R: Abort + Wait, H: Home<&'h LocalHeap>>(
 )
     requires owned { Owns thread.old globals.now }
     requires unlocked { IsUnlocked thread.old }
-    ensures keeps { Keeps thread.old thread.new }
-    ensures unlocked { IsUnlocked thread.new }
+    ensures { Stays thread.old thread.new }
 {
     for _ in 0..1_000 {
         if thread.clear_globals().is_ok() {
@@ -69,23 +68,6 @@ fn clears_with_memory<'h, R: Abort + Wait, H: Home<&'h LocalHeap>>(
         pieces.give_one(rt);
     }
     panic!(rt; "they are never cleared")
-}
-
-/// The last of the references that are kept goes, so that its place is free.
-fn gives_a_place<H: Home<A>, A: Allocator, B: Allocator>(
-    rt: &impl Abort,
-    frame: &mut Frame<H, A>,
-    handles: &mut Vec<Handle<A>, B>,
-)
-    requires at_heap { All (λ h. h.heap ≡ frame.old.heap) handles.old.items }
-    requires unlocked { IsUnlocked frame.old }
-    ensures at_heap { All (λ h. h.heap ≡ frame.old.heap) handles.new.items }
-    ensures goes_on { GoesOn frame.old frame.new }
-{
-    let Some(last) = handles.pop() else {
-        panic!(rt; "no place is filled")
-    };
-    give_back(rt, frame, last);
 }
 
 /// The globals hold None, and aren't cleared until there is memory.
@@ -99,16 +81,20 @@ fn refuses_to_clear<'h, R: Abort + Wait, H: Home<&'h LocalHeap>>(
     ensures goes_on { GoesOn thread.old thread.new }
     ensures bare { thread.new.len ≡ 0 }
 {
-    let value = a_none(rt, thread.frame());
+    let value = none(thread.frame()).expect(rt, "no None is had");
     shares(rt, thread.frame(), 7, value);
-    let globals = the_globals(rt, thread.frame());
+    let globals = thread
+        .frame()
+        .immortal(GLOBALS)
+        .expect(rt, "no place is left");
     let mut handles = Vec::new(alloc);
     let mut pieces = Pieces::take_all(rt, alloc, scarce);
     fills_places(rt, thread.frame(), &mut handles);
     has_no_globals(rt, thread);
     clears_nothing(rt, thread, &globals);
     // One place serves the handle to the globals, and none is left for the entry's.
-    gives_a_place(rt, thread.frame(), &mut handles);
+    let last = handles.pop().expect(rt, "no place is filled");
+    give_back(rt, thread.frame(), last);
     assert!(rt; thread.frame().owns(&globals));
     clears_nothing(rt, thread, &globals);
     clears_with_memory(rt, &mut pieces, thread, &globals);
@@ -118,16 +104,10 @@ fn refuses_to_clear<'h, R: Abort + Wait, H: Home<&'h LocalHeap>>(
 }
 
 /// The same on a heap of its own.
-fn clears_on_a_heap<'h, R: Abort + Wait>(
-    rt: &R,
-    alloc: Global,
-    ample: &'h LocalHeap,
-    scarce: &'h LocalHeap,
-) {
-    let (heap, root) = a_heap(rt, ample, 512);
-    let mut root = root;
-    let mut thread = a_thread(rt, scarce, &heap, &mut root);
-    refuses_to_clear(rt, alloc, scarce, &mut thread);
+fn clears_on_a_heap<R: Abort + Wait>(rt: &R, alloc: Global, memories: Memories<'_>) {
+    let (heap, mut root) = a_heap(rt, memories.ample, 512);
+    let mut thread = a_thread(rt, memories.scarce, &heap, &mut root);
+    refuses_to_clear(rt, alloc, memories.scarce, &mut thread);
     let ledger = thread.end(rt, &mut root, &heap);
     assert_eq!(rt; (ledger.allocs, ledger.frees), (0, 0));
     is_empty(rt, heap, root);
@@ -137,6 +117,10 @@ fn clears_on_a_heap<'h, R: Abort + Wait>(
 fn globals_without_memory_are_not_cleared(rt: HostRuntime) {
     let ample = a_local_heap(&rt, rt.alloc(), 1 << 20);
     let scarce = a_local_heap(&rt, rt.alloc(), 1 << 16);
-    clears_on_a_heap(&rt, rt.alloc(), &ample, &scarce);
+    let memories = Memories {
+        ample: &ample,
+        scarce: &scarce,
+    };
+    clears_on_a_heap(&rt, rt.alloc(), memories);
     assert_eq!(rt; (ample.used(), scarce.used()), (0, 0));
 }

@@ -4,16 +4,18 @@
 
 ghost use Rattle.std.specs.Prelude.{◌≡◌};
 ghost use Rattle.brc_count.specs.Frames.{IsUnlocked, Owns};
-ghost use Rattle.brc_count.specs.Owned.{Keeps, Gains, GoesOn};
+ghost use Rattle.brc_count.specs.Owned.{GoesOn};
+ghost use Rattle.test_containers.specs.Calls.{Stays, Adds};
 
 use crate::guards::Way;
-use crate::memory::Pieces;
-use crate::objects::{Thing, a_text, made};
-use crate::refused::{a_none, fills_places, give_all_back};
+use crate::memory::{Memories, Pieces};
+use crate::objects::{Thing, made};
+use crate::refused::{fills_places, give_all_back};
 use brc_biased::Home;
 use brc_containers::{text_into, text_of, try_text_into, try_text_of};
 use brc_count::{Frame, Handle};
 use brc_dicts::{dict_key, dict_pair, try_dict_key, try_dict_pair, try_dict_put};
+use brc_things::none;
 use brc_words::{Fault, Key, Text};
 use linked_list_allocator::LocalHeap;
 use std::alloc::{Allocator, Global};
@@ -44,89 +46,8 @@ fn is_the_key<A: Allocator>(key: &Key<A>) -> bool {
     }
 }
 
-/// Whether a copy of the text is as it is.
-fn text_copied<H: Home<A>, A: Allocator>(
-    rt: &impl Wait,
-    alloc: A,
-    frame: &mut Frame<H, A>,
-    text: &Handle<A>,
-    way: Way,
-) -> Result<bool, Fault>
-    requires owned { Owns frame.old text.now }
-    requires unlocked { IsUnlocked frame.old }
-    ensures keeps { Keeps frame.old frame.new }
-    ensures unlocked { IsUnlocked frame.new }
-{
-    let copy = match way {
-        Way::AtOnce => try_text_of(alloc, frame, text)?,
-        Way::Late => text_of(rt, alloc, frame, text)?,
-    };
-    Ok(copy.as_str() == SOME_TEXT)
-}
-
-/// Whether a buffer that was empty has the text then.
-fn text_put<H: Home<A>, A: Allocator>(
-    rt: &impl Wait,
-    alloc: A,
-    frame: &mut Frame<H, A>,
-    text: &Handle<A>,
-    way: Way,
-) -> Result<bool, Fault>
-    requires owned { Owns frame.old text.now }
-    requires unlocked { IsUnlocked frame.old }
-    ensures keeps { Keeps frame.old frame.new }
-    ensures unlocked { IsUnlocked frame.new }
-{
-    let mut buffer = String::new(alloc);
-    match way {
-        Way::AtOnce => try_text_into(frame, text, &mut buffer)?,
-        Way::Late => text_into(rt, frame, text, &mut buffer)?,
-    }
-    Ok(buffer.as_str() == SOME_TEXT)
-}
-
-/// Whether a copy of the second key is as it is.
-fn key_copied<H: Home<A>, A: Allocator>(
-    rt: &impl Wait,
-    alloc: A,
-    frame: &mut Frame<H, A>,
-    dict: &Handle<A>,
-    way: Way,
-) -> Result<bool, Fault>
-    requires owned { Owns frame.old dict.now }
-    requires unlocked { IsUnlocked frame.old }
-    ensures keeps { Keeps frame.old frame.new }
-    ensures unlocked { IsUnlocked frame.new }
-{
-    let key = match way {
-        Way::AtOnce => try_dict_key(alloc, frame, dict, 1)?,
-        Way::Late => dict_key(rt, alloc, frame, dict, 1)?,
-    };
-    Ok(is_the_key(&key))
-}
-
-/// Whether the second pair has this key; its value goes again.
-fn pair_copied<H: Home<A>, A: Allocator>(
-    rt: &impl Wait,
-    alloc: A,
-    frame: &mut Frame<H, A>,
-    dict: &Handle<A>,
-    way: Way,
-) -> Result<bool, Fault>
-    requires owned { Owns frame.old dict.now }
-    requires unlocked { IsUnlocked frame.old }
-    ensures keeps { Keeps frame.old frame.new }
-    ensures unlocked { IsUnlocked frame.new }
-{
-    let (key, value) = match way {
-        Way::AtOnce => try_dict_pair(alloc, frame, dict, 1)?,
-        Way::Late => dict_pair(rt, alloc, frame, dict, 1)?,
-    };
-    frame.release(value);
-    Ok(is_the_key(&key))
-}
-
-/// The copy, by the form that waits or by the one that doesn't.
+/// Whether the copy is as it should be, by the form that waits or by the one that doesn't. The value beside a key goes
+/// again.
 fn copied<H: Home<A>, A: Allocator>(
     rt: &impl Wait,
     alloc: A,
@@ -137,14 +58,39 @@ fn copied<H: Home<A>, A: Allocator>(
 ) -> Result<bool, Fault>
     requires owned { Owns frame.old object.now }
     requires unlocked { IsUnlocked frame.old }
-    ensures keeps { Keeps frame.old frame.new }
-    ensures unlocked { IsUnlocked frame.new }
+    ensures { Stays frame.old frame.new }
 {
     match copying {
-        Copying::Text => text_copied(rt, alloc, frame, object, way),
-        Copying::Into => text_put(rt, alloc, frame, object, way),
-        Copying::Key => key_copied(rt, alloc, frame, object, way),
-        Copying::Pair => pair_copied(rt, alloc, frame, object, way),
+        Copying::Text => {
+            let copy = match way {
+                Way::AtOnce => try_text_of(alloc, frame, object)?,
+                Way::Late => text_of(rt, alloc, frame, object)?,
+            };
+            Ok(copy.as_str() == SOME_TEXT)
+        }
+        Copying::Into => {
+            let mut buffer = String::new(alloc);
+            match way {
+                Way::AtOnce => try_text_into(frame, object, &mut buffer)?,
+                Way::Late => text_into(rt, frame, object, &mut buffer)?,
+            }
+            Ok(buffer.as_str() == SOME_TEXT)
+        }
+        Copying::Key => {
+            let key = match way {
+                Way::AtOnce => try_dict_key(alloc, frame, object, 1)?,
+                Way::Late => dict_key(rt, alloc, frame, object, 1)?,
+            };
+            Ok(is_the_key(&key))
+        }
+        Copying::Pair => {
+            let (key, value) = match way {
+                Way::AtOnce => try_dict_pair(alloc, frame, object, 1)?,
+                Way::Late => dict_pair(rt, alloc, frame, object, 1)?,
+            };
+            frame.release(value);
+            Ok(is_the_key(&key))
+        }
     }
 }
 
@@ -157,10 +103,9 @@ fn puts_none<R: Abort, H: Home<A>, A: Allocator + Copy>(
 )
     requires owned { Owns frame.old dict.now }
     requires unlocked { IsUnlocked frame.old }
-    ensures keeps { Keeps frame.old frame.new }
-    ensures unlocked { IsUnlocked frame.new }
+    ensures { Stays frame.old frame.new }
 {
-    let value = a_none(rt, frame);
+    let value = none(frame).expect(rt, "no None is had");
     match try_dict_put(frame, dict, key, value) {
         Ok(None) => (),
         Ok(Some(_old)) => panic!(rt; "the key was there"),
@@ -175,8 +120,7 @@ fn two_keys<R: Abort + Wait, H: Home<A>, A: Allocator + Copy>(
     frame: &mut Frame<H, A>,
 ) -> Handle<A>
     requires unlocked { IsUnlocked frame.old }
-    ensures gains { Gains frame.old frame.new result }
-    ensures unlocked { IsUnlocked frame.new }
+    ensures { Adds frame.old frame.new result }
 {
     let dict = made(rt, alloc, frame, Thing::Dict);
     puts_none(rt, frame, &dict, Key::Int(7));
@@ -195,11 +139,10 @@ fn an_object<R: Abort + Wait, H: Home<A>, A: Allocator + Copy>(
     copying: Copying,
 ) -> Handle<A>
     requires unlocked { IsUnlocked frame.old }
-    ensures gains { Gains frame.old frame.new result }
-    ensures unlocked { IsUnlocked frame.new }
+    ensures { Adds frame.old frame.new result }
 {
     match copying {
-        Copying::Text | Copying::Into => a_text(rt, alloc, frame, SOME_TEXT),
+        Copying::Text | Copying::Into => made(rt, alloc, frame, Thing::Text(SOME_TEXT)),
         Copying::Key | Copying::Pair => two_keys(rt, alloc, frame),
     }
 }
@@ -216,8 +159,7 @@ fn copies_with_memory<'h, R: Abort + Wait, H: Home<&'h LocalHeap>>(
 )
     requires owned { Owns frame.old object.now }
     requires unlocked { IsUnlocked frame.old }
-    ensures keeps { Keeps frame.old frame.new }
-    ensures unlocked { IsUnlocked frame.new }
+    ensures { Stays frame.old frame.new }
 {
     let handles = frame.len();
     for tried in 0..1_000 {
@@ -238,8 +180,7 @@ fn copies_with_memory<'h, R: Abort + Wait, H: Home<&'h LocalHeap>>(
 pub(crate) fn refuses_a_copy<'h, R: Abort + Wait, H: Home<&'h LocalHeap>>(
     rt: &R,
     alloc: Global,
-    ample: &'h LocalHeap,
-    scarce: &'h LocalHeap,
+    memories: Memories<'h>,
     frame: &mut Frame<H, &'h LocalHeap>,
     copying: Copying,
     way: Way,
@@ -248,11 +189,19 @@ pub(crate) fn refuses_a_copy<'h, R: Abort + Wait, H: Home<&'h LocalHeap>>(
     ensures goes_on { GoesOn frame.old frame.new }
     ensures bare { frame.new.len ≡ 0 }
 {
-    let object = an_object(rt, ample, frame, copying);
+    let object = an_object(rt, memories.ample, frame, copying);
     let mut handles = Vec::new(alloc);
-    let mut pieces = Pieces::take_all(rt, alloc, scarce);
+    let mut pieces = Pieces::take_all(rt, alloc, memories.scarce);
     fills_places(rt, frame, &mut handles);
-    copies_with_memory(rt, scarce, &mut pieces, frame, &object, copying, way);
+    copies_with_memory(
+        rt,
+        memories.scarce,
+        &mut pieces,
+        frame,
+        &object,
+        copying,
+        way,
+    );
     frame.release(object);
     give_all_back(rt, frame, handles);
     assert_eq!(rt; frame.len(), 0);

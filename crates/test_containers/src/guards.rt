@@ -1,10 +1,11 @@
 //! Objects that are locked by a guard: looked at, and unlocked as they were found, or with one entry more, fewer or
 //! exchanged.
 
-ghost use Rattle.std.specs.Prelude.{◌≡◌, ◌≢◌, IfOk, IfErr, OnOk, OnErr};
+ghost use Rattle.std.specs.Prelude.{◌≡◌};
 ghost use Rattle.brc_count.specs.Frames.{IsUnlocked, Owns};
-ghost use Rattle.brc_count.specs.Owned.{Keeps, Gains, Loses};
+ghost use Rattle.brc_count.specs.Owned.{Keeps};
 ghost use Rattle.brc_lock.specs.Holding.{Holds};
+ghost use Rattle.test_containers.specs.Calls.{OwnsBoth, Parts, LosesOrKeeps, GainsOrKeeps, Stays};
 
 use brc_biased::Home;
 use brc_block::{Block, Entries, Payload};
@@ -53,14 +54,8 @@ pub(crate) fn put_by_guard<R: Abort + Wait, H: Home<A>, A: Allocator + Copy>(
     value: Handle<A>,
     way: Way,
 ) -> Result<(), Handed<Handle<A>>>
-    requires owned { Owns frame.old list.now }
-    requires value_owned { Owns frame.old value }
-    requires apart { value.place ≢ list.now.place }
-    requires unlocked { IsUnlocked frame.old }
-    ensures loses { OnOk result (Loses frame.old frame.new value) }
-    ensures keeps { OnErr result (Keeps frame.old frame.new) }
-    ensures unlocked { IsUnlocked frame.new }
-    ensures back { IfErr result (λ handed. handed.back ≡ value) }
+    requires { OwnsBoth frame.old list.now value }
+    ensures { LosesOrKeeps frame.old frame.new value result }
 {
     let mut guard = locked(rt, frame, list, way);
     let Payload::List(_) = guard.payload() else {
@@ -78,20 +73,17 @@ pub(crate) fn put_by_guard<R: Abort + Wait, H: Home<A>, A: Allocator + Copy>(
     }
 }
 
-/// The value goes into an empty dictionary, beside the key 7.
+/// The value goes into an empty dictionary, beside this key.
 pub(crate) fn puts_a_pair<R: Abort + Wait, H: Home<A>, A: Allocator + Copy>(
     rt: &R,
     frame: &mut Frame<H, A>,
     dict: &Handle<A>,
+    key: i64,
     value: Handle<A>,
     way: Way,
 )
-    requires owned { Owns frame.old dict.now }
-    requires value_owned { Owns frame.old value }
-    requires apart { value.place ≢ dict.now.place }
-    requires unlocked { IsUnlocked frame.old }
-    ensures loses { Loses frame.old frame.new value }
-    ensures unlocked { IsUnlocked frame.new }
+    requires { OwnsBoth frame.old dict.now value }
+    ensures { Parts frame.old frame.new value }
 {
     let mut guard = locked(rt, frame, dict, way);
     let Payload::Dict(pairs) = guard.payload() else {
@@ -99,56 +91,30 @@ pub(crate) fn puts_a_pair<R: Abort + Wait, H: Home<A>, A: Allocator + Copy>(
     };
     assert!(rt; pairs.len() == 0);
     match guard.room() {
-        Ok(()) => guard.unlock_put(Some(Key::Int(7)), value),
+        Ok(()) => guard.unlock_put(Some(Key::Int(key)), value),
         Err(_) => panic!(rt; "no room is made"),
     }
 }
 
-/// A handle to an entry of the list, which stays. Where a place for it is refused the list is unlocked as it was found.
-pub(crate) fn entry_by_guard<R: Abort + Wait, H: Home<A>, A: Allocator>(
-    rt: &R,
-    frame: &mut Frame<H, A>,
-    list: &Handle<A>,
-    index: u32,
-    way: Way,
-) -> Result<Handle<A>, Fault>
-    requires owned { Owns frame.old list.now }
-    requires unlocked { IsUnlocked frame.old }
-    ensures gains { IfOk result (Gains frame.old frame.new) }
-    ensures keeps { OnErr result (Keeps frame.old frame.new) }
-    ensures unlocked { IsUnlocked frame.new }
-{
-    let mut guard = locked(rt, frame, list, way);
-    let Payload::List(cells) = guard.payload() else {
-        panic!(rt; "it is no list")
-    };
-    assert!(rt; (index as usize) < cells.len());
-    match guard.place() {
-        Ok(()) => {
-            let handle = guard.entry(index);
-            guard.unlock();
-            Ok(handle)
-        }
-        Err(fault) => {
-            guard.unlock();
-            Err(fault)
-        }
-    }
+/// What becomes of an entry that a handle is had to: it stays in the list, or is taken out of it.
+#[derive(Clone, Copy)]
+pub(crate) enum Entry {
+    Stays,
+    Goes,
 }
 
-/// An entry of the list, taken out of it. Where a place for it is refused the list is unlocked as it was found.
-pub(crate) fn take_by_guard<R: Abort + Wait, H: Home<A>, A: Allocator>(
+/// A handle to an entry of the list. Where a place for it is refused the list is unlocked as it was found.
+pub(crate) fn had_by_guard<R: Abort + Wait, H: Home<A>, A: Allocator>(
     rt: &R,
     frame: &mut Frame<H, A>,
     list: &Handle<A>,
     index: u32,
     way: Way,
+    entry: Entry,
 ) -> Result<Handle<A>, Fault>
     requires owned { Owns frame.old list.now }
     requires unlocked { IsUnlocked frame.old }
-    ensures gains { IfOk result (Gains frame.old frame.new) }
-    ensures keeps { OnErr result (Keeps frame.old frame.new) }
-    ensures unlocked { IsUnlocked frame.new }
+    ensures { GainsOrKeeps frame.old frame.new result }
 {
     let mut guard = locked(rt, frame, list, way);
     let Payload::List(cells) = guard.payload() else {
@@ -156,7 +122,14 @@ pub(crate) fn take_by_guard<R: Abort + Wait, H: Home<A>, A: Allocator>(
     };
     assert!(rt; (index as usize) < cells.len());
     match guard.place() {
-        Ok(()) => Ok(guard.unlock_take(index)),
+        Ok(()) => match entry {
+            Entry::Stays => {
+                let handle = guard.entry(index);
+                guard.unlock();
+                Ok(handle)
+            }
+            Entry::Goes => Ok(guard.unlock_take(index)),
+        },
         Err(fault) => {
             guard.unlock();
             Err(fault)
@@ -173,12 +146,8 @@ pub(crate) fn swap_by_guard<R: Abort + Wait, H: Home<A>, A: Allocator>(
     value: Handle<A>,
     way: Way,
 ) -> Handle<A>
-    requires owned { Owns frame.old list.now }
-    requires value_owned { Owns frame.old value }
-    requires apart { value.place ≢ list.now.place }
-    requires unlocked { IsUnlocked frame.old }
-    ensures keeps { Keeps frame.old frame.new }
-    ensures unlocked { IsUnlocked frame.new }
+    requires { OwnsBoth frame.old list.now value }
+    ensures stays { Stays frame.old frame.new }
     ensures same { result ≡ value }
 {
     let guard = locked(rt, frame, list, way);

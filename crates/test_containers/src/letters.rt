@@ -2,7 +2,7 @@
 
 ghost use Rattle.std.specs.Prelude.{◌≡◌};
 ghost use Rattle.brc_count.specs.Frames.{IsUnlocked};
-ghost use Rattle.brc_count.specs.Owned.{Keeps};
+ghost use Rattle.test_containers.specs.Calls.{Stays};
 
 use crate::calls::{Getting, Giving, fetches, gets, gives_number, shares_new};
 use crate::objects::{Thing, entries, number_of};
@@ -24,8 +24,7 @@ fn sends_one<R: Abort + Wait, H: Home<A>, A: Allocator + Copy>(
     number: i64,
 )
     requires unlocked { IsUnlocked frame.old }
-    ensures keeps { Keeps frame.old frame.new }
-    ensures unlocked { IsUnlocked frame.new }
+    ensures { Stays frame.old frame.new }
 {
     let mailbox = fetches(rt, frame, Getting::Find(7));
     gives_number(rt, alloc, frame, &mailbox, Giving::Send, number);
@@ -75,8 +74,7 @@ fn two_send<R: Threads + Abort + Wait + Sync>(
 /// All letters are received: each sender's come in their order, and there are 2,000.
 fn receives_all<R: Abort + Wait, H: Home<A>, A: Allocator>(rt: &R, frame: &mut Frame<H, A>)
     requires unlocked { IsUnlocked frame.old }
-    ensures keeps { Keeps frame.old frame.new }
-    ensures unlocked { IsUnlocked frame.new }
+    ensures { Stays frame.old frame.new }
 {
     let mailbox = fetches(rt, frame, Getting::Del(7));
     let mut first: i64 = 1_000;
@@ -100,8 +98,7 @@ fn receives_all<R: Abort + Wait, H: Home<A>, A: Allocator>(rt: &R, frame: &mut F
 
 #[test]
 fn letters_of_two_threads_come_in_their_order(rt: HostRuntime) {
-    let (heap, root) = a_heap(&rt, rt.alloc(), 4_096);
-    let mut root = root;
+    let (heap, mut root) = a_heap(&rt, rt.alloc(), 4_096);
     let mut last = a_thread(&rt, rt.alloc(), &heap, &mut root);
     shares_new(&rt, rt.alloc(), last.frame(), 7, Thing::Mailbox);
     let first = a_thread(&rt, rt.alloc(), &heap, &mut root).rest();

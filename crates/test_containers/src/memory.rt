@@ -10,12 +10,16 @@ pub(crate) struct Pieces<'h> {
     taken: Vec<Box<u8, &'h LocalHeap>>,
 }
 
+/// The memories of a test: one that is enough for all, and one that may not be.
+#[derive(Clone, Copy)]
+pub(crate) struct Memories<'h> {
+    pub(crate) ample: &'h LocalHeap,
+    pub(crate) scarce: &'h LocalHeap,
+}
+
 /// A heap of so many bytes.
 pub(crate) fn a_local_heap(rt: &impl Abort, alloc: Global, bytes: usize) -> LocalHeap {
-    match LocalHeap::new(alloc, bytes) {
-        Ok(heap) => heap,
-        Err(_) => panic!(rt; "memory"),
-    }
+    LocalHeap::new(alloc, bytes).expect(rt, "memory")
 }
 
 impl<'h> Pieces<'h> {

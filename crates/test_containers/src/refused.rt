@@ -2,15 +2,16 @@
 //! container has as many entries as before, and the frame as many handles; with memory it then passes. Memory is all
 //! taken at first, and comes back a piece at a time.
 
-ghost use Rattle.std.specs.Prelude.{◌≡◌, ◌<◌, ◌++◌, ◌∷◌, [], All, length, OnOk, OnErr};
+ghost use Rattle.std.specs.Prelude.{◌≡◌, ◌<◌, ◌++◌, ◌∷◌, [], All, length};
 ghost use Rattle.brc_count.specs.Frames.{HandleSeen, IsUnlocked, Owns};
-ghost use Rattle.brc_count.specs.Owned.{Keeps, Gains, GoesOn};
+ghost use Rattle.brc_count.specs.Owned.{GoesOn};
+ghost use Rattle.test_containers.specs.Calls.{Stays, Adds};
 
 use crate::calls::{Getting, Giving, fetches, given, had, shares};
 use crate::copies::{Copying, refuses_a_copy};
 use crate::guards::Way;
-use crate::memory::{Pieces, a_local_heap};
-use crate::objects::{Thing, another, entries, made};
+use crate::memory::{Memories, Pieces, a_local_heap};
+use crate::objects::{Thing, entries, made};
 use crate::threads::{a_heap, a_thread, is_empty};
 use brc_biased::Home;
 use brc_containers::try_len_of;
@@ -21,21 +22,6 @@ use linked_list_allocator::LocalHeap;
 use std::alloc::{Allocator, Global};
 use std::process::Abort;
 use std::sync::Wait;
-
-/// A reference to None.
-pub(crate) fn a_none<H: Home<A>, A: Allocator>(
-    rt: &impl Abort,
-    frame: &mut Frame<H, A>,
-) -> Handle<A>
-    requires unlocked { IsUnlocked frame.old }
-    ensures gains { Gains frame.old frame.new result }
-    ensures unlocked { IsUnlocked frame.new }
-{
-    match none(frame) {
-        Ok(handle) => handle,
-        Err(_) => panic!(rt; "no None is had"),
-    }
-}
 
 /// The call, with this key where it is a put.
 fn with_key(giving: Giving, key: u32) -> Giving {
@@ -55,10 +41,9 @@ fn put<R: Abort + Wait, H: Home<A>, A: Allocator + Copy>(
 ) -> Result<(), Fault>
     requires owned { Owns frame.old container.now }
     requires unlocked { IsUnlocked frame.old }
-    ensures keeps { Keeps frame.old frame.new }
-    ensures unlocked { IsUnlocked frame.new }
+    ensures { Stays frame.old frame.new }
 {
-    let value = a_none(rt, frame);
+    let value = none(frame).expect(rt, "no None is had");
     match given(rt, frame, container, giving, value) {
         Ok(()) => Ok(()),
         Err(Handed { fault, back: value }) => {
@@ -77,8 +62,7 @@ fn puts_until_refused<R: Abort + Wait, H: Home<A>, A: Allocator + Copy>(
 ) -> u32
     requires owned { Owns frame.old container.now }
     requires unlocked { IsUnlocked frame.old }
-    ensures keeps { Keeps frame.old frame.new }
-    ensures unlocked { IsUnlocked frame.new }
+    ensures { Stays frame.old frame.new }
 {
     let handles = frame.len();
     for key in 0..1_000 {
@@ -106,8 +90,7 @@ fn puts_with_memory<'h, R: Abort + Wait, H: Home<&'h LocalHeap>>(
 )
     requires owned { Owns frame.old container.now }
     requires unlocked { IsUnlocked frame.old }
-    ensures keeps { Keeps frame.old frame.new }
-    ensures unlocked { IsUnlocked frame.new }
+    ensures { Stays frame.old frame.new }
 {
     for _ in 0..1_000 {
         match put(rt, frame, container, giving) {
@@ -199,8 +182,7 @@ fn gets_with_memory<'h, R: Abort + Wait, H: Home<&'h LocalHeap>>(
 ) -> Handle<&'h LocalHeap>
     requires owned { Owns frame.old container.now }
     requires unlocked { IsUnlocked frame.old }
-    ensures gains { Gains frame.old frame.new result }
-    ensures unlocked { IsUnlocked frame.new }
+    ensures { Adds frame.old frame.new result }
 {
     let handles = frame.len();
     let before = entries(rt, frame, container);
@@ -250,13 +232,11 @@ fn refuses_an_entry<'h, R: Abort + Wait, H: Home<&'h LocalHeap>>(
 )
     requires unlocked { IsUnlocked frame.old }
     requires other_unlocked { IsUnlocked other.old }
-    ensures keeps { Keeps frame.old frame.new }
-    ensures other_keeps { Keeps other.old other.new }
-    ensures unlocked { IsUnlocked frame.new }
-    ensures other_unlocked { IsUnlocked other.new }
+    ensures stays { Stays frame.old frame.new }
+    ensures other_stays { Stays other.old other.new }
 {
     let container = made(rt, scarce, frame, container_for(giving));
-    let more = another(rt, frame, &container);
+    let more = frame.retain(&container).expect(rt, "no place is left");
     shares(rt, frame, 7, more);
     let others = fetches(rt, other, Getting::Del(7));
     let mut pieces = Pieces::take_all(rt, alloc, scarce);
@@ -271,7 +251,7 @@ fn refuses_an_entry<'h, R: Abort + Wait, H: Home<&'h LocalHeap>>(
 fn refuses_a_place<'h, R: Abort + Wait, H: Home<&'h LocalHeap>>(
     rt: &R,
     alloc: Global,
-    scarce: &'h LocalHeap,
+    memories: Memories<'h>,
     frame: &mut Frame<H, &'h LocalHeap>,
     getting: Getting,
 )
@@ -280,10 +260,10 @@ fn refuses_a_place<'h, R: Abort + Wait, H: Home<&'h LocalHeap>>(
     ensures bare { frame.new.len ≡ 0 }
 {
     let giving = putting(getting);
-    let container = made(rt, scarce, frame, container_for(giving));
+    let container = made(rt, memories.scarce, frame, container_for(giving));
     assert!(rt; put(rt, frame, &container, giving).is_ok());
     let mut handles = Vec::new(alloc);
-    let mut pieces = Pieces::take_all(rt, alloc, scarce);
+    let mut pieces = Pieces::take_all(rt, alloc, memories.scarce);
     fills_places(rt, frame, &mut handles);
     let entry = gets_with_memory(rt, &mut pieces, frame, &container, getting);
     frame.release(entry);
@@ -293,18 +273,18 @@ fn refuses_a_place<'h, R: Abort + Wait, H: Home<&'h LocalHeap>>(
 }
 
 /// A call that puts, on a heap of its own with two threads.
-fn puts_on_a_heap<'h, R: Abort + Wait>(
-    rt: &R,
-    alloc: Global,
-    ample: &'h LocalHeap,
-    scarce: &'h LocalHeap,
-    giving: Giving,
-) {
-    let (heap, root) = a_heap(rt, ample, 512);
-    let mut root = root;
-    let mut first = a_thread(rt, ample, &heap, &mut root);
-    let mut second = a_thread(rt, ample, &heap, &mut root);
-    refuses_an_entry(rt, alloc, scarce, first.frame(), second.frame(), giving);
+fn puts_on_a_heap<R: Abort + Wait>(rt: &R, alloc: Global, memories: Memories<'_>, giving: Giving) {
+    let (heap, mut root) = a_heap(rt, memories.ample, 512);
+    let mut first = a_thread(rt, memories.ample, &heap, &mut root);
+    let mut second = a_thread(rt, memories.ample, &heap, &mut root);
+    refuses_an_entry(
+        rt,
+        alloc,
+        memories.scarce,
+        first.frame(),
+        second.frame(),
+        giving,
+    );
     let _two = second.end(rt, &mut root, &heap);
     let one = first.end(rt, &mut root, &heap);
     assert_eq!(rt; one.allocs, 1);
@@ -319,17 +299,10 @@ enum Wanted {
 }
 
 /// One thread wants it, on a heap of its own. Its places are of scarce memory.
-fn wants_on_a_heap<'h, R: Abort + Wait>(
-    rt: &R,
-    alloc: Global,
-    ample: &'h LocalHeap,
-    scarce: &'h LocalHeap,
-    wanted: Wanted,
-) {
-    let (heap, root) = a_heap(rt, ample, 512);
-    let mut root = root;
-    let mut thread = a_thread(rt, scarce, &heap, &mut root);
-    wants(rt, alloc, ample, scarce, thread.frame(), wanted);
+fn wants_on_a_heap<R: Abort + Wait>(rt: &R, alloc: Global, memories: Memories<'_>, wanted: Wanted) {
+    let (heap, mut root) = a_heap(rt, memories.ample, 512);
+    let mut thread = a_thread(rt, memories.scarce, &heap, &mut root);
+    wants(rt, alloc, memories, thread.frame(), wanted);
     let ledger = thread.end(rt, &mut root, &heap);
     assert_eq!(rt; (ledger.allocs, ledger.frees), (1, 1));
     is_empty(rt, heap, root);
@@ -339,8 +312,7 @@ fn wants_on_a_heap<'h, R: Abort + Wait>(
 fn wants<'h, R: Abort + Wait, H: Home<&'h LocalHeap>>(
     rt: &R,
     alloc: Global,
-    ample: &'h LocalHeap,
-    scarce: &'h LocalHeap,
+    memories: Memories<'h>,
     frame: &mut Frame<H, &'h LocalHeap>,
     wanted: Wanted,
 )
@@ -351,9 +323,9 @@ fn wants<'h, R: Abort + Wait, H: Home<&'h LocalHeap>>(
     ensures unlocked { IsUnlocked frame.new }
 {
     match wanted {
-        Wanted::Place(getting) => refuses_a_place(rt, alloc, scarce, frame, getting),
+        Wanted::Place(getting) => refuses_a_place(rt, alloc, memories, frame, getting),
         Wanted::Copy(copying, way) => {
-            refuses_a_copy(rt, alloc, ample, scarce, frame, copying, way);
+            refuses_a_copy(rt, alloc, memories, frame, copying, way);
         }
     }
 }
@@ -362,7 +334,11 @@ fn wants<'h, R: Abort + Wait, H: Home<&'h LocalHeap>>(
 fn is_wanted<R: Abort + Wait>(rt: &R, alloc: Global, bytes: usize, wanted: Wanted) {
     let ample = a_local_heap(rt, alloc, 1 << 20);
     let scarce = a_local_heap(rt, alloc, bytes);
-    wants_on_a_heap(rt, alloc, &ample, &scarce, wanted);
+    let memories = Memories {
+        ample: &ample,
+        scarce: &scarce,
+    };
+    wants_on_a_heap(rt, alloc, memories, wanted);
     assert_eq!(rt; (ample.used(), scarce.used()), (0, 0));
 }
 
@@ -380,7 +356,11 @@ fn a_refused_entry_changes_nothing(rt: HostRuntime) {
     ] {
         let ample = a_local_heap(&rt, rt.alloc(), 1 << 20);
         let scarce = a_local_heap(&rt, rt.alloc(), 1 << 14);
-        puts_on_a_heap(&rt, rt.alloc(), &ample, &scarce, giving);
+        let memories = Memories {
+            ample: &ample,
+            scarce: &scarce,
+        };
+        puts_on_a_heap(&rt, rt.alloc(), memories, giving);
         assert_eq!(rt; (ample.used(), scarce.used()), (0, 0));
     }
 }

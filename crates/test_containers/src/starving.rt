@@ -3,7 +3,7 @@
 
 ghost use Rattle.std.specs.Prelude.{◌≡◌, ◌≢◌};
 ghost use Rattle.brc_count.specs.Frames.{IsUnlocked, Owns};
-ghost use Rattle.brc_count.specs.Owned.{Keeps};
+ghost use Rattle.test_containers.specs.Calls.{OwnsBoth, Stays};
 
 use crate::calls::{
     Exchanging, Getting, Giving, exchanges, gets, gets_number, gives, gives_number,
@@ -11,11 +11,11 @@ use crate::calls::{
 use crate::guards::Way;
 use crate::memory::{Pieces, a_local_heap};
 use crate::objects::{Thing, made, number_of};
-use crate::refused::a_none;
 use crate::threads::{a_heap, a_thread, is_empty};
 use brc_biased::Home;
 use brc_containers::{int_of, kind_of, len_of, try_int_of, try_kind_of, try_len_of};
 use brc_count::{Frame, Handle};
+use brc_things::none;
 use brc_words::Kind;
 use linked_list_allocator::LocalHeap;
 use std::alloc::{Allocator, Global};
@@ -32,8 +32,7 @@ fn reads_both<R: Abort + Wait, H: Home<A>, A: Allocator>(
     requires owned { Owns frame.old list.now }
     requires number_owned { Owns frame.old number.now }
     requires unlocked { IsUnlocked frame.old }
-    ensures keeps { Keeps frame.old frame.new }
-    ensures unlocked { IsUnlocked frame.new }
+    ensures { Stays frame.old frame.new }
 {
     assert!(rt; try_kind_of(frame, list) == Ok(Kind::List));
     assert!(rt; kind_of(rt, frame, list) == Kind::List);
@@ -52,10 +51,7 @@ fn edits<R: Abort + Wait, H: Home<A>, A: Allocator + Copy>(
     value: Handle<A>,
     way: Way,
 ) -> Handle<A>
-    requires owned { Owns frame.old list.now }
-    requires value_owned { Owns frame.old value }
-    requires apart { value.place ≢ list.now.place }
-    requires unlocked { IsUnlocked frame.old }
+    requires { OwnsBoth frame.old list.now value }
     ensures owned { Owns frame.new list.now }
     ensures value_owned { Owns frame.new result }
     ensures apart { result.place ≢ list.now.place }
@@ -88,7 +84,7 @@ fn uses_without_memory<'h, R: Abort + Wait, H: Home<&'h LocalHeap>>(
     gives_number(rt, memory, frame, &list, Giving::Push, 1_001);
     let value = made(rt, memory, frame, Thing::Int(1_002));
     // It leaves a place.
-    let spare = a_none(rt, frame);
+    let spare = none(frame).expect(rt, "no None is had");
     frame.release(spare);
     let pieces = Pieces::take_all(rt, alloc, memory);
     reads_both(rt, frame, &list, &value);
@@ -105,8 +101,7 @@ fn ends_without_memory<'h, R: Abort + Wait>(
     memory: &'h LocalHeap,
     way: Way,
 ) {
-    let (heap, root) = a_heap(rt, memory, 512);
-    let mut root = root;
+    let (heap, mut root) = a_heap(rt, memory, 512);
     let mut thread = a_thread(rt, memory, &heap, &mut root);
     let _pieces = uses_without_memory(rt, alloc, memory, thread.frame(), way);
     thread.settle(rt);

@@ -20,10 +20,7 @@ pub(crate) fn a_heap<A: Allocator + Copy>(
         cells,
         local_limit: 4_294_967_294,
     };
-    match Heap::new(alloc, options) {
-        Ok(made) => made,
-        Err(_) => panic!(rt; "no heap can be had"),
-    }
+    Heap::new(alloc, options).expect(rt, "no heap can be had")
 }
 
 /// The next thread.
@@ -39,10 +36,8 @@ pub(crate) fn a_thread<'h, A: Allocator + Copy>(
     ensures unlocked { IsUnlocked result }
     ensures root { root.new.table ≡ root.old.table }
 {
-    match root.register(alloc, heap) {
-        Ok(mutator) => mutator,
-        Err(_) => panic!(rt; "no thread can be registered"),
-    }
+    root.register(alloc, heap)
+        .expect(rt, "no thread can be registered")
 }
 
 /// The heap is taken apart, and only the immortals have blocks: cells 0 to 265.
