@@ -12,8 +12,7 @@ use std::process::Abort;
 /// Whether a thread enters with what memory is left. If it doesn't, the root is as it was, and the next thread is the
 /// first.
 fn enters<A: Allocator + Copy>(rt: &impl Abort, memories: Memories<A>) -> bool {
-    let (table, root) = opened(rt, memories.ample);
-    let mut root = root;
+    let (table, mut root) = opened(rt, memories.ample);
     let enters = match Frame::enter(memories.scarce, &table, &mut root) {
         Ok(frame) => {
             leaves(rt, &table, &mut root, frame);

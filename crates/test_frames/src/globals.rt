@@ -14,29 +14,7 @@ use std::alloc::Allocator;
 use std::process::Abort;
 use std::sync::Wait;
 
-/// The handle's reference goes into the dictionary, beside a key that it hasn't.
-fn put_beside<R: Abort + Wait, H: Home<A>, A: Allocator + Copy>(
-    rt: &R,
-    frame: &mut Frame<H, A>,
-    dict: &Handle<A>,
-    key: i64,
-    value: Handle<A>,
-)
-    requires dict { Owns frame.old dict.now }
-    requires value { Owns frame.old value }
-    requires apart { value.place ≢ dict.now.place }
-    requires unlocked { IsUnlocked frame.old }
-    ensures unlocked { IsUnlocked frame.new }
-    ensures loses { Loses frame.old frame.new value }
-{
-    match dict_put(rt, frame, dict, Key::Int(key), value) {
-        Ok(None) => {}
-        Ok(Some(_old)) => panic!(rt; "the key is there"),
-        Err(_handed) => panic!(rt; "the globals have no room"),
-    }
-}
-
-/// The handle's reference goes into the globals, beside this key.
+/// The handle's reference goes into the globals, beside this key, which they haven't.
 pub(crate) fn put_into_globals<R: Abort + Wait, H: Home<A>, A: Allocator + Copy>(
     rt: &R,
     frame: &mut Frame<H, A>,
@@ -49,8 +27,11 @@ pub(crate) fn put_into_globals<R: Abort + Wait, H: Home<A>, A: Allocator + Copy>
     ensures loses { Loses frame.old frame.new handle }
 {
     let globals = an_immortal(rt, frame, GLOBALS);
-    put_beside(rt, frame, &globals, key, handle);
-    frame.release(globals);
+    match dict_put(rt, frame, &globals, Key::Int(key), handle) {
+        Ok(None) => frame.release(globals),
+        Ok(Some(_old)) => panic!(rt; "the key is there"),
+        Err(_handed) => panic!(rt; "the globals have no room"),
+    }
 }
 
 /// The reference that stands in the globals beside this key, taken out of them.

@@ -11,8 +11,6 @@ mod sums;
 pub use sums::comes_out;
 
 #[cfg(test)]
-mod chains;
-#[cfg(test)]
 mod client;
 #[cfg(test)]
 mod ends;

@@ -8,11 +8,11 @@ ghost use Rattle.brc_handles.specs.Handles.{Holds};
 use crate::client::{copies, gives_register, makes, makes_and_releases};
 use crate::memory::{Pieces, a_heap as a_local_heap};
 use crate::phases::says;
-use crate::things::a_none;
 use crate::threads::{a_heap, a_thread, blocks_left};
 use brc_biased::Home;
 use brc_count::{Frame, Handed};
 use brc_handles::Handles;
+use brc_things::none;
 use brc_thread::{Heap, Options, give_back, take_apart};
 use brc_words::Fault;
 use linked_list_allocator::LocalHeap;
@@ -70,7 +70,7 @@ fn pushes_none<H: Home<A>, A: Allocator>(
     ensures heap { frame.new.heap ≡ frame.old.heap }
     ensures unlocked { IsUnlocked frame.new }
 {
-    let handle = a_none(rt, frame);
+    let handle = none(frame).expect(rt, "no None is had");
     match handles.push(handle) {
         Ok(()) => Ok(()),
         Err(Handed { fault, back }) => {
@@ -96,7 +96,7 @@ fn stacks<H: Home<A>, A: Allocator>(
     match stacking {
         Stacking::Push => pushes_none(rt, frame, handles),
         Stacking::Keep => {
-            let handle = a_none(rt, frame);
+            let handle = none(frame).expect(rt, "no None is had");
             handles.keep(frame, handle)
         }
         Stacking::Retain => {

@@ -34,10 +34,7 @@ pub(crate) fn an_arena(rt: &impl Abort, alloc: Global, bytes: usize) -> Bump {
 
 /// A heap of so many bytes.
 pub(crate) fn a_heap(rt: &impl Abort, alloc: Global, bytes: usize) -> LocalHeap {
-    match LocalHeap::new(alloc, bytes) {
-        Ok(heap) => heap,
-        Err(_) => panic!(rt; "memory"),
-    }
+    LocalHeap::new(alloc, bytes).expect(rt, "memory")
 }
 
 impl<'h> Pieces<'h> {

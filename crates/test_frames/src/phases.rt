@@ -31,10 +31,7 @@ pub(crate) fn opened_with<A: Allocator + Copy>(
     ensures table { result.1.table ≡ result.0.table }
     ensures view { result.1.view ≡ first_view }
 {
-    match HeapTable::new(alloc, cells, 10) {
-        Ok(made) => made,
-        Err(_) => panic!(rt; "memory"),
-    }
+    HeapTable::new(alloc, cells, 10).expect(rt, "memory")
 }
 
 /// The frame of the next thread.
@@ -53,10 +50,7 @@ pub(crate) fn entered<H: Home<A> + Drop, A: Allocator + Copy>(
     ensures told { root.new.view ≡ registering root.old.view }
     ensures root { (root.new.table ≡ root.old.table) × (root.new.id ≡ root.old.id) }
 {
-    match Frame::enter(alloc, heap, root) {
-        Ok(frame) => frame,
-        Err(_) => panic!(rt; "memory"),
-    }
+    Frame::enter(alloc, heap, root).expect(rt, "memory")
 }
 
 /// A reference to an immortal.
@@ -70,10 +64,7 @@ pub(crate) fn an_immortal<H: Home<A>, A: Allocator>(
     ensures unlocked { IsUnlocked frame.new }
     ensures gains { Gains frame.old frame.new result }
 {
-    match frame.immortal(cell) {
-        Ok(handle) => handle,
-        Err(_) => panic!(rt; "no place is left"),
-    }
+    frame.immortal(cell).expect(rt, "no place is left")
 }
 
 /// One reference more to the handle's object.
@@ -87,10 +78,7 @@ pub(crate) fn another<H: Home<A>, A: Allocator>(
     ensures unlocked { IsUnlocked frame.new }
     ensures gains { Gains frame.old frame.new result }
 {
-    match frame.retain(handle) {
-        Ok(given) => given,
-        Err(_) => panic!(rt; "no place is left"),
-    }
+    frame.retain(handle).expect(rt, "no place is left")
 }
 
 /// The ledger says this.

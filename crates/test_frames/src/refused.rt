@@ -10,7 +10,6 @@ use crate::ends::ends;
 use crate::holds::{give_all_back, keep};
 use crate::memory::{Memories, Pieces, a_heap};
 use crate::phases::{entered, leaves, opened, says};
-use crate::things::a_none;
 use brc_biased::Home;
 use brc_count::{Frame, Handed, Handle};
 use brc_things::{new_dict, new_int, new_list, new_mailbox, new_text, none, truth};
@@ -189,8 +188,7 @@ fn is_refused_in_turn<'h>(
     cell: u32,
     births: u64,
 ) {
-    let (table, root) = opened(rt, memories.ample);
-    let mut root = root;
+    let (table, mut root) = opened(rt, memories.ample);
     let mut frame = entered(rt, memories.scarce, &table, &mut root);
     is_refused_to(rt, alloc, memories, &mut frame, call, cell);
     assert_eq!(rt; frame.len(), 0);
@@ -214,7 +212,7 @@ fn is_refused_to<'h, H: Home<&'h LocalHeap>>(
     ensures heap { frame.new.heap ≡ frame.old.heap }
     ensures unlocked { IsUnlocked frame.new }
 {
-    let first = a_none(rt, frame);
+    let first = none(frame).expect(rt, "no None is had");
     let mut pieces = Pieces::take_all(rt, alloc, memories.scarce);
     let mut handles = Vec::new(memories.ample);
     fill_places(rt, frame, &mut handles);

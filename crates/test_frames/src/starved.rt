@@ -4,52 +4,17 @@
 ghost use Rattle.brc_count.specs.Frames.{IsUnlocked, Owns};
 ghost use Rattle.brc_count.specs.Owned.{GoesOn};
 
-use crate::chains::a_chain;
 use crate::ends::ends;
 use crate::globals::{put_into_globals, put_into_list, take_from_globals};
 use crate::memory::{Pieces, a_heap};
 use crate::phases::{entered, leaves, leaves_late, opened_with, says};
-use crate::things::an_empty_list;
+use crate::things::{Thing, had};
 use brc_biased::Home;
 use brc_count::{Frame, Handle};
 use linked_list_allocator::LocalHeap;
 use std::alloc::{Allocator, Global};
 use std::process::Abort;
 use std::sync::Wait;
-
-/// The list gets a new list as its last entry.
-fn add_a_list<H: Home<A>, A: Allocator + Copy>(
-    rt: &impl Abort,
-    alloc: A,
-    frame: &mut Frame<H, A>,
-    list: &Handle<A>,
-)
-    requires owned { Owns frame.old list.now }
-    requires unlocked { IsUnlocked frame.old }
-    ensures owned { Owns frame.new list.now }
-    ensures goes_on { GoesOn frame.old frame.new }
-{
-    let entry = an_empty_list(rt, alloc, frame);
-    put_into_list(rt, frame, list, entry);
-}
-
-/// A list of so many new lists.
-fn a_list_of_lists<H: Home<A>, A: Allocator + Copy>(
-    rt: &impl Abort,
-    alloc: A,
-    frame: &mut Frame<H, A>,
-    entries: usize,
-) -> Handle<A>
-    requires unlocked { IsUnlocked frame.old }
-    ensures owned { Owns frame.new result }
-    ensures goes_on { GoesOn frame.old frame.new }
-{
-    let list = an_empty_list(rt, alloc, frame);
-    for _ in 0..entries {
-        add_a_list(rt, alloc, frame, &list);
-    }
-    list
-}
 
 /// All memory that is left is taken.
 fn starve<'h>(rt: &impl Abort, alloc: Global, memory: &'h LocalHeap, taken: &mut Vec<Pieces<'h>>) {
@@ -85,6 +50,32 @@ enum Shape {
     Deep(usize),
 }
 
+/// The structure of one list more: in the list, or around it.
+fn one_more<H: Home<A>, A: Allocator + Copy>(
+    rt: &impl Abort,
+    alloc: A,
+    frame: &mut Frame<H, A>,
+    list: Handle<A>,
+    shape: Shape,
+) -> Handle<A>
+    requires owned { Owns frame.old list }
+    requires unlocked { IsUnlocked frame.old }
+    ensures owned { Owns frame.new result }
+    ensures goes_on { GoesOn frame.old frame.new }
+{
+    let other = had(rt, alloc, frame, Thing::List);
+    match shape {
+        Shape::Wide(_) => {
+            put_into_list(rt, frame, &list, other);
+            list
+        }
+        Shape::Deep(_) => {
+            put_into_list(rt, frame, &other, list);
+            other
+        }
+    }
+}
+
 /// The structure, by a handle to its first list.
 fn a_structure<H: Home<A>, A: Allocator + Copy>(
     rt: &impl Abort,
@@ -96,10 +87,14 @@ fn a_structure<H: Home<A>, A: Allocator + Copy>(
     ensures owned { Owns frame.new result }
     ensures goes_on { GoesOn frame.old frame.new }
 {
-    match shape {
-        Shape::Wide(entries) => a_list_of_lists(rt, alloc, frame, entries),
-        Shape::Deep(more) => a_chain(rt, alloc, frame, more),
+    let more = match shape {
+        Shape::Wide(more) | Shape::Deep(more) => more,
+    };
+    let mut list = had(rt, alloc, frame, Thing::List);
+    for _ in 0..more {
+        list = one_more(rt, alloc, frame, list, shape);
     }
+    list
 }
 
 /// A structure of so many lists dies in so many turns, on a heap of its own.
@@ -112,8 +107,7 @@ fn dies_on_a_heap<'h>(
     lists: u64,
     turns: usize,
 ) {
-    let (table, root) = opened_with(rt, memory, cells);
-    let mut root = root;
+    let (table, mut root) = opened_with(rt, memory, cells);
     let mut frame = entered(rt, memory, &table, &mut root);
     let list = a_structure(rt, memory, &mut frame, shape);
     let mut taken = Vec::new(alloc);
@@ -145,14 +139,13 @@ fn a_long_chain_dies_a_turn_at_a_time(rt: HostRuntime) {
 /// A thread asks the owners of two lists that it lets go: the one polls and works then, and the other finds the request
 /// on its way out.
 fn asks_on_a_heap<'h>(rt: &(impl Abort + Wait), alloc: Global, memory: &'h LocalHeap) {
-    let (table, root) = opened_with(rt, memory, 512);
-    let mut root = root;
+    let (table, mut root) = opened_with(rt, memory, 512);
     let mut first = entered(rt, memory, &table, &mut root);
     let mut second = entered(rt, memory, &table, &mut root);
     let mut other = entered(rt, memory, &table, &mut root);
-    let list = an_empty_list(rt, memory, &mut first);
+    let list = a_structure(rt, memory, &mut first, Shape::Wide(0));
     put_into_globals(rt, &mut first, list, 1);
-    let list = an_empty_list(rt, memory, &mut second);
+    let list = a_structure(rt, memory, &mut second, Shape::Wide(0));
     put_into_globals(rt, &mut second, list, 2);
     let one = take_from_globals(rt, &mut other, 1);
     let two = take_from_globals(rt, &mut other, 2);

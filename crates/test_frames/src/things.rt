@@ -1,4 +1,4 @@
-//! Objects that are made for a test, which ends where one isn't to be had.
+//! Objects that are had for a test, which ends where one isn't to be had.
 
 ghost use Rattle.brc_count.specs.Frames.{IsUnlocked};
 ghost use Rattle.brc_count.specs.Owned.{Gains};
@@ -10,86 +10,40 @@ use brc_words::Text;
 use std::alloc::Allocator;
 use std::process::Abort;
 
-/// None.
-pub(crate) fn a_none<H: Home<A>, A: Allocator>(
-    rt: &impl Abort,
-    frame: &mut Frame<H, A>,
-) -> Handle<A>
-    requires unlocked { IsUnlocked frame.old }
-    ensures unlocked { IsUnlocked frame.new }
-    ensures gains { Gains frame.old frame.new result }
-{
-    match none(frame) {
-        Ok(handle) => handle,
-        Err(_) => panic!(rt; "no None is had"),
-    }
+/// What is had.
+#[derive(Clone, Copy)]
+pub(crate) enum Thing {
+    None,
+    Truth(bool),
+    Int(i64),
+    /// Anew, with this text.
+    Text(&'static str),
+    /// Anew, and empty.
+    List,
 }
 
-/// False or True.
-pub(crate) fn a_truth<H: Home<A>, A: Allocator>(
-    rt: &impl Abort,
-    frame: &mut Frame<H, A>,
-    is_true: bool,
-) -> Handle<A>
-    requires unlocked { IsUnlocked frame.old }
-    ensures unlocked { IsUnlocked frame.new }
-    ensures gains { Gains frame.old frame.new result }
-{
-    match truth(frame, is_true) {
-        Ok(handle) => handle,
-        Err(_) => panic!(rt; "no truth is had"),
-    }
-}
-
-/// An integer.
-pub(crate) fn an_int<H: Home<A>, A: Allocator>(
+/// A reference to it.
+pub(crate) fn had<H: Home<A>, A: Allocator + Copy>(
     rt: &impl Abort,
     alloc: A,
     frame: &mut Frame<H, A>,
-    number: i64,
+    thing: Thing,
 ) -> Handle<A>
     requires unlocked { IsUnlocked frame.old }
     ensures unlocked { IsUnlocked frame.new }
     ensures gains { Gains frame.old frame.new result }
 {
-    match new_int(alloc, frame, number) {
-        Ok(handle) => handle,
-        Err(_) => panic!(rt; "no integer is had"),
-    }
-}
-
-/// A new text.
-pub(crate) fn a_text<H: Home<A>, A: Allocator + Copy>(
-    rt: &impl Abort,
-    alloc: A,
-    frame: &mut Frame<H, A>,
-    text: &str,
-) -> Handle<A>
-    requires unlocked { IsUnlocked frame.old }
-    ensures unlocked { IsUnlocked frame.new }
-    ensures gains { Gains frame.old frame.new result }
-{
-    let Ok(text) = String::from_str(alloc, text) else {
-        panic!(rt; "memory")
-    };
-    match new_text(alloc, frame, Text::new(text)) {
-        Ok(handle) => handle,
-        Err(_) => panic!(rt; "no text is made"),
-    }
-}
-
-/// A new empty list.
-pub(crate) fn an_empty_list<H: Home<A>, A: Allocator + Copy>(
-    rt: &impl Abort,
-    alloc: A,
-    frame: &mut Frame<H, A>,
-) -> Handle<A>
-    requires unlocked { IsUnlocked frame.old }
-    ensures unlocked { IsUnlocked frame.new }
-    ensures gains { Gains frame.old frame.new result }
-{
-    match new_list(alloc, frame) {
-        Ok(handle) => handle,
-        Err(_) => panic!(rt; "no list is made"),
+    match thing {
+        Thing::None => none(frame).expect(rt, "no None is had"),
+        Thing::Truth(is_true) => truth(frame, is_true).expect(rt, "no truth is had"),
+        Thing::Int(number) => new_int(alloc, frame, number).expect(rt, "no integer is had"),
+        Thing::Text(text) => {
+            let text = String::from_str(alloc, text).expect(rt, "memory");
+            match new_text(alloc, frame, Text::new(text)) {
+                Ok(handle) => handle,
+                Err(_) => panic!(rt; "no text is made"),
+            }
+        }
+        Thing::List => new_list(alloc, frame).expect(rt, "no list is made"),
     }
 }

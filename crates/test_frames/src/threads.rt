@@ -20,10 +20,7 @@ pub(crate) fn a_heap(
         cells: 512,
         local_limit,
     };
-    match Heap::new(alloc, options) {
-        Ok(made) => made,
-        Err(_) => panic!(rt; "no heap can be had"),
-    }
+    Heap::new(alloc, options).expect(rt, "no heap can be had")
 }
 
 /// The next thread.
@@ -39,10 +36,7 @@ pub(crate) fn a_thread<'h>(
     ensures unlocked { IsUnlocked result }
     ensures root { root.new.table ≡ root.old.table }
 {
-    match root.register(alloc, heap) {
-        Ok(mutator) => mutator,
-        Err(_) => panic!(rt; "a thread is refused"),
-    }
+    root.register(alloc, heap).expect(rt, "a thread is refused")
 }
 
 /// The heap is taken apart; the answer is how many blocks it left.

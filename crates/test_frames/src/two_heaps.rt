@@ -2,7 +2,7 @@
 //! contracts say of it; both heaps have a thread 1, a place 0 and a cell 266.
 
 use crate::phases::says;
-use crate::things::{an_empty_list, an_int};
+use crate::things::{Thing, had};
 use crate::threads::{a_heap, a_thread, blocks_left};
 
 #[test]
@@ -11,9 +11,9 @@ fn objects_live_and_die_at_their_own_heap(rt: HostRuntime) {
     let (other, mut others) = a_heap(&rt, rt.alloc(), 10);
     let mut here = a_thread(&rt, rt.alloc(), &heap, &mut root);
     let mut there = a_thread(&rt, rt.alloc(), &other, &mut others);
-    let list = an_empty_list(&rt, rt.alloc(), here.frame());
-    let number = an_int(&rt, rt.alloc(), there.frame(), 1_000);
-    let next = an_int(&rt, rt.alloc(), there.frame(), 1_001);
+    let list = had(&rt, rt.alloc(), here.frame(), Thing::List);
+    let number = had(&rt, rt.alloc(), there.frame(), Thing::Int(1_000));
+    let next = had(&rt, rt.alloc(), there.frame(), Thing::Int(1_001));
     assert_eq!(rt; here.frame().cell(&list), 266);
     assert_eq!(rt; there.frame().cell(&number), 266);
     there.frame().release(number);

@@ -1,7 +1,7 @@
 use Rattle.std.proofs.Common.{◌≡◌}
 use Rattle.std.specs.List.{All}
 use Rattle.brc_count.specs.Owned.{GoesOn}
-use Rattle.test_frames.proofs.full.nones.Given as goal
+use Rattle.test_frames.proofs.full.adds.Given as goal
 
 abbrev pub invariant-loop : goal.invariant-loop
 invariant-loop g l = record {
