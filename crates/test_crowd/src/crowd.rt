@@ -1,0 +1,128 @@
+//! All threads: how they are registered, live at the same time, and are gathered.
+
+ghost use Rattle.std.specs.Prelude.{◌≡◌, ◌≤◌, [], All, IfOk, length, vec_capacity};
+
+use crate::counted::{Counted, Want};
+use crate::crew::{OTHERS, gather_all, live_beside, register_all};
+use crate::finding::shares_list;
+use crate::first::{ends, rests};
+use crate::gate::Gate;
+use crate::lives::Done;
+use brc_heap::{Heap, Resting, Root};
+use std::alloc::{AllocError, Global};
+use std::sync::Wait;
+use std::thread;
+use std::thread::{Scope, Threads};
+
+/// What is kept of the other threads; all memory for it is asked for before the first is registered.
+#[derive(Drop)]
+struct Room {
+    crew: Vec<Resting>,
+    done: Vec<Done>,
+}
+
+/// Room for all of them.
+fn room_for_all(alloc: Global) -> Result<Room, AllocError>
+    ensures crew { IfOk result (λ room. (room.crew.items ≡ []) × (OTHERS ≤ vec_capacity room.crew)) }
+    ensures done { IfOk result (λ room. (room.done.items ≡ []) × (OTHERS ≤ vec_capacity room.done)) }
+{
+    Ok(Room {
+        crew: Vec::with_capacity(alloc, OTHERS)?,
+        done: Vec::with_capacity(alloc, OTHERS)?,
+    })
+}
+
+/// What comes back once all have found the list: the first, and the ends of the others.
+#[derive(Drop)]
+struct Lived {
+    first: Resting,
+    counted: Counted,
+    done: Vec<Done>,
+}
+
+/// The first thread puts the list into the globals, and then all find it.
+fn live_in<'s, E: 's, R: Threads + Wait + Sync>(
+    rt: &'s R,
+    scope: &Scope<'s, E>,
+    alloc: Global,
+    heap: &'s Heap,
+    first: Resting,
+    room: Room,
+    gate: &'s Gate,
+) -> Lived
+    requires heap { first.heap ≡ heap.now }
+    requires crew { All (λ resting. resting.heap ≡ heap.now) room.crew.items }
+    requires none { room.done.items ≡ [] }
+    requires room { length room.crew.items ≤ vec_capacity room.done }
+    ensures heap { result.first.heap ≡ heap.now }
+    ensures done { All (λ one. one.retired.heap ≡ heap.now) result.done.items }
+{
+    let Room { crew, mut done } = room;
+    let mut first = first.wake(heap);
+    let shared = shares_list(rt, alloc, &mut first);
+    let found = live_beside(
+        rt,
+        scope,
+        heap,
+        &mut first,
+        crew.into_iter(),
+        gate,
+        &mut done,
+    );
+    Lived {
+        first: rests(rt, first),
+        counted: shared.and(found),
+        done,
+    }
+}
+
+/// All threads live, at the same time.
+fn live<R: Threads + Wait + Sync>(
+    rt: &R,
+    alloc: Global,
+    heap: &Heap,
+    first: Resting,
+    room: Room,
+) -> Lived
+    requires heap { first.heap ≡ heap.now }
+    requires crew { All (λ resting. resting.heap ≡ heap.now) room.crew.items }
+    requires none { room.done.items ≡ [] }
+    requires room { length room.crew.items ≤ vec_capacity room.done }
+    ensures heap { result.first.heap ≡ heap.now }
+    ensures done { All (λ one. one.retired.heap ≡ heap.now) result.done.items }
+{
+    let gate = Gate::closed();
+    let gate = &gate;
+    thread::scope(
+        thread::scope_env(),
+        rt,
+        |scope| -> Lived
+            requires heap { first.heap ≡ heap.now }
+            requires crew { All (λ resting. resting.heap ≡ heap.now) room.crew.items }
+            requires none { room.done.items ≡ [] }
+            requires room { length room.crew.items ≤ vec_capacity room.done }
+            ensures heap { result.first.heap ≡ heap.entry.now }
+            ensures done { All (λ one. one.retired.heap ≡ heap.entry.now) result.done.items }
+        { live_in(rt, scope, alloc, heap, first, room, gate) },
+    )
+}
+
+/// All threads are registered, live, and are gathered, the first of them last: what they counted.
+pub(crate) fn all_live<R>(rt: &R, alloc: Global, heap: &Heap, root: &mut Root) -> Counted
+where
+    R: Threads + Wait + Sync,
+    requires root { root.old.table ≡ heap.now.table }
+    ensures root { root.new.table ≡ root.old.table }
+{
+    let Ok(mut room) = room_for_all(alloc) else {
+        return Counted::wanting(Want::Memory);
+    };
+    let Ok(first) = root.register(alloc, heap) else {
+        return Counted::wanting(Want::Mutator);
+    };
+    let registered = register_all(alloc, heap, root, &mut room.crew);
+    let lived = live(rt, alloc, heap, first.rest(), room);
+    let others = gather_all(heap, root, lived.done);
+    let last = ends(rt, heap, root, lived.first);
+    registered.and(lived.counted).and(others).and(last)
+}

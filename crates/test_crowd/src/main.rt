@@ -1,0 +1,71 @@
+//! 64 threads find one list in the globals and let it go, a hundred times each, all at the same time; then all but its
+//! maker leave, the maker clears the globals and leaves too, and the heap is closed: the list was made and freed once.
+#![tactic(auto)]
+
+mod counted;
+mod crew;
+mod crowd;
+mod finding;
+mod first;
+mod gate;
+mod lives;
+
+ghost use Rattle.std.specs.Prelude.{◌≡◌};
+
+use brc_heap::{CloseFault, Heap, Options, Report, Root, close, give_back, take_apart};
+use counted::Counted;
+use crowd::all_live;
+use std::alloc::Global;
+use std::io;
+
+/// The report of the heap; None where memory for it is missing, or a thread wasn't gathered.
+fn closed(alloc: Global, heap: Heap, root: Root) -> Option<Report<Global>>
+    requires root { root.table ≡ heap.table }
+{
+    match close(alloc, heap, root) {
+        Ok(report) => Some(report),
+        Err(CloseFault::Memory) => None,
+        Err(
+            CloseFault::Missing {
+                registered: _registered,
+                gathered: _gathered,
+                heap,
+                root,
+            },
+        ) => {
+            give_back(take_apart(heap, root));
+            None
+        }
+    }
+}
+
+/// What the threads counted, behind what couldn't be had.
+fn shows_counted(rt: &HostRuntime, counted: Counted) -> io::Result<()> {
+    if let Some(want) = counted.want {
+        println!(rt; "{want}")?;
+    }
+    println!(rt; "finds {} of {}", counted.finds, counted.tries)
+}
+
+/// What the report counts.
+fn shows_report(rt: &HostRuntime, report: Option<Report<Global>>) -> io::Result<()> {
+    let Some(report) = report else {
+        return println!(rt; "no report can be had");
+    };
+    println!(rt; "allocs {}", report.ledger.allocs)?;
+    println!(rt; "frees {}", report.ledger.frees)?;
+    println!(rt; "live {}", report.live)?;
+    println!(rt; "remains {}", report.remains.len())
+}
+
+fn main(rt: HostRuntime) -> io::Result<()> {
+    let Ok((heap, mut root)) = Heap::new(rt.alloc(), Options::USUAL) else {
+        return println!(rt; "no heap can be had");
+    };
+    let counted = all_live(&rt, rt.alloc(), &heap, &mut root);
+    let gathered = root.gathered();
+    let report = closed(rt.alloc(), heap, root);
+    shows_counted(&rt, counted)?;
+    println!(rt; "gathered {gathered}")?;
+    shows_report(&rt, report)
+}
