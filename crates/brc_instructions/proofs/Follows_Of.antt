@@ -41,6 +41,9 @@ use Rattle.law_isolation.proofs.Making_Things.{means_text, means_list, means_dic
 use Rattle.law_isolation.proofs.Making_Things.{integer_held}
 use Rattle.law_isolation.proofs.Holding.{empties_and_releases}
 use Rattle.law_isolation.proofs.Quiet_Frames.{waited}
+use Rattle.brc_instructions.specs.declared.making.Empty.{Empty}
+use Rattle.brc_instructions.specs.declared.making.Empty.TheVariants as empties
+use Rattle.brc_instructions.specs.Calls.{contents_of, makes}
 
 -- nothing is said of a refusal for want
 pub unless_want : {P : Type 0} (fault : Fault) → is_want fault ≡ true → is_want fault ≡ false → P
@@ -290,14 +293,19 @@ module _ {A : Type 0} where
       holds base _ _ own (means_text base old mid before s given means same own_mid bytes made),
     )
 
-    pub makes_list : Made old mid (contents.«List» []) given → Led base new now (after (does.List to) s)
-    makes_list made = (_, refl, holds base _ _ own (means_list base old mid before s given means same own_mid made))
-
-    pub makes_dict : Made old mid (contents.Dict []) given → Led base new now (after (does.Dict to) s)
-    makes_dict made = (_, refl, holds base _ _ own (means_dict base old mid before s given means same own_mid made))
-
-    pub makes_mailbox : Made old mid (contents.Mailbox []) given → Led base new now (after (does.Mailbox to) s)
-    makes_mailbox made = (
+    pub makes_empty : (empty : Empty) → Made old mid (contents_of empty) given
+        → Led base new now (after (makes empty to) s)
+    makes_empty empties.List made = (
+      _,
+      refl,
+      holds base _ _ own (means_list base old mid before s given means same own_mid made),
+    )
+    makes_empty empties.Dict made = (
+      _,
+      refl,
+      holds base _ _ own (means_dict base old mid before s given means same own_mid made),
+    )
+    makes_empty empties.Mailbox made = (
       _,
       refl,
       holds base _ _ own (means_mailbox base old mid before s given means same own_mid made),

@@ -5,4 +5,5 @@ mod Looks
 mod Sums_Read
 mod Shows_As
 mod Plain_Refusals
+mod Stands_For
 pub mod Causes_Of

@@ -1,3 +1,4 @@
+pub mod Calls
 pub mod Registers
 pub mod Printing
 pub mod Causes

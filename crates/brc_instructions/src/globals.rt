@@ -6,22 +6,23 @@ ghost use Rattle.brc_count.specs.Frames.{IsUnlocked};
 ghost use Rattle.brc_count.specs.Owned.{Keeps, Gains};
 ghost use Rattle.brc_instructions.specs.Registers.{Stands, Besides};
 
-use crate::dicts::copy_key;
+use crate::giving::{Giving, given};
 use crate::holding::hold;
+use crate::making::copy_key;
 use crate::registers::Registers;
 use brc_biased::Home;
 use brc_count::{Frame, Handed, Handle};
-use brc_heap::{dict_del, dict_find, dict_put};
+use brc_heap::dict_put;
 use brc_script::Register;
 use brc_words::{Fault, GLOBALS, Key};
 use std::alloc::Allocator;
 use std::sync::Wait;
 
-/// One reference more to what has the name.
-fn find_global<R: Wait, H: Home<A>, A: Allocator>(
+/// What the globals give.
+fn global<R: Wait, H: Home<A>, A: Allocator>(
     rt: &R,
     frame: &mut Frame<H, A>,
-    name: &Key<A>,
+    giving: &Giving<'_, A>,
 ) -> Result<Handle<A>, Fault>
     requires unlocked { IsUnlocked frame.old }
     ensures gains { IfOk result (Gains frame.old frame.new) }
@@ -30,25 +31,7 @@ fn find_global<R: Wait, H: Home<A>, A: Allocator>(
     ensures waits { IfErr result (λ fault. fault ≢ faults.Busy) }
 {
     let globals = frame.immortal(GLOBALS)?;
-    let found = dict_find(rt, frame, &globals, name);
-    frame.release(globals);
-    found
-}
-
-/// What has the name comes out, and the name goes.
-fn delete_global<R: Wait, H: Home<A>, A: Allocator>(
-    rt: &R,
-    frame: &mut Frame<H, A>,
-    name: &Key<A>,
-) -> Result<Handle<A>, Fault>
-    requires unlocked { IsUnlocked frame.old }
-    ensures gains { IfOk result (Gains frame.old frame.new) }
-    ensures keeps { OnErr result (Keeps frame.old frame.new) }
-    ensures unlocked { IsUnlocked frame.new }
-    ensures waits { IfErr result (λ fault. fault ≢ faults.Busy) }
-{
-    let globals = frame.immortal(GLOBALS)?;
-    let found = dict_del(rt, frame, &globals, name);
+    let found = given(rt, frame, &globals, giving);
     frame.release(globals);
     found
 }
@@ -123,38 +106,21 @@ pub fn share<R: Wait, H: Home<A>, A: Allocator + Copy>(
     }
 }
 
-/// `fetch`, where it doesn't wait: one reference more to what has the name.
-pub fn fetch<R: Wait, H: Home<A>, A: Allocator>(
+/// `fetch`, where it doesn't wait, and `unshare`: what the globals give goes into a register. Of the former the name
+/// stays (`Giving::Find`), of the latter it goes (`Giving::Delete`).
+pub fn give_global<R: Wait, H: Home<A>, A: Allocator>(
     rt: &R,
     frame: &mut Frame<H, A>,
     registers: &mut Registers<A>,
     to: Register,
-    name: &Key<A>,
+    giving: &Giving<'_, A>,
 ) -> Result<(), Fault>
     requires stands { Stands frame.old registers.old }
     ensures stands { Stands frame.new registers.new }
     ensures heap { frame.new.heap ≡ frame.old.heap }
     ensures waits { IfErr result (λ fault. fault ≢ faults.Busy) }
 {
-    let found = find_global(rt, frame, name)?;
-    hold(frame, registers, to, found);
-    Ok(())
-}
-
-/// `unshare`: what has the name comes out, and the name goes.
-pub fn unshare<R: Wait, H: Home<A>, A: Allocator>(
-    rt: &R,
-    frame: &mut Frame<H, A>,
-    registers: &mut Registers<A>,
-    to: Register,
-    name: &Key<A>,
-) -> Result<(), Fault>
-    requires stands { Stands frame.old registers.old }
-    ensures stands { Stands frame.new registers.new }
-    ensures heap { frame.new.heap ≡ frame.old.heap }
-    ensures waits { IfErr result (λ fault. fault ≢ faults.Busy) }
-{
-    let found = delete_global(rt, frame, name)?;
+    let found = global(rt, frame, giving)?;
     hold(frame, registers, to, found);
     Ok(())
 }

@@ -11,31 +11,29 @@
 //! its contract.
 #![tactic(auto)]
 
-mod dicts;
+mod giving;
 mod globals;
 mod holding;
-mod lists;
-mod mailboxes;
 mod making;
 mod printing;
 mod reading;
 mod registers;
 mod shown;
+mod taking;
 
 // registers and references
 pub use holding::{copy, drop_held};
 pub use registers::Registers;
 
 // objects
-pub use making::{copy_text, dict, int, list, mailbox, text};
+pub use making::{Empty, copy_text, int, make, text};
 pub use printing::print;
 pub use reading::{add, len};
 pub use shown::{Lines, Shown};
 
 // containers
-pub use dicts::{delete, find, put};
-pub use lists::{get, pop, push, set};
-pub use mailboxes::{post, receive};
+pub use giving::{Giving, give};
+pub use taking::{Taking, take};
 
 // the globals, one try each
-pub use globals::{fetch, share, unshare};
+pub use globals::{give_global, share};

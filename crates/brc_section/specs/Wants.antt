@@ -1,5 +1,5 @@
 -- Why lines that share nothing halt for want of room: a cell for a new object, a place of the frame, or one birth more.
-use Rattle.std.specs.Prelude.{◌≤◌, ⊥, Result, IfErr}
+use Rattle.std.specs.Prelude.{◌≤◌, Result, IfErr}
 use Rattle.brc_words.specs.declared.fault.Fault.{Fault}
 use Rattle.brc_words.specs.declared.fault.Fault.TheVariants as faults
 use Rattle.brc_words.specs.declared.limits.TheConstants.{MOST_BIRTHS}

@@ -15,8 +15,8 @@ use crate::waiting::{Awaited, Seated, await_it};
 use brc_biased::Home;
 use brc_count::Frame;
 use brc_instructions::{
-    Registers, Shown, add, copy, delete, dict, drop_held, find, get, int, len, list, mailbox, pop,
-    post, print, push, put, set, share, text, unshare,
+    Empty, Giving, Registers, Shown, Taking, add, copy, drop_held, give, give_global, int, len,
+    make, print, share, take, text,
 };
 use brc_script::{Instruction, Register};
 use brc_words::{Fault, Key, Text};
@@ -49,7 +49,7 @@ fn step_under<R: Wait, H: Home<A>, A: Allocator + Copy>(
     match shared {
         Shared::Share { value } => share(rt, alloc, frame, registers, name, value),
         Shared::Fetch { to } => { await_it(rt, frame, registers, to, &Awaited::Name(name), seated) }
-        Shared::Unshare { to } => unshare(rt, frame, registers, to, name),
+        Shared::Unshare { to } => give_global(rt, frame, registers, to, &Giving::Delete(name)),
     }
 }
 
@@ -138,35 +138,55 @@ fn step_silent<R: Wait, H: Home<A>, A: Allocator + Copy>(
     match instruction {
         Instruction::Int { to, number } => int_of_line(alloc, frame, registers, *to, number),
         Instruction::Text { to, text: bytes } => text(alloc, frame, registers, *to, bytes),
-        Instruction::List { to } => list(alloc, frame, registers, *to),
-        Instruction::Dict { to } => dict(alloc, frame, registers, *to),
-        Instruction::Mailbox { to } => mailbox(alloc, frame, registers, *to),
+        Instruction::List { to } => make(alloc, frame, registers, *to, Empty::List),
+        Instruction::Dict { to } => make(alloc, frame, registers, *to, Empty::Dict),
+        Instruction::Mailbox { to } => make(alloc, frame, registers, *to, Empty::Mailbox),
 
         Instruction::Copy { to, from } => copy(frame, registers, *to, *from),
         Instruction::Drop { from } => drop_held(frame, registers, *from),
 
         Instruction::Push { list, value } => {
-            let done = push(rt, frame, registers, *list, *value);
+            let done = take(rt, alloc, frame, registers, *list, *value, &Taking::Push);
             stirs(rt, done, seated)
         }
         Instruction::Pop { to, list } => {
-            let done = pop(rt, frame, registers, *to, *list);
+            let done = give(rt, frame, registers, *to, *list, &Giving::Pop);
             stirs(rt, done, seated)
         }
-        Instruction::Get { to, list, index } => get(rt, frame, registers, *to, *list, *index),
+        Instruction::Get { to, list, index } => {
+            give(rt, frame, registers, *to, *list, &Giving::Get(*index))
+        }
         Instruction::Set { list, index, value } => {
-            let done = set(rt, frame, registers, *list, *index, *value);
+            let done = take(
+                rt,
+                alloc,
+                frame,
+                registers,
+                *list,
+                *value,
+                &Taking::Set(*index),
+            );
             stirs(rt, done, seated)
         }
         Instruction::Len { to, container } => len(rt, alloc, frame, registers, *to, *container),
 
         Instruction::Put { dict, key, value } => {
-            let done = put(rt, alloc, frame, registers, *dict, key, *value);
+            let done = take(
+                rt,
+                alloc,
+                frame,
+                registers,
+                *dict,
+                *value,
+                &Taking::Put(key),
+            );
             stirs(rt, done, seated)
         }
-        Instruction::Find { to, dict, key } => find(rt, frame, registers, *to, *dict, key),
+        Instruction::Find { to, dict, key } => {
+            give(rt, frame, registers, *to, *dict, &Giving::Find(key))
+        }
         Instruction::Delete { to, dict, key } => {
-            let done = delete(rt, frame, registers, *to, *dict, key);
+            let done = give(rt, frame, registers, *to, *dict, &Giving::Delete(key));
             stirs(rt, done, seated)
         }
 
@@ -186,7 +206,7 @@ fn step_silent<R: Wait, H: Home<A>, A: Allocator + Copy>(
         }
 
         Instruction::Send { mailbox, value } => {
-            let done = post(rt, frame, registers, *mailbox, *value);
+            let done = take(rt, alloc, frame, registers, *mailbox, *value, &Taking::Send);
             stirs(rt, done, seated)
         }
         Instruction::Receive { to, mailbox } => {

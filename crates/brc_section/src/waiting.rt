@@ -13,7 +13,7 @@ ghost use Rattle.brc_section.specs.Waiting.{FoundNothing};
 use crate::board::Board;
 use brc_biased::Home;
 use brc_count::Frame;
-use brc_instructions::{Registers, fetch, receive};
+use brc_instructions::{Giving, Registers, give, give_global};
 use brc_script::Register;
 use brc_words::{Fault, Key};
 use std::alloc::Allocator;
@@ -53,8 +53,8 @@ fn look<R: Wait, H: Home<A>, A: Allocator>(
         Follows frame.old frame.new registers.old registers.new (does.Receive to mailbox) result }
 {
     match awaited {
-        Awaited::Name(name) => fetch(rt, frame, registers, to, *name),
-        Awaited::Letter(mailbox) => receive(rt, frame, registers, to, *mailbox),
+        Awaited::Name(name) => give_global(rt, frame, registers, to, &Giving::Find(*name)),
+        Awaited::Letter(mailbox) => { give(rt, frame, registers, to, *mailbox, &Giving::Receive) }
     }
 }
 

@@ -6,6 +6,6 @@ use Rattle.brc_section.proofs.waiting.look.Goals as goal
 
 pub returns-in-Letter-clause-follows : goal.returns-in-Letter-clause-follows
 returns-in-Letter-clause-follows g c = λ mailbox is.
-    subst (λ (m : ℕ). Follows c.args.frame.now c.receive.new.frame c.args.registers.now c.receive.new.registers
-    (does.Receive c.args.to m) c.receive.result)
-    (same_letter c.in-Letter.mailbox mailbox c.args.awaited.now c.in-Letter.is is) c.receive.ensures.follows
+    subst (λ (m : ℕ). Follows c.args.frame.now c.give.new.frame c.args.registers.now c.give.new.registers
+    (does.Receive c.args.to m) c.give.result)
+    (same_letter c.in-Letter.mailbox mailbox c.args.awaited.now c.in-Letter.is is) c.give.ensures.follows

@@ -1,22 +1,22 @@
 use Rattle.law_isolation.proofs.Later_Calls.{later_made}
-use Rattle.brc_instructions.proofs.Follows_Of.{later_held, makes_list}
+use Rattle.brc_instructions.proofs.Follows_Of.{later_held, makes_empty}
 use Rattle.std.proofs.lemmas.Result.{err_from_is_err_and}
 use Rattle.brc_instructions.proofs.Causes_Of.{caused_making}
-use Rattle.brc_instructions.proofs.making.list.Goals as goal
+use Rattle.brc_instructions.proofs.making.make.Goals as goal
 
 pub returns-clause-later : goal.returns-clause-later
 returns-clause-later g c =
-    later_held c.args.frame.now c.new_list.new.frame c.hold.new.frame
+    later_held c.args.frame.now c.new_empty.new.frame c.hold.new.frame
     (later_made c.in_ok-made.ensures.made) c.hold.ensures.quiet
 
 pub returns-clause-follows : goal.returns-clause-follows
 returns-clause-follows g c base s own means =
-    makes_list base c.args.frame.now c.new_list.new.frame c.hold.new.frame c.args.registers.now c.hold.new.registers s
-    c.args.to c.in_ok-made.made
-    means c.new_list.ensures.heap c.hold.ensures.heap c.hold.ensures.quiet own c.hold.ensures.means
-    c.in_ok-made.ensures.made
+    makes_empty base c.args.frame.now c.new_empty.new.frame c.hold.new.frame c.args.registers.now
+    c.hold.new.registers s c.args.to c.in_ok-made.made
+    means c.new_empty.ensures.heap c.hold.ensures.heap c.hold.ensures.quiet own c.hold.ensures.means
+    c.args.empty c.in_ok-made.ensures.made
 
 pub returns-in_err-made-clause-caused : goal.returns-in_err-made-clause-caused
 returns-in_err-made-clause-caused g c =
     let answer = err_from_is_err_and c.from_residual.result c.from_residual.ensures.1 in
-    rw (answer.1, answer.2) (caused_making c.args.frame.now c.new_list.new.frame _ c.in_err-made.ensures.refused)
+    rw (answer.1, answer.2) (caused_making c.args.frame.now c.new_empty.new.frame _ c.in_err-made.ensures.refused)

@@ -1,0 +1,51 @@
+use Rattle.std.proofs.Common.{sym, subst}
+use Rattle.brc_instructions.specs.Calls.{taken_by}
+use Rattle.brc_instructions.proofs.Follows_Of.{Led, Left, later_held, own_before, put_none, put_one, took, swapped}
+use Rattle.brc_instructions.proofs.Follows_Of.{handed_back}
+use Rattle.brc_instructions.proofs.Stands_For.{after_takes}
+use Rattle.brc_instructions.proofs.taking.take.Goals as goal
+
+pub returns-in-Ok-None-clause-follows : goal.returns-in-Ok-None-clause-follows
+returns-in-Ok-None-clause-follows g c apart base s own means =
+    subst (Led base c.taken.new.frame c.take.new.self)
+    (sym (after_takes c.args.taking.now c.args.container c.args.value s))
+    (took (taken_by c.args.taking.now) c.args.container c.args.value base c.args.frame.now
+    c.args.registers.now c.take.new.self s c.in-Some.given
+    apart means c.in-Some.ensures.comes.was c.take.ensures.set c.taken.new.frame own
+    (λ base s reference own means.
+    put_none (taken_by c.args.taking.now reference) c.args.container base c.taken.new.frame c.take.new.self s
+    c.in-Ok-None.field-0 c.in-Ok-None.field-0-is (c.in-Ok-None.ensures.asked base s reference own means)))
+
+pub returns-in-Ok-Some-clause-later : goal.returns-in-Ok-Some-clause-later
+returns-in-Ok-Some-clause-later g c = later_held c.args.frame.now c.taken.new.frame c.hold.new.frame
+    c.taken.ensures.later c.hold.ensures.quiet
+
+pub returns-in-Ok-Some-clause-follows : goal.returns-in-Ok-Some-clause-follows
+returns-in-Ok-Some-clause-follows g c apart base s own means =
+    subst (Led base c.hold.new.frame c.hold.new.registers)
+    (sym (after_takes c.args.taking.now c.args.container c.args.value s))
+    (swapped (taken_by c.args.taking.now) c.args.container c.args.value base
+    c.args.frame.now c.args.registers.now c.take.new.self s c.in-Some.given
+    apart means c.in-Some.ensures.comes.was c.take.ensures.set c.taken.new.frame c.hold.new.frame
+    c.hold.new.registers c.in-Ok-Some.old
+    (own_before c.taken.new.frame c.hold.new.frame c.hold.ensures.heap c.hold.ensures.quiet own) own
+    (λ base s reference own means.
+    put_one (taken_by c.args.taking.now reference) c.args.container base c.taken.new.frame c.take.new.self s
+    c.in-Ok-Some.field-0 c.in-Ok-Some.old c.in-Ok-Some.field-0-is
+    (c.in-Ok-Some.ensures.asked base s reference own means))
+    c.hold.ensures.means)
+
+pub returns-in-Err-clause-later : goal.returns-in-Err-clause-later
+returns-in-Err-clause-later g c = later_held c.args.frame.now c.taken.new.frame c.hold-in-Err.new.frame
+    c.taken.ensures.later c.hold-in-Err.ensures.quiet
+
+pub returns-in-Err-clause-follows : goal.returns-in-Err-clause-follows
+returns-in-Err-clause-follows g c apart base s own means want =
+    subst (λ meant. Left base c.hold-in-Err.new.frame c.hold-in-Err.new.registers s meant c.in-Err.handed.fault)
+    (sym (after_takes c.args.taking.now c.args.container c.args.value s))
+    (handed_back (taken_by c.args.taking.now) c.args.container c.args.value base
+    c.args.frame.now c.args.registers.now c.take.new.self s c.in-Some.given
+    apart means c.in-Some.ensures.comes.was c.take.ensures.set c.taken.new.frame c.hold-in-Err.new.frame
+    c.hold-in-Err.new.registers c.in-Err.handed.back c.in-Err.handed.fault
+    (own_before c.taken.new.frame c.hold-in-Err.new.frame c.hold-in-Err.ensures.heap c.hold-in-Err.ensures.quiet
+    own) own c.in-Err.ensures.same c.in-Err.ensures.asked c.hold-in-Err.ensures.means want)

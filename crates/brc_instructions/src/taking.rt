@@ -1,0 +1,135 @@
+//! Instructions by which a container takes a reference: the value's, out of its register.
+
+ghost use Rattle.std.specs.Prelude.{◌≡◌, ◌≢◌, ℕ, MatchOption, IfOk, IfErr};
+ghost use Rattle.brc_words.specs.declared.fault.Fault.TheVariants as faults;
+ghost use Rattle.brc_meaning.specs.declared.state.State.{State as state};
+ghost use Rattle.brc_meaning.specs.declared.reference.Reference.{Reference as reference};
+ghost use Rattle.law_living.specs.Living.{OwnLog};
+ghost use Rattle.law_living.specs.Later.{IsLater};
+ghost use Rattle.law_isolation.specs.Asked.{PutsAsked, Follows};
+ghost use Rattle.law_isolation.specs.Means.{MeansBesides};
+ghost use Rattle.brc_instructions.specs.Calls.{taken_by, takes};
+ghost use Rattle.brc_instructions.specs.Causes.{WantsNoRoom};
+ghost use Rattle.brc_instructions.specs.Registers.{Stands, Besides};
+
+use crate::holding::hold;
+use crate::making::copy_key;
+use crate::registers::Registers;
+use brc_biased::Home;
+use brc_count::{Frame, Handed, Handle};
+use brc_heap::{dict_put, list_push, list_set, send};
+use brc_script::Register;
+use brc_words::{Fault, Key};
+use std::alloc::Allocator;
+use std::sync::Wait;
+
+/// Where a container takes a reference, and so what it answers: nothing, or what was there.
+#[derive(Drop)]
+pub enum Taking<'k, A: Allocator> {
+    /// `push`: it becomes a list's last entry.
+    Push,
+    /// `set`: it takes the place of a list's entry, which comes out.
+    Set(u32),
+    /// `send`: it becomes a mailbox's last letter.
+    Send,
+    /// `put`: it goes beside the key in a dictionary, and what was there comes out.
+    Put(&'k Key<A>),
+}
+
+/// The value, which is out of its register, goes by the call, and what was there comes out; or it is handed back.
+#[inline(always)]
+fn taken<R: Wait, H: Home<A>, A: Allocator + Copy>(
+    rt: &R,
+    alloc: A,
+    frame: &mut Frame<H, A>,
+    registers: &Registers<A>,
+    container: Register,
+    taking: &Taking<'_, A>,
+    given: Handle<A>,
+) -> Result<Option<Handle<A>>, Handed<Handle<A>>>
+    requires besides { Besides frame.old registers.now given }
+    ensures old { IfOk result (λ answer. MatchOption answer
+        (Stands frame.new registers.now) (Besides frame.new registers.now)) }
+    ensures back { IfErr result (λ handed. Besides frame.new registers.now handed.back) }
+    ensures heap { frame.new.heap ≡ frame.old.heap }
+    ensures waits { IfErr result (λ handed. handed.fault ≢ faults.Busy) }
+    ensures same { IfErr result (λ handed. handed.back ≡ given) }
+    ensures later { IsLater frame.old.seat.log frame.new.seat.log }
+    ensures room { IfErr result (λ handed. WantsNoRoom handed.fault) }
+    ensures asked { (base : ℕ) (s : state A) (reference : reference) → OwnLog frame.new.heap.cells frame.new.seat.log
+        → MeansBesides base frame.old registers.now s given reference
+        → PutsAsked (taken_by taking.now reference) container base frame.new registers.now s given reference result }
+{
+    let Some(object) = registers.get(container) else {
+        return Err(Handed {
+            fault: Fault::NoSuchPlace,
+            back: given,
+        });
+    };
+    match taking {
+        Taking::Push => match list_push(rt, frame, object, given) {
+            Ok(()) => Ok(None),
+            Err(handed) => Err(handed),
+        },
+        Taking::Set(index) => match list_set(rt, frame, object, *index, given) {
+            Ok(old) => Ok(Some(old)),
+            Err(handed) => Err(handed),
+        },
+        Taking::Send => match send(rt, frame, object, given) {
+            Ok(()) => Ok(None),
+            Err(handed) => Err(handed),
+        },
+        Taking::Put(key) => {
+            let key = match copy_key(alloc, *key) {
+                Ok(key) => key,
+                Err(fault) => return Err(Handed { fault, back: given }),
+            };
+            match dict_put(rt, frame, object, key, given) {
+                Ok(old) => Ok(old),
+                Err(
+                    Handed {
+                        fault,
+                        back: (_key, back),
+                    },
+                ) => Err(Handed { fault, back }),
+            }
+        }
+    }
+}
+
+/// `push`, `set`, `send` and `put`: the container takes the value's reference, and the value's register has what was
+/// there, or is empty.
+#[inline(always)]
+pub fn take<R: Wait, H: Home<A>, A: Allocator + Copy>(
+    rt: &R,
+    alloc: A,
+    frame: &mut Frame<H, A>,
+    registers: &mut Registers<A>,
+    container: Register,
+    value: Register,
+    taking: &Taking<'_, A>,
+) -> Result<(), Fault>
+    requires stands { Stands frame.old registers.old }
+    ensures stands { Stands frame.new registers.new }
+    ensures heap { frame.new.heap ≡ frame.old.heap }
+    ensures waits { IfErr result (λ fault. fault ≢ faults.Busy) }
+    ensures later { IsLater frame.old.seat.log frame.new.seat.log }
+    ensures room { IfErr result WantsNoRoom }
+    ensures follows { container ≢ value → Follows frame.old frame.new registers.old registers.new
+        (takes taking.now container value) result }
+{
+    let Some(given) = registers.take(value) else {
+        return Err(Fault::NoSuchPlace);
+    };
+    match taken(rt, alloc, frame, registers, container, taking, given) {
+        Ok(None) => Ok(()),
+        Ok(Some(old)) => {
+            hold(frame, registers, value, old);
+            Ok(())
+        }
+        Err(handed) => {
+            hold(frame, registers, value, handed.back);
+            Err(handed.fault)
+        }
+    }
+}
