@@ -10,3 +10,4 @@ mod Bearing
 pub mod Owning
 mod Unasked
 pub mod Quiet
+pub mod Refusing

@@ -263,10 +263,15 @@ pub record Given {A : Type 0} (old new : FrameSeen A) (source : Source) (c : ℕ
   pub works : new.works ≡ old.works
   pub rest : KeepsRest old new
 
--- a handle is refused where the next place isn't below 65,536; or memory was missing
+-- all places are taken: there are 65,536 handles, and the next place isn't below 65,536
+pub record IsFull {A : Type 0} (frame : FrameSeen A) : Type 0 where
+  pub len : MOST_PLACES ≤ frame.len
+  pub next : MOST_PLACES ≤ frame.next
+
+-- a handle is refused where all places are taken; else one, or memory for it, wasn't to be had
 abbrev pub Refused : {A : Type 0} → FrameSeen A → Fault → Type 0
-Refused old FrameFull = MOST_PLACES ≤ old.next
-Refused old OutOfMemory = old.next < MOST_PLACES
+Refused old FrameFull = IsFull old
+Refused old OutOfMemory = ¬ IsFull old
 Refused old _ = ⊥
 
 -- The events of a release are one of the lists of `brc_biased`, by which the object may end: then its block is on the

@@ -12,7 +12,8 @@ use Rattle.law_rule.specs.declared.told.Told.{Told}
 use Rattle.law_rule.specs.declared.told.Told.TheVariants.{Did}
 use Rattle.brc_table.specs.Seated.{Continues}
 use Rattle.brc_biased.specs.Seeking.{PassesOver, ClaimsAround}
-use Rattle.brc_count.specs.Frames.{FrameSeen, HandleSeen, KeepsRest, KeepsHandles, IsAsBefore, place_seen, ledger_seen}
+use Rattle.brc_count.specs.Frames.{FrameSeen, HandleSeen, KeepsRest, KeepsHandles, IsAsBefore, IsFull, place_seen}
+use Rattle.brc_count.specs.Frames.{ledger_seen}
 
 module _ {A : Type 0} where
   -- An object with these contents is made, in the first cell that was to be had from the word on with which the search
@@ -48,13 +49,13 @@ module _ {A : Type 0} where
     pub keeps : KeepsHandles old new
     pub works : new.works ≡ old.works
 
-  -- Making is refused where the next place isn't below 65,536; where the thread has made 2^47 objects; where memory is
-  -- missing for the place or the block; or where no cell was to be had.
+  -- Making is refused where all places are taken; where the thread has made 2^47 objects; where the place, or memory
+  -- for it or the block, wasn't to be had; or where no cell was.
   abbrev pub RefusedMaking : FrameSeen A → FrameSeen A → Fault → Type 0
-  RefusedMaking old new FrameFull = (MOST_PLACES ≤ old.next) × IsAsBefore old new
-  RefusedMaking old new LedgerFull = (old.next < MOST_PLACES) × (MOST_BIRTHS ≤ (ledger_seen old).allocs)
+  RefusedMaking old new FrameFull = IsFull old × IsAsBefore old new
+  RefusedMaking old new LedgerFull = ¬ IsFull old × (MOST_BIRTHS ≤ (ledger_seen old).allocs)
       × IsAsBefore old new
-  RefusedMaking old new OutOfMemory = (old.next < MOST_PLACES) × ((ledger_seen old).allocs < MOST_BIRTHS)
+  RefusedMaking old new OutOfMemory = ¬ IsFull old × ((ledger_seen old).allocs < MOST_BIRTHS)
       × IsAsBefore old new
   RefusedMaking old new HeapFull = (old.next < MOST_PLACES) × ((ledger_seen old).allocs < MOST_BIRTHS)
       × FoundNone old new

@@ -166,9 +166,9 @@ impl<H: Home<A>, A: Allocator> Frame<H, A> {
         self.holdings.places.len()
     }
 
-    /// One handle more to the same object, in one event (PEP 703, "Biased Reference Counting"). FrameFull where the
-    /// next place isn't below 65,536, looked at first; OutOfMemory where a place more can't be had. A refusal changes
-    /// nothing.
+    /// One handle more to the same object, in one event (PEP 703, "Biased Reference Counting"). FrameFull where there
+    /// are 65,536 handles and so no place is left, looked at first; OutOfMemory where a place more can't be had. A
+    /// refusal changes nothing.
     #[inline(always)]
     pub fn retain(&mut self, handle: &Handle<A>) -> Result<Handle<A>, Fault>
         requires owned { Owns self.old handle.now }
@@ -243,9 +243,9 @@ impl<H: Home<A>, A: Allocator> Frame<H, A> {
 
     /// A new object with this payload, and a handle to it: a cell is claimed, its words are set, and the block is put
     /// home (PEP 703, "Biased Reference Counting": the thread that makes an object owns it, with a local count of 1).
-    /// The faults come in this order, and each hands the payload back: FrameFull where the next place isn't below
-    /// 65,536; LedgerFull where the thread has made 2^47 objects; OutOfMemory where the place or the block can't be
-    /// had; HeapFull where all mortal cells were found taken. A container's payload is empty.
+    /// The faults come in this order, and each hands the payload back: FrameFull where there are 65,536 handles and so
+    /// no place is left; LedgerFull where the thread has made 2^47 objects; OutOfMemory where the place or the block
+    /// can't be had; HeapFull where all mortal cells were found taken. A container's payload is empty.
     #[inline(always)]
     pub fn born(&mut self, alloc: A, payload: Payload<A>) -> Result<Handle<A>, Handed<Payload<A>>>
         requires unlocked { IsUnlocked self.old }

@@ -12,7 +12,7 @@ ghost use Rattle.brc_biased.specs.Standing.{may_give_up};
 ghost use Rattle.law_rule.specs.Seen.{part_seen};
 ghost use Rattle.brc_table.specs.Seated.{Continues};
 ghost use Rattle.brc_count.specs.Frames.{IsActive, MayGiveUp, SourceFits, SourceNames, place_seen, locked_place, Given};
-ghost use Rattle.brc_count.specs.Frames.{Refused, ReleasedOf, handle_at, IsAsBefore, KeepsRest, ledger_seen};
+ghost use Rattle.brc_count.specs.Frames.{IsFull, Refused, ReleasedOf, handle_at, IsAsBefore, KeepsRest, ledger_seen};
 ghost use Rattle.brc_count.specs.Frames.{popped_seen, IsUnlocked, KeepsButStart, first_word, word_asked};
 
 use crate::held::Held;
@@ -120,8 +120,29 @@ impl<H: Home<A>, A: Allocator> Holdings<H, A> {
         }
     }
 
-    /// Makes sure that the next place can be filled: FrameFull where it isn't below 65,536, looked at first;
-    /// OutOfMemory where memory for it can't be had.
+    /// Whether all 65,536 places are taken. The next place comes first, since it is at hand. Where it isn't below 65,536
+    /// there are as many handles, since a slab fills what is vacant before it grows; but its contract leaves that open.
+    #[inline(always)]
+    pub(crate) fn is_full(&self) -> bool
+        ensures full { IsTrue result → IsFull self.now }
+        ensures place { IsFalse result → ¬ IsFull self.now }
+    {
+        self.places.vacant_key() >= MOST_PLACES as usize
+            && self.places.len() >= MOST_PLACES as usize
+    }
+
+    /// Has memory ready for the next place; false where it, or a place below 65,536, can't be had.
+    #[inline(always)]
+    pub(crate) fn has_room(&mut self) -> bool
+        ensures room { IsTrue result → 0 < self.new.spare }
+        ensures low { IsTrue result → self.old.next < MOST_PLACES }
+        ensures same { IsAsBefore self.old self.new }
+    {
+        self.places.vacant_key() < MOST_PLACES as usize && self.places.reserve(1).is_ok()
+    }
+
+    /// Makes sure that the next place can be filled: FrameFull where all 65,536 are taken, looked at first; OutOfMemory
+    /// where a place, or memory for it, can't be had.
     #[inline(always)]
     pub(crate) fn reserve(&mut self) -> Result<(), Fault>
         ensures room { OnOk result (0 < self.new.spare) }
@@ -129,14 +150,14 @@ impl<H: Home<A>, A: Allocator> Holdings<H, A> {
         ensures refused { IfErr result (Refused self.old) }
         ensures same { IsAsBefore self.old self.new }
     {
-        let next = self.places.vacant_key();
-        if next >= MOST_PLACES as usize {
+        if self.is_full() {
             return Err(Fault::FrameFull);
         }
-        if self.places.reserve(1).is_err() {
-            return Err(Fault::OutOfMemory);
+        if self.has_room() {
+            Ok(())
+        } else {
+            Err(Fault::OutOfMemory)
         }
-        Ok(())
     }
 
     /// The next place gets a reference to the source's cell; the answer is that place.

@@ -179,8 +179,8 @@ impl<H: Home<A>, A: Allocator> Frame<H, A> {
         self.holdings.begin(handle.place)
     }
 
-    /// Makes sure of the next place, for a handle that is given while an object is locked. FrameFull where it isn't
-    /// below 65,536, looked at first; OutOfMemory where memory for it can't be had.
+    /// Makes sure of the next place, for a handle that is given while an object is locked. FrameFull where all 65,536
+    /// are taken, looked at first; OutOfMemory where a place, or memory for it, can't be had.
     #[inline(always)]
     pub fn place(&mut self) -> Result<(), Fault>
         ensures room { IfOk result (λ ok. 0 < self.new.spare) }

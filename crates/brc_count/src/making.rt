@@ -12,7 +12,7 @@ use crate::held::Held;
 use crate::holdings::Holdings;
 use brc_biased::Home;
 use brc_block::{Block, Payload};
-use brc_words::{Fault, MOST_BIRTHS, MOST_PLACES};
+use brc_words::{Fault, MOST_BIRTHS};
 use std::alloc::Allocator;
 
 impl<H: Home<A>, A: Allocator> Holdings<H, A> {
@@ -28,13 +28,13 @@ impl<H: Home<A>, A: Allocator> Holdings<H, A> {
         ensures refused { IfErr result (λ back. RefusedMaking self.old self.new back.0) }
         ensures back { IfErr result (λ back. back.1 ≡ payload) }
     {
-        if self.places.vacant_key() >= MOST_PLACES as usize {
+        if self.is_full() {
             return Err((Fault::FrameFull, payload));
         }
         if self.ledger.allocs >= MOST_BIRTHS {
             return Err((Fault::LedgerFull, payload));
         }
-        if self.places.reserve(1).is_err() {
+        if !self.has_room() {
             return Err((Fault::OutOfMemory, payload));
         }
         Block::new(alloc, 0, payload)

@@ -4,7 +4,7 @@ use Rattle.std.proofs.Common.{subst, length, slice_get, slice_set}
 use Rattle.std.specs.Result.{is_ok}
 use Rattle.brc_words.specs.declared.fault.Fault.{Fault}
 use Rattle.brc_words.specs.declared.fault.Fault.TheVariants as faults
-use Rattle.brc_words.specs.declared.limits.TheConstants.{MOST_ENTRIES, MOST_PLACES}
+use Rattle.brc_words.specs.declared.limits.TheConstants.{MOST_ENTRIES}
 use Rattle.brc_block.specs.declared.payload.Payload.{Payload}
 use Rattle.brc_block.specs.Payload.{entries_of}
 use Rattle.law_world.specs.declared.event.Change.{Change}
@@ -19,6 +19,7 @@ use Rattle.brc_table.specs.Shown.{contents_of}
 use Rattle.brc_count.specs.Frames.{FrameSeen, HandleSeen, Given, Refused, IsAsBefore}
 use Rattle.brc_count.specs.Locking.{IsLocked, Began, Ended, KeepsThread, KeepsFrame, ChangesPlace, cell_in}
 use Rattle.brc_count.specs.Locking.{contents_found, entries_found}
+use Rattle.brc_count.proofs.Refusing.{refused_alike}
 use Rattle.brc_containers.specs.Changing.{PlainCall, Changes, KeepsPlaces, Puts, Swaps, Takes, Shares, RefusedPlainly}
 use Rattle.brc_containers.specs.Changing.{RefusedForWant, RefusedPlace}
 use Rattle.brc_lock.proofs.Kept.{thread_kept_on}
@@ -142,11 +143,13 @@ module _ {A : Type 0} where
 
   -- a place was refused
   pub refused_place : {R : Type 0} (before now new : FrameSeen A) (k : ℕ) (call : PlainCall R) (fault : Fault)
-      → now.next ≡ before.next → Refused now fault → RefusedForWant before new k call
+      → now.len ≡ before.len → now.next ≡ before.next → Refused now fault → RefusedForWant before new k call
       → RefusedPlace before new k call fault
-  refused_place before now new k call faults.FrameFull same full want = (want, subst (λ n. MOST_PLACES ≤ n) same full)
-  refused_place before now new k call faults.OutOfMemory same low want = (want, subst (λ n. n < MOST_PLACES) same low)
-  refused_place before now new k call _ same none want = absurd none
+  refused_place before now new k call faults.FrameFull len next why want =
+      (want, refused_alike before now faults.FrameFull len next why)
+  refused_place before now new k call faults.OutOfMemory len next why want =
+      (want, refused_alike before now faults.OutOfMemory len next why)
+  refused_place before now new k call _ len next none want = absurd none
 
   -- ---- what the calls that succeed did
 

@@ -95,14 +95,13 @@ module _ {A : Type 0} where
   none_quietly old mid new quiet none = none_on old.heap.cells old.seat.log mid.seat.log new.seat.log none
       (quietly_later mid.seat.log new.seat.log quiet)
 
-  pub caused_on : (old mid new : FrameSeen A) (fault : Fault) → new.heap ≡ mid.heap → new.next ≡ mid.next
+  pub caused_on : (old mid new : FrameSeen A) (fault : Fault) → new.heap ≡ mid.heap → new.len ≡ mid.len
       → Quietly mid.seat.log new.seat.log
       → Caused old mid fault → Caused old new fault
-  caused_on old mid new faults.HeapFull heap next quiet caused = none_quietly old mid new quiet caused
-  caused_on old mid new faults.FrameFull heap next quiet caused =
-      subst (λ (n : ℕ). MOST_PLACES ≤ n) (sym next) caused
-  caused_on old mid new faults.LedgerFull heap next quiet caused = born_quietly mid new heap quiet caused
-  caused_on old mid new _ heap next quiet caused = tt
+  caused_on old mid new faults.HeapFull heap len quiet caused = none_quietly old mid new quiet caused
+  caused_on old mid new faults.FrameFull heap len quiet caused = subst (λ (n : ℕ). MOST_PLACES ≤ n) (sym len) caused
+  caused_on old mid new faults.LedgerFull heap len quiet caused = born_quietly mid new heap quiet caused
+  caused_on old mid new _ heap len quiet caused = tt
 
   -- ---- objects that are made, and handles
 
@@ -110,7 +109,8 @@ module _ {A : Type 0} where
       → Caused old new fault
   caused_handle old new faults.HeapFull why same = absurd why
   caused_handle old new faults.LedgerFull why same = absurd why
-  caused_handle old new faults.FrameFull why same = subst (λ (f : FrameSeen A). MOST_PLACES ≤ f.next) (sym same) why
+  caused_handle old new faults.FrameFull why same =
+      subst (λ (f : FrameSeen A). MOST_PLACES ≤ f.len) (sym same) why.len
   caused_handle old new _ why same = tt
 
   pub caused_making : (old new : FrameSeen A) (fault : Fault) → RefusedMaking old new fault → Caused old new fault
@@ -121,7 +121,7 @@ module _ {A : Type 0} where
     searched = why.2.passed;
     ended = later_same new.seat.log;
   }
-  caused_making old new faults.FrameFull why = subst (λ (f : FrameSeen A). MOST_PLACES ≤ f.next) (sym why.1) why.0
+  caused_making old new faults.FrameFull why = caused_handle old new faults.FrameFull why.0 why.1
   caused_making old new faults.LedgerFull why =
       subst (λ (f : FrameSeen A). MOST_BIRTHS ≤ (ledger_seen f).allocs) (sym why.2) why.1
   caused_making old new _ why = tt
@@ -140,26 +140,26 @@ module _ {A : Type 0} where
 
   place_caused : {R : Type 0} (old mid new : FrameSeen A) (k : ℕ) (call : PlainCall R) (fault : Fault)
       → NeedsNoRoom call
-      → new.next ≡ mid.next → RefusedPlace mid new k call fault → Caused old new fault
-  place_caused old mid new k call faults.HeapFull needs next why = absurd (true≢false (plainly call _ needs why))
-  place_caused old mid new k call faults.LedgerFull needs next why = absurd (true≢false (plainly call _ needs why))
-  place_caused old mid new k call faults.FrameFull needs next why =
-      subst (λ (n : ℕ). MOST_PLACES ≤ n) (sym next) why.1
-  place_caused old mid new k call _ needs next why = tt
+      → new.len ≡ mid.len → RefusedPlace mid new k call fault → Caused old new fault
+  place_caused old mid new k call faults.HeapFull needs len why = absurd (true≢false (plainly call _ needs why))
+  place_caused old mid new k call faults.LedgerFull needs len why = absurd (true≢false (plainly call _ needs why))
+  place_caused old mid new k call faults.FrameFull needs len why =
+      subst (λ (n : ℕ). MOST_PLACES ≤ n) (sym len) why.1.len
+  place_caused old mid new k call _ needs len why = tt
 
   pub takes_caused : (old new : FrameSeen A) (k : ℕ) (call : PlainCall ℕ) (result : Result HandleSeen Fault)
       → NeedsNoRoom call
       → Late old k (λ mid. TakesEntry mid new k call result) → IfErr result (Caused old new)
   takes_caused old new k call (Ok given) needs late = tt
   takes_caused old new k call (Err fault) needs late =
-      place_caused old late.0 new k call fault needs late.2.places.next late.2.refused
+      place_caused old late.0 new k call fault needs late.2.places.len late.2.refused
 
   pub shares_caused : (old new : FrameSeen A) (k : ℕ) (call : PlainCall ℕ) (result : Result HandleSeen Fault)
       → NeedsNoRoom call
       → Late old k (λ mid. SharesEntry mid new k call result) → IfErr result (Caused old new)
   shares_caused old new k call (Ok given) needs late = tt
   shares_caused old new k call (Err fault) needs late =
-      place_caused old late.0 new k call fault needs late.2.places.next late.2.refused
+      place_caused old late.0 new k call fault needs late.2.places.len late.2.refused
 
   -- ---- calls that want no room
 

@@ -1,3 +1,4 @@
+mod Few
 mod Gained
 mod Follows_Of
 mod Looks

@@ -8,8 +8,8 @@ use Rattle.brc_biased.specs.Seeking.{PassesOver}
 use Rattle.brc_count.specs.Frames.{FrameSeen, ledger_seen}
 use Rattle.law_living.specs.Later.{IsLater}
 
--- Between these two logs, in a heap of n cells, the thread has searched once for a free cell, and only looked at free
--- words meanwhile: of each mortal cell it has a note that it wasn't free.
+-- Between these two logs, in a heap of n cells, there was a search for a free cell, in which the thread only looked at
+-- free words: of each mortal cell it has a note that it wasn't free.
 pub record NoneWasFree (n : ℕ) (old new : List Told) : Type 0 where
   pub before : List Told
   pub after : List Told
@@ -28,10 +28,10 @@ abbrev pub WantsNoRoom : Fault → Type 0
 WantsNoRoom fault = wants_room fault ≡ false
 
 module _ {A : Type 0} where
-  -- HeapFull comes after a search that found no mortal cell free; FrameFull where the frame's next place isn't below
-  -- 65,536; LedgerFull where the thread has made 2^47 objects. The refused instruction leaves the frame so.
+  -- HeapFull comes after a search that found no mortal cell free; FrameFull where the frame has 65,536 handles;
+  -- LedgerFull where the thread has made 2^47 objects. The refused instruction leaves the frame so.
   abbrev pub Caused : FrameSeen A → FrameSeen A → Fault → Type 0
   Caused old new faults.HeapFull = NoneWasFree old.heap.cells old.seat.log new.seat.log
-  Caused old new faults.FrameFull = MOST_PLACES ≤ new.next
+  Caused old new faults.FrameFull = MOST_PLACES ≤ new.len
   Caused old new faults.LedgerFull = MOST_BIRTHS ≤ (ledger_seen new).allocs
   Caused old new _ = Unit {0}

@@ -1,6 +1,6 @@
 //! The sixteen registers of a section.
 
-ghost use Rattle.std.specs.Prelude.{◌≡◌, ◌<◌, ◌+◌, None, Some, IfOk, IfErr, IfSome, IfNone, slice_set, length};
+ghost use Rattle.std.specs.Prelude.{◌≡◌, ◌<◌, ◌≤◌, ◌+◌, None, Some, IfOk, IfErr, IfSome, IfNone, slice_set, length};
 ghost use Rattle.std.specs.Option.{option_copied};
 ghost use Rattle.brc_words.specs.declared.fault.Fault.TheVariants.{OutOfMemory};
 ghost use Rattle.brc_count.specs.Frames.{IsUnlocked};
@@ -82,6 +82,7 @@ impl<A: Allocator> Registers<A> {
         requires each { OwnsEach frame.old self }
         requires unlocked { IsUnlocked frame.old }
         ensures count { frame.new.len + filled self ≡ frame.old.len }
+        ensures few { filled self ≤ 16 }
         ensures heap { frame.new.heap ≡ frame.old.heap }
         ensures quiet { Quietly frame.old.seat.log frame.new.seat.log }
         ensures unlocked { IsUnlocked frame.new }

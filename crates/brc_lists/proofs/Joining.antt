@@ -4,7 +4,6 @@ use Rattle.std.proofs.Common.{Result, Ok, Err}
 use Rattle.std.specs.Result.{IfOk, IfErr, OnOk, OnErr}
 use Rattle.brc_words.specs.declared.fault.Fault.{Fault}
 use Rattle.brc_words.specs.declared.fault.Fault.TheVariants as faults
-use Rattle.brc_words.specs.declared.limits.TheConstants.{MOST_PLACES}
 use Rattle.brc_block.specs.declared.payload.Payload.{Payload}
 use Rattle.law_world.specs.declared.event.Change.{Change}
 use Rattle.law_world.specs.declared.event.Change.TheVariants.{Keep, Put, Take, Swap}
@@ -18,6 +17,7 @@ use Rattle.brc_table.specs.Shown.{contents_of}
 use Rattle.brc_count.specs.declared.handed.Handed.{Handed}
 use Rattle.brc_count.specs.Frames.{FrameSeen, HandleSeen}
 use Rattle.brc_count.specs.Locking.{Began, KeepsThread, KeepsFrame, ChangesPlace, contents_found}
+use Rattle.brc_count.proofs.Refusing.{refused_alike}
 use Rattle.brc_containers.specs.Called.{HandsOut}
 use Rattle.brc_containers.specs.Changing.{PlainCall, Changes, KeepsPlaces, Puts, Swaps, Takes, Shares, RefusedPlainly}
 use Rattle.brc_containers.specs.Changing.{RefusedForWant, RefusedCall, RefusedEntry, RefusedPlace}
@@ -185,9 +185,9 @@ module _ {A R : Type 0} where
       → RefusedPlace old new k call fault
   place_refused old locked new k call found frame looks faults.Busy why = absurd why
   place_refused old locked new k call found frame looks faults.FrameFull why =
-      (for_want old new k call found looks why.0, subst (λ n. MOST_PLACES ≤ n) frame.next why.1)
+      (for_want old new k call found looks why.0, refused_alike old locked faults.FrameFull frame.len frame.next why.1)
   place_refused old locked new k call found frame looks faults.OutOfMemory why =
-      (for_want old new k call found looks why.0, subst (λ n. n < MOST_PLACES) frame.next why.1)
+      (for_want old new k call found looks why.0, refused_alike old locked faults.OutOfMemory frame.len frame.next why.1)
   place_refused old locked new k call found frame looks fault why = plainly old new k call found looks fault why
 
 -- ---- a whole call, by its shape: of a form with `try_` from the frame before it, of one that waits from the one after

@@ -49,8 +49,8 @@ impl<'f, H: Home<A>, A: Allocator> Locked<'f, H, A, Block<A>> {
         self.block.payload()
     }
 
-    /// Makes sure of the next place, for `entry` and `unlock_take`. FrameFull where it isn't below 65,536, looked at
-    /// first; OutOfMemory where memory for it can't be had.
+    /// Makes sure of the next place, for `entry` and `unlock_take`. FrameFull where all 65,536 are taken, looked at
+    /// first; OutOfMemory where a place, or memory for it, can't be had.
     pub fn place(&mut self) -> Result<(), Fault>
         requires holds { Holds self.old.frame.now self.old.handle.now self.old.block }
         ensures same_reference { self.new.frame.ghost_name ≡ self.old.frame.ghost_name }

@@ -1,5 +1,5 @@
 -- From the cause of an instruction's want to that of a section's.
-use Rattle.std.proofs.Common.{arith, ◌≡◌, ◌≤◌, ℕ, true, List, Option, Some, Result, Ok, Err, IfErr}
+use Rattle.std.proofs.Common.{arith, ◌≡◌, ◌≢◌, ◌≤◌, ℕ, ⊥, true, List, Option, Some, Result, Ok, Err, IfErr}
 use Rattle.std.proofs.Common.{IfSome, sym, ap, subst}
 use Rattle.brc_words.specs.Faults.{number_of}
 use Rattle.brc_words.specs.declared.fault.Fault.{Fault}
@@ -52,7 +52,7 @@ module _ {A : Type 0} where
     caused_polled had has (Err own_fault) fault keeps caused notes =
         let same : own_fault ≡ fault = sym (ap (λ (r : Result (Unit {0}) Fault). fault_in r fault) notes.0)
         in subst (Caused old polled) same
-        (caused_on old mid polled own_fault keeps.heap keeps.next (polled_quietly mid polled told polls) caused)
+        (caused_on old mid polled own_fault keeps.heap keeps.len (polled_quietly mid polled told polls) caused)
 
   -- ---- lines after lines
 
@@ -76,20 +76,22 @@ module _ {A : Type 0} where
 
   -- ---- registers released
 
-  cause_left : (old mid new : FrameSeen A) (fault : Fault) → new.heap ≡ mid.heap → Quietly mid.seat.log new.seat.log
+  cause_left : (old mid new : FrameSeen A) (fault : Fault) → mid.len ≤ 16 → new.heap ≡ mid.heap
+      → Quietly mid.seat.log new.seat.log
       → Caused old mid fault → CauseLeft old new fault
-  cause_left old mid new faults.HeapFull heap quiet caused = none_quietly old mid new quiet caused
-  cause_left old mid new faults.LedgerFull heap quiet caused = born_quietly mid new heap quiet caused
-  cause_left old mid new _ heap quiet caused = tt
+  cause_left old mid new faults.HeapFull few heap quiet caused = none_quietly old mid new quiet caused
+  cause_left old mid new faults.FrameFull few heap quiet caused = omega (arith, few, caused)
+  cause_left old mid new faults.LedgerFull few heap quiet caused = born_quietly mid new heap quiet caused
+  cause_left old mid new _ few heap quiet caused = tt
 
   pub left_of : (old mid new : FrameSeen A) (ran : Result (Unit {0}) Halt) (result : Option Halt) → HaltOf ran result
-      → new.heap ≡ mid.heap → Quietly mid.seat.log new.seat.log → HaltsForCause old mid ran
+      → mid.len ≤ 16 → new.heap ≡ mid.heap → Quietly mid.seat.log new.seat.log → HaltsForCause old mid ran
       → IfSome result (λ halt. CauseLeft old new halt.fault)
-  left_of old mid new (Ok done) result is heap quiet goes =
+  left_of old mid new (Ok done) result is few heap quiet goes =
       subst (λ (r : Option Halt). IfSome r (λ halt. CauseLeft old new halt.fault)) (sym is) tt
-  left_of old mid new (Err halt) result is heap quiet goes =
+  left_of old mid new (Err halt) result is few heap quiet goes =
       subst (λ (r : Option Halt). IfSome r (λ halt. CauseLeft old new halt.fault)) (sym is)
-      (cause_left old mid new halt.fault heap quiet goes.caused)
+      (cause_left old mid new halt.fault few heap quiet goes.caused)
 
   pub left_memory : (old new : FrameSeen A) (fault : Fault) → fault ≡ faults.OutOfMemory → CauseLeft old new fault
   left_memory old new fault is = subst (CauseLeft old new) (sym is) tt
@@ -100,6 +102,11 @@ module _ {A : Type 0} where
       → CauseLeft old new fault → NoneWasFree old.heap.cells old.seat.log new.seat.log
   heap_full_by old new faults.HeapFull same left = left
   heap_full_by old new fault same left = absurd (omega (arith, same))
+
+  no_frame_full_by : (old new : FrameSeen A) (fault : Fault) → number_of fault ≡ number_of faults.FrameFull
+      → CauseLeft old new fault → ⊥
+  no_frame_full_by old new faults.FrameFull same left = left
+  no_frame_full_by old new fault same left = absurd (omega (arith, same))
 
   ledger_full_by : (old new : FrameSeen A) (fault : Fault) → number_of fault ≡ number_of faults.LedgerFull
       → CauseLeft old new fault → MOST_BIRTHS ≤ (ledger_seen new).allocs
@@ -123,6 +130,12 @@ module _ {A : Type 0} where
         let at = halt_told (λ fault line. CauseLeft old ran fault) halt met (number_of faults.HeapFull) line told is
         left_since
         in none_quietly old ran new quiet (heap_full_by old ran at.0 at.1 at.2)
+
+    pub no_frame_full : met ≢ Some (number_of faults.FrameFull, line)
+    no_frame_full is =
+        let at = halt_told (λ fault line. CauseLeft old ran fault) halt met (number_of faults.FrameFull) line told is
+        left_since
+        in no_frame_full_by old ran at.0 at.1 at.2
 
     pub ledger_full : met ≡ Some (number_of faults.LedgerFull, line) → MOST_BIRTHS ≤ (ledger_seen new).allocs
     ledger_full is =

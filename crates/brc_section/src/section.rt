@@ -1,6 +1,6 @@
 //! A section from its first line to its end.
 
-ghost use Rattle.std.specs.Prelude.{◌≡◌, ◌≤◌, ℕ, ◌+◌, true, [], ◌∷◌, Some, IfSome, IfNone};
+ghost use Rattle.std.specs.Prelude.{◌≡◌, ◌≢◌, ◌≤◌, ℕ, ◌+◌, true, [], ◌∷◌, Some, IfSome, IfNone};
 ghost use Rattle.brc_words.specs.declared.fault.Fault.TheVariants as faults;
 ghost use Rattle.brc_words.specs.declared.limits.TheConstants.{MOST_BIRTHS};
 ghost use Rattle.brc_words.specs.Faults.{number_of};
@@ -166,11 +166,13 @@ pub fn run_section<R: Wait, G: Gate, H: Home<A>, A: Allocator + Copy>(
     ensures births { is_private section.now ≡ true → is_own_end result.fault ≡ true →
         (ledger_seen mutator.new).allocs ≡ (ledger_seen mutator.old).allocs + (meaning section.now).made }
 
-    // It ends by HeapFull only after a search that found no mortal cell free, and by LedgerFull only where its thread
-    // has made 2^47 objects.
+    // It ends by HeapFull only after a search that found no mortal cell free, by LedgerFull only where its thread has
+    // made 2^47 objects, and never by FrameFull: it has no more handles than registers and two.
     ensures heap_full { is_private section.now ≡ true → (line : ℕ)
         → result.fault ≡ Some (number_of faults.HeapFull, line)
         → NoneWasFree mutator.old.heap.cells mutator.old.seat.log mutator.new.seat.log }
+    ensures no_frame_full { is_private section.now ≡ true → (line : ℕ)
+        → result.fault ≢ Some (number_of faults.FrameFull, line) }
     ensures ledger_full { is_private section.now ≡ true → (line : ℕ)
         → result.fault ≡ Some (number_of faults.LedgerFull, line)
         → MOST_BIRTHS ≤ (ledger_seen mutator.new).allocs }

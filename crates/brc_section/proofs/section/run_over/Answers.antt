@@ -1,4 +1,4 @@
-use Rattle.std.proofs.Common.{◌≡◌, List, [], sym, subst, ap}
+use Rattle.std.proofs.Common.{arith, ◌≡◌, ◌≤◌, List, [], sym, subst, ap}
 use Rattle.brc_script.specs.declared.script.Piece.{Piece}
 use Rattle.brc_count.specs.Frames.{ledger_seen}
 use Rattle.brc_meaning.specs.Sections.{written_out}
@@ -46,6 +46,8 @@ pub returns-clause-wanted : goal.returns-clause-wanted
 returns-clause-wanted g c own =
     let pieces : AreOwn (written_out c.as_slice-pieces.result.now)
     = subst (λ (pieces : List (Piece g.row.A.Denot)). AreOwn (written_out pieces)) (sym c.as_slice-pieces.ensures) own
+    in let few : c.run_pieces-ran.new.frame.len ≤ 16
+    = omega (arith, c.run_pieces-ran.ensures.stands.holds.count, c.release_all.ensures.few)
     in left_of c.args.frame.now c.run_pieces-ran.new.frame c.release_all.new.frame c.run_pieces-ran.result
-    c.halt_of.result c.halt_of.ensures c.release_all.ensures.heap c.release_all.ensures.quiet
+    c.halt_of.result c.halt_of.ensures few c.release_all.ensures.heap c.release_all.ensures.quiet
     (c.run_pieces-ran.ensures.wants pieces)

@@ -1,6 +1,6 @@
 use Rattle.brc_section.specs.Ends.{IsLineOf}
 use Rattle.brc_section.proofs.Plainly.{plainly, line_told, busy_told}
-use Rattle.brc_section.proofs.Wants_Of.{heap_full, ledger_full}
+use Rattle.brc_section.proofs.Wants_Of.{heap_full, no_frame_full, ledger_full}
 use Rattle.brc_section.proofs.section.run_section.Goals as goal
 
 pub returns-clause-line : goal.returns-clause-line
@@ -29,6 +29,12 @@ returns-clause-births g c = λ private.
 pub returns-clause-heap_full : goal.returns-clause-heap_full
 returns-clause-heap_full g c = λ private line is.
     heap_full c.args.section.now c.args.mutator.now c.frame.result.now c.run_over-halt.new.frame c.settle.new.self
+    c.run_over-halt.result c.fault_of.result c.frame.ensures.frame c.run_over-halt.ensures.wanted
+    c.settle.ensures.handles.heap c.settle.ensures.quiet c.fault_of.ensures private line is
+
+pub returns-clause-no_frame_full : goal.returns-clause-no_frame_full
+returns-clause-no_frame_full g c = λ private line is.
+    no_frame_full c.args.section.now c.args.mutator.now c.frame.result.now c.run_over-halt.new.frame c.settle.new.self
     c.run_over-halt.result c.fault_of.result c.frame.ensures.frame c.run_over-halt.ensures.wanted
     c.settle.ensures.handles.heap c.settle.ensures.quiet c.fault_of.ensures private line is
 
