@@ -1,14 +1,15 @@
 -- Threads of one heap, dealt with one after the other.
-use Rattle.std.proofs.Common.{◌≡◌, ◌+◌, ◌<◌, ◌≤◌, ◌++◌, ℕ, List, [], ◌∷◌, map, length, Option, Some, None, refl, sym}
+use Rattle.std.proofs.Common.{◌≡◌, ◌+◌, ◌≤◌, ◌++◌, ℕ, List, [], ◌∷◌, map, length, reverse, Option, Some, None}
+use Rattle.std.proofs.Common.{refl, sym}
 use Rattle.std.proofs.Common.{subst, ap, arith, ◌∙◌}
 use Rattle.std.specs.Prelude.{IfSome, IsSomeAnd}
 use Rattle.std.specs.List.{All}
-use Rattle.std.proofs.lemmas.List.{append_assoc, append-nil, map-append, length_push}
+use Rattle.std.proofs.lemmas.List.{append_assoc, append-nil, map-append, length_push, reverse-append}
 use Rattle.std.proofs.lemmas.List.Elements.{All-head, All-rest, All-push}
 use Rattle.brc_count.specs.Frames.{FrameSeen}
 use Rattle.brc_table.specs.Seated.{TableSeen, RootSeen}
 use Rattle.brc_run.specs.declared.crew.Done.{Done}
-use Rattle.brc_run.specs.Runs.{TakesIn}
+use Rattle.brc_run.specs.Runs.{IsReady, Life, TakesIn}
 use Rattle.brc_run.proofs.Taken.{takes_none, takes_both}
 
 no_others : {D : Type 0} (left : List D) → length left ≡ 0 → left ≡ []
@@ -17,25 +18,20 @@ no_others (one ∷ left) none = absurd (omega (arith, none))
 
 module _ {A : Type 0} where
   pub first_at : (heap : TableSeen) (x : FrameSeen A) (before left : List (FrameSeen A)) → before ≡ x ∷ left
-      → All (λ (resting : FrameSeen A). resting.heap ≡ heap) before → x.heap ≡ heap
-  first_at heap x before left next all =
-      All-head (λ (resting : FrameSeen A). resting.heap ≡ heap) x left
-      (subst (All (λ (resting : FrameSeen A). resting.heap ≡ heap)) next all)
+      → All (IsReady heap) before → IsReady heap x
+  first_at heap x before left next all = All-head (IsReady heap) x left (subst (All (IsReady heap)) next all)
 
   pub others_at : (heap : TableSeen) (x : FrameSeen A) (before left : List (FrameSeen A)) → before ≡ x ∷ left
-      → All (λ (resting : FrameSeen A). resting.heap ≡ heap) before
-      → All (λ (resting : FrameSeen A). resting.heap ≡ heap) left
-  others_at heap x before left next all = All-rest (λ (resting : FrameSeen A). resting.heap ≡ heap) x left
-      before next all
+      → All (IsReady heap) before → All (IsReady heap) left
+  others_at heap x before left next all = All-rest (IsReady heap) x left before next all
 
   -- one more is put to them
   pub one_at : (heap : TableSeen) (x : FrameSeen A) (before after : List (FrameSeen A)) → after ≡ before ++ x ∷ []
-      → x.heap ≡ heap
-      → All (λ (resting : FrameSeen A). resting.heap ≡ heap) before
-      → All (λ (resting : FrameSeen A). resting.heap ≡ heap) after
+      → IsReady heap x
+      → All (IsReady heap) before
+      → All (IsReady heap) after
   one_at heap x before after more so all =
-      subst (All (λ (resting : FrameSeen A). resting.heap ≡ heap)) (sym more)
-      (All-push (λ (resting : FrameSeen A). resting.heap ≡ heap) before x all so)
+      subst (All (IsReady heap)) (sym more) (All-push (IsReady heap) before x all so)
 
   pub first_done : (heap : TableSeen) (x : Done A) (before left : List (Done A)) → before ≡ x ∷ left
       → All (λ (one : Done A). one.retired.heap ≡ heap) before → x.retired.heap ≡ heap
@@ -47,30 +43,40 @@ module _ {A : Type 0} where
       → All (λ (one : Done A). one.retired.heap ≡ heap) before → All (λ (one : Done A). one.retired.heap ≡ heap) left
   others_done heap x before left next all = All-rest (λ (one : Done A). one.retired.heap ≡ heap) x left before next all
 
--- of so many threads, those before these are taken in
-pub record Gathering {D : Type 0} (old now : RootSeen) (all left : List D) : Type 0 where
-  pub so_many : ℕ
-  pub took : TakesIn old now 0 so_many
-  pub count : so_many + length left ≡ length all
+-- of all of them, those before these are taken in
+pub record Gathering {D : Type 0} (life : D → Life) (old now : RootSeen) (all left : List D) : Type 0 where
+  pub lives : List Life
+  pub took : TakesIn old now 0 lives
+  pub those : reverse (map life all) ≡ reverse (map life left) ++ lives
 
-module _ {D : Type 0} where
-  pub gathers_first : (root : RootSeen) (all left : List D) → left ≡ all → Gathering root root all left
-  gathers_first root all left same =
-      record { so_many = 0; took = takes_none root; count = omega (arith, ap length same) }
-
-  pub gathers_next : (old mid new : RootSeen) (all before left : List D) (one : D) → before ≡ one ∷ left
-      → Gathering old mid all before
-      → TakesIn mid new 0 1 → Gathering old new all left
-  gathers_next old mid new all before left one next so took = record {
-    so_many = so.so_many + 1;
-    took = takes_both old mid new 0 so.so_many 0 1 0 (so.so_many + 1) so.took took refl refl;
-    count = omega (arith, so.count, ap length next);
+module _ {D : Type 0} (life : D → Life) where
+  pub gathers_first : (root : RootSeen) (all left : List D) → left ≡ all → Gathering life root root all left
+  gathers_first root all left same = record {
+    lives = [];
+    took = takes_none root;
+    those = ap (λ (ds : List D). reverse (map life ds)) (sym same) ∙ sym (append-nil (reverse (map life left)));
   }
 
-  pub gathers_last : (old now : RootSeen) (all left : List D) → left ≡ [] → Gathering old now all left
-      → TakesIn old now 0 (length all)
+  -- the last one's life comes first
+  lives_next : (one : D) (left : List D) (lives : List Life)
+      → reverse (map life (one ∷ left)) ++ lives ≡ reverse (map life left) ++ life one ∷ lives
+  lives_next one left lives =
+      ap (λ (front : List Life). front ++ lives) (reverse-append (life one ∷ []) (map life left))
+      ∙ append_assoc (reverse (map life left)) (life one ∷ []) lives
+
+  pub gathers_next : (old mid new : RootSeen) (all before left : List D) (one : D) → before ≡ one ∷ left
+      → Gathering life old mid all before
+      → TakesIn mid new 0 (life one ∷ []) → Gathering life old new all left
+  gathers_next old mid new all before left one next so took = record {
+    lives = life one ∷ so.lives;
+    took = takes_both old mid new 0 so.lives 0 (life one ∷ []) 0 (life one ∷ so.lives) so.took took refl refl;
+    those = so.those ∙ ap (λ (ds : List D). reverse (map life ds) ++ so.lives) next ∙ lives_next one left so.lives;
+  }
+
+  pub gathers_last : (old now : RootSeen) (all left : List D) → left ≡ [] → Gathering life old now all left
+      → TakesIn old now 0 (reverse (map life all))
   gathers_last old now all left none so =
-      subst (TakesIn old now 0) (omega (arith, so.count, ap length none)) so.took
+      subst (TakesIn old now 0) (sym (so.those ∙ ap (λ (ds : List D). reverse (map life ds) ++ so.lives) none)) so.took
 
 module _ {V X D : Type 0} where
   -- the ends are there of all before these

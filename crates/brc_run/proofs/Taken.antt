@@ -1,10 +1,10 @@
--- How many threads the root has registered and gathered, after one more.
-use Rattle.std.proofs.Common.{◌≡◌, ◌+◌, ◌<◌, ◌≤◌, ℕ, List, [], ◌∷◌, length, refl, ◌∙◌, ap, arith}
+-- How many threads the root has registered, and whose lives it has taken in, after one more.
+use Rattle.std.proofs.Common.{◌≡◌, ◌+◌, ◌<◌, ◌++◌, ℕ, List, [], ◌∷◌, refl, sym, ◌∙◌, ap, arith}
 use Rattle.std.specs.Prelude.{sum_by}
+use Rattle.std.proofs.lemmas.List.{append_assoc}
 use Rattle.std.proofs.lemmas.List.Sums.{sum_by-cons}
 use Rattle.brc_words.specs.declared.fault.Fault.{Fault}
 use Rattle.brc_words.specs.declared.fault.Fault.TheVariants as faults
-use Rattle.brc_words.specs.declared.limits.TheConstants.{MOST_THREADS}
 use Rattle.law_known.specs.Root.{rows_of}
 use Rattle.law_world.specs.declared.event.Step.TheVariants.{Register, Gather}
 use Rattle.law_rule.specs.declared.told.Told.{Told}
@@ -13,10 +13,13 @@ use Rattle.law_rule.specs.declared.told.Moved.TheVariants as moves
 use Rattle.law_rule.specs.declared.view.View.{View}
 use Rattle.law_rule.specs.Logs.{log_items}
 use Rattle.law_steps.specs.Joining.{next_thread, registering, gathering}
-use Rattle.brc_table.specs.Seated.{RootSeen}
-use Rattle.brc_thread.specs.Counting.{registers, registrations, gatherings}
+use Rattle.brc_table.specs.Seated.{RootSeen, view_of}
+use Rattle.brc_count.specs.declared.ledger.Ledger.{Ledger}
+use Rattle.brc_count.specs.Frames.{FrameSeen}
+use Rattle.brc_thread.specs.Counting.{registers, registrations}
+use Rattle.brc_thread.specs.Retiring.{EndsThread}
 use Rattle.brc_thread.specs.Threads.{RefusesThread}
-use Rattle.brc_run.specs.Runs.{TakesIn}
+use Rattle.brc_run.specs.Runs.{Life, TakesIn, TakesInOne}
 
 -- the thread that is registered next has the number of registrations, and one
 rows_more : (x : Told) (log : List Told) → rows_of (log_items (x ∷ log)) ≡ rows_of (log_items log) + registers x
@@ -44,39 +47,51 @@ registered v = omega (arith, sum_by-cons registers (Did (Register (next_thread v
 not_registered : (v w : View) → registrations (gathering v w) ≡ registrations v
 not_registered v w = omega (arith, sum_by-cons registers (Did (Gather w.thread) 0 moves.Nothing) v.log)
 
-gathered : (v w : View) → gatherings (gathering v w) ≡ gatherings v + 1
-gathered v w = omega arith
+pub takes_none : (root : RootSeen) → TakesIn root root 0 []
+takes_none root = record { same_table = refl; more_registered = omega arith; gathered = refl }
 
-pub takes_none : (root : RootSeen) → TakesIn root root 0 0
-takes_none root = record { same_table = refl; more_registered = omega arith; more_gathered = omega arith }
-
-pub takes_registered : (old mid new : RootSeen) (r g more : ℕ) → TakesIn old mid r g → new.view ≡ registering mid.view
+pub takes_registered : (old mid new : RootSeen) (r : ℕ) (lives : List Life) (more : ℕ) → TakesIn old mid r lives
+    → new.view ≡ registering mid.view
     → new.table ≡ mid.table
-    → more ≡ r + 1 → TakesIn old new more g
-takes_registered old mid new r g more took view table next = record {
+    → more ≡ r + 1 → TakesIn old new more lives
+takes_registered old mid new r lives more took view table next = record {
   same_table = table ∙ took.same_table;
   more_registered = omega (arith, ap registrations view, registered mid.view, took.more_registered, next);
-  more_gathered = ap gatherings view ∙ took.more_gathered;
+  gathered = ap (λ (v : View). v.gathered) view ∙ took.gathered;
 }
 
-pub takes_gathered : (old mid new : RootSeen) (w : View) (r g more : ℕ) → TakesIn old mid r g
+pub takes_gathered : (old mid new : RootSeen) (w : View) (r : ℕ) (lives more : List Life) → TakesIn old mid r lives
     → new.view ≡ gathering mid.view w → new.table ≡ mid.table
-    → more ≡ g + 1 → TakesIn old new r more
-takes_gathered old mid new w r g more took view table next = record {
+    → more ≡ (w.thread, w.log) ∷ lives → TakesIn old new r more
+takes_gathered old mid new w r lives more took view table next = record {
   same_table = table ∙ took.same_table;
   more_registered = ap registrations view ∙ not_registered mid.view w ∙ took.more_registered;
-  more_gathered = omega (arith, ap gatherings view, gathered mid.view w, took.more_gathered, next);
+  gathered = ap (λ (v : View). v.gathered) view ∙ ap (λ (later : List Life). (w.thread, w.log) ∷ later) took.gathered
+      ∙ ap (λ (all : List Life). all ++ old.view.gathered) (sym next);
 }
 
-pub takes_both : (old mid new : RootSeen) (r g r' g' all_r all_g : ℕ) → TakesIn old mid r g → TakesIn mid new r' g'
-    → all_r ≡ r + r' → all_g ≡ g + g'
-    → TakesIn old new all_r all_g
-takes_both old mid new r g r' g' all_r all_g first second rs gs = record {
+pub takes_both : (old mid new : RootSeen) (r : ℕ) (lives : List Life) (r' : ℕ) (later : List Life) (all_r : ℕ)
+    (all : List Life) → TakesIn old mid r lives → TakesIn mid new r' later
+    → all_r ≡ r + r' → all ≡ later ++ lives
+    → TakesIn old new all_r all
+takes_both old mid new r lives r' later all_r all first second rs is = record {
   same_table = second.same_table ∙ first.same_table;
   more_registered = omega (arith, first.more_registered, second.more_registered, rs);
-  more_gathered = omega (arith, first.more_gathered, second.more_gathered, gs);
+  gathered = second.gathered ∙ ap (λ (before : List Life). later ++ before) first.gathered
+      ∙ sym (append_assoc later lives old.view.gathered)
+      ∙ ap (λ (taken : List Life). taken ++ old.view.gathered) (sym is);
 }
 
-pub one_registered : (old mid new : RootSeen) (n : ℕ) → TakesIn old mid n 0 → TakesIn mid new 1 0
-    → TakesIn old new (n + 1) 0
-one_registered old mid new n first second = takes_both old mid new n 0 1 0 (n + 1) 0 first second refl refl
+pub one_registered : (old mid new : RootSeen) (n : ℕ) → TakesIn old mid n [] → TakesIn mid new 1 []
+    → TakesIn old new (n + 1) []
+one_registered old mid new n first second = takes_both old mid new n [] 1 [] (n + 1) [] first second refl refl
+
+pub takes_one : {A : Type 0} (old mid new : RootSeen) (mutator : FrameSeen A) (ledger : Ledger)
+    → mid.view ≡ registering old.view
+    → mid.table ≡ old.table → EndsThread mutator mid new ledger → new.table ≡ mid.table → TakesInOne old new
+takes_one old mid new mutator ledger view table ends same =
+    let w = view_of ends.retired.seat in record {
+      life = (w.thread, w.log);
+      took = takes_gathered old mid new w 1 [] ((w.thread, w.log) ∷ [])
+          (takes_registered old old mid 0 [] 1 (takes_none old) view table refl) ends.gathers same refl;
+    }

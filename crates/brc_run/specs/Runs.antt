@@ -1,17 +1,24 @@
 -- What a script's sections come to, on threads of one heap.
-use Rattle.std.specs.Prelude.{◌≡◌, ◌+◌, ℕ, suc, true, List, [], ◌∷◌, length, Some, IfSome}
+use Rattle.std.specs.Prelude.{◌≡◌, ◌≤◌, ◌+◌, ◌++◌, ℕ, suc, true, List, [], ◌∷◌, length, reverse, Some, IfSome}
 use Rattle.std.specs.declared.alloc.Global.{Global}
 use Rattle.brc_words.specs.declared.fault.Fault.TheVariants as faults
+use Rattle.brc_words.specs.declared.limits.TheConstants.{MOST_BIRTHS}
 use Rattle.brc_words.specs.Faults.{number_of}
 use Rattle.brc_script.specs.declared.script.Section.{Section}
 use Rattle.brc_script.specs.Scripts.{is_private}
+use Rattle.brc_meaning.specs.Sections.{meaning}
+use Rattle.brc_instructions.specs.Causes.{NoneWasFree}
 use Rattle.brc_section.specs.Ends.{IsLineOf}
-use Rattle.brc_section.specs.Isolation.{Prints}
+use Rattle.brc_section.specs.Isolation.{is_own_end, Prints}
 use Rattle.brc_section.specs.declared.section.SectionEnd.{SectionEnd}
 use Rattle.brc_report.specs.declared.report.Report.{Report}
+use Rattle.law_rule.specs.declared.told.Told.{Told}
 use Rattle.law_rule.specs.declared.view.View.{View}
+use Rattle.law_rule.specs.Logs.{lives_of}
 use Rattle.brc_table.specs.Seated.{TableSeen, RootSeen}
+use Rattle.brc_count.specs.Frames.{FrameSeen}
 use Rattle.brc_thread.specs.Counting.{registrations, gatherings}
+use Rattle.brc_thread.specs.Threads.{ledger_of}
 use Rattle.brc_close.specs.Closing.{Closes}
 use Rattle.brc_run.specs.declared.crew.Done.{Done}
 use Rattle.brc_run.specs.declared.options.RunOptions.{RunOptions}
@@ -34,12 +41,46 @@ module _ {A : Type 0} where
     pub busy : (line : ℕ) → end.fault ≡ Some (number_of faults.Busy, line) → refuses number line
     pub prints : is_private section ≡ true → Prints section end.lines.items end.fault
 
+-- a thread's number, and all that it did, newest first: what the root takes in as it gathers the thread
+abbrev pub Life : Type 0
+Life = ℕ × List Told
+
 module _ {A : Type 0} where
-  -- A section's thread came back from this heap, and its section, if it ran, ended so.
+  -- The life of a section's thread tells of the section's end, of one that shares nothing. Where neither a want nor a
+  -- gate stopped it, its thread had made as many objects as the section means to. It ended by HeapFull only where its
+  -- thread had searched once for a free cell, with a note of each mortal cell that it wasn't free; and by LedgerFull
+  -- only where its thread had made 2^47 objects.
+  pub record Tells (n : ℕ) (section : Section A) (end : SectionEnd A) (life : Life) : Type 0 where
+    pub births : is_private section ≡ true → is_own_end end.fault ≡ true
+        → (ledger_of n life.1).allocs ≡ (meaning section).made
+    pub heap_full : is_private section ≡ true → (line : ℕ) → end.fault ≡ Some (number_of faults.HeapFull, line)
+        → NoneWasFree n [] life.1
+    pub ledger_full : is_private section ≡ true → (line : ℕ) → end.fault ≡ Some (number_of faults.LedgerFull, line)
+        → MOST_BIRTHS ≤ (ledger_of n life.1).allocs
+
+  -- The first life is that of the first section's thread, the next that of the second's, and so on. Those of threads
+  -- that run no section come after them.
+  abbrev pub EachTells : ℕ → List (Section A) → List (SectionEnd A) → List Life → Type 0
+  EachTells n [] [] lives = Unit {0}
+  EachTells n (section ∷ sections) (end ∷ ends) (life ∷ lives) =
+      Tells n section end life × EachTells n sections ends lives
+  EachTells n sections ends lives = ⊥
+
+  abbrev pub life_of : Done A → Life
+  life_of done = (done.retired.seat.thread, done.retired.seat.log)
+
+module _ {A : Type 0} where
+  -- a thread at rest, of this heap, that has done nothing yet
+  pub record IsReady (heap : TableSeen) (resting : FrameSeen A) : Type 0 where
+    pub heap_is : resting.heap ≡ heap
+    pub nothing : resting.seat.log ≡ []
+
+  -- A section's thread came back from this heap, and its section, if it ran, ended so; of that its life tells.
   pub record IsDone (heap : TableSeen) (refuses : ℕ → ℕ → Type 0) (number : ℕ) (section : Section A)
       (done : Done A) : Type 0 where
     pub heap_is : done.retired.heap ≡ heap
     pub ended : IfSome done.end (EndsAs refuses number section)
+    pub told : IfSome done.end (λ end. Tells heap.cells section end (life_of done))
 
 module _ {G : Type 0} where
   -- A section was begun: its thread was promised to be of this heap, gate, number and section; or it is done.
@@ -49,20 +90,39 @@ module _ {G : Type 0} where
       × (handle.promise.number ≡ number) × (handle.promise.section.now ≡ section)
   IsBegun heap gate refuses number section (LeftOut done) = IsDone heap refuses number section done
 
--- The root registered so many threads more, and gathered so many more.
-pub record TakesIn (old new : RootSeen) (registered gathered : ℕ) : Type 0 where
+-- The root registered so many threads more, and took in the lives of those that it gathered, the last one's first.
+pub record TakesIn (old new : RootSeen) (registered : ℕ) (lives : List Life) : Type 0 where
   pub same_table : new.table ≡ old.table
   pub more_registered : registrations new.view ≡ registrations old.view + registered
-  pub more_gathered : gatherings new.view ≡ gatherings old.view + gathered
+  pub gathered : new.view.gathered ≡ lives ++ old.view.gathered
+
+-- it registered one thread more, and gathered it
+pub record TakesInOne (old new : RootSeen) : Type 0 where
+  pub life : Life
+  pub took : TakesIn old new 1 (life ∷ [])
+
+module _ {A : Type 0} where
+  -- It registered a thread for each section and one more. It gathered the sections' threads in the script's order, and
+  -- then the other.
+  pub record TakesInAll (n : ℕ) (sections : List (Section A)) (ends : List (SectionEnd A)) (old new : RootSeen)
+      : Type 0 where
+    pub lives : List Life
+    pub last : Life
+    pub took : TakesIn old new (length sections + 1) (last ∷ reverse lives)
+    pub many : length lives ≡ length sections
+    pub told : EachTells n sections ends lives
 
 module _ {A : Type 0} where
   -- The report is that of a heap that was closed, on which as many threads were registered as the script has sections,
   -- and one more that cleared the globals, and all were gathered. As many objects live as were made and not freed, and
-  -- as many remain.
-  pub record IsReportOf (options : RunOptions) (sections : ℕ) (report : Report A) : Type 0 where
+  -- as many remain. In the run of all that was done on that heap the registrations that ended are, in their order,
+  -- those of the sections' threads and the other; what a section's thread did there tells of the section's end.
+  pub record IsReportOf (options : RunOptions) (script : List (Section A)) (ends : List (SectionEnd A))
+      (report : Report A) : Type 0 where
     pub root : View
     pub closes : Closes options.cells options.local_limit root report
-    pub registered : registrations root ≡ sections + 1
-    pub gathered : gatherings root ≡ sections + 1
+    pub registered : registrations root ≡ length script + 1
+    pub gathered : gatherings root ≡ length script + 1
     pub balance : report.ledger.allocs ≡ report.ledger.frees + report.live
     pub remain : report.live ≡ length report.remains.items
+    pub told : EachTells options.cells script ends (reverse (lives_of closes.run))

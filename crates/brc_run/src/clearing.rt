@@ -4,7 +4,7 @@ ghost use Rattle.std.specs.Prelude.{◌≡◌, ◌<◌, IfErr, OnOk};
 ghost use Rattle.brc_words.specs.declared.fault.Fault.TheVariants as faults;
 ghost use Rattle.brc_count.specs.Frames.{IsUnlocked};
 ghost use Rattle.brc_thread.specs.Counting.{registrations};
-ghost use Rattle.brc_run.specs.Runs.{TakesIn};
+ghost use Rattle.brc_run.specs.Runs.{TakesInOne};
 
 use brc_biased::Home;
 use brc_heap::{Heap, Root};
@@ -37,7 +37,7 @@ fn clear_rounds<R: Wait, H: Home<A>, A: Allocator>(
 /// One more thread is registered, clears the globals, and is gathered. What a full frame leaves in them stays there,
 /// for the report to tell. OutOfMemory where the thread can't be had, or memory for a handle; the thread that was there
 /// is gathered then, too.
-#[tactic(auto, using(crate::proofs::Taken::takes_none, crate::proofs::Taken::takes_registered, crate::proofs::Taken::takes_gathered, crate::proofs::Taken::only_memory))]
+#[tactic(auto, using(crate::proofs::Taken::only_memory))]
 pub(crate) fn clear<R: Wait, A: Allocator + Copy>(
     rt: &R,
     alloc: A,
@@ -47,7 +47,7 @@ pub(crate) fn clear<R: Wait, A: Allocator + Copy>(
     requires heap { root.old.table ≡ heap.now.table }
     requires few { registrations root.old.view < 64 }
     ensures heap { root.new.table ≡ root.old.table }
-    ensures gathered { OnOk result (TakesIn root.old root.new 1 1) }
+    ensures gathered { OnOk result (TakesInOne root.old root.new) }
     ensures refused { IfErr result (λ fault. fault ≡ faults.OutOfMemory) }
 {
     let mut mutator = root.register(alloc, heap)?;

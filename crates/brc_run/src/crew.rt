@@ -3,7 +3,7 @@
 ghost use Rattle.std.specs.Prelude.{◌≡◌, ◌<◌, ◌≤◌, ◌+◌, [], All, IfOk, IfErr, OnOk, length, vec_capacity};
 ghost use Rattle.brc_words.specs.declared.fault.Fault.TheVariants as faults;
 ghost use Rattle.brc_thread.specs.Counting.{registrations};
-ghost use Rattle.brc_run.specs.Runs.{IsDone, TakesIn};
+ghost use Rattle.brc_run.specs.Runs.{IsDone, IsReady, TakesIn};
 
 use brc_heap::{Heap, Resting, Retired, Root};
 use brc_script::Section;
@@ -31,8 +31,8 @@ fn register_one(
     requires few { registrations root.old.view < 64 }
 
     ensures heap { root.new.table ≡ root.old.table }
-    ensures home { IfOk result (λ resting. resting.heap ≡ heap.now) }
-    ensures registered { OnOk result (TakesIn root.old root.new 1 0) }
+    ensures ready { IfOk result (IsReady heap.now) }
+    ensures registered { OnOk result (TakesIn root.old root.new 1 []) }
     ensures refused { IfErr result (λ fault. fault ≡ faults.OutOfMemory) }
 {
     let mutator = root.register(alloc, heap)?;
@@ -55,9 +55,9 @@ pub(crate) fn register_all(
     requires room { sections ≤ vec_capacity crew.old }
 
     ensures heap { root.new.table ≡ root.old.table }
-    ensures crew { All (λ resting. resting.heap ≡ heap.now) crew.new.items }
+    ensures crew { All (IsReady heap.now) crew.new.items }
     ensures all { OnOk result (length crew.new.items ≡ sections) }
-    ensures registered { OnOk result (TakesIn root.old root.new sections 0) }
+    ensures registered { OnOk result (TakesIn root.old root.new sections []) }
     ensures refused { IfErr result (λ fault. fault ≡ faults.OutOfMemory) }
 {
     for _ in 0..sections {
@@ -79,7 +79,7 @@ pub(crate) fn run_one<R: Wait, G: Gate, A: Allocator + Copy>(
     board: &Board<A>,
     gate: &G,
 ) -> Done<A>
-    requires heap { resting.heap ≡ heap.now }
+    requires ready { IsReady heap.now resting }
     ensures { IsDone heap.now (G.may_refuse gate.now) number section.now result }
 {
     let mut mutator = resting.wake(heap);

@@ -1,8 +1,8 @@
 //! The ends of a script's threads, which the root takes in.
 
 ghost use Rattle.std.specs.Prelude.{◌≡◌, ◌<◌, ◌≤◌, ◌++◌, ◌∷◌, [], All, Some, IfSome, IsSomeAnd, length, map};
-ghost use Rattle.std.specs.Prelude.{vec_capacity};
-ghost use Rattle.brc_run.specs.Runs.{TakesIn};
+ghost use Rattle.std.specs.Prelude.{reverse, vec_capacity};
+ghost use Rattle.brc_run.specs.Runs.{IsReady, TakesIn, life_of};
 
 use crate::crew::Done;
 use brc_heap::{Heap, Resting, Retired, Root};
@@ -30,7 +30,7 @@ fn with_end<A: Allocator>(
 fn gather_one<A: Allocator>(heap: &Heap<A>, root: &mut Root<A>, retired: Retired<A>)
     requires heap { root.old.table ≡ heap.now.table }
     requires same_heap { retired.heap ≡ heap.now }
-    ensures { TakesIn root.old root.new 0 1 }
+    ensures { TakesIn root.old root.new 0 ((retired.seat.thread, retired.seat.log) ∷ []) }
 {
     root.gather(heap, retired);
 }
@@ -48,7 +48,7 @@ pub(crate) fn gather_all<A: Allocator>(
     requires none { ends.items ≡ [] }
     requires room { length done.items ≤ vec_capacity ends }
 
-    ensures gathered { TakesIn root.old root.new 0 (length done.items) }
+    ensures gathered { TakesIn root.old root.new 0 (reverse (map life_of done.items)) }
     ensures ends { IfSome result (λ ends. map (λ one. one.end) done.items ≡ map Some ends.items) }
 {
     let mut ends = Some(ends);
@@ -79,7 +79,7 @@ pub(crate) fn dismiss_all<A: Allocator>(
     crew: Vec<Resting<A>, A>,
 )
     requires heap { root.old.table ≡ heap.now.table }
-    requires same_heap { All (λ resting. resting.heap ≡ heap.now) crew.items }
+    requires ready { All (IsReady heap.now) crew.items }
     ensures heap { root.new.table ≡ root.old.table }
 {
     for resting in crew {

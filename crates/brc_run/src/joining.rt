@@ -3,7 +3,7 @@
 ghost use Rattle.std.specs.Prelude.{◌≡◌, ◌<◌, ◌≤◌, List, [], All, length, vec_capacity};
 ghost use Rattle.brc_script.specs.declared.script.Section.{Section as section_data};
 ghost use Rattle.brc_table.specs.Seated.{TableSeen};
-ghost use Rattle.brc_run.specs.Runs.{IsDone, IsBegun, InOrder};
+ghost use Rattle.brc_run.specs.Runs.{IsDone, IsBegun, IsReady, InOrder};
 
 use crate::crew::{Done, run_one};
 use crate::starting::{Begun, begin, end_from};
@@ -29,7 +29,7 @@ fn begin_each<'s, E: 's, R: Threads + Wait + Sync, G: Gate>(
     gate: &'s G,
     begun: Vec<Begun<'s, G>>,
 ) -> Vec<Begun<'s, G>>
-    requires heap { All (λ resting. resting.heap ≡ heap.now) crew.items }
+    requires ready { All (IsReady heap.now) crew.items }
     requires crew { length crew.items ≡ length sections.now }
     requires few { length sections.now < 64 }
     requires none { begun.items ≡ [] }
@@ -85,7 +85,7 @@ fn leave_all_out<R: Wait, G: Gate>(
     gate: &G,
     done: Vec<Done<Global>>,
 ) -> Vec<Done<Global>>
-    requires heap { All (λ resting. resting.heap ≡ heap.now) crew.items }
+    requires ready { All (IsReady heap.now) crew.items }
     requires crew { length crew.items ≡ length sections.now }
     requires few { length sections.now < 64 }
     requires none { done.items ≡ [] }
@@ -122,7 +122,7 @@ fn run_in<'s, E: 's, R: Threads + Wait + Sync, G: Gate>(
     gate: &'s G,
     done: Vec<Done<Global>>,
 ) -> Vec<Done<Global>>
-    requires heap { All (λ resting. resting.heap ≡ heap.now) crew.items }
+    requires ready { All (IsReady heap.now) crew.items }
     requires crew { length crew.items ≡ length sections.now }
     requires few { length sections.now < 64 }
     requires none { done.items ≡ [] }
@@ -153,7 +153,7 @@ pub(crate) fn run_all<R: Threads + Wait + Sync, G: Gate>(
     gate: &G,
     done: Vec<Done<Global>>,
 ) -> Vec<Done<Global>>
-    requires heap { All (λ resting. resting.heap ≡ heap.now) crew.items }
+    requires ready { All (IsReady heap.now) crew.items }
     requires crew { length crew.items ≡ length sections.now }
     requires few { length sections.now < 64 }
     requires none { done.items ≡ [] }
@@ -165,7 +165,7 @@ pub(crate) fn run_all<R: Threads + Wait + Sync, G: Gate>(
         thread::scope_env(),
         rt,
         |scope| -> Vec<Done<Global>>
-            requires heap { All (λ resting. resting.heap ≡ heap.now) crew.items }
+            requires ready { All (IsReady heap.now) crew.items }
             requires crew { length crew.items ≡ length sections.now }
             requires few { length sections.now < 64 }
             requires none { done.items ≡ [] }

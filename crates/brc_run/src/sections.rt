@@ -5,7 +5,7 @@ ghost use Rattle.brc_words.specs.declared.fault.Fault.TheVariants as faults;
 ghost use Rattle.brc_thread.specs.Counting.{registrations, gatherings};
 ghost use Rattle.brc_close.specs.Closing.{Closes};
 ghost use Rattle.brc_run.specs.Options.{AreRunOptions};
-ghost use Rattle.brc_run.specs.Runs.{EndsAs, InOrder, TakesIn, IsReportOf};
+ghost use Rattle.brc_run.specs.Runs.{EndsAs, InOrder, TakesInAll, IsReportOf};
 
 use crate::clearing::clear;
 use crate::crew::{Done, register_all};
@@ -58,7 +58,7 @@ fn room_for(alloc: Global, sections: usize) -> Result<Room, Fault>
 }
 
 /// The sections on threads of the heap, until all threads are gathered, and the globals are cleared.
-#[tactic(auto, using(crate::proofs::Taken::takes_both, crate::proofs::Ordered::each_is, crate::proofs::Reported::ends_in_order, crate::proofs::Ordered::as_many))]
+#[tactic(auto, using(crate::proofs::Ordered::each_is, crate::proofs::Reported::ends_in_order, crate::proofs::Ordered::as_many))]
 fn run_on<R: Threads + Wait + Sync, G: Gate>(
     rt: &R,
     alloc: Global,
@@ -77,7 +77,7 @@ fn run_on<R: Threads + Wait + Sync, G: Gate>(
 
     ensures heap { root.new.table ≡ root.old.table }
     ensures ends { IfOk result (λ ends. InOrder (EndsAs (G.may_refuse gate.now)) 1 sections.now ends.items) }
-    ensures gathered { OnOk result (TakesIn root.old root.new (length sections.now + 1) (length sections.now + 1)) }
+    ensures gathered { IfOk result (λ ends. TakesInAll heap.now.cells sections.now ends.items root.old root.new) }
     ensures refused { IfErr result (λ fault. fault ≡ faults.OutOfMemory) }
 {
     let Room {
@@ -134,7 +134,7 @@ pub fn run_sections<R: Threads + Wait + Sync, G: Gate>(
 ) -> Result<RunReport<Global>, Fault>
     // Each section's fault is that of one of its lines, and Busy only of one at which the gate may answer false.
     ensures sections { IfOk result (λ run. InOrder (EndsAs (G.may_refuse gate.now)) 1 script.now run.sections.items) }
-    ensures report { IfOk result (λ run. IsReportOf options (length script.now) run.report) }
+    ensures report { IfOk result (λ run. IsReportOf options script.now run.sections.items run.report) }
 
     ensures options { (result ≡ Err faults.BadOptions) ↔ ¬ (AreRunOptions options) }
     ensures refused { IfErr result (λ fault. (fault ≡ faults.BadOptions) ⊎ (fault ≡ faults.OutOfMemory)) }

@@ -3,7 +3,7 @@
 ghost use Rattle.std.specs.Prelude.{◌≡◌, ℕ, IfOk, IfErr};
 ghost use Rattle.brc_script.specs.declared.script.Section.{Section as section_data};
 ghost use Rattle.brc_table.specs.Seated.{TableSeen};
-ghost use Rattle.brc_run.specs.Runs.{IsDone, IsBegun};
+ghost use Rattle.brc_run.specs.Runs.{IsDone, IsBegun, IsReady};
 
 use crate::crew::{Done, run_one};
 use brc_heap::{Heap, Resting};
@@ -88,7 +88,7 @@ fn start_one<'s, E: 's, R: Threads + Wait + Sync, G: Gate>(
     board: &'s Board<Global>,
     gate: &'s G,
 ) -> Begun<'s, G>
-    requires heap { resting.heap ≡ heap.now }
+    requires ready { IsReady heap.now resting }
     ensures { IsBegun heap.now gate.now (G.may_refuse gate.now) number section.now result }
 {
     let given = Given {
@@ -100,7 +100,7 @@ fn start_one<'s, E: 's, R: Threads + Wait + Sync, G: Gate>(
     let started = scope.spawn_with(
         given,
         move || -> Done<Global>
-            requires heap { resting.heap ≡ heap.now }
+            requires ready { IsReady heap.now resting }
             ensures done { IsDone heap.entry.now (G.may_refuse gate.entry.now) number section.entry.now result }
         {
             run_one(
@@ -130,7 +130,7 @@ pub(crate) fn begin<'s, E: 's, R: Threads + Wait + Sync, G: Gate>(
     board: &'s Board<Global>,
     gate: &'s G,
 ) -> Begun<'s, G>
-    requires heap { resting.heap ≡ heap.now }
+    requires ready { IsReady heap.now resting }
     ensures { IsBegun heap.now gate.now (G.may_refuse gate.now) number section.now result }
 {
     if board.has_ended(rt, number) {

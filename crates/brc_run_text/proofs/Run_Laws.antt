@@ -56,7 +56,7 @@ module _ (options : RunOptions) (refuses : ℕ → ℕ → Type 0) where
       (ends : List (SectionEnd Global)) (report : Report Global)
       → IfSome input (λ all. bytes ≡ take (MOST_INPUT + 1) all) → script_at bytes ≡ Ok script
       → InOrder (EndsAs refuses) 1 script ends
-      → IsReportOf options (length script) report → IsRunOf options refuses input script ends report
+      → IsReportOf options script ends report → IsRunOf options refuses input script ends report
   run_of None bytes script ends report is spelled in_order reported =
       record { spelled = tt; in_order = in_order; reported = reported }
   run_of (Some all) bytes script ends report is spelled in_order reported =

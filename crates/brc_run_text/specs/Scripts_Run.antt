@@ -1,5 +1,5 @@
 -- A script, run from bytes to bytes.
-use Rattle.std.specs.Prelude.{◌≡◌, ◌⊎◌, ℕ, Bool, List, [], ◌++◌, length, Option, Result, Ok, Err, IfSome, nat_lt}
+use Rattle.std.specs.Prelude.{◌≡◌, ◌⊎◌, ℕ, Bool, List, [], ◌++◌, Option, Result, Ok, Err, IfSome, nat_lt}
 use Rattle.std.specs.List.{list_any}
 use Rattle.std.specs.declared.alloc.Global.{Global}
 use Rattle.std.specs.Io.KnownBytes.{Appends, Keeps}
@@ -16,13 +16,14 @@ use Rattle.brc_run_text.specs.declared.whole.Ended.{Ended}
 use Rattle.brc_run_text.specs.Tellings.{run_text, ends_by_fault}
 
 -- The input spells this script, where its bytes are known. Its sections ended so, each with a fault of one of its lines
--- at most, and with Busy only where its gate may refuse; their heap was closed, and this is its report.
+-- at most, and with Busy only where its gate may refuse; their heap was closed, and this is its report, of a run that
+-- tells what each section's thread did.
 pub record IsRunOf (options : RunOptions) (refuses : ℕ → ℕ → Type 0) (input : Option (List ℕ))
     (script : List (Section Global))
     (ends : List (SectionEnd Global)) (report : Report Global) : Type 0 where
   pub spelled : IfSome input (λ bytes. script_at bytes ≡ Ok script)
   pub in_order : InOrder (EndsAs refuses) 1 script ends
-  pub reported : IsReportOf options (length script) report
+  pub reported : IsReportOf options script ends report
 
 -- the whole text of a run is written, and it is said whether an object lives and whether a fault ended a section
 pub record IsTold (options : RunOptions) (refuses : ℕ → ℕ → Type 0) (input old new : Option (List ℕ))

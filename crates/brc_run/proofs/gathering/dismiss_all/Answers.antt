@@ -10,4 +10,4 @@ loop-resting-preserved g c =
     )
 
 pub dismiss-requires-clause-same_heap : goal.dismiss-requires-clause-same_heap
-dismiss-requires-clause-same_heap g c = first_at _ _ _ _ c.in-Some.ensures.steps.0 c.loop-resting.invariant.1
+dismiss-requires-clause-same_heap g c = (first_at _ _ _ _ c.in-Some.ensures.steps.0 c.loop-resting.invariant.1).heap_is

@@ -15,5 +15,5 @@ loop-section-preserved g c =
       omega arith,
     )
 
-pub begin-requires-clause-heap : goal.begin-requires-clause-heap
-begin-requires-clause-heap g c κs within = first_at _ _ _ _ c.in-Some.ensures.items c.loop-section.invariant.1
+pub begin-requires-clause-ready : goal.begin-requires-clause-ready
+begin-requires-clause-ready g c κs within = first_at _ _ _ _ c.in-Some.ensures.items c.loop-section.invariant.1

@@ -15,5 +15,5 @@ loop-section-preserved g c =
       omega arith,
     )
 
-pub run_one-requires-clause-heap : goal.run_one-requires-clause-heap
-run_one-requires-clause-heap g c κs within = first_at _ _ _ _ c.in-Some.ensures.items c.loop-section.invariant.1
+pub run_one-requires-clause-ready : goal.run_one-requires-clause-ready
+run_one-requires-clause-ready g c κs within = first_at _ _ _ _ c.in-Some.ensures.items c.loop-section.invariant.1
