@@ -1,5 +1,5 @@
 -- What a script's sections come to, on threads of one heap.
-use Rattle.std.specs.Prelude.{◌≡◌, ◌≤◌, ◌+◌, ◌++◌, ℕ, suc, true, List, [], ◌∷◌, length, reverse, Some, IfSome}
+use Rattle.std.specs.Prelude.{◌≡◌, ◌≢◌, ◌≤◌, ◌+◌, ◌++◌, ℕ, suc, true, List, [], ◌∷◌, length, reverse, Some, IfSome}
 use Rattle.std.specs.declared.alloc.Global.{Global}
 use Rattle.brc_words.specs.declared.fault.Fault.TheVariants as faults
 use Rattle.brc_words.specs.declared.limits.TheConstants.{MOST_BIRTHS}
@@ -35,11 +35,12 @@ InOrder IsSo number (x ∷ xs) (y ∷ ys) = IsSo number x y × InOrder IsSo (suc
 
 module _ {A : Type 0} where
   -- A section's fault is that of one of its lines, and Busy only of one at which its gate may refuse. One that shares
-  -- nothing prints its plain meaning, whatever the others do.
+  -- nothing prints its plain meaning, whatever the others do, and its frame is never full.
   pub record EndsAs (refuses : ℕ → ℕ → Type 0) (number : ℕ) (section : Section A) (end : SectionEnd A) : Type 0 where
     pub line : IfSome end.fault (λ fault. IsLineOf fault.1 section.pieces)
     pub busy : (line : ℕ) → end.fault ≡ Some (number_of faults.Busy, line) → refuses number line
     pub prints : is_private section ≡ true → Prints section end.lines.items end.fault
+    pub fits : is_private section ≡ true → (line : ℕ) → end.fault ≢ Some (number_of faults.FrameFull, line)
 
 -- a thread's number, and all that it did, newest first: what the root takes in as it gathers the thread
 abbrev pub Life : Type 0

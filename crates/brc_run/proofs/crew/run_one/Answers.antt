@@ -18,6 +18,11 @@ returns g c =
           let ran = w.run_section.ensures in
           done_run heap refuses number section resting woken mutator c.retire.result c.if-has_ended.end
           c.requires.ready c.wake-mutator.ensures.same c.retire.ensures w.run_section.new.mutator w.run_section.result
-          w.mutator-is w.end-is ran.heap (record { line = ran.line; busy = ran.busy; prints = ran.prints })
+          w.mutator-is w.end-is ran.heap (record {
+            line = ran.line;
+            busy = ran.busy;
+            prints = ran.prints;
+            fits = ran.no_frame_full;
+          })
           ran.births ran.heap_full ran.ledger_full
     ]
