@@ -1,5 +1,5 @@
 -- What answers of several instructions share: from a call's clauses to what the frame and the registers mean after it.
-use Rattle.std.proofs.Common.{◌≡◌, ◌≢◌, ◌∙◌, ℕ, ℤ, true, false, List, [], Option, Some, None, is_some, Result, Ok, Err}
+use Rattle.std.proofs.Common.{◌≡◌, ◌≢◌, ◌∙◌, ℕ, ℤ, true, false, List, Option, Some, None, is_some, Result, Ok, Err}
 use Rattle.std.proofs.Common.{slice_index_or, slice_set, MatchOption, refl, sym, ap, subst}
 use Rattle.std.specs.Prelude.{IfSome}
 use Rattle.brc_words.specs.declared.fault.Fault.{Fault}

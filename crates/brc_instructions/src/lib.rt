@@ -2,10 +2,11 @@
 //! to both.
 //!
 //! A section has sixteen registers. Each that isn't empty has a handle that the frame owns, and the frame owns no other
-//! (`specs/Registers.antt`, `Stands`). Each instruction is one function, which takes that from before it to behind it,
-//! whatever its answer, at the same heap. None answers Busy: each waits while another thread has the object locked.
-//! What `print` prints is a value that it answers (`Shown`); `Lines` makes text of it, worded as the plain meaning of a
-//! section (`specs/Printing.antt`).
+//! (`specs/Registers.antt`, `Stands`). Each kind of instruction is one function, which takes that from before it to
+//! behind it, whatever its answer, at the same heap; where a container gives a reference, or takes one, `Giving` and
+//! `Taking` say by which call (`specs/Calls.antt`). None answers Busy: each waits while another thread has the object
+//! locked. What `print` prints is a value that it answers (`Shown`); `Lines` makes text of it, worded as the plain
+//! meaning of a section (`specs/Printing.antt`).
 //!
 //! So what an instruction does to plain values can be said later without another form: by its call's own clauses, in
 //! its contract.
