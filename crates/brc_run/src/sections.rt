@@ -1,6 +1,6 @@
 //! A script, from its options to the report of its heap.
 
-ghost use Rattle.std.specs.Prelude.{◌≡◌, ◌↔◌, ◌⊎◌, ◌<◌, ◌≤◌, ◌+◌, [], Err, IfOk, IfErr, OnOk, length, vec_capacity};
+ghost use Rattle.std.specs.Prelude.{◌≡◌, ◌↔◌, ◌⊎◌, ◌<◌, ◌≤◌, ◌+◌, [], Err, IfOk, IfErr, length, vec_capacity};
 ghost use Rattle.brc_words.specs.declared.fault.Fault.TheVariants as faults;
 ghost use Rattle.brc_thread.specs.Counting.{registrations, gatherings};
 ghost use Rattle.brc_close.specs.Closing.{Closes};
@@ -134,6 +134,7 @@ pub fn run_sections<R: Threads + Wait + Sync, G: Gate>(
 ) -> Result<RunReport<Global>, Fault>
     // Each section's fault is that of one of its lines, and Busy only of one at which the gate may answer false.
     ensures sections { IfOk result (λ run. InOrder (EndsAs (G.may_refuse gate.now)) 1 script.now run.sections.items) }
+    // What each section's thread did stands in the run that the report is of, and tells why it wanted room.
     ensures report { IfOk result (λ run. IsReportOf options script.now run.sections.items run.report) }
 
     ensures options { (result ≡ Err faults.BadOptions) ↔ ¬ (AreRunOptions options) }

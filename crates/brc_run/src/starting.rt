@@ -1,6 +1,6 @@
 //! A section on a thread of its own, and what is done where no thread can be had for it.
 
-ghost use Rattle.std.specs.Prelude.{◌≡◌, ℕ, IfOk, IfErr};
+ghost use Rattle.std.specs.Prelude.{ℕ};
 ghost use Rattle.brc_script.specs.declared.script.Section.{Section as section_data};
 ghost use Rattle.brc_table.specs.Seated.{TableSeen};
 ghost use Rattle.brc_run.specs.Runs.{IsDone, IsBegun, IsReady};
