@@ -1,7 +1,7 @@
 //! Tests of one thread or of two, from a table that opens to its end.
 //!
-//! A test makes the table and the seats, and lends them to what its threads do: calls beside values that have destructors
-//! cost the proof more.
+//! A test makes the table and the seats, and lends them to what its threads do: calls beside values that have
+//! destructors cost the proof more.
 
 ghost use Rattle.std.specs.Prelude.{◌≡◌, []};
 ghost use Rattle.test_table.specs.Parts.{StandsAt};
