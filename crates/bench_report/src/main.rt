@@ -8,7 +8,7 @@ mod graph;
 mod request;
 mod timing;
 
-use request::{Request, read_request};
+use request::{Verb, read_request};
 use std::io;
 use timing::report_on;
 
@@ -20,10 +20,10 @@ fn main(rt: HostRuntime) -> io::Result<()> {
             println!(rt; "no")?;
             continue;
         };
-        match report_on(&rt, rt.alloc(), request.graph())? {
-            Some((counts, times)) => match request {
-                Request::Run(_) => println!(rt; "{times}")?,
-                Request::Count(_) => println!(rt; "{counts}")?,
+        match report_on(&rt, rt.alloc(), request.graph)? {
+            Some((counts, times)) => match request.verb {
+                Verb::Run => println!(rt; "{times}")?,
+                Verb::Count => println!(rt; "{counts}")?,
             },
             None => println!(rt; "no")?,
         }

@@ -2,20 +2,27 @@
 
 use crate::graph::{Graph, MOST_LIVE, Shape};
 
-/// What a line asks for.
+/// What is asked of a heap.
 #[derive(Clone, Copy)]
-pub enum Request {
-    /// The time that the report on this heap takes.
-    Run(Graph),
+pub enum Verb {
+    /// The time that the report on it takes.
+    Run,
     /// What stands in it.
-    Count(Graph),
+    Count,
 }
 
-impl Request {
-    pub fn graph(&self) -> Graph {
-        match self {
-            Request::Run(graph) | Request::Count(graph) => *graph,
-        }
+/// What a line asks for.
+#[derive(Clone, Copy)]
+pub struct Request {
+    pub verb: Verb,
+    pub graph: Graph,
+}
+
+fn verb_of(name: &str) -> Option<Verb> {
+    match name {
+        "run" => Some(Verb::Run),
+        "count" => Some(Verb::Count),
+        _ => None,
     }
 }
 
@@ -30,7 +37,7 @@ fn shape_of(name: &str) -> Option<Shape> {
 /// Reads a line: `run` or `count`, a shape, how many live cells, and how many entries each.
 pub fn read_request(line: &str) -> Option<Request> {
     let mut words = line.split_whitespace();
-    let verb = words.next()?;
+    let verb = verb_of(words.next()?)?;
     let shape = shape_of(words.next()?)?;
     let cells = words.next()?.parse::<u32>().ok()?;
     let each = words.next()?.parse::<u32>().ok()?;
@@ -38,9 +45,5 @@ pub fn read_request(line: &str) -> Option<Request> {
         return None;
     }
     let graph = Graph { shape, cells, each };
-    match verb {
-        "run" => Some(Request::Run(graph)),
-        "count" => Some(Request::Count(graph)),
-        _ => None,
-    }
+    Some(Request { verb, graph })
 }

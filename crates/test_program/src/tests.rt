@@ -1,9 +1,7 @@
 //! The tests, by what they look at.
 
-mod command_lines;
-mod explanations;
-mod instructions;
+mod failing;
+mod help;
 mod running;
 mod scripts;
-mod statuses;
 mod streams;

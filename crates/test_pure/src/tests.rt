@@ -3,6 +3,7 @@
 mod comparing;
 mod explaining;
 mod meaning;
+mod memory;
 mod model;
 mod plain;
 mod report;
@@ -10,5 +11,4 @@ mod script;
 mod text;
 mod traces;
 mod words;
-mod worked_runs;
 mod worlds;

@@ -1,6 +1,6 @@
 -- The logs of seats after the parts that worked runs share. The list is at cell 266, and the globals have it under a
 -- key.
-use Rattle.std.specs.Prelude.{ℕ, ℤ, pos, List, [], ◌∷◌}
+use Rattle.std.specs.Prelude.{◌≡◌, ℕ, ℤ, pos, List, [], ◌∷◌}
 use Rattle.brc_words.specs.declared.kind.Kind.TheVariants as kinds
 use Rattle.law_world.specs.declared.event.Change.TheVariants as changes
 use Rattle.law_world.specs.declared.event.Dropped.TheVariants as dropped
@@ -13,6 +13,9 @@ use Rattle.law_rule.specs.declared.contents.Contents.TheVariants as contents
 use Rattle.law_rule.specs.declared.told.Moved.TheVariants as moves
 use Rattle.law_rule.specs.declared.told.Told.{Told}
 use Rattle.law_rule.specs.declared.told.Told.TheVariants.{Did}
+use Rattle.brc_table.specs.Seated.{TableSeen, SeatSeen, Continues}
+use Rattle.test_table.specs.declared.globals.Held.{Held}
+use Rattle.test_table.specs.declared.globals.Held.TheVariants as held
 
 -- the globals without entries, with one of this key, and with two of the keys 1 and 2
 abbrev pub bare_globals : Contents
@@ -23,6 +26,20 @@ with_entry key cell = contents.Dict ((plain.Int key, cell) ∷ [])
 
 abbrev pub with_entries : ℕ → Contents
 with_entries cell = contents.Dict ((plain.Int (pos 1), cell) ∷ (plain.Int (pos 2), cell) ∷ [])
+
+abbrev pub globals_with : Held → Contents
+globals_with held.Nothing = bare_globals
+globals_with (held.One key cell) = with_entry key cell
+globals_with (held.Two cell) = with_entries cell
+
+module _ {A : Type 0} where
+  -- a seat of this table, with this log and no block out
+  abbrev pub StandsAt : List Told → TableSeen → SeatSeen A → Type 0
+  StandsAt log table seat = (seat.table ≡ table.table) × (seat.log ≡ log) × (seat.slots ≡ [])
+
+  -- the same thread's seat later, with this log and no block out
+  abbrev pub Went : List Told → SeatSeen A → SeatSeen A → Type 0
+  Went log old new = (new.log ≡ log) × (new.slots ≡ []) × Continues old new
 
 -- ---- the owner
 
@@ -59,25 +76,28 @@ merged_log thread number =
     ∷ Did (LocalDown (dropped.Frame 0)) 0 moves.Nothing
     ∷ taken_back_log thread
 
--- it has the list in place 0 and the globals in place 2, and has put a second reference into them
+-- it has the list in places 0 and 1, and the globals in place 2
+abbrev pub kept_log : ℕ → List Told
+kept_log thread =
+    Did (LocalUp (sources.Immortal 265) 2) 4294967295 moves.Nothing
+    ∷ Did (LocalUp (sources.Frame 0) 1) 2 moves.Nothing
+    ∷ born_log thread
+
+-- and has put the second reference into them
 abbrev pub shared_twice_log : ℕ → List Told
 shared_twice_log thread =
     Did (Unlock (changes.Put 1)) 0 (moves.Put 265 (with_entry (pos 1) 266))
     ∷ Did (Lock 2) 0 (moves.Found 265 bare_globals)
-    ∷ Did (LocalUp (sources.Immortal 265) 2) 4294967295 moves.Nothing
-    ∷ Did (LocalUp (sources.Frame 0) 1) 2 moves.Nothing
-    ∷ born_log thread
+    ∷ kept_log thread
 
--- it has the globals in place 2, and has put both of its references into them
+-- or both
 abbrev pub shared_both_log : ℕ → List Told
 shared_both_log thread =
     Did (Unlock (changes.Put 1)) 0 (moves.Put 265 (with_entries 266))
     ∷ Did (Lock 2) 0 (moves.Found 265 (with_entry (pos 1) 266))
     ∷ Did (Unlock (changes.Put 0)) 0 (moves.Put 265 (with_entry (pos 1) 266))
     ∷ Did (Lock 2) 0 (moves.Found 265 bare_globals)
-    ∷ Did (LocalUp (sources.Immortal 265) 2) 4294967295 moves.Nothing
-    ∷ Did (LocalUp (sources.Frame 0) 1) 2 moves.Nothing
-    ∷ born_log thread
+    ∷ kept_log thread
 
 -- ---- another thread, which has the globals in place 0
 

@@ -3,7 +3,6 @@
 ghost use Rattle.std.specs.Prelude.{◌≡◌, ◌<◌, ℕ, [], ◌∷◌, None, IfSome, length, slice_index};
 ghost use Rattle.law_world.specs.declared.row.Hand.TheVariants as hands;
 ghost use Rattle.law_rule.specs.Logs.{entries_in};
-ghost use Rattle.law_rule.specs.Opening.{first_view};
 ghost use Rattle.law_rule.specs.declared.contents.Contents.TheVariants as contents;
 ghost use Rattle.brc_table.specs.Seated.{Continues};
 ghost use Rattle.brc_table.specs.Shown.{contents_of};
@@ -11,29 +10,13 @@ ghost use Rattle.brc_biased.specs.Counter.{first_count};
 ghost use Rattle.brc_biased.specs.Standing.{HasDead, Stands};
 
 use crate::ends::end_all;
+use crate::helpers::{alive, opened};
 use brc_biased::{Counter, Home, first_counts};
 use brc_block::{Block, Payload};
-use brc_table::{HeapTable, RootSeat};
 use brc_words::Kind;
 use law_world::{Dropped, Source};
 use std::alloc::Allocator;
 use std::process::Abort;
-
-/// A table, or the end of the test.
-fn opened<A: Allocator + Copy>(
-    rt: &impl Abort,
-    alloc: A,
-    local_limit: u32,
-) -> (HeapTable<A>, RootSeat<A>)
-    ensures sizes { (result.0.cells ≡ 512) × (result.0.local_limit ≡ local_limit) }
-    ensures table { result.1.table ≡ result.0.table }
-    ensures view { result.1.view ≡ first_view }
-{
-    match HeapTable::new(alloc, 512, local_limit) {
-        Ok(made) => made,
-        Err(_) => panic!(rt; "memory"),
-    }
-}
 
 /// The counts of a thread that has counted nothing, or the end of the test.
 fn counts_of<A: Allocator>(rt: &impl Abort, alloc: A, cells: u32) -> Vec<u32, A>
@@ -56,19 +39,6 @@ fn a_number<A: Allocator + Copy>(rt: &impl Abort, alloc: A, cell: u32, number: i
         Err((_, payload)) => {
             let _payload = payload;
             panic!(rt; "memory")
-        }
-    }
-}
-
-/// The object isn't dead.
-fn alive<A: Allocator>(rt: &impl Abort, block: Option<Block<A>>)
-    ensures { block ≡ None }
-{
-    match block {
-        None => {}
-        Some(block) => {
-            let _payload = block.into_payload();
-            panic!(rt; "the object is dead")
         }
     }
 }

@@ -3,11 +3,21 @@
 ghost use Rattle.std.specs.Prelude.{◌≡◌, ◌↔◌, IsTrue, Some, slice_get};
 ghost use Rattle.brc_words.specs.declared.key.Key.TheVariants as keys;
 ghost use Rattle.brc_table.specs.Shown.{contents_of};
-ghost use Rattle.test_table.specs.Parts.{bare_globals, with_entry, with_entries};
+ghost use Rattle.test_table.specs.Parts.{bare_globals, with_entry, with_entries, globals_with};
 
 use brc_block::{Block, Pairs, Payload};
 use brc_words::Key;
 use std::alloc::Allocator;
+
+/// What the globals hold in a worked run.
+#[derive(Clone, Copy)]
+pub enum Held {
+    Nothing,
+    /// One entry.
+    One { key: i64, cell: u32 },
+    /// The cell, under the keys 1 and 2.
+    Two { cell: u32 },
+}
 
 /// Whether the block is of a dictionary without entries.
 pub fn is_bare<A: Allocator>(block: &Block<A>) -> bool
@@ -50,5 +60,16 @@ pub fn has_two<A: Allocator>(block: &Block<A>, cell: u32) -> bool
             pairs.len() == 2 && has_at(pairs, 0, 1, cell) && has_at(pairs, 1, 2, cell)
         }
         _ => false,
+    }
+}
+
+/// Whether it is of a dictionary that holds these.
+pub fn shows<A: Allocator>(block: &Block<A>, held: Held) -> bool
+    ensures { IsTrue result → contents_of block.now.1 ≡ globals_with held }
+{
+    match held {
+        Held::Nothing => is_bare(block),
+        Held::One { key, cell } => has_one(block, key, cell),
+        Held::Two { cell } => has_two(block, cell),
     }
 }

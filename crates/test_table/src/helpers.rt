@@ -2,6 +2,7 @@
 
 ghost use Rattle.std.specs.Prelude.{◌≡◌, ◌<◌, ◌++◌, [], ◌∷◌, None, IfSome, true};
 ghost use Rattle.brc_words.specs.declared.key.Key.TheVariants as keys;
+ghost use Rattle.brc_block.specs.declared.payload.Payload.TheVariants as payloads;
 ghost use Rattle.law_world.specs.Lists.{is_marked};
 ghost use Rattle.law_world.specs.Steps.{is_free_hand, stage_ok, lock_ok};
 ghost use Rattle.law_world.specs.declared.event.Step.TheVariants as steps;
@@ -14,11 +15,11 @@ ghost use Rattle.law_rule.specs.declared.told.Told.TheVariants as told;
 ghost use Rattle.law_steps.specs.Owing.{Carries, Claims};
 ghost use Rattle.brc_table.specs.Seated.{Continues};
 ghost use Rattle.brc_table.specs.Shown.{contents_of};
-ghost use Rattle.test_table.specs.Parts.{bare_globals, with_entry, with_entries};
+ghost use Rattle.test_table.specs.Parts.{globals_with};
 
 use crate::comparing::is;
 use crate::ends::end_all;
-use crate::globals::{has_one, has_two, is_bare};
+use crate::globals::{Held, shows};
 use brc_block::{Block, Cells, Entries, Pairs, Payload};
 use brc_table::{HeapTable, RootSeat, ThreadSeat};
 use brc_words::{GLOBALS, Key};
@@ -93,92 +94,30 @@ pub(crate) fn claimed<A: Allocator>(
     }
 }
 
-/// The globals aren't locked, and without entries, and are locked now.
-pub(crate) fn locked_bare<A: Allocator>(
+/// The globals aren't locked, and hold these, and are locked now.
+pub(crate) fn locked<A: Allocator>(
     rt: &impl Abort,
     table: &HeapTable<A>,
     seat: &mut ThreadSeat<A>,
     place: u32,
+    held: Held,
 ) -> Block<A>
     requires table { seat.old.table ≡ table.now.table }
     requires inside { 265 < table.now.cells }
     requires carries { Carries table.now.cells seat.old.log (steps.Lock place) 265 }
     ensures of_cell { result.0 ≡ 265 }
-    ensures contents { contents_of result.1 ≡ bare_globals }
-    ensures told { seat.new.log ≡ told.Did (steps.Lock place) 0 (moves.Found 265 bare_globals) ∷ seat.old.log }
+    ensures contents { contents_of result.1 ≡ globals_with held }
+    ensures told { seat.new.log ≡ told.Did (steps.Lock place) 0 (moves.Found 265 (globals_with held)) ∷ seat.old.log }
     ensures out { seat.new.slots ≡ (265, None) ∷ seat.old.slots }
     ensures seat { Continues seat.old seat.new }
 {
     match table.lock(seat, place, GLOBALS) {
         Err(_) => panic!(rt; "the globals are locked"),
         Ok(block) => {
-            assert!(rt; is_bare(&block));
+            assert!(rt; shows(&block, held));
             block
         }
     }
-}
-
-/// The globals aren't locked, and have this one entry, and are locked now.
-pub(crate) fn locked_with<A: Allocator>(
-    rt: &impl Abort,
-    table: &HeapTable<A>,
-    seat: &mut ThreadSeat<A>,
-    place: u32,
-    key: i64,
-    cell: u32,
-) -> Block<A>
-    requires table { seat.old.table ≡ table.now.table }
-    requires inside { 265 < table.now.cells }
-    requires carries { Carries table.now.cells seat.old.log (steps.Lock place) 265 }
-    ensures of_cell { result.0 ≡ 265 }
-    ensures contents { contents_of result.1 ≡ with_entry key cell }
-    ensures told { seat.new.log ≡ told.Did (steps.Lock place) 0 (moves.Found 265 (with_entry key cell)) ∷ seat.old.log }
-    ensures out { seat.new.slots ≡ (265, None) ∷ seat.old.slots }
-    ensures seat { Continues seat.old seat.new }
-{
-    match table.lock(seat, place, GLOBALS) {
-        Err(_) => panic!(rt; "the globals are locked"),
-        Ok(block) => {
-            assert!(rt; has_one(&block, key, cell));
-            block
-        }
-    }
-}
-
-/// The globals aren't locked, and have the cell under the keys 1 and 2, and are locked now.
-pub(crate) fn locked_with_two<A: Allocator>(
-    rt: &impl Abort,
-    table: &HeapTable<A>,
-    seat: &mut ThreadSeat<A>,
-    place: u32,
-    cell: u32,
-) -> Block<A>
-    requires table { seat.old.table ≡ table.now.table }
-    requires inside { 265 < table.now.cells }
-    requires carries { Carries table.now.cells seat.old.log (steps.Lock place) 265 }
-    ensures of_cell { result.0 ≡ 265 }
-    ensures contents { contents_of result.1 ≡ with_entries cell }
-    ensures told { seat.new.log ≡ told.Did (steps.Lock place) 0 (moves.Found 265 (with_entries cell)) ∷ seat.old.log }
-    ensures out { seat.new.slots ≡ (265, None) ∷ seat.old.slots }
-    ensures seat { Continues seat.old seat.new }
-{
-    match table.lock(seat, place, GLOBALS) {
-        Err(_) => panic!(rt; "the globals are locked"),
-        Ok(block) => {
-            assert!(rt; has_two(&block, cell));
-            block
-        }
-    }
-}
-
-/// A block of the globals without entries.
-pub(crate) fn bare<A: Allocator>(alloc: A, block: Block<A>) -> Block<A>
-    ensures cell { result.0 ≡ block.0 }
-    ensures contents { contents_of result.1 ≡ bare_globals }
-{
-    let mut block = block;
-    *block.payload_mut() = Payload::Dict(Pairs::new(alloc));
-    block
 }
 
 /// A pair more, whose key isn't there yet.
@@ -192,39 +131,34 @@ fn put_last<A: Allocator + Copy>(rt: &impl Abort, pairs: &mut Pairs<A>, key: i64
     }
 }
 
-/// One with this entry.
-pub(crate) fn with_one<A: Allocator + Copy>(
-    rt: &impl Abort,
-    alloc: A,
-    block: Block<A>,
-    key: i64,
-    cell: u32,
-) -> Block<A>
-    ensures cell { result.0 ≡ block.0 }
-    ensures contents { contents_of result.1 ≡ with_entry key cell }
+/// The pairs of a dictionary that holds these.
+fn pairs_with<A: Allocator + Copy>(rt: &impl Abort, alloc: A, held: Held) -> Pairs<A>
+    ensures { contents_of (payloads.Dict result) ≡ globals_with held }
 {
     let mut pairs = Pairs::new(alloc);
-    put_last(rt, &mut pairs, key, cell);
-    let mut block = block;
-    *block.payload_mut() = Payload::Dict(pairs);
-    block
+    match held {
+        Held::Nothing => {}
+        Held::One { key, cell } => put_last(rt, &mut pairs, key, cell),
+        Held::Two { cell } => {
+            put_last(rt, &mut pairs, 1, cell);
+            put_last(rt, &mut pairs, 2, cell);
+        }
+    }
+    pairs
 }
 
-/// One with the cell under the keys 1 and 2.
-pub(crate) fn with_two<A: Allocator + Copy>(
+/// The block of the globals, which holds these now.
+pub(crate) fn holding<A: Allocator + Copy>(
     rt: &impl Abort,
     alloc: A,
     block: Block<A>,
-    cell: u32,
+    held: Held,
 ) -> Block<A>
     ensures cell { result.0 ≡ block.0 }
-    ensures contents { contents_of result.1 ≡ with_entries cell }
+    ensures contents { contents_of result.1 ≡ globals_with held }
 {
-    let mut pairs = Pairs::new(alloc);
-    put_last(rt, &mut pairs, 1, cell);
-    put_last(rt, &mut pairs, 2, cell);
     let mut block = block;
-    *block.payload_mut() = Payload::Dict(pairs);
+    *block.payload_mut() = Payload::Dict(pairs_with(rt, alloc, held));
     block
 }
 

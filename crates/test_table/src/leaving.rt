@@ -10,24 +10,20 @@ ghost use Rattle.brc_table.specs.Seated.{Stays};
 ghost use Rattle.test_table.specs.Leaving.{HoldsNothing, left_with};
 
 use crate::comparing::is;
-use crate::helpers::{alive, ends, gone, opened, opened_for_two};
+use crate::helpers::{ends, gone, opened};
 use crate::parts::{shares_a_list, takes_what_is_shared};
+use crate::seats::{OfTwo, Seat, Table, for_two};
 use brc_queue::{Enqueued, close_word, enqueue, merge_add};
-use brc_table::{Found, HeapTable, ThreadSeat};
+use brc_table::Found;
 use law_world::Dropped;
-use std::alloc::{Allocator, Global};
+use std::alloc::Global;
 use std::process::Abort;
 
 /// The queue word of the list's cell.
 const WORD: u32 = 8;
 
 /// The thread leaves: the word of the list's cell answers these bits, and every other one of its queue words none.
-fn closes_all<A: Allocator>(
-    rt: &impl Abort,
-    table: &HeapTable<A>,
-    seat: &mut ThreadSeat<A>,
-    bits: u64,
-)
+fn closes_all(rt: &impl Abort, table: &Table, seat: &mut Seat, bits: u64)
     requires table { seat.old.table ≡ table.now.table }
     requires cells { table.now.cells ≡ 512 }
     requires nothing { HoldsNothing (part_seen 512 seat.old.log) }
@@ -42,50 +38,38 @@ fn closes_all<A: Allocator>(
 }
 
 /// The owner has left when the asker would enqueue.
-fn asks_one_that_left(
-    rt: &impl Abort,
-    alloc: Global,
-    table: &HeapTable<Global>,
-    one: &mut ThreadSeat<Global>,
-    two: &mut ThreadSeat<Global>,
-)
-    requires table { (one.old.table ≡ table.now.table) × (two.old.table ≡ table.now.table) }
-    requires cells { table.now.cells ≡ 512 }
-    requires first { (one.old.log ≡ []) × (one.old.slots ≡ []) }
-    requires second { (two.old.log ≡ []) × (two.old.slots ≡ []) }
-{
-    shares_a_list(rt, alloc, table, one);
-    takes_what_is_shared(rt, alloc, table, two, 1);
-    let _found = table.immortal_down(one, Dropped::Frame(1), 265);
-    is(
-        rt,
-        table.ask(two, Dropped::Frame(1), 266),
-        4_398_046_511_104,
-    );
-    closes_all(rt, table, one, 0);
+struct AsksOneThatLeft;
 
-    // The asker meets a closed word, merges in the owner's place, and has the last reference in its hand.
-    is(rt, table.load_owner(two, 266), 1);
-    let Enqueued::Closed = enqueue(table, two, 266, 1) else {
-        panic!(rt; "the word is open")
-    };
-    is(rt, table.load_owner(two, 266), 1);
-    table.untie_shut(two, 266, 1);
-    is(rt, table.load_local(two, 266), 1);
-    is(rt, merge_add(table, two, 266, 1), 4_398_046_511_106);
-    let Found { number, block } = table.last_held(two, 266);
-    is(rt, number, 4_398_046_511_111);
-    gone(rt, table, two, block, 266);
+impl OfTwo for AsksOneThatLeft {
+    fn run<R: Abort>(&self, rt: &R, alloc: Global, table: &Table, one: &mut Seat, two: &mut Seat) {
+        shares_a_list(rt, alloc, table, one);
+        takes_what_is_shared(rt, alloc, table, two, 1);
+        let _found = table.immortal_down(one, Dropped::Frame(1), 265);
+        is(
+            rt,
+            table.ask(two, Dropped::Frame(1), 266),
+            4_398_046_511_104,
+        );
+        closes_all(rt, table, one, 0);
+
+        // The asker meets a closed word, merges in the owner's place, and has the last reference in its hand.
+        is(rt, table.load_owner(two, 266), 1);
+        let Enqueued::Closed = enqueue(table, two, 266, 1) else {
+            panic!(rt; "the word is open")
+        };
+        is(rt, table.load_owner(two, 266), 1);
+        table.untie_shut(two, 266, 1);
+        is(rt, table.load_local(two, 266), 1);
+        is(rt, merge_add(table, two, 266, 1), 4_398_046_511_106);
+        let Found { number, block } = table.last_held(two, 266);
+        is(rt, number, 4_398_046_511_111);
+        gone(rt, table, two, block, 266);
+    }
 }
 
 #[test]
 fn orphan_is_adopted(rt: HostRuntime) {
-    let ((table, root), (one, two)) = opened_for_two(&rt, rt.alloc());
-    let (mut one, mut two) = (one, two);
-    asks_one_that_left(&rt, rt.alloc(), &table, &mut one, &mut two);
-    drop(one);
-    drop(two);
-    ends(&rt, table, root);
+    for_two(&rt, &AsksOneThatLeft, 266);
 }
 
 #[test]

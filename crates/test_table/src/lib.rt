@@ -7,7 +7,7 @@
 
 mod globals;
 
-pub use globals::{has_one, has_two, is_bare};
+pub use globals::{Held, has_one, has_two, is_bare, shows};
 
 #[cfg(test)]
 mod comparing;
@@ -23,6 +23,8 @@ mod leaving;
 mod one_life;
 #[cfg(test)]
 mod parts;
+#[cfg(test)]
+mod seats;
 #[cfg(test)]
 mod tests;
 #[cfg(test)]

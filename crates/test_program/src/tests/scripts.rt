@@ -1,4 +1,5 @@
-//! `brc run`: what worked scripts print, the reports of their heaps, and how sections wait for one another.
+//! `brc run` on scripts that are run many times or take long. What other scripts print stands in the files of
+//! `test_texts`.
 
 use crate::tests::running::{ran, same};
 use std::alloc::{AllocError, AllocGlobal, Global};
@@ -25,106 +26,6 @@ const BESIDE_ANOTHER: Case = (
     0,
     "b: one\nb: 1\nledger 2002 2002 0\n",
 );
-
-const WORKED: &[Case] = &[
-    TAKEN_OVER,
-    (
-        "a list in itself",
-        "section a\nlist r0\ncopy r1 r0\npush r0 r1\ndrop r0\n",
-        1,
-        "ledger 1 0 1\nremain 266 list 266\ncycle 266\n",
-    ),
-    (
-        "two lists that hold one another, and a text",
-        "section a\nlist r0\nlist r1\ntext r2 side\npush r0 r2\ncopy r2 r1\npush r0 r2\ncopy r2 r0\npush r1 r2\ndrop r0\ndrop r1\n",
-        1,
-        "ledger 3 0 3\nremain 266 list 267\nremain 267 list 266\nremain 268 text 266\ncycle 266 267\n",
-    ),
-    (
-        "a dictionary",
-        "section a\ndict r0\nint r1 1\nput r0 'x r1\nint r1 2\nput r0 'y r1\nint r1 3\nput r0 'x r1\nprint r1\nfind r2 r0 'x\nprint r2\nprint r0\n",
-        0,
-        "a: 1\na: 3\na: dict 2\nledger 1 1 0\n",
-    ),
-    (
-        "a sum past an i64",
-        "section a\nint r0 9223372036854775807\nint r1 1\nadd r2 r0 r1\n",
-        4,
-        "a: fault 16 Overflow line 4\nledger 1 1 0\n",
-    ),
-    (
-        "a name that nobody shares",
-        "section a\nfetch r0 box\n",
-        4,
-        "a: fault 7 NoSuchKey line 2\nledger 0 0 0\n",
-    ),
-    (
-        "what is left in the globals is cleared",
-        "section a\nlist r0\nshare box r0\ntext r0 left\nshare text r0\nint r0 5\nshare five r0\n",
-        0,
-        "ledger 2 2 0\n",
-    ),
-    (
-        "a name that is shared again",
-        "section a\ntext r0 old\nshare box r0\ntext r0 new\nshare box r0\nfetch r0 box\nprint r0\n",
-        0,
-        "a: new\nledger 2 2 0\n",
-    ),
-    (
-        "what is fetched stays shared, and what is unshared doesn't",
-        "section a\ntext r0 left\nshare box r0\nfetch r1 box\nfetch r2 box\nprint r2\nunshare r3 box\nprint r3\nunshare r4 box\n",
-        4,
-        "a: left\na: left\na: fault 7 NoSuchKey line 9\nledger 1 1 0\n",
-    ),
-    (
-        "a section that ends by a fault while others go on",
-        "section a\ndrop r0\nsection b\nint r0 1\nprint r0\nsection c\nlist r0\npop r1 r0\n",
-        4,
-        "a: fault 6 NoSuchPlace line 2\nb: 1\nc: fault 6 NoSuchPlace line 8\nledger 1 1 0\n",
-    ),
-    BESIDE_ANOTHER,
-    (
-        "what one section pushes another reads",
-        "section a\nlist r0\ncopy r1 r0\nshare box r1\nfetch r2 done\nget r1 r0 0\nprint r1\npop r1 r0\nprint r1\nprint r0\nsection b\nfetch r0 box\nint r1 1000\npush r0 r1\nunshare r1 box\nint r2 1\nshare done r2\n",
-        0,
-        "a: 1000\na: 1000\na: list 0\nledger 2 2 0\n",
-    ),
-    (
-        "a list that moved to another section, and is let go there",
-        "section a\nlist r0\nshare box r0\nfetch r1 done\nsection b\nfetch r0 box\nunshare r1 box\ndrop r0\ndrop r1\nint r0 1\nshare done r0\n",
-        0,
-        "ledger 1 1 0\n",
-    ),
-    (
-        "a list that is let go once its maker has ended",
-        "section a\nlist r0\nshare box r0\nsection b\nfetch r0 box\nunshare r1 box\ndrop r1\nfetch r1 never\n",
-        4,
-        "b: fault 7 NoSuchKey line 8\nledger 1 1 0\n",
-    ),
-    (
-        "no instruction",
-        "section a\nsection b\nrepeat 0\nprint r0\nend\n",
-        0,
-        "ledger 0 0 0\n",
-    ),
-];
-
-#[test]
-fn worked_scripts(rt: HostRuntime) -> Result<(), Fail> {
-    const LINES: [&str; 4] = [
-        "brc run",
-        "brc run --budget 1",
-        "brc run --local-limit 1",
-        "brc run --cells 512",
-    ];
-    for line in LINES {
-        for &(case, script, status, output) in WORKED {
-            let found = ran(&rt, line, script, status, "")?;
-            same(&rt, case, found.as_slice(), output);
-        }
-    }
-    Ok(())
-}
 
 /// A hundred runs of each, all alike.
 #[test]
@@ -226,73 +127,6 @@ fn eight_sections_share_for_many_turns(rt: HostRuntime) -> Result<(), Fail> {
         8,
         "last: 1920162000\nlast: list 0\nlast: mailbox 0\nlast: dict 0\nledger 720024 720024 0\n",
     )
-}
-
-/// Sections that wait for one another, and how that ends.
-const WAITING: &[Case] = &[
-    (
-        "alone, for a letter",
-        "section a\nmailbox r0\nrecv r1 r0\n",
-        4,
-        "a: fault 6 NoSuchPlace line 3\nledger 1 1 0\n",
-    ),
-    (
-        "both in vain",
-        "section a\nfetch r0 box\nsection b\nfetch r0 bag\n",
-        4,
-        "a: fault 7 NoSuchKey line 2\nb: fault 7 NoSuchKey line 4\nledger 0 0 0\n",
-    ),
-    (
-        "one after the other",
-        "section a\nfetch r0 box\nprint r0\nint r1 2\nshare bag r1\nsection b\nint r0 1\nshare box r0\nfetch r1 bag\nprint r1\n",
-        0,
-        "a: 1\nb: 2\nledger 0 0 0\n",
-    ),
-    (
-        "for a section that ends without it",
-        "section a\nfetch r0 box\nsection b\nfetch r0 box\nsection c\nint r0 1\nprint r0\n",
-        4,
-        "a: fault 7 NoSuchKey line 2\nb: fault 7 NoSuchKey line 4\nc: 1\nledger 0 0 0\n",
-    ),
-    (
-        "for one that a fault ends",
-        "section a\nfetch r0 box\nsection b\nint r0 1\npop r1 r2\nshare box r0\n",
-        4,
-        "a: fault 7 NoSuchKey line 2\nb: fault 6 NoSuchPlace line 5\nledger 0 0 0\n",
-    ),
-];
-
-#[test]
-fn waits_end(rt: HostRuntime) -> Result<(), Fail> {
-    for _run in 0..20 {
-        for &(case, script, status, output) in WAITING {
-            let found = ran(&rt, "brc run", script, status, "")?;
-            same(&rt, case, found.as_slice(), output);
-        }
-    }
-    Ok(())
-}
-
-/// A list of one number dies, in a heap that is full but for it: 245 other lists are a chain. Then one more is made.
-const ONE_IN_A_FULL_HEAP: &str =
-    "section a\nlist r0\nrepeat 244\nlist r1\npush r1 r0\ncopy r0 r1\nend\nlist r2\nint r3 1\npush r2 r3\ndrop r2\nlist r4\n";
-
-/// The death takes two turns: one for its entry, and one for its cell.
-#[test]
-fn a_budget_is_of_so_many_turns(rt: HostRuntime) -> Result<(), Fail> {
-    const CASES: &[(&str, u8, &str)] = &[
-        (
-            "brc run --cells 512 --budget 1",
-            4,
-            "a: fault 2 HeapFull line 12\nledger 246 246 0\n",
-        ),
-        ("brc run --cells 512 --budget 2", 0, "ledger 247 247 0\n"),
-    ];
-    for &(line, status, output) in CASES {
-        let found = ran(&rt, line, ONE_IN_A_FULL_HEAP, status, "")?;
-        same(&rt, line, found.as_slice(), output);
-    }
-    Ok(())
 }
 
 /// Long scripts, which only end so where each section polls and works between its instructions and while it waits, and
@@ -465,56 +299,6 @@ fn a_full_list_takes_no_entry(rt: HostRuntime) -> Result<(), Fail> {
         script.push_str(goes_on)?;
         let found = ran(&rt, "brc run", script.as_str(), 4, "")?;
         same(&rt, goes_on, found.as_slice(), output);
-    }
-    Ok(())
-}
-
-/// Sixty-two sections wait for what the last one shares.
-#[test]
-fn all_wait_for_the_last(rt: HostRuntime) -> Result<(), Fail> {
-    let mut script = String::new(rt.alloc());
-    let mut output = String::new(rt.alloc());
-    for section in 1..63 {
-        let lines = format!(in rt.alloc(); "section s{section}\nfetch r0 box\nprint r0\n")?;
-        script.push_str(lines.as_str())?;
-        let line = format!(in rt.alloc(); "s{section}: served\n")?;
-        output.push_str(line.as_str())?;
-    }
-    script.push_str("section last\ntext r0 served\nshare box r0\n")?;
-    output.push_str("ledger 1 1 0\n")?;
-    let found = ran(&rt, "brc run", script.as_str(), 0, "")?;
-    same(&rt, "all wait", found.as_slice(), output.as_str());
-    Ok(())
-}
-
-#[test]
-fn scripts_that_are_none(rt: HostRuntime) -> Result<(), Fail> {
-    const CASES: &[(&str, &str, &str)] = &[
-        (
-            "a register twice",
-            "section a\npush r0 r0\n",
-            "brc: line 2: not a script line\n",
-        ),
-        ("nothing", "", "brc: line 1: not a script line\n"),
-        (
-            "an instruction before the first section",
-            "list r0\nsection a\n",
-            "brc: line 1: not a script line\n",
-        ),
-        (
-            "a name twice",
-            "section a\nsection b\nsection a\n",
-            "brc: line 3: not a script line\n",
-        ),
-        (
-            "a repeat that nothing ends",
-            "section a\nrepeat 2\nlist r0\n",
-            "brc: line 2: not a script line\n",
-        ),
-    ];
-    for &(case, script, errors) in CASES {
-        let found = ran(&rt, "brc run", script, 3, errors)?;
-        same(&rt, case, found.as_slice(), "");
     }
     Ok(())
 }

@@ -1,26 +1,21 @@
-//! Streams that fail at each read, each write and each flush in turn, that are interrupted there, and that give or take
-//! a byte at a time.
+//! Streams that fail or are interrupted at a read, a write or a flush, that give or take a byte at a time, and one
+//! without end.
 
 ghost use Rattle.std.specs.Prelude.{◌≡◌, IfOk};
 
-use crate::tests::running::{ended, same, status_of};
-use std::alloc::{AllocGlobal, Global};
+use std::alloc::Global;
 use std::io::{self, Error, ErrorKind, Read, Write};
-use std::process::Abort;
-use std::sync::Wait;
 use std::sync::atomic::{AtomicU64, Ordering};
-use std::test::*;
-use std::thread::Threads;
 
 /// What a stream does instead of a read, a write or a flush, once: the next one passes.
 #[derive(Clone, Copy, Debug)]
-enum Stop {
+pub(crate) enum Stop {
     Fails,
     IsInterrupted,
     TakesNothing,
 }
 
-const STOPS: [Stop; 3] = [Stop::Fails, Stop::IsInterrupted, Stop::TakesNothing];
+pub(crate) const STOPS: [Stop; 3] = [Stop::Fails, Stop::IsInterrupted, Stop::TakesNothing];
 
 impl Stop {
     fn answer(self) -> io::Result<usize>
@@ -49,15 +44,15 @@ fn stops(left: &mut u32) -> bool {
 
 /// Gives so many bytes a read, and stops once so many reads are done.
 #[derive(Drop)]
-struct Drip {
-    rest: &'static [u8],
-    step: usize,
-    left: u32,
-    stop: Stop,
+pub(crate) struct Drip {
+    pub(crate) rest: &'static [u8],
+    pub(crate) step: usize,
+    pub(crate) left: u32,
+    pub(crate) stop: Stop,
 }
 
 /// It gives all of the text.
-fn whole(text: &'static str) -> Drip {
+pub(crate) fn whole(text: &'static str) -> Drip {
     Drip {
         rest: text.as_bytes(),
         step: 1_000,
@@ -81,16 +76,16 @@ impl Read for Drip {
 
 /// Takes so many bytes a write, stops once so many writes are done, and keeps what it took.
 #[derive(Drop)]
-struct Sink {
-    taken: Vec<u8>,
-    step: usize,
-    left: u32,
-    stop: Stop,
-    flushes: u32,
+pub(crate) struct Sink {
+    pub(crate) taken: Vec<u8>,
+    pub(crate) step: usize,
+    pub(crate) left: u32,
+    pub(crate) stop: Stop,
+    pub(crate) flushes: u32,
 }
 
 /// It takes all that it is given.
-fn open(alloc: Global) -> Sink {
+pub(crate) fn open(alloc: Global) -> Sink {
     Sink {
         taken: Vec::new(alloc),
         step: 100_000,
@@ -118,245 +113,10 @@ impl Write for Sink {
     }
 }
 
-/// What is told where a stream fails.
-const IO: &str = "brc: fault 15 Io\n";
-
-/// A command line, an input, the status, the output, and the error line.
-type Answer = (&'static str, &'static str, u8, &'static str, &'static str);
-
-/// Inputs that have an answer.
-const ANSWERS: [Answer; 2] = [
-    (
-        "brc replay",
-        "heap 512 4294967294\n0 register 1\n1 claim 266\n1 local 266\n1 shared 266\n1 born 266 list 0\n1 down f0\n1 see 266\n1 free 266\n",
-        0,
-        "world 512 4294967294\nthread 1 active\nledger 1 1 0\n",
-        "",
-    ),
-    (
-        "brc run",
-        "section a\nlist r0\ncopy r1 r0\npush r0 r1\nprint r0\ndrop r0\n",
-        1,
-        "a: list 1\nledger 1 0 1\nremain 266 list 266\ncycle 266\n",
-        "",
-    ),
-];
-
-/// Inputs that are refused.
-const REFUSALS: [Answer; 5] = [
-    (
-        "brc replay",
-        "heap 511 1\n",
-        3,
-        "",
-        "brc: line 1: not a trace line\n",
-    ),
-    (
-        "brc replay --explain",
-        "heap 512 1\n0 register 2\n",
-        3,
-        "",
-        "brc: line 2: not enabled\nbrc: why: the next thread has another number, or there are 64; threads 0\n",
-    ),
-    (
-        "brc run",
-        "section a\npush r0 r0\n",
-        3,
-        "",
-        "brc: line 2: not a script line\n",
-    ),
-    ("brc run --cells 511", "", 2, "", "brc: bad command line\n"),
-    ("brc", "", 2, "", "brc: bad command line\n"),
-];
-
-/// Command lines that are answered by help.
-const HELPS: [&str; 3] = ["brc --help", "brc replay --help", "brc run --help"];
-
-/// The program with these streams: its status, and what is on standard error.
-fn ends<R: Abort + AllocGlobal + Threads + Wait + Sync>(
-    rt: &R,
-    line: &str,
-    input: Drip,
-    output: &mut Sink,
-) -> Result<(u8, Vec<u8>), Fail> {
-    let mut errors = Vec::new(rt.alloc());
-    let found = status_of(rt, line, input, output, &mut errors)?;
-    Ok((found, errors))
-}
-
-/// The stream took the front of the text, and not all of it.
-fn is_cut_short(rt: &impl Abort, case: &str, taken: &[u8], text: &str) {
-    let text = text.as_bytes();
-    assert!(rt; taken.len() < text.len(), "{case}");
-    assert!(rt; text.starts_with(taken), "{case}");
-}
-
-#[test]
-fn a_byte_at_a_time(rt: HostRuntime) -> Result<(), Fail> {
-    for (line, input, status, output, told) in ANSWERS {
-        let drip = Drip {
-            step: 1,
-            ..whole(input)
-        };
-        let mut sink = Sink {
-            step: 1,
-            ..open(rt.alloc())
-        };
-        let (found, errors) = ends(&rt, line, drip, &mut sink)?;
-        ended(&rt, line, found, status);
-        same(&rt, line, sink.taken.as_slice(), output);
-        same(&rt, line, errors.as_slice(), told);
-    }
-    Ok(())
-}
-
-/// The first read fails, the second, and so on, until the input is read before one fails: 16 bytes a read, and one read
-/// for its end.
-#[test]
-fn each_read_fails(rt: HostRuntime) -> Result<(), Fail> {
-    for (line, input, status, output, _told) in ANSWERS {
-        for stop in [Stop::Fails, Stop::IsInterrupted] {
-            let mut passed = 0;
-            for left in 0..100 {
-                let drip = Drip {
-                    step: 16,
-                    left,
-                    stop,
-                    ..whole(input)
-                };
-                let mut sink = open(rt.alloc());
-                let (found, errors) = ends(&rt, line, drip, &mut sink)?;
-                if found == status {
-                    same(&rt, line, sink.taken.as_slice(), output);
-                    break;
-                }
-                passed = left;
-                ended(&rt, line, found, 5);
-                same(&rt, line, sink.taken.as_slice(), "");
-                same(&rt, line, errors.as_slice(), IO);
-            }
-            assert_eq!(rt; passed as usize, input.len().div_ceil(16), "{line}");
-        }
-    }
-    Ok(())
-}
-
-/// The first write fails, the second, and so on: what was taken before is the front of the output.
-#[test]
-fn each_write_fails(rt: HostRuntime) -> Result<(), Fail> {
-    for (line, input, status, output, _told) in ANSWERS {
-        for stop in STOPS {
-            let mut passed = 0;
-            for left in 0..100 {
-                let mut sink = Sink {
-                    step: 7,
-                    left,
-                    stop,
-                    ..open(rt.alloc())
-                };
-                let (found, errors) = ends(&rt, line, whole(input), &mut sink)?;
-                if found == status {
-                    same(&rt, line, sink.taken.as_slice(), output);
-                    break;
-                }
-                passed = left;
-                ended(&rt, line, found, 5);
-                is_cut_short(&rt, line, sink.taken.as_slice(), output);
-                same(&rt, line, errors.as_slice(), IO);
-            }
-            assert!(rt; passed > 4, "{line}");
-        }
-    }
-    Ok(())
-}
-
-/// After a write of seven bytes the next fails.
-#[test]
-fn seven_bytes_are_written(rt: HostRuntime) -> Result<(), Fail> {
-    let (line, input, _status, _output, _told) = ANSWERS[0];
-    let mut sink = Sink {
-        step: 7,
-        left: 1,
-        ..open(rt.alloc())
-    };
-    let (found, errors) = ends(&rt, line, whole(input), &mut sink)?;
-    ended(&rt, line, found, 5);
-    same(&rt, line, sink.taken.as_slice(), "world 5");
-    same(&rt, line, errors.as_slice(), IO);
-    Ok(())
-}
-
-/// Standard error fails at its first write, its second, and so on.
-#[test]
-fn each_error_line_fails(rt: HostRuntime) -> Result<(), Fail> {
-    for (line, input, status, output, told) in REFUSALS {
-        for stop in STOPS {
-            for left in 0..100 {
-                let mut sink = open(rt.alloc());
-                let mut errors = Sink {
-                    step: 7,
-                    left,
-                    stop,
-                    ..open(rt.alloc())
-                };
-                let found = status_of(&rt, line, whole(input), &mut sink, &mut errors)?;
-                same(&rt, line, sink.taken.as_slice(), output);
-                if found == status {
-                    same(&rt, line, errors.taken.as_slice(), told);
-                    break;
-                }
-                ended(&rt, line, found, 5);
-                is_cut_short(&rt, line, errors.taken.as_slice(), told);
-            }
-        }
-    }
-    Ok(())
-}
-
-#[test]
-fn each_flush_fails(rt: HostRuntime) -> Result<(), Fail> {
-    for (line, input, _status, output, _told) in ANSWERS {
-        for stop in [Stop::Fails, Stop::IsInterrupted] {
-            let mut sink = Sink {
-                stop,
-                flushes: 0,
-                ..open(rt.alloc())
-            };
-            let (found, errors) = ends(&rt, line, whole(input), &mut sink)?;
-            ended(&rt, line, found, 5);
-            same(&rt, line, sink.taken.as_slice(), output);
-            same(&rt, line, errors.as_slice(), IO);
-        }
-    }
-    Ok(())
-}
-
-/// Help is refused at its first write, and at a later one.
-#[test]
-fn help_that_cannot_be_written(rt: HostRuntime) -> Result<(), Fail> {
-    for line in HELPS {
-        for stop in STOPS {
-            for left in [0, 3] {
-                let mut sink = Sink {
-                    step: 7,
-                    left,
-                    stop,
-                    ..open(rt.alloc())
-                };
-                let (found, errors) = ends(&rt, line, whole(""), &mut sink)?;
-                ended(&rt, line, found, 5);
-                assert_eq!(rt; sink.taken.len(), 7 * left as usize, "{line}");
-                same(&rt, line, errors.as_slice(), IO);
-            }
-        }
-    }
-    Ok(())
-}
-
 /// Gives line ends without end, and counts them.
 #[derive(Drop)]
-struct Endless<'c> {
-    given: &'c AtomicU64,
+pub(crate) struct Endless<'c> {
+    pub(crate) given: &'c AtomicU64,
 }
 
 impl<'c> Read for Endless<'c> {
@@ -365,19 +125,4 @@ impl<'c> Read for Endless<'c> {
         self.given.fetch_add(into.len() as u64, Ordering::SeqCst);
         Ok(into.len())
     }
-}
-
-/// Of an input without end one byte more is read than an input may have.
-#[test]
-fn an_input_without_end(rt: HostRuntime) -> Result<(), Fail> {
-    for line in ["brc replay", "brc run"] {
-        let given = AtomicU64::new(0);
-        let input = Endless { given: &given };
-        let mut output = Vec::new(rt.alloc());
-        let mut errors = Vec::new(rt.alloc());
-        let found = status_of(&rt, line, input, &mut output, &mut errors)?;
-        ended(&rt, line, found, 3);
-        assert_eq!(rt; given.load(Ordering::SeqCst), 16_777_217, "{line}");
-    }
-    Ok(())
 }

@@ -1,12 +1,13 @@
-//! Sections run by themselves. What a section comes to is the contract of `plain_run`; the texts here are worked by
-//! hand from the table of instructions.
+//! Sections run by themselves, where memory is scarce. What a section comes to is the contract of `plain_run`; texts
+//! that were worked by hand stand in a file of `test_texts`.
 
-use crate::tests::comparing::{same, same_at};
+use crate::tests::comparing::same;
+use crate::tests::memory::{Tried, ends_of, has_come};
 use brc_meaning::plain_run;
 use brc_script::{Script, Section, is_private, parse};
 use brc_words::Fault;
 use linked_list_allocator::LocalHeap;
-use std::alloc::{Allocator, Global};
+use std::alloc::{AllocGlobal, Allocator, Global};
 use std::process::Abort;
 use std::str;
 use std::test::*;
@@ -48,259 +49,6 @@ fn told_of<A: Allocator + Copy>(
     Ok(told)
 }
 
-fn told(alloc: Global, text: &str) -> Result<String, Fault> {
-    let script = parse(alloc, text.as_bytes())?;
-    told_of(alloc, alloc, &script)
-}
-
-/// A case: its name, a script, and what comes of it.
-type Case = (&'static str, &'static str, &'static str);
-
-/// Each script comes to what stands beside it; all have the same front.
-fn come_to(rt: &impl Abort, alloc: Global, front: &str, cases: &[Case]) -> Result<(), Fail> {
-    for &(case, text, wanted) in cases {
-        let text = format!(in alloc; "{front}{text}")?;
-        same(rt, case, told(alloc, text.as_str())?.as_str(), wanted);
-    }
-    Ok(())
-}
-
-#[test]
-fn worked_scripts(rt: HostRuntime) -> Result<(), Fail> {
-    const CASES: &[Case] = &[
-        (
-            "a list in itself",
-            "section a\nlist r0\ncopy r1 r0\npush r0 r1\ndrop r0\n",
-            "made 1\n",
-        ),
-        (
-            "two lists that hold one another, and a text",
-            "section a\nlist r0\nlist r1\ntext r2 side\npush r0 r2\ncopy r2 r1\npush r0 r2\ncopy r2 r0\npush r1 r2\ndrop r0\ndrop r1\n",
-            "made 3\n",
-        ),
-        (
-            "two sections that share, and one that is private",
-            "section a\nlist r0\nint r1 1000\npush r0 r1\nshare box r0\nsection b\nfetch r0 box\nsection c\nlist r0\nint r1 7\npush r0 r1\nlen r2 r0\nprint r2\n",
-            "1\nmade 1\n",
-        ),
-        (
-            "a dictionary",
-            "section a\ndict r0\nint r1 1\nput r0 'x r1\nint r1 2\nput r0 'y r1\nint r1 3\nput r0 'x r1\nprint r1\nfind r2 r0 'x\nprint r2\nprint r0\n",
-            "1\n3\ndict 2\nmade 1\n",
-        ),
-        (
-            "a sum past an i64",
-            "section a\nint r0 9223372036854775807\nint r1 1\nadd r2 r0 r1\n",
-            "fault 16 line 4\nmade 1\n",
-        ),
-    ];
-    come_to(&rt, rt.alloc(), "", CASES)
-}
-
-#[test]
-fn integers_at_their_edges(rt: HostRuntime) -> Result<(), Fail> {
-    const CASES: &[Case] = &[
-        (
-            "the largest",
-            "section a\nint r0 9223372036854775806\nint r1 1\nadd r2 r0 r1\nprint r2\n",
-            "9223372036854775807\nmade 2\n",
-        ),
-        (
-            "the least",
-            "section a\nint r0 -9223372036854775807\nint r1 -1\nadd r2 r0 r1\nprint r2\n",
-            "-9223372036854775808\nmade 2\n",
-        ),
-        (
-            "below the least",
-            "section a\nint r0 -9223372036854775808\nint r1 -1\nadd r2 r0 r1\n",
-            "fault 16 line 4\nmade 1\n",
-        ),
-        (
-            "the integers that are there always",
-            "section a\nint r0 -5\nint r1 256\nadd r2 r0 r1\nprint r0\nprint r1\nprint r2\n",
-            "-5\n256\n251\nmade 0\n",
-        ),
-        (
-            "the first that are made",
-            "section a\nint r0 -6\nint r1 257\nadd r2 r0 r1\nprint r2\n",
-            "251\nmade 2\n",
-        ),
-        (
-            "sums that are made",
-            "section a\nint r0 256\nint r1 1\nadd r2 r0 r1\nprint r2\nint r0 -5\nint r1 -1\nadd r2 r0 r1\nprint r2\n",
-            "257\n-6\nmade 2\n",
-        ),
-    ];
-    come_to(&rt, rt.alloc(), "", CASES)
-}
-
-#[test]
-fn refused_instructions(rt: HostRuntime) -> Result<(), Fail> {
-    const CASES: &[Case] = &[
-        (
-            "an empty register before a kind",
-            "text r0 x\nadd r2 r0 r1\n",
-            "fault 6 line 3\nmade 1\n",
-        ),
-        (
-            "nothing to push, on no list",
-            "text r0 x\npush r0 r1\n",
-            "fault 6 line 3\nmade 1\n",
-        ),
-        ("nothing to drop", "drop r0\n", "fault 6 line 2\nmade 0\n"),
-        (
-            "nothing to print",
-            "list r0\nprint r1\nprint r0\n",
-            "fault 6 line 3\nmade 1\n",
-        ),
-        (
-            "a sum with a text",
-            "int r0 1\ntext r1 2\nadd r2 r0 r1\n",
-            "fault 5 line 4\nmade 1\n",
-        ),
-        (
-            "a push on a mailbox",
-            "mailbox r0\nint r1 1\npush r0 r1\n",
-            "fault 5 line 4\nmade 1\n",
-        ),
-        (
-            "a message to a list",
-            "list r0\nint r1 1\nsend r0 r1\n",
-            "fault 5 line 4\nmade 1\n",
-        ),
-        (
-            "a key of a list",
-            "list r0\nfind r1 r0 'x\n",
-            "fault 5 line 3\nmade 1\n",
-        ),
-        (
-            "the length of an integer",
-            "int r0 7\nlen r1 r0\n",
-            "fault 5 line 3\nmade 0\n",
-        ),
-        (
-            "the end of an empty list",
-            "list r0\npop r1 r0\n",
-            "fault 6 line 3\nmade 1\n",
-        ),
-        (
-            "an entry past the end",
-            "list r0\nint r1 1\npush r0 r1\nget r1 r0 1\n",
-            "fault 6 line 5\nmade 1\n",
-        ),
-        (
-            "an entry set past the end",
-            "list r0\nint r1 1\nset r0 0 r1\n",
-            "fault 6 line 4\nmade 1\n",
-        ),
-        (
-            "an empty mailbox",
-            "mailbox r0\nrecv r1 r0\n",
-            "fault 6 line 3\nmade 1\n",
-        ),
-        (
-            "a key that isn't there",
-            "dict r0\nfind r1 r0 'x\n",
-            "fault 7 line 3\nmade 1\n",
-        ),
-        (
-            "a key to delete that isn't there",
-            "dict r0\ndel r1 r0 1\n",
-            "fault 7 line 3\nmade 1\n",
-        ),
-    ];
-    come_to(&rt, rt.alloc(), "section a\n", CASES)
-}
-
-#[test]
-fn registers_after_an_instruction(rt: HostRuntime) -> Result<(), Fail> {
-    const CASES: &[Case] = &[
-        (
-            "pushed",
-            "list r0\nint r1 1\npush r0 r1\nprint r0\nprint r1\n",
-            "list 1\nfault 6 line 6\nmade 1\n",
-        ),
-        (
-            "sent",
-            "mailbox r0\nint r1 1\nsend r0 r1\nprint r0\nprint r1\n",
-            "mailbox 1\nfault 6 line 6\nmade 1\n",
-        ),
-        (
-            "put at a new key",
-            "dict r0\nint r1 1\nput r0 5 r1\nprint r0\nprint r1\n",
-            "dict 1\nfault 6 line 6\nmade 1\n",
-        ),
-        (
-            "set, for the old entry",
-            "list r0\nint r1 1\npush r0 r1\nint r1 2\nset r0 0 r1\nprint r1\nget r1 r0 0\nprint r1\n",
-            "1\n2\nmade 1\n",
-        ),
-        (
-            "copied",
-            "int r0 300\ncopy r1 r0\nprint r0\nprint r1\n",
-            "300\n300\nmade 1\n",
-        ),
-        (
-            "dropped",
-            "text r0 x\ndrop r0\nprint r0\n",
-            "fault 6 line 4\nmade 1\n",
-        ),
-        (
-            "replaced",
-            "list r0\ntext r0  two words\nprint r0\n",
-            " two words\nmade 2\n",
-        ),
-        (
-            "one list by two registers",
-            "list r0\ncopy r1 r0\nint r2 1\npush r1 r2\nlen r3 r0\nprint r3\npop r4 r0\nprint r1\n",
-            "1\nlist 0\nmade 1\n",
-        ),
-        (
-            "first in, first out",
-            "mailbox r0\nint r1 1\nsend r0 r1\nint r1 2\nsend r0 r1\nrecv r1 r0\nprint r1\n",
-            "1\nmade 1\n",
-        ),
-        (
-            "last in, first out",
-            "list r0\nint r1 1\npush r0 r1\nint r1 2\npush r0 r1\npop r1 r0\nprint r1\n",
-            "2\nmade 1\n",
-        ),
-        (
-            "deleted",
-            "dict r0\nint r1 1\nput r0 'x r1\ndel r2 r0 'x\nprint r2\nprint r0\n",
-            "1\ndict 0\nmade 1\n",
-        ),
-    ];
-    come_to(&rt, rt.alloc(), "section a\n", CASES)
-}
-
-#[test]
-fn repeated_lines(rt: HostRuntime) -> Result<(), Fail> {
-    const CASES: &[Case] = &[
-        (
-            "a thousand times",
-            "section a\nlist r0\nrepeat 1000\nint r1 1\npush r0 r1\nend\nlen r2 r0\nprint r2\n",
-            "1000\nmade 2\n",
-        ),
-        (
-            "never",
-            "section a\nrepeat 0\ndrop r0\nend\ntext r0 x\nprint r0\n",
-            "x\nmade 1\n",
-        ),
-        (
-            "up to a fault",
-            "section a\nlist r0\nint r1 1\npush r0 r1\nrepeat 5\npop r2 r0\nprint r2\nend\nprint r0\n",
-            "1\nfault 6 line 6\nmade 1\n",
-        ),
-        (
-            "by turns",
-            "section a\ntext r0 x\nrepeat 2\nprint r0\ncopy r1 r0\nprint r1\nend\n",
-            "x\nx\nx\nx\nmade 1\n",
-        ),
-    ];
-    come_to(&rt, rt.alloc(), "", CASES)
-}
-
 #[test]
 fn turns_take_no_memory(rt: HostRuntime) -> Result<(), Fail> {
     let heap = LocalHeap::new(rt.alloc(), 8_192)?;
@@ -312,42 +60,25 @@ fn turns_take_no_memory(rt: HostRuntime) -> Result<(), Fail> {
     Ok(())
 }
 
-/// What comes of this script where only the heap's memory is there: all of it, or it is told that there was no more.
-fn runs_or_is_refused<A: Allocator + Copy>(
-    rt: &impl Abort,
-    alloc: Global,
-    size: usize,
-    heap: A,
-    text: &str,
-) -> Option<bool> {
-    let script = parse(heap, text.as_bytes()).ok()?;
-    match told_of(alloc, heap, &script) {
-        Ok(told) => {
-            same_at(rt, size, told.as_str(), "1000\nmade 5\n");
-            Some(true)
-        }
-        Err(fault) => {
-            same_at(rt, size, fault, Fault::OutOfMemory);
-            Some(false)
-        }
+/// A script that makes something of each kind.
+const OF_EACH_KIND: &[u8] =
+    b"section a\ntext r0 side\nlist r1\npush r1 r0\ndict r2\nput r2 'key r1\nmailbox r3\nsend r3 r2\nint r4 1000\nprint r4\n";
+
+/// It is read, and its meaning told.
+struct Means;
+
+impl Tried for Means {
+    fn comes_to<R: Abort + AllocGlobal>(&self, rt: &R, size: usize, heap: &LocalHeap) -> u32 {
+        let Ok(script) = parse(heap, OF_EACH_KIND) else {
+            return 0;
+        };
+        let told = told_of(rt.alloc(), heap, &script);
+        let wanted = String::from_str(rt.alloc(), "1000\nmade 5\n").expect(rt, "memory");
+        has_come(rt, size, told, wanted).saturating_add(1)
     }
 }
 
 #[test]
-fn refused_memory(rt: HostRuntime) -> Result<(), Fail> {
-    let text =
-        "section a\ntext r0 side\nlist r1\npush r1 r0\ndict r2\nput r2 'key r1\nmailbox r3\nsend r3 r2\nint r4 1000\nprint r4\n";
-    let mut refused = false;
-    let mut ran = false;
-    for size in 1..128 {
-        let heap = LocalHeap::new(rt.alloc(), size * 32)?;
-        match runs_or_is_refused(&rt, rt.alloc(), size, &heap, text) {
-            None => {}
-            Some(true) => ran = true,
-            Some(false) => refused = true,
-        }
-        same_at(&rt, size, heap.used(), 0);
-    }
-    assert!(rt; refused && ran);
-    Ok(())
+fn refused_memory(rt: HostRuntime) {
+    assert_eq!(rt; ends_of(&rt, &Means, 1..128, 32), 3);
 }

@@ -128,12 +128,44 @@ fn a_queue_gives_the_first_put_in(rt: HostRuntime) {
     use_at_both_ends(&rt, &mut queue);
 }
 
-fn fill_the_list(rt: &impl Abort, list: &mut PlainList<u32, Global>) {
-    for value in 0..MOST_ENTRIES {
-        holds(rt, "pushed", list.push(value).is_ok());
+/// A list or a queue.
+trait Row {
+    /// The value goes in at the end.
+    fn take(&mut self, value: u32) -> Result<(), (Fault, u32)>;
+
+    fn has_none(&self) -> bool;
+}
+
+impl<A: Allocator> Row for PlainList<u32, A> {
+    fn take(&mut self, value: u32) -> Result<(), (Fault, u32)> {
+        self.push(value)
     }
+
+    fn has_none(&self) -> bool {
+        self.is_empty()
+    }
+}
+
+impl<A: Allocator> Row for PlainQueue<u32, A> {
+    fn take(&mut self, value: u32) -> Result<(), (Fault, u32)> {
+        self.send(value)
+    }
+
+    fn has_none(&self) -> bool {
+        self.is_empty()
+    }
+}
+
+/// As many values go in as it may have, and no more.
+fn fill_up(rt: &impl Abort, row: &mut impl Row) {
+    for value in 0..MOST_ENTRIES {
+        holds(rt, "taken", row.take(value).is_ok());
+    }
+    same(rt, "one more", row.take(7), Err((Fault::Full, 7)));
+}
+
+fn change_the_full_list(rt: &impl Abort, list: &mut PlainList<u32, Global>) {
     let cases = [
-        ("one more", matches!(list.push(7), Err((Fault::Full, 7)))),
         ("set", matches!(list.set(0, 7), Ok(0))),
         ("the end", list.pop() == Ok(MOST_ENTRIES - 1)),
         ("in its place", list.push(8).is_ok()),
@@ -144,25 +176,16 @@ fn fill_the_list(rt: &impl Abort, list: &mut PlainList<u32, Global>) {
 #[test]
 fn a_full_list_takes_no_more(rt: HostRuntime) {
     let mut list = PlainList::new(rt.alloc());
-    fill_the_list(&rt, &mut list);
-}
-
-fn fill_the_queue(rt: &impl Abort, queue: &mut PlainQueue<u32, Global>) {
-    for value in 0..MOST_ENTRIES {
-        holds(rt, "sent", queue.send(value).is_ok());
-    }
-    let cases = [
-        ("one more", matches!(queue.send(7), Err((Fault::Full, 7)))),
-        ("the first", matches!(queue.receive(), Ok(0))),
-        ("in its place", queue.send(8).is_ok()),
-    ];
-    all_hold(rt, cases.as_slice());
+    fill_up(&rt, &mut list);
+    change_the_full_list(&rt, &mut list);
 }
 
 #[test]
 fn a_full_queue_takes_no_more(rt: HostRuntime) {
     let mut queue = PlainQueue::new(rt.alloc());
-    fill_the_queue(&rt, &mut queue);
+    fill_up(&rt, &mut queue);
+    same(&rt, "the first", queue.receive(), Ok(0));
+    holds(&rt, "in its place", queue.send(8).is_ok());
 }
 
 /// All the memory of a heap, for a test that starts with it.
@@ -170,26 +193,25 @@ fn heap_of(rt: &impl Abort, alloc: Global) -> LocalHeap {
     LocalHeap::new(alloc, 1_000).expect(rt, "memory")
 }
 
+/// Without memory a value is handed back, and with memory it goes in.
+fn hands_back(rt: &impl Abort, heap: &LocalHeap, row: &mut impl Row) {
+    let filler = fill(rt, heap);
+    same(rt, "taken", row.take(7), Err((Fault::OutOfMemory, 7)));
+    holds(rt, "empty", row.has_none());
+    drop(filler);
+    holds(rt, "with memory", row.take(7).is_ok());
+}
+
 #[test]
 fn a_list_hands_back_what_it_cannot_hold(rt: HostRuntime) {
     let heap = heap_of(&rt, rt.alloc());
-    let mut list = PlainList::new(&heap);
-    let filler = fill(&rt, &heap);
-    same(&rt, "pushed", list.push(7u32), Err((Fault::OutOfMemory, 7)));
-    holds(&rt, "empty", list.is_empty());
-    drop(filler);
-    holds(&rt, "with memory", list.push(7).is_ok());
+    hands_back(&rt, &heap, &mut PlainList::new(&heap));
 }
 
 #[test]
 fn a_queue_hands_back_what_it_cannot_hold(rt: HostRuntime) {
     let heap = heap_of(&rt, rt.alloc());
-    let mut queue = PlainQueue::new(&heap);
-    let filler = fill(&rt, &heap);
-    same(&rt, "sent", queue.send(7u32), Err((Fault::OutOfMemory, 7)));
-    holds(&rt, "empty", queue.is_empty());
-    drop(filler);
-    holds(&rt, "with memory", queue.send(7).is_ok());
+    hands_back(&rt, &heap, &mut PlainQueue::new(&heap));
 }
 
 #[test]

@@ -1,12 +1,13 @@
 //! Reports of small heaps, as values and as texts, and of large ones.
 
 use crate::tests::comparing::{holds, same, same_at};
+use crate::tests::memory::{Tried, ends_of, has_come};
 use brc_report::{
     Cells, Content, Ledger, Remain, Report, check_report, find_cycles, find_remains, write_report,
 };
 use brc_words::{Fault, Kind};
 use linked_list_allocator::LocalHeap;
-use std::alloc::{Allocator, Global};
+use std::alloc::{AllocGlobal, Allocator, Global};
 use std::io::{self, Error, ErrorKind, Write};
 use std::process::Abort;
 
@@ -292,45 +293,35 @@ fn a_refused_growth_is_told(rt: HostRuntime) {
     }
 }
 
-/// Whether a right report is found right in scarce memory; else it is told that there was no more.
-fn is_found_right<A: Allocator + Copy>(
-    rt: &impl Abort,
-    size: usize,
-    ample: A,
-    scarce: A,
-    remains: &[Remain],
-) -> bool {
-    let contents = contents_of(rt, ample, TWO_LISTS);
-    let cells = Vec::from_slice(ample, &[266, 267]).expect(rt, "memory");
-    let mut cycles = Vec::new(ample);
-    cycles.push(Cells::new(cells)).expect(rt, "memory");
-    match check_report(scarce, remains, cycles.as_slice(), contents.as_slice()) {
-        Ok(right) => {
-            same_at(rt, size, right, true);
-            true
-        }
-        Err(fault) => {
-            same_at(rt, size, fault, Fault::OutOfMemory);
-            false
-        }
+/// A right report is checked, which was made in ample memory.
+#[derive(Drop)]
+struct IsRight<'r> {
+    ample: &'r LocalHeap,
+    remains: &'r [Remain],
+}
+
+impl<'r> Tried for IsRight<'r> {
+    fn comes_to<R: Abort + AllocGlobal>(&self, rt: &R, size: usize, heap: &LocalHeap) -> u32 {
+        let contents = contents_of(rt, self.ample, TWO_LISTS);
+        let cells = Vec::from_slice(self.ample, &[266, 267]).expect(rt, "memory");
+        let mut cycles = Vec::new(self.ample);
+        cycles.push(Cells::new(cells)).expect(rt, "memory");
+        let right = check_report(heap, self.remains, cycles.as_slice(), contents.as_slice());
+        has_come(rt, size, right, true)
     }
 }
 
-/// Each size of memory in turn: every growth of the remains, of the cycles and of the check is refused at some of them.
+/// Every growth of the remains, of the cycles and of the check is refused at some of the sizes.
 #[test]
 fn a_check_without_memory_is_refused(rt: HostRuntime) {
     let remains = remains_of(&rt, rt.alloc(), REMAINS);
     let ample = LocalHeap::new(rt.alloc(), 10_000).expect(&rt, "memory");
-    let mut right = 0u32;
-    for size in 1..1_000usize {
-        let scarce = LocalHeap::new(rt.alloc(), size * 16).expect(&rt, "memory");
-        if is_found_right(&rt, size, &ample, &scarce, remains.as_slice()) {
-            right = right.saturating_add(1);
-        }
-        same_at(&rt, size, scarce.used(), 0);
-        same_at(&rt, size, ample.used(), 0);
-    }
-    assert!(rt; 0 < right && right < 999);
+    let is_right = IsRight {
+        ample: &ample,
+        remains: remains.as_slice(),
+    };
+    assert_eq!(rt; ends_of(&rt, &is_right, 1..1_000, 16), 2);
+    assert_eq!(rt; ample.used(), 0);
 }
 
 /// Two texts that remain, and a cycle of 60 cells: its line has 246 bytes.

@@ -1,9 +1,9 @@
-//! Each call once on its way, and each growth refused. Whole runs are replayed as texts, in `worked_runs.rt`.
+//! Each call once on its way, and each growth refused. Whole runs are replayed as texts, in the files of `test_texts`.
 
 use crate::tests::comparing::{all_hold, holds, same, same_at, shows};
+use crate::tests::memory::{Tried, ends_of, has_come};
 use brc_core::{
-    Change, Edition, Event, Hand, Ledger, Phase, Refusal, ReplayFault, Source, Status, Step,
-    StepFault, World, replay, replay_in,
+    Change, Edition, Event, Hand, Refusal, ReplayFault, Source, Step, StepFault, World, replay,
 };
 use brc_trace::read_trace;
 use brc_words::{Fault, Kind, Owner, State};
@@ -11,18 +11,18 @@ use linked_list_allocator::LocalHeap;
 use std::alloc::{AllocGlobal, Allocator, Global};
 use std::process::Abort;
 
+/// There is no world with so many cells and this limit.
+fn is_none<R: Abort + AllocGlobal>(rt: &R, case: &str, cells: u32, limit: u32) {
+    let found = World::new(rt.alloc(), cells, limit).err();
+    same(rt, case, found, Some(Fault::BadOptions));
+}
+
 #[test]
 fn sizes_of_no_heap_are_refused(rt: HostRuntime) {
-    const CASES: &[(&str, u32, u32)] = &[
-        ("too few cells", 511, 1),
-        ("too many cells", 65_537, 1),
-        ("no local count", 512, 0),
-        ("the local word of an immortal", 512, 4_294_967_295),
-    ];
-    for &(case, cells, limit) in CASES {
-        let found = World::new(rt.alloc(), cells, limit).err();
-        same(&rt, case, found, Some(Fault::BadOptions));
-    }
+    is_none(&rt, "too few cells", 511, 1);
+    is_none(&rt, "too many cells", 65_537, 1);
+    is_none(&rt, "no local count", 512, 0);
+    is_none(&rt, "the local word of an immortal", 512, 4_294_967_295);
 }
 
 #[test]
@@ -66,80 +66,6 @@ fn a_replay_answers_a_world_or_a_fault(rt: HostRuntime) -> Result<(), Fault> {
     for &(case, lines, cells, wanted) in CASES {
         let found = registered(rt.alloc(), lines.as_bytes(), cells)?;
         shows(&rt, case, &found, wanted);
-    }
-    Ok(())
-}
-
-/// Thread 2 asks for the only reference to a list of thread 1, which offers it, merges it and leaves. The asker frees
-/// it, and another thread 1 makes an integer and frees it.
-const COMES_AGAIN: &str =
-    "trace 2\nheap 512 4294967294\n0 register 1\n0 register 2\n1 claim 266\n1 local 266\n1 shared 266\n1 born 266 list 0\n1 up i265 1\n1 lock 1\n1 unlock put 0\n2 up i265 0\n2 lock 0\n2 unlock take 0 1\n1 down f1\n2 ask f1\n1 offer 266\n1 untie 266\n1 add 266\n1 close 0\n1 close 1\n1 close 2\n1 close 3\n1 close 4\n1 close 5\n1 close 6\n1 close 7\n1 close 8\n1 close 9\n1 close 10\n1 close 11\n1 close 12\n1 close 13\n1 close 14\n1 close 15\n2 enq 266\n2 last h\n2 free 266\n0 gather 1\n0 register 1\n1 open 0\n1 open 1\n1 open 2\n1 open 3\n1 open 4\n1 open 5\n1 open 6\n1 open 7\n1 open 8\n1 open 9\n1 open 10\n1 open 11\n1 open 12\n1 open 13\n1 open 14\n1 open 15\n1 claim 266\n1 local 266\n1 shared 266\n1 born 266 int 0\n1 down f0\n1 see 266\n1 free 266\n";
-
-/// Thread 1 offers the list while thread 2 holds it, which counts it down before the merge.
-const OFFERED: &str =
-    "trace 2\nheap 512 4294967294\n0 register 1\n0 register 2\n1 claim 266\n1 local 266\n1 shared 266\n1 born 266 list 0\n1 up i265 1\n1 lock 1\n1 unlock put 0\n2 up i265 0\n2 lock 0\n2 unlock take 0 1\n1 down f1\n1 offer 266\n2 last f1\n1 untie 266\n1 add 266\n1 free 266\n";
-
-/// Thread 1 doesn't offer it.
-const LEFT: &str =
-    "trace 2\nheap 512 4294967294\n0 register 1\n0 register 2\n1 claim 266\n1 local 266\n1 shared 266\n1 born 266 list 0\n1 up i265 1\n1 lock 1\n1 unlock put 0\n2 up i265 0\n2 lock 0\n2 unlock take 0 1\n1 down f1\n2 ask f1\n1 close 0\n";
-
-/// How a world of either edition ends: its ledgers, with those of the threads before, those of these alone, how far
-/// thread 1 is, and how many objects live.
-type End = (Ledger, Ledger, Option<Status>, u32);
-
-/// The end behind the events of a trace in a heap of this edition, or why there is no world.
-fn end_in(
-    alloc: Global,
-    edition: Edition,
-    lines: &[u8],
-) -> Result<Result<End, ReplayFault>, Fault> {
-    let trace = read_trace(alloc, lines)?;
-    let events = trace.events.as_slice();
-    match replay_in(alloc, edition, events, trace.cells, trace.local_limit) {
-        Ok(world) => Ok(Ok((world.ledgers(), world.past(), world.status(1), world.live()))),
-        Err(fault) => Ok(Err(fault)),
-    }
-}
-
-/// The events lead to these ends in the two editions.
-fn they_end<R: Abort + AllocGlobal>(
-    rt: &R,
-    case: &str,
-    lines: &str,
-    in_one: &str,
-    in_two: &str,
-) -> Result<(), Fault> {
-    let one = end_in(rt.alloc(), Edition::One, lines.as_bytes())?;
-    let two = end_in(rt.alloc(), Edition::Two, lines.as_bytes())?;
-    shows(rt, case, &one, in_one);
-    shows(rt, case, &two, in_two);
-    Ok(())
-}
-
-#[test]
-fn a_replay_in_either_edition(rt: HostRuntime) -> Result<(), Fault> {
-    const CASES: &[(&str, &str, &str, &str)] = &[
-        (
-            "thread 1 offers its list and leaves, and its number is used again",
-            COMES_AGAIN,
-            "Err(NotEnabled { at: 14 })",
-            "Ok((Ledger { allocs: 2, frees: 2 }, Ledger { allocs: 1, frees: 0 }, Some(Active), 0))",
-        ),
-        (
-            "the last reference goes behind the offer",
-            OFFERED,
-            "Err(NotEnabled { at: 13 })",
-            "Ok((Ledger { allocs: 1, frees: 1 }, Ledger { allocs: 0, frees: 0 }, Some(Active), 0))",
-        ),
-        (
-            "an owner leaves",
-            LEFT,
-            "Ok((Ledger { allocs: 1, frees: 0 }, Ledger { allocs: 0, frees: 0 }, Some(Closing), 1))",
-            "Err(NotEnabled { at: 14 })",
-        ),
-    ];
-    for &(case, lines, in_one, in_two) in CASES {
-        they_end(&rt, case, lines, in_one, in_two)?;
     }
     Ok(())
 }
@@ -339,83 +265,64 @@ fn farther_growths<A: Allocator + Copy>(world: &mut World<A>) -> u32 {
     6
 }
 
-/// Each size of memory in turn: every growth is refused at some of them.
-#[test]
-fn refused_growths_change_nothing(rt: HostRuntime) -> Result<(), Fault> {
-    let mut next = 0u32;
-    for size in 4_000..5_500usize {
-        let heap = LocalHeap::new(rt.alloc(), size * 8)?;
-        match World::new(&heap, 512, 2) {
-            Ok(world) => {
-                let mut world = world;
-                if growths(&mut world) == Ok(next) {
-                    next = next.saturating_add(1);
-                }
+/// A world is made, and grows.
+struct Grows;
+
+impl Tried for Grows {
+    fn comes_to<R: Abort + AllocGlobal>(&self, rt: &R, size: usize, heap: &LocalHeap) -> u32 {
+        let mut world = match World::new(heap, 512, 2) {
+            Ok(world) => world,
+            Err(fault) => {
+                same_at(rt, size, fault, Fault::OutOfMemory);
+                return u32::MAX;
             }
-            Err(fault) => same_at(&rt, size, fault, Fault::OutOfMemory),
-        }
-        same_at(&rt, size, heap.used(), 0);
-    }
-    assert_eq!(rt; next, 7);
-    Ok(())
-}
-
-/// Whether the events are replayed in this memory; else it is told that there was no more.
-fn is_replayed<A: Allocator + Copy>(
-    rt: &impl Abort,
-    size: usize,
-    heap: A,
-    events: &[Event],
-) -> bool {
-    match replay(heap, events, 512, 7) {
-        Ok(world) => {
-            same_at(rt, size, world.live(), 4);
-            true
-        }
-        Err(fault) => {
-            same_at(rt, size, fault, ReplayFault::Memory);
-            false
-        }
+        };
+        growths(&mut world).unwrap_or(u32::MAX)
     }
 }
 
-/// The same of a list of an object's holders.
-fn are_listed<A: Allocator + Copy>(
-    rt: &impl Abort,
-    size: usize,
-    heap: A,
-    world: &World<Global>,
-) -> bool {
-    match world.holders(heap, 266) {
-        Ok(holders) => {
-            same_at(rt, size, holders.len(), 2);
-            true
-        }
-        Err(fault) => {
-            same_at(rt, size, fault, Fault::OutOfMemory);
-            false
-        }
+/// Every growth is refused at some of the sizes.
+#[test]
+fn refused_growths_change_nothing(rt: HostRuntime) {
+    assert_eq!(rt; ends_of(&rt, &Grows, 4_000..5_500, 8), 7);
+}
+
+/// How many objects live behind these events, replayed in this memory.
+fn live_in<A: Allocator + Copy>(heap: A, events: &[Event]) -> Result<u32, Fault> {
+    let world = replay(heap, events, 512, 7)?;
+    Ok(world.live())
+}
+
+/// How many holders an object has, listed in this memory.
+fn holders_in<A: Allocator + Copy>(heap: A, world: &World<Global>) -> Result<usize, Fault> {
+    let holders = world.holders(heap, 266)?;
+    Ok(holders.len())
+}
+
+/// The events are replayed; and the holders in the world behind them are listed, for which less memory is enough.
+#[derive(Drop)]
+struct Answers<'w> {
+    world: &'w World<Global>,
+    events: &'w [Event],
+}
+
+impl<'w> Tried for Answers<'w> {
+    fn comes_to<R: Abort + AllocGlobal>(&self, rt: &R, size: usize, heap: &LocalHeap) -> u32 {
+        let replayed = has_come(rt, size, live_in(heap, self.events), 4);
+        same_at(rt, size, heap.used(), 0);
+        let listed = has_come(rt, size, holders_in(heap, self.world), 2);
+        replayed.saturating_add(listed)
     }
 }
 
-/// Each size of memory in turn, and none is left out afterwards.
 #[test]
 fn refused_growths_answer_no_world(rt: HostRuntime) -> Result<(), Fault> {
     let trace = read_trace(rt.alloc(), BUSY)?;
     let world = world_behind(rt.alloc(), BUSY)?;
-    let (mut replayed, mut listed) = (0u32, 0u32);
-    for size in 1..4_000usize {
-        let heap = LocalHeap::new(rt.alloc(), size * 16)?;
-        if is_replayed(&rt, size, &heap, trace.events.as_slice()) {
-            replayed = replayed.saturating_add(1);
-        }
-        same_at(&rt, size, heap.used(), 0);
-        if are_listed(&rt, size, &heap, &world) {
-            listed = listed.saturating_add(1);
-        }
-        same_at(&rt, size, heap.used(), 0);
-    }
-    // In some of the 3,999 sizes, and not in each.
-    assert!(rt; 0 < replayed && replayed < listed && listed < 3_999);
+    let answers = Answers {
+        world: &world,
+        events: trace.events.as_slice(),
+    };
+    assert_eq!(rt; ends_of(&rt, &answers, 1..4_000, 16), 3);
     Ok(())
 }

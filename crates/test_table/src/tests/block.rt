@@ -283,22 +283,28 @@ fn takes_two(rt: &impl Abort, entries: &mut impl Entries) {
     }
 }
 
-/// No room is made for a third, and the two stay.
-fn stays(rt: &impl Abort, entries: &mut impl Entries) {
+/// With all memory taken no room is made for a third, and the two stay. Answers what has the memory.
+fn stays<'h>(
+    rt: &impl Abort,
+    alloc: Global,
+    heap: &'h LocalHeap,
+    entries: &mut impl Entries,
+) -> Vec<Box<u8, &'h LocalHeap>> {
+    takes_two(rt, entries);
+    let filler = fill(rt, alloc, heap);
     holds(rt, "no room is made", entries.reserve().is_err());
     holds(rt, "nothing is put", entries.put(268).is_err());
     same(rt, "its length", entries.len(), 2);
     same(rt, "its front", entries.entry(0), Some(266));
     same(rt, "its end", entries.entry(1), Some(267));
+    filler
 }
 
 #[test]
 fn a_list_without_memory_stays(rt: HostRuntime) {
     let heap = small_heap(&rt, rt.alloc());
     let mut cells = Cells::new(Vec::with_capacity(&heap, 2).expect(&rt, "memory"));
-    takes_two(&rt, &mut cells);
-    let _filler = fill(&rt, rt.alloc(), &heap);
-    stays(&rt, &mut cells);
+    let _filler = stays(&rt, rt.alloc(), &heap, &mut cells);
     same(&rt, "as it was", cells.as_slice(), [266, 267].as_slice());
 
     // The place of an entry that was taken serves the next one.
@@ -310,10 +316,7 @@ fn a_list_without_memory_stays(rt: HostRuntime) {
 fn a_mailbox_without_memory_stays(rt: HostRuntime) {
     let heap = small_heap(&rt, rt.alloc());
     let mut letters = Letters::new(VecDeque::with_capacity(&heap, 2).expect(&rt, "memory"));
-    takes_two(&rt, &mut letters);
-    let _filler = fill(&rt, rt.alloc(), &heap);
-    stays(&rt, &mut letters);
-
+    let _filler = stays(&rt, rt.alloc(), &heap, &mut letters);
     same(&rt, "its front", letters.take(), Some(266));
     holds(&rt, "in its place", letters.put(268).is_ok());
 }

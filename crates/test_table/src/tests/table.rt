@@ -1,12 +1,10 @@
 //! A table that opens, counts an immortal and is taken apart, with ample memory and with none.
 
-ghost use Rattle.std.specs.Prelude.{◌≡◌, []};
-
 use crate::comparing::{is, same};
 use crate::ends::end_all;
-use crate::helpers::{ends, opened};
+use crate::seats::{OfOne, Seat, Table, for_one};
 use brc_block::Payload;
-use brc_table::{HeapTable, ThreadSeat};
+use brc_table::HeapTable;
 use brc_words::{Fault, Kind};
 use law_world::{Dropped, Source};
 use linked_list_allocator::LocalHeap;
@@ -14,33 +12,27 @@ use std::alloc::Global;
 use std::process::Abort;
 
 /// A thread that has done nothing counts an immortal up and down, and looks at words that nobody has touched.
-fn counts_an_immortal(rt: &impl Abort, table: &HeapTable<Global>, seat: &mut ThreadSeat<Global>)
-    requires table { seat.old.table ≡ table.now.table }
-    requires cells { table.now.cells ≡ 512 }
-    requires new { (seat.old.log ≡ []) × (seat.old.slots ≡ []) }
-{
-    let found = table.immortal_up(seat, Source::Immortal(2), 0, 2);
-    is(rt, found, 4_294_967_295);
-    let found = table.immortal_down(seat, Dropped::Frame(0), 2);
-    is(rt, found, 4_294_967_295);
-    is(rt, table.load_shared(seat, 2), 4_398_046_511_104);
-    is(rt, table.load_owner(seat, 300), 0);
-    is(rt, table.load_free(seat, 3), 0);
-    is(rt, table.load_free(seat, 4), 18_446_744_073_709_550_592);
-    is(rt, table.load_free(seat, 7), u64::MAX);
-    is(rt, table.load_mutex(seat, 300), 0);
-    is(rt, table.load_notify(seat), 0);
+struct CountsAnImmortal;
+
+impl OfOne for CountsAnImmortal {
+    fn run<R: Abort>(&self, rt: &R, _alloc: Global, table: &Table, seat: &mut Seat) {
+        let found = table.immortal_up(seat, Source::Immortal(2), 0, 2);
+        is(rt, found, 4_294_967_295);
+        let found = table.immortal_down(seat, Dropped::Frame(0), 2);
+        is(rt, found, 4_294_967_295);
+        is(rt, table.load_shared(seat, 2), 4_398_046_511_104);
+        is(rt, table.load_owner(seat, 300), 0);
+        is(rt, table.load_free(seat, 3), 0);
+        is(rt, table.load_free(seat, 4), 18_446_744_073_709_550_592);
+        is(rt, table.load_free(seat, 7), u64::MAX);
+        is(rt, table.load_mutex(seat, 300), 0);
+        is(rt, table.load_notify(seat), 0);
+    }
 }
 
 #[test]
 fn an_immortal_is_counted_up_and_down(rt: HostRuntime) {
-    let (table, root) = opened(&rt, rt.alloc(), 10);
-    let mut root = root;
-    let mut seat = table.split(&mut root);
-    counts_an_immortal(&rt, &table, &mut seat);
-    is(&rt, u64::from(root.next()), 2);
-    drop(seat);
-    ends(&rt, table, root);
+    for_one(&rt, &CountsAnImmortal);
 }
 
 #[test]

@@ -1,0 +1,98 @@
+//! Texts, and what must come of each: the cases that stand in the files of `data/`, each run and compared. How a file
+//! is written says `data/README.md`.
+//!
+//! A line on standard output for each file says how many cases it has, and how many came out as they should. Above it
+//! stands what came of each that didn't.
+#![tactic(auto)]
+
+mod cases;
+mod instructions;
+mod programs;
+mod scripts;
+mod traces;
+mod ways;
+
+use cases::{Case, read_cases};
+use std::alloc::AllocGlobal;
+use std::io::Print;
+use std::rt::Files;
+use std::sync::Wait;
+use std::thread::Threads;
+use std::{fs, io, str};
+use ways::come_of;
+
+/// The files, by name.
+const FILES: [&str; 12] = [
+    "traces",
+    "worked_runs",
+    "editions",
+    "explaining",
+    "scripts",
+    "meaning",
+    "options",
+    "command_lines",
+    "statuses",
+    "explanations",
+    "instructions",
+    "runs",
+];
+
+/// Whether the case comes out so by this way. What came of it else is printed.
+fn comes_out<R: AllocGlobal + Print + Threads + Wait + Sync>(
+    rt: &R,
+    case: &Case,
+    way: &str,
+) -> io::Result<bool> {
+    let mut found = Vec::new(rt.alloc());
+    come_of(rt, way, case.text.as_str(), &mut found)?;
+    if found.as_slice() == case.wanted.as_bytes() {
+        return Ok(true);
+    }
+    let name = case.name.as_str();
+    let found = str::from_utf8(found.as_slice()).unwrap_or("no text\n");
+    println!(rt; "{name}, by {way}:\n{found}")?;
+    Ok(false)
+}
+
+/// Whether it comes out so by each of its ways, each time.
+fn is_as_wanted<R: AllocGlobal + Print + Threads + Wait + Sync>(
+    rt: &R,
+    case: &Case,
+) -> io::Result<bool> {
+    for way in case.ways.as_slice() {
+        for _time in 0..case.times {
+            if !comes_out(rt, case, way.as_str())? {
+                return Ok(false);
+            }
+        }
+    }
+    Ok(true)
+}
+
+/// Runs the cases of a file, and says how many came out as they should.
+fn run_file<R: AllocGlobal + Files + Print + Threads + Wait + Sync>(
+    rt: &R,
+    name: &str,
+) -> io::Result<()> {
+    let path = format!(in rt.alloc(); "{name}.cases")?;
+    let text = fs::read_to_string(rt, path.as_str())?;
+    let cases = read_cases(rt.alloc(), text.as_str())?;
+    let (mut tried, mut right) = (0u32, 0u32);
+    for case in cases.as_slice() {
+        if case.ways.is_empty() {
+            continue;
+        }
+        tried = tried.saturating_add(1);
+        if is_as_wanted(rt, case)? {
+            right = right.saturating_add(1);
+        }
+    }
+    println!(rt; "{name}: {right} of {tried} cases")
+}
+
+fn main(rt: HostRuntime) -> io::Result<()> {
+    for name in FILES {
+        run_file(&rt, name)?;
+    }
+    Ok(())
+}
