@@ -1,0 +1,14 @@
+//! The tests, and the calls that they share.
+
+mod alone;
+mod busy;
+mod calls;
+mod clearing;
+mod copies;
+mod departing;
+mod guards;
+mod letters;
+mod objects;
+mod refused;
+mod starving;
+mod threads;

@@ -1,0 +1,174 @@
+//! Lives of one thread on a heap of its own, each of which leaves nothing: calls that never wait where no other thread
+//! has the object locked, and objects edited by guards.
+
+ghost use Rattle.brc_count.specs.Frames.{IsUnlocked};
+ghost use Rattle.test_tools.specs.Calls.{OwnsOne, Stays};
+
+use crate::tests::calls::{Exchanging, Getting, Giving, exchanges, gets_none, gets_number, gives};
+use crate::tests::guards::{Way, puts_a_pair};
+use crate::tests::objects::{entries, number_of};
+use crate::tests::threads::{a_heap, a_thread, is_empty};
+use brc_biased::Home;
+use brc_count::{Frame, Handle};
+use std::alloc::{Allocator, Global};
+use std::process::Abort;
+use std::sync::Wait;
+use test_tools::{Thing, made};
+
+/// What is done with an object, and what is seen then.
+#[derive(Clone, Copy)]
+enum Step {
+    /// A new integer goes in, with this number.
+    Gives(Giving, i64),
+    /// A new integer goes in beside the key 7, with this number.
+    Pairs(Way, i64),
+    /// There is an integer with this number.
+    Gets(Getting, i64),
+    GetsNone(Getting),
+    /// An integer with the first number makes way for a new one with the second.
+    Exchanges(Exchanging, i64, i64),
+    /// So many entries are there.
+    Has(usize),
+}
+
+/// Two integers go in; the first is found and exchanged for a third, which is taken out; the other is popped.
+const TRIES_ON_A_LIST: &[Step] = &[
+    Step::Gives(Giving::TryPush, 1_000),
+    Step::Gives(Giving::TryPush, 1_001),
+    Step::Gets(Getting::TryGet(0), 1_000),
+    Step::GetsNone(Getting::TryGet(2)),
+    Step::Exchanges(Exchanging::TrySet(0), 1_000, 1_002),
+    Step::GetsNone(Getting::TakeAt(2)),
+    Step::Gets(Getting::TakeAt(0), 1_002),
+    Step::GetsNone(Getting::TryTakeAt(1)),
+    Step::Gets(Getting::TryPop, 1_001),
+    Step::GetsNone(Getting::TryPop),
+];
+
+/// Two integers are sent, and received in that order.
+const TRIES_ON_A_MAILBOX: &[Step] = &[
+    Step::Gives(Giving::TrySend, 1_000),
+    Step::Gives(Giving::TrySend, 1_001),
+    Step::Gets(Getting::TryRecv, 1_000),
+    Step::Gets(Getting::TryRecv, 1_001),
+    Step::GetsNone(Getting::TryRecv),
+];
+
+/// Two integers go in, one is found there, one exchanged for a third, and the first one taken out.
+fn edits_of_a_list(way: Way) -> [Step; 9] {
+    [
+        Step::Gives(Giving::Room(way), 1_000),
+        Step::Gives(Giving::Room(way), 1_001),
+        Step::Has(2),
+        Step::Gets(Getting::Entry(1, way), 1_001),
+        Step::Has(2),
+        Step::Exchanges(Exchanging::Swap(1, way), 1_001, 1_002),
+        Step::Gets(Getting::Take(0, way), 1_000),
+        Step::Has(1),
+        Step::Gets(Getting::Entry(0, way), 1_002),
+    ]
+}
+
+/// An integer goes in beside a key, and stands there then.
+fn edits_of_a_dict(way: Way) -> [Step; 3] {
+    [
+        Step::Pairs(way, 1_000),
+        Step::Has(1),
+        Step::Gets(Getting::Find(7), 1_000),
+    ]
+}
+
+/// The step is taken.
+fn takes<R: Abort + Wait, H: Home<A>, A: Allocator + Copy>(
+    rt: &R,
+    alloc: A,
+    frame: &mut Frame<H, A>,
+    object: &Handle<A>,
+    step: Step,
+)
+    requires { OwnsOne frame.old object.now }
+    ensures { Stays frame.old frame.new }
+{
+    match step {
+        Step::Gives(giving, number) => {
+            let value = made(alloc, frame, Thing::Int(number)).expect(rt, "no integer is made");
+            gives(rt, frame, object, giving, value);
+        }
+        Step::Pairs(way, number) => {
+            let value = made(alloc, frame, Thing::Int(number)).expect(rt, "no integer is made");
+            puts_a_pair(rt, frame, object, 7, value, way);
+        }
+        Step::Gets(getting, number) => gets_number(rt, frame, object, getting, number),
+        Step::GetsNone(getting) => gets_none(rt, frame, object, getting),
+        Step::Exchanges(exchanging, old, new) => {
+            let value = made(alloc, frame, Thing::Int(new)).expect(rt, "no integer is made");
+            let value = exchanges(rt, frame, object, exchanging, value);
+            assert_eq!(rt; number_of(rt, frame, value), old);
+        }
+        Step::Has(count) => assert_eq!(rt; entries(rt, frame, object), count),
+    }
+}
+
+/// An object, and all that is done with it.
+#[derive(Clone, Copy)]
+struct Use<'s> {
+    thing: Thing,
+    steps: &'s [Step],
+}
+
+/// It is made, used and released.
+fn uses<R: Abort + Wait, H: Home<A>, A: Allocator + Copy>(
+    rt: &R,
+    alloc: A,
+    frame: &mut Frame<H, A>,
+    all: Use<'_>,
+)
+    requires unlocked { IsUnlocked frame.old }
+    ensures { Stays frame.old frame.new }
+{
+    let object = made(alloc, frame, all.thing).expect(rt, "no object is made");
+    for &step in all.steps {
+        takes(rt, alloc, frame, &object, step);
+    }
+    frame.release(object);
+}
+
+/// A thread uses two objects; it makes so many in all, as many are freed, and the heap is empty then.
+fn lives<R: Abort + Wait>(rt: &R, alloc: Global, first: Use<'_>, second: Use<'_>, births: u64) {
+    let (heap, mut root) = a_heap(rt, alloc, 512);
+    let mut thread = a_thread(rt, alloc, &heap, &mut root);
+    uses(rt, alloc, thread.frame(), first);
+    uses(rt, alloc, thread.frame(), second);
+    let ledger = thread.end(rt, &mut root, &heap);
+    assert_eq!(rt; (ledger.allocs, ledger.frees), (births, births));
+    is_empty(rt, heap, root);
+}
+
+#[test]
+fn calls_that_never_wait_find_what_is_there(rt: HostRuntime) {
+    let list = Use {
+        thing: Thing::List,
+        steps: TRIES_ON_A_LIST,
+    };
+    let mailbox = Use {
+        thing: Thing::Mailbox,
+        steps: TRIES_ON_A_MAILBOX,
+    };
+    lives(&rt, rt.alloc(), list, mailbox, 7);
+}
+
+#[test]
+fn a_locked_object_is_edited(rt: HostRuntime) {
+    for way in [Way::AtOnce, Way::Late] {
+        let (edits, puts) = (edits_of_a_list(way), edits_of_a_dict(way));
+        let list = Use {
+            thing: Thing::List,
+            steps: &edits,
+        };
+        let dict = Use {
+            thing: Thing::Dict,
+            steps: &puts,
+        };
+        lives(&rt, rt.alloc(), list, dict, 6);
+    }
+}

@@ -1,0 +1,156 @@
+//! Objects that are locked by a guard: looked at, and unlocked as they were found, or with one entry more, fewer or
+//! exchanged.
+
+ghost use Rattle.std.specs.Prelude.{◌≡◌};
+ghost use Rattle.brc_count.specs.Owned.{Keeps};
+ghost use Rattle.brc_lock.specs.Holding.{Holds};
+ghost use Rattle.test_tools.specs.Calls.{OwnsBoth, OwnsOne, Parts, LosesOrKeeps, GainsOrKeeps, Stays};
+
+use brc_biased::Home;
+use brc_block::{Block, Entries, Payload};
+use brc_count::{Frame, Handed, Handle};
+use brc_lock::{Locked, lock, try_lock};
+use brc_words::{Fault, Key};
+use std::alloc::Allocator;
+use std::process::Abort;
+use std::sync::Wait;
+
+/// How an object is locked: at once, or once no other thread has it locked.
+#[derive(Clone, Copy)]
+pub(super) enum Way {
+    AtOnce,
+    Late,
+}
+
+/// The object, locked.
+fn locked<'f, H: Home<A>, A: Allocator>(
+    rt: &(impl Abort + Wait),
+    frame: &'f mut Frame<H, A>,
+    handle: &'f Handle<A>,
+    way: Way,
+) -> Locked<'f, H, A, Block<A>>
+    requires { OwnsOne frame.old handle.now }
+    ensures same_reference { result.frame.ghost_name ≡ frame.entry.ghost_name }
+    ensures handle { result.handle.now ≡ handle.now }
+    ensures holds { Holds result.frame.now handle.now result.block }
+    ensures keeps { Keeps frame.old result.frame.now }
+{
+    match way {
+        Way::AtOnce => match try_lock(frame, handle) {
+            Ok(locked) => locked,
+            Err(_) => panic!(rt; "nobody else has it locked"),
+        },
+        Way::Late => lock(rt, frame, handle),
+    }
+}
+
+/// The value goes into a list, last. Where room for it is refused the list is unlocked as it was found.
+pub(super) fn put_by_guard<H: Home<A>, A: Allocator + Copy>(
+    rt: &(impl Abort + Wait),
+    frame: &mut Frame<H, A>,
+    list: &Handle<A>,
+    value: Handle<A>,
+    way: Way,
+) -> Result<(), Handed<Handle<A>>>
+    requires { OwnsBoth frame.old list.now value }
+    ensures { LosesOrKeeps frame.old frame.new value result }
+{
+    let mut guard = locked(rt, frame, list, way);
+    let Payload::List(_) = guard.payload() else {
+        panic!(rt; "it is no list")
+    };
+    match guard.room() {
+        Ok(()) => {
+            guard.unlock_put(None, value);
+            Ok(())
+        }
+        Err(fault) => {
+            guard.unlock();
+            Err(Handed { fault, back: value })
+        }
+    }
+}
+
+/// The value goes into an empty dictionary, beside this key.
+pub(super) fn puts_a_pair<H: Home<A>, A: Allocator + Copy>(
+    rt: &(impl Abort + Wait),
+    frame: &mut Frame<H, A>,
+    dict: &Handle<A>,
+    key: i64,
+    value: Handle<A>,
+    way: Way,
+)
+    requires { OwnsBoth frame.old dict.now value }
+    ensures { Parts frame.old frame.new value }
+{
+    let mut guard = locked(rt, frame, dict, way);
+    let Payload::Dict(pairs) = guard.payload() else {
+        panic!(rt; "it is no dictionary")
+    };
+    assert!(rt; pairs.len() == 0);
+    match guard.room() {
+        Ok(()) => guard.unlock_put(Some(Key::Int(key)), value),
+        Err(_) => panic!(rt; "no room is made"),
+    }
+}
+
+/// What becomes of an entry that a handle is had to: it stays in the list, or is taken out of it.
+#[derive(Clone, Copy)]
+pub(super) enum Entry {
+    Stays,
+    Goes,
+}
+
+/// A handle to an entry of the list. Where a place for it is refused the list is unlocked as it was found.
+pub(super) fn had_by_guard<H: Home<A>, A: Allocator>(
+    rt: &(impl Abort + Wait),
+    frame: &mut Frame<H, A>,
+    list: &Handle<A>,
+    index: u32,
+    way: Way,
+    entry: Entry,
+) -> Result<Handle<A>, Fault>
+    requires { OwnsOne frame.old list.now }
+    ensures { GainsOrKeeps frame.old frame.new result }
+{
+    let mut guard = locked(rt, frame, list, way);
+    let Payload::List(cells) = guard.payload() else {
+        panic!(rt; "it is no list")
+    };
+    assert!(rt; (index as usize) < cells.len());
+    match guard.place() {
+        Ok(()) => match entry {
+            Entry::Stays => {
+                let handle = guard.entry(index);
+                guard.unlock();
+                Ok(handle)
+            }
+            Entry::Goes => Ok(guard.unlock_take(index)),
+        },
+        Err(fault) => {
+            guard.unlock();
+            Err(fault)
+        }
+    }
+}
+
+/// The value and an entry of the list change places.
+pub(super) fn swap_by_guard<H: Home<A>, A: Allocator>(
+    rt: &(impl Abort + Wait),
+    frame: &mut Frame<H, A>,
+    list: &Handle<A>,
+    index: u32,
+    value: Handle<A>,
+    way: Way,
+) -> Handle<A>
+    requires { OwnsBoth frame.old list.now value }
+    ensures stays { Stays frame.old frame.new }
+    ensures same { result ≡ value }
+{
+    let guard = locked(rt, frame, list, way);
+    let Payload::List(cells) = guard.payload() else {
+        panic!(rt; "it is no list")
+    };
+    assert!(rt; (index as usize) < cells.len());
+    guard.unlock_swap(index, value)
+}
