@@ -4,12 +4,12 @@
 
 mod lives;
 
-use brc_heap::{CloseFault, Heap, Options, Report, close, give_back, take_apart, write_report};
-use linked_list_allocator::LocalHeap;
+use brc_heap::{Heap, Options, Report, write_report};
 use lives::{Life, lives};
 use std::alloc::{Allocator, Global};
 use std::io;
 use std::sync::Wait;
+use test_tools::{Heaps, Memories, closed};
 
 /// The least heap.
 const SIZES: Options = Options {
@@ -17,14 +17,7 @@ const SIZES: Options = Options {
     local_limit: 10,
 };
 
-/// The memories of a heap, and of its report.
-#[derive(Clone, Copy)]
-struct Memories<A> {
-    ample: A,
-    scarce: A,
-}
-
-/// The report of a heap whose only thread lived so; None where something was refused.
+/// The report of a heap whose only thread lived so; None where something was refused. It is of scarce memory.
 fn report_of<A: Allocator + Copy>(
     rt: &impl Wait,
     memories: Memories<A>,
@@ -35,21 +28,7 @@ fn report_of<A: Allocator + Copy>(
         lives(rt, memories.ample, &mut mutator, life);
         let _ledger = mutator.end(rt, &mut root, &heap);
     }
-    match close(memories.scarce, heap, root) {
-        Ok(report) => Some(report),
-        Err(CloseFault::Memory) => None,
-        Err(
-            CloseFault::Missing {
-                registered: _registered,
-                gathered: _gathered,
-                heap,
-                root,
-            },
-        ) => {
-            give_back(take_apart(heap, root));
-            None
-        }
-    }
+    closed(memories.scarce, heap, root).ok()
 }
 
 /// How many threads were registered, and how many gathered, of a heap that one of two threads left without the root.
@@ -61,34 +40,18 @@ fn missing<A: Allocator + Copy>(rt: &impl Wait, alloc: A) -> Option<(u32, u32)> 
     if let Ok(mutator) = root.register(alloc, &heap) {
         let _retired = mutator.retire(rt);
     }
-    match close(alloc, heap, root) {
+    match closed(alloc, heap, root) {
         Ok(_) => None,
-        Err(CloseFault::Memory) => None,
-        Err(
-            CloseFault::Missing {
-                registered,
-                gathered,
-                heap,
-                root,
-            },
-        ) => {
-            give_back(take_apart(heap, root));
-            Some((registered, gathered))
-        }
+        Err(missing) => missing,
     }
 }
 
 /// Whether a report is had from so many bytes.
 fn is_had(rt: &impl Wait, alloc: Global, bytes: usize) -> bool {
-    let (Ok(ample), Ok(scarce)) = (LocalHeap::new(alloc, 1 << 22), LocalHeap::new(alloc, bytes))
-    else {
-        return false;
-    };
-    let memories = Memories {
-        ample: &ample,
-        scarce: &scarce,
-    };
-    report_of(rt, memories, Life::HoldsItself).is_some()
+    match Heaps::new(alloc, 1 << 22, bytes) {
+        Ok(heaps) => report_of(rt, heaps.memories(), Life::HoldsItself).is_some(),
+        Err(_) => false,
+    }
 }
 
 /// Whether the report is refused with little memory, and had with more.

@@ -10,34 +10,12 @@ mod first;
 mod gate;
 mod lives;
 
-ghost use Rattle.std.specs.Prelude.{◌≡◌};
-
-use brc_heap::{CloseFault, Heap, Options, Report, Root, close, give_back, take_apart};
+use brc_heap::{Heap, Options, Report};
 use counted::Counted;
 use crowd::all_live;
 use std::alloc::Global;
 use std::io;
-
-/// The report of the heap; None where memory for it is missing, or a thread wasn't gathered.
-fn closed(alloc: Global, heap: Heap, root: Root) -> Option<Report<Global>>
-    requires root { root.table ≡ heap.table }
-{
-    match close(alloc, heap, root) {
-        Ok(report) => Some(report),
-        Err(CloseFault::Memory) => None,
-        Err(
-            CloseFault::Missing {
-                registered: _registered,
-                gathered: _gathered,
-                heap,
-                root,
-            },
-        ) => {
-            give_back(take_apart(heap, root));
-            None
-        }
-    }
-}
+use test_tools::closed;
 
 /// What the threads counted, behind what couldn't be had.
 fn shows_counted(rt: &HostRuntime, counted: Counted) -> io::Result<()> {
@@ -64,7 +42,7 @@ fn main(rt: HostRuntime) -> io::Result<()> {
     };
     let counted = all_live(&rt, rt.alloc(), &heap, &mut root);
     let gathered = root.gathered();
-    let report = closed(rt.alloc(), heap, root);
+    let report = closed(rt.alloc(), heap, root).ok();
     shows_counted(&rt, counted)?;
     println!(rt; "gathered {gathered}")?;
     shows_report(&rt, report)

@@ -1,0 +1,19 @@
+//! The tests, and the steps that they share.
+
+mod client;
+mod entering;
+mod full;
+mod holds;
+mod limits;
+mod lists;
+mod makers;
+mod many;
+mod opening;
+mod phases;
+mod readings;
+mod refused;
+mod starts;
+mod starved;
+mod steps;
+mod threads;
+mod two_heaps;

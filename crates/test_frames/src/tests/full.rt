@@ -1,0 +1,40 @@
+//! A heap without a free cell, and a frame without a free place.
+
+use crate::tests::steps::Step::{Adds, AllGo, Goes, Has, Len, Retains, Says, Works};
+use crate::tests::steps::{Step, lives};
+use brc_words::Fault::{FrameFull, HeapFull};
+use test_tools::Thing;
+
+/// A full heap has room again.
+const HEAP: &[Step] = &[
+    Adds(Thing::List, 246),
+    Has(Thing::List, Err(HeapFull)),
+    Len(246),
+    Goes(34, 300),
+    Has(Thing::List, Ok(300)),
+    Len(246),
+    AllGo,
+    Works(300, 54),
+    Says(247, 247),
+];
+
+/// A full frame takes no handle.
+const FRAME: &[Step] = &[
+    Adds(Thing::None, 65_536),
+    Retains(Err(FrameFull)),
+    Has(Thing::None, Err(FrameFull)),
+    Has(Thing::Int(256), Err(FrameFull)),
+    Has(Thing::Int(257), Err(FrameFull)),
+    Has(Thing::Text("a text"), Err(FrameFull)),
+    Has(Thing::List, Err(FrameFull)),
+    Len(65_536),
+    AllGo,
+    Says(0, 0),
+];
+
+#[test]
+fn what_is_full_refuses(rt: HostRuntime) {
+    for steps in [HEAP, FRAME] {
+        lives(&rt, rt.alloc(), steps);
+    }
+}
