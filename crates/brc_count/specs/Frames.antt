@@ -263,12 +263,11 @@ pub record Given {A : Type 0} (old new : FrameSeen A) (source : Source) (c : ℕ
   pub works : new.works ≡ old.works
   pub rest : KeepsRest old new
 
--- all places are taken: there are 65,536 handles, and the next place isn't below 65,536
-pub record IsFull {A : Type 0} (frame : FrameSeen A) : Type 0 where
-  pub len : MOST_PLACES ≤ frame.len
-  pub next : MOST_PLACES ≤ frame.next
+-- there are 65,536 handles
+abbrev pub IsFull : {A : Type 0} → FrameSeen A → Type 0
+IsFull frame = MOST_PLACES ≤ frame.len
 
--- a handle is refused where all places are taken; else one, or memory for it, wasn't to be had
+-- a handle is refused where there are 65,536; where there are fewer, a place, or memory for it, wasn't to be had
 abbrev pub Refused : {A : Type 0} → FrameSeen A → Fault → Type 0
 Refused old FrameFull = IsFull old
 Refused old OutOfMemory = ¬ IsFull old

@@ -49,7 +49,7 @@ module _ {A : Type 0} where
     pub keeps : KeepsHandles old new
     pub works : new.works ≡ old.works
 
-  -- Making is refused where all places are taken; where the thread has made 2^47 objects; where the place, or memory
+  -- Making is refused where there are 65,536 handles; where the thread has made 2^47 objects; where a place, or memory
   -- for it or the block, wasn't to be had; or where no cell was.
   abbrev pub RefusedMaking : FrameSeen A → FrameSeen A → Fault → Type 0
   RefusedMaking old new FrameFull = IsFull old × IsAsBefore old new

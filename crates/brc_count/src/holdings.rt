@@ -120,18 +120,17 @@ impl<H: Home<A>, A: Allocator> Holdings<H, A> {
         }
     }
 
-    /// Whether all 65,536 places are taken. The next place comes first, since it is at hand. Where it isn't below 65,536
-    /// there are as many handles, since a slab fills what is vacant before it grows; but its contract leaves that open.
+    /// Whether there are 65,536 handles.
     #[inline(always)]
     pub(crate) fn is_full(&self) -> bool
         ensures full { IsTrue result → IsFull self.now }
-        ensures place { IsFalse result → ¬ IsFull self.now }
+        ensures few { IsFalse result → ¬ IsFull self.now }
     {
-        self.places.vacant_key() >= MOST_PLACES as usize
-            && self.places.len() >= MOST_PLACES as usize
+        self.places.len() >= MOST_PLACES as usize
     }
 
-    /// Has memory ready for the next place; false where it, or a place below 65,536, can't be had.
+    /// Has memory ready for the next place; false where it, or a place below 65,536, can't be had. With fewer handles
+    /// there is one, since a slab fills what is vacant before it grows; but its contract leaves that open.
     #[inline(always)]
     pub(crate) fn has_room(&mut self) -> bool
         ensures room { IsTrue result → 0 < self.new.spare }
@@ -141,8 +140,8 @@ impl<H: Home<A>, A: Allocator> Holdings<H, A> {
         self.places.vacant_key() < MOST_PLACES as usize && self.places.reserve(1).is_ok()
     }
 
-    /// Makes sure that the next place can be filled: FrameFull where all 65,536 are taken, looked at first; OutOfMemory
-    /// where a place, or memory for it, can't be had.
+    /// Makes sure that the next place can be filled: FrameFull where there are 65,536 handles, which comes first;
+    /// OutOfMemory where there are fewer, and a place, or memory for it, can't be had.
     #[inline(always)]
     pub(crate) fn reserve(&mut self) -> Result<(), Fault>
         ensures room { OnOk result (0 < self.new.spare) }
@@ -150,11 +149,13 @@ impl<H: Home<A>, A: Allocator> Holdings<H, A> {
         ensures refused { IfErr result (Refused self.old) }
         ensures same { IsAsBefore self.old self.new }
     {
-        if self.is_full() {
-            return Err(Fault::FrameFull);
-        }
+        // It is asked for where no room is there, and of the frame before.
+        let full = self.is_full();
         if self.has_room() {
-            Ok(())
+            return Ok(());
+        }
+        if full {
+            Err(Fault::FrameFull)
         } else {
             Err(Fault::OutOfMemory)
         }

@@ -144,15 +144,14 @@ module _ {A : Type 0} where
   pub pair_refused : (before now new : FrameSeen A) (k index : ℕ) (block : ℕ × Payload A) (fault : Fault)
       → Stood before now k block
       → Ended now new Keep block → (frame : FrameSeen A) → frame.len ≡ before.len
-      → frame.next ≡ before.next
       → MissesPair frame (contents_of block.1) index fault
       → RefusedPlace before new k (plain_value_at A index) fault
-  pair_refused before now new k index block faults.Busy was ended frame len next why = absurd why
-  pair_refused before now new k index block faults.FrameFull was ended frame len next why =
-      refused_place before frame new k (plain_value_at A index) faults.FrameFull len next why.1
+  pair_refused before now new k index block faults.Busy was ended frame len why = absurd why
+  pair_refused before now new k index block faults.FrameFull was ended frame len why =
+      refused_place before frame new k (plain_value_at A index) faults.FrameFull len why.1
       (refused_for_want before now new k block (plain_value_at A index) was ended why.0)
-  pair_refused before now new k index block faults.OutOfMemory was ended frame len next why =
-      refused_place before frame new k (plain_value_at A index) faults.OutOfMemory len next why.1
+  pair_refused before now new k index block faults.OutOfMemory was ended frame len why =
+      refused_place before frame new k (plain_value_at A index) faults.OutOfMemory len why.1
       (refused_for_want before now new k block (plain_value_at A index) was ended why.0)
-  pair_refused before now new k index block fault was ended frame len next why = refused_plainly before now new k block
+  pair_refused before now new k index block fault was ended frame len why = refused_plainly before now new k block
       (plain_value_at A index) fault was ended why

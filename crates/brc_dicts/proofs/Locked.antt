@@ -143,13 +143,13 @@ module _ {A : Type 0} where
 
   -- a place was refused
   pub refused_place : {R : Type 0} (before now new : FrameSeen A) (k : ℕ) (call : PlainCall R) (fault : Fault)
-      → now.len ≡ before.len → now.next ≡ before.next → Refused now fault → RefusedForWant before new k call
+      → now.len ≡ before.len → Refused now fault → RefusedForWant before new k call
       → RefusedPlace before new k call fault
-  refused_place before now new k call faults.FrameFull len next why want =
-      (want, refused_alike before now faults.FrameFull len next why)
-  refused_place before now new k call faults.OutOfMemory len next why want =
-      (want, refused_alike before now faults.OutOfMemory len next why)
-  refused_place before now new k call _ len next none want = absurd none
+  refused_place before now new k call faults.FrameFull len why want =
+      (want, refused_alike before now faults.FrameFull len why)
+  refused_place before now new k call faults.OutOfMemory len why want =
+      (want, refused_alike before now faults.OutOfMemory len why)
+  refused_place before now new k call _ len none want = absurd none
 
   -- ---- what the calls that succeed did
 

@@ -110,7 +110,7 @@ module _ {A : Type 0} where
   caused_handle old new faults.HeapFull why same = absurd why
   caused_handle old new faults.LedgerFull why same = absurd why
   caused_handle old new faults.FrameFull why same =
-      subst (λ (f : FrameSeen A). MOST_PLACES ≤ f.len) (sym same) why.len
+      subst (λ (f : FrameSeen A). MOST_PLACES ≤ f.len) (sym same) why
   caused_handle old new _ why same = tt
 
   pub caused_making : (old new : FrameSeen A) (fault : Fault) → RefusedMaking old new fault → Caused old new fault
@@ -144,7 +144,7 @@ module _ {A : Type 0} where
   place_caused old mid new k call faults.HeapFull needs len why = absurd (true≢false (plainly call _ needs why))
   place_caused old mid new k call faults.LedgerFull needs len why = absurd (true≢false (plainly call _ needs why))
   place_caused old mid new k call faults.FrameFull needs len why =
-      subst (λ (n : ℕ). MOST_PLACES ≤ n) (sym len) why.1.len
+      subst (λ (n : ℕ). MOST_PLACES ≤ n) (sym len) why.1
   place_caused old mid new k call _ needs len why = tt
 
   pub takes_caused : (old new : FrameSeen A) (k : ℕ) (call : PlainCall ℕ) (result : Result HandleSeen Fault)

@@ -185,9 +185,9 @@ module _ {A R : Type 0} where
       → RefusedPlace old new k call fault
   place_refused old locked new k call found frame looks faults.Busy why = absurd why
   place_refused old locked new k call found frame looks faults.FrameFull why =
-      (for_want old new k call found looks why.0, refused_alike old locked faults.FrameFull frame.len frame.next why.1)
+      (for_want old new k call found looks why.0, refused_alike old locked faults.FrameFull frame.len why.1)
   place_refused old locked new k call found frame looks faults.OutOfMemory why =
-      (for_want old new k call found looks why.0, refused_alike old locked faults.OutOfMemory frame.len frame.next why.1)
+      (for_want old new k call found looks why.0, refused_alike old locked faults.OutOfMemory frame.len why.1)
   place_refused old locked new k call found frame looks fault why = plainly old new k call found looks fault why
 
 -- ---- a whole call, by its shape: of a form with `try_` from the frame before it, of one that waits from the one after

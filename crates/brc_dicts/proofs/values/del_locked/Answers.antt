@@ -22,7 +22,7 @@ returns-in-Err-clause-refused g c = λ before k since.
     c.in-There.ensures in
     let was = stood_placed before c.args.frame.now c.place.new.self k c.args.block since c.place.ensures.same in
     refused_place before c.args.frame.now c.end_keep-in-Err.new.self k (plain_del c.args.key.now) c.in-Err.fault
-    since.frame.len since.frame.next c.in-Err.ensures.refused
+    since.frame.len c.in-Err.ensures.refused
     (refused_for_want before c.place.new.self c.end_keep-in-Err.new.self k c.args.block (plain_del c.args.key.now) was
     c.end_keep-in-Err.ensures.ended
     (del_may c.args.key.now c.args.block.1 c.in-There.index c.in-There.cell there))
