@@ -1,8 +1,10 @@
--- A call gave the frame one handle more, which is in no register.
-use Rattle.std.proofs.Common.{List, Option, Some, None, arith}
+-- What the frame owns after a call that may have given it one handle more, which is in no register.
+use Rattle.std.proofs.Common.{List, Option, Some, None, Result, Ok, Err, IfOk, arith}
+use Rattle.std.specs.Prelude.{OnErr}
 use Rattle.std.specs.Option.{IfSome}
+use Rattle.brc_words.specs.declared.fault.Fault.{Fault}
 use Rattle.brc_count.specs.Frames.{FrameSeen, HandleSeen, IsUnlocked}
-use Rattle.brc_count.specs.Owned.{Gains}
+use Rattle.brc_count.specs.Owned.{Gains, Keeps}
 use Rattle.brc_handles.specs.Handles.{slot}
 use Rattle.brc_instructions.specs.Registers.{Stands, Besides}
 
@@ -24,3 +26,9 @@ module _ {A : Type 0} where
     apart = λ k. each gains.apart (slot registers k) (stands.holds.owned k);
     unlocked = unlocked;
   }
+
+  -- it owns still what it owned
+  pub owns_after : (old new : FrameSeen A) (h : HandleSeen) (result : Result HandleSeen Fault)
+      → IfOk result (Gains old new) → OnErr result (Keeps old new) → Owns old h → Owns new h
+  owns_after old new h (Ok given) gains keeps owns = gains.owns h owns
+  owns_after old new h (Err fault) gains keeps owns = keeps.owns h owns

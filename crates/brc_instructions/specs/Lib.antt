@@ -2,3 +2,4 @@ pub mod Calls
 pub mod Registers
 pub mod Printing
 pub mod Causes
+pub mod Doing

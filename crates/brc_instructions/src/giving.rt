@@ -1,4 +1,4 @@
-//! Instructions by which a container gives a reference: that of an entry goes into a register.
+//! What a container gives: the reference of an entry.
 
 ghost use Rattle.std.specs.Prelude.{◌≡◌, ◌≢◌, ℕ, List, Option, Some, IfOk, IfErr, OnErr};
 ghost use Rattle.brc_words.specs.declared.fault.Fault.TheVariants as faults;
@@ -8,19 +8,14 @@ ghost use Rattle.brc_handles.specs.Handles.{slot};
 ghost use Rattle.brc_meaning.specs.declared.state.State.{State as state};
 ghost use Rattle.law_living.specs.Living.{OwnLog};
 ghost use Rattle.law_living.specs.Later.{IsLater};
-ghost use Rattle.law_isolation.specs.Asked.{Follows};
 ghost use Rattle.law_isolation.specs.Calls.{HandsMeant};
 ghost use Rattle.law_isolation.specs.Means.{Means};
-ghost use Rattle.brc_instructions.specs.Calls.{given_by, gives};
+ghost use Rattle.brc_instructions.specs.Calls.{given_by};
 ghost use Rattle.brc_instructions.specs.Causes.{Caused};
-ghost use Rattle.brc_instructions.specs.Registers.{Stands};
 
-use crate::holding::hold;
-use crate::registers::Registers;
 use brc_biased::Home;
 use brc_count::{Frame, Handle};
 use brc_heap::{dict_del, dict_find, list_get, list_pop, recv};
-use brc_script::Register;
 use brc_words::{Fault, Key};
 use std::alloc::Allocator;
 use std::sync::Wait;
@@ -68,31 +63,4 @@ pub(crate) fn given<R: Wait, H: Home<A>, A: Allocator>(
         Giving::Find(key) => dict_find(rt, frame, object, *key),
         Giving::Delete(key) => dict_del(rt, frame, object, *key),
     }
-}
-
-/// `pop`, `get`, `find`, `del`, and `recv` where it doesn't wait for a letter: what the container gives goes into a
-/// register.
-#[inline(always)]
-pub fn give<R: Wait, H: Home<A>, A: Allocator>(
-    rt: &R,
-    frame: &mut Frame<H, A>,
-    registers: &mut Registers<A>,
-    to: Register,
-    container: Register,
-    giving: &Giving<'_, A>,
-) -> Result<(), Fault>
-    requires stands { Stands frame.old registers.old }
-    ensures stands { Stands frame.new registers.new }
-    ensures heap { frame.new.heap ≡ frame.old.heap }
-    ensures waits { IfErr result (λ fault. fault ≢ faults.Busy) }
-    ensures later { IsLater frame.old.seat.log frame.new.seat.log }
-    ensures caused { IfErr result (Caused frame.old frame.new) }
-    ensures follows { Follows frame.old frame.new registers.old registers.new (gives giving.now to container) result }
-{
-    let Some(object) = registers.get(container) else {
-        return Err(Fault::NoSuchPlace);
-    };
-    let reference = given(rt, frame, object, giving)?;
-    hold(frame, registers, to, reference);
-    Ok(())
 }

@@ -1,25 +1,23 @@
-//! Instructions on the globals: one try each.
+//! What the globals give and take: one try each.
 
 ghost use Rattle.std.specs.Prelude.{◌≡◌, ◌≢◌, MatchOption, IfOk, IfErr, OnErr};
 ghost use Rattle.brc_words.specs.declared.fault.Fault.TheVariants as faults;
 ghost use Rattle.brc_count.specs.Frames.{IsUnlocked};
 ghost use Rattle.brc_count.specs.Owned.{Keeps, Gains};
+ghost use Rattle.law_living.specs.Later.{IsLater};
 ghost use Rattle.brc_instructions.specs.Registers.{Stands, Besides};
 
 use crate::giving::{Giving, given};
-use crate::holding::hold;
-use crate::making::copy_key;
 use crate::registers::Registers;
 use brc_biased::Home;
 use brc_count::{Frame, Handed, Handle};
 use brc_heap::dict_put;
-use brc_script::Register;
 use brc_words::{Fault, GLOBALS, Key};
 use std::alloc::Allocator;
 use std::sync::Wait;
 
 /// What the globals give.
-fn global<R: Wait, H: Home<A>, A: Allocator>(
+pub(crate) fn given_by_globals<R: Wait, H: Home<A>, A: Allocator>(
     rt: &R,
     frame: &mut Frame<H, A>,
     giving: &Giving<'_, A>,
@@ -29,6 +27,7 @@ fn global<R: Wait, H: Home<A>, A: Allocator>(
     ensures keeps { OnErr result (Keeps frame.old frame.new) }
     ensures unlocked { IsUnlocked frame.new }
     ensures waits { IfErr result (λ fault. fault ≢ faults.Busy) }
+    ensures later { IsLater frame.old.seat.log frame.new.seat.log }
 {
     let globals = frame.immortal(GLOBALS)?;
     let found = given(rt, frame, &globals, giving);
@@ -37,7 +36,7 @@ fn global<R: Wait, H: Home<A>, A: Allocator>(
 }
 
 /// The handle goes under the name, and what had it comes out; or the handle is handed back.
-fn put_global<R: Wait, H: Home<A>, A: Allocator + Copy>(
+pub(crate) fn taken_by_globals<R: Wait, H: Home<A>, A: Allocator + Copy>(
     rt: &R,
     frame: &mut Frame<H, A>,
     registers: &Registers<A>,
@@ -50,6 +49,7 @@ fn put_global<R: Wait, H: Home<A>, A: Allocator + Copy>(
     ensures back { IfErr result (λ handed. Besides frame.new registers.now handed.back) }
     ensures heap { frame.new.heap ≡ frame.old.heap }
     ensures waits { IfErr result (λ handed. handed.fault ≢ faults.Busy) }
+    ensures later { IsLater frame.old.seat.log frame.new.seat.log }
 {
     let globals = match frame.immortal(GLOBALS) {
         Ok(globals) => globals,
@@ -70,57 +70,4 @@ fn put_global<R: Wait, H: Home<A>, A: Allocator + Copy>(
             Err(Handed { fault, back })
         }
     }
-}
-
-/// `share`: the value goes under the name; an old one is released.
-pub fn share<R: Wait, H: Home<A>, A: Allocator + Copy>(
-    rt: &R,
-    alloc: A,
-    frame: &mut Frame<H, A>,
-    registers: &mut Registers<A>,
-    name: &Key<A>,
-    value: Register,
-) -> Result<(), Fault>
-    requires stands { Stands frame.old registers.old }
-    ensures stands { Stands frame.new registers.new }
-    ensures heap { frame.new.heap ≡ frame.old.heap }
-    ensures waits { IfErr result (λ fault. fault ≢ faults.Busy) }
-{
-    if registers.get(value).is_none() {
-        return Err(Fault::NoSuchPlace);
-    }
-    let name = copy_key(alloc, name)?;
-    let Some(given) = registers.take(value) else {
-        return Err(Fault::NoSuchPlace);
-    };
-    match put_global(rt, frame, registers, name, given) {
-        Ok(None) => Ok(()),
-        Ok(Some(old)) => {
-            frame.release(old);
-            Ok(())
-        }
-        Err(handed) => {
-            hold(frame, registers, value, handed.back);
-            Err(handed.fault)
-        }
-    }
-}
-
-/// `fetch`, where it doesn't wait, and `unshare`: what the globals give goes into a register. Of the former the name
-/// stays (`Giving::Find`), of the latter it goes (`Giving::Delete`).
-pub fn give_global<R: Wait, H: Home<A>, A: Allocator>(
-    rt: &R,
-    frame: &mut Frame<H, A>,
-    registers: &mut Registers<A>,
-    to: Register,
-    giving: &Giving<'_, A>,
-) -> Result<(), Fault>
-    requires stands { Stands frame.old registers.old }
-    ensures stands { Stands frame.new registers.new }
-    ensures heap { frame.new.heap ≡ frame.old.heap }
-    ensures waits { IfErr result (λ fault. fault ≢ faults.Busy) }
-{
-    let found = global(rt, frame, giving)?;
-    hold(frame, registers, to, found);
-    Ok(())
 }

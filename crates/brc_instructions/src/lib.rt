@@ -2,19 +2,19 @@
 //! to both.
 //!
 //! A section has sixteen registers. Each that isn't empty has a handle that the frame owns, and the frame owns no other
-//! (`specs/Registers.antt`, `Stands`). Each kind of instruction is one function, which takes that from before it to
-//! behind it, whatever its answer, at the same heap; where a container gives a reference, or takes one, `Giving` and
-//! `Taking` say by which call (`specs/Calls.antt`). None answers Busy: each waits while another thread has the object
-//! locked. What `print` prints is a value that it answers (`Shown`); `Lines` makes text of it, worded as the plain
-//! meaning of a section (`specs/Printing.antt`).
-//!
-//! So what an instruction does to plain values can be said later without another form: by its call's own clauses, in
-//! its contract.
+//! (`specs/Registers.antt`, `Stands`). Each kind of instruction is a struct with its registers (`instructions.rt`), and
+//! all are done by `Does::act`, which takes frame and registers from before it to behind it, whatever its answer, at the
+//! same heap; where it leads by its plain meaning each says of itself. Where a container gives a reference, or takes
+//! one, `Giving` and `Taking` say by which call (`specs/Calls.antt`). None answers Busy: each waits while another thread
+//! has the object locked. What `print` prints is a value that it answers (`Shown`); `Lines` makes text of it, worded as
+//! the plain meaning of a section (`specs/Printing.antt`).
 #![tactic(auto)]
 
+mod doing;
 mod giving;
 mod globals;
 mod holding;
+mod instructions;
 mod making;
 mod printing;
 mod reading;
@@ -22,19 +22,20 @@ mod registers;
 mod shown;
 mod taking;
 
-// registers and references
-pub use holding::{copy, drop_held};
+// what each instruction says, and the registers that it stands on
+pub use doing::Does;
 pub use registers::Registers;
 
-// objects
-pub use making::{Empty, copy_text, int, make, text};
+// the instructions, by what they do: make, count, read, give and take, and on the globals
+pub use instructions::{
+    Add, CopyHeld, DropHeld, Give, GiveGlobal, Len, MakeEmpty, MakeInt, MakeText, Share, Take,
+};
+
+// what they are told
+pub use giving::Giving;
+pub use making::{Empty, copy_text};
+pub use taking::Taking;
+
+// what one prints
 pub use printing::print;
-pub use reading::{add, len};
 pub use shown::{Lines, Shown};
-
-// containers
-pub use giving::{Giving, give};
-pub use taking::{Taking, take};
-
-// the globals, one try each
-pub use globals::{give_global, share};

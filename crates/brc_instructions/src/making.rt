@@ -1,47 +1,17 @@
-//! Instructions that make objects.
+//! What is made: containers, and copies of what the script has.
 
-ghost use Rattle.std.specs.Prelude.{◌≡◌, ◌≢◌, IfOk, IfErr, OnErr};
+ghost use Rattle.std.specs.Prelude.{◌≡◌, IfOk, IfErr, OnErr};
 ghost use Rattle.brc_words.specs.declared.fault.Fault.TheVariants as faults;
-ghost use Rattle.brc_script.specs.declared.instruction.Instruction.TheVariants as does;
 ghost use Rattle.brc_count.specs.Frames.{IsUnlocked};
 ghost use Rattle.brc_count.specs.Making.{Made, RefusedMaking};
 ghost use Rattle.brc_count.specs.Owned.{Keeps, Gains};
-ghost use Rattle.law_living.specs.Later.{IsLater};
-ghost use Rattle.law_isolation.specs.Asked.{Follows};
-ghost use Rattle.brc_instructions.specs.Calls.{contents_of, makes};
-ghost use Rattle.brc_instructions.specs.Causes.{Caused};
-ghost use Rattle.brc_instructions.specs.Registers.{Stands};
+ghost use Rattle.brc_instructions.specs.Calls.{contents_of};
 
-use crate::holding::hold;
-use crate::registers::Registers;
 use brc_biased::Home;
 use brc_count::{Frame, Handle};
-use brc_heap::{new_dict, new_int, new_list, new_mailbox, new_text};
-use brc_script::Register;
+use brc_heap::{new_dict, new_list, new_mailbox};
 use brc_words::{Fault, Key, Text};
 use std::alloc::Allocator;
-
-/// `int`, and the end of `len` and of `add`: an integer.
-#[inline(always)]
-pub fn int<H: Home<A>, A: Allocator>(
-    alloc: A,
-    frame: &mut Frame<H, A>,
-    registers: &mut Registers<A>,
-    to: Register,
-    number: i64,
-) -> Result<(), Fault>
-    requires stands { Stands frame.old registers.old }
-    ensures stands { Stands frame.new registers.new }
-    ensures heap { frame.new.heap ≡ frame.old.heap }
-    ensures waits { IfErr result (λ fault. fault ≢ faults.Busy) }
-    ensures later { IsLater frame.old.seat.log frame.new.seat.log }
-    ensures caused { IfErr result (Caused frame.old frame.new) }
-    ensures follows { Follows frame.old frame.new registers.old registers.new (does.Int to number) result }
-{
-    let made = new_int(alloc, frame, number)?;
-    hold(frame, registers, to, made);
-    Ok(())
-}
 
 /// A copy of a text of the script.
 pub fn copy_text<A: Allocator>(alloc: A, text: &Text<A>) -> Result<Text<A>, Fault>
@@ -54,7 +24,7 @@ pub fn copy_text<A: Allocator>(alloc: A, text: &Text<A>) -> Result<Text<A>, Faul
 
 /// A key of the script, for a dictionary to keep.
 #[inline(always)]
-pub fn copy_key<A: Allocator>(alloc: A, key: &Key<A>) -> Result<Key<A>, Fault>
+pub(crate) fn copy_key<A: Allocator>(alloc: A, key: &Key<A>) -> Result<Key<A>, Fault>
     ensures copied { IfOk result (λ copy. copy ≡ key.now) }
     ensures refused { IfErr result (λ fault. fault ≡ faults.OutOfMemory) }
 {
@@ -64,32 +34,6 @@ pub fn copy_key<A: Allocator>(alloc: A, key: &Key<A>) -> Result<Key<A>, Fault>
             let name = copy_text(alloc, name)?;
             Ok(Key::Text(name))
         }
-    }
-}
-
-/// `text`: a text of its own, with these bytes.
-pub fn text<H: Home<A>, A: Allocator + Copy>(
-    alloc: A,
-    frame: &mut Frame<H, A>,
-    registers: &mut Registers<A>,
-    to: Register,
-    text: &Text<A>,
-) -> Result<(), Fault>
-    requires stands { Stands frame.old registers.old }
-    ensures stands { Stands frame.new registers.new }
-    ensures heap { frame.new.heap ≡ frame.old.heap }
-    ensures waits { IfErr result (λ fault. fault ≢ faults.Busy) }
-    ensures later { IsLater frame.old.seat.log frame.new.seat.log }
-    ensures caused { IfErr result (Caused frame.old frame.new) }
-    ensures follows { Follows frame.old frame.new registers.old registers.new (does.Text to text.now) result }
-{
-    let copy = copy_text(alloc, text)?;
-    match new_text(alloc, frame, copy) {
-        Ok(made) => {
-            hold(frame, registers, to, made);
-            Ok(())
-        }
-        Err(handed) => Err(handed.fault),
     }
 }
 
@@ -103,7 +47,7 @@ pub enum Empty {
 
 /// A new container of this kind.
 #[inline(always)]
-fn new_empty<H: Home<A>, A: Allocator + Copy>(
+pub(crate) fn new_empty<H: Home<A>, A: Allocator + Copy>(
     alloc: A,
     frame: &mut Frame<H, A>,
     empty: Empty,
@@ -121,25 +65,4 @@ fn new_empty<H: Home<A>, A: Allocator + Copy>(
         Empty::Dict => new_dict(alloc, frame),
         Empty::Mailbox => new_mailbox(alloc, frame),
     }
-}
-
-/// `list`, `dict` and `mailbox`: an empty container.
-pub fn make<H: Home<A>, A: Allocator + Copy>(
-    alloc: A,
-    frame: &mut Frame<H, A>,
-    registers: &mut Registers<A>,
-    to: Register,
-    empty: Empty,
-) -> Result<(), Fault>
-    requires stands { Stands frame.old registers.old }
-    ensures stands { Stands frame.new registers.new }
-    ensures heap { frame.new.heap ≡ frame.old.heap }
-    ensures waits { IfErr result (λ fault. fault ≢ faults.Busy) }
-    ensures later { IsLater frame.old.seat.log frame.new.seat.log }
-    ensures caused { IfErr result (Caused frame.old frame.new) }
-    ensures follows { Follows frame.old frame.new registers.old registers.new (makes empty to) result }
-{
-    let made = new_empty(alloc, frame, empty)?;
-    hold(frame, registers, to, made);
-    Ok(())
 }

@@ -1,54 +1,24 @@
-//! Instructions that read objects and make an integer of what they find.
+//! What is read of integers: their numbers, and the sum of two.
 
 ghost use Rattle.std.specs.Prelude.{◌≡◌, ◌≢◌, ℕ, IfErr};
 ghost use Rattle.brc_words.specs.declared.fault.Fault.TheVariants as faults;
-ghost use Rattle.brc_script.specs.declared.instruction.Instruction.TheVariants as does;
 ghost use Rattle.brc_meaning.specs.declared.state.State.{State as state};
 ghost use Rattle.law_living.specs.Living.{OwnLog};
 ghost use Rattle.law_living.specs.Later.{IsLater};
 ghost use Rattle.brc_meaning.specs.Objects.{number_in};
-ghost use Rattle.law_isolation.specs.Asked.{read, summed, Follows};
+ghost use Rattle.law_isolation.specs.Asked.{read, summed};
 ghost use Rattle.law_isolation.specs.Means.{Means};
-ghost use Rattle.brc_instructions.specs.Causes.{Caused, WantsNoRoom};
+ghost use Rattle.brc_instructions.specs.Causes.{WantsNoRoom};
 ghost use Rattle.brc_instructions.specs.Registers.{Stands};
 
-use crate::making::int;
 use crate::registers::Registers;
 use brc_biased::Home;
 use brc_count::Frame;
-use brc_heap::{int_of, len_of};
+use brc_heap::int_of;
 use brc_script::Register;
 use brc_words::Fault;
 use std::alloc::Allocator;
 use std::sync::Wait;
-
-/// `len`: the number of entries, as a new integer.
-pub fn len<R: Wait, H: Home<A>, A: Allocator>(
-    rt: &R,
-    alloc: A,
-    frame: &mut Frame<H, A>,
-    registers: &mut Registers<A>,
-    to: Register,
-    container: Register,
-) -> Result<(), Fault>
-    requires stands { Stands frame.old registers.old }
-    ensures stands { Stands frame.new registers.new }
-    ensures heap { frame.new.heap ≡ frame.old.heap }
-    ensures waits { IfErr result (λ fault. fault ≢ faults.Busy) }
-    ensures later { IsLater frame.old.seat.log frame.new.seat.log }
-    ensures caused { IfErr result (Caused frame.old frame.new) }
-    ensures follows { Follows frame.old frame.new registers.old registers.new (does.Len to container) result }
-{
-    let Some(container) = registers.get(container) else {
-        return Err(Fault::NoSuchPlace);
-    };
-    let entries = len_of(rt, frame, container)?;
-    // A container has at most 1,048,576 entries: more than an i64 counts would be past all memory.
-    match i64::try_from(entries) {
-        Ok(entries) => int(alloc, frame, registers, to, entries),
-        Err(_past) => Err(Fault::OutOfMemory),
-    }
-}
 
 /// The number of the register's integer.
 fn number_of<R: Wait, H: Home<A>, A: Allocator>(
@@ -74,7 +44,7 @@ fn number_of<R: Wait, H: Home<A>, A: Allocator>(
 }
 
 /// The sum of the numbers of two integers; Overflow where it is past what an integer can be.
-fn sum<R: Wait, H: Home<A>, A: Allocator>(
+pub(crate) fn sum<R: Wait, H: Home<A>, A: Allocator>(
     rt: &R,
     frame: &mut Frame<H, A>,
     registers: &Registers<A>,
@@ -101,26 +71,4 @@ fn sum<R: Wait, H: Home<A>, A: Allocator>(
         Some(sum) => Ok(sum),
         None => Err(Fault::Overflow),
     }
-}
-
-/// `add`: the sum of two integers, as a new one.
-pub fn add<R: Wait, H: Home<A>, A: Allocator>(
-    rt: &R,
-    alloc: A,
-    frame: &mut Frame<H, A>,
-    registers: &mut Registers<A>,
-    to: Register,
-    first: Register,
-    second: Register,
-) -> Result<(), Fault>
-    requires stands { Stands frame.old registers.old }
-    ensures stands { Stands frame.new registers.new }
-    ensures heap { frame.new.heap ≡ frame.old.heap }
-    ensures waits { IfErr result (λ fault. fault ≢ faults.Busy) }
-    ensures later { IsLater frame.old.seat.log frame.new.seat.log }
-    ensures caused { IfErr result (Caused frame.old frame.new) }
-    ensures follows { Follows frame.old frame.new registers.old registers.new (does.Add to first second) result }
-{
-    let sum = sum(rt, frame, registers, first, second)?;
-    int(alloc, frame, registers, to, sum)
 }

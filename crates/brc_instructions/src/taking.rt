@@ -1,4 +1,4 @@
-//! Instructions by which a container takes a reference: the value's, out of its register.
+//! What a container takes: the reference of a value, out of its register.
 
 ghost use Rattle.std.specs.Prelude.{◌≡◌, ◌≢◌, ℕ, MatchOption, IfOk, IfErr};
 ghost use Rattle.brc_words.specs.declared.fault.Fault.TheVariants as faults;
@@ -6,13 +6,12 @@ ghost use Rattle.brc_meaning.specs.declared.state.State.{State as state};
 ghost use Rattle.brc_meaning.specs.declared.reference.Reference.{Reference as reference};
 ghost use Rattle.law_living.specs.Living.{OwnLog};
 ghost use Rattle.law_living.specs.Later.{IsLater};
-ghost use Rattle.law_isolation.specs.Asked.{PutsAsked, Follows};
+ghost use Rattle.law_isolation.specs.Asked.{PutsAsked};
 ghost use Rattle.law_isolation.specs.Means.{MeansBesides};
-ghost use Rattle.brc_instructions.specs.Calls.{taken_by, takes};
+ghost use Rattle.brc_instructions.specs.Calls.{taken_by};
 ghost use Rattle.brc_instructions.specs.Causes.{WantsNoRoom};
 ghost use Rattle.brc_instructions.specs.Registers.{Stands, Besides};
 
-use crate::holding::hold;
 use crate::making::copy_key;
 use crate::registers::Registers;
 use brc_biased::Home;
@@ -38,7 +37,7 @@ pub enum Taking<'k, A: Allocator> {
 
 /// The value, which is out of its register, goes by the call, and what was there comes out; or it is handed back.
 #[inline(always)]
-fn taken<R: Wait, H: Home<A>, A: Allocator + Copy>(
+pub(crate) fn taken<R: Wait, H: Home<A>, A: Allocator + Copy>(
     rt: &R,
     alloc: A,
     frame: &mut Frame<H, A>,
@@ -93,43 +92,6 @@ fn taken<R: Wait, H: Home<A>, A: Allocator + Copy>(
                     },
                 ) => Err(Handed { fault, back }),
             }
-        }
-    }
-}
-
-/// `push`, `set`, `send` and `put`: the container takes the value's reference, and the value's register has what was
-/// there, or is empty.
-#[inline(always)]
-pub fn take<R: Wait, H: Home<A>, A: Allocator + Copy>(
-    rt: &R,
-    alloc: A,
-    frame: &mut Frame<H, A>,
-    registers: &mut Registers<A>,
-    container: Register,
-    value: Register,
-    taking: &Taking<'_, A>,
-) -> Result<(), Fault>
-    requires stands { Stands frame.old registers.old }
-    ensures stands { Stands frame.new registers.new }
-    ensures heap { frame.new.heap ≡ frame.old.heap }
-    ensures waits { IfErr result (λ fault. fault ≢ faults.Busy) }
-    ensures later { IsLater frame.old.seat.log frame.new.seat.log }
-    ensures room { IfErr result WantsNoRoom }
-    ensures follows { container ≢ value → Follows frame.old frame.new registers.old registers.new
-        (takes taking.now container value) result }
-{
-    let Some(given) = registers.take(value) else {
-        return Err(Fault::NoSuchPlace);
-    };
-    match taken(rt, alloc, frame, registers, container, taking, given) {
-        Ok(None) => Ok(()),
-        Ok(Some(old)) => {
-            hold(frame, registers, value, old);
-            Ok(())
-        }
-        Err(handed) => {
-            hold(frame, registers, value, handed.back);
-            Err(handed.fault)
         }
     }
 }

@@ -1,8 +1,9 @@
 -- A try that found nothing leaves what frame and registers mean, and so do a poll and work after it.
-use Rattle.std.proofs.Common.{◌≡◌, ◌∙◌, ℕ, false, List, Option, Result, Err, inl, inr}
+use Rattle.std.proofs.Common.{◌≡◌, ◌∙◌, ℕ, false, List, Option, Result, Ok, Err, IfErr, inl, inr}
 use Rattle.std.proofs.Common.{refl, sym, ap, subst}
 use Rattle.brc_words.specs.declared.fault.Fault.{Fault}
 use Rattle.brc_words.specs.declared.fault.Fault.TheVariants as faults
+use Rattle.brc_words.specs.declared.key.Key.{Key}
 use Rattle.brc_script.specs.declared.instruction.Instruction.{Instruction}
 use Rattle.brc_table.specs.Seated.{TableSeen}
 use Rattle.brc_count.specs.Frames.{FrameSeen, HandleSeen, KeepsHandles, Turns}
@@ -17,7 +18,9 @@ use Rattle.brc_count.proofs.Quiet.{turns_quietly, polled_quietly}
 use Rattle.law_isolation.proofs.Dropping_References.{means_polled, means_worked}
 use Rattle.brc_section.specs.declared.waiting.Awaited.{Awaited}
 use Rattle.brc_section.specs.declared.waiting.Awaited.TheVariants as awaits
-use Rattle.brc_section.specs.Waiting.{FoundNothing}
+use Rattle.brc_instructions.specs.Causes.{Caused}
+use Rattle.brc_instructions.proofs.Causes_Of.{caused_from}
+use Rattle.brc_section.specs.Waiting.{FoundNothing, WantsForLetter}
 use Rattle.brc_section.specs.Tries.{StaysMeant}
 
 nothing_is_no_want : (tried : Result (Unit {0}) Fault) → FoundNothing tried
@@ -42,6 +45,14 @@ module _ {A : Type 0} where
   }
 
   -- a poll, and work
+  pub goes_on : (old frame polled new : FrameSeen A) (told turns : ℕ) → IsLater old.seat.log frame.seat.log
+      → Polled frame polled told → Turns polled turns new → IsLater old.seat.log new.seat.log
+  goes_on old frame polled new told turns later polls worked =
+      later_both old.seat.log frame.seat.log new.seat.log later
+      (later_both frame.seat.log polled.seat.log new.seat.log
+      (quietly_later frame.seat.log polled.seat.log (polled_quietly frame polled told polls))
+      (quietly_later polled.seat.log new.seat.log (turns_quietly polled turns new worked)))
+
   pub stays_on : (old frame polled new : FrameSeen A) (before registers : List (Option HandleSeen)) (told turns : ℕ)
       → StaysMeant old before frame registers → Polled frame polled told → KeepsHandles frame polled
       → Turns polled turns new → KeepsHandles polled new
@@ -95,6 +106,32 @@ module _ {A : Type 0} where
   abbrev letter_in : Awaited A → ℕ
   letter_in (awaits.Name key) = 0
   letter_in (awaits.Letter mailbox) = mailbox
+
+  -- a fault with its cause has it where a letter is awaited
+  pub for_letter : (awaited : Awaited A) (old new : FrameSeen A) (tried : Result (Unit {0}) Fault)
+      → IfErr tried (Caused old new) → IfErr tried (WantsForLetter awaited old new)
+  for_letter awaited old new (Ok done) why = tt
+  for_letter awaited old new (Err fault) why = λ mailbox is. why
+
+  -- who waits for a name waits for no letter
+  pub no_letter : (awaited : Awaited A) (key : Key A) (old new : FrameSeen A) (tried : Result (Unit {0}) Fault)
+      → awaited ≡ awaits.Name key → IfErr tried (WantsForLetter awaited old new)
+  no_letter awaited key old new (Ok done) name = tt
+  no_letter awaited key old new (Err fault) name = λ mailbox is.
+      absurd (let bad : awaits.Name key ≡ awaits.Letter mailbox = sym name ∙ is in cc)
+
+  pub letters_cause : (old new : FrameSeen A) (mailbox : ℕ) (tried : Result (Unit {0}) Fault)
+      → IfErr tried (WantsForLetter (awaits.Letter mailbox) old new) → IfErr tried (Caused old new)
+  letters_cause old new mailbox (Ok done) why = tt
+  letters_cause old new mailbox (Err fault) why = why mailbox refl
+
+  -- what went before the tries is no matter
+  pub letter_from : (awaited : Awaited A) (old mid new : FrameSeen A) (tried : Result (Unit {0}) Fault)
+      → mid.heap ≡ old.heap → IsLater old.seat.log mid.seat.log
+      → IfErr tried (WantsForLetter awaited mid new) → IfErr tried (WantsForLetter awaited old new)
+  letter_from awaited old mid new (Ok done) heap later why = tt
+  letter_from awaited old mid new (Err fault) heap later why =
+      λ mailbox is. caused_from old mid new fault heap later (why mailbox is)
 
   pub same_letter : (a b : ℕ) (awaited : Awaited A) → awaited ≡ awaits.Letter a → awaited ≡ awaits.Letter b → a ≡ b
   same_letter a b awaited one other = sym (ap letter_in one) ∙ ap letter_in other

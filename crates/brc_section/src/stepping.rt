@@ -1,22 +1,20 @@
 //! What one instruction does.
 
-ghost use Rattle.std.specs.Prelude.{◌≡◌, ◌≢◌, true, false, IfErr};
+ghost use Rattle.std.specs.Prelude.{◌≡◌, ◌≢◌, ⊤, true, false, IfErr};
 ghost use Rattle.brc_words.specs.declared.fault.Fault.TheVariants as faults;
-ghost use Rattle.brc_script.specs.declared.instruction.Instruction.TheVariants as does;
 ghost use Rattle.brc_script.specs.Instructions.{is_shared, registers_differ};
 ghost use Rattle.law_living.specs.Later.{IsLater};
-ghost use Rattle.law_isolation.specs.Asked.{Follows};
 ghost use Rattle.brc_instructions.specs.Causes.{Caused};
 ghost use Rattle.brc_instructions.specs.Registers.{Stands};
-ghost use Rattle.brc_section.specs.Stepping.{is_print, StepsAs};
+ghost use Rattle.brc_section.specs.Stepping.{FollowsOwn, StepsAs, WantsOfOwn};
 
 use crate::names::key_of;
-use crate::waiting::{Awaited, Seated, await_it};
+use crate::waiting::{Await, Awaited, Look, Seated};
 use brc_biased::Home;
 use brc_count::Frame;
 use brc_instructions::{
-    Empty, Giving, Registers, Shown, Taking, add, copy, drop_held, give, give_global, int, len,
-    make, print, share, take, text,
+    Add, CopyHeld, Does, DropHeld, Empty, Give, GiveGlobal, Giving, Len, MakeEmpty, MakeInt,
+    MakeText, Registers, Share, Shown, Take, Taking, print,
 };
 use brc_script::{Instruction, Register};
 use brc_words::{Fault, Key, Text};
@@ -31,49 +29,87 @@ enum Shared {
     Unshare { to: Register },
 }
 
-/// What it does under this name.
-fn step_under<R: Wait, H: Home<A>, A: Allocator + Copy>(
-    rt: &R,
-    alloc: A,
-    frame: &mut Frame<H, A>,
-    registers: &mut Registers<A>,
+/// It under this key.
+#[derive(Drop)]
+struct UnderKey<'i, 'b, A: Allocator> {
     shared: Shared,
-    name: &Key<A>,
-    seated: &Seated<'_, A>,
-) -> Result<(), Fault>
-    requires stands { Stands frame.old registers.old }
-    ensures stands { Stands frame.new registers.new }
-    ensures heap { frame.new.heap ≡ frame.old.heap }
-    ensures waits { IfErr result (λ fault. fault ≢ faults.Busy) }
-{
-    match shared {
-        Shared::Share { value } => share(rt, alloc, frame, registers, name, value),
-        Shared::Fetch { to } => { await_it(rt, frame, registers, to, &Awaited::Name(name), seated) }
-        Shared::Unshare { to } => give_global(rt, frame, registers, to, &Giving::Delete(name)),
+    key: &'i Key<A>,
+    seated: &'i Seated<'b, A>,
+}
+
+impl<'i, 'b, R: Wait, H: Home<A>, A: Allocator + Copy> Does<R, H, A> for UnderKey<'i, 'b, A> {
+    ghost follows = { λ _ _ _ _ _ _. ⊤ };
+
+    ghost why = { λ _ _ _ _. ⊤ };
+
+    fn act(
+        &self,
+        rt: &R,
+        alloc: A,
+        frame: &mut Frame<H, A>,
+        registers: &mut Registers<A>,
+    ) -> Result<(), Fault> {
+        match self.shared {
+            Shared::Share { value } => {
+                let name = self.key;
+                Share { name, value }.act(rt, alloc, frame, registers)
+            }
+            Shared::Fetch { to } => {
+                let awaited = Awaited::Name(self.key);
+                let wait = Await {
+                    look: Look { to, awaited },
+                    seated: self.seated,
+                };
+                wait.act(rt, alloc, frame, registers)
+            }
+            Shared::Unshare { to } => {
+                let giving = Giving::Delete(self.key);
+                GiveGlobal { to, giving }.act(rt, alloc, frame, registers)
+            }
+        }
     }
 }
 
-/// What it does, by the key that was made of its name; or, where none is there, by one that is made now.
-fn step_shared<R: Wait, H: Home<A>, A: Allocator + Copy>(
-    rt: &R,
-    alloc: A,
-    frame: &mut Frame<H, A>,
-    registers: &mut Registers<A>,
+/// It under this name: by the key that was made of it, or, where none is there, by one that is made now.
+#[derive(Drop)]
+struct UnderName<'i, 'b, A: Allocator> {
     shared: Shared,
-    name: &Text<A>,
-    key: Option<&Key<A>>,
-    seated: &Seated<'_, A>,
-) -> Result<(), Fault>
-    requires stands { Stands frame.old registers.old }
-    ensures stands { Stands frame.new registers.new }
-    ensures heap { frame.new.heap ≡ frame.old.heap }
-    ensures waits { IfErr result (λ fault. fault ≢ faults.Busy) }
-{
-    match key {
-        Some(key) => step_under(rt, alloc, frame, registers, shared, key, seated),
-        None => {
-            let key = key_of(alloc, name)?;
-            step_under(rt, alloc, frame, registers, shared, &key, seated)
+    name: &'i Text<A>,
+    key: Option<&'i Key<A>>,
+    seated: &'i Seated<'b, A>,
+}
+
+impl<'i, 'b, R: Wait, H: Home<A>, A: Allocator + Copy> Does<R, H, A> for UnderName<'i, 'b, A> {
+    ghost follows = { λ _ _ _ _ _ _. ⊤ };
+
+    ghost why = { λ _ _ _ _. ⊤ };
+
+    fn act(
+        &self,
+        rt: &R,
+        alloc: A,
+        frame: &mut Frame<H, A>,
+        registers: &mut Registers<A>,
+    ) -> Result<(), Fault> {
+        let (shared, seated) = (self.shared, self.seated);
+        match self.key {
+            Some(key) => {
+                let step = UnderKey {
+                    shared,
+                    key,
+                    seated,
+                };
+                step.act(rt, alloc, frame, registers)
+            }
+            None => {
+                let key = key_of(alloc, self.name)?;
+                let step = UnderKey {
+                    shared,
+                    key: &key,
+                    seated,
+                };
+                step.act(rt, alloc, frame, registers)
+            }
         }
     }
 }
@@ -93,137 +129,182 @@ fn stirs<R: Wait, A: Allocator>(
     done
 }
 
-/// `int`, with the number that the line has.
-#[inline(always)]
-fn int_of_line<H: Home<A>, A: Allocator>(
-    alloc: A,
-    frame: &mut Frame<H, A>,
-    registers: &mut Registers<A>,
-    to: Register,
-    number: &i64,
-) -> Result<(), Fault>
-    requires stands { Stands frame.old registers.old }
-    ensures stands { Stands frame.new registers.new }
-    ensures heap { frame.new.heap ≡ frame.old.heap }
-    ensures waits { IfErr result (λ fault. fault ≢ faults.Busy) }
-    ensures later { IsLater frame.old.seat.log frame.new.seat.log }
-    ensures caused { IfErr result (Caused frame.old frame.new) }
-    ensures follows { Follows frame.old frame.new registers.old registers.new (does.Int to number.now) result }
-{
-    let number = *number;
-    int(alloc, frame, registers, to, number)
+/// What the instruction of a line says, where it is none that prints.
+#[derive(Drop)]
+struct Silent<'i, 'b, A: Allocator> {
+    instruction: &'i Instruction<A>,
+    key: Option<&'i Key<A>>,
+    seated: &'i Seated<'b, A>,
 }
 
-/// Does what the instruction says, where it is none that prints.
-#[inline(always)]
-fn step_silent<R: Wait, H: Home<A>, A: Allocator + Copy>(
-    rt: &R,
-    alloc: A,
-    frame: &mut Frame<H, A>,
-    registers: &mut Registers<A>,
-    instruction: &Instruction<A>,
-    key: Option<&Key<A>>,
-    seated: &Seated<'_, A>,
-) -> Result<(), Fault>
-    requires stands { Stands frame.old registers.old }
-    ensures stands { Stands frame.new registers.new }
-    ensures heap { frame.new.heap ≡ frame.old.heap }
-    ensures waits { IfErr result (λ fault. fault ≢ faults.Busy) }
-    ensures later { is_shared instruction.now ≡ false → IsLater frame.old.seat.log frame.new.seat.log }
-    ensures caused { is_shared instruction.now ≡ false → IfErr result (Caused frame.old frame.new) }
-    ensures follows { is_shared instruction.now ≡ false → registers_differ instruction.now ≡ true
-        → is_print instruction.now ≡ false →
-        Follows frame.old frame.new registers.old registers.new instruction.now result }
-{
-    match instruction {
-        Instruction::Int { to, number } => int_of_line(alloc, frame, registers, *to, number),
-        Instruction::Text { to, text: bytes } => text(alloc, frame, registers, *to, bytes),
-        Instruction::List { to } => make(alloc, frame, registers, *to, Empty::List),
-        Instruction::Dict { to } => make(alloc, frame, registers, *to, Empty::Dict),
-        Instruction::Mailbox { to } => make(alloc, frame, registers, *to, Empty::Mailbox),
+impl<'i, 'b, R: Wait, H: Home<A>, A: Allocator + Copy> Does<R, H, A> for Silent<'i, 'b, A> {
+    ghost follows = { λ it. FollowsOwn it.instruction.now };
 
-        Instruction::Copy { to, from } => copy(frame, registers, *to, *from),
-        Instruction::Drop { from } => drop_held(frame, registers, *from),
+    ghost why = { λ it. WantsOfOwn it.instruction.now };
 
-        Instruction::Push { list, value } => {
-            let done = take(rt, alloc, frame, registers, *list, *value, &Taking::Push);
-            stirs(rt, done, seated)
-        }
-        Instruction::Pop { to, list } => {
-            let done = give(rt, frame, registers, *to, *list, &Giving::Pop);
-            stirs(rt, done, seated)
-        }
-        Instruction::Get { to, list, index } => {
-            give(rt, frame, registers, *to, *list, &Giving::Get(*index))
-        }
-        Instruction::Set { list, index, value } => {
-            let done = take(
-                rt,
-                alloc,
-                frame,
-                registers,
-                *list,
-                *value,
-                &Taking::Set(*index),
-            );
-            stirs(rt, done, seated)
-        }
-        Instruction::Len { to, container } => len(rt, alloc, frame, registers, *to, *container),
+    #[inline(always)]
+    fn act(
+        &self,
+        rt: &R,
+        alloc: A,
+        frame: &mut Frame<H, A>,
+        registers: &mut Registers<A>,
+    ) -> Result<(), Fault> {
+        let (key, seated) = (self.key, self.seated);
+        match self.instruction {
+            Instruction::Int { to, number } => {
+                let (to, number) = (*to, *number);
+                MakeInt { to, number }.act(rt, alloc, frame, registers)
+            }
+            Instruction::Text { to, text } => {
+                let to = *to;
+                MakeText { to, text }.act(rt, alloc, frame, registers)
+            }
+            Instruction::List { to } => {
+                let (to, empty) = (*to, Empty::List);
+                MakeEmpty { to, empty }.act(rt, alloc, frame, registers)
+            }
+            Instruction::Dict { to } => {
+                let (to, empty) = (*to, Empty::Dict);
+                MakeEmpty { to, empty }.act(rt, alloc, frame, registers)
+            }
+            Instruction::Mailbox { to } => {
+                let (to, empty) = (*to, Empty::Mailbox);
+                MakeEmpty { to, empty }.act(rt, alloc, frame, registers)
+            }
 
-        Instruction::Put { dict, key, value } => {
-            let done = take(
-                rt,
-                alloc,
-                frame,
-                registers,
-                *dict,
-                *value,
-                &Taking::Put(key),
-            );
-            stirs(rt, done, seated)
-        }
-        Instruction::Find { to, dict, key } => {
-            give(rt, frame, registers, *to, *dict, &Giving::Find(key))
-        }
-        Instruction::Delete { to, dict, key } => {
-            let done = give(rt, frame, registers, *to, *dict, &Giving::Delete(key));
-            stirs(rt, done, seated)
-        }
+            Instruction::Copy { to, from } => {
+                let (to, from) = (*to, *from);
+                CopyHeld { to, from }.act(rt, alloc, frame, registers)
+            }
+            Instruction::Drop { from } => {
+                let from = *from;
+                DropHeld { from }.act(rt, alloc, frame, registers)
+            }
 
-        Instruction::Share { name, value } => {
-            let shared = Shared::Share { value: *value };
-            let done = step_shared(rt, alloc, frame, registers, shared, name, key, seated);
-            stirs(rt, done, seated)
-        }
-        Instruction::Fetch { to, name } => {
-            let shared = Shared::Fetch { to: *to };
-            step_shared(rt, alloc, frame, registers, shared, name, key, seated)
-        }
-        Instruction::Unshare { to, name } => {
-            let shared = Shared::Unshare { to: *to };
-            let done = step_shared(rt, alloc, frame, registers, shared, name, key, seated);
-            stirs(rt, done, seated)
-        }
+            Instruction::Push { list, value } => {
+                let take = Take {
+                    container: *list,
+                    value: *value,
+                    taking: Taking::Push,
+                };
+                let done = take.act(rt, alloc, frame, registers);
+                stirs(rt, done, seated)
+            }
+            Instruction::Pop { to, list } => {
+                let give = Give {
+                    to: *to,
+                    container: *list,
+                    giving: Giving::Pop,
+                };
+                let done = give.act(rt, alloc, frame, registers);
+                stirs(rt, done, seated)
+            }
+            Instruction::Get { to, list, index } => {
+                let give = Give {
+                    to: *to,
+                    container: *list,
+                    giving: Giving::Get(*index),
+                };
+                give.act(rt, alloc, frame, registers)
+            }
+            Instruction::Set { list, index, value } => {
+                let take = Take {
+                    container: *list,
+                    value: *value,
+                    taking: Taking::Set(*index),
+                };
+                let done = take.act(rt, alloc, frame, registers);
+                stirs(rt, done, seated)
+            }
+            Instruction::Len { to, container } => {
+                let (to, container) = (*to, *container);
+                Len { to, container }.act(rt, alloc, frame, registers)
+            }
 
-        Instruction::Send { mailbox, value } => {
-            let done = take(rt, alloc, frame, registers, *mailbox, *value, &Taking::Send);
-            stirs(rt, done, seated)
-        }
-        Instruction::Receive { to, mailbox } => {
-            await_it(
-                rt,
-                frame,
-                registers,
-                *to,
-                &Awaited::Letter(*mailbox),
-                seated,
-            )
-        }
+            Instruction::Put { dict, key, value } => {
+                let take = Take {
+                    container: *dict,
+                    value: *value,
+                    taking: Taking::Put(key),
+                };
+                let done = take.act(rt, alloc, frame, registers);
+                stirs(rt, done, seated)
+            }
+            Instruction::Find { to, dict, key } => {
+                let give = Give {
+                    to: *to,
+                    container: *dict,
+                    giving: Giving::Find(key),
+                };
+                give.act(rt, alloc, frame, registers)
+            }
+            Instruction::Delete { to, dict, key } => {
+                let give = Give {
+                    to: *to,
+                    container: *dict,
+                    giving: Giving::Delete(key),
+                };
+                let done = give.act(rt, alloc, frame, registers);
+                stirs(rt, done, seated)
+            }
 
-        Instruction::Add { to, first, second } => {
-            add(rt, alloc, frame, registers, *to, *first, *second)
+            Instruction::Share { name, value } => {
+                let shared = Shared::Share { value: *value };
+                let step = UnderName {
+                    shared,
+                    name,
+                    key,
+                    seated,
+                };
+                let done = step.act(rt, alloc, frame, registers);
+                stirs(rt, done, seated)
+            }
+            Instruction::Fetch { to, name } => {
+                let shared = Shared::Fetch { to: *to };
+                let step = UnderName {
+                    shared,
+                    name,
+                    key,
+                    seated,
+                };
+                step.act(rt, alloc, frame, registers)
+            }
+            Instruction::Unshare { to, name } => {
+                let shared = Shared::Unshare { to: *to };
+                let step = UnderName {
+                    shared,
+                    name,
+                    key,
+                    seated,
+                };
+                let done = step.act(rt, alloc, frame, registers);
+                stirs(rt, done, seated)
+            }
+
+            Instruction::Send { mailbox, value } => {
+                let take = Take {
+                    container: *mailbox,
+                    value: *value,
+                    taking: Taking::Send,
+                };
+                let done = take.act(rt, alloc, frame, registers);
+                stirs(rt, done, seated)
+            }
+            Instruction::Receive { to, mailbox } => {
+                let look = Look {
+                    to: *to,
+                    awaited: Awaited::Letter(*mailbox),
+                };
+                Await { look, seated }.act(rt, alloc, frame, registers)
+            }
+
+            Instruction::Add { to, first, second } => {
+                let (to, first, second) = (*to, *first, *second);
+                Add { to, first, second }.act(rt, alloc, frame, registers)
+            }
+            Instruction::Print { .. } => Ok(()),
         }
-        Instruction::Print { .. } => Ok(()),
     }
 }
 
@@ -242,7 +323,7 @@ pub(crate) fn step<R: Wait, H: Home<A>, A: Allocator + Copy>(
     ensures stands { Stands frame.new registers.new }
     ensures heap { frame.new.heap ≡ frame.old.heap }
     ensures waits { IfErr result (λ fault. fault ≢ faults.Busy) }
-    ensures later { is_shared instruction.now ≡ false → IsLater frame.old.seat.log frame.new.seat.log }
+    ensures later { IsLater frame.old.seat.log frame.new.seat.log }
     ensures caused { is_shared instruction.now ≡ false → IfErr result (Caused frame.old frame.new) }
     ensures follows { is_shared instruction.now ≡ false → registers_differ instruction.now ≡ true →
         StepsAs frame.old frame.new registers.old registers.new instruction.now result }
@@ -253,7 +334,12 @@ pub(crate) fn step<R: Wait, H: Home<A>, A: Allocator + Copy>(
             Err(fault) => Err(fault),
         };
     }
-    match step_silent(rt, alloc, frame, registers, instruction, key, seated) {
+    let silent = Silent {
+        instruction,
+        key,
+        seated,
+    };
+    match silent.act(rt, alloc, frame, registers) {
         Ok(()) => Ok(None),
         Err(fault) => Err(fault),
     }

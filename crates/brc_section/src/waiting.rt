@@ -1,19 +1,12 @@
 //! `fetch` and `recv`, which wait where what they look for isn't there.
 
-ghost use Rattle.std.specs.Prelude.{◌≡◌, ◌≢◌, ℕ, IsTrue, IfErr};
-ghost use Rattle.brc_words.specs.declared.fault.Fault.TheVariants as faults;
-ghost use Rattle.brc_script.specs.declared.instruction.Instruction.TheVariants as does;
-ghost use Rattle.law_living.specs.Later.{IsLater};
-ghost use Rattle.law_isolation.specs.Asked.{Follows};
-ghost use Rattle.brc_instructions.specs.Causes.{Caused};
-ghost use Rattle.brc_instructions.specs.Registers.{Stands};
-ghost use Rattle.brc_section.specs.declared.waiting.Awaited.TheVariants as awaits;
-ghost use Rattle.brc_section.specs.Waiting.{FoundNothing};
+ghost use Rattle.std.specs.Prelude.{IsTrue};
+ghost use Rattle.brc_section.specs.Waiting.{FollowsLetter, FoundNothing, WantsForLetter};
 
 use crate::board::Board;
 use brc_biased::Home;
 use brc_count::Frame;
-use brc_instructions::{Giving, Registers, give, give_global};
+use brc_instructions::{Does, Give, GiveGlobal, Giving, Registers};
 use brc_script::Register;
 use brc_words::{Fault, Key};
 use std::alloc::Allocator;
@@ -35,26 +28,41 @@ pub(crate) enum Awaited<'k, A: Allocator> {
 }
 
 /// One try.
-fn look<R: Wait, H: Home<A>, A: Allocator>(
-    rt: &R,
-    frame: &mut Frame<H, A>,
-    registers: &mut Registers<A>,
-    to: Register,
-    awaited: &Awaited<'_, A>,
-) -> Result<(), Fault>
-    requires stands { Stands frame.old registers.old }
-    ensures stands { Stands frame.new registers.new }
-    ensures heap { frame.new.heap ≡ frame.old.heap }
-    ensures waits { IfErr result (λ fault. fault ≢ faults.Busy) }
-    ensures later { (mailbox : ℕ) → awaited.now ≡ awaits.Letter mailbox
-        → IsLater frame.old.seat.log frame.new.seat.log }
-    ensures caused { (mailbox : ℕ) → awaited.now ≡ awaits.Letter mailbox → IfErr result (Caused frame.old frame.new) }
-    ensures follows { (mailbox : ℕ) → awaited.now ≡ awaits.Letter mailbox →
-        Follows frame.old frame.new registers.old registers.new (does.Receive to mailbox) result }
-{
-    match awaited {
-        Awaited::Name(name) => give_global(rt, frame, registers, to, &Giving::Find(*name)),
-        Awaited::Letter(mailbox) => { give(rt, frame, registers, to, *mailbox, &Giving::Receive) }
+#[derive(Drop)]
+pub(crate) struct Look<'k, A: Allocator> {
+    pub(crate) to: Register,
+    pub(crate) awaited: Awaited<'k, A>,
+}
+
+impl<'k, R: Wait, H: Home<A>, A: Allocator + Copy> Does<R, H, A> for Look<'k, A> {
+    ghost follows = { λ it. FollowsLetter it.awaited it.to };
+
+    ghost why = { λ it. WantsForLetter it.awaited };
+
+    fn act(
+        &self,
+        rt: &R,
+        alloc: A,
+        frame: &mut Frame<H, A>,
+        registers: &mut Registers<A>,
+    ) -> Result<(), Fault> {
+        match &self.awaited {
+            Awaited::Name(name) => {
+                let give = GiveGlobal {
+                    to: self.to,
+                    giving: Giving::Find(*name),
+                };
+                give.act(rt, alloc, frame, registers)
+            }
+            Awaited::Letter(mailbox) => {
+                let give = Give {
+                    to: self.to,
+                    container: *mailbox,
+                    giving: Giving::Receive,
+                };
+                give.act(rt, alloc, frame, registers)
+            }
+        }
     }
 }
 
@@ -67,69 +75,77 @@ fn is_nothing(tried: &Result<(), Fault>) -> bool
 
 /// One try after another, each after a poll and work: what others dropped meanwhile is this thread's to free, and a
 /// section that waited without it would keep every cell of theirs.
-fn look_again<R: Wait, H: Home<A>, A: Allocator>(
-    rt: &R,
-    frame: &mut Frame<H, A>,
-    registers: &mut Registers<A>,
-    to: Register,
-    awaited: &Awaited<'_, A>,
-    seated: &Seated<'_, A>,
-) -> Result<(), Fault>
-    requires stands { Stands frame.old registers.old }
-    ensures stands { Stands frame.new registers.new }
-    ensures heap { frame.new.heap ≡ frame.old.heap }
-    ensures waits { IfErr result (λ fault. fault ≢ faults.Busy) }
-    ensures later { (mailbox : ℕ) → awaited.now ≡ awaits.Letter mailbox
-        → IsLater frame.old.seat.log frame.new.seat.log }
-    ensures caused { (mailbox : ℕ) → awaited.now ≡ awaits.Letter mailbox → IfErr result (Caused frame.old frame.new) }
-    ensures follows { (mailbox : ℕ) → awaited.now ≡ awaits.Letter mailbox →
-        Follows frame.old frame.new registers.old registers.new (does.Receive to mailbox) result }
-{
-    for _ in rt.forever() {
-        let _told = frame.poll();
-        let _left = frame.work(seated.budget);
-        seated.board.looks(rt, seated.number);
-        let tried = look(rt, frame, registers, to, awaited);
-        if !is_nothing(&tried) {
-            seated.board.found();
-            return tried;
+#[derive(Drop)]
+struct LookAgain<'w, 'k, 'b, A: Allocator> {
+    look: &'w Look<'k, A>,
+    seated: &'w Seated<'b, A>,
+}
+
+impl<'w, 'k, 'b, R: Wait, H: Home<A>, A: Allocator + Copy> Does<R, H, A>
+    for LookAgain<'w, 'k, 'b, A> {
+    ghost follows = { λ it. FollowsLetter it.look.now.awaited it.look.now.to };
+
+    ghost why = { λ it. WantsForLetter it.look.now.awaited };
+
+    fn act(
+        &self,
+        rt: &R,
+        alloc: A,
+        frame: &mut Frame<H, A>,
+        registers: &mut Registers<A>,
+    ) -> Result<(), Fault> {
+        let seated = self.seated;
+        for _ in rt.forever() {
+            let _told = frame.poll();
+            let _left = frame.work(seated.budget);
+            seated.board.looks(rt, seated.number);
+            let tried = self.look.act(rt, alloc, frame, registers);
+            if !is_nothing(&tried) {
+                seated.board.found();
+                return tried;
+            }
+            if !seated.board.waits(rt, seated.number) {
+                return tried;
+            }
         }
-        if !seated.board.waits(rt, seated.number) {
-            return tried;
-        }
+        unreachable!()
     }
-    unreachable!()
 }
 
 /// Where it isn't there, the section waits. One that finds it at once has nothing to do with the board.
-#[inline(always)]
-pub(crate) fn await_it<R: Wait, H: Home<A>, A: Allocator>(
-    rt: &R,
-    frame: &mut Frame<H, A>,
-    registers: &mut Registers<A>,
-    to: Register,
-    awaited: &Awaited<'_, A>,
-    seated: &Seated<'_, A>,
-) -> Result<(), Fault>
-    requires stands { Stands frame.old registers.old }
-    ensures stands { Stands frame.new registers.new }
-    ensures heap { frame.new.heap ≡ frame.old.heap }
-    ensures waits { IfErr result (λ fault. fault ≢ faults.Busy) }
-    ensures later { (mailbox : ℕ) → awaited.now ≡ awaits.Letter mailbox
-        → IsLater frame.old.seat.log frame.new.seat.log }
-    ensures caused { (mailbox : ℕ) → awaited.now ≡ awaits.Letter mailbox → IfErr result (Caused frame.old frame.new) }
-    ensures follows { (mailbox : ℕ) → awaited.now ≡ awaits.Letter mailbox →
-        Follows frame.old frame.new registers.old registers.new (does.Receive to mailbox) result }
-{
-    // An empty register is no mailbox without letters: nobody can change that.
-    if let Awaited::Letter(mailbox) = awaited {
-        if registers.get(*mailbox).is_none() {
-            return Err(Fault::NoSuchPlace);
+#[derive(Drop)]
+pub(crate) struct Await<'w, 'k, 'b, A: Allocator> {
+    pub(crate) look: Look<'k, A>,
+    pub(crate) seated: &'w Seated<'b, A>,
+}
+
+impl<'w, 'k, 'b, R: Wait, H: Home<A>, A: Allocator + Copy> Does<R, H, A> for Await<'w, 'k, 'b, A> {
+    ghost follows = { λ it. FollowsLetter it.look.awaited it.look.to };
+
+    ghost why = { λ it. WantsForLetter it.look.awaited };
+
+    #[inline(always)]
+    fn act(
+        &self,
+        rt: &R,
+        alloc: A,
+        frame: &mut Frame<H, A>,
+        registers: &mut Registers<A>,
+    ) -> Result<(), Fault> {
+        // An empty register is no mailbox without letters: nobody can change that.
+        if let Awaited::Letter(mailbox) = &self.look.awaited {
+            if registers.get(*mailbox).is_none() {
+                return Err(Fault::NoSuchPlace);
+            }
         }
+        let tried = self.look.act(rt, alloc, frame, registers);
+        if !is_nothing(&tried) {
+            return tried;
+        }
+        let again = LookAgain {
+            look: &self.look,
+            seated: self.seated,
+        };
+        again.act(rt, alloc, frame, registers)
     }
-    let tried = look(rt, frame, registers, to, awaited);
-    if !is_nothing(&tried) {
-        return tried;
-    }
-    look_again(rt, frame, registers, to, awaited, seated)
 }

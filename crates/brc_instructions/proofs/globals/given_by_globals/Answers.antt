@@ -1,0 +1,22 @@
+use Rattle.law_living.proofs.Earlier.{later_both}
+use Rattle.law_isolation.proofs.Later_Calls.{later_given}
+use Rattle.brc_count.proofs.Quiet.{let_go_quietly}
+use Rattle.brc_instructions.proofs.Follows_Of.{later_as_before, later_held}
+use Rattle.brc_instructions.proofs.Gained.{owns_after}
+use Rattle.brc_instructions.proofs.globals.given_by_globals.Goals as goal
+
+pub returns-in_err-globals-clause-later : goal.returns-in_err-globals-clause-later
+returns-in_err-globals-clause-later g c =
+    later_as_before c.args.frame.now c.immortal.new.self c.in_err-globals.ensures.unchanged
+
+pub returns-clause-later : goal.returns-clause-later
+returns-clause-later g c =
+    let had = c.immortal.new.self in
+    let asked = c.given-found.new.frame in
+    later_both c.args.frame.now.seat.log had.seat.log c.release.new.self.seat.log
+    (later_given c.in_ok-globals.ensures.given)
+    (later_held had asked c.release.new.self c.given-found.ensures.later
+    (let_go_quietly asked c.release.new.self c.in_ok-globals.globals
+    (owns_after had asked c.in_ok-globals.globals c.given-found.result c.given-found.ensures.gains
+    c.given-found.ensures.keeps c.in_ok-globals.ensures.gains.owned)
+    c.release.ensures.released))

@@ -1,0 +1,29 @@
+use Rattle.std.proofs.Common.{subst, ℕ, List}
+use Rattle.law_rule.specs.declared.contents.Contents.TheVariants as contents
+use Rattle.brc_count.specs.Making.{Made}
+use Rattle.law_isolation.proofs.Later_Calls.{later_made}
+use Rattle.brc_instructions.proofs.Follows_Of.{later_held, makes_text}
+use Rattle.std.proofs.lemmas.Result.{err_from_is_err_and}
+use Rattle.brc_instructions.proofs.Causes_Of.{caused_making, uncaused_memory}
+use Rattle.brc_instructions.proofs.instructions.MakeTextDoes.act.Goals as goal
+
+pub returns-in-Ok-clause-later : goal.returns-in-Ok-clause-later
+returns-in-Ok-clause-later g c = later_held c.args.frame.now c.new_text.new.frame c.hold.new.frame
+    (later_made c.in-Ok.ensures.made) c.hold.ensures.quiet
+
+pub returns-in-Ok-clause-follows : goal.returns-in-Ok-clause-follows
+returns-in-Ok-clause-follows g c base s own means =
+    let it = c.args.self.now in
+    makes_text base c.args.frame.now c.new_text.new.frame c.hold.new.frame c.args.registers.now c.hold.new.registers s
+    it.to c.in-Ok.made
+    means c.new_text.ensures.heap c.hold.ensures.heap c.hold.ensures.quiet own c.hold.ensures.means it.text.now
+    (subst (λ (bytes : List ℕ). Made c.args.frame.now c.new_text.new.frame (contents.Text bytes) c.in-Ok.made)
+    c.in_ok-copy.ensures.copied c.in-Ok.ensures.made)
+
+pub returns-in_err-copy-clause-why : goal.returns-in_err-copy-clause-why
+returns-in_err-copy-clause-why g c =
+    let answer = err_from_is_err_and c.from_residual.result c.from_residual.ensures.1 in
+    rw (answer.1, answer.2) (uncaused_memory c.args.frame.now c.args.frame.now _ c.in_err-copy.ensures.refused)
+
+pub returns-in-Err-clause-why : goal.returns-in-Err-clause-why
+returns-in-Err-clause-why g c = caused_making c.args.frame.now c.new_text.new.frame _ c.in-Err.ensures.refused
