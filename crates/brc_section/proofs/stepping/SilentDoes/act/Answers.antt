@@ -154,7 +154,8 @@ returns-in-Push-clause-follows g c own differ silent =
     let did = c.act-done in
     let line = c.args.self.now.instruction.now in
     let is = does.Push c.in-Push.list c.in-Push.value in
-    led c.args.frame.now did.new.frame c.args.registers.now did.new.registers line is did.result c.stirs.result c.in-Push.is c.stirs.ensures (did.ensures.follows
+    led c.args.frame.now did.new.frame c.args.registers.now did.new.registers line is did.result c.stirs.result
+    c.in-Push.is c.stirs.ensures (did.ensures.follows
     (two_apart line is c.in-Push.list c.in-Push.value c.in-Push.is refl differ))
 
 pub returns-in-Push-clause-why : goal.returns-in-Push-clause-why
@@ -168,13 +169,15 @@ returns-in-Set-clause-follows g c own differ silent =
     let did = c.act-done-in-Set in
     let line = c.args.self.now.instruction.now in
     let is = does.Set c.in-Set.list c.in-Set.index c.in-Set.value in
-    led c.args.frame.now did.new.frame c.args.registers.now did.new.registers line is did.result c.stirs-in-Set.result c.in-Set.is c.stirs-in-Set.ensures (did.ensures.follows
+    led c.args.frame.now did.new.frame c.args.registers.now did.new.registers line is did.result
+    c.stirs-in-Set.result c.in-Set.is c.stirs-in-Set.ensures (did.ensures.follows
     (two_apart line is c.in-Set.list c.in-Set.value c.in-Set.is refl differ))
 
 pub returns-in-Set-clause-why : goal.returns-in-Set-clause-why
 returns-in-Set-clause-why g c =
     let did = c.act-done-in-Set in
-    of_own c.args.self.now.instruction.now c.args.frame.now did.new.frame did.result c.stirs-in-Set.result c.stirs-in-Set.ensures
+    of_own c.args.self.now.instruction.now c.args.frame.now did.new.frame did.result c.stirs-in-Set.result
+    c.stirs-in-Set.ensures
     (uncaused_in c.args.frame.now did.new.frame did.result did.ensures.why)
 
 pub returns-in-Put-clause-follows : goal.returns-in-Put-clause-follows
@@ -182,13 +185,15 @@ returns-in-Put-clause-follows g c own differ silent =
     let did = c.act-done-in-Put in
     let line = c.args.self.now.instruction.now in
     let is = does.Put c.in-Put.dict c.in-Put.key c.in-Put.value in
-    led c.args.frame.now did.new.frame c.args.registers.now did.new.registers line is did.result c.stirs-in-Put.result c.in-Put.is c.stirs-in-Put.ensures (did.ensures.follows
+    led c.args.frame.now did.new.frame c.args.registers.now did.new.registers line is did.result
+    c.stirs-in-Put.result c.in-Put.is c.stirs-in-Put.ensures (did.ensures.follows
     (two_apart line is c.in-Put.dict c.in-Put.value c.in-Put.is refl differ))
 
 pub returns-in-Put-clause-why : goal.returns-in-Put-clause-why
 returns-in-Put-clause-why g c =
     let did = c.act-done-in-Put in
-    of_own c.args.self.now.instruction.now c.args.frame.now did.new.frame did.result c.stirs-in-Put.result c.stirs-in-Put.ensures
+    of_own c.args.self.now.instruction.now c.args.frame.now did.new.frame did.result c.stirs-in-Put.result
+    c.stirs-in-Put.ensures
     (uncaused_in c.args.frame.now did.new.frame did.result did.ensures.why)
 
 pub returns-in-Send-clause-follows : goal.returns-in-Send-clause-follows
@@ -196,13 +201,15 @@ returns-in-Send-clause-follows g c own differ silent =
     let did = c.act-done-in-Send in
     let line = c.args.self.now.instruction.now in
     let is = does.Send c.in-Send.mailbox c.in-Send.value in
-    led c.args.frame.now did.new.frame c.args.registers.now did.new.registers line is did.result c.stirs-in-Send.result c.in-Send.is c.stirs-in-Send.ensures (did.ensures.follows
+    led c.args.frame.now did.new.frame c.args.registers.now did.new.registers line is did.result
+    c.stirs-in-Send.result c.in-Send.is c.stirs-in-Send.ensures (did.ensures.follows
     (two_apart line is c.in-Send.mailbox c.in-Send.value c.in-Send.is refl differ))
 
 pub returns-in-Send-clause-why : goal.returns-in-Send-clause-why
 returns-in-Send-clause-why g c =
     let did = c.act-done-in-Send in
-    of_own c.args.self.now.instruction.now c.args.frame.now did.new.frame did.result c.stirs-in-Send.result c.stirs-in-Send.ensures
+    of_own c.args.self.now.instruction.now c.args.frame.now did.new.frame did.result c.stirs-in-Send.result
+    c.stirs-in-Send.ensures
     (uncaused_in c.args.frame.now did.new.frame did.result did.ensures.why)
 
 pub returns-in-Pop-clause-follows : goal.returns-in-Pop-clause-follows
@@ -210,12 +217,14 @@ returns-in-Pop-clause-follows g c own differ silent =
     let did = c.act-done-in-Pop in
     let line = c.args.self.now.instruction.now in
     led c.args.frame.now did.new.frame c.args.registers.now did.new.registers line
-    (does.Pop c.in-Pop.to c.in-Pop.list) did.result c.stirs-in-Pop.result c.in-Pop.is c.stirs-in-Pop.ensures did.ensures.follows
+    (does.Pop c.in-Pop.to c.in-Pop.list) did.result c.stirs-in-Pop.result c.in-Pop.is c.stirs-in-Pop.ensures
+    did.ensures.follows
 
 pub returns-in-Pop-clause-why : goal.returns-in-Pop-clause-why
 returns-in-Pop-clause-why g c =
     let did = c.act-done-in-Pop in
-    of_own c.args.self.now.instruction.now c.args.frame.now did.new.frame did.result c.stirs-in-Pop.result c.stirs-in-Pop.ensures
+    of_own c.args.self.now.instruction.now c.args.frame.now did.new.frame did.result c.stirs-in-Pop.result
+    c.stirs-in-Pop.ensures
     did.ensures.why
 
 pub returns-in-Delete-clause-follows : goal.returns-in-Delete-clause-follows
@@ -223,12 +232,14 @@ returns-in-Delete-clause-follows g c own differ silent =
     let did = c.act-done-in-Delete in
     let line = c.args.self.now.instruction.now in
     led c.args.frame.now did.new.frame c.args.registers.now did.new.registers line
-    (does.Delete c.in-Delete.to c.in-Delete.dict c.in-Delete.key) did.result c.stirs-in-Delete.result c.in-Delete.is c.stirs-in-Delete.ensures did.ensures.follows
+    (does.Delete c.in-Delete.to c.in-Delete.dict c.in-Delete.key) did.result c.stirs-in-Delete.result c.in-Delete.is
+    c.stirs-in-Delete.ensures did.ensures.follows
 
 pub returns-in-Delete-clause-why : goal.returns-in-Delete-clause-why
 returns-in-Delete-clause-why g c =
     let did = c.act-done-in-Delete in
-    of_own c.args.self.now.instruction.now c.args.frame.now did.new.frame did.result c.stirs-in-Delete.result c.stirs-in-Delete.ensures
+    of_own c.args.self.now.instruction.now c.args.frame.now did.new.frame did.result c.stirs-in-Delete.result
+    c.stirs-in-Delete.ensures
     did.ensures.why
 
 pub returns-in-Receive-clause-follows : goal.returns-in-Receive-clause-follows
