@@ -8,10 +8,12 @@ use Rattle.brc_count.specs.Frames.{FrameSeen, HandleSeen}
 use Rattle.brc_meaning.specs.declared.state.State.{State}
 use Rattle.brc_meaning.specs.Objects.{text_in}
 use Rattle.brc_meaning.specs.Steps.{after}
+use Rattle.law_living.specs.Living.{OwnLog}
 use Rattle.law_isolation.specs.Means.{Means}
 use Rattle.law_isolation.specs.Goes.{is_want}
 use Rattle.law_isolation.specs.Calls.{Finds}
 use Rattle.brc_instructions.specs.declared.shown.Shown.{Shown}
+use Rattle.brc_instructions.specs.Doing.{Reading}
 use Rattle.brc_instructions.specs.declared.shown.Shown.TheVariants as shown
 
 module _ {A : Type 0} where
@@ -39,3 +41,8 @@ module _ {A : Type 0} where
   PrintsAs base frame registers from s result = MatchResult result
       (λ shown. (after (does.Print from) s ≡ Ok (with_line (text_shown shown) s)) × Means base frame registers s)
       (λ fault. is_want fault ≡ false → (after (does.Print from) s ≡ Err fault) × Means base frame registers s)
+
+  -- from any state that frame and registers meant
+  abbrev pub PrintsFrom : ℕ → Reading (Shown A) A
+  PrintsFrom from old new registers result = (base : ℕ) (s : State A) → OwnLog new.heap.cells new.seat.log
+      → Means base old registers s → PrintsAs base new registers from s result

@@ -6,12 +6,12 @@ ghost use Rattle.law_isolation.specs.Asked.{Follows};
 ghost use Rattle.brc_instructions.specs.Calls.{gives, makes, takes};
 ghost use Rattle.brc_instructions.specs.Causes.{Caused, WantsNoRoom};
 
-use crate::doing::Does;
+use crate::doing::{Does, Reads};
 use crate::giving::{Giving, given};
 use crate::globals::{given_by_globals, taken_by_globals};
 use crate::holding::hold;
 use crate::making::{Empty, copy_key, copy_text, new_empty};
-use crate::reading::sum;
+use crate::reading::Sum;
 use crate::registers::Registers;
 use crate::taking::{Taking, taken};
 use brc_biased::Home;
@@ -290,7 +290,11 @@ impl<R: Wait, H: Home<A>, A: Allocator + Copy> Does<R, H, A> for Add {
         frame: &mut Frame<H, A>,
         registers: &mut Registers<A>,
     ) -> Result<(), Fault> {
-        let number = sum(rt, frame, registers, self.first, self.second)?;
+        let sum = Sum {
+            first: self.first,
+            second: self.second,
+        };
+        let number = sum.read(rt, alloc, frame, registers)?;
         let to = self.to;
         MakeInt { to, number }.act(rt, alloc, frame, registers)
     }

@@ -11,9 +11,9 @@ ghost use Rattle.brc_count.specs.Frames.{HandleSeen as handle_seen};
 ghost use Rattle.brc_handles.specs.Handles.{slot};
 ghost use Rattle.law_isolation.specs.Means.{Means};
 ghost use Rattle.brc_instructions.specs.Causes.{WantsNoRoom};
-ghost use Rattle.brc_instructions.specs.Printing.{ShownAs, PrintsAs};
-ghost use Rattle.brc_instructions.specs.Registers.{Stands};
+ghost use Rattle.brc_instructions.specs.Printing.{ShownAs, PrintsFrom};
 
+use crate::doing::Reads;
 use crate::registers::Registers;
 use crate::shown::Shown;
 use brc_biased::Home;
@@ -55,25 +55,24 @@ fn show<R: Wait, H: Home<A>, A: Allocator>(
 }
 
 /// `print`: what the register's object shows.
-pub fn print<R: Wait, H: Home<A>, A: Allocator>(
-    rt: &R,
-    alloc: A,
-    frame: &mut Frame<H, A>,
-    registers: &Registers<A>,
-    from: Register,
-) -> Result<Shown<A>, Fault>
-    requires stands { Stands frame.old registers.now }
-    ensures stands { Stands frame.new registers.now }
-    ensures heap { frame.new.heap ≡ frame.old.heap }
-    ensures waits { IfErr result (λ fault. fault ≢ faults.Busy) }
-    ensures later { IsLater frame.old.seat.log frame.new.seat.log }
-    ensures room { IfErr result WantsNoRoom }
-    ensures follows { (base : ℕ) (s : state A) → OwnLog frame.new.heap.cells frame.new.seat.log
-        → Means base frame.old registers.now s
-        → PrintsAs base frame.new registers.now from s result }
-{
-    let Some(handle) = registers.get(from) else {
-        return Err(Fault::NoSuchPlace);
-    };
-    show(rt, alloc, frame, handle)
+#[derive(Clone, Copy)]
+pub struct Print {
+    pub from: Register,
+}
+
+impl<R: Wait, H: Home<A>, A: Allocator + Copy> Reads<Shown<A>, R, H, A> for Print {
+    ghost finds = { λ it. PrintsFrom it.from };
+
+    fn read(
+        &self,
+        rt: &R,
+        alloc: A,
+        frame: &mut Frame<H, A>,
+        registers: &Registers<A>,
+    ) -> Result<Shown<A>, Fault> {
+        let Some(handle) = registers.get(self.from) else {
+            return Err(Fault::NoSuchPlace);
+        };
+        show(rt, alloc, frame, handle)
+    }
 }

@@ -14,7 +14,7 @@ use brc_biased::Home;
 use brc_count::Frame;
 use brc_instructions::{
     Add, CopyHeld, Does, DropHeld, Empty, Give, GiveGlobal, Giving, Len, MakeEmpty, MakeInt,
-    MakeText, Registers, Share, Shown, Take, Taking, print,
+    MakeText, Print, Reads, Registers, Share, Shown, Take, Taking,
 };
 use brc_script::{Instruction, Register};
 use brc_words::{Fault, Key, Text};
@@ -329,7 +329,8 @@ pub(crate) fn step<R: Wait, H: Home<A>, A: Allocator + Copy>(
         StepsAs frame.old frame.new registers.old registers.new instruction.now result }
 {
     if let Instruction::Print { from } = instruction {
-        return match print(rt, alloc, frame, registers, *from) {
+        let print = Print { from: *from };
+        return match print.read(rt, alloc, frame, registers) {
             Ok(shown) => Ok(Some(shown)),
             Err(fault) => Err(fault),
         };

@@ -5,13 +5,13 @@ use Rattle.brc_section.proofs.stepping.step.Goals as goal
 
 pub returns-in-Ok-clause-follows : goal.returns-in-Ok-clause-follows
 returns-in-Ok-clause-follows g c = λ own differ.
-    prints_shown c.args.frame.now c.print.new.frame c.args.registers.now c.args.instruction.now c.in-Print.from
-    c.in-Print.is c.in-Ok.shown c.in-Ok.ensures.follows
+    prints_shown c.args.frame.now c.read.new.frame c.args.registers.now c.args.instruction.now c.in-Print.from
+    c.in-Print.is c.in-Ok.shown c.in-Ok.ensures.finds
 
 pub returns-in-Err-clause-follows : goal.returns-in-Err-clause-follows
 returns-in-Err-clause-follows g c = λ own differ.
-    prints_refused c.args.frame.now c.print.new.frame c.args.registers.now c.args.instruction.now c.in-Print.from
-    c.in-Print.is c.in-Err.fault c.in-Err.ensures.follows
+    prints_refused c.args.frame.now c.read.new.frame c.args.registers.now c.args.instruction.now c.in-Print.from
+    c.in-Print.is c.in-Err.fault c.in-Err.ensures.finds
 
 pub returns-in-Ok-act : goal.returns-in-Ok-act
 returns-in-Ok-act g c = record {
@@ -42,4 +42,4 @@ returns-in-Err-act g c = record {
 
 pub returns-in-Err-clause-caused : goal.returns-in-Err-clause-caused
 returns-in-Err-clause-caused g c own =
-    uncaused c.args.frame.now c.print.new.frame c.in-Err.fault c.in-Err.ensures.room
+    uncaused c.args.frame.now c.read.new.frame c.in-Err.fault c.in-Err.ensures.room
