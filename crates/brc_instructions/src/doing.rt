@@ -1,10 +1,9 @@
-//! What an instruction does, and what one reads, each said once for all kinds.
+//! What an instruction does, said once for all kinds.
 
 ghost use Rattle.std.specs.Prelude.{◌≡◌, ◌≢◌, IfErr};
 ghost use Rattle.brc_words.specs.declared.fault.Fault.TheVariants as faults;
 ghost use Rattle.law_living.specs.Later.{IsLater};
-ghost use Rattle.brc_instructions.specs.Causes.{WantsNoRoom};
-ghost use Rattle.brc_instructions.specs.Doing.{Reading, Refusing, Telling};
+ghost use Rattle.brc_instructions.specs.Doing.{Refusing, Telling};
 ghost use Rattle.brc_instructions.specs.Registers.{Stands};
 
 use crate::registers::Registers;
@@ -38,27 +37,4 @@ pub trait Does<R: Wait, H: Home<A>, A: Allocator + Copy> {
         ensures later { IsLater frame.old.seat.log frame.new.seat.log }
         ensures why { IfErr result (why self.now frame.old frame.new) }
         ensures follows { follows self.now frame.old frame.new registers.old registers.new result };
-}
-
-/// What an instruction reads of objects, of type `T`.
-pub trait Reads<T, R: Wait, H: Home<A>, A: Allocator + Copy> {
-    // what it finds, by its plain meaning
-    ghost finds: { Self → Reading T A };
-
-    /// Reads it. No register changes. It waits while another thread has an object locked, so it never answers Busy, and
-    /// it wants neither a cell nor a place nor a birth.
-    fn read(
-        &self,
-        rt: &R,
-        alloc: A,
-        frame: &mut Frame<H, A>,
-        registers: &Registers<A>,
-    ) -> Result<T, Fault>
-        requires stands { Stands frame.old registers.now }
-        ensures stands { Stands frame.new registers.now }
-        ensures heap { frame.new.heap ≡ frame.old.heap }
-        ensures waits { IfErr result (λ fault. fault ≢ faults.Busy) }
-        ensures later { IsLater frame.old.seat.log frame.new.seat.log }
-        ensures room { IfErr result WantsNoRoom }
-        ensures finds { finds self.now frame.old frame.new registers.now result };
 }

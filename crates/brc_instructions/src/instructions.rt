@@ -6,12 +6,12 @@ ghost use Rattle.law_isolation.specs.Asked.{Follows};
 ghost use Rattle.brc_instructions.specs.Calls.{gives, makes, takes};
 ghost use Rattle.brc_instructions.specs.Causes.{Caused, WantsNoRoom};
 
-use crate::doing::{Does, Reads};
+use crate::doing::Does;
 use crate::giving::{Giving, given};
 use crate::globals::{given_by_globals, taken_by_globals};
 use crate::holding::hold;
 use crate::making::{Empty, copy_key, copy_text, new_empty};
-use crate::reading::Sum;
+use crate::reading::{Reads, Sum};
 use crate::registers::Registers;
 use crate::taking::{Taking, taken};
 use brc_biased::Home;

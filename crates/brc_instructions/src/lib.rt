@@ -23,7 +23,7 @@ mod shown;
 mod taking;
 
 // what each instruction says, and the registers that it stands on
-pub use doing::{Does, Reads};
+pub use doing::Does;
 pub use registers::Registers;
 
 // the instructions, by what they do: make, count, read, give and take, and on the globals
@@ -37,5 +37,5 @@ pub use making::{Empty, copy_text};
 pub use taking::Taking;
 
 // what one prints
-pub use printing::Print;
+pub use reading::{Print, Reads};
 pub use shown::{Lines, Shown};

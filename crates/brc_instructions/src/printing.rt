@@ -11,22 +11,19 @@ ghost use Rattle.brc_count.specs.Frames.{HandleSeen as handle_seen};
 ghost use Rattle.brc_handles.specs.Handles.{slot};
 ghost use Rattle.law_isolation.specs.Means.{Means};
 ghost use Rattle.brc_instructions.specs.Causes.{WantsNoRoom};
-ghost use Rattle.brc_instructions.specs.Printing.{ShownAs, PrintsFrom};
+ghost use Rattle.brc_instructions.specs.Printing.{ShownAs};
 
-use crate::doing::Reads;
-use crate::registers::Registers;
 use crate::shown::Shown;
 use brc_biased::Home;
 use brc_count::{Frame, Handle};
 use brc_heap::{int_of, kind_of, len_of, text_of};
-use brc_script::Register;
 use brc_words::{Fault, Kind};
 use std::alloc::Allocator;
 use std::sync::Wait;
 
 /// What the object shows. Its kind is read first, which never changes. None, False and True are made by no instruction,
 /// and are the wrong kind.
-fn show<R: Wait, H: Home<A>, A: Allocator>(
+pub(crate) fn show<R: Wait, H: Home<A>, A: Allocator>(
     rt: &R,
     alloc: A,
     frame: &mut Frame<H, A>,
@@ -51,28 +48,5 @@ fn show<R: Wait, H: Home<A>, A: Allocator>(
         Kind::Dict => Ok(Shown::Dict(len_of(rt, frame, handle)?)),
         Kind::Mailbox => Ok(Shown::Mailbox(len_of(rt, frame, handle)?)),
         Kind::Nothing | Kind::False | Kind::True => Err(Fault::WrongKind),
-    }
-}
-
-/// `print`: what the register's object shows.
-#[derive(Clone, Copy)]
-pub struct Print {
-    pub from: Register,
-}
-
-impl<R: Wait, H: Home<A>, A: Allocator + Copy> Reads<Shown<A>, R, H, A> for Print {
-    ghost finds = { λ it. PrintsFrom it.from };
-
-    fn read(
-        &self,
-        rt: &R,
-        alloc: A,
-        frame: &mut Frame<H, A>,
-        registers: &Registers<A>,
-    ) -> Result<Shown<A>, Fault> {
-        let Some(handle) = registers.get(self.from) else {
-            return Err(Fault::NoSuchPlace);
-        };
-        show(rt, alloc, frame, handle)
     }
 }

@@ -1,11 +1,19 @@
-//! What is read of integers: their numbers, and the sum of two.
+//! What an instruction reads of objects, said once for all kinds: the number of an integer, the sum of two, and what
+//! `print` shows.
 
+ghost use Rattle.std.specs.Prelude.{◌≡◌, ◌≢◌, IfErr};
+ghost use Rattle.brc_words.specs.declared.fault.Fault.TheVariants as faults;
 ghost use Rattle.brc_meaning.specs.Objects.{number_in};
+ghost use Rattle.law_living.specs.Later.{IsLater};
 ghost use Rattle.law_isolation.specs.Asked.{read as read_off, summed};
-ghost use Rattle.brc_instructions.specs.Doing.{ReadsAs};
+ghost use Rattle.brc_instructions.specs.Causes.{WantsNoRoom};
+ghost use Rattle.brc_instructions.specs.Doing.{Reading, ReadsAs};
+ghost use Rattle.brc_instructions.specs.Printing.{PrintsFrom};
+ghost use Rattle.brc_instructions.specs.Registers.{Stands};
 
-use crate::doing::Reads;
+use crate::printing::show;
 use crate::registers::Registers;
+use crate::shown::Shown;
 use brc_biased::Home;
 use brc_count::Frame;
 use brc_heap::int_of;
@@ -13,6 +21,29 @@ use brc_script::Register;
 use brc_words::Fault;
 use std::alloc::Allocator;
 use std::sync::Wait;
+
+/// What an instruction reads of objects, of type `T`.
+pub trait Reads<T, R: Wait, H: Home<A>, A: Allocator + Copy> {
+    // what it finds, by its plain meaning
+    ghost finds: { Self → Reading T A };
+
+    /// Reads it. No register changes. It waits while another thread has an object locked, so it never answers Busy, and
+    /// it wants neither a cell nor a place nor a birth.
+    fn read(
+        &self,
+        rt: &R,
+        alloc: A,
+        frame: &mut Frame<H, A>,
+        registers: &Registers<A>,
+    ) -> Result<T, Fault>
+        requires stands { Stands frame.old registers.now }
+        ensures stands { Stands frame.new registers.now }
+        ensures heap { frame.new.heap ≡ frame.old.heap }
+        ensures waits { IfErr result (λ fault. fault ≢ faults.Busy) }
+        ensures later { IsLater frame.old.seat.log frame.new.seat.log }
+        ensures room { IfErr result WantsNoRoom }
+        ensures finds { finds self.now frame.old frame.new registers.now result };
+}
 
 /// The number of the register's integer.
 #[derive(Clone, Copy)]
@@ -66,5 +97,28 @@ impl<R: Wait, H: Home<A>, A: Allocator + Copy> Reads<i64, R, H, A> for Sum {
             Some(sum) => Ok(sum),
             None => Err(Fault::Overflow),
         }
+    }
+}
+
+/// `print`: what the register's object shows.
+#[derive(Clone, Copy)]
+pub struct Print {
+    pub from: Register,
+}
+
+impl<R: Wait, H: Home<A>, A: Allocator + Copy> Reads<Shown<A>, R, H, A> for Print {
+    ghost finds = { λ it. PrintsFrom it.from };
+
+    fn read(
+        &self,
+        rt: &R,
+        alloc: A,
+        frame: &mut Frame<H, A>,
+        registers: &Registers<A>,
+    ) -> Result<Shown<A>, Fault> {
+        let Some(handle) = registers.get(self.from) else {
+            return Err(Fault::NoSuchPlace);
+        };
+        show(rt, alloc, frame, handle)
     }
 }
