@@ -1,10 +1,11 @@
 -- What the frame owns after a call that may have given it one handle more, which is in no register.
-use Rattle.std.proofs.Common.{List, Option, Some, None, Result, Ok, Err, IfOk, arith}
+use Rattle.std.proofs.Common.{◌≢◌, List, Option, Some, None, Result, Ok, Err, IfOk, arith}
 use Rattle.std.specs.Prelude.{OnErr}
 use Rattle.std.specs.Option.{IfSome}
 use Rattle.brc_words.specs.declared.fault.Fault.{Fault}
 use Rattle.brc_count.specs.Frames.{FrameSeen, HandleSeen, IsUnlocked}
 use Rattle.brc_count.specs.Owned.{Gains, Keeps}
+use Rattle.brc_dicts.specs.Putting.{OwnsPut}
 use Rattle.brc_handles.specs.Handles.{slot}
 use Rattle.brc_instructions.specs.Registers.{Stands, Besides}
 
@@ -32,3 +33,9 @@ module _ {A : Type 0} where
       → IfOk result (Gains old new) → OnErr result (Keeps old new) → Owns old h → Owns new h
   owns_after old new h (Ok given) gains keeps owns = gains.owns h owns
   owns_after old new h (Err fault) gains keeps owns = keeps.owns h owns
+
+  -- a put into a dictionary leaves it all but the value
+  pub owns_beside : (old new : FrameSeen A) (value h : HandleSeen) (answer : Option HandleSeen)
+      → OwnsPut old new value answer → value.place ≢ h.place → Owns old h → Owns new h
+  owns_beside old new value h None loses apart owns = loses.owns h owns apart
+  owns_beside old new value h (Some given) keeps apart owns = keeps.owns h owns
