@@ -12,7 +12,7 @@ use Rattle.brc_report.specs.declared.report.Report.{Report}
 use Rattle.brc_run.specs.declared.options.RunOptions.{RunOptions}
 use Rattle.brc_run.specs.Options.{AreRunOptions}
 use Rattle.brc_run.specs.Runs.{InOrder, EndsAs, IsReportOf}
-use Rattle.brc_run_text.specs.declared.whole.Ended.{Ended}
+use Rattle.brc_run_text.specs.declared.ended.Ended.{Ended}
 use Rattle.brc_run_text.specs.Tellings.{run_text, ends_by_fault}
 
 -- The input spells this script, where its bytes are known. Its sections ended so, each with a fault of one of its lines

@@ -4,8 +4,10 @@
 //! answer.
 #![tactic(auto)]
 
+mod ended;
 mod telling;
 mod whole;
 
+pub use ended::Ended;
 pub use telling::write_run;
-pub use whole::{Ended, run_script};
+pub use whole::run_script;

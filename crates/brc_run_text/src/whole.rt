@@ -5,6 +5,7 @@ ghost use Rattle.brc_words.specs.declared.fault.Fault.TheVariants as faults;
 ghost use Rattle.brc_run.specs.Options.{AreRunOptions};
 ghost use Rattle.brc_run_text.specs.Scripts_Run.{Runs};
 
+use crate::ended::Ended;
 use crate::telling::{has_fault, write_run};
 use brc_input::read_input;
 use brc_run::{RunOptions, run_sections};
@@ -15,15 +16,6 @@ use std::alloc::Global;
 use std::io::{Read, Write};
 use std::sync::Wait;
 use std::thread::Threads;
-
-/// How a run ended.
-#[derive(Clone, Copy, Debug, PartialEq, Eq)]
-pub struct Ended {
-    /// Whether a mortal object lives at the end.
-    pub lives: bool,
-    /// Whether a fault ended a section.
-    pub faulted: bool,
-}
 
 /// Reads a script, runs its sections at the same time, each on a thread of its own, and writes what each printed, in
 /// the script's order, and the report of their heap. BadOptions, looked at first, where a number of the options is
