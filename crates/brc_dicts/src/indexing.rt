@@ -18,7 +18,7 @@ use brc_biased::Home;
 use brc_block::{Block, Payload};
 use brc_count::{Frame, Handle};
 use brc_lock::begin_late;
-use brc_words::{Fault, Key, Text};
+use brc_words::{Fault, Key, MOST_PLACES, Text};
 use std::alloc::Allocator;
 use std::sync::Wait;
 
@@ -141,9 +141,12 @@ fn pair_and_place<H: Home<A>, A: Allocator>(
     ensures refused { IfErr result (MissesPair frame.old (contents_of block.now.1) index) }
 {
     let (key, cell) = pair_in(block.payload(), index)?;
+    let full = frame.len() >= MOST_PLACES as usize;
     frame.place()?;
     match copy_of_key(alloc, key) {
         Some(key) => Ok((key, cell)),
+        // There is a place, so the frame isn't full; but no contract says so.
+        None if full => Err(Fault::FrameFull),
         None => Err(Fault::OutOfMemory),
     }
 }
