@@ -3,7 +3,7 @@ use Rattle.std.proofs.Common.{◌≢◌, List, Option, Some, None, Result, Ok, E
 use Rattle.std.specs.Prelude.{OnErr}
 use Rattle.std.specs.Option.{IfSome}
 use Rattle.brc_words.specs.declared.fault.Fault.{Fault}
-use Rattle.brc_count.specs.Frames.{FrameSeen, HandleSeen, IsUnlocked}
+use Rattle.brc_count.specs.Frames.{FrameSeen, HandleSeen, IsUnlocked, Owns}
 use Rattle.brc_count.specs.Owned.{Gains, Keeps}
 use Rattle.brc_dicts.specs.Putting.{OwnsPut}
 use Rattle.brc_handles.specs.Handles.{slot}

@@ -30,10 +30,10 @@ returns-in-Err-dict_put-clause-later g c =
     let put = c.dict_put.new.frame in
     let globals = c.in-Ok.globals in
     let gains = c.in-Ok.ensures.gains in
-    later_both c.args.frame.now.seat.log had.seat.log c.release-in-Err.new.self.seat.log (later_given c.in-Ok.ensures.given)
-    (later_held had put c.release-in-Err.new.self
+    later_both c.args.frame.now.seat.log had.seat.log c.release-in-Err-dict_put.new.self.seat.log (later_given c.in-Ok.ensures.given)
+    (later_held had put c.release-in-Err-dict_put.new.self
     (late_pair_put had put globals.place c.args.name c.args.given c.dict_put.result
     (gains.owns c.args.given c.requires.besides.owned) c.dict_put.ensures.put)
-    (let_go_quietly put c.release-in-Err.new.self globals
+    (let_go_quietly put c.release-in-Err-dict_put.new.self globals
     (c.in-Err-dict_put.ensures.keeps.owns globals gains.owned)
-    c.release-in-Err.ensures.released))
+    c.release-in-Err-dict_put.ensures.released))

@@ -1,4 +1,4 @@
-use Rattle.std.proofs.Common.{subst, ℤ, w64}
+use Rattle.std.proofs.Common.{subst, rules, ℤ, w64}
 use Rattle.std.proofs.lemmas.Int.{to_z-of_z}
 use Rattle.law_rule.specs.declared.contents.Contents.TheVariants as contents
 use Rattle.brc_things.specs.Makers.{Answered, small_cell}
@@ -20,7 +20,7 @@ returns-clause-follows g c base s own means =
     it.to c.in_ok-made.made
     means c.new_int.ensures.heap c.hold.ensures.heap c.hold.ensures.quiet own c.hold.ensures.means it.number
     (subst (λ (z : ℤ). Answered c.args.frame.now c.new_int.new.frame (small_cell z) (contents.Int z) c.in_ok-made.made)
-    (to_z-of_z w64 it.number c.ranges.number) c.in_ok-made.ensures.made)
+    (to_z-of_z w64 it.number (search rules)) c.in_ok-made.ensures.made)
 
 pub returns-in_err-made-clause-why : goal.returns-in_err-made-clause-why
 returns-in_err-made-clause-why g c =

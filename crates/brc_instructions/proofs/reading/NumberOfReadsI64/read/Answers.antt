@@ -4,7 +4,7 @@ use Rattle.law_isolation.proofs.Calls_Mean.{int_means}
 use Rattle.brc_instructions.proofs.Looks.{later_int}
 use Rattle.brc_instructions.proofs.Sums_Read.{found_read}
 use Rattle.brc_instructions.proofs.Causes_Of.{int_room}
-use Rattle.brc_instructions.proofs.reading.NumberOfReads.read.Goals as goal
+use Rattle.brc_instructions.proofs.reading.NumberOfReadsI64.read.Goals as goal
 
 pub returns-clause-later : goal.returns-clause-later
 returns-clause-later g c = later_int c.args.frame.now c.int_of.new.frame c.in-Some.handle.now.place c.int_of.result

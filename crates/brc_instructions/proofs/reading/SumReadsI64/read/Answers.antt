@@ -5,7 +5,7 @@ use Rattle.law_living.proofs.Earlier.{later_both}
 use Rattle.law_isolation.proofs.Registers_Kept.{means_register}
 use Rattle.brc_instructions.proofs.Follows_Of.{own_at}
 use Rattle.brc_instructions.proofs.Sums_Read.{filled_of, numbers_summed, first_refused, second_refused}
-use Rattle.brc_instructions.proofs.reading.SumReads.read.Goals as goal
+use Rattle.brc_instructions.proofs.reading.SumReadsI64.read.Goals as goal
 
 pub returns-in_err-number-clause-finds : goal.returns-in_err-number-clause-finds
 returns-in_err-number-clause-finds g c =

@@ -1,6 +1,6 @@
 use Rattle.std.proofs.Common.{sym}
 use Rattle.brc_instructions.proofs.Shows_As.{prints}
-use Rattle.brc_instructions.proofs.reading.PrintReads.read.Goals as goal
+use Rattle.brc_instructions.proofs.reading.PrintReadsShown.read.Goals as goal
 
 pub returns-clause-finds : goal.returns-clause-finds
 returns-clause-finds g c base s own means =
