@@ -1,5 +1,5 @@
 -- A try that found nothing leaves what frame and registers mean, and so do a poll and work after it.
-use Rattle.std.proofs.Common.{◌≡◌, ◌∙◌, ℕ, false, List, Option, Result, Ok, Err, IfErr, inl, inr}
+use Rattle.std.proofs.Common.{◌≡◌, ◌∙◌, ℕ, false, List, Option, Result, Ok, Err, IfErr, Bor, inl, inr}
 use Rattle.std.proofs.Common.{refl, sym, ap, subst}
 use Rattle.brc_words.specs.declared.fault.Fault.{Fault}
 use Rattle.brc_words.specs.declared.fault.Fault.TheVariants as faults
@@ -114,10 +114,10 @@ module _ {A : Type 0} where
   for_letter awaited old new (Err fault) why = λ mailbox is. why
 
   -- who waits for a name waits for no letter
-  pub no_letter : (awaited : Awaited A) (key : Key A) (old new : FrameSeen A) (tried : Result (Unit {0}) Fault)
+  pub no_letter : (awaited : Awaited A) {key : Bor (Key A)} (old new : FrameSeen A) (tried : Result (Unit {0}) Fault)
       → awaited ≡ awaits.Name key → IfErr tried (WantsForLetter awaited old new)
-  no_letter awaited key old new (Ok done) name = tt
-  no_letter awaited key old new (Err fault) name = λ mailbox is.
+  no_letter awaited old new (Ok done) name = tt
+  no_letter awaited {key = key} old new (Err fault) name = λ mailbox is.
       absurd (let bad : awaits.Name key ≡ awaits.Letter mailbox = sym name ∙ is in cc)
 
   pub letters_cause : (old new : FrameSeen A) (mailbox : ℕ) (tried : Result (Unit {0}) Fault)

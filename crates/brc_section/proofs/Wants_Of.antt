@@ -1,6 +1,6 @@
 -- From the cause of an instruction's want to that of a section's.
 use Rattle.std.proofs.Common.{arith, ◌≡◌, ◌≢◌, ◌≤◌, ℕ, true, List, Option, Some, Result, Ok, Err, IfErr}
-use Rattle.std.proofs.Common.{IfSome, sym, ap, subst, false, true≢false}
+use Rattle.std.proofs.Common.{IfSome, ◌∙◌, sym, ap, subst, true≢false}
 use Rattle.brc_words.specs.Faults.{number_of}
 use Rattle.brc_words.specs.declared.fault.Fault.{Fault}
 use Rattle.brc_words.specs.declared.fault.Fault.TheVariants as faults

@@ -65,7 +65,7 @@ fn do_line<R: Wait, H: Home<A>, A: Allocator + Copy>(
     ensures stands { Stands frame.new registers.new }
     ensures heap { frame.new.heap ≡ frame.old.heap }
     ensures waits { IfErr result (λ fault. fault ≢ faults.Busy) }
-    ensures later { is_shared line.now.instruction ≡ false → IsLater frame.old.seat.log frame.new.seat.log }
+    ensures later { IsLater frame.old.seat.log frame.new.seat.log }
     ensures caused { is_shared line.now.instruction ≡ false → IfErr result (Caused frame.old frame.new) }
     ensures follows { (base : ℕ) (s : state A) → is_shared line.now.instruction ≡ false
         → At base frame.old registers.old lines.old s

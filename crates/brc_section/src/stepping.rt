@@ -31,13 +31,13 @@ enum Shared {
 
 /// It under this key.
 #[derive(Drop)]
-struct UnderKey<'i, 'b, A: Allocator> {
+struct UnderKey<'i, A: Allocator> {
     shared: Shared,
     key: &'i Key<A>,
-    seated: &'i Seated<'b, A>,
+    seated: &'i Seated<'i, A>,
 }
 
-impl<'i, 'b, R: Wait, H: Home<A>, A: Allocator + Copy> Does<R, H, A> for UnderKey<'i, 'b, A> {
+impl<'i, R: Wait, H: Home<A>, A: Allocator + Copy> Does<R, H, A> for UnderKey<'i, A> {
     ghost follows = { λ _ _ _ _ _ _. ⊤ };
 
     ghost why = { λ _ _ _ _. ⊤ };
@@ -72,14 +72,14 @@ impl<'i, 'b, R: Wait, H: Home<A>, A: Allocator + Copy> Does<R, H, A> for UnderKe
 
 /// It under this name: by the key that was made of it, or, where none is there, by one that is made now.
 #[derive(Drop)]
-struct UnderName<'i, 'b, A: Allocator> {
+struct UnderName<'i, A: Allocator> {
     shared: Shared,
     name: &'i Text<A>,
     key: Option<&'i Key<A>>,
-    seated: &'i Seated<'b, A>,
+    seated: &'i Seated<'i, A>,
 }
 
-impl<'i, 'b, R: Wait, H: Home<A>, A: Allocator + Copy> Does<R, H, A> for UnderName<'i, 'b, A> {
+impl<'i, R: Wait, H: Home<A>, A: Allocator + Copy> Does<R, H, A> for UnderName<'i, A> {
     ghost follows = { λ _ _ _ _ _ _. ⊤ };
 
     ghost why = { λ _ _ _ _. ⊤ };
@@ -131,13 +131,13 @@ fn stirs<R: Wait, A: Allocator>(
 
 /// What the instruction of a line says, where it is none that prints.
 #[derive(Drop)]
-struct Silent<'i, 'b, A: Allocator> {
+struct Silent<'i, A: Allocator> {
     instruction: &'i Instruction<A>,
     key: Option<&'i Key<A>>,
-    seated: &'i Seated<'b, A>,
+    seated: &'i Seated<'i, A>,
 }
 
-impl<'i, 'b, R: Wait, H: Home<A>, A: Allocator + Copy> Does<R, H, A> for Silent<'i, 'b, A> {
+impl<'i, R: Wait, H: Home<A>, A: Allocator + Copy> Does<R, H, A> for Silent<'i, A> {
     ghost follows = { λ it. FollowsOwn it.instruction.now };
 
     ghost why = { λ it. WantsOfOwn it.instruction.now };

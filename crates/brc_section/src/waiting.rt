@@ -76,13 +76,12 @@ fn is_nothing(tried: &Result<(), Fault>) -> bool
 /// One try after another, each after a poll and work: what others dropped meanwhile is this thread's to free, and a
 /// section that waited without it would keep every cell of theirs.
 #[derive(Drop)]
-struct LookAgain<'w, 'k, 'b, A: Allocator> {
-    look: &'w Look<'k, A>,
-    seated: &'w Seated<'b, A>,
+struct LookAgain<'w, A: Allocator> {
+    look: &'w Look<'w, A>,
+    seated: &'w Seated<'w, A>,
 }
 
-impl<'w, 'k, 'b, R: Wait, H: Home<A>, A: Allocator + Copy> Does<R, H, A>
-    for LookAgain<'w, 'k, 'b, A> {
+impl<'w, R: Wait, H: Home<A>, A: Allocator + Copy> Does<R, H, A> for LookAgain<'w, A> {
     ghost follows = { λ it. FollowsLetter it.look.now.awaited it.look.now.to };
 
     ghost why = { λ it. WantsForLetter it.look.now.awaited };
@@ -114,12 +113,12 @@ impl<'w, 'k, 'b, R: Wait, H: Home<A>, A: Allocator + Copy> Does<R, H, A>
 
 /// Where it isn't there, the section waits. One that finds it at once has nothing to do with the board.
 #[derive(Drop)]
-pub(crate) struct Await<'w, 'k, 'b, A: Allocator> {
-    pub(crate) look: Look<'k, A>,
-    pub(crate) seated: &'w Seated<'b, A>,
+pub(crate) struct Await<'w, A: Allocator> {
+    pub(crate) look: Look<'w, A>,
+    pub(crate) seated: &'w Seated<'w, A>,
 }
 
-impl<'w, 'k, 'b, R: Wait, H: Home<A>, A: Allocator + Copy> Does<R, H, A> for Await<'w, 'k, 'b, A> {
+impl<'w, R: Wait, H: Home<A>, A: Allocator + Copy> Does<R, H, A> for Await<'w, A> {
     ghost follows = { λ it. FollowsLetter it.look.awaited it.look.to };
 
     ghost why = { λ it. WantsForLetter it.look.awaited };

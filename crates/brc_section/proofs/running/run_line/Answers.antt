@@ -28,7 +28,7 @@ pub returns-then-not-at-clause-wants : goal.returns-then-not-at-clause-wants
 returns-then-not-at-clause-wants g c own = halts_one _ (later_same c.args.frame.now.seat.log) tt
 
 pub returns-in-Ok-clause-wants : goal.returns-in-Ok-clause-wants
-returns-in-Ok-clause-wants g c own = goes_one (c.do_line.ensures.later own.0)
+returns-in-Ok-clause-wants g c own = goes_one c.do_line.ensures.later
 
 pub returns-in-Err-clause-wants : goal.returns-in-Err-clause-wants
-returns-in-Err-clause-wants g c own = halts_one _ (c.do_line.ensures.later own.0) (c.in-Err.ensures.caused own.0)
+returns-in-Err-clause-wants g c own = halts_one _ c.do_line.ensures.later (c.in-Err.ensures.caused own.0)

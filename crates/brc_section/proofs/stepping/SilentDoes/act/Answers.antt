@@ -1,5 +1,7 @@
-use Rattle.std.proofs.Common.{refl}
+use Rattle.std.proofs.Common.{ℤ, w64, refl, rules, subst}
+use Rattle.std.proofs.lemmas.Int.{to_z-of_z}
 use Rattle.brc_script.specs.declared.instruction.Instruction.TheVariants as does
+use Rattle.law_isolation.specs.Asked.{Follows}
 use Rattle.brc_instructions.proofs.Causes_Of.{uncaused_in}
 use Rattle.brc_section.proofs.Instructions_Led.{led, two_apart}
 use Rattle.brc_section.proofs.Tries.{letters_cause}
@@ -11,7 +13,10 @@ returns-in-Int-clause-follows g c own differ silent =
     let did = c.act in
     let line = c.args.self.now.instruction.now in
     led c.args.frame.now did.new.frame c.args.registers.now did.new.registers line
-    (does.Int c.in-Int.to c.in-Int.number) did.result did.result c.in-Int.is refl did.ensures.follows
+    (does.Int c.in-Int.to c.in-Int.number) did.result did.result c.in-Int.is refl
+    (subst (λ (z : ℤ). Follows c.args.frame.now did.new.frame c.args.registers.now did.new.registers
+    (does.Int c.in-Int.to z) did.result)
+    (to_z-of_z w64 c.in-Int.number (search rules)) did.ensures.follows)
 
 pub returns-in-Int-clause-why : goal.returns-in-Int-clause-why
 returns-in-Int-clause-why g c =

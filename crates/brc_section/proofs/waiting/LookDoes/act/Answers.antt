@@ -6,7 +6,7 @@ use Rattle.brc_section.proofs.waiting.LookDoes.act.Goals as goal
 
 pub returns-in-Name-clause-why : goal.returns-in-Name-clause-why
 returns-in-Name-clause-why g c =
-    no_letter c.args.self.now.awaited c.in-Name.name c.args.frame.now c.act-in-Name.new.frame c.act-in-Name.result
+    no_letter c.args.self.now.awaited c.args.frame.now c.act.new.frame c.act.result
     c.in-Name.is
 
 pub returns-in-Letter-clause-why : goal.returns-in-Letter-clause-why
