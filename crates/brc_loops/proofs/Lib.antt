@@ -1,0 +1,4 @@
+pub mod Filled
+pub mod One_Heap
+pub mod Sent
+pub mod Traded
