@@ -1,4 +1,3 @@
-pub mod Filled
 pub mod One_Heap
 pub mod Sent
 pub mod Traded

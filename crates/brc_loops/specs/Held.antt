@@ -1,9 +1,9 @@
--- Handles that a frame holds while it is operated with.
+-- Many handles that a frame owns while turns are done over it, each of which keeps its handles.
 use Rattle.std.specs.Prelude.{List, Option, Some, None, IfSome}
 use Rattle.std.proofs.Common.{◌∙◌}
 use Rattle.brc_count.specs.Frames.{FrameSeen, HandleSeen, Owns}
 use Rattle.brc_count.specs.Owned.{Keeps}
-use Rattle.brc_handles.specs.Handles.{slot, Holds}
+use Rattle.brc_handles.specs.Handles.{slot, Holds, OwnsEach}
 
 module _ {A : Type 0} where
   -- what was in a place is owned still
@@ -12,10 +12,15 @@ module _ {A : Type 0} where
   owned_still old new None keeps owned = owned
   owned_still old new (Some h) keeps owned = keeps.owns h owned
 
-  -- a frame that keeps its handles holds still those that it held
+  -- so is what was in any of them
+  pub each_still : (handles : List (Option HandleSeen)) (old new : FrameSeen A) → Keeps old new
+      → OwnsEach old handles → OwnsEach new handles
+  each_still handles old new keeps owned = λ k. owned_still old new (slot handles k) keeps (owned k)
+
+  -- and the frame has as many others
   pub held_still : (handles : List (Option HandleSeen)) (old new : FrameSeen A) → Keeps old new
       → Holds 0 old handles → Holds 0 new handles
   held_still handles old new keeps holds = record {
-    owned = λ k. owned_still old new (slot handles k) keeps (holds.owned k);
+    owned = each_still handles old new keeps holds.owned;
     count = keeps.len ∙ holds.count;
   }

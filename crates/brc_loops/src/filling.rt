@@ -1,9 +1,9 @@
 //! Many handles, had one after the other.
 
-ghost use Rattle.std.specs.Prelude.{◌≡◌, ◌+◌, ℕ, IfSome, IfNone};
+ghost use Rattle.std.specs.Prelude.{◌≡◌, ◌+◌, IfSome, IfNone};
 ghost use Rattle.brc_count.specs.Frames.{HandleSeen, IsUnlocked, Owns};
 ghost use Rattle.brc_count.specs.Owned.{Keeps, Gains};
-ghost use Rattle.brc_handles.specs.Handles.{filled, Holds, IsApart, OwnsEach};
+ghost use Rattle.brc_handles.specs.Handles.{filled, IsApart, OwnsEach};
 
 use brc_biased::Home;
 use brc_count::{Frame, Handle};
@@ -32,7 +32,7 @@ pub fn fill<S: Source<H, A>, H: Home<A>, A: Allocator>(
     requires unlocked { IsUnlocked frame.old }
 
     ensures each { OwnsEach frame.new handles.new }
-    ensures holds { (others : ℕ) → Holds others frame.old handles.old → Holds others frame.new handles.new }
+    ensures count { frame.new.len + filled handles.old ≡ frame.old.len + filled handles.new }
     ensures filled { IfSome result (λ _. filled handles.new ≡ filled handles.old + count) }
     ensures heap { frame.new.heap ≡ frame.old.heap }
     ensures unlocked { IsUnlocked frame.new }

@@ -5,8 +5,8 @@
 //! a thread of the machine (`run_all`), and the root gathers them (`gather_all`). What is done at each turn is the
 //! client's, by a trait, whose contract has what the loop needs; an `impl` repeats no clause of it.
 //!
-//! What a turn needs of the frame is the trait's `ready`, and each `impl` shows that a turn leaves it so: mostly by the
-//! fields of `Keeps` and `Trades` (`brc_count`), or by `specs/Held.antt` where it needs many handles.
+//! What a turn needs of the frame is the trait's `ready`, and each `impl` shows that it is so after a turn too: mostly by a
+//! field of `Keeps` (`brc_count`), or by `specs/Held.antt` where it needs many handles.
 #![tactic(auto)]
 
 mod filling;

@@ -5,47 +5,48 @@ ghost use Rattle.brc_count.specs.Frames.{FrameSeen, HandleSeen, IsUnlocked, Owns
 ghost use Rattle.brc_count.specs.Owned.{Loses, Trades};
 
 use brc_biased::Home;
-use brc_count::{Frame, Handle};
+use brc_count::Frame;
 use std::alloc::Allocator;
 
-/// What takes a handle in and gives another one out.
-pub trait Passing<H: Home<A>, A: Allocator> {
-    // what it needs of the frame, and of the handle that goes in
-    ghost ready: { Self → FrameSeen A → HandleSeen → Type 0 };
+/// What has one handle, and gives it for another at each turn. The turns are the value's own, so it is used up and comes
+/// back: a method that takes a handle beside `&self` would have to repeat these clauses in each `impl`.
+pub trait Passing<H: Home<A>, A: Allocator>: Sized {
+    // the handle that it has
+    ghost held: { Self → HandleSeen };
 
-    /// The handle goes in, after so many before it, and the answer comes out; None where it fails: the handle has gone.
-    fn pass(&self, frame: &mut Frame<H, A>, handle: Handle<A>, before: u64) -> Option<Handle<A>>
-        requires ready { ready self.now frame.old handle }
-        requires owned { Owns frame.old handle }
+    // what else it needs of the frame
+    ghost ready: { Self → FrameSeen A → Type 0 };
+
+    /// The handle goes in, after so many turns before, and the answer has the one that comes out; None where it fails: no
+    /// handle is left of it.
+    fn pass(self, frame: &mut Frame<H, A>, before: u64) -> Option<Self>
+        requires ready { ready self frame.old }
+        requires owned { Owns frame.old (held self) }
         requires unlocked { IsUnlocked frame.old }
-        ensures trades { IfSome result (Trades frame.old frame.new handle) }
-        ensures loses { IfNone result (Loses frame.old frame.new handle) }
+        ensures trades { IfSome result (λ after. Trades frame.old frame.new (held self) (held after)) }
+        ensures ready { IfSome result (λ after. ready after frame.new) }
+        ensures loses { IfNone result (Loses frame.old frame.new (held self)) }
         ensures unlocked { IsUnlocked frame.new };
-
-    // a frame that traded one handle for another has still what it needs, with the other
-    ghost stays: { (it : Self) (old new : FrameSeen A) (gone given : HandleSeen) → Trades old new gone given
-        → ready it old gone → ready it new given };
 }
 
-/// So many turns, each with what came out of the one before; the answer came out of the last one, or is the handle
-/// itself where there is none. None where a turn failed, which ends the loop: no handle is left of it.
+/// So many turns; None where one failed, which ends the loop.
 #[inline(always)]
 pub fn pass_on<P: Passing<H, A>, H: Home<A>, A: Allocator>(
-    passing: &P,
+    passing: P,
     frame: &mut Frame<H, A>,
-    handle: Handle<A>,
     n: u64,
-) -> Option<Handle<A>>
-    requires ready { P.ready passing.now frame.old handle }
-    requires owned { Owns frame.old handle }
+) -> Option<P>
+    requires ready { P.ready passing frame.old }
+    requires owned { Owns frame.old (P.held passing) }
     requires unlocked { IsUnlocked frame.old }
-    ensures trades { IfSome result (Trades frame.old frame.new handle) }
-    ensures loses { IfNone result (Loses frame.old frame.new handle) }
+    ensures trades { IfSome result (λ after. Trades frame.old frame.new (P.held passing) (P.held after)) }
+    ensures ready { IfSome result (λ after. P.ready after frame.new) }
+    ensures loses { IfNone result (Loses frame.old frame.new (P.held passing)) }
     ensures unlocked { IsUnlocked frame.new }
 {
-    let mut held = handle;
+    let mut last = passing;
     for before in 0..n {
-        held = passing.pass(frame, held, before)?;
+        last = last.pass(frame, before)?;
     }
-    Some(held)
+    Some(last)
 }
