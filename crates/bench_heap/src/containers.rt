@@ -4,9 +4,9 @@ ghost use Rattle.std.specs.Prelude.{◌≡◌, IfOk, OnErr};
 ghost use Rattle.brc_count.specs.Frames.{IsUnlocked, Owns};
 ghost use Rattle.brc_count.specs.Owned.{Keeps, Gains};
 
-use crate::many::Source;
 use brc_biased::Home;
 use brc_count::{Frame, Handle};
+use brc_loops::Source;
 use brc_things::new_int;
 use brc_words::Fault;
 use std::alloc::Allocator;

@@ -1,15 +1,15 @@
 //! One object's life: a chain of lists, of which each holds the next, or one long list is made, released, and taken
 //! apart to the end.
 
-ghost use Rattle.std.specs.Prelude.{◌≡◌, IfSome, IfNone};
-ghost use Rattle.brc_count.specs.Frames.{IsUnlocked, Owns};
-ghost use Rattle.brc_count.specs.Owned.{Keeps, Loses, Trades};
+ghost use Rattle.std.specs.Prelude.{⊤};
+ghost use Rattle.brc_count.specs.Frames.{IsUnlocked};
+ghost use Rattle.brc_count.specs.Owned.{Keeps};
 
 use crate::lists::push;
-use crate::many::Source;
 use crate::timing::{Moment, Span, refused, this_moment};
 use brc_biased::Home;
 use brc_count::{Frame, Handle};
+use brc_loops::{Passing, Source, pass_on};
 use brc_things::new_list;
 use std::alloc::Allocator;
 use std::io;
@@ -17,28 +17,35 @@ use std::rt::Clock;
 use std::sync::Wait;
 use std::time::CpuClock;
 
-/// A new list holds the chain; None where it can't be had.
-fn link<R: Wait, H: Home<A>, A: Allocator + Copy>(
-    rt: &R,
+/// A chain, which goes into a new list at each turn.
+struct Linking<'r, R, A: Allocator> {
+    rt: &'r R,
     alloc: A,
-    frame: &mut Frame<H, A>,
     chain: Handle<A>,
-) -> Option<Handle<A>>
-    requires owned { Owns frame.old chain }
-    requires unlocked { IsUnlocked frame.old }
-    ensures trades { IfSome result (Trades frame.old frame.new chain) }
-    ensures loses { IfNone result (Loses frame.old frame.new chain) }
-    ensures unlocked { IsUnlocked frame.new }
-{
-    let Ok(list) = new_list(alloc, frame) else {
-        frame.release(chain);
-        return None;
-    };
-    if push(rt, frame, &list, chain).is_none() {
-        frame.release(list);
-        return None;
+}
+
+impl<'r, R: Wait, H: Home<A>, A: Allocator + Copy> Passing<H, A> for Linking<'r, R, A> {
+    ghost held = { λ it. it.chain };
+
+    ghost ready = { λ _ _. ⊤ };
+
+    #[inline(always)]
+    fn pass(self, frame: &mut Frame<H, A>, _before: u64) -> Option<Self> {
+        let Linking { rt, alloc, chain } = self;
+        let Ok(list) = new_list(alloc, frame) else {
+            frame.release(chain);
+            return None;
+        };
+        if push(rt, frame, &list, chain).is_none() {
+            frame.release(list);
+            return None;
+        }
+        Some(Linking {
+            rt,
+            alloc,
+            chain: list,
+        })
     }
-    Some(list)
 }
 
 /// Chains of so many lists, or of one where that is 0.
@@ -51,10 +58,15 @@ pub struct Chains<'r, R, A> {
 
 impl<'r, R: Wait, H: Home<A>, A: Allocator + Copy> Source<H, A> for Chains<'r, R, A> {
     fn next(&self, frame: &mut Frame<H, A>, _before: u64) -> Option<Handle<A>> {
-        let mut chain = new_list(self.alloc, frame).ok()?;
-        for _ in 1..self.count {
-            chain = link(self.rt, self.alloc, frame, chain)?;
-        }
+        let rt = self.rt;
+        let alloc = self.alloc;
+        let chain = new_list(alloc, frame).ok()?;
+        let linking = Linking { rt, alloc, chain };
+        let Linking {
+            rt: _rt,
+            alloc: _alloc,
+            chain,
+        } = pass_on(linking, frame, self.count.saturating_sub(1))?;
         Some(chain)
     }
 }

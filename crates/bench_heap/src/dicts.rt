@@ -8,6 +8,7 @@ use crate::containers::Container;
 use brc_biased::Home;
 use brc_count::{Frame, Handed, Handle};
 use brc_dicts::{dict_find, dict_put};
+use brc_loops::{Passing, Task, pass_on, repeat};
 use brc_things::{new_dict, new_int};
 use brc_words::{Fault, Key};
 use std::alloc::Allocator;
@@ -104,6 +105,26 @@ fn find<R: Wait, H: Home<A>, A: Allocator>(
     Some(())
 }
 
+/// One reference more to the value goes beside the key of this number, which is new.
+#[derive(Drop)]
+struct PutMore<'h, R, A: Allocator> {
+    rt: &'h R,
+    dict: &'h Handle<A>,
+    value: &'h Handle<A>,
+}
+
+impl<'h, R: Wait, H: Home<A>, A: Allocator + Copy> Task<H, A> for PutMore<'h, R, A> {
+    ghost ready = { λ put frame. Owns frame put.dict.now × Owns frame put.value.now };
+
+    ghost stays = { λ put old new keeps owned.
+        (keeps.owns put.dict.now owned.0, keeps.owns put.value.now owned.1) };
+
+    fn run(&self, frame: &mut Frame<H, A>, before: u64) -> Option<()> {
+        let more = frame.retain(self.value).ok()?;
+        put_new(self.rt, frame, self.dict, key_of(before % 256), more)
+    }
+}
+
 /// A dictionary of so many keys.
 #[derive(Drop)]
 pub struct DictOf<'r, R> {
@@ -118,50 +139,57 @@ impl<'r, R: Wait, H: Home<A>, A: Allocator + Copy> Container<H, A> for DictOf<'r
 
     /// One goes beside each key.
     fn fill(&self, frame: &mut Frame<H, A>, dict: &Handle<A>, value: &Handle<A>) -> Option<()> {
-        for number in 0..self.keys.count() {
-            let more = frame.retain(value).ok()?;
-            put_new(self.rt, frame, dict, key_of(number), more)?;
-        }
-        Some(())
+        let rt = self.rt;
+        repeat(&PutMore { rt, dict, value }, frame, self.keys.count())
     }
 }
 
-/// The value goes beside the key of this number, and is found there; the answer is what was there before. None where the
-/// key is new, or a call is refused.
-#[inline(always)]
-fn replace_and_find<R: Wait, H: Home<A>, A: Allocator + Copy>(
-    rt: &R,
-    frame: &mut Frame<H, A>,
-    dict: &Handle<A>,
-    number: u64,
+/// A value, which goes at each turn beside the key whose turn it is, and is found there; what was there before comes
+/// out. A turn fails where the key is new, or a call is refused.
+struct PuttingAndFinding<'h, R, A: Allocator> {
+    rt: &'h R,
+    dict: &'h Handle<A>,
+    keys: Keys,
     value: Handle<A>,
-) -> Option<Handle<A>>
-    requires key { number < 256 }
-    requires owned { Owns frame.old dict.now }
-    requires value_owned { Owns frame.old value }
-    requires apart { value.place ≢ dict.now.place }
-    requires unlocked { IsUnlocked frame.old }
-    ensures trades { IfSome result (Trades frame.old frame.new value) }
-    ensures loses { IfNone result (Loses frame.old frame.new value) }
-    ensures unlocked { IsUnlocked frame.new }
-{
-    match dict_put(rt, frame, dict, key_of(number), value) {
-        Ok(None) => None,
-        Ok(Some(old)) => {
-            if find(rt, frame, dict, &key_of(number)).is_none() {
-                frame.release(old);
-                return None;
+}
+
+impl<'h, R: Wait, H: Home<A>, A: Allocator + Copy> Passing<H, A> for PuttingAndFinding<'h, R, A> {
+    ghost held = { λ it. it.value };
+
+    ghost ready = { λ it frame. Owns frame it.dict.now × (it.value.place ≢ it.dict.now.place) };
+
+    #[inline(always)]
+    fn pass(self, frame: &mut Frame<H, A>, before: u64) -> Option<Self> {
+        let PuttingAndFinding {
+            rt,
+            dict,
+            keys,
+            value,
+        } = self;
+        let number = keys.of_turn(before);
+        match dict_put(rt, frame, dict, key_of(number), value) {
+            Ok(None) => None,
+            Ok(Some(old)) => {
+                if find(rt, frame, dict, &key_of(number)).is_none() {
+                    frame.release(old);
+                    return None;
+                }
+                Some(PuttingAndFinding {
+                    rt,
+                    dict,
+                    keys,
+                    value: old,
+                })
             }
-            Some(old)
-        }
-        Err(
-            Handed {
-                back: (_, value),
-                ..
-            },
-        ) => {
-            frame.release(value);
-            None
+            Err(
+                Handed {
+                    back: (_, other),
+                    ..
+                },
+            ) => {
+                frame.release(other);
+                None
+            }
         }
     }
 }
@@ -180,10 +208,19 @@ pub fn puts_and_finds<R: Wait, H: Home<A>, A: Allocator + Copy>(
     ensures keeps { Keeps frame.old frame.new }
     ensures unlocked { IsUnlocked frame.new }
 {
-    let mut value = new_int(alloc, frame, 1_000).ok()?;
-    for turn in 0..n {
-        value = replace_and_find(rt, frame, dict, keys.of_turn(turn), value)?;
-    }
+    let value = new_int(alloc, frame, 1_000).ok()?;
+    let turning = PuttingAndFinding {
+        rt,
+        dict,
+        keys,
+        value,
+    };
+    let PuttingAndFinding {
+        rt: _rt,
+        dict: _dict,
+        keys: _keys,
+        value,
+    } = pass_on(turning, frame, n)?;
     frame.release(value);
     Some(())
 }

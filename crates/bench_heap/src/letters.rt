@@ -1,14 +1,13 @@
 //! A mailbox: two threads send integers, and a third receives them.
 
-ghost use Rattle.brc_count.specs.Frames.{IsUnlocked, Owns};
-ghost use Rattle.brc_count.specs.Owned.{Keeps};
+ghost use Rattle.std.specs.Prelude.{⊤};
+ghost use Rattle.brc_count.specs.Frames.{Owns};
 
-use crate::many::Source;
 use crate::operations::Integers;
-use crate::repeating::Operation;
 use brc_biased::Home;
 use brc_count::{Frame, Handle};
 use brc_lists::{recv, send};
+use brc_loops::{Awaited, Look, Source, Task, wait_for};
 use brc_words::Fault;
 use std::alloc::Allocator;
 use std::sync::Wait;
@@ -60,30 +59,31 @@ impl Post {
     }
 }
 
-/// Meanwhile the thread deals with its own, until so many letters have been received; None where another thread gave
+/// So many letters have been received; meanwhile the thread deals with its own. They won't be where another thread gave
 /// up.
-fn awaits<R: Wait, H: Home<A>, A: Allocator>(
-    rt: &R,
-    frame: &mut Frame<H, A>,
-    post: &Post,
+#[derive(Drop)]
+struct Received<'p> {
+    post: &'p Post,
     count: u64,
-) -> Option<()>
-    requires unlocked { IsUnlocked frame.old }
-    ensures keeps { Keeps frame.old frame.new }
-    ensures unlocked { IsUnlocked frame.new }
-{
-    for _ in rt.forever() {
-        if count <= post.received.load(Ordering::Relaxed) {
-            return Some(());
+}
+
+impl<'p, H: Home<A>, A: Allocator> Awaited<H, A> for Received<'p> {
+    ghost ready = { λ _ _. ⊤ };
+
+    ghost stays = { λ _ _ _ _ ready. ready };
+
+    #[inline(always)]
+    fn look(&self, frame: &mut Frame<H, A>) -> Look {
+        if self.count <= self.post.received.load(Ordering::Relaxed) {
+            return Look::Done;
         }
-        if post.is_given_up.load(Ordering::Relaxed) {
-            return None;
+        if self.post.is_given_up.load(Ordering::Relaxed) {
+            return Look::GivenUp;
         }
         frame.poll();
         frame.work(64);
-        thread::yield_now();
+        Look::NotYet
     }
-    unreachable!()
 }
 
 /// A new integer is sent; it fails where it can't be had or is refused, or another thread gave up.
@@ -95,15 +95,19 @@ pub struct SendOne<'h, R, A: Allocator> {
     pub post: &'h Post,
 }
 
-impl<'h, R: Wait, H: Home<A>, A: Allocator + Copy> Operation<H, A> for SendOne<'h, R, A> {
+impl<'h, R: Wait, H: Home<A>, A: Allocator + Copy> Task<H, A> for SendOne<'h, R, A> {
     ghost ready = { λ send frame. Owns frame send.mailbox.now };
 
     ghost stays = { λ send old new keeps owned. keeps.owns send.mailbox.now owned };
 
     #[inline(always)]
-    fn operate(&self, frame: &mut Frame<H, A>, before: u64) -> Option<()> {
+    fn run(&self, frame: &mut Frame<H, A>, before: u64) -> Option<()> {
         let sent = before.saturating_mul(SENDERS as u64);
-        awaits(self.rt, frame, self.post, sent.saturating_sub(UNDER_WAY))?;
+        let received = Received {
+            post: self.post,
+            count: sent.saturating_sub(UNDER_WAY),
+        };
+        wait_for(self.rt, &received, frame)?;
         let letter = Integers { alloc: self.alloc }.next(frame, before)?;
         if let Err(handed) = send(self.rt, frame, self.mailbox, letter) {
             frame.release(handed.back);
@@ -115,7 +119,39 @@ impl<'h, R: Wait, H: Home<A>, A: Allocator + Copy> Operation<H, A> for SendOne<'
     }
 }
 
-/// A letter is received, once one is there, and released; it fails where that is refused, or another thread gave up.
+/// A letter is there, is received and released. None will be where a call is refused, or another thread gave up.
+#[derive(Drop)]
+struct Letter<'h, R, A: Allocator> {
+    rt: &'h R,
+    mailbox: &'h Handle<A>,
+    post: &'h Post,
+}
+
+impl<'h, R: Wait, H: Home<A>, A: Allocator> Awaited<H, A> for Letter<'h, R, A> {
+    ghost ready = { λ letter frame. Owns frame letter.mailbox.now };
+
+    ghost stays = { λ letter old new keeps owned. keeps.owns letter.mailbox.now owned };
+
+    #[inline(always)]
+    fn look(&self, frame: &mut Frame<H, A>) -> Look {
+        match recv(self.rt, frame, self.mailbox) {
+            Ok(letter) => {
+                frame.release(letter);
+                frame.work(8);
+                Look::Done
+            }
+            Err(Fault::NoSuchPlace) => {
+                if self.post.is_given_up.load(Ordering::Relaxed) {
+                    return Look::GivenUp;
+                }
+                Look::NotYet
+            }
+            Err(_) => Look::GivenUp,
+        }
+    }
+}
+
+/// A letter is received, once one is there.
 #[derive(Drop)]
 pub struct ReceiveOne<'h, R, A: Allocator> {
     pub rt: &'h R,
@@ -123,30 +159,21 @@ pub struct ReceiveOne<'h, R, A: Allocator> {
     pub post: &'h Post,
 }
 
-impl<'h, R: Wait, H: Home<A>, A: Allocator> Operation<H, A> for ReceiveOne<'h, R, A> {
+impl<'h, R: Wait, H: Home<A>, A: Allocator> Task<H, A> for ReceiveOne<'h, R, A> {
     ghost ready = { λ receive frame. Owns frame receive.mailbox.now };
 
     ghost stays = { λ receive old new keeps owned. keeps.owns receive.mailbox.now owned };
 
     #[inline(always)]
-    fn operate(&self, frame: &mut Frame<H, A>, before: u64) -> Option<()> {
+    fn run(&self, frame: &mut Frame<H, A>, before: u64) -> Option<()> {
         if before % 64 == 0 {
             self.post.received.store(before, Ordering::Relaxed);
         }
-        for _ in self.rt.forever() {
-            match recv(self.rt, frame, self.mailbox) {
-                Ok(letter) => {
-                    frame.release(letter);
-                    frame.work(8);
-                    return Some(());
-                }
-                Err(Fault::NoSuchPlace) => thread::yield_now(),
-                Err(_) => return None,
-            }
-            if self.post.is_given_up.load(Ordering::Relaxed) {
-                return None;
-            }
-        }
-        unreachable!()
+        let letter = Letter {
+            rt: self.rt,
+            mailbox: self.mailbox,
+            post: self.post,
+        };
+        wait_for(self.rt, &letter, frame)
     }
 }

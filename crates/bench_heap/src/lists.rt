@@ -8,6 +8,7 @@ use crate::containers::Container;
 use brc_biased::Home;
 use brc_count::{Frame, Handle};
 use brc_lists::{list_pop, list_push};
+use brc_loops::{Passing, Task, pass_on, repeat};
 use brc_things::{new_int, new_list};
 use brc_words::Fault;
 use std::alloc::Allocator;
@@ -37,6 +38,27 @@ pub fn push<R: Wait, H: Home<A>, A: Allocator>(
     }
 }
 
+/// One reference more to the value goes into the list.
+#[derive(Drop)]
+struct PushMore<'h, R, A: Allocator> {
+    rt: &'h R,
+    list: &'h Handle<A>,
+    value: &'h Handle<A>,
+}
+
+impl<'h, R: Wait, H: Home<A>, A: Allocator> Task<H, A> for PushMore<'h, R, A> {
+    ghost ready = { λ push frame. Owns frame push.list.now × Owns frame push.value.now };
+
+    ghost stays = { λ push old new keeps owned.
+        (keeps.owns push.list.now owned.0, keeps.owns push.value.now owned.1) };
+
+    #[inline(always)]
+    fn run(&self, frame: &mut Frame<H, A>, _before: u64) -> Option<()> {
+        let more = frame.retain(self.value).ok()?;
+        push(self.rt, frame, self.list, more)
+    }
+}
+
 /// A list of so many references.
 #[derive(Drop)]
 pub struct ListOf<'r, R> {
@@ -51,11 +73,29 @@ impl<'r, R: Wait, H: Home<A>, A: Allocator + Copy> Container<H, A> for ListOf<'r
 
     #[inline(always)]
     fn fill(&self, frame: &mut Frame<H, A>, list: &Handle<A>, value: &Handle<A>) -> Option<()> {
-        for _ in 0..self.count {
-            let more = frame.retain(value).ok()?;
-            push(self.rt, frame, list, more)?;
-        }
-        Some(())
+        let rt = self.rt;
+        repeat(&PushMore { rt, list, value }, frame, self.count)
+    }
+}
+
+/// A value, which is pushed to the list at each turn, and the list's last entry popped.
+struct PushingAndPopping<'h, R, A: Allocator> {
+    rt: &'h R,
+    list: &'h Handle<A>,
+    value: Handle<A>,
+}
+
+impl<'h, R: Wait, H: Home<A>, A: Allocator> Passing<H, A> for PushingAndPopping<'h, R, A> {
+    ghost held = { λ it. it.value };
+
+    ghost ready = { λ it frame. Owns frame it.list.now × (it.value.place ≢ it.list.now.place) };
+
+    #[inline(always)]
+    fn pass(self, frame: &mut Frame<H, A>, _before: u64) -> Option<Self> {
+        let PushingAndPopping { rt, list, value } = self;
+        push(rt, frame, list, value)?;
+        let value = list_pop(rt, frame, list).ok()?;
+        Some(PushingAndPopping { rt, list, value })
     }
 }
 
@@ -72,11 +112,13 @@ pub fn pushes_and_pops<R: Wait, H: Home<A>, A: Allocator>(
     ensures keeps { Keeps frame.old frame.new }
     ensures unlocked { IsUnlocked frame.new }
 {
-    let mut value = new_int(alloc, frame, 1_000).ok()?;
-    for _ in 0..n {
-        push(rt, frame, list, value)?;
-        value = list_pop(rt, frame, list).ok()?;
-    }
+    let value = new_int(alloc, frame, 1_000).ok()?;
+    let turning = PushingAndPopping { rt, list, value };
+    let PushingAndPopping {
+        rt: _rt,
+        list: _list,
+        value,
+    } = pass_on(turning, frame, n)?;
     frame.release(value);
     Some(())
 }

@@ -3,7 +3,7 @@
 ghost use Rattle.std.specs.Prelude.{◌≡◌};
 ghost use Rattle.brc_count.specs.Frames.{IsUnlocked};
 ghost use Rattle.brc_count.specs.Owned.{Keeps};
-ghost use Rattle.brc_handles.specs.Handles.{Holds};
+ghost use Rattle.brc_handles.specs.Handles.{OwnsEach};
 
 use crate::containers::Full;
 use crate::deaths::{Chains, life_of};
@@ -11,17 +11,16 @@ use crate::dicts::{DictOf, Keys, puts_and_finds};
 use crate::globals::take_from_globals;
 use crate::letters::{Post, ReceiveOne, SENDERS, SendOne};
 use crate::lists::{ListOf, pushes_and_pops};
-use crate::many::{Source, takes};
 use crate::operations::{
-    Ending, Integers, NewList10, Pair, PairStrewn, Polled, Texts16, new_integers, pairs_in_turn,
+    Ending, Integers, NewInteger, NewList10, Pair, PairStrewn, Polled, Texts16, pairs_in_turn,
 };
-use crate::repeating::repeat;
 use crate::request::Case;
 use crate::timing::{Span, refused, this_moment};
 use brc_biased::Home;
-use brc_count::{Frame, Handle, Ledger};
+use brc_count::{Frame, Handle};
 use brc_handles::Handles;
-use brc_thread::{Heap, Mutator, Resting};
+use brc_loops::{Life, Source, fill, repeat};
+use brc_thread::{Heap, Mutator};
 use brc_words::FIRST_MORTAL;
 use std::alloc::{Allocator, Global};
 use std::rt::Clock;
@@ -165,7 +164,7 @@ fn operates<R: Wait, H: Home<A>, A: Allocator + Copy>(
     post: &Post,
     asked: Asked,
 ) -> Option<()>
-    requires holds { Holds 0 frame.old handles.now }
+    requires each { OwnsEach frame.old handles.now }
     requires unlocked { IsUnlocked frame.old }
     ensures keeps { Keeps frame.old frame.new }
     ensures unlocked { IsUnlocked frame.new }
@@ -173,7 +172,7 @@ fn operates<R: Wait, H: Home<A>, A: Allocator + Copy>(
     let n = asked.n;
     match asked.case {
         Case::NewInt | Case::NewIntApart | Case::ClaimFull | Case::ClaimFullNear => {
-            return new_integers(alloc, frame, n);
+            return repeat(&NewInteger { alloc }, frame, n);
         }
         Case::NewText16 | Case::NewText16Apart => {
             let source = Texts16 { alloc };
@@ -248,7 +247,7 @@ fn measures<R: Wait + Clock + CpuClock, H: Home<A>, A: Allocator + Copy>(
     let mut handles = Handles::new(alloc);
     post.begin_together(rt, asked.threads, 1);
     let needed = Needed { rt, alloc, asked };
-    let filled = takes(&needed, frame, &mut handles, handles_for(asked.case));
+    let filled = fill(&needed, frame, &mut handles, handles_for(asked.case));
     post.begin_together(rt, asked.threads, 2);
     let began = this_moment(rt);
     let whole = operates(rt, alloc, frame, &handles, post, asked);
@@ -264,17 +263,6 @@ fn measures<R: Wait + Clock + CpuClock, H: Home<A>, A: Allocator + Copy>(
     })
 }
 
-/// The mutator at rest, once it has nothing to take apart.
-pub fn rests<H: Home<A> + Drop, A: Allocator>(rt: &impl Wait, mutator: Mutator<H, A>) -> Resting<A>
-    requires bare { mutator.len ≡ 0 }
-    requires unlocked { IsUnlocked mutator }
-    ensures heap { result.heap ≡ mutator.heap }
-{
-    let mut mutator = mutator;
-    mutator.settle(rt);
-    mutator.rest()
-}
-
 /// What some threads are to do, all the same.
 #[derive(Clone, Copy, Debug)]
 pub struct Asked {
@@ -285,46 +273,38 @@ pub struct Asked {
     pub n: u64,
 }
 
-/// What a thread has done.
+/// What a thread does between its waking and its end; it tells when it began and ended its operations, if it isn't idle.
 #[derive(Drop)]
-pub struct Done {
-    pub span: io::Result<Option<Span>>,
-    pub ledger: Ledger,
+pub struct Timed<'p> {
+    pub alloc: Global,
+    pub post: &'p Post,
+    pub asked: Asked,
 }
 
-/// What a thread does from its waking to its end.
-pub fn lives<R: Wait + Clock + CpuClock>(
-    rt: &R,
-    alloc: Global,
-    heap: &Heap<Global>,
-    resting: Resting<Global>,
-    post: &Post,
-    asked: Asked,
-) -> Done
-    requires heap { resting.heap ≡ heap.now }
-{
-    let mut mutator = resting.wake(heap);
-    let span = if asked.idle {
-        Ok(None)
-    } else {
-        begins_claims(mutator.frame(), asked);
-        let span = match asked.case {
+impl<'p, R: Wait + Clock + CpuClock> Life<R> for Timed<'p> {
+    type Answer = io::Result<Option<Span>>;
+
+    fn live(
+        &self,
+        rt: &R,
+        mutator: &mut Mutator<&Heap<Global>, Global>,
+    ) -> io::Result<Option<Span>> {
+        if self.asked.idle {
+            return Ok(None);
+        }
+        begins_claims(mutator.frame(), self.asked);
+        let span = match self.asked.case {
             Case::Chain | Case::MakeChain | Case::MakeChainNear | Case::Wide => measures_one(
                 rt,
-                alloc,
+                self.alloc,
                 mutator.frame(),
-                asked,
+                self.asked,
             ),
-            _ => measures(rt, alloc, mutator.frame(), post, asked),
+            _ => measures(rt, self.alloc, mutator.frame(), self.post, self.asked),
         };
         match span {
             Ok(span) => Ok(Some(span)),
             Err(error) => Err(error),
         }
-    };
-    let retired = mutator.retire(rt);
-    Done {
-        span,
-        ledger: retired.ledger(),
     }
 }

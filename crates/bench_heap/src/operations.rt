@@ -3,16 +3,15 @@
 ghost use Rattle.std.specs.Prelude.{⊤};
 ghost use Rattle.brc_count.specs.Frames.{IsUnlocked, Owns};
 ghost use Rattle.brc_count.specs.Owned.{Keeps};
-ghost use Rattle.brc_handles.specs.Handles.{Holds};
-ghost use Rattle.bench_heap.specs.Held.{held_still};
+ghost use Rattle.brc_handles.specs.Handles.{OwnsEach};
+ghost use Rattle.brc_loops.specs.Held.{each_still};
 
 use crate::containers::Container;
 use crate::lists::ListOf;
-use crate::many::Source;
-use crate::repeating::{Operation, repeat};
 use brc_biased::Home;
 use brc_count::{Frame, Handle};
 use brc_handles::Handles;
+use brc_loops::{Source, Task, repeat};
 use brc_things::{new_int, new_list, new_text};
 use brc_words::Text;
 use std::alloc::Allocator;
@@ -24,13 +23,13 @@ pub struct Pair<'h, A: Allocator> {
     pub handle: &'h Handle<A>,
 }
 
-impl<'h, H: Home<A>, A: Allocator> Operation<H, A> for Pair<'h, A> {
+impl<'h, H: Home<A>, A: Allocator> Task<H, A> for Pair<'h, A> {
     ghost ready = { λ pair frame. Owns frame pair.handle.now };
 
     ghost stays = { λ pair old new keeps owned. keeps.owns pair.handle.now owned };
 
     #[inline(always)]
-    fn operate(&self, frame: &mut Frame<H, A>, _before: u64) -> Option<()> {
+    fn run(&self, frame: &mut Frame<H, A>, _before: u64) -> Option<()> {
         let more = frame.retain(self.handle).ok()?;
         frame.release(more);
         Some(())
@@ -43,14 +42,14 @@ pub struct Polled<O> {
     pub operation: O,
 }
 
-impl<O: Operation<H, A>, H: Home<A>, A: Allocator> Operation<H, A> for Polled<O> {
+impl<O: Task<H, A>, H: Home<A>, A: Allocator> Task<H, A> for Polled<O> {
     ghost ready = { λ polled frame. O.ready polled.operation frame };
 
     ghost stays = { λ polled. O.stays polled.operation };
 
     #[inline(always)]
-    fn operate(&self, frame: &mut Frame<H, A>, before: u64) -> Option<()> {
-        self.operation.operate(frame, before)?;
+    fn run(&self, frame: &mut Frame<H, A>, before: u64) -> Option<()> {
+        self.operation.run(frame, before)?;
         if before % 256 == 0 {
             frame.poll();
         }
@@ -64,15 +63,15 @@ struct PairOf<'h, A: Allocator> {
     handles: &'h Handles<A>,
 }
 
-impl<'h, H: Home<A>, A: Allocator> Operation<H, A> for PairOf<'h, A> {
-    ghost ready = { λ pair frame. Holds 0 frame pair.handles.now };
+impl<'h, H: Home<A>, A: Allocator> Task<H, A> for PairOf<'h, A> {
+    ghost ready = { λ pair frame. OwnsEach frame pair.handles.now };
 
-    ghost stays = { λ pair. held_still pair.handles.now };
+    ghost stays = { λ pair. each_still pair.handles.now };
 
     #[inline(always)]
-    fn operate(&self, frame: &mut Frame<H, A>, before: u64) -> Option<()> {
+    fn run(&self, frame: &mut Frame<H, A>, before: u64) -> Option<()> {
         let handle = self.handles.get(before as usize)?;
-        Pair { handle }.operate(frame, before)
+        Pair { handle }.run(frame, before)
     }
 }
 
@@ -82,17 +81,38 @@ pub struct PairStrewn<'h, A: Allocator> {
     pub handles: &'h Handles<A>,
 }
 
-impl<'h, H: Home<A>, A: Allocator> Operation<H, A> for PairStrewn<'h, A> {
-    ghost ready = { λ pair frame. Holds 0 frame pair.handles.now };
+impl<'h, H: Home<A>, A: Allocator> Task<H, A> for PairStrewn<'h, A> {
+    ghost ready = { λ pair frame. OwnsEach frame pair.handles.now };
 
-    ghost stays = { λ pair. held_still pair.handles.now };
+    ghost stays = { λ pair. each_still pair.handles.now };
 
     #[inline(always)]
-    fn operate(&self, frame: &mut Frame<H, A>, before: u64) -> Option<()> {
+    fn run(&self, frame: &mut Frame<H, A>, before: u64) -> Option<()> {
         let pair_of = PairOf {
             handles: self.handles,
         };
-        pair_of.operate(frame, before % 256 * 37 % 256)
+        pair_of.run(frame, before % 256 * 37 % 256)
+    }
+}
+
+/// A pair on each of the first objects, so many.
+#[derive(Drop)]
+struct Round<'h, A: Allocator> {
+    handles: &'h Handles<A>,
+    count: u64,
+}
+
+impl<'h, H: Home<A>, A: Allocator> Task<H, A> for Round<'h, A> {
+    ghost ready = { λ round frame. OwnsEach frame round.handles.now };
+
+    ghost stays = { λ round. each_still round.handles.now };
+
+    #[inline(always)]
+    fn run(&self, frame: &mut Frame<H, A>, _before: u64) -> Option<()> {
+        let pair_of = PairOf {
+            handles: self.handles,
+        };
+        repeat(&pair_of, frame, self.count)
     }
 }
 
@@ -102,7 +122,7 @@ pub fn pairs_in_turn<H: Home<A>, A: Allocator>(
     handles: &Handles<A>,
     n: u64,
 ) -> Option<()>
-    requires holds { Holds 0 frame.old handles.now }
+    requires each { OwnsEach frame.old handles.now }
     requires unlocked { IsUnlocked frame.old }
     ensures keeps { Keeps frame.old frame.new }
     ensures unlocked { IsUnlocked frame.new }
@@ -111,32 +131,32 @@ pub fn pairs_in_turn<H: Home<A>, A: Allocator>(
     if count == 0 {
         return None;
     }
-    for _round in 0..n / count {
-        repeat(&PairOf { handles }, frame, count)?;
-    }
+    repeat(&Round { handles, count }, frame, n / count)?;
     repeat(&PairOf { handles }, frame, n % count)
 }
 
 /// So many turns of work follow each object that is made.
 const TURNS: usize = 64;
 
-/// So many integers, each made, released, and taken apart; None where one can't be had.
-pub fn new_integers<H: Home<A>, A: Allocator + Copy>(
-    alloc: A,
-    frame: &mut Frame<H, A>,
-    n: u64,
-) -> Option<()>
-    requires unlocked { IsUnlocked frame.old }
-    ensures keeps { Keeps frame.old frame.new }
-    ensures unlocked { IsUnlocked frame.new }
-{
-    // A loop of its own: in the one that texts have, LLVM makes a call of taking the block off the worklist.
-    for i in 0..n {
-        let integer = new_int(alloc, frame, 1_000 + (i % 65_536) as i64).ok()?;
+/// An integer is made, released, and taken apart. It is a task of its own: in the loop that texts have, LLVM makes a call
+/// of taking the block off the worklist.
+#[derive(Drop)]
+pub struct NewInteger<A> {
+    pub alloc: A,
+}
+
+impl<H: Home<A>, A: Allocator + Copy> Task<H, A> for NewInteger<A> {
+    ghost ready = { λ _ _. ⊤ };
+
+    ghost stays = { λ _ _ _ _ ready. ready };
+
+    #[inline(always)]
+    fn run(&self, frame: &mut Frame<H, A>, before: u64) -> Option<()> {
+        let integer = new_int(self.alloc, frame, 1_000 + (before % 65_536) as i64).ok()?;
         frame.release(integer);
         frame.work(TURNS);
+        Some(())
     }
-    Some(())
 }
 
 /// What the source has next is released, and taken apart.
@@ -145,13 +165,13 @@ pub struct Ending<S> {
     pub source: S,
 }
 
-impl<S: Source<H, A>, H: Home<A>, A: Allocator> Operation<H, A> for Ending<S> {
+impl<S: Source<H, A>, H: Home<A>, A: Allocator> Task<H, A> for Ending<S> {
     ghost ready = { λ _ _. ⊤ };
 
     ghost stays = { λ _ _ _ _ ready. ready };
 
     #[inline(always)]
-    fn operate(&self, frame: &mut Frame<H, A>, before: u64) -> Option<()> {
+    fn run(&self, frame: &mut Frame<H, A>, before: u64) -> Option<()> {
         let object = self.source.next(frame, before)?;
         frame.release(object);
         frame.work(TURNS);
@@ -194,13 +214,13 @@ pub struct NewList10<'h, R, A: Allocator> {
     pub value: &'h Handle<A>,
 }
 
-impl<'h, R: Wait, H: Home<A>, A: Allocator + Copy> Operation<H, A> for NewList10<'h, R, A> {
+impl<'h, R: Wait, H: Home<A>, A: Allocator + Copy> Task<H, A> for NewList10<'h, R, A> {
     ghost ready = { λ new frame. Owns frame new.value.now };
 
     ghost stays = { λ new old after keeps owned. keeps.owns new.value.now owned };
 
     #[inline(always)]
-    fn operate(&self, frame: &mut Frame<H, A>, _before: u64) -> Option<()> {
+    fn run(&self, frame: &mut Frame<H, A>, _before: u64) -> Option<()> {
         let list = new_list(self.alloc, frame).ok()?;
         let ten = ListOf {
             rt: self.rt,

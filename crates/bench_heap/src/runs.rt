@@ -7,23 +7,22 @@ ghost use Rattle.brc_count.specs.Owned.{Keeps, Gains};
 
 use crate::globals::put_into_globals;
 use crate::letters::{Post, SENDERS};
-use crate::lives::{Asked, CELLS, Done, FOREIGN, first_key, lives, rests};
-use crate::many::Source;
+use crate::lives::{Asked, CELLS, FOREIGN, Timed, first_key};
 use crate::operations::Integers;
-use crate::repeating::{Operation, repeat};
 use crate::request::Case;
-use crate::timing::{Times, refused, times_of};
+use crate::timing::{Span, Times, refused, times_of};
 use brc_biased::Home;
 use brc_count::{Frame, Handle};
+use brc_loops::{Ended, Source, Task, repeat, rest_more, run_all};
 use brc_things::{new_int, new_list, new_mailbox};
 use brc_thread::{Heap, Options, Resting, Root, give_back, take_apart};
 use brc_words::Fault;
-use std::alloc::{AllocError, Allocator, Global};
+use std::alloc::{Allocator, Global};
+use std::io;
 use std::rt::Clock;
 use std::sync::Wait;
 use std::thread::Threads;
 use std::time::CpuClock;
-use std::{io, thread};
 
 /// What all threads hold.
 #[derive(Clone, Copy, Debug, PartialEq, Eq)]
@@ -51,12 +50,12 @@ struct GiveInteger<'r, R, A> {
     first: u32,
 }
 
-impl<'r, R: Wait, H: Home<A>, A: Allocator + Copy> Operation<H, A> for GiveInteger<'r, R, A> {
+impl<'r, R: Wait, H: Home<A>, A: Allocator + Copy> Task<H, A> for GiveInteger<'r, R, A> {
     ghost ready = { λ _ _. ⊤ };
 
     ghost stays = { λ _ _ _ _ ready. ready };
 
-    fn operate(&self, frame: &mut Frame<H, A>, before: u64) -> Option<()> {
+    fn run(&self, frame: &mut Frame<H, A>, before: u64) -> Option<()> {
         let integer = Integers { alloc: self.alloc }.next(frame, before)?;
         put_into_globals(
             self.rt,
@@ -74,12 +73,12 @@ struct GiveReference<'h, R, A: Allocator> {
     handle: &'h Handle<A>,
 }
 
-impl<'h, R: Wait, H: Home<A>, A: Allocator + Copy> Operation<H, A> for GiveReference<'h, R, A> {
+impl<'h, R: Wait, H: Home<A>, A: Allocator + Copy> Task<H, A> for GiveReference<'h, R, A> {
     ghost ready = { λ give frame. Owns frame give.handle.now };
 
     ghost stays = { λ give old new keeps owned. keeps.owns give.handle.now owned };
 
-    fn operate(&self, frame: &mut Frame<H, A>, before: u64) -> Option<()> {
+    fn run(&self, frame: &mut Frame<H, A>, before: u64) -> Option<()> {
         let more = frame.retain(self.handle).ok()?;
         put_into_globals(self.rt, frame, more, 1 + (before % 65_536) as i64)
     }
@@ -146,34 +145,8 @@ fn gives<R: Wait, H: Home<A>, A: Allocator + Copy>(
     }
 }
 
-/// The next thread, which has given this and is at rest.
-fn registered(
-    rt: &impl Wait,
-    alloc: Global,
-    heap: &Heap<Global>,
-    root: &mut Root<Global>,
-    gift: Gift,
-) -> io::Result<Resting<Global>>
-    requires heap { root.old.table ≡ heap.now.table }
-    ensures heap { IfOk result (λ resting. resting.heap ≡ heap.now) }
-    ensures root { root.new.table ≡ root.old.table }
-{
-    match root.register(alloc, heap) {
-        Err(_) => Err(refused()),
-        Ok(mutator) => {
-            let mut mutator = mutator;
-            let given = gives(rt, alloc, mutator.frame(), gift);
-            let resting = rests(rt, mutator);
-            if given.is_none() {
-                return Err(refused());
-            }
-            Ok(resting)
-        }
-    }
-}
-
 /// What the thread of this number, from 0, gives before all of them run.
-fn gift_of(asked: Asked, number: u32) -> Gift {
+fn gift_of(asked: Asked, number: u64) -> Gift {
     if asked.idle {
         return Gift::Integers(FOREIGN);
     }
@@ -188,9 +161,27 @@ fn gift_of(asked: Asked, number: u32) -> Gift {
     }
 }
 
+/// What a thread gives, after so many threads before it.
+#[derive(Drop)]
+struct Giving<'r, R, A> {
+    rt: &'r R,
+    alloc: A,
+    asked: Asked,
+}
+
+impl<'r, R: Wait, H: Home<A>, A: Allocator + Copy> Task<H, A> for Giving<'r, R, A> {
+    ghost ready = { λ _ _. ⊤ };
+
+    ghost stays = { λ _ _ _ _ ready. ready };
+
+    fn run(&self, frame: &mut Frame<H, A>, before: u64) -> Option<()> {
+        gives(self.rt, self.alloc, frame, gift_of(self.asked, before))
+    }
+}
+
 /// The threads, each of which has given what it gives and is at rest.
-fn rested(
-    rt: &impl Wait,
+fn rested<R: Wait>(
+    rt: &R,
     alloc: Global,
     heap: &Heap<Global>,
     root: &mut Root<Global>,
@@ -201,11 +192,11 @@ fn rested(
     ensures root { root.new.table ≡ root.old.table }
 {
     let mut all = Vec::new(alloc);
-    for number in 0..asked.threads {
-        let resting = registered(rt, alloc, heap, root, gift_of(asked, number))?;
-        all.push(resting)?;
+    let task = Giving { rt, alloc, asked };
+    match rest_more(rt, alloc, heap, root, &task, asked.threads as u64, &mut all) {
+        Some(()) => Ok(all),
+        None => Err(refused()),
     }
-    Ok(all)
 }
 
 /// What a run answers.
@@ -218,36 +209,17 @@ pub struct Answer {
     pub frees: u64,
 }
 
-/// Each in a thread of the machine of its own.
-fn run_all<R: Threads + Wait + Clock + CpuClock + Sync>(
-    rt: &R,
-    alloc: Global,
-    heap: &Heap<Global>,
-    all: Vec<Resting<Global>>,
-    post: &Post,
-    asked: Asked,
-) -> Result<Vec<Done>, AllocError>
-    requires heap { All (λ resting. resting.heap ≡ heap.now) all.items }
-{
-    thread::map_vec(
-        rt,
-        all,
-        &|resting|
-            requires { resting.heap ≡ heap.now }
-        { lives(rt, alloc, heap, resting, post, asked) },
-    )
-}
-
 /// What all threads together found.
-fn answer_of(alloc: Global, all: Vec<Done>) -> io::Result<Answer> {
+fn answer_of(alloc: Global, all: Vec<Ended<io::Result<Option<Span>>>>) -> io::Result<Answer> {
     let mut spans = Vec::new(alloc);
     let mut allocs: u64 = 0;
     let mut frees: u64 = 0;
-    for done in all {
-        let Done { span, ledger } = done;
-        if let Some(span) = span? {
+    for one in all {
+        let Ended { answer, retired } = one;
+        if let Some(span) = answer? {
             spans.push(span)?;
         }
+        let ledger = retired.ledger();
         allocs = allocs.wrapping_add(ledger.allocs);
         frees = frees.wrapping_add(ledger.frees);
     }
@@ -281,9 +253,19 @@ fn answer_on<R: Threads + Wait + Clock + CpuClock + Sync>(
     let idle = rested(rt, alloc, heap, root, owning)?;
     let busy = rested(rt, alloc, heap, root, asked)?;
     let post = Post::new();
-    let mut all = run_all(rt, alloc, heap, busy, &post, asked)?;
-    for done in run_all(rt, alloc, heap, idle, &post, owning)? {
-        all.push(done)?;
+    let timed = Timed {
+        alloc,
+        post: &post,
+        asked,
+    };
+    let idling = Timed {
+        alloc,
+        post: &post,
+        asked: owning,
+    };
+    let mut all = run_all(rt, heap, &timed, busy)?;
+    for one in run_all(rt, heap, &idling, idle)? {
+        all.push(one)?;
     }
     answer_of(alloc, all)
 }

@@ -6,13 +6,14 @@ ghost use Rattle.std.specs.Prelude.{◌≡◌};
 ghost use Rattle.brc_heap.specs.Words.{IsUnlocked, Keeps, Owns};
 
 use brc_heap::{
-    Frame, Handle, Heap, Key, Ledger, Options, Resting, Retired, Root, dict_del, dict_find,
-    dict_put, give_back, list_push, new_int, new_list, take_apart,
+    Frame, Handle, Heap, Key, Ledger, Mutator, Options, Root, dict_del, dict_find, dict_put,
+    give_back, list_push, new_int, new_list, take_apart,
 };
+use brc_loops::{Life, Nothing, gather_all, rest_more, run_all};
 use std::alloc::Global;
 use std::io;
 use std::sync::Wait;
-use std::thread::{Threads, join};
+use std::thread::Threads;
 
 const LIST: i64 = 1; // the list's key in the globals
 
@@ -48,56 +49,44 @@ fn pushes(rt: &impl Wait, alloc: Global, frame: &mut Frame, list: &Handle, numbe
     }
 }
 
-/// A thread of the machine: it wakes, finds the list in the globals, pushes a number, and ends.
-fn works(rt: &impl Wait, alloc: Global, heap: &Heap, resting: Resting, number: i64) -> Retired
-    requires heap { resting.heap ≡ heap.now }
-    ensures heap { result.heap ≡ heap.now }
-{
-    let mut mutator = resting.wake(heap);
-    if let Ok(globals) = mutator.globals() {
-        let frame = mutator.frame();
-        if let Ok(list) = dict_find(rt, frame, &globals, &Key::Int(LIST)) {
-            pushes(rt, alloc, frame, &list, number);
-            frame.release(list);
+/// What a thread of the machine does: it finds the list in the globals, and pushes a number of its own.
+#[derive(Drop)]
+struct Pushing {
+    alloc: Global,
+}
+
+impl<R: Wait> Life<R> for Pushing {
+    type Answer = ();
+
+    fn live(&self, rt: &R, mutator: &mut Mutator) {
+        let number = 1_000 * mutator.thread() as i64 + 1;
+        if let Ok(globals) = mutator.globals() {
+            let frame = mutator.frame();
+            if let Ok(list) = dict_find(rt, frame, &globals, &Key::Int(LIST)) {
+                pushes(rt, self.alloc, frame, &list, number);
+                frame.release(list);
+            }
+            frame.release(globals);
         }
-        frame.release(globals);
     }
-    mutator.retire(rt)
 }
 
-/// Both at work, each on a thread of the machine.
-fn both<R>(rt: &R, alloc: Global, heap: &Heap, one: Resting, two: Resting) -> (Retired, Retired)
-where
-    R: Threads + Wait + Sync,
-    requires one { one.heap ≡ heap.now }
-    requires two { two.heap ≡ heap.now }
-    ensures one { result.0.heap ≡ heap.now }
-    ensures two { result.1.heap ≡ heap.now }
-{
-    join(
-        rt,
-        || works(rt, alloc, heap, one, 1_001),
-        || works(rt, alloc, heap, two, 2_001),
-    )
-}
-
-/// Two threads are registered, do their work, and are gathered: their ledgers.
+/// Two threads are registered, do their work, each on a thread of the machine, and are gathered: their ledgers.
 fn two_work<R>(rt: &R, alloc: Global, heap: &Heap, root: &mut Root) -> Option<(Ledger, Ledger)>
 where
     R: Threads + Wait + Sync,
     requires root { root.old.table ≡ heap.now.table }
     ensures root { root.new.table ≡ root.old.table }
 {
-    let one = root.register(alloc, heap).ok()?;
-    let Ok(two) = root.register(alloc, heap) else {
-        let _ledger = one.end(rt, root, heap);
-        return None;
+    let mut two = Vec::new(alloc);
+    let _registered = rest_more(rt, alloc, heap, root, &Nothing, 2, &mut two);
+    let ended = run_all(rt, heap, &Pushing { alloc }, two).ok()?;
+    let ledgers = match (ended.get(0), ended.get(1)) {
+        (Some(one), Some(two)) => Some((one.retired.ledger(), two.retired.ledger())),
+        _ => None,
     };
-    let (one, two) = both(rt, alloc, heap, one.rest(), two.rest());
-    let ledgers = (one.ledger(), two.ledger());
-    root.gather(heap, one);
-    root.gather(heap, two);
-    Some(ledgers)
+    gather_all(root, heap, ended);
+    ledgers
 }
 
 fn main(rt: HostRuntime) -> io::Result<()> {

@@ -1,8 +1,0 @@
-use Rattle.brc_count.specs.Frames.{IsUnlocked}
-use Rattle.brc_count.specs.Owned.{Keeps}
-use Rattle.bench_heap.proofs.letters.awaits.Given as goal
-
-abbrev pub invariant-loop : goal.invariant-loop
-invariant-loop g l =
-    (goal.iterator-loop g).can_next l.iterator' × (goal.iterator-loop g).is_finite l.iterator'
-    × Keeps l.fn.frame l.frame × IsUnlocked l.frame

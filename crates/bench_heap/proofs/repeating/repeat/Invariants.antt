@@ -1,6 +1,0 @@
-use Rattle.brc_count.specs.Frames.{IsUnlocked}
-use Rattle.brc_count.specs.Owned.{Keeps}
-use Rattle.bench_heap.proofs.repeating.repeat.Given as goal
-
-abbrev pub invariant-loop-before : goal.invariant-loop-before
-invariant-loop-before g l = Keeps l.fn.frame l.frame × IsUnlocked l.frame

@@ -1,0 +1,3 @@
+pub mod One_Heap
+pub mod Sent
+pub mod Traded

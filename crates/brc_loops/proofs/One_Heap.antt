@@ -1,0 +1,30 @@
+-- Threads of one heap, dealt with one after the other.
+use Rattle.std.proofs.Common.{◌≡◌, ◌++◌, List, [], ◌∷◌, sym, subst}
+use Rattle.std.specs.List.{All}
+use Rattle.std.proofs.lemmas.List.Elements.{All-head, All-rest, All-push, All-same}
+use Rattle.brc_count.specs.Frames.{FrameSeen}
+use Rattle.brc_table.specs.Seated.{TableSeen}
+use Rattle.brc_loops.specs.declared.threads.Ended.{Ended}
+
+-- one more rests beside the others, for which room was made
+pub one_rests : {A : Type 0} (heap : TableSeen) (x : FrameSeen A) (old before after : List (FrameSeen A)) → before ≡ old
+    → after ≡ before ++ x ∷ [] → x.heap ≡ heap → All (λ (one : FrameSeen A). one.heap ≡ heap) old
+    → All (λ (one : FrameSeen A). one.heap ≡ heap) after
+one_rests {A} heap x old before after same more so all =
+    subst (All (λ (one : FrameSeen A). one.heap ≡ heap)) (sym more)
+    (All-push (λ (one : FrameSeen A). one.heap ≡ heap) before x
+    (All-same (λ (one : FrameSeen A). one.heap ≡ heap) before old same all) so)
+
+module _ {X : Type 0} where
+  -- the first of those that are left, and the others
+  pub first_ended : (heap : TableSeen) (x : Ended X) (before left : List (Ended X)) → before ≡ x ∷ left
+      → All (λ (one : Ended X). one.retired.heap ≡ heap) before → x.retired.heap ≡ heap
+  first_ended heap x before left next all =
+      All-head (λ (one : Ended X). one.retired.heap ≡ heap) x left
+      (subst (All (λ (one : Ended X). one.retired.heap ≡ heap)) next all)
+
+  pub others_ended : (heap : TableSeen) (x : Ended X) (before left : List (Ended X)) → before ≡ x ∷ left
+      → All (λ (one : Ended X). one.retired.heap ≡ heap) before
+      → All (λ (one : Ended X). one.retired.heap ≡ heap) left
+  others_ended heap x before left next all =
+      All-rest (λ (one : Ended X). one.retired.heap ≡ heap) x left before next all

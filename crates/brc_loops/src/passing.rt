@@ -1,0 +1,52 @@
+//! A handle that goes from turn to turn: at each it goes in, and another comes out.
+
+ghost use Rattle.std.specs.Prelude.{IfSome, IfNone};
+ghost use Rattle.brc_count.specs.Frames.{FrameSeen, HandleSeen, IsUnlocked, Owns};
+ghost use Rattle.brc_count.specs.Owned.{Loses, Trades};
+
+use brc_biased::Home;
+use brc_count::Frame;
+use std::alloc::Allocator;
+
+/// What has one handle, and gives it for another at each turn. The turns are the value's own, so it is used up and comes
+/// back: a method that takes a handle beside `&self` would have to repeat these clauses in each `impl`.
+pub trait Passing<H: Home<A>, A: Allocator>: Sized {
+    // the handle that it has
+    ghost held: { Self → HandleSeen };
+
+    // what else it needs of the frame
+    ghost ready: { Self → FrameSeen A → Type 0 };
+
+    /// The handle goes in, after so many turns before, and the answer has the one that comes out; None where it fails: no
+    /// handle is left of it.
+    fn pass(self, frame: &mut Frame<H, A>, before: u64) -> Option<Self>
+        requires ready { ready self frame.old }
+        requires owned { Owns frame.old (held self) }
+        requires unlocked { IsUnlocked frame.old }
+        ensures trades { IfSome result (λ after. Trades frame.old frame.new (held self) (held after)) }
+        ensures ready { IfSome result (λ after. ready after frame.new) }
+        ensures loses { IfNone result (Loses frame.old frame.new (held self)) }
+        ensures unlocked { IsUnlocked frame.new };
+}
+
+/// So many turns; None where one failed, which ends the loop.
+#[inline(always)]
+pub fn pass_on<P: Passing<H, A>, H: Home<A>, A: Allocator>(
+    passing: P,
+    frame: &mut Frame<H, A>,
+    n: u64,
+) -> Option<P>
+    requires ready { P.ready passing frame.old }
+    requires owned { Owns frame.old (P.held passing) }
+    requires unlocked { IsUnlocked frame.old }
+    ensures trades { IfSome result (λ after. Trades frame.old frame.new (P.held passing) (P.held after)) }
+    ensures ready { IfSome result (λ after. P.ready after frame.new) }
+    ensures loses { IfNone result (Loses frame.old frame.new (P.held passing)) }
+    ensures unlocked { IsUnlocked frame.new }
+{
+    let mut last = passing;
+    for before in 0..n {
+        last = last.pass(frame, before)?;
+    }
+    Some(last)
+}

@@ -1,0 +1,143 @@
+//! Threads of one heap: they are registered and rest, live each on a thread of the machine, and are gathered.
+
+ghost use Rattle.std.specs.Prelude.{◌≡◌, ◌+◌, All, IfOk, IfSome, length};
+ghost use Rattle.brc_count.specs.Frames.{FrameSeen, IsUnlocked};
+ghost use Rattle.brc_thread.specs.Counting.{gatherings};
+
+use crate::repeating::Task;
+use brc_thread::{Heap, Mutator, Resting, Retired, Root};
+use std::alloc::{AllocError, Allocator, Global};
+use std::sync::Wait;
+use std::thread;
+use std::thread::Threads;
+
+/// What a thread does between its waking and its end.
+pub trait Life<R> {
+    /// What it tells those that wait for it.
+    type Answer;
+
+    /// It has no handle when it begins, and none afterwards.
+    fn live(&self, rt: &R, mutator: &mut Mutator<&Heap<Global>, Global>) -> Self::Answer
+        requires bare { mutator.old.len ≡ 0 }
+        requires unlocked { IsUnlocked mutator.old }
+        ensures heap { mutator.new.heap ≡ mutator.old.heap }
+        ensures bare { mutator.new.len ≡ 0 }
+        ensures unlocked { IsUnlocked mutator.new };
+}
+
+/// A thread that has lived, for the root to gather.
+#[derive(Drop)]
+pub struct Ended<X> {
+    pub answer: X,
+    pub retired: Retired<Global>,
+}
+
+/// The next thread is registered, does the task, and rests beside the others. None where there is no thread more or no
+/// memory, or, with the thread at rest, where the task failed.
+fn rest_next<'h, T: Task<&'h Heap<A>, A>, A: Allocator + Copy>(
+    rt: &impl Wait,
+    alloc: A,
+    heap: &'h Heap<A>,
+    root: &mut Root<A>,
+    task: &T,
+    before: u64,
+    all: &mut Vec<Resting<A>, A>,
+) -> Option<()>
+    requires root { root.old.table ≡ heap.now.table }
+    requires heap { All (λ resting. resting.heap ≡ heap.now) all.old.items }
+    requires ready { (frame : FrameSeen A) → T.ready task.now frame }
+
+    ensures root { root.new.table ≡ root.old.table }
+    ensures heap { All (λ resting. resting.heap ≡ heap.now) all.new.items }
+    ensures count { IfSome result (λ _. length all.new.items ≡ length all.old.items + 1) }
+{
+    all.reserve(1).ok()?;
+    let mut mutator = root.register(alloc, heap).ok()?;
+    let done = task.run(mutator.frame(), before);
+    mutator.settle(rt);
+    all.push_reserved(mutator.rest());
+    done
+}
+
+/// So many threads more are registered, and rest; each does the task first, after so many threads before it. None where
+/// there is no thread more or no memory, or where the task failed: those that were registered up to then rest here.
+pub fn rest_more<'h, T: Task<&'h Heap<A>, A>, A: Allocator + Copy>(
+    rt: &impl Wait,
+    alloc: A,
+    heap: &'h Heap<A>,
+    root: &mut Root<A>,
+    task: &T,
+    count: u64,
+    all: &mut Vec<Resting<A>, A>,
+) -> Option<()>
+    requires root { root.old.table ≡ heap.now.table }
+    requires heap { All (λ resting. resting.heap ≡ heap.now) all.old.items }
+    requires ready { (frame : FrameSeen A) → T.ready task.now frame }
+
+    ensures root { root.new.table ≡ root.old.table }
+    ensures heap { All (λ resting. resting.heap ≡ heap.now) all.new.items }
+    ensures count { IfSome result (λ _. length all.new.items ≡ length all.old.items + count) }
+{
+    for before in 0..count {
+        rest_next(rt, alloc, heap, root, task, before, all)?;
+    }
+    Some(())
+}
+
+/// A thread's life, from its waking to its end.
+fn live_whole<R: Wait, L: Life<R>>(
+    rt: &R,
+    heap: &Heap<Global>,
+    life: &L,
+    resting: Resting<Global>,
+) -> Ended<L::Answer>
+    requires heap { resting.heap ≡ heap.now }
+    ensures heap { result.retired.heap ≡ heap.now }
+{
+    let mut mutator = resting.wake(heap);
+    let answer = life.live(rt, &mut mutator);
+    Ended {
+        answer,
+        retired: mutator.retire(rt),
+    }
+}
+
+/// Each wakes on a thread of the machine of its own, where one can be had, lives and retires. The answers are in their
+/// order. On `Err`, where memory ran out, some may not have lived, and none can be gathered any more.
+pub fn run_all<R: Threads + Wait + Sync, L: Life<R> + Sync>(
+    rt: &R,
+    heap: &Heap<Global>,
+    life: &L,
+    all: Vec<Resting<Global>>,
+) -> Result<Vec<Ended<L::Answer>>, AllocError>
+where
+    L::Answer: Send + Drop,
+    requires heap { All (λ resting. resting.heap ≡ heap.now) all.items }
+    ensures heap { IfOk result (λ ended. All (λ one. one.retired.heap ≡ heap.now) ended.items) }
+    ensures count { IfOk result (λ ended. length ended.items ≡ length all.items) }
+{
+    thread::map_vec(
+        rt,
+        all,
+        &|resting| -> Ended<L::Answer>
+            requires { resting.heap ≡ heap.now }
+            ensures { result.retired.heap ≡ heap.entry.now }
+        { live_whole(rt, heap, life, resting) },
+    )
+}
+
+/// The root gathers each of them, in order.
+pub fn gather_all<X: Drop>(root: &mut Root<Global>, heap: &Heap<Global>, all: Vec<Ended<X>>)
+    requires root { root.old.table ≡ heap.now.table }
+    requires heap { All (λ one. one.retired.heap ≡ heap.now) all.items }
+    ensures root { root.new.table ≡ root.old.table }
+    ensures gathered { gatherings root.new.view ≡ gatherings root.old.view + length all.items }
+{
+    for one in all {
+        let Ended {
+            retired,
+            answer: _answer,
+        } = one;
+        root.gather(heap, retired);
+    }
+}
