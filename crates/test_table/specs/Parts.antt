@@ -1,19 +1,31 @@
 -- The logs of seats after the parts that worked runs share. The list is at cell 266, and the globals have it under a
 -- key.
-use Rattle.std.specs.Prelude.{◌≡◌, ℕ, ℤ, pos, List, [], ◌∷◌}
+use Rattle.std.specs.Prelude.{◌≡◌, ℕ, ◌+◌, ◌*◌, ◌%◌, ◌^◌, ℤ, pos, true, List, [], ◌∷◌}
+use Rattle.brc_words.specs.declared.kind.Kind.{Kind}
 use Rattle.brc_words.specs.declared.kind.Kind.TheVariants as kinds
+use Rattle.law_world.specs.declared.event.Change.{Change}
 use Rattle.law_world.specs.declared.event.Change.TheVariants as changes
 use Rattle.law_world.specs.declared.event.Dropped.TheVariants as dropped
 use Rattle.law_world.specs.declared.event.Source.TheVariants as sources
 use Rattle.law_world.specs.declared.event.Step.TheVariants.{Claim, InitLocal, InitShared, Birth, LocalUp, LocalDown}
-use Rattle.law_world.specs.declared.event.Step.TheVariants.{SeeZero, Untie, MergeZero, SharedUp, Lock, Unlock}
+use Rattle.law_world.specs.declared.event.Step.TheVariants.{SeeZero, Untie, MergeZero, MergeAdd, SharedUp, Ask}
+use Rattle.law_world.specs.declared.event.Step.TheVariants.{Enqueue, Lock, Unlock, Free}
+use Rattle.law_world.specs.declared.row.Hand.TheVariants as hands
+use Rattle.law_world.specs.Lists.{bit_of}
+use Rattle.law_world.specs.Steps.{is_free_hand, stage_ok, lock_ok}
+use Rattle.law_known.specs.declared.word.Field.TheVariants as fields
+use Rattle.law_known.specs.declared.word.Word.TheVariants as words
+use Rattle.law_known.specs.Items.{Part}
 use Rattle.law_rule.specs.declared.contents.PlainKey.TheVariants as plain
 use Rattle.law_rule.specs.declared.contents.Contents.{Contents}
 use Rattle.law_rule.specs.declared.contents.Contents.TheVariants as contents
 use Rattle.law_rule.specs.declared.told.Moved.TheVariants as moves
 use Rattle.law_rule.specs.declared.told.Told.{Told}
-use Rattle.law_rule.specs.declared.told.Told.TheVariants.{Did}
-use Rattle.brc_table.specs.Seated.{TableSeen, SeatSeen, Continues}
+use Rattle.law_rule.specs.declared.told.Told.TheVariants.{Did, Saw}
+use Rattle.law_rule.specs.Seen.{part_seen}
+use Rattle.law_steps.specs.Joining.{next_thread}
+use Rattle.brc_table.specs.Seated.{TableSeen, SeatSeen, RootSeen, Continues}
+use Rattle.brc_biased.specs.Standing.{Stands}
 use Rattle.test_table.specs.declared.globals.Held.{Held}
 use Rattle.test_table.specs.declared.globals.Held.TheVariants as held
 
@@ -32,40 +44,102 @@ globals_with held.Nothing = bare_globals
 globals_with (held.One key cell) = with_entry key cell
 globals_with (held.Two cell) = with_entries cell
 
+-- so many threads have been registered, besides the root
+abbrev pub HasThreads : ℕ → RootSeen → Type 0
+HasThreads count root = next_thread root.view ≡ count + 1
+
 module _ {A : Type 0} where
-  -- a seat of this table, with this log and no block out
+  -- a seat of this table of 512 cells, with this log and no block out
   abbrev pub StandsAt : List Told → TableSeen → SeatSeen A → Type 0
-  StandsAt log table seat = (seat.table ≡ table.table) × (seat.log ≡ log) × (seat.slots ≡ [])
+  StandsAt log table seat = (table.cells ≡ 512) × (seat.table ≡ table.table) × (seat.log ≡ log) × (seat.slots ≡ [])
 
   -- the same thread's seat later, with this log and no block out
   abbrev pub Went : List Told → SeatSeen A → SeatSeen A → Type 0
   Went log old new = (new.log ≡ log) × (new.slots ≡ []) × Continues old new
 
+-- ---- what a thread does more than once, from any log
+
+-- it has the globals in this place
+abbrev pub globals_log : ℕ → List Told → List Told
+globals_log place log = Did (LocalUp (sources.Immortal 265) place) 4294967295 moves.Nothing ∷ log
+
+-- it has locked the globals, which it has in this place, and found these in them
+abbrev pub locked_log : ℕ → Held → List Told → List Told
+locked_log place from log = Did (Lock place) 0 (moves.Found 265 (globals_with from)) ∷ log
+
+-- and has unlocked them with those
+abbrev pub changed_log : ℕ → Held → Held → Change → List Told → List Told
+changed_log place from to change log =
+    Did (Unlock change) 0 (moves.Put 265 (globals_with to)) ∷ locked_log place from log
+
+-- it has counted the list that is in place 1 up, in another place, where it found this shared word
+abbrev pub more_log : ℕ → ℕ → List Told → List Told
+more_log place shared log = Did (SharedUp (sources.Frame 1) place) shared moves.Nothing ∷ log
+
+-- it has asked for the list, where it found this shared word and thread 1 as the owner
+abbrev pub asked_log : ℕ → List Told → List Told
+asked_log shared log =
+    Saw (words.Of fields.Owner 266) 1 ∷ Did (Ask (dropped.Frame 1)) shared moves.Nothing ∷ log
+
+-- and the reference is the first entry in that owner's queue word
+abbrev pub enqueued_log : ℕ → List Told → List Told
+enqueued_log shared log = Did (Enqueue 266) 0 moves.Nothing ∷ asked_log shared log
+
+-- it has seen the list with this shared word
+abbrev pub seen_log : ℕ → List Told → List Told
+seen_log shared log = Saw (words.Of fields.Shared 266) shared ∷ log
+
+-- then it has made it nobody's, has seen so many references of the owner's own, and has added these to the shared word
+abbrev pub added_log : ℕ → ℕ → List Told → List Told
+added_log shared local log =
+    Did (MergeAdd 266) ((shared + (local * 4 + 1)) % 2 ^ 64) moves.Nothing
+    ∷ Saw (words.Of fields.Local 266) local
+    ∷ Did (Untie 266) 0 moves.Nothing
+    ∷ seen_log shared log
+
+-- the list is one of the cells that the thread has popped, and its hand is free for it
+pub record HasPopped (n : ℕ) (log : List Told) : Type 0 where
+  pub stands : Stands n log hands.Free
+  pub popped : bit_of (part_seen n log).popped 266 ≡ 1
+
+-- a merged list with one reference has this shared word
+abbrev pub last_shared : ℕ
+last_shared = 4398046511111
+
+-- a thread whose part is this may give the list's cell back
+pub record MayFree (part : Part) : Type 0 where
+  pub hand : is_free_hand part.row.hand ≡ true
+  pub stage : stage_ok part.row.stage (Free 266) ≡ true
+  pub lock : lock_ok part.row.locked (Free 266) ≡ true
+
 -- ---- the owner
 
--- it has made the list, and has it in place 0
-abbrev pub born_log : ℕ → List Told
-born_log thread =
-    Did (Birth 266 kinds.List 0) thread (moves.Put 266 (contents.«List» []))
+-- it has made an object, and has it in place 0
+abbrev pub made_log : Kind → Contents → ℕ → List Told
+made_log kind contents thread =
+    Did (Birth 266 kind 0) thread (moves.Put 266 contents)
     ∷ Did (InitShared 266) 4398046511104 moves.Nothing
     ∷ Did (InitLocal 266) 1 moves.Nothing
     ∷ Did (Claim 266) 18446744073709550592 moves.Nothing
     ∷ []
 
+-- that is the number 7
+abbrev pub seven_log : ℕ → List Told
+seven_log thread = made_log kinds.Int (contents.Int (pos 7)) thread
+
+-- or the list
+abbrev pub born_log : ℕ → List Told
+born_log thread = made_log kinds.List (contents.«List» []) thread
+
 -- it has the globals in place 1, and has put the list into them
 abbrev pub shared_log : ℕ → List Told
 shared_log thread =
-    Did (Unlock (changes.Put 0)) 0 (moves.Put 265 (with_entry (pos 1) 266))
-    ∷ Did (Lock 1) 0 (moves.Found 265 bare_globals)
-    ∷ Did (LocalUp (sources.Immortal 265) 1) 4294967295 moves.Nothing
-    ∷ born_log thread
+    changed_log 1 held.Nothing (held.One (pos 1) 266) (changes.Put 0) (globals_log 1 (born_log thread))
 
 -- it has taken the list out again
 abbrev pub taken_back_log : ℕ → List Told
 taken_back_log thread =
-    Did (Unlock (changes.Take 0 0)) 0 (moves.Put 265 bare_globals)
-    ∷ Did (Lock 1) 0 (moves.Found 265 (with_entry (pos 1) 266))
-    ∷ shared_log thread
+    changed_log 1 (held.One (pos 1) 266) held.Nothing (changes.Take 0 0) (shared_log thread)
 
 -- and has let it go, and merged it, where others had counted it
 abbrev pub merged_log : ℕ → ℕ → List Told
@@ -78,26 +152,11 @@ merged_log thread number =
 
 -- it has the list in places 0 and 1, and the globals in place 2
 abbrev pub kept_log : ℕ → List Told
-kept_log thread =
-    Did (LocalUp (sources.Immortal 265) 2) 4294967295 moves.Nothing
-    ∷ Did (LocalUp (sources.Frame 0) 1) 2 moves.Nothing
-    ∷ born_log thread
+kept_log thread = globals_log 2 (Did (LocalUp (sources.Frame 0) 1) 2 moves.Nothing ∷ born_log thread)
 
 -- and has put the second reference into them
 abbrev pub shared_twice_log : ℕ → List Told
-shared_twice_log thread =
-    Did (Unlock (changes.Put 1)) 0 (moves.Put 265 (with_entry (pos 1) 266))
-    ∷ Did (Lock 2) 0 (moves.Found 265 bare_globals)
-    ∷ kept_log thread
-
--- or both
-abbrev pub shared_both_log : ℕ → List Told
-shared_both_log thread =
-    Did (Unlock (changes.Put 1)) 0 (moves.Put 265 (with_entries 266))
-    ∷ Did (Lock 2) 0 (moves.Found 265 (with_entry (pos 1) 266))
-    ∷ Did (Unlock (changes.Put 0)) 0 (moves.Put 265 (with_entry (pos 1) 266))
-    ∷ Did (Lock 2) 0 (moves.Found 265 bare_globals)
-    ∷ kept_log thread
+shared_twice_log thread = changed_log 2 held.Nothing (held.One (pos 1) 266) (changes.Put 1) (kept_log thread)
 
 -- ---- another thread, which has the globals in place 0
 
@@ -106,22 +165,8 @@ abbrev pub counted_log : List Told
 counted_log =
     Did (Unlock changes.Keep) 0 (moves.Put 265 (with_entry (pos 1) 266))
     ∷ Did (SharedUp (sources.Entry 0) 1) 4398046511104 moves.Nothing
-    ∷ Did (Lock 0) 0 (moves.Found 265 (with_entry (pos 1) 266))
-    ∷ Did (LocalUp (sources.Immortal 265) 0) 4294967295 moves.Nothing
-    ∷ []
+    ∷ locked_log 0 (held.One (pos 1) 266) (globals_log 0 [])
 
--- it has taken the one reference out that was there, in place 1
-abbrev pub taken_log : ℤ → List Told
-taken_log key =
-    Did (Unlock (changes.Take 0 1)) 0 (moves.Put 265 bare_globals)
-    ∷ Did (Lock 0) 0 (moves.Found 265 (with_entry key 266))
-    ∷ Did (LocalUp (sources.Immortal 265) 0) 4294967295 moves.Nothing
-    ∷ []
-
--- it has taken the first of two references out that were there, in place 1
-abbrev pub taken_first_log : List Told
-taken_first_log =
-    Did (Unlock (changes.Take 0 1)) 0 (moves.Put 265 (with_entry (pos 2) 266))
-    ∷ Did (Lock 0) 0 (moves.Found 265 (with_entries 266))
-    ∷ Did (LocalUp (sources.Immortal 265) 0) 4294967295 moves.Nothing
-    ∷ []
+-- it has taken the first reference out that was there, in place 1
+abbrev pub taken_log : Held → Held → List Told
+taken_log from to = changed_log 0 from to (changes.Take 0 1) (globals_log 0 [])

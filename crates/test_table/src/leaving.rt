@@ -43,7 +43,7 @@ struct AsksOneThatLeft;
 impl OfTwo for AsksOneThatLeft {
     fn run<R: Abort>(&self, rt: &R, alloc: Global, table: &Table, one: &mut Seat, two: &mut Seat) {
         shares_a_list(rt, alloc, table, one);
-        takes_what_is_shared(rt, alloc, table, two, 1);
+        takes_what_is_shared(rt, alloc, table, two);
         let _found = table.immortal_down(one, Dropped::Frame(1), 265);
         is(
             rt,
@@ -90,7 +90,7 @@ fn a_thread_leaves_with_an_entry(rt: HostRuntime) {
     let mut one = table.split(&mut root);
     let mut two = table.split(&mut root);
     shares_a_list(&rt, rt.alloc(), &table, &mut one);
-    takes_what_is_shared(&rt, rt.alloc(), &table, &mut two, 1);
+    takes_what_is_shared(&rt, rt.alloc(), &table, &mut two);
     let _found = table.immortal_down(&mut one, Dropped::Frame(1), 265);
     is(
         &rt,

@@ -20,7 +20,6 @@ pub(crate) type Seat = ThreadSeat<Global>;
 /// What a thread does that has done nothing before.
 pub(crate) trait OfOne {
     fn run<R: Abort>(&self, rt: &R, alloc: Global, table: &Table, seat: &mut Seat)
-        requires cells { table.now.cells ≡ 512 }
         requires new { StandsAt [] table.now seat.old };
 }
 
@@ -38,7 +37,6 @@ pub(crate) fn for_one<R: Abort + AllocGlobal>(rt: &R, run: &impl OfOne) {
 /// What two threads do that have done nothing before.
 pub(crate) trait OfTwo {
     fn run<R: Abort>(&self, rt: &R, alloc: Global, table: &Table, one: &mut Seat, two: &mut Seat)
-        requires cells { table.now.cells ≡ 512 }
         requires limit { table.now.local_limit ≡ 4294967294 }
         requires first { StandsAt [] table.now one.old }
         requires second { StandsAt [] table.now two.old };

@@ -6,10 +6,12 @@ ghost use Rattle.test_table.specs.Parts.{StandsAt};
 
 use crate::comparing::is;
 use crate::globals::Held;
-use crate::helpers::{alive, ends, gone, holding, locked, opened};
+use crate::helpers::{ends, gone, opened, opened_for_two};
 use crate::parts::{
-    counts_what_is_shared, keeps_and_shares_one, makes_a_list, merges_at_zero, shares_a_list,
-    shares_both, takes_back, takes_the_first, takes_what_is_shared,
+    asks, asks_and_enqueues, changes_globals, counts_more, counts_what_is_shared,
+    ends_what_is_merged, keeps_a_list_twice, keeps_and_shares_one, lives, makes_a_list,
+    merges_at_zero, merges_popped, shares_a_list, shares_and_takes_back, takes_out,
+    takes_what_is_shared,
 };
 use crate::seats::{OfTwo, Seat, Table, for_two};
 use brc_table::Found;
@@ -23,14 +25,9 @@ struct EndsWhatWasMerged;
 
 impl OfTwo for EndsWhatWasMerged {
     fn run<R: Abort>(&self, rt: &R, alloc: Global, table: &Table, one: &mut Seat, two: &mut Seat) {
-        shares_a_list(rt, alloc, table, one);
-        counts_what_is_shared(rt, table, two);
-        takes_back(rt, alloc, table, one);
+        shares_and_takes_back(rt, alloc, table, one, two);
         merges_at_zero(rt, table, one, 4_398_046_511_108);
-        is(rt, table.load_shared(two, 266), 4_398_046_511_111);
-        let Found { number, block } = table.last_down(two, Dropped::Frame(1), 266);
-        is(rt, number, 4_398_046_511_111);
-        gone(rt, table, two, block, 266);
+        ends_what_is_merged(rt, table, two, 1);
         is(rt, table.load_free(one, 4), 18_446_744_073_709_550_592);
     }
 }
@@ -45,30 +42,22 @@ struct PutsBackAMergedList;
 
 impl OfTwo for PutsBackAMergedList {
     fn run<R: Abort>(&self, rt: &R, alloc: Global, table: &Table, one: &mut Seat, two: &mut Seat) {
-        shares_a_list(rt, alloc, table, one);
-        counts_what_is_shared(rt, table, two);
-        takes_back(rt, alloc, table, one);
+        shares_and_takes_back(rt, alloc, table, one, two);
         merges_at_zero(rt, table, one, 4_398_046_511_108);
 
         // The second counts the merged list up, and puts that reference into the globals.
-        let found = table.shared_up(two, Source::Frame(1), 2, 266);
-        is(rt, found, 4_398_046_511_111);
-        let globals = locked(rt, table, two, 0, Held::Nothing);
-        let globals = holding(rt, alloc, globals, Held::One { key: 1, cell: 266 });
-        table.unlock(two, globals, Change::Put(2));
+        counts_more(rt, table, two, 2, 4_398_046_511_111);
+        let list = Held::One { key: 1, cell: 266 };
+        let put = Change::Put(2);
+        changes_globals(rt, alloc, table, two, 0, Held::Nothing, list, put);
 
         // The first takes it out, and gives it up; the second's is the last.
-        let globals = locked(rt, table, one, 1, Held::One { key: 1, cell: 266 });
-        let globals = holding(rt, alloc, globals, Held::Nothing);
-        table.unlock(one, globals, Change::Take { index: 0, place: 0 });
+        let change = Change::Take { index: 0, place: 0 };
+        changes_globals(rt, alloc, table, one, 1, list, Held::Nothing, change);
         is(rt, table.load_shared(one, 266), 4_398_046_511_115);
-        let Found { number, block } = table.last_down(one, Dropped::Frame(0), 266);
-        is(rt, number, 4_398_046_511_115);
-        alive(rt, block);
-        is(rt, table.load_shared(two, 266), 4_398_046_511_111);
-        let Found { number, block } = table.last_down(two, Dropped::Frame(1), 266);
-        is(rt, number, 4_398_046_511_111);
-        gone(rt, table, two, block, 266);
+        let found = table.last_down(one, Dropped::Frame(0), 266);
+        lives(rt, found, 4_398_046_511_115);
+        ends_what_is_merged(rt, table, two, 1);
         is(rt, table.load_free(one, 4), 18_446_744_073_709_550_592);
     }
 }
@@ -86,32 +75,16 @@ impl OfTwo for AsksAndDrains {
         keeps_and_shares_one(rt, alloc, table, one);
 
         // The second takes the reference that is in the globals, and asks the owner to merge.
-        takes_what_is_shared(rt, alloc, table, two, 1);
-        is(
-            rt,
-            table.ask(two, Dropped::Frame(1), 266),
-            4_398_046_511_104,
-        );
-        is(rt, table.load_owner(two, 266), 1);
-        is(rt, table.enqueue(two, 266, 1), 0);
+        takes_what_is_shared(rt, alloc, table, two);
+        asks_and_enqueues(rt, table, two, 4_398_046_511_104);
         is(rt, table.nudge(two, 1, 8), 0);
 
-        // The owner drains its queue, and merges.
+        // The owner drains its queue, and merges; its own reference is the last.
         is(rt, table.wake(one), 1);
         is(rt, table.drain(one, 8), 1_024);
-        is(rt, table.load_shared(one, 266), 4_398_046_511_106);
-        table.untie_popped(one, 266, 4_398_046_511_106);
-        is(rt, table.load_local(one, 266), 2);
-        is(rt, table.merge_add(one, 266, 2), 4_398_046_511_106);
-        let Found { number, block } = table.last_added(one, 266);
-        is(rt, number, 4_398_046_511_115);
-        alive(rt, block);
-
-        // Its own reference is the last.
-        is(rt, table.load_shared(one, 266), 4_398_046_511_111);
-        let Found { number, block } = table.last_down(one, Dropped::Frame(0), 266);
-        is(rt, number, 4_398_046_511_111);
-        gone(rt, table, one, block, 266);
+        merges_popped(rt, table, one, 4_398_046_511_106, 2);
+        lives(rt, table.last_added(one, 266), 4_398_046_511_115);
+        ends_what_is_merged(rt, table, one, 0);
     }
 }
 
@@ -125,17 +98,10 @@ struct AsksBeforeAMerge;
 
 impl OfTwo for AsksBeforeAMerge {
     fn run<R: Abort>(&self, rt: &R, alloc: Global, table: &Table, one: &mut Seat, two: &mut Seat) {
-        shares_a_list(rt, alloc, table, one);
-        counts_what_is_shared(rt, table, two);
-        takes_back(rt, alloc, table, one);
+        shares_and_takes_back(rt, alloc, table, one, two);
 
         // The second asks, and looks at the owner; then the owner merges on its own.
-        is(
-            rt,
-            table.ask(two, Dropped::Frame(1), 266),
-            4_398_046_511_108,
-        );
-        is(rt, table.load_owner(two, 266), 1);
+        asks(rt, table, two, 4_398_046_511_108);
         merges_at_zero(rt, table, one, 4_398_046_511_110);
 
         // The late entry is found merged, and is the last reference.
@@ -162,37 +128,32 @@ fn counts_below_zero(
     two: &mut Seat,
     three: &mut Seat,
 )
-    requires cells { table.now.cells ≡ 512 }
     requires limit { table.now.local_limit ≡ 4294967294 }
     requires first { StandsAt [] table.now one.old }
     requires second { StandsAt [] table.now two.old }
     requires third { StandsAt [] table.now three.old }
 {
     // The first puts both of its references into the globals; the second and the third take one each.
-    shares_both(rt, alloc, table, one);
-    takes_the_first(rt, alloc, table, two);
-    takes_what_is_shared(rt, alloc, table, three, 2);
+    keeps_a_list_twice(rt, alloc, table, one);
+    let first = Held::One { key: 1, cell: 266 };
+    let put = Change::Put(0);
+    changes_globals(rt, alloc, table, one, 2, Held::Nothing, first, put);
+    let both = Held::Two { cell: 266 };
+    changes_globals(rt, alloc, table, one, 2, first, both, Change::Put(1));
+    let second = Held::One { key: 2, cell: 266 };
+    takes_out(rt, alloc, table, two, both, second);
+    takes_out(rt, alloc, table, three, second, Held::Nothing);
 
     // The second asks; the third finds the list queued, and counts the shared word below 0.
-    is(
-        rt,
-        table.ask(two, Dropped::Frame(1), 266),
-        4_398_046_511_104,
-    );
-    is(rt, table.load_owner(two, 266), 1);
-    is(rt, table.enqueue(two, 266, 1), 0);
+    asks_and_enqueues(rt, table, two, 4_398_046_511_104);
     is(rt, table.load_shared(three, 266), 4_398_046_511_106);
-    let Found { number, block } = table.last_down(three, Dropped::Frame(1), 266);
-    is(rt, number, 4_398_046_511_106);
-    alive(rt, block);
+    let found = table.last_down(three, Dropped::Frame(1), 266);
+    lives(rt, found, 4_398_046_511_106);
     is(rt, table.load_shared(three, 266), 4_398_046_511_102);
 
     // The owner's count makes it whole: the popped entry is the last reference.
     is(rt, table.drain(one, 8), 1_024);
-    is(rt, table.load_shared(one, 266), 4_398_046_511_102);
-    table.untie_popped(one, 266, 4_398_046_511_102);
-    is(rt, table.load_local(one, 266), 2);
-    is(rt, table.merge_add(one, 266, 2), 4_398_046_511_102);
+    merges_popped(rt, table, one, 4_398_046_511_102, 2);
     let Found { number, block } = table.last_added(one, 266);
     is(rt, number, 4_398_046_511_111);
     gone(rt, table, one, block, 266);
@@ -201,10 +162,8 @@ fn counts_below_zero(
 
 #[test]
 fn counts_go_below_zero(rt: HostRuntime) {
-    let (table, root) = opened(&rt, rt.alloc(), 4_294_967_294);
-    let mut root = root;
-    let mut one = table.split(&mut root);
-    let mut two = table.split(&mut root);
+    let ((table, root), (one, two)) = opened_for_two(&rt, rt.alloc());
+    let (mut root, mut one, mut two) = (root, one, two);
     let mut three = table.split(&mut root);
     counts_below_zero(&rt, rt.alloc(), &table, &mut one, &mut two, &mut three);
     drop(one);
@@ -215,7 +174,6 @@ fn counts_go_below_zero(rt: HostRuntime) {
 
 /// At its limit the owner counts in the shared word, and at count 0 it merges.
 fn counts_in_the_shared_word(rt: &impl Abort, alloc: Global, table: &Table, one: &mut Seat)
-    requires cells { table.now.cells ≡ 512 }
     requires limit { table.now.local_limit ≡ 1 }
     requires first { StandsAt [] table.now one.old }
 {
@@ -223,17 +181,10 @@ fn counts_in_the_shared_word(rt: &impl Abort, alloc: Global, table: &Table, one:
     let found = table.shared_up(one, Source::Frame(0), 1, 266);
     is(rt, found, 4_398_046_511_104);
     table.local_down(one, Dropped::Frame(1), 266, 1);
-    let Found { number, block } = table.see_zero(one, 266);
-    is(rt, number, 4_398_046_511_108);
-    alive(rt, block);
+    lives(rt, table.see_zero(one, 266), 4_398_046_511_108);
     table.untie_over(one, 266);
-    let Found { number, block } = table.merge_zero(one, 266);
-    is(rt, number, 4_398_046_511_108);
-    alive(rt, block);
-    is(rt, table.load_shared(one, 266), 4_398_046_511_111);
-    let Found { number, block } = table.last_down(one, Dropped::Frame(0), 266);
-    is(rt, number, 4_398_046_511_111);
-    gone(rt, table, one, block, 266);
+    lives(rt, table.merge_zero(one, 266), 4_398_046_511_108);
+    ends_what_is_merged(rt, table, one, 0);
 }
 
 #[test]
@@ -253,8 +204,7 @@ impl OfTwo for LosesAnExchange {
     fn run<R: Abort>(&self, rt: &R, alloc: Global, table: &Table, one: &mut Seat, two: &mut Seat) {
         keeps_and_shares_one(rt, alloc, table, one);
         counts_what_is_shared(rt, table, two);
-        let found = table.shared_up(two, Source::Frame(1), 2, 266);
-        is(rt, found, 4_398_046_511_108);
+        counts_more(rt, table, two, 2, 4_398_046_511_108);
 
         // An exchange that expects an older word is lost, and tells the number that is there; a new one is won.
         assert!(rt;
@@ -280,14 +230,9 @@ impl OfTwo for AsksAboveZero {
     fn run<R: Abort>(&self, rt: &R, alloc: Global, table: &Table, one: &mut Seat, two: &mut Seat) {
         shares_a_list(rt, alloc, table, one);
         counts_what_is_shared(rt, table, two);
-        let found = table.shared_up(two, Source::Frame(1), 2, 266);
-        is(rt, found, 4_398_046_511_108);
-        let found = table.shared_up(two, Source::Frame(1), 3, 266);
-        is(rt, found, 4_398_046_511_112);
-        let found = table.ask(two, Dropped::Frame(1), 266);
-        is(rt, found, 4_398_046_511_116);
-        is(rt, table.load_owner(two, 266), 1);
-        is(rt, table.enqueue(two, 266, 1), 0);
+        counts_more(rt, table, two, 2, 4_398_046_511_108);
+        counts_more(rt, table, two, 3, 4_398_046_511_112);
+        asks_and_enqueues(rt, table, two, 4_398_046_511_116);
         is(rt, table.load_shared(one, 266), 4_398_046_511_118);
     }
 }
