@@ -12,7 +12,7 @@ use crate::globals::take_from_globals;
 use crate::letters::{Post, ReceiveOne, SENDERS, SendOne};
 use crate::lists::{ListOf, pushes_and_pops};
 use crate::operations::{
-    Ending, Integers, NewInteger, NewList10, Pair, PairStrewn, Polled, Texts16, pairs_in_turn,
+    Ending, Integers, NewList10, Pair, PairStrewn, Polled, Texts16, new_integers, pairs_in_turn,
 };
 use crate::request::Case;
 use crate::timing::{Span, refused, this_moment};
@@ -172,7 +172,7 @@ fn operates<R: Wait, H: Home<A>, A: Allocator + Copy>(
     let n = asked.n;
     match asked.case {
         Case::NewInt | Case::NewIntApart | Case::ClaimFull | Case::ClaimFullNear => {
-            return repeat(&NewInteger { alloc }, frame, n);
+            return new_integers(alloc, frame, n);
         }
         Case::NewText16 | Case::NewText16Apart => {
             let source = Texts16 { alloc };
@@ -273,7 +273,8 @@ pub struct Asked {
     pub n: u64,
 }
 
-/// What a thread does between its waking and its end; it tells when it began and ended its operations, if it isn't idle.
+/// What a thread does between its waking and its end: it tells when it began and ended its operations; None where it is
+/// idle.
 #[derive(Drop)]
 pub struct Timed<'p> {
     pub alloc: Global,

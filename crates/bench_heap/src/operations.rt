@@ -138,11 +138,10 @@ pub fn pairs_in_turn<H: Home<A>, A: Allocator>(
 /// So many turns of work follow each object that is made.
 const TURNS: usize = 64;
 
-/// An integer is made, released, and taken apart. It is a task of its own: in the loop that texts have, LLVM makes a call
-/// of taking the block off the worklist.
+/// An integer is made, released, and taken apart.
 #[derive(Drop)]
-pub struct NewInteger<A> {
-    pub alloc: A,
+struct NewInteger<A> {
+    alloc: A,
 }
 
 impl<H: Home<A>, A: Allocator + Copy> Task<H, A> for NewInteger<A> {
@@ -157,6 +156,20 @@ impl<H: Home<A>, A: Allocator + Copy> Task<H, A> for NewInteger<A> {
         frame.work(TURNS);
         Some(())
     }
+}
+
+/// So many integers, each made, released, and taken apart; None where one can't be had. The loop has a function of its
+/// own: beside others, or with texts, LLVM makes a call of taking the block off the worklist.
+pub fn new_integers<H: Home<A>, A: Allocator + Copy>(
+    alloc: A,
+    frame: &mut Frame<H, A>,
+    n: u64,
+) -> Option<()>
+    requires unlocked { IsUnlocked frame.old }
+    ensures keeps { Keeps frame.old frame.new }
+    ensures unlocked { IsUnlocked frame.new }
+{
+    repeat(&NewInteger { alloc }, frame, n)
 }
 
 /// What the source has next is released, and taken apart.

@@ -8,8 +8,8 @@ use brc_biased::Home;
 use brc_count::Frame;
 use std::alloc::Allocator;
 
-/// What has one handle, and gives it for another at each turn. The turns are the value's own, so it is used up and comes
-/// back: a method that takes a handle beside `&self` would have to repeat these clauses in each `impl`.
+/// What has one handle, and gives it for another at each turn. It is used up by a turn, and comes back: where a method
+/// takes a handle beside `&self`, each `impl` would have to repeat these clauses.
 pub trait Passing<H: Home<A>, A: Allocator>: Sized {
     // the handle that it has
     ghost held: { Self → HandleSeen };
@@ -17,8 +17,8 @@ pub trait Passing<H: Home<A>, A: Allocator>: Sized {
     // what else it needs of the frame
     ghost ready: { Self → FrameSeen A → Type 0 };
 
-    /// The handle goes in, after so many turns before, and the answer has the one that comes out; None where it fails: no
-    /// handle is left of it.
+    /// The handle goes in, after so many turns before, and the answer has the one that comes out; None where it fails:
+    /// no handle is left of it.
     fn pass(self, frame: &mut Frame<H, A>, before: u64) -> Option<Self>
         requires ready { ready self frame.old }
         requires owned { Owns frame.old (held self) }
