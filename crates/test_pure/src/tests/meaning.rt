@@ -60,25 +60,30 @@ fn turns_take_no_memory(rt: HostRuntime) -> Result<(), Fail> {
     Ok(())
 }
 
-/// A script that makes something of each kind.
-const OF_EACH_KIND: &[u8] =
-    b"section a\ntext r0 side\nlist r1\npush r1 r0\ndict r2\nput r2 'key r1\nmailbox r3\nsend r3 r2\nint r4 1000\nprint r4\n";
+/// A script, and what it comes to.
+#[derive(Clone, Copy)]
+struct Means<'s> {
+    script: &'s [u8],
+    told: &'s str,
+}
 
-/// It is read, and its meaning told.
-struct Means;
-
-impl Tried for Means {
+impl Tried for Means<'_> {
+    /// It is read, and its meaning told.
     fn comes_to<R: Abort + AllocGlobal>(&self, rt: &R, size: usize, heap: &LocalHeap) -> u32 {
-        let Ok(script) = parse(heap, OF_EACH_KIND) else {
+        let Ok(script) = parse(heap, self.script) else {
             return 0;
         };
         let told = told_of(rt.alloc(), heap, &script);
-        let wanted = String::from_str(rt.alloc(), "1000\nmade 5\n").expect(rt, "memory");
+        let wanted = String::from_str(rt.alloc(), self.told).expect(rt, "memory");
         has_come(rt, size, told, wanted).saturating_add(1)
     }
 }
 
 #[test]
 fn refused_memory(rt: HostRuntime) {
-    assert_eq!(rt; ends_of(&rt, &Means, 1..128, 32), 3);
+    let of_each_kind = Means {
+        script: b"section a\ntext r0 side\nlist r1\npush r1 r0\ndict r2\nput r2 'key r1\nmailbox r3\nsend r3 r2\nint r4 1000\nprint r4\n",
+        told: "1000\nmade 5\n",
+    };
+    assert_eq!(rt; ends_of(&rt, &of_each_kind, 1..128, 32), 3);
 }
