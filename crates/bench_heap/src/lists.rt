@@ -100,6 +100,7 @@ impl<'h, R: Wait, H: Home<A>, A: Allocator> Passing<H, A> for PushingAndPopping<
 }
 
 /// So many pushes, each with a pop: first of an integer of the thread's own, then of what came out before.
+#[inline(never)]
 pub fn pushes_and_pops<R: Wait, H: Home<A>, A: Allocator>(
     rt: &R,
     alloc: A,
