@@ -1,0 +1,17 @@
+//! The tests, and the steps that they share.
+
+mod client;
+mod entering;
+mod full;
+mod limits;
+mod lists;
+mod makers;
+mod many;
+mod opening;
+mod phases;
+mod readings;
+mod refused;
+mod starts;
+mod starved;
+mod steps;
+mod two_heaps;

@@ -1,0 +1,95 @@
+//! Refusals of a heap, of its root, and of a thread that leaves.
+
+ghost use Rattle.std.specs.Prelude.{◌≡◌};
+ghost use Rattle.brc_count.specs.Frames.{IsUnlocked};
+
+use crate::tests::phases::ends;
+use brc_biased::Home;
+use brc_thread::{Heap, Mutator, Options, Root, take_apart};
+use brc_words::Fault;
+use std::alloc::{Allocator, Global};
+use std::process::Abort;
+use std::sync::Wait;
+
+/// The least heap.
+const LEAST: Options = Options {
+    cells: 512,
+    local_limit: 1,
+};
+
+/// Whether a heap of these sizes is refused as none.
+fn is_refused(rt: &impl Abort, alloc: Global, cells: u32, local_limit: u32) -> bool {
+    let options = Options { cells, local_limit };
+    match Heap::new(alloc, options) {
+        Err(fault) => fault == Fault::BadOptions,
+        Ok(_made) => panic!(rt; "a heap of no size"),
+    }
+}
+
+#[test]
+fn sizes_out_of_range_are_refused(rt: HostRuntime) {
+    assert!(rt; is_refused(&rt, rt.alloc(), 511, 1));
+    assert!(rt; is_refused(&rt, rt.alloc(), 65_537, 1));
+    assert!(rt; is_refused(&rt, rt.alloc(), 512, 0));
+    assert!(rt; is_refused(&rt, rt.alloc(), 512, 4_294_967_295));
+}
+
+/// Whether no thread more is registered.
+fn is_full(rt: &impl Abort, alloc: Global, heap: &Heap<Global>, root: &mut Root<Global>) -> bool
+    requires heap { root.old.table ≡ heap.now.table }
+    ensures root { root.new.table ≡ root.old.table }
+{
+    match root.register(alloc, heap) {
+        Err(fault) => fault == Fault::TooManyThreads,
+        Ok(mutator) => {
+            let _resting = mutator.rest();
+            panic!(rt; "a thread too many")
+        }
+    }
+}
+
+#[test]
+fn no_more_than_64_threads_are_registered(rt: HostRuntime) {
+    let (heap, mut root) = Heap::new(rt.alloc(), LEAST).expect(&rt, "no heap can be had");
+    for thread in 0..64u32 {
+        // At rest it can be dropped: none of them ever wakes.
+        let mutator = root.register(rt.alloc(), &heap);
+        let resting = mutator.expect(&rt, "a thread is refused").rest();
+        assert_eq!(rt; resting.thread(), thread + 1);
+    }
+    assert!(rt; is_full(&rt, rt.alloc(), &heap, &mut root));
+    ends(&rt, take_apart(heap, root));
+}
+
+/// A thread that holds a handle doesn't leave; once it is released, it does.
+fn leaves_late<R: Abort + Wait, H: Home<A> + Drop, A: Allocator>(
+    rt: &R,
+    mutator: Mutator<H, A>,
+) -> u32
+    requires bare { mutator.len ≡ 0 }
+    requires unlocked { IsUnlocked mutator }
+{
+    let mut mutator = mutator;
+    let Ok(globals) = mutator.globals() else {
+        panic!(rt; "no handle can be had")
+    };
+    match mutator.leave() {
+        Ok(_leaving) => panic!(rt; "it has left with a handle"),
+        Err(mutator) => {
+            let mut mutator = mutator;
+            mutator.frame().release(globals);
+            let thread = mutator.thread();
+            let _retired = mutator.retire(rt);
+            thread
+        }
+    }
+}
+
+#[test]
+fn a_thread_with_a_handle_stays(rt: HostRuntime) {
+    let (heap, mut root) = Heap::new(rt.alloc(), LEAST).expect(&rt, "no heap can be had");
+    let mutator = root.register(rt.alloc(), &heap);
+    let mutator = mutator.expect(&rt, "a thread is refused");
+    assert_eq!(rt; leaves_late(&rt, mutator), 1);
+    ends(&rt, take_apart(heap, root));
+}

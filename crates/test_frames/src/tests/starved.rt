@@ -1,0 +1,230 @@
+//! Deaths and an asked owner while no memory is left: what a call gives back is taken at once, so that a release, a
+//! poll, turns of work and all that a thread does on its way out take none.
+
+ghost use Rattle.brc_count.specs.Frames.{IsUnlocked, Owns};
+ghost use Rattle.brc_count.specs.Owned.{GoesOn};
+ghost use Rattle.test_tools.specs.Calls.{IsBare, OwnsAll, OwnsBoth, OwnsOne, Parts};
+
+use crate::tests::lists::hands_over;
+use crate::tests::phases::{ends, entered, leaves, leaves_late, opened_with, says};
+use brc_biased::Home;
+use brc_count::{Frame, Handle};
+use brc_handles::Handles;
+use brc_lists::try_list_push;
+use linked_list_allocator::LocalHeap;
+use std::alloc::{Allocator, Global};
+use std::process::Abort;
+use std::sync::Wait;
+use test_tools::{Pieces, Thing, made};
+
+/// All memory that is left is taken.
+fn starve<'h>(rt: &impl Abort, alloc: Global, memory: &'h LocalHeap, taken: &mut Vec<Pieces<'h>>) {
+    let pieces = Pieces::take_all(alloc, memory).expect(rt, "a heap that is never full");
+    assert!(rt; taken.push(pieces).is_ok());
+}
+
+/// So many calls of work for one turn need it, and the next one doesn't; none has memory.
+fn takes_turns<'h, H: Home<&'h LocalHeap>>(
+    rt: &impl Abort,
+    alloc: Global,
+    memory: &'h LocalHeap,
+    taken: &mut Vec<Pieces<'h>>,
+    frame: &mut Frame<H, &'h LocalHeap>,
+    turns: usize,
+)
+    requires unlocked { IsUnlocked frame.old }
+    ensures { GoesOn frame.old frame.new }
+{
+    for _ in 0..turns {
+        starve(rt, alloc, memory, taken);
+        assert_eq!(rt; frame.work(1), 0);
+    }
+    starve(rt, alloc, memory, taken);
+    assert_eq!(rt; frame.work(1), 1);
+}
+
+/// What dies.
+#[derive(Clone, Copy)]
+enum Shape {
+    /// A list of so many lists.
+    Wide(usize),
+    /// A list in a list, and so on: so many besides the outermost.
+    Deep(usize),
+}
+
+/// The entry goes into the list.
+fn pushes<H: Home<A>, A: Allocator>(
+    rt: &impl Abort,
+    frame: &mut Frame<H, A>,
+    list: &Handle<A>,
+    entry: Handle<A>,
+)
+    requires { OwnsBoth frame.old list.now entry }
+    ensures { Parts frame.old frame.new entry }
+{
+    match try_list_push(frame, list, entry) {
+        Ok(()) => {}
+        Err(_handed) => panic!(rt; "the list is locked, or has no room"),
+    }
+}
+
+/// The structure of one list more: in the list, or around it.
+fn one_more<H: Home<A>, A: Allocator + Copy>(
+    rt: &impl Abort,
+    alloc: A,
+    frame: &mut Frame<H, A>,
+    list: Handle<A>,
+    shape: Shape,
+) -> Handle<A>
+    requires { OwnsOne frame.old list }
+    ensures owned { Owns frame.new result }
+    ensures goes_on { GoesOn frame.old frame.new }
+{
+    let other = made(alloc, frame, Thing::List).expect(rt, "no list is made");
+    match shape {
+        Shape::Wide(_) => {
+            pushes(rt, frame, &list, other);
+            list
+        }
+        Shape::Deep(_) => {
+            pushes(rt, frame, &other, list);
+            other
+        }
+    }
+}
+
+/// The structure, by a handle to its first list.
+fn a_structure<H: Home<A>, A: Allocator + Copy>(
+    rt: &impl Abort,
+    alloc: A,
+    frame: &mut Frame<H, A>,
+    shape: Shape,
+) -> Handle<A>
+    requires unlocked { IsUnlocked frame.old }
+    ensures owned { Owns frame.new result }
+    ensures goes_on { GoesOn frame.old frame.new }
+{
+    let more = match shape {
+        Shape::Wide(more) | Shape::Deep(more) => more,
+    };
+    let mut list = made(alloc, frame, Thing::List).expect(rt, "no list is made");
+    for _ in 0..more {
+        list = one_more(rt, alloc, frame, list, shape);
+    }
+    list
+}
+
+/// A structure of so many lists dies in so many turns, on a heap of its own.
+fn dies_on_a_heap<'h>(
+    rt: &impl Abort,
+    alloc: Global,
+    memory: &'h LocalHeap,
+    cells: u32,
+    shape: Shape,
+    lists: u64,
+    turns: usize,
+) {
+    let (table, mut root) = opened_with(rt, memory, cells);
+    let mut frame = entered(rt, memory, &table, &mut root);
+    let list = a_structure(rt, memory, &mut frame, shape);
+    let mut taken = Vec::new(alloc);
+    starve(rt, alloc, memory, &mut taken);
+    frame.release(list);
+    takes_turns(rt, alloc, memory, &mut taken, &mut frame, turns);
+    says(rt, frame.ledger(), (lists, lists));
+    leaves(rt, &table, &mut root, frame);
+    ends(rt, table.take_apart(root));
+}
+
+#[test]
+fn a_list_of_lists_dies_a_turn_at_a_time(rt: HostRuntime) {
+    let memory = LocalHeap::new(rt.alloc(), 1 << 22).expect(&rt, "memory");
+    let shape = Shape::Wide(1_000);
+    dies_on_a_heap(&rt, rt.alloc(), &memory, 4_096, shape, 1_001, 2_001);
+    assert_eq!(rt; memory.used(), 0);
+}
+
+/// Each list but the innermost has an entry to be released, and each gives its cell back.
+#[test]
+fn a_long_chain_dies_a_turn_at_a_time(rt: HostRuntime) {
+    let memory = LocalHeap::new(rt.alloc(), 24_000_000).expect(&rt, "memory");
+    let shape = Shape::Deep(59_999);
+    dies_on_a_heap(&rt, rt.alloc(), &memory, 65_536, shape, 60_000, 119_999);
+    assert_eq!(rt; memory.used(), 0);
+}
+
+/// A list of each of the first two frames' passes to the third, which lets both go without memory, and so asks their
+/// owners.
+fn asks<'h, R: Abort + Wait, H: Home<&'h LocalHeap>>(
+    rt: &R,
+    alloc: Global,
+    memory: &'h LocalHeap,
+    taken: &mut Vec<Pieces<'h>>,
+    first: &mut Frame<H, &'h LocalHeap>,
+    second: &mut Frame<H, &'h LocalHeap>,
+    other: &mut Frame<H, &'h LocalHeap>,
+)
+    requires first { IsUnlocked first.old }
+    requires second { IsUnlocked second.old }
+    requires other { IsBare other.old }
+    ensures first { GoesOn first.old first.new }
+    ensures second { GoesOn second.old second.new }
+    ensures other { GoesOn other.old other.new }
+{
+    let mut kept = Handles::new(memory);
+    hands_over(rt, memory, first, other, &mut kept, 1, 266);
+    hands_over(rt, memory, second, other, &mut kept, 1, 267);
+    starve(rt, alloc, memory, taken);
+    kept.release_all(other);
+}
+
+/// The owner of a list finds without memory that it was asked, and frees it.
+fn is_asked<'h, H: Home<&'h LocalHeap>>(
+    rt: &impl Abort,
+    alloc: Global,
+    memory: &'h LocalHeap,
+    taken: &mut Vec<Pieces<'h>>,
+    owner: &mut Frame<H, &'h LocalHeap>,
+)
+    requires unlocked { IsUnlocked owner.old }
+    ensures { GoesOn owner.old owner.new }
+{
+    starve(rt, alloc, memory, taken);
+    assert!(rt; owner.poll() > 0);
+    assert_eq!(rt; owner.work(5), 4);
+    says(rt, owner.ledger(), (1, 1));
+}
+
+/// A thread asks the owners of two lists that it lets go: the one polls and works then, and the other finds the request
+/// on its way out.
+fn asks_on_a_heap<'h>(rt: &(impl Abort + Wait), alloc: Global, memory: &'h LocalHeap) {
+    let (table, mut root) = opened_with(rt, memory, 512);
+    let mut first = entered(rt, memory, &table, &mut root);
+    let mut second = entered(rt, memory, &table, &mut root);
+    let mut other = entered(rt, memory, &table, &mut root);
+    let mut taken = Vec::new(alloc);
+    asks(
+        rt,
+        alloc,
+        memory,
+        &mut taken,
+        &mut first,
+        &mut second,
+        &mut other,
+    );
+    is_asked(rt, alloc, memory, &mut taken, &mut first);
+    starve(rt, alloc, memory, &mut taken);
+    let left = leaves_late(rt, &table, &mut root, second, 2);
+    says(rt, left, (1, 1));
+    starve(rt, alloc, memory, &mut taken);
+    leaves(rt, &table, &mut root, first);
+    leaves(rt, &table, &mut root, other);
+    ends(rt, table.take_apart(root));
+}
+
+#[test]
+fn asked_owners_take_no_memory(rt: HostRuntime) {
+    let memory = LocalHeap::new(rt.alloc(), 1 << 18).expect(&rt, "memory");
+    asks_on_a_heap(&rt, rt.alloc(), &memory);
+    assert_eq!(rt; memory.used(), 0);
+}
