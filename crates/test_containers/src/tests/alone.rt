@@ -5,7 +5,7 @@ ghost use Rattle.brc_count.specs.Frames.{IsUnlocked};
 ghost use Rattle.test_tools.specs.Calls.{OwnsOne, Stays};
 
 use crate::tests::calls::{Exchanging, Getting, Giving, exchanges, gets_none, gets_number, gives};
-use crate::tests::guards::{Way, puts_a_pair};
+use crate::tests::guards::{ToLock, Way, puts_a_pair};
 use crate::tests::objects::{entries, number_of};
 use crate::tests::threads::{a_heap, a_thread, is_empty};
 use brc_biased::Home;
@@ -96,7 +96,11 @@ fn takes<R: Abort + Wait, H: Home<A>, A: Allocator + Copy>(
         }
         Step::Pairs(way, number) => {
             let value = made(alloc, frame, Thing::Int(number)).expect(rt, "no integer is made");
-            puts_a_pair(rt, frame, object, 7, value, way);
+            let dict = ToLock {
+                container: object,
+                way,
+            };
+            puts_a_pair(rt, frame, dict, 7, value);
         }
         Step::Gets(getting, number) => gets_number(rt, frame, object, getting, number),
         Step::GetsNone(getting) => gets_none(rt, frame, object, getting),

@@ -4,12 +4,12 @@ ghost use Rattle.std.specs.Prelude.{◌≡◌};
 ghost use Rattle.brc_count.specs.Frames.{Owns};
 ghost use Rattle.test_tools.specs.Calls.{OwnsBoth, OwnsOne, Parts, Stays};
 
-use crate::tests::calls::{Getting, Giving, gets, gets_none, gives, refuses};
+use crate::tests::calls::{Getting, Giving, gets, gets_none, gives};
 use crate::tests::threads::{a_heap, a_thread, is_empty};
 use brc_biased::Home;
 use brc_block::Payload;
 use brc_containers::try_int_of;
-use brc_count::{Frame, Handle};
+use brc_count::{Frame, Handed, Handle};
 use brc_lock::try_lock;
 use brc_words::{Fault, GLOBALS};
 use std::alloc::Allocator;
@@ -43,7 +43,9 @@ fn locks_meanwhile<R: Abort + Wait, H: Home<A>, A: Allocator + Copy>(
             };
             assert!(rt; locked.room().is_ok());
             assert!(rt; locked.place().is_ok());
-            let list = refuses(rt, other, others, Giving::TryPut(7), list, Fault::Busy);
+            let put = Giving::TryPut(7).given(rt, other, others, list);
+            let Handed { fault, back: list } = put.expect_err(rt, "a value is taken");
+            assert_eq!(rt; fault, Fault::Busy);
             gets_none(rt, other, &list, Getting::TryPop);
             assert!(rt; try_int_of(other, &list) == Err(Fault::WrongKind));
             locked.unlock();

@@ -1,13 +1,10 @@
 //! Calls on containers by their names: those that a value is given to, those that answer a handle to an entry, and
 //! those that exchange the two. Each says of the frame's handles what the call itself says.
 
-ghost use Rattle.std.specs.Prelude.{◌≡◌, IfOk, IfErr, IfSome, OnErr};
-ghost use Rattle.brc_count.specs.Frames.{IsUnlocked};
-ghost use Rattle.brc_count.specs.Owned.{Keeps};
-ghost use Rattle.brc_dicts.specs.Putting.{OwnsPut};
+ghost use Rattle.std.specs.Prelude.{◌≡◌, None, Ok, IfErr, IsErr, OnErr, OnOk};
 ghost use Rattle.test_tools.specs.Calls.{OwnsBoth, OwnsOne, Stays, Adds, Parts, LosesOrKeeps, GainsOrKeeps};
 
-use crate::tests::guards::{Entry, Way, had_by_guard, put_by_guard, swap_by_guard};
+use crate::tests::guards::{Entry, ToLock, Way, had_by_guard, put_by_guard, swap_by_guard};
 use crate::tests::objects::number_of;
 use brc_biased::Home;
 use brc_count::{Frame, Handed, Handle};
@@ -65,41 +62,16 @@ pub(super) enum Exchanging {
     Swap(u32, Way),
 }
 
-/// A put, which answers the old value, if there was one, by the handle that the value had.
-fn put<H: Home<A>, A: Allocator + Copy>(
-    rt: &(impl Abort + Wait),
-    frame: &mut Frame<H, A>,
-    dict: &Handle<A>,
-    key: i64,
-    value: Handle<A>,
-    way: Way,
-) -> Result<Option<Handle<A>>, Handed<(Key<A>, Handle<A>)>>
-    requires { OwnsBoth frame.old dict.now value }
-    ensures owns { IfOk result (OwnsPut frame.old frame.new value) }
-    ensures same { IfOk result (λ old. IfSome old (λ given. given ≡ value)) }
-    ensures keeps { OnErr result (Keeps frame.old frame.new) }
-    ensures unlocked { IsUnlocked frame.new }
-    ensures back { IfErr result (λ handed. handed.back.1 ≡ value) }
-{
-    match way {
-        Way::AtOnce => try_dict_put(frame, dict, Key::Int(key), value),
-        Way::Late => dict_put(rt, frame, dict, Key::Int(key), value),
-    }
-}
+/// What a put answers.
+type Put<A> = Result<Option<Handle<A>>, Handed<(Key<A>, Handle<A>)>>;
 
-/// A put of a new key. A refusal hands key and value back.
-fn put_new<H: Home<A>, A: Allocator + Copy>(
-    rt: &(impl Abort + Wait),
-    frame: &mut Frame<H, A>,
-    dict: &Handle<A>,
-    key: i64,
-    value: Handle<A>,
-    way: Way,
-) -> Result<(), Handed<Handle<A>>>
-    requires { OwnsBoth frame.old dict.now value }
-    ensures { LosesOrKeeps frame.old frame.new value result }
+/// The answer of a put of a new key. A refusal hands key and value back, of which this is the value.
+fn of_new_key<A: Allocator>(rt: &impl Abort, key: i64, put: Put<A>) -> Result<(), Handed<Handle<A>>>
+    ensures new { OnOk result (put ≡ Ok None) }
+    ensures refused { OnErr result (IsErr put) }
+    ensures back { IfErr result (λ given. IfErr put (λ handed. given.back ≡ handed.back.1)) }
 {
-    match put(rt, frame, dict, key, value, way) {
+    match put {
         Ok(None) => Ok(()),
         Ok(Some(_old)) => panic!(rt; "the key was there"),
         Err(
@@ -114,25 +86,33 @@ fn put_new<H: Home<A>, A: Allocator + Copy>(
     }
 }
 
-/// What the call answers. A refusal hands the value back.
-pub(super) fn given<H: Home<A>, A: Allocator + Copy>(
-    rt: &(impl Abort + Wait),
-    frame: &mut Frame<H, A>,
-    container: &Handle<A>,
-    giving: Giving,
-    value: Handle<A>,
-) -> Result<(), Handed<Handle<A>>>
-    requires { OwnsBoth frame.old container.now value }
-    ensures { LosesOrKeeps frame.old frame.new value result }
-{
-    match giving {
-        Giving::Push => list_push(rt, frame, container, value),
-        Giving::TryPush => try_list_push(frame, container, value),
-        Giving::Send => send(rt, frame, container, value),
-        Giving::TrySend => try_send(frame, container, value),
-        Giving::Put(key) => put_new(rt, frame, container, key, value, Way::Late),
-        Giving::TryPut(key) => put_new(rt, frame, container, key, value, Way::AtOnce),
-        Giving::Room(way) => put_by_guard(rt, frame, container, value, way),
+impl Giving {
+    /// What the call answers. A refusal hands the value back.
+    pub(super) fn given<H: Home<A>, A: Allocator + Copy>(
+        self,
+        rt: &(impl Abort + Wait),
+        frame: &mut Frame<H, A>,
+        container: &Handle<A>,
+        value: Handle<A>,
+    ) -> Result<(), Handed<Handle<A>>>
+        requires { OwnsBoth frame.old container.now value }
+        ensures { LosesOrKeeps frame.old frame.new value result }
+    {
+        match self {
+            Giving::Push => list_push(rt, frame, container, value),
+            Giving::TryPush => try_list_push(frame, container, value),
+            Giving::Send => send(rt, frame, container, value),
+            Giving::TrySend => try_send(frame, container, value),
+            Giving::Put(key) => {
+                let put = dict_put(rt, frame, container, Key::Int(key), value);
+                of_new_key(rt, key, put)
+            }
+            Giving::TryPut(key) => {
+                let put = try_dict_put(frame, container, Key::Int(key), value);
+                of_new_key(rt, key, put)
+            }
+            Giving::Room(way) => put_by_guard(rt, frame, ToLock { container, way }, value),
+        }
     }
 }
 
@@ -147,61 +127,43 @@ pub(super) fn gives<H: Home<A>, A: Allocator + Copy>(
     requires { OwnsBoth frame.old container.now value }
     ensures { Parts frame.old frame.new value }
 {
-    match given(rt, frame, container, giving, value) {
+    match giving.given(rt, frame, container, value) {
         Ok(()) => {}
         Err(_handed) => panic!(rt; "a value is refused"),
     }
 }
 
-/// The value is refused so; it is the answer.
-pub(super) fn refuses<H: Home<A>, A: Allocator + Copy>(
-    rt: &(impl Abort + Wait),
-    frame: &mut Frame<H, A>,
-    container: &Handle<A>,
-    giving: Giving,
-    value: Handle<A>,
-    why: Fault,
-) -> Handle<A>
-    requires { OwnsBoth frame.old container.now value }
-    ensures stays { Stays frame.old frame.new }
-    ensures same { result ≡ value }
-{
-    match given(rt, frame, container, giving, value) {
-        Ok(()) => panic!(rt; "a value is taken"),
-        Err(Handed { fault, back: value }) => {
-            assert_eq!(rt; fault, why);
-            value
+impl Getting {
+    /// What the call answers.
+    pub(super) fn had<H: Home<A>, A: Allocator>(
+        self,
+        rt: &(impl Abort + Wait),
+        frame: &mut Frame<H, A>,
+        container: &Handle<A>,
+    ) -> Result<Handle<A>, Fault>
+        requires { OwnsOne frame.old container.now }
+        ensures { GainsOrKeeps frame.old frame.new result }
+    {
+        match self {
+            Getting::Pop => list_pop(rt, frame, container),
+            Getting::TryPop => try_list_pop(frame, container),
+            Getting::Get(index) => list_get(rt, frame, container, index),
+            Getting::TryGet(index) => try_list_get(frame, container, index),
+            Getting::TakeAt(index) => list_take(rt, frame, container, index),
+            Getting::TryTakeAt(index) => try_list_take(frame, container, index),
+            Getting::Recv => recv(rt, frame, container),
+            Getting::TryRecv => try_recv(frame, container),
+            Getting::Find(key) => dict_find(rt, frame, container, &Key::Int(key)),
+            Getting::TryFind(key) => try_dict_find(frame, container, &Key::Int(key)),
+            Getting::Del(key) => dict_del(rt, frame, container, &Key::Int(key)),
+            Getting::TryDel(key) => try_dict_del(frame, container, &Key::Int(key)),
+            Getting::Entry(index, way) => {
+                had_by_guard(rt, frame, ToLock { container, way }, index, Entry::Stays)
+            }
+            Getting::Take(index, way) => {
+                had_by_guard(rt, frame, ToLock { container, way }, index, Entry::Goes)
+            }
         }
-    }
-}
-
-/// What the call answers.
-pub(super) fn had<H: Home<A>, A: Allocator>(
-    rt: &(impl Abort + Wait),
-    frame: &mut Frame<H, A>,
-    container: &Handle<A>,
-    getting: Getting,
-) -> Result<Handle<A>, Fault>
-    requires { OwnsOne frame.old container.now }
-    ensures { GainsOrKeeps frame.old frame.new result }
-{
-    match getting {
-        Getting::Pop => list_pop(rt, frame, container),
-        Getting::TryPop => try_list_pop(frame, container),
-        Getting::Get(index) => list_get(rt, frame, container, index),
-        Getting::TryGet(index) => try_list_get(frame, container, index),
-        Getting::TakeAt(index) => list_take(rt, frame, container, index),
-        Getting::TryTakeAt(index) => try_list_take(frame, container, index),
-        Getting::Recv => recv(rt, frame, container),
-        Getting::TryRecv => try_recv(frame, container),
-        Getting::Find(key) => dict_find(rt, frame, container, &Key::Int(key)),
-        Getting::TryFind(key) => try_dict_find(frame, container, &Key::Int(key)),
-        Getting::Del(key) => dict_del(rt, frame, container, &Key::Int(key)),
-        Getting::TryDel(key) => try_dict_del(frame, container, &Key::Int(key)),
-        Getting::Entry(index, way) => {
-            had_by_guard(rt, frame, container, index, way, Entry::Stays)
-        }
-        Getting::Take(index, way) => had_by_guard(rt, frame, container, index, way, Entry::Goes),
     }
 }
 
@@ -215,7 +177,9 @@ pub(super) fn gets<H: Home<A>, A: Allocator>(
     requires { OwnsOne frame.old container.now }
     ensures { Adds frame.old frame.new result }
 {
-    had(rt, frame, container, getting).expect(rt, "an entry isn't had")
+    getting
+        .had(rt, frame, container)
+        .expect(rt, "an entry isn't had")
 }
 
 /// The entry is an integer with this number.
@@ -243,7 +207,7 @@ pub(super) fn gets_none<H: Home<A>, A: Allocator>(
     requires { OwnsOne frame.old container.now }
     ensures { Stays frame.old frame.new }
 {
-    match had(rt, frame, container, getting) {
+    match getting.had(rt, frame, container) {
         Ok(_handle) => panic!(rt; "an entry is there"),
         Err(fault) => assert_eq!(rt; fault, Fault::NoSuchPlace),
     }
@@ -270,6 +234,8 @@ pub(super) fn exchanges<H: Home<A>, A: Allocator>(
             Ok(old) => old,
             Err(_handed) => panic!(rt; "an exchange that doesn't wait is refused"),
         },
-        Exchanging::Swap(index, way) => swap_by_guard(rt, frame, container, index, value, way),
+        Exchanging::Swap(index, way) => {
+            swap_by_guard(rt, frame, ToLock { container, way }, index, value)
+        }
     }
 }

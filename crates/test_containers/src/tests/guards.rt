@@ -15,32 +15,38 @@ use std::alloc::Allocator;
 use std::process::Abort;
 use std::sync::Wait;
 
-/// How an object is locked: at once, or once no other thread has it locked.
+/// How a container is locked: at once, or once no other thread has it locked.
 #[derive(Clone, Copy)]
 pub(super) enum Way {
     AtOnce,
     Late,
 }
 
-/// The object, locked.
+/// A container that is to be locked, and how.
+pub(super) struct ToLock<'h, A: Allocator> {
+    pub(super) container: &'h Handle<A>,
+    pub(super) way: Way,
+}
+
+/// The container, locked.
 fn locked<'f, H: Home<A>, A: Allocator>(
     rt: &(impl Abort + Wait),
     frame: &'f mut Frame<H, A>,
-    handle: &'f Handle<A>,
-    way: Way,
+    to_lock: ToLock<'f, A>,
 ) -> Locked<'f, H, A, Block<A>>
-    requires { OwnsOne frame.old handle.now }
+    requires { OwnsOne frame.old to_lock.container.now }
     ensures same_reference { result.frame.ghost_name ≡ frame.entry.ghost_name }
-    ensures handle { result.handle.now ≡ handle.now }
-    ensures holds { Holds result.frame.now handle.now result.block }
+    ensures handle { result.handle.now ≡ to_lock.entry.container.now }
+    ensures holds { Holds result.frame.now to_lock.entry.container.now result.block }
     ensures keeps { Keeps frame.old result.frame.now }
 {
+    let ToLock { container, way } = to_lock;
     match way {
-        Way::AtOnce => match try_lock(frame, handle) {
+        Way::AtOnce => match try_lock(frame, container) {
             Ok(locked) => locked,
             Err(_) => panic!(rt; "nobody else has it locked"),
         },
-        Way::Late => lock(rt, frame, handle),
+        Way::Late => lock(rt, frame, container),
     }
 }
 
@@ -48,14 +54,13 @@ fn locked<'f, H: Home<A>, A: Allocator>(
 pub(super) fn put_by_guard<H: Home<A>, A: Allocator + Copy>(
     rt: &(impl Abort + Wait),
     frame: &mut Frame<H, A>,
-    list: &Handle<A>,
+    list: ToLock<'_, A>,
     value: Handle<A>,
-    way: Way,
 ) -> Result<(), Handed<Handle<A>>>
-    requires { OwnsBoth frame.old list.now value }
+    requires { OwnsBoth frame.old list.container.now value }
     ensures { LosesOrKeeps frame.old frame.new value result }
 {
-    let mut guard = locked(rt, frame, list, way);
+    let mut guard = locked(rt, frame, list);
     let Payload::List(_) = guard.payload() else {
         panic!(rt; "it is no list")
     };
@@ -75,15 +80,14 @@ pub(super) fn put_by_guard<H: Home<A>, A: Allocator + Copy>(
 pub(super) fn puts_a_pair<H: Home<A>, A: Allocator + Copy>(
     rt: &(impl Abort + Wait),
     frame: &mut Frame<H, A>,
-    dict: &Handle<A>,
+    dict: ToLock<'_, A>,
     key: i64,
     value: Handle<A>,
-    way: Way,
 )
-    requires { OwnsBoth frame.old dict.now value }
+    requires { OwnsBoth frame.old dict.container.now value }
     ensures { Parts frame.old frame.new value }
 {
-    let mut guard = locked(rt, frame, dict, way);
+    let mut guard = locked(rt, frame, dict);
     let Payload::Dict(pairs) = guard.payload() else {
         panic!(rt; "it is no dictionary")
     };
@@ -105,15 +109,14 @@ pub(super) enum Entry {
 pub(super) fn had_by_guard<H: Home<A>, A: Allocator>(
     rt: &(impl Abort + Wait),
     frame: &mut Frame<H, A>,
-    list: &Handle<A>,
+    list: ToLock<'_, A>,
     index: u32,
-    way: Way,
     entry: Entry,
 ) -> Result<Handle<A>, Fault>
-    requires { OwnsOne frame.old list.now }
+    requires { OwnsOne frame.old list.container.now }
     ensures { GainsOrKeeps frame.old frame.new result }
 {
-    let mut guard = locked(rt, frame, list, way);
+    let mut guard = locked(rt, frame, list);
     let Payload::List(cells) = guard.payload() else {
         panic!(rt; "it is no list")
     };
@@ -138,16 +141,15 @@ pub(super) fn had_by_guard<H: Home<A>, A: Allocator>(
 pub(super) fn swap_by_guard<H: Home<A>, A: Allocator>(
     rt: &(impl Abort + Wait),
     frame: &mut Frame<H, A>,
-    list: &Handle<A>,
+    list: ToLock<'_, A>,
     index: u32,
     value: Handle<A>,
-    way: Way,
 ) -> Handle<A>
-    requires { OwnsBoth frame.old list.now value }
+    requires { OwnsBoth frame.old list.container.now value }
     ensures stays { Stays frame.old frame.new }
     ensures same { result ≡ value }
 {
-    let guard = locked(rt, frame, list, way);
+    let guard = locked(rt, frame, list);
     let Payload::List(cells) = guard.payload() else {
         panic!(rt; "it is no list")
     };

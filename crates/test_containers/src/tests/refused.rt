@@ -5,7 +5,7 @@
 ghost use Rattle.brc_count.specs.Frames.{IsUnlocked};
 ghost use Rattle.test_tools.specs.Calls.{Adds, EndsBare, IsBare, OwnsOne, Stays};
 
-use crate::tests::calls::{Getting, Giving, given, had};
+use crate::tests::calls::{Getting, Giving};
 use crate::tests::copies::{Copying, SOME_TEXT, copied, two_keys};
 use crate::tests::guards::Way;
 use crate::tests::objects::entries;
@@ -42,7 +42,7 @@ fn put<R: Abort + Wait, H: Home<A>, A: Allocator + Copy>(
     ensures { Stays frame.old frame.new }
 {
     let value = none(frame).expect(rt, "no None is had");
-    match given(rt, frame, container, giving, value) {
+    match giving.given(rt, frame, container, value) {
         Ok(()) => Ok(()),
         Err(Handed { fault, back: value }) => {
             frame.release(value);
@@ -99,7 +99,7 @@ fn tries<'h, R: Abort + Wait, H: Home<&'h LocalHeap>>(
     match call {
         Call::Puts(giving) => put(rt, frame, object, giving),
         Call::Gets(getting) => {
-            let entry = had(rt, frame, object, getting)?;
+            let entry = getting.had(rt, frame, object)?;
             frame.release(entry);
             Ok(())
         }
@@ -234,52 +234,34 @@ fn refuses<'h, R: Abort + Wait, H: Home<&'h LocalHeap>>(
     handles.release_all(frame);
 }
 
-/// A call that puts, on a heap of its own with two threads.
-fn puts_on_a_heap<R: Abort + Wait>(
-    rt: &R,
-    alloc: Global,
-    memories: Memories<&LocalHeap>,
-    giving: Giving,
-) {
-    let (heap, mut root) = a_heap(rt, memories.ample, 512);
-    let mut first = a_thread(rt, memories.ample, &heap, &mut root);
-    let mut second = a_thread(rt, memories.ample, &heap, &mut root);
-    refuses_an_entry(
-        rt,
-        alloc,
-        memories.scarce,
-        first.frame(),
-        second.frame(),
-        giving,
-    );
-    let _two = second.end(rt, &mut root, &heap);
-    let one = first.end(rt, &mut root, &heap);
-    assert_eq!(rt; one.allocs, 1);
-    is_empty(rt, heap, root);
-}
-
-/// A call that gets or copies, on a heap of its own with one thread, whose places are of scarce memory.
-fn gets_on_a_heap<R: Abort + Wait>(
-    rt: &R,
-    alloc: Global,
-    memories: Memories<&LocalHeap>,
-    call: Call,
-) {
-    let (heap, mut root) = a_heap(rt, memories.ample, 512);
-    let mut thread = a_thread(rt, memories.scarce, &heap, &mut root);
-    refuses(rt, alloc, memories, thread.frame(), call);
-    let ledger = thread.end(rt, &mut root, &heap);
-    assert_eq!(rt; (ledger.allocs, ledger.frees), (1, 1));
+/// The call, on a heap of its own: one that puts with two threads, another one with one, whose places are of scarce
+/// memory.
+fn on_a_heap<R: Abort + Wait>(rt: &R, alloc: Global, memories: Memories<&LocalHeap>, call: Call) {
+    let (ample, scarce) = (memories.ample, memories.scarce);
+    let (heap, mut root) = a_heap(rt, ample, 512);
+    match call {
+        Call::Puts(giving) => {
+            let mut one = a_thread(rt, ample, &heap, &mut root);
+            let mut two = a_thread(rt, ample, &heap, &mut root);
+            refuses_an_entry(rt, alloc, scarce, one.frame(), two.frame(), giving);
+            let _two = two.end(rt, &mut root, &heap);
+            let ledger = one.end(rt, &mut root, &heap);
+            assert_eq!(rt; ledger.allocs, 1);
+        }
+        _ => {
+            let mut thread = a_thread(rt, scarce, &heap, &mut root);
+            refuses(rt, alloc, memories, thread.frame(), call);
+            let ledger = thread.end(rt, &mut root, &heap);
+            assert_eq!(rt; (ledger.allocs, ledger.frees), (1, 1));
+        }
+    }
     is_empty(rt, heap, root);
 }
 
 /// The call wants memory where there are so many bytes of it.
 fn wants<R: Abort + Wait>(rt: &R, alloc: Global, bytes: usize, call: Call) {
     let heaps = Heaps::new(alloc, 1 << 20, bytes).expect(rt, "memory");
-    match call {
-        Call::Puts(giving) => puts_on_a_heap(rt, alloc, heaps.memories(), giving),
-        _ => gets_on_a_heap(rt, alloc, heaps.memories(), call),
-    }
+    on_a_heap(rt, alloc, heaps.memories(), call);
     assert_eq!(rt; heaps.used(), (0, 0));
 }
 
@@ -299,27 +281,22 @@ fn a_refused_entry_changes_nothing(rt: HostRuntime) {
     }
 }
 
+/// Each of them in its two forms.
 #[test]
 fn a_refused_place_changes_nothing(rt: HostRuntime) {
-    for getting in [
-        Getting::Pop,
-        Getting::TryPop,
-        Getting::Get(0),
-        Getting::TryGet(0),
-        Getting::TakeAt(0),
-        Getting::TryTakeAt(0),
-        Getting::Recv,
-        Getting::TryRecv,
-        Getting::Find(0),
-        Getting::TryFind(0),
-        Getting::Del(0),
-        Getting::TryDel(0),
-        Getting::Entry(0, Way::AtOnce),
-        Getting::Entry(0, Way::Late),
-        Getting::Take(0, Way::AtOnce),
-        Getting::Take(0, Way::Late),
+    for forms in [
+        [Getting::Pop, Getting::TryPop],
+        [Getting::Get(0), Getting::TryGet(0)],
+        [Getting::TakeAt(0), Getting::TryTakeAt(0)],
+        [Getting::Recv, Getting::TryRecv],
+        [Getting::Find(0), Getting::TryFind(0)],
+        [Getting::Del(0), Getting::TryDel(0)],
+        [Getting::Entry(0, Way::AtOnce), Getting::Entry(0, Way::Late)],
+        [Getting::Take(0, Way::AtOnce), Getting::Take(0, Way::Late)],
     ] {
-        wants(&rt, rt.alloc(), 1 << 16, Call::Gets(getting));
+        for getting in forms {
+            wants(&rt, rt.alloc(), 1 << 16, Call::Gets(getting));
+        }
     }
 }
 
