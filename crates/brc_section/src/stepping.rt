@@ -129,179 +129,182 @@ fn stirs<R: Wait, A: Allocator>(
     done
 }
 
-/// Does what the instruction says, where it is none that prints. It is a function, since only of one LLVM takes the hint
-/// to have it in the loop of a section's lines.
-#[inline(always)]
-fn step_silent<R: Wait, H: Home<A>, A: Allocator + Copy>(
-    rt: &R,
-    alloc: A,
-    frame: &mut Frame<H, A>,
-    registers: &mut Registers<A>,
-    instruction: &Instruction<A>,
-    key: Option<&Key<A>>,
-    seated: &Seated<'_, A>,
-) -> Result<(), Fault>
-    requires stands { Stands frame.old registers.old }
-    ensures stands { Stands frame.new registers.new }
-    ensures heap { frame.new.heap ≡ frame.old.heap }
-    ensures waits { IfErr result (λ fault. fault ≢ faults.Busy) }
-    ensures later { IsLater frame.old.seat.log frame.new.seat.log }
-    ensures why { IfErr result (WantsOfOwn instruction.now frame.old frame.new) }
-    ensures follows { FollowsOwn instruction.now frame.old frame.new registers.old registers.new result }
-{
-    match instruction {
-        Instruction::Int { to, number } => {
-            let (to, number) = (*to, *number);
-            MakeInt { to, number }.act(rt, alloc, frame, registers)
-        }
-        Instruction::Text { to, text } => {
-            let to = *to;
-            MakeText { to, text }.act(rt, alloc, frame, registers)
-        }
-        Instruction::List { to } => {
-            let (to, empty) = (*to, Empty::List);
-            MakeEmpty { to, empty }.act(rt, alloc, frame, registers)
-        }
-        Instruction::Dict { to } => {
-            let (to, empty) = (*to, Empty::Dict);
-            MakeEmpty { to, empty }.act(rt, alloc, frame, registers)
-        }
-        Instruction::Mailbox { to } => {
-            let (to, empty) = (*to, Empty::Mailbox);
-            MakeEmpty { to, empty }.act(rt, alloc, frame, registers)
-        }
+/// What the instruction of a line says, where it is none that prints.
+#[derive(Drop)]
+struct Silent<'i, A: Allocator> {
+    instruction: &'i Instruction<A>,
+    key: Option<&'i Key<A>>,
+    seated: &'i Seated<'i, A>,
+}
 
-        Instruction::Copy { to, from } => {
-            let (to, from) = (*to, *from);
-            CopyHeld { to, from }.act(rt, alloc, frame, registers)
-        }
-        Instruction::Drop { from } => {
-            let from = *from;
-            DropHeld { from }.act(rt, alloc, frame, registers)
-        }
+impl<'i, R: Wait, H: Home<A>, A: Allocator + Copy> Does<R, H, A> for Silent<'i, A> {
+    ghost follows = { λ it. FollowsOwn it.instruction.now };
 
-        Instruction::Push { list, value } => {
-            let take = Take {
-                container: *list,
-                value: *value,
-                taking: Taking::Push,
-            };
-            let done = take.act(rt, alloc, frame, registers);
-            stirs(rt, done, seated)
-        }
-        Instruction::Pop { to, list } => {
-            let give = Give {
-                to: *to,
-                container: *list,
-                giving: Giving::Pop,
-            };
-            let done = give.act(rt, alloc, frame, registers);
-            stirs(rt, done, seated)
-        }
-        Instruction::Get { to, list, index } => {
-            let give = Give {
-                to: *to,
-                container: *list,
-                giving: Giving::Get(*index),
-            };
-            give.act(rt, alloc, frame, registers)
-        }
-        Instruction::Set { list, index, value } => {
-            let take = Take {
-                container: *list,
-                value: *value,
-                taking: Taking::Set(*index),
-            };
-            let done = take.act(rt, alloc, frame, registers);
-            stirs(rt, done, seated)
-        }
-        Instruction::Len { to, container } => {
-            let (to, container) = (*to, *container);
-            Len { to, container }.act(rt, alloc, frame, registers)
-        }
+    ghost why = { λ it. WantsOfOwn it.instruction.now };
 
-        Instruction::Put { dict, key, value } => {
-            let take = Take {
-                container: *dict,
-                value: *value,
-                taking: Taking::Put(key),
-            };
-            let done = take.act(rt, alloc, frame, registers);
-            stirs(rt, done, seated)
-        }
-        Instruction::Find { to, dict, key } => {
-            let give = Give {
-                to: *to,
-                container: *dict,
-                giving: Giving::Find(key),
-            };
-            give.act(rt, alloc, frame, registers)
-        }
-        Instruction::Delete { to, dict, key } => {
-            let give = Give {
-                to: *to,
-                container: *dict,
-                giving: Giving::Delete(key),
-            };
-            let done = give.act(rt, alloc, frame, registers);
-            stirs(rt, done, seated)
-        }
+    #[inline(always)]
+    fn act(
+        &self,
+        rt: &R,
+        alloc: A,
+        frame: &mut Frame<H, A>,
+        registers: &mut Registers<A>,
+    ) -> Result<(), Fault> {
+        let (key, seated) = (self.key, self.seated);
+        match self.instruction {
+            Instruction::Int { to, number } => {
+                let (to, number) = (*to, *number);
+                MakeInt { to, number }.act(rt, alloc, frame, registers)
+            }
+            Instruction::Text { to, text } => {
+                let to = *to;
+                MakeText { to, text }.act(rt, alloc, frame, registers)
+            }
+            Instruction::List { to } => {
+                let (to, empty) = (*to, Empty::List);
+                MakeEmpty { to, empty }.act(rt, alloc, frame, registers)
+            }
+            Instruction::Dict { to } => {
+                let (to, empty) = (*to, Empty::Dict);
+                MakeEmpty { to, empty }.act(rt, alloc, frame, registers)
+            }
+            Instruction::Mailbox { to } => {
+                let (to, empty) = (*to, Empty::Mailbox);
+                MakeEmpty { to, empty }.act(rt, alloc, frame, registers)
+            }
 
-        Instruction::Share { name, value } => {
-            let shared = Shared::Share { value: *value };
-            let step = UnderName {
-                shared,
-                name,
-                key,
-                seated,
-            };
-            let done = step.act(rt, alloc, frame, registers);
-            stirs(rt, done, seated)
-        }
-        Instruction::Fetch { to, name } => {
-            let shared = Shared::Fetch { to: *to };
-            let step = UnderName {
-                shared,
-                name,
-                key,
-                seated,
-            };
-            step.act(rt, alloc, frame, registers)
-        }
-        Instruction::Unshare { to, name } => {
-            let shared = Shared::Unshare { to: *to };
-            let step = UnderName {
-                shared,
-                name,
-                key,
-                seated,
-            };
-            let done = step.act(rt, alloc, frame, registers);
-            stirs(rt, done, seated)
-        }
+            Instruction::Copy { to, from } => {
+                let (to, from) = (*to, *from);
+                CopyHeld { to, from }.act(rt, alloc, frame, registers)
+            }
+            Instruction::Drop { from } => {
+                let from = *from;
+                DropHeld { from }.act(rt, alloc, frame, registers)
+            }
 
-        Instruction::Send { mailbox, value } => {
-            let take = Take {
-                container: *mailbox,
-                value: *value,
-                taking: Taking::Send,
-            };
-            let done = take.act(rt, alloc, frame, registers);
-            stirs(rt, done, seated)
-        }
-        Instruction::Receive { to, mailbox } => {
-            let look = Look {
-                to: *to,
-                awaited: Awaited::Letter(*mailbox),
-            };
-            Await { look, seated }.act(rt, alloc, frame, registers)
-        }
+            Instruction::Push { list, value } => {
+                let take = Take {
+                    container: *list,
+                    value: *value,
+                    taking: Taking::Push,
+                };
+                let done = take.act(rt, alloc, frame, registers);
+                stirs(rt, done, seated)
+            }
+            Instruction::Pop { to, list } => {
+                let give = Give {
+                    to: *to,
+                    container: *list,
+                    giving: Giving::Pop,
+                };
+                let done = give.act(rt, alloc, frame, registers);
+                stirs(rt, done, seated)
+            }
+            Instruction::Get { to, list, index } => {
+                let give = Give {
+                    to: *to,
+                    container: *list,
+                    giving: Giving::Get(*index),
+                };
+                give.act(rt, alloc, frame, registers)
+            }
+            Instruction::Set { list, index, value } => {
+                let take = Take {
+                    container: *list,
+                    value: *value,
+                    taking: Taking::Set(*index),
+                };
+                let done = take.act(rt, alloc, frame, registers);
+                stirs(rt, done, seated)
+            }
+            Instruction::Len { to, container } => {
+                let (to, container) = (*to, *container);
+                Len { to, container }.act(rt, alloc, frame, registers)
+            }
 
-        Instruction::Add { to, first, second } => {
-            let (to, first, second) = (*to, *first, *second);
-            Add { to, first, second }.act(rt, alloc, frame, registers)
+            Instruction::Put { dict, key, value } => {
+                let take = Take {
+                    container: *dict,
+                    value: *value,
+                    taking: Taking::Put(key),
+                };
+                let done = take.act(rt, alloc, frame, registers);
+                stirs(rt, done, seated)
+            }
+            Instruction::Find { to, dict, key } => {
+                let give = Give {
+                    to: *to,
+                    container: *dict,
+                    giving: Giving::Find(key),
+                };
+                give.act(rt, alloc, frame, registers)
+            }
+            Instruction::Delete { to, dict, key } => {
+                let give = Give {
+                    to: *to,
+                    container: *dict,
+                    giving: Giving::Delete(key),
+                };
+                let done = give.act(rt, alloc, frame, registers);
+                stirs(rt, done, seated)
+            }
+
+            Instruction::Share { name, value } => {
+                let shared = Shared::Share { value: *value };
+                let step = UnderName {
+                    shared,
+                    name,
+                    key,
+                    seated,
+                };
+                let done = step.act(rt, alloc, frame, registers);
+                stirs(rt, done, seated)
+            }
+            Instruction::Fetch { to, name } => {
+                let shared = Shared::Fetch { to: *to };
+                let step = UnderName {
+                    shared,
+                    name,
+                    key,
+                    seated,
+                };
+                step.act(rt, alloc, frame, registers)
+            }
+            Instruction::Unshare { to, name } => {
+                let shared = Shared::Unshare { to: *to };
+                let step = UnderName {
+                    shared,
+                    name,
+                    key,
+                    seated,
+                };
+                let done = step.act(rt, alloc, frame, registers);
+                stirs(rt, done, seated)
+            }
+
+            Instruction::Send { mailbox, value } => {
+                let take = Take {
+                    container: *mailbox,
+                    value: *value,
+                    taking: Taking::Send,
+                };
+                let done = take.act(rt, alloc, frame, registers);
+                stirs(rt, done, seated)
+            }
+            Instruction::Receive { to, mailbox } => {
+                let look = Look {
+                    to: *to,
+                    awaited: Awaited::Letter(*mailbox),
+                };
+                Await { look, seated }.act(rt, alloc, frame, registers)
+            }
+
+            Instruction::Add { to, first, second } => {
+                let (to, first, second) = (*to, *first, *second);
+                Add { to, first, second }.act(rt, alloc, frame, registers)
+            }
+            Instruction::Print { .. } => Ok(()),
         }
-        Instruction::Print { .. } => Ok(()),
     }
 }
 
@@ -332,7 +335,12 @@ pub(crate) fn step<R: Wait, H: Home<A>, A: Allocator + Copy>(
             Err(fault) => Err(fault),
         };
     }
-    match step_silent(rt, alloc, frame, registers, instruction, key, seated) {
+    let silent = Silent {
+        instruction,
+        key,
+        seated,
+    };
+    match silent.act(rt, alloc, frame, registers) {
         Ok(()) => Ok(None),
         Err(fault) => Err(fault),
     }

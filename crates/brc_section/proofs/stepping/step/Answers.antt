@@ -13,31 +13,31 @@ returns-in-Err-clause-follows g c = λ own differ.
     prints_refused c.args.frame.now c.read.new.frame c.args.registers.now c.args.instruction.now c.in-Print.from
     c.in-Print.is c.in-Err.fault c.in-Err.ensures.finds
 
-pub returns-in-Ok-step_silent : goal.returns-in-Ok-step_silent
-returns-in-Ok-step_silent g c = record {
-  stands = c.step_silent.ensures.stands;
-  heap = c.step_silent.ensures.heap;
+pub returns-in-Ok-act : goal.returns-in-Ok-act
+returns-in-Ok-act g c = record {
+  stands = c.act.ensures.stands;
+  heap = c.act.ensures.heap;
   waits = tt;
-  later = c.step_silent.ensures.later;
+  later = c.act.ensures.later;
   caused = λ own. tt;
   follows = λ own differ.
-      silent_done c.args.frame.now c.step_silent.new.frame c.args.registers.now c.step_silent.new.registers
+      silent_done c.args.frame.now c.act.new.frame c.args.registers.now c.act.new.registers
       c.args.instruction.now c.in_default.not-Print
-      (c.in-Ok-step_silent.ensures.follows own differ (silent_of c.args.instruction.now c.in_default.not-Print));
+      (c.in-Ok-act.ensures.follows own differ (silent_of c.args.instruction.now c.in_default.not-Print));
 }
 
-pub returns-in-Err-step_silent : goal.returns-in-Err-step_silent
-returns-in-Err-step_silent g c = record {
-  stands = c.step_silent.ensures.stands;
-  heap = c.step_silent.ensures.heap;
-  waits = c.in-Err-step_silent.ensures.waits;
-  later = c.step_silent.ensures.later;
-  caused = c.in-Err-step_silent.ensures.why;
+pub returns-in-Err-act : goal.returns-in-Err-act
+returns-in-Err-act g c = record {
+  stands = c.act.ensures.stands;
+  heap = c.act.ensures.heap;
+  waits = c.in-Err-act.ensures.waits;
+  later = c.act.ensures.later;
+  caused = c.in-Err-act.ensures.why;
   follows = λ own differ.
-      silent_refused c.args.frame.now c.step_silent.new.frame c.args.registers.now c.step_silent.new.registers
+      silent_refused c.args.frame.now c.act.new.frame c.args.registers.now c.act.new.registers
       c.args.instruction.now c.in_default.not-Print
-      c.in-Err-step_silent.fault
-      (c.in-Err-step_silent.ensures.follows own differ (silent_of c.args.instruction.now c.in_default.not-Print));
+      c.in-Err-act.fault
+      (c.in-Err-act.ensures.follows own differ (silent_of c.args.instruction.now c.in_default.not-Print));
 }
 
 pub returns-in-Err-clause-caused : goal.returns-in-Err-clause-caused
