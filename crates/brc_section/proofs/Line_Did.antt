@@ -1,31 +1,53 @@
 -- One line: its instruction, the poll that tells what its calls found, and work.
-use Rattle.std.proofs.Common.{◌≡◌, ◌∙◌, ℕ, List, Option, Result, Ok, Err, is_ok}
-use Rattle.std.proofs.Common.{sym, ap, subst, true≢false}
+use Rattle.std.proofs.Common.{◌≡◌, ◌∙◌, ℕ, List, ◌++◌, [], ◌∷◌, Option, Result, Ok, Err, is_ok, IfOk, refl}
+use Rattle.std.proofs.Common.{sym, ap, subst, true, false, true≢false}
 use Rattle.brc_words.specs.declared.fault.Fault.{Fault}
 use Rattle.brc_script.specs.declared.instruction.Instruction.{Instruction}
+use Rattle.brc_script.specs.declared.instruction.Instruction.TheVariants as does
 use Rattle.brc_table.specs.Seated.{TableSeen}
 use Rattle.brc_count.specs.Frames.{FrameSeen, HandleSeen, KeepsHandles, Turns}
 use Rattle.brc_count.specs.Polling.{Polled}
 use Rattle.brc_meaning.specs.declared.state.State.{State}
 use Rattle.brc_meaning.specs.Steps.{after}
 use Rattle.brc_instructions.specs.declared.shown.Shown.{Shown}
+use Rattle.brc_instructions.specs.Printing.{text_shown, with_line, PrintsFrom}
 use Rattle.law_living.specs.Living.{OwnLog}
 use Rattle.law_living.specs.Later.{IsLater}
 use Rattle.law_living.proofs.Earlier.{own_earlier, quietly_later}
-use Rattle.law_isolation.specs.Means.{Means}
+use Rattle.law_isolation.specs.Asked.{Follows}
+use Rattle.law_isolation.specs.Means.{Means, Shows}
 use Rattle.law_isolation.specs.Goes.{is_want}
 use Rattle.law_isolation.specs.Lines.{At}
 use Rattle.brc_count.proofs.Quiet.{turns_quietly}
 use Rattle.law_isolation.proofs.Dropping_References.{means_polled, means_worked}
-use Rattle.brc_section.specs.Stepping.{with_shown, StepsAs}
+use Rattle.brc_section.specs.Stepping.{is_print}
 use Rattle.brc_section.specs.Running.{Notes, Did}
+use Rattle.brc_section.proofs.Silent.{prints_nothing}
 
 abbrev fault_in : Result (Unit {0}) Fault → Fault → Fault
 fault_in (Ok done) else = else
 fault_in (Err fault) else = fault
 
+module _ {A : Type 0} where
+  -- what is printed means nothing to frame and registers
+  means_printed : (base : ℕ) (frame : FrameSeen A) (registers : List (Option HandleSeen)) (s : State A) (text : List ℕ)
+      → Means base frame registers s → Means base frame registers (with_line text s)
+  means_printed base frame registers s text means =
+      let shows : Shows base means.cells means.part frame registers s = means.shows
+      in record {
+        cells = means.cells;
+        part = means.part;
+        shows = record {
+          lives = shows.lives;
+          held = shows.held;
+          size = shows.size;
+          same_size = shows.same_size;
+          made = shows.made;
+        };
+      }
+
 module _ {A : Type 0} (base : ℕ) (old mid polled : FrameSeen A) (before now : List (Option HandleSeen))
-    (had has : List ℕ) (s : State A) (instruction : Instruction A)
+    (had : List ℕ) (s : State A)
     (here : At base old before had s) (heap : mid.heap ≡ old.heap) (later : IsLater old.seat.log mid.seat.log)
     (own : OwnLog mid.heap.cells mid.seat.log) (told : ℕ) (polls : Polled mid polled told)
     (keeps : KeepsHandles mid polled) where
@@ -40,48 +62,96 @@ module _ {A : Type 0} (base : ℕ) (old mid polled : FrameSeen A) (before now : 
   polled_at next printed means same =
       record { means = λ more. means_polled base mid polled now next told means polls keeps more; same = same }
 
-  -- the line was refused, or what it shows couldn't be noted
-  pub did_refused : (outcome : Result (Option (Shown A)) Fault) (fault : Fault)
-      → StepsAs old mid before now instruction outcome
-      → Notes outcome had has (Err fault) → Did base polled now has s (after instruction s) (Err fault)
-  did_refused (Ok shown) fault steps notes =
+  -- work after the poll leaves what frame and registers mean
+  worked_at : (new : FrameSeen A) (turns : ℕ) (next : State A) (printed : List ℕ) → Turns polled turns new
+      → KeepsHandles polled new → At base polled now printed next → At base new now printed next
+  worked_at new turns next printed worked kept at_poll = record {
+    means = λ more.
+        let quiet : IsLater polled.seat.log new.seat.log = quietly_later polled.seat.log new.seat.log
+        (turns_quietly polled turns new worked)
+        in let earlier : OwnLog new.heap.cells polled.seat.log =
+        own_earlier new.heap.cells polled.seat.log new.seat.log quiet more
+        in let same : OwnLog polled.heap.cells polled.seat.log =
+        subst (λ (h : TableSeen). OwnLog h.cells polled.seat.log) kept.heap earlier
+        in means_worked base polled new now next turns (at_poll.means same) worked kept more;
+    same = at_poll.same;
+  }
+
+  -- ---- a line that doesn't print
+
+  module _ (instruction : Instruction A) where
+    pub silent_refused : (fault : Fault) → Follows old mid before now instruction (Err fault)
+        → Did base polled now had s (after instruction s) (Err fault)
+    silent_refused fault follows = (
+      here.same,
+      λ none.
+          let refused = follows base s own meant_before none
+          in (refused.0, polled_at s had refused.1 here.same),
+    )
+
+    pub silent_done : (new : FrameSeen A) (turns : ℕ) → is_print instruction ≡ false
+        → Follows old mid before now instruction (Ok tt) → Turns polled turns new → KeepsHandles polled new
+        → Did base new now had s (after instruction s) (Ok tt)
+    silent_done new turns silent follows worked kept =
+        let led = follows base s own meant_before
+        in let same : led.0.printed ≡ s.printed =
+        subst (λ (r : Result (State A) Fault). IfOk r (λ next. next.printed ≡ s.printed)) led.1
+        (prints_nothing instruction s silent)
+        in (
+          led.0,
+          led.1,
+          worked_at new turns led.0 had worked kept (polled_at led.0 had led.2 (same ∙ here.same)),
+        )
+
+module _ {A : Type 0} (base : ℕ) (old mid polled : FrameSeen A) (registers : List (Option HandleSeen))
+    (had has : List ℕ) (s : State A) (from : ℕ)
+    (here : At base old registers had s) (heap : mid.heap ≡ old.heap) (later : IsLater old.seat.log mid.seat.log)
+    (own : OwnLog mid.heap.cells mid.seat.log) (told : ℕ) (polls : Polled mid polled told)
+    (keeps : KeepsHandles mid polled) where
+  meant_when_read : Means base old registers s
+  meant_when_read =
+      meant_before base old mid polled registers registers had s here heap later own told polls keeps
+
+  at_polled : (next : State A) (printed : List ℕ) → Means base mid registers next → next.printed ≡ printed
+      → At base polled registers printed next
+  at_polled = polled_at base old mid polled registers registers had s here heap later own told polls keeps
+
+  -- ---- a line that prints
+
+  -- it was refused, or what it shows couldn't be noted
+  pub print_refused : (read : Result (Shown A) Fault) (fault : Fault) → PrintsFrom from old mid registers read
+      → Notes read had has (Err fault)
+      → Did base polled registers has s (after (does.Print from) s) (Err fault)
+  print_refused (Ok shown) fault prints notes =
       (here.same ∙ sym notes.1, λ none. absurd (true≢false (ap is_want (sym notes.0) ∙ none)))
-  did_refused (Err own_fault) fault steps notes =
+  print_refused (Err own_fault) fault prints notes =
       let same : own_fault ≡ fault = sym (ap (λ (r : Result (Unit {0}) Fault). fault_in r fault) notes.0)
       in (
         here.same ∙ sym notes.1,
         λ none.
-            let refused : (after instruction s ≡ Err own_fault) × Means base mid now s = steps base s own meant_before
-            (ap is_want same ∙ none)
-            in (refused.0 ∙ ap (λ (f : Fault). Err f) same, polled_at s has refused.1 (here.same ∙ sym notes.1)),
+            let refused = prints base s own meant_when_read (ap is_want same ∙ none)
+            in (
+              refused.0 ∙ ap (λ (f : Fault). Err f) same,
+              at_polled s has refused.1 (here.same ∙ sym notes.1),
+            ),
       )
 
-  -- it was done, and noted
-  pub did_all : (outcome : Result (Option (Shown A)) Fault) (new : FrameSeen A) (turns : ℕ)
-      → StepsAs old mid before now instruction outcome
-      → Notes outcome had has (Ok tt) → Turns polled turns new → KeepsHandles polled new
-      → Did base new now has s (after instruction s) (Ok tt)
-  did_all (Ok shown) new turns steps notes worked kept =
-      let stepped : (next : State A) × (after instruction s ≡ Ok next) × (next.printed ≡ with_shown s.printed shown)
-      × Means base mid now next
-      = steps base s own meant_before
-      in let printed : stepped.0.printed ≡ has = stepped.2 ∙ ap (λ (lines : List ℕ). with_shown lines shown) here.same
-      ∙ sym notes
-      in let at_poll : At base polled now has stepped.0 = polled_at stepped.0 has stepped.3 printed
+  -- it was read, and noted
+  pub print_done : (read : Result (Shown A) Fault) (new : FrameSeen A) (turns : ℕ)
+      → PrintsFrom from old mid registers read → Notes read had has (Ok tt)
+      → Turns polled turns new → KeepsHandles polled new
+      → Did base new registers has s (after (does.Print from) s) (Ok tt)
+  print_done (Ok shown) new turns prints notes worked kept =
+      let led = prints base s own meant_when_read
+      in let printed : s.printed ++ (text_shown shown ++ 10 ∷ []) ≡ has =
+      ap (λ (lines : List ℕ). lines ++ (text_shown shown ++ 10 ∷ [])) here.same ∙ sym notes
       in (
-        stepped.0,
-        stepped.1,
-        record {
-          means = λ more.
-              let quiet : IsLater polled.seat.log new.seat.log = quietly_later polled.seat.log new.seat.log
-              (turns_quietly polled turns new worked)
-              in let earlier : OwnLog new.heap.cells polled.seat.log =
-              own_earlier new.heap.cells polled.seat.log new.seat.log quiet more
-              in let same : OwnLog polled.heap.cells polled.seat.log =
-              subst (λ (h : TableSeen). OwnLog h.cells polled.seat.log) kept.heap earlier
-              in means_worked base polled new now stepped.0 turns (at_poll.means same) worked kept more;
-          same = printed;
-        },
+        with_line (text_shown shown) s,
+        led.0,
+        worked_at base old mid polled registers registers had s here heap later own told polls keeps new turns
+            (with_line (text_shown shown) s) has worked kept
+            (at_polled (with_line (text_shown shown) s) has
+            (means_printed base mid registers s (text_shown shown) led.1) printed),
       )
-  did_all (Err fault) new turns steps notes worked kept =
+  print_done (Err fault) new turns prints notes worked kept =
       absurd (true≢false (ap (λ (r : Result (Unit {0}) Fault). is_ok r) notes.0))

@@ -17,8 +17,8 @@ use Rattle.law_living.specs.Later.{IsLater}
 use Rattle.law_living.specs.Quiet.{Quietly}
 use Rattle.law_living.proofs.Earlier.{later_both, quietly_later}
 use Rattle.brc_instructions.specs.declared.shown.Shown.{Shown}
-use Rattle.brc_instructions.specs.Causes.{NoneWasFree, Caused}
-use Rattle.brc_instructions.proofs.Causes_Of.{uncaused_memory, caused_from, caused_on, none_quietly, born_quietly}
+use Rattle.brc_instructions.specs.Causes.{NoneWasFree, WantsNoRoom, Caused}
+use Rattle.brc_instructions.proofs.Causes_Of.{uncaused, uncaused_memory, caused_from, caused_on, none_quietly, born_quietly}
 use Rattle.brc_section.specs.declared.running.Halt.{Halt}
 use Rattle.brc_section.specs.Running.{AreOwn, Notes, HaltOf, FaultOf}
 use Rattle.brc_section.specs.Stepping.{WantsOfOwn}
@@ -67,15 +67,18 @@ module _ {A : Type 0} where
     later_worked new turns worked = later_both old.seat.log polled.seat.log new.seat.log later_polled
         (quietly_later polled.seat.log new.seat.log (turns_quietly polled turns new worked))
 
-    -- the line was refused, or what it shows couldn't be noted
-    pub caused_polled : (had has : List ℕ) (outcome : Result (Option (Shown A)) Fault) (fault : Fault)
-        → KeepsHandles mid polled
-        → IfErr outcome (Caused old mid) → Notes outcome had has (Err fault) → Caused old polled fault
-    caused_polled had has (Ok shown) fault keeps caused notes = uncaused_memory old polled fault notes.0
-    caused_polled had has (Err own_fault) fault keeps caused notes =
-        let same : own_fault ≡ fault = sym (ap (λ (r : Result (Unit {0}) Fault). fault_in r fault) notes.0)
-        in subst (Caused old polled) same
-        (caused_on old mid polled own_fault keeps.heap keeps.len (polled_quietly mid polled told polls) caused)
+    -- the line was refused
+    pub caused_polled : (fault : Fault) → KeepsHandles mid polled → Caused old mid fault → Caused old polled fault
+    caused_polled fault keeps caused =
+        caused_on old mid polled fault keeps.heap keeps.len (polled_quietly mid polled told polls) caused
+
+  -- what it shows couldn't be read, or noted
+  pub caused_noted : (old new : FrameSeen A) (had has : List ℕ) (read : Result (Shown A) Fault) (fault : Fault)
+      → IfErr read WantsNoRoom → Notes read had has (Err fault) → Caused old new fault
+  caused_noted old new had has (Ok shown) fault room notes = uncaused_memory old new fault notes.0
+  caused_noted old new had has (Err own_fault) fault room notes =
+      let same : own_fault ≡ fault = sym (ap (λ (r : Result (Unit {0}) Fault). fault_in r fault) notes.0)
+      in subst (Caused old new) same (uncaused old new own_fault room)
 
   -- ---- lines after lines
 

@@ -1,5 +1,5 @@
 -- What running a line, or lines, comes to, by their plain meaning.
-use Rattle.std.specs.Prelude.{◌≡◌, ℕ, ◌+◌, true, false, List, [], ◌∷◌, length, Option, Some, None, Result, Ok, Err}
+use Rattle.std.specs.Prelude.{◌≡◌, ℕ, ◌+◌, true, false, List, [], ◌∷◌, ◌++◌, length, Option, Some, None, Result, Ok, Err}
 use Rattle.std.specs.Prelude.{MatchResult, MatchOption}
 use Rattle.brc_words.specs.Faults.{number_of}
 use Rattle.brc_words.specs.declared.fault.Fault.{Fault}
@@ -13,7 +13,7 @@ use Rattle.law_living.specs.Living.{OwnLog}
 use Rattle.law_isolation.specs.Goes.{is_want, is_machines}
 use Rattle.law_isolation.specs.Lines.{At, WentOn, BrokeOff, Stopped}
 use Rattle.brc_instructions.specs.declared.shown.Shown.{Shown}
-use Rattle.brc_section.specs.Stepping.{with_shown}
+use Rattle.brc_instructions.specs.Printing.{text_shown}
 use Rattle.brc_section.specs.declared.running.Halt.{Halt}
 
 module _ {A : Type 0} where
@@ -23,9 +23,9 @@ module _ {A : Type 0} where
   AreOwn (line ∷ lines) = (is_shared line.instruction ≡ false) × AreOwn lines
 
   -- What was shown is noted; or memory for it was missing, and nothing is. A fault stays a fault.
-  abbrev pub Notes : Result (Option (Shown A)) Fault → List ℕ → List ℕ → Result (Unit {0}) Fault → Type 0
-  Notes outcome had has result = MatchResult outcome
-      (λ shown. MatchResult result (λ _. has ≡ with_shown had shown)
+  abbrev pub Notes : Result (Shown A) Fault → List ℕ → List ℕ → Result (Unit {0}) Fault → Type 0
+  Notes read had has result = MatchResult read
+      (λ shown. MatchResult result (λ _. has ≡ had ++ (text_shown shown ++ 10 ∷ []))
       (λ fault. (fault ≡ faults.OutOfMemory) × (has ≡ had)))
       (λ fault. (result ≡ Err fault) × (has ≡ had))
 

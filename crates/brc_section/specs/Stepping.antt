@@ -23,21 +23,6 @@ module _ {A : Type 0} where
   is_print (does.Print from) = true
   is_print _ = false
 
-  -- the lines with what was shown, if something was
-  abbrev pub with_shown : List ℕ → Option (Shown A) → List ℕ
-  with_shown printed None = printed
-  with_shown printed (Some shown) = printed ++ (text_shown shown ++ 10 ∷ [])
-
-  -- From any state that frame and registers meant: it led to the state that is meant, where what it shows is printed;
-  -- or it was refused as it is meant to be, and nothing changed, unless something was wanting.
-  abbrev pub StepsAs : FrameSeen A → FrameSeen A → List (Option HandleSeen) → List (Option HandleSeen) → Instruction A
-      → Result (Option (Shown A)) Fault → Type 0
-  StepsAs old new before now instruction result =
-      (base : ℕ) (s : State A) → OwnLog new.heap.cells new.seat.log → Means base old before s → MatchResult result
-      (λ shown. (next : State A) × (after instruction s ≡ Ok next) × (next.printed ≡ with_shown s.printed shown)
-      × Means base new now next)
-      (λ fault. is_want fault ≡ false → (after instruction s ≡ Err fault) × Means base new now s)
-
   -- An instruction that shares nothing, names no register twice and prints nothing leads on as is meant.
   abbrev pub FollowsOwn : Instruction A → Telling A
   FollowsOwn instruction old new before now result = is_shared instruction ≡ false

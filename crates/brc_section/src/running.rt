@@ -7,6 +7,7 @@ ghost use Rattle.law_living.specs.Later.{IsLater};
 ghost use Rattle.brc_instructions.specs.Causes.{Caused};
 ghost use Rattle.brc_instructions.specs.Registers.{Stands};
 ghost use Rattle.brc_script.specs.Instructions.{is_shared};
+ghost use Rattle.brc_script.specs.declared.instruction.Instruction.TheVariants as does;
 ghost use Rattle.brc_meaning.specs.declared.state.State.{State as state};
 ghost use Rattle.brc_meaning.specs.Sections.{written_out};
 ghost use Rattle.brc_meaning.specs.Steps.{after};
@@ -17,12 +18,12 @@ ghost use Rattle.brc_section.specs.Wants.{HaltsForCause};
 
 use crate::gate::Gate;
 use crate::names::{Names, name_at};
-use crate::stepping::step;
+use crate::stepping::Silent;
 use crate::waiting::Seated;
 use brc_biased::Home;
 use brc_count::Frame;
-use brc_instructions::{Lines, Registers, Shown};
-use brc_script::{Line, Piece};
+use brc_instructions::{Does, Lines, Print, Reads, Registers, Shown};
+use brc_script::{Instruction, Line, Piece, Register};
 use brc_words::{Fault, Key};
 use std::alloc::Allocator;
 use std::sync::Wait;
@@ -36,17 +37,43 @@ pub(crate) struct Halt {
 
 /// What was shown, as one line more; OutOfMemory where it can't be had. A fault stays a fault.
 #[inline(always)]
-fn note<A: Allocator>(
-    lines: &mut Lines<A>,
-    done: Result<Option<Shown<A>>, Fault>,
-) -> Result<(), Fault>
-    ensures { Notes done lines.old lines.new result }
+fn note<A: Allocator>(lines: &mut Lines<A>, read: Result<Shown<A>, Fault>) -> Result<(), Fault>
+    ensures { Notes read lines.old lines.new result }
 {
-    match done {
-        Ok(None) => Ok(()),
-        Ok(Some(shown)) => lines.add(&shown),
+    match read {
+        Ok(shown) => lines.add(&shown),
         Err(fault) => Err(fault),
     }
+}
+
+/// A line that prints: what it shows, one poll, and work.
+#[inline(never)]
+fn print_line<R: Wait, H: Home<A>, A: Allocator + Copy>(
+    rt: &R,
+    alloc: A,
+    frame: &mut Frame<H, A>,
+    registers: &mut Registers<A>,
+    lines: &mut Lines<A>,
+    from: Register,
+    seated: &Seated<'_, A>,
+) -> Result<(), Fault>
+    requires stands { Stands frame.old registers.old }
+    ensures stands { Stands frame.new registers.new }
+    ensures heap { frame.new.heap ≡ frame.old.heap }
+    ensures waits { IfErr result (λ fault. fault ≢ faults.Busy) }
+    ensures later { IsLater frame.old.seat.log frame.new.seat.log }
+    ensures caused { IfErr result (Caused frame.old frame.new) }
+    ensures follows { (base : ℕ) (s : state A) → At base frame.old registers.old lines.old s
+        → Did base frame.new registers.new lines.new s (after (does.Print from) s) result }
+{
+    let shown = Print { from }.read(rt, alloc, frame, registers);
+    let _told = frame.poll();
+    match note(lines, shown) {
+        Ok(()) => {}
+        Err(fault) => return Err(fault),
+    }
+    let _left = frame.work(seated.budget);
+    Ok(())
 }
 
 /// The instruction of a line, what it prints, one poll, and work.
@@ -71,10 +98,19 @@ fn do_line<R: Wait, H: Home<A>, A: Allocator + Copy>(
         → At base frame.old registers.old lines.old s
         → Did base frame.new registers.new lines.new s (after line.now.instruction s) result }
 {
-    let done = step(rt, alloc, frame, registers, line.instruction(), key, seated);
+    let instruction = line.instruction();
+    if let Instruction::Print { from } = instruction {
+        return print_line(rt, alloc, frame, registers, lines, *from, seated);
+    }
+    let silent = Silent {
+        instruction,
+        key,
+        seated,
+    };
+    let done = silent.act(rt, alloc, frame, registers);
     // After a refused instruction too: what its calls found is told by the log that the poll finds.
     let _told = frame.poll();
-    match note(lines, done) {
+    match done {
         Ok(()) => {}
         Err(fault) => return Err(fault),
     }

@@ -6,7 +6,7 @@ ghost use Rattle.brc_script.specs.Instructions.{is_shared, registers_differ};
 ghost use Rattle.law_living.specs.Later.{IsLater};
 ghost use Rattle.brc_instructions.specs.Causes.{Caused};
 ghost use Rattle.brc_instructions.specs.Registers.{Stands};
-ghost use Rattle.brc_section.specs.Stepping.{FollowsOwn, StepsAs, WantsOfOwn};
+ghost use Rattle.brc_section.specs.Stepping.{FollowsOwn, WantsOfOwn};
 
 use crate::names::key_of;
 use crate::waiting::{Await, Awaited, Look, Seated};
@@ -71,45 +71,40 @@ impl<'i, R: Wait, H: Home<A>, A: Allocator + Copy> Does<R, H, A> for UnderKey<'i
 }
 
 /// It under this name: by the key that was made of it, or, where none is there, by one that is made now.
-#[derive(Drop)]
-struct UnderName<'i, A: Allocator> {
+#[inline(never)]
+fn under_name<R: Wait, H: Home<A>, A: Allocator + Copy>(
+    rt: &R,
+    alloc: A,
+    frame: &mut Frame<H, A>,
+    registers: &mut Registers<A>,
     shared: Shared,
-    name: &'i Text<A>,
-    key: Option<&'i Key<A>>,
-    seated: &'i Seated<'i, A>,
-}
-
-impl<'i, R: Wait, H: Home<A>, A: Allocator + Copy> Does<R, H, A> for UnderName<'i, A> {
-    ghost follows = { λ _ _ _ _ _ _. ⊤ };
-
-    ghost why = { λ _ _ _ _. ⊤ };
-
-    fn act(
-        &self,
-        rt: &R,
-        alloc: A,
-        frame: &mut Frame<H, A>,
-        registers: &mut Registers<A>,
-    ) -> Result<(), Fault> {
-        let (shared, seated) = (self.shared, self.seated);
-        match self.key {
-            Some(key) => {
-                let step = UnderKey {
-                    shared,
-                    key,
-                    seated,
-                };
-                step.act(rt, alloc, frame, registers)
-            }
-            None => {
-                let key = key_of(alloc, self.name)?;
-                let step = UnderKey {
-                    shared,
-                    key: &key,
-                    seated,
-                };
-                step.act(rt, alloc, frame, registers)
-            }
+    name: &Text<A>,
+    key: Option<&Key<A>>,
+    seated: &Seated<'_, A>,
+) -> Result<(), Fault>
+    requires stands { Stands frame.old registers.old }
+    ensures stands { Stands frame.new registers.new }
+    ensures heap { frame.new.heap ≡ frame.old.heap }
+    ensures waits { IfErr result (λ fault. fault ≢ faults.Busy) }
+    ensures later { IsLater frame.old.seat.log frame.new.seat.log }
+{
+    match key {
+        Some(key) => {
+            let step = UnderKey {
+                shared,
+                key,
+                seated,
+            };
+            step.act(rt, alloc, frame, registers)
+        }
+        None => {
+            let key = key_of(alloc, name)?;
+            let step = UnderKey {
+                shared,
+                key: &key,
+                seated,
+            };
+            step.act(rt, alloc, frame, registers)
         }
     }
 }
@@ -131,10 +126,10 @@ fn stirs<R: Wait, A: Allocator>(
 
 /// What the instruction of a line says, where it is none that prints.
 #[derive(Drop)]
-struct Silent<'i, A: Allocator> {
-    instruction: &'i Instruction<A>,
-    key: Option<&'i Key<A>>,
-    seated: &'i Seated<'i, A>,
+pub(crate) struct Silent<'i, A: Allocator> {
+    pub(crate) instruction: &'i Instruction<A>,
+    pub(crate) key: Option<&'i Key<A>>,
+    pub(crate) seated: &'i Seated<'i, A>,
 }
 
 impl<'i, R: Wait, H: Home<A>, A: Allocator + Copy> Does<R, H, A> for Silent<'i, A> {
@@ -251,34 +246,16 @@ impl<'i, R: Wait, H: Home<A>, A: Allocator + Copy> Does<R, H, A> for Silent<'i, 
 
             Instruction::Share { name, value } => {
                 let shared = Shared::Share { value: *value };
-                let step = UnderName {
-                    shared,
-                    name,
-                    key,
-                    seated,
-                };
-                let done = step.act(rt, alloc, frame, registers);
+                let done = under_name(rt, alloc, frame, registers, shared, name, key, seated);
                 stirs(rt, done, seated)
             }
             Instruction::Fetch { to, name } => {
                 let shared = Shared::Fetch { to: *to };
-                let step = UnderName {
-                    shared,
-                    name,
-                    key,
-                    seated,
-                };
-                step.act(rt, alloc, frame, registers)
+                under_name(rt, alloc, frame, registers, shared, name, key, seated)
             }
             Instruction::Unshare { to, name } => {
                 let shared = Shared::Unshare { to: *to };
-                let step = UnderName {
-                    shared,
-                    name,
-                    key,
-                    seated,
-                };
-                let done = step.act(rt, alloc, frame, registers);
+                let done = under_name(rt, alloc, frame, registers, shared, name, key, seated);
                 stirs(rt, done, seated)
             }
 
@@ -305,43 +282,5 @@ impl<'i, R: Wait, H: Home<A>, A: Allocator + Copy> Does<R, H, A> for Silent<'i, 
             }
             Instruction::Print { .. } => Ok(()),
         }
-    }
-}
-
-/// Does what the instruction says. The answer is what it prints.
-#[inline(always)]
-pub(crate) fn step<R: Wait, H: Home<A>, A: Allocator + Copy>(
-    rt: &R,
-    alloc: A,
-    frame: &mut Frame<H, A>,
-    registers: &mut Registers<A>,
-    instruction: &Instruction<A>,
-    key: Option<&Key<A>>,
-    seated: &Seated<'_, A>,
-) -> Result<Option<Shown<A>>, Fault>
-    requires stands { Stands frame.old registers.old }
-    ensures stands { Stands frame.new registers.new }
-    ensures heap { frame.new.heap ≡ frame.old.heap }
-    ensures waits { IfErr result (λ fault. fault ≢ faults.Busy) }
-    ensures later { IsLater frame.old.seat.log frame.new.seat.log }
-    ensures caused { is_shared instruction.now ≡ false → IfErr result (Caused frame.old frame.new) }
-    ensures follows { is_shared instruction.now ≡ false → registers_differ instruction.now ≡ true →
-        StepsAs frame.old frame.new registers.old registers.new instruction.now result }
-{
-    if let Instruction::Print { from } = instruction {
-        let print = Print { from: *from };
-        return match print.read(rt, alloc, frame, registers) {
-            Ok(shown) => Ok(Some(shown)),
-            Err(fault) => Err(fault),
-        };
-    }
-    let silent = Silent {
-        instruction,
-        key,
-        seated,
-    };
-    match silent.act(rt, alloc, frame, registers) {
-        Ok(()) => Ok(None),
-        Err(fault) => Err(fault),
     }
 }
