@@ -5,5 +5,4 @@ mod Plainly
 mod Tries
 mod Instructions_Led
 mod Silent
-mod Steps_As
 mod Wants_Of

@@ -1,6 +1,6 @@
 -- One line: its instruction, the poll that tells what its calls found, and work.
-use Rattle.std.proofs.Common.{◌≡◌, ◌∙◌, ℕ, List, ◌++◌, [], ◌∷◌, Option, Result, Ok, Err, is_ok, IfOk, refl}
-use Rattle.std.proofs.Common.{sym, ap, subst, true, false, true≢false}
+use Rattle.std.proofs.Common.{◌≡◌, ◌∙◌, ℕ, List, ◌++◌, [], ◌∷◌, Option, Result, Ok, Err, is_ok, IfOk}
+use Rattle.std.proofs.Common.{sym, ap, subst, false, true≢false}
 use Rattle.brc_words.specs.declared.fault.Fault.{Fault}
 use Rattle.brc_script.specs.declared.instruction.Instruction.{Instruction}
 use Rattle.brc_script.specs.declared.instruction.Instruction.TheVariants as does

@@ -1,21 +1,11 @@
 -- What an instruction comes to, with what it prints, by its plain meaning.
-use Rattle.std.specs.Prelude.{◌≡◌, ℕ, Bool, true, false, List, [], ◌∷◌, ◌++◌, Option, Some, None, Result, Ok, Err}
-use Rattle.std.specs.Prelude.{MatchResult}
-use Rattle.brc_words.specs.declared.fault.Fault.{Fault}
+use Rattle.std.specs.Prelude.{◌≡◌, Bool, true, false}
 use Rattle.brc_script.specs.declared.instruction.Instruction.{Instruction}
 use Rattle.brc_script.specs.declared.instruction.Instruction.TheVariants as does
 use Rattle.brc_script.specs.Instructions.{is_shared, registers_differ}
-use Rattle.brc_count.specs.Frames.{FrameSeen, HandleSeen}
-use Rattle.brc_meaning.specs.declared.state.State.{State}
-use Rattle.brc_meaning.specs.Steps.{after}
-use Rattle.brc_instructions.specs.declared.shown.Shown.{Shown}
 use Rattle.brc_instructions.specs.Causes.{Caused}
 use Rattle.brc_instructions.specs.Doing.{Refusing, Telling}
-use Rattle.brc_instructions.specs.Printing.{text_shown}
-use Rattle.law_living.specs.Living.{OwnLog}
 use Rattle.law_isolation.specs.Asked.{Follows}
-use Rattle.law_isolation.specs.Means.{Means}
-use Rattle.law_isolation.specs.Goes.{is_want}
 
 module _ {A : Type 0} where
   -- it prints, and does nothing else

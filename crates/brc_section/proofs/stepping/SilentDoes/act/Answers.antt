@@ -263,12 +263,12 @@ returns-in-Receive-clause-why g c =
 pub returns-in-Share-clause-why : goal.returns-in-Share-clause-why
 returns-in-Share-clause-why g c =
     of_shared c.args.self.now.instruction.now (does.Share c.in-Share.name c.in-Share.value) c.args.frame.now
-    c.under_name-done-in-Share.new.frame c.stirs-in-Share.result c.in-Share.is refl
+    c.under_name-done.new.frame c.stirs-in-Share.result c.in-Share.is refl
 
 pub returns-in-Fetch-clause-why : goal.returns-in-Fetch-clause-why
 returns-in-Fetch-clause-why g c =
     of_shared c.args.self.now.instruction.now (does.Fetch c.in-Fetch.to c.in-Fetch.name) c.args.frame.now
-    c.under_name-in-Fetch.new.frame c.under_name-in-Fetch.result c.in-Fetch.is refl
+    c.under_name.new.frame c.under_name.result c.in-Fetch.is refl
 
 pub returns-in-Unshare-clause-why : goal.returns-in-Unshare-clause-why
 returns-in-Unshare-clause-why g c =
