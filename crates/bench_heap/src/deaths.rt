@@ -5,7 +5,7 @@ ghost use Rattle.std.specs.Prelude.{⊤};
 ghost use Rattle.brc_count.specs.Frames.{IsUnlocked};
 ghost use Rattle.brc_count.specs.Owned.{Keeps};
 
-use crate::lists::push;
+use crate::containers::{Spot, put_in};
 use crate::timing::{Moment, Span, refused, this_moment};
 use brc_biased::Home;
 use brc_count::{Frame, Handle};
@@ -36,7 +36,7 @@ impl<'r, R: Wait, H: Home<A>, A: Allocator + Copy> Passing<H, A> for Linking<'r,
             frame.release(chain);
             return None;
         };
-        if push(rt, frame, &list, chain).is_none() {
+        if put_in(rt, frame, &list, Spot::End, chain).is_none() {
             frame.release(list);
             return None;
         }

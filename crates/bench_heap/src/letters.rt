@@ -3,11 +3,11 @@
 ghost use Rattle.std.specs.Prelude.{⊤};
 ghost use Rattle.brc_count.specs.Frames.{Owns};
 
-use crate::operations::Integers;
+use crate::operations::{Integers, Operation};
 use brc_biased::Home;
 use brc_count::{Frame, Handle};
 use brc_lists::{recv, send};
-use brc_loops::{Awaited, Look, Source, Task, wait_for};
+use brc_loops::{Awaited, Look, Source, wait_for};
 use brc_words::Fault;
 use std::alloc::Allocator;
 use std::sync::Wait;
@@ -88,20 +88,15 @@ impl<'p, H: Home<A>, A: Allocator> Awaited<H, A> for Received<'p> {
 
 /// A new integer is sent; it fails where it can't be had or is refused, or another thread gave up.
 #[derive(Drop)]
-pub struct SendOne<'h, R, A: Allocator> {
-    pub rt: &'h R,
+pub struct SendOne<'r, R, A> {
+    pub rt: &'r R,
     pub alloc: A,
-    pub mailbox: &'h Handle<A>,
-    pub post: &'h Post,
+    pub post: &'r Post,
 }
 
-impl<'h, R: Wait, H: Home<A>, A: Allocator + Copy> Task<H, A> for SendOne<'h, R, A> {
-    ghost ready = { λ send frame. Owns frame send.mailbox.now };
-
-    ghost stays = { λ send old new keeps owned. keeps.owns send.mailbox.now owned };
-
+impl<'r, R: Wait, H: Home<A>, A: Allocator + Copy> Operation<H, A> for SendOne<'r, R, A> {
     #[inline(always)]
-    fn run(&self, frame: &mut Frame<H, A>, before: u64) -> Option<()> {
+    fn run_on(&self, frame: &mut Frame<H, A>, mailbox: &Handle<A>, before: u64) -> Option<()> {
         let sent = before.saturating_mul(SENDERS as u64);
         let received = Received {
             post: self.post,
@@ -109,7 +104,7 @@ impl<'h, R: Wait, H: Home<A>, A: Allocator + Copy> Task<H, A> for SendOne<'h, R,
         };
         wait_for(self.rt, &received, frame)?;
         let letter = Integers { alloc: self.alloc }.next(frame, before)?;
-        if let Err(handed) = send(self.rt, frame, self.mailbox, letter) {
+        if let Err(handed) = send(self.rt, frame, mailbox, letter) {
             frame.release(handed.back);
             return None;
         }
@@ -153,25 +148,20 @@ impl<'h, R: Wait, H: Home<A>, A: Allocator> Awaited<H, A> for Letter<'h, R, A> {
 
 /// A letter is received, once one is there.
 #[derive(Drop)]
-pub struct ReceiveOne<'h, R, A: Allocator> {
-    pub rt: &'h R,
-    pub mailbox: &'h Handle<A>,
-    pub post: &'h Post,
+pub struct ReceiveOne<'r, R> {
+    pub rt: &'r R,
+    pub post: &'r Post,
 }
 
-impl<'h, R: Wait, H: Home<A>, A: Allocator> Task<H, A> for ReceiveOne<'h, R, A> {
-    ghost ready = { λ receive frame. Owns frame receive.mailbox.now };
-
-    ghost stays = { λ receive old new keeps owned. keeps.owns receive.mailbox.now owned };
-
+impl<'r, R: Wait, H: Home<A>, A: Allocator> Operation<H, A> for ReceiveOne<'r, R> {
     #[inline(always)]
-    fn run(&self, frame: &mut Frame<H, A>, before: u64) -> Option<()> {
+    fn run_on(&self, frame: &mut Frame<H, A>, mailbox: &Handle<A>, before: u64) -> Option<()> {
         if before % 64 == 0 {
             self.post.received.store(before, Ordering::Relaxed);
         }
         let letter = Letter {
             rt: self.rt,
-            mailbox: self.mailbox,
+            mailbox,
             post: self.post,
         };
         wait_for(self.rt, &letter, frame)

@@ -1,82 +1,16 @@
-//! Lists: filled before what is timed, pushed to and popped from while it is.
+//! A list, pushed to and popped from while it is timed.
 
 ghost use Rattle.std.specs.Prelude.{◌≡◌, ◌≢◌};
-ghost use Rattle.brc_count.specs.Frames.{IsUnlocked, Owns};
-ghost use Rattle.brc_count.specs.Owned.{Keeps, Loses};
+ghost use Rattle.brc_count.specs.Frames.{Owns};
 
-use crate::containers::Container;
+use crate::operations::Operation;
 use brc_biased::Home;
 use brc_count::{Frame, Handle};
 use brc_lists::{list_pop, list_push};
-use brc_loops::{Passing, Task, pass_on, repeat};
-use brc_things::{new_int, new_list};
-use brc_words::Fault;
+use brc_loops::{Passing, pass_on};
+use brc_things::new_int;
 use std::alloc::Allocator;
 use std::sync::Wait;
-
-/// The value's reference goes into the list; where it is refused, it goes, and the answer is None.
-#[inline(always)]
-pub fn push<R: Wait, H: Home<A>, A: Allocator>(
-    rt: &R,
-    frame: &mut Frame<H, A>,
-    list: &Handle<A>,
-    value: Handle<A>,
-) -> Option<()>
-    requires owned { Owns frame.old list.now }
-    requires value_owned { Owns frame.old value }
-    requires apart { value.place ≢ list.now.place }
-    requires unlocked { IsUnlocked frame.old }
-    ensures loses { Loses frame.old frame.new value }
-    ensures unlocked { IsUnlocked frame.new }
-{
-    match list_push(rt, frame, list, value) {
-        Ok(()) => Some(()),
-        Err(handed) => {
-            frame.release(handed.back);
-            None
-        }
-    }
-}
-
-/// One reference more to the value goes into the list.
-#[derive(Drop)]
-struct PushMore<'h, R, A: Allocator> {
-    rt: &'h R,
-    list: &'h Handle<A>,
-    value: &'h Handle<A>,
-}
-
-impl<'h, R: Wait, H: Home<A>, A: Allocator> Task<H, A> for PushMore<'h, R, A> {
-    ghost ready = { λ push frame. Owns frame push.list.now × Owns frame push.value.now };
-
-    ghost stays = { λ push old new keeps owned.
-        (keeps.owns push.list.now owned.0, keeps.owns push.value.now owned.1) };
-
-    #[inline(always)]
-    fn run(&self, frame: &mut Frame<H, A>, _before: u64) -> Option<()> {
-        let more = frame.retain(self.value).ok()?;
-        push(self.rt, frame, self.list, more)
-    }
-}
-
-/// A list of so many references.
-#[derive(Drop)]
-pub struct ListOf<'r, R> {
-    pub rt: &'r R,
-    pub count: u64,
-}
-
-impl<'r, R: Wait, H: Home<A>, A: Allocator + Copy> Container<H, A> for ListOf<'r, R> {
-    fn empty(&self, alloc: A, frame: &mut Frame<H, A>) -> Result<Handle<A>, Fault> {
-        new_list(alloc, frame)
-    }
-
-    #[inline(always)]
-    fn fill(&self, frame: &mut Frame<H, A>, list: &Handle<A>, value: &Handle<A>) -> Option<()> {
-        let rt = self.rt;
-        repeat(&PushMore { rt, list, value }, frame, self.count)
-    }
-}
 
 /// A value, which is pushed to the list at each turn, and the list's last entry popped.
 struct PushingAndPopping<'h, R, A: Allocator> {
@@ -93,33 +27,35 @@ impl<'h, R: Wait, H: Home<A>, A: Allocator> Passing<H, A> for PushingAndPopping<
     #[inline(always)]
     fn pass(self, frame: &mut Frame<H, A>, _before: u64) -> Option<Self> {
         let PushingAndPopping { rt, list, value } = self;
-        push(rt, frame, list, value)?;
+        if let Err(handed) = list_push(rt, frame, list, value) {
+            frame.release(handed.back);
+            return None;
+        }
         let value = list_pop(rt, frame, list).ok()?;
         Some(PushingAndPopping { rt, list, value })
     }
 }
 
 /// So many pushes, each with a pop: first of an integer of the thread's own, then of what came out before.
-#[inline(never)]
-pub fn pushes_and_pops<R: Wait, H: Home<A>, A: Allocator>(
-    rt: &R,
-    alloc: A,
-    frame: &mut Frame<H, A>,
-    list: &Handle<A>,
-    n: u64,
-) -> Option<()>
-    requires owned { Owns frame.old list.now }
-    requires unlocked { IsUnlocked frame.old }
-    ensures keeps { Keeps frame.old frame.new }
-    ensures unlocked { IsUnlocked frame.new }
-{
-    let value = new_int(alloc, frame, 1_000).ok()?;
-    let turning = PushingAndPopping { rt, list, value };
-    let PushingAndPopping {
-        rt: _rt,
-        list: _list,
-        value,
-    } = pass_on(turning, frame, n)?;
-    frame.release(value);
-    Some(())
+#[derive(Drop)]
+pub struct PushesAndPops<'r, R, A> {
+    pub rt: &'r R,
+    pub alloc: A,
+    pub n: u64,
+}
+
+impl<'r, R: Wait, H: Home<A>, A: Allocator + Copy> Operation<H, A> for PushesAndPops<'r, R, A> {
+    #[inline(never)]
+    fn run_on(&self, frame: &mut Frame<H, A>, list: &Handle<A>, _before: u64) -> Option<()> {
+        let rt = self.rt;
+        let value = new_int(self.alloc, frame, 1_000).ok()?;
+        let turning = PushingAndPopping { rt, list, value };
+        let PushingAndPopping {
+            rt: _rt,
+            list: _list,
+            value,
+        } = pass_on(turning, frame, self.n)?;
+        frame.release(value);
+        Some(())
+    }
 }

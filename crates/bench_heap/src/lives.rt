@@ -5,14 +5,15 @@ ghost use Rattle.brc_count.specs.Frames.{IsUnlocked};
 ghost use Rattle.brc_count.specs.Owned.{Keeps};
 ghost use Rattle.brc_handles.specs.Handles.{OwnsEach};
 
-use crate::containers::Full;
+use crate::containers::{Full, Kind, NewList10};
 use crate::deaths::{Chains, life_of};
-use crate::dicts::{DictOf, Keys, puts_and_finds};
-use crate::globals::take_from_globals;
+use crate::dicts::{Keys, PutsAndFinds};
+use crate::globals::{first_key, take_from_globals};
 use crate::letters::{Post, ReceiveOne, SENDERS, SendOne};
-use crate::lists::{ListOf, pushes_and_pops};
+use crate::lists::PushesAndPops;
 use crate::operations::{
-    Ending, Integers, NewList10, Pair, PairStrewn, Polled, Texts16, new_integers, pairs_in_turn,
+    Ending, Integers, On, Operation, Order, Pair, PairOf, Polled, Texts16, new_integers,
+    pairs_in_turn,
 };
 use crate::request::Case;
 use crate::timing::{Span, refused, this_moment};
@@ -49,9 +50,14 @@ const WORDS: u32 = CELLS / IN_WORD - FIRST_WORD;
 /// How many objects `pair_foreign` counts in turn.
 pub const FOREIGN: u32 = 64;
 
-/// The first of the keys under which the thread of this number puts integers of its own into the globals.
-pub fn first_key(thread: u32) -> u32 {
-    thread.saturating_mul(1_000)
+/// What some threads are to do, all the same.
+#[derive(Clone, Copy, Debug)]
+pub struct Asked {
+    pub case: Case,
+    /// Whether they are idle, and others count the integers that they gave before.
+    pub idle: bool,
+    pub threads: u32,
+    pub n: u64,
 }
 
 /// The cell with whose word the thread's part of the heap begins, where so many threads have each as many words.
@@ -94,18 +100,21 @@ fn handles_for(case: Case) -> u64 {
     }
 }
 
-/// The objects that a thread needs for what it is asked: handles for its operations, or what lives while it is timed.
+/// A thread that is asked something, with what it does that by.
 #[derive(Drop)]
-struct Needed<'r, R, A> {
+struct Worker<'r, R, A> {
     rt: &'r R,
     alloc: A,
+    post: &'r Post,
     asked: Asked,
 }
 
-impl<'r, R: Wait, H: Home<A>, A: Allocator + Copy> Source<H, A> for Needed<'r, R, A> {
+/// The objects that it needs: handles for its operations, or what lives while it is timed.
+impl<'r, R: Wait, H: Home<A>, A: Allocator + Copy> Source<H, A> for Worker<'r, R, A> {
     fn next(&self, frame: &mut Frame<H, A>, before: u64) -> Option<Handle<A>> {
         let rt = self.rt;
         let alloc = self.alloc;
+        let n = self.asked.n;
         let number = frame.thread();
         match self.asked.case {
             Case::PairShared | Case::ListShared | Case::Mail => {
@@ -116,33 +125,12 @@ impl<'r, R: Wait, H: Home<A>, A: Allocator + Copy> Source<H, A> for Needed<'r, R
                 let first = first_key(number.saturating_sub(self.asked.threads));
                 take_from_globals(rt, frame, first as i64 + (before % 65_536) as i64)
             }
-            Case::List => {
-                let kind = ListOf { rt, count: 10 };
-                Full { alloc, kind }.next(frame, before)
-            }
-            Case::Wide => {
-                let kind = ListOf {
-                    rt,
-                    count: self.asked.n,
-                };
-                Full { alloc, kind }.next(frame, before)
-            }
-            Case::Dict => {
-                let kind = DictOf {
-                    rt,
-                    keys: Keys::Many,
-                };
-                Full { alloc, kind }.next(frame, before)
-            }
-            Case::Dict4 => {
-                let kind = DictOf {
-                    rt,
-                    keys: Keys::Few,
-                };
-                Full { alloc, kind }.next(frame, before)
-            }
+            Case::List => Full::new(rt, alloc, Kind::List, 10).next(frame, before),
+            Case::Wide => Full::new(rt, alloc, Kind::List, n).next(frame, before),
+            Case::Dict => Full::new(rt, alloc, Kind::Dict, Keys::Many.count()).next(frame, before),
+            Case::Dict4 => Full::new(rt, alloc, Kind::Dict, Keys::Few.count()).next(frame, before),
             Case::Chain | Case::MakeChain | Case::MakeChainNear => {
-                let count = self.asked.n;
+                let count = n;
                 Chains { rt, alloc, count }.next(frame, before)
             }
             _ => {
@@ -155,122 +143,101 @@ impl<'r, R: Wait, H: Home<A>, A: Allocator + Copy> Source<H, A> for Needed<'r, R
     }
 }
 
-/// The operations of a case; None where one failed, or where there is no handle that it needs.
-fn operates<R: Wait, H: Home<A>, A: Allocator + Copy>(
-    rt: &R,
-    alloc: A,
-    frame: &mut Frame<H, A>,
-    handles: &Handles<A>,
-    post: &Post,
-    asked: Asked,
-) -> Option<()>
-    requires each { OwnsEach frame.old handles.now }
-    requires unlocked { IsUnlocked frame.old }
-    ensures keeps { Keeps frame.old frame.new }
-    ensures unlocked { IsUnlocked frame.new }
-{
-    let n = asked.n;
-    match asked.case {
-        Case::NewInt | Case::NewIntApart | Case::ClaimFull | Case::ClaimFullNear => {
-            return new_integers(alloc, frame, n);
-        }
-        Case::NewText16 | Case::NewText16Apart => {
-            let source = Texts16 { alloc };
-            return repeat(&Ending { source }, frame, n);
-        }
-        _ => {}
-    }
-    let handle = handles.get(0)?;
-    let pair = Pair { handle };
-    match asked.case {
-        Case::PairOwn => repeat(&pair, frame, n),
-        Case::PairShared => repeat(&Polled { operation: pair }, frame, n),
-        Case::PairOwn256 => repeat(&PairStrewn { handles }, frame, n),
-        Case::NewList10 | Case::NewList10Apart => {
-            let value = handle;
-            repeat(&NewList10 { rt, alloc, value }, frame, n)
-        }
-        Case::List | Case::ListShared => pushes_and_pops(rt, alloc, frame, handle, n),
-        Case::Dict => puts_and_finds(rt, alloc, frame, handle, Keys::Many, n),
-        Case::Dict4 => puts_and_finds(rt, alloc, frame, handle, Keys::Few, n),
-        Case::Mail => {
-            let mailbox = handle;
-            if frame.thread() > SENDERS {
-                let receive = ReceiveOne { rt, mailbox, post };
-                return repeat(&receive, frame, n.saturating_mul(SENDERS as u64));
+impl<'r, R: Wait + Clock + CpuClock, A: Allocator + Copy> Worker<'r, R, A> {
+    /// The operations of the case; None where one failed, or where there is no handle that it needs.
+    fn operates<H: Home<A>>(&self, frame: &mut Frame<H, A>, handles: &Handles<A>) -> Option<()>
+        requires each { OwnsEach frame.old handles.now }
+        requires unlocked { IsUnlocked frame.old }
+        ensures keeps { Keeps frame.old frame.new }
+        ensures unlocked { IsUnlocked frame.new }
+    {
+        let rt = self.rt;
+        let alloc = self.alloc;
+        let post = self.post;
+        let n = self.asked.n;
+        match self.asked.case {
+            Case::NewInt | Case::NewIntApart | Case::ClaimFull | Case::ClaimFullNear => {
+                return new_integers(alloc, frame, n);
             }
-            let send = SendOne {
-                rt,
-                alloc,
-                mailbox,
-                post,
-            };
-            repeat(&send, frame, n)
+            Case::NewText16 | Case::NewText16Apart => {
+                let source = Texts16 { alloc };
+                return repeat(&Ending { source }, frame, n);
+            }
+            _ => {}
         }
-        _ => pairs_in_turn(frame, handles, n),
+        let handle = handles.get(0)?;
+        match self.asked.case {
+            Case::PairOwn => repeat(&On(handle, Pair), frame, n),
+            Case::PairShared => repeat(&On(handle, Polled { operation: Pair }), frame, n),
+            Case::PairOwn256 => {
+                let order = Order::Strewn;
+                repeat(&PairOf { handles, order }, frame, n)
+            }
+            Case::NewList10 | Case::NewList10Apart => {
+                repeat(&On(handle, NewList10 { rt, alloc }), frame, n)
+            }
+            Case::List | Case::ListShared => PushesAndPops { rt, alloc, n }.run_on(
+                frame, handle, 0,
+            ),
+            Case::Dict => {
+                let keys = Keys::Many;
+                PutsAndFinds { rt, alloc, keys, n }.run_on(frame, handle, 0)
+            }
+            Case::Dict4 => {
+                let keys = Keys::Few;
+                PutsAndFinds { rt, alloc, keys, n }.run_on(frame, handle, 0)
+            }
+            Case::Mail => {
+                if frame.thread() > SENDERS {
+                    let receive = On(handle, ReceiveOne { rt, post });
+                    return repeat(&receive, frame, n.saturating_mul(SENDERS as u64));
+                }
+                repeat(&On(handle, SendOne { rt, alloc, post }), frame, n)
+            }
+            _ => pairs_in_turn(frame, handles, n),
+        }
     }
-}
 
-/// When the thread began and ended what the case times of one object; or why it couldn't.
-fn measures_one<R: Wait + Clock + CpuClock, H: Home<A>, A: Allocator + Copy>(
-    rt: &R,
-    alloc: A,
-    frame: &mut Frame<H, A>,
-    asked: Asked,
-) -> io::Result<Span>
-    requires unlocked { IsUnlocked frame.old }
-    ensures keeps { Keeps frame.old frame.new }
-    ensures unlocked { IsUnlocked frame.new }
-{
-    let life = life_of(rt, &Needed { rt, alloc, asked }, frame)?;
-    match asked.case {
-        Case::MakeChain | Case::MakeChainNear => Ok(life.making()),
-        _ => Ok(life.end()),
+    /// When the thread began and ended what the case times of one object; or why it couldn't.
+    fn measures_one<H: Home<A>>(&self, frame: &mut Frame<H, A>) -> io::Result<Span>
+        requires unlocked { IsUnlocked frame.old }
+        ensures keeps { Keeps frame.old frame.new }
+        ensures unlocked { IsUnlocked frame.new }
+    {
+        let life = life_of(self.rt, self, frame)?;
+        match self.asked.case {
+            Case::MakeChain | Case::MakeChainNear => Ok(life.making()),
+            _ => Ok(life.end()),
+        }
     }
-}
 
-/// When the thread began and ended its operations; or why it couldn't do them all. It has no handle before and
-/// afterwards.
-fn measures<R: Wait + Clock + CpuClock, H: Home<A>, A: Allocator + Copy>(
-    rt: &R,
-    alloc: A,
-    frame: &mut Frame<H, A>,
-    post: &Post,
-    asked: Asked,
-) -> io::Result<Span>
-    requires bare { frame.old.len ≡ 0 }
-    requires unlocked { IsUnlocked frame.old }
-    ensures heap { frame.new.heap ≡ frame.old.heap }
-    ensures bare { frame.new.len ≡ 0 }
-    ensures unlocked { IsUnlocked frame.new }
-{
-    let mut handles = Handles::new(alloc);
-    post.begin_together(rt, asked.threads, 1);
-    let needed = Needed { rt, alloc, asked };
-    let filled = fill(&needed, frame, &mut handles, handles_for(asked.case));
-    post.begin_together(rt, asked.threads, 2);
-    let began = this_moment(rt);
-    let whole = operates(rt, alloc, frame, &handles, post, asked);
-    let ended = this_moment(rt);
-    handles.release_all(frame);
-    if filled.is_none() || whole.is_none() {
-        post.give_up();
-        return Err(refused());
+    /// When the thread began and ended its operations; or why it couldn't do them all. It has no handle before and
+    /// afterwards.
+    fn measures<H: Home<A>>(&self, frame: &mut Frame<H, A>) -> io::Result<Span>
+        requires bare { frame.old.len ≡ 0 }
+        requires unlocked { IsUnlocked frame.old }
+        ensures heap { frame.new.heap ≡ frame.old.heap }
+        ensures bare { frame.new.len ≡ 0 }
+        ensures unlocked { IsUnlocked frame.new }
+    {
+        let asked = self.asked;
+        let mut handles = Handles::new(self.alloc);
+        self.post.begin_together(self.rt, asked.threads, 1);
+        let filled = fill(self, frame, &mut handles, handles_for(asked.case));
+        self.post.begin_together(self.rt, asked.threads, 2);
+        let began = this_moment(self.rt);
+        let whole = self.operates(frame, &handles);
+        let ended = this_moment(self.rt);
+        handles.release_all(frame);
+        if filled.is_none() || whole.is_none() {
+            self.post.give_up();
+            return Err(refused());
+        }
+        Ok(Span {
+            began: began?,
+            ended: ended?,
+        })
     }
-    Ok(Span {
-        began: began?,
-        ended: ended?,
-    })
-}
-
-/// What some threads are to do, all the same.
-#[derive(Clone, Copy, Debug)]
-pub struct Asked {
-    pub case: Case,
-    /// Whether they are idle, and others count the integers that they gave before.
-    pub idle: bool,
-    pub threads: u32,
-    pub n: u64,
 }
 
 /// What a thread does between its waking and its end: it tells when it began and ended its operations; None where it is
@@ -294,14 +261,17 @@ impl<'p, R: Wait + Clock + CpuClock> Life<R> for Timed<'p> {
             return Ok(None);
         }
         begins_claims(mutator.frame(), self.asked);
+        let worker = Worker {
+            rt,
+            alloc: self.alloc,
+            post: self.post,
+            asked: self.asked,
+        };
         let span = match self.asked.case {
-            Case::Chain | Case::MakeChain | Case::MakeChainNear | Case::Wide => measures_one(
-                rt,
-                self.alloc,
-                mutator.frame(),
-                self.asked,
-            ),
-            _ => measures(rt, self.alloc, mutator.frame(), self.post, self.asked),
+            Case::Chain | Case::MakeChain | Case::MakeChainNear | Case::Wide => {
+                worker.measures_one(mutator.frame())
+            }
+            _ => worker.measures(mutator.frame()),
         };
         match span {
             Ok(span) => Ok(Some(span)),

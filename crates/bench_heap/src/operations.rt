@@ -1,36 +1,52 @@
 //! The operations that are timed.
 
-ghost use Rattle.std.specs.Prelude.{⊤};
+ghost use Rattle.std.specs.Prelude.{⊤, ◌<◌};
 ghost use Rattle.brc_count.specs.Frames.{IsUnlocked, Owns};
 ghost use Rattle.brc_count.specs.Owned.{Keeps};
 ghost use Rattle.brc_handles.specs.Handles.{OwnsEach};
 ghost use Rattle.brc_loops.specs.Held.{each_still};
 
-use crate::containers::Container;
-use crate::lists::ListOf;
 use brc_biased::Home;
 use brc_count::{Frame, Handle};
 use brc_handles::Handles;
 use brc_loops::{Source, Task, repeat};
-use brc_things::{new_int, new_list, new_text};
+use brc_things::{new_int, new_text};
 use brc_words::Text;
 use std::alloc::Allocator;
-use std::sync::Wait;
 
-/// One reference more to the handle's object, and one less.
-#[derive(Drop)]
-pub struct Pair<'h, A: Allocator> {
-    pub handle: &'h Handle<A>,
+/// What is done with one object, of which the thread has a handle.
+pub trait Operation<H: Home<A>, A: Allocator> {
+    /// It is done once, after so many times before; None where it fails.
+    fn run_on(&self, frame: &mut Frame<H, A>, handle: &Handle<A>, before: u64) -> Option<()>
+        requires owned { Owns frame.old handle.now }
+        requires unlocked { IsUnlocked frame.old }
+        ensures keeps { Keeps frame.old frame.new }
+        ensures unlocked { IsUnlocked frame.new };
 }
 
-impl<'h, H: Home<A>, A: Allocator> Task<H, A> for Pair<'h, A> {
-    ghost ready = { λ pair frame. Owns frame pair.handle.now };
+/// On the handle's object the operation is done at each turn.
+#[derive(Drop)]
+pub struct On<'h, O, A: Allocator>(pub &'h Handle<A>, pub O);
 
-    ghost stays = { λ pair old new keeps owned. keeps.owns pair.handle.now owned };
+impl<'h, O: Operation<H, A>, H: Home<A>, A: Allocator> Task<H, A> for On<'h, O, A> {
+    ghost ready = { λ on frame. Owns frame on.0.now };
+
+    ghost stays = { λ on old new keeps owned. keeps.owns on.0.now owned };
 
     #[inline(always)]
-    fn run(&self, frame: &mut Frame<H, A>, _before: u64) -> Option<()> {
-        let more = frame.retain(self.handle).ok()?;
+    fn run(&self, frame: &mut Frame<H, A>, before: u64) -> Option<()> {
+        self.1.run_on(frame, self.0, before)
+    }
+}
+
+/// One reference more to the object, and one less.
+#[derive(Clone, Copy, Debug, PartialEq, Eq)]
+pub struct Pair;
+
+impl<H: Home<A>, A: Allocator> Operation<H, A> for Pair {
+    #[inline(always)]
+    fn run_on(&self, frame: &mut Frame<H, A>, handle: &Handle<A>, _before: u64) -> Option<()> {
+        let more = frame.retain(handle).ok()?;
         frame.release(more);
         Some(())
     }
@@ -42,14 +58,10 @@ pub struct Polled<O> {
     pub operation: O,
 }
 
-impl<O: Task<H, A>, H: Home<A>, A: Allocator> Task<H, A> for Polled<O> {
-    ghost ready = { λ polled frame. O.ready polled.operation frame };
-
-    ghost stays = { λ polled. O.stays polled.operation };
-
+impl<O: Operation<H, A>, H: Home<A>, A: Allocator> Operation<H, A> for Polled<O> {
     #[inline(always)]
-    fn run(&self, frame: &mut Frame<H, A>, before: u64) -> Option<()> {
-        self.operation.run(frame, before)?;
+    fn run_on(&self, frame: &mut Frame<H, A>, handle: &Handle<A>, before: u64) -> Option<()> {
+        self.operation.run_on(frame, handle, before)?;
         if before % 256 == 0 {
             frame.poll();
         }
@@ -57,10 +69,28 @@ impl<O: Task<H, A>, H: Home<A>, A: Allocator> Task<H, A> for Polled<O> {
     }
 }
 
-/// A pair on the object of this number; it fails where there is none.
+/// One of 256 numbers, far from that of the turn before: by such steps each has its turn.
+#[inline(always)]
+pub fn strewn(turn: u64) -> u64
+    ensures { result < 256 }
+{
+    turn % 256 * 37 % 256
+}
+
+/// In which order many objects have their turns.
+#[derive(Clone, Copy, Debug, PartialEq, Eq)]
+pub enum Order {
+    /// By their numbers.
+    InTurn,
+    /// 256 of them, each far from the one before.
+    Strewn,
+}
+
+/// A pair on the object whose turn it is; it fails where there is none.
 #[derive(Drop)]
-struct PairOf<'h, A: Allocator> {
-    handles: &'h Handles<A>,
+pub struct PairOf<'h, A: Allocator> {
+    pub handles: &'h Handles<A>,
+    pub order: Order,
 }
 
 impl<'h, H: Home<A>, A: Allocator> Task<H, A> for PairOf<'h, A> {
@@ -70,49 +100,30 @@ impl<'h, H: Home<A>, A: Allocator> Task<H, A> for PairOf<'h, A> {
 
     #[inline(always)]
     fn run(&self, frame: &mut Frame<H, A>, before: u64) -> Option<()> {
-        let handle = self.handles.get(before as usize)?;
-        Pair { handle }.run(frame, before)
-    }
-}
-
-/// A pair on one of 256 objects, far from the one before.
-#[derive(Drop)]
-pub struct PairStrewn<'h, A: Allocator> {
-    pub handles: &'h Handles<A>,
-}
-
-impl<'h, H: Home<A>, A: Allocator> Task<H, A> for PairStrewn<'h, A> {
-    ghost ready = { λ pair frame. OwnsEach frame pair.handles.now };
-
-    ghost stays = { λ pair. each_still pair.handles.now };
-
-    #[inline(always)]
-    fn run(&self, frame: &mut Frame<H, A>, before: u64) -> Option<()> {
-        let pair_of = PairOf {
-            handles: self.handles,
+        let number = match self.order {
+            Order::InTurn => before,
+            Order::Strewn => strewn(before),
         };
-        pair_of.run(frame, before % 256 * 37 % 256)
+        let handle = self.handles.get(number as usize)?;
+        Pair.run_on(frame, handle, before)
     }
 }
 
-/// A pair on each of the first objects, so many.
+/// A task, so many times at each turn.
 #[derive(Drop)]
-struct Round<'h, A: Allocator> {
-    handles: &'h Handles<A>,
+struct Times<T> {
+    task: T,
     count: u64,
 }
 
-impl<'h, H: Home<A>, A: Allocator> Task<H, A> for Round<'h, A> {
-    ghost ready = { λ round frame. OwnsEach frame round.handles.now };
+impl<T: Task<H, A>, H: Home<A>, A: Allocator> Task<H, A> for Times<T> {
+    ghost ready = { λ times frame. T.ready times.task frame };
 
-    ghost stays = { λ round. each_still round.handles.now };
+    ghost stays = { λ times. T.stays times.task };
 
     #[inline(always)]
     fn run(&self, frame: &mut Frame<H, A>, _before: u64) -> Option<()> {
-        let pair_of = PairOf {
-            handles: self.handles,
-        };
-        repeat(&pair_of, frame, self.count)
+        repeat(&self.task, frame, self.count)
     }
 }
 
@@ -131,46 +142,14 @@ pub fn pairs_in_turn<H: Home<A>, A: Allocator>(
     if count == 0 {
         return None;
     }
-    repeat(&Round { handles, count }, frame, n / count)?;
-    repeat(&PairOf { handles }, frame, n % count)
+    let order = Order::InTurn;
+    let task = PairOf { handles, order };
+    repeat(&Times { task, count }, frame, n / count)?;
+    repeat(&PairOf { handles, order }, frame, n % count)
 }
 
 /// So many turns of work follow each object that is made.
-const TURNS: usize = 64;
-
-/// An integer is made, released, and taken apart.
-#[derive(Drop)]
-struct NewInteger<A> {
-    alloc: A,
-}
-
-impl<H: Home<A>, A: Allocator + Copy> Task<H, A> for NewInteger<A> {
-    ghost ready = { λ _ _. ⊤ };
-
-    ghost stays = { λ _ _ _ _ ready. ready };
-
-    #[inline(always)]
-    fn run(&self, frame: &mut Frame<H, A>, before: u64) -> Option<()> {
-        let integer = new_int(self.alloc, frame, 1_000 + (before % 65_536) as i64).ok()?;
-        frame.release(integer);
-        frame.work(TURNS);
-        Some(())
-    }
-}
-
-/// So many integers, each made, released, and taken apart; None where one can't be had. The loop has a function of its
-/// own: beside others, or with texts, LLVM makes a call of taking the block off the worklist.
-pub fn new_integers<H: Home<A>, A: Allocator + Copy>(
-    alloc: A,
-    frame: &mut Frame<H, A>,
-    n: u64,
-) -> Option<()>
-    requires unlocked { IsUnlocked frame.old }
-    ensures keeps { Keeps frame.old frame.new }
-    ensures unlocked { IsUnlocked frame.new }
-{
-    repeat(&NewInteger { alloc }, frame, n)
-}
+pub const TURNS: usize = 64;
 
 /// What the source has next is released, and taken apart.
 #[derive(Drop)]
@@ -205,6 +184,21 @@ impl<H: Home<A>, A: Allocator + Copy> Source<H, A> for Integers<A> {
     }
 }
 
+/// So many integers, each made, released, and taken apart; None where one can't be had. The loop has a function of its
+/// own: beside others, or with texts, LLVM makes a call of taking the block off the worklist.
+pub fn new_integers<H: Home<A>, A: Allocator + Copy>(
+    alloc: A,
+    frame: &mut Frame<H, A>,
+    n: u64,
+) -> Option<()>
+    requires unlocked { IsUnlocked frame.old }
+    ensures keeps { Keeps frame.old frame.new }
+    ensures unlocked { IsUnlocked frame.new }
+{
+    let source = Integers { alloc };
+    repeat(&Ending { source }, frame, n)
+}
+
 /// New texts of sixteen bytes.
 #[derive(Drop)]
 pub struct Texts16<A> {
@@ -216,32 +210,5 @@ impl<H: Home<A>, A: Allocator + Copy> Source<H, A> for Texts16<A> {
     fn next(&self, frame: &mut Frame<H, A>, _before: u64) -> Option<Handle<A>> {
         let bytes = String::from_str(self.alloc, "sixteen bytes ..").ok()?;
         new_text(self.alloc, frame, Text::new(bytes)).ok()
-    }
-}
-
-/// A list of ten references to the value is made, released, and taken apart.
-#[derive(Drop)]
-pub struct NewList10<'h, R, A: Allocator> {
-    pub rt: &'h R,
-    pub alloc: A,
-    pub value: &'h Handle<A>,
-}
-
-impl<'h, R: Wait, H: Home<A>, A: Allocator + Copy> Task<H, A> for NewList10<'h, R, A> {
-    ghost ready = { λ new frame. Owns frame new.value.now };
-
-    ghost stays = { λ new old after keeps owned. keeps.owns new.value.now owned };
-
-    #[inline(always)]
-    fn run(&self, frame: &mut Frame<H, A>, _before: u64) -> Option<()> {
-        let list = new_list(self.alloc, frame).ok()?;
-        let ten = ListOf {
-            rt: self.rt,
-            count: 10,
-        };
-        let filled = ten.fill(frame, &list, self.value);
-        frame.release(list);
-        frame.work(TURNS);
-        filled
     }
 }
