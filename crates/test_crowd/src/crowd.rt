@@ -1,6 +1,7 @@
 //! All threads: how they are registered, live at the same time, and are gathered.
 
-ghost use Rattle.std.specs.Prelude.{◌≡◌, ◌≤◌, [], All, IfOk, length, vec_capacity};
+ghost use Rattle.std.specs.Prelude.{◌≡◌, ◌≤◌, [], IfOk, vec_capacity};
+ghost use Rattle.test_crowd.specs.Crowd.{AreReady, HaveLived};
 
 use crate::counted::{Counted, Want};
 use crate::crew::{OTHERS, gather_all, live_beside, register_all};
@@ -50,12 +51,8 @@ fn live_in<'s, E: 's, R: Threads + Wait + Sync>(
     room: Room,
     gate: &'s Gate,
 ) -> Lived
-    requires heap { first.heap ≡ heap.now }
-    requires crew { All (λ resting. resting.heap ≡ heap.now) room.crew.items }
-    requires none { room.done.items ≡ [] }
-    requires room { length room.crew.items ≤ vec_capacity room.done }
-    ensures heap { result.first.heap ≡ heap.now }
-    ensures done { All (λ one. one.retired.heap ≡ heap.now) result.done.items }
+    requires ready { AreReady heap.now first room }
+    ensures lived { HaveLived heap.now result }
 {
     let Room { crew, mut done } = room;
     let mut first = first.wake(heap);
@@ -84,12 +81,8 @@ fn live<R: Threads + Wait + Sync>(
     first: Resting,
     room: Room,
 ) -> Lived
-    requires heap { first.heap ≡ heap.now }
-    requires crew { All (λ resting. resting.heap ≡ heap.now) room.crew.items }
-    requires none { room.done.items ≡ [] }
-    requires room { length room.crew.items ≤ vec_capacity room.done }
-    ensures heap { result.first.heap ≡ heap.now }
-    ensures done { All (λ one. one.retired.heap ≡ heap.now) result.done.items }
+    requires ready { AreReady heap.now first room }
+    ensures lived { HaveLived heap.now result }
 {
     let gate = Gate::closed();
     let gate = &gate;
@@ -97,12 +90,8 @@ fn live<R: Threads + Wait + Sync>(
         thread::scope_env(),
         rt,
         |scope| -> Lived
-            requires heap { first.heap ≡ heap.now }
-            requires crew { All (λ resting. resting.heap ≡ heap.now) room.crew.items }
-            requires none { room.done.items ≡ [] }
-            requires room { length room.crew.items ≤ vec_capacity room.done }
-            ensures heap { result.first.heap ≡ heap.entry.now }
-            ensures done { All (λ one. one.retired.heap ≡ heap.entry.now) result.done.items }
+            requires ready { AreReady heap.now first room }
+            ensures lived { HaveLived heap.entry.now result }
         { live_in(rt, scope, alloc, heap, first, room, gate) },
     )
 }

@@ -28,21 +28,23 @@ fn shares_one_more<R: Abort + Wait, H: Home<A>, A: Allocator + Copy>(
     assert!(rt; shares(rt, maker, key, copy));
 }
 
-/// So many references to a new list of the maker's go into the globals, beside the keys from 0 on.
+/// So many references to a new list of the maker's go into the globals, beside the keys from 0 on: the list's cell.
 fn shares_all<R: Abort + Wait, H: Home<A>, A: Allocator + Copy>(
     rt: &R,
     alloc: A,
     maker: &mut Frame<H, A>,
     references: i64,
-)
+) -> u32
     requires unlocked { IsUnlocked maker.old }
     ensures { Stays maker.old maker.new }
 {
     let list = made(alloc, maker, Thing::List).expect(rt, "no list is made");
+    let cell = maker.cell(&list);
     for key in 1..references {
         shares_one_more(rt, maker, &list, key);
     }
     assert!(rt; shares(rt, maker, 0, list));
+    cell
 }
 
 /// The other thread takes them out of the globals, and keeps them; the list has this cell.
@@ -64,7 +66,7 @@ fn fetches_all<R: Abort + Wait, H: Home<A>, A: Allocator>(
     }
 }
 
-/// So many references to a new list of the maker's, which has this cell, pass through the globals to the other thread.
+/// So many references to a new list of the maker's pass through the globals to the other thread: the list's cell.
 pub(super) fn hands_over<R: Abort + Wait, H: Home<A>, A: Allocator + Copy>(
     rt: &R,
     alloc: A,
@@ -72,16 +74,16 @@ pub(super) fn hands_over<R: Abort + Wait, H: Home<A>, A: Allocator + Copy>(
     other: &mut Frame<H, A>,
     kept: &mut Handles<A>,
     references: i64,
-    cell: u32,
-)
+) -> u32
     requires maker { IsUnlocked maker.old }
     requires other { OwnsAll other.old kept.old }
     ensures maker { Stays maker.old maker.new }
     ensures other { OwnsAll other.new kept.new }
     ensures heap { other.new.heap ≡ other.old.heap }
 {
-    shares_all(rt, alloc, maker, references);
+    let cell = shares_all(rt, alloc, maker, references);
     fetches_all(rt, other, kept, references, cell);
+    cell
 }
 
 /// The first reference that is kept goes.
@@ -185,9 +187,8 @@ fn lives<R: Abort + Wait>(
     let mut maker = entered(rt, alloc, &table, &mut root);
     let mut other = entered(rt, alloc, &table, &mut root);
     let mut kept = Handles::new(alloc);
-    hands_over(
-        rt, alloc, &mut maker, &mut other, &mut kept, references, 266,
-    );
+    let cell = hands_over(rt, alloc, &mut maker, &mut other, &mut kept, references);
+    assert_eq!(rt; cell, 266);
     happens(rt, &mut maker, &mut other, &mut kept, before);
     let ledger = leaves_late(rt, &table, &mut root, maker, turns);
     lets_all_go(rt, &mut other, kept, ledger, by);
@@ -196,22 +197,18 @@ fn lives<R: Abort + Wait>(
 }
 
 #[test]
-fn an_asked_owner_merges_at_its_poll(rt: HostRuntime) {
-    lives(&rt, rt.alloc(), 1, Before::Freed, 0, By::Maker);
-}
-
-#[test]
-fn an_asked_owner_merges_after_it_has_left(rt: HostRuntime) {
-    lives(&rt, rt.alloc(), 1, Before::Asked, 2, By::Maker);
-}
-
-#[test]
-fn an_owner_that_left_is_not_asked(rt: HostRuntime) {
-    lives(&rt, rt.alloc(), 1, Before::Nothing, 0, By::Other);
-}
-
-/// The one turn is the entry in the maker's queue: it merges the list, which lives on.
-#[test]
-fn an_owner_that_leaves_merges_for_who_holds_on(rt: HostRuntime) {
-    lives(&rt, rt.alloc(), 2, Before::Asked, 1, By::Other);
+fn a_list_is_freed_by_whom_it_should(rt: HostRuntime) {
+    let cases = [
+        // An asked owner merges at its poll.
+        (1, Before::Freed, 0, By::Maker),
+        // An asked owner merges after it has left.
+        (1, Before::Asked, 2, By::Maker),
+        // An owner that left isn't asked.
+        (1, Before::Nothing, 0, By::Other),
+        // An owner that leaves merges for who holds on: the one turn is the entry in its queue, and the list lives on.
+        (2, Before::Asked, 1, By::Other),
+    ];
+    for (references, before, turns, by) in cases {
+        lives(&rt, rt.alloc(), references, before, turns, by);
+    }
 }

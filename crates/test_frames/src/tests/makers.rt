@@ -2,9 +2,7 @@
 //! has a handle.
 
 use crate::tests::phases::{ends, entered, leaves, opened, stays};
-use crate::tests::steps::Step::{AllGo, Has, Retains, Says, Works};
 use crate::tests::steps::lives;
-use test_tools::Thing;
 
 /// The cell of the integer 256.
 const LAST_INTEGER: u32 = 264;
@@ -13,29 +11,14 @@ const LAST_INTEGER: u32 = 264;
 /// leave nothing to be done; the next integer is made, and dies in one turn.
 #[test]
 fn what_is_immortal_is_not_made(rt: HostRuntime) {
-    let steps = [
-        Has(Thing::None, Ok(0)),
-        AllGo,
-        Has(Thing::Truth(false), Ok(1)),
-        AllGo,
-        Has(Thing::Truth(true), Ok(2)),
-        AllGo,
-        Has(Thing::Int(-5), Ok(3)),
-        AllGo,
-        Has(Thing::Int(0), Ok(8)),
-        AllGo,
-        Has(Thing::Int(256), Ok(LAST_INTEGER)),
-        Retains(Ok(LAST_INTEGER)),
-        AllGo,
-        Works(5, 5),
-        Says(0, 0),
-        Has(Thing::Int(257), Ok(266)),
-        Says(1, 0),
-        AllGo,
-        Works(5, 4),
-        Says(1, 1),
-    ];
-    lives(&rt, rt.alloc(), &steps);
+    lives(
+        &rt,
+        rt.alloc(),
+        "make none = 0; release_all; make false = 1; release_all; make true = 2; release_all;
+        make int -5 = 3; release_all; make int 0 = 8; release_all;
+        make int 256 = 264; retain = 264; release_all; work 5 = 5; births = 0; frees = 0;
+        make int 257 = 266; births = 1; frees = 0; release_all; work 5 = 4; births = 1; frees = 1",
+    );
 }
 
 #[test]

@@ -49,15 +49,6 @@ fn registers_are_copied_and_given(rt: HostRuntime) {
     ends(&rt, take_apart(heap, root));
 }
 
-/// A call that wants a place more of a stack.
-#[derive(Clone, Copy)]
-enum Stacking {
-    Push,
-    Keep,
-    /// Of what is in place 0.
-    Retain,
-}
-
 /// None is pushed; a refusal hands it back.
 fn pushes_none<H: Home<A>, A: Allocator>(
     rt: &impl Abort,
@@ -76,6 +67,22 @@ fn pushes_none<H: Home<A>, A: Allocator>(
             Err(fault)
         }
     }
+}
+
+/// A call that wants a place more of a stack.
+#[derive(Clone, Copy)]
+enum Stacking {
+    Push,
+    Keep,
+    /// Of what is in place 0.
+    Retain,
+}
+
+/// Where calls end: at the one that is refused, or at the one that passes.
+#[derive(Clone, Copy, PartialEq, Eq)]
+enum End {
+    Refused,
+    Passes,
 }
 
 /// What the call answers.
@@ -102,13 +109,6 @@ fn stacks<H: Home<A>, A: Allocator>(
     }
 }
 
-/// Where calls end: at the one that is refused, or at the one that passes.
-#[derive(Clone, Copy, PartialEq, Eq)]
-enum End {
-    Refused,
-    Passes,
-}
-
 /// The call, until it ends so, with a piece of memory more after each refusal, which leaves as many handles as before
 /// here and in the frame.
 fn stacks_until<'h, H: Home<A>, A: Allocator>(
@@ -116,13 +116,13 @@ fn stacks_until<'h, H: Home<A>, A: Allocator>(
     pieces: &mut Pieces<'h>,
     frame: &mut Frame<H, A>,
     handles: &mut Handles<A>,
-    stacking: Stacking,
-    end: End,
+    case: (Stacking, End),
 )
     requires { OwnsAll frame.old handles.old }
     ensures all { OwnsAll frame.new handles.new }
     ensures heap { frame.new.heap ≡ frame.old.heap }
 {
+    let (stacking, end) = case;
     for _ in 0..1_000 {
         let before = (handles.len(), frame.len());
         match stacks(rt, frame, handles, stacking) {
@@ -166,13 +166,13 @@ fn refuses<'h, H: Home<&'h LocalHeap>>(
     assert!(rt; pushes_none(rt, frame, &mut handles).is_ok());
     let mut pieces = Pieces::take_all(alloc, scarce).expect(rt, "a heap that is never full");
     has_no_places(rt, scarce);
-    for (stacking, end) in [
+    for case in [
         (Stacking::Push, End::Refused),
         (Stacking::Keep, End::Refused),
         (Stacking::Retain, End::Refused),
         (Stacking::Retain, End::Passes),
     ] {
-        stacks_until(rt, &mut pieces, frame, &mut handles, stacking, end);
+        stacks_until(rt, &mut pieces, frame, &mut handles, case);
     }
     handles.release_all(frame);
 }

@@ -4,8 +4,7 @@ ghost use Rattle.brc_count.specs.Frames.{IsUnlocked};
 ghost use Rattle.test_tools.specs.Calls.{OwnsOne, Stays};
 
 use crate::tests::phases::{ends, entered, leaves, opened};
-use crate::tests::steps::Step::{Adds, AllGo, Reads, Works};
-use crate::tests::steps::lives;
+use crate::tests::steps::{Step, lives};
 use brc_biased::Home;
 use brc_containers::{
     int_of, kind_of, len_of, text_of, try_int_of, try_kind_of, try_len_of, try_text_of,
@@ -15,18 +14,6 @@ use brc_words::{Fault, GLOBALS, Kind, Text};
 use std::alloc::Allocator;
 use std::process::Abort;
 use std::sync::Wait;
-use test_tools::Thing;
-
-/// What is read of an object.
-#[derive(Clone, Copy)]
-pub(super) enum Reading {
-    Kind(Kind),
-    /// So many entries, or none of the kind.
-    Len(Result<usize, Fault>),
-    /// This number, or none.
-    Int(Result<i64, Fault>),
-    Text(&'static str),
-}
 
 /// Whether a copy is of this text.
 fn is_copy<A: Allocator>(copy: Result<Text<A>, Fault>, text: &str) -> bool {
@@ -36,57 +23,79 @@ fn is_copy<A: Allocator>(copy: Result<Text<A>, Fault>, text: &str) -> bool {
     }
 }
 
-/// It is read so, in both forms.
-pub(super) fn reads<R: Abort + Wait, H: Home<A>, A: Allocator + Copy>(
-    rt: &R,
-    alloc: A,
-    frame: &mut Frame<H, A>,
-    handle: &Handle<A>,
-    reading: Reading,
-)
-    requires { OwnsOne frame.old handle.now }
-    ensures { Stays frame.old frame.new }
-{
-    match reading {
-        Reading::Kind(kind) => {
-            assert!(rt; try_kind_of(frame, handle) == Ok(kind));
-            assert!(rt; kind_of(rt, frame, handle) == kind);
+impl Step {
+    /// Whether this kind is the answer.
+    fn is_kind(self, kind: Kind) -> bool {
+        match self.answer {
+            "int" => kind == Kind::Int,
+            "text" => kind == Kind::Text,
+            "list" => kind == Kind::List,
+            _ => false,
         }
-        Reading::Len(len) => {
-            assert!(rt; try_len_of(frame, handle) == len);
-            assert!(rt; len_of(rt, frame, handle) == len);
+    }
+
+    /// Whether so many entries are the answer, or that it has none of its kind.
+    fn is_len(self, found: Result<usize, Fault>) -> bool {
+        match found {
+            Ok(len) => self.is(len as u64),
+            Err(fault) => self.is_refused(fault),
         }
-        Reading::Int(number) => {
-            assert!(rt; try_int_of(frame, handle) == number);
-            assert!(rt; int_of(rt, frame, handle) == number);
+    }
+
+    /// Whether this number is the answer, or that it has none of its kind.
+    fn is_int(self, found: Result<i64, Fault>) -> bool {
+        match found {
+            Ok(number) => self.answer.parse::<i64>().ok() == Some(number),
+            Err(fault) => self.is_refused(fault),
         }
-        Reading::Text(text) => {
-            assert!(rt; is_copy(try_text_of(alloc, frame, handle), text));
-            assert!(rt; is_copy(text_of(rt, alloc, frame, handle), text));
+    }
+
+    /// An object is read: whether the step is answered so, in both forms.
+    pub(super) fn reads<R: Wait, H: Home<A>, A: Allocator + Copy>(
+        self,
+        rt: &R,
+        alloc: A,
+        frame: &mut Frame<H, A>,
+        handle: &Handle<A>,
+    ) -> bool
+        requires { OwnsOne frame.old handle.now }
+        ensures { Stays frame.old frame.new }
+    {
+        match self.call {
+            "kind" => {
+                let early = try_kind_of(frame, handle);
+                let late = kind_of(rt, frame, handle);
+                early == Ok(late) && self.is_kind(late)
+            }
+            "len" => {
+                let early = try_len_of(frame, handle);
+                let late = len_of(rt, frame, handle);
+                early == late && self.is_len(late)
+            }
+            "int" => {
+                let early = try_int_of(frame, handle);
+                let late = int_of(rt, frame, handle);
+                early == late && self.is_int(late)
+            }
+            "text" => {
+                let early = is_copy(try_text_of(alloc, frame, handle), self.answer);
+                let late = is_copy(text_of(rt, alloc, frame, handle), self.answer);
+                early && late
+            }
+            _ => false,
         }
     }
 }
 
 #[test]
 fn objects_are_read_as_they_are(rt: HostRuntime) {
-    let steps = [
-        Adds(Thing::Int(-6), 1),
-        Reads(Reading::Kind(Kind::Int)),
-        Reads(Reading::Int(Ok(-6))),
-        Reads(Reading::Len(Err(Fault::WrongKind))),
-        AllGo,
-        Adds(Thing::Text("side"), 1),
-        Reads(Reading::Kind(Kind::Text)),
-        Reads(Reading::Text("side")),
-        Reads(Reading::Int(Err(Fault::WrongKind))),
-        AllGo,
-        Adds(Thing::List, 1),
-        Reads(Reading::Kind(Kind::List)),
-        Reads(Reading::Len(Ok(0))),
-        AllGo,
-        Works(9, 6),
-    ];
-    lives(&rt, rt.alloc(), &steps);
+    lives(
+        &rt,
+        rt.alloc(),
+        "make int -6; kind = int; int = -6; len = WrongKind; release_all;
+        make text side; kind = text; text = side; int = WrongKind; release_all;
+        make list; kind = list; len = 0; release_all; work 9 = 6",
+    );
 }
 
 /// While this thread has the globals locked, another one finds them Busy.

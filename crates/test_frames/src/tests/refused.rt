@@ -45,6 +45,14 @@ impl Call {
     }
 }
 
+/// A call, the cell of its handle, and how many objects are born.
+#[derive(Drop)]
+struct Case {
+    call: Call,
+    cell: u32,
+    births: u64,
+}
+
 /// What the making answers. A text that is refused is handed back as it was.
 fn makes<H: Home<A>, A: Allocator + Copy>(
     rt: &impl Abort,
@@ -81,23 +89,22 @@ fn answer<H: Home<A>, A: Allocator + Copy>(
     }
 }
 
-/// Whether the call passes: its handle is to this cell, and goes again. Where it is refused what is seen of the frame
+/// Whether the call passes: its handle is to its cell, and goes again. Where it is refused what is seen of the frame
 /// is as it was.
 fn passes<H: Home<A>, A: Allocator + Copy>(
     rt: &impl Abort,
     memories: Memories<A>,
     frame: &mut Frame<H, A>,
     first: &Handle<A>,
-    call: Call,
-    cell: u32,
+    case: &Case,
 ) -> bool
     requires { OwnsOne frame.old first.now }
     ensures { Stays frame.old frame.new }
 {
     let (len, ledger) = (frame.len(), frame.ledger());
-    match answer(rt, memories, frame, first, call) {
+    match answer(rt, memories, frame, first, case.call) {
         Ok(handle) => {
-            assert_eq!(rt; frame.cell(&handle), cell);
+            assert_eq!(rt; frame.cell(&handle), case.cell);
             frame.release(handle);
             true
         }
@@ -119,8 +126,7 @@ fn until_it_passes<'h, H: Home<&'h LocalHeap>>(
     memories: Memories<&'h LocalHeap>,
     frame: &mut Frame<H, &'h LocalHeap>,
     first: &Handle<&'h LocalHeap>,
-    call: Call,
-    cell: u32,
+    case: &Case,
 )
     requires { OwnsOne frame.old first.now }
     ensures { Stays frame.old frame.new }
@@ -128,8 +134,8 @@ fn until_it_passes<'h, H: Home<&'h LocalHeap>>(
     let (mut place, mut block) = (false, false);
     let before = pieces.used();
     for _ in 0..1_000 {
-        if passes(rt, memories, frame, first, call, cell) {
-            assert_eq!(rt; (place, block), (true, cell >= 266));
+        if passes(rt, memories, frame, first, case) {
+            assert_eq!(rt; (place, block), (true, case.cell >= 266));
             return;
         }
         let has_place = pieces.used() != before;
@@ -146,8 +152,7 @@ fn is_refused_to<'h, H: Home<&'h LocalHeap>>(
     alloc: Global,
     memories: Memories<&'h LocalHeap>,
     frame: &mut Frame<H, &'h LocalHeap>,
-    call: Call,
-    cell: u32,
+    case: &Case,
 )
     requires { IsBare frame.old }
     ensures { EndsBare frame.old frame.new }
@@ -157,7 +162,7 @@ fn is_refused_to<'h, H: Home<&'h LocalHeap>>(
     assert!(rt; handles.keep(frame, first).is_ok());
     let mut pieces = starves(alloc, memories.scarce, frame, &mut handles).expect(rt, "memory");
     let first = handles.get(0).expect(rt, "the first isn't kept");
-    until_it_passes(rt, &mut pieces, memories, frame, first, call, cell);
+    until_it_passes(rt, &mut pieces, memories, frame, first, case);
     handles.release_all(frame);
 }
 
@@ -166,17 +171,15 @@ fn is_refused_in_turn<'h>(
     rt: &impl Abort,
     alloc: Global,
     memories: Memories<&'h LocalHeap>,
-    call: Call,
-    cell: u32,
-    births: u64,
+    case: &Case,
 ) {
     let (table, mut root) = opened(rt, memories.ample);
     let mut frame = entered(rt, memories.scarce, &table, &mut root);
-    is_refused_to(rt, alloc, memories, &mut frame, call, cell);
+    is_refused_to(rt, alloc, memories, &mut frame, case);
     assert_eq!(rt; frame.len(), 0);
-    says(rt, frame.ledger(), (births, 0));
+    says(rt, frame.ledger(), (case.births, 0));
     assert!(rt; frame.work(2) > 0);
-    says(rt, frame.ledger(), (births, births));
+    says(rt, frame.ledger(), (case.births, case.births));
     leaves(rt, &table, &mut root, frame);
     ends(rt, table.take_apart(root));
 }
@@ -194,8 +197,9 @@ fn a_refused_growth_changes_nothing(rt: HostRuntime) {
         (Call::Mailbox, 266, 1),
     ];
     for (call, cell, births) in cases {
+        let case = Case { call, cell, births };
         let heaps = Heaps::new(rt.alloc(), 1 << 20, 1 << 16).expect(&rt, "memory");
-        is_refused_in_turn(&rt, rt.alloc(), heaps.memories(), call, cell, births);
+        is_refused_in_turn(&rt, rt.alloc(), heaps.memories(), &case);
         assert_eq!(rt; heaps.used(), (0, 0));
     }
 }

@@ -17,18 +17,36 @@ use std::process::Abort;
 use std::sync::Wait;
 use test_tools::{Pieces, Thing, made};
 
-/// All memory that is left is taken.
-fn starve<'h>(rt: &impl Abort, alloc: Global, memory: &'h LocalHeap, taken: &mut Vec<Pieces<'h>>) {
-    let pieces = Pieces::take_all(alloc, memory).expect(rt, "a heap that is never full");
-    assert!(rt; taken.push(pieces).is_ok());
+/// A heap whose memory is taken as often as some is left, and what was taken of it.
+#[derive(Drop)]
+struct Starving<'h> {
+    alloc: Global,
+    memory: &'h LocalHeap,
+    taken: Vec<Pieces<'h>>,
+}
+
+impl<'h> Starving<'h> {
+    /// A heap of which nothing is taken yet.
+    fn new(alloc: Global, memory: &'h LocalHeap) -> Starving<'h> {
+        Starving {
+            alloc,
+            memory,
+            taken: Vec::new(alloc),
+        }
+    }
+
+    /// All memory that is left is taken.
+    fn starve(&mut self, rt: &impl Abort) {
+        let pieces = Pieces::take_all(self.alloc, self.memory);
+        let pieces = pieces.expect(rt, "a heap that is never full");
+        assert!(rt; self.taken.push(pieces).is_ok());
+    }
 }
 
 /// So many calls of work for one turn need it, and the next one doesn't; none has memory.
 fn takes_turns<'h, H: Home<&'h LocalHeap>>(
     rt: &impl Abort,
-    alloc: Global,
-    memory: &'h LocalHeap,
-    taken: &mut Vec<Pieces<'h>>,
+    starving: &mut Starving<'h>,
     frame: &mut Frame<H, &'h LocalHeap>,
     turns: usize,
 )
@@ -36,10 +54,10 @@ fn takes_turns<'h, H: Home<&'h LocalHeap>>(
     ensures { GoesOn frame.old frame.new }
 {
     for _ in 0..turns {
-        starve(rt, alloc, memory, taken);
+        starving.starve(rt);
         assert_eq!(rt; frame.work(1), 0);
     }
-    starve(rt, alloc, memory, taken);
+    starving.starve(rt);
     assert_eq!(rt; frame.work(1), 1);
 }
 
@@ -127,10 +145,10 @@ fn dies_on_a_heap<'h>(
     let (table, mut root) = opened_with(rt, memory, cells);
     let mut frame = entered(rt, memory, &table, &mut root);
     let list = a_structure(rt, memory, &mut frame, shape);
-    let mut taken = Vec::new(alloc);
-    starve(rt, alloc, memory, &mut taken);
+    let mut starving = Starving::new(alloc, memory);
+    starving.starve(rt);
     frame.release(list);
-    takes_turns(rt, alloc, memory, &mut taken, &mut frame, turns);
+    takes_turns(rt, &mut starving, &mut frame, turns);
     says(rt, frame.ledger(), (lists, lists));
     leaves(rt, &table, &mut root, frame);
     ends(rt, table.take_apart(root));
@@ -157,9 +175,7 @@ fn a_long_chain_dies_a_turn_at_a_time(rt: HostRuntime) {
 /// owners.
 fn asks<'h, R: Abort + Wait, H: Home<&'h LocalHeap>>(
     rt: &R,
-    alloc: Global,
-    memory: &'h LocalHeap,
-    taken: &mut Vec<Pieces<'h>>,
+    starving: &mut Starving<'h>,
     first: &mut Frame<H, &'h LocalHeap>,
     second: &mut Frame<H, &'h LocalHeap>,
     other: &mut Frame<H, &'h LocalHeap>,
@@ -171,25 +187,24 @@ fn asks<'h, R: Abort + Wait, H: Home<&'h LocalHeap>>(
     ensures second { GoesOn second.old second.new }
     ensures other { GoesOn other.old other.new }
 {
+    let memory = starving.memory;
     let mut kept = Handles::new(memory);
-    hands_over(rt, memory, first, other, &mut kept, 1, 266);
-    hands_over(rt, memory, second, other, &mut kept, 1, 267);
-    starve(rt, alloc, memory, taken);
+    assert_eq!(rt; hands_over(rt, memory, first, other, &mut kept, 1), 266);
+    assert_eq!(rt; hands_over(rt, memory, second, other, &mut kept, 1), 267);
+    starving.starve(rt);
     kept.release_all(other);
 }
 
 /// The owner of a list finds without memory that it was asked, and frees it.
 fn is_asked<'h, H: Home<&'h LocalHeap>>(
     rt: &impl Abort,
-    alloc: Global,
-    memory: &'h LocalHeap,
-    taken: &mut Vec<Pieces<'h>>,
+    starving: &mut Starving<'h>,
     owner: &mut Frame<H, &'h LocalHeap>,
 )
     requires unlocked { IsUnlocked owner.old }
     ensures { GoesOn owner.old owner.new }
 {
-    starve(rt, alloc, memory, taken);
+    starving.starve(rt);
     assert!(rt; owner.poll() > 0);
     assert_eq!(rt; owner.work(5), 4);
     says(rt, owner.ledger(), (1, 1));
@@ -202,21 +217,13 @@ fn asks_on_a_heap<'h>(rt: &(impl Abort + Wait), alloc: Global, memory: &'h Local
     let mut first = entered(rt, memory, &table, &mut root);
     let mut second = entered(rt, memory, &table, &mut root);
     let mut other = entered(rt, memory, &table, &mut root);
-    let mut taken = Vec::new(alloc);
-    asks(
-        rt,
-        alloc,
-        memory,
-        &mut taken,
-        &mut first,
-        &mut second,
-        &mut other,
-    );
-    is_asked(rt, alloc, memory, &mut taken, &mut first);
-    starve(rt, alloc, memory, &mut taken);
+    let mut starving = Starving::new(alloc, memory);
+    asks(rt, &mut starving, &mut first, &mut second, &mut other);
+    is_asked(rt, &mut starving, &mut first);
+    starving.starve(rt);
     let left = leaves_late(rt, &table, &mut root, second, 2);
     says(rt, left, (1, 1));
-    starve(rt, alloc, memory, &mut taken);
+    starving.starve(rt);
     leaves(rt, &table, &mut root, first);
     leaves(rt, &table, &mut root, other);
     ends(rt, table.take_apart(root));

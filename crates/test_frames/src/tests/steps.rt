@@ -1,10 +1,24 @@
 //! What one thread does on a heap of its own, a step at a time, and what is seen then.
+//!
+//! A life is a text of steps, with a `;` between them. A step is a call with what it is given, and behind a `=` what it
+//! answers: a number, or the name of a fault. Behind a number and an `x` it is taken so many times. The thread keeps
+//! what it makes.
+//!
+//! - `make list = 266` is one reference to the thing: its cell, or why there is none; where no cell is named, any will
+//!   do. A text that is refused is handed back.
+//! - `retain = 264` is one reference more to the first thing that is kept: its cell, or why there is none.
+//! - `kind = list`, `len = 0`, `int = -6` and `text = side` are read of the first thing that is kept.
+//! - `claim_from 330` has claims begin with the word of this cell, and `claim_near 330` has them do so, and then near
+//!   what was claimed and freed last.
+//! - `release 34 = 300` lets the thing with this number go, which has this cell, and dies in one turn; `release_all`
+//!   lets all things go that are kept, by rising number.
+//! - `work 300 = 54` is so many turns of work, which leave so many.
+//! - `handles = 246` are the frame's handles; `births = 3` and `frees = 2` are what its ledger has.
 
 ghost use Rattle.std.specs.Prelude.{◌≡◌};
 ghost use Rattle.test_tools.specs.Calls.{EndsBare, IsBare, OwnsAll};
 
-use crate::tests::phases::{ends, entered, leaves, opened, says};
-use crate::tests::readings::{Reading, reads};
+use crate::tests::phases::{ends, entered, leaves, opened};
 use brc_biased::Home;
 use brc_count::{Frame, Handed};
 use brc_handles::Handles;
@@ -13,63 +27,81 @@ use std::alloc::{Allocator, Global};
 use std::mem;
 use std::process::Abort;
 use std::sync::Wait;
-use test_tools::{Memories, Thing, made, tried};
+use test_tools::{Memories, Thing, tried};
 
-/// What is asked of the thread, which keeps what it makes, and what is seen.
+/// A step in its parts.
 #[derive(Clone, Copy)]
-pub(super) enum Step {
-    /// Claims begin with the word of this cell.
-    ClaimsFrom(u32),
-    /// They do, and then near what was claimed and freed last.
-    ClaimsNear(u32),
-    /// So many references more to the thing, or so many of it where it is made anew.
-    Adds(Thing, usize),
-    /// One reference to the thing: its cell, or why there is none. A text is handed back.
-    Has(Thing, Result<u32, Fault>),
-    /// One reference more to the first thing that is kept: its cell, or why there is none.
-    Retains(Result<u32, Fault>),
-    /// This is read of the first thing that is kept.
-    Reads(Reading),
-    /// The thing with this number goes, which has this cell, and dies in one turn.
-    Goes(usize, u32),
-    /// All things that are kept go, by rising number.
-    AllGo,
-    /// The frame has so many handles.
-    Len(usize),
-    /// So many turns of work leave so many.
-    Works(usize, usize),
-    /// The ledger has so many births and frees.
-    Says(u64, u64),
+pub(super) struct Step {
+    times: u32,
+    pub(super) call: &'static str,
+    given: &'static str,
+    pub(super) answer: &'static str,
 }
 
-/// So many references more to the thing.
-fn adds<H: Home<A>, A: Allocator + Copy>(
-    rt: &impl Abort,
-    alloc: A,
-    frame: &mut Frame<H, A>,
-    handles: &mut Handles<A>,
-    thing: Thing,
-    count: usize,
-)
-    requires { OwnsAll frame.old handles.old }
-    ensures all { OwnsAll frame.new handles.new }
-    ensures heap { frame.new.heap ≡ frame.old.heap }
-{
-    for _ in 0..count {
-        let handle = made(alloc, frame, thing).expect(rt, "the thing isn't had");
-        assert!(rt; handles.keep(frame, handle).is_ok());
+impl Step {
+    /// The step of this text.
+    fn read(rt: &impl Abort, text: &'static str) -> Step {
+        let text = text.trim();
+        let (times, step) = text.split_once(" x ").unwrap_or(("1", text));
+        let (asked, answer) = step.split_once(" = ").unwrap_or((step, ""));
+        let (call, given) = asked.split_once(' ').unwrap_or((asked, ""));
+        Step {
+            times: number(rt, times),
+            call,
+            given,
+            answer,
+        }
+    }
+
+    /// Whether it is answered by this number.
+    pub(super) fn is(self, number: u64) -> bool {
+        self.answer.parse::<u64>().ok() == Some(number)
+    }
+
+    /// Whether it is refused by this fault.
+    pub(super) fn is_refused(self, fault: Fault) -> bool {
+        self.answer == fault.name()
+    }
+
+    /// Whether it is answered by this cell, or refused so.
+    fn is_cell(self, found: Result<u32, Fault>) -> bool {
+        match found {
+            Ok(cell) => self.answer.is_empty() || self.is(u64::from(cell)),
+            Err(fault) => self.is_refused(fault),
+        }
     }
 }
 
-/// The thing is had so, or refused so.
-fn has<H: Home<A>, A: Allocator + Copy>(
+/// The number of this text.
+fn number(rt: &impl Abort, text: &str) -> u32 {
+    let Ok(number) = text.parse::<u32>() else {
+        panic!(rt; "{text} is no number")
+    };
+    number
+}
+
+/// The thing of this text.
+fn thing(rt: &impl Abort, text: &'static str) -> Thing {
+    let (kind, value) = text.split_once(' ').unwrap_or((text, ""));
+    match (kind, value.parse::<i64>()) {
+        ("none", _) => Thing::None,
+        ("false", _) => Thing::Truth(false),
+        ("true", _) => Thing::Truth(true),
+        ("int", Ok(number)) => Thing::Int(number),
+        ("text", _) => Thing::Text(value),
+        ("list", _) => Thing::List,
+        _ => panic!(rt; "{text} is no thing"),
+    }
+}
+
+/// One reference to the thing: its cell, or why there is none.
+fn makes<H: Home<A>, A: Allocator + Copy>(
     rt: &impl Abort,
     alloc: A,
     frame: &mut Frame<H, A>,
     handles: &mut Handles<A>,
     thing: Thing,
-    outcome: Result<u32, Fault>,
-)
+) -> Result<u32, Fault>
     requires { OwnsAll frame.old handles.old }
     ensures all { OwnsAll frame.new handles.new }
     ensures heap { frame.new.heap ≡ frame.old.heap }
@@ -80,23 +112,23 @@ fn has<H: Home<A>, A: Allocator + Copy>(
     };
     match tried(memories, frame, thing) {
         Ok(handle) => {
-            assert!(rt; outcome == Ok(frame.cell(&handle)));
+            let cell = frame.cell(&handle);
             assert!(rt; handles.keep(frame, handle).is_ok());
+            Ok(cell)
         }
         Err(Handed { fault, back }) => {
-            assert!(rt; outcome == Err(fault));
             assert!(rt; thing.is_back(&back));
+            Err(fault)
         }
     }
 }
 
-/// One reference more to the first thing that is kept is had so, or refused so.
+/// One reference more to the first thing that is kept: its cell, or why there is none.
 fn retains<H: Home<A>, A: Allocator>(
     rt: &impl Abort,
     frame: &mut Frame<H, A>,
     handles: &mut Handles<A>,
-    outcome: Result<u32, Fault>,
-)
+) -> Result<u32, Fault>
     requires { OwnsAll frame.old handles.old }
     ensures all { OwnsAll frame.new handles.new }
     ensures heap { frame.new.heap ≡ frame.old.heap }
@@ -105,31 +137,33 @@ fn retains<H: Home<A>, A: Allocator>(
     assert!(rt; frame.owns(first));
     match frame.retain(first) {
         Ok(handle) => {
-            assert!(rt; outcome == Ok(frame.cell(&handle)));
+            let cell = frame.cell(&handle);
             assert!(rt; handles.keep(frame, handle).is_ok());
+            Ok(cell)
         }
-        Err(fault) => assert!(rt; outcome == Err(fault)),
+        Err(fault) => Err(fault),
     }
 }
 
-/// The thing with this number goes, which has this cell, and dies in one turn.
+/// The thing with the number of this text goes, and dies in one turn: the cell that it had.
 fn goes<H: Home<A>, A: Allocator>(
     rt: &impl Abort,
     frame: &mut Frame<H, A>,
     handles: &mut Handles<A>,
-    number: usize,
-    cell: u32,
-)
+    text: &str,
+) -> u32
     requires { OwnsAll frame.old handles.old }
     ensures all { OwnsAll frame.new handles.new }
     ensures heap { frame.new.heap ≡ frame.old.heap }
 {
+    let number = number(rt, text) as usize;
     assert!(rt; number < handles.len());
     let gone = handles.get(number).expect(rt, "it has gone before");
     assert!(rt; frame.owns(gone));
-    assert_eq!(rt; frame.cell(gone), cell);
+    let cell = frame.cell(gone);
     handles.release(frame, number);
     assert_eq!(rt; frame.work(2), 1);
+    cell
 }
 
 /// All things that are kept go, by rising number.
@@ -142,33 +176,45 @@ fn all_go<H: Home<A>, A: Allocator>(alloc: A, frame: &mut Frame<H, A>, handles: 
     all.release_all(frame);
 }
 
-/// The step is taken.
+/// The step is taken: whether it is answered so.
 fn takes<R: Abort + Wait, H: Home<A>, A: Allocator + Copy>(
     rt: &R,
     alloc: A,
     frame: &mut Frame<H, A>,
     handles: &mut Handles<A>,
     step: Step,
-)
+) -> bool
     requires { OwnsAll frame.old handles.old }
     ensures all { OwnsAll frame.new handles.new }
     ensures heap { frame.new.heap ≡ frame.old.heap }
 {
-    match step {
-        Step::ClaimsFrom(cell) => frame.claim_from(cell),
-        Step::ClaimsNear(cell) => frame.claim_near(cell),
-        Step::Adds(thing, count) => adds(rt, alloc, frame, handles, thing, count),
-        Step::Has(thing, outcome) => has(rt, alloc, frame, handles, thing, outcome),
-        Step::Retains(outcome) => retains(rt, frame, handles, outcome),
-        Step::Reads(reading) => {
-            let first = handles.get(0).expect(rt, "no handle is kept");
-            reads(rt, alloc, frame, first, reading);
+    match step.call {
+        "make" => step.is_cell(makes(rt, alloc, frame, handles, thing(rt, step.given))),
+        "retain" => step.is_cell(retains(rt, frame, handles)),
+        "claim_from" => {
+            frame.claim_from(number(rt, step.given));
+            true
         }
-        Step::Goes(number, cell) => goes(rt, frame, handles, number, cell),
-        Step::AllGo => all_go(alloc, frame, handles),
-        Step::Len(len) => assert_eq!(rt; frame.len(), len),
-        Step::Works(turns, left) => assert_eq!(rt; frame.work(turns), left),
-        Step::Says(allocs, frees) => says(rt, frame.ledger(), (allocs, frees)),
+        "claim_near" => {
+            frame.claim_near(number(rt, step.given));
+            true
+        }
+        "release" => {
+            let cell = goes(rt, frame, handles, step.given);
+            step.is(u64::from(cell))
+        }
+        "release_all" => {
+            all_go(alloc, frame, handles);
+            true
+        }
+        "work" => step.is(frame.work(number(rt, step.given) as usize) as u64),
+        "handles" => step.is(frame.len() as u64),
+        "births" => step.is(frame.ledger().allocs),
+        "frees" => step.is(frame.ledger().frees),
+        _ => {
+            let first = handles.get(0).expect(rt, "no handle is kept");
+            step.reads(rt, alloc, frame, first)
+        }
     }
 }
 
@@ -177,20 +223,23 @@ fn takes_all<R: Abort + Wait, H: Home<A>, A: Allocator + Copy>(
     rt: &R,
     alloc: A,
     frame: &mut Frame<H, A>,
-    steps: &[Step],
+    steps: &'static str,
 )
     requires { IsBare frame.old }
     ensures { EndsBare frame.old frame.new }
 {
     let mut handles = Handles::new(alloc);
-    for &step in steps {
-        takes(rt, alloc, frame, &mut handles, step);
+    for text in steps.split(';') {
+        let step = Step::read(rt, text);
+        for _ in 0..step.times {
+            assert!(rt; takes(rt, alloc, frame, &mut handles, step), "{text}");
+        }
     }
     handles.release_all(frame);
 }
 
 /// A thread takes them on a heap of its own, which has no object when it has left.
-pub(super) fn lives<R: Abort + Wait>(rt: &R, alloc: Global, steps: &[Step]) {
+pub(super) fn lives<R: Abort + Wait>(rt: &R, alloc: Global, steps: &'static str) {
     let (table, mut root) = opened(rt, alloc);
     let mut frame = entered(rt, alloc, &table, &mut root);
     takes_all(rt, alloc, &mut frame, steps);

@@ -3,60 +3,89 @@
 
 use crate::tests::running::{ran, same};
 use std::alloc::{AllocError, AllocGlobal, Global};
+use std::ops::Range;
 use std::process::Abort;
 use std::sync::Wait;
 use std::test::*;
 use std::thread::Threads;
 
-/// A case: its name, a script, the status, and what is written.
-type Case = (&'static str, &'static str, u8, &'static str);
+/// A case: its name, a command line, a script, and what is written.
+type Case<'s> = (&'s str, &'s str, &'s str, &'s str);
+
+/// So many runs of it, all alike.
+fn runs<T: Abort + AllocGlobal + Threads + Wait + Sync>(
+    rt: &T,
+    times: u32,
+    (case, line, script, output): Case<'_>,
+) -> Result<(), Fail> {
+    for _run in 0..times {
+        let found = ran(rt, line, script, 0, "")?;
+        same(rt, case, found.as_slice(), output);
+    }
+    Ok(())
+}
+
+/// Sections that all do the same, with these numbers.
+fn add_sections(
+    alloc: Global,
+    script: &mut String,
+    numbers: Range<u32>,
+    lines: &str,
+) -> Result<(), AllocError> {
+    for number in numbers {
+        let begins = format!(in alloc; "section s{number}\n")?;
+        script.push_str(begins.as_str())?;
+        script.push_str(lines)?;
+    }
+    Ok(())
+}
 
 /// A list that the second section takes over from the first, and one of the third section's own.
 const TAKEN_OVER: Case = (
     "a list that two sections share, and one of its own",
+    "brc run",
     "section a\nlist r0\nint r1 1000\npush r0 r1\nshare box r0\nsection b\nfetch r0 box\npop r1 r0\nprint r1\ndrop r1\ndrop r0\nsection c\nlist r0\nint r1 7\npush r0 r1\nlen r2 r0\nprint r2\n",
-    0,
     "b: 1000\nc: 1\nledger 3 3 0\n",
 );
 
 /// A section that makes and drops two objects a thousand times, and one beside it that keeps its own.
 const BESIDE_ANOTHER: Case = (
     "a section that makes and drops a thousand times beside another",
+    "brc run",
     "section a\nrepeat 1000\nlist r0\nint r1 1000\npush r0 r1\ndrop r0\nend\nsection b\nlist r0\ntext r1 one\npush r0 r1\nget r2 r0 0\nprint r2\nlen r3 r0\nprint r3\n",
-    0,
     "b: one\nb: 1\nledger 2002 2002 0\n",
 );
 
-/// A hundred runs of each, all alike.
-#[test]
-fn worked_scripts_are_alike_in_each_run(rt: HostRuntime) -> Result<(), Fail> {
-    for (case, script, status, output) in [TAKEN_OVER, BESIDE_ANOTHER] {
-        for _run in 0..100 {
-            let found = ran(&rt, "brc run", script, status, "")?;
-            same(&rt, case, found.as_slice(), output);
-        }
-    }
-    Ok(())
-}
-
 /// Twenty lists, each of which goes into a mailbox, and into the globals in place of the one before it. Two sections
 /// take eight of them each out of the mailbox, and as often the one that is in the globals then; the last thread finds
-/// the other four, and the globals' one.
+/// the other four, and the globals' one. Owners soon count as others do, and there are few turns of work.
 const HANDED_OVER: Case = (
     "lists that two sections take while a third makes them",
+    "brc run --cells 512 --budget 2 --local-limit 10",
     "section a\nmailbox r0\ncopy r1 r0\nshare box r1\nrepeat 20\nlist r1\ncopy r2 r1\nshare last r2\nsend r0 r1\nend\nsection b\nfetch r0 box\nrepeat 8\nrecv r1 r0\nfetch r2 last\ncopy r3 r2\ndrop r1\ndrop r2\ndrop r3\nend\nsection c\nfetch r0 box\nrepeat 8\nrecv r1 r0\nfetch r2 last\ncopy r3 r2\ndrop r1\ndrop r2\ndrop r3\nend\n",
-    0,
     "ledger 21 21 0\n",
 );
 
-/// A thousand runs, with owners that soon count as others do and few turns of work.
+/// A list that one section hands to the other while both let it go: at the same time its maker releases, works and
+/// leaves, and the other one releases, works and leaves.
+const LEFT_AT_ONCE: Case = (
+    "two sections leave while both let a list go",
+    "brc run --cells 512",
+    "section a\nlist r0\ncopy r1 r0\nshare box r1\nfetch r1 taken\ndrop r0\nsection b\nfetch r0 box\nunshare r1 box\nint r2 1\nshare taken r2\ndrop r0\ndrop r1\n",
+    "ledger 1 1 0\n",
+);
+
+/// Two of them a hundred times, and the others a thousand times.
 #[test]
-fn each_list_that_is_handed_over_ends(rt: HostRuntime) -> Result<(), Fail> {
-    let (case, script, status, output) = HANDED_OVER;
-    let line = "brc run --cells 512 --budget 2 --local-limit 10";
-    for _run in 0..1_000 {
-        let found = ran(&rt, line, script, status, "")?;
-        same(&rt, case, found.as_slice(), output);
+fn worked_scripts_are_alike_in_each_run(rt: HostRuntime) -> Result<(), Fail> {
+    let cases = [
+        (100, TAKEN_OVER),
+        (100, BESIDE_ANOTHER),
+        (1_000, HANDED_OVER),
+        (1_000, LEFT_AT_ONCE),
+    ];
+    for (times, case) in cases {
+        runs(&rt, times, case)?;
     }
     Ok(())
 }
@@ -72,10 +101,6 @@ const PLAYS: &str =
 const SHARES: &str =
     "section last\nlist r0\nint r4 1000\npush r0 r4\ncopy r4 r0\nshare list r4\nmailbox r1\ncopy r4 r1\nshare box r4\ndict r2\nint r4 1000\nput r2 'k r4\ncopy r4 r2\nshare dict r4\nmailbox r3\ncopy r4 r3\nshare sums r4\n";
 
-/// Once it has added the sums it adds the numbers that the list and the dictionary are left with.
-const ADDS_LEFT: &str =
-    "pop r5 r0\nadd r6 r4 r5\ncopy r4 r6\ndel r5 r2 'k\nadd r6 r4 r5\nprint r6\nprint r0\nprint r1\nprint r2\n";
-
 /// So many sections play, and so it ends. Each number that was given is got once or left, so the sum is theirs: a
 /// section gives 4 times the numbers from 1,001 to 11,000, which is 240,020,000, and there were 2,000 at first. A
 /// section makes 9 integers in a turn and one before; the last one makes 6 objects, and an integer for each number that
@@ -85,55 +110,47 @@ fn play<T: Abort + AllocGlobal + Threads + Wait + Sync>(
     sections: u32,
     output: &str,
 ) -> Result<(), Fail> {
+    /// Once it has added the sums it adds the numbers that the list and the dictionary are left with.
+    const ADDS_LEFT: &str =
+        "pop r5 r0\nadd r6 r4 r5\ncopy r4 r6\ndel r5 r2 'k\nadd r6 r4 r5\nprint r6\nprint r0\nprint r1\nprint r2\n";
     let mut script = String::new(rt.alloc());
-    for section in 0..sections {
-        let begins = format!(in rt.alloc(); "section s{section}\n")?;
-        script.push_str(begins.as_str())?;
-        script.push_str(PLAYS)?;
-    }
+    add_sections(rt.alloc(), &mut script, 0..sections, PLAYS)?;
     script.push_str(SHARES)?;
     let adds = format!(in rt.alloc();
         "int r4 0\nrepeat {sections}\nrecv r5 r3\nadd r6 r4 r5\ncopy r4 r6\nend\n"
     )?;
     script.push_str(adds.as_str())?;
     script.push_str(ADDS_LEFT)?;
-    let found = ran(rt, "brc run", script.as_str(), 0, "")?;
-    same(rt, "many turns", found.as_slice(), output);
+    runs(rt, 1, ("many turns", "brc run", script.as_str(), output))
+}
+
+#[test]
+fn sections_share_for_many_turns(rt: HostRuntime) -> Result<(), Fail> {
+    let cases = [
+        (
+            2,
+            "last: 480042000\nlast: list 0\nlast: mailbox 0\nlast: dict 0\nledger 180012 180012 0\n",
+        ),
+        (
+            4,
+            "last: 960082000\nlast: list 0\nlast: mailbox 0\nlast: dict 0\nledger 360016 360016 0\n",
+        ),
+        (
+            8,
+            "last: 1920162000\nlast: list 0\nlast: mailbox 0\nlast: dict 0\nledger 720024 720024 0\n",
+        ),
+    ];
+    for (sections, output) in cases {
+        play(&rt, sections, output)?;
+    }
     Ok(())
-}
-
-#[test]
-fn two_sections_share_for_many_turns(rt: HostRuntime) -> Result<(), Fail> {
-    play(
-        &rt,
-        2,
-        "last: 480042000\nlast: list 0\nlast: mailbox 0\nlast: dict 0\nledger 180012 180012 0\n",
-    )
-}
-
-#[test]
-fn four_sections_share_for_many_turns(rt: HostRuntime) -> Result<(), Fail> {
-    play(
-        &rt,
-        4,
-        "last: 960082000\nlast: list 0\nlast: mailbox 0\nlast: dict 0\nledger 360016 360016 0\n",
-    )
-}
-
-#[test]
-fn eight_sections_share_for_many_turns(rt: HostRuntime) -> Result<(), Fail> {
-    play(
-        &rt,
-        8,
-        "last: 1920162000\nlast: list 0\nlast: mailbox 0\nlast: dict 0\nledger 720024 720024 0\n",
-    )
 }
 
 /// Long scripts, which only end so where each section polls and works between its instructions and while it waits, and
 /// where no wakeup is lost; and a long death.
 #[test]
 fn long_scripts(rt: HostRuntime) -> Result<(), Fail> {
-    const CASES: &[(&str, &str, &str, &str)] = &[
+    const CASES: &[Case] = &[
         (
             "a chain of 3,000 lists dies a turn at a time",
             "brc run --budget 1",
@@ -165,28 +182,8 @@ fn long_scripts(rt: HostRuntime) -> Result<(), Fail> {
             "ledger 6001 6001 0\n",
         ),
     ];
-    for &(case, line, script, output) in CASES {
-        let found = ran(&rt, line, script, 0, "")?;
-        same(&rt, case, found.as_slice(), output);
-    }
-    Ok(())
-}
-
-/// A list that one section hands to the other while both let it go: at the same time its maker releases, works and
-/// leaves, and the other one releases, works and leaves.
-const LEFT_AT_ONCE: Case = (
-    "two sections leave while both let a list go",
-    "section a\nlist r0\ncopy r1 r0\nshare box r1\nfetch r1 taken\ndrop r0\nsection b\nfetch r0 box\nunshare r1 box\nint r2 1\nshare taken r2\ndrop r0\ndrop r1\n",
-    0,
-    "ledger 1 1 0\n",
-);
-
-#[test]
-fn two_sections_leave_at_the_same_time(rt: HostRuntime) -> Result<(), Fail> {
-    let (case, script, status, output) = LEFT_AT_ONCE;
-    for _run in 0..1_000 {
-        let found = ran(&rt, "brc run --cells 512", script, status, "")?;
-        same(&rt, case, found.as_slice(), output);
+    for &case in CASES {
+        runs(&rt, 1, case)?;
     }
     Ok(())
 }
@@ -195,18 +192,16 @@ fn two_sections_leave_at_the_same_time(rt: HostRuntime) -> Result<(), Fail> {
 /// clears the globals.
 #[test]
 fn all_find_one_list(rt: HostRuntime) -> Result<(), Fail> {
-    let mut script = String::new(rt.alloc());
-    for section in 0..63 {
-        let begins = format!(in rt.alloc(); "section s{section}\n")?;
-        script.push_str(begins.as_str())?;
-        if section == 0 {
-            script.push_str("list r0\nshare box r0\n")?;
-        }
-        script.push_str("repeat 100\nfetch r0 box\ndrop r0\nend\n")?;
-    }
-    let found = ran(&rt, "brc run --cells 512", script.as_str(), 0, "")?;
-    same(&rt, "one list", found.as_slice(), "ledger 1 1 0\n");
-    Ok(())
+    const FINDS: &str = "repeat 100\nfetch r0 box\ndrop r0\nend\n";
+    let mut script = String::from_str(rt.alloc(), "section s0\nlist r0\nshare box r0\n")?;
+    script.push_str(FINDS)?;
+    add_sections(rt.alloc(), &mut script, 1..63, FINDS)?;
+    let line = "brc run --cells 512";
+    runs(
+        &rt,
+        1,
+        ("one list", line, script.as_str(), "ledger 1 1 0\n"),
+    )
 }
 
 /// A section that shares nothing makes a thousand numbers, and a thousand sums of them; each goes through a container
@@ -218,30 +213,20 @@ const OWN: &str =
 /// times each, and so free cells and use them again. Ten runs.
 #[test]
 fn a_section_of_its_own_beside_all_others(rt: HostRuntime) -> Result<(), Fail> {
-    let mut script = String::new(rt.alloc());
-    for section in 0..62 {
-        if section == 31 {
-            script.push_str(OWN)?;
-        }
-        let begins = format!(in rt.alloc(); "section s{section}\n")?;
-        script.push_str(begins.as_str())?;
-        if section == 0 {
-            script.push_str("list r0\nshare box r0\n")?;
-        }
-        script.push_str(
-            "fetch r0 box\nrepeat 100\nint r1 1000\npush r0 r1\npop r1 r0\ndrop r1\nend\n",
-        )?;
-    }
-    for _run in 0..10 {
-        let found = ran(&rt, "brc run", script.as_str(), 0, "")?;
-        same(
-            &rt,
-            "beside all others",
-            found.as_slice(),
-            "own: 1000000\nown: 1000\nown: list 0\nown: dict 1\nown: mailbox 0\nledger 8204 8204 0\n",
-        );
-    }
-    Ok(())
+    const PUSHES: &str =
+        "fetch r0 box\nrepeat 100\nint r1 1000\npush r0 r1\npop r1 r0\ndrop r1\nend\n";
+    let mut script = String::from_str(rt.alloc(), "section s0\nlist r0\nshare box r0\n")?;
+    script.push_str(PUSHES)?;
+    add_sections(rt.alloc(), &mut script, 1..31, PUSHES)?;
+    script.push_str(OWN)?;
+    add_sections(rt.alloc(), &mut script, 31..62, PUSHES)?;
+    let output =
+        "own: 1000000\nown: 1000\nown: list 0\nown: dict 1\nown: mailbox 0\nledger 8204 8204 0\n";
+    runs(
+        &rt,
+        10,
+        ("beside all others", "brc run", script.as_str(), output),
+    )
 }
 
 /// So many turns of work, one an instruction, are more than a structure of 60,000 containers takes to die.
@@ -273,8 +258,11 @@ fn deep_and_wide(rt: HostRuntime) -> Result<(), Fail> {
         let mut script = String::from_str(rt.alloc(), makes)?;
         script.push_str(GOES_ON)?;
         let line = "brc run --cells 65536 --budget 1";
-        let found = ran(&rt, line, script.as_str(), 0, "")?;
-        same(&rt, line, found.as_slice(), "ledger 60000 60000 0\n");
+        runs(
+            &rt,
+            1,
+            (line, line, script.as_str(), "ledger 60000 60000 0\n"),
+        )?;
     }
     Ok(())
 }

@@ -3,8 +3,15 @@ use Rattle.brc_count.specs.Frames.{IsUnlocked}
 use Rattle.brc_handles.specs.Handles.{Holds}
 use Rattle.test_frames.proofs.tests.steps.takes_all.Given as goal
 
-abbrev pub invariant-loop-step : goal.invariant-loop-step
-invariant-loop-step g l = record {
+abbrev pub invariant-loop-text : goal.invariant-loop-text
+invariant-loop-text g l = record {
+  heap : l.frame.heap ≡ l.fn.frame.heap;
+  holds : Holds 0 l.frame l.handles;
+  unlocked : IsUnlocked l.frame;
+}
+
+abbrev pub invariant-loop : goal.invariant-loop
+invariant-loop g l = record {
   heap : l.frame.heap ≡ l.fn.frame.heap;
   holds : Holds 0 l.frame l.handles;
   unlocked : IsUnlocked l.frame;
