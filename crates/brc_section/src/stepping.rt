@@ -145,6 +145,8 @@ impl<'i, R: Wait, H: Home<A>, A: Allocator + Copy> Does<R, H, A> for Silent<'i, 
         frame: &mut Frame<H, A>,
         registers: &mut Registers<A>,
     ) -> Result<(), Fault> {
+        // (An answer has a name where it comes from a call that isn't inlined. So no call writes into what this answers,
+        // which can stay in registers where nothing is called.)
         let (key, seated) = (self.key, self.seated);
         match self.instruction {
             Instruction::Int { to, number } => {
@@ -157,15 +159,18 @@ impl<'i, R: Wait, H: Home<A>, A: Allocator + Copy> Does<R, H, A> for Silent<'i, 
             }
             Instruction::List { to } => {
                 let (to, empty) = (*to, Empty::List);
-                MakeEmpty { to, empty }.act(rt, alloc, frame, registers)
+                let done = MakeEmpty { to, empty }.act(rt, alloc, frame, registers);
+                done
             }
             Instruction::Dict { to } => {
                 let (to, empty) = (*to, Empty::Dict);
-                MakeEmpty { to, empty }.act(rt, alloc, frame, registers)
+                let done = MakeEmpty { to, empty }.act(rt, alloc, frame, registers);
+                done
             }
             Instruction::Mailbox { to } => {
                 let (to, empty) = (*to, Empty::Mailbox);
-                MakeEmpty { to, empty }.act(rt, alloc, frame, registers)
+                let done = MakeEmpty { to, empty }.act(rt, alloc, frame, registers);
+                done
             }
 
             Instruction::Copy { to, from } => {
@@ -251,7 +256,8 @@ impl<'i, R: Wait, H: Home<A>, A: Allocator + Copy> Does<R, H, A> for Silent<'i, 
             }
             Instruction::Fetch { to, name } => {
                 let shared = Shared::Fetch { to: *to };
-                under_name(rt, alloc, frame, registers, shared, name, key, seated)
+                let done = under_name(rt, alloc, frame, registers, shared, name, key, seated);
+                done
             }
             Instruction::Unshare { to, name } => {
                 let shared = Shared::Unshare { to: *to };

@@ -39,40 +39,40 @@ returns-in-Text-clause-why g c =
 
 pub returns-in-List-clause-follows : goal.returns-in-List-clause-follows
 returns-in-List-clause-follows g c own differ silent =
-    let did = c.act-in-List in
+    let did = c.act-done in
     let line = c.args.self.now.instruction.now in
     led c.args.frame.now did.new.frame c.args.registers.now did.new.registers line
     (does.«List» c.in-List.to) did.result did.result c.in-List.is refl did.ensures.follows
 
 pub returns-in-List-clause-why : goal.returns-in-List-clause-why
 returns-in-List-clause-why g c =
-    let did = c.act-in-List in
+    let did = c.act-done in
     of_own c.args.self.now.instruction.now c.args.frame.now did.new.frame did.result did.result refl
     did.ensures.why
 
 pub returns-in-Dict-clause-follows : goal.returns-in-Dict-clause-follows
 returns-in-Dict-clause-follows g c own differ silent =
-    let did = c.act-in-Dict in
+    let did = c.act-done-in-Dict in
     let line = c.args.self.now.instruction.now in
     led c.args.frame.now did.new.frame c.args.registers.now did.new.registers line
     (does.Dict c.in-Dict.to) did.result did.result c.in-Dict.is refl did.ensures.follows
 
 pub returns-in-Dict-clause-why : goal.returns-in-Dict-clause-why
 returns-in-Dict-clause-why g c =
-    let did = c.act-in-Dict in
+    let did = c.act-done-in-Dict in
     of_own c.args.self.now.instruction.now c.args.frame.now did.new.frame did.result did.result refl
     did.ensures.why
 
 pub returns-in-Mailbox-clause-follows : goal.returns-in-Mailbox-clause-follows
 returns-in-Mailbox-clause-follows g c own differ silent =
-    let did = c.act-in-Mailbox in
+    let did = c.act-done-in-Mailbox in
     let line = c.args.self.now.instruction.now in
     led c.args.frame.now did.new.frame c.args.registers.now did.new.registers line
     (does.Mailbox c.in-Mailbox.to) did.result did.result c.in-Mailbox.is refl did.ensures.follows
 
 pub returns-in-Mailbox-clause-why : goal.returns-in-Mailbox-clause-why
 returns-in-Mailbox-clause-why g c =
-    let did = c.act-in-Mailbox in
+    let did = c.act-done-in-Mailbox in
     of_own c.args.self.now.instruction.now c.args.frame.now did.new.frame did.result did.result refl
     did.ensures.why
 
@@ -156,7 +156,7 @@ returns-in-Add-clause-why g c =
 
 pub returns-in-Push-clause-follows : goal.returns-in-Push-clause-follows
 returns-in-Push-clause-follows g c own differ silent =
-    let did = c.act-done in
+    let did = c.act-done-in-Push in
     let line = c.args.self.now.instruction.now in
     let is = does.Push c.in-Push.list c.in-Push.value in
     led c.args.frame.now did.new.frame c.args.registers.now did.new.registers line is did.result c.stirs.result
@@ -165,7 +165,7 @@ returns-in-Push-clause-follows g c own differ silent =
 
 pub returns-in-Push-clause-why : goal.returns-in-Push-clause-why
 returns-in-Push-clause-why g c =
-    let did = c.act-done in
+    let did = c.act-done-in-Push in
     of_own c.args.self.now.instruction.now c.args.frame.now did.new.frame did.result c.stirs.result c.stirs.ensures
     (uncaused_in c.args.frame.now did.new.frame did.result did.ensures.why)
 
@@ -268,7 +268,7 @@ returns-in-Share-clause-why g c =
 pub returns-in-Fetch-clause-why : goal.returns-in-Fetch-clause-why
 returns-in-Fetch-clause-why g c =
     of_shared c.args.self.now.instruction.now (does.Fetch c.in-Fetch.to c.in-Fetch.name) c.args.frame.now
-    c.under_name.new.frame c.under_name.result c.in-Fetch.is refl
+    c.under_name-done-in-Fetch.new.frame c.under_name-done-in-Fetch.result c.in-Fetch.is refl
 
 pub returns-in-Unshare-clause-why : goal.returns-in-Unshare-clause-why
 returns-in-Unshare-clause-why g c =
