@@ -1,6 +1,7 @@
 //! The program over any streams: what it does for each invocation, its statuses and its error lines.
 
-ghost use Rattle.std.specs.Prelude.{◌≤◌, IfOk};
+ghost use Rattle.std.specs.Prelude.{◌≡◌, ◌≤◌, ◌⊎◌, IfOk};
+ghost use Rattle.brc_program.specs.Statuses.{status_of};
 
 use crate::command::{Invocation, read_words};
 use crate::explanations::put_why;
@@ -47,9 +48,10 @@ pub fn program<T: Threads + Wait + Sync, R: Read + Drop, W: Write, E: Write>(
     }
 }
 
-/// Tells of a fault, and answers its status.
+/// Tells of a fault, and answers its status; 5 where it couldn't be told.
 pub fn refuse<E: Write>(errors: &mut E, fault: Fault) -> u8
-    ensures { result ≤ 5 }
+    ensures within { result ≤ 5 }
+    ensures status { (result ≡ status_of fault) ⊎ (result ≡ 5) }
 {
     refuse_with_why(errors, &unexplained(fault))
 }
@@ -57,7 +59,8 @@ pub fn refuse<E: Write>(errors: &mut E, fault: Fault) -> u8
 /// Tells of a fault, and of why it came where that is known, and answers its status. The first write that fails is the
 /// last.
 fn refuse_with_why<E: Write>(errors: &mut E, failed: &Unreplayed) -> u8
-    ensures { result ≤ 5 }
+    ensures within { result ≤ 5 }
+    ensures status { (result ≡ status_of failed.now.fault) ⊎ (result ≡ 5) }
 {
     match tell_all(&mut Firm { writer: errors }, failed) {
         Ok(()) => status_of(failed.fault),
@@ -66,7 +69,9 @@ fn refuse_with_why<E: Write>(errors: &mut E, failed: &Unreplayed) -> u8
 }
 
 /// A fault that is told without a reason.
-fn unexplained(fault: Fault) -> Unreplayed {
+fn unexplained(fault: Fault) -> Unreplayed
+    ensures { result.fault ≡ fault }
+{
     Unreplayed { fault, why: None }
 }
 
@@ -148,7 +153,8 @@ fn answer<T: Threads + Wait + Sync, R: Read + Drop, W: Write>(
 
 /// The status of a fault.
 fn status_of(fault: Fault) -> u8
-    ensures { result ≤ 5 }
+    ensures within { result ≤ 5 }
+    ensures status { result ≡ status_of fault }
 {
     match fault {
         Fault::BadOptions => BAD_WORDS,
