@@ -13,6 +13,9 @@ use brc_words::Fault;
 use std::alloc::Allocator;
 use std::sync::Wait;
 
+/// That something was done, or why not.
+pub type Done = Result<(), Fault>;
+
 /// An instruction that prints nothing, with its registers and what else its line has.
 pub trait Does<R: Wait, H: Home<A>, A: Allocator + Copy> {
     // where it leads, by its plain meaning
@@ -23,13 +26,7 @@ pub trait Does<R: Wait, H: Home<A>, A: Allocator + Copy> {
 
     /// Does it. Before and afterwards the frame has the handle of each register that isn't empty, and no other. It waits
     /// while another thread has an object locked, so it never answers Busy.
-    fn act(
-        &self,
-        rt: &R,
-        alloc: A,
-        frame: &mut Frame<H, A>,
-        registers: &mut Registers<A>,
-    ) -> Result<(), Fault>
+    fn act(&self, rt: &R, alloc: A, frame: &mut Frame<H, A>, registers: &mut Registers<A>) -> Done
         requires stands { Stands frame.old registers.old }
         ensures stands { Stands frame.new registers.new }
         ensures heap { frame.new.heap ≡ frame.old.heap }

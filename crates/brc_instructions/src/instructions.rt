@@ -6,7 +6,7 @@ ghost use Rattle.law_isolation.specs.Asked.{Follows};
 ghost use Rattle.brc_instructions.specs.Calls.{gives, makes, takes};
 ghost use Rattle.brc_instructions.specs.Causes.{Caused, WantsNoRoom};
 
-use crate::doing::Does;
+use crate::doing::{Does, Done};
 use crate::giving::{Giving, given};
 use crate::globals::{given_by_globals, taken_by_globals};
 use crate::holding::hold;
@@ -41,7 +41,7 @@ impl<R: Wait, H: Home<A>, A: Allocator + Copy> Does<R, H, A> for MakeInt {
         alloc: A,
         frame: &mut Frame<H, A>,
         registers: &mut Registers<A>,
-    ) -> Result<(), Fault> {
+    ) -> Done {
         let made = new_int(alloc, frame, self.number)?;
         hold(frame, registers, self.to, made);
         Ok(())
@@ -66,7 +66,7 @@ impl<'t, R: Wait, H: Home<A>, A: Allocator + Copy> Does<R, H, A> for MakeText<'t
         alloc: A,
         frame: &mut Frame<H, A>,
         registers: &mut Registers<A>,
-    ) -> Result<(), Fault> {
+    ) -> Done {
         let copy = copy_text(alloc, self.text)?;
         match new_text(alloc, frame, copy) {
             Ok(made) => {
@@ -96,7 +96,7 @@ impl<R: Wait, H: Home<A>, A: Allocator + Copy> Does<R, H, A> for MakeEmpty {
         alloc: A,
         frame: &mut Frame<H, A>,
         registers: &mut Registers<A>,
-    ) -> Result<(), Fault> {
+    ) -> Done {
         let made = new_empty(alloc, frame, self.empty)?;
         hold(frame, registers, self.to, made);
         Ok(())
@@ -121,7 +121,7 @@ impl<R: Wait, H: Home<A>, A: Allocator + Copy> Does<R, H, A> for CopyHeld {
         _alloc: A,
         frame: &mut Frame<H, A>,
         registers: &mut Registers<A>,
-    ) -> Result<(), Fault> {
+    ) -> Done {
         let Some(handle) = registers.get(self.from) else {
             return Err(Fault::NoSuchPlace);
         };
@@ -148,7 +148,7 @@ impl<R: Wait, H: Home<A>, A: Allocator + Copy> Does<R, H, A> for DropHeld {
         _alloc: A,
         frame: &mut Frame<H, A>,
         registers: &mut Registers<A>,
-    ) -> Result<(), Fault> {
+    ) -> Done {
         let Some(handle) = registers.take(self.from) else {
             return Err(Fault::NoSuchPlace);
         };
@@ -178,7 +178,7 @@ impl<'k, R: Wait, H: Home<A>, A: Allocator + Copy> Does<R, H, A> for Give<'k, A>
         _alloc: A,
         frame: &mut Frame<H, A>,
         registers: &mut Registers<A>,
-    ) -> Result<(), Fault> {
+    ) -> Done {
         let Some(object) = registers.get(self.container) else {
             return Err(Fault::NoSuchPlace);
         };
@@ -204,13 +204,7 @@ impl<'k, R: Wait, H: Home<A>, A: Allocator + Copy> Does<R, H, A> for Take<'k, A>
     ghost why = { λ _ _ _. WantsNoRoom };
 
     #[inline(always)]
-    fn act(
-        &self,
-        rt: &R,
-        alloc: A,
-        frame: &mut Frame<H, A>,
-        registers: &mut Registers<A>,
-    ) -> Result<(), Fault> {
+    fn act(&self, rt: &R, alloc: A, frame: &mut Frame<H, A>, registers: &mut Registers<A>) -> Done {
         let Some(given) = registers.take(self.value) else {
             return Err(Fault::NoSuchPlace);
         };
@@ -248,13 +242,7 @@ impl<R: Wait, H: Home<A>, A: Allocator + Copy> Does<R, H, A> for Len {
 
     ghost why = { λ _. Caused };
 
-    fn act(
-        &self,
-        rt: &R,
-        alloc: A,
-        frame: &mut Frame<H, A>,
-        registers: &mut Registers<A>,
-    ) -> Result<(), Fault> {
+    fn act(&self, rt: &R, alloc: A, frame: &mut Frame<H, A>, registers: &mut Registers<A>) -> Done {
         let Some(container) = registers.get(self.container) else {
             return Err(Fault::NoSuchPlace);
         };
@@ -283,13 +271,7 @@ impl<R: Wait, H: Home<A>, A: Allocator + Copy> Does<R, H, A> for Add {
 
     ghost why = { λ _. Caused };
 
-    fn act(
-        &self,
-        rt: &R,
-        alloc: A,
-        frame: &mut Frame<H, A>,
-        registers: &mut Registers<A>,
-    ) -> Result<(), Fault> {
+    fn act(&self, rt: &R, alloc: A, frame: &mut Frame<H, A>, registers: &mut Registers<A>) -> Done {
         let sum = Sum {
             first: self.first,
             second: self.second,
@@ -313,13 +295,7 @@ impl<'k, R: Wait, H: Home<A>, A: Allocator + Copy> Does<R, H, A> for Share<'k, A
 
     ghost why = { λ _ _ _ _. ⊤ };
 
-    fn act(
-        &self,
-        rt: &R,
-        alloc: A,
-        frame: &mut Frame<H, A>,
-        registers: &mut Registers<A>,
-    ) -> Result<(), Fault> {
+    fn act(&self, rt: &R, alloc: A, frame: &mut Frame<H, A>, registers: &mut Registers<A>) -> Done {
         if registers.get(self.value).is_none() {
             return Err(Fault::NoSuchPlace);
         }
@@ -360,7 +336,7 @@ impl<'k, R: Wait, H: Home<A>, A: Allocator + Copy> Does<R, H, A> for GiveGlobal<
         _alloc: A,
         frame: &mut Frame<H, A>,
         registers: &mut Registers<A>,
-    ) -> Result<(), Fault> {
+    ) -> Done {
         let found = given_by_globals(rt, frame, &self.giving)?;
         hold(frame, registers, self.to, found);
         Ok(())

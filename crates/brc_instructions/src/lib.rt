@@ -6,8 +6,8 @@
 //! all are done by `Does::act`, which takes frame and registers from before it to behind it, whatever its answer, at the
 //! same heap; where it leads by its plain meaning each says of itself. Where a container gives a reference, or takes
 //! one, `Giving` and `Taking` say by which call (`specs/Calls.antt`). None answers Busy: each waits while another thread
-//! has the object locked. What `print` prints is a value that it answers (`Shown`); `Lines` makes text of it, worded as
-//! the plain meaning of a section (`specs/Printing.antt`).
+//! has the object locked. What `print` prints is a value that it answers (`Shown`); `add_shown` makes a line of it, worded
+//! as the plain meaning of a section (`specs/Printing.antt`).
 #![tactic(auto)]
 
 mod doing;
@@ -23,7 +23,7 @@ mod shown;
 mod taking;
 
 // what each instruction says, and the registers that it stands on
-pub use doing::Does;
+pub use doing::{Does, Done};
 pub use registers::Registers;
 
 // the instructions, by what they do: make, count, read, give and take, and on the globals
@@ -38,4 +38,4 @@ pub use taking::Taking;
 
 // what one prints
 pub use reading::{Print, Reads};
-pub use shown::{Lines, Shown};
+pub use shown::{Shown, add_shown};

@@ -32,35 +32,9 @@ pub struct Ended<X> {
     pub retired: Retired<Global>,
 }
 
-/// The next thread is registered, does the task, and rests beside the others. None where there is no thread more or no
-/// memory, or, with the thread at rest, where the task failed.
-fn rest_next<'h, T: Task<&'h Heap<A>, A>, A: Allocator + Copy>(
-    rt: &impl Wait,
-    alloc: A,
-    heap: &'h Heap<A>,
-    root: &mut Root<A>,
-    task: &T,
-    before: u64,
-    all: &mut Vec<Resting<A>, A>,
-) -> Option<()>
-    requires root { root.old.table ≡ heap.now.table }
-    requires heap { All (λ resting. resting.heap ≡ heap.now) all.old.items }
-    requires ready { (frame : FrameSeen A) → T.ready task.now frame }
-
-    ensures root { root.new.table ≡ root.old.table }
-    ensures heap { All (λ resting. resting.heap ≡ heap.now) all.new.items }
-    ensures count { IfSome result (λ _. length all.new.items ≡ length all.old.items + 1) }
-{
-    all.reserve(1).ok()?;
-    let mut mutator = root.register(alloc, heap).ok()?;
-    let done = task.run(mutator.frame(), before);
-    mutator.settle(rt);
-    all.push_reserved(mutator.rest());
-    done
-}
-
-/// So many threads more are registered, and rest; each does the task first, after so many threads before it. None where
-/// there is no thread more or no memory, or where the task failed: those that were registered up to then rest here.
+/// So many threads more are registered, and rest beside the others; each does the task first, after so many threads
+/// before it. None where there is no thread more or no memory, or where the task failed: those that were registered up
+/// to then rest here.
 pub fn rest_more<'h, T: Task<&'h Heap<A>, A>, A: Allocator + Copy>(
     rt: &impl Wait,
     alloc: A,
@@ -79,7 +53,12 @@ pub fn rest_more<'h, T: Task<&'h Heap<A>, A>, A: Allocator + Copy>(
     ensures count { IfSome result (λ _. length all.new.items ≡ length all.old.items + count) }
 {
     for before in 0..count {
-        rest_next(rt, alloc, heap, root, task, before, all)?;
+        all.reserve(1).ok()?;
+        let mut mutator = root.register(alloc, heap).ok()?;
+        let done = task.run(mutator.frame(), before);
+        mutator.settle(rt);
+        all.push_reserved(mutator.rest());
+        done?;
     }
     Some(())
 }

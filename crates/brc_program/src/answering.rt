@@ -1,6 +1,10 @@
 //! The program over any streams: what it does for each invocation, its statuses and its error lines.
 
 ghost use Rattle.std.specs.Prelude.{◌≡◌, ◌≤◌, ◌⊎◌, IfOk};
+ghost use Rattle.brc_trace.specs.Explaining.{without_why};
+ghost use Rattle.brc_trace.specs.Replaying.{Replays};
+ghost use Rattle.brc_program.specs.declared.command.Invocation.TheVariants as invocations;
+ghost use Rattle.brc_program.specs.Performing.{Performs, Answers, Ends};
 ghost use Rattle.brc_program.specs.Statuses.{status_of};
 
 use crate::command::{Invocation, read_words};
@@ -31,7 +35,9 @@ const FAULTED: u8 = 4;
 /// A stream failed.
 const STREAM: u8 = 5;
 
-/// Does what the words ask for, and answers the status. Of several statuses the highest counts.
+/// Does what the words ask for, and answers the status. Of several statuses the highest counts. What is written to the
+/// writer, and with which status, is that of what the words ask for (`Performs`); a fault's status is 5 where it can't be
+/// told.
 pub fn program<T: Threads + Wait + Sync, R: Read + Drop, W: Write, E: Write>(
     rt: &T,
     alloc: Global,
@@ -40,7 +46,8 @@ pub fn program<T: Threads + Wait + Sync, R: Read + Drop, W: Write, E: Write>(
     writer: &mut W,
     errors: &mut E,
 ) -> u8
-    ensures { result ≤ 5 }
+    ensures within { result ≤ 5 }
+    ensures came { Ends (R.remaining reader) (W.contents writer.old) (W.contents writer.new) result }
 {
     match answer(rt, alloc, words, reader, writer) {
         Ok(status) => status,
@@ -75,27 +82,21 @@ fn unexplained(fault: Fault) -> Unreplayed
     Unreplayed { fault, why: None }
 }
 
-/// A replay, which may say why it refuses a trace; the status of its world.
-fn replay<R: Read + Drop, W: Write>(
+/// A replay, which may say why it refuses a trace; whether something lives in its world.
+fn replayed<R: Read + Drop, W: Write>(
     alloc: Global,
     explain: bool,
     reader: R,
     writer: &mut W,
-) -> Result<u8, Unreplayed>
-    ensures { IfOk result (λ status. status ≤ 1) }
+) -> Result<bool, Unreplayed>
+    ensures { Replays (R.remaining reader) (W.contents writer.old) (W.contents writer.new) (without_why result) }
 {
-    let replayed = if explain {
-        run_replay_explained(alloc, reader, writer)
-    } else {
-        match run_replay(alloc, reader, writer) {
-            Ok(live) => Ok(live),
-            Err(fault) => Err(unexplained(fault)),
-        }
-    };
-    match replayed {
-        Ok(true) => Ok(SOMETHING_LIVE),
-        Ok(false) => Ok(NOTHING_LIVE),
-        Err(failed) => Err(failed),
+    if explain {
+        return run_replay_explained(alloc, reader, writer);
+    }
+    match run_replay(alloc, reader, writer) {
+        Ok(live) => Ok(live),
+        Err(fault) => Err(unexplained(fault)),
     }
 }
 
@@ -107,13 +108,41 @@ fn run<T: Threads + Wait + Sync, R: Read + Drop, W: Write>(
     reader: R,
     writer: &mut W,
 ) -> Result<u8, Unreplayed>
-    ensures { IfOk result (λ status. status ≤ 4) }
+    ensures within { IfOk result (λ status. status ≤ 4) }
+    ensures performs { Performs (invocations.Run options) (R.remaining reader) (W.contents writer.old)
+        (W.contents writer.new) (without_why result) }
 {
     match run_script(rt, alloc, options, reader, writer, &Open) {
         Ok(ended) if ended.faulted => Ok(FAULTED),
         Ok(ended) if ended.lives => Ok(SOMETHING_LIVE),
         Ok(_ended) => Ok(NOTHING_LIVE),
         Err(fault) => Err(unexplained(fault)),
+    }
+}
+
+/// Does what is asked for; its status, before what was written is flushed.
+fn perform<T: Threads + Wait + Sync, R: Read + Drop, W: Write>(
+    rt: &T,
+    alloc: Global,
+    asked: Invocation,
+    reader: R,
+    writer: &mut W,
+) -> Result<u8, Unreplayed>
+    ensures within { IfOk result (λ status. status ≤ 4) }
+    ensures performs { Performs asked (R.remaining reader) (W.contents writer.old) (W.contents writer.new)
+        (without_why result) }
+{
+    match asked {
+        Invocation::Help(text) => match put_bytes(writer, text.as_bytes()) {
+            Ok(()) => Ok(NOTHING_LIVE),
+            Err(fault) => Err(unexplained(fault)),
+        },
+        Invocation::Replay { explain } => match replayed(alloc, explain, reader, writer) {
+            Ok(true) => Ok(SOMETHING_LIVE),
+            Ok(false) => Ok(NOTHING_LIVE),
+            Err(failed) => Err(failed),
+        },
+        Invocation::Run(options) => run(rt, alloc, options, reader, writer),
     }
 }
 
@@ -125,25 +154,17 @@ fn answer<T: Threads + Wait + Sync, R: Read + Drop, W: Write>(
     reader: R,
     writer: &mut W,
 ) -> Result<u8, Unreplayed>
-    ensures { IfOk result (λ status. status ≤ 4) }
+    ensures within { IfOk result (λ status. status ≤ 4) }
+    ensures answers { Answers (R.remaining reader) (W.contents writer.old) (W.contents writer.new)
+        (without_why result) }
 {
     let asked = match read_words(alloc, words) {
         Ok(asked) => asked,
         Err(fault) => return Err(unexplained(fault)),
     };
-    let status = match asked {
-        Invocation::Help(text) => match put_bytes(writer, text.as_bytes()) {
-            Ok(()) => NOTHING_LIVE,
-            Err(fault) => return Err(unexplained(fault)),
-        },
-        Invocation::Replay { explain } => match replay(alloc, explain, reader, writer) {
-            Ok(status) => status,
-            Err(failed) => return Err(failed),
-        },
-        Invocation::Run(options) => match run(rt, alloc, options, reader, writer) {
-            Ok(status) => status,
-            Err(failed) => return Err(failed),
-        },
+    let status = match perform(rt, alloc, asked, reader, writer) {
+        Ok(status) => status,
+        Err(failed) => return Err(failed),
     };
     match writer.flush() {
         Ok(()) => Ok(status),

@@ -75,8 +75,9 @@ pub(crate) fn end_from(rt: &impl Wait, board: &Board<Global>, number: u32) {
     }
 }
 
-/// Starts a section's thread; where none can be had, this section and those after it count as ended.
-fn start_one<'s, E: 's, R: Threads + Wait + Sync, G: Gate>(
+/// Begins a section: on a thread of its own, if no thread was refused before. Where none can be had now, this section and
+/// those after it count as ended.
+pub(crate) fn begin<'s, E: 's, R: Threads + Wait + Sync, G: Gate>(
     rt: &'s R,
     scope: &Scope<'s, E>,
     alloc: Global,
@@ -91,6 +92,11 @@ fn start_one<'s, E: 's, R: Threads + Wait + Sync, G: Gate>(
     requires ready { IsReady heap.now resting }
     ensures { IsBegun heap.now gate.now (G.may_refuse gate.now) number section.now result }
 {
+    if board.has_ended(rt, number) {
+        return Begun::LeftOut(run_one(
+            rt, alloc, heap, resting, section, number, budget, board, gate,
+        ));
+    }
     let given = Given {
         number,
         heap,
@@ -115,30 +121,4 @@ fn start_one<'s, E: 's, R: Threads + Wait + Sync, G: Gate>(
             Begun::LeftOut((refused.value)())
         }
     }
-}
-
-/// Begins a section: on a thread of its own, if no thread was refused before.
-pub(crate) fn begin<'s, E: 's, R: Threads + Wait + Sync, G: Gate>(
-    rt: &'s R,
-    scope: &Scope<'s, E>,
-    alloc: Global,
-    heap: &'s Heap<Global>,
-    resting: Resting<Global>,
-    section: &'s Section<Global>,
-    number: u32,
-    budget: usize,
-    board: &'s Board<Global>,
-    gate: &'s G,
-) -> Begun<'s, G>
-    requires ready { IsReady heap.now resting }
-    ensures { IsBegun heap.now gate.now (G.may_refuse gate.now) number section.now result }
-{
-    if board.has_ended(rt, number) {
-        return Begun::LeftOut(run_one(
-            rt, alloc, heap, resting, section, number, budget, board, gate,
-        ));
-    }
-    start_one(
-        rt, scope, alloc, heap, resting, section, number, budget, board, gate,
-    )
 }

@@ -263,20 +263,16 @@ busy_told P halt met line is says holds =
 module _ {A : Type 0} where
   -- a section from its first line to its thread's rest: `began` is the frame that its lines began with, `ran` the one
   -- they left
-  pub plainly : (section : Section A) (old began ran new : FrameSeen A) (none lines printed : List ℕ)
+  pub plainly : (section : Section A) (old began ran new : FrameSeen A) (none printed : List ℕ)
       (halt : Option Halt) (met : Option (ℕ × ℕ))
-      → began ≡ old → none ≡ [] → printed ≡ lines
-      → (none ≡ [] → AreOwn (written_out section.pieces) → Ended (ledger_seen began).allocs ran lines
+      → began ≡ old → none ≡ []
+      → (none ≡ [] → AreOwn (written_out section.pieces) → Ended (ledger_seen began).allocs ran printed
       (written_out section.pieces) halt)
       → OwnLog ran.heap.cells ran.seat.log → new.heap ≡ ran.heap → Quietly ran.seat.log new.seat.log → FaultOf halt met
       → is_private section ≡ true → PrintsPlainly section (ledger_seen old).allocs (ledger_seen new).allocs printed met
-  plainly section old began ran new none lines printed halt met same empty is ends own heap quiet told private =
-      let ended : Ended (ledger_seen began).allocs ran lines (written_out section.pieces) halt =
+  plainly section old began ran new none printed halt met same empty ends own heap quiet told private =
+      let ended : Ended (ledger_seen began).allocs ran printed (written_out section.pieces) halt =
       ends empty (own_section section private)
-      in let from : Ended (ledger_seen old).allocs ran lines (written_out section.pieces) halt
-      = subst (λ (f : FrameSeen A). Ended (ledger_seen f).allocs ran lines (written_out section.pieces) halt) same ended
-      in let shown : Ended (ledger_seen old).allocs ran printed (written_out section.pieces) halt
-      = subst (λ (bytes : List ℕ). Ended (ledger_seen old).allocs ran bytes (written_out section.pieces) halt)
-      (sym is) from
       in prints_of section (ledger_seen old).allocs ran (ledger_seen new).allocs printed own
-      (same_allocs ran new heap quiet) halt met told shown
+      (same_allocs ran new heap quiet) halt met told
+      (subst (λ (f : FrameSeen A). Ended (ledger_seen f).allocs ran printed (written_out section.pieces) halt) same ended)

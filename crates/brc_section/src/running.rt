@@ -22,7 +22,7 @@ use crate::stepping::Silent;
 use crate::waiting::Seated;
 use brc_biased::Home;
 use brc_count::Frame;
-use brc_instructions::{Does, Lines, Print, Reads, Registers, Shown};
+use brc_instructions::{Does, Done, Print, Reads, Registers, Shown, add_shown};
 use brc_script::{Instruction, Line, Piece, Register};
 use brc_words::{Fault, Key};
 use std::alloc::Allocator;
@@ -37,11 +37,11 @@ pub(crate) struct Halt {
 
 /// What was shown, as one line more; OutOfMemory where it can't be had. A fault stays a fault.
 #[inline(always)]
-fn note<A: Allocator>(lines: &mut Lines<A>, read: Result<Shown<A>, Fault>) -> Result<(), Fault>
-    ensures { Notes read lines.old lines.new result }
+fn note<A: Allocator>(lines: &mut Vec<u8, A>, read: Result<Shown<A>, Fault>) -> Done
+    ensures { Notes read lines.old.items lines.new.items result }
 {
     match read {
-        Ok(shown) => lines.add(&shown),
+        Ok(shown) => add_shown(lines, &shown),
         Err(fault) => Err(fault),
     }
 }
@@ -53,18 +53,18 @@ fn print_line<R: Wait, H: Home<A>, A: Allocator + Copy>(
     alloc: A,
     frame: &mut Frame<H, A>,
     registers: &mut Registers<A>,
-    lines: &mut Lines<A>,
+    lines: &mut Vec<u8, A>,
     from: Register,
     seated: &Seated<'_, A>,
-) -> Result<(), Fault>
+) -> Done
     requires stands { Stands frame.old registers.old }
     ensures stands { Stands frame.new registers.new }
     ensures heap { frame.new.heap ≡ frame.old.heap }
     ensures waits { IfErr result (λ fault. fault ≢ faults.Busy) }
     ensures later { IsLater frame.old.seat.log frame.new.seat.log }
     ensures caused { IfErr result (Caused frame.old frame.new) }
-    ensures follows { (base : ℕ) (s : state A) → At base frame.old registers.old lines.old s
-        → Did base frame.new registers.new lines.new s (after (does.Print from) s) result }
+    ensures follows { (base : ℕ) (s : state A) → At base frame.old registers.old lines.old.items s
+        → Did base frame.new registers.new lines.new.items s (after (does.Print from) s) result }
 {
     let shown = Print { from }.read(rt, alloc, frame, registers);
     let _told = frame.poll();
@@ -83,11 +83,11 @@ fn do_line<R: Wait, H: Home<A>, A: Allocator + Copy>(
     alloc: A,
     frame: &mut Frame<H, A>,
     registers: &mut Registers<A>,
-    lines: &mut Lines<A>,
+    lines: &mut Vec<u8, A>,
     line: &Line<A>,
     key: Option<&Key<A>>,
     seated: &Seated<'_, A>,
-) -> Result<(), Fault>
+) -> Done
     requires stands { Stands frame.old registers.old }
     ensures stands { Stands frame.new registers.new }
     ensures heap { frame.new.heap ≡ frame.old.heap }
@@ -95,8 +95,8 @@ fn do_line<R: Wait, H: Home<A>, A: Allocator + Copy>(
     ensures later { IsLater frame.old.seat.log frame.new.seat.log }
     ensures caused { is_shared line.now.instruction ≡ false → IfErr result (Caused frame.old frame.new) }
     ensures follows { (base : ℕ) (s : state A) → is_shared line.now.instruction ≡ false
-        → At base frame.old registers.old lines.old s
-        → Did base frame.new registers.new lines.new s (after line.now.instruction s) result }
+        → At base frame.old registers.old lines.old.items s
+        → Did base frame.new registers.new lines.new.items s (after line.now.instruction s) result }
 {
     let instruction = line.instruction();
     if let Instruction::Print { from } = instruction {
@@ -125,7 +125,7 @@ fn run_line<R: Wait, G: Gate, H: Home<A>, A: Allocator + Copy>(
     alloc: A,
     frame: &mut Frame<H, A>,
     registers: &mut Registers<A>,
-    lines: &mut Lines<A>,
+    lines: &mut Vec<u8, A>,
     line: &Line<A>,
     key: Option<&Key<A>>,
     seated: &Seated<'_, A>,
@@ -136,7 +136,8 @@ fn run_line<R: Wait, G: Gate, H: Home<A>, A: Allocator + Copy>(
     ensures heap { frame.new.heap ≡ frame.old.heap }
     ensures line { IfErr result (λ halt. line.now.number ≡ halt.line) }
     ensures busy { IfErr result (λ halt. halt.fault ≡ faults.Busy → G.may_refuse gate.now seated.now.number halt.line) }
-    ensures runs { RunsOn frame.old registers.old lines.old frame.new registers.new lines.new (line.now ∷ []) result }
+    ensures runs { RunsOn frame.old registers.old lines.old.items frame.new registers.new lines.new.items
+        (line.now ∷ []) result }
     ensures wants { AreOwn (line.now ∷ []) → HaltsForCause frame.old frame.new result }
 {
     let number = line.number();
@@ -156,13 +157,12 @@ fn run_line<R: Wait, G: Gate, H: Home<A>, A: Allocator + Copy>(
 }
 
 /// These lines in order, up to the first fault.
-#[tactic(auto, using(crate::proofs::Lines::line_at))]
 fn run_lines<R: Wait, G: Gate, H: Home<A>, A: Allocator + Copy>(
     rt: &R,
     alloc: A,
     frame: &mut Frame<H, A>,
     registers: &mut Registers<A>,
-    lines: &mut Lines<A>,
+    lines: &mut Vec<u8, A>,
     body: &[Line<A>],
     keys: &[Option<Key<A>>],
     seated: &Seated<'_, A>,
@@ -173,7 +173,7 @@ fn run_lines<R: Wait, G: Gate, H: Home<A>, A: Allocator + Copy>(
     ensures heap { frame.new.heap ≡ frame.old.heap }
     ensures line { IfErr result (λ halt. IsLineIn halt.line body.now) }
     ensures busy { IfErr result (λ halt. halt.fault ≡ faults.Busy → G.may_refuse gate.now seated.now.number halt.line) }
-    ensures runs { RunsOn frame.old registers.old lines.old frame.new registers.new lines.new (body.now) result }
+    ensures runs { RunsOn frame.old registers.old lines.old.items frame.new registers.new lines.new.items body.now result }
     ensures wants { AreOwn body.now → HaltsForCause frame.old frame.new result }
 {
     for (at, line) in body.iter().enumerate() {
@@ -192,7 +192,7 @@ fn run_times<R: Wait, G: Gate, H: Home<A>, A: Allocator + Copy>(
     alloc: A,
     frame: &mut Frame<H, A>,
     registers: &mut Registers<A>,
-    lines: &mut Lines<A>,
+    lines: &mut Vec<u8, A>,
     times: u32,
     body: &[Line<A>],
     keys: &[Option<Key<A>>],
@@ -204,7 +204,7 @@ fn run_times<R: Wait, G: Gate, H: Home<A>, A: Allocator + Copy>(
     ensures heap { frame.new.heap ≡ frame.old.heap }
     ensures line { IfErr result (λ halt. IsLineIn halt.line body.now) }
     ensures busy { IfErr result (λ halt. halt.fault ≡ faults.Busy → G.may_refuse gate.now seated.now.number halt.line) }
-    ensures runs { RunsOn frame.old registers.old lines.old frame.new registers.new lines.new
+    ensures runs { RunsOn frame.old registers.old lines.old.items frame.new registers.new lines.new.items
         (repeat times body.now) result }
     ensures wants { AreOwn (repeat times body.now) → HaltsForCause frame.old frame.new result }
 {
@@ -224,7 +224,7 @@ fn run_piece<R: Wait, G: Gate, H: Home<A>, A: Allocator + Copy>(
     alloc: A,
     frame: &mut Frame<H, A>,
     registers: &mut Registers<A>,
-    lines: &mut Lines<A>,
+    lines: &mut Vec<u8, A>,
     piece: &Piece<A>,
     keys: &[Option<Key<A>>],
     seated: &Seated<'_, A>,
@@ -235,7 +235,7 @@ fn run_piece<R: Wait, G: Gate, H: Home<A>, A: Allocator + Copy>(
     ensures heap { frame.new.heap ≡ frame.old.heap }
     ensures line { IfErr result (λ halt. IsLineOf halt.line (piece.now ∷ [])) }
     ensures busy { IfErr result (λ halt. halt.fault ≡ faults.Busy → G.may_refuse gate.now seated.now.number halt.line) }
-    ensures runs { RunsOn frame.old registers.old lines.old frame.new registers.new lines.new
+    ensures runs { RunsOn frame.old registers.old lines.old.items frame.new registers.new lines.new.items
         (written_out (piece.now ∷ [])) result }
     ensures wants { AreOwn (written_out (piece.now ∷ [])) → HaltsForCause frame.old frame.new result }
 {
@@ -266,7 +266,7 @@ pub(crate) fn run_pieces<R: Wait, G: Gate, H: Home<A>, A: Allocator + Copy>(
     alloc: A,
     frame: &mut Frame<H, A>,
     registers: &mut Registers<A>,
-    lines: &mut Lines<A>,
+    lines: &mut Vec<u8, A>,
     pieces: &[Piece<A>],
     names: &Names<A>,
     seated: &Seated<'_, A>,
@@ -277,7 +277,7 @@ pub(crate) fn run_pieces<R: Wait, G: Gate, H: Home<A>, A: Allocator + Copy>(
     ensures heap { frame.new.heap ≡ frame.old.heap }
     ensures line { IfErr result (λ halt. IsLineOf halt.line pieces.now) }
     ensures busy { IfErr result (λ halt. halt.fault ≡ faults.Busy → G.may_refuse gate.now seated.now.number halt.line) }
-    ensures runs { RunsOn frame.old registers.old lines.old frame.new registers.new lines.new
+    ensures runs { RunsOn frame.old registers.old lines.old.items frame.new registers.new lines.new.items
         (written_out pieces.now) result }
     ensures wants { AreOwn (written_out pieces.now) → HaltsForCause frame.old frame.new result }
 {

@@ -20,7 +20,7 @@ use crate::running::{Halt, run_pieces};
 use crate::waiting::Seated;
 use brc_biased::Home;
 use brc_count::Frame;
-use brc_instructions::{Lines, Registers};
+use brc_instructions::Registers;
 use brc_script::{Piece, Section};
 use brc_thread::Mutator;
 use brc_words::Fault;
@@ -91,7 +91,7 @@ fn run_over<R: Wait, G: Gate, H: Home<A>, A: Allocator + Copy>(
     rt: &R,
     alloc: A,
     frame: &mut Frame<H, A>,
-    lines: &mut Lines<A>,
+    lines: &mut Vec<u8, A>,
     section: &Section<A>,
     seated: &Seated<'_, A>,
     gate: &G,
@@ -104,8 +104,8 @@ fn run_over<R: Wait, G: Gate, H: Home<A>, A: Allocator + Copy>(
     ensures line { IfSome result (λ halt. IsLineOf halt.line section.now.pieces) }
     ensures busy { IfSome result (λ halt. halt.fault ≡ faults.Busy
         → G.may_refuse gate.now seated.now.number halt.line) }
-    ensures ended { lines.old ≡ [] → AreOwn (written_out section.now.pieces) →
-        Ended (ledger_seen frame.old).allocs frame.new lines.new (written_out section.now.pieces) result }
+    ensures ended { lines.old.items ≡ [] → AreOwn (written_out section.now.pieces) →
+        Ended (ledger_seen frame.old).allocs frame.new lines.new.items (written_out section.now.pieces) result }
     ensures wanted { AreOwn (written_out section.now.pieces)
         → IfSome result (λ halt. CauseLeft frame.old frame.new halt.fault) }
 {
@@ -177,7 +177,7 @@ pub fn run_section<R: Wait, G: Gate, H: Home<A>, A: Allocator + Copy>(
         → result.fault ≡ Some (number_of faults.LedgerFull, line)
         → MOST_BIRTHS ≤ (ledger_seen mutator.new).allocs }
 {
-    let mut lines = Lines::none(alloc);
+    let mut lines = Vec::new(alloc);
     let seated = Seated {
         board,
         number,
@@ -195,7 +195,7 @@ pub fn run_section<R: Wait, G: Gate, H: Home<A>, A: Allocator + Copy>(
     board.end(rt, number);
     mutator.settle(rt);
     SectionEnd {
-        lines: lines.into_bytes(),
+        lines,
         fault: fault_of(halt),
     }
 }

@@ -13,11 +13,11 @@ use crate::waiting::{Await, Awaited, Look, Seated};
 use brc_biased::Home;
 use brc_count::Frame;
 use brc_instructions::{
-    Add, CopyHeld, Does, DropHeld, Empty, Give, GiveGlobal, Giving, Len, MakeEmpty, MakeInt,
+    Add, CopyHeld, Does, Done, DropHeld, Empty, Give, GiveGlobal, Giving, Len, MakeEmpty, MakeInt,
     MakeText, Print, Reads, Registers, Share, Shown, Take, Taking,
 };
 use brc_script::{Instruction, Register};
-use brc_words::{Fault, Key, Text};
+use brc_words::{Key, Text};
 use std::alloc::Allocator;
 use std::sync::Wait;
 
@@ -42,13 +42,7 @@ impl<'i, R: Wait, H: Home<A>, A: Allocator + Copy> Does<R, H, A> for UnderKey<'i
 
     ghost why = { λ _ _ _ _. ⊤ };
 
-    fn act(
-        &self,
-        rt: &R,
-        alloc: A,
-        frame: &mut Frame<H, A>,
-        registers: &mut Registers<A>,
-    ) -> Result<(), Fault> {
+    fn act(&self, rt: &R, alloc: A, frame: &mut Frame<H, A>, registers: &mut Registers<A>) -> Done {
         match self.shared {
             Shared::Share { value } => {
                 let name = self.key;
@@ -81,7 +75,7 @@ fn under_name<R: Wait, H: Home<A>, A: Allocator + Copy>(
     name: &Text<A>,
     key: Option<&Key<A>>,
     seated: &Seated<'_, A>,
-) -> Result<(), Fault>
+) -> Done
     requires stands { Stands frame.old registers.old }
     ensures stands { Stands frame.new registers.new }
     ensures heap { frame.new.heap ≡ frame.old.heap }
@@ -111,11 +105,7 @@ fn under_name<R: Wait, H: Home<A>, A: Allocator + Copy>(
 
 /// Others may wait for what the instruction has changed.
 #[inline(always)]
-fn stirs<R: Wait, A: Allocator>(
-    rt: &R,
-    done: Result<(), Fault>,
-    seated: &Seated<'_, A>,
-) -> Result<(), Fault>
+fn stirs<R: Wait, A: Allocator>(rt: &R, done: Done, seated: &Seated<'_, A>) -> Done
     ensures { result ≡ done }
 {
     if done.is_ok() {
@@ -138,13 +128,7 @@ impl<'i, R: Wait, H: Home<A>, A: Allocator + Copy> Does<R, H, A> for Silent<'i, 
     ghost why = { λ it. WantsOfOwn it.instruction.now };
 
     #[inline(always)]
-    fn act(
-        &self,
-        rt: &R,
-        alloc: A,
-        frame: &mut Frame<H, A>,
-        registers: &mut Registers<A>,
-    ) -> Result<(), Fault> {
+    fn act(&self, rt: &R, alloc: A, frame: &mut Frame<H, A>, registers: &mut Registers<A>) -> Done {
         // (An answer has a name where it comes from a call that isn't inlined. So no call writes into what this answers,
         // which can stay in registers where nothing is called.)
         let (key, seated) = (self.key, self.seated);

@@ -6,7 +6,7 @@ ghost use Rattle.brc_section.specs.Waiting.{FollowsLetter, FoundNothing, WantsFo
 use crate::board::Board;
 use brc_biased::Home;
 use brc_count::Frame;
-use brc_instructions::{Does, Give, GiveGlobal, Giving, Registers};
+use brc_instructions::{Does, Done, Give, GiveGlobal, Giving, Registers};
 use brc_script::Register;
 use brc_words::{Fault, Key};
 use std::alloc::Allocator;
@@ -39,13 +39,7 @@ impl<'k, R: Wait, H: Home<A>, A: Allocator + Copy> Does<R, H, A> for Look<'k, A>
 
     ghost why = { λ it. WantsForLetter it.awaited };
 
-    fn act(
-        &self,
-        rt: &R,
-        alloc: A,
-        frame: &mut Frame<H, A>,
-        registers: &mut Registers<A>,
-    ) -> Result<(), Fault> {
+    fn act(&self, rt: &R, alloc: A, frame: &mut Frame<H, A>, registers: &mut Registers<A>) -> Done {
         match &self.awaited {
             Awaited::Name(name) => {
                 let give = GiveGlobal {
@@ -67,7 +61,7 @@ impl<'k, R: Wait, H: Home<A>, A: Allocator + Copy> Does<R, H, A> for Look<'k, A>
 }
 
 /// Whether the try found nothing, so that another may find something.
-fn is_nothing(tried: &Result<(), Fault>) -> bool
+fn is_nothing(tried: &Done) -> bool
     ensures { IsTrue result → FoundNothing tried.now }
 {
     matches!(tried, Err(Fault::NoSuchKey | Fault::NoSuchPlace))
@@ -86,13 +80,7 @@ impl<'w, R: Wait, H: Home<A>, A: Allocator + Copy> Does<R, H, A> for LookAgain<'
 
     ghost why = { λ it. WantsForLetter it.look.now.awaited };
 
-    fn act(
-        &self,
-        rt: &R,
-        alloc: A,
-        frame: &mut Frame<H, A>,
-        registers: &mut Registers<A>,
-    ) -> Result<(), Fault> {
+    fn act(&self, rt: &R, alloc: A, frame: &mut Frame<H, A>, registers: &mut Registers<A>) -> Done {
         let seated = self.seated;
         for _ in rt.forever() {
             let _told = frame.poll();
@@ -124,13 +112,7 @@ impl<'w, R: Wait, H: Home<A>, A: Allocator + Copy> Does<R, H, A> for Await<'w, A
     ghost why = { λ it. WantsForLetter it.look.awaited };
 
     #[inline(always)]
-    fn act(
-        &self,
-        rt: &R,
-        alloc: A,
-        frame: &mut Frame<H, A>,
-        registers: &mut Registers<A>,
-    ) -> Result<(), Fault> {
+    fn act(&self, rt: &R, alloc: A, frame: &mut Frame<H, A>, registers: &mut Registers<A>) -> Done {
         // An empty register is no mailbox without letters: nobody can change that.
         if let Awaited::Letter(mailbox) = &self.look.awaited {
             if registers.get(*mailbox).is_none() {

@@ -52,9 +52,9 @@ Explains bytes (Some (whys.Bad line cause)) = (trace_at bytes ≡ Err line) × I
 Explains bytes (Some (whys.Refused told)) = ExplainsTrace bytes (Some told)
 Explains bytes None = ExplainsTrace bytes None
 
--- what a replay answers, without why
-abbrev pub without_why : Result Bool Unreplayed → Result Bool Fault
-without_why (Ok live) = Ok live
+-- what is answered, without why
+abbrev pub without_why : {T : Type 0} → Result T Unreplayed → Result T Fault
+without_why (Ok found) = Ok found
 without_why (Err told) = Err told.fault
 
 -- the fault that a replay answers for this reason

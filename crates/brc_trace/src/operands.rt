@@ -1,6 +1,6 @@
 //! The operands of a line: numbers in their ranges, kinds, sources, drops and changes, read and written.
 
-ghost use Rattle.std.specs.Prelude.{◌≡◌};
+ghost use Rattle.std.specs.Prelude.{◌≡◌, nat_lt};
 ghost use Rattle.brc_trace.specs.Operands.{is_thread as thread_fits, is_cell, is_place, is_entry, is_queue_word};
 ghost use Rattle.brc_trace.specs.Operands.{number_at, kind_named, kind_at, kind_word, source_at};
 ghost use Rattle.brc_trace.specs.Operands.{source_token as source_written, dropped_at};
@@ -32,44 +32,42 @@ pub(crate) fn thread_of(word: Token) -> Option<u32>
     }
 }
 
+/// The number, where it is one below this.
+fn below(word: Token, most: u32) -> Option<u32>
+    ensures { result ≡ number_at (λ number. nat_lt number most) word }
+{
+    match word {
+        Token::Number(number) if number < most as u64 => Some(number as u32),
+        _ => None,
+    }
+}
+
 /// The number of a cell.
 pub(crate) fn cell_of(word: Token) -> Option<u32>
     ensures { result ≡ number_at is_cell word }
 {
-    match word {
-        Token::Number(number) if number < MOST_CELLS as u64 => Some(number as u32),
-        _ => None,
-    }
+    below(word, MOST_CELLS)
 }
 
 /// The number of a place of a frame.
 pub(crate) fn place_of(word: Token) -> Option<u32>
     ensures { result ≡ number_at is_place word }
 {
-    match word {
-        Token::Number(number) if number < MOST_PLACES as u64 => Some(number as u32),
-        _ => None,
-    }
+    below(word, MOST_PLACES)
 }
 
 /// The index of an entry.
 fn entry_of(word: Token) -> Option<u32>
     ensures { result ≡ number_at is_entry word }
 {
-    match word {
-        Token::Number(number) if number < MOST_ENTRIES as u64 => Some(number as u32),
-        _ => None,
-    }
+    below(word, MOST_ENTRIES)
 }
 
 /// The number of a word of a merge queue.
 pub(crate) fn queue_word_of(word: Token) -> Option<u32>
     ensures { result ≡ number_at is_queue_word word }
 {
-    match word {
-        Token::Number(number) if number < MOST_QUEUE_WORDS as u64 => Some(number as u32),
-        _ => None,
-    }
+    below(word, MOST_QUEUE_WORDS)
 }
 
 fn kind_named(word: Keyword) -> Option<Kind>

@@ -11,7 +11,7 @@ use Rattle.brc_section.proofs.running.do_line.Goals as goal
 pub returns-in-Print-clause-follows : goal.returns-in-Print-clause-follows
 returns-in-Print-clause-follows g c = λ base s own here.
     subst (λ (i : Instruction g.row.A.Denot). Did base c.print_line.new.frame c.print_line.new.registers
-    c.print_line.new.lines s (after i s) c.print_line.result)
+    c.print_line.new.lines.items s (after i s) c.print_line.result)
     (sym c.in-Print.is ∙ c.instruction-instruction.ensures.is) (c.print_line.ensures.follows base s here)
 
 pub returns-in-Err-clause-follows : goal.returns-in-Err-clause-follows
@@ -19,9 +19,9 @@ returns-in-Err-clause-follows g c = λ base s own here.
     let done = c.act-done in
     let line : is_shared c.instruction-instruction.result.now ≡ false = ap is_shared c.instruction-instruction.ensures.is ∙ own
     in subst (λ (i : Instruction g.row.A.Denot). Did base c.poll-told.new.self done.new.registers
-    c.args.lines.now s (after i s) (Err c.in-Err.fault)) c.instruction-instruction.ensures.is
+    c.args.lines.now.items s (after i s) (Err c.in-Err.fault)) c.instruction-instruction.ensures.is
     (silent_refused base c.args.frame.now done.new.frame c.poll-told.new.self c.args.registers.now
-    done.new.registers c.args.lines.now s here done.ensures.heap done.ensures.later
+    done.new.registers c.args.lines.now.items s here done.ensures.heap done.ensures.later
     c.poll-told.ensures.own c.poll-told.result c.poll-told.ensures.polled c.poll-told.ensures.handles
     c.instruction-instruction.result.now c.in-Err.fault
     (c.in-Err.ensures.follows line c.instruction-instruction.ensures.differ
@@ -33,9 +33,9 @@ returns-clause-follows g c = λ base s own here.
     let line : is_shared c.instruction-instruction.result.now ≡ false = ap is_shared c.instruction-instruction.ensures.is ∙ own
     in let silent = silent_of c.instruction-instruction.result.now c.in_default.not-Print
     in subst (λ (i : Instruction g.row.A.Denot). Did base c.work-left.new.self done.new.registers
-    c.args.lines.now s (after i s) (Ok tt)) c.instruction-instruction.ensures.is
+    c.args.lines.now.items s (after i s) (Ok tt)) c.instruction-instruction.ensures.is
     (silent_done base c.args.frame.now done.new.frame c.poll-told.new.self c.args.registers.now
-    done.new.registers c.args.lines.now s here done.ensures.heap done.ensures.later
+    done.new.registers c.args.lines.now.items s here done.ensures.heap done.ensures.later
     c.poll-told.ensures.own c.poll-told.result c.poll-told.ensures.polled c.poll-told.ensures.handles
     c.instruction-instruction.result.now c.work-left.new.self _ silent
     (c.in-Ok.ensures.follows line c.instruction-instruction.ensures.differ silent)

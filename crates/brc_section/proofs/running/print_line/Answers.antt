@@ -8,19 +8,19 @@ pub returns-in-Err-clause-follows : goal.returns-in-Err-clause-follows
 returns-in-Err-clause-follows g c = λ base s here.
     let read = c.read-shown in
     print_refused base c.args.frame.now read.new.frame c.poll-told.new.self c.args.registers.now
-    c.args.lines.now c.note.new.lines s c.args.from here read.ensures.heap read.ensures.later
+    c.args.lines.now.items c.note.new.lines.items s c.args.from here read.ensures.heap read.ensures.later
     c.poll-told.ensures.own c.poll-told.result c.poll-told.ensures.polled c.poll-told.ensures.handles read.result
     c.in-Err.fault read.ensures.finds
-    (subst (Notes read.result c.args.lines.now c.note.new.lines) c.in-Err.is c.note.ensures)
+    (subst (Notes read.result c.args.lines.now.items c.note.new.lines.items) c.in-Err.is c.note.ensures)
 
 pub returns-clause-follows : goal.returns-clause-follows
 returns-clause-follows g c = λ base s here.
     let read = c.read-shown in
     print_done base c.args.frame.now read.new.frame c.poll-told.new.self c.args.registers.now
-    c.args.lines.now c.note.new.lines s c.args.from here read.ensures.heap read.ensures.later
+    c.args.lines.now.items c.note.new.lines.items s c.args.from here read.ensures.heap read.ensures.later
     c.poll-told.ensures.own c.poll-told.result c.poll-told.ensures.polled c.poll-told.ensures.handles read.result
     c.work-left.new.self _ read.ensures.finds
-    (subst (Notes read.result c.args.lines.now c.note.new.lines) c.in-Ok.is c.note.ensures)
+    (subst (Notes read.result c.args.lines.now.items c.note.new.lines.items) c.in-Ok.is c.note.ensures)
     c.work-left.ensures.turns c.work-left.ensures.handles
 
 pub returns-in-Err-clause-later : goal.returns-in-Err-clause-later
@@ -36,6 +36,6 @@ returns-clause-later g c =
 
 pub returns-in-Err-clause-caused : goal.returns-in-Err-clause-caused
 returns-in-Err-clause-caused g c =
-    caused_noted c.args.frame.now c.poll-told.new.self c.args.lines.now c.note.new.lines c.read-shown.result
+    caused_noted c.args.frame.now c.poll-told.new.self c.args.lines.now.items c.note.new.lines.items c.read-shown.result
     c.in-Err.fault c.read-shown.ensures.room
-    (subst (Notes c.read-shown.result c.args.lines.now c.note.new.lines) c.in-Err.is c.note.ensures)
+    (subst (Notes c.read-shown.result c.args.lines.now.items c.note.new.lines.items) c.in-Err.is c.note.ensures)

@@ -8,8 +8,8 @@ use Rattle.brc_section.proofs.running.run_line.Goals as goal
 
 pub returns-then-not-at-clause-runs : goal.returns-then-not-at-clause-runs
 returns-then-not-at-clause-runs g c =
-    subst (λ n. RunsOn c.args.frame.now c.args.registers.now c.args.lines.now c.args.frame.now c.args.registers.now
-    c.args.lines.now (c.args.line.now ∷ [])
+    subst (λ n. RunsOn c.args.frame.now c.args.registers.now c.args.lines.now.items c.args.frame.now c.args.registers.now
+    c.args.lines.now.items (c.args.line.now ∷ [])
     (Err (record { fault = faults.Busy; line = n })))
     (sym c.number-number.ensures) (gate_stops c.args.line.now)
 
@@ -18,8 +18,8 @@ returns-in-Ok-clause-runs g c = line_runs c.args.line.now c.in-Ok.ensures.follow
 
 pub returns-in-Err-clause-runs : goal.returns-in-Err-clause-runs
 returns-in-Err-clause-runs g c =
-    subst (λ n. RunsOn c.args.frame.now c.args.registers.now c.args.lines.now c.do_line.new.frame
-    c.do_line.new.registers c.do_line.new.lines (c.args.line.now ∷ [])
+    subst (λ n. RunsOn c.args.frame.now c.args.registers.now c.args.lines.now.items c.do_line.new.frame
+    c.do_line.new.registers c.do_line.new.lines.items (c.args.line.now ∷ [])
     (Err (record { fault = c.in-Err.fault; line = n })))
     (sym c.number-number.ensures)
     (line_stops c.args.line.now c.in-Err.fault c.in-Err.ensures.waits c.in-Err.ensures.follows)

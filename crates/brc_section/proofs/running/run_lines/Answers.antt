@@ -1,7 +1,12 @@
 use Rattle.std.proofs.Common.{◌∙◌}
+use Rattle.brc_section.proofs.Lines.{line_at}
 use Rattle.brc_section.proofs.Runs.{lines_next, lines_stop, lines_end, line_own}
 use Rattle.brc_section.proofs.Wants_Of.{goes_one, goes_next, halts_next}
 use Rattle.brc_section.proofs.running.run_lines.Goals as goal
+
+pub returns-in-Err-clause-line : goal.returns-in-Err-clause-line
+returns-in-Err-clause-line g c = line_at c.args.body.now c.loop-at.at c.index-body-at.result c.in-Err.halt.line
+    c.loop-at-test.true c.index-body-at.is c.in-Err.ensures.line
 
 pub returns-in-Err-clause-runs : goal.returns-in-Err-clause-runs
 returns-in-Err-clause-runs g c = lines_stop c.args.body.now c.loop-at.at c.index-body-at.result c.loop-at-test.true

@@ -15,7 +15,7 @@ returns-in-Repeat-clause-runs g c =
     ∙ repeat_alone c.in-Repeat.times c.in-Repeat.body
     ∙ ap (λ (p : Piece g.row.A.Denot). written_out (p ∷ [])) (sym c.in-Repeat.is)
     in subst (λ (lines : List (NumberedLine g.row.A.Denot)). RunsOn c.args.frame.now c.args.registers.now
-    c.args.lines.now c.run_times.new.frame c.run_times.new.registers c.run_times.new.lines lines c.run_times.result)
+    c.args.lines.now.items c.run_times.new.frame c.run_times.new.registers c.run_times.new.lines.items lines c.run_times.result)
     whole c.run_times.ensures.runs
 
 pub returns-in-Repeat-clause-wants : goal.returns-in-Repeat-clause-wants

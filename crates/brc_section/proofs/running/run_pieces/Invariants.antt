@@ -8,6 +8,6 @@ use Rattle.brc_section.proofs.running.run_pieces.Given as goal
 abbrev pub invariant-loop-at : goal.invariant-loop-at
 invariant-loop-at g l =
     (l.frame.heap ≡ l.fn.frame.heap) × Stands l.frame l.registers
-    × HasRun l.fn.frame l.fn.registers l.fn.lines l.frame l.registers l.lines (written_out l.pieces)
+    × HasRun l.fn.frame l.fn.registers l.fn.lines.items l.frame l.registers l.lines.items (written_out l.pieces)
     (written_out (take l.at l.pieces))
     × (AreOwn (written_out l.pieces) → IsLater l.fn.frame.seat.log l.frame.seat.log)

@@ -10,33 +10,33 @@ use Rattle.brc_section.proofs.Wants_Of.{left_of, left_memory}
 use Rattle.brc_section.proofs.section.run_over.Goals as goal
 
 pub returns-in_default-clause-ended : goal.returns-in_default-clause-ended
-returns-in_default-clause-ended g c = λ none own. ended_without c.args.frame.now c.args.lines.now
+returns-in_default-clause-ended g c = λ none own. ended_without c.args.frame.now c.args.lines.now.items
     (written_out c.args.section.now.pieces) none
     (subst (λ (pieces : List (Piece g.row.A.Denot)). written_out pieces ≡ []) c.as_slice-pieces.ensures
     c.in_default.ensures.none)
 
 pub returns-in-Err-clause-ended : goal.returns-in-Err-clause-ended
 returns-in-Err-clause-ended g c = λ none own. ended_first (ledger_seen c.args.frame.now).allocs c.args.frame.now
-    c.args.lines.now
+    c.args.lines.now.items
     (written_out c.args.section.now.pieces) (record { fault = c.in-Err.fault; line = c.in-Some.first }) none
     (ap is_machines c.in-Err.ensures.refused)
 
 pub returns-clause-ended : goal.returns-clause-ended
 returns-clause-ended g c = λ none own.
-    let runs : RunsOn c.args.frame.now c.in-Ok.registers c.args.lines.now c.run_pieces-ran.new.frame
-    c.run_pieces-ran.new.registers c.run_pieces-ran.new.lines
+    let runs : RunsOn c.args.frame.now c.in-Ok.registers c.args.lines.now.items c.run_pieces-ran.new.frame
+    c.run_pieces-ran.new.registers c.run_pieces-ran.new.lines.items
     (written_out c.args.section.now.pieces) c.run_pieces-ran.result
-    = subst (λ (pieces : List (Piece g.row.A.Denot)). RunsOn c.args.frame.now c.in-Ok.registers c.args.lines.now
+    = subst (λ (pieces : List (Piece g.row.A.Denot)). RunsOn c.args.frame.now c.in-Ok.registers c.args.lines.now.items
     c.run_pieces-ran.new.frame
-    c.run_pieces-ran.new.registers c.run_pieces-ran.new.lines (written_out pieces) c.run_pieces-ran.result)
+    c.run_pieces-ran.new.registers c.run_pieces-ran.new.lines.items (written_out pieces) c.run_pieces-ran.result)
     c.as_slice-pieces.ensures c.run_pieces-ran.ensures.runs
     in ended_of (ledger_seen c.args.frame.now).allocs c.run_pieces-ran.new.frame c.release_all.new.frame
     c.run_pieces-ran.new.registers
-    c.run_pieces-ran.new.lines (written_out c.args.section.now.pieces) c.run_pieces-ran.result c.halt_of.result
+    c.run_pieces-ran.new.lines.items (written_out c.args.section.now.pieces) c.run_pieces-ran.result c.halt_of.result
     c.halt_of.ensures
     c.release_all.ensures.heap c.release_all.ensures.quiet
     (runs (ledger_seen c.args.frame.now).allocs start own
-    (begins_at c.args.frame.now c.in-Ok.registers c.args.lines.now c.in-Ok.ensures.bare c.in-Ok.ensures.size none))
+    (begins_at c.args.frame.now c.in-Ok.registers c.args.lines.now.items c.in-Ok.ensures.bare c.in-Ok.ensures.size none))
 
 pub returns-in-Err-clause-wanted : goal.returns-in-Err-clause-wanted
 returns-in-Err-clause-wanted g c own = left_memory c.args.frame.now c.args.frame.now c.in-Err.fault

@@ -15,15 +15,15 @@ returns-clause-busy g c = λ line is. busy_told (g.G.Gate.may_refuse c.args.gate
 pub returns-clause-prints : goal.returns-clause-prints
 returns-clause-prints g c = λ private.
     (plainly c.args.section.now c.args.mutator.now c.frame.result.now c.run_over-halt.new.frame c.settle.new.self
-    c.none-lines.result c.run_over-halt.new.lines c.into_bytes.result.items c.run_over-halt.result c.fault_of.result
-    c.frame.ensures.frame c.none-lines.ensures c.into_bytes.ensures c.run_over-halt.ensures.ended c.settle.ensures.own
+    c.new-lines.result.items c.run_over-halt.new.lines.items c.run_over-halt.result c.fault_of.result
+    c.frame.ensures.frame c.new-lines.ensures.items c.run_over-halt.ensures.ended c.settle.ensures.own
     c.settle.ensures.handles.heap c.settle.ensures.quiet c.fault_of.ensures private).prints
 
 pub returns-clause-births : goal.returns-clause-births
 returns-clause-births g c = λ private.
     (plainly c.args.section.now c.args.mutator.now c.frame.result.now c.run_over-halt.new.frame c.settle.new.self
-    c.none-lines.result c.run_over-halt.new.lines c.into_bytes.result.items c.run_over-halt.result c.fault_of.result
-    c.frame.ensures.frame c.none-lines.ensures c.into_bytes.ensures c.run_over-halt.ensures.ended c.settle.ensures.own
+    c.new-lines.result.items c.run_over-halt.new.lines.items c.run_over-halt.result c.fault_of.result
+    c.frame.ensures.frame c.new-lines.ensures.items c.run_over-halt.ensures.ended c.settle.ensures.own
     c.settle.ensures.handles.heap c.settle.ensures.quiet c.fault_of.ensures private).births
 
 pub returns-clause-heap_full : goal.returns-clause-heap_full

@@ -7,8 +7,8 @@ use mir.Syntax.{named}
 use Rattle.std.proofs.Crossing.{send as global_send}
 use Rattle.brc_thread.proofs.Sent.{resting_send, heap_sync}
 use Rattle.brc_run.proofs.Sent.{board_sync, section_sync, done_send}
-use Rattle.brc_run.proofs.starting.start_one.Lts.{of-22}
-use Rattle.brc_run.proofs.starting.start_one.Goals as goal
+use Rattle.brc_run.proofs.starting.begin.Lts.{of-22}
+use Rattle.brc_run.proofs.starting.begin.Goals as goal
 
 pub spawn_with-started-requires-send-F : goal.spawn_with-started-requires-send-F
 spawn_with-started-requires-send-F g c κs within =
