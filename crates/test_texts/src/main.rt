@@ -2,17 +2,21 @@
 //! is written says `data/README.md`.
 //!
 //! A line on standard output for each file says how many cases it has, and how many came out as they should. Above it
-//! stands what came of each that didn't.
+//! stands what came of each that didn't. Behind them a line for each example says what came of it.
 #![tactic(auto)]
 
+mod asked;
 mod cases;
+mod examples;
 mod instructions;
+mod library;
 mod programs;
 mod scripts;
 mod traces;
 mod ways;
 
 use cases::{Case, read_cases};
+use examples::run_examples;
 use std::alloc::AllocGlobal;
 use std::io::Print;
 use std::rt::Files;
@@ -94,5 +98,5 @@ fn main(rt: HostRuntime) -> io::Result<()> {
     for name in FILES {
         run_file(&rt, name)?;
     }
-    Ok(())
+    run_examples(&rt)
 }

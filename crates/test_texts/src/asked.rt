@@ -1,5 +1,8 @@
-//! The scripts, by name, and what is asked of the program for each.
+//! The scripts among the examples, by name, and what is asked of the program for each.
 
+use std::alloc::AllocGlobal;
+use std::io::Print;
+use std::rt::Files;
 use std::{fs, io, str};
 
 /// The scripts, by name.
@@ -29,7 +32,7 @@ pub(crate) struct Asked {
 }
 
 /// The words of the first line but for its first one; none where the bytes are no text.
-fn words_of(rt: &HostRuntime, script: &[u8]) -> io::Result<Vec<String>> {
+fn words_of<R: AllocGlobal>(rt: &R, script: &[u8]) -> io::Result<Vec<String>> {
     let mut words = Vec::new(rt.alloc());
     let Ok(text) = str::from_utf8(script) else {
         return Ok(words);
@@ -44,22 +47,22 @@ fn words_of(rt: &HostRuntime, script: &[u8]) -> io::Result<Vec<String>> {
 }
 
 /// What is asked of the program for this script.
-pub(crate) fn read_script(rt: &HostRuntime, name: &str) -> io::Result<Asked> {
-    let path = format!(in rt.alloc(); "{name}.script")?;
+pub(crate) fn read_script<R: AllocGlobal + Files>(rt: &R, name: &str) -> io::Result<Asked> {
+    let path = format!(in rt.alloc(); "examples/{name}.script")?;
     let script = fs::read(rt, path.as_str())?;
     let words = words_of(rt, script.as_slice())?;
     Ok(Asked { words, script })
 }
 
 /// Prints what came of a script.
-pub(crate) fn tell(
-    rt: &HostRuntime,
+pub(crate) fn tell<R: AllocGlobal + Files + Print>(
+    rt: &R,
     name: &str,
     status: u8,
     output: &[u8],
     errors: &[u8],
 ) -> io::Result<()> {
-    let path = format!(in rt.alloc(); "{name}.out")?;
+    let path = format!(in rt.alloc(); "examples/{name}.out")?;
     let written = fs::read(rt, path.as_str())?;
     let text = if written.as_slice() == output && errors.is_empty() {
         "as written"

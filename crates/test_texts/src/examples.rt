@@ -1,15 +1,16 @@
-//! The examples, run: each trace of `data/` is replayed, and its world compared with the text that stands beside it;
-//! each script is run as its first line says, and its output compared.
-#![tactic(auto)]
+//! The examples, run: each trace of `data/examples/` is replayed, and its world compared with the text that stands beside
+//! it; each script is run as its first line says, and its output compared.
 
-mod library;
-mod scripts;
-
+use crate::asked::{SCRIPTS, read_script, tell};
+use crate::library::count_and_holders;
 use brc_program::program;
 use brc_trace::run_replay;
 use brc_words::{Fault, Reason};
-use library::count_and_holders;
-use scripts::{SCRIPTS, read_script, tell};
+use std::alloc::AllocGlobal;
+use std::io::Print;
+use std::rt::Files;
+use std::sync::Wait;
+use std::thread::Threads;
 use std::{fs, io};
 
 /// The traces, by name.
@@ -32,15 +33,15 @@ const NAMES: [&str; 15] = [
 ];
 
 /// Whether the example's text for its world is this one.
-fn is_as_written(rt: &HostRuntime, name: &str, world: &[u8]) -> io::Result<bool> {
-    let path = format!(in rt.alloc(); "{name}.world")?;
+fn is_as_written<R: AllocGlobal + Files>(rt: &R, name: &str, world: &[u8]) -> io::Result<bool> {
+    let path = format!(in rt.alloc(); "examples/{name}.world")?;
     let written = fs::read(rt, path.as_str())?;
     Ok(written.as_slice() == world)
 }
 
 /// Replays one trace, and prints what came of it.
-fn run_example(rt: &HostRuntime, name: &str) -> io::Result<()> {
-    let path = format!(in rt.alloc(); "{name}.trace")?;
+fn run_example<R: AllocGlobal + Files + Print>(rt: &R, name: &str) -> io::Result<()> {
+    let path = format!(in rt.alloc(); "examples/{name}.trace")?;
     let trace = fs::read(rt, path.as_str())?;
     let mut world = Vec::new(rt.alloc());
     match run_replay(rt.alloc(), trace.as_slice(), &mut world) {
@@ -67,23 +68,34 @@ fn run_example(rt: &HostRuntime, name: &str) -> io::Result<()> {
     }
 }
 
-fn main(rt: HostRuntime) -> io::Result<()> {
+/// Runs one script, and prints what came of it.
+fn run_script<R: AllocGlobal + Files + Print + Threads + Wait + Sync>(
+    rt: &R,
+    name: &str,
+) -> io::Result<()> {
+    let asked = read_script(rt, name)?;
+    let mut output = Vec::new(rt.alloc());
+    let mut errors = Vec::new(rt.alloc());
+    let status = program(
+        rt,
+        rt.alloc(),
+        asked.words.as_slice(),
+        asked.script.as_slice(),
+        &mut output,
+        &mut errors,
+    );
+    tell(rt, name, status, output.as_slice(), errors.as_slice())
+}
+
+/// Runs all, and the library by hand.
+pub(crate) fn run_examples<R: AllocGlobal + Files + Print + Threads + Wait + Sync>(
+    rt: &R,
+) -> io::Result<()> {
     for name in NAMES {
-        run_example(&rt, name)?;
+        run_example(rt, name)?;
     }
     for name in SCRIPTS {
-        let asked = read_script(&rt, name)?;
-        let mut output = Vec::new(rt.alloc());
-        let mut errors = Vec::new(rt.alloc());
-        let status = program(
-            &rt,
-            rt.alloc(),
-            asked.words.as_slice(),
-            asked.script.as_slice(),
-            &mut output,
-            &mut errors,
-        );
-        tell(&rt, name, status, output.as_slice(), errors.as_slice())?;
+        run_script(rt, name)?;
     }
     match count_and_holders(rt.alloc()) {
         Ok((total, holders)) => println!(rt; "by the library: total {total}, {holders} holders"),
