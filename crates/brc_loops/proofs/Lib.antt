@@ -1,3 +1,4 @@
 pub mod One_Heap
 pub mod Sent
 pub mod Traded
+pub mod Turning

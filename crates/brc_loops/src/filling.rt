@@ -1,9 +1,10 @@
 //! Many handles, had one after the other.
 
-ghost use Rattle.std.specs.Prelude.{◌≡◌, ◌+◌, IfSome, IfNone};
-ghost use Rattle.brc_count.specs.Frames.{HandleSeen, IsUnlocked, Owns};
+ghost use Rattle.std.specs.Prelude.{⊤, ◌≡◌, ◌+◌, ℕ, IfSome, IfNone};
+ghost use Rattle.brc_count.specs.Frames.{FrameSeen, HandleSeen, IsUnlocked, Owns};
 ghost use Rattle.brc_count.specs.Owned.{Keeps, Gains};
 ghost use Rattle.brc_handles.specs.Handles.{filled, IsApart, OwnsEach};
+ghost use Rattle.brc_loops.specs.Turns.{Turns, Fills, LacksIn};
 
 use brc_biased::Home;
 use brc_count::{Frame, Handle};
@@ -12,16 +13,24 @@ use std::alloc::Allocator;
 
 /// Where handles come from.
 pub trait Source<H: Home<A>, A: Allocator> {
+    // What it does to the frame where it gives this handle, after so many before, and where it has none. A source that
+    // leaves it out says nothing.
+    ghost gives: { Self → ℕ → FrameSeen A → FrameSeen A → HandleSeen → Type 0 } = { λ _ _ _ _ _. ⊤ };
+
+    ghost lacks: { Self → ℕ → FrameSeen A → FrameSeen A → Type 0 } = { λ _ _ _ _. ⊤ };
+
     /// A handle more, after so many before; None where it can't be had.
     fn next(&self, frame: &mut Frame<H, A>, before: u64) -> Option<Handle<A>>
         requires unlocked { IsUnlocked frame.old }
+        ensures gives { IfSome result (gives self.now before frame.old frame.new) }
+        ensures lacks { IfNone result (lacks self.now before frame.old frame.new) }
         ensures gains { IfSome result (Gains frame.old frame.new) }
         ensures keeps { IfNone result (Keeps frame.old frame.new) }
         ensures unlocked { IsUnlocked frame.new };
 }
 
 /// So many handles more, each in a new place after all others. None where the source has none, or a place can't be had:
-/// those before it are there.
+/// those before it are there. The source is asked once for each.
 pub fn fill<S: Source<H, A>, H: Home<A>, A: Allocator>(
     source: &S,
     frame: &mut Frame<H, A>,
@@ -31,6 +40,10 @@ pub fn fill<S: Source<H, A>, H: Home<A>, A: Allocator>(
     requires each { OwnsEach frame.old handles.old }
     requires unlocked { IsUnlocked frame.old }
 
+    ensures gives { IfSome result (λ _. Turns (Fills (S.gives source.now)) count (frame.old, handles.old)
+        (frame.new, handles.new)) }
+    ensures lacks { IfNone result (LacksIn (S.gives source.now) (S.lacks source.now) count (frame.old, handles.old)
+        (frame.new, handles.new)) }
     ensures each { OwnsEach frame.new handles.new }
     ensures count { frame.new.len + filled handles.old ≡ frame.old.len + filled handles.new }
     ensures filled { IfSome result (λ _. filled handles.new ≡ filled handles.old + count) }
@@ -41,7 +54,9 @@ pub fn fill<S: Source<H, A>, H: Home<A>, A: Allocator>(
 {
     for before in 0..count {
         let handle = source.next(frame, before)?;
-        handles.keep(frame, handle).ok()?;
+        let Ok(()) = handles.keep(frame, handle) else {
+            return None;
+        };
     }
     Some(())
 }

@@ -6,7 +6,8 @@
 //! the client's, by a trait, whose contract has what the loop needs; an `impl` repeats no clause of it.
 //!
 //! What a turn needs of the frame is the trait's `ready`, and each `impl` shows that it is so after a turn too: mostly
-//! by a field of `Keeps` (`brc_count`), or by `specs/Held.antt` where it needs many handles.
+//! by a field of `Keeps` (`brc_count`), or by `specs/Held.antt` where it needs many handles. What a turn does an `impl`
+//! may say too, and then the loop says that it made so many such turns, one after another (`specs/Turns.antt`).
 #![tactic(auto)]
 
 mod filling;

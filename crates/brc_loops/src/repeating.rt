@@ -1,8 +1,9 @@
 //! A task that is repeated.
 
-ghost use Rattle.std.specs.Prelude.{⊤};
+ghost use Rattle.std.specs.Prelude.{⊤, ◌≡◌, ℕ, IfSome, IfNone};
 ghost use Rattle.brc_count.specs.Frames.{FrameSeen, IsUnlocked};
 ghost use Rattle.brc_count.specs.Owned.{Keeps};
+ghost use Rattle.brc_loops.specs.Turns.{Turns, FailsIn};
 
 use brc_biased::Home;
 use brc_count::Frame;
@@ -13,10 +14,18 @@ pub trait Task<H: Home<A>, A: Allocator> {
     // what it needs of the frame
     ghost ready: { Self → FrameSeen A → Type 0 };
 
+    // What it does to the frame where it is done, after so many times before, and where it fails. A task that leaves it
+    // out says nothing.
+    ghost done: { Self → ℕ → FrameSeen A → FrameSeen A → Type 0 } = { λ _ _ _ _. ⊤ };
+
+    ghost fails: { Self → ℕ → FrameSeen A → FrameSeen A → Type 0 } = { λ _ _ _ _. ⊤ };
+
     /// It is done once, after so many times before; None where it fails.
     fn run(&self, frame: &mut Frame<H, A>, before: u64) -> Option<()>
         requires ready { ready self.now frame.old }
         requires unlocked { IsUnlocked frame.old }
+        ensures done { IfSome result (λ _. done self.now before frame.old frame.new) }
+        ensures fails { IfNone result (fails self.now before frame.old frame.new) }
         ensures keeps { Keeps frame.old frame.new }
         ensures unlocked { IsUnlocked frame.new };
 
@@ -24,7 +33,8 @@ pub trait Task<H: Home<A>, A: Allocator> {
     ghost stays: { (it : Self) (old new : FrameSeen A) → Keeps old new → ready it old → ready it new };
 }
 
-/// The task is done so many times; None where it failed, which ends the loop.
+/// The task is done so many times; None where it failed, which ends the loop. No turn is left out, and none is made
+/// besides.
 #[inline(always)]
 pub fn repeat<T: Task<H, A>, H: Home<A>, A: Allocator>(
     task: &T,
@@ -33,6 +43,9 @@ pub fn repeat<T: Task<H, A>, H: Home<A>, A: Allocator>(
 ) -> Option<()>
     requires ready { T.ready task.now frame.old }
     requires unlocked { IsUnlocked frame.old }
+
+    ensures done { IfSome result (λ _. Turns (T.done task.now) n frame.old frame.new) }
+    ensures fails { IfNone result (FailsIn (T.done task.now) (T.fails task.now) n frame.old frame.new) }
     ensures keeps { Keeps frame.old frame.new }
     ensures unlocked { IsUnlocked frame.new }
 {
@@ -48,6 +61,10 @@ pub struct Nothing;
 
 impl<H: Home<A>, A: Allocator> Task<H, A> for Nothing {
     ghost ready = { λ _ _. ⊤ };
+
+    ghost done = { λ _ _ old new. new ≡ old };
+
+    ghost fails = { λ _ _ _ _. ⊥ };
 
     ghost stays = { λ _ _ _ _ ready. ready };
 

@@ -1,7 +1,11 @@
 //! Something that a thread waits for.
 
+ghost use Rattle.std.specs.Prelude.{⊤, IfSome, IfNone};
 ghost use Rattle.brc_count.specs.Frames.{FrameSeen, IsUnlocked};
 ghost use Rattle.brc_count.specs.Owned.{Keeps};
+ghost use Rattle.brc_loops.specs.declared.waiting.Look.{Look};
+ghost use Rattle.brc_loops.specs.declared.waiting.Look.TheVariants as looks;
+ghost use Rattle.brc_loops.specs.Turns.{LooksUntil};
 
 use brc_biased::Home;
 use brc_count::Frame;
@@ -25,11 +29,15 @@ pub trait Awaited<H: Home<A>, A: Allocator> {
     // what a look needs of the frame
     ghost ready: { Self → FrameSeen A → Type 0 };
 
+    // What a look that came to this does to the frame. A type that leaves it out says nothing.
+    ghost looks: { Self → Look → FrameSeen A → FrameSeen A → Type 0 } = { λ _ _ _ _. ⊤ };
+
     /// Looks whether it is there, and deals with it if so. A thread that others may ask something of polls and works
     /// here where it isn't.
     fn look(&self, frame: &mut Frame<H, A>) -> Look
         requires ready { ready self.now frame.old }
         requires unlocked { IsUnlocked frame.old }
+        ensures looks { looks self.now result frame.old frame.new }
         ensures keeps { Keeps frame.old frame.new }
         ensures unlocked { IsUnlocked frame.new };
 
@@ -37,7 +45,8 @@ pub trait Awaited<H: Home<A>, A: Allocator> {
     ghost stays: { (it : Self) (old new : FrameSeen A) → Keeps old new → ready it old → ready it new };
 }
 
-/// Looks until it is there, and lets other threads run between two looks; None where it won't come.
+/// Looks until it is there, and lets other threads run between two looks; None where it won't come. The last look alone
+/// said so.
 #[inline(always)]
 pub fn wait_for<W: Awaited<H, A>, R: Wait, H: Home<A>, A: Allocator>(
     rt: &R,
@@ -46,6 +55,11 @@ pub fn wait_for<W: Awaited<H, A>, R: Wait, H: Home<A>, A: Allocator>(
 ) -> Option<()>
     requires ready { W.ready awaited.now frame.old }
     requires unlocked { IsUnlocked frame.old }
+
+    ensures there { IfSome result (λ _. LooksUntil (W.looks awaited.now looks.NotYet) (W.looks awaited.now looks.Done)
+        frame.old frame.new) }
+    ensures given_up { IfNone result (LooksUntil (W.looks awaited.now looks.NotYet)
+        (W.looks awaited.now looks.GivenUp) frame.old frame.new) }
     ensures keeps { Keeps frame.old frame.new }
     ensures unlocked { IsUnlocked frame.new }
 {
