@@ -1,5 +1,5 @@
 -- By a release, by the turns of the work on dead blocks and by a poll a thread only lets go.
-use Rattle.std.proofs.Common.{◌≡◌, ℕ, ◌+◌, ◌*◌, ◌/◌, true, min, List, ◌∷◌, Option, Some, None, is_some, refl, sym, ◌∙◌}
+use Rattle.std.proofs.Common.{◌≡◌, ℕ, ◌+◌, ◌*◌, ◌/◌, true, min, ◌∷◌, Option, Some, None, is_some, refl, sym, ◌∙◌}
 use Rattle.std.proofs.Common.{ap, subst}
 use Rattle.std.proofs.lemmas.Bool.{true≢false}
 use Rattle.law_world.specs.declared.event.Dropped.TheVariants as drops

@@ -12,7 +12,7 @@ ghost use Rattle.law_rule.specs.declared.told.Moved.TheVariants as moves;
 ghost use Rattle.law_rule.specs.declared.told.Told.TheVariants as told;
 ghost use Rattle.law_living.specs.Living.{OwnLog};
 ghost use Rattle.brc_count.specs.Frames.{IsActive, MayGiveUp, IsUnlocked, KeepsHandles, popped_seen};
-ghost use Rattle.brc_count.specs.Polling.{Deals, DealsBits, Drains, DrainsEach, Polled};
+ghost use Rattle.brc_count.specs.Polling.{Deals, DealsBits, Drains, DrainsEach, DrainsNamed, Polled};
 
 use crate::holdings::Holdings;
 use brc_biased::Home;
@@ -181,6 +181,27 @@ impl<H: Home<A>, A: Allocator> Holdings<H, A> {
         }
     }
 
+    /// Drains the queue words that this names, and deals with each of their entries.
+    // Out of line, since a poll is mostly told nothing: what the loops here need isn't saved there.
+    #[cold]
+    #[inline(never)]
+    fn drain_named(&mut self, named: u64)
+        requires active { IsActive self.old }
+        requires unlocked { IsUnlocked self.old }
+        requires blank { (k : ℕ) → word_at (popped_seen self.old) k ≡ 0 }
+        ensures keeps { KeepsHandles self.old self.new }
+        ensures drains { DrainsNamed named (words_for self.old.heap.cells) self.old
+            ((words_for self.old.heap.cells + 31) / 32) self.new }
+        ensures blank { (k : ℕ) → word_at (popped_seen self.new) k ≡ 0 }
+    {
+        let words = self.words();
+        for bit in 0..words.div_ceil(32) {
+            if is_named(named, bit) {
+                self.drain_each(bit * 32, past_named(words, bit));
+            }
+        }
+    }
+
     /// The first popped word with an entry, where those before this one have none.
     pub(crate) fn first_popped(&self, from: usize) -> Option<u32>
         requires done { (k : ℕ) → k < from → word_at (popped_seen self.now) k ≡ 0 }
@@ -243,14 +264,8 @@ impl<H: Home<A>, A: Allocator> Holdings<H, A> {
         ensures own { OwnLog self.old.heap.cells self.old.seat.log }
     {
         let named = self.wake();
-        if named == 0 {
-            return 0;
-        }
-        let words = self.words();
-        for bit in 0..words.div_ceil(32) {
-            if is_named(named, bit) {
-                self.drain_each(bit * 32, past_named(words, bit));
-            }
+        if named != 0 {
+            self.drain_named(named);
         }
         named
     }

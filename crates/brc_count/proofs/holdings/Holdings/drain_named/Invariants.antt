@@ -2,7 +2,7 @@ use Rattle.std.proofs.Common.{◌≡◌, ℕ}
 use Rattle.law_world.specs.Lists.{word_at}
 use Rattle.brc_count.specs.Frames.{KeepsHandles, popped_seen}
 use Rattle.brc_count.specs.Polling.{DrainsNamed}
-use Rattle.brc_count.proofs.holdings.Holdings.poll.Given as goal
+use Rattle.brc_count.proofs.holdings.Holdings.drain_named.Given as goal
 
 abbrev pub invariant-loop-bit : goal.invariant-loop-bit
 invariant-loop-bit g l = DrainsNamed l.named l.words l.initial.self l.bit l.self × KeepsHandles l.initial.self l.self
