@@ -12,4 +12,5 @@ mod parts;
 mod section;
 
 pub use names::name_of_number;
+pub use parts::put_parts;
 pub use section::write_section;

@@ -8,7 +8,7 @@ use brc_words::Fault;
 use std::io::Write;
 
 /// Writes the parts in order. The first error ends it; no memory is taken.
-pub(crate) fn put_parts<W: Write>(writer: &mut W, parts: &[&[u8]]) -> Result<(), Fault>
+pub fn put_parts<W: Write>(writer: &mut W, parts: &[&[u8]]) -> Result<(), Fault>
     ensures { Puts (W.contents writer.old) (W.contents writer.new) result (joined parts.now) }
 {
     for part in parts {

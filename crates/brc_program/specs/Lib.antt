@@ -1,3 +1,5 @@
 pub mod Command
+pub mod Errors
+pub mod Explanations
 pub mod Performing
 pub mod Statuses

@@ -1,16 +1,21 @@
--- What each invocation writes on standard output, and the status that it ends with.
-use Rattle.std.specs.Prelude.{◌≡◌, ◌⊎◌, ℕ, Bool, true, false, if◌then◌else◌, List, Option, Result, Ok, Err}
+-- What each invocation writes on standard output, what stands on standard error then, and the status that it ends with.
+use Rattle.std.specs.Prelude.{◌≡◌, ◌⊎◌, ◌+◌, ℕ, Bool, true, false, if◌then◌else◌, List, take, Option, Some, None}
+use Rattle.std.specs.Prelude.{IfSome, Result, Ok, Err, IfErr}
 use Rattle.std.specs.Io.KnownBytes.{Keeps}
 use Rattle.std.specs.String.{string_bytes}
+use Rattle.brc_words.specs.declared.limits.TheConstants.{MOST_INPUT}
 use Rattle.brc_words.specs.declared.fault.Fault.{Fault}
 use Rattle.brc_words.specs.declared.fault.Fault.TheVariants as faults
 use Rattle.brc_text.specs.Puts.{Puts}
+use Rattle.brc_trace.specs.declared.explaining.Unreplayed.{Unreplayed}
+use Rattle.brc_trace.specs.declared.explaining.Why.{Why}
+use Rattle.brc_trace.specs.Explaining.{Explains, fault_of_why, without_why}
 use Rattle.brc_trace.specs.Replaying.{Replays}
 use Rattle.brc_run_text.specs.declared.ended.Ended.{Ended}
 use Rattle.brc_run_text.specs.Scripts_Run.{Runs}
 use Rattle.brc_program.specs.declared.command.Invocation.{Invocation}
 use Rattle.brc_program.specs.declared.command.Invocation.TheVariants.{Help, Replay, Run}
-use Rattle.brc_program.specs.Statuses.{status_of}
+use Rattle.brc_program.specs.Errors.{Tells}
 
 -- ---- one invocation
 
@@ -23,56 +28,74 @@ status_of_world false = 0
 abbrev pub status_of_run : Ended → ℕ
 status_of_run ended = if ended.faulted then 4 else status_of_world ended.lives
 
+-- a fault of which no reason is known
+abbrev pub unexplained : Fault → Unreplayed
+unexplained fault = record { fault = fault; why = None }
+
+abbrev pub without_reason : {T : Type 0} → Result T Fault → Result T Unreplayed
+without_reason (Ok found) = Ok found
+without_reason (Err fault) = Err (unexplained fault)
+
 -- the status of what was found; a fault stays one
-abbrev pub by_status : {T : Type 0} → (T → ℕ) → Result T Fault → Result ℕ Fault
+abbrev pub by_status : {T : Type 0} → (T → ℕ) → Result T Unreplayed → Result ℕ Unreplayed
 by_status status (Ok found) = Ok (status found)
-by_status status (Err fault) = Err fault
+by_status status (Err failed) = Err failed
 
 -- no line of a section is held up
 abbrev pub nowhere : ℕ → ℕ → Type 0
 nowhere section line = ⊥
 
+-- a reason is told only where it is asked for; it is the fault's, and it is so of the input
+abbrev pub IsReason : Bool → Option (List ℕ) → Fault → Why → Type 0
+IsReason explain input fault why = (explain ≡ true) × (fault ≡ fault_of_why why)
+    × IfSome input (λ bytes. Explains (take (MOST_INPUT + 1) bytes) (Some why))
+
 -- By the input's bytes, and those of the output before and after, where they are known: help is written as it stands,
 -- status 0; a trace is replayed, or a script is run, as the contract of each says, and its answer is the status.
-abbrev pub Performs : Invocation → Option (List ℕ) → Option (List ℕ) → Option (List ℕ) → Result ℕ Fault → Type 0
+abbrev pub Performs :
+    Invocation → Option (List ℕ) → Option (List ℕ) → Option (List ℕ) → Result ℕ Unreplayed → Type 0
 Performs (Help text) input old new answer =
-    (told : Result (Unit {0}) Fault) × Puts old new told (string_bytes text) × (answer ≡ by_status (λ _. 0) told)
+    (told : Result (Unit {0}) Fault) × Puts old new told (string_bytes text)
+    × (answer ≡ by_status (λ _. 0) (without_reason told))
 Performs (Replay explain) input old new answer =
-    (found : Result Bool Fault) × Replays input old new found × (answer ≡ by_status status_of_world found)
+    (found : Result Bool Unreplayed) × Replays input old new (without_why found)
+    × IfErr found (λ failed. IfSome failed.why (IsReason explain input failed.fault))
+    × (answer ≡ by_status status_of_world found)
 Performs (Run options) input old new answer =
-    (found : Result Ended Fault) × Runs options nowhere input old new found × (answer ≡ by_status status_of_run found)
+    (found : Result Ended Fault) × Runs options nowhere input old new found
+    × (answer ≡ by_status status_of_run (without_reason found))
 
 -- ---- a command line
 
 -- what was done stands once it is flushed; Io where that fails
-abbrev pub Flushed : Result ℕ Fault → Result ℕ Fault → Type 0
-Flushed (Ok status) answer = (answer ≡ Ok status) ⊎ (answer ≡ Err faults.Io)
-Flushed (Err fault) answer = answer ≡ Err fault
+abbrev pub Flushed : Result ℕ Unreplayed → Result ℕ Unreplayed → Type 0
+Flushed (Ok status) answer = (answer ≡ Ok status) ⊎ (answer ≡ Err (unexplained faults.Io))
+Flushed (Err failed) answer = answer ≡ Err failed
 
 -- the words ask for this, which is done; what is written is flushed, and no byte of it changes by that
-pub record IsDone (input old new : Option (List ℕ)) (answer : Result ℕ Fault) : Type 0 where
+pub record IsDone (input old new : Option (List ℕ)) (answer : Result ℕ Unreplayed) : Type 0 where
   pub asked : Invocation
-  pub done : Result ℕ Fault
+  pub done : Result ℕ Unreplayed
   pub written : Option (List ℕ)
   pub performed : Performs asked input old written done
   pub kept : Keeps written new
   pub flushed : Flushed done answer
 
 -- the words ask for nothing, or memory to read them is missing; nothing is written
-pub record IsRefused (old new : Option (List ℕ)) (answer : Result ℕ Fault) : Type 0 where
+pub record IsRefused (old new : Option (List ℕ)) (answer : Result ℕ Unreplayed) : Type 0 where
   pub kept : Keeps old new
-  pub fault : (answer ≡ Err faults.BadOptions) ⊎ (answer ≡ Err faults.OutOfMemory)
+  pub fault : (answer ≡ Err (unexplained faults.BadOptions)) ⊎ (answer ≡ Err (unexplained faults.OutOfMemory))
 
-abbrev pub Answers : Option (List ℕ) → Option (List ℕ) → Option (List ℕ) → Result ℕ Fault → Type 0
+abbrev pub Answers : Option (List ℕ) → Option (List ℕ) → Option (List ℕ) → Result ℕ Unreplayed → Type 0
 Answers input old new answer = IsDone input old new answer ⊎ IsRefused old new answer
 
--- an answer's status; that of a fault where it could be told, else 5
-abbrev pub EndsBy : Result ℕ Fault → ℕ → Type 0
-EndsBy (Ok status) ended = ended ≡ status
-EndsBy (Err fault) ended = (ended ≡ status_of fault) ⊎ (ended ≡ 5)
+-- an answer's status, and nothing stands on standard error for it; or the fault is told there
+abbrev pub EndsBy : Option (List ℕ) → Option (List ℕ) → Result ℕ Unreplayed → ℕ → Type 0
+EndsBy old new (Ok status) ended = (new ≡ old) × (ended ≡ status)
+EndsBy old new (Err failed) ended = Tells old new failed ended
 
--- some answer that the words have, and its status
-pub record Ends (input old new : Option (List ℕ)) (status : ℕ) : Type 0 where
-  pub answer : Result ℕ Fault
+-- some answer that the words have, by the input and the output; what standard error had and has; and the status
+pub record Ends (input old new errors_old errors_new : Option (List ℕ)) (status : ℕ) : Type 0 where
+  pub answer : Result ℕ Unreplayed
   pub answers : Answers input old new answer
-  pub by : EndsBy answer status
+  pub by : EndsBy errors_old errors_new answer status

@@ -1,23 +1,20 @@
 //! The program over any streams: what it does for each invocation, its statuses and its error lines.
 
-ghost use Rattle.std.specs.Prelude.{◌≡◌, ◌≤◌, ◌⊎◌, IfOk};
+ghost use Rattle.std.specs.Prelude.{◌≡◌, ◌≤◌, IfOk, IfErr, IfSome};
 ghost use Rattle.brc_trace.specs.Explaining.{without_why};
 ghost use Rattle.brc_trace.specs.Replaying.{Replays};
-ghost use Rattle.brc_program.specs.declared.command.Invocation.TheVariants as invocations;
-ghost use Rattle.brc_program.specs.Performing.{Performs, Answers, Ends};
+ghost use Rattle.brc_program.specs.Errors.{Tells};
+ghost use Rattle.brc_program.specs.Performing.{unexplained, IsReason, Performs, Answers, Ends};
 ghost use Rattle.brc_program.specs.Statuses.{status_of};
 
 use crate::command::{Invocation, read_words};
-use crate::explanations::put_why;
-use crate::firm::Firm;
 use crate::gate::Open;
-use brc_run::RunOptions;
+use crate::telling::put_told;
 use brc_run_text::run_script;
 use brc_text::put_bytes;
 use brc_trace::{Unreplayed, run_replay, run_replay_explained};
-use brc_words::{Fault, Reason};
+use brc_words::Fault;
 use std::alloc::Global;
-use std::io;
 use std::io::{Read, Write};
 use std::sync::Wait;
 use std::thread::Threads;
@@ -36,8 +33,8 @@ const FAULTED: u8 = 4;
 const STREAM: u8 = 5;
 
 /// Does what the words ask for, and answers the status. Of several statuses the highest counts. What is written to the
-/// writer, and with which status, is that of what the words ask for (`Performs`); a fault's status is 5 where it can't be
-/// told.
+/// writer and among the errors, and the status, are those of some invocation (`Ends`): which words ask for which isn't
+/// promised. A fault's status is 5 where it can't be told; the first write that fails is the last.
 pub fn program<T: Threads + Wait + Sync, R: Read + Drop, W: Write, E: Write>(
     rt: &T,
     alloc: Global,
@@ -47,7 +44,8 @@ pub fn program<T: Threads + Wait + Sync, R: Read + Drop, W: Write, E: Write>(
     errors: &mut E,
 ) -> u8
     ensures within { result ≤ 5 }
-    ensures came { Ends (R.remaining reader) (W.contents writer.old) (W.contents writer.new) result }
+    ensures came { Ends (R.remaining reader) (W.contents writer.old) (W.contents writer.new)
+        (E.contents errors.old) (E.contents errors.new) result }
 {
     match answer(rt, alloc, words, reader, writer) {
         Ok(status) => status,
@@ -55,21 +53,20 @@ pub fn program<T: Threads + Wait + Sync, R: Read + Drop, W: Write, E: Write>(
     }
 }
 
-/// Tells of a fault, and answers its status; 5 where it couldn't be told.
+/// Tells of a fault, and answers its status; 5 where it couldn't be told. The first write that fails is the last.
 pub fn refuse<E: Write>(errors: &mut E, fault: Fault) -> u8
     ensures within { result ≤ 5 }
-    ensures status { (result ≡ status_of fault) ⊎ (result ≡ 5) }
+    ensures tells { Tells (E.contents errors.old) (E.contents errors.new) (unexplained fault) result }
 {
     refuse_with_why(errors, &unexplained(fault))
 }
 
-/// Tells of a fault, and of why it came where that is known, and answers its status. The first write that fails is the
-/// last.
+/// Tells of a fault, and of why it came where that is known, and answers its status.
 fn refuse_with_why<E: Write>(errors: &mut E, failed: &Unreplayed) -> u8
     ensures within { result ≤ 5 }
-    ensures status { (result ≡ status_of failed.now.fault) ⊎ (result ≡ 5) }
+    ensures tells { Tells (E.contents errors.old) (E.contents errors.new) failed.now result }
 {
-    match tell_all(&mut Firm { writer: errors }, failed) {
+    match put_told(errors, failed) {
         Ok(()) => status_of(failed.fault),
         Err(_) => STREAM,
     }
@@ -77,7 +74,7 @@ fn refuse_with_why<E: Write>(errors: &mut E, failed: &Unreplayed) -> u8
 
 /// A fault that is told without a reason.
 fn unexplained(fault: Fault) -> Unreplayed
-    ensures { result.fault ≡ fault }
+    ensures { result ≡ unexplained fault }
 {
     Unreplayed { fault, why: None }
 }
@@ -89,33 +86,15 @@ fn replayed<R: Read + Drop, W: Write>(
     reader: R,
     writer: &mut W,
 ) -> Result<bool, Unreplayed>
-    ensures { Replays (R.remaining reader) (W.contents writer.old) (W.contents writer.new) (without_why result) }
+    ensures replays { Replays (R.remaining reader) (W.contents writer.old) (W.contents writer.new)
+        (without_why result) }
+    ensures why { IfErr result (λ failed. IfSome failed.why (IsReason explain (R.remaining reader) failed.fault)) }
 {
     if explain {
         return run_replay_explained(alloc, reader, writer);
     }
     match run_replay(alloc, reader, writer) {
         Ok(live) => Ok(live),
-        Err(fault) => Err(unexplained(fault)),
-    }
-}
-
-/// A run of a script; the status of its end.
-fn run<T: Threads + Wait + Sync, R: Read + Drop, W: Write>(
-    rt: &T,
-    alloc: Global,
-    options: RunOptions,
-    reader: R,
-    writer: &mut W,
-) -> Result<u8, Unreplayed>
-    ensures within { IfOk result (λ status. status ≤ 4) }
-    ensures performs { Performs (invocations.Run options) (R.remaining reader) (W.contents writer.old)
-        (W.contents writer.new) (without_why result) }
-{
-    match run_script(rt, alloc, options, reader, writer, &Open) {
-        Ok(ended) if ended.faulted => Ok(FAULTED),
-        Ok(ended) if ended.lives => Ok(SOMETHING_LIVE),
-        Ok(_ended) => Ok(NOTHING_LIVE),
         Err(fault) => Err(unexplained(fault)),
     }
 }
@@ -130,7 +109,7 @@ fn perform<T: Threads + Wait + Sync, R: Read + Drop, W: Write>(
 ) -> Result<u8, Unreplayed>
     ensures within { IfOk result (λ status. status ≤ 4) }
     ensures performs { Performs asked (R.remaining reader) (W.contents writer.old) (W.contents writer.new)
-        (without_why result) }
+        result }
 {
     match asked {
         Invocation::Help(text) => match put_bytes(writer, text.as_bytes()) {
@@ -142,7 +121,12 @@ fn perform<T: Threads + Wait + Sync, R: Read + Drop, W: Write>(
             Ok(false) => Ok(NOTHING_LIVE),
             Err(failed) => Err(failed),
         },
-        Invocation::Run(options) => run(rt, alloc, options, reader, writer),
+        Invocation::Run(options) => match run_script(rt, alloc, options, reader, writer, &Open) {
+            Ok(ended) if ended.faulted => Ok(FAULTED),
+            Ok(ended) if ended.lives => Ok(SOMETHING_LIVE),
+            Ok(_ended) => Ok(NOTHING_LIVE),
+            Err(fault) => Err(unexplained(fault)),
+        },
     }
 }
 
@@ -155,8 +139,7 @@ fn answer<T: Threads + Wait + Sync, R: Read + Drop, W: Write>(
     writer: &mut W,
 ) -> Result<u8, Unreplayed>
     ensures within { IfOk result (λ status. status ≤ 4) }
-    ensures answers { Answers (R.remaining reader) (W.contents writer.old) (W.contents writer.new)
-        (without_why result) }
+    ensures answers { Answers (R.remaining reader) (W.contents writer.old) (W.contents writer.new) result }
 {
     let asked = match read_words(alloc, words) {
         Ok(asked) => asked,
@@ -183,35 +166,5 @@ fn status_of(fault: Fault) -> u8
         Fault::BadScript { .. } => BAD_TEXT,
         Fault::Io => STREAM,
         _ => FAULTED,
-    }
-}
-
-/// Writes the error line of a fault, and where it is known why it came, the line that says so.
-fn tell_all<E: Write>(errors: &mut E, failed: &Unreplayed) -> io::Result<()> {
-    tell(errors, failed.fault)?;
-    match &failed.why {
-        Some(why) => put_why(errors, why),
-        None => Ok(()),
-    }
-}
-
-/// Writes the error line of a fault.
-fn tell<E: Write>(errors: &mut E, fault: Fault) -> io::Result<()> {
-    match fault {
-        Fault::BadOptions => writeln!(errors, "brc: bad command line"),
-        Fault::BadTrace {
-            line,
-            reason: Reason::NotALine,
-        } => writeln!(errors, "brc: line {line}: not a trace line"),
-        Fault::BadTrace {
-            line,
-            reason: Reason::NotEnabled,
-        } => writeln!(errors, "brc: line {line}: not enabled"),
-        Fault::BadScript { line } => writeln!(errors, "brc: line {line}: not a script line"),
-        _ => {
-            let number = fault.number();
-            let name = fault.name();
-            writeln!(errors, "brc: fault {number} {name}")
-        }
     }
 }

@@ -1,13 +1,22 @@
 //! The second error line of `brc replay --explain`: why a trace is refused.
 
-use brc_core::{Hand, Phase, Refusal, Status, Step};
-use brc_text::Keyword;
-use brc_trace::{Cause, Meant, Refused, Standing, Why};
-use brc_words::{Kind, Owner, State};
-use std::io::{self, Write};
+ghost use Rattle.std.specs.Prelude.{◌≡◌, [], ◌∷◌, codes};
+ghost use Rattle.std.specs.List.{flat_map};
+ghost use Rattle.brc_text.specs.Puts.{Puts};
+ghost use Rattle.brc_program.specs.Explanations.{together, form_of, cause_text, fact_text, facts_of};
+ghost use Rattle.brc_program.specs.Explanations.{why_line};
+
+use crate::facts::{Fact, put_facts};
+use brc_output::put_parts;
+use brc_text::{Keyword, put_bytes};
+use brc_trace::{Cause, Refused, Why};
+use brc_words::Fault;
+use std::io::Write;
 
 /// The form of the event with this word, as help has it.
-fn form_of(word: Keyword) -> &'static str {
+fn form_of(word: Keyword) -> &'static str
+    ensures { result.now ≡ form_of word }
+{
     match word {
         Keyword::Register => "0 register T",
         Keyword::Gather => "0 gather T",
@@ -39,8 +48,22 @@ fn form_of(word: Keyword) -> &'static str {
     }
 }
 
-/// What is wrong with a bad line.
-fn put_cause<E: Write>(errors: &mut E, cause: Cause) -> io::Result<()> {
+/// Writes the line of these words.
+fn put_words<E: Write>(errors: &mut E, before: &str, text: &str) -> Result<(), Fault>
+    ensures { Puts (E.contents errors.old) (E.contents errors.new) result
+        (together (codes "brc: why: " ∷ before.now ∷ text.now ∷ (10 ∷ []) ∷ [])) }
+{
+    put_parts(
+        errors,
+        &[b"brc: why: ", before.as_bytes(), text.as_bytes(), b"\n"],
+    )
+}
+
+/// Writes what is wrong with a bad line.
+fn put_cause<E: Write>(errors: &mut E, cause: Cause) -> Result<(), Fault>
+    ensures { Puts (E.contents errors.old) (E.contents errors.new) result
+        (together (codes "brc: why: " ∷ cause_text cause ∷ (10 ∷ []) ∷ [])) }
+{
     let text = match cause {
         Cause::NoLineFeed => "no line feed ends it",
         Cause::CarriageReturn => "it has a carriage return",
@@ -52,165 +75,57 @@ fn put_cause<E: Write>(errors: &mut E, cause: Cause) -> io::Result<()> {
         Cause::NoWords => "a word of it is in no trace, or it has more than 8",
         Cause::NotAnEvent => "no event begins so",
         Cause::OutOfRange => "a number is out of its range",
-        Cause::NotItsForm(word) => {
-            let form = form_of(word);
-            return writeln!(errors, "brc: why: its event has the form {form}");
-        }
+        Cause::NotItsForm(word) => return put_words(
+            errors,
+            "its event has the form ",
+            form_of(word),
+        ),
     };
-    writeln!(errors, "brc: why: {text}")
+    put_words(errors, "", text)
 }
 
-/// Which condition of an event fails first.
-fn text_of_refusal(step: Step, refusal: Refusal) -> &'static str {
-    match refusal {
-        Refusal::Told if matches!(step, Step::Close(_)) =>
-            "the thread has not seen to all that it is to leave behind",
-        Refusal::NotItsOwn => "the root registers and gathers, and threads make all else",
-        Refusal::NotNext => "the next thread has another number, or there are 64",
-        Refusal::NotRegistered => "the thread is not registered",
-        Refusal::Gathered => "the thread is gathered",
-        Refusal::Stage => "not at this stage of the thread's life",
-        Refusal::Lock => "the thread's lock is not as the event needs it",
-        Refusal::Hand => "the thread's hand is not as the event needs it",
-        Refusal::OwnPart =>
-            "the thread's places, entries, worklist or queue words are not as it needs them",
-        Refusal::Told => "whom it tells is not registered, or has no such queue word",
-        Refusal::Edition =>
-            "its format has no such event of a thread at this stage, or with this hand",
-        Refusal::NoCell => "it means no cell of the heap",
-        Refusal::Cell => "its cell is not as the event needs it",
-    }
-}
-
-fn word_of_status(status: Status) -> &'static str {
-    match status {
-        Status::Active => "active",
-        Status::Closing => "closing",
-        Status::Left => "left",
-        Status::Gathered => "gathered",
-        Status::Opening => "opening",
-    }
-}
-
-fn word_of_phase(phase: Phase) -> &'static str {
-    match phase {
-        Phase::Claimed => "claimed",
-        Phase::Counted => "counted",
-        Phase::Ready => "ready",
-        Phase::Zero => "zero",
-        Phase::Over => "over",
-        Phase::Untied => "untied",
-        Phase::Asked => "asked",
-        Phase::Shut => "shut",
-        Phase::Taking => "taking",
-        Phase::Held => "held",
-        Phase::Popping => "popping",
-        Phase::Offered => "offered",
-        Phase::Yielding => "yielding",
-    }
-}
-
-fn word_of_kind(kind: Kind) -> &'static str {
-    match kind {
-        Kind::Nothing => "None",
-        Kind::False => "False",
-        Kind::True => "True",
-        Kind::Int => "int",
-        Kind::Text => "text",
-        Kind::List => "list",
-        Kind::Dict => "dict",
-        Kind::Mailbox => "mailbox",
-    }
-}
-
-fn word_of_state(state: State) -> &'static str {
-    match state {
-        State::Default => "default",
-        State::Queued => "queued",
-        State::Merged => "merged",
-    }
-}
-
-fn put_hand<E: Write>(errors: &mut E, hand: Hand) -> io::Result<()> {
-    match hand {
-        Hand::Free => write!(errors, ", hand free"),
-        Hand::Busy(phase, cell) => {
-            let phase = word_of_phase(phase);
-            write!(errors, ", hand {phase} {cell}")
-        }
-    }
-}
-
-/// What stands of the thread: nothing of one that isn't registered.
-fn put_thread<E: Write>(errors: &mut E, standing: &Standing) -> io::Result<()> {
-    if let Some(status) = standing.status {
-        let thread = standing.thread;
-        let status = word_of_status(status);
-        write!(errors, "; thread {thread} {status}")?;
-    }
-    if let Some(hand) = standing.hand {
-        put_hand(errors, hand)?;
-    }
-    if let Some(place) = standing.locked {
-        write!(errors, ", locked {place}")?;
-    }
-    Ok(())
-}
-
-fn put_owner<E: Write>(errors: &mut E, owner: Owner) -> io::Result<()> {
-    match owner {
-        Owner::Nobody => write!(errors, ", no owner"),
-        Owner::Thread(thread) => write!(errors, ", owner {thread}"),
-        Owner::Claimed(thread) => write!(errors, ", claimed by {thread}"),
-        Owner::Free => write!(errors, ", free"),
-    }
-}
-
-/// What stands of the object in the cell.
-fn put_object<E: Write>(errors: &mut E, meant: &Meant) -> io::Result<()> {
-    if let Some(kind) = meant.kind {
-        let kind = word_of_kind(kind);
-        write!(errors, ", {kind}")?;
-    }
-    if let Some(local) = meant.local {
-        write!(errors, ", local {local}")?;
-    }
-    if let Some(count) = meant.count {
-        write!(errors, ", shared {count}")?;
-    }
-    if let Some(state) = meant.state {
-        let state = word_of_state(state);
-        write!(errors, ", {state}")?;
-    }
-    Ok(())
-}
-
-fn put_meant<E: Write>(errors: &mut E, meant: &Meant) -> io::Result<()> {
-    let cell = meant.cell;
-    write!(errors, "; cell {cell}")?;
-    if let Some(owner) = meant.owner {
-        put_owner(errors, owner)?;
-    }
-    put_object(errors, meant)
-}
-
-/// Which condition the event fails first, and what stands there.
-fn put_refused<E: Write>(errors: &mut E, refused: &Refused) -> io::Result<()> {
+/// Writes which condition the event fails first, and what stands there.
+fn put_refused<E: Write>(errors: &mut E, refused: &Refused) -> Result<(), Fault>
+    ensures { Puts (E.contents errors.old) (E.contents errors.new) result
+        (flat_map fact_text (facts_of refused.now)) }
+{
     let standing = refused.standing;
-    let text = text_of_refusal(refused.event.step, refused.refusal);
-    let registered = standing.registered;
-    write!(errors, "brc: why: {text}; threads {registered}")?;
-    put_thread(errors, &standing)?;
-    if let Some(meant) = standing.meant {
-        put_meant(errors, &meant)?;
+    let condition = Fact::Refused(refused.event.step, refused.refusal);
+    let threads = Fact::Threads(standing.registered);
+    let status = Fact::Status(standing.thread, standing.status);
+    let hand = Fact::Hand(standing.hand);
+    let locked = Fact::Locked(standing.locked);
+    match standing.meant {
+        None => put_facts(
+            errors,
+            &[condition, threads, status, hand, locked, Fact::Ends],
+        ),
+        Some(meant) => put_facts(
+            errors,
+            &[
+                condition,
+                threads,
+                status,
+                hand,
+                locked,
+                Fact::Cell(meant.cell),
+                Fact::Owner(meant.owner),
+                Fact::Kind(meant.kind),
+                Fact::Local(meant.local),
+                Fact::Shared(meant.count),
+                Fact::State(meant.state),
+                Fact::Ends,
+            ],
+        ),
     }
-    writeln!(errors)
 }
 
 /// Writes the line that says why a trace is refused.
-pub(crate) fn put_why<E: Write>(errors: &mut E, why: &Why) -> io::Result<()> {
+pub(crate) fn put_why<E: Write>(errors: &mut E, why: &Why) -> Result<(), Fault>
+    ensures { Puts (E.contents errors.old) (E.contents errors.new) result (why_line why.now) }
+{
     match why {
-        Why::TooLong => writeln!(errors, "brc: why: it has more than 16777216 bytes"),
+        Why::TooLong => put_bytes(errors, b"brc: why: it has more than 16777216 bytes\n"),
         Why::Bad { cause, .. } => put_cause(errors, *cause),
         Why::Refused(refused) => put_refused(errors, refused),
     }

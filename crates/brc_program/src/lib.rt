@@ -9,9 +9,10 @@
 mod answering;
 mod command;
 mod explanations;
-mod firm;
+mod facts;
 mod gate;
 mod help;
+mod telling;
 
 pub use answering::{program, refuse};
 pub use command::{Invocation, read_words};

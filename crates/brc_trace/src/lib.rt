@@ -24,5 +24,6 @@ pub use reading::read_trace;
 pub use replaying::run_replay;
 pub use standing::{Meant, Standing};
 pub use trace::Trace;
-pub use world_text::write_world;
+pub use world_text::{word_of_state, write_world};
+pub use world_thread::{word_of_phase, word_of_status};
 pub use writing::write_trace;

@@ -17,7 +17,8 @@ use brc_words::{Fault, GLOBALS, Kind, Owner, State};
 use std::alloc::Allocator;
 use std::io::Write;
 
-fn word_of_state(state: State) -> Keyword
+/// The state of a shared word, as texts say it.
+pub fn word_of_state(state: State) -> Keyword
     ensures { result ≡ state_word state }
 {
     match state {

@@ -24,7 +24,8 @@ pub(crate) enum Pile {
     Work,
 }
 
-fn word_of_status(status: Status) -> Keyword
+/// How far a thread's life is, as texts say it.
+pub fn word_of_status(status: Status) -> Keyword
     ensures { result ≡ status_word status }
 {
     match status {
@@ -36,7 +37,8 @@ fn word_of_status(status: Status) -> Keyword
     }
 }
 
-fn word_of_phase(phase: Phase) -> Keyword
+/// What a hand is busy with, as texts say it.
+pub fn word_of_phase(phase: Phase) -> Keyword
     ensures { result ≡ phase_word phase }
 {
     match phase {

@@ -1,0 +1,42 @@
+-- What stands on standard error where the program, or what it was asked for, is refused.
+use Rattle.std.specs.Prelude.{◌≡◌, ◌⊎◌, ℕ, List, [], ◌∷◌, ◌++◌, codes, decimal, Option, Some, None}
+use Rattle.std.specs.Io.KnownBytes.{Appends}
+use Rattle.brc_words.specs.declared.fault.Fault.{Fault}
+use Rattle.brc_words.specs.declared.fault.Fault.TheVariants as faults
+use Rattle.brc_words.specs.declared.fault.Reason.TheVariants as reasons
+use Rattle.brc_words.specs.Faults.{number_of, name_of}
+use Rattle.brc_text.specs.Puts.{PutsUpTo}
+use Rattle.brc_trace.specs.declared.explaining.Unreplayed.{Unreplayed}
+use Rattle.brc_trace.specs.declared.explaining.Why.{Why}
+use Rattle.brc_program.specs.Explanations.{together, why_line}
+use Rattle.brc_program.specs.Statuses.{status_of}
+
+-- a line of the text is not this
+abbrev pub bad_line : ℕ → List ℕ → List ℕ
+bad_line line what = together (codes "brc: line " ∷ decimal line ∷ codes ": not " ∷ what ∷ (10 ∷ []) ∷ [])
+
+-- a fault by its number and its name
+abbrev pub numbered_line : ℕ → List ℕ → List ℕ
+numbered_line number name = together (codes "brc: fault " ∷ decimal number ∷ codes " " ∷ name ∷ (10 ∷ []) ∷ [])
+
+-- the line of a fault
+abbrev pub fault_line : Fault → List ℕ
+fault_line faults.BadOptions = codes "brc: bad command line" ++ (10 ∷ [])
+fault_line (faults.BadTrace line reasons.NotALine) = bad_line line (codes "a trace line")
+fault_line (faults.BadTrace line reasons.NotEnabled) = bad_line line (codes "enabled")
+fault_line (faults.BadScript line) = bad_line line (codes "a script line")
+fault_line fault = numbered_line (number_of fault) (name_of fault)
+
+-- and behind it that of why it came, where that is known
+abbrev pub with_why : List ℕ → Option Why → List ℕ
+with_why line None = line
+with_why line (Some why) = line ++ why_line why
+
+abbrev pub told_text : Unreplayed → List ℕ
+told_text failed = with_why (fault_line failed.fault) failed.why
+
+-- all of it stands behind what was there, and the status is the fault's; or a front of it does, and the status is 5
+abbrev pub Tells : Option (List ℕ) → Option (List ℕ) → Unreplayed → ℕ → Type 0
+Tells old new failed status =
+    (Appends old new (told_text failed) × (status ≡ status_of failed.fault))
+    ⊎ ((rest : List ℕ) × PutsUpTo old new (told_text failed) rest × (status ≡ 5))

@@ -1,0 +1,84 @@
+//! Error lines: what a fault is, and where it is known why it came.
+
+ghost use Rattle.std.specs.Prelude.{[], ◌∷◌};
+ghost use Rattle.brc_text.specs.Puts.{Puts};
+ghost use Rattle.brc_program.specs.Errors.{bad_line, numbered_line, fault_line, told_text};
+ghost use Rattle.brc_program.specs.Explanations.{together};
+
+use crate::explanations::put_why;
+use brc_output::put_parts;
+use brc_text::put_bytes;
+use brc_trace::Unreplayed;
+use brc_words::{Fault, Reason};
+use itoa::Buffer;
+use std::io::Write;
+
+/// Writes the line of these words.
+fn put_words<E: Write>(
+    errors: &mut E,
+    before: &[u8],
+    number: &[u8],
+    between: &[u8],
+    text: &[u8],
+) -> Result<(), Fault>
+    ensures { Puts (E.contents errors.old) (E.contents errors.new) result
+        (together (before.now ∷ number.now ∷ between.now ∷ text.now ∷ (10 ∷ []) ∷ [])) }
+{
+    put_parts(errors, &[before, number, between, text, b"\n"])
+}
+
+/// Writes that a line is not what it should be.
+fn put_bad_line<E: Write>(errors: &mut E, line: u32, what: &[u8]) -> Result<(), Fault>
+    ensures { Puts (E.contents errors.old) (E.contents errors.new) result (bad_line line what.now) }
+{
+    put_words(
+        errors,
+        b"brc: line ",
+        Buffer::new().format(line).as_bytes(),
+        b": not ",
+        what,
+    )
+}
+
+/// Writes a fault by its number and its name.
+fn put_numbered<E: Write>(errors: &mut E, number: u8, name: &str) -> Result<(), Fault>
+    ensures { Puts (E.contents errors.old) (E.contents errors.new) result (numbered_line number name.now) }
+{
+    put_words(
+        errors,
+        b"brc: fault ",
+        Buffer::new().format(number).as_bytes(),
+        b" ",
+        name.as_bytes(),
+    )
+}
+
+/// Writes the line of a fault.
+fn put_fault<E: Write>(errors: &mut E, fault: Fault) -> Result<(), Fault>
+    ensures { Puts (E.contents errors.old) (E.contents errors.new) result (fault_line fault) }
+{
+    match fault {
+        Fault::BadOptions => put_bytes(errors, b"brc: bad command line\n"),
+        Fault::BadTrace {
+            line,
+            reason: Reason::NotALine,
+        } => put_bad_line(errors, line, b"a trace line"),
+        Fault::BadTrace {
+            line,
+            reason: Reason::NotEnabled,
+        } => put_bad_line(errors, line, b"enabled"),
+        Fault::BadScript { line } => put_bad_line(errors, line, b"a script line"),
+        _ => put_numbered(errors, fault.number(), fault.name()),
+    }
+}
+
+/// Writes the line of a fault, and where it is known why it came, the line that says so.
+pub(crate) fn put_told<E: Write>(errors: &mut E, failed: &Unreplayed) -> Result<(), Fault>
+    ensures { Puts (E.contents errors.old) (E.contents errors.new) result (told_text failed.now) }
+{
+    let Some(why) = &failed.why else {
+        return put_fault(errors, failed.fault);
+    };
+    put_fault(errors, failed.fault)?;
+    put_why(errors, why)
+}
