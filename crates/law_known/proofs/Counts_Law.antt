@@ -19,7 +19,8 @@ use Rattle.law_world.specs.declared.row.Phase.TheVariants as phases
 use Rattle.law_world.specs.declared.row.Stage.{Stage}
 use Rattle.law_world.specs.declared.row.Stage.TheVariants as stages
 use Rattle.law_world.specs.Lists.{is_marked, one}
-use Rattle.law_world.specs.Heap.{Heap, opening, words_for, cell_at, row_at, worklist_at, no_cell, no_row, is_immortal}
+use Rattle.law_known.specs.Start.{start_of}
+use Rattle.law_world.specs.Heap.{Heap, words_for, cell_at, row_at, worklist_at, no_cell, no_row, is_immortal, again_row}
 use Rattle.law_world.specs.Heap.{is_registered, AreOptions}
 use Rattle.law_world.specs.Steps.{closed_more, opens_next, edition_ok, stage_after, enabled, after, after_target}
 use Rattle.law_world.specs.Steps.{target_at, target_ok, cell_after, is_mine, is_owned_by, is_active, is_default}
@@ -373,6 +374,11 @@ counts_follow t cells =
         λ c mortal. new_count h t c
             (reached_sound h reached) last mortal,
       );
+      again = λ h number entries reached size vacated. (
+        parts.again h number entries reached size vacated,
+        λ c mortal. inactive_count t _ (cell_at h c)
+            (ap (λ (r : Row). is_active r.stage) (read_here h.rows t again_row no_row vacated.inside)),
+      );
       others = λ h e log reached ok others before. (
         parts.others h e log reached ok others before.0,
         λ c mortal. others_count h e t c reached ok others mortal ∙ before.1 c mortal,
@@ -391,10 +397,10 @@ counts_follow t cells =
 
 -- a registered thread counts its own objects as its own items say
 pub counts_are_told : (cells limit : ℕ) (items : ItemRun) (t c : ℕ) → AreOptions cells limit
-    → AreItems (opening cells limit) items
-    → is_registered (world_of_items (opening cells limit) items) t ≡ true → FIRST_MORTAL ≤ c
-    → own_count t (row_at (world_of_items (opening cells limit) items) t).stage
-    (cell_at (world_of_items (opening cells limit) items) c) ≡ counts_of cells (own t items) c
+    → AreItems (start_of cells limit) items
+    → is_registered (world_of_items (start_of cells limit) items) t ≡ true → FIRST_MORTAL ≤ c
+    → own_count t (row_at (world_of_items (start_of cells limit) items) t).stage
+    (cell_at (world_of_items (start_of cells limit) items) c) ≡ counts_of cells (own t items) c
 unfolding Counts
 counts_are_told cells limit items t c options are there mortal =
     (tells t cells (Counts t cells) (counts_follow t cells) limit items options are there).1 c mortal

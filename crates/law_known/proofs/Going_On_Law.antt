@@ -20,7 +20,7 @@ use Rattle.law_known.specs.Counts.{counts_by}
 use Rattle.law_known.specs.Taken.{taken_by}
 use Rattle.law_known.specs.Locked.{locked_on}
 use Rattle.law_known.specs.Going_On.{Known, known_of, GoesOn, handing, counting, giving_up, taking, counting_down}
-use Rattle.law_known.specs.Going_On.{seeing_zero, asking, dropping_last, settling, knows_after, knows_apart}
+use Rattle.law_known.specs.Going_On.{seeing_zero, asking, dropping_last, settling, starting_again, knows_after, knows_apart}
 
 -- ---- the table says what the definitions over items say
 
@@ -93,9 +93,9 @@ goes_apart cells items (Reopen k) number entries apart =
     record { part_is = refl; counts_are = λ d. refl; blocks_are = refl; lock_is = refl }
 goes_apart cells items _ number entries apart = absurd (true≢false (sym apart))
 
--- the root's steps, which are its items alone
+-- the root's steps; a number that is used again begins with the first of them
 pub register_goes : (cells : ℕ) (items : List Item) (u number : ℕ) (entries : List ℕ)
-    → GoesOn cells items (Did (Register u) number entries) (known_of cells items)
+    → GoesOn cells items (Did (Register u) number entries) (starting_again (known_of cells items))
 register_goes cells items u number entries = record {
   part_is = refl;
   counts_are = λ d. refl;

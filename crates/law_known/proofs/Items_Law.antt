@@ -1,5 +1,5 @@
 -- A thread's own part of the world is what its own items say.
-use Rattle.std.proofs.Common.{◌≡◌, ◌≢◌, ℕ, Bool, true, false, List, [], length, replicate, Some, None, sym, ◌∙◌, ap}
+use Rattle.std.proofs.Common.{◌≡◌, ◌≢◌, ℕ, Bool, true, false, List, [], ◌∷◌, length, replicate, Some, None, sym, ◌∙◌, ap}
 use Rattle.std.proofs.Common.{subst, arith}
 use Rattle.std.proofs.lemmas.List.{get_or_push}
 use Rattle.std.proofs.lemmas.Bool.{true≢false}
@@ -8,10 +8,14 @@ use Rattle.law_world.specs.declared.event.Event.{Event}
 use Rattle.law_world.specs.declared.event.Step.{Step}
 use Rattle.law_world.specs.declared.row.Row.{Row}
 use Rattle.law_world.specs.Lists.{place_at, word_at, is_marked, is_bare, is_blank}
-use Rattle.law_world.specs.Heap.{Heap, opening, cell_at, row_at, frame_at, popped_at, worklist_at, new_row, no_row}
+use Rattle.law_known.specs.Start.{start_of}
+use Rattle.law_world.specs.Heap.{Heap, cell_at, row_at, frame_at, popped_at, worklist_at, new_row, no_row, again_row}
+use Rattle.law_world.specs.declared.event.Step.TheVariants.{Register}
+use Rattle.law_world.proofs.Changes.{read_here}
+use Rattle.law_world.proofs.Reusing.{Vacated}
 use Rattle.law_world.specs.Heap.{is_registered, AreOptions}
 use Rattle.law_world.specs.Steps.{enabled, after, after_target, target, target_at, locked_cell, registered, gathered_in}
-use Rattle.law_world.specs.Steps.{locked_at}
+use Rattle.law_world.specs.Steps.{locked_at, registered_again}
 use Rattle.law_world.specs.Holding.{lives}
 use Rattle.law_world.specs.Sound.{IsSound, WorklistFits}
 use Rattle.law_lasting.specs.Staying.{IsAnothers, SameOwn}
@@ -76,6 +80,26 @@ new_is h t sound last =
           ∙ new_mark (length h.cells) c));
     }
 
+-- ---- a number that is used again
+
+again_is : (h : Heap) (t number : ℕ) (entries : List ℕ) → IsSound h → Vacated h t
+    → IsPart (registered_again h t) t (part_of (length h.cells) (Did (Register t) number entries ∷ []))
+again_is h t number entries sound vacated =
+    let row : row_at (registered_again h t) t ≡ again_row = read_here h.rows t again_row no_row vacated.inside in
+    let worklist : worklist_at (registered_again h t) t ≡ replicate (length h.cells) false =
+    read_here h.worklists t _ [] (omega (arith, sound.shaped.worklists, vacated.inside)) in
+    record {
+      row_is = row;
+      frame_is = read_here h.frames t [] [] (omega (arith, sound.shaped.frames, vacated.inside));
+      popped_is = read_here h.popped t _ [] (omega (arith, sound.shaped.popped, vacated.inside));
+      work_is = worklist;
+      locked_has = λ c at. absurd
+          (let e : None ≡ Some c = ap (λ (r : Row). locked_cell (frame_at (registered_again h t) t) r.locked) (sym row)
+          ∙ at in cc);
+      work_has = λ c marked. absurd (true≢false (sym marked ∙ ap (λ (ws : List Bool). is_marked ws c) worklist
+          ∙ new_mark (length h.cells) c));
+    }
+
 -- gathering a thread changes nothing of its part
 gathered_is : (h : Heap) (u t : ℕ) (part : Part) → IsPart h t part → IsPart (gathered_in h u) t part
 gathered_is h u t part is = record {
@@ -121,6 +145,9 @@ pub part_follows : (t cells : ℕ) → Follows t cells (λ h log. IsPart h t (pa
 part_follows t cells = record {
   starts = λ h reached size last. subst (λ n. IsPart (registered h) t (new_part n)) size
       (new_is h t (reached_sound h reached) last);
+  again = λ h number entries reached size vacated.
+      subst (λ n. IsPart (registered_again h t) t (part_of n (Did (Register t) number entries ∷ []))) size
+      (again_is h t number entries (reached_sound h reached) vacated);
   others = λ h e log reached ok others before. others_part h e t (part_of cells log) (reached_sound h reached) ok
       others before;
   owns = λ h s number entries log reached size fit may told_is found_is before.
@@ -134,36 +161,36 @@ part_follows t cells = record {
 
 -- a registered thread's part of the world is what its own items say
 pub parts_are_told : (cells limit : ℕ) (items : ItemRun) (t : ℕ) → AreOptions cells limit
-    → AreItems (opening cells limit) items
-    → is_registered (world_of_items (opening cells limit) items) t ≡ true
-    → IsPart (world_of_items (opening cells limit) items) t (part_of cells (own t items))
+    → AreItems (start_of cells limit) items
+    → is_registered (world_of_items (start_of cells limit) items) t ≡ true
+    → IsPart (world_of_items (start_of cells limit) items) t (part_of cells (own t items))
 parts_are_told cells limit items t options are there = tells t cells (λ h log. IsPart h t (part_of cells log))
     (part_follows t cells) limit items options are there
 
 -- the cell that a step means by the thread's own items is the one that it means in the world
 pub meant_is_told : (cells limit : ℕ) (items : ItemRun) (t : ℕ) (s : Step) → AreOptions cells limit
-    → AreItems (opening cells limit) items
-    → is_registered (world_of_items (opening cells limit) items) t ≡ true
-    → meant (part_of cells (own t items)) s ≡ target_at (world_of_items (opening cells limit) items) t s
+    → AreItems (start_of cells limit) items
+    → is_registered (world_of_items (start_of cells limit) items) t ≡ true
+    → meant (part_of cells (own t items)) s ≡ target_at (world_of_items (start_of cells limit) items) t s
 meant_is_told cells limit items t s options are there =
-    part_target (world_of_items (opening cells limit) items) t (part_of cells (own t items)) s
+    part_target (world_of_items (start_of cells limit) items) t (part_of cells (own t items)) s
     (parts_are_told cells limit items t options are there)
 
 -- a frame whose places are all vacant is bare in the world, and popped words without a bit are blank there
 pub bare_is_told : (cells limit : ℕ) (items : ItemRun) (t : ℕ) → AreOptions cells limit
-    → AreItems (opening cells limit) items
-    → is_registered (world_of_items (opening cells limit) items) t ≡ true
+    → AreItems (start_of cells limit) items
+    → is_registered (world_of_items (start_of cells limit) items) t ≡ true
     → ((k : ℕ) → place_at (part_of cells (own t items)).frame k ≡ None)
-    → is_bare (frame_at (world_of_items (opening cells limit) items) t) ≡ true
+    → is_bare (frame_at (world_of_items (start_of cells limit) items) t) ≡ true
 bare_is_told cells limit items t options are there vacant =
-    all_vacant (frame_at (world_of_items (opening cells limit) items) t)
+    all_vacant (frame_at (world_of_items (start_of cells limit) items) t)
     (λ k. ap (λ f. place_at f k) (parts_are_told cells limit items t options are there).frame_is ∙ vacant k)
 
 pub blank_is_told : (cells limit : ℕ) (items : ItemRun) (t : ℕ) → AreOptions cells limit
-    → AreItems (opening cells limit) items
-    → is_registered (world_of_items (opening cells limit) items) t ≡ true
+    → AreItems (start_of cells limit) items
+    → is_registered (world_of_items (start_of cells limit) items) t ≡ true
     → ((k : ℕ) → word_at (part_of cells (own t items)).popped k ≡ 0)
-    → is_blank (popped_at (world_of_items (opening cells limit) items) t) ≡ true
+    → is_blank (popped_at (world_of_items (start_of cells limit) items) t) ≡ true
 blank_is_told cells limit items t options are there none =
-    all_blank (popped_at (world_of_items (opening cells limit) items) t)
+    all_blank (popped_at (world_of_items (start_of cells limit) items) t)
     (λ k. ap (λ (ws : List ℕ). word_at ws k) (parts_are_told cells limit items t options are there).popped_is ∙ none k)

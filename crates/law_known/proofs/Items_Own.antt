@@ -12,7 +12,8 @@ use Rattle.law_world.specs.declared.event.Dropped.TheVariants as dropped
 use Rattle.law_world.specs.declared.event.LastDropped.TheVariants as lasts
 use Rattle.law_world.specs.declared.event.Step.{Step}
 use Rattle.law_world.specs.declared.event.Step.TheVariants.{Birth, LocalUp, LocalDown, Free, SharedUp, SharedDown, Ask}
-use Rattle.law_world.specs.declared.event.Step.TheVariants.{LastDown, Drain, Close, Lock, Unlock}
+use Rattle.law_world.specs.declared.event.Step.TheVariants.{LastDown, Drain, Close, Lock, Unlock, Register}
+use Rattle.law_world.specs.declared.row.Hand.{Hand}
 use Rattle.law_world.specs.declared.row.Row.{Row}
 use Rattle.law_world.specs.declared.row.Stage.{Stage}
 use Rattle.law_world.specs.declared.row.Stage.TheVariants as stages
@@ -23,9 +24,9 @@ use Rattle.law_world.specs.Steps.{target, target_at, target_ok, after_target, ke
 use Rattle.law_world.specs.Steps.{entry_of, dropped_cell, lock_ok, stage_ok, closes_next, is_closed, is_shut, row_after}
 use Rattle.law_world.specs.Steps.{locked_after, allocs_after, frees_after, frame_after, frame_without, frame_changed}
 use Rattle.law_world.specs.Steps.{entries_after, entries_without, entries_changed, gone, takes_block, worklist_after}
-use Rattle.law_world.specs.Steps.{stage_after, drained_word, with_drained, locked_at}
+use Rattle.law_world.specs.Steps.{stage_after, drained_word, with_drained, locked_at, hand_ok}
 use Rattle.law_world.specs.Sound.{IsSound, Locks}
-use Rattle.law_known.specs.Items.{closing_bit, told_at, told_of, told_apart, finds, found_at, Part, cell_told}
+use Rattle.law_known.specs.Items.{own_stage_after, closing_bit, told_at, told_of, told_apart, finds, found_at, Part, cell_told}
 use Rattle.law_known.specs.Items.{popped_told, put, has_found, has_without, has_after, part_by, part_after, IsPart, Did}
 use Rattle.law_world.proofs.Changes.{read_here}
 use Rattle.law_world.proofs.Asking.{May, on_cell, Vacant, vacant}
@@ -298,6 +299,12 @@ popped_alike h t (Close k) may =
     taken_alike h t k (next_open (row_at h t).stage k next)
 popped_alike h t _ may = refl
 
+-- no thread registers
+own_stage : (words : ℕ) (stage : Stage) (hand : Hand) (s : Step) → hand_ok hand s ≡ true
+    → own_stage_after words s stage ≡ stage_after words s stage
+own_stage words stage hand (Register u) ok = absurd (true≢false (sym ok))
+own_stage words stage hand _ ok = refl
+
 kept_part : (h : Heap) (t : ℕ) (s : Step) (entries : List ℕ) (has : ℕ → List ℕ) → IsSound h → May h t s → Knows h t has
     → IsPart (kept_cells h t s) t (part_by (length h.cells) (now h t has) s (told_apart h t s) entries None)
 kept_part h t s entries has sound may knows =
@@ -306,7 +313,8 @@ kept_part h t s entries has sound may knows =
           (row_at h t).stage;
     } = read_here h.rows t _ no_row may.inside in
     record {
-      row_is = row;
+      row_is = row ∙ ap (λ stage. record (row_at h t) { stage = stage })
+          (sym (own_stage (words_for (length h.cells)) (row_at h t).stage (row_at h t).hand s may.hand));
       frame_is = refl;
       popped_is = read_here h.popped t _ [] (omega (arith, sound.shaped.popped, may.inside)) ∙ popped_alike h t s may;
       work_is = refl;

@@ -9,7 +9,9 @@ use Rattle.law_world.specs.declared.event.Event.{Event}
 use Rattle.law_world.specs.declared.event.Step.{Step}
 use Rattle.law_world.specs.declared.event.Step.TheVariants.{Enqueue, Register, Gather}
 use Rattle.law_world.specs.Lists.{word_at, with_bit}
-use Rattle.law_world.specs.Heap.{Heap, opening, queue_at, cell_at, words_for}
+use Rattle.law_known.specs.Start.{runs_in, start_of}
+use Rattle.law_world.specs.declared.edition.Edition.{Edition}
+use Rattle.law_world.specs.Heap.{Heap, opening_in, queue_at, cell_at, words_for}
 use Rattle.law_world.specs.Steps.{after, after_target, root_after, registered, registered_again, target_at, is_shut}
 use Rattle.law_world.specs.Steps.{queues_after, drained_word, without_drained}
 use Rattle.law_world.specs.Runs.{world_after}
@@ -97,18 +99,24 @@ after_small h e small =
       | inr thread ↦ subst P (sym thread) (target_small h e.thread e.step (target_at h e.thread e.step) small)
     ]
 
-run_small : (cells limit : ℕ) (run : List Event) → AllSmall (world_after (opening cells limit) run).queues
+run_small : (edition : Edition) (cells limit : ℕ) (run : List Event)
+    → AllSmall (world_after (opening_in edition cells limit) run).queues
 unfolding AllSmall Small
-run_small cells limit [] = opens
+run_small edition cells limit [] = opens
   where
     opens : (t k : ℕ) → word_at (get_or ([] ∷ []) t []) k < 4294967296
     opens zero k = omega arith
     opens (suc t) k = omega arith
-run_small cells limit (e ∷ run) = after_small (world_after (opening cells limit) run) e (run_small cells limit run)
+run_small edition cells limit (e ∷ run) = after_small (world_after (opening_in edition cells limit) run) e
+    (run_small edition cells limit run)
 
-pub run_queues : (cells limit : ℕ) (run : List Event) → QueuesFit (world_after (opening cells limit) run)
+pub queues_in : (edition : Edition) (cells limit : ℕ) (run : List Event)
+    → QueuesFit (world_after (opening_in edition cells limit) run)
 unfolding AllSmall Small
-run_queues cells limit run = record { small = run_small cells limit run }
+queues_in edition cells limit run = record { small = run_small edition cells limit run }
+
+pub run_queues : (cells limit : ℕ) (run : List Event) → QueuesFit (world_after (start_of cells limit) run)
+run_queues cells limit run = queues_in runs_in cells limit run
 
 -- ---- as many cells
 
@@ -135,6 +143,6 @@ after_cells h e =
       | inr thread ↦ subst P (sym thread) (target_cells h e.thread e.step (target_at h e.thread e.step))
     ]
 
-pub run_cells : (cells limit : ℕ) (run : List Event) → length (world_after (opening cells limit) run).cells ≡ cells
+pub run_cells : (cells limit : ℕ) (run : List Event) → length (world_after (start_of cells limit) run).cells ≡ cells
 run_cells cells limit [] = length-opening cells
-run_cells cells limit (e ∷ run) = after_cells (world_after (opening cells limit) run) e ∙ run_cells cells limit run
+run_cells cells limit (e ∷ run) = after_cells (world_after (start_of cells limit) run) e ∙ run_cells cells limit run

@@ -1,3 +1,4 @@
+pub mod Starting
 pub mod Items_Told
 pub mod Items_Queues
 pub mod Items_Own

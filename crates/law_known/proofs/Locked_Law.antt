@@ -9,7 +9,8 @@ use Rattle.law_world.specs.declared.event.Step.{Step}
 use Rattle.law_world.specs.declared.event.Step.TheVariants.{LocalUp, SharedUp, Lock, Unlock}
 use Rattle.law_world.specs.declared.row.Row.{Row}
 use Rattle.law_world.specs.Lists.{place_at, filled, is_marked}
-use Rattle.law_world.specs.Heap.{Heap, opening, entries_at, row_at, frame_at, worklist_at, no_row, new_row}
+use Rattle.law_known.specs.Start.{start_of}
+use Rattle.law_world.specs.Heap.{Heap, entries_at, row_at, frame_at, worklist_at, no_row, new_row, again_row}
 use Rattle.law_world.specs.Heap.{is_registered, AreOptions}
 use Rattle.law_world.specs.Steps.{enabled, after, after_target, stepped, target_at, target_ok, lock_ok, locked_cell}
 use Rattle.law_world.specs.Steps.{locked_after, locked_at, gathered_in}
@@ -24,7 +25,7 @@ use Rattle.law_world.proofs.Changes.{read_here}
 use Rattle.law_world.proofs.Framing.{place_at-filled_else}
 use Rattle.law_world.proofs.Reached.{reached_sound}
 use Rattle.law_lasting.proofs.Lasting.{others_own, locked_stays, locked_mutex, dead_unlocked}
-use Rattle.law_lasting.proofs.Standing.{run_reached}
+use Rattle.law_known.proofs.Starting.{run_reached}
 use Rattle.law_known.proofs.Items_Law.{parts_are_told}
 use Rattle.law_known.proofs.Items_Runs.{events_run}
 use Rattle.law_known.proofs.Items_Tells.{Follows, tells}
@@ -163,6 +164,8 @@ gathered_lock h u t (Some lock) is = record { locked = is.locked; cell = is.cell
 locked_follows : (t cells : ℕ) → Follows t cells (λ h log. LockIs h t (locked_of log))
 locked_follows t cells = record {
   starts = λ h reached size last. ap (λ (r : Row). r.locked) (get_or_push h.rows new_row no_row t (sym last));
+  again = λ h number entries reached size vacated. ap (λ (r : Row). r.locked)
+      (read_here h.rows t again_row no_row vacated.inside);
   others = λ h e log reached ok others before. others_lock h e t (locked_of log) reached ok others before;
   owns = λ h s number entries log reached size fit may told_is found_is before. owns_lock h t s number entries
       (locked_of log) (reached_sound h reached) may found_is before;
@@ -173,9 +176,9 @@ locked_follows t cells = record {
 
 -- a registered thread's lock, and the entries of what it has locked, are what its own items say
 lock_is_told : (cells limit : ℕ) (items : ItemRun) (t : ℕ) → AreOptions cells limit
-    → AreItems (opening cells limit) items
-    → is_registered (world_of_items (opening cells limit) items) t ≡ true
-    → LockIs (world_of_items (opening cells limit) items) t (locked_of (own t items))
+    → AreItems (start_of cells limit) items
+    → is_registered (world_of_items (start_of cells limit) items) t ≡ true
+    → LockIs (world_of_items (start_of cells limit) items) t (locked_of (own t items))
 lock_is_told cells limit items t options are there = tells t cells (λ h log. LockIs h t (locked_of log))
     (locked_follows t cells) limit items options are there
 
@@ -186,25 +189,25 @@ row_locked h t None is = is
 row_locked h t (Some lock) is = is.locked
 
 pub place_is_told : (cells limit : ℕ) (items : ItemRun) (t : ℕ) → AreOptions cells limit
-    → AreItems (opening cells limit) items
-    → is_registered (world_of_items (opening cells limit) items) t ≡ true
+    → AreItems (start_of cells limit) items
+    → is_registered (world_of_items (start_of cells limit) items) t ≡ true
     → (part_of cells (own t items)).row.locked ≡ place_locked (locked_of (own t items))
 place_is_told cells limit items t options are there =
-    let h : Heap = world_of_items (opening cells limit) items in
+    let h : Heap = world_of_items (start_of cells limit) items in
     let part : IsPart h t (part_of cells (own t items)) = parts_are_told cells limit items t options are there in
     ap (λ (r : Row). r.locked) (sym part.row_is)
     ∙ row_locked h t (locked_of (own t items)) (lock_is_told cells limit items t options are there)
 
 -- and the cell in the locked place has the entries found
 pub locked_is_told : (cells limit : ℕ) (items : ItemRun) (t place : ℕ) (entries : List ℕ) → AreOptions cells limit
-    → AreItems (opening cells limit) items
-    → is_registered (world_of_items (opening cells limit) items) t ≡ true
+    → AreItems (start_of cells limit) items
+    → is_registered (world_of_items (start_of cells limit) items) t ≡ true
     → locked_of (own t items) ≡ Some (place, entries)
-    → HasLocked cells (world_of_items (opening cells limit) items) t (own t items) place entries
+    → HasLocked cells (world_of_items (start_of cells limit) items) t (own t items) place entries
 locked_is_told cells limit items t place entries options are there lock =
-    let h : Heap = world_of_items (opening cells limit) items in
+    let h : Heap = world_of_items (start_of cells limit) items in
     let reached : IsReached h = run_reached cells limit (events_of items) options
-    (events_run (opening cells limit) items are) in
+    (events_run (start_of cells limit) items are) in
     let is : LocksFound h t place entries = subst (LockIs h t) lock
     (lock_is_told cells limit items t options are there) in
     let part : IsPart h t (part_of cells (own t items)) = parts_are_told cells limit items t options are there in

@@ -11,13 +11,14 @@ use Rattle.brc_words.specs.declared.owner.Owner.TheVariants as owners
 use Rattle.law_world.specs.declared.row.Row.{Row}
 use Rattle.law_world.specs.declared.row.Hand.TheVariants as hands
 use Rattle.law_world.specs.Lists.{one, is_marked}
-use Rattle.law_world.specs.Heap.{Heap, opening, cell_at, row_at, worklist_at, is_registered, no_row, AreOptions}
+use Rattle.law_known.specs.Start.{start_of}
+use Rattle.law_world.specs.Heap.{Heap, cell_at, row_at, worklist_at, is_registered, no_row, AreOptions}
 use Rattle.law_world.specs.Steps.{is_mine, is_owned_by, is_active, is_merged, owned_are_marked}
 use Rattle.law_world.specs.Sound.{IsSound, grips, grips_by_owner, gripped}
 use Rattle.law_world.proofs.Asking.{mine}
 use Rattle.law_world.proofs.Counting.{sum_none, hand_apart}
 use Rattle.law_world.proofs.Reached.{reached_sound}
-use Rattle.law_lasting.proofs.Standing.{run_reached}
+use Rattle.law_known.proofs.Starting.{run_reached}
 use Rattle.law_known.specs.Items.{ItemRun, AreItems, world_of_items, events_of, own}
 use Rattle.law_known.specs.Counts.{own_count, counts_of}
 use Rattle.law_known.specs.Owned.{IsAlive}
@@ -91,14 +92,14 @@ uncounted_on h t c sound mortal owner none free = elim (cases_Bool (is_marked (w
 -- ---- what the own items tell
 
 module _ (cells limit : ℕ) (items : ItemRun) (t c : ℕ) (options : AreOptions cells limit)
-    (are : AreItems (opening cells limit) items)
-    (there : is_registered (world_of_items (opening cells limit) items) t ≡ true) (mortal : FIRST_MORTAL ≤ c) where
+    (are : AreItems (start_of cells limit) items)
+    (there : is_registered (world_of_items (start_of cells limit) items) t ≡ true) (mortal : FIRST_MORTAL ≤ c) where
   abbrev h : Heap
-  h = world_of_items (opening cells limit) items
+  h = world_of_items (start_of cells limit) items
 
   sound : IsSound h
   sound = reached_sound h (run_reached cells limit (events_of items) options
-      (events_run (opening cells limit) items are))
+      (events_run (start_of cells limit) items are))
 
   told : own_count t (row_at h t).stage (cell_at h c) ≡ counts_of cells (own t items) c
   told = counts_are_told cells limit items t c options are there mortal
@@ -130,10 +131,10 @@ owner_is t (owners.Claimed s) is = absurd (true≢false (sym is))
 owner_is t owners.Free is = absurd (true≢false (sym is))
 
 module _ (cells limit : ℕ) (items : ItemRun) (t : ℕ) (options : AreOptions cells limit)
-    (are : AreItems (opening cells limit) items)
-    (there : is_registered (world_of_items (opening cells limit) items) t ≡ true) where
+    (are : AreItems (start_of cells limit) items)
+    (there : is_registered (world_of_items (start_of cells limit) items) t ≡ true) where
   abbrev w : Heap
-  w = world_of_items (opening cells limit) items
+  w = world_of_items (start_of cells limit) items
 
   of_cell : is_active (row_at w t).stage ≡ true → (row_at w t).hand ≡ hands.Free
       → ((c : ℕ) → FIRST_MORTAL ≤ c → counts_of cells (own t items) c ≡ 0)
@@ -146,7 +147,7 @@ module _ (cells limit : ℕ) (items : ItemRun) (t : ℕ) (options : AreOptions c
           | inl fixed ↦
               let e : owners.Thread t ≡ owners.Nobody = sym owner
               ∙ ((reached_sound w (run_reached cells limit (events_of items) options
-              (events_run (opening cells limit) items are))).immortals c fixed).owner in
+              (events_run (start_of cells limit) items are))).immortals c fixed).owner in
               absurd (cc)
           | inr mortal ↦ uncounted_dead cells limit items t c options are there mortal active free (none c mortal) owner
         ]

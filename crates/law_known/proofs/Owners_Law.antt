@@ -6,7 +6,8 @@ use Rattle.brc_words.specs.declared.limits.TheConstants.{MOST_THREADS}
 use Rattle.brc_words.specs.declared.owner.Owner as owner
 use Rattle.brc_words.specs.declared.owner.Owner.TheVariants as owners
 use Rattle.brc_words.specs.Owners.{word_of}
-use Rattle.law_world.specs.Heap.{Heap, opening, cell_at, is_registered, AreOptions}
+use Rattle.law_known.specs.Start.{start_of}
+use Rattle.law_world.specs.Heap.{Heap, cell_at, is_registered, AreOptions}
 use Rattle.law_world.specs.Steps.{target_at}
 use Rattle.law_world.specs.Runs.{IsReached}
 use Rattle.law_known.specs.Items.{Item, Word, Of, Owner, ItemRun, AreItems, world_of_items, own, Shows}
@@ -43,6 +44,7 @@ owners_follow : (t cells : ℕ) → Follows t cells AreRegistered
 unfolding AreRegistered
 owners_follow t cells = record {
   starts = λ h reached size last q seen low few. absurd (true≢false (sym seen));
+  again = λ h number entries reached size vacated q seen low few. absurd (true≢false (sym seen));
   others = λ h e log reached ok others before q seen low few. registered_stays h e q (before q seen low few);
   owns = λ h s number entries log reached size fit may told found before q seen low few.
       ap (λ n. nat_lt 0 q && nat_lt q n) (same_rows h t s (target_at h t s)) ∙ before q seen low few;
@@ -61,10 +63,10 @@ owners_follow t cells = record {
 
 -- who was found as an owner by a registered thread is registered
 pub owners_are_registered : (cells limit : ℕ) (items : ItemRun) (t q : ℕ) → AreOptions cells limit
-    → AreItems (opening cells limit) items
-    → is_registered (world_of_items (opening cells limit) items) t ≡ true → has_seen_owner (own t items) q ≡ true
+    → AreItems (start_of cells limit) items
+    → is_registered (world_of_items (start_of cells limit) items) t ≡ true → has_seen_owner (own t items) q ≡ true
     → 0 < q → q ≤ MOST_THREADS
-    → is_registered (world_of_items (opening cells limit) items) q ≡ true
+    → is_registered (world_of_items (start_of cells limit) items) q ≡ true
 unfolding AreRegistered
 owners_are_registered cells limit items t q options are there seen low few = tells t cells AreRegistered
     (owners_follow t cells) limit items options are there q seen low few

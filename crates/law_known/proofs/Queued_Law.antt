@@ -13,7 +13,7 @@ use Rattle.law_world.specs.declared.event.Step.{Step}
 use Rattle.law_world.specs.declared.event.Step.TheVariants.{Register}
 use Rattle.law_world.specs.declared.row.Row.{Row}
 use Rattle.law_world.specs.Lists.{bit_of, word_at}
-use Rattle.law_world.specs.Heap.{Heap, row_at, queue_at, no_cell, opening, is_registered, AreOptions}
+use Rattle.law_world.specs.Heap.{Heap, row_at, queue_at, no_cell, is_registered, AreOptions}
 use Rattle.law_world.specs.Steps.{after, after_target, root_after, target_at, registered, registered_again}
 use Rattle.law_world.specs.Runs.{IsReached, world_after}
 use Rattle.law_world.specs.Sound.{held}
@@ -21,10 +21,11 @@ use Rattle.law_world.proofs.Naming.{sum_one}
 use Rattle.law_world.proofs.Reached.{reached_sound}
 use Rattle.law_world.proofs.Headlines.{frees_fit}
 use Rattle.law_lasting.proofs.Lasting.{held_live, live_owner}
-use Rattle.law_lasting.proofs.Standing.{run_reached}
+use Rattle.law_known.specs.Start.{start_of}
+use Rattle.law_known.proofs.Starting.{run_reached}
 use Rattle.law_known.specs.Items.{ItemRun, AreItems, events_of, world_of_items, part_of, own}
 use Rattle.law_known.proofs.Items_Told.{QueuesFit}
-use Rattle.law_known.proofs.Items_Queues.{run_queues}
+use Rattle.law_known.proofs.Items_Queues.{queues_in}
 use Rattle.law_known.proofs.Items_Runs.{events_run}
 use Rattle.law_known.proofs.Items_Law.{parts_are_told}
 
@@ -46,47 +47,9 @@ queued_inside h t c reached on = elim (cases_lt c (length h.cells)) [
       (ap (λ (x : Cell). x.owner) (get_or_past h.cells c no_cell past)))
 ]
 
--- what an event does to a world is the same in either edition
-abbrev in_edition : Edition → Heap → Heap
-in_edition edition h = record h { edition = edition }
-
-event_alike : (edition : Edition) (h : Heap) (e : Event) → after (in_edition edition h) e ≡ in_edition edition
-    (after h e)
-event_alike edition h e = by_thread (e.thread == 0)
-  where
-    by_number : (u : ℕ) (b : Bool)
-        → (if b then registered_again (in_edition edition h) u else registered (in_edition edition h))
-        ≡ in_edition edition (if b then registered_again h u else registered h)
-    by_number u true = refl
-    by_number u false = refl
-
-    by_step : (s : Step) → root_after (in_edition edition h) s ≡ in_edition edition (root_after h s)
-    by_step (Register u) = by_number u (nat_lt u (length h.rows))
-    by_step _ = refl
-
-    by_target : (t : ℕ) (s : Step) (o : Option ℕ) → after_target (in_edition edition h) t s o ≡ in_edition edition
-        (after_target h t s o)
-    by_target t s None = refl
-    by_target t s (Some c) = refl
-
-    by_thread : (b : Bool) → (if b then root_after (in_edition edition h) e.step else after_target
-        (in_edition edition h) e.thread e.step (target_at (in_edition edition h) e.thread e.step))
-        ≡ in_edition edition (if b then root_after h e.step else after_target h e.thread e.step
-        (target_at h e.thread e.step))
-    by_thread true = by_step e.step
-    by_thread false = by_target e.thread e.step (target_at h e.thread e.step)
-
-run_alike : (edition : Edition) (start : Heap) (run : List Event) → world_after (in_edition edition start) run
-    ≡ in_edition edition (world_after start run)
-run_alike edition start [] = refl
-run_alike edition start (e ∷ run) = ap (λ w. after w e) (run_alike edition start run)
-    ∙ event_alike edition (world_after start run) e
-
 pub reached_queues : (h : Heap) → IsReached h → QueuesFit h
 reached_queues h reached =
-    let same = run_alike reached.edition (opening reached.cells reached.limit) reached.run in
-    subst QueuesFit reached.leads_here
-    (subst QueuesFit (sym same) (record { small = (run_queues reached.cells reached.limit reached.run).small }))
+    subst QueuesFit reached.leads_here (queues_in reached.edition reached.cells reached.limit reached.run)
 
 bits_below : (word i : ℕ) → word < 4294967296 → bit_at word i ≡ 1 → i < 32
 bits_below word i small on = elim (cases_lt i 32) [
@@ -113,10 +76,10 @@ pub reached_frees : (h : Heap) (t : ℕ) → IsReached h → (row_at h t).frees 
 reached_frees h t reached = omega (arith, frees_fit h (reached_sound h reached) t)
 
 pub frees_are_few : (cells limit : ℕ) (items : ItemRun) (t : ℕ) → AreOptions cells limit
-    → AreItems (opening cells limit) items
-    → is_registered (world_of_items (opening cells limit) items) t ≡ true
+    → AreItems (start_of cells limit) items
+    → is_registered (world_of_items (start_of cells limit) items) t ≡ true
     → (part_of cells (own t items)).row.frees < 2 ^ 64
 frees_are_few cells limit items t options are there =
-    let h : Heap = world_of_items (opening cells limit) items in
+    let h : Heap = world_of_items (start_of cells limit) items in
     subst (λ (row : Row). row.frees < 2 ^ 64) (parts_are_told cells limit items t options are there).row_is
-    (reached_frees h t (run_reached cells limit (events_of items) options (events_run (opening cells limit) items are)))
+    (reached_frees h t (run_reached cells limit (events_of items) options (events_run (start_of cells limit) items are)))

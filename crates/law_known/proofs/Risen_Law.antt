@@ -12,7 +12,8 @@ use Rattle.law_world.specs.declared.event.Event.{Event}
 use Rattle.law_world.specs.declared.event.Step.{Step}
 use Rattle.law_world.specs.declared.event.Step.TheVariants.{SharedUp, Ask}
 use Rattle.law_world.specs.Lists.{names}
-use Rattle.law_world.specs.Heap.{Heap, opening, cell_at, entries_at, frame_at, worklist_at, is_registered, AreOptions}
+use Rattle.law_known.specs.Start.{start_of}
+use Rattle.law_world.specs.Heap.{Heap, cell_at, entries_at, frame_at, worklist_at, is_registered, AreOptions}
 use Rattle.law_world.specs.Steps.{enabled, after, after_target, target_at, dropped_cell}
 use Rattle.law_world.specs.Runs.{IsReached}
 use Rattle.law_world.specs.Sound.{IsSound, held}
@@ -122,6 +123,10 @@ risen_follows t cells =
         λ drop c risen mortal. absurd
             (true≢false (sym risen)),
       );
+      again = λ h number entries reached size vacated. (
+        parts.again h number entries reached size vacated,
+        λ drop c risen mortal. absurd (true≢false (sym (and_parts _ _ risen).1)),
+      );
       others = λ h e log reached ok others before. (
         parts.others h e log reached ok others before.0,
         λ drop c risen mortal. event_risen h e c reached ok
@@ -161,10 +166,10 @@ risen_follows t cells =
 
 -- what a registered thread has seen risen, in a place or as a last entry that has had it since, is queued or merged
 pub risen_is_told : (cells limit : ℕ) (items : ItemRun) (t c : ℕ) (drop : Dropped) → AreOptions cells limit
-    → AreItems (opening cells limit) items
-    → is_registered (world_of_items (opening cells limit) items) t ≡ true → is_risen cells (own t items) drop c ≡ true
+    → AreItems (start_of cells limit) items
+    → is_registered (world_of_items (start_of cells limit) items) t ≡ true → is_risen cells (own t items) drop c ≡ true
     → FIRST_MORTAL ≤ c
-    → 1 ≤ rank (cell_at (world_of_items (opening cells limit) items) c).state
+    → 1 ≤ rank (cell_at (world_of_items (start_of cells limit) items) c).state
 unfolding Risen
 risen_is_told cells limit items t c drop options are there risen mortal =
     (tells t cells (Risen t cells) (risen_follows t cells) limit items options are there).1 drop c risen mortal

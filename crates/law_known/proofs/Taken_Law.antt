@@ -13,7 +13,8 @@ use Rattle.law_world.specs.declared.event.Step.TheVariants.{Unlock, Lock}
 use Rattle.law_world.specs.declared.cell.Cell.{Cell}
 use Rattle.law_world.specs.declared.row.Phase.TheVariants as phases
 use Rattle.law_world.specs.Lists.{is_marked, is_unmarked, front_of}
-use Rattle.law_world.specs.Heap.{Heap, opening, cell_at, entries_at, row_at, frame_at, worklist_at, is_registered}
+use Rattle.law_known.specs.Start.{start_of}
+use Rattle.law_world.specs.Heap.{Heap, cell_at, entries_at, row_at, frame_at, worklist_at, is_registered}
 use Rattle.law_world.specs.Heap.{AreOptions}
 use Rattle.law_world.specs.Steps.{enabled, root_may, thread_may, after, after_target, stepped, target_at, target_ok}
 use Rattle.law_world.specs.Steps.{gone, takes_block, is_free_step, worklist_with}
@@ -34,7 +35,8 @@ use Rattle.law_world.proofs.Registering.{new_mark}
 use Rattle.law_lasting.proofs.Lasting.{others_own, alone_stays, live_owner, locked_mutex, dead_unlocked}
 use Rattle.law_lasting.proofs.Ranges_Law.{hand_unmarked}
 use Rattle.law_lasting.proofs.Progress.{none_marked}
-use Rattle.law_lasting.proofs.Standing.{run_reached, taken_unmarked}
+use Rattle.law_known.proofs.Starting.{run_reached}
+use Rattle.law_lasting.proofs.Standing.{taken_unmarked}
 use Rattle.law_known.proofs.Items_Told.{QueuesFit, Alike, alike}
 use Rattle.law_known.proofs.Items_Own.{after_alike, put_else}
 use Rattle.law_known.proofs.Items_Law.{part_target, part_follows, meant_is_told}
@@ -318,6 +320,13 @@ taken_follows t cells =
             (get_or_push h.worklists _ [] t ((reached_sound h reached).shaped.worklists ∙ sym last))
             ∙ new_mark (length h.cells) q)),
       );
+      again = λ h number entries reached size vacated. (
+        parts.again h number entries reached size vacated,
+        λ q. sym (ap (λ m. if m then Some (entries_at h q) else None)
+            (ap (λ (ms : List Bool). is_marked ms q)
+            (read_here h.worklists t _ [] (omega (arith, (reached_sound h reached).shaped.worklists, vacated.inside)))
+            ∙ new_mark (length h.cells) q)),
+      );
       others = λ h e log reached ok others before. (
         parts.others h e log reached ok others before.0,
         others_taken h e t (taken_of cells log) reached ok others before.1,
@@ -336,11 +345,11 @@ taken_follows t cells =
 
 -- the blocks that a registered thread has taken are those marked on its worklist, with the entries that they have
 pub taken_is_told : (cells limit : ℕ) (items : ItemRun) (t c : ℕ) → AreOptions cells limit
-    → AreItems (opening cells limit) items
-    → is_registered (world_of_items (opening cells limit) items) t ≡ true
+    → AreItems (start_of cells limit) items
+    → is_registered (world_of_items (start_of cells limit) items) t ≡ true
     → listed_at (taken_of cells (own t items)) c
-    ≡ (if is_marked (worklist_at (world_of_items (opening cells limit) items) t) c then Some
-    (entries_at (world_of_items (opening cells limit) items) c) else None)
+    ≡ (if is_marked (worklist_at (world_of_items (start_of cells limit) items) t) c then Some
+    (entries_at (world_of_items (start_of cells limit) items) c) else None)
 unfolding Taken
 taken_is_told cells limit items t c options are there =
     (tells t cells (Taken t cells) (taken_follows t cells) limit items options are there).1 c
@@ -349,12 +358,12 @@ taken_is_told cells limit items t c options are there =
 
 -- a block that isn't listed isn't marked, and the other way round
 pub unlisted_unmarked : (cells limit : ℕ) (items : ItemRun) (t c : ℕ) → AreOptions cells limit
-    → AreItems (opening cells limit) items
-    → is_registered (world_of_items (opening cells limit) items) t ≡ true
+    → AreItems (start_of cells limit) items
+    → is_registered (world_of_items (start_of cells limit) items) t ≡ true
     → listed_at (taken_of cells (own t items)) c ≡ None
-    → is_marked (worklist_at (world_of_items (opening cells limit) items) t) c ≡ false
+    → is_marked (worklist_at (world_of_items (start_of cells limit) items) t) c ≡ false
 unlisted_unmarked cells limit items t c options are there unlisted =
-    let h : Heap = world_of_items (opening cells limit) items in
+    let h : Heap = world_of_items (start_of cells limit) items in
     elim (cases_Bool (is_marked (worklist_at h t) c)) [
       | inr off ↦ off
       | inl on ↦ let bad : None ≡ Some (entries_at h c) = sym unlisted
@@ -363,35 +372,35 @@ unlisted_unmarked cells limit items t c options are there unlisted =
     ]
 
 pub unmarked_unlisted : (cells limit : ℕ) (items : ItemRun) (t c : ℕ) → AreOptions cells limit
-    → AreItems (opening cells limit) items
-    → is_registered (world_of_items (opening cells limit) items) t ≡ true
-    → is_marked (worklist_at (world_of_items (opening cells limit) items) t) c ≡ false
+    → AreItems (start_of cells limit) items
+    → is_registered (world_of_items (start_of cells limit) items) t ≡ true
+    → is_marked (worklist_at (world_of_items (start_of cells limit) items) t) c ≡ false
     → listed_at (taken_of cells (own t items)) c ≡ None
 unmarked_unlisted cells limit items t c options are there off =
-    let h : Heap = world_of_items (opening cells limit) items in
+    let h : Heap = world_of_items (start_of cells limit) items in
     taken_is_told cells limit items t c options are there ∙ ap (λ m. if m then Some (entries_at h c) else None) off
 
 -- who has taken nothing, or given all of it back, has nothing on its worklist
 pub none_taken : (cells limit : ℕ) (items : ItemRun) (t : ℕ) → AreOptions cells limit
-    → AreItems (opening cells limit) items
-    → is_registered (world_of_items (opening cells limit) items) t ≡ true
+    → AreItems (start_of cells limit) items
+    → is_registered (world_of_items (start_of cells limit) items) t ≡ true
     → taken_of cells (own t items) ≡ []
-    → is_unmarked (worklist_at (world_of_items (opening cells limit) items) t) ≡ true
+    → is_unmarked (worklist_at (world_of_items (start_of cells limit) items) t) ≡ true
 none_taken cells limit items t options are there nothing =
-    none_marked (worklist_at (world_of_items (opening cells limit) items) t)
+    none_marked (worklist_at (world_of_items (start_of cells limit) items) t)
     (λ c. unlisted_unmarked cells limit items t c options are there
     (ap (λ (blocks : Blocks). listed_at blocks c) nothing))
 
 -- the block that a step takes, by the number that it was told, isn't listed before
 pub fresh_is_told : (cells limit : ℕ) (items : ItemRun) (t c : ℕ) (s : Step) (number : ℕ) (entries : List ℕ)
-    → AreOptions cells limit → AreItems (opening cells limit) items
-    → MayCome (world_of_items (opening cells limit) items) t (Did s number entries) → t ≢ 0
+    → AreOptions cells limit → AreItems (start_of cells limit) items
+    → MayCome (world_of_items (start_of cells limit) items) t (Did s number entries) → t ≢ 0
     → meant (part_of cells (own t items)) s ≡ Some c → takes_block s (cell_told s number) ≡ true
     → listed_at (taken_of cells (own t items)) c ≡ None
 fresh_is_told cells limit items t c s number entries options are comes thread named takes =
-    let h : Heap = world_of_items (opening cells limit) items in
+    let h : Heap = world_of_items (start_of cells limit) items in
     let run : List Event = events_of items in
-    let reached : IsReached h = run_reached cells limit run options (events_run (opening cells limit) items are) in
+    let reached : IsReached h = run_reached cells limit run options (events_run (start_of cells limit) items are) in
     let may : May h t s = may_parts h t s (subst (λ b. (if b then root_may h s else thread_may h t s) ≡ true)
     (ne_eqb t 0 thread) comes.0) in
     let there : is_registered h t ≡ true = ap (λ b. b && nat_lt t (length h.rows)) (lt-ltb 0 t may.some_thread)

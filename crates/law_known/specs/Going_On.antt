@@ -15,6 +15,7 @@ use Rattle.law_world.specs.declared.event.Step.TheVariants.{Lock, Unlock}
 use Rattle.law_world.specs.declared.row.Hand.{Hand}
 use Rattle.law_world.specs.declared.row.Hand.TheVariants as hands
 use Rattle.law_world.specs.declared.row.Phase.TheVariants as phases
+use Rattle.law_world.specs.declared.row.Stage.TheVariants as stages
 use Rattle.law_world.specs.Lists.{filled, without_bit}
 use Rattle.law_world.specs.Heap.{is_immortal, words_for}
 use Rattle.law_world.specs.Steps.{takes_block, is_default, untied_hand, added_hand, frame_without, frame_changed}
@@ -160,6 +161,12 @@ abbrev pub reopening : ℕ → ℕ → Known → Known
 reopening cells k old = record old {
   part =
       record old.part { row = record old.part.row { stage = opened_more (words_for cells) k } };
+}
+
+-- a number is used again: all its words are closed
+abbrev pub starting_again : Known → Known
+starting_again old = record old {
+  part = record old.part { row = record old.part.row { stage = stages.Opening 0 } };
 }
 
 -- ---- the table

@@ -1,7 +1,7 @@
 -- Items: what a thread's table answers to each of its steps and looks, and what the thread knows from its own items.
 --
 -- A run of items is a list of (thread, item), newest first. Its events are a run; its notes change nothing.
-use Rattle.std.specs.Prelude.{◌≡◌, ℕ, ◌+◌, ◌-◌, ◌*◌, ◌/◌, ◌%◌, ◌==◌, nat_le, Bool, true, false, if◌then◌else◌, ℤ, pos}
+use Rattle.std.specs.Prelude.{◌≡◌, ℕ, ◌+◌, ◌-◌, ◌*◌, ◌/◌, ◌%◌, ◌==◌, nat_le, ◌||◌, Bool, true, false, if◌then◌else◌, ℤ, pos}
 use Rattle.std.specs.Prelude.{negsuc, ◌-ℤ◌, List, [], ◌∷◌, length, replicate, bit_or, Option, Some, None, slice_set}
 use Rattle.std.specs.Prelude.{◌^◌, ◌≤◌, ◌<◌}
 use Rattle.brc_words.specs.declared.limits.TheConstants.{MOST_THREADS}
@@ -18,6 +18,8 @@ use Rattle.law_world.specs.declared.event.Step.TheVariants.{Lock, Unlock, Regist
 use Rattle.law_world.specs.declared.event.Dropped.{Dropped}
 use Rattle.law_world.specs.declared.event.Dropped.TheVariants as dropped
 use Rattle.law_world.specs.declared.row.Row.{Row}
+use Rattle.law_world.specs.declared.row.Stage.{Stage}
+use Rattle.law_world.specs.declared.row.Stage.TheVariants as stages
 use Rattle.law_world.specs.Lists.{front_of, word_at, is_marked, number_in}
 use Rattle.law_world.specs.Heap.{Heap, no_cell, new_row, cell_at, entries_at, row_at, frame_at, popped_at, worklist_at}
 use Rattle.law_world.specs.Heap.{queue_at, words_for, is_registered}
@@ -213,10 +215,22 @@ abbrev pub is_start : ℕ → Item → Bool
 is_start t (Did (Register u) number entries) = u == t
 is_start t _ = false
 
--- a thread's own items, newest first, since it was registered
+-- some item before registers the thread
+abbrev pub is_used : ℕ → ItemRun → Bool
+is_used t [] = false
+is_used t (x ∷ items) = is_start t x.1 || is_used t items
+
+-- What a thread begins with: nothing, where its number is new; where the number was borne before, the item that
+-- registers it again. So the own items say that its queue words are still closed.
+abbrev pub begins_with : Bool → Item → List Item
+begins_with true x = x ∷ []
+begins_with false x = []
+
+-- a thread's own items, newest first, since it was last registered
 abbrev pub own : ℕ → ItemRun → List Item
 own t [] = []
-own t (x ∷ items) = if is_start t x.1 then [] else (if x.0 == t then x.1 ∷ own t items else own t items)
+own t (x ∷ items) =
+    if is_start t x.1 then begins_with (is_used t items) x.1 else (if x.0 == t then x.1 ∷ own t items else own t items)
 
 -- ---- what own items say
 
@@ -280,10 +294,15 @@ has_after (Birth d kind k) c x frame has = put d [] has
 has_after (Unlock change) c x frame has = put c (entries_changed change frame (has c)) has
 has_after s c x frame has = has_without (gone s x) has
 
+-- the stage after a step that means no cell; a number that is used again begins with all words closed
+abbrev pub own_stage_after : ℕ → Step → Stage → Stage
+own_stage_after words (Register u) stage = stages.Opening 0
+own_stage_after words s stage = stage_after words s stage
+
 -- the part after a step, by the cell that it means: what the step does to the world's, with the cell as it was told
 abbrev pub part_by : ℕ → Part → Step → ℕ → List ℕ → Option ℕ → Part
 part_by cells part s number entries None = record part {
-  row = record part.row { stage = stage_after (words_for cells) s part.row.stage };
+  row = record part.row { stage = own_stage_after (words_for cells) s part.row.stage };
   popped = popped_told (drained_word s) number part.popped;
 }
 part_by cells part s number entries (Some c) = record {

@@ -1,3 +1,4 @@
+pub mod Start
 pub mod Free_Words
 pub mod Items
 pub mod Counts

@@ -15,7 +15,8 @@ ghost use Rattle.law_world.specs.declared.event.Event.{Event as event};
 ghost use Rattle.law_world.specs.Lists.{one, names, place_at, word_at, is_marked, is_bare, is_unmarked, is_blank};
 ghost use Rattle.brc_words.specs.Owners.{word_of};
 ghost use Rattle.law_world.specs.Holding.{lives};
-ghost use Rattle.law_world.specs.Heap.{Heap, opening, cell_at, entries_at, row_at, frame_at, popped_at, queue_at};
+ghost use Rattle.law_known.specs.Start.{start_of};
+ghost use Rattle.law_world.specs.Heap.{Heap, cell_at, entries_at, row_at, frame_at, popped_at, queue_at};
 ghost use Rattle.law_world.specs.Heap.{worklist_at, is_registered, is_gathered, AreOptions};
 ghost use Rattle.brc_words.specs.declared.owner.Owner.TheVariants as owners;
 ghost use Rattle.law_known.specs.Owned.{IsAlive};
@@ -47,24 +48,24 @@ pub fn own_items_tell_the_part()
     ensures every { (start : Heap) (run : List event) → IsRun start run
         → (items : ItemRun) × AreItems start items × (events_of items ≡ run) }
     ensures told { (cells limit : ℕ) (items : ItemRun) (t : ℕ) → AreOptions cells limit
-        → AreItems (opening cells limit) items
-        → is_registered (world_of_items (opening cells limit) items) t ≡ true
-        → IsPart (world_of_items (opening cells limit) items) t (part_of cells (own t items)) }
+        → AreItems (start_of cells limit) items
+        → is_registered (world_of_items (start_of cells limit) items) t ≡ true
+        → IsPart (world_of_items (start_of cells limit) items) t (part_of cells (own t items)) }
     ensures meant { (cells limit : ℕ) (items : ItemRun) (t : ℕ) (s : step)
-        → AreOptions cells limit → AreItems (opening cells limit) items
-        → is_registered (world_of_items (opening cells limit) items) t ≡ true
+        → AreOptions cells limit → AreItems (start_of cells limit) items
+        → is_registered (world_of_items (start_of cells limit) items) t ≡ true
         → meant (part_of cells (own t items)) s
-        ≡ target_at (world_of_items (opening cells limit) items) t s }
+        ≡ target_at (world_of_items (start_of cells limit) items) t s }
 {}
 
 /// The threads of the world are told by the root's own items: how many rows it has, and which threads are gathered.
 pub fn root_items_tell_the_threads()
     ensures rows { (cells limit : ℕ) (items : ItemRun) → AreOptions cells limit
-        → AreItems (opening cells limit) items
-        → length (world_of_items (opening cells limit) items).rows ≡ rows_of (own 0 items) }
+        → AreItems (start_of cells limit) items
+        → length (world_of_items (start_of cells limit) items).rows ≡ rows_of (own 0 items) }
     ensures gathered { (cells limit : ℕ) (items : ItemRun) (u : ℕ) → AreOptions cells limit
-        → AreItems (opening cells limit) items
-        → is_gathered (world_of_items (opening cells limit) items) u ≡ gathered_of (own 0 items) u }
+        → AreItems (start_of cells limit) items
+        → is_gathered (world_of_items (start_of cells limit) items) u ≡ gathered_of (own 0 items) u }
 {}
 
 /// A queue word has bits of its 32 cells alone, and each of these is a cell of the heap: a bit is a reference of its
@@ -77,8 +78,8 @@ pub fn queue_words_name_cells()
 /// A thread gives back no more objects than all threads together make, so 64 bits count what it has given back.
 pub fn own_items_tell_few_frees()
     ensures { (cells limit : ℕ) (items : ItemRun) (t : ℕ) → AreOptions cells limit
-        → AreItems (opening cells limit) items
-        → is_registered (world_of_items (opening cells limit) items) t ≡ true
+        → AreItems (start_of cells limit) items
+        → is_registered (world_of_items (start_of cells limit) items) t ≡ true
         → (part_of cells (own t items)).row.frees < 2 ^ 64 }
 {}
 
@@ -86,36 +87,36 @@ pub fn own_items_tell_few_frees()
 /// told: an active thread counts on what it owns without a look. 0 says that it doesn't count there on the local word.
 pub fn own_items_tell_the_counts()
     ensures { (cells limit : ℕ) (items : ItemRun) (t c : ℕ) → AreOptions cells limit
-        → AreItems (opening cells limit) items
-        → is_registered (world_of_items (opening cells limit) items) t ≡ true → FIRST_MORTAL ≤ c
-        → own_count t (row_at (world_of_items (opening cells limit) items) t).stage
-        (cell_at (world_of_items (opening cells limit) items) c) ≡ counts_of cells (own t items) c }
+        → AreItems (start_of cells limit) items
+        → is_registered (world_of_items (start_of cells limit) items) t ≡ true → FIRST_MORTAL ≤ c
+        → own_count t (row_at (world_of_items (start_of cells limit) items) t).stage
+        (cell_at (world_of_items (start_of cells limit) items) c) ≡ counts_of cells (own t items) c }
 {}
 
 /// What an active thread with a free hand owns are the cells that it counts, all alive, and dead ones on its own
 /// worklist.
 pub fn own_counts_tell_what_is_owned()
     ensures alive { (cells limit : ℕ) (items : ItemRun) (t c : ℕ) → AreOptions cells limit
-        → AreItems (opening cells limit) items
-        → is_registered (world_of_items (opening cells limit) items) t ≡ true → FIRST_MORTAL ≤ c
+        → AreItems (start_of cells limit) items
+        → is_registered (world_of_items (start_of cells limit) items) t ≡ true → FIRST_MORTAL ≤ c
         → 0 < counts_of cells (own t items) c
-        → IsAlive (world_of_items (opening cells limit) items) t c }
+        → IsAlive (world_of_items (start_of cells limit) items) t c }
     ensures dead { (cells limit : ℕ) (items : ItemRun) (t c : ℕ) → AreOptions cells limit
-        → AreItems (opening cells limit) items
-        → is_registered (world_of_items (opening cells limit) items) t ≡ true → FIRST_MORTAL ≤ c
-        → is_active (row_at (world_of_items (opening cells limit) items) t).stage ≡ true
-        → (row_at (world_of_items (opening cells limit) items) t).hand ≡ hands.Free
+        → AreItems (start_of cells limit) items
+        → is_registered (world_of_items (start_of cells limit) items) t ≡ true → FIRST_MORTAL ≤ c
+        → is_active (row_at (world_of_items (start_of cells limit) items) t).stage ≡ true
+        → (row_at (world_of_items (start_of cells limit) items) t).hand ≡ hands.Free
         → counts_of cells (own t items) c ≡ 0
-        → (cell_at (world_of_items (opening cells limit) items) c).owner ≡ owners.Thread t
-        → is_marked (worklist_at (world_of_items (opening cells limit) items) t) c ≡ true }
+        → (cell_at (world_of_items (start_of cells limit) items) c).owner ≡ owners.Thread t
+        → is_marked (worklist_at (world_of_items (start_of cells limit) items) t) c ≡ true }
     ensures all_dead { (cells limit : ℕ) (items : ItemRun) (t : ℕ) → AreOptions cells limit
-        → AreItems (opening cells limit) items
-        → is_registered (world_of_items (opening cells limit) items) t ≡ true
-        → is_active (row_at (world_of_items (opening cells limit) items) t).stage ≡ true
-        → (row_at (world_of_items (opening cells limit) items) t).hand ≡ hands.Free
+        → AreItems (start_of cells limit) items
+        → is_registered (world_of_items (start_of cells limit) items) t ≡ true
+        → is_active (row_at (world_of_items (start_of cells limit) items) t).stage ≡ true
+        → (row_at (world_of_items (start_of cells limit) items) t).hand ≡ hands.Free
         → ((c : ℕ) → FIRST_MORTAL ≤ c → counts_of cells (own t items) c ≡ 0) → (n : ℕ)
-        → owned_are_marked t (world_of_items (opening cells limit) items).cells
-        (worklist_at (world_of_items (opening cells limit) items) t) n ≡ true }
+        → owned_are_marked t (world_of_items (start_of cells limit) items).cells
+        (worklist_at (world_of_items (start_of cells limit) items) t) n ≡ true }
 {}
 
 /// What a count says: a thread with a bare hand that holds an object and has no count of it doesn't count on its local
@@ -132,24 +133,24 @@ pub fn counts_say_who_counts()
 /// has had it since, is still queued or merged: its release goes straight to the shared word.
 pub fn own_items_tell_what_has_risen()
     ensures { (cells limit : ℕ) (items : ItemRun) (t c : ℕ) (drop : dropped) → AreOptions cells limit
-        → AreItems (opening cells limit) items
-        → is_registered (world_of_items (opening cells limit) items) t ≡ true
+        → AreItems (start_of cells limit) items
+        → is_registered (world_of_items (start_of cells limit) items) t ≡ true
         → is_risen cells (own t items) drop c ≡ true → FIRST_MORTAL ≤ c
-        → 1 ≤ rank (cell_at (world_of_items (opening cells limit) items) c).state }
+        → 1 ≤ rank (cell_at (world_of_items (start_of cells limit) items) c).state }
 {}
 
 /// The dead blocks that a thread has taken, with the entries that they still have, are a function of its own items:
 /// they are those on its worklist. A block that a step takes, by the number that the step is told, isn't listed before.
 pub fn own_items_tell_the_blocks()
     ensures listed { (cells limit : ℕ) (items : ItemRun) (t c : ℕ) → AreOptions cells limit
-        → AreItems (opening cells limit) items
-        → is_registered (world_of_items (opening cells limit) items) t ≡ true
+        → AreItems (start_of cells limit) items
+        → is_registered (world_of_items (start_of cells limit) items) t ≡ true
         → listed_at (taken_of cells (own t items)) c
-        ≡ entries_if (is_marked (worklist_at (world_of_items (opening cells limit) items) t) c)
-        (entries_at (world_of_items (opening cells limit) items) c) }
+        ≡ entries_if (is_marked (worklist_at (world_of_items (start_of cells limit) items) t) c)
+        (entries_at (world_of_items (start_of cells limit) items) c) }
     ensures fresh { (cells limit : ℕ) (items : ItemRun) (t c : ℕ) (s : step) (number : ℕ)
-        (entries : List ℕ) → AreOptions cells limit → AreItems (opening cells limit) items
-        → MayCome (world_of_items (opening cells limit) items) t (Did s number entries) → t ≢ 0
+        (entries : List ℕ) → AreOptions cells limit → AreItems (start_of cells limit) items
+        → MayCome (world_of_items (start_of cells limit) items) t (Did s number entries) → t ≢ 0
         → meant (part_of cells (own t items)) s ≡ Some c
         → takes_block s (cell_told s number) ≡ true
         → listed_at (taken_of cells (own t items)) c ≡ None }
@@ -159,14 +160,14 @@ pub fn own_items_tell_the_blocks()
 /// frame, whose cell the world has locked and whose entries are those found, until it unlocks.
 pub fn own_items_tell_the_lock()
     ensures place { (cells limit : ℕ) (items : ItemRun) (t : ℕ) → AreOptions cells limit
-        → AreItems (opening cells limit) items
-        → is_registered (world_of_items (opening cells limit) items) t ≡ true
+        → AreItems (start_of cells limit) items
+        → is_registered (world_of_items (start_of cells limit) items) t ≡ true
         → (part_of cells (own t items)).row.locked ≡ place_locked (locked_of (own t items)) }
     ensures found { (cells limit : ℕ) (items : ItemRun) (t place : ℕ) (entries : List ℕ)
-        → AreOptions cells limit → AreItems (opening cells limit) items
-        → is_registered (world_of_items (opening cells limit) items) t ≡ true
+        → AreOptions cells limit → AreItems (start_of cells limit) items
+        → is_registered (world_of_items (start_of cells limit) items) t ≡ true
         → locked_of (own t items) ≡ Some (place, entries)
-        → HasLocked cells (world_of_items (opening cells limit) items) t (own t items) place
+        → HasLocked cells (world_of_items (start_of cells limit) items) t (own t items) place
         entries }
 {}
 
@@ -252,29 +253,29 @@ pub fn what_has_risen_stays_seen()
 /// has no mark and its frame no cell.
 pub fn own_items_tell_what_is_left()
     ensures blocks { (cells limit : ℕ) (items : ItemRun) (t : ℕ) → AreOptions cells limit
-        → AreItems (opening cells limit) items
-        → is_registered (world_of_items (opening cells limit) items) t ≡ true
+        → AreItems (start_of cells limit) items
+        → is_registered (world_of_items (start_of cells limit) items) t ≡ true
         → taken_of cells (own t items) ≡ []
-        → is_unmarked (worklist_at (world_of_items (opening cells limit) items) t) ≡ true }
+        → is_unmarked (worklist_at (world_of_items (start_of cells limit) items) t) ≡ true }
     ensures places { (cells limit : ℕ) (items : ItemRun) (t : ℕ) → AreOptions cells limit
-        → AreItems (opening cells limit) items
-        → is_registered (world_of_items (opening cells limit) items) t ≡ true
+        → AreItems (start_of cells limit) items
+        → is_registered (world_of_items (start_of cells limit) items) t ≡ true
         → ((k : ℕ) → place_at (part_of cells (own t items)).frame k ≡ None)
-        → is_bare (frame_at (world_of_items (opening cells limit) items) t) ≡ true }
+        → is_bare (frame_at (world_of_items (start_of cells limit) items) t) ≡ true }
     ensures popped { (cells limit : ℕ) (items : ItemRun) (t : ℕ) → AreOptions cells limit
-        → AreItems (opening cells limit) items
-        → is_registered (world_of_items (opening cells limit) items) t ≡ true
+        → AreItems (start_of cells limit) items
+        → is_registered (world_of_items (start_of cells limit) items) t ≡ true
         → ((k : ℕ) → word_at (part_of cells (own t items)).popped k ≡ 0)
-        → is_blank (popped_at (world_of_items (opening cells limit) items) t) ≡ true }
+        → is_blank (popped_at (world_of_items (start_of cells limit) items) t) ≡ true }
 {}
 
 /// A thread's number that was found in an owner word is registered, then and ever after, so that thread can be told.
 pub fn own_looks_tell_the_owners()
     ensures { (cells limit : ℕ) (items : ItemRun) (t q : ℕ) → AreOptions cells limit
-        → AreItems (opening cells limit) items
-        → is_registered (world_of_items (opening cells limit) items) t ≡ true
+        → AreItems (start_of cells limit) items
+        → is_registered (world_of_items (start_of cells limit) items) t ≡ true
         → has_seen_owner (own t items) q ≡ true → 0 < q → q ≤ MOST_THREADS
-        → is_registered (world_of_items (opening cells limit) items) q ≡ true }
+        → is_registered (world_of_items (start_of cells limit) items) q ≡ true }
 {}
 
 /// A thread's step works on one word, and every other word of the table shows what it showed.

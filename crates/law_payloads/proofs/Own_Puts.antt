@@ -8,17 +8,18 @@ use Rattle.law_world.specs.declared.event.Event.{Event}
 use Rattle.law_world.specs.declared.event.Step.{Step}
 use Rattle.law_world.specs.declared.event.Step.TheVariants.{Birth, Free, Unlock, Register, Gather, Offer}
 use Rattle.law_world.specs.declared.row.Row.{Row}
-use Rattle.law_world.specs.Heap.{Heap, opening, row_at, no_row, is_registered, AreOptions}
+use Rattle.law_known.specs.Start.{start_of}
+use Rattle.law_world.specs.Heap.{Heap, row_at, no_row, is_registered, AreOptions}
 use Rattle.law_world.specs.Sound.{IsSound}
 use Rattle.law_world.specs.Steps.{enabled, after, root_after, root_may, thread_may, target_at, is_active, born_cell}
 use Rattle.law_world.specs.Runs.{IsReached}
 use Rattle.law_world.proofs.Asking.{May, may_parts}
-use Rattle.law_world.proofs.Lifetimes.{run_edition}
+use Rattle.law_world.specs.declared.row.Stage.TheVariants as stages
 use Rattle.law_world.proofs.Reached.{reached_sound}
 use Rattle.law_lasting.specs.Staying.{is_about}
 use Rattle.law_lasting.proofs.Lasting.{others_own}
-use Rattle.law_lasting.proofs.Standing.{run_reached}
-use Rattle.law_known.specs.Items.{MayCome, events_of, is_start}
+use Rattle.law_known.proofs.Starting.{run_reached}
+use Rattle.law_known.specs.Items.{MayCome, events_of, is_start, is_used}
 use Rattle.law_known.proofs.Items_Runs.{events_run}
 use Rattle.law_rule.specs.declared.contents.Contents.{Contents}
 use Rattle.law_rule.specs.declared.told.Moved.{Moved}
@@ -26,13 +27,13 @@ use Rattle.law_rule.specs.declared.told.Moved.TheVariants as moves
 use Rattle.law_rule.specs.declared.told.Told.{Told}
 use Rattle.law_rule.specs.declared.told.Told.TheVariants.{Did, Saw, Lost}
 use Rattle.law_rule.specs.Logs.{item_of, Run, items_of, own_of, world, put_by, contents_at, puts, MovesWith, IsMoved}
-use Rattle.law_rule.specs.Logs.{IsLegal}
+use Rattle.law_rule.specs.Logs.{IsLegal, begins, entries_found, log_items}
 use Rattle.law_rule.proofs.Own_Logs.{own_items, own_more, own_same}
 use Rattle.law_rule.proofs.Stepping.{moved_on, no_start}
 use Rattle.law_rule.proofs.Locked_Contents.{not_put}
 use Rattle.law_private.specs.Private.{Isolated, private_by, private_of}
 use Rattle.law_private.proofs.Others_Leave.{others_leave}
-use Rattle.law_private.proofs.Private_Law.{active_before, private_cells_stay}
+use Rattle.law_private.proofs.Private_Law.{active_or_opens, opens_none, private_cells_stay, private_cells_begin}
 use Rattle.law_payloads.specs.Payloads.{private_seen, last_put}
 
 -- ---- what one step puts home
@@ -82,6 +83,16 @@ was_private frame into (Offer d) set c is = inl (kept (set d) (set c) is)
     kept false m is = is
 was_private frame into s set c is = inl is
 
+-- so is one that opens its words
+pub opening_registered : (h : Heap) (t m : ℕ) → 0 < t → (row_at h t).stage ≡ stages.Opening m → is_registered h t ≡ true
+opening_registered h t m some_thread is = elim (cases_lt t (length h.rows)) [
+  | inl inside ↦ both_true (lt-ltb 0 t some_thread) (lt-ltb t (length h.rows) inside)
+  | inr past ↦ absurd (not_opening (sym (ap (λ (r : Row). r.stage) (get_or_past h.rows t no_row past)) ∙ is))
+]
+  where
+    not_opening : stages.Left ≡ stages.Opening m → ⊥
+    not_opening bad = absurd (cc)
+
 -- an active thread is registered
 pub active_registered : (h : Heap) (t : ℕ) → 0 < t → is_active (row_at h t).stage ≡ true → is_registered h t ≡ true
 active_registered h t some_thread active = elim (cases_lt t (length h.rows)) [
@@ -92,7 +103,7 @@ active_registered h t some_thread active = elim (cases_lt t (length h.rows)) [
 module _ (n limit : ℕ) (options : AreOptions n limit) where
   pub legal_reached : (run : Run) → IsLegal n limit run → IsReached (world n limit run)
   legal_reached run legal = run_reached n limit (events_of (items_of run)) options
-      (events_run (opening n limit) (items_of run) legal.items)
+      (events_run (start_of n limit) (items_of run) legal.items)
 
   pub legal_sound : (run : Run) → IsLegal n limit run → IsSound (world n limit run)
   legal_sound run legal = reached_sound (world n limit run) (legal_reached run legal)
@@ -107,6 +118,14 @@ module _ (n limit : ℕ) (options : AreOptions n limit) where
       subst (λ log. Isolated (world n limit run) t (private_of n log)) (own_items t run)
       (private_cells_stay n limit (items_of run) t options legal.items
       (active_registered (world n limit run) t some_thread active) active)
+
+  -- and one that opens its words has none
+  pub none_begins : (run : Run) (t m c : ℕ) → IsLegal n limit run → 0 < t
+      → (row_at (world n limit run) t).stage ≡ stages.Opening m → private_seen n (own_of t run) c ≡ false
+  none_begins run t m c legal some_thread is =
+      subst (λ log. private_of n log c ≡ false) (own_items t run)
+      (private_cells_begin n limit (items_of run) t m c options legal.items
+      (opening_registered (world n limit run) t m some_thread is) is)
 
   -- what lies in a private cell of an active thread is what the thread put home there last
   OwnPuts : Run → ℕ → Type 0
@@ -124,22 +143,27 @@ module _ (n limit : ℕ) (options : AreOptions n limit) where
       same was ∙ before was ∙ sym (ap (λ log. last_put log c) own)
 
   -- the thread's own step
-  own_step : (run : Run) (t : ℕ) (s : Step) (number : ℕ) (moved : Moved) → May (world n limit run) t s
-      → MovesWith (world n limit run) run t s moved → OwnPuts run t
+  own_step : (run : Run) (t : ℕ) (s : Step) (number : ℕ) (moved : Moved) → IsLegal n limit run
+      → May (world n limit run) t s → MovesWith (world n limit run) run t s moved → OwnPuts run t
       → is_active (row_at (moved_on (world n limit run) t s) t).stage ≡ true → (c : ℕ)
       → private_seen n (own_of t ((t, Did s number moved) ∷ run)) c ≡ true
       → contents_at ((t, Did s number moved) ∷ run) c ≡ last_put (own_of t ((t, Did s number moved) ∷ run)) c
   unfolding OwnPuts
-  own_step run t s number moved may goes before active c is =
+  own_step run t s number moved legal may goes before active c is =
       let h : Heap = world n limit run in
       let x : Told = Did s number moved in
       let own : own_of t ((t, x) ∷ run) ≡ x ∷ own_of t run = own_more t x run (no_start h t s number moved may t) in
-      let was : is_active (row_at h t).stage ≡ true = active_before h t s (target_at h t s)
-      (run_edition (opening n limit) (events_of (items_of run))) may active in
-      elim (was_private _ _ s (private_seen n (own_of t run)) c (ap (λ log. private_seen n log c) (sym own) ∙ is)) [
-        | inl old ↦ ap (put_by moved c) (before was c old)
-        | inr born ↦ put_anew h run t s moved c (contents_at run c) (last_put (own_of t run) c) goes
-            (born_puts h t s c born)
+      elim (active_or_opens h t s (target_at h t s) may active) [
+        | inr opens ↦ absurd (true≢false (sym is ∙ ap (λ log. private_seen n log c) own
+            ∙ opens_none n s number (entries_found moved) (log_items (own_of t run)) opens.0 opens.1
+            (λ d. none_begins run t opens.0 d legal may.some_thread opens.2) c))
+        | inl was ↦
+            elim (was_private _ _ s (private_seen n (own_of t run)) c (ap (λ log. private_seen n log c) (sym own)
+            ∙ is)) [
+              | inl old ↦ ap (put_by moved c) (before was c old)
+              | inr born ↦ put_anew h run t s moved c (contents_at run c) (last_put (own_of t run) c) goes
+                  (born_puts h t s c born)
+            ]
       ]
       ∙ sym (ap (λ log. last_put log c) own)
 
@@ -159,6 +183,12 @@ module _ (n limit : ℕ) (options : AreOptions n limit) where
       (legal_sound run legal) (isolated run t legal some_thread active) other may (puts_meant h u s c puts_it) mine))
       (before active c) is
 
+  -- a log that begins has none
+  none_begun : (v number : ℕ) (moved : Moved) (c : ℕ) (used : Bool)
+      → private_seen n (begins used (Did (Register v) number moved)) c ≡ false
+  none_begun v number moved c true = refl
+  none_begun v number moved c false = refl
+
   -- the root's
   root_step : (run : Run) (t : ℕ) (s : Step) (number : ℕ) (moved : Moved) → IsLegal n limit run → 0 < t
       → enabled (world n limit run) (record { thread = 0; step = s }) ≡ true → root_may (world n limit run) s ≡ true
@@ -177,9 +207,10 @@ module _ (n limit : ℕ) (options : AreOptions n limit) where
       elim (cases_Bool (v == t)) [
         | inl mine ↦
             let x : Told = Did (Register v) number moved in
-            let own : own_of t ((0, x) ∷ run) ≡ [] =
-            ap (λ b. if b then [] else (if 0 == t then x ∷ own_of t run else own_of t run)) mine in
-            absurd (true≢false (sym is ∙ ap (λ log. private_seen n log c) own))
+            let used : Bool = is_used t (items_of run) in
+            let own : own_of t ((0, x) ∷ run) ≡ begins used x =
+            ap (λ b. if b then begins used x else (if 0 == t then x ∷ own_of t run else own_of t run)) mine in
+            absurd (true≢false (sym is ∙ ap (λ log. private_seen n log c) own ∙ none_begun v number moved c used))
         | inr apart ↦
             let h : Heap = world n limit run in
             let e : Event = record { thread = 0; step = Register v } in
@@ -240,7 +271,7 @@ module _ (n limit : ℕ) (options : AreOptions n limit) where
             elim (cases_eq u t) [
               | inl mine ↦
                   subst (λ v. contents_at ((v, x) ∷ run) c ≡ last_put (own_of t ((v, x) ∷ run)) c) (sym mine)
-                  (own_step run t s number moved (subst (λ v. May h v s) mine (may_parts h u s may))
+                  (own_step run t s number moved legal (subst (λ v. May h v s) mine (may_parts h u s may))
                   (subst (λ v. MovesWith h run v s moved) mine goes) before
                   (subst (λ v. is_active (row_at (moved_on h v s) t).stage ≡ true) mine
                   (ap (λ w. is_active (row_at w t).stage) (sym is_after) ∙ active)) c

@@ -5,20 +5,20 @@ use Rattle.std.proofs.lemmas.Bool.{cases_Bool, eqb-true, true≢false}
 use mathlib.Core.Option.{some}
 use lib.ListN.{get_elem?}
 use Rattle.atomic_table.specs.Table.{State}
-use Rattle.law_world.specs.declared.event.Step.TheVariants.{Lock}
+use Rattle.law_world.specs.declared.event.Step.TheVariants.{Lock, Register}
 use Rattle.law_world.specs.declared.row.Row.{Row}
 use Rattle.law_world.specs.declared.row.Stage.{Stage}
 use Rattle.law_world.specs.declared.row.Stage.TheVariants as stages
 use Rattle.law_world.specs.Heap.{Heap, row_at, frame_at, AreOptions}
 use Rattle.law_world.specs.Steps.{enabled, root_may, thread_may, stage_ok, is_active, locked_cell, locked_at}
 use Rattle.law_world.proofs.Asking.{may_parts}
-use Rattle.law_known.specs.Items.{MayCome, is_start, IsPart}
+use Rattle.law_known.specs.Items.{MayCome, is_start, is_used, IsPart}
 use Rattle.law_rule.specs.declared.contents.Contents.{Contents}
 use Rattle.law_rule.specs.declared.told.Moved.TheVariants as moves
 use Rattle.law_rule.specs.declared.told.Told.{Told}
-use Rattle.law_rule.specs.declared.told.Told.TheVariants.{Did}
+use Rattle.law_rule.specs.declared.told.Told.TheVariants.{Did, Saw, Lost}
 use Rattle.law_rule.specs.declared.view.View.{View}
-use Rattle.law_rule.specs.Logs.{item_of, Run, own_of, world, contents_at, IsMoved, IsLegal}
+use Rattle.law_rule.specs.Logs.{item_of, Run, items_of, begins, own_of, world, contents_at, IsMoved, IsLegal}
 use Rattle.law_rule.specs.Rule.{Kept}
 use Rattle.law_rule.specs.Seen.{part_seen, contents_locked}
 use Rattle.law_rule.proofs.Knowing.{kept_part}
@@ -70,19 +70,27 @@ module _ (n limit : ℕ) (options : AreOptions n limit) where
       }
   fits run t x legal comes goes = tt
 
-  more : (t u : ℕ) (x : Told) (run : Run) (starts mine : Bool) → OwnLocks n (own_of t run)
-      → (mine ≡ true → LockingFits n (own_of t run) x)
-      → OwnLocks n (if starts then [] else (if mine then x ∷ own_of t run else own_of t run))
-  more t u x run true mine before new = tt
-  more t u x run false true before new = (before, new refl)
-  more t u x run false false before new = before
+  -- the root's item locks nothing
+  begun : (t : ℕ) (x : Told) (used : Bool) → is_start t (item_of x) ≡ true → OwnLocks n (begins used x)
+  begun t x false starts = tt
+  begun t (Did (Register v) number moved) true starts = (tt, tt)
+  begun t (Did _ number moved) true starts = absurd (true≢false (sym starts))
+  begun t (Saw word number) true starts = absurd (true≢false (sym starts))
+  begun t (Lost word number) true starts = absurd (true≢false (sym starts))
+
+  more : (t u : ℕ) (x : Told) (run : Run) (starts mine used : Bool) → is_start t (item_of x) ≡ starts
+      → OwnLocks n (own_of t run) → (mine ≡ true → LockingFits n (own_of t run) x)
+      → OwnLocks n (if starts then begins used x else (if mine then x ∷ own_of t run else own_of t run))
+  more t u x run true mine used first before new = begun t x used first
+  more t u x run false true used first before new = (before, new refl)
+  more t u x run false false used first before new = before
 
   -- each locking of a thread found what was its own
   pub own_locks : (run : Run) (t : ℕ) → IsLegal n limit run → OwnLocks n (own_of t run)
   own_locks [] t legal = tt
   own_locks (x ∷ run) t legal =
       let older : IsLegal n limit run = legal_before n limit options x run legal in
-      more t x.0 x.1 run (is_start t (item_of x.1)) (x.0 == t) (own_locks run t older)
+      more t x.0 x.1 run (is_start t (item_of x.1)) (x.0 == t) (is_used t (items_of run)) refl (own_locks run t older)
       (λ mine. subst (λ v. LockingFits n (own_of v run) x.1) (eqb-true x.0 t mine)
       (fits run x.0 x.1 older legal.items.1 legal.moved.1))
 

@@ -10,7 +10,8 @@ use Rattle.law_world.specs.declared.event.Event.{Event}
 use Rattle.law_world.specs.declared.event.Step.{Step}
 use Rattle.law_world.specs.declared.event.Step.TheVariants.{Birth, Free, Unlock, Register, Gather, Offer}
 use Rattle.law_world.specs.declared.row.Row.{Row}
-use Rattle.law_world.specs.Heap.{Heap, opening, row_at, frame_at, cell_at, entries_at, is_registered, AreOptions}
+use Rattle.law_known.specs.Start.{start_of}
+use Rattle.law_world.specs.Heap.{Heap, row_at, frame_at, cell_at, entries_at, is_registered, AreOptions}
 use Rattle.law_world.specs.Sound.{IsSound, held}
 use Rattle.law_world.specs.Steps.{enabled, after, after_target, root_after, root_may, thread_may, target_at, target_ok}
 use Rattle.law_world.specs.Steps.{needs_no_cell, locked_cell, locked_at, is_active, entries_changed, born_cell, gone}
@@ -229,6 +230,10 @@ own_follows t cells = record {
     now = (apart_follows t cells).starts h reached size last;
     own_entries = λ active keeps d i e is. absurd (true≢false (sym is));
   };
+  again = λ h number entries reached size vacated. record {
+    now = (apart_follows t cells).again h number entries reached size vacated;
+    own_entries = λ active keeps d i e is. absurd (true≢false (sym is));
+  };
   others = λ h e log reached ok others before. record {
     now = (apart_follows t cells).others h e log reached ok others before.now;
     own_entries = λ active keeps.
@@ -270,10 +275,10 @@ own_follows t cells = record {
 
 -- the entries of an active thread's private cells are own ones
 pub entries_stay_own : (cells limit : ℕ) (items : ItemRun) (t : ℕ) → AreOptions cells limit
-    → AreItems (opening cells limit) items
-    → is_registered (world_of_items (opening cells limit) items) t ≡ true
-    → is_active (row_at (world_of_items (opening cells limit) items) t).stage ≡ true
-    → keeps_own cells (own t items) ≡ true → OwnEntries (world_of_items (opening cells limit) items)
+    → AreItems (start_of cells limit) items
+    → is_registered (world_of_items (start_of cells limit) items) t ≡ true
+    → is_active (row_at (world_of_items (start_of cells limit) items) t).stage ≡ true
+    → keeps_own cells (own t items) ≡ true → OwnEntries (world_of_items (start_of cells limit) items)
     (private_of cells (own t items))
 entries_stay_own cells limit items t options are there active keeps =
     (tells t cells (OwnNow t cells) (own_follows t cells) limit items options are there).own_entries active keeps

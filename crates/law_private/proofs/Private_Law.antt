@@ -10,7 +10,8 @@ use Rattle.law_world.specs.declared.event.Step.TheVariants.{Birth, Free, Close, 
 use Rattle.law_world.specs.declared.row.Row.{Row}
 use Rattle.law_world.specs.declared.row.Stage.{Stage}
 use Rattle.law_world.specs.declared.row.Stage.TheVariants as stages
-use Rattle.law_world.specs.Heap.{Heap, opening, row_at, frame_at, no_row, words_for, is_registered, AreOptions}
+use Rattle.law_known.specs.Start.{start_of}
+use Rattle.law_world.specs.Heap.{Heap, row_at, frame_at, no_row, words_for, is_registered, AreOptions}
 use Rattle.law_world.specs.Steps.{enabled, after, after_target, root_after, root_may, thread_may, target_at, target_ok}
 use Rattle.law_world.specs.Steps.{needs_no_cell, locked_cell, locked_at, is_active, is_open, opens_next, edition_ok}
 use Rattle.law_world.specs.Steps.{stage_after, stage_ok, registered, registered_again, stepped, kept_cells}
@@ -20,7 +21,7 @@ use Rattle.law_world.proofs.Changes.{read_here}
 use Rattle.law_world.proofs.Reached.{reached_sound}
 use Rattle.law_lasting.specs.Staying.{IsAnothers}
 use Rattle.law_lasting.proofs.Lasting.{others_own}
-use Rattle.law_lasting.proofs.Standing.{run_reached}
+use Rattle.law_known.proofs.Starting.{run_reached}
 use Rattle.law_known.specs.Items.{Item, Did, ItemRun, AreItems, events_of, world_of_items, own, Part, part_of, IsPart}
 use Rattle.law_known.proofs.Items_Law.{part_follows}
 use Rattle.law_known.proofs.Items_Runs.{events_run}
@@ -107,16 +108,6 @@ active_or_opens h t s None may active =
 active_or_opens h t s (Some d) may active =
     inl (ap (λ (r : Row). is_active r.stage) (sym (read_here h.rows t _ no_row may.inside)) ∙ active)
 
--- in the first edition no step does
-pub active_before : (h : Heap) (t : ℕ) (s : Step) (o : Option ℕ) → h.edition ≡ editions.One → May h t s
-    → is_active (row_at (after_target h t s o) t).stage ≡ true
-    → is_active (row_at h t).stage ≡ true
-active_before h t s o first may active = elim (active_or_opens h t s o may active) [
-  | inl was ↦ was
-  | inr opens ↦ absurd (true≢false (sym (ap (λ e. edition_ok e (row_at h t) (Reopen opens.0)) (sym first)
-      ∙ ap (edition_ok h.edition (row_at h t)) (sym opens.1) ∙ may.edition)))
-]
-
 -- whoever is opening after a step was so before it
 still_opening : (words n : ℕ) (s : Step) (g : Stage) → stage_ok g s ≡ true → stage_after words s g ≡ stages.Opening n
     → (k : ℕ) × (s ≡ Reopen k)
@@ -128,7 +119,7 @@ still_opening words n (Close k) g ok is = absurd (by_last (k + 1 == words) is)
     by_last false is = cc
 still_opening words n s g ok is = absurd (true≢false (sym (ap (λ g. stage_ok g s) (sym is) ∙ ok)))
 
-opening_before : (h : Heap) (t n : ℕ) (s : Step) (o : Option ℕ) → May h t s
+pub opening_before : (h : Heap) (t n : ℕ) (s : Step) (o : Option ℕ) → May h t s
     → (row_at (after_target h t s o) t).stage ≡ stages.Opening n
     → (k : ℕ) × (s ≡ Reopen k) × ((row_at h t).stage ≡ stages.Opening k)
 opening_before h t n s None may is =
@@ -212,6 +203,12 @@ apart_follows t cells = record {
     apart = λ active. none_private (registered h) t (private_of cells []) (λ c. refl);
     opening = λ n is c. refl;
   };
+  again = λ h number entries reached size vacated. record {
+    part = (part_follows t cells).again h number entries reached size vacated;
+    apart = λ active. none_private (registered_again h t) t
+        (private_of cells (Did (Register t) number entries ∷ [])) (λ c. refl);
+    opening = λ n is c. refl;
+  };
   others = λ h e log reached ok others before. record {
     part = (part_follows t cells).others h e log reached ok others before.part;
     apart = λ active. others_event h t e (private_of cells log) (reached_sound h reached) ok others
@@ -254,23 +251,32 @@ apart_follows t cells = record {
 
 -- the private cells that an active thread's items tell are its own in the world
 pub private_cells_stay : (cells limit : ℕ) (items : ItemRun) (t : ℕ) → AreOptions cells limit
-    → AreItems (opening cells limit) items
-    → is_registered (world_of_items (opening cells limit) items) t ≡ true
-    → is_active (row_at (world_of_items (opening cells limit) items) t).stage ≡ true
-    → Isolated (world_of_items (opening cells limit) items) t (private_of cells (own t items))
+    → AreItems (start_of cells limit) items
+    → is_registered (world_of_items (start_of cells limit) items) t ≡ true
+    → is_active (row_at (world_of_items (start_of cells limit) items) t).stage ≡ true
+    → Isolated (world_of_items (start_of cells limit) items) t (private_of cells (own t items))
 private_cells_stay cells limit items t options are there active =
     (tells t cells (ApartNow t cells) (apart_follows t cells) limit items options are there).apart active
 
+-- a thread whose number is used again has none before all of its words are open
+pub private_cells_begin : (cells limit : ℕ) (items : ItemRun) (t n c : ℕ) → AreOptions cells limit
+    → AreItems (start_of cells limit) items
+    → is_registered (world_of_items (start_of cells limit) items) t ≡ true
+    → (row_at (world_of_items (start_of cells limit) items) t).stage ≡ stages.Opening n
+    → private_of cells (own t items) c ≡ false
+private_cells_begin cells limit items t n c options are there is =
+    (tells t cells (ApartNow t cells) (apart_follows t cells) limit items options are there).opening n is c
+
 -- no step of another thread's means one
 pub others_never_mean : (cells limit : ℕ) (items : ItemRun) (t u : ℕ) (s : Step) (c : ℕ) → AreOptions cells limit
-    → AreItems (opening cells limit) items
-    → is_registered (world_of_items (opening cells limit) items) t ≡ true
-    → is_active (row_at (world_of_items (opening cells limit) items) t).stage ≡ true
-    → u ≢ t → thread_may (world_of_items (opening cells limit) items) u s ≡ true
-    → target_at (world_of_items (opening cells limit) items) u s ≡ Some c
+    → AreItems (start_of cells limit) items
+    → is_registered (world_of_items (start_of cells limit) items) t ≡ true
+    → is_active (row_at (world_of_items (start_of cells limit) items) t).stage ≡ true
+    → u ≢ t → thread_may (world_of_items (start_of cells limit) items) u s ≡ true
+    → target_at (world_of_items (start_of cells limit) items) u s ≡ Some c
     → private_of cells (own t items) c ≢ true
 others_never_mean cells limit items t u s c options are there active other may named =
-    let h : Heap = world_of_items (opening cells limit) items in
+    let h : Heap = world_of_items (start_of cells limit) items in
     others_leave h t u (private_of cells (own t items)) s c
-    (reached_sound h (run_reached cells limit (events_of items) options (events_run (opening cells limit) items are)))
+    (reached_sound h (run_reached cells limit (events_of items) options (events_run (start_of cells limit) items are)))
     (private_cells_stay cells limit items t options are there active) other may named

@@ -12,7 +12,8 @@ ghost use Rattle.law_world.specs.declared.row.Hand.TheVariants as hands;
 ghost use Rattle.law_world.specs.declared.row.Phase.{Phase as phase};
 ghost use Rattle.law_world.specs.Lists.{place_at, bit_of};
 ghost use Rattle.law_world.specs.declared.event.Step.{Step as step};
-ghost use Rattle.law_world.specs.Heap.{Heap, opening, is_registered, AreOptions, row_at, cell_at, frame_at, queue_at};
+ghost use Rattle.law_known.specs.Start.{start_of};
+ghost use Rattle.law_world.specs.Heap.{Heap, is_registered, AreOptions, row_at, cell_at, frame_at, queue_at};
 ghost use Rattle.law_world.specs.Heap.{entries_at};
 ghost use Rattle.law_world.specs.Sound.{IsSound};
 ghost use Rattle.law_world.specs.Steps.{thread_may, target_at, locked_at, stepped, kept_cells, registered};
@@ -28,16 +29,16 @@ ghost use Rattle.law_private.specs.Own_Entries.{keeps_own, OwnEntries};
 /// none counts it, locks it, frees it or buries it.
 pub fn own_items_tell_the_private_cells()
     ensures apart { (cells limit : ℕ) (items : ItemRun) (t : ℕ) → AreOptions cells limit
-        → AreItems (opening cells limit) items
-        → is_registered (world_of_items (opening cells limit) items) t ≡ true
-        → is_active (row_at (world_of_items (opening cells limit) items) t).stage ≡ true
-        → Isolated (world_of_items (opening cells limit) items) t (private_of cells (own t items)) }
+        → AreItems (start_of cells limit) items
+        → is_registered (world_of_items (start_of cells limit) items) t ≡ true
+        → is_active (row_at (world_of_items (start_of cells limit) items) t).stage ≡ true
+        → Isolated (world_of_items (start_of cells limit) items) t (private_of cells (own t items)) }
     ensures alone { (cells limit : ℕ) (items : ItemRun) (t u : ℕ) (s : step) (c : ℕ)
-        → AreOptions cells limit → AreItems (opening cells limit) items
-        → is_registered (world_of_items (opening cells limit) items) t ≡ true
-        → is_active (row_at (world_of_items (opening cells limit) items) t).stage ≡ true → u ≢ t
-        → thread_may (world_of_items (opening cells limit) items) u s ≡ true
-        → target_at (world_of_items (opening cells limit) items) u s ≡ Some c
+        → AreOptions cells limit → AreItems (start_of cells limit) items
+        → is_registered (world_of_items (start_of cells limit) items) t ≡ true
+        → is_active (row_at (world_of_items (start_of cells limit) items) t).stage ≡ true → u ≢ t
+        → thread_may (world_of_items (start_of cells limit) items) u s ≡ true
+        → target_at (world_of_items (start_of cells limit) items) u s ≡ Some c
         → private_of cells (own t items) c ≢ true }
 {}
 
@@ -45,11 +46,11 @@ pub fn own_items_tell_the_private_cells()
 /// its private cells are such: what it finds in one of them is again its own.
 pub fn own_items_tell_own_entries()
     ensures { (cells limit : ℕ) (items : ItemRun) (t : ℕ) → AreOptions cells limit
-        → AreItems (opening cells limit) items
-        → is_registered (world_of_items (opening cells limit) items) t ≡ true
-        → is_active (row_at (world_of_items (opening cells limit) items) t).stage ≡ true
+        → AreItems (start_of cells limit) items
+        → is_registered (world_of_items (start_of cells limit) items) t ≡ true
+        → is_active (row_at (world_of_items (start_of cells limit) items) t).stage ≡ true
         → keeps_own cells (own t items) ≡ true
-        → OwnEntries (world_of_items (opening cells limit) items) (private_of cells (own t items)) }
+        → OwnEntries (world_of_items (start_of cells limit) items) (private_of cells (own t items)) }
 {}
 
 /// Which cells are private after one more own item: a birth adds its cell, a free takes its cell away, and an unlock

@@ -12,7 +12,8 @@ use Rattle.law_world.specs.declared.event.Event.{Event}
 use Rattle.law_world.specs.declared.event.Step.{Step}
 use Rattle.law_world.specs.declared.event.Step.TheVariants.{Birth, Free, Register, Gather}
 use Rattle.law_world.specs.Lists.{is_marked}
-use Rattle.law_world.specs.Heap.{Heap, opening, cell_at, entries_at, row_at, worklist_at, no_cell, is_immortal}
+use Rattle.law_known.specs.Start.{start_of}
+use Rattle.law_world.specs.Heap.{Heap, cell_at, entries_at, row_at, worklist_at, no_cell, is_immortal}
 use Rattle.law_world.specs.Heap.{AreOptions}
 use Rattle.law_world.specs.Holding.{lives, lives_at, lives_by, lives_since, is_birth}
 use Rattle.law_world.specs.Runs.{IsRun, world_after}
@@ -21,13 +22,13 @@ use Rattle.law_world.specs.Steps.{enabled, after, after_target, root_after, root
 use Rattle.law_world.specs.Steps.{cell_after, stepped, is_free_step, takes_block, worklist_with}
 use Rattle.law_world.proofs.Asking.{may_parts, on_cell}
 use Rattle.law_world.proofs.Changes.{read_here, read_there, read_by}
-use Rattle.law_world.proofs.Reached.{reached_sound, run_histories}
+use Rattle.law_world.proofs.Reached.{reached_sound}
 use Rattle.law_world.proofs.Beginning.{free_cell, immortal_cell, no_entries}
 use Rattle.law_world.proofs.Registering.{read_push}
 use Rattle.law_world.proofs.Reusing.{fresh, reused, registers}
 use Rattle.law_moves.proofs.Moving.{kind_kept}
 use Rattle.law_lasting.proofs.Reasons.{event_cell, event_entries}
-use Rattle.law_lasting.proofs.Standing.{run_reached}
+use Rattle.law_known.proofs.Starting.{run_reached, run_histories}
 use Rattle.law_known.specs.Items.{MayCome, events_of}
 use Rattle.law_known.proofs.Items_Runs.{events_run}
 use Rattle.brc_words.specs.declared.kind.Kind.TheVariants as kinds
@@ -194,8 +195,8 @@ none_some c bad = absurd (cc)
 number_same : (d c : ℕ) → Some d ≡ Some c → d ≡ c
 number_same d c is = cc
 
-opening_fits : (n limit c : ℕ) → AreOptions n limit → lives (cell_at (opening n limit) c).owner ≡ true
-    → ContentsFit (opening n limit) [] c
+opening_fits : (n limit c : ℕ) → AreOptions n limit → lives (cell_at (start_of n limit) c).owner ≡ true
+    → ContentsFit (start_of n limit) [] c
 opening_fits n limit c options live = elim (cases_lt c FIRST_MORTAL) [
   | inr high ↦ absurd (true≢false (sym live ∙ ap (λ (x : Cell). lives x.owner) (free_cell n c high)))
   | inl low ↦ record {
@@ -228,16 +229,16 @@ opening_fits n limit c options live = elim (cases_lt c FIRST_MORTAL) [
     none_open false false false false = refl
 
 -- an object that isn't put home lived before
-lived : (n limit : ℕ) (run : List Event) (t : ℕ) (s : Step) (c : ℕ) → AreOptions n limit → IsRun (opening n limit) run
-    → enabled (world_after (opening n limit) run) (record { thread = t; step = s }) ≡ true
-    → (puts (world_after (opening n limit) run) t s ≡ Some c → ⊥)
-    → lives (cell_at (after (world_after (opening n limit) run) (record { thread = t; step = s })) c).owner ≡ true
-    → lives (cell_at (world_after (opening n limit) run) c).owner ≡ true
+lived : (n limit : ℕ) (run : List Event) (t : ℕ) (s : Step) (c : ℕ) → AreOptions n limit → IsRun (start_of n limit) run
+    → enabled (world_after (start_of n limit) run) (record { thread = t; step = s }) ≡ true
+    → (puts (world_after (start_of n limit) run) t s ≡ Some c → ⊥)
+    → lives (cell_at (after (world_after (start_of n limit) run) (record { thread = t; step = s })) c).owner ≡ true
+    → lives (cell_at (world_after (start_of n limit) run) c).owner ≡ true
 lived n limit run t s c options is_run ok other live = elim (cases_lt c FIRST_MORTAL) [
-  | inl low ↦ ap lives ((reached_sound (world_after (opening n limit) run)
+  | inl low ↦ ap lives ((reached_sound (world_after (start_of n limit) run)
       (run_reached n limit run options is_run)).immortals c low).owner
   | inr high ↦
-      let h : Heap = world_after (opening n limit) run in
+      let h : Heap = world_after (start_of n limit) run in
       let e : Event = record { thread = t; step = s } in
       let mortal : is_immortal c ≡ false = le-ltb _ _ high in
       let now : lives_at (after h e) c ≡ true = both_true (ap not mortal) live in
@@ -259,12 +260,12 @@ module _ (n limit : ℕ) where
   unchanged run t s number moved c options legal ok other same before rest =
       let h : Heap = world n limit run in
       let sound : IsSound h = reached_sound h (run_reached n limit (events_of (items_of run)) options
-      (events_run (opening n limit) (items_of run) legal.items)) in
+      (events_run (start_of n limit) (items_of run) legal.items)) in
       let off : (u : ℕ) → is_marked (worklist_at h u) c ≡ false = λ u. event_marks h t s c sound ok rest.live u
       (rest.off u) in
       let fits : ContentsFit h run c = before (record {
         live = lived n limit (events_of (items_of run)) t s c options
-            (events_run (opening n limit) (items_of run) legal.items) ok other rest.live;
+            (events_run (start_of n limit) (items_of run) legal.items) ok other rest.live;
         off = off;
       }) in
       record {

@@ -3,7 +3,7 @@
 use Rattle.std.proofs.Common.{◌≡◌, ◌≢◌, ℕ, ◌<◌, ◌≤◌, ◌==◌, Bool, true, false, if◌then◌else◌, pos, ◌-ℤ◌, zero, suc, List}
 use Rattle.std.proofs.Common.{[], ◌∷◌, length, remove, AllPairs, Option, Some, refl, sym, ◌∙◌, ap, subst, inl, inr}
 use Rattle.std.proofs.Common.{arith}
-use Rattle.std.proofs.lemmas.Bool.{cases_eq, cases_lt, eq-eqb, ne_eqb}
+use Rattle.std.proofs.lemmas.Bool.{cases_eq, cases_lt, eq-eqb, ne_eqb, true≢false}
 use Rattle.std.proofs.lemmas.List.Quantifiers.{all_pairs_push, all_pairs_remove}
 use mathlib.Core.Option.{some}
 use lib.ListN.{get_elem?}
@@ -12,9 +12,9 @@ use Rattle.brc_words.specs.declared.limits.TheConstants.{GLOBALS}
 use Rattle.law_world.specs.declared.event.Change.{Change}
 use Rattle.law_world.specs.declared.event.Change.TheVariants as changes
 use Rattle.law_world.specs.declared.event.Step.{Step}
-use Rattle.law_world.specs.declared.event.Step.TheVariants.{Lock, Unlock}
+use Rattle.law_world.specs.declared.event.Step.TheVariants.{Lock, Unlock, Register}
 use Rattle.law_world.specs.Heap.{cell_at}
-use Rattle.law_known.specs.Items.{is_start}
+use Rattle.law_known.specs.Items.{is_start, is_used}
 use Rattle.law_rule.specs.declared.contents.PlainKey.{PlainKey}
 use Rattle.law_rule.specs.declared.contents.Contents.{Contents}
 use Rattle.law_rule.specs.declared.contents.Contents.TheVariants.{Nothing, Truth, Int, Dict}
@@ -23,7 +23,7 @@ use Rattle.law_rule.specs.declared.told.Told.{Told}
 use Rattle.law_rule.specs.declared.told.Told.TheVariants.{Did, Saw, Lost}
 use Rattle.law_rule.specs.declared.view.View.{View}
 use Rattle.law_rule.specs.Keys.{keys_in, HasDistinctKeys, KeyPut, KeysGo, KeysAfter}
-use Rattle.law_rule.specs.Logs.{entries_in, item_of, Run, own_of, contents_at, world, AreMoved, IsLegal}
+use Rattle.law_rule.specs.Logs.{entries_in, item_of, Run, items_of, begins, own_of, contents_at, world, AreMoved, IsLegal}
 use Rattle.law_rule.specs.Seen.{contents_on, contents_locked}
 use Rattle.law_rule.specs.Homes.{AtRest, LiesThere}
 use Rattle.law_rule.specs.Rule.{Kept}
@@ -127,14 +127,24 @@ module _ (n limit : ℕ) where
   found_in : (run : Run) (t : ℕ) (p : Contents) → AreMoved n limit run → contents_locked (own_of t run) ≡ Some p
       → HasDistinctKeys p
   found_in [] t p moved is = absurd (cc)
-  found_in (x ∷ run) t p moved is = by_test (is_start t (item_of x.1)) (x.0 == t) (found_in run t p moved.0) is
+  found_in (x ∷ run) t p moved is =
+      by_test (is_start t (item_of x.1)) (x.0 == t) refl (found_in run t p moved.0) is
     where
-      by_test : (starts mine : Bool) → (contents_locked (own_of t run) ≡ Some p → HasDistinctKeys p)
-          → contents_locked (if starts then [] else (if mine then x.1 ∷ own_of t run else own_of t run)) ≡ Some p
+      -- the root's item locks nothing
+      none_locked : (x : Told) (used : Bool) → is_start t (item_of x) ≡ true → contents_locked (begins used x) ≡ Some p
+          → ⊥
+      none_locked x false starts is = absurd (cc)
+      none_locked (Did (Register u) number moved) true starts is = absurd (cc)
+      none_locked (Did _ number moved) true starts is = absurd (true≢false (sym starts))
+      none_locked (Saw word number) true starts is = absurd (true≢false (sym starts))
+      none_locked (Lost word number) true starts is = absurd (true≢false (sym starts))
+
+      by_test : (starts mine : Bool) → is_start t (item_of x.1) ≡ starts → (contents_locked (own_of t run) ≡ Some p → HasDistinctKeys p)
+          → contents_locked (if starts then begins (is_used t (items_of run)) x.1 else (if mine then x.1 ∷ own_of t run else own_of t run)) ≡ Some p
           → HasDistinctKeys p
-      by_test true mine older is = absurd (cc)
-      by_test false true older is = found_on run x.0 x.1 (contents_locked (own_of t run)) p moved older is
-      by_test false false older is = older is
+      by_test true mine first older is = absurd (none_locked x.1 (is_used t (items_of run)) first is)
+      by_test false true first older is = found_on run x.0 x.1 (contents_locked (own_of t run)) p moved older is
+      by_test false false first older is = older is
 
   pub keys_found : (run : Run) (t : ℕ) (p : Contents) → IsLegal n limit run → contents_locked (own_of t run) ≡ Some p
       → HasDistinctKeys p

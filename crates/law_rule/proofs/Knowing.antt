@@ -8,27 +8,25 @@ use mathlib.Core.Option.{some}
 use lib.ListN.{get_elem?}
 use Rattle.atomic_table.specs.Table.{State}
 use Rattle.brc_words.specs.declared.limits.TheConstants.{FIRST_MORTAL, MOST_THREADS}
-use Rattle.law_world.specs.declared.edition.Edition.TheVariants as editions
 use Rattle.law_world.specs.declared.row.Row.{Row}
 use Rattle.law_world.specs.declared.event.Dropped.{Dropped}
 use Rattle.law_world.specs.declared.event.Step.{Step}
 use Rattle.law_world.specs.declared.event.Step.TheVariants.{Free, Unlock}
 use Rattle.law_world.specs.Lists.{is_marked}
-use Rattle.law_world.specs.Heap.{Heap, opening, cell_at, entries_at, row_at, frame_at, popped_at, worklist_at}
+use Rattle.law_known.specs.Start.{runs_in, start_of}
+use Rattle.law_world.specs.Heap.{Heap, cell_at, entries_at, row_at, frame_at, popped_at, worklist_at}
 use Rattle.law_world.specs.Heap.{is_registered, words_for, AreOptions}
 use Rattle.law_world.specs.Steps.{thread_may, stage_ok, lock_ok, hand_ok, own_ok, own_ok_at, others_ok, edition_ok}
 use Rattle.law_world.specs.Steps.{target_ok, target_at, is_empty, change_ok, locked_entries, locked_at}
 use Rattle.law_world.specs.Holding.{Headline}
 use Rattle.law_world.specs.Runs.{IsReached}
-use Rattle.law_world.proofs.Lifetimes.{run_edition}
 use Rattle.law_world.proofs.Reached.{reached_headline}
 use Rattle.law_known.specs.Items.{Part, part_of, IsPart, meant, events_of, own}
 use Rattle.law_known.specs.Counts.{own_count, counts_of}
 use Rattle.law_known.specs.Risen.{is_risen}
 use Rattle.law_known.specs.Owners_Seen.{has_seen_owner}
 use Rattle.law_lasting.specs.Staying.{rank}
-use Rattle.law_lasting.proofs.Standing.{run_reached}
-use Rattle.law_lasting.proofs.Ranges_Law.{run_limit}
+use Rattle.law_known.proofs.Starting.{run_limit, run_runs_in, run_reached}
 use Rattle.law_known.proofs.Items_Queues.{run_queues, run_cells}
 use Rattle.law_known.proofs.Items_Runs.{events_run}
 use Rattle.law_known.proofs.Items_Told.{QueuesFit}
@@ -63,11 +61,11 @@ pub record Known (n limit : ℕ) (h : Heap) (t : ℕ) (log : List Told) : Type 0
   pub risen : (drop : Dropped) (c : ℕ) → risen_seen n log drop c ≡ true → FIRST_MORTAL ≤ c
       → 1 ≤ rank (cell_at h c).state
 
--- the run begins in the first edition, and stays there
+-- the run begins in the table's edition, and stays there
 pub known_edition : (n limit : ℕ) (h : Heap) (t : ℕ) (log : List Told) → Known n limit h t log
-    → h.edition ≡ editions.One
+    → h.edition ≡ runs_in
 known_edition n limit h t log known = sym (ap (λ z. z.edition) known.is_world)
-    ∙ run_edition (opening n limit) (events_of (items_of known.run))
+    ∙ run_runs_in n limit (events_of (items_of known.run))
 
 pub knows_run : (n limit : ℕ) (run : Run) (t : ℕ) → AreOptions n limit → IsLegal n limit run
     → stands (world n limit run) t ≡ true → 0 < t → Known n limit (world n limit run) t (own_of t run)
@@ -82,7 +80,7 @@ knows_run n limit run t options legal stood some_thread =
       is_own = refl;
       options = options;
       reached = run_reached n limit (events_of (items_of run)) options
-          (events_run (opening n limit) (items_of run) legal.items);
+          (events_run (start_of n limit) (items_of run) legal.items);
       cells = run_cells n limit (events_of (items_of run));
       limit_is = run_limit n limit (events_of (items_of run));
       queues = run_queues n limit (events_of (items_of run));
@@ -157,7 +155,7 @@ hand_there n limit h t log s known own =
 -- the own part allows the step, and so do the edition, whom it tells and the cell that it means
 pub is_enabled : (n limit : ℕ) (h : Heap) (t : ℕ) (log : List Told) (s : Step) → 0 < t → Known n limit h t log
     → own_may n (part_seen n log) s ≡ true
-    → edition_ok editions.One (row_at h t) s ≡ true → others_ok h t s ≡ true
+    → edition_ok runs_in (row_at h t) s ≡ true → others_ok h t s ≡ true
     → target_ok h t (row_at h t) s (target_at h t s) ≡ true → thread_may h t s ≡ true
 is_enabled n limit h t log s some_thread known own edition others target =
     let part : Part = part_seen n log in
@@ -172,10 +170,10 @@ is_enabled n limit h t log s some_thread known own edition others target =
     (record { locked = known.part.locked_has; worklists = known.part.work_has }) a.1) in
     let there = both_true (stands_registered h t known.stood some_thread)
     (ap Rattle.std.proofs.Common.not (stands_ungathered h t known.stood some_thread)) in
-    let first : edition_ok h.edition (row_at h t) s ≡ true = subst (λ e. edition_ok e (row_at h t) s ≡ true)
+    let edition_too : edition_ok h.edition (row_at h t) s ≡ true = subst (λ e. edition_ok e (row_at h t) s ≡ true)
     (sym (known_edition n limit h t log known)) edition in
     both_true (both_true (both_true (both_true (both_true (both_true (both_true there c.0) c.1) b.1) mine) others)
-    first) target
+    edition_too) target
 
 -- the cell that the log's part means is the world's
 pub meant_there : (n limit : ℕ) (h : Heap) (t : ℕ) (log : List Told) (s : Step) (o : Option ℕ) → Known n limit h t log
@@ -187,7 +185,7 @@ meant_there n limit h t log s o known is = sym (part_target h t (part_seen n log
 module _ {B : Type 0} (shows : B → ℕ × Contents) (n limit : ℕ) where
   pub kept_reached : (s : State (Option B) View) (r : Kept shows n limit s) → IsReached (world n limit r.run)
   kept_reached s r = run_reached n limit (events_of (items_of r.run)) r.options
-      (events_run (opening n limit) (items_of r.run) r.legal.items)
+      (events_run (start_of n limit) (items_of r.run) r.legal.items)
 
   pub kept_headline : (s : State (Option B) View) (r : Kept shows n limit s) → Headline (world n limit r.run)
   kept_headline s r = reached_headline (world n limit r.run) (kept_reached s r)

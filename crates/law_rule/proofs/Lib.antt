@@ -11,6 +11,5 @@ pub mod Keys_Law
 pub mod Opening_Law
 pub mod Since
 pub mod Noting
-pub mod Handing
 pub mod Small_Looks
 pub mod Once

@@ -11,7 +11,8 @@ use Rattle.law_world.specs.declared.event.Step.TheVariants.{Birth, LocalUp, Shar
 use Rattle.law_world.specs.declared.row.Row.{Row}
 use Rattle.law_world.specs.declared.row.Phase.TheVariants as phases
 use Rattle.law_world.specs.Lists.{place_at, filled}
-use Rattle.law_world.specs.Heap.{Heap, opening, cell_at, row_at, frame_at, no_row, new_row, again_row, AreOptions}
+use Rattle.law_known.specs.Start.{start_of}
+use Rattle.law_world.specs.Heap.{Heap, cell_at, row_at, frame_at, no_row, new_row, again_row, AreOptions}
 use Rattle.law_world.specs.Sound.{IsSound}
 use Rattle.law_world.specs.Steps.{enabled, after, after_target, root_after, root_may, thread_may, target_at, locked_at}
 use Rattle.law_world.specs.Steps.{locked_cell, lock_ok, stepped, kept_cells, row_after, is_shut}
@@ -23,7 +24,7 @@ use Rattle.law_world.proofs.Reached.{reached_sound}
 use Rattle.law_world.proofs.Reusing.{fresh, reused, registers}
 use Rattle.law_lasting.specs.Staying.{SameOwn, is_about}
 use Rattle.law_lasting.proofs.Lasting.{others_own, locked_mutex, held_live, not_bearing}
-use Rattle.law_lasting.proofs.Standing.{run_reached}
+use Rattle.law_known.proofs.Starting.{run_reached}
 use Rattle.law_known.specs.Items.{MayCome, events_of, is_start}
 use Rattle.law_known.proofs.Items_Runs.{events_run}
 use Rattle.law_rule.specs.declared.contents.Contents.{Contents}
@@ -335,16 +336,16 @@ module _ (n limit : ℕ) where
   says : (run : Run) (t c : ℕ) → AreOptions n limit → IsLegal n limit run → 0 < t
       → locked_at (world n limit run) t ≡ Some c → Says run t c
   says [] t c options legal some_thread named =
-      absurd (none_some c (sym (ap (λ (r : Row). locked_cell (frame_at (opening n limit) t) r.locked)
+      absurd (none_some c (sym (ap (λ (r : Row). locked_cell (frame_at (start_of n limit) t) r.locked)
       (opening_row t)) ∙ named))
     where
-      opening_row : (t : ℕ) → row_at (opening n limit) t ≡ no_row
+      opening_row : (t : ℕ) → row_at (start_of n limit) t ≡ no_row
       opening_row Rattle.std.proofs.Common.zero = refl
       opening_row (Rattle.std.proofs.Common.suc t) = refl
   says (x ∷ run) t c options legal some_thread named =
       let older : IsLegal n limit run = record { items = legal.items.0; moved = legal.moved.0 } in
       let reached : IsReached (world n limit run) = run_reached n limit (events_of (items_of run)) options
-      (events_run (opening n limit) (items_of run) older.items) in
+      (events_run (start_of n limit) (items_of run) older.items) in
       item_says run t x.0 x.1 c (reached_sound (world n limit run) reached) legal.items.1 legal.moved.1 some_thread
       (says run t c options older some_thread) named
 

@@ -18,7 +18,7 @@ use Rattle.law_world.specs.declared.row.Phase.TheVariants as phases
 use Rattle.law_world.specs.declared.row.Row.{Row}
 use Rattle.law_world.specs.Lists.{bit_of}
 use Rattle.law_world.specs.Phases.{has_reference}
-use Rattle.law_world.specs.Heap.{Heap, opening, cell_at, row_at, popped_at, words_for}
+use Rattle.law_world.specs.Heap.{Heap, cell_at, row_at, popped_at, words_for}
 use Rattle.law_world.specs.Holding.{carries}
 use Rattle.law_world.specs.Runs.{IsReached}
 use Rattle.law_world.specs.Steps.{hand_ok, own_ok, is_at}
@@ -36,7 +36,6 @@ use Rattle.law_known.proofs.Free_Law.{live_shown}
 use Rattle.law_rule.specs.declared.told.Told.{Told}
 use Rattle.law_rule.specs.Seen.{part_seen, own_may}
 use Rattle.law_rule.specs.Logs.{items_of}
-use Rattle.law_rule.proofs.Handing.{is_handing, none_handing}
 use Rattle.law_rule.proofs.Knowing.{Known}
 
 -- ---- numbers
@@ -96,40 +95,32 @@ owner_told h t c number reached has shown = live_shown (length h.rows) (cell_at 
 
 -- ---- a merge by a note of the local count
 
--- the object was the thread's, or one that it has adopted
+-- the object was the thread's: it hands it over, or has popped a reference of it
 abbrev pub IsMerging : Phase → Type 0
-IsMerging p = (p ≡ phases.Taking) ⊎ (p ≡ phases.Popping)
-
-pub merging_hand : (hand : Hand) (c : ℕ) → is_handing hand ≡ false → hand_ok hand (MergeAdd c) ≡ true
-    → (p : Phase) × (hand ≡ hands.Busy p c) × IsMerging p
-merging_hand hand c off at =
-    elim (or_cases (is_at phases.Taking c hand || is_at phases.Popping c hand) (is_at phases.Yielding c hand) at) [
-      | inr yielding ↦ absurd (true≢false (sym (ap is_handing (busy_hand phases.Yielding c hand yielding)) ∙ off))
-      | inl own ↦ elim (or_cases (is_at phases.Taking c hand) (is_at phases.Popping c hand) own) [
-        | inl taking ↦ (phases.Taking, busy_hand phases.Taking c hand taking, inl refl)
-        | inr popping ↦ (phases.Popping, busy_hand phases.Popping c hand popping, inr refl)
-      ]
-    ]
-
--- nobody whose log is known hands an object over
-pub own_handing : (n limit : ℕ) (h : Heap) (t : ℕ) (log : List Told) → Known n limit h t log
-    → is_handing (part_seen n log).row.hand ≡ false
-own_handing n limit h t log known =
-    sym (ap (λ (r : Row). is_handing r.hand) known.part.row_is)
-    ∙ sym (ap (λ z. is_handing (row_at z t).hand) known.is_world)
-    ∙ none_handing n limit (events_of (items_of known.run)) known.options
-    (events_run (opening n limit) (items_of known.run) known.legal.items) t
-
--- the hand of a thread that may add
-pub adding_hand : (n limit : ℕ) (h : Heap) (t : ℕ) (log : List Told) (c : ℕ) → Known n limit h t log
-    → own_may n (part_seen n log) (MergeAdd c) ≡ true
-    → (p : Phase) × ((part_seen n log).row.hand ≡ hands.Busy p c) × IsMerging p
-adding_hand n limit h t log c known own = merging_hand (part_seen n log).row.hand c (own_handing n limit h t log known)
-    (part_hand n (part_seen n log) (MergeAdd c) own)
+IsMerging p = (p ≡ phases.Popping) ⊎ (p ≡ phases.Yielding)
 
 pub merging_words : (h : Heap) (t c : ℕ) (p : Phase) → IsReached h → (row_at h t).hand ≡ hands.Busy p c → IsMerging p
     → ((cell_at h c).owner ≡ owners.Nobody) × ((cell_at h c).state ≡ states.Queued)
 merging_words h t c p reached busy which = elim which [
-  | inl taking ↦ (hand_tells h t c phases.Taking reached (busy ∙ ap (λ q. hands.Busy q c) taking)).1
-  | inr popping ↦ (hand_tells h t c phases.Popping reached (busy ∙ ap (λ q. hands.Busy q c) popping)).1
+  | inl popping ↦ (hand_tells h t c phases.Popping reached (busy ∙ ap (λ q. hands.Busy q c) popping)).1
+  | inr yielding ↦ (hand_tells h t c phases.Yielding reached (busy ∙ ap (λ q. hands.Busy q c) yielding)).1
+]
+
+-- whoever may add has the object in its hand, and it is nobody's
+pub adding_hand : (hand : Hand) (c : ℕ) → hand_ok hand (MergeAdd c) ≡ true
+    → (p : Phase) × (hand ≡ hands.Busy p c) × ((p ≡ phases.Taking) ⊎ IsMerging p)
+adding_hand hand c at =
+    elim (or_cases (is_at phases.Taking c hand || is_at phases.Popping c hand) (is_at phases.Yielding c hand) at) [
+      | inr yielding ↦ (phases.Yielding, busy_hand phases.Yielding c hand yielding, inr (inr refl))
+      | inl own ↦ elim (or_cases (is_at phases.Taking c hand) (is_at phases.Popping c hand) own) [
+        | inl taking ↦ (phases.Taking, busy_hand phases.Taking c hand taking, inl refl)
+        | inr popping ↦ (phases.Popping, busy_hand phases.Popping c hand popping, inr (inl refl))
+      ]
+    ]
+
+pub adding_nobody : (h : Heap) (t c : ℕ) (p : Phase) → IsReached h → (row_at h t).hand ≡ hands.Busy p c
+    → (p ≡ phases.Taking) ⊎ IsMerging p → (cell_at h c).owner ≡ owners.Nobody
+adding_nobody h t c p reached busy which = elim which [
+  | inl taking ↦ (hand_tells h t c phases.Taking reached (busy ∙ ap (λ q. hands.Busy q c) taking)).1.0
+  | inr merging ↦ (merging_words h t c p reached busy merging).0
 ]

@@ -7,16 +7,17 @@ use lib.ListN.{get_elem?}
 use Rattle.atomic_table.specs.Table.{State}
 use Rattle.law_world.specs.declared.event.Step.{Step}
 use Rattle.law_world.specs.declared.event.Step.TheVariants.{Register}
-use Rattle.law_world.specs.Heap.{Heap, opening, AreOptions}
+use Rattle.law_known.specs.Start.{start_of}
+use Rattle.law_world.specs.Heap.{Heap, AreOptions}
 use Rattle.law_world.specs.Steps.{enabled, root_may, thread_may}
 use Rattle.law_world.specs.Runs.{IsReached}
 use Rattle.law_world.specs.Sound.{IsSound}
 use Rattle.law_world.proofs.Asking.{may_parts}
 use Rattle.law_world.proofs.Reached.{reached_sound}
 use Rattle.law_world.proofs.Reusing.{fresh, reused, registers}
-use Rattle.law_lasting.proofs.Standing.{run_reached}
+use Rattle.law_known.proofs.Starting.{run_reached}
 use Rattle.law_known.specs.Items as items
-use Rattle.law_known.specs.Items.{AreItems, MayCome, is_start, events_of}
+use Rattle.law_known.specs.Items.{AreItems, MayCome, is_start, is_used, events_of}
 use Rattle.law_known.proofs.Items_Runs.{events_run}
 use Rattle.law_known.proofs.Items_Tells.{no_start}
 use Rattle.law_rule.specs.declared.contents.Contents.{Contents}
@@ -24,13 +25,13 @@ use Rattle.law_rule.specs.declared.told.Told.{Told}
 use Rattle.law_rule.specs.declared.told.Told.TheVariants.{Did, Saw, Lost}
 use Rattle.law_rule.specs.declared.view.View.{View}
 use Rattle.law_rule.specs.Logs.{item_of, entries_found, Run, items_of, own_of, gathered_by, lives_on, lives_of, all_of}
-use Rattle.law_rule.specs.Logs.{ended_in, world}
+use Rattle.law_rule.specs.Logs.{ended_in, world, begins, own_steps}
 use Rattle.law_rule.specs.Rule.{stands, StandsOnce, Kept}
 use Rattle.law_rule.proofs.Own_Logs.{own_more, own_same}
 
 -- what stands in the logs of a thread
 abbrev logged : Bool → ℕ → List Told → List (ℕ × List Told) → List Told
-logged stood t log lives = (if stood then log else []) ++ ended_in t lives
+logged stood t log lives = (if stood then own_steps t log else []) ++ ended_in t lives
 
 -- a step or a note of a thread that stands
 pub once_calm : (h new : Heap) (run : Run) (u t : ℕ) (x : Told) → is_start t (item_of x) ≡ false → gathered_by x ≡ None
@@ -46,6 +47,8 @@ once_calm h new run u t x older none stood same once =
           ap (λ b. if b then x ∷ all_of t run else all_of t run) (eq-eqb u t mine)
           ∙ ap (λ l. x ∷ l) once
           ∙ ap (λ b. x ∷ logged b t (own_of t run) (lives_of run)) stood_here
+          ∙ sym (ap (λ b. (if b then own_steps t (own_of t run) else x ∷ own_steps t (own_of t run))
+          ++ ended_in t (lives_of run)) older)
           ∙ sym (ap (λ b. logged b t (own_of t ((u, x) ∷ run)) (lives_of ((u, x) ∷ run))) (same ∙ stood_here)
           ∙ ap (λ l. logged true t l (lives_of ((u, x) ∷ run))) log
           ∙ ap (λ l. logged true t (x ∷ own_of t run) l) lives)
@@ -61,18 +64,23 @@ once_calm h new run u t x older none stood same once =
 pub once_started : (h new : Heap) (run : Run) (t : ℕ) (x : Told) → 0 < t → is_start t (item_of x) ≡ true
     → gathered_by x ≡ None → stands h t ≡ false → StandsOnce h run t → StandsOnce new ((0, x) ∷ run) t
 once_started h new run t x positive starts none off once =
-    let log : own_of t ((0, x) ∷ run) ≡ [] =
-    ap (λ b. if b then [] else (if 0 == t then x ∷ own_of t run else own_of t run)) starts in
+    let used : Bool = is_used t (items_of run) in
+    let log : own_of t ((0, x) ∷ run) ≡ begins used x =
+    ap (λ b. if b then begins used x else (if 0 == t then x ∷ own_of t run else own_of t run)) starts in
     let lives : lives_of ((0, x) ∷ run) ≡ lives_of run = ap (λ o. lives_on o run (lives_of run)) none in
     ap (λ b. if b then x ∷ all_of t run else all_of t run) (ne_eqb 0 t (λ e. omega (arith, e, positive)))
     ∙ once ∙ ap (λ b. logged b t (own_of t run) (lives_of run)) off
     ∙ sym (ap (λ l. logged (stands new t) t l (lives_of ((0, x) ∷ run))) log
-    ∙ ap (λ l. (if stands new t then [] else []) ++ ended_in t l) lives
-    ∙ ap (λ l. l ++ ended_in t (lives_of run)) (both (stands new t)))
+    ∙ ap (λ l. (if stands new t then own_steps t (begins used x) else []) ++ ended_in t l) lives
+    ∙ ap (λ l. l ++ ended_in t (lives_of run)) (both (stands new t) used))
   where
-    both : (b : Bool) → ◌≡◌ {A = List Told} (if b then [] else []) []
-    both true = refl
-    both false = refl
+    none_own : (used : Bool) → own_steps t (begins used x) ≡ []
+    none_own true = ap (λ b. if b then [] else x ∷ []) starts
+    none_own false = refl
+
+    both : (b used : Bool) → (if b then own_steps t (begins used x) else []) ≡ []
+    both true used = none_own used
+    both false used = refl
 
 -- a thread that stood is gathered: its log is one of those that have ended
 pub once_gathered : (h new : Heap) (run : Run) (t : ℕ) (x : Told) → 0 < t → gathered_by x ≡ Some t → stands h t ≡ true
@@ -82,7 +90,8 @@ once_gathered h new run t x positive gathers stood off once =
     ∙ once ∙ ap (λ b. logged b t (own_of t run) (lives_of run)) stood
     ∙ sym (ap (λ b. logged b t (own_of t ((0, x) ∷ run)) (lives_of ((0, x) ∷ run))) off
     ∙ ap (λ o. ended_in t (lives_on o run (lives_of run))) gathers
-    ∙ ap (λ b. if b then own_of t run ++ ended_in t (lives_of run) else ended_in t (lives_of run)) (eq-eqb t t refl))
+    ∙ ap (λ b. if b then own_steps t (own_of t run) ++ ended_in t (lives_of run) else ended_in t (lives_of run))
+    (eq-eqb t t refl))
 
 -- the root's step that is about another thread
 pub once_else : (h new : Heap) (run : Run) (t u : ℕ) (x : Told) → 0 < t → is_start t (item_of x) ≡ false
@@ -94,8 +103,9 @@ once_else h new run t u x positive older gathers other same once =
     ∙ ap (λ l. logged (stands h t) t l (lives_of ((0, x) ∷ run)))
     (own_same 0 t x run older (λ e. omega (arith, e, positive)))
     ∙ ap (λ o. logged (stands h t) t (own_of t run) (lives_on o run (lives_of run))) gathers
-    ∙ ap (λ b. (if stands h t then own_of t run else [])
-    ++ (if b then own_of u run ++ ended_in t (lives_of run) else ended_in t (lives_of run))) (ne_eqb u t other))
+    ∙ ap (λ b. (if stands h t then own_steps t (own_of t run) else [])
+    ++ (if b then own_steps t (own_of u run) ++ ended_in t (lives_of run) else ended_in t (lives_of run)))
+    (ne_eqb u t other))
 
 -- ---- the root
 
@@ -121,21 +131,21 @@ never_root h u (Register v) number entries reached ok = elim (cases_Bool (u == 0
 never_root h u _ number entries reached ok = refl
 
 never_again : (n limit : ℕ) (u : ℕ) (x : Told) (run : Run) → AreOptions n limit
-    → AreItems (opening n limit) (items_of run) → MayCome (world n limit run) u (item_of x)
+    → AreItems (start_of n limit) (items_of run) → MayCome (world n limit run) u (item_of x)
     → is_start 0 (item_of x) ≡ false
 never_again n limit u (Did s number moved) run options are comes =
     never_root (world n limit run) u s number (entries_found moved)
-    (run_reached n limit (events_of (items_of run)) options (events_run (opening n limit) (items_of run) are)) comes.0
+    (run_reached n limit (events_of (items_of run)) options (events_run (start_of n limit) (items_of run) are)) comes.0
 never_again n limit u (Saw word number) run options are comes = refl
 never_again n limit u (Lost word number) run options are comes = refl
 
 -- so all items of its number are its seat's
-pub root_once : (n limit : ℕ) (run : Run) → AreOptions n limit → AreItems (opening n limit) (items_of run)
+pub root_once : (n limit : ℕ) (run : Run) → AreOptions n limit → AreItems (start_of n limit) (items_of run)
     → all_of 0 run ≡ own_of 0 run
 root_once n limit [] options are = refl
 root_once n limit (x ∷ run) options are =
     ap (λ log. if x.0 == 0 then x.1 ∷ log else log) (root_once n limit run options are.0)
-    ∙ sym (ap (λ b. if b then [] else (if x.0 == 0 then x.1 ∷ own_of 0 run else own_of 0 run))
+    ∙ sym (ap (λ b. if b then begins (is_used 0 (items_of run)) x.1 else (if x.0 == 0 then x.1 ∷ own_of 0 run else own_of 0 run))
     (never_again n limit x.0 x.1 run options are.0 are.1))
 
 -- ---- of every table that keeps the rule

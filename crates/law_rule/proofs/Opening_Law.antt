@@ -9,7 +9,8 @@ use Rattle.atomic_table.specs.Table as tables
 use Rattle.brc_words.specs.declared.limits.TheConstants.{FIRST_MORTAL}
 use Rattle.brc_words.specs.declared.owner.Owner.TheVariants as owners
 use Rattle.law_world.specs.declared.cell.Cell.{Cell}
-use Rattle.law_world.specs.Heap.{opening, cell_at, is_gathered, is_registered, AreOptions}
+use Rattle.law_known.specs.Start.{start_of}
+use Rattle.law_world.specs.Heap.{cell_at, is_gathered, is_registered, AreOptions}
 use Rattle.law_world.specs.Holding.{lives}
 use Rattle.law_world.proofs.Beginning.{free_cell, immortal_cell}
 use Rattle.law_rule.specs.declared.contents.Contents.{Contents}
@@ -20,16 +21,16 @@ use Rattle.law_rule.specs.Rule.{stands, Fits, Kept}
 use Rattle.law_rule.specs.Opening.{first_view, Opens}
 
 -- nobody is gathered yet, and nobody stands but the root
-none_gathered : (n limit u : ℕ) → is_gathered (opening n limit) u ≡ false
+none_gathered : (n limit u : ℕ) → is_gathered (start_of n limit) u ≡ false
 none_gathered n limit zero = refl
 none_gathered n limit (suc u) = refl
 
-root_stands : (n limit t : ℕ) → stands (opening n limit) t ≡ true → t ≡ 0
+root_stands : (n limit t : ℕ) → stands (start_of n limit) t ≡ true → t ≡ 0
 root_stands n limit t stood = elim (or_cases (t == 0) _ stood) [
   | inl root ↦ eqb-true t 0 root
   | inr thread ↦
       let number : (nat_lt 0 t ≡ true) × (nat_lt t 1 ≡ true) = and_parts (nat_lt 0 t) (nat_lt t 1)
-      (and_parts (is_registered (opening n limit) t) (not (is_gathered (opening n limit) t)) thread).0 in
+      (and_parts (is_registered (start_of n limit) t) (not (is_gathered (start_of n limit) t)) thread).0 in
       absurd (omega (arith, ltb-true 0 t number.0, ltb-true t 1 number.1))
 ]
 
@@ -39,17 +40,17 @@ none_logged false = refl
 
 module _ {B : Type 0} (shows : B → ℕ × Contents) (n limit : ℕ) where
   opening_home : (words : List ℕ) (slots : List (Option B)) (c : ℕ) → AreOptions n limit
-      → Opens shows n limit words slots → c < n → HomeShown shows (map some slots) (opening n limit) [] c
+      → Opens shows n limit words slots → c < n → HomeShown shows (map some slots) (start_of n limit) [] c
   opening_home words slots c options given low = elim (cases_lt c FIRST_MORTAL) [
     | inl fixed ↦
-        let is : (cell_at (opening n limit) c).owner ≡ owners.Nobody = ap (λ (x : Cell). x.owner)
+        let is : (cell_at (start_of n limit) c).owner ≡ owners.Nobody = ap (λ (x : Cell). x.owner)
         (immortal_cell n c (omega (arith, options.enough)) fixed) in
         record {
           bare = λ free. absurd (nobody_free (sym is ∙ free));
           lies = λ live unlocked off. given.immortals c fixed;
         }
     | inr mortal ↦
-        let is : (cell_at (opening n limit) c).owner ≡ owners.Free = ap (λ (x : Cell). x.owner)
+        let is : (cell_at (start_of n limit) c).owner ≡ owners.Free = ap (λ (x : Cell). x.owner)
         (free_cell n c mortal) in
         record {
           bare = λ free. given.mortals c mortal low;
@@ -72,7 +73,7 @@ module _ {B : Type 0} (shows : B → ℕ × Contents) (n limit : ℕ) where
     deep = length-map slots some ∙ given.deep;
     each_word = given.each_word;
     each_home = λ c low. opening_home words slots c options given low;
-    each_seat = λ j v there live. subst (λ (z : ℕ × View). Fits (opening n limit) [] (λ t. 0) z.0 z.1)
+    each_seat = λ j v there live. subst (λ (z : ℕ × View). Fits (start_of n limit) [] (λ t. 0) z.0 z.1)
         (λ i. (sym (only_root j v there).0 i, (only_root j v there).1 i))
         (record {
           here = refl;
@@ -88,7 +89,7 @@ module _ {B : Type 0} (shows : B → ℕ × Contents) (n limit : ℕ) where
       active = refl;
       thread = sym (root_stands n limit t stood);
     };
-    each_once = λ t some. none_logged (stands (opening n limit) t);
+    each_once = λ t some. none_logged (stands (start_of n limit) t);
   }
     where
       only_root : (j : ℕ) (v : View) → get_elem? (first_view ∷ []) j ≡ some v → (j ≡ 0) × (first_view ≡ v)

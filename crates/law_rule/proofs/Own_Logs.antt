@@ -3,9 +3,9 @@ use Rattle.std.proofs.Common.{◌≡◌, ◌≢◌, ℕ, ◌==◌, ◌&&◌, ◌
 use Rattle.std.proofs.Common.{[], ◌∷◌, length, refl, ◌∙◌, ap, inl, inr, arith}
 use Rattle.std.proofs.lemmas.Bool.{eq-eqb, ne_eqb, eqb-true, and_parts, or_cases, not-true}
 use Rattle.law_world.specs.Heap.{Heap, is_registered, is_gathered}
-use Rattle.law_known.specs.Items.{own, is_start}
+use Rattle.law_known.specs.Items.{own, is_start, is_used, begins_with}
 use Rattle.law_rule.specs.declared.told.Told.{Told}
-use Rattle.law_rule.specs.Logs.{item_of, log_items, Run, items_of, own_of}
+use Rattle.law_rule.specs.Logs.{item_of, log_items, Run, items_of, begins, own_of}
 use Rattle.law_rule.specs.Rule.{stands}
 
 -- a thread's own items are its log without contents
@@ -13,21 +13,29 @@ pub own_items : (t : ℕ) (run : Run) → own t (items_of run) ≡ log_items (ow
 own_items t [] = refl
 own_items t (x ∷ run) = by_test (is_start t (item_of x.1)) (x.0 == t) (own_items t run)
   where
+    begun : (used : Bool) → begins_with used (item_of x.1) ≡ log_items (begins used x.1)
+    begun true = refl
+    begun false = refl
+
+    used : Bool
+    used = is_used t (items_of run)
+
     by_test : (starts mine : Bool) → own t (items_of run) ≡ log_items (own_of t run)
-        → (if starts then [] else (if mine then item_of x.1 ∷ own t (items_of run) else own t (items_of run)))
-        ≡ log_items (if starts then [] else (if mine then x.1 ∷ own_of t run else own_of t run))
-    by_test true mine before = refl
+        → (if starts then begins_with used (item_of x.1) else (if mine then item_of x.1 ∷ own t (items_of run) else own
+        t (items_of run)))
+        ≡ log_items (if starts then begins used x.1 else (if mine then x.1 ∷ own_of t run else own_of t run))
+    by_test true mine before = begun used
     by_test false true before = ap (λ log. item_of x.1 ∷ log) before
     by_test false false before = before
 
 pub own_more : (t : ℕ) (x : Told) (run : Run) → is_start t (item_of x) ≡ false
     → own_of t ((t, x) ∷ run) ≡ x ∷ own_of t run
-own_more t x run older = ap (λ b. if b then [] else (if t == t then x ∷ own_of t run else own_of t run)) older
+own_more t x run older = ap (λ b. if b then begins (is_used t (items_of run)) x else (if t == t then x ∷ own_of t run else own_of t run)) older
     ∙ ap (λ b. if b then x ∷ own_of t run else own_of t run) (eq-eqb t t refl)
 
 pub own_same : (t u : ℕ) (x : Told) (run : Run) → is_start u (item_of x) ≡ false → t ≢ u
     → own_of u ((t, x) ∷ run) ≡ own_of u run
-own_same t u x run older other = ap (λ b. if b then [] else (if t == u then x ∷ own_of u run else own_of u run)) older
+own_same t u x run older other = ap (λ b. if b then begins (is_used u (items_of run)) x else (if t == u then x ∷ own_of u run else own_of u run)) older
     ∙ ap (λ b. if b then x ∷ own_of u run else own_of u run) (ne_eqb t u other)
 
 -- who stands isn't gathered

@@ -1,5 +1,5 @@
 -- What lasts while others step, and was so as a note was made or after the newest step of the thread, is so now.
-use Rattle.std.proofs.Common.{◌≡◌, ◌≢◌, ℕ, ◌<◌, ◌==◌, ◌&&◌, ◌||◌, not, nat_lt, true, false, if◌then◌else◌, List, []}
+use Rattle.std.proofs.Common.{◌≡◌, ◌≢◌, ℕ, ◌<◌, ◌==◌, ◌&&◌, ◌||◌, not, nat_lt, Bool, true, false, if◌then◌else◌, List, []}
 use Rattle.std.proofs.Common.{◌∷◌, length, Some, None, refl, sym, ◌∙◌, ap, subst, inl, inr, arith}
 use Rattle.std.proofs.lemmas.Bool.{cases_eq, cases_Bool, eq-eqb, ne_eqb, eqb-true, ltb-true, lt-ltb, and_parts}
 use Rattle.std.proofs.lemmas.Bool.{true≢false}
@@ -9,7 +9,8 @@ use Rattle.law_world.specs.declared.event.Event.{Event}
 use Rattle.law_world.specs.declared.event.Step.{Step}
 use Rattle.law_world.specs.declared.event.Step.TheVariants.{Register, Gather}
 use Rattle.law_world.specs.Lists.{number_in}
-use Rattle.law_world.specs.Heap.{Heap, opening, new_row, again_row, is_registered, is_gathered, AreOptions}
+use Rattle.law_known.specs.Start.{start_of}
+use Rattle.law_world.specs.Heap.{Heap, new_row, again_row, is_registered, is_gathered, AreOptions}
 use Rattle.law_world.specs.Runs.{IsReached}
 use Rattle.law_world.specs.Sound.{IsSound}
 use Rattle.law_world.specs.Steps.{enabled, after, after_target, root_after, root_may, thread_may, target_at, registered}
@@ -21,17 +22,17 @@ use Rattle.law_world.proofs.Reusing.{fresh, reused, registers}
 use Rattle.law_lasting.specs.Staying.{is_about, IsAnothers, Lasts}
 use Rattle.law_lasting.proofs.Lasting.{other_number, others_own}
 use Rattle.law_lasting.proofs.Ranges_Law.{same_rows}
-use Rattle.law_lasting.proofs.Standing.{run_reached}
+use Rattle.law_known.proofs.Starting.{run_reached}
 use Rattle.law_known.specs.declared.word.Field.{Field}
 use Rattle.law_known.specs.declared.word.Field.TheVariants.{Owner, Local, Shared, Mutex}
 use Rattle.law_known.specs.declared.word.Word.{Word}
 use Rattle.law_known.specs.declared.word.Word.TheVariants.{Of, Queue, NotifyWord, FreeWord}
-use Rattle.law_known.specs.Items.{Shows, MayCome, is_start, same_field, events_of}
+use Rattle.law_known.specs.Items.{Shows, MayCome, is_start, is_used, same_field, events_of}
 use Rattle.law_known.proofs.Items_Runs.{events_run}
 use Rattle.law_rule.specs.declared.told.Moved.{Moved}
 use Rattle.law_rule.specs.declared.told.Told.{Told}
 use Rattle.law_rule.specs.declared.told.Told.TheVariants.{Did, Saw, Lost}
-use Rattle.law_rule.specs.Logs.{item_of, Run, items_of, own_of, world, IsLegal}
+use Rattle.law_rule.specs.Logs.{item_of, Run, items_of, begins, own_of, world, IsLegal}
 use Rattle.law_rule.specs.Rule.{stands}
 use Rattle.law_rule.specs.Seen.{part_seen}
 use Rattle.law_rule.specs.Noted.{is_of, noted, newest_step}
@@ -162,6 +163,7 @@ nothing_noted number bad = absurd (cc)
 -- leave it so.
 module _ (n limit t : ℕ) (P : Heap → Type 0) (Tells : List Told → Type 0) (lasts : Lasts t P)
     (options : AreOptions n limit) (some_thread : 0 < t) (starts : Tells [] → ⊥)
+    (again : (number : ℕ) (moved : Moved) → Tells (Did (Register t) number moved ∷ []) → ⊥)
     (owns : (run : Run) (x : Told) → IsLegal n limit ((t, x) ∷ run) → stands (world n limit ((t, x) ∷ run)) t ≡ true
     → Tells (x ∷ own_of t run)
     → (stands (world n limit run) t ≡ true → Tells (own_of t run) → P (world n limit run))
@@ -177,7 +179,7 @@ module _ (n limit t : ℕ) (P : Heap → Type 0) (Tells : List Told → Type 0) 
   others_step run u s m moved legal ok other older stood before =
       let h : Heap = world n limit run in
       let reached : IsReached h = run_reached n limit (events_of (items_of run)) options
-      (events_run (opening n limit) (items_of run) legal.items) in
+      (events_run (start_of n limit) (items_of run) legal.items) in
       let sound : IsSound h = reached_sound h reached in
       let others : IsAnothers t (record { thread = u; step = s }) =
       record { other = other; apart = is_apart h u s m t moved sound ok some_thread stood older } in
@@ -192,16 +194,26 @@ module _ (n limit t : ℕ) (P : Heap → Type 0) (Tells : List Told → Type 0) 
   others_item run u (Saw word m) legal comes other older stood before = before stood
   others_item run u (Lost word m) legal comes other older stood before = before stood
 
+  -- a log that begins tells nothing
+  begun : (x : Told) (used : Bool) → is_start t (item_of x) ≡ true → Tells (begins used x) → ⊥
+  begun x false first tells = starts tells
+  begun (Did (Register u) m moved) true first tells =
+      again m moved (subst (λ v. Tells (Did (Register v) m moved ∷ [])) (eqb-true u t first) tells)
+  begun (Did _ m moved) true first tells = absurd (true≢false (sym first))
+  begun (Saw word m) true first tells = absurd (true≢false (sym first))
+  begun (Lost word m) true first tells = absurd (true≢false (sym first))
+
   item_so : (run : Run) (u : ℕ) (x : Told) → IsLegal n limit ((u, x) ∷ run) → Told_So run → Told_So ((u, x) ∷ run)
   item_so run u x legal before stood tells =
       let earlier : IsLegal n limit run = record { items = legal.items.0; moved = legal.moved.0 } in
       let mine : List Told = x ∷ own_of t run in
       elim (cases_Bool (is_start t (item_of x))) [
-        | inl begins ↦ absurd (starts
-            (subst Tells (ap (λ b. if b then [] else (if u == t then mine else own_of t run)) begins) tells))
+        | inl first ↦ absurd (begun x (is_used t (items_of run)) first
+            (subst Tells (ap (λ b. if b then begins (is_used t (items_of run)) x else (if u ==
+            t then mine else own_of t run)) first) tells))
         | inr older ↦
             let tested : own_of t ((u, x) ∷ run) ≡ (if u == t then mine else own_of t run) =
-            ap (λ b. if b then [] else (if u == t then mine else own_of t run)) older in
+            ap (λ b. if b then begins (is_used t (items_of run)) x else (if u == t then mine else own_of t run)) older in
             elim (cases_eq u t) [
               | inl same ↦
                   subst (λ v. P (world n limit ((v, x) ∷ run))) (sym same)
@@ -270,13 +282,16 @@ pub since : (n limit : ℕ) (h : Heap) (t : ℕ) (log : List Told) (f : Field) (
     → Shows old (Of f c) number → P old) → P h
 since n limit h t log f c number P some_thread known is lasts found =
     told_so n limit t P (λ now. (noted f c now ≡ Some number) × (part_seen n now ≡ part_seen n log)) lasts known.options
-    some_thread (λ bad. nothing_noted number bad.0)
+    some_thread (λ bad. nothing_noted number bad.0) (λ m moved bad. nothing_noted number bad.0)
     (noted_item n limit t log P known.options some_thread f c number found) h log known (is, refl)
 
 -- ---- since a step of the thread's own
 
 no_step : (s : Step) → None ≡ Some s → ⊥
 no_step s bad = absurd (cc)
+
+step_same : (r s : Step) → Some r ≡ Some s → r ≡ s
+step_same r s e = cc
 
 module _ (n limit t : ℕ) (now : List Told) (P : Heap → Type 0) (options : AreOptions n limit) (some_thread : 0 < t)
     (s : Step)
@@ -314,12 +329,12 @@ module _ (n limit t : ℕ) (now : List Told) (P : Heap → Type 0) (options : Ar
   stepped_item run (Saw word m) legal stood tells before = before stood tells
   stepped_item run (Lost word m) legal stood tells before = before stood tells
 
--- what lasts, and was so after the thread's newest step
+-- what lasts, and was so after the thread's newest step, which isn't the root's
 pub since_step : (n limit : ℕ) (h : Heap) (t : ℕ) (log : List Told) (s : Step) (P : Heap → Type 0) → 0 < t
-    → Known n limit h t log → newest_step log ≡ Some s → Lasts t P
+    → Known n limit h t log → newest_step log ≡ Some s → s ≢ Register t → Lasts t P
     → ((old : Heap) (later : List Told) → May old t s → Known n limit (moved_on old t s) t later
     → part_seen n later ≡ part_seen n log → P (moved_on old t s)) → P h
-since_step n limit h t log s P some_thread known is lasts done =
+since_step n limit h t log s P some_thread known is own lasts done =
     told_so n limit t P (λ now. (newest_step now ≡ Some s) × (part_seen n now ≡ part_seen n log)) lasts known.options
-    some_thread (λ bad. no_step s bad.0)
+    some_thread (λ bad. no_step s bad.0) (λ m moved bad. own (sym (step_same (Register t) s bad.0)))
     (stepped_item n limit t log P known.options some_thread s done) h log known (is, refl)

@@ -35,7 +35,7 @@ use Rattle.law_rule.specs.Rule.{with_told, Kept}
 use Rattle.law_rule.specs.Seen.{part_seen, own_may}
 use Rattle.law_rule.proofs.Knowing.{Known, knows}
 use Rattle.law_rule.proofs.Looking.{saw, unmoved}
-use Rattle.law_rule.proofs.Noting.{hand_in, adding_hand, merging_words}
+use Rattle.law_rule.proofs.Noting.{hand_in, part_hand, adding_hand, adding_nobody}
 
 -- the owner of an object that lives is a thread or nobody
 owner_small : (threads : ℕ) (owner : Owner) (number : ℕ) → threads ≤ MOST_THREADS + 1 → OwnerFits threads owner
@@ -58,10 +58,10 @@ carried_owner n limit h t log c number known carried shown =
 merging_local : (n limit : ℕ) (h : Heap) (t : ℕ) (log : List Told) (c number : ℕ) → Known n limit h t log
     → own_may n (part_seen n log) (MergeAdd c) ≡ true → Shows h (Of Local c) number → number ≤ limit
 merging_local n limit h t log c number known own shown =
-    let hand = adding_hand n limit h t log c known own in
+    let hand = adding_hand (part_seen n log).row.hand c (part_hand n (part_seen n log) (MergeAdd c) own) in
     let busy : (row_at h t).hand ≡ hands.Busy hand.0 c = hand_in n limit h t log log (hands.Busy hand.0 c) known
     refl hand.1 in
-    let live : lives (cell_at h c).owner ≡ true = ap lives (merging_words h t c hand.0 known.reached busy hand.2).0 in
+    let live : lives (cell_at h c).owner ≡ true = ap lives (adding_nobody h t c hand.0 known.reached busy hand.2) in
     omega (
       arith,
       shown,

@@ -9,7 +9,8 @@ use lib.ListN.{get_elem?}
 use Rattle.atomic_table.specs.Table.{State}
 use Rattle.law_world.specs.declared.event.Step.{Step}
 use Rattle.law_world.specs.declared.event.Step.TheVariants.{Register, Gather}
-use Rattle.law_world.specs.Heap.{Heap, opening}
+use Rattle.law_known.specs.Start.{start_of}
+use Rattle.law_world.specs.Heap.{Heap}
 use Rattle.law_world.specs.Steps.{enabled, after, after_target, root_after, root_may, thread_may, target_at}
 use Rattle.law_known.specs.declared.word.Word.{Word}
 use Rattle.law_known.specs.Items.{IsWord, Shows, IsTold, found, works_on, is_start, events_of}
@@ -17,7 +18,7 @@ use Rattle.law_world.proofs.Asking.{May, may_parts}
 use Rattle.law_world.proofs.Changes.{read_there}
 use Rattle.law_known.proofs.Items_Queues.{run_cells}
 use Rattle.law_known.proofs.Items_Runs.{events_run}
-use Rattle.law_lasting.proofs.Standing.{run_reached}
+use Rattle.law_known.proofs.Starting.{run_reached}
 use Rattle.law_lasting.proofs.Ranges_Law.{same_rows}
 use Rattle.law_known.proofs.Words_Law.{others_shown}
 use Rattle.law_rule.specs.declared.contents.Contents.{Contents}
@@ -130,7 +131,7 @@ module _ {B : Type 0} (shows : B → ℕ × Contents) (n limit : ℕ) where
             (sym (read_there st.words (spot n w) (spot n u) written 0 other))
             (others_shown (world n limit r.run) t s u (get_or st.words (spot n u) 0)
             (run_reached n limit (events_of (items_of r.run)) r.options
-            (events_run (opening n limit) (items_of r.run) r.legal.items)) may
+            (events_run (start_of n limit) (items_of r.run) r.legal.items)) may
             (subst (λ m. IsWord m u) (sym (run_cells n limit (events_of (items_of r.run)))) there)
             (λ e. other (ap (spot n) (e ∙ did.word))) (r.each_word u there))
       ]

@@ -7,10 +7,11 @@ use Rattle.brc_words.specs.declared.kind.Kind.TheVariants as kinds
 use Rattle.law_world.specs.declared.event.Step.{Step}
 use Rattle.law_world.specs.declared.event.Step.TheVariants.{Birth, Unlock, Gather}
 use Rattle.law_world.specs.declared.event.Change.TheVariants as changes
-use Rattle.law_world.specs.Heap.{Heap, opening, cell_at, entries_at}
+use Rattle.law_known.specs.Start.{start_of}
+use Rattle.law_world.specs.Heap.{Heap, cell_at, entries_at}
 use Rattle.law_world.specs.Steps.{after_target, target_at, locked_at}
 use Rattle.law_known.specs.Items as items
-use Rattle.law_known.specs.Items.{Item, ItemRun, AreItems, world_of_items, is_start, finds}
+use Rattle.law_known.specs.Items.{Item, ItemRun, AreItems, world_of_items, is_start, is_used, finds}
 use Rattle.law_rule.specs.declared.contents.PlainKey.{PlainKey}
 use Rattle.law_rule.specs.declared.contents.Contents.{Contents}
 use Rattle.law_rule.specs.declared.contents.Contents.TheVariants.{Nothing, Truth, Int, Text, «List» as Cells, Dict}
@@ -64,10 +65,22 @@ abbrev pub items_of : Run → ItemRun
 items_of [] = []
 items_of (x ∷ run) = (x.0, item_of x.1) ∷ items_of run
 
--- a thread's own since it was registered, newest first
+-- What the log of a registration begins with: nothing, where the number is new; where it was borne before, the root's
+-- item that registers it again.
+abbrev pub begins : Bool → Told → List Told
+begins true x = x ∷ []
+begins false x = []
+
+-- a thread's own since it was last registered, newest first
 abbrev pub own_of : ℕ → Run → List Told
 own_of t [] = []
-own_of t (x ∷ run) = if is_start t (item_of x.1) then [] else (if x.0 == t then x.1 ∷ own_of t run else own_of t run)
+own_of t (x ∷ run) = if is_start t (item_of x.1) then begins (is_used t (items_of run)) x.1 else (if x.0 ==
+    t then x.1 ∷ own_of t run else own_of t run)
+
+-- a log without the root's item: what the thread itself did and saw
+abbrev pub own_steps : ℕ → List Told → List Told
+own_steps t [] = []
+own_steps t (x ∷ log) = if is_start t (item_of x) then own_steps t log else x ∷ own_steps t log
 
 -- whom an item gathers
 abbrev pub gathered_by : Told → Option ℕ
@@ -92,11 +105,11 @@ all_of t (x ∷ run) = if x.0 == t then x.1 ∷ all_of t run else all_of t run
 -- what its registrations did that have ended, newest first
 abbrev pub ended_in : ℕ → List (ℕ × List Told) → List Told
 ended_in t [] = []
-ended_in t (x ∷ lives) = if x.0 == t then x.1 ++ ended_in t lives else ended_in t lives
+ended_in t (x ∷ lives) = if x.0 == t then own_steps t x.1 ++ ended_in t lives else ended_in t lives
 
 -- the world that the run leads to
 abbrev pub world : ℕ → ℕ → Run → Heap
-world n limit run = world_of_items (opening n limit) (items_of run)
+world n limit run = world_of_items (start_of n limit) (items_of run)
 
 -- ---- what was put home last
 
@@ -174,5 +187,5 @@ AreMoved n limit (x ∷ run) = AreMoved n limit run × IsMoved (world n limit ru
 
 -- a run of a heap with n cells
 pub record IsLegal (n limit : ℕ) (run : Run) : Type 0 where
-  pub items : AreItems (opening n limit) (items_of run)
+  pub items : AreItems (start_of n limit) (items_of run)
   pub moved : AreMoved n limit run

@@ -11,7 +11,7 @@ use Rattle.law_rule.specs.declared.contents.Contents.{Contents}
 use Rattle.law_rule.specs.declared.told.Told.{Told}
 use Rattle.law_rule.specs.declared.view.View.{View}
 use Rattle.law_rule.specs.Layout.{spot, extent}
-use Rattle.law_rule.specs.Logs.{Run, own_of, lives_of, all_of, ended_in, world, IsLegal}
+use Rattle.law_rule.specs.Logs.{Run, own_of, own_steps, lives_of, all_of, ended_in, world, IsLegal}
 use Rattle.law_rule.specs.Homes.{HomeShown}
 
 -- the root, and each thread that is registered and not gathered, has a seat
@@ -39,7 +39,7 @@ pub record Fits (h : Heap) (run : Run) (seat : ℕ → ℕ) (j : ℕ) (v : View)
 -- Each item of a thread stands in one log, once and in its order: in its seat's, where it has one, or before that in
 -- one of those of its registrations that have ended.
 abbrev pub StandsOnce : Heap → Run → ℕ → Type 0
-StandsOnce h run t = all_of t run ≡ (if stands h t then own_of t run else []) ++ ended_in t (lives_of run)
+StandsOnce h run t = all_of t run ≡ (if stands h t then own_steps t (own_of t run) else []) ++ ended_in t (lives_of run)
 
 -- the seat that a thread has
 pub record Seated (views : List View) (t j : ℕ) : Type 0 where

@@ -16,18 +16,18 @@ use Rattle.law_world.specs.Heap.{Heap, cell_at, entries_at, row_at}
 use Rattle.law_world.specs.Holding.{lives, count_of_state}
 use Rattle.law_world.specs.Runs.{IsReached}
 use Rattle.law_world.specs.Sound.{IsSound, held}
-use Rattle.law_world.specs.Steps.{thread_may, cell_after, takes_block}
-use Rattle.law_world.proofs.Merging.{carried_held, popped_held, nonzero}
-use Rattle.law_world.proofs.Naming.{busy_carrier, live_counts}
+use Rattle.law_world.specs.Steps.{thread_may, cell_after, takes_block, is_active}
+use Rattle.law_world.proofs.Merging.{popped_held, nonzero}
+use Rattle.law_world.proofs.Naming.{live_counts}
 use Rattle.law_world.proofs.Reached.{reached_sound}
 use Rattle.law_world.proofs.Sizes.{reached_count_range}
 use Rattle.law_lasting.specs.Staying.{Merges}
 use Rattle.law_lasting.proofs.Lasting.{live_owner}
 use Rattle.law_lasting.proofs.Progress.{inside}
-use Rattle.law_lasting.proofs.Telling.{hand_tells, merging_lasts}
+use Rattle.law_lasting.proofs.Telling.{hand_tells, merging_lasts, yielding_lasts}
 use Rattle.law_known.specs.declared.word.Field.TheVariants.{Local, Shared}
 use Rattle.law_known.specs.declared.word.Word.TheVariants.{Of}
-use Rattle.law_known.specs.Items.{Shows, shared_word}
+use Rattle.law_known.specs.Items.{Shows, shared_word, cell_told}
 use Rattle.law_rule.specs.declared.contents.Contents.{Contents}
 use Rattle.law_rule.specs.declared.told.Moved.TheVariants as moves
 use Rattle.law_rule.specs.declared.told.Told.{Told}
@@ -35,86 +35,60 @@ use Rattle.law_rule.specs.declared.told.Told.TheVariants.{Did}
 use Rattle.law_rule.specs.declared.view.View.{View}
 use Rattle.law_rule.specs.Layout.{spot}
 use Rattle.law_rule.specs.Rule.{with_told, Kept}
-use Rattle.law_steps.specs.Owing.{AddsLocal}
+use Rattle.law_steps.specs.Owing.{AddsLocal, Yields}
 use Rattle.law_steps.specs.Taking.{CountsSome}
-use Rattle.law_rule.proofs.Knowing.{Known, is_enabled}
+use Rattle.law_rule.proofs.Knowing.{Known, is_enabled, known_edition}
 use Rattle.law_steps.proofs.Local_Steps.{fits_cell, read_cell}
 use Rattle.law_steps.proofs.Numbers.{word_merged}
 use Rattle.law_steps.proofs.Plain_Steps.{IsPlain, plain_on, same_owner, stays_on, plain_step}
 use Rattle.law_steps.proofs.Shared_Steps.{count_after}
 use Rattle.law_steps.proofs.Telling.{tells_found}
 use Rattle.law_rule.proofs.Since.{since}
-use Rattle.law_rule.proofs.Noting.{hand_in, IsMerging, adding_hand, merging_words}
+use Rattle.law_rule.proofs.Noting.{hand_in, merging_words}
+use Rattle.law_rule.specs.Seen.{part_seen, own_may}
+use Rattle.law_lasting.specs.Staying.{Yields as HandsOver}
+use Rattle.law_lasting.proofs.Adding_Hands.{pops_active}
+use Rattle.law_lasting.proofs.Ranges_Law.{hand_unmarked}
+use Rattle.law_world.proofs.Asking.{may_parts}
+use Rattle.brc_words.specs.declared.owner.Owner.TheVariants as owners
+use Rattle.law_steps.specs.Taking.{Ended}
+use Rattle.law_steps.proofs.Taking_Steps.{EndsOn, end_step_as}
+use Rattle.law_steps.proofs.Ending_Steps.{tells}
+use Rattle.law_steps.proofs.Untying_Steps.{hand_active}
 
-noted_local : (h : Heap) (t c local : ℕ) (p : Phase) → IsReached h → (row_at h t).hand ≡ hands.Busy p c → IsMerging p
-    → Shows h (Of Local c) local → Merges h t c local p
-noted_local h t c local p reached busy which found =
-    let words = merging_words h t c p reached busy which in
-    record { hand = busy; phase = which; owner = words.0; state = words.1; count = sym found }
+-- ---- what both ways have in common
 
--- the local count is the one that was noted, since nobody else writes it
-merges_now : (n limit : ℕ) (h : Heap) (t : ℕ) (log : List Told) (c local : ℕ) → 0 < t → Known n limit h t log
-    → AddsLocal n log c local → (p : Phase) × Merges h t c local p
-merges_now n limit h t log c local some_thread known adds =
-    let hand = adding_hand n limit h t log c known adds.own in (
-      hand.0,
-      since n limit h t log Local c local (λ z. Merges z t c local hand.0) some_thread known adds.found
-          (merging_lasts t c local hand.0)
-          (λ old before was same found. noted_local old t c local hand.0 was.reached
-          (hand_in n limit old t before log (hands.Busy hand.0 c) was same hand.1) hand.2 found),
-    )
+-- the object is in the thread's hand to be merged, and its local count is the one that was noted
+record Sums (h : Heap) (t c local : ℕ) (p : Phase) : Type 0 where
+  hand : (row_at h t).hand ≡ hands.Busy p c
+  owner : (cell_at h c).owner ≡ owners.Nobody
+  state : (cell_at h c).state ≡ states.Queued
+  count : (cell_at h c).local ≡ local
+  active : is_active (row_at h t).stage ≡ true
 
--- the object counts the reference with which it is merged
-merging_held : (h : Heap) (t c local : ℕ) (p : Phase) → IsReached h → Merges h t c local p → 1 ≤ held h c
-merging_held h t c local p reached now = elim now.phase [
-  | inl taking ↦ carried_held h t c
-      (busy_carrier phases.Taking c (row_at h t).hand refl (now.hand ∙ ap (λ q. hands.Busy q c) taking))
-  | inr popping ↦ popped_held h t c
-      ((reached_sound h reached).hands t c phases.Popping (now.hand ∙ ap (λ q. hands.Busy q c) popping)).fits.1
-]
+sums_inside : (h : Heap) (t c local : ℕ) (p : Phase) → Sums h t c local p → c < length h.cells
+sums_inside h t c local p now = inside h c (live_owner _ (ap lives now.owner))
 
--- so its counts together are all its references, and it doesn't die
-merging_sum : (h : Heap) (t c local : ℕ) (p : Phase) → IsReached h → Merges h t c local p
-    → (cell_at h c).count +ℤ pos (cell_at h c).local ≡ pos (held h c)
-merging_sum h t c local p reached now =
-    let x : Cell = cell_at h c in
-    let mortal : FIRST_MORTAL ≤ c = (hand_tells h t c p reached now.hand).0 in
-    let total : count_of_state states.Queued x.local x.count ≡ pos (held h c) =
-    sym (live_counts x (ap lives now.owner) ∙ ap (λ s. count_of_state s x.local x.count) now.state)
-    ∙ (reached_sound h reached).counted c mortal in
-    omega (arith, ints, total)
-
-merging_lives : (h : Heap) (t c local : ℕ) (p : Phase) → IsReached h → Merges h t c local p
-    → takes_block (MergeAdd c) (cell_at h c) ≡ false
-merging_lives h t c local p reached now = nonzero ((cell_at h c).count +ℤ pos (cell_at h c).local) (held h c)
-    (merging_sum h t c local p reached now) (merging_held h t c local p reached now)
-
-merging_inside : (h : Heap) (t c local : ℕ) (p : Phase) → IsReached h → Merges h t c local p → c < length h.cells
-merging_inside h t c local p reached now = inside h c (live_owner _ (ap lives now.owner))
-
-may_add : (n limit : ℕ) (h : Heap) (t : ℕ) (log : List Told) (c local : ℕ) → 0 < t → Known n limit h t log
-    → AddsLocal n log c local → thread_may h t (MergeAdd c) ≡ true
-may_add n limit h t log c local some_thread known adds =
-    let merging = merges_now n limit h t log c local some_thread known adds in
-    is_enabled n limit h t log (MergeAdd c) some_thread known adds.own refl refl
-    (fits_cell n limit h t log (MergeAdd c) c known refl
-    (merging_inside h t c local merging.0 known.reached merging.1) refl)
+may_add : (n limit : ℕ) (h : Heap) (t : ℕ) (log : List Told) (c local : ℕ) (p : Phase) → 0 < t → Known n limit h t log
+    → own_may n (part_seen n log) (MergeAdd c) ≡ true → Sums h t c local p → thread_may h t (MergeAdd c) ≡ true
+may_add n limit h t log c local p some_thread known own now =
+    is_enabled n limit h t log (MergeAdd c) some_thread known own now.active refl
+    (fits_cell n limit h t log (MergeAdd c) c known refl (sums_inside h t c local p now) refl)
 
 -- what the word is after it: the sum, of a merged object
-sum_stored : (n limit : ℕ) (h : Heap) (t : ℕ) (log : List Told) (c local there : ℕ) → 0 < t → Known n limit h t log
-    → AddsLocal n log c local → Shows h (Of Shared c) there
+sum_stored : (n limit : ℕ) (h : Heap) (t : ℕ) (log : List Told) (c local there : ℕ) (p : Phase) → 0 < t
+    → Known n limit h t log → own_may n (part_seen n log) (MergeAdd c) ≡ true → Sums h t c local p
+    → Shows h (Of Shared c) there
     → (there + (local * 4 + 1)) % 2 ^ 64 ≡ shared_word ((cell_at h c).count +ℤ pos (cell_at h c).local) states.Merged
-sum_stored n limit h t log c local there some_thread known adds shown =
+sum_stored n limit h t log c local there p some_thread known own now shown =
     let s : Step = MergeAdd c in
     let x : Cell = cell_at h c in
     let sound : IsSound h = reached_sound h known.reached in
-    let merging = merges_now n limit h t log c local some_thread known adds in
-    let now : Merges h t c local merging.0 = merging.1 in
-    let low : c < length h.cells = merging_inside h t c local merging.0 known.reached now in
-    let mortal : FIRST_MORTAL ≤ c = (hand_tells h t c merging.0 known.reached now.hand).0 in
+    let low : c < length h.cells = sums_inside h t c local p now in
+    let mortal : FIRST_MORTAL ≤ c = (hand_tells h t c p known.reached now.hand).0 in
     let more : CountFits (x.count +ℤ pos local) = subst (λ m. CountFits (x.count +ℤ pos m)) now.count
     (subst (λ (y : Cell). CountFits y.count) (read_cell h t s c low)
-    (count_after h t s c c sound some_thread (may_add n limit h t log c local some_thread known adds) refl)) in
+    (count_after h t s c c sound some_thread (may_add n limit h t log c local p some_thread known own now) refl)) in
     let few : local < 2 ^ 33 = omega (
       arith,
       (sound.cells c mortal).limited (ap lives now.owner),
@@ -126,6 +100,51 @@ sum_stored n limit h t log c local there some_thread known adds shown =
     ∙ sym (word_merged x.count local (reached_count_range h known.reached c) more few)
     ∙ ap (λ m. shared_word (x.count +ℤ pos m) states.Merged) (sym now.count)
 
+-- ---- for a popped entry
+
+noted_local : (h : Heap) (t c local : ℕ) → IsReached h → (row_at h t).hand ≡ hands.Busy phases.Popping c
+    → Shows h (Of Local c) local → Merges h t c local phases.Popping
+noted_local h t c local reached busy found =
+    let words = merging_words h t c phases.Popping reached busy (inl refl) in
+    record { hand = busy; phase = inr refl; owner = words.0; state = words.1; count = sym found }
+
+-- the local count is the one that was noted, since nobody else writes it
+merges_now : (n limit : ℕ) (h : Heap) (t : ℕ) (log : List Told) (c local : ℕ) → 0 < t → Known n limit h t log
+    → AddsLocal n log c local → Sums h t c local phases.Popping
+merges_now n limit h t log c local some_thread known adds =
+    let merges : Merges h t c local phases.Popping = since n limit h t log Local c local
+    (λ z. Merges z t c local phases.Popping) some_thread known adds.found (merging_lasts t c local phases.Popping)
+    (λ old before was same found. noted_local old t c local was.reached
+    (hand_in n limit old t before log (hands.Busy phases.Popping c) was same adds.hand) found) in
+    record {
+      hand = merges.hand;
+      owner = merges.owner;
+      state = merges.state;
+      count = merges.count;
+      active = pops_active h t c known.reached (known_edition n limit h t log known) merges.hand;
+    }
+
+-- the object counts the reference with which it is merged
+merging_held : (h : Heap) (t c local : ℕ) → IsReached h → Sums h t c local phases.Popping → 1 ≤ held h c
+merging_held h t c local reached now = popped_held h t c
+    ((reached_sound h reached).hands t c phases.Popping now.hand).fits.1
+
+-- so its counts together are all its references, and it doesn't die
+merging_sum : (h : Heap) (t c local : ℕ) (p : Phase) → IsReached h → Sums h t c local p
+    → (cell_at h c).count +ℤ pos (cell_at h c).local ≡ pos (held h c)
+merging_sum h t c local p reached now =
+    let x : Cell = cell_at h c in
+    let mortal : FIRST_MORTAL ≤ c = (hand_tells h t c p reached now.hand).0 in
+    let total : count_of_state states.Queued x.local x.count ≡ pos (held h c) =
+    sym (live_counts x (ap lives now.owner) ∙ ap (λ s. count_of_state s x.local x.count) now.state)
+    ∙ (reached_sound h reached).counted c mortal in
+    omega (arith, ints, total)
+
+merging_lives : (h : Heap) (t c local : ℕ) → IsReached h → Sums h t c local phases.Popping
+    → takes_block (MergeAdd c) (cell_at h c) ≡ false
+merging_lives h t c local reached now = nonzero ((cell_at h c).count +ℤ pos (cell_at h c).local) (held h c)
+    (merging_sum h t c local phases.Popping reached now) (merging_held h t c local reached now)
+
 -- a count above 0, as it is spelled
 counts_word : (count : ℕ) → 1 ≤ count → 2 ^ 40 < ((2 ^ 40 + count) * 4 + 3) / 4
 counts_word count some = omega (arith, some)
@@ -134,11 +153,11 @@ sum_counts : (n limit : ℕ) (h : Heap) (t : ℕ) (log : List Told) (c local the
     → AddsLocal n log c local → Shows h (Of Shared c) there
     → CountsSome ((there + (local * 4 + 1)) % 2 ^ 64)
 sum_counts n limit h t log c local there some_thread known adds shown =
-    let merging = merges_now n limit h t log c local some_thread known adds in
+    let now : Sums h t c local phases.Popping = merges_now n limit h t log c local some_thread known adds in
     let is : (there + (local * 4 + 1)) % 2 ^ 64 ≡ shared_word (pos (held h c)) states.Merged =
-    sum_stored n limit h t log c local there some_thread known adds shown
-    ∙ ap (λ m. shared_word m states.Merged) (merging_sum h t c local merging.0 known.reached merging.1) in
-    let some : 1 ≤ held h c = merging_held h t c local merging.0 known.reached merging.1 in
+    sum_stored n limit h t log c local there phases.Popping some_thread known adds.own now shown
+    ∙ ap (λ m. shared_word m states.Merged) (merging_sum h t c local phases.Popping known.reached now) in
+    let some : 1 ≤ held h c = merging_held h t c local known.reached now in
     subst CountsSome (sym is) (counts_word (held h c) some)
 
 adds_up : (n limit : ℕ) (h : Heap) (t : ℕ) (log : List Told) (c local there : ℕ) → 0 < t → Known n limit h t log
@@ -147,13 +166,13 @@ adds_up : (n limit : ℕ) (h : Heap) (t : ℕ) (log : List Told) (c local there 
 adds_up n limit h t log c local there some_thread known adds shown =
     let s : Step = MergeAdd c in
     let x : Cell = cell_at h c in
-    let merging = merges_now n limit h t log c local some_thread known adds in
-    let low : c < length h.cells = merging_inside h t c local merging.0 known.reached merging.1 in
-    let off : takes_block s x ≡ false = merging_lives h t c local merging.0 known.reached merging.1 in
+    let now : Sums h t c local phases.Popping = merges_now n limit h t log c local some_thread known adds in
+    let low : c < length h.cells = sums_inside h t c local phases.Popping now in
+    let off : takes_block s x ≡ false = merging_lives h t c local known.reached now in
     let sum : (there + (local * 4 + 1)) % 2 ^ 64 ≡ shared_word (x.count +ℤ pos x.local) states.Merged =
-    sum_stored n limit h t log c local there some_thread known adds shown in
+    sum_stored n limit h t log c local there phases.Popping some_thread known adds.own now shown in
     plain_on n h t s c (Of Shared c) ((there + (local * 4 + 1)) % 2 ^ 64) ((there + (local * 4 + 1)) % 2 ^ 64) (record {
-      may = may_add n limit h t log c local some_thread known adds;
+      may = may_add n limit h t log c local phases.Popping some_thread known adds.own now;
       target = refl;
       word = refl;
       shown = sum ∙ sym (ap (λ (y : Cell). shared_word y.count y.state) (read_cell h t s c low));
@@ -163,6 +182,57 @@ adds_up n limit h t log c local there some_thread known adds shown =
       takes_none = ap (λ b. if b then Some c else None) off;
       stays = stays_on h t s c low refl off (same_owner x (cell_after t s c x) refl refl);
     })
+
+-- ---- to be handed over
+
+noted_own : (h : Heap) (t c local : ℕ) → IsReached h → (row_at h t).hand ≡ hands.Busy phases.Yielding c
+    → Shows h (Of Local c) local → HandsOver h t c local
+noted_own h t c local reached busy found =
+    let words = merging_words h t c phases.Yielding reached busy (inr refl) in
+    record { hand = busy; owner = words.0; state = words.1; count = sym found }
+
+yields_now : (n limit : ℕ) (h : Heap) (t : ℕ) (log : List Told) (c local : ℕ) → 0 < t → Known n limit h t log
+    → Yields n log c local → Sums h t c local phases.Yielding
+yields_now n limit h t log c local some_thread known yields =
+    let over : HandsOver h t c local = since n limit h t log Local c local (λ z. HandsOver z t c local) some_thread
+    known yields.found (yielding_lasts t c local)
+    (λ old before was same found. noted_own old t c local was.reached
+    (hand_in n limit old t before log (hands.Busy phases.Yielding c) was same yields.hand) found) in
+    record {
+      hand = over.hand;
+      owner = over.owner;
+      state = over.state;
+      count = over.count;
+      active = hand_active h t c phases.Yielding (reached_sound h known.reached) over.hand refl;
+    }
+
+yielded : (n limit : ℕ) (h : Heap) (t : ℕ) (log : List Told) (c local there : ℕ) → 0 < t → Known n limit h t log
+    → Yields n log c local → Shows h (Of Shared c) there
+    → EndsOn h t (MergeAdd c) c (Of Shared c) ((there + (local * 4 + 1)) % 2 ^ 64) ((there + (local * 4 + 1)) % 2 ^ 64)
+yielded n limit h t log c local there some_thread known yields shown =
+    let s : Step = MergeAdd c in
+    let x : Cell = cell_at h c in
+    let now : Sums h t c local phases.Yielding = yields_now n limit h t log c local some_thread known yields in
+    let low : c < length h.cells = sums_inside h t c local phases.Yielding now in
+    let may : thread_may h t s ≡ true = may_add n limit h t log c local phases.Yielding some_thread known yields.own now in
+    let sum : (there + (local * 4 + 1)) % 2 ^ 64 ≡ shared_word (x.count +ℤ pos x.local) states.Merged =
+    sum_stored n limit h t log c local there phases.Yielding some_thread known yields.own now shown in
+    record {
+      may = may;
+      target = refl;
+      low = low;
+      word = refl;
+      shown = sum ∙ sym (ap (λ (y : Cell). shared_word y.count y.state) (read_cell h t s c low));
+      told = sum;
+      puts_none = refl;
+      finds_taken = refl;
+      frees_none = refl;
+      number_tells = tells n limit h t log s c ((there + (local * 4 + 1)) % 2 ^ 64) known (may_parts h t s may) refl sum;
+      stays = same_owner x (cell_after t s c x) refl refl;
+      live = ap lives now.owner;
+      same_owner = refl;
+      unmarked = λ u. hand_unmarked h t u c phases.Yielding known.reached now.hand;
+    }
 
 module _ {B : Type 0} (shows : B → ℕ × Contents) (n limit : ℕ) where
   abbrev Rule : Table (Option B) View → Type 0
@@ -182,3 +252,13 @@ module _ {B : Type 0} (shows : B → ℕ × Contents) (n limit : ℕ) where
       (plain_step shows n limit id v slots (MergeAdd c) (Of Shared c) (λ there. (there + (local * 4 + 1)) % 2 ^ 64)
       (λ there. (there + (local * 4 + 1)) % 2 ^ 64) active some_thread low
       (λ h there known shown small. adds_up n limit h v.thread v.log c local there some_thread known adds shown))
+
+  pub yields_local : (id : ℕ) (v : View) (slots : List (ℕ × Option B)) (c local : ℕ) → v.active ≡ true → 0 < v.thread
+      → c < n → Yields n v.log c local
+      → Allows Rule n id (v, slots) (spot n (Of Shared c)) (λ there. (there + (local * 4 + 1)) % 2 ^ 64)
+      (λ there me. Ended shows n v slots (MergeAdd c) c ((there + (local * 4 + 1)) % 2 ^ 64)
+      (takes_block (MergeAdd c) (cell_told (MergeAdd c) ((there + (local * 4 + 1)) % 2 ^ 64))) me)
+  yields_local id v slots c local active some_thread low yields =
+      end_step_as shows n limit id v slots (MergeAdd c) c (Of Shared c) (λ there. (there + (local * 4 + 1)) % 2 ^ 64)
+      (λ there. (there + (local * 4 + 1)) % 2 ^ 64) active some_thread low low
+      (λ h there known shown small. yielded n limit h v.thread v.log c local there some_thread known yields shown)

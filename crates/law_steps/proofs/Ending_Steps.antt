@@ -51,7 +51,7 @@ use Rattle.law_steps.proofs.Shared_Steps.{HeldCell, held_cell, not_his, count_af
 use Rattle.law_steps.proofs.Taking_Steps.{EndsOn, end_step}
 
 -- the number that is found tells whether the block is taken
-tells : (n limit : ℕ) (h : Heap) (t : ℕ) (log : List Told) (s : Step) (c there : ℕ) → Known n limit h t log → May h t s
+pub tells : (n limit : ℕ) (h : Heap) (t : ℕ) (log : List Told) (s : Step) (c there : ℕ) → Known n limit h t log → May h t s
     → target_at h t s ≡ Some c → there ≡ told_of h t s c
     → takes_block s (cell_told s there) ≡ takes_block s (cell_at h c)
 tells n limit h t log s c there known may named is =

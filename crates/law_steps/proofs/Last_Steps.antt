@@ -1,6 +1,6 @@
 -- LastDown by a note: of a popped bit, and of the reference in a hand.
 use Rattle.std.proofs.Common.{◌≡◌, ℕ, ◌+◌, ◌-◌, ◌<◌, ◌≤◌, ◌^◌, ◌%◌, true, false, List, length, Option, refl, sym, ap}
-use Rattle.std.proofs.Common.{subst, inl, inr, arith}
+use Rattle.std.proofs.Common.{subst, inl, inr, arith, not, ◌∙◌}
 use Rattle.std.proofs.lemmas.Bool.{eqb-true, true≢false}
 use Rattle.atomic_table.specs.Table.{State as Table, Allows}
 use Rattle.brc_words.specs.declared.kind.Kind.{Kind}
@@ -9,7 +9,7 @@ use Rattle.brc_words.specs.declared.state.State.{State}
 use Rattle.brc_words.specs.declared.state.State.TheVariants as states
 use Rattle.law_world.specs.declared.cell.Cell.{Cell}
 use Rattle.law_world.specs.declared.event.LastDropped.TheVariants as lasts
-use Rattle.law_world.specs.declared.event.Step.TheVariants.{LastDown, MergeAdd}
+use Rattle.law_world.specs.declared.event.Step.TheVariants.{LastDown, MergeAdd, Register}
 use Rattle.law_world.specs.declared.row.Hand.TheVariants as hands
 use Rattle.law_world.specs.declared.row.Phase.{Phase}
 use Rattle.law_world.specs.declared.row.Phase.TheVariants as phases
@@ -18,16 +18,16 @@ use Rattle.law_world.specs.Phases.{is_ending}
 use Rattle.law_world.specs.Heap.{Heap, cell_at, row_at, popped_at}
 use Rattle.law_world.specs.Runs.{IsReached}
 use Rattle.law_world.specs.Sound.{IsSound}
-use Rattle.law_world.specs.Steps.{cell_in_hand, is_default, is_merged, is_nobody, ends_ok, takes_block}
+use Rattle.law_world.specs.Steps.{cell_in_hand, is_default, is_merged, is_nobody, is_active, ends_ok, takes_block}
 use Rattle.law_world.proofs.Asking.{on_cell}
 use Rattle.law_world.proofs.Merging.{carried_held, popped_held, held_owner}
-use Rattle.law_world.proofs.Naming.{busy_carrier}
+use Rattle.law_world.proofs.Naming.{busy_carrier, free_hand, grips_free}
 use Rattle.law_world.proofs.Reached.{reached_sound}
 use Rattle.law_world.proofs.Sharing.{ending_hand, ending_reference}
 use Rattle.law_lasting.specs.Staying.{Lasts, Keeps, Nobodys, rank}
 use Rattle.law_lasting.proofs.Lasting.{keeping_lasts, nobodys_last}
 use Rattle.law_lasting.proofs.Ranges_Law.{reached_owners}
-use Rattle.law_lasting.proofs.Telling.{hand_tells}
+use Rattle.law_lasting.proofs.Telling.{hand_tells, popped_tells}
 use Rattle.law_known.specs.declared.word.Field.TheVariants.{Owner, Shared}
 use Rattle.law_known.specs.declared.word.Word.TheVariants.{Of}
 use Rattle.law_known.specs.Items.{Shows, cell_told}
@@ -37,9 +37,13 @@ use Rattle.law_rule.specs.declared.view.View.{View}
 use Rattle.law_rule.specs.Layout.{spot}
 use Rattle.law_rule.specs.Rule.{Kept}
 use Rattle.law_rule.specs.Seen.{part_seen, own_may}
-use Rattle.law_steps.specs.Owing.{EndsPopped, EndsAdded, EndsHeld, EndsNobodys}
+use Rattle.law_steps.specs.Owing.{EndsPopped, EndsAdded, EndsLeft, EndsShut, EndsNobodys}
 use Rattle.law_steps.specs.Taking.{Ended}
-use Rattle.law_rule.proofs.Knowing.{Known}
+use Rattle.law_rule.proofs.Knowing.{Known, known_edition, hand_there}
+use Rattle.brc_words.specs.declared.limits.TheConstants.{FIRST_MORTAL}
+use Rattle.law_world.specs.declared.row.Row.{Row}
+use Rattle.law_world.specs.Sound.{ShutFits, rests, rests_at, gripped}
+use Rattle.law_world.proofs.Counting.{owned_ungripped, local_positive}
 use Rattle.law_steps.proofs.Local_Steps.{read_cell}
 use Rattle.law_rule.proofs.Stepping.{moved_on}
 use Rattle.law_rule.proofs.Since.{since, since_step}
@@ -149,11 +153,14 @@ module _ {B : Type 0} (shows : B → ℕ × Contents) (n limit : ℕ) where
       (popped_fits h v.thread v.log c known ends.own
       (noted_merged h v.thread v.log c number some_thread known ends)) shown)
 
+  no_root : (c t : ℕ) → MergeAdd c ≡ Register t → ⊥
+  no_root c t bad = absurd (cc)
+
   -- it has just been merged, by the thread's own hand
   just_merged : (h : Heap) (t : ℕ) (log : List Told) (c : ℕ) → 0 < t → Known n limit h t log → EndsAdded n log c
       → Stays h t c 2
   just_merged h t log c some_thread known ends = since_step n limit h t log (MergeAdd c)
-      (λ z. Stays z t c 2) some_thread known ends.added (stays_last t c 2)
+      (λ z. Stays z t c 2) some_thread known ends.added (λ bad. no_root c t bad) (stays_last t c 2)
       (λ old later may was same. popped_stays (moved_on old t (MergeAdd c)) t c was.reached
       (bit_in n limit (moved_on old t (MergeAdd c)) t later log c was same (popped_bit n log c ends.own))
       (ap (λ (x : Cell). x.state) (read_cell old t (MergeAdd c) c (on_cell old t (MergeAdd c) c may.on_target).inside)))
@@ -169,6 +176,41 @@ module _ {B : Type 0} (shows : B → ℕ × Contents) (n limit : ℕ) where
       (λ h there known shown small. last_down shows n limit h v.thread v.log (lasts.Popped c) c there some_thread known
       (popped_fits h v.thread v.log c known ends.own (just_merged h v.thread v.log c some_thread known ends)) shown)
 
+  -- a thread that isn't active any more has handed over what it owned
+  merged_left : (h : Heap) (t : ℕ) (log : List Told) (c : ℕ) → Known n limit h t log → EndsLeft n log c
+      → (cell_at h c).state ≡ states.Merged
+  merged_left h t log c known ends =
+      let sound : IsSound h = reached_sound h known.reached in
+      let bit : bit_of (popped_at h t) c ≡ 1 = bit_in n limit h t log log c known refl (popped_bit n log c ends.own) in
+      let free : (row_at h t).hand ≡ hands.Free = free_hand (row_at h t).hand
+      (hand_there n limit h t log (LastDown (lasts.Popped c)) known ends.own) in
+      elim (popped_tells h t c known.reached free bit) [
+        | inl merged ↦ merged
+        | inr his ↦
+            let mortal : FIRST_MORTAL ≤ c = (sound.bits t c (omega (arith, bit))).0 in
+            let off : is_active (row_at h t).stage ≡ false = ap (λ (r : Row). is_active r.stage) known.part.row_is
+            ∙ ends.left in
+            let rests_now : rests_at h t ≡ true = ap (λ e. rests e (row_at h t).stage) (known_edition n limit h t log known)
+            ∙ ap not off in
+            let none : (cell_at h c).local ≡ 0 = (sound.cells c mortal).rested t his.0 rests_now in
+            let ungripped : gripped h c ≡ 0 = owned_ungripped h t c sound mortal his.0 (popped_held h t c bit)
+            (grips_free c (row_at h t).hand free) in
+            absurd (omega (arith, none, local_positive h t c sound mortal his.0 ungripped))
+      ]
+
+  pub ends_left : (id : ℕ) (v : View) (slots : List (ℕ × Option B)) (c : ℕ) → v.active ≡ true → 0 < v.thread → c < n
+      → EndsLeft n v.log c
+      → Allows Rule n id (v, slots) (spot n (Of Shared c)) (λ there. (there + (2 ^ 64 - 4)) % 2 ^ 64)
+      (λ there me. Ended shows n v slots (LastDown (lasts.Popped c)) c there
+      (takes_block (LastDown (lasts.Popped c)) (cell_told (LastDown (lasts.Popped c)) there)) me)
+  ends_left id v slots c active some_thread low ends =
+      end_step shows n limit id v slots (LastDown (lasts.Popped c)) c (Of Shared c)
+      (λ there. (there + (2 ^ 64 - 4)) % 2 ^ 64) active some_thread low low
+      (λ h there known shown small. last_down shows n limit h v.thread v.log (lasts.Popped c) c there some_thread known
+      (popped_fits h v.thread v.log c known ends.own (popped_stays h v.thread c known.reached
+      (bit_in n limit h v.thread v.log v.log c known refl (popped_bit n v.log c ends.own))
+      (merged_left h v.thread v.log c known ends))) shown)
+
   -- ---- the hand
 
   hand_fits : (h : Heap) (t : ℕ) (log : List Told) (c : ℕ) (p : Phase) → Known n limit h t log
@@ -183,17 +225,27 @@ module _ {B : Type 0} (shows : B → ℕ × Contents) (n limit : ℕ) where
     fits = subst (λ g. ends_ok g (cell_at h c) ≡ true) (sym busy) ok;
   }
 
-  pub ends_held : (id : ℕ) (v : View) (slots : List (ℕ × Option B)) (c : ℕ) → v.active ≡ true → 0 < v.thread → c < n
-      → EndsHeld n v.log c
+  -- the owner has handed over what was asked of it
+  shut_fits : (h : Heap) (t : ℕ) (log : List Told) (c : ℕ) → Known n limit h t log → EndsShut n log c
+      → LastFits shows n limit h t log lasts.Hand c
+  shut_fits h t log c known ends =
+      let busy : (row_at h t).hand ≡ hands.Busy phases.Shut c =
+      hand_in n limit h t log log (hands.Busy phases.Shut c) known refl ends.hand in
+      let nobody : (cell_at h c).owner ≡ owners.Nobody =
+      subst (λ e. ShutFits e (cell_at h c) (row_at h (cell_at h c).bearer).stage c)
+      (known_edition n limit h t log known) ((reached_sound h known.reached).hands t c phases.Shut busy).fits in
+      hand_fits h t log c phases.Shut known ends.own busy refl (ap is_nobody nobody)
+
+  pub ends_shut : (id : ℕ) (v : View) (slots : List (ℕ × Option B)) (c : ℕ) → v.active ≡ true → 0 < v.thread → c < n
+      → EndsShut n v.log c
       → Allows Rule n id (v, slots) (spot n (Of Shared c)) (λ there. (there + (2 ^ 64 - 4)) % 2 ^ 64)
       (λ there me. Ended shows n v slots (LastDown lasts.Hand) c there
       (takes_block (LastDown lasts.Hand) (cell_told (LastDown lasts.Hand) there)) me)
-  ends_held id v slots c active some_thread low ends =
+  ends_shut id v slots c active some_thread low ends =
       end_step shows n limit id v slots (LastDown lasts.Hand) c (Of Shared c) (λ there. (there + (2 ^ 64 - 4)) % 2 ^ 64)
       active some_thread low low
       (λ h there known shown small. last_down shows n limit h v.thread v.log lasts.Hand c there some_thread known
-      (hand_fits h v.thread v.log c phases.Held known ends.own
-      (hand_in n limit h v.thread v.log v.log (hands.Busy phases.Held c) known refl ends.hand) refl refl) shown)
+      (shut_fits h v.thread v.log c known ends) shown)
 
   nobodys_fits : (h : Heap) (t : ℕ) (log : List Told) (c : ℕ) → 0 < t → Known n limit h t log → EndsNobodys n log c
       → LastFits shows n limit h t log lasts.Hand c

@@ -11,6 +11,7 @@ pub mod Locking_Steps
 pub mod Queue_Steps
 pub mod Root_Steps
 pub mod Last_Steps
+pub mod Offering_Steps
 pub mod Untying_Steps
 pub mod Adding_Steps
 pub mod Queueing_Steps

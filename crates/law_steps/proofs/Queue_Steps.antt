@@ -1,23 +1,32 @@
 -- Steps on words that are no cell's: Drain and Close take the bits of an own queue word, Nudge sets a bit of a notify
 -- word and Wake takes them all.
-use Rattle.std.proofs.Common.{◌≡◌, ℕ, ◌+◌, ◌*◌, ◌/◌, ◌<◌, ◌≤◌, ◌^◌, nat_lt, ◌&&◌, Bool, true, false, if◌then◌else◌}
+use Rattle.std.proofs.Common.{◌≡◌, ℕ, ◌+◌, ◌*◌, ◌/◌, ◌<◌, ◌≤◌, ◌^◌, ◌==◌, nat_lt, ◌&&◌, ◌||◌, not, zero, suc, Bool, true, false, if◌then◌else◌}
 use Rattle.std.proofs.Common.{List, [], length, set, Option, None, refl, sym, ◌∙◌, ap, subst, inl, inr, arith}
 use Rattle.std.specs.Int.{bit_at}
 use Rattle.std.specs.Int.RustNames.{bit_or}
-use Rattle.std.proofs.lemmas.Bool.{cases_eq, eq-eqb, ne_eqb, lt-ltb, ltb-true, and_parts}
+use Rattle.std.proofs.lemmas.Bool.{cases_eq, cases_lt, cases_Bool, eq-eqb, ne_eqb, eqb-true, lt-ltb, ltb-true, lt-leb, le-leb}
+use Rattle.std.proofs.lemmas.Bool.{and_parts, true≢false}
 use Rattle.std.proofs.lemmas.Nat.{le_or_r}
 use Rattle.std.specs.Cmp.Derive.{both_true}
 use Rattle.atomic_table.specs.Table.{State as Table, Allows}
-use Rattle.brc_words.specs.declared.limits.TheConstants.{MOST_THREADS}
+use Rattle.brc_words.specs.declared.limits.TheConstants.{MOST_THREADS, FIRST_MORTAL}
 use Rattle.law_world.specs.declared.event.Step.{Step}
-use Rattle.law_world.specs.declared.event.Step.TheVariants.{Drain, Close, Nudge, Wake}
+use Rattle.law_world.specs.declared.event.Step.TheVariants.{Drain, Close, Nudge, Wake, Reopen}
+use Rattle.law_world.specs.declared.row.Stage.{Stage}
+use Rattle.law_world.specs.declared.row.Hand.TheVariants as hands
+use Rattle.brc_words.specs.declared.owner.Owner.TheVariants as owners
+use Rattle.law_world.specs.Holding.{lives}
+use Rattle.law_world.proofs.Naming.{free_hand, thread_owner}
+use Rattle.law_lasting.proofs.Lasting.{live_owner}
+use Rattle.law_lasting.proofs.Progress.{inside}
+use Rattle.law_known.proofs.Owned_Law.{uncounted_on}
 use Rattle.law_world.specs.declared.row.Row.{Row}
 use Rattle.law_world.specs.declared.row.Stage.TheVariants as stages
-use Rattle.law_world.specs.Lists.{word_at, is_unmarked}
-use Rattle.law_world.specs.Heap.{Heap, row_at, queue_at, worklist_at, no_row, is_registered, words_for}
-use Rattle.law_world.specs.Sound.{IsSound}
+use Rattle.law_world.specs.Lists.{word_at, is_marked}
+use Rattle.law_world.specs.Heap.{Heap, cell_at, row_at, queue_at, worklist_at, no_row, is_registered, words_for}
+use Rattle.law_world.specs.Sound.{IsSound, rests}
 use Rattle.law_world.specs.Steps.{thread_may, target_at, after_target, kept_cells, stage_after, is_closed, closed_more}
-use Rattle.law_world.specs.Steps.{may_leave}
+use Rattle.law_world.specs.Steps.{may_leave, owned_are_marked, opened_more, opens_next, is_owned_by, is_mine, is_active}
 use Rattle.law_world.proofs.Asking.{May, may_parts}
 use Rattle.law_world.proofs.Changes.{read_here}
 use Rattle.law_world.proofs.Reached.{reached_sound}
@@ -35,10 +44,10 @@ use Rattle.law_rule.specs.declared.view.View.{View}
 use Rattle.law_rule.specs.Layout.{spot}
 use Rattle.law_rule.specs.Logs.{puts, takes_of}
 use Rattle.law_rule.specs.Rule.{with_told, Kept}
-use Rattle.law_steps.specs.Owing.{Allowed, Tells}
+use Rattle.law_steps.specs.Owing.{Allowed, Closes, Tells}
 use Rattle.law_steps.specs.Taking.{AreQueued}
 use Rattle.law_rule.proofs.Own_Logs.{stands_registered}
-use Rattle.law_rule.proofs.Knowing.{Known, is_enabled, known_edition}
+use Rattle.law_rule.proofs.Knowing.{Known, is_enabled, known_edition, hand_there}
 use Rattle.law_steps.proofs.Plain_Steps.{IsPlain, stays_off, plain_step}
 use Rattle.law_steps.proofs.Telling.{tells_found}
 
@@ -95,6 +104,20 @@ now_closed words k = elim (cases_eq (k + 1) words) [
   | inr more ↦ ap (λ b. is_closed (if b then stages.Left else stages.Closing (k + 1)) k) (ne_eqb (k + 1) words more)
       ∙ lt-ltb k (k + 1) (omega arith)
 ]
+
+-- the word that is opened again
+now_open : (words k : ℕ) → is_closed (opened_more words k) k ≡ false
+now_open words k = elim (cases_eq (k + 1) words) [
+  | inl last ↦ ap (λ b. is_closed (if b then stages.Active else stages.Opening (k + 1)) k) (eq-eqb (k + 1) words last)
+  | inr more ↦ ap (λ b. is_closed (if b then stages.Active else stages.Opening (k + 1)) k) (ne_eqb (k + 1) words more)
+      ∙ lt-leb (k + 1) k (omega arith)
+]
+
+opens_closed : (stage : Stage) (k : ℕ) → opens_next stage k ≡ true → is_closed stage k ≡ true
+opens_closed stages.Active k next = absurd (true≢false (sym next))
+opens_closed (stages.Closing m) k next = absurd (true≢false (sym next))
+opens_closed stages.Left k next = absurd (true≢false (sym next))
+opens_closed (stages.Opening m) k next = le-leb m k (omega (arith, eqb-true k m next))
 
 module _ {B : Type 0} (shows : B → ℕ × Contents) (n limit : ℕ) where
   abbrev Rule : Table (Option B) View → Type 0
@@ -165,22 +188,63 @@ module _ {B : Type 0} (shows : B → ℕ × Contents) (n limit : ℕ) where
 
   -- ---- Close
 
-  -- its worklist is empty, which is what the first edition asks of it
-  may_close : (h : Heap) (t : ℕ) (log : List Told) (k : ℕ) → 0 < t → Known n limit h t log → Allowed n log (Close k)
-      → thread_may h t (Close k) ≡ true
-  may_close h t log k some_thread known allowed =
-      is_enabled n limit h t log (Close k) some_thread known allowed.own refl
-      (subst (λ e. may_leave e t h.cells (worklist_at h t) ≡ true) (sym (known_edition n limit h t log known))
-      (ap is_unmarked known.part.work_is ∙ allowed.done)) refl
+  -- what it still owns is dead: an active thread counts nothing of it, and one that is closing has handed over the rest
+  owned_dead : (h : Heap) (t : ℕ) (log : List Told) (k c : ℕ) → Known n limit h t log → Closes n log k
+      → (not (is_owned_by t (cell_at h c).owner) || is_marked (worklist_at h t) c) ≡ true
+  owned_dead h t log k c known closes = elim (cases_Bool (is_owned_by t (cell_at h c).owner)) [
+    | inr apart ↦ ap (λ b. not b || is_marked (worklist_at h t) c) apart
+    | inl his ↦
+        let sound : IsSound h = reached_sound h known.reached in
+        let owner : (cell_at h c).owner ≡ owners.Thread t = thread_owner t (cell_at h c).owner his in
+        let low : c < length h.cells = inside h c (live_owner (cell_at h c).owner (ap lives owner)) in
+        let free : (row_at h t).hand ≡ hands.Free = free_hand (row_at h t).hand
+        (hand_there n limit h t log (Close k) known closes.own) in
+        ap (λ b. not b || is_marked (worklist_at h t) c) his
+        ∙ elim (cases_lt c FIRST_MORTAL) [
+          | inl fixed ↦ absurd (nobody_thread (sym (sound.immortals c fixed).owner ∙ owner))
+          | inr mortal ↦
+              uncounted_on h t c sound mortal owner (none_local h t log k c known closes sound mortal owner low) free
+        ]
+  ]
+    where
+      nobody_thread : owners.Nobody ≡ owners.Thread t → ⊥
+      nobody_thread bad = absurd (cc)
 
-  closed_open : (h : Heap) (t : ℕ) (log : List Told) (k : ℕ) → 0 < t → Known n limit h t log → Allowed n log (Close k)
+      none_local : (h : Heap) (t : ℕ) (log : List Told) (k c : ℕ) → Known n limit h t log → Closes n log k → IsSound h
+          → FIRST_MORTAL ≤ c → (cell_at h c).owner ≡ owners.Thread t → c < length h.cells → (cell_at h c).local ≡ 0
+      none_local h t log k c known closes sound mortal owner low =
+          elim (cases_Bool (is_active (row_at h t).stage)) [
+            | inl active ↦
+                let his : is_mine t (row_at h t).stage (cell_at h c) ≡ true =
+                ap (λ o. is_owned_by t o && is_active (row_at h t).stage) owner ∙ ap (λ b. (t == t) && b) active
+                ∙ ap (λ b. b && true) (eq-eqb t t refl) in
+                sym (ap (λ b. if b then (cell_at h c).local else 0) his) ∙ known.counts c mortal
+                ∙ closes.none c mortal (omega (arith, low, known.cells))
+            | inr off ↦ (sound.cells c mortal).rested t owner
+                (ap (λ e. rests e (row_at h t).stage) (known_edition n limit h t log known) ∙ ap not off)
+          ]
+
+  all_owned : (h : Heap) (t : ℕ) (log : List Told) (k : ℕ) → Known n limit h t log → Closes n log k → (m : ℕ)
+      → owned_are_marked t h.cells (worklist_at h t) m ≡ true
+  all_owned h t log k known closes zero = refl
+  all_owned h t log k known closes (suc m) =
+      both_true (all_owned h t log k known closes m) (owned_dead h t log k m known closes)
+
+  may_close : (h : Heap) (t : ℕ) (log : List Told) (k : ℕ) → 0 < t → Known n limit h t log → Closes n log k
+      → thread_may h t (Close k) ≡ true
+  may_close h t log k some_thread known closes =
+      is_enabled n limit h t log (Close k) some_thread known closes.own refl
+      (subst (λ e. may_leave e t h.cells (worklist_at h t) ≡ true) (sym (known_edition n limit h t log known))
+      (all_owned h t log k known closes (length h.cells))) refl
+
+  closed_open : (h : Heap) (t : ℕ) (log : List Told) (k : ℕ) → 0 < t → Known n limit h t log → Closes n log k
       → is_closed (row_at h t).stage k ≡ false
   closed_open h t log k some_thread known allowed =
       let parts : May h t (Close k) = may_parts h t (Close k) (may_close h t log k some_thread known allowed) in
       next_open (row_at h t).stage k (and_parts _ _ (and_parts _ _ (and_parts _ _ parts.own).0).0).1
 
   closed : (h : Heap) (t : ℕ) (log : List Told) (k there : ℕ) → 0 < t → k < words_for n → Known n limit h t log
-      → Allowed n log (Close k) → Shows h (Queue t k) there
+      → Closes n log k → Shows h (Queue t k) there
       → IsPlain n h t (Close k) (Queue t k) (bit_or there 9223372036854775808) there
   closed h t log k there some_thread inside known allowed shown =
       let s : Step = Close k in
@@ -209,7 +273,7 @@ module _ {B : Type 0} (shows : B → ℕ × Contents) (n limit : ℕ) where
       })
 
   pub closes : (id : ℕ) (v : View) (slots : List (ℕ × Option B)) (k : ℕ) → v.active ≡ true → 0 < v.thread
-      → v.thread ≤ MOST_THREADS → k < words_for n → Allowed n v.log (Close k)
+      → v.thread ≤ MOST_THREADS → k < words_for n → Closes n v.log k
       → Allows Rule n id (v, slots) (spot n (Queue v.thread k)) (λ there. bit_or there 9223372036854775808)
       (λ there me. (me ≡ (with_told (Did (Close k) there moves.Nothing) v, slots)) × AreQueued n k there)
   closes id v slots k active some_thread few inside allowed =
@@ -222,6 +286,47 @@ module _ {B : Type 0} (shows : B → ℕ × Contents) (n limit : ℕ) where
       (plain_step shows n limit id v slots (Close k) (Queue v.thread k) (λ there. bit_or there 9223372036854775808)
       (λ there. there) active some_thread is
       (λ h there known shown small. closed h v.thread v.log k there some_thread inside known allowed shown))
+
+  -- ---- Reopen
+
+  reopened : (h : Heap) (t : ℕ) (log : List Told) (k there : ℕ) → 0 < t → k < words_for n → Known n limit h t log
+      → Allowed n log (Reopen k) → Shows h (Queue t k) there
+      → IsPlain n h t (Reopen k) (Queue t k) 0 0
+  reopened h t log k there some_thread inside known allowed shown =
+      let s : Step = Reopen k in
+      let sound : IsSound h = reached_sound h known.reached in
+      let may : thread_may h t s ≡ true = is_enabled n limit h t log s some_thread known allowed.own refl refl refl in
+      let parts : May h t s = may_parts h t s may in
+      let registered : is_registered h t ≡ true = stands_registered h t known.stood some_thread in
+      let row : row_at (kept_cells h t s) t ≡ record (row_at h t) {
+        stage = stage_after (words_for (length h.cells)) s
+            (row_at h t).stage;
+      } = read_here h.rows t _ no_row parts.inside in
+      let queue : queue_at (kept_cells h t s) t ≡ queue_at h t = read_here h.queues t _ []
+      (omega (arith, sound.shaped.queues, parts.inside)) in
+      let closed_word : is_closed (row_at h t).stage k ≡ true = opens_closed (row_at h t).stage k
+      (and_parts _ _ parts.own).1 in
+      plain_off n h t s (Queue t k) 0 0 (record {
+        may = may;
+        target = refl;
+        word = refl;
+        shown = queue_shows (kept_cells h t s) t k 0 false 0
+            (ap (λ m. nat_lt 0 t && nat_lt t m) (Rattle.law_lasting.proofs.Ranges_Law.same_rows h t s None)
+            ∙ registered)
+            (ap (λ (r : Row). is_closed r.stage k) row ∙ now_open (words_for (length h.cells)) k)
+            (ap (λ (q : List ℕ). word_at q k) queue ∙ (sound.threads t).closed k closed_word) refl;
+        told = refl;
+        puts_none = refl;
+      })
+
+  pub reopens : (id : ℕ) (v : View) (slots : List (ℕ × Option B)) (k : ℕ) → v.active ≡ true → 0 < v.thread
+      → v.thread ≤ MOST_THREADS → k < words_for n → Allowed n v.log (Reopen k)
+      → Allows Rule n id (v, slots) (spot n (Queue v.thread k)) (λ there. 0)
+      (λ there me. me ≡ (with_told (Did (Reopen k) 0 moves.Nothing) v, slots))
+  reopens id v slots k active some_thread few inside allowed =
+      plain_step shows n limit id v slots (Reopen k) (Queue v.thread k) (λ there. 0) (λ there. 0) active some_thread
+      (omega (arith, few), inside)
+      (λ h there known shown small. reopened h v.thread v.log k there some_thread inside known allowed shown)
 
   -- ---- Nudge and Wake
 

@@ -10,40 +10,44 @@ use mathlib.Core.Option.{some, some-injective, some-ne-none}
 use lib.ListN.{get_elem?}
 use Rattle.atomic_table.specs.Table.{State, Splits, Joins}
 use Rattle.atomic_table.proofs.Lists.{at_set, set_here, set_else, at_longer, at_last}
-use Rattle.law_world.specs.declared.edition.Edition.TheVariants as editions
 use Rattle.law_world.specs.declared.event.Step.TheVariants.{Register, Gather}
 use Rattle.law_world.specs.declared.row.Row.{Row}
 use Rattle.law_world.specs.Lists.{word_at, is_blank, is_marked, is_unmarked}
-use Rattle.law_world.specs.Heap.{Heap, opening, cell_at, row_at, queue_at, worklist_at, new_row, no_row, is_registered}
+use Rattle.law_known.specs.Start.{start_of}
+use Rattle.law_world.specs.Heap.{Heap, cell_at, row_at, queue_at, worklist_at, new_row, no_row, again_row, no_cell, is_registered}
 use Rattle.law_world.specs.Heap.{is_gathered, words_for}
 use Rattle.law_world.specs.Runs.{IsReached}
 use Rattle.law_world.specs.Sound.{IsSound}
 use Rattle.law_world.specs.Steps.{root_may, root_after, number_ok, registered, registered_again, gathered_in, is_closed}
 use Rattle.law_world.specs.Steps.{is_left, is_free_hand}
 use Rattle.law_world.proofs.Changes.{read_here, read_there}
-use Rattle.law_world.proofs.Lifetimes.{run_edition}
 use Rattle.law_world.proofs.Reached.{reached_sound}
 use Rattle.law_world.proofs.Registering.{push_else, length-push, new_word}
-use Rattle.law_lasting.proofs.Standing.{run_reached}
+use Rattle.law_known.proofs.Starting.{run_reached}
 use Rattle.law_known.specs.declared.word.Word.{Word}
 use Rattle.law_known.specs.declared.word.Field.TheVariants.{Owner, Local, Shared, Mutex}
 use Rattle.law_known.specs.declared.word.Word.TheVariants.{Of, Queue, NotifyWord, FreeWord}
 use Rattle.law_known.proofs.Free_Law.{shown_longer}
-use Rattle.law_known.specs.Items.{Shows, ShowsQueue, events_of}
+use Rattle.law_known.specs.Items.{Shows, ShowsQueue, ToldBy, events_of, own, is_used}
 use Rattle.law_known.specs.Root.{rows_of}
+use Rattle.law_known.specs.Free_Words.{ShowsOwner}
+use Rattle.law_known.proofs.Items_Tells.{used_is}
+use Rattle.law_known.proofs.Starting.{run_runs_in}
+use Rattle.law_world.specs.Holding.{lives}
+use Rattle.law_world.proofs.Reusing.{Vacated, fresh, reused, registers}
 use Rattle.law_known.proofs.Items_Runs.{events_run}
-use Rattle.law_known.proofs.Root_Law.{rows_are_told}
+use Rattle.law_known.proofs.Root_Law.{rows_are_told, next_number_ok}
 use Rattle.law_rule.specs.declared.contents.Contents.{Contents}
 use Rattle.law_rule.specs.declared.told.Moved.TheVariants as moves
 use Rattle.law_rule.specs.declared.told.Told.{Told}
 use Rattle.law_rule.specs.declared.told.Told.TheVariants.{Did}
 use Rattle.law_rule.specs.declared.view.View.{View}
 use Rattle.law_rule.specs.Layout.{spot}
-use Rattle.law_rule.specs.Logs.{log_items, Run, items_of, own_of, world}
+use Rattle.law_rule.specs.Logs.{log_items, Run, items_of, begins, own_of, world}
 use Rattle.law_rule.specs.Homes.{HomeShown}
 use Rattle.law_rule.specs.Rule.{stands, log_in, Fits, StandsOnce, Seated, Kept}
 use Rattle.law_rule.specs.Seen.{part_seen}
-use Rattle.law_steps.specs.Joining.{next_thread, registering, starting, gathering, spent, Registers, Leaves}
+use Rattle.law_steps.specs.Joining.{next_thread, is_again, registering, starting, gathering, spent, Registers, Leaves}
 use Rattle.law_rule.proofs.Own_Logs.{own_items, own_more, own_same, stands_registered, stands_ungathered}
 use Rattle.law_rule.proofs.Growing.{at_inside}
 use Rattle.law_rule.proofs.Once.{once_calm, once_started, once_gathered, once_else}
@@ -145,20 +149,125 @@ shown_registered n h (Queue t k) m sound shown = elim (cases_eq t (length h.rows
     now_registered h t sound last = both_true (lt-ltb 0 t (omega (arith, last, sound.shaped.root)))
         (lt-ltb _ _ (omega (arith, last, length-push h.rows new_row)))
 
--- the next number has no rows yet
-new_thread : (h : Heap) (u : ℕ) → u ≡ length h.rows → root_after h (Register u) ≡ registered h
-new_thread h u is = ap (λ b. if b then registered_again h u else registered h)
-    (le-ltb u (length h.rows) (omega (arith, is)))
+-- ---- a world in which a number is used again
 
-stays_registered : (h : Heap) (c : ℕ) → IsSound h → root_may h (Register (length h.rows)) ≡ true
-    → Stays h (registered h) c
-stays_registered h c sound ok = record {
-  free = λ is. is;
-  lives = λ is. is;
-  mutex = λ is. is;
-  marks = λ off u. marks_of_root h (Register (length h.rows)) c u sound ok
-      (ap (λ z. is_marked (worklist_at z u) c) (new_thread h (length h.rows) refl) ∙ off u);
+same_again : (h : Heap) (u t : ℕ) → t ≢ u → stands (registered_again h u) t ≡ stands h t
+same_again h u t other =
+    ap (λ m. (t == 0) || (nat_lt 0 t && nat_lt t m && not (is_gathered (registered_again h u) t)))
+    (length-set h.rows u again_row)
+    ∙ ap (λ b. (t == 0) || (is_registered h t && not b)) (read_there h.gathered u t false false other)
+
+again_stands : (h : Heap) (u : ℕ) → IsSound h → Vacated h u → stands (registered_again h u) u ≡ true
+again_stands h u sound vacated =
+    ap (λ b. b || (is_registered (registered_again h u) u && not (is_gathered (registered_again h u) u)))
+    (ne_eqb u 0 (λ e. omega (arith, e, vacated.thread)))
+    ∙ both_true (both_true (lt-ltb 0 u vacated.thread)
+    (lt-ltb _ _ (omega (arith, vacated.inside, length-set h.rows u again_row))))
+    (ap not (read_here h.gathered u false false (omega (arith, vacated.inside, sound.shaped.gathered))))
+
+-- each word shows what it showed: the queue words of the number are closed, before and after
+shown_again : (n : ℕ) (h : Heap) (u : ℕ) (w : Word) (m : ℕ) → IsSound h → Vacated h u → Shows h w m
+    → Shows (registered_again h u) w m
+shown_again n h u (Of Owner c) m sound vacated shown =
+    subst (λ k. ShowsOwner k (cell_at h c).owner m) (sym (length-set h.rows u again_row)) shown
+shown_again n h u (Of Local c) m sound vacated shown = shown
+shown_again n h u (Of Shared c) m sound vacated shown = shown
+shown_again n h u (Of Mutex c) m sound vacated shown = shown
+shown_again n h u (FreeWord k) m sound vacated shown = shown
+shown_again n h u (NotifyWord t) m sound vacated shown = shown
+shown_again n h u (Queue t k) m sound vacated shown =
+    let w : Heap = registered_again h u in
+    subst (λ b. ShowsQueue b (is_closed (row_at w t).stage k) (word_at (queue_at w t) k) m)
+    (ap (λ i. nat_lt 0 t && nat_lt t i) (sym (length-set h.rows u again_row)))
+    (elim (cases_eq t u) [
+      | inr other ↦
+          subst (λ (row : Row). ShowsQueue (is_registered h t) (is_closed row.stage k) (word_at (queue_at w t) k) m)
+          (sym (read_there h.rows u t again_row no_row other))
+          (subst (λ (q : List ℕ). ShowsQueue (is_registered h t) (is_closed (row_at h t).stage k) (word_at q k) m)
+          (sym (read_there h.queues u t (replicate (words_for (length h.cells)) 0) [] other)) shown)
+      | inl same ↦
+          let there : is_registered h t ≡ true = ap (is_registered h) same
+          ∙ both_true (lt-ltb 0 u vacated.thread) (lt-ltb u (length h.rows) vacated.inside) in
+          let was : is_closed (row_at h t).stage k ≡ true = ap (λ i. is_closed (row_at h i).stage k) same
+          ∙ ap (λ g. is_closed g k) vacated.stage in
+          let now : is_closed (row_at w t).stage k ≡ true = ap (λ i. is_closed (row_at w i).stage k) same
+          ∙ ap (λ (row : Row). is_closed row.stage k) (read_here h.rows u again_row no_row vacated.inside)
+          ∙ le-leb 0 k (omega arith) in
+          subst (λ b. ShowsQueue (is_registered h t) b (word_at (queue_at w t) k) m) (sym now)
+          (subst (λ b. ShowsQueue b true (word_at (queue_at w t) k) m) (sym there)
+          (subst (λ b. ToldBy b (word_at (queue_at h t) k) m) was
+          (subst (λ b. ShowsQueue b (is_closed (row_at h t).stage k) (word_at (queue_at h t) k) m) there shown)))
+    ])
+
+-- a number that is to come doesn't stand
+not_yet : (h : Heap) (t : ℕ) → IsSound h → t ≡ length h.rows → stands h t ≡ false
+not_yet h t sound next =
+    ap (λ b. b || (is_registered h t && not (is_gathered h t)))
+    (ne_eqb t 0 (λ e. omega (arith, e, next, sound.shaped.root)))
+    ∙ ap (λ b. (nat_lt 0 t && b) && not (is_gathered h t)) (le-ltb t (length h.rows) (omega (arith, next)))
+    ∙ ap (λ b. b && not (is_gathered h t)) (and_false (nat_lt 0 t))
+
+-- ---- what either way of registering a number makes of the world
+
+record Enters (n : ℕ) (h : Heap) (u : ℕ) (w : Heap) : Type 0 where
+  leads : root_after h (Register u) ≡ w
+  some : 0 < u
+  before : (t : ℕ) → t ≢ u → stands w t ≡ stands h t
+  now : stands w u ≡ true
+  off : stands h u ≡ false
+  shown : (word : Word) (m : ℕ) → Shows h word m → Shows w word m
+  stays : (c : ℕ) → Stays h w c
+  gathered : (t : ℕ) → is_gathered w t ≡ true → (is_gathered h t ≡ true) × (t ≢ u)
+
+stays_as : (h w : Heap) (u c : ℕ) → IsSound h → root_may h (Register u) ≡ true → root_after h (Register u) ≡ w
+    → w.cells ≡ h.cells → Stays h w c
+stays_as h w u c sound ok leads same = record {
+  free = λ is. ap (λ cells. (get_or cells c no_cell).owner) (sym same) ∙ is;
+  lives = λ is. ap (λ cells. lives (get_or cells c no_cell).owner) (sym same) ∙ is;
+  mutex = λ is. ap (λ cells. (get_or cells c no_cell).mutex) (sym same) ∙ is;
+  marks = λ off t. marks_of_root h (Register u) c t sound ok (ap (λ z. is_marked (worklist_at z t) c) leads ∙ off t);
 }
+
+gathered_stands : (h : Heap) (t : ℕ) → 0 < t → is_gathered h t ≡ true → stands h t ≡ false
+gathered_stands h t positive out =
+    ap (λ b. b || (is_registered h t && not (is_gathered h t))) (ne_eqb t 0 (λ e. omega (arith, e, positive)))
+    ∙ ap (λ b. is_registered h t && not b) out ∙ and_false (is_registered h t)
+
+enters : (n : ℕ) (h : Heap) (u : ℕ) → IsSound h → root_may h (Register u) ≡ true → (w : Heap) × Enters n h u w
+enters n h u sound ok = elim (registers h u sound ok) [
+  | fresh last most few is ↦ (
+    registered h,
+    record {
+      leads = is;
+      some = omega (arith, last, sound.shaped.root);
+      before = λ t other. stood_before h t sound (λ e. other (e ∙ sym last));
+      now = ap (stands (registered h)) last ∙ new_stands h sound;
+      off = not_yet h u sound last;
+      shown = λ word m shown. shown_registered n h word m sound shown;
+      stays = λ c. stays_as h (registered h) u c sound ok is refl;
+      gathered = λ t out. (
+        sym (push_else h.gathered false false t (not_last h t out)) ∙ out,
+        λ e. not_last h t out (e ∙ last ∙ sym sound.shaped.gathered),
+      );
+    },
+  )
+  | reused vacated few is ↦ (
+    registered_again h u,
+    record {
+      leads = is;
+      some = vacated.thread;
+      before = same_again h u;
+      now = again_stands h u sound vacated;
+      off = gathered_stands h u vacated.thread vacated.gathered;
+      shown = λ word m shown. shown_again n h u word m sound vacated shown;
+      stays = λ c. stays_as h (registered_again h u) u c sound ok is refl;
+      gathered = λ t out.
+          let other : t ≢ u = λ e. true≢false (sym out ∙ ap (is_gathered (registered_again h u)) e
+          ∙ read_here h.gathered u false false (omega (arith, vacated.inside, sound.shaped.gathered))) in
+          (sym (read_there h.gathered u t false false other) ∙ out, other);
+    },
+  )
+]
 
 -- ---- a world in which one thread more is gathered
 
@@ -174,14 +283,7 @@ shown_gathered h u (FreeWord k) m shown = shown
 shown_gathered h u (Queue t k) m shown = shown
 shown_gathered h u (NotifyWord t) m shown = shown
 
--- a number that is to come doesn't stand, nor does a thread that is gathered
-not_yet : (h : Heap) (t : ℕ) → IsSound h → t ≡ length h.rows → stands h t ≡ false
-not_yet h t sound next =
-    ap (λ b. b || (is_registered h t && not (is_gathered h t)))
-    (ne_eqb t 0 (λ e. omega (arith, e, next, sound.shaped.root)))
-    ∙ ap (λ b. (nat_lt 0 t && b) && not (is_gathered h t)) (le-ltb t (length h.rows) (omega (arith, next)))
-    ∙ ap (λ b. b && not (is_gathered h t)) (and_false (nat_lt 0 t))
-
+-- a thread that is gathered doesn't stand
 gone_now : (h : Heap) (u t : ℕ) → 0 < u → u < length h.rows → IsSound h → u ≡ t → stands (gathered_in h u) t ≡ false
 gone_now h u t positive low sound same =
     ap (stands (gathered_in h u)) (sym same)
@@ -200,15 +302,35 @@ module _ {B : Type 0} (shows : B → ℕ × Contents) (n limit : ℕ) where
 
   reached : (s : Table) (r : Rule s) → IsReached (world n limit r.run)
   reached s r = run_reached n limit (events_of (items_of r.run)) r.options
-      (events_run (opening n limit) (items_of r.run) r.legal.items)
+      (events_run (start_of n limit) (items_of r.run) r.legal.items)
 
-  -- the root's log tells how many rows there are
-  next_is : (s : Table) (r : Rule s) (id : ℕ) (v : View) → get_elem? s.views id ≡ some v → Registers v
-      → next_thread v ≡ length (world n limit r.run).rows
-  next_is s r id v at registers =
+  -- the root's log is what the root did
+  root_log : (s : Table) (r : Rule s) (id : ℕ) (v : View) → get_elem? s.views id ≡ some v → Registers v
+      → own 0 (items_of r.run) ≡ log_items v.log
+  root_log s r id v at registers =
       let fits : Fits (world n limit r.run) r.run r.seat id v = r.each_seat id v at registers.active in
-      sym (rows_are_told n limit (items_of r.run) r.options r.legal.items
-      ∙ ap rows_of (own_items 0 r.run ∙ ap log_items (ap (λ t. own_of t r.run) (sym registers.root) ∙ fits.log)))
+      own_items 0 r.run ∙ ap log_items (ap (λ t. own_of t r.run) (sym registers.root) ∙ fits.log)
+
+  -- so it tells which number is the next
+  next_may : (s : Table) (r : Rule s) (id : ℕ) (v : View) → get_elem? s.views id ≡ some v → Registers v
+      → root_may (world n limit r.run) (Register (next_thread v)) ≡ true
+  next_may s r id v at registers =
+      let h : Heap = world n limit r.run in
+      let log : own 0 (items_of r.run) ≡ log_items v.log = root_log s r id v at registers in
+      both_true (subst (λ e. number_ok e h (next_thread v) ≡ true)
+      (sym (run_runs_in n limit (events_of (items_of r.run))))
+      (next_number_ok n limit (items_of r.run) (log_items v.log) r.options r.legal.items log registers.more))
+      (le-leb _ _ registers.few)
+
+  -- and whether it was used before
+  again_is : (s : Table) (r : Rule s) (id : ℕ) (v : View) → get_elem? s.views id ≡ some v → Registers v
+      → 0 < next_thread v → is_used (next_thread v) (items_of r.run) ≡ is_again v
+  again_is s r id v at registers positive =
+      let h : Heap = world n limit r.run in
+      used_is n limit (items_of r.run) (next_thread v) r.options r.legal.items positive
+      ∙ ap (λ b. b && nat_lt (next_thread v) (length h.rows)) (lt-ltb 0 (next_thread v) positive)
+      ∙ ap (nat_lt (next_thread v)) (rows_are_told n limit (items_of r.run) r.options r.legal.items
+      ∙ ap rows_of (root_log s r id v at registers))
 
   abbrev with_seat : (ℕ → ℕ) → ℕ → ℕ → ℕ → ℕ
   with_seat seat u j t = if t == u then j else seat t
@@ -221,16 +343,13 @@ module _ {B : Type 0} (shows : B → ℕ × Contents) (n limit : ℕ) where
       let x : Told = Did (Register u) 0 moves.Nothing in
       let later : Run = (0, x) ∷ r.run in
       let sound : IsSound h = reached_sound h (reached s r) in
-      let is : u ≡ length h.rows = next_is s r id v at registers in
-      let first : h.edition ≡ editions.One = run_edition (opening n limit) (events_of (items_of r.run)) in
-      let ok : root_may h (Register u) ≡ true =
-      both_true (subst (λ e. number_ok e h u ≡ true) (sym first) (eq-eqb u (length h.rows) is))
-      (le-leb _ _ registers.few) in
-      let leads : world n limit later ≡ registered h = new_thread h u is in
-      let some_thread : 0 < u = omega (arith, is, sound.shaped.root) in
+      let ok : root_may h (Register u) ≡ true = next_may s r id v at registers in
+      let entered = enters n h u sound ok in
+      let w : Heap = entered.0 in
+      let e : Enters n h u w = entered.1 in
+      let leads : world n limit later ≡ w = e.leads in
       let fits : Fits h r.run r.seat id v = r.each_seat id v at registers.active in
       let root_here : r.seat 0 ≡ id = ap r.seat (sym registers.root) ∙ fits.here in
-      let apart_root : (0 == u) ≡ false = ne_eqb 0 u (λ e. omega (arith, e, some_thread)) in
       record {
         run = later;
         seat = with_seat r.seat u (length s.views);
@@ -238,111 +357,97 @@ module _ {B : Type 0} (shows : B → ℕ × Contents) (n limit : ℕ) where
         legal = record { items = (r.legal.items, (ok, refl, refl)); moved = (r.legal.moved, (refl, refl)) };
         wide = r.wide;
         deep = r.deep;
-        each_word = λ w inside. subst (λ z. Shows z w (get_or s.words (spot n w) 0)) (sym leads)
-            (shown_registered n h w (get_or s.words (spot n w) 0) sound (r.each_word w inside));
+        each_word = λ word inside. subst (λ z. Shows z word (get_or s.words (spot n word) 0)) (sym leads)
+            (e.shown word (get_or s.words (spot n word) 0) (r.each_word word inside));
         each_home = λ c low. subst (λ z. HomeShown shows s.homes z later c) (sym leads)
-            (home_stays shows s.homes h (registered h) r.run later c
-            (stays_registered h c sound (subst (λ k. root_may h (Register k) ≡ true) is ok)) refl (r.each_home c low));
-        each_seat = λ j w there live. subst (λ z. Fits z later (with_seat r.seat u (length s.views)) j w)
+            (home_stays shows s.homes h w r.run later c (e.stays c) refl (r.each_home c low));
+        each_seat = λ j z there live. subst (λ y. Fits y later (with_seat r.seat u (length s.views)) j z)
             (sym leads) (⊎_elim
-            (λ (old : get_elem? (set s.views id (registering v)) j ≡ some w). ⊎_elim
-            (λ (mine : (j ≡ id) × (registering v ≡ w)). subst
-            (λ (z : ℕ × View). Fits (registered h) later (with_seat r.seat u (length s.views)) z.0 z.1)
+            (λ (old : get_elem? (set s.views id (registering v)) j ≡ some z). ⊎_elim
+            (λ (mine : (j ≡ id) × (registering v ≡ z)). subst
+            (λ (y : ℕ × View). Fits w later (with_seat r.seat u (length s.views)) y.0 y.1)
             (λ i. (sym mine.0 i, mine.1 i))
-            (root_fits s r id v u registers sound is some_thread fits))
-            (λ (other : (j ≢ id) × (get_elem? s.views j ≡ some w)). thread_fits s r j w u id sound is some_thread
-            root_here other.0 (r.each_seat j w other.1 live))
-            (at_set s.views id j (registering v) w old))
-            (λ (new : (j ≡ length (set s.views id (registering v))) × (starting v ≡ w)).
-            subst (λ (z : ℕ × View). Fits (registered h) later (with_seat r.seat u (length s.views)) z.0 z.1)
+            (root_fits s r id v u w registers e fits))
+            (λ (other : (j ≢ id) × (get_elem? s.views j ≡ some z)). thread_fits s r j z u id w e
+            root_here other.0 (r.each_seat j z other.1 live))
+            (at_set s.views id j (registering v) z old))
+            (λ (new : (j ≡ length (set s.views id (registering v))) × (starting v ≡ z)).
+            subst (λ (y : ℕ × View). Fits w later (with_seat r.seat u (length s.views)) y.0 y.1)
             (λ i. (sym (new.0 ∙ length-set s.views id (registering v)) i, new.1 i))
-            (start_fits s r v u registers sound is some_thread refl))
-            (at_push (set s.views id (registering v)) (starting v) w j there));
-        each_thread = λ t there. seated s r id v t u at registers is some_thread sound refl
-            (subst (λ z. stands z t ≡ true) leads there);
+            (start_fits s r v u w e refl (again_is s r id v at registers e.some)))
+            (at_push (set s.views id (registering v)) (starting v) z j there));
+        each_thread = λ t there. seated s r id v t u w at registers e refl (subst (λ z. stands z t ≡ true) leads there);
         each_once = λ t positive. subst (λ z. StandsOnce z later t) (sym leads) (elim (cases_eq u t) [
-          | inl same ↦ once_started h (registered h) r.run t x positive (eq-eqb u t same) refl
-              (not_yet h t sound (sym same ∙ is)) (r.each_once t positive)
-          | inr other ↦ once_calm h (registered h) r.run 0 t x (ne_eqb u t other) refl refl
-              (stood_before h t sound (λ e. other (is ∙ sym e))) (r.each_once t positive)
+          | inl same ↦ once_started h w r.run t x positive (eq-eqb u t same) refl
+              (ap (stands h) (sym same) ∙ e.off) (r.each_once t positive)
+          | inr other ↦ once_calm h w r.run 0 t x (ne_eqb u t other) refl refl
+              (e.before t (λ back. other (sym back))) (r.each_once t positive)
         ]);
       }
     where
-      start_fits : (s : Table) (r : Rule s) (v : View) (u : ℕ) → Registers v → IsSound (world n limit r.run)
-          → u ≡ length (world n limit r.run).rows → 0 < u → u ≡ next_thread v
-          → Fits (registered (world n limit r.run)) ((0, Did (Register u) 0 moves.Nothing) ∷ r.run)
+      start_fits : (s : Table) (r : Rule s) (v : View) (u : ℕ) (w : Heap) → Enters n (world n limit r.run) u w
+          → u ≡ next_thread v → is_used (next_thread v) (items_of r.run) ≡ is_again v
+          → Fits w ((0, Did (Register u) 0 moves.Nothing) ∷ r.run)
           (with_seat r.seat u (length s.views)) (length s.views) (starting v)
-      start_fits s r v u registers sound is some_thread next = record {
+      start_fits s r v u w e next used = record {
         here = ap (with_seat r.seat u (length s.views)) (sym next) ∙ ap (λ b. if b then length s.views else r.seat u)
             (eq-eqb u u refl);
-        there = ap (stands (registered (world n limit r.run))) (sym next ∙ is) ∙ new_stands (world n limit r.run) sound;
+        there = ap (stands w) (sym next) ∙ e.now;
         log = ap (λ t. own_of t ((0, Did (Register u) 0 moves.Nothing) ∷ r.run)) (sym next)
-            ∙ ap (λ b. if b then [] else (if 0 == u then Did (Register u) 0 moves.Nothing ∷ own_of u r.run else own_of u
-            r.run)) (eq-eqb u u refl);
-        gathered = λ root. absurd (omega (arith, root, sym next, some_thread));
-        lives = λ root. absurd (omega (arith, root, sym next, some_thread));
+            ∙ ap (λ b. if b then begins (is_used u (items_of r.run)) (Did (Register u) 0 moves.Nothing) else (if 0 ==
+            u then Did (Register u) 0 moves.Nothing ∷ own_of u r.run else own_of u r.run)) (eq-eqb u u refl)
+            ∙ ap (λ t. begins (is_used t (items_of r.run)) (Did (Register t) 0 moves.Nothing)) next
+            ∙ ap (λ b. begins b (Did (Register (next_thread v)) 0 moves.Nothing)) used;
+        gathered = λ root. absurd (omega (arith, root, sym next, e.some));
+        lives = λ root. absurd (omega (arith, root, sym next, e.some));
       }
 
-      not_new : (r_rows u t : ℕ) (h : Heap) → u ≡ length h.rows → stands h t ≡ true → 0 < u → t ≢ u
-      not_new r_rows u t h is stood some_thread same =
-          elim (or_cases (t == 0) (is_registered h t && not (is_gathered h t)) stood) [
-            | inl root ↦ omega (arith, eqb-true t 0 root, same, some_thread)
-            | inr thread ↦ omega (
-              arith,
-              ltb-true t (length h.rows)
-                  (and_parts (nat_lt 0 t) (nat_lt t (length h.rows))
-                  (and_parts (is_registered h t) (not (is_gathered h t)) thread).0).1,
-              same,
-              is,
-            )
-          ]
-
-      thread_fits : (s : Table) (r : Rule s) (j : ℕ) (w : View) (u id : ℕ) → IsSound (world n limit r.run)
-          → u ≡ length (world n limit r.run).rows → 0 < u → r.seat 0 ≡ id → j ≢ id
-          → Fits (world n limit r.run) r.run r.seat j w
-          → Fits (registered (world n limit r.run)) ((0, Did (Register u) 0 moves.Nothing) ∷ r.run)
-          (with_seat r.seat u (length s.views)) j w
-      thread_fits s r j w u id sound is some_thread root_here other fits =
-          let apart : w.thread ≢ u = not_new 0 u w.thread (world n limit r.run) is fits.there some_thread in
-          let not_root : 0 ≢ w.thread = λ e. other (sym fits.here ∙ ap r.seat (sym e) ∙ root_here) in
+      thread_fits : (s : Table) (r : Rule s) (j : ℕ) (z : View) (u id : ℕ) (w : Heap)
+          → Enters n (world n limit r.run) u w → r.seat 0 ≡ id → j ≢ id
+          → Fits (world n limit r.run) r.run r.seat j z
+          → Fits w ((0, Did (Register u) 0 moves.Nothing) ∷ r.run) (with_seat r.seat u (length s.views)) j z
+      thread_fits s r j z u id w e root_here other fits =
+          let apart : z.thread ≢ u = λ same. true≢false (sym fits.there ∙ ap (stands (world n limit r.run)) same
+          ∙ e.off) in
+          let not_root : 0 ≢ z.thread = λ zero_is. other (sym fits.here ∙ ap r.seat (sym zero_is) ∙ root_here) in
           record {
-            here = ap (λ b. if b then length s.views else r.seat w.thread) (ne_eqb w.thread u apart) ∙ fits.here;
-            there = stood_before (world n limit r.run) w.thread sound (λ e. apart (e ∙ sym is)) ∙ fits.there;
-            log = own_same 0 w.thread (Did (Register u) 0 moves.Nothing) r.run (ne_eqb u w.thread (λ e. apart (sym e)))
-                not_root ∙ fits.log;
+            here = ap (λ b. if b then length s.views else r.seat z.thread) (ne_eqb z.thread u apart) ∙ fits.here;
+            there = e.before z.thread apart ∙ fits.there;
+            log = own_same 0 z.thread (Did (Register u) 0 moves.Nothing) r.run
+                (ne_eqb u z.thread (λ back. apart (sym back))) not_root ∙ fits.log;
             gathered = λ root. absurd (not_root (sym root));
             lives = λ root. absurd (not_root (sym root));
           }
 
-      root_fits : (s : Table) (r : Rule s) (id : ℕ) (v : View) (u : ℕ) → Registers v → IsSound (world n limit r.run)
-          → u ≡ length (world n limit r.run).rows → 0 < u
+      root_fits : (s : Table) (r : Rule s) (id : ℕ) (v : View) (u : ℕ) (w : Heap) → Registers v
+          → Enters n (world n limit r.run) u w
           → Fits (world n limit r.run) r.run r.seat id v
-          → Fits (registered (world n limit r.run)) ((0, Did (Register u) 0 moves.Nothing) ∷ r.run)
+          → Fits w ((0, Did (Register u) 0 moves.Nothing) ∷ r.run)
           (with_seat r.seat u (length s.views)) id
           (Rattle.law_rule.specs.Rule.with_told (Did (Register u) 0 moves.Nothing) v)
-      root_fits s r id v u registers sound is some_thread fits =
+      root_fits s r id v u w registers e fits =
           let h : Heap = world n limit r.run in
-          let apart : v.thread ≢ u = λ e. omega (arith, registers.root, e, some_thread) in
+          let apart : v.thread ≢ u = λ same. omega (arith, registers.root, same, e.some) in
           record {
             here = ap (λ b. if b then length s.views else r.seat v.thread) (ne_eqb v.thread u apart) ∙ fits.here;
-            there = stood_before h v.thread sound (λ e. apart (e ∙ sym is)) ∙ fits.there;
+            there = e.before v.thread apart ∙ fits.there;
             log = subst (λ t. own_of v.thread ((t, Did (Register u) 0 moves.Nothing) ∷ r.run) ≡ Did
                 (Register u) 0 moves.Nothing ∷ v.log) registers.root
-                (own_more v.thread (Did (Register u) 0 moves.Nothing) r.run (ne_eqb u v.thread (λ e. apart (sym e)))
+                (own_more v.thread (Did (Register u) 0 moves.Nothing) r.run
+                (ne_eqb u v.thread (λ back. apart (sym back)))
                 ∙ ap (λ log. Did (Register u) 0 moves.Nothing ∷ log) fits.log);
-            gathered = λ root w low out.
-                let old : is_gathered h w ≡ true = sym (push_else h.gathered false false w (not_last h w out)) ∙ out in
-                let before : w < length h.gathered = gathered_inside h w old in
-                fits.gathered root w low old ∙ ap Some (sym (own_same 0 w (Did (Register u) 0 moves.Nothing) r.run
-                (ne_eqb u w (λ e. omega (arith, e, is, before, sound.shaped.gathered))) (λ e. omega (arith, e, low))));
+            gathered = λ root q low out.
+                let old = e.gathered q out in
+                fits.gathered root q low old.0 ∙ ap Some (sym (own_same 0 q (Did (Register u) 0 moves.Nothing) r.run
+                (ne_eqb u q (λ back. old.1 (sym back))) (λ zero_is. omega (arith, zero_is, low))));
             lives = λ root. fits.lives root;
           }
 
-      seated : (s : Table) (r : Rule s) (id : ℕ) (v : View) (t u : ℕ) → get_elem? s.views id ≡ some v → Registers v
-          → u ≡ length (world n limit r.run).rows → 0 < u → IsSound (world n limit r.run) → u ≡ next_thread v
-          → stands (registered (world n limit r.run)) t ≡ true
+      seated : (s : Table) (r : Rule s) (id : ℕ) (v : View) (t u : ℕ) (w : Heap) → get_elem? s.views id ≡ some v
+          → Registers v → Enters n (world n limit r.run) u w → u ≡ next_thread v
+          → stands w t ≡ true
           → Seated (set s.views id (registering v) ++ starting v ∷ []) t (with_seat r.seat u (length s.views) t)
-      seated s r id v t u at registers is some_thread sound next there = elim (cases_eq t u) [
+      seated s r id v t u w at registers e next there = elim (cases_eq t u) [
         | inl new ↦
             subst (λ j. Seated (set s.views id (registering v) ++ starting v ∷ []) t j)
             (sym (ap (λ b. if b then length s.views else r.seat t) (eq-eqb t u new)))
@@ -354,8 +459,7 @@ module _ {B : Type 0} (shows : B → ℕ × Contents) (n limit : ℕ) where
               thread = sym next ∙ sym new;
             })
         | inr old ↦
-            let before : Seated s.views t (r.seat t) =
-            r.each_thread t (sym (stood_before (world n limit r.run) t sound (λ e. old (e ∙ sym is))) ∙ there) in
+            let before : Seated s.views t (r.seat t) = r.each_thread t (sym (e.before t old) ∙ there) in
             subst (λ j. Seated (set s.views id (registering v) ++ starting v ∷ []) t j)
             (sym (ap (λ b. if b then length s.views else r.seat t) (ne_eqb t u old)))
             (elim (cases_eq (r.seat t) id) [
@@ -365,7 +469,7 @@ module _ {B : Type 0} (shows : B → ℕ × Contents) (n limit : ℕ) where
                     ∙ at_longer (set s.views id (registering v)) (starting v ∷ []) id (registering v)
                     (set_here s.views id (registering v) (at_inside s.views id v at));
                 active = registers.active;
-                thread = ap (λ (w : View). w.thread)
+                thread = ap (λ (z : View). z.thread)
                     (some-injective v before.view (sym at ∙ sym (ap (get_elem? s.views) same) ∙ before.there))
                     ∙ before.thread;
               }

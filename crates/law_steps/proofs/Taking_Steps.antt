@@ -166,26 +166,27 @@ module _ {B : Type 0} (shows : B → ℕ × Contents) (n limit : ℕ) where
       (sym (taken_mark h t s c (reached_sound h known.reached) (may_parts h t s ends.may) ends.low ends.frees_none
       takes_it) ∙ off t)))
 
-  -- the number that is found decides whether the block is taken
-  pub end_step : (id : ℕ) (v : View) (slots : List (ℕ × Option B)) (s : Step) (c : ℕ) (w : Word) (written : ℕ → ℕ)
-      → v.active ≡ true → 0 < v.thread → c < n → IsWord n w
+  -- the number that is told decides whether the block is taken
+  pub end_step_as : (id : ℕ) (v : View) (slots : List (ℕ × Option B)) (s : Step) (c : ℕ) (w : Word)
+      (written number : ℕ → ℕ) → v.active ≡ true → 0 < v.thread → c < n → IsWord n w
       → ((h : Heap) (there : ℕ) → Known n limit h v.thread v.log → Shows h w there → there < 2 ^ 64
-      → EndsOn h v.thread s c w (written there) there)
+      → EndsOn h v.thread s c w (written there) (number there))
       → Allows Rule n id (v, slots) (spot n w) written
-      (λ there me. Ended shows n v slots s c there (takes_block s (cell_told s there)) me)
-  end_step id v slots s c w written active some_thread low is ends st r deep at small =
+      (λ there me. Ended shows n v slots s c (number there) (takes_block s (cell_told s (number there))) me)
+  end_step_as id v slots s c w written number active some_thread low is ends st r deep at small =
       let t : ℕ = v.thread in
       let h : Heap = world n limit r.run in
-      let there : ℕ = get_or st.words (spot n w) 0 in
+      let found : ℕ = get_or st.words (spot n w) 0 in
+      let there : ℕ = number found in
       let known : Known n limit h t v.log = knows shows n limit st r id v at active some_thread in
-      let e : EndsOn h t s c w (written there) there = ends h there known (r.each_word w is) small in
+      let e : EndsOn h t s c w (written found) there = ends h found known (r.each_word w is) small in
       elim (cases_Bool (takes_block s (cell_at h c))) [
         | inr off ↦ (
           with_told (Did s there moves.Nothing) v,
           keeps,
           tt,
-          plainly shows n limit st r id v s w (written there) there at active some_thread is
-              (plain_on n h t s c w (written there) there (not_taking h t s c w (written there) there e off)),
+          plainly shows n limit st r id v s w (written found) there at active some_thread is
+              (plain_on n h t s c w (written found) there (not_taking h t s c w (written found) there e off)),
           subst (λ b. Ended shows n v slots s c there b (with_told (Did s there moves.Nothing) v, slots))
               (sym (e.number_tells ∙ off)) refl,
         )
@@ -198,7 +199,7 @@ module _ {B : Type 0} (shows : B → ℕ × Contents) (n limit : ℕ) where
               with_told (Did s there (moves.Found c (shows lies.block).1)) v,
               takes c (Some lies.block),
               lies.there,
-              taking st r id v s c w (written there) there at active some_thread low is e on lies,
+              taking st r id v s c w (written found) there at active some_thread low is e on lies,
               subst (λ b. Ended shows n v slots s c there b
                   (with_told (Did s there (moves.Found c (shows lies.block).1)) v, (c, Some lies.block) ∷ slots))
                   (sym (e.number_tells ∙ on))
@@ -214,9 +215,19 @@ module _ {B : Type 0} (shows : B → ℕ × Contents) (n limit : ℕ) where
       ]
     where
       unlocked : (h : Heap) (t : ℕ) (s : Step) (c : ℕ) → Known n limit h t v.log
-          → EndsOn h t s c w (written (get_or st.words (spot n w) 0)) (get_or st.words (spot n w) 0)
+          → EndsOn h t s c w (written (get_or st.words (spot n w) 0)) (number (get_or st.words (spot n w) 0))
           → takes_block s (cell_at h c) ≡ true → (cell_at h c).mutex ≡ 0
       unlocked h t s c known e on =
           let may : May h t s = may_parts h t s e.may in
           taken_unlocked h (record { thread = t; step = s }) c known.reached
           (thread_enabled h t s may.some_thread e.may) (λ zero. omega (arith, zero, may.some_thread)) e.target on
+
+  -- the same of a step that is told the number that is found
+  pub end_step : (id : ℕ) (v : View) (slots : List (ℕ × Option B)) (s : Step) (c : ℕ) (w : Word) (written : ℕ → ℕ)
+      → v.active ≡ true → 0 < v.thread → c < n → IsWord n w
+      → ((h : Heap) (there : ℕ) → Known n limit h v.thread v.log → Shows h w there → there < 2 ^ 64
+      → EndsOn h v.thread s c w (written there) there)
+      → Allows Rule n id (v, slots) (spot n w) written
+      (λ there me. Ended shows n v slots s c there (takes_block s (cell_told s there)) me)
+  end_step id v slots s c w written active some_thread low is ends =
+      end_step_as id v slots s c w written (λ there. there) active some_thread low is ends

@@ -1,11 +1,10 @@
--- Untie: a thread makes an object nobody's, at count 0, in the place of an owner that has left, or for a popped entry.
-use Rattle.std.proofs.Common.{◌≡◌, ◌≢◌, ℕ, ◌<◌, ◌%◌, not, true, List, length, Option, refl, sym, ◌∙◌, ap, subst, inl}
+-- Untie: a thread makes an object nobody's, at count 0, to hand it over, or for a popped entry.
+use Rattle.std.proofs.Common.{◌≡◌, ◌≢◌, ℕ, ◌<◌, ◌%◌, not, true, false, List, length, Option, refl, sym, ◌∙◌, ap, subst, inl}
 use Rattle.std.proofs.Common.{inr, arith}
-use Rattle.std.proofs.lemmas.Bool.{eqb-true, eq-eqb}
+use Rattle.std.proofs.lemmas.Bool.{eqb-true, eq-eqb, cases_Bool, true≢false}
 use Rattle.std.specs.Cmp.Derive.{both_true}
 use Rattle.atomic_table.specs.Table.{State as Table, Allows}
 use Rattle.brc_words.specs.declared.owner.Owner.TheVariants as owners
-use Rattle.brc_words.specs.Owners.{word_of}
 use Rattle.law_world.specs.declared.cell.Cell.{Cell}
 use Rattle.law_world.specs.declared.event.Step.{Step}
 use Rattle.law_world.specs.declared.event.Step.TheVariants.{Untie}
@@ -15,11 +14,16 @@ use Rattle.law_world.specs.Lists.{bit_of}
 use Rattle.law_world.specs.Heap.{Heap, cell_at, row_at, popped_at}
 use Rattle.law_world.specs.Holding.{lives}
 use Rattle.law_world.specs.Runs.{IsReached}
-use Rattle.law_world.specs.Steps.{stepped, untie_ok, untied_ok, is_owned_by, is_queued, is_nobody}
-use Rattle.law_lasting.specs.Staying.{Lasts, Adopts, PoppedOwn}
+use Rattle.law_world.specs.Phases.{is_active_phase}
+use Rattle.law_world.specs.declared.row.Phase.{Phase}
+use Rattle.law_world.specs.declared.row.Row.{Row}
+use Rattle.law_world.specs.Sound.{IsSound, is_active_hand}
+use Rattle.law_world.proofs.Reached.{reached_sound}
+use Rattle.law_world.specs.Steps.{stepped, untie_ok, untied_ok, is_owned_by, is_queued, is_active, is_shut_hand}
+use Rattle.law_lasting.specs.Staying.{Lasts, PoppedOwn}
 use Rattle.law_lasting.proofs.Lasting.{live_owner}
 use Rattle.law_lasting.proofs.Progress.{inside}
-use Rattle.law_lasting.proofs.Telling.{hand_tells, popped_tells, adopting_lasts, popped_lasts}
+use Rattle.law_lasting.proofs.Telling.{hand_tells, popped_tells, popped_lasts}
 use Rattle.law_known.specs.declared.word.Field.TheVariants.{Owner, Shared}
 use Rattle.law_known.specs.declared.word.Word.TheVariants.{Of}
 use Rattle.law_known.specs.Free_Words.{ShowsOwner}
@@ -32,12 +36,12 @@ use Rattle.law_rule.specs.declared.view.View.{View}
 use Rattle.law_rule.specs.Layout.{spot}
 use Rattle.law_rule.specs.Rule.{with_told, Kept}
 use Rattle.law_rule.specs.Seen.{part_seen, own_may}
-use Rattle.law_steps.specs.Owing.{UntiesOver, UntiesShut, UntiesPopped}
+use Rattle.law_steps.specs.Owing.{UntiesOver, UntiesOffered, UntiesPopped}
 use Rattle.law_rule.proofs.Knowing.{Known, is_enabled}
 use Rattle.law_steps.proofs.Local_Steps.{fits_cell, read_cell}
 use Rattle.law_steps.proofs.Plain_Steps.{IsPlain, plain_on, stays_on, plain_step}
 use Rattle.law_rule.proofs.Since.{since}
-use Rattle.law_rule.proofs.Noting.{unmerged_word, part_own, hand_in, bit_in, has_in_hand, owner_told}
+use Rattle.law_rule.proofs.Noting.{unmerged_word, part_own, hand_in, bit_in}
 
 -- ---- what the three ways have in common
 
@@ -45,6 +49,16 @@ use Rattle.law_rule.proofs.Noting.{unmerged_word, part_own, hand_in, bit_in, has
 record MayUntie (h : Heap) (t c : ℕ) : Type 0 where
   live : lives (cell_at h c).owner ≡ true
   ok : untied_ok t (row_at h t).hand (cell_at h c) ≡ true
+  active : is_active (row_at h t).stage ≡ true
+  unshut : is_shut_hand (row_at h t).hand ≡ false
+
+-- a thread that has an object in its hand to merge it or to hand it over is active
+pub hand_active : (h : Heap) (t c : ℕ) (p : Phase) → IsSound h → (row_at h t).hand ≡ hands.Busy p c
+    → is_active_phase p ≡ true → is_active (row_at h t).stage ≡ true
+hand_active h t c p sound busy owns = elim (cases_Bool (is_active (row_at h t).stage)) [
+  | inl active ↦ active
+  | inr off ↦ absurd (true≢false (sym owns ∙ sym (ap is_active_hand busy) ∙ (sound.threads t).inactive_hand off))
+]
 
 unties : (n limit : ℕ) (h : Heap) (t : ℕ) (log : List Told) (c : ℕ) → 0 < t → Known n limit h t log
     → own_may n (part_seen n log) (Untie c) ≡ true → MayUntie h t c
@@ -53,7 +67,7 @@ unties n limit h t log c some_thread known own ways =
     let s : Step = Untie c in
     let low : c < length h.cells = inside h c (live_owner _ ways.live) in
     plain_on n h t s c (Of Owner c) 0 0 (record {
-      may = is_enabled n limit h t log s some_thread known own refl refl
+      may = is_enabled n limit h t log s some_thread known own (both_true ways.active (ap not ways.unshut)) refl
           (fits_cell n limit h t log s c known refl low ways.ok);
       target = refl;
       word = refl;
@@ -80,49 +94,22 @@ over_way n limit h t log c known way =
     record {
       live = ap lives (hand_tells h t c phases.Over known.reached busy).1.0;
       ok = ap (λ g. untied_ok t g (cell_at h c)) busy;
+      active = hand_active h t c phases.Over (reached_sound h known.reached) busy refl;
+      unshut = ap is_shut_hand busy;
     }
 
--- ---- in the place of an owner that has left
+-- ---- to be handed over
 
--- another's object, which only this thread can adopt
-record Adoptable (h : Heap) (t c : ℕ) : Type 0 where
-  from : ℕ
-  local : ℕ
-  adopts : Adopts h t c from local
-
-adoptable_lasts : (t c : ℕ) → Lasts t (λ h. Adoptable h t c)
-adoptable_lasts t c h e reached ok others was = record {
-  from = was.from;
-  local = was.local;
-  adopts = adopting_lasts t c was.from was.local h e reached ok others was.adopts;
-}
-
-noted_owned : (h : Heap) (t c number : ℕ) → IsReached h → (row_at h t).hand ≡ hands.Busy phases.Shut c
-    → Shows h (Of Owner c) number → 0 < number → Adoptable h t c
-noted_owned h t c number reached busy found owned = elim (hand_tells h t c phases.Shut reached busy).1 [
-  | inl nobody ↦ absurd (omega (
-    arith,
-    owner_told h t c number reached (has_in_hand h t c phases.Shut busy refl) found,
-    owned,
-    ap word_of nobody.0,
-  ))
-  | inr theirs ↦ record {
-    from = theirs.0;
-    local = (cell_at h c).local;
-    adopts = record { hand = busy; owner = theirs.1; state = theirs.2; count = refl };
-  }
-]
-
-shut_way : (n limit : ℕ) (h : Heap) (t : ℕ) (log : List Told) (c number : ℕ) → 0 < t → Known n limit h t log
-    → UntiesShut n log c number → MayUntie h t c
-shut_way n limit h t log c number some_thread known way =
-    let now : Adoptable h t c = since n limit h t log Owner c number (λ z. Adoptable z t c) some_thread known way.found
-    (adoptable_lasts t c)
-    (λ old before was same found. noted_owned old t c number was.reached
-    (hand_in n limit old t before log (hands.Busy phases.Shut c) was same way.hand) found way.owned) in
+offered_way : (n limit : ℕ) (h : Heap) (t : ℕ) (log : List Told) (c : ℕ) → Known n limit h t log
+    → UntiesOffered n log c → MayUntie h t c
+offered_way n limit h t log c known way =
+    let busy : (row_at h t).hand ≡ hands.Busy phases.Offered c =
+    hand_in n limit h t log log (hands.Busy phases.Offered c) known refl way.hand in
     record {
-      live = ap lives now.adopts.owner;
-      ok = ap (λ g. untied_ok t g (cell_at h c)) now.adopts.hand ∙ ap (λ o. not (is_nobody o)) now.adopts.owner;
+      live = ap lives (hand_tells h t c phases.Offered known.reached busy).1.0;
+      ok = ap (λ g. untied_ok t g (cell_at h c)) busy;
+      active = hand_active h t c phases.Offered (reached_sound h known.reached) busy refl;
+      unshut = ap is_shut_hand busy;
     }
 
 -- ---- for a popped entry
@@ -167,6 +154,8 @@ popped_way n limit h t log c number some_thread known way =
       live = ap lives now.own.owner;
       ok = ap (λ g. untied_ok t g (cell_at h c)) free ∙ both_true (ap (is_owned_by t) now.own.owner ∙ eq-eqb t t refl)
           (ap is_queued now.own.state);
+      active = ap (λ (r : Row). is_active r.stage) known.part.row_is ∙ way.active;
+      unshut = ap is_shut_hand free;
     }
 
 -- ---- the laws
@@ -184,14 +173,14 @@ module _ {B : Type 0} (shows : B → ℕ × Contents) (n limit : ℕ) where
       (λ h there known shown small. unties n limit h v.thread v.log c some_thread known way.own
       (over_way n limit h v.thread v.log c known way))
 
-  pub unties_shut : (id : ℕ) (v : View) (slots : List (ℕ × Option B)) (c number : ℕ) → v.active ≡ true → 0 < v.thread
-      → c < n → UntiesShut n v.log c number
+  pub unties_offered : (id : ℕ) (v : View) (slots : List (ℕ × Option B)) (c : ℕ) → v.active ≡ true → 0 < v.thread
+      → c < n → UntiesOffered n v.log c
       → Allows Rule n id (v, slots) (spot n (Of Owner c)) (λ there. 0)
       (λ there me. me ≡ (with_told (Did (Untie c) 0 moves.Nothing) v, slots))
-  unties_shut id v slots c number active some_thread low way =
+  unties_offered id v slots c active some_thread low way =
       plain_step shows n limit id v slots (Untie c) (Of Owner c) (λ there. 0) (λ there. 0) active some_thread low
       (λ h there known shown small. unties n limit h v.thread v.log c some_thread known way.own
-      (shut_way n limit h v.thread v.log c number some_thread known way))
+      (offered_way n limit h v.thread v.log c known way))
 
   pub unties_popped : (id : ℕ) (v : View) (slots : List (ℕ × Option B)) (c number : ℕ) → v.active ≡ true → 0 < v.thread
       → c < n → UntiesPopped n v.log c number

@@ -1,20 +1,28 @@
 -- How the root's seat is split as it registers a thread, and takes a thread's seat in as it gathers it.
-use Rattle.std.specs.Prelude.{◌≡◌, ℕ, ◌<◌, ◌≤◌, true, false, [], ◌∷◌}
-use Rattle.brc_words.specs.declared.limits.TheConstants.{MOST_THREADS}
+use Rattle.std.specs.Prelude.{◌≡◌, ℕ, ◌<◌, ◌≤◌, nat_lt, Bool, true, false, [], ◌∷◌}
+use Rattle.brc_words.specs.declared.limits.TheConstants.{MOST_THREADS, MOST_REGISTRATIONS}
 use Rattle.law_world.specs.declared.event.Step.TheVariants.{Register, Gather}
 use Rattle.law_world.specs.Lists.{is_blank, is_unmarked}
 use Rattle.law_world.specs.Steps.{is_left, is_free_hand}
-use Rattle.law_known.specs.Root.{rows_of}
+use Rattle.law_known.specs.Start.{runs_in}
+use Rattle.law_known.specs.Root.{rows_of, registrations_of, next_number}
 use Rattle.law_rule.specs.declared.told.Moved.TheVariants as moves
 use Rattle.law_rule.specs.declared.told.Told.TheVariants.{Did}
 use Rattle.law_rule.specs.declared.view.View.{View}
-use Rattle.law_rule.specs.Logs.{log_items}
+use Rattle.law_rule.specs.Logs.{log_items, begins}
 use Rattle.law_rule.specs.Rule.{with_told}
 use Rattle.law_rule.specs.Seen.{part_seen}
 
--- the thread that the root registers next
+-- the number that the root registers next, and whether it was used before
 abbrev pub next_thread : View → ℕ
-next_thread v = rows_of (log_items v.log)
+next_thread v = next_number runs_in (log_items v.log)
+
+abbrev pub is_again : View → Bool
+is_again v = nat_lt (next_thread v) (rows_of (log_items v.log))
+
+-- how many threads were registered
+abbrev pub registrations : View → ℕ
+registrations v = registrations_of (log_items v.log)
 
 -- the root's view after it
 abbrev pub registering : View → View
@@ -22,7 +30,12 @@ registering v = with_told (Did (Register (next_thread v)) 0 moves.Nothing) v
 
 -- the new thread's
 abbrev pub starting : View → View
-starting v = record { active = true; thread = next_thread v; log = []; gathered = [] }
+starting v = record {
+  active = true;
+  thread = next_thread v;
+  log = begins (is_again v) (Did (Register (next_thread v)) 0 moves.Nothing);
+  gathered = [];
+}
 
 -- the root's view with that of a thread that has left
 abbrev pub gathering : View → View → View
@@ -40,6 +53,7 @@ pub record Registers (v : View) : Type 0 where
   pub active : v.active ≡ true
   pub root : v.thread ≡ 0
   pub few : next_thread v ≤ MOST_THREADS
+  pub more : registrations v < MOST_REGISTRATIONS
 
 -- a thread that has left and holds nothing
 pub record Leaves (n : ℕ) (w : View) : Type 0 where

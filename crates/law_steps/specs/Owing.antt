@@ -1,5 +1,5 @@
 -- What each kind of step asks of its seat's log, and of nothing else.
-use Rattle.std.specs.Prelude.{◌≡◌, ◌≢◌, ◌⊎◌, ℕ, ◌%◌, ◌<◌, ◌≤◌, ◌||◌, Bool, true, List, [], Some}
+use Rattle.std.specs.Prelude.{◌≡◌, ◌≢◌, ◌⊎◌, ℕ, ◌%◌, ◌<◌, ◌≤◌, ◌||◌, Bool, true, false, List, [], Some, None}
 use Rattle.brc_words.specs.declared.limits.TheConstants.{FIRST_MORTAL, MOST_THREADS}
 use Rattle.law_world.specs.declared.event.Source.{Source}
 use Rattle.law_world.specs.declared.event.Dropped.{Dropped}
@@ -9,8 +9,7 @@ use Rattle.law_world.specs.declared.event.Step.TheVariants.{Claim, Birth, LocalU
 use Rattle.law_world.specs.declared.event.Step.TheVariants.{MergeAdd, Enqueue, Close, Nudge, Unlock}
 use Rattle.law_world.specs.declared.event.LastDropped.TheVariants as lasts
 use Rattle.brc_words.specs.Kinds.{is_container}
-use Rattle.law_world.specs.Lists.{is_unmarked}
-use Rattle.law_world.specs.Steps.{is_keep, entries_changed}
+use Rattle.law_world.specs.Steps.{is_active, is_keep, entries_changed}
 use Rattle.law_world.specs.Heap.{words_for}
 use Rattle.law_world.specs.declared.row.Hand.TheVariants as hands
 use Rattle.law_world.specs.declared.row.Phase.TheVariants as phases
@@ -105,15 +104,15 @@ pub record Unlocks (n : ℕ) (log : List Told) (block : ℕ × Contents) (found 
   pub keys : KeysGo change found block.1
   pub kept : is_keep change ≡ true → block.1 ≡ found
 
--- a thread closes its queue words once no block is left on its worklist
-abbrev pub is_done : List Bool → Step → Bool
-is_done worklist (Close k) = is_unmarked worklist
-is_done worklist _ = true
-
 -- the thread's own part allows a step on a word that is no cell's
 pub record Allowed (n : ℕ) (log : List Told) (s : Step) : Type 0 where
   pub own : own_may n (part_seen n log) s ≡ true
-  pub done : is_done (part_seen n log).worklist s ≡ true
+
+-- The next queue word. A thread that closes the first counts nothing any more: what it still owns is dead, and its own
+-- to take apart.
+pub record Closes (n : ℕ) (log : List Told) (k : ℕ) : Type 0 where
+  pub own : own_may n (part_seen n log) (Close k) ≡ true
+  pub none : (c : ℕ) → FIRST_MORTAL ≤ c → c < n → counts_seen n log c ≡ 0
 
 -- a thread that was found as an owner, and one of its queue words
 pub record Tells (n : ℕ) (log : List Told) (q k : ℕ) : Type 0 where
@@ -136,10 +135,15 @@ pub record EndsAdded (n : ℕ) (log : List Told) (c : ℕ) : Type 0 where
   pub own : own_may n (part_seen n log) (LastDown (lasts.Popped c)) ≡ true
   pub added : newest_step log ≡ Some (MergeAdd c)
 
--- the reference in the hand, of an object that the thread has adopted
-pub record EndsHeld (n : ℕ) (log : List Told) (c : ℕ) : Type 0 where
+-- a popped entry, once the thread isn't active any more: what it owned it has handed over, so the object is merged
+pub record EndsLeft (n : ℕ) (log : List Told) (c : ℕ) : Type 0 where
+  pub own : own_may n (part_seen n log) (LastDown (lasts.Popped c)) ≡ true
+  pub left : is_active (part_seen n log).row.stage ≡ false
+
+-- a reference that a closed queue word didn't take: the object's owner has handed it over
+pub record EndsShut (n : ℕ) (log : List Told) (c : ℕ) : Type 0 where
   pub own : own_may n (part_seen n log) (LastDown lasts.Hand) ≡ true
-  pub hand : (part_seen n log).row.hand ≡ hands.Busy phases.Held c
+  pub hand : (part_seen n log).row.hand ≡ hands.Busy phases.Shut c
 
 -- a reference that was asked for, of an object that is noted as nobody's
 pub record EndsNobodys (n : ℕ) (log : List Told) (c : ℕ) : Type 0 where
@@ -152,23 +156,37 @@ pub record UntiesOver (n : ℕ) (log : List Told) (c : ℕ) : Type 0 where
   pub own : own_may n (part_seen n log) (Untie c) ≡ true
   pub hand : (part_seen n log).row.hand ≡ hands.Busy phases.Over c
 
--- an object whose owner has left, and which is noted as not nobody's
-pub record UntiesShut (n : ℕ) (log : List Told) (c number : ℕ) : Type 0 where
+-- An own object of which the thread has a count, to be handed over. That no thread has it to take apart, the count says.
+pub record Offers (n : ℕ) (log : List Told) (c : ℕ) : Type 0 where
+  pub active : is_active (part_seen n log).row.stage ≡ true
+  pub unlocked : (part_seen n log).row.locked ≡ None
+  pub hand : (part_seen n log).row.hand ≡ hands.Free
+  pub mortal : FIRST_MORTAL ≤ c
+  pub some_count : 0 < counts_seen n log c
+
+-- an own object that the thread has offered
+pub record UntiesOffered (n : ℕ) (log : List Told) (c : ℕ) : Type 0 where
   pub own : own_may n (part_seen n log) (Untie c) ≡ true
-  pub hand : (part_seen n log).row.hand ≡ hands.Busy phases.Shut c
-  pub found : noted Owner c log ≡ Some number
-  pub owned : 0 < number
+  pub hand : (part_seen n log).row.hand ≡ hands.Busy phases.Offered c
 
 -- a popped entry of an object that is noted as not merged
 pub record UntiesPopped (n : ℕ) (log : List Told) (c number : ℕ) : Type 0 where
   pub own : own_may n (part_seen n log) (Untie c) ≡ true
+  pub active : is_active (part_seen n log).row.stage ≡ true
   pub hand : (part_seen n log).row.hand ≡ hands.Free
   pub found : noted Shared c log ≡ Some number
   pub unmerged : number % 4 ≢ 3
 
--- an object that the thread has made nobody's, with its local count as it is noted
+-- an object of which the thread has popped a reference and that it has made nobody's, with its local count as noted
 pub record AddsLocal (n : ℕ) (log : List Told) (c local : ℕ) : Type 0 where
   pub own : own_may n (part_seen n log) (MergeAdd c) ≡ true
+  pub hand : (part_seen n log).row.hand ≡ hands.Busy phases.Popping c
+  pub found : noted Local c log ≡ Some local
+
+-- an object that the thread hands over, with its local count as it is noted
+pub record Yields (n : ℕ) (log : List Told) (c local : ℕ) : Type 0 where
+  pub own : own_may n (part_seen n log) (MergeAdd c) ≡ true
+  pub hand : (part_seen n log).row.hand ≡ hands.Busy phases.Yielding c
   pub found : noted Local c log ≡ Some local
 
 -- an object that the thread has asked for, and that is noted as thread q's

@@ -26,8 +26,9 @@ ghost use Rattle.law_rule.specs.Layout.{spot};
 ghost use Rattle.law_rule.specs.Rule.{with_told, Kept};
 ghost use Rattle.law_steps.specs.Owing.{Raises, RaisesImmortal, Lowers, LowersImmortal, RaisesShared, Releases};
 ghost use Rattle.law_steps.specs.Owing.{Carries, EndsRisen, Claims, Bears, Unlocks, Allowed, Tells, EndsPopped};
-ghost use Rattle.law_steps.specs.Owing.{EndsAdded, EndsHeld, EndsNobodys, UntiesOver, UntiesShut, UntiesPopped};
-ghost use Rattle.law_steps.specs.Owing.{AddsLocal, Enqueues};
+ghost use Rattle.law_steps.specs.Owing.{EndsAdded, EndsLeft, EndsShut, EndsNobodys, UntiesOver, UntiesOffered};
+ghost use Rattle.law_steps.specs.Owing.{UntiesPopped};
+ghost use Rattle.law_steps.specs.Owing.{AddsLocal, Yields, Offers, Closes, Enqueues};
 ghost use Rattle.law_steps.specs.Taking.{AreQueued, CountsSome, Ended, Claimed, Locked};
 ghost use Rattle.law_steps.specs.Joining.{registering, starting, gathering, spent, Registers, Leaves};
 
@@ -159,19 +160,23 @@ pub fn objects_are_locked<B>()
         (λ there me. me ≡ (with_told (told.Did (steps.Unlock change) 0 (moves.Put c (shows block).1)) v, rest)) }
 {}
 
-/// A thread takes the bits of its own queue words, which are cells of the heap, closes them, tells another that it
-/// should drain, and takes what it was told.
-#[tactic(auto, using(crate::proofs::Queue_Steps::drains, crate::proofs::Queue_Steps::closes, crate::proofs::Queue_Steps::nudges, crate::proofs::Queue_Steps::wakes))]
+/// A thread takes the bits of its own queue words, which are cells of the heap, closes them, opens them again where its
+/// number is used again, tells another that it should drain, and takes what it was told.
+#[tactic(auto, using(crate::proofs::Queue_Steps::drains, crate::proofs::Queue_Steps::closes, crate::proofs::Queue_Steps::reopens, crate::proofs::Queue_Steps::nudges, crate::proofs::Queue_Steps::wakes))]
 pub fn queues_are_drained<B>()
     ensures drain { (shows : B → ℕ × contents) (n limit id : ℕ) (v : view) (slots : List (ℕ × Option B)) (k : ℕ)
         → v.active ≡ true → 0 < v.thread → v.thread ≤ MOST_THREADS → k < words_for n → Allowed n v.log (steps.Drain k)
         → Allows (Kept shows n limit) n id (v, slots) (spot n (words.Queue v.thread k)) (λ there. 0)
         (λ there me. (me ≡ (with_told (told.Did (steps.Drain k) there moves.Nothing) v, slots)) × AreQueued n k there) }
     ensures close { (shows : B → ℕ × contents) (n limit id : ℕ) (v : view) (slots : List (ℕ × Option B)) (k : ℕ)
-        → v.active ≡ true → 0 < v.thread → v.thread ≤ MOST_THREADS → k < words_for n → Allowed n v.log (steps.Close k)
+        → v.active ≡ true → 0 < v.thread → v.thread ≤ MOST_THREADS → k < words_for n → Closes n v.log k
         → Allows (Kept shows n limit) n id (v, slots) (spot n (words.Queue v.thread k))
         (λ there. bit_or there 9223372036854775808)
         (λ there me. (me ≡ (with_told (told.Did (steps.Close k) there moves.Nothing) v, slots)) × AreQueued n k there) }
+    ensures reopen { (shows : B → ℕ × contents) (n limit id : ℕ) (v : view) (slots : List (ℕ × Option B)) (k : ℕ)
+        → v.active ≡ true → 0 < v.thread → v.thread ≤ MOST_THREADS → k < words_for n → Allowed n v.log (steps.Reopen k)
+        → Allows (Kept shows n limit) n id (v, slots) (spot n (words.Queue v.thread k)) (λ there. 0)
+        (λ there me. me ≡ (with_told (told.Did (steps.Reopen k) 0 moves.Nothing) v, slots)) }
     ensures nudge { (shows : B → ℕ × contents) (n limit id : ℕ) (v : view) (slots : List (ℕ × Option B)) (q k : ℕ)
         → v.active ≡ true → 0 < v.thread → Tells n v.log q k
         → Allows (Kept shows n limit) n id (v, slots) (spot n (words.NotifyWord q))
@@ -195,9 +200,9 @@ pub fn threads_come_and_go<B>()
 {}
 
 /// The last reference that went through a merge queue goes: a popped bit of an object that was looked at and merged, or
-/// that the thread has just merged itself; the hand's after an adoption, or the hand's of an object that was looked at
-/// and is nobody's.
-#[tactic(auto, using(crate::proofs::Last_Steps::ends_popped, crate::proofs::Last_Steps::ends_added, crate::proofs::Last_Steps::ends_held, crate::proofs::Last_Steps::ends_nobodys))]
+/// that the thread has just merged itself, or any that is left to a thread which isn't active any more; the hand's that
+/// met a closed queue word, or the hand's of an object that was looked at and is nobody's.
+#[tactic(auto, using(crate::proofs::Last_Steps::ends_popped, crate::proofs::Last_Steps::ends_added, crate::proofs::Last_Steps::ends_left, crate::proofs::Last_Steps::ends_shut, crate::proofs::Last_Steps::ends_nobodys))]
 pub fn queued_references_end<B>()
     ensures popped { (shows : B → ℕ × contents) (n limit id : ℕ) (v : view) (slots : List (ℕ × Option B)) (c number : ℕ)
         → v.active ≡ true → 0 < v.thread → c < n → EndsPopped n v.log c number
@@ -211,8 +216,14 @@ pub fn queued_references_end<B>()
         (λ there. (there + (2 ^ 64 - 4)) % 2 ^ 64)
         (λ there me. Ended shows n v slots (steps.LastDown (lasts.Popped c)) c there
         (takes_block (steps.LastDown (lasts.Popped c)) (cell_told (steps.LastDown (lasts.Popped c)) there)) me) }
-    ensures held { (shows : B → ℕ × contents) (n limit id : ℕ) (v : view) (slots : List (ℕ × Option B)) (c : ℕ)
-        → v.active ≡ true → 0 < v.thread → c < n → EndsHeld n v.log c
+    ensures left { (shows : B → ℕ × contents) (n limit id : ℕ) (v : view) (slots : List (ℕ × Option B)) (c : ℕ)
+        → v.active ≡ true → 0 < v.thread → c < n → EndsLeft n v.log c
+        → Allows (Kept shows n limit) n id (v, slots) (spot n (words.Of fields.Shared c))
+        (λ there. (there + (2 ^ 64 - 4)) % 2 ^ 64)
+        (λ there me. Ended shows n v slots (steps.LastDown (lasts.Popped c)) c there
+        (takes_block (steps.LastDown (lasts.Popped c)) (cell_told (steps.LastDown (lasts.Popped c)) there)) me) }
+    ensures shut { (shows : B → ℕ × contents) (n limit id : ℕ) (v : view) (slots : List (ℕ × Option B)) (c : ℕ)
+        → v.active ≡ true → 0 < v.thread → c < n → EndsShut n v.log c
         → Allows (Kept shows n limit) n id (v, slots) (spot n (words.Of fields.Shared c))
         (λ there. (there + (2 ^ 64 - 4)) % 2 ^ 64)
         (λ there me. Ended shows n v slots (steps.LastDown lasts.Hand) c there
@@ -225,16 +236,25 @@ pub fn queued_references_end<B>()
         (takes_block (steps.LastDown lasts.Hand) (cell_told (steps.LastDown lasts.Hand) there)) me) }
 {}
 
-/// Who merges an object first stores that it is nobody's: at local count 0, in place of an owner that has left, or for
-/// a popped entry; and then adds the local count that it has looked at.
-#[tactic(auto, using(crate::proofs::Untying_Steps::unties_over, crate::proofs::Untying_Steps::unties_shut, crate::proofs::Untying_Steps::unties_popped, crate::proofs::Adding_Steps::adds_local))]
+/// A thread that will hand over an own object, which it counts, says so: the object counts as asked for.
+#[tactic(auto, using(crate::proofs::Offering_Steps::offers_own))]
+pub fn objects_are_offered<B>()
+    ensures { (shows : B → ℕ × contents) (n limit id : ℕ) (v : view) (slots : List (ℕ × Option B)) (c : ℕ)
+        → v.active ≡ true → 0 < v.thread → c < n → Offers n v.log c
+        → Allows (Kept shows n limit) n id (v, slots) (spot n (words.Of fields.Shared c)) (λ there. bit_or there 2)
+        (λ there me. me ≡ (with_told (told.Did (steps.Offer c) there moves.Nothing) v, slots)) }
+{}
+
+/// Who merges an object first stores that it is nobody's: at local count 0, to hand it over, or for a popped entry; and
+/// then adds the local count that it has looked at. One that is handed over may end with that.
+#[tactic(auto, using(crate::proofs::Untying_Steps::unties_over, crate::proofs::Untying_Steps::unties_offered, crate::proofs::Untying_Steps::unties_popped, crate::proofs::Adding_Steps::adds_local, crate::proofs::Adding_Steps::yields_local))]
 pub fn objects_are_merged<B>()
     ensures over { (shows : B → ℕ × contents) (n limit id : ℕ) (v : view) (slots : List (ℕ × Option B)) (c : ℕ)
         → v.active ≡ true → 0 < v.thread → c < n → UntiesOver n v.log c
         → Allows (Kept shows n limit) n id (v, slots) (spot n (words.Of fields.Owner c)) (λ there. 0)
         (λ there me. me ≡ (with_told (told.Did (steps.Untie c) 0 moves.Nothing) v, slots)) }
-    ensures shut { (shows : B → ℕ × contents) (n limit id : ℕ) (v : view) (slots : List (ℕ × Option B)) (c number : ℕ)
-        → v.active ≡ true → 0 < v.thread → c < n → UntiesShut n v.log c number
+    ensures offered { (shows : B → ℕ × contents) (n limit id : ℕ) (v : view) (slots : List (ℕ × Option B)) (c : ℕ)
+        → v.active ≡ true → 0 < v.thread → c < n → UntiesOffered n v.log c
         → Allows (Kept shows n limit) n id (v, slots) (spot n (words.Of fields.Owner c)) (λ there. 0)
         (λ there me. me ≡ (with_told (told.Did (steps.Untie c) 0 moves.Nothing) v, slots)) }
     ensures popped { (shows : B → ℕ × contents) (n limit id : ℕ) (v : view) (slots : List (ℕ × Option B)) (c number : ℕ)
@@ -250,6 +270,12 @@ pub fn objects_are_merged<B>()
               v,
           slots,
         )) × CountsSome ((there + (local * 4 + 1)) % 2 ^ 64)) }
+    ensures yields { (shows : B → ℕ × contents) (n limit id : ℕ) (v : view) (slots : List (ℕ × Option B)) (c local : ℕ)
+        → v.active ≡ true → 0 < v.thread → c < n → Yields n v.log c local
+        → Allows (Kept shows n limit) n id (v, slots) (spot n (words.Of fields.Shared c))
+        (λ there. (there + (local * 4 + 1)) % 2 ^ 64)
+        (λ there me. Ended shows n v slots (steps.MergeAdd c) c ((there + (local * 4 + 1)) % 2 ^ 64)
+        (takes_block (steps.MergeAdd c) (cell_told (steps.MergeAdd c) ((there + (local * 4 + 1)) % 2 ^ 64))) me) }
 {}
 
 /// An asked reference goes into the merge queue of the thread that was found as the owner, or meets a closed word.

@@ -1,8 +1,8 @@
-use Rattle.law_steps.proofs.Untying_Steps.{unties_shut, unties_popped}
+use Rattle.law_steps.proofs.Untying_Steps.{unties_offered, unties_popped}
 use Rattle.law_steps.proofs.laws.objects_are_merged.Goals as goal
 
-pub returns-clause-shut : goal.returns-clause-shut
-returns-clause-shut g c = unties_shut
+pub returns-clause-offered : goal.returns-clause-offered
+returns-clause-offered g c = unties_offered
 
 pub returns-clause-popped : goal.returns-clause-popped
 returns-clause-popped g c = unties_popped
